@@ -146,7 +146,7 @@ module _ (r : Resolve) (v : IsValid r) where
       let h = has-path r m path is in
       goes-on 58 (text_of h.package_.name.namespace) _ (subst (Lacks 58) (same ∙ h.spelled) lacks)
 
-  keys-apart : (a b : WorldKey) → IsKey a → IsKey b → key_eq a b ≡ false → text_eq (key_text r a) (key_text r b) ≡ false
+  pub keys-apart : (a b : WorldKey) → IsKey a → IsKey b → key_eq a b ≡ false → text_eq (key_text r a) (key_text r b) ≡ false
   keys-apart (key.Name a) (key.Name b) h g e = e
   keys-apart (key.Name a) (key.Interface b) h g e =
       let path = some-of (interface_path r b.0) g in
@@ -195,13 +195,13 @@ module _ (r : Resolve) (v : IsValid r) where
         named-path r v k (ap (λ (o : Option Interface). option_map_or (λ other. is_some other.name) o false) found.1
         ∙ (ap (passes (λ (other : Interface). is_some other.name)) (sym found.1) ∙ second_true (is_id k (item_interface shown)) _ h))
 
-    import-key : (e : WorldKey × WorldItem) → Contains w.imports.entries e → IsKey e.0
+    pub import-key : (e : WorldKey × WorldItem) → Contains w.imports.entries e → IsKey e.0
     import-key (key.Name name, shown) c = key_lacks 58 colon r v n w at name shown (Contains-append_left w.imports.entries w.exports.entries (key.Name name, shown) c)
     import-key (key.Interface id, shown) c = interface-key id.0 shown
         (all-contained (λ e. import_stands r n e.0 e.1) w.imports.entries (key.Interface id, shown) (first_true (list_all (λ e. import_stands r n e.0 e.1) w.imports.entries) _ stand) c)
         (first_true (key_in_range r (key.Interface id)) _ (all-contained (λ e. key_in_range r e.0 && item_in_range r e.1) w.imports.entries (key.Interface id, shown) (first_true (entries_in_range r w.imports.entries) _ ranges) c))
 
-    export-key : (e : WorldKey × WorldItem) → Contains w.exports.entries e → IsKey e.0
+    pub export-key : (e : WorldKey × WorldItem) → Contains w.exports.entries e → IsKey e.0
     export-key (key.Name name, shown) c = key_lacks 58 colon r v n w at name shown (Contains-append_right w.imports.entries w.exports.entries (key.Name name, shown) c)
     export-key (key.Interface id, shown) c = interface-key id.0 shown
         (all-contained (λ e. export_stands r e.0 e.1) w.exports.entries (key.Interface id, shown) (second_true (list_all (λ e. import_stands r n e.0 e.1) w.imports.entries) _ stand) c)

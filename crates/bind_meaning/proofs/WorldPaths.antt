@@ -63,12 +63,12 @@ not-both true h k = let no : ⊥ = cc in no
 not-both false h k = let no : ⊥ = cc in no
 
 module _ (r : Resolve) (v : IsValid r) where
-  world-label : (n : ℕ) (path : Text) (h : HasWorldPath r n path) → is_label (text_of h.def.name) ≡ true
+  pub world-label : (n : ℕ) (path : Text) (h : HasWorldPath r n path) → is_label (text_of h.def.name) ≡ true
   unfolding labels
   world-label n path h = first_true (is_label (text_of h.def.name)) _ (world-passes labels r v.rules.labels n h.def h.there)
 
   -- it stands in its package under its name
-  world-listed : (n : ℕ) (path : Text) (h : HasWorldPath r n path) → world_is_listed n (text_of h.def.name) h.package_ ≡ true
+  pub world-listed : (n : ℕ) (path : Text) (h : HasWorldPath r n path) → world_is_listed n (text_of h.def.name) h.package_ ≡ true
   unfolding places
   world-listed n path h =
       let rule = second_true (is_some h.def.package) _ (world-passes places r v.rules.places n h.def h.there) in

@@ -259,6 +259,31 @@ pub fn strip(alloc: Global, bytes: &[u8]) -> Result<Answer, Answer> {
     }
 }
 
+// All packages of a `Resolve` but the first, in order.
+fn other_packages(alloc: Global, resolve: &Resolve) -> Result<Vec<PackageId>, Error> {
+    let mut others = Vec::new(alloc);
+    for number in 1..resolve.packages.len() {
+        others.push(PackageId(u32::try_from(number).unwrap_or(0)))?;
+    }
+    Ok(others)
+}
+
+/// The text of what a module binds: its first package, with all others nested in it.
+pub fn bound_text(alloc: Global, bytes: &[u8]) -> Result<Answer, Answer> {
+    let (_module, bound) = metadata::decode(alloc, bytes)?;
+    let others = other_packages(alloc, &bound.resolve)?;
+    print_package(alloc, &bound.resolve, PackageId(0), true, &others)
+}
+
+/// A module without the sections that carry worlds, where what they bind isn't refused.
+pub fn left_of_module(alloc: Global, bytes: &[u8]) -> Result<Answer, Answer> {
+    let (module, _bound) = metadata::decode(alloc, bytes)?;
+    match module {
+        Some(kept) => Ok(Answer::Bytes(kept)),
+        None => Ok(Answer::Nothing),
+    }
+}
+
 /// The encoding that a component says.
 pub fn said(bytes: &[u8]) -> Result<Answer, Answer> {
     Ok(Answer::Encoding(encoding_in(bytes)?))

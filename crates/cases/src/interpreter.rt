@@ -214,6 +214,8 @@ fn on_bytes(alloc: Global, word: &[u8], bytes: &[u8]) -> Result<Answer, Answer> 
         b"decode" => Ok(calls::decode_package(alloc, bytes, false)),
         b"decode-at" => Ok(calls::decode_package(alloc, bytes, true)),
         b"strip" => calls::strip(alloc, bytes),
+        b"bound" => calls::bound_text(alloc, bytes),
+        b"stripped" => calls::left_of_module(alloc, bytes),
         b"said" => calls::said(bytes),
         _ => Err(Answer::Bad),
     }
@@ -330,9 +332,14 @@ impl Interpreter {
             b"label" => label(words),
             b"module" => self.module(alloc, words),
             b"get" => self.get(alloc, words),
-            b"text" | b"world-text" | b"decode" | b"decode-at" | b"strip" | b"said" => {
-                self.with_bytes(alloc, word, words)
-            }
+            b"text"
+            | b"world-text"
+            | b"decode"
+            | b"decode-at"
+            | b"strip"
+            | b"said"
+            | b"bound"
+            | b"stripped" => self.with_bytes(alloc, word, words),
             _ => Err(Answer::Bad),
         }
     }

@@ -15,7 +15,7 @@ use wit_model::{Function, Map, Param, Stability, Type};
 fn params_of(alloc: Global, params: &[(&str, Type)]) -> Result<Vec<Param>, AllocError>
     ensures { IfOk result (λ xs. map built_param xs.items ≡ stated_params params.now) }
 {
-    let mut built = Vec::new(alloc);
+    let mut built = Vec::with_capacity(alloc, params.len())?;
     for param in params {
         let name = copied(alloc, param.0)?;
         built.push(Param { name, ty: param.1 })?;
@@ -53,12 +53,11 @@ pub(crate) fn functions_of(
     ensures built { IfOk result (λ m. are_distinct (map (λ f. f.name.now) functions.now) ≡ true → map built_function m.entries ≡ map named_function functions.now) }
     ensures bare { IfOk result (λ m. are_distinct (map (λ f. f.name.now) functions.now) ≡ true → list_all is_bare_function (values m) ≡ true) }
 {
-    let mut built = Map::new(alloc);
+    let mut built = Map::with_capacity(alloc, functions.len())?;
     for function in functions {
         let name = copied(alloc, function.name)?;
         let value = function_of(alloc, function)?;
         built.insert(name, value)?;
     }
-    built.shrink_to_fit();
     Ok(built)
 }

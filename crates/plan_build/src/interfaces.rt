@@ -38,7 +38,7 @@ pub(crate) fn interfaces_of(
     ensures built { IfOk result (λ xs. list_all interface_differs (map stated_interface interfaces.now) ≡ true → map planned_interface xs.items ≡ map stated_interface interfaces.now) }
     ensures bare { IfOk result (λ xs. list_all interface_differs (map stated_interface interfaces.now) ≡ true → list_all is_bare_interface xs.items ≡ true) }
 {
-    let mut built = Vec::new(alloc);
+    let mut built = Vec::with_capacity(alloc, interfaces.len())?;
     for interface in interfaces {
         let value = interface_of(alloc, interface)?;
         built.push(value)?;

@@ -15,11 +15,10 @@ pub(crate) fn numbers_of<N: Copy>(
 ) -> Result<Map<String, N>, AllocError>
     ensures { IfOk result (λ m. are_distinct (map (λ e. e.0.now) entries.now) ≡ true → map built_number m.entries ≡ map stated_number entries.now) }
 {
-    let mut built = Map::new(alloc);
+    let mut built = Map::with_capacity(alloc, entries.len())?;
     for entry in entries {
         let name = copied(alloc, entry.0)?;
         built.insert(name, entry.1)?;
     }
-    built.shrink_to_fit();
     Ok(built)
 }

@@ -19,7 +19,7 @@ fn fields_of(alloc: Global, fields: &[(&str, Type)]) -> Result<Vec<Field>, Alloc
     ensures types { IfOk result (λ xs. map (λ x. part_of x.ty) xs.items ≡ map (λ f. part_of f.1) fields.now) }
     ensures bare { IfOk result (λ xs. list_all (λ x. is_undocumented x.docs) xs.items ≡ true) }
 {
-    let mut built = Vec::new(alloc);
+    let mut built = Vec::with_capacity(alloc, fields.len())?;
     for field in fields {
         let name = copied(alloc, field.0)?;
         built.push(Field {
@@ -36,7 +36,7 @@ fn cases_of(alloc: Global, cases: &[(&str, Option<Type>)]) -> Result<Vec<Case>, 
     ensures types { IfOk result (λ xs. map (λ x. x.ty) xs.items ≡ map (λ c. c.1) cases.now) }
     ensures bare { IfOk result (λ xs. list_all (λ x. is_undocumented x.docs) xs.items ≡ true) }
 {
-    let mut built = Vec::new(alloc);
+    let mut built = Vec::with_capacity(alloc, cases.len())?;
     for case in cases {
         let name = copied(alloc, case.0)?;
         built.push(Case {
@@ -52,7 +52,7 @@ fn flags_of(alloc: Global, names: &[&str]) -> Result<Vec<Flag>, AllocError>
     ensures names { IfOk result (λ xs. map (λ x. text_of x.name) xs.items ≡ stated_names names.now) }
     ensures bare { IfOk result (λ xs. list_all (λ x. is_undocumented x.docs) xs.items ≡ true) }
 {
-    let mut built = Vec::new(alloc);
+    let mut built = Vec::with_capacity(alloc, names.len())?;
     for text in names {
         let name = copied(alloc, text)?;
         built.push(Flag {
@@ -67,7 +67,7 @@ fn enum_cases_of(alloc: Global, names: &[&str]) -> Result<Vec<EnumCase>, AllocEr
     ensures names { IfOk result (λ xs. map (λ x. text_of x.name) xs.items ≡ stated_names names.now) }
     ensures bare { IfOk result (λ xs. list_all (λ x. is_undocumented x.docs) xs.items ≡ true) }
 {
-    let mut built = Vec::new(alloc);
+    let mut built = Vec::with_capacity(alloc, names.len())?;
     for text in names {
         let name = copied(alloc, text)?;
         built.push(EnumCase {
@@ -81,7 +81,7 @@ fn enum_cases_of(alloc: Global, names: &[&str]) -> Result<Vec<EnumCase>, AllocEr
 fn parts_of(alloc: Global, types: &[Type]) -> Result<Vec<Type>, AllocError>
     ensures { IfOk result (λ xs. xs.items ≡ types.now) }
 {
-    let mut built = Vec::new(alloc);
+    let mut built = Vec::with_capacity(alloc, types.len())?;
     built.extend_from_slice(types)?;
     Ok(built)
 }
@@ -148,7 +148,7 @@ pub(crate) fn types_of(alloc: Global, types: &[PlannedType<'_>]) -> Result<Vec<T
     ensures built { IfOk result (λ xs. map planned_type xs.items ≡ map stated_type types.now) }
     ensures bare { IfOk result (λ xs. list_all is_bare_type xs.items ≡ true) }
 {
-    let mut built = Vec::new(alloc);
+    let mut built = Vec::with_capacity(alloc, types.len())?;
     for ty in types {
         let definition = type_of(alloc, ty)?;
         built.push(definition)?;

@@ -47,13 +47,12 @@ fn entries_of(
     ensures built { IfOk result (λ m. keys_differ (map stated_entry entries.now) ≡ true → planned_entries m.entries ≡ map stated_entry entries.now) }
     ensures bare { IfOk result (λ m. keys_differ (map stated_entry entries.now) ≡ true → list_all is_bare_item (values m) ≡ true) }
 {
-    let mut built = Map::new(alloc);
+    let mut built = Map::with_capacity(alloc, entries.len())?;
     for entry in entries {
         let key = key_of(alloc, &entry.0)?;
         let item = item_of(alloc, &entry.1)?;
         built.insert(key, item)?;
     }
-    built.shrink_to_fit();
     Ok(built)
 }
 
@@ -82,7 +81,7 @@ pub(crate) fn worlds_of(
     ensures built { IfOk result (λ xs. list_all world_differs (map stated_world worlds.now) ≡ true → map planned_world xs.items ≡ map stated_world worlds.now) }
     ensures bare { IfOk result (λ xs. list_all world_differs (map stated_world worlds.now) ≡ true → list_all is_bare_world xs.items ≡ true) }
 {
-    let mut built = Vec::new(alloc);
+    let mut built = Vec::with_capacity(alloc, worlds.len())?;
     for world in worlds {
         let value = world_of(alloc, world)?;
         built.push(value)?;

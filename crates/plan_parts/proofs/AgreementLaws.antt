@@ -16,7 +16,7 @@ use Rattle.plan_meaning.proofs.Lists.{length_of_map}
 use Rattle.read_rules.specs.Tables.{given_text}
 use Rattle.plan_parts.specs.contracts.agreement.ToldFunctionPartialEq.TheImpl as told_eq
 use Rattle.plan_parts.specs.declared.agreement.ToldFunction.{ToldFunction}
-use Rattle.plan_parts.specs.Agreement.{are_told, is_told, told_function, AreTold}
+use Rattle.plan_parts.specs.Agreement.{are_told, is_told, tells_same, told_function, AreTold}
 
 -- ---- pair by pair
 
@@ -135,3 +135,21 @@ as_many g xs ys same = eq-eqb (length (map g xs)) (length (map g ys)) (length_of
 
 pub same_told_functions : (told fs gs : List (Text × NumberedFunction)) → AreTold told gs → (length fs == length gs) ≡ true → are_told told fs ≡ same_functions fs gs
 same_told_functions told fs gs alike many = by_told told gs alike fs ∙ sym (ap (λ b. b && stand_in same_function fs gs) many)
+
+-- ---- the same functions in the same order
+
+either_true : (a b : Bool) → a ≡ true → (a || b) ≡ true
+either_true true b h = refl
+either_true false b h = absurd cc
+
+-- each stands among those of the other, whatever stands in front of these
+paired : (fs gs hs : List (Text × NumberedFunction)) → ((test : Text × NumberedFunction → Bool) → list_any test gs ≡ true → list_any test hs ≡ true) → pointwise tells_same fs gs ≡ true → list_all (λ f. list_any (λ g. text_eq f.0 g.0 && same_function f.1 g.1) hs) fs ≡ true
+paired [] gs hs within h = refl
+paired (f ∷ fs) [] hs within h = absurd cc
+paired (f ∷ fs) (g ∷ gs) hs within h =
+    let here = within (tells_same f) (either_true (tells_same f g) (list_any (tells_same f) gs) (first_true (tells_same f g) (pointwise tells_same fs gs) h)) in
+    let behind = paired fs gs hs (λ test e. within test (second_of (test g) (list_any test gs) e)) (second_true (tells_same f g) (pointwise tells_same fs gs) h) in
+    ap (λ b. b && list_all (λ x. list_any (λ y. text_eq x.0 y.0 && same_function x.1 y.1) hs) fs) here ∙ behind
+
+pub told_in_order : (fs gs : List (Text × NumberedFunction)) → (length fs == length gs) ≡ true → pointwise tells_same fs gs ≡ true → same_functions fs gs ≡ true
+told_in_order fs gs many h = ap (λ b. b && stand_in same_function fs gs) many ∙ paired fs gs gs (λ test e. e) h

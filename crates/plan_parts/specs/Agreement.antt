@@ -15,9 +15,13 @@ told_function f = (f.name.now, record { signature = f.signature; external_id = g
 abbrev pub AreTold : List (Text × NumberedFunction) → List (Text × NumberedFunction) → Type 0
 AreTold fs gs = (test : Text × NumberedFunction → Bool) → list_any test fs ≡ list_any test gs
 
+-- the same name, and the same is told under it
+abbrev pub tells_same : Text × NumberedFunction → Text × NumberedFunction → Bool
+tells_same f g = text_eq f.0 g.0 && same_function f.1 g.1
+
 -- the function stands among some, under its name
 abbrev pub is_told : List (Text × NumberedFunction) → Text × NumberedFunction → Bool
-is_told fs f = list_any (λ g. text_eq f.0 g.0 && same_function f.1 g.1) fs
+is_told fs f = list_any (tells_same f) fs
 
 abbrev pub are_told : List (Text × NumberedFunction) → List (Text × NumberedFunction) → Bool
 are_told fs gs = list_all (is_told fs) gs

@@ -2,11 +2,11 @@
 
 ghost use Rattle.std.specs.Cmp.Lexicographic.{pointwise};
 ghost use Rattle.std.specs.List.{list_any};
-ghost use Rattle.std.specs.Prelude.{◌≡◌, ◌||◌, map, Bool, IfOk};
+ghost use Rattle.std.specs.Prelude.{◌≡◌, ◌||◌, length, map, Bool, IfOk};
 ghost use Rattle.wit_model.specs.Text.{Text};
 ghost use Rattle.plan_meaning.specs.NumberedViews.{NumberedFunction, same_functions as same_functions_lem, same_shown};
 ghost use Rattle.read_rules.specs.Views.{numbered_function, numbered_type};
-ghost use Rattle.plan_parts.specs.Agreement.{are_told as are_told_lem, is_told as is_told_lem, told_function, AreTold};
+ghost use Rattle.plan_parts.specs.Agreement.{are_told as are_told_lem, is_told as is_told_lem, tells_same as tells_same_lem, told_function, AreTold};
 
 use indexmap::IndexSet;
 use keyed_hash::{Digest, KeyedHash};
@@ -99,9 +99,29 @@ fn are_told(all: &Told<'_>, functions: &[ViewFunction<'_>]) -> bool
     true
 }
 
+fn tells_same(first: ViewFunction<'_>, function: ViewFunction<'_>) -> bool
+    ensures { result ≡ tells_same_lem (numbered_function first.entry) (numbered_function function.entry) }
+{
+    first.name == function.name
+        && (first.signature == function.signature && first.external_id == function.external_id)
+}
+
+/// Whether two views of as many functions tell the same of them in the same order. Takes time linear in them, and no memory.
+fn same_in_order(first: &[ViewFunction<'_>], functions: &[ViewFunction<'_>]) -> bool
+    requires { length first.now ≡ length functions.now }
+    ensures { result ≡ pointwise tells_same_lem (map numbered_function first.now) (map numbered_function functions.now) }
+{
+    for number in 0..functions.len() {
+        if !tells_same(first[number], functions[number]) {
+            return false;
+        }
+    }
+    true
+}
+
 /// Whether two views tell the same of their functions, in any order.
 ///
-/// Takes time linear in them, expected, and as much memory as there are.
+/// Takes time linear in them, expected, and as much memory as there are, or none where they stand in the same order.
 pub fn same_functions(
     alloc: Global,
     first: &[ViewFunction<'_>],
@@ -111,6 +131,9 @@ pub fn same_functions(
 {
     if first.len() != functions.len() {
         return Ok(false);
+    }
+    if same_in_order(first, functions) {
+        return Ok(true);
     }
     let all = all_told(alloc, functions)?;
     Ok(are_told(&all, first))

@@ -109,7 +109,7 @@ fn params_of<'a>(
     requires { AllByRecursion (λ x. IsKeptPart kept.now x.1) params.now }
     ensures { IfOk result (λ planned. AllZip (KeptParam kept.entry.now) (map param_of params.entry.now) (stated_params planned.items)) }
 {
-    let mut planned = Vec::new(alloc);
+    let mut planned = Vec::with_capacity(alloc, params.len())?;
     for param in params {
         planned.push((param.0, kept.part(param.1)))?;
     }

@@ -64,7 +64,7 @@ pub fn types_of<'a>(
     ensures types { IfOk result (λ x. AllZip (ListsType kept.entry.now) (map numbered_type types.entry.now) (map stated_number x.0.items)) }
     ensures resources { IfOk result (λ x. AreResources kept.entry.now (map numbered_type types.entry.now) (found_under x.1.entries)) }
 {
-    let mut planned = Vec::new(alloc);
+    let mut planned = Vec::with_capacity(alloc, types.len())?;
     let mut resources = IndexMap::with_hasher(alloc, hash_of(types));
     for ty in types {
         let id = kept.number(slot_part(ty.slot));
@@ -87,7 +87,7 @@ pub fn functions_of<'a>(
     requires { AllByRecursion (IsFunctionOver (numbered_tables tables.now) kept.now) (map numbered_function functions.now) }
     ensures { IfOk result (λ planned. AllZip (IsPlannedFunction (numbered_tables tables.entry.now) kept.entry.now (found_under resources.entry.now.entries)) (map numbered_function functions.entry.now) (map named_function planned.items)) }
 {
-    let mut planned = Vec::new(alloc);
+    let mut planned = Vec::with_capacity(alloc, functions.len())?;
     for function in functions {
         let shape = function_at(tables, function.signature);
         let made = function_of(

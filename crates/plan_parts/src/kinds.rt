@@ -41,7 +41,7 @@ fn parts_of(alloc: Global, kept: &Kept, parts: &[usize]) -> Result<Vec<Type>, Al
     requires { AllByRecursion (IsKeptPart kept.now) parts.now }
     ensures { IfOk result (λ types. AllZip (IsPart kept.now) parts.now (map part_of types.items)) }
 {
-    let mut types = Vec::new(alloc);
+    let mut types = Vec::with_capacity(alloc, parts.len())?;
     for part in parts {
         types.push(kept.part(*part))?;
     }
@@ -53,7 +53,7 @@ fn parts_of(alloc: Global, kept: &Kept, parts: &[usize]) -> Result<Vec<Type>, Al
 fn names_of<'a>(alloc: Global, labels: &[(&'a str, bool)]) -> Result<Vec<&'a str>, AllocError>
     ensures { IfOk result (λ names. map (λ n. n.now) names.items ≡ map (λ l. l.0) (map label_of labels.now)) }
 {
-    let mut names = Vec::new(alloc);
+    let mut names = Vec::with_capacity(alloc, labels.len())?;
     for label in labels {
         names.push(label.0)?;
     }
@@ -71,7 +71,7 @@ fn fields_of<'a>(
     ensures names { IfOk result (λ fields. map (λ f. f.0.now) fields.items ≡ map (λ l. l.0) (map label_of labels.now)) }
     ensures parts { IfOk result (λ fields. AllZip (IsPart kept.now) parts.now (map (λ f. part_of f.1) fields.items)) }
 {
-    let mut fields = Vec::new(alloc);
+    let mut fields = Vec::with_capacity(alloc, labels.len())?;
     for number in 0..labels.len() {
         fields.push((labels[number].0, part_at(kept, parts, number)))?;
     }
@@ -89,7 +89,7 @@ fn cases_of<'a>(
     ensures names { IfOk result (λ cases. map stated_case cases.items ≡ map label_of labels.now) }
     ensures parts { IfOk result (λ cases. AllZip (IsPart kept.now) parts.now (given_parts (map (λ c. c.1) cases.items))) }
 {
-    let mut cases = Vec::new(alloc);
+    let mut cases = Vec::with_capacity(alloc, labels.len())?;
     let mut next = 0usize;
     for label in labels {
         if label.1 {

@@ -96,7 +96,7 @@ fn each_agrees(
 fn all_sighted(alloc: Global, sights: &[Sight<'_>]) -> Result<Vec<Sighted>, AllocError>
     ensures { IfOk result (λ all. map sighted all.items ≡ map in_numbers (map numbered_sight sights.now)) }
 {
-    let mut all = Vec::new(alloc);
+    let mut all = Vec::with_capacity(alloc, sights.len())?;
     for sight in sights {
         all.push(Sighted {
             place: sight.place,

@@ -15,7 +15,7 @@ some_is : {A : Type 0} (x y : A) → Some x ≡ Some y → x ≡ y
 some_is x y e = cc
 
 -- what was found where these bytes are behind it
-found_before : {A : Type 0} (found : Option (A × List ℕ)) (rest : List ℕ) → behind found ≡ Some rest → (x : A) × (found ≡ Some (x, rest))
+pub found_before : {A : Type 0} (found : Option (A × List ℕ)) (rest : List ℕ) → behind found ≡ Some rest → (x : A) × (found ≡ Some (x, rest))
 found_before None rest e = absurd cc
 found_before (Some x) rest e = (x.0, ap (followed_by x.0) (some_is x.1 rest e))
 

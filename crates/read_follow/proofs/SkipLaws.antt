@@ -1,7 +1,19 @@
--- Items that are read one behind the other and dropped.
-use Rattle.std.proofs.Common.{◌≡◌, refl, sym, ap, ◌∙◌, ℕ, suc, ◌+◌, ◌-◌, ◌<◌, ◌≤◌, arith, List, ◌∷◌, Option, Some, None}
-use Rattle.comp_bytes.specs.Reading.{Reader, ◌>>=◌, sequence_at}
-use Rattle.read_follow.specs.Bodies.{behind}
+-- What is behind a form that is read to find its end.
+use Rattle.std.proofs.Common.{◌≡◌, refl, sym, ap, ◌∙◌, ℕ, suc, ◌+◌, ◌-◌, ◌<◌, ◌≤◌, arith, Bool, true, false, cond, eqb-true, List, [], ◌∷◌, Option, Some, None, ◌==◌}
+use Rattle.comp_bytes.specs.FirstByte.{declared_type_at, defined_type_at, function_type_at}
+use Rattle.comp_bytes.specs.Raw.{Declaration, DefinedType}
+use Rattle.comp_bytes.specs.Reading.{Reader, ◌>>=◌, as_at, case_at, declaration_at, field_at, function_of, name_at, pair_at, result_list_at, sequence_at, u32_at, value_type_at, vector_at}
+use Rattle.read_follow.specs.Bodies.{behind, held_declaration_at, is_import}
+use Rattle.read_follow.specs.Declares.{declaration_by_first, type_by_first}
+use Rattle.read_follow.proofs.BodyLaws.{found_before, none_found}
+use Rattle.read_follow.proofs.DeclarationLaws.{declaration_first}
+
+-- a form under another name has the same bytes behind it
+pub behind_as : {A B : Type 0} (f : A → B) (o : Option (A × List ℕ)) → behind (o >>= λ x. Some (f x.0, x.1)) ≡ behind o
+behind_as f None = refl
+behind_as f (Some x) = refl
+
+-- ---- items, one behind the other
 
 module _ {A : Type 0} (reader : Reader A) (n i : ℕ) (bytes rest : List ℕ) (kept : behind (sequence_at reader (n - i) rest) ≡ behind (sequence_at reader n bytes)) where
   front_dropped : (x : A) (found : Option (List A × List ℕ)) → behind (found >>= λ xs. Some (x ∷ xs.0, xs.1)) ≡ behind found
@@ -15,13 +27,140 @@ module _ {A : Type 0} (reader : Reader A) (n i : ℕ) (bytes rest : List ℕ) (k
   less : i < n → n - i ≡ suc (n - (i + 1))
   less h = omega (arith, h)
 
-  pub skip_one : i < n → (x : A) (after : List ℕ) → reader rest ≡ Some (x, after) → behind (sequence_at reader (n - (i + 1)) after) ≡ behind (sequence_at reader n bytes)
-  skip_one more x after e = sym (front_dropped x (sequence_at reader (n - (i + 1)) after))
+  one_passed : i < n → (x : A) (after : List ℕ) → reader rest ≡ Some (x, after) → behind (sequence_at reader (n - (i + 1)) after) ≡ behind (sequence_at reader n bytes)
+  one_passed more x after e = sym (front_dropped x (sequence_at reader (n - (i + 1)) after))
       ∙ (sym (ap behind (ap (λ k. sequence_at reader k rest) (less more) ∙ one_left (n - (i + 1)) (Some (x, after)) e)) ∙ kept)
 
-  pub skip_none : i < n → reader rest ≡ None → behind (sequence_at reader n bytes) ≡ None
-  skip_none more e = sym kept ∙ ap behind (ap (λ k. sequence_at reader k rest) (less more) ∙ one_left (n - (i + 1)) None e)
+  pub skip_one : i < n → (after : List ℕ) → behind (reader rest) ≡ Some after → behind (sequence_at reader (n - (i + 1)) after) ≡ behind (sequence_at reader n bytes)
+  skip_one more after e = let found = found_before (reader rest) after e in one_passed more found.0 after found.1
+
+  pub skip_none : i < n → behind (reader rest) ≡ None → behind (sequence_at reader n bytes) ≡ None
+  skip_none more e = sym kept ∙ ap behind (ap (λ k. sequence_at reader k rest) (less more) ∙ one_left (n - (i + 1)) None (none_found (reader rest) e))
 
   pub skip_all : n ≤ i → behind (sequence_at reader n bytes) ≡ Some rest
   unfolding sequence_at
   skip_all done = let none : n - i ≡ 0 = omega arith in sym kept ∙ ap (λ k. behind (sequence_at reader k rest)) none
+
+-- a vector, by its number
+pub vector_found : {A : Type 0} (reader : Reader A) (bytes : List ℕ) (o : Option (ℕ × List ℕ)) → u32_at bytes ≡ o → vector_at reader bytes ≡ (o >>= λ n. sequence_at reader n.0 n.1)
+unfolding vector_at
+vector_found reader bytes o e = ap (λ p. p >>= λ n. sequence_at reader n.0 n.1) e
+
+-- ---- functions
+
+abbrev paired : {A B : Type 0} → A → B × List ℕ → (A × B) × List ℕ
+paired x y = ((x, y.0), y.1)
+
+abbrev next_of : {A B : Type 0} → Reader B → A × List ℕ → Option ((A × B) × List ℕ)
+next_of second x = second x.1 >>= λ y. Some (paired x.0 y)
+
+one_behind : {A B C : Type 0} (f : A × B → C) (x : A) (o : Option (B × List ℕ)) → behind ((o >>= λ y. Some (paired x y)) >>= λ p. Some (f p.0, p.1)) ≡ behind o
+one_behind f x None = refl
+one_behind f x (Some y) = refl
+
+both_behind : {A B C : Type 0} (f : A × B → C) (second : Reader B) (o : Option (A × List ℕ)) → behind ((o >>= next_of second) >>= λ p. Some (f p.0, p.1)) ≡ (behind o >>= λ rest. behind (second rest))
+both_behind f second None = refl
+both_behind f second (Some x) = one_behind f x.0 (second x.1)
+
+module _ (is_async : Bool) (bytes : List ℕ) where
+  function_behind : behind (function_type_at is_async bytes) ≡ (behind (vector_at field_at bytes) >>= λ rest. behind (result_list_at rest))
+  unfolding function_type_at as_at pair_at
+  function_behind = both_behind (function_of is_async) result_list_at (vector_at field_at bytes)
+
+  pub function_skipped : (params rest : List ℕ) → behind (vector_at field_at bytes) ≡ Some params → behind (result_list_at params) ≡ Some rest → behind (function_type_at is_async bytes) ≡ Some rest
+  function_skipped params rest e f = function_behind ∙ (ap (λ o. o >>= λ r. behind (result_list_at r)) e ∙ f)
+
+  pub function_cut : behind (vector_at field_at bytes) ≡ None → behind (function_type_at is_async bytes) ≡ None
+  function_cut e = function_behind ∙ ap (λ o. o >>= λ r. behind (result_list_at r)) e
+
+  pub function_unended : (params : List ℕ) → behind (vector_at field_at bytes) ≡ Some params → behind (result_list_at params) ≡ None → behind (function_type_at is_async bytes) ≡ None
+  function_unended params e f = function_behind ∙ (ap (λ o. o >>= λ r. behind (result_list_at r)) e ∙ f)
+
+-- ---- definitions
+
+module _ (bytes : List ℕ) where
+  pub record_skipped : behind (defined_type_at 0x72 bytes) ≡ behind (vector_at field_at bytes)
+  unfolding defined_type_at as_at
+  record_skipped = behind_as DefinedType.record_of (vector_at field_at bytes)
+
+  pub variant_skipped : behind (defined_type_at 0x71 bytes) ≡ behind (vector_at case_at bytes)
+  unfolding defined_type_at as_at
+  variant_skipped = behind_as DefinedType.variant_of (vector_at case_at bytes)
+
+  pub tuple_skipped : behind (defined_type_at 0x6f bytes) ≡ behind (vector_at value_type_at bytes)
+  unfolding defined_type_at as_at
+  tuple_skipped = behind_as DefinedType.tuple_of (vector_at value_type_at bytes)
+
+  pub flags_skipped : behind (defined_type_at 0x6e bytes) ≡ behind (vector_at name_at bytes)
+  unfolding defined_type_at as_at
+  flags_skipped = behind_as DefinedType.flags_of (vector_at name_at bytes)
+
+  pub enum_skipped : behind (defined_type_at 0x6d bytes) ≡ behind (vector_at name_at bytes)
+  unfolding defined_type_at as_at
+  enum_skipped = behind_as DefinedType.enum_of (vector_at name_at bytes)
+
+-- ---- declarations
+
+abbrev held : Option (Declaration × List ℕ) → Option (Declaration × List ℕ)
+held o = o >>= λ d. cond (is_import d.0) None (Some d)
+
+held_as : {A : Type 0} (f : A → Declaration) → ((x : A) → is_import (f x) ≡ false) → (o : Option (A × List ℕ)) → held (o >>= λ x. Some (f x.0, x.1)) ≡ (o >>= λ x. Some (f x.0, x.1))
+held_as f none None = refl
+held_as f none (Some x) = ap (λ b. cond b None (Some (f x.0, x.1))) (none x.0)
+
+held_either : (b : Bool) (o p : Option (Declaration × List ℕ)) → held o ≡ o → held p ≡ p → held (cond b o p) ≡ cond b o p
+held_either true o p e f = e
+held_either false o p e f = f
+
+-- a declared type is no import
+held_type : (bytes : List ℕ) → held (type_by_first bytes) ≡ type_by_first bytes
+unfolding type_by_first declared_type_at as_at
+held_type [] = refl
+held_type (tag ∷ bytes) =
+    held_either (tag == 0x40) (as_at Declaration.function (function_type_at false) bytes) _ (held_as Declaration.function (λ f. refl) (function_type_at false bytes))
+    (held_either (tag == 0x43) (as_at Declaration.function (function_type_at true) bytes) _ (held_as Declaration.function (λ f. refl) (function_type_at true bytes))
+    (held_as Declaration.defined (λ d. refl) (defined_type_at tag bytes)))
+
+type_declared : (rest : List ℕ) → declaration_at (1 ∷ rest) ≡ type_by_first rest
+unfolding declaration_by_first
+type_declared rest = declaration_first (1 ∷ rest)
+
+module _ (bytes rest : List ℕ) (tag : ℕ) (front : bytes ≡ tag ∷ rest) (is : tag ≡ 1) where
+  split : bytes ≡ 1 ∷ rest
+  split = front ∙ ap (λ b. b ∷ rest) is
+
+  pub type_skipped : behind (declaration_at bytes) ≡ behind (type_by_first rest)
+  type_skipped = ap behind (ap declaration_at split ∙ type_declared rest)
+
+  pub held_type_skipped : behind (held_declaration_at bytes) ≡ behind (type_by_first rest)
+  unfolding held_declaration_at
+  held_type_skipped = ap behind (ap held (ap declaration_at split ∙ type_declared rest) ∙ held_type rest)
+
+-- ---- declared types, by their first byte
+
+module _ (bytes rest : List ℕ) (tag : ℕ) (front : bytes ≡ tag ∷ rest) where
+  begun : (first : ℕ) → tag ≡ first → bytes ≡ first ∷ rest
+  begun first is = front ∙ ap (λ b. b ∷ rest) is
+
+  pub function_declared : tag ≡ 0x40 → behind (type_by_first bytes) ≡ behind (function_type_at false rest)
+  unfolding type_by_first declared_type_at as_at
+  function_declared is = ap (λ text. behind (type_by_first text)) (begun 0x40 is) ∙ behind_as Declaration.function (function_type_at false rest)
+
+  pub async_declared : tag ≡ 0x43 → behind (type_by_first bytes) ≡ behind (function_type_at true rest)
+  unfolding type_by_first declared_type_at as_at
+  async_declared is = ap (λ text. behind (type_by_first text)) (begun 0x43 is) ∙ behind_as Declaration.function (function_type_at true rest)
+
+  unlike : (k : ℕ) → (tag ≡ k → ⊥) → (tag == k) ≡ false
+  unlike k h = by (tag == k) refl
+    where
+      by : (b : Bool) → (tag == k) ≡ b → b ≡ false
+      by true e = absurd (h (eqb-true tag k e))
+      by false e = refl
+
+  pub value_declared : (tag ≡ 0x40 → ⊥) → (tag ≡ 0x43 → ⊥) → behind (type_by_first bytes) ≡ behind (defined_type_at tag rest)
+  unfolding type_by_first declared_type_at as_at
+  value_declared e f =
+      ap (λ text. behind (type_by_first text)) front
+      ∙ (ap (λ b. behind (cond b (as_at Declaration.function (function_type_at false) rest) (cond (tag == 0x43) (as_at Declaration.function (function_type_at true) rest) (as_at Declaration.defined (defined_type_at tag) rest)))) (unlike 0x40 e)
+      ∙ (ap (λ b. behind (cond b (as_at Declaration.function (function_type_at true) rest) (as_at Declaration.defined (defined_type_at tag) rest))) (unlike 0x43 f)
+      ∙ behind_as Declaration.defined (defined_type_at tag rest)))

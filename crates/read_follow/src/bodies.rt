@@ -3,7 +3,7 @@
 ghost use Rattle.std.specs.Prelude.{◌≡◌, ◌≤◌, ◌-◌, length, take, IfOk};
 ghost use Rattle.comp_bytes.specs.Raw.{Declaration};
 ghost use Rattle.comp_bytes.specs.Levels.{Entry as RawEntry, entry_at, held_at};
-ghost use Rattle.comp_bytes.specs.Reading.{sequence_at, vector_at};
+ghost use Rattle.comp_bytes.specs.Reading.{declaration_at, sequence_at};
 ghost use Rattle.read_follow.specs.Bodies.{behind, held_declaration_at, items_in, raw_entry, IsBody, IsWhole};
 ghost use Rattle.read_follow.specs.Declares.{raw_declared};
 ghost use Rattle.read_follow.specs.Found.{Finds, Gives};
@@ -11,7 +11,7 @@ ghost use Rattle.read_follow.specs.Found.{Finds, Gives};
 use crate::declarations::{Declared, declaration_of};
 use crate::front::u32_of;
 use crate::refusal::Refusal;
-use crate::vector::Form;
+use crate::skips::{Skips, skip_each, skip_type};
 use std::alloc::Global;
 use wit_model::Cause;
 
@@ -24,24 +24,6 @@ pub struct Body<'a> {
     pub bytes: &'a [u8],
     /// How many bytes of the slice that they were read from stand behind them.
     pub behind: usize,
-}
-
-/// The bytes behind so many items, each of which is read and dropped.
-fn skip_each<'a, T: Form<'a> + Drop>(
-    alloc: Global,
-    count: u32,
-    bytes: &'a [u8],
-) -> Result<&'a [u8], Refusal>
-    ensures { Gives (λ rest. rest.now) result (behind (sequence_at T.reader count bytes.now)) }
-{
-    let mut rest = bytes;
-    for _ in 0..count {
-        match T::read(alloc, rest) {
-            Ok((_item, after)) => rest = after,
-            Err(refusal) => return Err(refusal),
-        }
-    }
-    Ok(rest)
 }
 
 /// The body of so many items at the front, behind which the rest stands.
@@ -59,10 +41,6 @@ fn cut<'a>(count: u32, bytes: &'a [u8], rest: &[u8]) -> Body<'a>
     }
 }
 
-/// A declaration of an instance type, which imports nothing.
-#[derive(Drop)]
-struct Held<'a>(Declared<'a>);
-
 /// The declaration of an instance type in front, and the bytes behind it.
 #[tactic(auto, unfolding(crate::specs::Bodies::held_declaration_at))]
 pub(crate) fn held_declaration_of<'a>(
@@ -78,20 +56,33 @@ pub(crate) fn held_declaration_of<'a>(
     }
 }
 
-impl<'a> Form<'a> for Held<'a> {
+/// The bytes behind the declaration of an instance type in front.
+#[tactic(auto, unfolding(crate::specs::Bodies::held_declaration_at, comp_bytes::specs::Reading::declaration_at, comp_bytes::specs::Reading::tagged_at))]
+fn skip_held<'a>(alloc: Global, bytes: &'a [u8]) -> Result<&'a [u8], Refusal>
+    ensures { Gives (λ rest. rest.now) result (behind (held_declaration_at bytes.now)) }
+{
+    let Some((first, rest)) = bytes.split_first() else {
+        return Err(Refusal::Absent(Cause::Truncated, 0));
+    };
+    if *first == 0x01 {
+        return skip_type(alloc, rest);
+    }
+    match held_declaration_of(alloc, bytes) {
+        Ok((_declared, rest)) => Ok(rest),
+        Err(refusal) => Err(refusal),
+    }
+}
+
+/// Declarations of an instance type, which imports nothing.
+struct Held;
+
+impl<'a> Skips<'a> for Held {
     ghost Raw = { Declaration };
 
     ghost reader = { held_declaration_at };
 
-    ghost raw = { λ h. raw_declared h.0 };
-
-    ghost whole = { λ _. Unit {0} };
-
-    fn read(alloc: Global, bytes: &'a [u8]) -> Result<(Held<'a>, &'a [u8]), Refusal> {
-        match held_declaration_of(alloc, bytes) {
-            Ok((declared, rest)) => Ok((Held(declared), rest)),
-            Err(refusal) => Err(refusal),
-        }
+    fn skip(alloc: Global, bytes: &'a [u8]) -> Result<&'a [u8], Refusal> {
+        skip_held(alloc, bytes)
     }
 }
 
@@ -104,7 +95,7 @@ fn held_items<'a>(
     ensures whole { IfOk result (λ x. IsBody held_declaration_at x.0) }
     ensures found { Finds (items_in held_declaration_at) result (sequence_at held_declaration_at count bytes.now) }
 {
-    match skip_each::<Held<'a>>(alloc, count, bytes) {
+    match skip_each::<Held>(alloc, count, bytes) {
         Ok(rest) => Ok((cut(count, bytes, rest), rest)),
         Err(refusal) => Err(refusal),
     }
@@ -149,17 +140,51 @@ pub fn entry_of<'a>(alloc: Global, bytes: &'a [u8]) -> Result<(Entry<'a>, &'a [u
     }
 }
 
-impl<'a> Form<'a> for Entry<'a> {
+/// The bytes behind the instance type in front, behind its first byte.
+fn skip_instance<'a>(alloc: Global, bytes: &'a [u8]) -> Result<&'a [u8], Refusal>
+    ensures { Gives (λ rest. rest.now) result (behind (held_at bytes.now)) }
+{
+    match held_of(alloc, bytes) {
+        Ok((_body, rest)) => Ok(rest),
+        Err(refusal) => Err(refusal),
+    }
+}
+
+/// The bytes behind the declaration in front.
+#[tactic(auto, unfolding(comp_bytes::specs::Reading::declaration_at, comp_bytes::specs::Reading::tagged_at))]
+fn skip_declaration<'a>(alloc: Global, bytes: &'a [u8]) -> Result<&'a [u8], Refusal>
+    ensures { Gives (λ rest. rest.now) result (behind (declaration_at bytes.now)) }
+{
+    let Some((first, rest)) = bytes.split_first() else {
+        return Err(Refusal::Absent(Cause::Truncated, 0));
+    };
+    if *first == 0x01 {
+        return skip_type(alloc, rest);
+    }
+    match declaration_of(alloc, bytes) {
+        Ok((_declared, rest)) => Ok(rest),
+        Err(refusal) => Err(refusal),
+    }
+}
+
+/// The bytes behind the entry in front.
+fn skip_entry<'a>(alloc: Global, bytes: &'a [u8]) -> Result<&'a [u8], Refusal>
+    ensures { Gives (λ rest. rest.now) result (behind (entry_at bytes.now)) }
+{
+    if bytes.starts_with(&[0x01, 0x42]) {
+        skip_instance(alloc, bytes.split_at(2).1)
+    } else {
+        skip_declaration(alloc, bytes)
+    }
+}
+
+impl<'a> Skips<'a> for Entry<'a> {
     ghost Raw = { RawEntry };
 
     ghost reader = { entry_at };
 
-    ghost raw = { raw_entry };
-
-    ghost whole = { IsWhole };
-
-    fn read(alloc: Global, bytes: &'a [u8]) -> Result<(Entry<'a>, &'a [u8]), Refusal> {
-        entry_of(alloc, bytes)
+    fn skip(alloc: Global, bytes: &'a [u8]) -> Result<&'a [u8], Refusal> {
+        skip_entry(alloc, bytes)
     }
 }
 

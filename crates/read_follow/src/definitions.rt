@@ -203,7 +203,7 @@ pub(crate) fn defined_type_of<'a>(
 
 /// What a function gives back: 00 and a type, or 01 and 00 where it gives nothing.
 #[tactic(auto, unfolding(comp_bytes::specs::Reading::result_list_at, comp_bytes::specs::Reading::tag_at, comp_bytes::specs::Reading::tagged_at, comp_bytes::specs::Reading::choose, comp_bytes::specs::Reading::just_at, comp_bytes::specs::Reading::as_at))]
-fn result_list_of(bytes: &[u8]) -> Result<(Option<ComponentValType>, &[u8]), Refusal>
+pub(crate) fn result_list_of(bytes: &[u8]) -> Result<(Option<ComponentValType>, &[u8]), Refusal>
     ensures { Finds (λ v. v) result (result_list_at bytes.now) }
 {
     let Some((first, rest)) = bytes.split_first() else {

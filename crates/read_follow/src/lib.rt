@@ -26,6 +26,7 @@ mod sections;
 mod seeing;
 mod shows;
 mod signatures;
+mod skips;
 mod slots;
 mod table;
 mod value;

@@ -29,7 +29,7 @@ fn params_of<'a>(
     ensures found { IfOk result (λ x. (T : List Tree) (F : List Signature) → each (field_type (slots_in T F slots.now)) (map labeled params.now) ≡ Some (map (param_tree T) (map param_of x.items))) }
     ensures absent { IfErr result (λ e. (T : List Tree) (F : List Signature) → Refuses e (each (field_type (slots_in T F slots.now)) (map labeled params.now))) }
 {
-    let mut parts = Vec::new(alloc);
+    let mut parts = Vec::with_capacity(alloc, params.len())?;
     for param in params {
         match value_in(slots, param.1) {
             Ok(part) => parts.push((param.0, part))?,

@@ -20,7 +20,7 @@ use Rattle.wit_bind.specs.KeyLists.{Puts}
 abbrev pub Entries : Type 0
 Entries = List (String Global × StringEncoding)
 
-abbrev under : Text → Entries → Option StringEncoding
+abbrev pub under : Text → Entries → Option StringEncoding
 under q es = lookup (λ k. text_eq q (text_of k)) es
 
 find_is : (q : Text) (es : Entries) → find text_cmp q (map (λ e. (text_of e.0, e.1)) es) ≡ under q es
@@ -83,7 +83,7 @@ module _ (q : Text) (k : String Global) (v : StringEncoding) where
       by false s true t = refl
       by false s false t = refl
 
-  under_put : (es : Entries) → under q (insert_entry string_eq es k v) ≡ cond (text_eq q (text_of k)) (Some v) (under q es)
+  pub under_put : (es : Entries) → under q (insert_entry string_eq es k v) ≡ cond (text_eq q (text_of k)) (Some v) (under q es)
   under_put [] = refl
   under_put (e ∷ es) = by (string_eq k e.0) refl (under_put es)
     where

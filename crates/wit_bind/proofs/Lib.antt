@@ -1,5 +1,17 @@
 pub mod KeyTexts
 pub mod Kept
+pub mod Conflicts
+pub mod Telling
+pub mod Refusals
+pub mod Uniting
+pub mod Growing
+pub mod Extending
+pub mod Merging
+pub mod Unchanged
+pub mod UnionBound
+pub mod MatchedPaths
+pub mod TooMany
+pub mod NumbersAgree
 pub mod Putting
 pub mod FunctionKeys
 pub mod ValidKeys

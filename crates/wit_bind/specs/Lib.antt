@@ -11,3 +11,6 @@ pub mod Choices
 pub mod Bindings
 pub mod Extends
 pub mod Merges
+pub mod Unions
+pub mod MergedLaws
+pub mod Apart

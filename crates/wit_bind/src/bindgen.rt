@@ -1,13 +1,26 @@
 //! What is bound to a core module, and the bindings of a module that carries no world.
 
-ghost use Rattle.std.specs.Prelude.{◌≡◌, None, IfErr, IfOk};
+ghost use Rattle.std.specs.Prelude.{◌≡◌, ◌++◌, map, None, IfErr, IfOk, OnErr, OnOk};
 ghost use Rattle.wit_model.specs.declared.error.Error.TheVariants.{Memory};
+ghost use Rattle.wit_model.specs.Lookup.{key_text};
+ghost use Rattle.bind_add.specs.Growth.{IsAddable};
+ghost use Rattle.bind_carry.specs.AddedKeys.{key_view};
+ghost use Rattle.bind_meaning.specs.Clash.{CanUnite};
+ghost use Rattle.bind_meaning.specs.Union.{union};
+ghost use Rattle.wit_bind.specs.Bindings.{IsBindgen, binding_of};
+ghost use Rattle.wit_bind.specs.Extends.{Extends, IsKept, listed_names, merged_names};
+ghost use Rattle.wit_bind.specs.Merges.{IsGrownBy, IsMergeRefusal, IsPlanOf, export_keys};
 ghost use Rattle.wit_bind.specs.Roots.{IsRoot, IsRootPackage, IsRootResolve, IsRootWorld};
 
 use crate::metadata::ModuleMetadata;
+use bind_add::{Added, add, reserve};
+use bind_carry::union_of;
+use bind_clash::refuse_clash;
+use bind_match::matches_of;
+use indexmap::IndexSet;
 use std::alloc::Global;
 use wit_model::{
-    Docs, Error, Map, Package, PackageId, PackageName, Resolve, Stability, World, WorldId,
+    Docs, Error, Map, Package, PackageId, PackageName, Resolve, Stability, World, WorldId, WorldKey,
 };
 
 /// What is bound to a core module: the world that it imports from and exports to, in its `Resolve`, and the string encodings of its functions.
@@ -87,5 +100,76 @@ impl Bindgen {
             world: WorldId(0),
             metadata: ModuleMetadata::empty(alloc),
         })
+    }
+
+    // What the union with other bindings adds to the `Resolve`, and the keys of their exports in it; or why there is none.
+    fn planned(&self, alloc: Global, other: &Bindgen) -> Result<(Added, IndexSet<WorldKey>), Error>
+        requires own { IsBindgen self.now }
+        requires others { IsBindgen other.now }
+        ensures united { IfOk result (λ plan. CanUnite (binding_of self.now) (binding_of other.now)) }
+        ensures ok { IfOk result (λ plan. IsPlanOf self.now other.now plan.0 plan.1.keys) }
+        ensures refusal { IfErr result (IsMergeRefusal self.now other.now) }
+    {
+        let matches = matches_of(alloc, &self.resolve, &other.resolve)?;
+        refuse_clash(
+            alloc,
+            &self.resolve,
+            self.world,
+            &other.resolve,
+            other.world,
+            &matches,
+        )?;
+        self.metadata.refuse_clash(alloc, &other.metadata)?;
+        union_of(
+            alloc,
+            &self.resolve,
+            self.world,
+            &other.resolve,
+            other.world,
+            &matches,
+        )
+    }
+
+    // Adds to the `Resolve`, and to the encodings, all or nothing. All room is made first, so nothing is refused once something has changed.
+    fn grow(&mut self, added: Added, metadata: ModuleMetadata) -> Result<(), Error>
+        requires { IsAddable self.old.resolve self.old.world.0 added }
+        ensures ok { OnOk result (IsGrownBy added metadata self.old self.new) }
+        ensures kept { OnErr result (IsKept self.old self.new) }
+        ensures refuses { IfErr result (λ e. e ≡ Memory) }
+    {
+        reserve(&mut self.resolve, self.world, &added)?;
+        self.metadata.unite(metadata)?;
+        add(&mut self.resolve, self.world, added);
+        Ok(())
+    }
+
+    /// Merges other bindings into these, which gain what is new, or are left as they were (wit-component README, "Merging Worlds"). The other's
+    /// bound world is bound, too: what it imports and exports comes behind what is imported and exported here. What stands under one path on
+    /// both sides has to mean the same, and keeps this side's documentation and stability; the other's world `root:root/root` isn't compared
+    /// and not carried over. Own numbers stay. The answer is the keys of the other's exports, as they stand here, in their order.
+    ///
+    /// Both `Resolve`s are valid, and each world is one of its own. Refuses with `Clash` where the two clash, and names the first fault; with `Memory`;
+    /// and with `Size` only where a list would pass 4,294,967,295. Takes time and memory linear in both, with hashed look-ups.
+    pub fn merge(&mut self, alloc: Global, other: Bindgen) -> Result<IndexSet<WorldKey>, Error>
+        requires own { IsBindgen self.old }
+        requires others { IsBindgen other }
+
+        ensures united { OnOk result (CanUnite (binding_of self.old) (binding_of other)) }
+        ensures union { OnOk result (binding_of self.new ≡ union (binding_of self.old) (binding_of other)) }
+        ensures valid { OnOk result (IsBindgen self.new) }
+
+        // Own numbers stay, and what is new stands behind what was there.
+        ensures world { self.new.world ≡ self.old.world }
+        ensures extends { OnOk result (Extends self.old.resolve self.new.resolve self.old.world.0) }
+        ensures order { OnOk result (listed_names self.new.resolve ≡ merged_names (listed_names self.old.resolve) (listed_names other.resolve)) }
+        ensures added { IfOk result (λ added. map key_view (export_keys self.new.resolve self.new.world.0) ≡ map key_view (export_keys self.old.resolve self.old.world.0 ++ added.keys)) }
+        ensures answer { IfOk result (λ added. map (key_text self.new.resolve) added.keys ≡ map (key_text other.resolve) (export_keys other.resolve other.world.0)) }
+
+        ensures refusal { IfErr result (IsMergeRefusal self.old other) }
+        ensures kept { OnErr result (IsKept self.old self.new) }
+    {
+        let (added, keys) = self.planned(alloc, &other)?;
+        self.grow(added, other.metadata)?;
+        Ok(keys)
     }
 }

@@ -4,15 +4,20 @@ ghost use Rattle.std.specs.Prelude.{◌≡◌, ◌<◌, [], ◌∷◌, length, I
 ghost use Rattle.std.specs.FinMap.{empty};
 ghost use Rattle.indexmap.specs.IndexMap.{get_by_text};
 ghost use Rattle.wit_model.specs.declared.error.Error.TheVariants.{Memory};
-ghost use Rattle.wit_model.specs.Text.{text_of};
+ghost use Rattle.wit_model.specs.Text.{optional_text, text_of};
 ghost use Rattle.wit_model.specs.Valid.{IsValid};
 ghost use Rattle.wit_bind.specs.Keys.{function_key};
 ghost use Rattle.wit_bind.specs.Encodings.{encoding_under};
 ghost use Rattle.wit_bind.specs.KeyLists.{Puts};
+ghost use Rattle.bind_clash.specs.Faults.{IsLeastFault};
+ghost use Rattle.bind_meaning.specs.Clash.{EncodingFault};
+ghost use Rattle.wit_bind.specs.Unions.{conflict_at, Gains};
 ghost use Rattle.wit_bind.specs.OldKeys.{items_of as items_of_lem, items_on, CarriesEach, CarriesOver};
 
 use crate::keys::{is_function_key, short_key};
 use crate::wanted::{Wanted, wanted_encodings};
+use bind_add::append_entries;
+use bind_clash::lesser;
 use indexmap::IndexMap;
 use std::alloc::Global;
 use std::marker::Model;
@@ -116,4 +121,65 @@ impl EncodingMap {
         self.encodings.insert(key, encoding)?;
         Ok(())
     }
+
+    // The key, where another encoding stands under it.
+    fn conflict_under(
+        &self,
+        alloc: Global,
+        key: &str,
+        encoding: StringEncoding,
+    ) -> Result<Option<String>, Error>
+        ensures ok { IfOk result (λ p. optional_text p ≡ conflict_at self.now key.now encoding) }
+        ensures refuses { IfErr result (λ e. e ≡ Memory) }
+    {
+        match self.encodings.get(key) {
+            Some(found) => {
+                if *found == encoding {
+                    Ok(None)
+                } else {
+                    Ok(Some(String::from_str(alloc, key)?))
+                }
+            }
+            None => Ok(None),
+        }
+    }
+
+    /// The least key, by its bytes, that has one encoding here and another in the other map. Takes one pass over the other map, expected, and memory for such
+    /// keys alone. Refuses `Memory` alone.
+    pub(crate) fn conflict(
+        &self,
+        alloc: Global,
+        other: &EncodingMap,
+    ) -> Result<Option<String>, Error>
+        ensures least { IfOk result (λ p. IsLeastFault (EncodingFault self.now other.now) (optional_text p)) }
+        ensures refuses { IfErr result (λ e. e ≡ Memory) }
+    {
+        let mut least = None;
+        for (key, encoding) in &other.encodings {
+            let found = self.conflict_under(alloc, key.as_str(), *encoding)?;
+            least = lesser(least, found);
+        }
+        Ok(least)
+    }
+}
+
+/// Adds encodings to those of imports and to those of exports. Under a key that has one already the added one stands. A refusal, `Memory` alone, leaves
+/// both maps as they were. Takes time linear in what is added, expected.
+pub(crate) fn unite_both(
+    imports: &mut EncodingMap,
+    exports: &mut EncodingMap,
+    more_imports: EncodingMap,
+    more_exports: EncodingMap,
+) -> Result<(), Error>
+    ensures imports { OnOk result (Gains more_imports imports.old imports.new) }
+    ensures exports { OnOk result (Gains more_exports exports.old exports.new) }
+    ensures imports_kept { OnErr result (imports.new ≡ imports.old) }
+    ensures exports_kept { OnErr result (exports.new ≡ exports.old) }
+    ensures refuses { IfErr result (λ e. e ≡ Memory) }
+{
+    imports.encodings.reserve(more_imports.encodings.len())?;
+    exports.encodings.reserve(more_exports.encodings.len())?;
+    append_entries(&mut imports.encodings, more_imports.encodings);
+    append_entries(&mut exports.encodings, more_exports.encodings);
+    Ok(())
 }

@@ -1,14 +1,18 @@
 //! The string encodings of what a world imports and exports.
 
-ghost use Rattle.std.specs.Prelude.{◌≡◌, ◌<◌, length, IfErr, IfOk};
+ghost use Rattle.std.specs.Prelude.{◌≡◌, ◌<◌, length, IfErr, IfOk, OnErr, OnOk};
 ghost use Rattle.std.specs.FinMap.{empty as nothing};
 ghost use Rattle.wit_model.specs.declared.error.Error.TheVariants.{Memory};
+ghost use Rattle.bind_meaning.specs.Clash.{EncodingFault, NoFault};
 ghost use Rattle.wit_bind.specs.Functions.{exports_of, imports_of, MapsFunctions};
+ghost use Rattle.wit_bind.specs.Merges.{IsEncodingRefusal};
+ghost use Rattle.wit_bind.specs.Unions.{Gains};
 
-use crate::encodings::EncodingMap;
+use crate::encodings::{EncodingMap, unite_both};
 use crate::wanted::{Wanted, wanted_encodings};
+use bind_clash::refuse_fault;
 use std::alloc::Global;
-use wit_model::{Error, Map, Resolve, StringEncoding, WorldId, WorldItem, WorldKey};
+use wit_model::{ClashKind, Error, Map, Resolve, StringEncoding, WorldId, WorldItem, WorldKey};
 
 /// What is known of a core module: the string encoding of each function that it imports and of each that it exports.
 #[derive(Drop)]
@@ -60,5 +64,38 @@ impl ModuleMetadata {
             import_encodings: EncodingMap::new(alloc),
             export_encodings: EncodingMap::new(alloc),
         }
+    }
+
+    /// Refused where a key has another encoding in the other metadata: `Clash` of the least such key, of imports before exports. Otherwise it refuses
+    /// `Memory` alone.
+    pub(crate) fn refuse_clash(&self, alloc: Global, other: &ModuleMetadata) -> Result<(), Error>
+        ensures imports { OnOk result (NoFault (EncodingFault self.now.import_encodings other.now.import_encodings)) }
+        ensures exports { OnOk result (NoFault (EncodingFault self.now.export_encodings other.now.export_encodings)) }
+        ensures refusal { IfErr result (IsEncodingRefusal self.now other.now) }
+    {
+        let imports = self
+            .import_encodings
+            .conflict(alloc, &other.import_encodings)?;
+        refuse_fault(ClashKind::Encoding, imports)?;
+        let exports = self
+            .export_encodings
+            .conflict(alloc, &other.export_encodings)?;
+        refuse_fault(ClashKind::Encoding, exports)
+    }
+
+    /// Adds the encodings of the other metadata. A refusal, `Memory` alone, leaves these as they were.
+    pub(crate) fn unite(&mut self, other: ModuleMetadata) -> Result<(), Error>
+        ensures imports { OnOk result (Gains other.import_encodings self.old.import_encodings self.new.import_encodings) }
+        ensures exports { OnOk result (Gains other.export_encodings self.old.export_encodings self.new.export_encodings) }
+        ensures imports_kept { OnErr result (self.new.import_encodings ≡ self.old.import_encodings) }
+        ensures exports_kept { OnErr result (self.new.export_encodings ≡ self.old.export_encodings) }
+        ensures refuses { IfErr result (λ e. e ≡ Memory) }
+    {
+        unite_both(
+            &mut self.import_encodings,
+            &mut self.export_encodings,
+            other.import_encodings,
+            other.export_encodings,
+        )
     }
 }

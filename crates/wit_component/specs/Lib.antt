@@ -31,5 +31,7 @@ pub use Rattle.wit_bind.specs.Keys
 pub use Rattle.wit_bind.specs.OldKeys
 pub use Rattle.wit_bind.specs.Roots
 pub use Rattle.wit_metadata.specs.Carried
+pub use Rattle.wit_metadata.specs.Modules
 pub use Rattle.wit_metadata.specs.Said
 pub use Rattle.bind_sections.specs.Bound
+pub use Rattle.bind_modules.specs.BoundTo

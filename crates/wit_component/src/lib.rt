@@ -1,8 +1,8 @@
 //! WIT packages as data, as bytes and as text: the names of all crates below under one, and the laws that join them.
 //!
 //! A `Resolve` is checked (`Check`), encoded (`encode`) and decoded (`decode`, `decode_world`), printed (`WitPrinter`) and compared (`semver_check`,
-//! `same_sense`). What a module carries of a world is encoded by `metadata::encode`, and decoded
-//! to a `Bindgen` by `metadata::decode_section`.
+//! `same_sense`). What a module carries of a world is encoded by `metadata::encode`, and all that a module carries is decoded to a `Bindgen` by
+//! `metadata::decode`.
 #![tactic(auto)]
 
 pub mod laws;

@@ -21,8 +21,6 @@ mod names;
 #[cfg(test)]
 mod same;
 #[cfg(test)]
-mod sections;
-#[cfg(test)]
 mod senses;
 #[cfg(test)]
 mod table_calls;

@@ -1,6 +1,7 @@
 -- Sections in front of bytes, those behind them, and those that carry no world.
-use Rattle.std.proofs.Common.{◌≡◌, ◌≤◌, ◌<◌, ◌∙◌, refl, sym, ap, subst, ℕ, suc, ◌==◌, nat_eq, Bool, true, false, List, [], ◌∷◌, ◌++◌, append_assoc, append-nil, length, drop, Some, Ok, Err, arith}
+use Rattle.std.proofs.Common.{◌≡◌, ◌≤◌, ◌<◌, ◌∙◌, refl, sym, ap, subst, ℕ, suc, ◌==◌, nat_eq, Bool, true, false, List, [], ◌∷◌, ◌++◌, append_assoc, append-nil, length, drop, Option, Some, None, Ok, Err, arith}
 use Rattle.std.specs.Prelude.{◌-◌}
+use Rattle.std.specs.Borrow.{Bor}
 use Rattle.std.specs.List.{AllByRecursion, flat_map, starts_with}
 use Rattle.std.proofs.lemmas.Bool.{eq-eqb, eqb-true, true≢false}
 use Rattle.std.proofs.lemmas.Bool.Decides.{Decides-eqb}
@@ -17,7 +18,7 @@ use Rattle.comp_bytes.specs.Writing.{framed}
 use Rattle.comp_bytes.proofs.ComponentLaws.{frame_law}
 use Rattle.comp_bytes.proofs.PartLaws.{name_law}
 use Rattle.wit_model.proofs.OnePath.{some-same}
-use Rattle.wit_metadata.specs.Modules.{AreOthers, Carries, Framed, IsFrontless, IsInFront, IsModule, IsNamed, IsStripped, IsUnbound, RefusesModule, TellsCarrying, carrying_name, module_bytes, module_preamble}
+use Rattle.wit_metadata.specs.Modules.{AreOthers, Carries, Framed, HasData, IsFrontData, IsFrontless, IsInFront, IsModule, IsNamed, IsStripped, IsUnbound, RefusesModule, TellsCarrying, carrying_name, module_bytes, module_preamble}
 
 -- ---- one section
 
@@ -212,6 +213,27 @@ module _ (f : Framed) (custom : f.0 ≡ 0) where
       none-read : (e : Error) → Refuses e f.1 ((c : List ℕ × List ℕ) → IsCustom c f.1 → ⊥) → (c : List ℕ × List ℕ) → IsCustom c f.1 → ⊥
       none-read (errors.NoReading cause offset) r = r.1
       none-read _ r = absurd r
+
+-- ---- the data of a section that carries a world
+
+pub no-data : (contents : List ℕ) (e : Error) → ReadsCustom contents (Err e) → HasData contents None
+no-data contents (errors.NoReading cause offset) r = r.1
+no-data contents _ r = absurd r
+
+module _ (bytes rest : List ℕ) (f : Framed) (stands : IsInFront bytes f rest) where
+  -- it is what stands behind the name
+  pub carried-data : Carries f → (found : Option (Bor (List ℕ))) → HasData f.1 found → IsFrontData bytes found rest
+  carried-data carries None none = absurd (none carries.1.0 carries.1.1)
+  carried-data carries (Some found) (name, named) = (
+    f,
+    stands,
+    record {
+      custom = carries.0;
+      name = name;
+      named_ = named;
+      begins = ap (λ (t : List ℕ). starts_with nat_eq t carrying_name) (one-name f.1 (name, found.now) carries.1.0 named carries.1.1) ∙ carries.1.2;
+    },
+  )
 
 -- ---- the whole module
 

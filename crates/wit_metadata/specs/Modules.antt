@@ -95,3 +95,26 @@ TellsCarrying f (Ok false) = IsNamed f × (Carries f → ⊥)
 abbrev pub IsFrontSection : List ℕ → Result (Section × Bool × Bor (List ℕ)) Error → Type 0
 IsFrontSection bytes (Err e) = IsFrontless bytes
 IsFrontSection bytes (Ok x) = IsInFront bytes (x.0.id, x.0.contents.now) x.2.now × TellsCarrying (x.0.id, x.0.contents.now) (Ok x.1)
+
+-- ---- section by section
+
+-- the bytes don't begin as a core module
+abbrev pub IsNoModule : List ℕ → Type 0
+IsNoModule bytes = (rest : List ℕ) → bytes ≡ module_preamble ++ rest → ⊥
+
+-- what stands behind the name of a custom section with these contents, or none where they have no name in front
+abbrev pub HasData : List ℕ → Option (Bor (List ℕ)) → Type 0
+HasData contents None = (c : List ℕ × List ℕ) → IsCustom c contents → ⊥
+HasData contents (Some found) = (name : List ℕ) × IsCustom (name, found.now) contents
+
+-- The section carries a world, and this is its data: what stands behind its name.
+pub record CarriesData (f : Framed) (text : List ℕ) : Type 0 where
+  pub custom : f.0 ≡ 0
+  pub name : List ℕ
+  pub named_ : IsCustom (name, text) f.1
+  pub begins : starts_with nat_eq name carrying_name ≡ true
+
+-- A section stands in front of these bytes behind it: one that carries a world, with this data, or one that carries none.
+abbrev pub IsFrontData : List ℕ → Option (Bor (List ℕ)) → List ℕ → Type 0
+IsFrontData bytes (Some found) rest = (f : Framed) × IsInFront bytes f rest × CarriesData f found.now
+IsFrontData bytes None rest = (f : Framed) × IsInFront bytes f rest × (Carries f → ⊥)

@@ -9,6 +9,6 @@ mod said;
 mod worlds;
 
 pub use encodings::{encoding_byte, encoding_of};
-pub use modules::stripped;
+pub use modules::{carried_in, sections_of, stripped};
 pub use said::encoding_in;
 pub use worlds::encode;

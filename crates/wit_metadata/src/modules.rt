@@ -1,10 +1,10 @@
 //! Core modules, and the sections of them that carry worlds.
 
-ghost use Rattle.std.specs.Prelude.{◌≡◌, ◌≤◌, ◌^◌, ◌++◌, length, Err, IfErr, IfOk, OnOk};
+ghost use Rattle.std.specs.Prelude.{◌≡◌, ◌≤◌, ◌^◌, ◌++◌, length, Err, None, IfErr, IfOk, OnOk};
 ghost use Rattle.comp_bytes.specs.Refusal.{IsMemoryOrSize};
 ghost use Rattle.comp_bytes.specs.Writing.{framed};
-ghost use Rattle.wit_model.specs.declared.error.Error.TheVariants.{BadModule, Size};
-ghost use Rattle.wit_metadata.specs.Modules.{IsFrontSection, RefusesModule, StripsModule, TellsCarrying};
+ghost use Rattle.wit_model.specs.declared.error.Error.TheVariants.{BadModule, NotAModule, Size};
+ghost use Rattle.wit_metadata.specs.Modules.{HasData, IsFrontData, IsFrontless, IsFrontSection, IsNoModule, RefusesModule, StripsModule, TellsCarrying, module_preamble};
 
 use comp_bytes::{Section, custom_name, front_section, write_u32};
 use std::alloc::Global;
@@ -44,6 +44,56 @@ fn bad_module(_error: Error, offset: usize) -> Error
     ensures { result ≡ BadModule offset }
 {
     Error::BadModule(offset)
+}
+
+/// The sections of a core module, which stand behind its preamble. Refuses with `NotAModule` what doesn't begin as one. Takes constant time, and no
+/// memory.
+pub fn sections_of(bytes: &[u8]) -> Result<&[u8], Error>
+    ensures ok { IfOk result (λ rest. bytes.now ≡ module_preamble ++ rest.now) }
+    ensures refuses { IfErr result (λ e. e ≡ NotAModule) }
+    ensures none { IfErr result (λ e. IsNoModule bytes.now) }
+{
+    if bytes.starts_with(&PREAMBLE) {
+        Ok(bytes.split_at(8).1)
+    } else {
+        Err(Error::NotAModule)
+    }
+}
+
+// What stands behind the name of a custom section, or none where it has no name.
+fn data_of(contents: &[u8]) -> Option<&[u8]>
+    ensures { HasData contents.now result }
+{
+    match custom_name(contents) {
+        Ok((_, data)) => Some(data),
+        Err(error) => without_data(error),
+    }
+}
+
+// A custom section without a name has no data, whatever the reader of names says of it.
+fn without_data(_error: Error) -> Option<&'static [u8]>
+    ensures { result ≡ None }
+{
+    None
+}
+
+/// The data of the section in front, where it carries a world, and the bytes behind that section. Where no section stands in front, or a custom one without
+/// a name, the refusal is `BadModule` at the offset that is handed in. Takes time linear in the section's name, and no memory.
+pub fn carried_in(bytes: &[u8], offset: usize) -> Result<(Option<&[u8]>, &[u8]), Error>
+    ensures ok { IfOk result (λ x. IsFrontData bytes.now x.0 x.1.now) }
+    ensures refuses { IfErr result (λ e. e ≡ BadModule offset) }
+    ensures none { IfErr result (λ e. IsFrontless bytes.now) }
+{
+    match section_of(bytes) {
+        Ok((section, carries, behind)) => {
+            if carries {
+                Ok((data_of(section.contents), behind))
+            } else {
+                Ok((None, behind))
+            }
+        }
+        Err(error) => Err(bad_module(error, offset)),
+    }
 }
 
 // Appends a section, its length in the shortest bytes.

@@ -1,3 +1,4 @@
+mod BindingsLaws
 mod DemoLaws
 mod NamedLaws
 mod PrintedLaws

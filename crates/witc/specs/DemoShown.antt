@@ -1,5 +1,5 @@
 -- The demo's package as text and as digits.
-use Rattle.std.specs.Prelude.{◌≡◌, ℕ, List}
+use Rattle.std.specs.Prelude.{◌≡◌, ℕ, List, []}
 use Rattle.wit_model.specs.declared.model.Resolve.{Resolve}
 use Rattle.wit_model.specs.Meant.{Meant}
 use Rattle.comp_meaning.specs.Reads.{Reads}
@@ -11,7 +11,7 @@ use Rattle.witc.specs.Printed.{IsTextOf}
 pub record IsDemoText (text : List ℕ) : Type 0 where
   pub resolve : Resolve
   pub means : Meant resolve 0 demo
-  pub is_text : IsTextOf resolve (record { 0 = 0 }) text
+  pub is_text : IsTextOf resolve (record { 0 = 0 }) [] text
 
 -- The digits are of bytes that mean the demo's package.
 pub record IsDemoDigits (text : List ℕ) : Type 0 where

@@ -9,14 +9,14 @@ use Rattle.print_output.specs.Render.{render}
 use Rattle.wit_print.specs.Shown.{shown_file}
 use Rattle.witc.specs.Decodes.{DecodesInput}
 
--- The text is what the package's calls render to, with documentation and no others nested, and its one reading is what is shown of the package.
-pub record IsTextOf (r : Resolve) (id : PackageId) (text : List ℕ) : Type 0 where
-  pub rendered : text ≡ render (file_calls true (shown_file r id []))
-  pub reads : IsOnlyReading text (file_as_read (shown_file r id []))
+-- The text is what the package's calls render to, with documentation and these others nested, and its one reading is what is shown of them.
+pub record IsTextOf (r : Resolve) (id : PackageId) (nested : List PackageId) (text : List ℕ) : Type 0 where
+  pub rendered : text ≡ render (file_calls true (shown_file r id nested))
+  pub reads : IsOnlyReading text (file_as_read (shown_file r id nested))
 
--- All that a reader has left means a package, and the text is of it.
+-- All that a reader has left means a package, and the text is of it, with no others nested.
 pub record PrintsInput (left rest : Option (List ℕ)) (text : List ℕ) : Type 0 where
   pub resolve : Resolve
   pub id : PackageId
   pub decoded : DecodesInput left rest resolve id.0
-  pub is_text : IsTextOf resolve id text
+  pub is_text : IsTextOf resolve id [] text

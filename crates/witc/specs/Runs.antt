@@ -3,9 +3,11 @@ use Rattle.std.specs.Prelude.{◌≡◌, ◌++◌, ℕ, List, codes, Option, Som
 use Rattle.std.specs.declared.alloc.Global.{Global}
 use Rattle.std.specs.Io.KnownBytes.{Appends}
 use Rattle.witc.specs.Answers.{Answers, line_of}
+use Rattle.witc.specs.Bindings.{PrintsBindings}
 use Rattle.witc.specs.DemoShown.{IsDemoDigits, IsDemoText}
 use Rattle.witc.specs.Printed.{PrintsInput}
-use Rattle.witc.specs.Words.{Asked, demo_text, demo_hex, print, compat}
+use Rattle.witc.specs.Stripped.{StripsInput}
+use Rattle.witc.specs.Words.{Asked, demo_text, demo_hex, print, module_text, strip, compat}
 use Rattle.witc.specs.Worlds.{ComparesInput}
 use Rattle.witc.specs.declared.compat.Compared.{Compared}
 use Rattle.witc.specs.declared.compat.Compared.TheVariants as compared
@@ -26,6 +28,8 @@ abbrev pub IsDone : Option (List ℕ) → Option (List ℕ) → Asked → List �
 IsDone left rest demo_text text = (rest ≡ left) × IsDemoText text
 IsDone left rest demo_hex text = (rest ≡ left) × IsDemoDigits text
 IsDone left rest print text = PrintsInput left rest text
+IsDone left rest module_text text = PrintsBindings left rest text
+IsDone left rest strip text = StripsInput left rest text
 IsDone left rest (compat prev new) text = ComparesInput left rest prev new compared.Compatible × (text ≡ compatible)
 
 -- The input is read whole and means a package that has no world of the first name; or it has one, and none of the second.

@@ -4,12 +4,14 @@ use Rattle.std.specs.declared.alloc.Global.{Global}
 use Rattle.std.specs.Cmp.Lexicographic.{pointwise}
 use Rattle.std.specs.Str.{is_utf8}
 
--- what is asked for: the demo's package as text or as digits, the text of a package, or whether the world of the second name may take the
--- place of the one of the first
+-- what is asked for: the demo's package as text or as digits, the text of a package, the text of what a module binds, a module without the sections that
+-- carry worlds, or whether the world of the second name may take the place of the one of the first
 pub data Asked : Type 0 where
   demo_text : Asked
   demo_hex : Asked
   print : Asked
+  module_text : Asked
+  strip : Asked
   compat : List ℕ → List ℕ → Asked
 
 -- whether a word is this text
@@ -20,9 +22,14 @@ is_word word text = pointwise nat_eq word.items text
 abbrev pub demo_of : Vec ℕ Global → Option Asked
 demo_of second = if is_word second (codes "text") then Some demo_text else (if is_word second (codes "hex") then Some demo_hex else None)
 
--- what the words ask for, or none where they are no command: so far `demo text`, `demo hex`, `print`, and `compat` with two words that are UTF-8
+-- what one word asks for
+abbrev pub plain_of : Vec ℕ Global → Option Asked
+plain_of word = if is_word word (codes "print") then Some print else (if is_word word (codes "module") then Some module_text else (if is_word word (codes "strip") then Some strip else None))
+
+-- what the words ask for, or none where they are no command: `demo text`, `demo hex`, `print`, `module`, `strip`, and `compat` with two words that are
+-- UTF-8
 abbrev pub asked_of : List (Vec ℕ Global) → Option Asked
-asked_of (first ∷ []) = if is_word first (codes "print") then Some print else None
+asked_of (first ∷ []) = plain_of first
 asked_of (first ∷ second ∷ []) = if is_word first (codes "demo") then demo_of second else None
 asked_of (first ∷ prev ∷ new ∷ []) = if is_word first (codes "compat") && (is_utf8 prev.items && is_utf8 new.items) then Some (compat prev.items new.items) else None
 asked_of _ = None

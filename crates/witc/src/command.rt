@@ -19,6 +19,10 @@ pub enum Command<'a> {
     DemoHex,
     /// The bytes of a package to its text.
     Print,
+    /// The bytes of a core module to the text of what it binds.
+    Module,
+    /// The bytes of a core module to those without the sections that carry worlds.
+    Strip,
     /// Whether the world of the second name may take the place of the one of the first, in the bytes of a package.
     Compat(&'a str, &'a str),
 }
@@ -28,18 +32,22 @@ pub fn command_of(words: &[Vec<u8>]) -> Option<Command<'_>>
     ensures { option_map asked_by result ≡ asked_of words.now }
 {
     match words {
-        [word] => print_command(word),
+        [word] => plain_command(word),
         [first, second] => demo_command(first, second),
         [first, prev, new] => compat_command(first, prev, new),
         _ => None,
     }
 }
 
-fn print_command(word: &Vec<u8>) -> Option<Command<'_>>
+fn plain_command(word: &Vec<u8>) -> Option<Command<'_>>
     ensures { option_map asked_by result ≡ asked_of (word.now ∷ []) }
 {
     if is(word, "print") {
         Some(Command::Print)
+    } else if is(word, "module") {
+        Some(Command::Module)
+    } else if is(word, "strip") {
+        Some(Command::Strip)
     } else {
         None
     }

@@ -23,7 +23,7 @@ pub fn demo_text(alloc: Global) -> Result<Vec<u8>, Refusal>
     ensures { IfOk result (λ text. IsDemoText text.items) }
 {
     let resolve = checked_package(alloc)?;
-    Ok(text_of_package(alloc, &resolve, PACKAGE)?)
+    Ok(text_of_package(alloc, &resolve, PACKAGE, &[])?)
 }
 
 /// The package's bytes in hexadecimal digits.

@@ -9,6 +9,7 @@ mod demo;
 mod example;
 mod hex;
 mod input;
+mod module;
 mod print;
 mod refusal;
 mod run;

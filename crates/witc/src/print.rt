@@ -1,7 +1,9 @@
 //! Packages as text.
 
-ghost use Rattle.std.specs.Prelude.{◌≡◌, ◌<◌, length, IfErr, IfOk, IsOkUnless};
+ghost use Rattle.std.specs.Prelude.{◌≡◌, ◌<◌, true, length, IfErr, IfOk, IsOkUnless};
+ghost use Rattle.std.specs.List.{list_all};
 ghost use Rattle.wit_model.specs.declared.error.Error.TheVariants.{Memory};
+ghost use Rattle.wit_model.specs.Rules.{in_list};
 ghost use Rattle.wit_model.specs.Valid.{IsValid};
 ghost use Rattle.witc.specs.Printed.{IsTextOf, PrintsInput};
 ghost use Rattle.witc.specs.Decodes.{RefusesInput};
@@ -12,15 +14,21 @@ use std::alloc::Global;
 use std::io::Read;
 use wit_component::{Error, OutputToString, PackageId, Resolve, WitPrinter};
 
-/// The text of a package, with no others nested in it.
-pub fn text_of_package(alloc: Global, resolve: &Resolve, id: PackageId) -> Result<Vec<u8>, Error>
+/// The text of a package, with others nested in it.
+pub fn text_of_package(
+    alloc: Global,
+    resolve: &Resolve,
+    id: PackageId,
+    nested: &[PackageId],
+) -> Result<Vec<u8>, Error>
     requires valid { IsValid resolve.now }
     requires in_range { id.0 < length resolve.now.packages.items }
-    ensures text { IfOk result (λ text. IsTextOf resolve.now id text.items) }
+    requires nested { list_all (λ other. in_list resolve.now.packages.items other.0) nested.now ≡ true }
+    ensures text { IfOk result (λ text. IsTextOf resolve.now id nested.now text.items) }
     ensures memory { IsOkUnless result Memory }
 {
     let mut printer = WitPrinter::new(OutputToString::new(alloc));
-    printer.print(alloc, resolve, id, &[])?;
+    printer.print(alloc, resolve, id, nested)?;
     Ok(String::from(printer.output).into_bytes())
 }
 
@@ -30,5 +38,5 @@ pub fn print_input<R: Read>(alloc: Global, reader: &mut R) -> Result<Vec<u8>, Re
     ensures refused { IfErr result (RefusesInput (R.remaining reader.old) (R.remaining reader.new)) }
 {
     let (resolve, id) = decode_input(alloc, reader)?;
-    Ok(text_of_package(alloc, &resolve, id)?)
+    Ok(text_of_package(alloc, &resolve, id, &[])?)
 }

@@ -9,6 +9,7 @@ use crate::answer::{BAD_WORDS, DONE, answer, answer_no_world, refuse};
 use crate::command::{Command, USAGE, command_of};
 use crate::compat::{Compared, compare_input};
 use crate::demo::{demo_hex, demo_text};
+use crate::module::{module_input, strip_input};
 use crate::print::print_input;
 use crate::refusal::Refusal;
 use std::alloc::Global;
@@ -50,6 +51,8 @@ fn carry_out<R: Read, W: Write>(
         Command::DemoText => answer_text(writer, demo_text(alloc)),
         Command::DemoHex => answer_text(writer, demo_hex(alloc)),
         Command::Print => answer_text(writer, print_input(alloc, reader)),
+        Command::Module => answer_text(writer, module_input(alloc, reader)),
+        Command::Strip => answer_text(writer, strip_input(alloc, reader)),
         Command::Compat(prev, new) => {
             let compared = compare_input(alloc, reader, prev, new);
             answer_compared(writer, compared, prev, new)

@@ -1,4 +1,5 @@
 mod failing;
+mod modules;
 mod ports;
 
 use super::run;

@@ -1,4 +1,5 @@
-use Rattle.std.proofs.Common.{◌∙◌, refl, map}
+use Rattle.std.proofs.Common.{◌∙◌, refl, ap, map}
+use Rattle.std.proofs.lemmas.List.{take_all}
 use Rattle.std.specs.Prelude.{string_eq}
 use Rattle.wit_model.specs.Text.{text_of, text_eq}
 use Rattle.wit_model.proofs.Distinct.{text_eq_flip}
@@ -14,3 +15,6 @@ loop-entry-preserved g c =
     let x = c.entry-item.result in
     λ apart. entry_more text_eq text_eq_flip string_eq text_of (λ a b. refl) (λ n. n) stated_number c.loop-entry.built.entries c.insert.new.self.entries xs i x c.in_ok-name.name x.1 c.loop-entry-test.true c.entry-item.is
     c.in_ok-insert.ensures.entries c.in_ok-name.ensures (texts_differ (map (λ e. e.0.now) xs) ∙ apart) (c.loop-entry.invariant apart) refl
+
+pub returns : goal.returns
+returns g c = λ apart. c.loop-entry.invariant apart ∙ ap (map stated_number) (take_all c.loop-entry.entry-index c.args.entries.now c.loop-entry-test.false)

@@ -9,8 +9,8 @@ use Rattle.read_follow.proofs.signatures.params_of.Goals as goal
 
 pub loop-param-init : goal.loop-param-init
 loop-param-init c = record {
-  ranges = λ n ranges. none_above (λ (p : Text × ℕ). p.1 < 14 + n) c.new-parts.result.items c.new-parts.ensures.items;
-  so_far = params_start c.args.slots.now c.args.params.now c.new-parts.result.items c.new-parts.ensures.items;
+  ranges = λ n ranges. none_above (λ (p : Text × ℕ). p.1 < 14 + n) c.in_ok-parts.parts.items c.in_ok-parts.ensures.items;
+  so_far = params_start c.args.slots.now c.args.params.now c.in_ok-parts.parts.items c.in_ok-parts.ensures.items;
 }
 
 pub returns-in-Err-clause-absent : goal.returns-in-Err-clause-absent

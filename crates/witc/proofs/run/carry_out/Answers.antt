@@ -4,7 +4,7 @@ use Rattle.std.specs.declared.alloc.Global.{Global}
 use Rattle.witc.specs.Asks.{asked_by}
 use Rattle.witc.specs.DemoShown.{IsDemoDigits, IsDemoText}
 use Rattle.witc.specs.Runs.{Ends, IsDone}
-use Rattle.witc.specs.Words.{Asked, demo_text, demo_hex, print}
+use Rattle.witc.specs.Words.{Asked, demo_text, demo_hex, print, module_text, strip}
 use Rattle.witc.proofs.RunLaws.{if-ok, names-end, text-ends}
 use Rattle.witc.proofs.run.carry_out.Goals as goal
 
@@ -35,6 +35,24 @@ returns-in-Print g c =
     let new = g.W.Write.contents c.answer_text-in-Print.new.writer in
     subst (λ (what : Asked). Ends (Some what) left rest old new c.answer_text-in-Print.result) (sym (ap asked_by c.in-Print.is))
     (text-ends left rest old new print c.print_input.result c.answer_text-in-Print.result c.print_input.ensures.printed c.answer_text-in-Print.ensures)
+
+pub returns-in-Module : goal.returns-in-Module
+returns-in-Module g c =
+    let left = g.R.Read.remaining c.args.reader.now in
+    let rest = g.R.Read.remaining c.module_input.new.reader in
+    let old = g.W.Write.contents c.args.writer.now in
+    let new = g.W.Write.contents c.answer_text-in-Module.new.writer in
+    subst (λ (what : Asked). Ends (Some what) left rest old new c.answer_text-in-Module.result) (sym (ap asked_by c.in-Module.is))
+    (text-ends left rest old new module_text c.module_input.result c.answer_text-in-Module.result c.module_input.ensures.printed c.answer_text-in-Module.ensures)
+
+pub returns-in-Strip : goal.returns-in-Strip
+returns-in-Strip g c =
+    let left = g.R.Read.remaining c.args.reader.now in
+    let rest = g.R.Read.remaining c.strip_input.new.reader in
+    let old = g.W.Write.contents c.args.writer.now in
+    let new = g.W.Write.contents c.answer_text-in-Strip.new.writer in
+    subst (λ (what : Asked). Ends (Some what) left rest old new c.answer_text-in-Strip.result) (sym (ap asked_by c.in-Strip.is))
+    (text-ends left rest old new strip c.strip_input.result c.answer_text-in-Strip.result c.strip_input.ensures.stripped c.answer_text-in-Strip.ensures)
 
 pub returns-in-Compat : goal.returns-in-Compat
 returns-in-Compat g c =

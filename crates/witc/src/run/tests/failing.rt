@@ -99,7 +99,7 @@ fn writes(rt: HostRuntime) -> Result<(), Fail> {
         (&[b"print"], DEMO_TEXT, DONE),
         (&[b"compat", b"foo", b"foo"], "compatible\n", DONE),
         (&[b"compat", b"foo", b"x"], "no such world: x\n", BAD_WORDS),
-        (&[b"strip"], USAGE_LINE, BAD_WORDS),
+        (&[b"stripped"], USAGE_LINE, BAD_WORDS),
     ];
     for (words, text, status) in &CASES {
         for write in 1..text.len().saturating_add(1) {

@@ -1,0 +1,107 @@
+-- How many are copied.
+use Rattle.std.proofs.Common.{◌≡◌, refl, sym, ap, subst, ◌∙◌, ℕ, ◌+◌, ◌≤◌, Bool, true, false, arith, List, [], ◌∷◌, ◌++◌, length, map}
+use Rattle.std.specs.List.{AllZip}
+use Rattle.std.specs.Prelude.{Err, IfErr, Ok, OnOk, Option, Result}
+use Rattle.std.specs.Result.{IsErrAnd}
+use Rattle.wit_model.specs.declared.error.Error.{Error}
+use Rattle.wit_model.specs.declared.model.Interface.{Interface}
+use Rattle.wit_model.specs.declared.model.PackageId.{PackageId}
+use Rattle.wit_model.specs.declared.model.TypeDef.{TypeDef}
+use Rattle.bind_carry.specs.declared.fate.Fate.{Fate}
+use Rattle.bind_carry.specs.declared.fate.Fate.TheVariants as fate
+use Rattle.bind_carry.specs.Fates.{copied_types, copies, AreCopied, IsCopiedType, MeetsFate}
+use Rattle.bind_copy.specs.Copies.{IsInterfaceUnder}
+use Rattle.bind_carry.specs.BoundGains.{AreInlineCopied}
+use Rattle.bind_carry.specs.Numbers.{copied_count}
+use Rattle.bind_carry.specs.TooLong.{copies_of}
+use Rattle.bind_carry.specs.Whole.{kept}
+
+-- at most as many are kept as flags are set
+pub kept_few : {X : Type 0} (bs : List Bool) (xs : List X) → length (kept bs xs) ≤ copied_count bs
+kept_few [] xs = omega arith
+kept_few (b ∷ bs) [] = omega arith
+kept_few (true ∷ bs) (x ∷ xs) = let r = kept_few bs xs in omega (arith, r)
+kept_few (false ∷ bs) (x ∷ xs) = kept_few bs xs
+
+-- and as many where each has a flag
+pub kept_all : {X : Type 0} (bs : List Bool) (xs : List X) → length bs ≡ length xs → length (kept bs xs) ≡ copied_count bs
+kept_all [] xs long = refl
+kept_all (b ∷ bs) [] long = absurd (omega (arith, long))
+kept_all (true ∷ bs) (x ∷ xs) long = let r = kept_all bs xs (omega (arith, long)) in omega (arith, r)
+kept_all (false ∷ bs) (x ∷ xs) long = kept_all bs xs (omega (arith, long))
+
+-- lists that go together are of one length
+pub zip_long : {X Y : Type 0} (P : X → Y → Type 0) (xs : List X) (ys : List Y) → AllZip P xs ys → length xs ≡ length ys
+zip_long P [] [] h = refl
+zip_long P [] (y ∷ ys) h = absurd h
+zip_long P (x ∷ xs) [] h = absurd h
+zip_long P (x ∷ xs) (y ∷ ys) h = let r = zip_long P xs ys h.1 in omega (arith, r)
+
+pub length_both : {X : Type 0} (xs ys : List X) → length (xs ++ ys) ≡ length xs + length ys
+length_both [] ys = omega arith
+length_both (x ∷ xs) ys = let r = length_both xs ys in omega (arith, r)
+
+-- ---- types
+
+-- as many types are copied as have such fates
+pub types_counted : (ts : List TypeDef) (fs : List Fate) → length fs ≡ length ts → length (copied_types ts fs) ≡ copies_of fs
+types_counted [] [] long = refl
+types_counted [] (f ∷ fs) long = absurd (omega (arith, long))
+types_counted (t ∷ ts) [] long = absurd (omega (arith, long))
+types_counted (t ∷ ts) (fate.Left ∷ fs) long = types_counted ts fs (omega (arith, long))
+types_counted (t ∷ ts) (fate.Stands n ∷ fs) long = types_counted ts fs (omega (arith, long))
+types_counted (t ∷ ts) (fate.Copied home ∷ fs) long = let r = types_counted ts fs (omega (arith, long)) in omega (arith, r)
+
+-- a type that met its fate is counted
+pub counted_more : (own : ℕ) (numbers : List ℕ) (def : TypeDef) (f : Fate) (old new : List TypeDef) (n : ℕ) (fs left : List Fate) (whole : ℕ) → left ≡ f ∷ fs → MeetsFate own numbers def f old new n
+    → length old + copies_of left ≡ whole → length new + copies_of fs ≡ whole
+counted_more own numbers def fate.Left old new n fs left whole at met so = ap (λ l. length l + copies_of fs) met.1 ∙ (ap (λ l. length old + copies_of l) (sym at) ∙ so)
+counted_more own numbers def (fate.Stands k) old new n fs left whole at met so = ap (λ l. length l + copies_of fs) met.1 ∙ (ap (λ l. length old + copies_of l) (sym at) ∙ so)
+counted_more own numbers def (fate.Copied home) old new n fs left whole at met so =
+    let longer : length new ≡ length old + 1 = ap length met.1.2 ∙ length_both old (met.1.0 ∷ []) in
+    let here : length old + (copies_of fs + 1) ≡ whole = ap (λ l. length old + copies_of l) (sym at) ∙ so in
+    omega (arith, longer, here)
+
+-- where one more is to be copied, it counts
+pub counts_one : (f : Fate) (fs left : List Fate) → left ≡ f ∷ fs → copies f ≡ true → copies_of left ≡ copies_of fs + 1
+counts_one f fs left at h = ap copies_of at ∙ ap (λ b. copied_count (b ∷ map copies fs)) h
+
+-- behind what was added before stand as many as are copied
+pub copied_long : (own : ℕ) (numbers : List ℕ) (types : List TypeDef) (fates : List Fate) (old new : List TypeDef) → length fates ≡ length types → AreCopied own numbers types fates old new → length new ≡ length old + copies_of fates
+copied_long own numbers types fates old new long c =
+    let more : length (copied_types types fates) ≡ length c.more = zip_long (IsCopiedType numbers) (copied_types types fates) c.more c.copied in
+    let both : length new ≡ length old + length c.more = ap length c.behind ∙ length_both old c.more in
+    let count : length (copied_types types fates) ≡ copies_of fates = types_counted types fates long in
+    omega (arith, more, both, count)
+
+-- ---- inline interfaces
+
+-- at most as many stand behind as flags are set
+pub inline_long : (types : List ℕ) (home : Option PackageId) (copied : List Bool) (interfaces old new : List Interface) → AreInlineCopied types home copied interfaces old new → length new ≤ length old + copied_count copied
+inline_long types home copied interfaces old new c =
+    let more : length (kept copied interfaces) ≡ length c.more = zip_long (IsInterfaceUnder types home) (kept copied interfaces) c.more c.copies in
+    let both : length new ≡ length old + length c.more = ap length c.behind ∙ length_both old c.more in
+    let few : length (kept copied interfaces) ≤ copied_count copied = kept_few copied interfaces in
+    omega (arith, more, both, few)
+
+-- ---- answers
+
+-- what holds anyway holds where an answer is there
+pub on_ok : {A E P : Type 0} → P → (r : Result A E) → OnOk r P
+on_ok p (Ok a) = p
+on_ok p (Err e) = tt
+
+-- ---- lists that are made of what is kept
+
+-- at most as many as flags are set
+pub carried_few : {X Y : Type 0} (P : X → Y → Type 0) (flags : List Bool) (xs : List X) (ys : List Y) → AllZip P (kept flags xs) ys → length ys ≤ copied_count flags
+carried_few P flags xs ys h = let long = zip_long P (kept flags xs) ys h in let few = kept_few flags xs in omega (arith, long, few)
+
+-- and as many where each has a flag
+pub carried_all : {X Y : Type 0} (P : X → Y → Type 0) (flags : List Bool) (xs : List X) (ys : List Y) → length flags ≡ length xs → AllZip P (kept flags xs) ys → length ys ≡ copied_count flags
+carried_all P flags xs ys count h = let long = zip_long P (kept flags xs) ys h in let all = kept_all flags xs count in omega (arith, long, all)
+
+-- what holds of an error holds where that is the answer
+pub err_so : {A : Type 0} (P : Error → Type 0) (r : Result A Error) (e : Error) → IsErrAnd r (λ x. x ≡ e) → P e → IfErr r P
+err_so P (Ok x) e h p = tt
+err_so P (Err x) e h p = subst P (sym h) p

@@ -1,0 +1,86 @@
+-- Entries whose keys are new stand behind those that were there.
+use Rattle.std.proofs.Common.{◌≡◌, refl, sym, ap, ◌∙◌, ℕ, Bool, true, false, not, ◌||◌, ◌==◌, cond, List, [], ◌∷◌, ◌++◌, append-nil, append_assoc, if◌then◌else◌}
+use Rattle.std.specs.List.{filter, list_all, list_any, AllByRecursion, AllZip, IsDistinct}
+use Rattle.std.specs.Map.{keys_of}
+use Rattle.std.proofs.lemmas.Slice.Eq.{bytes_eq-Decides}
+use Rattle.indexmap.specs.IndexMap.{insert_all, insert_entry}
+use Rattle.wit_model.specs.Text.{Text, text_eq, text_of}
+use Rattle.wit_model.specs.Valid.{key_eq}
+use Rattle.wit_model.specs.declared.model.WorldItem.{WorldItem}
+use Rattle.wit_model.specs.declared.model.WorldKey.{WorldKey}
+use Rattle.wit_model.specs.declared.model.WorldKey.TheVariants as key
+use Rattle.wit_model.proofs.Elements.{both}
+use Rattle.wit_model.proofs.Lists.{first_true, second_true}
+use Rattle.bind_copy.specs.Copies.{become_one, is_key_under, is_new_under, number_under, IsEntryUnder, IsKeyUnder}
+use Rattle.bind_union.proofs.Lists.{no_true}
+
+-- what a filter leaves passes
+pub filter_passes : {X : Type 0} (p : X → Bool) (xs : List X) → list_all p (filter p xs) ≡ true
+filter_passes p [] = refl
+filter_passes p (x ∷ xs) = go (p x) refl (filter_passes p xs)
+  where
+    go : (b : Bool) → p x ≡ b → list_all p (filter p xs) ≡ true → list_all p (cond b (x ∷ filter p xs) (filter p xs)) ≡ true
+    go true e rest = both (p x) (list_all p (filter p xs)) e rest
+    go false e rest = rest
+
+text_apart : (a b : Text) → text_eq a b ≡ false → text_eq b a ≡ false
+text_apart a b h = go (text_eq b a) refl
+  where
+    go : (t : Bool) → text_eq b a ≡ t → text_eq b a ≡ false
+    go false e = e
+    go true e = no_true (sym h ∙ (bytes_eq-Decides a b).1 (sym ((bytes_eq-Decides b a).0 e)))
+
+none_more : {X : Type 0} (p : X → Bool) (xs : List X) (y : X) → not (list_any p xs) ≡ true → p y ≡ false → not (list_any p (xs ++ y ∷ [])) ≡ true
+none_more p [] y h k = ap (λ b. not (b || false)) k
+none_more p (x ∷ xs) y h k = go (p x) h (λ rest. none_more p xs y rest k)
+  where
+    go : (b : Bool) → not (b || list_any p xs) ≡ true → (not (list_any p xs) ≡ true → not (list_any p (xs ++ y ∷ [])) ≡ true) → not (b || list_any p (xs ++ y ∷ [])) ≡ true
+    go true h more = no_true h
+    go false h more = more h
+
+module _ (interfaces types : List ℕ) where
+  -- a key's copy is what the key is under its new number
+  under_test : (k y x : WorldKey) → IsKeyUnder interfaces k y → key_eq y x ≡ is_key_under interfaces k x
+  under_test (key.Name a) (key.Name b) (key.Name t) is = ap (λ z. text_eq z (text_of t)) is
+  under_test (key.Name a) (key.Name b) (key.Interface j) is = refl
+  under_test (key.Interface a) (key.Interface b) (key.Interface j) is = ap (λ (n : ℕ). n == j.0) is
+  under_test (key.Interface a) (key.Interface b) (key.Name t) is = refl
+  under_test (key.Name a) (key.Interface b) x is = absurd is
+  under_test (key.Interface a) (key.Name b) x is = absurd is
+
+  -- and it isn't that of a key that doesn't become one with it
+  copy_apart : (k l y : WorldKey) → IsKeyUnder interfaces k y → become_one interfaces k l ≡ false → is_key_under interfaces l y ≡ false
+  copy_apart (key.Name a) (key.Name b) (key.Name t) is h = ap (text_eq (text_of b)) is ∙ text_apart (text_of a) (text_of b) h
+  copy_apart (key.Name a) (key.Interface b) (key.Name t) is h = refl
+  copy_apart (key.Interface a) (key.Interface b) (key.Interface j) is h = ap (λ (n : ℕ). number_under interfaces b.0 == n) is ∙ h
+  copy_apart (key.Interface a) (key.Name b) (key.Interface j) is h = refl
+  copy_apart (key.Name a) l (key.Interface j) is h = absurd is
+  copy_apart (key.Interface a) l (key.Name t) is h = absurd is
+
+  insert_new : (es : List (WorldKey × WorldItem)) (k y : WorldKey) (i : WorldItem) → IsKeyUnder interfaces k y → is_new_under interfaces es k ≡ true → insert_entry key_eq es y i ≡ es ++ (y, i) ∷ []
+  insert_new [] k y i is new = refl
+  insert_new (e ∷ es) k y i is new = go (is_key_under interfaces k e.0) refl new (λ rest. insert_new es k y i is rest)
+    where
+      go : (b : Bool) → is_key_under interfaces k e.0 ≡ b → not (b || list_any (λ (x : WorldKey × WorldItem). is_key_under interfaces k x.0) es) ≡ true
+          → (is_new_under interfaces es k ≡ true → insert_entry key_eq es y i ≡ es ++ (y, i) ∷ []) → insert_entry key_eq (e ∷ es) y i ≡ (e ∷ es) ++ (y, i) ∷ []
+      go true q h more = no_true h
+      go false q h more = ap (λ b. if b then (e.0, i) ∷ es else e ∷ insert_entry key_eq es y i) (under_test k y e.0 is ∙ q) ∙ ap (λ l. e ∷ l) (more h)
+
+  abbrev test : List (WorldKey × WorldItem) → WorldKey × WorldItem → Bool
+  test es d = is_new_under interfaces es d.0
+
+  still_new : (es : List (WorldKey × WorldItem)) (k : WorldKey) (y : WorldKey × WorldItem) → IsKeyUnder interfaces k y.0 → (ds : List (WorldKey × WorldItem)) → list_all (test es) ds ≡ true → AllByRecursion (λ l. become_one interfaces k l ≡ false) (keys_of ds) → list_all (test (es ++ y ∷ [])) ds ≡ true
+  still_new es k y is [] new apart = refl
+  still_new es k y is (d ∷ ds) new apart = both (test (es ++ y ∷ []) d) (list_all (test (es ++ y ∷ [])) ds)
+      (none_more (λ (x : WorldKey × WorldItem). is_key_under interfaces d.0 x.0) es y (first_true (test es d) (list_all (test es) ds) new) (copy_apart k d.0 y.0 is apart.0))
+      (still_new es k y is ds (second_true (test es d) (list_all (test es) ds) new) apart.1)
+
+  pub all_behind : (es olds news : List (WorldKey × WorldItem)) → AllZip (IsEntryUnder interfaces types) olds news → list_all (λ (d : WorldKey × WorldItem). is_new_under interfaces es d.0) olds ≡ true → IsDistinct (become_one interfaces) (keys_of olds) → insert_all key_eq es news ≡ es ++ news
+  unfolding IsDistinct
+  all_behind es [] [] zip new distinct = sym (append-nil es)
+  all_behind es [] (y ∷ ys) zip new distinct = absurd zip
+  all_behind es (d ∷ ds) [] zip new distinct = absurd zip
+  all_behind es (d ∷ ds) (y ∷ ys) zip new distinct =
+      ap (λ l. insert_all key_eq l ys) (insert_new es d.0 y.0 y.1 zip.0.0 (first_true (test es d) (list_all (test es) ds) new))
+      ∙ (all_behind (es ++ y ∷ []) ds ys zip.1 (still_new es d.0 y zip.0.0 ds (second_true (test es d) (list_all (test es) ds) new) distinct.0) distinct.1
+      ∙ append_assoc es (y ∷ []) ys)

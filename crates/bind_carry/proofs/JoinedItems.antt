@@ -1,0 +1,104 @@
+-- Items that are copied where their keys are new join those that were there.
+use Rattle.std.proofs.Common.{◌≡◌, refl, sym, ap, ap₂, ◌∙◌, ℕ, zero, suc, Bool, true, false, not, ◌==◌, ◌||◌, cond, List, [], ◌∷◌, map, option_map}
+use Rattle.std.specs.List.{filter, list_all, list_any, AllZip}
+use Rattle.std.proofs.lemmas.Simd.{map-map}
+use Rattle.wit_model.specs.declared.model.Function.{Function}
+use Rattle.wit_model.specs.declared.model.FunctionKind.{FunctionKind}
+use Rattle.wit_model.specs.declared.model.FunctionKind.TheVariants as call
+use Rattle.wit_model.specs.declared.model.Param.{Param}
+use Rattle.wit_model.specs.declared.model.«Type».{«Type» as ValueType}
+use Rattle.wit_model.specs.declared.model.WorldItem.{WorldItem}
+use Rattle.wit_model.specs.declared.model.WorldItem.TheVariants as item
+use Rattle.wit_model.specs.declared.model.WorldKey.{WorldKey}
+use Rattle.wit_model.specs.declared.model.WorldKey.TheVariants as key
+use Rattle.wit_model.specs.Parts.{function_numbers}
+use Rattle.wit_model.specs.Text.{Text, text_of}
+use Rattle.bind_copy.specs.Copies.{is_key_under, is_new_under, number_under, IsEntryUnder, IsFunctionUnder, IsItemUnder, IsKeyUnder}
+use Rattle.bind_copy.specs.Copies.{call_under as call_under_numbers}
+use Rattle.bind_union.specs.Carried.{call_under, ItemBecomes, IsFunctionCopy, KeyBecomes, Renumbering}
+use Rattle.bind_union.specs.Joined.{is_new, same_key, Joined}
+use Rattle.bind_union.specs.Joined as joined
+use Rattle.bind_union.specs.Views.{renamed_type}
+use Rattle.bind_carry.specs.ReadyItems.{AreReady, IsItemReady, IsKeyReady}
+
+module _ (f : Renumbering) (types : List ℕ) (by_type : number_under types ≡ f.types) where
+  -- ---- functions
+
+  call_same : (k : FunctionKind) → call_under_numbers (number_under types) k ≡ call_under f k
+  call_same call.Freestanding = refl
+  call_same call.AsyncFreestanding = refl
+  call_same (call.Method id) = λ i. call.Method (record { 0 = by_type i id.0 })
+  call_same (call.AsyncMethod id) = λ i. call.AsyncMethod (record { 0 = by_type i id.0 })
+  call_same (call.Static id) = λ i. call.Static (record { 0 = by_type i id.0 })
+  call_same (call.AsyncStatic id) = λ i. call.AsyncStatic (record { 0 = by_type i id.0 })
+  call_same (call.Constructor id) = λ i. call.Constructor (record { 0 = by_type i id.0 })
+
+  pub function_copy : (old new : Function) → IsFunctionUnder types old new → list_all f.carries_type (function_numbers old) ≡ true → IsFunctionCopy f old new
+  function_copy old new is parts = record {
+    name = is.name;
+    kind = is.kind ∙ call_same old.kind;
+    params = is.params
+        ∙ (map-map (λ (x : Text × ValueType). (x.0, renamed_type (number_under types) x.1)) (λ (p : Param). (text_of p.name, p.ty)) old.params.items
+        ∙ ap (λ g. map (λ (p : Param). (text_of p.name, renamed_type g p.ty)) old.params.items) by_type);
+    result = is.result ∙ ap (λ g. option_map (renamed_type g) old.result) by_type;
+    parts = parts;
+    stability = is.stability;
+    external_id = is.external_id;
+  }
+
+-- What is carried has the numbers that were handed on.
+module _ (f : Renumbering) (interfaces types : List ℕ) (by_interface : (n : ℕ) → f.carries_interface n ≡ true → number_under interfaces n ≡ f.interfaces n) (by_type : number_under types ≡ f.types) where
+  -- ---- keys
+
+  key_becomes : (old new : WorldKey) → IsKeyUnder interfaces old new → IsKeyReady f old → KeyBecomes f old new
+  key_becomes (key.Name old) (key.Name new) is ready = is
+  key_becomes (key.Interface old) (key.Interface new) is ready = (is ∙ by_interface old.0 ready, ready)
+  key_becomes (key.Name old) (key.Interface new) is ready = absurd is
+  key_becomes (key.Interface old) (key.Name new) is ready = absurd is
+
+  item_becomes : (old new : WorldItem) → IsItemUnder interfaces types old new → IsItemReady f old → ItemBecomes f old new
+  item_becomes (item.Interface old s d x) (item.Interface new t e y) is ready = (is.0 ∙ by_interface old.0 ready, ready, is.1, is.3)
+  item_becomes (item.Function old) (item.Function new) is ready = function_copy f types by_type old new is ready
+  item_becomes (item.Type_ old) (item.Type_ new) is ready = (is ∙ ap (λ g. g old.0) by_type, ready)
+  item_becomes (item.Interface old s d x) (item.Function new) is ready = absurd is
+  item_becomes (item.Interface old s d x) (item.Type_ new) is ready = absurd is
+  item_becomes (item.Function old) (item.Interface new t e y) is ready = absurd is
+  item_becomes (item.Function old) (item.Type_ new) is ready = absurd is
+  item_becomes (item.Type_ old) (item.Interface new t e y) is ready = absurd is
+  item_becomes (item.Type_ old) (item.Function new) is ready = absurd is
+
+  same_test : (k x : WorldKey) → IsKeyReady f k → is_key_under interfaces k x ≡ same_key f k x
+  same_test (key.Name old) (key.Name new) ready = refl
+  same_test (key.Interface old) (key.Interface new) ready = ap (λ (n : ℕ). n == new.0) (by_interface old.0 ready)
+  same_test (key.Name old) (key.Interface new) ready = refl
+  same_test (key.Interface old) (key.Name new) ready = refl
+
+  any_same : (k : WorldKey) → IsKeyReady f k → (own : List (WorldKey × WorldItem)) → list_any (λ (x : WorldKey × WorldItem). is_key_under interfaces k x.0) own ≡ list_any (λ (x : WorldKey × WorldItem). same_key f k x.0) own
+  any_same k ready [] = refl
+  any_same k ready (x ∷ xs) = ap₂ (λ a b. a || b) (same_test k x.0 ready) (any_same k ready xs)
+
+  pub new_same : (own : List (WorldKey × WorldItem)) (k : WorldKey) → IsKeyReady f k → is_new_under interfaces own k ≡ is_new f own k
+  new_same own k ready = ap not (any_same k ready own)
+
+  -- ---- items
+
+  module _ (own : List (WorldKey × WorldItem)) where
+    abbrev test : WorldKey × WorldItem → Bool
+    test e = is_new_under interfaces own e.0
+
+    later : (e : WorldKey × WorldItem) (es : List (WorldKey × WorldItem)) → AreReady f interfaces own (e ∷ es) → AreReady f interfaces own es
+    later e es ready = record { new_ready = λ n x at. ready.new_ready (suc n) x at; met = λ n x at. ready.met (suc n) x at }
+
+    -- those that are copied, and those that own ones stand for
+    pub items_join : (olds news : List (WorldKey × WorldItem)) → AllZip (IsEntryUnder interfaces types) (filter test olds) news → AreReady f interfaces own olds → Joined f own olds news
+    items_join [] [] zip ready = joined.none
+    items_join [] (x ∷ xs) zip ready = absurd zip
+    items_join (e ∷ es) news zip ready = go (test e) refl news zip (λ xs rest. items_join es xs rest (later e es ready))
+      where
+        go : (b : Bool) → test e ≡ b → (xs : List (WorldKey × WorldItem)) → AllZip (IsEntryUnder interfaces types) (cond b (e ∷ filter test es) (filter test es)) xs
+            → ((ys : List (WorldKey × WorldItem)) → AllZip (IsEntryUnder interfaces types) (filter test es) ys → Joined f own es ys) → Joined f own (e ∷ es) xs
+        go true q [] zip more = absurd zip
+        go true q (x ∷ xs) zip more =
+            let r = ready.new_ready zero e refl q in
+            joined.added e x es xs (sym (new_same own e.0 r.0) ∙ q) (key_becomes e.0 x.0 zip.0.0 r.0, item_becomes e.1 x.1 zip.0.1 r.1) (more xs zip.1)
+        go false q xs zip more = let m = ready.met zero e refl q in joined.met e m.there es xs m.in_own m.becomes m.stands (more xs zip)

@@ -1,0 +1,40 @@
+-- Where copies of things stand whose flags are set, under the numbers that are given to them one behind the other.
+use Rattle.std.proofs.Common.{◌≡◌, sym, ap, subst, ◌∙◌, ℕ, zero, suc, ◌+◌, arith, Bool, true, false, List, [], ◌∷◌, ◌++◌, length, Some, slice_get, append_assoc}
+use Rattle.std.specs.List.{AllZip}
+use Rattle.bind_copy.specs.Copies.{number_under}
+use Rattle.bind_union.proofs.Lists.{no_true}
+use Rattle.bind_carry.specs.First.{flag_under}
+use Rattle.bind_carry.specs.Numbers.{numbers_of}
+use Rattle.bind_carry.specs.Whole.{kept}
+use Rattle.bind_carry.proofs.CopiesPlaced.{get_behind, length_behind, nothing_there, some_same}
+
+-- What a copy is, and that it stands at its place.
+pub record IsKeptAt {X Y : Type 0} (P : X → Y → Type 0) (old : X) (news : List Y) (place : ℕ) : Type 0 where
+  pub image : Y
+  pub at_image : slice_get news place ≡ Some image
+  pub is : P old image
+
+module _ {X Y : Type 0} (P : X → Y → Type 0) where
+  -- the copies stand behind what was there, and each is a copy of what has its number
+  pub kept_placed : (flags : List Bool) (others : List ℕ) (xs : List X) (ys : List Y) → AllZip P (kept flags xs) ys → length flags ≡ length others
+      → (first : ℕ) (before rest : List Y) → first ≡ length before → (n : ℕ) (x : X) → flag_under flags n ≡ true → slice_get xs n ≡ Some x
+      → IsKeptAt P x (before ++ (ys ++ rest)) (number_under (numbers_of first flags others) n)
+  kept_placed [] others xs ys zip long first before rest e n x set at = no_true set
+  kept_placed (b ∷ bs) [] xs ys zip long first before rest e n x set at = absurd (omega (arith, long))
+  kept_placed (b ∷ bs) (o ∷ os) [] ys zip long first before rest e n x set at = nothing_there x at
+  kept_placed (false ∷ bs) (o ∷ os) (z ∷ zs) ys zip long first before rest e zero x set at = no_true set
+  kept_placed (false ∷ bs) (o ∷ os) (z ∷ zs) ys zip long first before rest e (suc n) x set at = kept_placed bs os zs ys zip (omega (arith, long)) first before rest e n x set at
+  kept_placed (true ∷ bs) (o ∷ os) (z ∷ zs) [] zip long first before rest e n x set at = absurd zip
+  kept_placed (true ∷ bs) (o ∷ os) (z ∷ zs) (y ∷ ys) zip long first before rest e zero x set at = record {
+    image = y;
+    at_image = get_behind before y (ys ++ rest) first e;
+    is = subst (λ v. P v y) (some_same z x at) zip.0;
+  }
+  kept_placed (true ∷ bs) (o ∷ os) (z ∷ zs) (y ∷ ys) zip long first before rest e (suc n) x set at =
+      let next : first + 1 ≡ length (before ++ y ∷ []) = (let r = length_behind before y in omega (arith, r, e)) in
+      let far = kept_placed bs os zs ys zip.1 (omega (arith, long)) (first + 1) (before ++ y ∷ []) rest next n x set at in
+      record {
+        image = far.image;
+        at_image = ap (λ l. slice_get l (number_under (numbers_of (first + 1) bs os) n)) (sym (append_assoc before (y ∷ []) (ys ++ rest))) ∙ far.at_image;
+        is = far.is;
+      }

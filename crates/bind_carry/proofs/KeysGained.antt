@@ -1,0 +1,177 @@
+-- Keys of the other's bound world stay apart under both numberings, and what is gained of them comes behind what was there.
+use Rattle.std.proofs.Common.{◌≡◌, refl, sym, ap, ◌∙◌, ℕ, ◌+◌, Bool, true, false, ◌||◌, List, [], ◌∷◌, ◌++◌, length, arith, Option, Some, None, is_none, is_some}
+use Rattle.std.specs.List.{filter, list_all, Contains, IsDistinct}
+use Rattle.std.specs.Map.{keys_of}
+use Rattle.std.specs.Option.{option_map_or}
+use Rattle.std.proofs.lemmas.Map.Made.{IsDistinct-keys_filter}
+use Rattle.indexmap.specs.IndexMap.{insert_all}
+use Rattle.wit_model.specs.declared.model.Interface.{Interface}
+use Rattle.wit_model.specs.declared.model.InterfaceId.{InterfaceId}
+use Rattle.wit_model.specs.declared.model.Resolve.{Resolve}
+use Rattle.wit_model.specs.declared.model.TypeDef.{TypeDef}
+use Rattle.wit_model.specs.declared.model.World.{World}
+use Rattle.wit_model.specs.declared.model.WorldItem.{WorldItem}
+use Rattle.wit_model.specs.declared.model.WorldKey.{WorldKey}
+use Rattle.wit_model.specs.declared.model.WorldKey.TheVariants as key
+use Rattle.wit_model.specs.Lookup.{interface_at, world_at}
+use Rattle.wit_model.specs.Valid.{IsValid, key_eq}
+use Rattle.wit_model.proofs.Elements.{both, contains-later}
+use Rattle.bind_add.specs.declared.added.Added.{Added}
+use Rattle.bind_copy.specs.Copies.{become_one, is_new_under, number_under}
+use Rattle.bind_match.specs.declared.matches.Matches.{Matches}
+use Rattle.bind_union.proofs.Lists.{no_true}
+use Rattle.bind_carry.specs.First.{flag_under, is_named_at}
+use Rattle.bind_carry.specs.InRange.{IsInRange}
+use Rattle.bind_carry.specs.Marked.{is_inline_at, AreChosen}
+use Rattle.bind_carry.specs.MatchedSame.{AreMatchedAt, NoneOfPath}
+use Rattle.bind_carry.specs.Renumbered.{is_matched}
+use Rattle.bind_carry.specs.Shown.{AreShownBelow}
+use Rattle.bind_carry.specs.Union.{IsUnionOf}
+use Rattle.bind_carry.specs.Which.{AreMatchedAll}
+use Rattle.bind_carry.specs.declared.plan.Carried.{Carried}
+use Rattle.bind_carry.proofs.FirstCarried.{chosen_so, interfaces_once}
+use Rattle.bind_carry.proofs.FirstMatched.{uncopied_under}
+use Rattle.bind_carry.proofs.FirstTypes.{excluded}
+use Rattle.bind_carry.proofs.InsertedBehind.{all_behind, filter_passes}
+use Rattle.bind_carry.proofs.KeysApart.{is_key_carried, keys_apart}
+use Rattle.bind_carry.proofs.Ranges.{is_in_range, shown_below}
+use Rattle.bind_carry.proofs.Ready.{interface_count}
+use Rattle.bind_carry.proofs.SecondMarks.{gained_inline_alone, gained_long}
+use Rattle.bind_carry.proofs.WorldEntries.{export_keyed, import_keyed}
+
+-- an interface with a name isn't inline
+none_of : {X : Type 0} (o : Option X) → is_some o ≡ true → is_none o ≡ false
+none_of None h = no_true h
+none_of (Some x) h = refl
+
+-- keys of a list whose interfaces pass
+keys_pass : (p : ℕ → Bool) (es : List (WorldKey × WorldItem)) → ((e : WorldKey × WorldItem) → Contains es e → (id : InterfaceId) → e.0 ≡ key.Interface id → p id.0 ≡ true) → list_all (is_key_carried p) (keys_of es) ≡ true
+keys_pass p [] each = refl
+keys_pass p (e ∷ es) each = both (is_key_carried p e.0) (list_all (is_key_carried p) (keys_of es)) (one e.0 (each e (0, omega arith, refl))) (keys_pass p es (λ x held. each x (contains-later e es x held)))
+  where
+    one : (k : WorldKey) → ((id : InterfaceId) → k ≡ key.Interface id → p id.0 ≡ true) → is_key_carried p k ≡ true
+    one (key.Name t) h = refl
+    one (key.Interface id) h = h id refl
+
+module _ (own other : Resolve) (valid_own : IsValid own) (valid_other : IsValid other) (world other_world : ℕ) (m : Matches) (w v : World) (added : Added) (keys : List WorldKey) (u : IsUnionOf own other world other_world m w v added keys)
+    (at : world_at other other_world ≡ Some v) (all : AreMatchedAll other m) (same : AreMatchedAt own other m.interfaces.items u.carried.packages.items) (none : NoneOfPath own other m.interfaces.items) where
+  abbrev c : Carried
+  c = u.carried
+
+  -- the numbers of interfaces by path, and in what is gained
+  abbrev by_path : List ℕ
+  by_path = c.interfaces.items
+
+  abbrev in_gains : List ℕ
+  in_gains = u.second.interfaces
+
+  range : IsInRange other
+  range = is_in_range other valid_other
+
+  pub chosen : AreChosen other m.interfaces.items c.copied_worlds.items c.copied_interfaces.items
+  chosen = chosen_so own other m c range all u.numbered
+
+  long : length c.copied_interfaces.items ≡ length m.interfaces.items
+  long = u.numbered.interface_count ∙ sym all.interfaces
+
+  imports_shown : AreShownBelow (length other.interfaces.items) v.imports.entries
+  imports_shown = shown_below (length other.interfaces.items) (length other.types.items) v.imports.entries (range.imports other_world v at)
+
+  exports_shown : AreShownBelow (length other.interfaces.items) v.exports.entries
+  exports_shown = shown_below (length other.interfaces.items) (length other.types.items) v.exports.entries (range.exports other_world v at)
+
+  copied_long : length u.second.copied ≡ length c.interfaces.items
+  copied_long = ap length u.second.copied_are ∙ (gained_long other c.interfaces.items w v imports_shown exports_shown ∙ sym (interface_count own other m c range all u.numbered))
+
+  -- ---- interfaces with a name
+
+  named_there : (n : ℕ) (i : Interface) → interface_at other n ≡ Some i → is_some i.name ≡ true → is_named_at other n ≡ true
+  named_there n i there named = ap (λ o. option_map_or (λ (j : Interface). is_some j.name) o false) there ∙ named
+
+  named_stays : (n : ℕ) (i : Interface) → interface_at other n ≡ Some i → is_some i.name ≡ true → flag_under u.second.copied n ≡ false
+  named_stays n i there named = go (flag_under u.second.copied n) refl
+    where
+      not_inline : is_inline_at other n ≡ false
+      not_inline = ap (λ o. option_map_or (λ (j : Interface). is_none j.name) o false) there ∙ none_of i.name named
+
+      go : (b : Bool) → flag_under u.second.copied n ≡ b → flag_under u.second.copied n ≡ false
+      go false e = e
+      go true e = no_true (sym not_inline ∙ gained_inline_alone other c.interfaces.items w v imports_shown exports_shown n (ap (λ (l : List Bool). flag_under l n) (sym u.second.copied_are) ∙ e))
+
+  -- one with a name has one number in both
+  pub named_number : (n : ℕ) (i : Interface) → interface_at other n ≡ Some i → is_some i.name ≡ true → number_under in_gains n ≡ number_under by_path n
+  named_number n i there named =
+      ap (λ (l : List ℕ). number_under l n) u.second.interfaces_are
+      ∙ uncopied_under (length own.interfaces.items + length u.before.interfaces.items) u.second.copied c.interfaces.items n copied_long (named_stays n i there named)
+
+  -- and is carried
+  pub named_carried : (n : ℕ) (i : Interface) → interface_at other n ≡ Some i → is_some i.name ≡ true → (flag_under c.copied_interfaces.items n || is_matched m.interfaces.items n) ≡ true
+  named_carried n i there named = ap (λ b. b || is_matched m.interfaces.items n) (chosen.named n i there named) ∙ excluded (is_matched m.interfaces.items n)
+
+  abbrev IsNamed : ℕ → Type 0
+  IsNamed n = (i : Interface) × (interface_at other n ≡ Some i) × (is_some i.name ≡ true)
+
+  is_named : (n : ℕ) → is_named_at other n ≡ true → IsNamed n
+  is_named n h = go (interface_at other n) refl h
+    where
+      go : (o : Option Interface) → interface_at other n ≡ o → option_map_or (λ (j : Interface). is_some j.name) o false ≡ true → IsNamed n
+      go None e k = no_true k
+      go (Some i) e k = (i, e, k)
+
+  once : (j n : ℕ) → is_named_at other j ≡ true → is_named_at other n ≡ true → number_under by_path j ≡ number_under by_path n → j ≡ n
+  once j n h k e =
+      let a = is_named j h in
+      let b = is_named n k in
+      interfaces_once own other valid_own valid_other m.interfaces.items c u.types chosen same none long u.numbered.interfaces (length own.types.items + length {A = TypeDef} []) u.types_copied.numbers_are u.numbered.interface_count
+      j n (named_carried j a.0 a.1 a.2) (named_carried n b.0 b.1 b.2) e
+
+  gained_once : (j n : ℕ) → is_named_at other j ≡ true → is_named_at other n ≡ true → number_under in_gains j ≡ number_under in_gains n → j ≡ n
+  gained_once j n h k e =
+      let a = is_named j h in
+      let b = is_named n k in
+      once j n h k (sym (named_number j a.0 a.1 a.2) ∙ (e ∙ named_number n b.0 b.1 b.2))
+
+  -- ---- keys
+
+  pub import_named : (e : WorldKey × WorldItem) → Contains v.imports.entries e → (id : InterfaceId) → e.0 ≡ key.Interface id → IsNamed id.0
+  import_named e held id is = let k = import_keyed other valid_other other_world v at e held id is in (k.def, k.found, k.named)
+
+  pub export_named : (e : WorldKey × WorldItem) → Contains v.exports.entries e → (id : InterfaceId) → e.0 ≡ key.Interface id → IsNamed id.0
+  export_named e held id is = let k = export_keyed other valid_other other_world v at e held id is in (k.def, k.found, k.named)
+
+  import_keys : list_all (is_key_carried (is_named_at other)) (keys_of v.imports.entries) ≡ true
+  import_keys = keys_pass (is_named_at other) v.imports.entries (λ e held id is. let k = import_named e held id is in named_there id.0 k.0 k.1 k.2)
+
+  export_keys : list_all (is_key_carried (is_named_at other)) (keys_of v.exports.entries) ≡ true
+  export_keys = keys_pass (is_named_at other) v.exports.entries (λ e held id is. let k = export_named e held id is in named_there id.0 k.0 k.1 k.2)
+
+  pub imports_apart : IsDistinct (become_one in_gains) (keys_of v.imports.entries)
+  imports_apart = keys_apart in_gains (is_named_at other) gained_once (keys_of v.imports.entries) import_keys (valid_other.distinct_keys.worlds other_world v at).0
+
+  pub exports_apart : IsDistinct (become_one in_gains) (keys_of v.exports.entries)
+  exports_apart = keys_apart in_gains (is_named_at other) gained_once (keys_of v.exports.entries) export_keys (valid_other.distinct_keys.worlds other_world v at).1
+
+  -- by path alone, of each world
+  pub by_path_apart : (n : ℕ) (x : World) → world_at other n ≡ Some x → IsDistinct (become_one by_path) (keys_of x.imports.entries) × IsDistinct (become_one by_path) (keys_of x.exports.entries)
+  by_path_apart n x there = (
+    keys_apart by_path (is_named_at other) once (keys_of x.imports.entries) (keys_pass (is_named_at other) x.imports.entries (λ e held id is. let k = import_keyed other valid_other n x there e held id is in named_there id.0 k.def k.found k.named)) (valid_other.distinct_keys.worlds n x there).0,
+    keys_apart by_path (is_named_at other) once (keys_of x.exports.entries) (keys_pass (is_named_at other) x.exports.entries (λ e held id is. let k = export_keyed other valid_other n x there e held id is in named_there id.0 k.def k.found k.named)) (valid_other.distinct_keys.worlds n x there).1,
+  )
+
+  -- ---- what is gained
+
+  abbrev is_new_import : WorldKey × WorldItem → Bool
+  is_new_import e = is_new_under in_gains w.imports.entries e.0
+
+  abbrev is_new_export : WorldKey × WorldItem → Bool
+  is_new_export e = is_new_under in_gains w.exports.entries e.0
+
+  pub imports_behind : insert_all key_eq w.imports.entries added.imports.entries ≡ w.imports.entries ++ added.imports.entries
+  imports_behind =
+      all_behind in_gains u.second.types w.imports.entries (filter is_new_import v.imports.entries) added.imports.entries (u.second.imports imports_apart) (filter_passes is_new_import v.imports.entries)
+      (IsDistinct-keys_filter (become_one in_gains) is_new_import v.imports.entries imports_apart)
+
+  pub exports_behind : insert_all key_eq w.exports.entries added.exports.entries ≡ w.exports.entries ++ added.exports.entries
+  exports_behind =
+      all_behind in_gains u.second.types w.exports.entries (filter is_new_export v.exports.entries) added.exports.entries (u.second.exports exports_apart) (filter_passes is_new_export v.exports.entries)
+      (IsDistinct-keys_filter (become_one in_gains) is_new_export v.exports.entries exports_apart)

@@ -1,0 +1,187 @@
+-- What flags say that are set one after the other for the inline interfaces that are shown.
+use Rattle.std.proofs.Common.{◌≡◌, refl, sym, ap, subst, ◌∙◌, ℕ, zero, suc, ◌<◌, arith, Bool, true, false, ◌&&◌, ◌||◌, not, ◌==◌, List, [], ◌∷◌, length, Option, Some, None, is_none, is_some, slice_get, slice_set, unwrap_or, if◌then◌else◌}
+use Rattle.std.specs.Option.{option_map_or}
+use Rattle.std.specs.Prelude.{String}
+use Rattle.std.specs.declared.alloc.Global.{Global}
+use Rattle.wit_model.specs.declared.model.Interface.{Interface}
+use Rattle.wit_model.specs.declared.model.InterfaceId.{InterfaceId}
+use Rattle.wit_model.specs.declared.model.Resolve.{Resolve}
+use Rattle.wit_model.specs.declared.model.World.{World}
+use Rattle.wit_model.specs.declared.model.WorldItem.{WorldItem}
+use Rattle.wit_model.specs.declared.model.WorldItem.TheVariants as item
+use Rattle.wit_model.specs.declared.model.WorldKey.{WorldKey}
+use Rattle.wit_model.specs.Lookup.{interface_at}
+use Rattle.wit_model.specs.Rules.{is_id}
+use Rattle.wit_model.specs.Uses.{item_interface}
+use Rattle.wit_model.proofs.Elements.{equal, same-number}
+use Rattle.bind_carry.specs.First.{flag_under}
+use Rattle.bind_carry.specs.Listed.{given_interface}
+use Rattle.bind_carry.specs.Marked.{is_inline_at, is_shown_in, is_shown_of, mark_item, mark_items, mark_worlds, AreChosen}
+use Rattle.bind_carry.specs.Shown.{AreShownBelow, IsShownBelow}
+use Rattle.bind_carry.specs.Which.{new_interfaces}
+
+-- ---- tests
+
+or_true : (a : Bool) → (a || true) ≡ true
+or_true true = refl
+or_true false = refl
+
+or_false : (a : Bool) → (a || false) ≡ a
+or_false true = refl
+or_false false = refl
+
+pub no_more : (a b : Bool) → a ≡ (a || (b && false))
+no_more true b = refl
+no_more false true = refl
+no_more false false = refl
+
+pub joins : (a i x y : Bool) → ((a || (i && x)) || (i && y)) ≡ (a || (i && (x || y)))
+joins true i x y = refl
+joins false true true y = refl
+joins false true false y = refl
+joins false false x y = refl
+
+-- ---- one flag
+
+flag_here : (marks : List Bool) (k : ℕ) → k < length marks → flag_under (slice_set marks k true) k ≡ true
+flag_here [] k l = absurd (omega (arith, l))
+flag_here (b ∷ bs) zero l = refl
+flag_here (b ∷ bs) (suc k) l = flag_here bs k (omega (arith, l))
+
+flag_there : (marks : List Bool) (k n : ℕ) → (k ≡ n → ⊥) → flag_under (slice_set marks k true) n ≡ flag_under marks n
+flag_there [] k n h = refl
+flag_there (b ∷ bs) zero zero h = absurd (h refl)
+flag_there (b ∷ bs) zero (suc n) h = refl
+flag_there (b ∷ bs) (suc k) zero h = refl
+flag_there (b ∷ bs) (suc k) (suc n) h = flag_there bs k n (λ e. h (ap suc e))
+
+no_false : {A : Type 0} → true ≡ false → A
+no_false e = let wrong : ⊥ = cc in absurd wrong
+
+differ : (k n : ℕ) → (k == n) ≡ false → k ≡ n → ⊥
+differ k n f e = no_false (sym (same-number k) ∙ (ap (λ (m : ℕ). k == m) e ∙ f))
+
+set_long : (marks : List Bool) (k : ℕ) → length (slice_set marks k true) ≡ length marks
+set_long [] k = refl
+set_long (b ∷ bs) zero = refl
+set_long (b ∷ bs) (suc k) = ap suc (set_long bs k)
+
+-- all that worlds show is below so many
+abbrev pub AreWorldsBelow : ℕ → List World → Type 0
+AreWorldsBelow count ws = (k : ℕ) (w : World) → slice_get ws k ≡ Some w → AreShownBelow count w.imports.entries × AreShownBelow count w.exports.entries
+
+module _ (r : Resolve) where
+  pub mark_one : (marks : List Bool) (i : WorldItem) (n : ℕ) → IsShownBelow (length marks) i → flag_under (mark_item r marks i) n ≡ (flag_under marks n || (is_inline_at r n && is_id n (item_interface i)))
+  mark_one marks (item.Function f) n below = no_more (flag_under marks n) (is_inline_at r n)
+  mark_one marks (item.Type_ id) n below = no_more (flag_under marks n) (is_inline_at r n)
+  mark_one marks (item.Interface id stability docs external_id) n below = go (is_inline_at r id.0) refl (id.0 == n) refl
+    where
+      flag : Bool
+      flag = flag_under marks n
+
+      elsewhere : (id.0 == n) ≡ false → (flag || (is_inline_at r n && (id.0 == n))) ≡ flag
+      elsewhere f = ap (λ b. flag || (is_inline_at r n && b)) f ∙ sym (no_more flag (is_inline_at r n))
+
+      same_inline : (b : Bool) → is_inline_at r id.0 ≡ b → (id.0 == n) ≡ true → is_inline_at r n ≡ b
+      same_inline b e f = ap (is_inline_at r) (sym (equal id.0 n f)) ∙ e
+
+      go : (b : Bool) → is_inline_at r id.0 ≡ b → (c : Bool) → (id.0 == n) ≡ c → flag_under (if b then slice_set marks id.0 true else marks) n ≡ (flag || (is_inline_at r n && (id.0 == n)))
+      go true e true f =
+          let inline = same_inline true e f in
+          ap (λ (m : ℕ). flag_under (slice_set marks id.0 true) m) (sym (equal id.0 n f)) ∙ (flag_here marks id.0 below ∙ sym ((λ i. flag || (inline i && f i)) ∙ or_true flag))
+      go true e false f = flag_there marks id.0 n (differ id.0 n f) ∙ sym (elsewhere f)
+      go false e true f = let inline = same_inline false e f in sym ((λ i. flag || (inline i && f i)) ∙ or_false flag)
+      go false e false f = sym (elsewhere f)
+
+  pub mark_item_long : (marks : List Bool) (i : WorldItem) → length (mark_item r marks i) ≡ length marks
+  mark_item_long marks (item.Function f) = refl
+  mark_item_long marks (item.Type_ id) = refl
+  mark_item_long marks (item.Interface id stability docs external_id) = go (is_inline_at r id.0)
+    where
+      go : (b : Bool) → length (if b then slice_set marks id.0 true else marks) ≡ length marks
+      go true = set_long marks id.0
+      go false = refl
+
+  -- ---- items
+
+  pub mark_items_long : (marks : List Bool) (es : List (WorldKey × WorldItem)) → length (mark_items r marks es) ≡ length marks
+  mark_items_long marks [] = refl
+  mark_items_long marks (e ∷ es) = mark_items_long (mark_item r marks e.1) es ∙ mark_item_long marks e.1
+
+  marks_in : (es : List (WorldKey × WorldItem)) (marks : List Bool) (n : ℕ) → AreShownBelow (length marks) es → flag_under (mark_items r marks es) n ≡ (flag_under marks n || (is_inline_at r n && is_shown_in es n))
+  marks_in [] marks n below = no_more (flag_under marks n) (is_inline_at r n)
+  marks_in (e ∷ es) marks n below =
+      marks_in es (mark_item r marks e.1) n (subst (λ k. AreShownBelow k es) (sym (mark_item_long marks e.1)) below.1)
+      ∙ (ap (λ b. b || (is_inline_at r n && is_shown_in es n)) (mark_one marks e.1 n below.0)
+      ∙ joins (flag_under marks n) (is_inline_at r n) (is_id n (item_interface e.1)) (is_shown_in es n))
+
+  -- ---- worlds
+
+  marks_of_worlds : (flags : List Bool) (ws : List World) (marks : List Bool) (n : ℕ) → AreWorldsBelow (length marks) ws → flag_under (mark_worlds r marks flags ws) n ≡ (flag_under marks n || (is_inline_at r n && is_shown_of flags ws n))
+  marks_of_worlds [] ws marks n below = no_more (flag_under marks n) (is_inline_at r n)
+  marks_of_worlds (b ∷ bs) [] marks n below = no_more (flag_under marks n) (is_inline_at r n)
+  marks_of_worlds (false ∷ bs) (w ∷ ws) marks n below = marks_of_worlds bs ws marks n (λ k v at. below (suc k) v at)
+  marks_of_worlds (true ∷ bs) (w ∷ ws) marks n below =
+      let first = mark_items r marks w.imports.entries in
+      let both_ = mark_items r first w.exports.entries in
+      let long : length first ≡ length marks = mark_items_long marks w.imports.entries in
+      let long_both : length both_ ≡ length marks = mark_items_long first w.exports.entries ∙ long in
+      let here = below zero w refl in
+      let inline = is_inline_at r n in
+      let imports = is_shown_in w.imports.entries n in
+      let exports = is_shown_in w.exports.entries n in
+      let one : flag_under first n ≡ (flag_under marks n || (inline && imports)) = marks_in w.imports.entries marks n here.0 in
+      let two : flag_under both_ n ≡ (flag_under first n || (inline && exports)) = marks_in w.exports.entries first n (subst (λ k. AreShownBelow k w.exports.entries) (sym long) here.1) in
+      marks_of_worlds bs ws both_ n (subst (λ k. AreWorldsBelow k ws) (sym long_both) (λ k v at. below (suc k) v at))
+      ∙ (ap (λ b. b || (inline && is_shown_of bs ws n)) (two ∙ (ap (λ b. b || (inline && exports)) one ∙ joins (flag_under marks n) inline imports exports))
+      ∙ joins (flag_under marks n) inline (imports || exports) (is_shown_of bs ws n))
+
+-- ---- which interfaces are copied
+
+none_is : {X : Type 0} (o : Option X) → is_none o ≡ not (is_some o)
+none_is None = refl
+none_is (Some x) = refl
+
+new_at : (ms : List (Option InterfaceId)) (is : List Interface) → length ms ≡ length is → (n : ℕ) (i : Interface) → slice_get is n ≡ Some i
+    → flag_under (new_interfaces ms is) n ≡ (not (is_some (given_interface (slice_get ms n))) && not (is_none i.name))
+new_at [] [] long n i at = let wrong : ⊥ = cc in absurd wrong
+new_at [] (j ∷ is) long n i at = absurd (omega (arith, long))
+new_at (m ∷ ms) [] long n i at = absurd (omega (arith, long))
+new_at (m ∷ ms) (j ∷ is) long zero i at = let same : j ≡ i = ap (λ o. unwrap_or o j) at in (λ k. none_is m k && not (is_none (same k).name))
+new_at (m ∷ ms) (j ∷ is) long (suc n) i at = new_at ms is (omega (arith, long)) n i at
+
+new_long : (ms : List (Option InterfaceId)) (is : List Interface) → length ms ≡ length is → length (new_interfaces ms is) ≡ length is
+new_long [] [] long = refl
+new_long [] (i ∷ is) long = absurd (omega (arith, long))
+new_long (m ∷ ms) [] long = absurd (omega (arith, long))
+new_long (m ∷ ms) (i ∷ is) long = ap suc (new_long ms is (omega (arith, long)))
+
+module _ (other : Resolve) (matched : List (Option InterfaceId)) (worlds : List Bool) (long : length matched ≡ length other.interfaces.items) (below : AreWorldsBelow (length other.interfaces.items) other.worlds.items) where
+  abbrev new : List Bool
+  new = new_interfaces matched other.interfaces.items
+
+  flag_is : (n : ℕ) (i : Interface) → interface_at other n ≡ Some i → flag_under (mark_worlds other new worlds other.worlds.items) n
+      ≡ ((not (is_some (given_interface (slice_get matched n))) && not (is_none i.name)) || (is_none i.name && is_shown_of worlds other.worlds.items n))
+  flag_is n i at =
+      marks_of_worlds other worlds other.worlds.items new n (subst (λ k. AreWorldsBelow k other.worlds.items) (sym (new_long matched other.interfaces.items long)) below)
+      ∙ ((λ k. new_at matched other.interfaces.items long n i at k || (inline k && is_shown_of worlds other.worlds.items n)))
+    where
+      inline : is_inline_at other n ≡ is_none i.name
+      inline = ap (λ o. option_map_or (λ j. is_none j.name) o false) at
+
+  -- those with a name that has no own one of its path, and the inline ones that are shown
+  pub are_chosen : AreChosen other matched worlds (mark_worlds other new worlds other.worlds.items)
+  are_chosen = record {
+    named = λ n i at h. flag_is n i at ∙ with_name i.name h (not (is_some (given_interface (slice_get matched n)))) (is_shown_of worlds other.worlds.items n);
+    inline = λ n i at h. flag_is n i at ∙ without i.name h (not (is_some (given_interface (slice_get matched n)))) (is_shown_of worlds other.worlds.items n);
+  }
+    where
+      with_name : (o : Option (String Global)) → is_some o ≡ true → (a b : Bool) → ((a && not (is_none o)) || (is_none o && b)) ≡ a
+      with_name None h a b = let wrong : ⊥ = cc in absurd wrong
+      with_name (Some s) h true b = refl
+      with_name (Some s) h false b = refl
+
+      without : (o : Option (String Global)) → is_some o ≡ false → (a b : Bool) → ((a && not (is_none o)) || (is_none o && b)) ≡ b
+      without None h true b = refl
+      without None h false b = refl
+      without (Some s) h a b = let wrong : ⊥ = cc in absurd wrong

@@ -1,0 +1,195 @@
+-- Of the names in a package of the other, those of what is copied are new in the own package of its name, and the others stand there or are left out.
+use Rattle.std.proofs.Common.{◌≡◌, ◌⊎◌, inl, inr, refl, sym, ap, subst, ◌∙◌, ℕ, zero, suc, Bool, true, false, not, ◌&&◌, List, [], ◌∷◌, length, map, Option, Some, None, is_none, is_some, option_map, option_and_then, slice_get}
+use Rattle.std.specs.Prelude.{String}
+use Rattle.std.specs.declared.alloc.Global.{Global}
+use Rattle.std.specs.List.{filter, AllZip, Contains}
+use Rattle.std.specs.Option.{option_map_or}
+use Rattle.std.proofs.lemmas.List.{length-map}
+use Rattle.wit_model.specs.declared.model.InterfaceId.{InterfaceId}
+use Rattle.wit_model.specs.declared.model.Package.{Package}
+use Rattle.wit_model.specs.declared.model.PackageId.{PackageId}
+use Rattle.wit_model.specs.declared.model.Resolve.{Resolve}
+use Rattle.wit_model.specs.declared.model.World.{World}
+use Rattle.wit_model.specs.declared.model.WorldId.{WorldId}
+use Rattle.wit_model.specs.Lookup.{package_at}
+use Rattle.wit_model.specs.Text.{Text, text_of}
+use Rattle.wit_model.specs.Valid.{IsValid}
+use Rattle.wit_model.proofs.Elements.{contains-map, get-contains}
+use Rattle.wit_model.proofs.Lists.{first_true, second_true}
+use Rattle.bind_copy.specs.Copies.{number_under}
+use Rattle.bind_match.specs.Matching.{interface_in, is_root_world, own_interface_of, own_world_of, world_in}
+use Rattle.bind_match.specs.declared.matches.Matches.{Matches}
+use Rattle.bind_union.specs.Merged.{interface_names, is_name, world_names, JoinedNames}
+use Rattle.bind_union.proofs.Listed.{under_text}
+use Rattle.bind_union.proofs.Lists.{no_true}
+use Rattle.bind_union.proofs.Namesakes.{under_contains}
+use Rattle.bind_carry.specs.First.{flag_under}
+use Rattle.bind_carry.specs.FirstPass.{IsFirstPass}
+use Rattle.bind_carry.specs.Listed.{given_interface}
+use Rattle.bind_carry.specs.Marked.{AreChosen}
+use Rattle.bind_carry.specs.Numbers.{interface_number, world_number}
+use Rattle.bind_carry.specs.Packaged.{is_copied_interface, is_copied_world, IsInterfaceName, IsWorldName}
+use Rattle.bind_carry.specs.SecondPass.{is_left_out}
+use Rattle.bind_carry.specs.Which.{new_worlds}
+use Rattle.bind_carry.specs.declared.plan.Carried.{Carried}
+use Rattle.bind_carry.proofs.CopiesPlaced.{nothing_there, some_same}
+use Rattle.bind_carry.proofs.FirstCarried.{chosen_so}
+use Rattle.bind_carry.proofs.FirstMatched.{matched_under, uncopied_under}
+use Rattle.bind_carry.proofs.FirstPackages.{mapped_at}
+use Rattle.bind_carry.proofs.JoinedNamed.{names_join, AreNamesReady}
+use Rattle.bind_carry.proofs.NamesBehind.{none_named}
+use Rattle.bind_carry.proofs.NamesListed.{listed_interface, listed_world}
+use Rattle.bind_carry.proofs.Ranges.{is_in_range}
+
+-- ---- worlds by their flags
+
+-- a world is new where no own one has its path, and it isn't `root:root/root`
+new_world_at : (r : Resolve) (ms : List (Option WorldId)) (ws : List World) (n : ℕ) (o : Option WorldId) (w : World) → slice_get ms n ≡ Some o → slice_get ws n ≡ Some w → flag_under (new_worlds r ms ws) n ≡ (is_none o && not (is_root_world r w))
+new_world_at r [] ws n o w at_o at_w = nothing_there o at_o
+new_world_at r (m ∷ ms) [] n o w at_o at_w = nothing_there w at_w
+new_world_at r (m ∷ ms) (x ∷ ws) zero o w at_o at_w = λ i. is_none (some_same m o at_o i) && not (is_root_world r (some_same x w at_w i))
+new_world_at r (m ∷ ms) (x ∷ ws) (suc n) o w at_o at_w = new_world_at r ms ws n o w at_o at_w
+
+-- the own number of a world that has one
+world_under : (ms : List (Option WorldId)) (n : ℕ) (id : WorldId) → slice_get ms n ≡ Some (Some id) → number_under (map world_number ms) n ≡ id.0
+world_under [] n id h = nothing_there (Some id) h
+world_under (m ∷ ms) zero id h = ap world_number (some_same m (Some id) h)
+world_under (m ∷ ms) (suc n) id h = world_under ms n id h
+
+not_set : (b : Bool) → not b ≡ true → b ≡ false
+not_set true h = no_true h
+not_set false h = refl
+
+root_left : (b : Bool) → not b ≡ false → b ≡ true
+root_left true h = refl
+root_left false h = no_true (sym h)
+
+module _ (own other merged : Resolve) (valid_other : IsValid other) (m : Matches) (c : Carried) (numbers : List ℕ) (pass : IsFirstPass own other merged m c numbers) (interfaces_by : m.interfaces.items ≡ map (own_interface_of own m.packages.items) other.interfaces.items)
+    (worlds_by : m.worlds.items ≡ map (own_world_of own m.packages.items) other.worlds.items) (n : ℕ) (p : Package) (at : package_at other n ≡ Some p) where
+  chosen : AreChosen other m.interfaces.items c.copied_worlds.items c.copied_interfaces.items
+  chosen = chosen_so own other m c (is_in_range other valid_other) pass.all pass.numbered
+
+  -- ---- interfaces
+
+  -- The own interface that is found for the interface of an entry, and whether that is copied.
+  record IsInterfaceMet (e : String Global × InterfaceId) : Type 0 where
+    own_one : Option InterfaceId
+    given : slice_get m.interfaces.items e.1.0 ≡ Some own_one
+    home : PackageId
+    number : home.0 ≡ n
+    found : own_one ≡ interface_in own m.packages.items (Some home) (text_of e.0)
+    flag : flag_under c.copied_interfaces.items e.1.0 ≡ not (is_some own_one)
+
+  interface_met : (k : ℕ) (e : String Global × InterfaceId) → slice_get p.interfaces.entries k ≡ Some e → IsInterfaceMet e
+  interface_met k e at_e =
+      let x = listed_interface other valid_other n p at (text_of e.0) e.1.0 (contains-map (λ (d : String Global × InterfaceId). (text_of d.0, d.1.0)) p.interfaces.entries e (get-contains p.interfaces.entries k e at_e)) in
+      let given : slice_get m.interfaces.items e.1.0 ≡ Some (own_interface_of own m.packages.items x.interface_) = ap (λ l. slice_get l e.1.0) interfaces_by ∙ mapped_at (own_interface_of own m.packages.items) other.interfaces.items e.1.0 x.interface_ x.found in
+      record {
+        own_one = own_interface_of own m.packages.items x.interface_;
+        given = given;
+        home = x.id;
+        number = x.number;
+        found = ap (option_and_then (λ (s : String Global). interface_in own m.packages.items x.interface_.«package» (text_of s))) x.named ∙ (λ i. interface_in own m.packages.items (x.in_package i) (x.text i));
+        flag = chosen.named e.1.0 x.interface_ x.found (ap is_some x.named) ∙ ap (λ (o : Option (Option InterfaceId)). not (is_some (given_interface o))) given;
+      }
+
+  module _ (names : List (Text × ℕ)) (here : (home : PackageId) (t : Text) → home.0 ≡ n → option_map (λ (id : InterfaceId). id.0) (interface_in own m.packages.items (Some home) t) ≡ under_text t names) where
+    interface_under : (e : String Global × InterfaceId) (x : IsInterfaceMet e) → option_map (λ (id : InterfaceId). id.0) x.own_one ≡ under_text (text_of e.0) names
+    interface_under e x = ap (option_map (λ (id : InterfaceId). id.0)) x.found ∙ here x.home (text_of e.0) x.number
+
+    interface_long : length c.copied_interfaces.items ≡ length (map interface_number m.interfaces.items)
+    interface_long = pass.numbered.interface_count ∙ (sym pass.all.interfaces ∙ sym (length-map m.interfaces.items interface_number))
+
+    pub interfaces_ready : AreNamesReady (λ (id : InterfaceId). id.0) (number_under c.interfaces.items) (flag_under c.copied_interfaces.items) (λ k. false) (is_copied_interface c.copied_interfaces.items) names p.interfaces.entries
+    interfaces_ready = record { added = λ k e at_e set. (set, refl, new e (interface_met k e at_e) set); there = λ k e at_e bare. inl (met e (interface_met k e at_e) bare) }
+      where
+        new : (e : String Global × InterfaceId) → IsInterfaceMet e → flag_under c.copied_interfaces.items e.1.0 ≡ true → is_name (text_of e.0) names ≡ false
+        new e x set = go x.own_one refl (sym x.flag ∙ set)
+          where
+            go : (o : Option InterfaceId) → x.own_one ≡ o → not (is_some o) ≡ true → is_name (text_of e.0) names ≡ false
+            go None q h = none_named (text_of e.0) names (sym (interface_under e x) ∙ ap (option_map (λ (id : InterfaceId). id.0)) q)
+            go (Some id) q h = no_true h
+
+        met : (e : String Global × InterfaceId) → IsInterfaceMet e → flag_under c.copied_interfaces.items e.1.0 ≡ false → Contains names (text_of e.0, number_under c.interfaces.items e.1.0)
+        met e x bare = go x.own_one refl (sym x.flag ∙ bare)
+          where
+            go : (o : Option InterfaceId) → x.own_one ≡ o → not (is_some o) ≡ false → Contains names (text_of e.0, number_under c.interfaces.items e.1.0)
+            go None q h = no_true (sym h)
+            go (Some id) q h =
+                let number : number_under c.interfaces.items e.1.0 ≡ id.0 =
+                ap (λ l. number_under l e.1.0) pass.numbered.interfaces
+                ∙ (uncopied_under (length own.interfaces.items) c.copied_interfaces.items (map interface_number m.interfaces.items) e.1.0 interface_long bare
+                ∙ matched_under m.interfaces.items e.1.0 id (ap given_interface x.given ∙ q))
+                in
+                subst (λ (k : ℕ). Contains names (text_of e.0, k)) (sym number) (under_contains (text_of e.0) names id.0 (sym (interface_under e x) ∙ ap (option_map (λ (j : InterfaceId). j.0)) q))
+
+    -- the names of interfaces join those that were there
+    pub interfaces_join : (news : List (String Global × InterfaceId)) → AllZip (IsInterfaceName c.interfaces.items) (filter (is_copied_interface c.copied_interfaces.items) p.interfaces.entries) news
+        → JoinedNames (number_under c.interfaces.items) (flag_under c.copied_interfaces.items) (λ k. false) names (interface_names p) (map (λ (e : String Global × InterfaceId). (text_of e.0, e.1.0)) news)
+    interfaces_join news zip = names_join (λ (id : InterfaceId). id.0) (number_under c.interfaces.items) (flag_under c.copied_interfaces.items) (λ k. false) (is_copied_interface c.copied_interfaces.items) names p.interfaces.entries news zip interfaces_ready
+
+  -- ---- worlds
+
+  -- The own world that is found for the world of an entry, and whether that is copied.
+  record IsWorldMet (e : String Global × WorldId) : Type 0 where
+    world : World
+    own_one : Option WorldId
+    given : slice_get m.worlds.items e.1.0 ≡ Some own_one
+    home : PackageId
+    number : home.0 ≡ n
+    found : own_one ≡ world_in own m.packages.items (Some home) (text_of e.0)
+    flag : flag_under c.copied_worlds.items e.1.0 ≡ (is_none own_one && not (is_root_world other world))
+    left_out : is_left_out other e.1.0 ≡ is_root_world other world
+
+  world_met : (k : ℕ) (e : String Global × WorldId) → slice_get p.worlds.entries k ≡ Some e → IsWorldMet e
+  world_met k e at_e =
+      let x = listed_world other valid_other n p at (text_of e.0) e.1.0 (contains-map (λ (d : String Global × WorldId). (text_of d.0, d.1.0)) p.worlds.entries e (get-contains p.worlds.entries k e at_e)) in
+      let given : slice_get m.worlds.items e.1.0 ≡ Some (own_world_of own m.packages.items x.world) = ap (λ l. slice_get l e.1.0) worlds_by ∙ mapped_at (own_world_of own m.packages.items) other.worlds.items e.1.0 x.world x.found in
+      record {
+        world = x.world;
+        own_one = own_world_of own m.packages.items x.world;
+        given = given;
+        home = x.id;
+        number = x.number;
+        found = λ i. world_in own m.packages.items (x.in_package i) (x.text i);
+        flag = ap (λ (l : List Bool). flag_under l e.1.0) pass.numbered.copied_worlds ∙ new_world_at other m.worlds.items other.worlds.items e.1.0 (own_world_of own m.packages.items x.world) x.world given x.found;
+        left_out = ap (λ (o : Option World). option_map_or (is_root_world other) o false) x.found;
+      }
+
+  module _ (names : List (Text × ℕ)) (here : (home : PackageId) (t : Text) → home.0 ≡ n → option_map (λ (id : WorldId). id.0) (world_in own m.packages.items (Some home) t) ≡ under_text t names) where
+    world_named : (e : String Global × WorldId) (x : IsWorldMet e) → option_map (λ (id : WorldId). id.0) x.own_one ≡ under_text (text_of e.0) names
+    world_named e x = ap (option_map (λ (id : WorldId). id.0)) x.found ∙ here x.home (text_of e.0) x.number
+
+    world_long : length c.copied_worlds.items ≡ length (map world_number m.worlds.items)
+    world_long = pass.numbered.world_count ∙ (sym pass.all.worlds ∙ sym (length-map m.worlds.items world_number))
+
+    pub worlds_ready : AreNamesReady (λ (id : WorldId). id.0) (number_under c.worlds.items) (flag_under c.copied_worlds.items) (is_left_out other) (is_copied_world c.copied_worlds.items) names p.worlds.entries
+    worlds_ready = record { added = λ k e at_e set. let x = world_met k e at_e in (set, kept e x set, new e x set); there = λ k e at_e bare. rest e (world_met k e at_e) bare }
+      where
+        kept : (e : String Global × WorldId) → IsWorldMet e → flag_under c.copied_worlds.items e.1.0 ≡ true → is_left_out other e.1.0 ≡ false
+        kept e x set = x.left_out ∙ not_set (is_root_world other x.world) (second_true (is_none x.own_one) (not (is_root_world other x.world)) (sym x.flag ∙ set))
+
+        new : (e : String Global × WorldId) → IsWorldMet e → flag_under c.copied_worlds.items e.1.0 ≡ true → is_name (text_of e.0) names ≡ false
+        new e x set = go x.own_one refl (first_true (is_none x.own_one) (not (is_root_world other x.world)) (sym x.flag ∙ set))
+          where
+            go : (o : Option WorldId) → x.own_one ≡ o → is_none o ≡ true → is_name (text_of e.0) names ≡ false
+            go None q h = none_named (text_of e.0) names (sym (world_named e x) ∙ ap (option_map (λ (id : WorldId). id.0)) q)
+            go (Some id) q h = no_true h
+
+        rest : (e : String Global × WorldId) → IsWorldMet e → flag_under c.copied_worlds.items e.1.0 ≡ false → Contains names (text_of e.0, number_under c.worlds.items e.1.0) ⊎ (is_left_out other e.1.0 ≡ true)
+        rest e x bare = go x.own_one refl
+          where
+            go : (o : Option WorldId) → x.own_one ≡ o → Contains names (text_of e.0, number_under c.worlds.items e.1.0) ⊎ (is_left_out other e.1.0 ≡ true)
+            go None q = inr (x.left_out ∙ root_left (is_root_world other x.world) (sym (ap (λ (o : Option WorldId). is_none o && not (is_root_world other x.world)) q) ∙ (sym x.flag ∙ bare)))
+            go (Some id) q =
+                let number : number_under c.worlds.items e.1.0 ≡ id.0 =
+                ap (λ l. number_under l e.1.0) pass.numbered.worlds
+                ∙ (uncopied_under (length own.worlds.items) c.copied_worlds.items (map world_number m.worlds.items) e.1.0 world_long bare
+                ∙ world_under m.worlds.items e.1.0 id (x.given ∙ ap Some q))
+                in
+                inl (subst (λ (k : ℕ). Contains names (text_of e.0, k)) (sym number) (under_contains (text_of e.0) names id.0 (sym (world_named e x) ∙ ap (option_map (λ (j : WorldId). j.0)) q)))
+
+    -- the names of worlds join those that were there
+    pub worlds_join : (news : List (String Global × WorldId)) → AllZip (IsWorldName c.worlds.items) (filter (is_copied_world c.copied_worlds.items) p.worlds.entries) news
+        → JoinedNames (number_under c.worlds.items) (flag_under c.copied_worlds.items) (is_left_out other) names (world_names p) (map (λ (e : String Global × WorldId). (text_of e.0, e.1.0)) news)
+    worlds_join news zip = names_join (λ (id : WorldId). id.0) (number_under c.worlds.items) (flag_under c.copied_worlds.items) (is_left_out other) (is_copied_world c.copied_worlds.items) names p.worlds.entries news zip worlds_ready

@@ -1,0 +1,76 @@
+-- Each package that is merged is an own one to which nothing comes, or one of the other stands in it.
+use Rattle.std.proofs.Common.{◌≡◌, ◌⊎◌, inl, inr, refl, sym, ap, subst, ◌∙◌, ℕ, zero, suc, ◌+◌, ◌<◌, arith, Bool, true, false, List, [], ◌∷◌, length, map, is_none, Some, slice_get}
+use Rattle.std.specs.List.{AllZip}
+use Rattle.std.proofs.lemmas.List.{length-append, length-map}
+use Rattle.wit_model.specs.declared.model.Package.{Package}
+use Rattle.wit_model.specs.declared.model.Resolve.{Resolve}
+use Rattle.wit_model.specs.Lookup.{package_at}
+use Rattle.bind_add.specs.Growth.{GainsNone}
+use Rattle.bind_add.specs.declared.added.Names.{Names}
+use Rattle.bind_copy.specs.Copies.{number_under}
+use Rattle.bind_match.specs.declared.matches.Matches.{Matches}
+use Rattle.bind_union.specs.Merged.{IsKeptPackage, IsPackageOf}
+use Rattle.bind_carry.specs.First.{first_fates}
+use Rattle.bind_carry.specs.FirstPass.{IsFirstPass}
+use Rattle.bind_carry.specs.Numbers.{package_number}
+use Rattle.bind_carry.specs.Packaged.{grown_packages, IsGained, IsPackageCarried}
+use Rattle.bind_carry.specs.Renumbered.{first_of}
+use Rattle.bind_carry.specs.Whole.{kept}
+use Rattle.bind_carry.specs.declared.plan.Carried.{Carried}
+use Rattle.bind_carry.proofs.CopiesPlaced.{some_same}
+use Rattle.bind_carry.proofs.FirstCarried.{flag_within, within_there}
+use Rattle.bind_carry.proofs.FirstPackages.{front_at, some_gains}
+use Rattle.bind_carry.proofs.NothingElse.{in_two, kept_from, zip_long}
+
+-- what a gain is of is a package of the other, under its number
+grown_member : (flags : List Bool) (ns : List ℕ) (ps : List Package) (i : ℕ) (e : ℕ × Package) → slice_get (grown_packages flags ns ps) i ≡ Some e → (k : ℕ) × (slice_get ps k ≡ Some e.1) × (number_under ns k ≡ e.0)
+grown_member [] ns ps i e at = let wrong : ⊥ = cc in absurd wrong
+grown_member (b ∷ bs) [] ps i e at = let wrong : ⊥ = cc in absurd wrong
+grown_member (b ∷ bs) (n ∷ ns) [] i e at = let wrong : ⊥ = cc in absurd wrong
+grown_member (true ∷ bs) (n ∷ ns) (p ∷ ps) i e at = let r = grown_member bs ns ps i e at in (suc r.0, r.1, r.2)
+grown_member (false ∷ bs) (n ∷ ns) (p ∷ ps) zero e at = let same : (n, p) ≡ e = some_same (n, p) e at in (zero, ap (λ (x : ℕ × Package). Some x.1) same, ap (λ (x : ℕ × Package). x.0) same)
+grown_member (false ∷ bs) (n ∷ ns) (p ∷ ps) (suc i) e at = let r = grown_member bs ns ps i e at in (suc r.0, r.1, r.2)
+
+zip_at : {A B : Type 0} (R : A → B → Type 0) (xs : List A) (ys : List B) → AllZip R xs ys → (i : ℕ) (y : B) → slice_get ys i ≡ Some y → (x : A) × (slice_get xs i ≡ Some x) × R x y
+zip_at R [] [] h i y at = let wrong : ⊥ = cc in absurd wrong
+zip_at R [] (z ∷ zs) h i y at = absurd h
+zip_at R (x ∷ xs) [] h i y at = absurd h
+zip_at R (x ∷ xs) (z ∷ zs) h zero y at = (x, refl, subst (λ q. R x q) (some_same z y at) h.0)
+zip_at R (x ∷ xs) (z ∷ zs) h (suc i) y at = zip_at R xs zs h.1 i y at
+
+-- Gains are those of the other's packages that have an own one of their name.
+pub package_from : (own other merged : Resolve) (m : Matches) (c : Carried) (numbers : List ℕ) (p : IsFirstPass own other merged m c numbers) → AllZip (IsGained c) (grown_packages c.new_packages.items c.packages.items other.packages.items) p.gains
+    → (n : ℕ) → n < length merged.packages.items → IsKeptPackage own merged n ⊎ IsPackageOf other (first_of m.interfaces.items c (first_fates own other m.interfaces.items c) numbers) n
+package_from own other merged m c numbers p names n high = elim (in_two n (length own.packages.items)) [
+  | inl less ↦ (let q = within_there own.packages.items n less in old q.0 q.1 (some_gains p.gains n))
+  | inr more ↦ (let r = kept_from (length own.packages.items) c.new_packages.items (map package_number m.packages.items) other.packages.items n flags_long more (omega (arith, high, whole, count)) in
+      let inside = flag_within c.new_packages.items r.0 r.1 in
+      let x = within_there other.packages.items r.0 (omega (arith, inside, flags_many)) in
+      inr (record { number = r.0; old = x.0; found = x.1; here = ap (λ l. number_under l r.0) p.numbered.packages ∙ r.2 }))
+]
+  where
+    flags_many : length c.new_packages.items ≡ length other.packages.items
+    flags_many = ap length p.numbered.new_packages ∙ (length-map m.packages.items is_none ∙ p.all.packages)
+
+    flags_long : length c.new_packages.items ≡ length (map package_number m.packages.items)
+    flags_long = ap length p.numbered.new_packages ∙ (length-map m.packages.items is_none ∙ sym (length-map m.packages.items package_number))
+
+    count : length p.new_packages ≡ length (kept c.new_packages.items other.packages.items)
+    count = zip_long (IsPackageCarried c) (kept c.new_packages.items other.packages.items) p.new_packages p.packages
+
+    whole : length merged.packages.items ≡ length own.packages.items + length p.new_packages
+    whole = ap length p.packages_here ∙ (length-append p.grown p.new_packages ∙ ap (λ k. k + length p.new_packages) p.gained.count)
+
+    old : (q : Package) → package_at own n ≡ Some q → ((i : ℕ) × (g : Names) × (slice_get p.gains i ≡ Some g) × (g.«package».0 ≡ n)) ⊎ GainsNone p.gains n → IsKeptPackage own merged n ⊎ IsPackageOf other (first_of m.interfaces.items c (first_fates own other m.interfaces.items c) numbers) n
+    old q at (inl found) =
+        let x = zip_at (IsGained c) (grown_packages c.new_packages.items c.packages.items other.packages.items) p.gains names found.0 found.1 found.2 in
+        let y = grown_member c.new_packages.items c.packages.items other.packages.items found.0 x.0 x.1 in
+        inr (record { number = y.0; old = x.0.1; found = y.1; here = y.2 ∙ (sym x.2.number ∙ found.3) })
+    old q at (inr none) = inl (record {
+      old = q;
+      found = at;
+      image = q;
+      at_image = ap (λ l. slice_get l n) p.packages_here ∙ front_at p.grown p.new_packages n q (p.gained.others n none ∙ at);
+      interfaces = refl;
+      worlds = refl;
+    })

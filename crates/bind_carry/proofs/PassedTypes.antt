@@ -1,0 +1,144 @@
+-- Types that a pass copies: each stands under its new number, and all its parts are carried. Both passes are so.
+use Rattle.std.proofs.Common.{◌≡◌, inl, refl, sym, ap, ◌∙◌, ℕ, zero, suc, ◌<◌, arith, Bool, true, false, ◌&&◌, nat_lt, List, [], ◌∷◌, ◌++◌, length, Option, Some, None, is_none, is_some, slice_get}
+use Rattle.std.specs.List.{list_all}
+use Rattle.std.specs.Option.{option_map_or}
+use Rattle.wit_model.specs.declared.model.Resolve.{Resolve}
+use Rattle.wit_model.specs.declared.model.TypeDef.{TypeDef}
+use Rattle.wit_model.specs.Lookup.{type_at}
+use Rattle.wit_model.specs.Parts.{kind_numbers}
+use Rattle.wit_model.specs.Valid.{IsValid}
+use Rattle.bind_copy.specs.Copies.{number_under}
+use Rattle.bind_union.specs.Carried.{carries_owner, copies_owner, owner_under, IsType, Renumbering}
+use Rattle.bind_union.specs.Images.{HasImageKind}
+use Rattle.bind_union.specs.Views.{kind_view, renamed, view_numbers}
+use Rattle.bind_union.proofs.Carrying.{references_of, refers_below}
+use Rattle.bind_union.proofs.Images.{numbers_of_view}
+use Rattle.bind_union.proofs.Lists.{no_true}
+use Rattle.bind_carry.specs.CarriedParts.{AreCarriedByOwner, PartsOfOwners}
+use Rattle.bind_carry.specs.Fates.{are_carried, carries, copies, is_carried, settled, settled_from, AreCopied, FallBelow}
+use Rattle.bind_carry.specs.Initial.{IsInitial}
+use Rattle.bind_carry.specs.Renumbered.{is_copied}
+use Rattle.bind_carry.specs.declared.fate.Fate.{Fate}
+use Rattle.bind_carry.specs.declared.fate.Fate.TheVariants as fate
+use Rattle.bind_carry.proofs.CopiesPlaced.{copy_placed, IsPlaced}
+use Rattle.bind_carry.proofs.FirstTypes.{copied_carried}
+use Rattle.bind_carry.proofs.PartsCarried.{no_home, parts_are_carried}
+use Rattle.bind_carry.proofs.SettledParts.{copied_still, settled_all, stands_still, unnamed_carried, unnamed_parts}
+
+none_some : {X : Type 0} (o : Option X) → is_some o ≡ false → is_none o ≡ true
+none_some None h = refl
+none_some (Some x) h = let wrong : ⊥ = cc in absurd wrong
+
+some_none : {X : Type 0} (o : Option X) → is_some o ≡ true → is_none o ≡ false
+some_none None h = no_true h
+some_none (Some x) h = refl
+
+pub fate_there : (fs : List Fate) (n : ℕ) → n < length fs → (g : Fate) × (slice_get fs n ≡ Some g)
+fate_there [] n l = absurd (omega (arith, l))
+fate_there (g ∷ gs) zero l = (g, refl)
+fate_there (g ∷ gs) (suc n) l = fate_there gs n (omega (arith, l))
+
+pub type_within : (ts : List TypeDef) (n : ℕ) (t : TypeDef) → slice_get ts n ≡ Some t → n < length ts
+type_within [] n t e = let wrong : ⊥ = cc in absurd wrong
+type_within (u ∷ us) zero t e = omega arith
+type_within (u ∷ us) (suc n) t e = let r = type_within us n t e in omega (arith, r)
+
+module _ (other : Resolve) (valid : IsValid other) (f : Renumbering) (adds : Bool) (initial : List Fate) (starts : IsInitial other f adds initial) where
+  abbrev fates : List Fate
+  fates = settled_from adds [] other.types.items initial
+
+  falls : FallBelow other.types.items
+  falls n def at = ap (list_all (λ m. nat_lt m n)) (numbers_of_view def.kind) ∙ refers_below other (references_of other valid.rules) n def at
+
+  -- a fate at first that carries carries in the end
+  pub carried_if : (n : ℕ) (def : TypeDef) (g : Fate) → type_at other n ≡ Some def → slice_get initial n ≡ Some g → carries g ≡ true → is_carried fates n ≡ true
+  carried_if n def fate.Left at e h = no_true h
+  carried_if n def (fate.Stands k) at e h = ap (λ o. option_map_or carries o false) (stands_still adds other.types.items initial falls n def at k e)
+  carried_if n def (fate.Copied home) at e h = ap (λ o. option_map_or carries o false) (copied_still adds other.types.items initial falls n def at home e)
+
+  by_owner : adds ≡ true → AreCarriedByOwner other (is_carried fates) (carries_owner f)
+  by_owner add = record {
+    named = λ n def at named h. let g = starts.carried n def at named h in carried_if n def g.0 at g.1 g.2;
+    unnamed = λ n def at unnamed parts. unnamed_carried adds other.types.items initial falls n def at add (none_some def.name unnamed) (starts.unnamed n def at unnamed)
+        (ap (list_all (is_carried fates)) (numbers_of_view def.kind) ∙ parts);
+    with_path = starts.with_path;
+  }
+
+  -- parts of what is copied, and types of functions, are carried
+  pub parts_hold : adds ≡ true → PartsOfOwners other (is_carried fates) (carries_owner f)
+  parts_hold add = parts_are_carried other (is_carried fates) (carries_owner f) valid (by_owner add)
+
+  -- A copy's home, and its parts.
+  pub record IsCopiedSo (n : ℕ) (def : TypeDef) : Type 0 where
+    pub its_fate : slice_get fates n ≡ Some (fate.Copied (owner_under f def.owner))
+    pub home : copies_owner f def.owner ≡ true
+    pub parts : list_all (is_carried fates) (kind_numbers def.kind) ≡ true
+
+  pub copied_so : (n : ℕ) (def : TypeDef) → type_at other n ≡ Some def → is_copied fates n ≡ true → IsCopiedSo n def
+  copied_so n def at h = go (is_some def.name) refl
+    where
+      unnamed : is_some def.name ≡ false → IsCopiedSo n def
+      unnamed e =
+          let left = starts.unnamed n def at e in
+          let p = unnamed_parts adds other.types.items initial falls n def at left (copied_carried fates n h) in
+          let home = no_home other valid n def at e in
+          record {
+            its_fate = settled_all adds other.types.items initial falls n def fate.Left at left
+                ∙ ((λ i. Some (settled fate.Left (p.1 i) (p.2 i && p.0 i))) ∙ ap (λ o. Some (fate.Copied (owner_under f o))) (sym home));
+            home = ap (copies_owner f) home;
+            parts = ap (list_all (is_carried fates)) (sym (numbers_of_view def.kind)) ∙ p.0;
+          }
+
+      -- with a name it was to be copied at first
+      by_fate : is_some def.name ≡ true → (g : Fate) → slice_get initial n ≡ Some g → IsCopiedSo n def
+      by_fate named fate.Left e = no_true (sym (left_out (adds && are_carried fates (view_numbers (kind_view def.kind)))) ∙ h)
+        where
+          stays : (may : Bool) → copies (settled fate.Left false may) ≡ false
+          stays true = refl
+          stays false = refl
+
+          left_out : (may : Bool) → is_copied fates n ≡ false
+          left_out may =
+              ap (λ o. option_map_or copies o false) (settled_all adds other.types.items initial falls n def fate.Left at e)
+              ∙ (ap (λ b. copies (settled fate.Left b (adds && are_carried fates (view_numbers (kind_view def.kind))))) (some_none def.name named)
+              ∙ stays (adds && are_carried fates (view_numbers (kind_view def.kind))))
+      by_fate named (fate.Stands k) e = no_true (sym (ap (λ o. option_map_or copies o false) (stands_still adds other.types.items initial falls n def at k e)) ∙ h)
+      by_fate named (fate.Copied home) e =
+          let x = starts.copied n def home at named e in
+          record {
+            its_fate = copied_still adds other.types.items initial falls n def at home e ∙ ap (λ o. Some (fate.Copied o)) x.0;
+            home = x.1;
+            parts = (parts_hold x.2).types n def at named (starts.homes def.owner x.1);
+          }
+
+      go : (b : Bool) → is_some def.name ≡ b → IsCopiedSo n def
+      go false e = unnamed e
+      go true e = let g = fate_there initial n (let less = type_within other.types.items n def at in let long = starts.long in omega (arith, less, long)) in by_fate e g.0 g.1
+
+  -- the copy stands under its new number
+  module _ (own merged : Resolve) (numbers : List ℕ) (old new rest : List TypeDef) (is : AreCopied (length own.types.items) numbers other.types.items fates old new) (types_are : merged.types.items ≡ own.types.items ++ (new ++ rest))
+      (by_type : number_under numbers ≡ f.types) (by_carries : is_carried fates ≡ f.carries_type) where
+    pub copy_holds : (n : ℕ) (def : TypeDef) → type_at other n ≡ Some def → is_copied fates n ≡ true → IsType other merged f n
+    copy_holds n def at h = record {
+      def = def;
+      found = at;
+      image = place.image;
+      at_image = ap (λ g. slice_get merged.types.items (g n)) (sym by_type) ∙ (ap (λ l. slice_get l (number_under numbers n)) types_are ∙ place.at_image);
+      name = place.under.name;
+      home = place.under.in_owner;
+      carries_home = starts.homes def.owner how.home;
+      kind = inl same_kind;
+      copied = λ k. record { home = how.home; kind = same_kind; stability = place.under.stability; external_id = place.under.external_id };
+    }
+      where
+        how : IsCopiedSo n def
+        how = copied_so n def at h
+
+        place : IsPlaced numbers (owner_under f def.owner) def (own.types.items ++ (new ++ rest)) (number_under numbers n)
+        place = copy_placed own.types.items numbers other.types.items fates old new rest is n (owner_under f def.owner) def how.its_fate at
+
+        same_kind : HasImageKind f.types f.carries_type def place.image
+        same_kind = record {
+          kinds = place.under.kind ∙ ap (λ g. renamed g (kind_view def.kind)) by_type;
+          parts = ap (λ p. list_all p (view_numbers (kind_view def.kind))) (sym by_carries) ∙ (ap (list_all (is_carried fates)) (numbers_of_view def.kind) ∙ how.parts);
+        }

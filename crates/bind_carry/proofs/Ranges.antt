@@ -1,0 +1,317 @@
+-- A valid `Resolve` is in range.
+use Rattle.std.proofs.Common.{◌≡◌, refl, sym, ap, ◌∙◌, ℕ, zero, suc, ◌<◌, ◌≤◌, arith, Bool, true, false, ◌&&◌, nat_lt, ltb-true, List, [], ◌∷◌, ◌++◌, length, map, filter_map, Option, Some, None, option_to_list, slice_get}
+use Rattle.std.specs.Prelude.{String}
+use Rattle.std.specs.declared.alloc.Global.{Global}
+use Rattle.std.specs.List.{list_all}
+use Rattle.std.proofs.lemmas.List.Folds.{list_all-append, list_all-map}
+use Rattle.std.proofs.lemmas.Bool.{lt-ltb, ltb-false}
+use Rattle.indexmap.specs.IndexMap.{values}
+use Rattle.wit_model.specs.declared.model.Function.{Function}
+use Rattle.wit_model.specs.declared.model.FunctionKind.{FunctionKind}
+use Rattle.wit_model.specs.declared.model.FunctionKind.TheVariants as call
+use Rattle.wit_model.specs.declared.model.Interface.{Interface}
+use Rattle.wit_model.specs.declared.model.Package.{Package}
+use Rattle.wit_model.specs.declared.model.PackageId.{PackageId}
+use Rattle.wit_model.specs.declared.model.Param.{Param}
+use Rattle.wit_model.specs.declared.model.Resolve.{Resolve}
+use Rattle.wit_model.specs.declared.model.TypeDef.{TypeDef}
+use Rattle.wit_model.specs.declared.model.TypeOwner.{TypeOwner}
+use Rattle.wit_model.specs.declared.model.TypeOwner.TheVariants as owner
+use Rattle.wit_model.specs.declared.model.«Type».{«Type» as ValueType}
+use Rattle.wit_model.specs.declared.model.World.{World}
+use Rattle.wit_model.specs.declared.model.WorldItem.{WorldItem}
+use Rattle.wit_model.specs.declared.model.WorldItem.TheVariants as item
+use Rattle.wit_model.specs.declared.model.WorldKey.{WorldKey}
+use Rattle.wit_model.specs.declared.model.WorldKey.TheVariants as key
+use Rattle.wit_model.specs.Lookup.{interface_at, package_at, resource_of, type_at, world_at}
+use Rattle.wit_model.specs.Parts.{function_types, kind_numbers}
+use Rattle.wit_model.specs.Rules.{entries_in_range, function_in_range, in_list, item_in_range, key_in_range, owner_in_range, package_number, passes}
+use Rattle.wit_model.specs.Types.{number_of}
+use Rattle.wit_model.specs.Valid.{is_place, numbers_in_range, IsValid, Keeps}
+use Rattle.wit_model.proofs.Entries.{lists_pass}
+use Rattle.wit_model.proofs.Lists.{first_true, second_true}
+use Rattle.wit_model.proofs.OnePath.{interface-passes, package-passes}
+use Rattle.bind_copy.specs.Copies.{all_below, are_names_below, are_params_below, call_numbers, key_numbers, AreEntriesBelow, AreFunctionsBelow, IsFunctionBelow, IsItemBelow}
+use Rattle.bind_union.specs.Views.{type_numbers}
+use Rattle.bind_union.proofs.Carrying.{references_of, refers_below}
+use Rattle.bind_union.proofs.Images.{given_numbers, numbers_cons, numbers_of_view}
+use Rattle.bind_union.proofs.Lists.{each_at}
+use Rattle.bind_carry.specs.Fates.{FallBelow}
+use Rattle.bind_carry.specs.InRange.{IsInRange}
+use Rattle.bind_carry.specs.Listed.{are_interfaces_below, are_worlds_below, IsHomeBelow, IsOwnerBelow}
+use Rattle.bind_carry.specs.BoundGains.{are_types_below}
+use Rattle.bind_carry.specs.Shown.{are_keys_below, type_in, AreNewShownBelow, AreShownBelow, IsShownBelow}
+use Rattle.std.specs.Option.{option_map_or}
+
+-- ---- functions
+
+params_below : (count : ℕ) (ps : List Param) → list_all (λ n. nat_lt n count) (filter_map number_of (map (λ p. p.ty) ps)) ≡ are_params_below count ps
+params_below count [] = refl
+params_below count (p ∷ ps) =
+    ap (list_all (λ n. nat_lt n count)) (numbers_cons p.ty (map (λ x. x.ty) ps))
+    ∙ (list_all-append (λ n. nat_lt n count) (type_numbers p.ty) (filter_map number_of (map (λ x. x.ty) ps))
+    ∙ ap (λ b. all_below count (type_numbers p.ty) && b) (params_below count ps))
+
+numbers_append : (xs ys : List ValueType) → filter_map number_of (xs ++ ys) ≡ filter_map number_of xs ++ filter_map number_of ys
+numbers_append [] ys = refl
+numbers_append (x ∷ xs) ys =
+    numbers_cons x (xs ++ ys)
+    ∙ (ap (λ l. type_numbers x ++ l) (numbers_append xs ys)
+    ∙ (sym (append_three (type_numbers x) (filter_map number_of xs) (filter_map number_of ys)) ∙ ap (λ l. l ++ filter_map number_of ys) (sym (numbers_cons x xs))))
+  where
+    append_three : (a b c : List ℕ) → (a ++ b) ++ c ≡ a ++ (b ++ c)
+    append_three [] b c = refl
+    append_three (n ∷ a) b c = ap (λ l. n ∷ l) (append_three a b c)
+
+call_is : (k : FunctionKind) → option_to_list (resource_of k) ≡ call_numbers k
+call_is call.Freestanding = refl
+call_is call.AsyncFreestanding = refl
+call_is (call.Method id) = refl
+call_is (call.AsyncMethod id) = refl
+call_is (call.Static id) = refl
+call_is (call.AsyncStatic id) = refl
+call_is (call.Constructor id) = refl
+
+module _ (r : Resolve) where
+  abbrev types : ℕ
+  types = length r.types.items
+
+  abbrev below : ℕ → Bool
+  below n = nat_lt n types
+
+  function_below : (f : Function) → function_in_range r f ≡ true → IsFunctionBelow types f
+  function_below f h = record {
+    kind = ap (all_below types) (sym (call_is f.kind)) ∙ second_true (list_all below (filter_map number_of (function_types f))) (list_all below (option_to_list (resource_of f.kind))) split;
+    params = sym (params_below types f.params.items) ∙ first_true (list_all below params) (list_all below result) parts;
+    result = ap (all_below types) (given_numbers f.result) ∙ second_true (list_all below params) (list_all below result) parts;
+  }
+    where
+      params : List ℕ
+      params = filter_map number_of (map (λ p. p.ty) f.params.items)
+
+      result : List ℕ
+      result = filter_map number_of (option_to_list f.result)
+
+      split : (list_all below (filter_map number_of (function_types f)) && list_all below (option_to_list (resource_of f.kind))) ≡ true
+      split = sym (list_all-append below (filter_map number_of (function_types f)) (option_to_list (resource_of f.kind))) ∙ h
+
+      parts : (list_all below params && list_all below result) ≡ true
+      parts =
+          sym (list_all-append below params result)
+          ∙ (ap (list_all below) (sym (numbers_append (map (λ p. p.ty) f.params.items) (option_to_list f.result)))
+          ∙ first_true (list_all below (filter_map number_of (function_types f))) (list_all below (option_to_list (resource_of f.kind))) split)
+
+  functions_below : (es : List (String Global × Function)) → list_all (function_in_range r) (map (λ (e : String Global × Function). e.1) es) ≡ true → AreFunctionsBelow types es
+  functions_below [] h = tt
+  functions_below (e ∷ es) h = (
+    function_below e.1 (first_true (function_in_range r e.1) (list_all (function_in_range r) (map (λ (x : String Global × Function). x.1) es)) h),
+    functions_below es (second_true (function_in_range r e.1) (list_all (function_in_range r) (map (λ (x : String Global × Function). x.1) es)) h),
+  )
+
+  -- ---- items
+
+  key_below : (k : WorldKey) → key_in_range r k ≡ true → all_below (length r.interfaces.items) (key_numbers k) ≡ true
+  key_below (key.Name name) h = refl
+  key_below (key.Interface id) h = ap (λ b. b && true) h
+
+  item_below : (i : WorldItem) → item_in_range r i ≡ true → IsItemBelow (length r.interfaces.items) types i
+  item_below (item.Interface id stability docs external_id) h = ltb-true id.0 (length r.interfaces.items) h
+  item_below (item.Function f) h = function_below f h
+  item_below (item.Type_ id) h = ltb-true id.0 types h
+
+  entries_below : (es : List (WorldKey × WorldItem)) → entries_in_range r es ≡ true → AreEntriesBelow (length r.interfaces.items) types es
+  entries_below [] h = tt
+  entries_below (e ∷ es) h =
+      let one = first_true (key_in_range r e.0 && item_in_range r e.1) (entries_in_range r es) h in
+      let rest = entries_below es (second_true (key_in_range r e.0 && item_in_range r e.1) (entries_in_range r es) h) in
+      (key_below e.0 (first_true (key_in_range r e.0) (item_in_range r e.1) one), (item_below e.1 (second_true (key_in_range r e.0) (item_in_range r e.1) one), rest))
+
+  -- ---- homes
+
+  home_below : (p : Option PackageId) → passes (in_list r.packages.items) (package_number p) ≡ true → IsHomeBelow (length r.packages.items) p
+  home_below None h = tt
+  home_below (Some id) h = ltb-true id.0 (length r.packages.items) h
+
+  owner_below : (o : TypeOwner) → owner_in_range r o ≡ true → IsOwnerBelow (length r.interfaces.items) (length r.worlds.items) o
+  owner_below (owner.World id) h = ltb-true id.0 (length r.worlds.items) h
+  owner_below (owner.Interface id) h = ltb-true id.0 (length r.interfaces.items) h
+  owner_below owner.None h = tt
+
+-- ---- lengths
+
+there : {X : Type 0} (xs : List X) (n : ℕ) → n < length xs → (x : X) × (slice_get xs n ≡ Some x)
+there [] n l = absurd (omega (arith, l))
+there (x ∷ xs) zero l = (x, refl)
+there (x ∷ xs) (suc n) l = there xs n (omega (arith, l))
+
+-- a list whose elements all have a place isn't too long
+few_of : {X : Type 0} (xs : List X) → ((n : ℕ) (x : X) → slice_get xs n ≡ Some x → is_place n ≡ true) → length xs ≤ 4294967295
+few_of xs places = go (nat_lt 4294967295 (length xs)) refl
+  where
+    no_place : is_place 4294967295 ≡ true → ⊥
+    no_place h = cc
+
+    at_most : (n : ℕ) → nat_lt 4294967295 n ≡ false → n ≤ 4294967295
+    at_most n e = ltb-false 4294967295 n e
+
+    go : (b : Bool) → nat_lt 4294967295 (length xs) ≡ b → length xs ≤ 4294967295
+    go true e = let x = there xs 4294967295 (ltb-true 4294967295 (length xs) e) in absurd (no_place (places 4294967295 x.0 x.1))
+    go false e = at_most (length xs) e
+
+-- ---- all of it
+
+values_all : {K V : Type 0} (p : V → Bool) (es : List (K × V)) → list_all p (map (λ (e : K × V). e.1) es) ≡ list_all (λ (e : K × V). p e.1) es
+values_all p es = list_all-map p (λ e. e.1) es
+
+module _ (r : Resolve) (valid : IsValid r) where
+  rule : Keeps numbers_in_range r
+  rule = valid.rules.numbers_in_range
+
+  type-passes : (n : ℕ) (def : TypeDef) → type_at r n ≡ Some def → numbers_in_range.type_ r n def ≡ true
+  type-passes n def at = each_at (numbers_in_range.type_ r) r.types.items n def (lists_pass numbers_in_range r rule).3 at
+
+  record PackageFacts (n : ℕ) (p : Package) : Type 0 where
+    place : is_place n ≡ true
+    interfaces : are_interfaces_below (length r.interfaces.items) p.interfaces.entries ≡ true
+    worlds : are_worlds_below (length r.worlds.items) p.worlds.entries ≡ true
+
+  package_facts : (n : ℕ) (p : Package) → package_at r n ≡ Some p → PackageFacts n p
+  unfolding numbers_in_range
+  package_facts n p at =
+      let h = package-passes numbers_in_range r rule n p at in
+      let rest = second_true (is_place n) (list_all (λ id. in_list r.interfaces.items id.0) (values p.interfaces) && list_all (λ id. in_list r.worlds.items id.0) (values p.worlds)) h in
+      record {
+        place = first_true (is_place n) (list_all (λ id. in_list r.interfaces.items id.0) (values p.interfaces) && list_all (λ id. in_list r.worlds.items id.0) (values p.worlds)) h;
+        interfaces = sym (values_all (λ id. in_list r.interfaces.items id.0) p.interfaces.entries) ∙ first_true (list_all (λ id. in_list r.interfaces.items id.0) (values p.interfaces)) (list_all (λ id. in_list r.worlds.items id.0) (values p.worlds)) rest;
+        worlds = sym (values_all (λ id. in_list r.worlds.items id.0) p.worlds.entries) ∙ second_true (list_all (λ id. in_list r.interfaces.items id.0) (values p.interfaces)) (list_all (λ id. in_list r.worlds.items id.0) (values p.worlds)) rest;
+      }
+
+  record InterfaceFacts (n : ℕ) (i : Interface) : Type 0 where
+    place : is_place n ≡ true
+    home : IsHomeBelow (length r.packages.items) i.«package»
+    types : are_names_below (length r.types.items) i.types.entries ≡ true
+    functions : AreFunctionsBelow (length r.types.items) i.functions.entries
+
+  interface_facts : (n : ℕ) (i : Interface) → interface_at r n ≡ Some i → InterfaceFacts n i
+  unfolding numbers_in_range
+  interface_facts n i at = record {
+    place = first_true (is_place n) (home && (types && functions)) h;
+    home = home_below r i.«package» (first_true home (types && functions) rest);
+    types = sym (values_all (λ id. in_list r.types.items id.0) i.types.entries) ∙ first_true types functions both_;
+    functions = functions_below r i.functions.entries (second_true types functions both_);
+  }
+    where
+      home : Bool
+      home = passes (in_list r.packages.items) (package_number i.«package»)
+
+      types : Bool
+      types = list_all (λ id. in_list r.types.items id.0) (values i.types)
+
+      functions : Bool
+      functions = list_all (function_in_range r) (values i.functions)
+
+      h : (is_place n && (home && (types && functions))) ≡ true
+      h = interface-passes numbers_in_range r rule n i at
+
+      rest : (home && (types && functions)) ≡ true
+      rest = second_true (is_place n) (home && (types && functions)) h
+
+      both_ : (types && functions) ≡ true
+      both_ = second_true home (types && functions) rest
+
+  record WorldFacts (n : ℕ) (w : World) : Type 0 where
+    place : is_place n ≡ true
+    home : IsHomeBelow (length r.packages.items) w.«package»
+    imports : AreEntriesBelow (length r.interfaces.items) (length r.types.items) w.imports.entries
+    exports : AreEntriesBelow (length r.interfaces.items) (length r.types.items) w.exports.entries
+
+  world_facts : (n : ℕ) (w : World) → world_at r n ≡ Some w → WorldFacts n w
+  unfolding numbers_in_range
+  world_facts n w at = record {
+    place = first_true (is_place n) (home && (imports && exports)) h;
+    home = home_below r w.«package» (first_true home (imports && exports) rest);
+    imports = entries_below r w.imports.entries (first_true imports exports both_);
+    exports = entries_below r w.exports.entries (second_true imports exports both_);
+  }
+    where
+      home : Bool
+      home = passes (in_list r.packages.items) (package_number w.«package»)
+
+      imports : Bool
+      imports = entries_in_range r w.imports.entries
+
+      exports : Bool
+      exports = entries_in_range r w.exports.entries
+
+      h : (is_place n && (home && (imports && exports))) ≡ true
+      h = each_at (numbers_in_range.world_ r) r.worlds.items n w (lists_pass numbers_in_range r rule).2 at
+
+      rest : (home && (imports && exports)) ≡ true
+      rest = second_true (is_place n) (home && (imports && exports)) h
+
+      both_ : (imports && exports) ≡ true
+      both_ = second_true home (imports && exports) rest
+
+  record TypeFacts (n : ℕ) (def : TypeDef) : Type 0 where
+    place : is_place n ≡ true
+    home : IsOwnerBelow (length r.interfaces.items) (length r.worlds.items) def.owner
+
+  type_facts : (n : ℕ) (def : TypeDef) → type_at r n ≡ Some def → TypeFacts n def
+  unfolding numbers_in_range
+  type_facts n def at =
+      let h = type-passes n def at in
+      let kinds = list_all (in_list r.types.items) (kind_numbers def.kind) in
+      record {
+        place = first_true (is_place n) (kinds && owner_in_range r def.owner) h;
+        home = owner_below r def.owner (second_true kinds (owner_in_range r def.owner) (second_true (is_place n) (kinds && owner_in_range r def.owner) h));
+      }
+
+  falls : FallBelow r.types.items
+  falls n def at = ap (list_all (λ m. nat_lt m n)) (numbers_of_view def.kind) ∙ refers_below r (references_of r valid.rules) n def at
+
+  pub is_in_range : IsInRange r
+  is_in_range = record {
+    few_packages = few_of r.packages.items (λ n p at. (package_facts n p at).place);
+    few_interfaces = few_of r.interfaces.items (λ n i at. (interface_facts n i at).place);
+    few_worlds = few_of r.worlds.items (λ n w at. (world_facts n w at).place);
+    few_types = few_of r.types.items (λ n def at. (type_facts n def at).place);
+    listed_interfaces = λ n p at. (package_facts n p at).interfaces;
+    listed_worlds = λ n p at. (package_facts n p at).worlds;
+    interface_homes = λ n i at. (interface_facts n i at).home;
+    type_names = λ n i at. (interface_facts n i at).types;
+    functions = λ n i at. (interface_facts n i at).functions;
+    world_homes = λ n w at. (world_facts n w at).home;
+    imports = λ n w at. (world_facts n w at).imports;
+    exports = λ n w at. (world_facts n w at).exports;
+    owners = λ n def at. (type_facts n def at).home;
+    falls = falls;
+  }
+
+-- ---- what follows of entries
+
+module _ (interfaces types : ℕ) where
+  pub keys_below : (es : List (WorldKey × WorldItem)) → AreEntriesBelow interfaces types es → are_keys_below interfaces es ≡ true
+  keys_below [] h = refl
+  keys_below (e ∷ es) h = (λ i. h.0 i && keys_below es h.1.1 i)
+
+  shown_one : (i : WorldItem) → IsItemBelow interfaces types i → IsShownBelow interfaces i
+  shown_one (item.Interface id stability docs external_id) h = h
+  shown_one (item.Function f) h = tt
+  shown_one (item.Type_ id) h = tt
+
+  pub shown_below : (es : List (WorldKey × WorldItem)) → AreEntriesBelow interfaces types es → AreShownBelow interfaces es
+  shown_below [] h = tt
+  shown_below (e ∷ es) h = (shown_one e.1 h.1.0, shown_below es h.1.1)
+
+  pub new_shown_below : (es : List (WorldKey × WorldItem)) → AreEntriesBelow interfaces types es → AreNewShownBelow interfaces interfaces es
+  new_shown_below [] h = tt
+  new_shown_below (e ∷ es) h = (h.0, (shown_one e.1 h.1.0, new_shown_below es h.1.1))
+
+  type_one : (i : WorldItem) → IsItemBelow interfaces types i → option_map_or (λ id. nat_lt id.0 types) (type_in i) true ≡ true
+  type_one (item.Interface id stability docs external_id) h = refl
+  type_one (item.Function f) h = refl
+  type_one (item.Type_ id) h = lt-ltb id.0 types h
+
+  pub types_below : (es : List (WorldKey × WorldItem)) → AreEntriesBelow interfaces types es → are_types_below types es ≡ true
+  types_below [] h = refl
+  types_below (e ∷ es) h = (λ i. type_one e.1 h.1.0 i && types_below es h.1.1 i)

@@ -1,0 +1,143 @@
+-- What is carried of a `Resolve` in range can be copied, and so can what the bound world gains.
+use Rattle.std.proofs.Common.{◌≡◌, sym, ap, subst, ◌∙◌, ℕ, ◌+◌, Bool, true, List, length, map, is_none, Some}
+use Rattle.std.specs.Prelude.{Err, Ok, OnOk, Result}
+use Rattle.std.proofs.lemmas.List.{length-map}
+use Rattle.wit_model.specs.Lookup.{interface_at, type_at, world_at}
+use Rattle.wit_model.specs.declared.model.Interface.{Interface}
+use Rattle.wit_model.specs.declared.model.World.{World}
+use Rattle.wit_model.specs.declared.model.Resolve.{Resolve}
+use Rattle.wit_model.specs.declared.model.TypeDef.{TypeDef}
+use Rattle.wit_model.specs.declared.model.TypeOwner.{TypeOwner}
+use Rattle.wit_model.specs.declared.model.TypeOwner.TheVariants as owner
+use Rattle.wit_model.specs.declared.model.WorldItem.{WorldItem}
+use Rattle.wit_model.specs.declared.model.WorldKey.{WorldKey}
+use Rattle.bind_copy.specs.Copies.{are_names_below, AreEntriesBelow, AreFunctionsBelow}
+use Rattle.bind_match.specs.declared.matches.Matches.{Matches}
+use Rattle.bind_carry.specs.Bound.{IsBoundReady}
+use Rattle.bind_carry.specs.BoundGains.{are_types_below, bound_fates, gains_any, unified, AreWorldKeysBelow}
+use Rattle.bind_carry.specs.Fates.{AreCopied}
+use Rattle.bind_carry.specs.First.{adds_any, fate_of, first_fates, second_from, IsHomeIn}
+use Rattle.bind_carry.specs.InRange.{IsInRange}
+use Rattle.bind_carry.specs.Listed.{are_interfaces_below, are_worlds_below, IsHomeBelow, IsOwnerBelow}
+use Rattle.bind_carry.specs.Numbers.{numbers_of}
+use Rattle.bind_carry.specs.Over.{IsCarriedReady}
+use Rattle.bind_carry.specs.Shown.{are_keys_below, AreNewShownBelow}
+use Rattle.bind_carry.specs.Which.{AreMatchedAll, IsNumbered}
+use Rattle.bind_carry.specs.declared.fate.Fate.{Fate}
+use Rattle.bind_carry.specs.declared.plan.Carried.{Carried}
+use Rattle.bind_carry.proofs.CopiesPlaced.{numbers_by_long}
+use Rattle.bind_carry.proofs.Numbering.{numbers_long}
+use Rattle.bind_carry.proofs.Ranges.{keys_below, new_shown_below, types_below}
+use Rattle.bind_carry.proofs.SecondTypes.{second_long, unified_long}
+use Rattle.bind_carry.proofs.SettledParts.{settled_long}
+
+-- an owner's interface is in range, where the owner is
+pub home_in : (interfaces worlds : ℕ) (o : TypeOwner) → IsOwnerBelow interfaces worlds o → IsHomeIn interfaces o
+home_in interfaces worlds (owner.Interface id) h = h
+home_in interfaces worlds (owner.World id) h = tt
+home_in interfaces worlds owner.None h = tt
+
+module _ (own other : Resolve) (m : Matches) (c : Carried) (range : IsInRange other) (all : AreMatchedAll other m) (is : IsNumbered own other m c) where
+  package_count : length other.packages.items ≡ length c.packages.items
+  package_count = sym all.packages ∙ (sym (length-map m.packages.items is_none) ∙ (ap length (sym is.new_packages) ∙ is.whole.packages))
+
+  pub interface_count : length c.interfaces.items ≡ length other.interfaces.items
+  interface_count = sym is.whole.interfaces ∙ is.interface_count
+
+  world_count : length c.worlds.items ≡ length other.worlds.items
+  world_count = sym is.whole.worlds ∙ is.world_count
+
+  pub owners_below : (n : ℕ) (def : TypeDef) → type_at other n ≡ Some def → IsOwnerBelow (length c.copied_interfaces.items) (length c.copied_worlds.items) def.owner
+  owners_below n def at =
+      subst (λ (k : ℕ). IsOwnerBelow k (length c.copied_worlds.items) def.owner) (sym is.interface_count)
+      (subst (λ (k : ℕ). IsOwnerBelow (length other.interfaces.items) k def.owner) (sym is.world_count) (range.owners n def at))
+
+  pub carried_ready : (types : ℕ) → types ≡ length other.types.items → IsCarriedReady other c types
+  carried_ready types count = record {
+    package_count = sym package_count;
+    interface_count = interface_count;
+    world_count = world_count;
+    listed_interfaces = λ n p at. subst (λ (k : ℕ). are_interfaces_below k p.interfaces.entries ≡ true) (sym is.interface_count) (range.listed_interfaces n p at);
+    listed_worlds = λ n p at. subst (λ (k : ℕ). are_worlds_below k p.worlds.entries ≡ true) (sym is.world_count) (range.listed_worlds n p at);
+    interface_homes = λ n i at. subst (λ (k : ℕ). IsHomeBelow k i.«package») package_count (range.interface_homes n i at);
+    type_names = λ n i at. subst (λ (k : ℕ). are_names_below k i.types.entries ≡ true) (sym count) (range.type_names n i at);
+    functions = λ n i at. subst (λ (k : ℕ). AreFunctionsBelow k i.functions.entries) (sym count) (range.functions n i at);
+    world_homes = λ n w at. subst (λ (k : ℕ). IsHomeBelow k w.«package») package_count (range.world_homes n w at);
+    imports = λ n w at. entries w.imports.entries (range.imports n w at);
+    exports = λ n w at. entries w.exports.entries (range.exports n w at);
+  }
+    where
+      entries : (es : List (WorldKey × WorldItem)) → AreEntriesBelow (length other.interfaces.items) (length other.types.items) es → AreEntriesBelow (length c.interfaces.items) types es
+      entries es h =
+          subst (λ (k : ℕ). AreEntriesBelow k types es) (sym interface_count)
+          (subst (λ (k : ℕ). AreEntriesBelow (length other.interfaces.items) k es) (sym count) h)
+
+-- ---- the first pass
+
+-- each type has a fate
+pub fates_long : (own other : Resolve) (m : Matches) (c : Carried) → length (first_fates own other m.interfaces.items c) ≡ length other.types.items
+fates_long own other m c = settled_long (adds_any c) other.types.items (map (fate_of own m.interfaces.items c) other.types.items) (length-map other.types.items (fate_of own m.interfaces.items c))
+
+-- and a number
+pub numbers_count : (own : ℕ) (numbers : List ℕ) (types : List TypeDef) (fates : List Fate) (old new : List TypeDef) → AreCopied own numbers types fates old new → length numbers ≡ length fates
+numbers_count own numbers types fates old new is = ap length is.numbers_are ∙ numbers_by_long (own + length old) fates
+
+-- ---- keys
+
+-- the keys of a world of what is in range
+pub world_keys_below : (other : Resolve) → IsInRange other → (n : ℕ) (v : World) → world_at other n ≡ Some v → (count : ℕ) → count ≡ length other.interfaces.items → AreWorldKeysBelow count v
+world_keys_below other range n v at count e = record {
+  imports = ap (λ (k : ℕ). are_keys_below k v.imports.entries) e ∙ keys_below (length other.interfaces.items) (length other.types.items) v.imports.entries (range.imports n v at);
+  exports = ap (λ (k : ℕ). are_keys_below k v.exports.entries) e ∙ keys_below (length other.interfaces.items) (length other.types.items) v.exports.entries (range.exports n v at);
+}
+
+-- ---- what the bound world gains
+
+module _ (own other : Resolve) (world other_world : ℕ) (c : Carried) (fates : List Fate) (types : List ℕ) (ready : IsBoundReady own other world other_world c fates types) where
+  module _ (v : World) (at : world_at other other_world ≡ Some v) where
+    pub imports_shown : (count : ℕ) → count ≡ length other.interfaces.items → AreNewShownBelow count (length other.interfaces.items) v.imports.entries
+    imports_shown count e = subst (λ (k : ℕ). AreNewShownBelow k (length other.interfaces.items) v.imports.entries) (sym e)
+        (new_shown_below (length other.interfaces.items) (length other.types.items) v.imports.entries (ready.in_range.imports other_world v at))
+
+    pub exports_shown : (count : ℕ) → count ≡ length other.interfaces.items → AreNewShownBelow count (length other.interfaces.items) v.exports.entries
+    exports_shown count e = subst (λ (k : ℕ). AreNewShownBelow k (length other.interfaces.items) v.exports.entries) (sym e)
+        (new_shown_below (length other.interfaces.items) (length other.types.items) v.exports.entries (ready.in_range.exports other_world v at))
+
+    pub types_shown : are_types_below (length other.types.items) v.imports.entries ≡ true
+    types_shown = types_below (length other.interfaces.items) (length other.types.items) v.imports.entries (ready.in_range.imports other_world v at)
+
+    pub imports_below : (interfaces numbers : ℕ) → interfaces ≡ length other.interfaces.items → numbers ≡ length other.types.items → AreEntriesBelow interfaces numbers v.imports.entries
+    imports_below interfaces numbers e k =
+        subst (λ (x : ℕ). AreEntriesBelow x numbers v.imports.entries) (sym e)
+        (subst (λ (x : ℕ). AreEntriesBelow (length other.interfaces.items) x v.imports.entries) (sym k) (ready.in_range.imports other_world v at))
+
+    pub exports_below : (interfaces numbers : ℕ) → interfaces ≡ length other.interfaces.items → numbers ≡ length other.types.items → AreEntriesBelow interfaces numbers v.exports.entries
+    exports_below interfaces numbers e k =
+        subst (λ (x : ℕ). AreEntriesBelow x numbers v.exports.entries) (sym e)
+        (subst (λ (x : ℕ). AreEntriesBelow (length other.interfaces.items) x v.exports.entries) (sym k) (ready.in_range.exports other_world v at))
+
+  pub homes_in : (count : ℕ) → count ≡ length other.interfaces.items → (n : ℕ) (def : TypeDef) → type_at other n ≡ Some def → IsHomeIn count def.owner
+  homes_in count e n def at = subst (λ (k : ℕ). IsHomeIn k def.owner) (sym e) (home_in (length other.interfaces.items) (length other.worlds.items) def.owner (ready.in_range.owners n def at))
+
+  pub names_in : (count : ℕ) → count ≡ length other.types.items → (n : ℕ) (i : Interface) → interface_at other n ≡ Some i → are_names_below count i.types.entries ≡ true
+  names_in count e n i at = ap (λ (k : ℕ). are_names_below k i.types.entries) e ∙ ready.in_range.type_names n i at
+
+  pub functions_in : (count : ℕ) → count ≡ length other.types.items → (n : ℕ) (i : Interface) → interface_at other n ≡ Some i → AreFunctionsBelow count i.functions.entries
+  functions_in count e n i at = subst (λ (k : ℕ). AreFunctionsBelow k i.functions.entries) (sym e) (ready.in_range.functions n i at)
+
+-- each type has a fate there, too
+pub bound_long : (other : Resolve) (world other_world : ℕ) (w v : World) (copied : List Bool) (interfaces : List ℕ) (fates : List Fate) (numbers : List ℕ) → length fates ≡ length other.types.items → length numbers ≡ length other.types.items
+    → length (bound_fates other world other_world w v copied interfaces fates numbers) ≡ length other.types.items
+bound_long other world other_world w v copied interfaces fates numbers long_fates long_numbers =
+    let second = second_from other world other_world copied interfaces other.types.items fates numbers in
+    settled_long (gains_any interfaces w v) other.types.items (unified w.imports.entries v.imports.entries second)
+    (unified_long w.imports.entries v.imports.entries second ∙ second_long other world other_world copied interfaces other.types.items fates numbers long_fates long_numbers)
+
+-- each has a number
+pub numbers_many : (first : ℕ) (flags : List Bool) (others numbers : List ℕ) (n : ℕ) → numbers ≡ numbers_of first flags others → length flags ≡ n → length others ≡ n → length numbers ≡ n
+numbers_many first flags others numbers n e p q = ap length e ∙ (sym (numbers_long first flags others (p ∙ sym q)) ∙ p)
+
+-- what follows of two things that hold where an answer is there
+pub on_ok_two : {A E P Q R : Type 0} → (P → Q → R) → (r : Result A E) → OnOk r P → OnOk r Q → OnOk r R
+on_ok_two f (Ok a) p q = f p q
+on_ok_two f (Err e) p q = p

@@ -1,0 +1,155 @@
+-- Types that meet their fates one by one.
+use Rattle.std.proofs.Common.{◌≡◌, refl, sym, ap, subst, ◌∙◌, ℕ, ◌+◌, ◌<◌, true, arith, List, [], ◌∷◌, ◌++◌, length, map, nat_lt, Option, Some, None, option_map, zero, suc, append_assoc, append-nil}
+use Rattle.std.specs.List.{flat_map, AllZip}
+use Rattle.wit_model.proofs.Lists.{first_true, second_true}
+use Rattle.std.proofs.lemmas.Bool.{ltb-true}
+use Rattle.wit_model.specs.Text.{Text}
+use Rattle.wit_model.specs.declared.model.TypeDef.{TypeDef}
+use Rattle.wit_model.specs.declared.model.TypeOwner.{TypeOwner}
+use Rattle.wit_model.specs.declared.model.«Type».{«Type» as ValueType}
+use Rattle.wit_model.specs.declared.model.«Type».TheVariants as ty
+use Rattle.bind_copy.specs.Copies.{all_below, number_under, IsTypeUnder}
+use Rattle.std.proofs.lemmas.List.Folds.{list_all-append}
+use Rattle.bind_union.specs.Views.{kind_view, optional_numbers, renamed, renamed_type, type_numbers, view_numbers, KindView, record_view, variant_view, flags_view, enum_view, tuple_view, resource_view, own_view, borrow_view, option_view, result_view, list_view, map_view, fixed_list_view, future_view, stream_view, alias_view}
+use Rattle.bind_carry.specs.declared.fate.Fate.{Fate}
+use Rattle.bind_carry.specs.declared.fate.Fate.TheVariants as fate
+use Rattle.bind_carry.specs.Fates.{copied_types, numbers_by, AreCopied, AreCopiedSoFar, IsCopiedType, MeetsFate}
+
+-- ---- numbers that agree below a bound
+
+module _ (f g : ℕ → ℕ) (count : ℕ) (agree : (n : ℕ) → n < count → f n ≡ g n) where
+  below : (x : ℕ) (xs : List ℕ) → all_below count (x ∷ xs) ≡ true → f x ≡ g x
+  below x xs h = agree x (ltb-true x count (first_true (nat_lt x count) (all_below count xs) h))
+
+  type_agrees : (t : ValueType) → all_below count (type_numbers t) ≡ true → renamed_type f t ≡ renamed_type g t
+  type_agrees (ty.Id id) h = ap (λ n. ty.Id (record { 0 = n })) (below id.0 [] h)
+  type_agrees ty.Bool h = refl
+  type_agrees ty.U8 h = refl
+  type_agrees ty.U16 h = refl
+  type_agrees ty.U32 h = refl
+  type_agrees ty.U64 h = refl
+  type_agrees ty.S8 h = refl
+  type_agrees ty.S16 h = refl
+  type_agrees ty.S32 h = refl
+  type_agrees ty.S64 h = refl
+  type_agrees ty.F32 h = refl
+  type_agrees ty.F64 h = refl
+  type_agrees ty.Char h = refl
+  type_agrees ty.String h = refl
+  type_agrees ty.ErrorContext h = refl
+
+  split : (xs ys : List ℕ) → all_below count (xs ++ ys) ≡ true → (all_below count xs ≡ true) × (all_below count ys ≡ true)
+  split xs ys h = let both = sym (list_all-append (λ n. nat_lt n count) xs ys) ∙ h in (first_true (all_below count xs) (all_below count ys) both, second_true (all_below count xs) (all_below count ys) both)
+
+  option_agrees : (t : Option ValueType) → all_below count (optional_numbers t) ≡ true → option_map (renamed_type f) t ≡ option_map (renamed_type g) t
+  option_agrees None h = refl
+  option_agrees (Some t) h = ap Some (type_agrees t h)
+
+  types_agree : (ts : List ValueType) → all_below count (flat_map type_numbers ts) ≡ true → map (renamed_type f) ts ≡ map (renamed_type g) ts
+  types_agree [] h = refl
+  types_agree (t ∷ ts) h = let parts = split (type_numbers t) (flat_map type_numbers ts) h in λ i. type_agrees t parts.0 i ∷ types_agree ts parts.1 i
+
+  fields_agree : (xs : List (Text × ValueType)) → all_below count (flat_map (λ x. type_numbers x.1) xs) ≡ true → map {B = Text × ValueType} (λ x. (x.0, renamed_type f x.1)) xs ≡ map (λ x. (x.0, renamed_type g x.1)) xs
+  fields_agree [] h = refl
+  fields_agree (x ∷ xs) h = let parts = split (type_numbers x.1) (flat_map (λ y. type_numbers y.1) xs) h in λ i. (x.0, type_agrees x.1 parts.0 i) ∷ fields_agree xs parts.1 i
+
+  cases_agree : (xs : List (Text × Option ValueType)) → all_below count (flat_map (λ x. optional_numbers x.1) xs) ≡ true → map {B = Text × Option ValueType} (λ x. (x.0, option_map (renamed_type f) x.1)) xs ≡ map (λ x. (x.0, option_map (renamed_type g) x.1)) xs
+  cases_agree [] h = refl
+  cases_agree (x ∷ xs) h = let parts = split (optional_numbers x.1) (flat_map (λ y. optional_numbers y.1) xs) h in λ i. (x.0, option_agrees x.1 parts.0 i) ∷ cases_agree xs parts.1 i
+
+  view_agrees : (v : KindView) → all_below count (view_numbers v) ≡ true → renamed f v ≡ renamed g v
+  view_agrees (record_view fields) h = ap record_view (fields_agree fields h)
+  view_agrees (variant_view cases) h = ap variant_view (cases_agree cases h)
+  view_agrees (flags_view names) h = refl
+  view_agrees (enum_view names) h = refl
+  view_agrees (tuple_view ts) h = ap tuple_view (types_agree ts h)
+  view_agrees resource_view h = refl
+  view_agrees (own_view n) h = ap own_view (below n [] h)
+  view_agrees (borrow_view n) h = ap borrow_view (below n [] h)
+  view_agrees (option_view t) h = ap option_view (type_agrees t h)
+  view_agrees (result_view ok err) h = let parts = split (optional_numbers ok) (optional_numbers err) h in λ i. result_view (option_agrees ok parts.0 i) (option_agrees err parts.1 i)
+  view_agrees (list_view t) h = ap list_view (type_agrees t h)
+  view_agrees (map_view k v) h = let parts = split (type_numbers k) (type_numbers v) h in λ i. map_view (type_agrees k parts.0 i) (type_agrees v parts.1 i)
+  view_agrees (fixed_list_view t n) h = ap (λ x. fixed_list_view x n) (type_agrees t h)
+  view_agrees (future_view t) h = ap future_view (option_agrees t h)
+  view_agrees (stream_view t) h = ap stream_view (option_agrees t h)
+  view_agrees (alias_view t) h = ap alias_view (type_agrees t h)
+
+-- ---- more numbers behind
+
+in_front : (xs ys : List ℕ) (n : ℕ) → n < length xs → number_under xs n ≡ number_under (xs ++ ys) n
+in_front [] ys n l = absurd (omega (arith, l))
+in_front (x ∷ xs) ys zero l = refl
+in_front (x ∷ xs) ys (suc n) l = in_front xs ys n (omega (arith, l))
+
+-- a copy by the numbers so far is one by all numbers
+with_more : (xs ys : List ℕ) (home : TypeOwner) (old new : TypeDef) → all_below (length xs) (view_numbers (kind_view old.kind)) ≡ true → IsTypeUnder xs home old new → IsTypeUnder (xs ++ ys) home old new
+with_more xs ys home old new small is = record {
+  name = is.name;
+  kind = is.kind ∙ view_agrees (number_under xs) (number_under (xs ++ ys)) (length xs) (in_front xs ys) (kind_view old.kind) small;
+  of_members = is.of_members;
+  in_owner = is.in_owner;
+  docs = is.docs;
+  stability = is.stability;
+  external_id = is.external_id;
+}
+
+-- ---- one type after the other
+
+length_one : (xs : List TypeDef) (t : TypeDef) → length (xs ++ t ∷ []) ≡ length xs + 1
+length_one [] t = refl
+length_one (x ∷ xs) t = let r = length_one xs t in omega (arith, r)
+
+module _ (own : ℕ) (types : List TypeDef) (fates : List Fate) (old : List TypeDef) where
+  abbrev N : List ℕ
+  N = numbers_by (own + length old) fates
+
+  abbrev SoFar : List ℕ → List TypeDef → List Fate → List TypeDef → Type 0
+  SoFar numbers ts fs new = AreCopiedSoFar own types fates old numbers ts fs new
+
+  pub at_first : SoFar [] types fates old
+  at_first = record { numbers_are = refl; more = []; behind = sym (append-nil old); copied = λ later z. z }
+
+  one_met : (numbers : List ℕ) (t : TypeDef) (ts : List TypeDef) (f : Fate) (fs : List Fate) (now new : List TypeDef) (n : ℕ) → all_below (length numbers) (view_numbers (kind_view t.kind)) ≡ true
+      → MeetsFate own numbers t f now new n → SoFar numbers (t ∷ ts) (f ∷ fs) now → SoFar (numbers ++ n ∷ []) ts fs new
+  one_met numbers t ts fate.Left fs now new n small met so = record {
+    numbers_are = append_assoc numbers (n ∷ []) (numbers_by (own + length new) fs) ∙ ((λ j. numbers ++ met.0 j ∷ numbers_by (own + length (met.1 j)) fs) ∙ so.numbers_are);
+    more = so.more;
+    behind = met.1 ∙ so.behind;
+    copied = so.copied;
+  }
+  one_met numbers t ts (fate.Stands k) fs now new n small met so = record {
+    numbers_are = append_assoc numbers (n ∷ []) (numbers_by (own + length new) fs) ∙ ((λ j. numbers ++ met.0 j ∷ numbers_by (own + length (met.1 j)) fs) ∙ so.numbers_are);
+    more = so.more;
+    behind = met.1 ∙ so.behind;
+    copied = so.copied;
+  }
+  one_met numbers t ts (fate.Copied home) fs now new n small met so =
+      let c : TypeDef = met.1.0 in
+      let is : IsTypeUnder numbers home t c = met.1.1 in
+      let last : new ≡ now ++ c ∷ [] = met.1.2 in
+      let size : own + length new ≡ (own + length now) + 1 = ap (λ l. own + length l) last ∙ (let r = length_one now c in omega (arith, r)) in
+      let rest : List ℕ = numbers_by ((own + length now) + 1) fs in
+      let all : IsTypeUnder N home t c = subst (λ l. IsTypeUnder l home t c) so.numbers_are (with_more numbers ((own + length now) ∷ rest) home t c small is) in
+      record {
+        numbers_are = append_assoc numbers (n ∷ []) (numbers_by (own + length new) fs) ∙ ((λ j. numbers ++ met.0 j ∷ numbers_by (size j) fs) ∙ so.numbers_are);
+        more = so.more ++ c ∷ [];
+        behind = last ∙ (ap (λ l. l ++ c ∷ []) so.behind ∙ append_assoc old so.more (c ∷ []));
+        copied = λ later z. subst (AllZip (IsCopiedType N) (copied_types types fates)) (sym (append_assoc so.more (c ∷ []) later)) (so.copied (c ∷ later) (all, z));
+      }
+
+  -- the same where what is left is known by another name
+  pub one_more : (numbers : List ℕ) (left_types : List TypeDef) (left_fates : List Fate) (t : TypeDef) (ts : List TypeDef) (f : Fate) (fs : List Fate) (now new : List TypeDef) (n : ℕ) → left_types ≡ t ∷ ts → left_fates ≡ f ∷ fs
+      → all_below (length numbers) (view_numbers (kind_view t.kind)) ≡ true → MeetsFate own numbers t f now new n → SoFar numbers left_types left_fates now → SoFar (numbers ++ n ∷ []) ts fs new
+  one_more numbers left_types left_fates t ts f fs now new n at_t at_f small met so = one_met numbers t ts f fs now new n small met (subst (λ l. SoFar numbers (t ∷ ts) l now) at_f (subst (λ l. SoFar numbers l left_fates now) at_t so))
+
+  pub all_met : (numbers : List ℕ) (left_types : List TypeDef) (left_fates : List Fate) (new : List TypeDef) → left_types ≡ [] → left_fates ≡ [] → SoFar numbers left_types left_fates new → AreCopied own numbers types fates old new
+  all_met numbers left_types left_fates new no_types no_fates so =
+      let numbers_are : numbers ≡ N = sym (append-nil numbers) ∙ (ap (λ l. numbers ++ numbers_by (own + length new) l) (sym no_fates) ∙ so.numbers_are) in
+      record {
+        numbers_are = numbers_are;
+        more = so.more;
+        behind = so.behind;
+        copied = subst (λ l. AllZip (IsCopiedType l) (copied_types types fates) so.more) (sym numbers_are)
+            (subst (AllZip (IsCopiedType N) (copied_types types fates)) (append-nil so.more) (so.copied [] (subst (λ l. AllZip (IsCopiedType N) (copied_types l left_fates) []) (sym no_types) tt)));
+      }

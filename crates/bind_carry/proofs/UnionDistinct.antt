@@ -1,0 +1,282 @@
+-- No map of what was merged has a key twice: what is inserted keeps keys apart, and copies have the names of what they are of.
+use Rattle.std.proofs.Common.{◌≡◌, ◌⊎◌, inl, inr, refl, sym, ap, subst, ◌∙◌, ℕ, zero, suc, arith, Bool, true, false, ◌==◌, List, [], ◌∷◌, ◌++◌, map, Option, Some, slice_get, slice_set, string_eq, if◌then◌else◌}
+use Rattle.std.specs.Prelude.{String}
+use Rattle.std.specs.declared.alloc.Global.{Global}
+use Rattle.std.specs.List.{filter, AllByRecursion, AllZip, IsDistinct}
+use Rattle.std.specs.Map.{keys_of}
+use Rattle.std.proofs.lemmas.Map.Made.{IsDistinct-keys_filter}
+use Rattle.std.proofs.lemmas.Option.{slice_get_within}
+use Rattle.indexmap.specs.IndexMap.{insert_all, insert_entry, IsUnique}
+use Rattle.wit_model.specs.declared.model.Interface.{Interface}
+use Rattle.wit_model.specs.declared.model.Package.{Package}
+use Rattle.wit_model.specs.declared.model.PackageId.{PackageId}
+use Rattle.wit_model.specs.declared.model.Resolve.{Resolve}
+use Rattle.wit_model.specs.declared.model.TypeId.{TypeId}
+use Rattle.wit_model.specs.declared.model.World.{World}
+use Rattle.wit_model.specs.declared.model.WorldItem.{WorldItem}
+use Rattle.wit_model.specs.declared.model.WorldKey.{WorldKey}
+use Rattle.wit_model.specs.declared.model.WorldKey.TheVariants as key
+use Rattle.wit_model.specs.Lookup.{interface_at, package_at, world_at}
+use Rattle.wit_model.specs.Text.{Text, text_eq, text_of}
+use Rattle.wit_model.specs.Valid.{key_eq, IsValid}
+use Rattle.wit_model.proofs.Distinct.{text_eq_flip}
+use Rattle.wit_model.proofs.Elements.{equal, same-number}
+use Rattle.bind_add.specs.Growth.{GainsNone, HasGained, HasGainedItems, IsAdded}
+use Rattle.bind_add.specs.declared.added.Added.{Added}
+use Rattle.bind_add.specs.declared.added.Names.{Names}
+use Rattle.bind_copy.specs.Copies.{become_one, is_new_under, names_in, type_names, type_names_under, AreNewCopied, IsEntryUnder, IsFunctionEntry, IsInterfaceUnder, IsKeyUnder}
+use Rattle.bind_copy.proofs.Gained.{same_images}
+use Rattle.bind_match.specs.declared.matches.Matches.{Matches}
+use Rattle.bind_union.proofs.Lists.{no_true}
+use Rattle.bind_carry.specs.AddedDistinct.{UnionsHaveDistinctKeys}
+use Rattle.bind_carry.specs.MatchedSame.{AreMatchedAt, NoneOfPath}
+use Rattle.bind_carry.specs.Packaged.{is_copied_interface, is_copied_world, IsInterfaceName, IsPackageCarried, IsWorldName}
+use Rattle.bind_carry.specs.Union.{IsUnionOf}
+use Rattle.bind_carry.specs.Which.{AreMatchedAll}
+use Rattle.bind_carry.specs.Whole.{home_under, kept, IsInterfaceCarried, IsWorldCarried}
+use Rattle.bind_carry.specs.declared.plan.Carried.{Carried}
+use Rattle.bind_carry.proofs.CopiesPlaced.{some_same}
+use Rattle.bind_carry.proofs.FirstCarried.{within_there}
+use Rattle.bind_carry.proofs.FirstPackages.{some_gains}
+use Rattle.bind_carry.proofs.KeysGained.{by_path_apart}
+use Rattle.bind_carry.proofs.NamesGained.{distinct_along}
+use Rattle.bind_carry.proofs.UnionApart.{zip_at}
+
+-- ---- keys the other way round
+
+number_flip : (m n : ℕ) → (m == n) ≡ (n == m)
+number_flip m n = go (m == n) refl (n == m) refl
+  where
+    go : (a : Bool) → (m == n) ≡ a → (b : Bool) → (n == m) ≡ b → (m == n) ≡ (n == m)
+    go true e b d = e ∙ sym (subst (λ (k : ℕ). (n == k) ≡ true) (sym (equal m n e)) (same-number n))
+    go false e false d = e ∙ sym d
+    go false e true d = no_true (sym e ∙ subst (λ (k : ℕ). (m == k) ≡ true) (sym (equal n m d)) (same-number m))
+
+pub key_flip : (a b : WorldKey) → key_eq a b ≡ key_eq b a
+key_flip (key.Name a) (key.Name b) = text_eq_flip (text_of a) (text_of b)
+key_flip (key.Name a) (key.Interface b) = refl
+key_flip (key.Interface a) (key.Name b) = refl
+key_flip (key.Interface a) (key.Interface b) = number_flip a.0 b.0
+
+string_flip : (a b : String Global) → string_eq a b ≡ string_eq b a
+string_flip a b = text_eq_flip (text_of a) (text_of b)
+
+-- ---- what is inserted keeps keys apart
+
+module _ {K X : Type 0} (eq : K → K → Bool) (flip : (a b : K) → eq a b ≡ eq b a) where
+  still_apart : (k : K) (es : List (K × X)) (l : K) (x : X) → eq k l ≡ false → AllByRecursion (λ y. eq k y ≡ false) (keys_of es) → AllByRecursion (λ y. eq k y ≡ false) (keys_of (insert_entry eq es l x))
+  still_apart k [] l x one h = (one, tt)
+  still_apart k (e ∷ es) l x one h = go (eq l e.0) refl (still_apart k es l x one h.1)
+    where
+      go : (b : Bool) → eq l e.0 ≡ b → AllByRecursion (λ y. eq k y ≡ false) (keys_of (insert_entry eq es l x)) → AllByRecursion (λ y. eq k y ≡ false) (keys_of (if b then (e.0, x) ∷ es else e ∷ insert_entry eq es l x))
+      go true q rest = h
+      go false q rest = (h.0, rest)
+
+  insert_apart : (es : List (K × X)) (l : K) (x : X) → IsDistinct eq (keys_of es) → IsDistinct eq (keys_of (insert_entry eq es l x))
+  unfolding IsDistinct
+  insert_apart [] l x h = (tt, tt)
+  insert_apart (e ∷ es) l x h = go (eq l e.0) refl (insert_apart es l x h.1)
+    where
+      go : (b : Bool) → eq l e.0 ≡ b → IsDistinct eq (keys_of (insert_entry eq es l x)) → IsDistinct eq (keys_of (if b then (e.0, x) ∷ es else e ∷ insert_entry eq es l x))
+      go true q rest = h
+      go false q rest = (still_apart e.0 es l x (flip e.0 l ∙ q) h.0, rest)
+
+  pub all_apart : (es xs : List (K × X)) → IsDistinct eq (keys_of es) → IsDistinct eq (keys_of (insert_all eq es xs))
+  all_apart es [] h = h
+  all_apart es (x ∷ xs) h = all_apart (insert_entry eq es x.0 x.1) xs (insert_apart es x.0 x.1 h)
+
+-- ---- copies have the names of what they are of
+
+module _ {X Y : Type 0} where
+  apart_by_names : (k l : String Global) → text_of l ≡ text_of k → (xs : List (String Global × X)) (ys : List (String Global × Y)) → names_in ys ≡ names_in xs → AllByRecursion (λ n. string_eq k n ≡ false) (keys_of xs) → AllByRecursion (λ n. string_eq l n ≡ false) (keys_of ys)
+  apart_by_names k l same xs [] e h = tt
+  apart_by_names k l same [] (y ∷ ys) e h = let wrong : ⊥ = cc in absurd wrong
+  apart_by_names k l same (x ∷ xs) (y ∷ ys) e h = ((λ i. text_eq (same i) (first e i)) ∙ h.0, apart_by_names k l same xs ys (rest e) h.1)
+    where
+      first : text_of y.0 ∷ names_in ys ≡ text_of x.0 ∷ names_in xs → text_of y.0 ≡ text_of x.0
+      first q = cc
+
+      rest : text_of y.0 ∷ names_in ys ≡ text_of x.0 ∷ names_in xs → names_in ys ≡ names_in xs
+      rest q = cc
+
+  pub distinct_by_names : (xs : List (String Global × X)) (ys : List (String Global × Y)) → names_in ys ≡ names_in xs → IsDistinct string_eq (keys_of xs) → IsDistinct string_eq (keys_of ys)
+  unfolding IsDistinct
+  distinct_by_names xs [] e h = tt
+  distinct_by_names [] (y ∷ ys) e h = let wrong : ⊥ = cc in absurd wrong
+  distinct_by_names (x ∷ xs) (y ∷ ys) e h = (apart_by_names x.0 y.0 (first e) xs ys (rest e) h.0, distinct_by_names xs ys (rest e) h.1)
+    where
+      first : text_of y.0 ∷ names_in ys ≡ text_of x.0 ∷ names_in xs → text_of y.0 ≡ text_of x.0
+      first q = cc
+
+      rest : text_of y.0 ∷ names_in ys ≡ text_of x.0 ∷ names_in xs → names_in ys ≡ names_in xs
+      rest q = cc
+
+names_alone : (es : List (String Global × TypeId)) → map (λ (x : Text × ℕ). x.0) (type_names es) ≡ names_in es
+names_alone [] = refl
+names_alone (e ∷ es) = ap (λ l. text_of e.0 ∷ l) (names_alone es)
+
+names_alone_under : (numbers : List ℕ) (es : List (String Global × TypeId)) → map (λ (x : Text × ℕ). x.0) (type_names_under numbers es) ≡ names_in es
+names_alone_under numbers [] = refl
+names_alone_under numbers (e ∷ es) = ap (λ l. text_of e.0 ∷ l) (names_alone_under numbers es)
+
+interface_distinct : (numbers : List ℕ) (home : Option PackageId) (old new : Interface) → IsInterfaceUnder numbers home old new → IsUnique string_eq old.types × IsUnique string_eq old.functions → IsUnique string_eq new.types × IsUnique string_eq new.functions
+interface_distinct numbers home old new is unique = (
+  distinct_by_names old.types.entries new.types.entries (sym (names_alone new.types.entries) ∙ (ap (map (λ (x : Text × ℕ). x.0)) (is.types unique.0) ∙ names_alone_under numbers old.types.entries)) unique.0,
+  distinct_along (IsFunctionEntry numbers) (λ a b r. r.0) old.functions.entries new.functions.entries (is.functions unique.1) unique.1,
+)
+
+module _ (interfaces types : List ℕ) where
+  image_apart : (k u : WorldKey) → IsKeyUnder interfaces k u → (olds news : List (WorldKey × WorldItem)) → AllZip (IsEntryUnder interfaces types) olds news → AllByRecursion (λ y. become_one interfaces k y ≡ false) (keys_of olds) → AllByRecursion (λ y. key_eq u y ≡ false) (keys_of news)
+  image_apart k u is [] [] zip h = tt
+  image_apart k u is [] (n ∷ ns) zip h = absurd zip
+  image_apart k u is (o ∷ os) [] zip h = absurd zip
+  image_apart k u is (o ∷ os) (n ∷ ns) zip h = (key_flip u n.0 ∙ (same_images interfaces k o.0 u n.0 is zip.0.0 ∙ h.0), image_apart k u is os ns zip.1 h.1)
+
+  -- keys of copies differ where no two keys become one
+  pub images_distinct : (olds news : List (WorldKey × WorldItem)) → AllZip (IsEntryUnder interfaces types) olds news → IsDistinct (become_one interfaces) (keys_of olds) → IsDistinct key_eq (keys_of news)
+  unfolding IsDistinct
+  images_distinct [] [] zip h = tt
+  images_distinct [] (n ∷ ns) zip h = absurd zip
+  images_distinct (o ∷ os) [] zip h = absurd zip
+  images_distinct (o ∷ os) (n ∷ ns) zip h = (image_apart o.0 n.0 zip.0.0 os ns zip.1 h.0, images_distinct os ns zip.1 h.1)
+
+  pub copied_distinct : (here olds news : List (WorldKey × WorldItem)) → AreNewCopied interfaces types here olds news → IsDistinct (become_one interfaces) (keys_of olds) → IsDistinct key_eq (keys_of news)
+  copied_distinct here olds news are h =
+      images_distinct (filter test olds) news (are h) (IsDistinct-keys_filter (become_one interfaces) test olds h)
+    where
+      test : WorldKey × WorldItem → Bool
+      test e = is_new_under interfaces here e.0
+
+-- ---- places in lists
+
+either_part : {X : Type 0} (xs ys : List X) (n : ℕ) (x : X) → slice_get (xs ++ ys) n ≡ Some x → (slice_get xs n ≡ Some x) ⊎ ((k : ℕ) × (slice_get ys k ≡ Some x))
+either_part [] ys n x e = inr (n, e)
+either_part (z ∷ xs) ys zero x e = inl e
+either_part (z ∷ xs) ys (suc n) x e = either_part xs ys n x e
+
+kept_at : {X : Type 0} (flags : List Bool) (xs : List X) (k : ℕ) (x : X) → slice_get (kept flags xs) k ≡ Some x → (j : ℕ) × (slice_get xs j ≡ Some x)
+kept_at [] xs k x e = let wrong : ⊥ = cc in absurd wrong
+kept_at (b ∷ bs) [] k x e = let wrong : ⊥ = cc in absurd wrong
+kept_at (true ∷ bs) (y ∷ ys) zero x e = (zero, e)
+kept_at (true ∷ bs) (y ∷ ys) (suc k) x e = let r = kept_at bs ys k x e in (suc r.0, r.1)
+kept_at (false ∷ bs) (y ∷ ys) k x e = let r = kept_at bs ys k x e in (suc r.0, r.1)
+
+-- what a copy is of
+copy_of : {X Y : Type 0} (R : X → Y → Type 0) (flags : List Bool) (xs : List X) (ys : List Y) → AllZip R (kept flags xs) ys → (k : ℕ) (y : Y) → slice_get ys k ≡ Some y → (j : ℕ) × (x : X) × (slice_get xs j ≡ Some x) × R x y
+copy_of R flags xs ys zip k y at =
+    let x = zip_at R (kept flags xs) ys zip k y at in
+    let j = kept_at flags xs k x.0 x.1 in
+    (j.0, x.0, j.1, x.2)
+
+set_cases : {X : Type 0} (ws : List X) (k n : ℕ) (v x : X) → slice_get (slice_set ws k v) n ≡ Some x → (v ≡ x) ⊎ (slice_get ws n ≡ Some x)
+set_cases [] k n v x e = inr e
+set_cases (z ∷ ws) zero zero v x e = inl (some_same v x e)
+set_cases (z ∷ ws) zero (suc n) v x e = inr e
+set_cases (z ∷ ws) (suc k) zero v x e = inr e
+set_cases (z ∷ ws) (suc k) (suc n) v x e = set_cases ws k n v x e
+
+-- ---- the whole
+
+module _ (own other merged : Resolve) (world other_world : ℕ) (m : Matches) (w v : World) (added : Added) (keys : List WorldKey) (u : IsUnionOf own other world other_world m w v added keys)
+    (valid_own : IsValid own) (valid_other : IsValid other) (a : IsAdded key_eq world added own merged) (at_own : world_at own world ≡ Some w) (at_other : world_at other other_world ≡ Some v)
+    (all : AreMatchedAll other m) (same : AreMatchedAt own other m.interfaces.items u.carried.packages.items) (none : NoneOfPath own other m.interfaces.items) where
+  abbrev c : Carried
+  c = u.carried
+
+  -- ---- packages
+
+  abbrev IsDistinctPackage : Package → Type 0
+  IsDistinctPackage p = IsUnique string_eq p.interfaces × IsUnique string_eq p.worlds
+
+  grown_distinct : (g : Names) (p q : Package) → HasGained g p q → IsDistinctPackage p → IsDistinctPackage q
+  grown_distinct g p q h d = (
+    subst (λ es. IsDistinct string_eq (keys_of es)) (sym h.interfaces) (all_apart string_eq string_flip p.interfaces.entries g.interfaces.entries d.0),
+    subst (λ es. IsDistinct string_eq (keys_of es)) (sym h.worlds) (all_apart string_eq string_flip p.worlds.entries g.worlds.entries d.1),
+  )
+
+  own_package : (n : ℕ) (p : Package) → slice_get a.packages.0 n ≡ Some p → IsDistinctPackage p
+  own_package n p at = go (some_gains added.names.items n)
+    where
+      there : (q : Package) × (slice_get own.packages.items n ≡ Some q)
+      there = within_there own.packages.items n (let less = slice_get_within a.packages.0 n p at in let count = a.packages.1.count in omega (arith, less, count))
+
+      go : ((i : ℕ) × (g : Names) × (slice_get added.names.items i ≡ Some g) × (g.«package».0 ≡ n)) ⊎ GainsNone added.names.items n → IsDistinctPackage p
+      go (inl x) =
+          let q = a.packages.1.gained x.0 x.1 there.0 x.2 (ap (slice_get own.packages.items) x.3 ∙ there.1) in
+          let is : q.0 ≡ p = some_same q.0 p (sym q.1 ∙ (ap (slice_get a.packages.0) x.3 ∙ at)) in
+          subst IsDistinctPackage is (grown_distinct x.1 there.0 q.0 q.2 (valid_own.distinct_keys.packages n there.0 there.1))
+      go (inr free) = valid_own.distinct_keys.packages n p (sym (a.packages.1.others n free) ∙ at)
+
+  new_package : (k : ℕ) (p : Package) → slice_get added.packages.items k ≡ Some p → IsDistinctPackage p
+  new_package k p at =
+      let x = copy_of (IsPackageCarried c) c.new_packages.items other.packages.items u.before.packages.items u.first.packages k p (sym (ap (λ l. slice_get l k) u.second.packages) ∙ at) in
+      let unique = valid_other.distinct_keys.packages x.0 x.1 x.2 in (
+        distinct_along (IsInterfaceName c.interfaces.items) (λ e n r. r.0) (filter (is_copied_interface c.copied_interfaces.items) x.1.interfaces.entries) p.interfaces.entries (x.3.interfaces unique.0) (IsDistinct-keys_filter string_eq (is_copied_interface c.copied_interfaces.items) x.1.interfaces.entries unique.0),
+        distinct_along (IsWorldName c.worlds.items) (λ e n r. r.0) (filter (is_copied_world c.copied_worlds.items) x.1.worlds.entries) p.worlds.entries (x.3.worlds unique.1) (IsDistinct-keys_filter string_eq (is_copied_world c.copied_worlds.items) x.1.worlds.entries unique.1),
+      )
+
+  -- ---- interfaces
+
+  abbrev IsDistinctInterface : Interface → Type 0
+  IsDistinctInterface i = IsUnique string_eq i.types × IsUnique string_eq i.functions
+
+  new_interface : (k : ℕ) (i : Interface) → slice_get added.interfaces.items k ≡ Some i → IsDistinctInterface i
+  new_interface k i at = elim (either_part u.before.interfaces.items u.second.inline_copied.more k i (sym (ap (λ l. slice_get l k) u.second.inline_copied.behind) ∙ at)) [
+    | inl here ↦ (let x = copy_of (IsInterfaceCarried c u.types) c.copied_interfaces.items other.interfaces.items u.before.interfaces.items u.first.interfaces k i here in
+        interface_distinct u.types (home_under c.packages.items x.1.«package») x.1 i x.3 (valid_other.distinct_keys.interfaces x.0 x.1 x.2))
+    | inr later ↦ (let x = copy_of (IsInterfaceUnder u.second.types w.«package») u.second.copied other.interfaces.items u.second.inline_copied.more u.second.inline_copied.copies later.0 i later.1 in
+        interface_distinct u.second.types w.«package» x.1 i x.3 (valid_other.distinct_keys.interfaces x.0 x.1 x.2))
+  ]
+
+  -- ---- worlds
+
+  abbrev IsDistinctWorld : World → Type 0
+  IsDistinctWorld x = IsUnique key_eq x.imports × IsUnique key_eq x.exports
+
+  own_world : (n : ℕ) (x : World) → slice_get (slice_set own.worlds.items world (a.worlds w at_own).0) n ≡ Some x → IsDistinctWorld x
+  own_world n x at = elim (set_cases own.worlds.items world n (a.worlds w at_own).0 x at) [
+    | inl is ↦ subst IsDistinctWorld is gained
+    | inr there ↦ valid_own.distinct_keys.worlds n x there
+  ]
+    where
+      h : HasGainedItems key_eq added.imports.entries added.exports.entries w (a.worlds w at_own).0
+      h = (a.worlds w at_own).1
+
+      gained : IsDistinctWorld (a.worlds w at_own).0
+      gained = (
+        subst (λ es. IsDistinct key_eq (keys_of es)) (sym h.imports) (all_apart key_eq key_flip w.imports.entries added.imports.entries (valid_own.distinct_keys.worlds world w at_own).0),
+        subst (λ es. IsDistinct key_eq (keys_of es)) (sym h.exports) (all_apart key_eq key_flip w.exports.entries added.exports.entries (valid_own.distinct_keys.worlds world w at_own).1),
+      )
+
+  new_world : (k : ℕ) (x : World) → slice_get added.worlds.items k ≡ Some x → IsDistinctWorld x
+  new_world k x at =
+      let y = copy_of (IsWorldCarried c u.types) c.copied_worlds.items other.worlds.items u.before.worlds.items u.first.worlds k x (sym (ap (λ l. slice_get l k) u.second.worlds) ∙ at) in
+      let apart = by_path_apart own other valid_own valid_other world other_world m w v added keys u at_other all same none y.0 y.1 y.2 in (
+        copied_distinct c.interfaces.items u.types [] y.1.imports.entries x.imports.entries y.3.imports apart.0,
+        copied_distinct c.interfaces.items u.types [] y.1.exports.entries x.exports.entries y.3.exports apart.1,
+      )
+
+  packages_distinct : (n : ℕ) (p : Package) → package_at merged n ≡ Some p → IsDistinctPackage p
+  packages_distinct n p at = elim (either_part a.packages.0 added.packages.items n p (sym (ap (λ l. slice_get l n) a.packages.2) ∙ at)) [
+    | inl here ↦ own_package n p here
+    | inr later ↦ new_package later.0 p later.1
+  ]
+
+  interfaces_distinct : (n : ℕ) (i : Interface) → interface_at merged n ≡ Some i → IsDistinctInterface i
+  interfaces_distinct n i at = elim (either_part own.interfaces.items added.interfaces.items n i (sym (ap (λ l. slice_get l n) a.interfaces) ∙ at)) [
+    | inl here ↦ valid_own.distinct_keys.interfaces n i here
+    | inr later ↦ new_interface later.0 i later.1
+  ]
+
+  worlds_distinct : (n : ℕ) (x : World) → world_at merged n ≡ Some x → IsDistinctWorld x
+  worlds_distinct n x at = elim (either_part (slice_set own.worlds.items world (a.worlds w at_own).0) added.worlds.items n x (sym (ap (λ l. slice_get l n) (a.worlds w at_own).2) ∙ at)) [
+    | inl here ↦ own_world n x here
+    | inr later ↦ new_world later.0 x later.1
+  ]
+
+pub unions_have_distinct_keys : UnionsHaveDistinctKeys
+unions_have_distinct_keys own other merged world other_world m w v added keys u valid_own valid_other a at_own at_other all same none = record {
+  packages = packages_distinct own other merged world other_world m w v added keys u valid_own valid_other a at_own at_other all same none;
+  interfaces = interfaces_distinct own other merged world other_world m w v added keys u valid_own valid_other a at_own at_other all same none;
+  worlds = worlds_distinct own other merged world other_world m w v added keys u valid_own valid_other a at_own at_other all same none;
+}

@@ -1,0 +1,13 @@
+use Rattle.bind_carry.proofs.FirstCarried.{first_is_carried}
+use Rattle.bind_carry.proofs.FirstCopies.{first_is_copied}
+use Rattle.bind_carry.proofs.FirstWorldsCopied.{first_worlds_are_copied}
+use Rattle.bind_carry.proofs.laws.first_pass.Goals as goal
+
+pub returns-clause-carried : goal.returns-clause-carried
+returns-clause-carried c = first_is_carried
+
+pub returns-clause-copied : goal.returns-clause-copied
+returns-clause-copied c = first_is_copied
+
+pub returns-clause-worlds : goal.returns-clause-worlds
+returns-clause-worlds c = first_worlds_are_copied

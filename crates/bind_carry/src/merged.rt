@@ -1,0 +1,10 @@
+//! The law of what is merged.
+
+ghost use Rattle.bind_carry.specs.MergedUnion.{UnionsAreMerged};
+
+/// What `union_of` answers, once it is added, is the other `Resolve` merged into the own one: packages of one name are one, own numbers stay, what has no own
+/// name or path is copied behind own entries, and the own bound world has gained the items whose keys it hadn't. This is so where what is matched has one
+/// name, or one path and one sense, where the two bound worlds don't clash, no path is of an interface and of a world, and no list gets too long.
+pub fn merged_unions()
+    ensures { UnionsAreMerged }
+{}

@@ -1,0 +1,190 @@
+-- Which own entry stands under a key of the other's.
+use Rattle.std.proofs.Common.{◌≡◌, refl, sym, ap, subst, ◌∙◌, arith, ℕ, zero, suc, ◌+◌, ◌<◌, Bool, true, false, cond, not, ◌==◌, List, [], ◌∷◌, map, slice_get, Option, Some, None, option_map, option_and_then, unwrap_or, String, Contains, is_some}
+use Rattle.std.specs.List.{position_from}
+use Rattle.std.specs.Prelude.{position}
+use Rattle.std.specs.FinMap.{find}
+use Rattle.std.specs.Ordering.{eq_by_cmp}
+use Rattle.std.proofs.lemmas.Iterator.Adapters.{position_from-zero}
+use Rattle.std.proofs.lemmas.Option.{slice_get-map}
+use Rattle.std.proofs.lemmas.Slice.Eq.{bytes_eq-Decides}
+use Rattle.wit_model.specs.declared.model.Interface.{Interface}
+use Rattle.wit_model.specs.declared.model.InterfaceId.{InterfaceId}
+use Rattle.wit_model.specs.declared.model.Resolve.{Resolve}
+use Rattle.wit_model.specs.declared.model.WorldItem.{WorldItem}
+use Rattle.wit_model.specs.declared.model.WorldKey.{WorldKey}
+use Rattle.wit_model.specs.declared.model.WorldKey.TheVariants as key
+use Rattle.wit_model.specs.Text.{Text, text_cmp, text_eq, text_of}
+use Rattle.wit_model.specs.Lookup.{interface_at, interface_path, key_text, path_of_interface}
+use Rattle.wit_model.specs.Meaning.{Entry, InterfaceMeaning}
+use Rattle.wit_model.specs.Meant.{entries_meaning, entry_meaning}
+use Rattle.wit_model.specs.Rules.{are_distinct}
+use Rattle.wit_model.specs.Valid.{IsValid, key_eq}
+use Rattle.wit_model.proofs.AnyOrder.{text-same}
+use Rattle.wit_model.proofs.Elements.{contains-later, equal, none-in, same-some}
+use Rattle.wit_model.proofs.Lists.{first_true, second_true}
+use Rattle.wit_model.proofs.OnePath.{some-of}
+use Rattle.bind_meaning.proofs.Listed.{contains-find, first-contained, given as unpacked}
+use Rattle.bind_meaning.proofs.Maps.{by_tie, eq_by_text, found_keys, has_key, itself_ties}
+use Rattle.bind_meaning.proofs.WorldBindings.{IsKey, keys-apart}
+use Rattle.bind_match.specs.declared.matches.Matches.{Matches}
+use Rattle.bind_match.specs.Matching.{own_interface_of}
+use Rattle.bind_clash.specs.Faults.{IsMatched, own_id, own_place_in}
+use Rattle.bind_clash.proofs.PathsMatched.{own-interface-has, own-interface-there, untrue}
+
+-- ---- keys by their texts
+
+one-text : (r : Resolve) (a b : WorldKey) → key_eq a b ≡ true → key_text r a ≡ key_text r b
+one-text r (key.Name a) (key.Name b) e = text-same (text_of a) (text_of b) e
+one-text r (key.Name a) (key.Interface b) e = untrue e
+one-text r (key.Interface a) (key.Name b) e = untrue e
+one-text r (key.Interface a) (key.Interface b) e = ap (λ (n : ℕ). unwrap_or (interface_path r n) []) (equal a.0 b.0 e)
+
+-- under a text that is no key's nothing is found
+no-entry : (r : Resolve) (t : Text) (es : List (WorldKey × WorldItem)) → ((e : WorldKey × WorldItem) → Contains es e → text_eq t (key_text r e.0) ≡ false) → find text_cmp t (entries_meaning r es) ≡ None
+no-entry r t [] none = refl
+no-entry r t (e ∷ es) none =
+    ap (λ b. cond b (Some (entry_meaning r e.1)) (find text_cmp t (entries_meaning r es))) (sym (eq_by_text t (key_text r e.0)) ∙ none e (first-contained e es))
+    ∙ no-entry r t es (λ x c. none x (contains-later e es x c))
+
+-- where no key stands twice, each finds its own
+pub found-distinct : {X : Type 0} (es : List (Text × X)) (q : Text) (x : X) → are_distinct (map (λ e. e.0) es) ≡ true → Contains es (q, x) → find text_cmp q es ≡ Some x
+found-distinct [] q x d c = none-in (q, x) c
+found-distinct {X} (e ∷ es) q x d (zero, l, same) =
+    ap (λ b. cond b (Some e.1) (find text_cmp q es)) (ap (eq_by_cmp text_cmp q) (ap (λ (p : Text × X). p.0) same) ∙ itself_ties q) ∙ ap Some (ap (λ (p : Text × X). p.1) same)
+found-distinct {X} (e ∷ es) q x d (suc i, l, same) = by (eq_by_cmp text_cmp q e.0) refl (found-distinct es q x (second_true (not (has_key e.0 es)) _ d) (i, omega (arith, l), same))
+  where
+    twice : (b : Bool) → not b ≡ true → b ≡ true → ⊥
+    twice true h k = untrue h
+    twice false h k = untrue k
+
+    by : (b : Bool) → eq_by_cmp text_cmp q e.0 ≡ b → find text_cmp q es ≡ Some x → cond b (Some e.1) (find text_cmp q es) ≡ Some x
+    by true t rest =
+        let again : has_key e.0 es ≡ true = ap (λ (s : Text). has_key s es) (sym (by_tie q e.0 t)) ∙ (sym (found_keys q es) ∙ ap is_some rest) in
+        absurd (twice (has_key e.0 es) (first_true (not (has_key e.0 es)) _ d) again)
+    by false t rest = rest
+
+-- ---- what a key finds among own entries
+
+module _ (own : Resolve) (v : IsValid own) (k : WorldKey) (is : IsKey own v k) where
+  -- keys are equal where their texts are
+  alike : (d : WorldKey) → IsKey own v d → key_eq k d ≡ text_eq (key_text own k) (key_text own d)
+  alike d g = by (key_eq k d) refl
+    where
+      by : (b : Bool) → key_eq k d ≡ b → key_eq k d ≡ text_eq (key_text own k) (key_text own d)
+      by true e = e ∙ sym ((bytes_eq-Decides (key_text own k) (key_text own d)).1 (one-text own k d e))
+      by false e = e ∙ sym (keys-apart own v k d is g e)
+
+  tie : (d : WorldKey) → IsKey own v d → eq_by_cmp text_cmp (key_text own k) (key_text own d) ≡ key_eq k d
+  tie d g = sym (eq_by_text (key_text own k) (key_text own d)) ∙ sym (alike d g)
+
+  record IsUnder (es : List (WorldKey × WorldItem)) (n p : ℕ) : Type 0 where
+    place : ℕ
+    number : p ≡ n + place
+    entry : WorldKey × WorldItem
+    stands : slice_get es place ≡ Some entry
+    found : find text_cmp (key_text own k) (entries_meaning own es) ≡ Some (entry_meaning own entry.1)
+
+  under : (es : List (WorldKey × WorldItem)) → ((e : WorldKey × WorldItem) → Contains es e → IsKey own v e.0) → (n p : ℕ) → position_from (key_eq k) n (map (λ e. e.0) es) ≡ Some p → IsUnder es n p
+  under [] all n p e = let no : ⊥ = cc in absurd no
+  under (d ∷ es) all n p e = by (key_eq k d.0) refl e (λ f. under es (λ x c. all x (contains-later d es x c)) (n + 1) p f)
+    where
+      tied : (b : Bool) → key_eq k d.0 ≡ b → find text_cmp (key_text own k) (entries_meaning own (d ∷ es)) ≡ cond b (Some (entry_meaning own d.1)) (find text_cmp (key_text own k) (entries_meaning own es))
+      tied b t = ap (λ b. cond b (Some (entry_meaning own d.1)) (find text_cmp (key_text own k) (entries_meaning own es))) (tie d.0 (all d (first-contained d es)) ∙ t)
+
+      by : (b : Bool) → key_eq k d.0 ≡ b → cond b (Some n) (position_from (key_eq k) (n + 1) (map (λ (e : WorldKey × WorldItem). e.0) es)) ≡ Some p
+          → (position_from (key_eq k) (n + 1) (map (λ (e : WorldKey × WorldItem). e.0) es) ≡ Some p → IsUnder es (n + 1) p) → IsUnder (d ∷ es) n p
+      by true t f later =
+          let here : n ≡ n + 0 = omega arith in
+          record { place = 0; number = sym (same-some n p f) ∙ here; entry = d; stands = refl; found = tied true t }
+      by false t f later =
+          let z = later f in
+          let j = z.place in
+          let there : (n + 1) + j ≡ n + suc j = omega arith in
+          record { place = suc z.place; number = z.number ∙ there; entry = z.entry; stands = z.stands; found = tied false t ∙ z.found }
+
+  none-under : (es : List (WorldKey × WorldItem)) → ((e : WorldKey × WorldItem) → Contains es e → IsKey own v e.0) → (n : ℕ) → position_from (key_eq k) n (map (λ e. e.0) es) ≡ None → find text_cmp (key_text own k) (entries_meaning own es) ≡ None
+  none-under [] all n e = refl
+  none-under (d ∷ es) all n e = by (key_eq k d.0) refl e (λ f. none-under es (λ x c. all x (contains-later d es x c)) (n + 1) f)
+    where
+      by : (b : Bool) → key_eq k d.0 ≡ b → cond b (Some n) (position_from (key_eq k) (n + 1) (map (λ (e : WorldKey × WorldItem). e.0) es)) ≡ None
+          → (position_from (key_eq k) (n + 1) (map (λ (e : WorldKey × WorldItem). e.0) es) ≡ None → find text_cmp (key_text own k) (entries_meaning own es) ≡ None)
+          → find text_cmp (key_text own k) (entries_meaning own (d ∷ es)) ≡ None
+      by true t f later = let no : ⊥ = cc in absurd no
+      by false t f later = ap (λ b. cond b (Some (entry_meaning own d.1)) (find text_cmp (key_text own k) (entries_meaning own es))) (tie d.0 (all d (first-contained d es)) ∙ t) ∙ later f
+
+-- ---- what a key of the other's finds
+
+module _ (own other : Resolve) (v : IsValid own) (u : IsValid other) (m : Matches) (h : IsMatched own other m) (es : List (WorldKey × WorldItem)) (all : (e : WorldKey × WorldItem) → Contains es e → IsKey own v e.0) where
+  own-id : (n : ℕ) (i : Interface) → interface_at other n ≡ Some i → own_id m n ≡ own_interface_of own m.packages.items i
+  own-id n i at =
+      let f = own_interface_of own m.packages.items in
+      ap (λ (xs : List (Option InterfaceId)). option_and_then (λ (id : Option InterfaceId). id) (slice_get xs n)) h.interfaces
+      ∙ (ap (option_and_then (λ (id : Option InterfaceId). id)) (slice_get-map f other.interfaces.items n)
+      ∙ ap (λ (o : Option Interface). option_and_then (λ (id : Option InterfaceId). id) (option_map f o)) at)
+
+  -- the own interface of an interface's number has its path
+  id-has : (n : ℕ) (t : Text) → interface_path other n ≡ Some t → (id : InterfaceId) → own_id m n ≡ Some id → interface_path own id.0 ≡ Some t
+  id-has n t e id f =
+      let i = unpacked (path_of_interface other) (interface_at other n) t e in
+      own-interface-has own other v u m.packages.items h.packages n i.0 i.1 t i.2 id (sym (own-id n i.0 i.1) ∙ f)
+
+  -- and where there is none no own interface has
+  id-none : (n : ℕ) (t : Text) → interface_path other n ≡ Some t → own_id m n ≡ None → (j : ℕ) → interface_path own j ≡ Some t → ⊥
+  id-none n t e f j g =
+      let i = unpacked (path_of_interface other) (interface_at other n) t e in
+      let found = own-interface-there own other v u m.packages.items h.packages n i.0 i.1 t i.2 j g in
+      let wrong : None ≡ Some found.0 = sym f ∙ (own-id n i.0 i.1 ∙ found.1.0) in
+      let no : ⊥ = cc in no
+
+  pub record HasOwn (k : WorldKey) (p : ℕ) : Type 0 where
+    pub entry : WorldKey × WorldItem
+    pub stands : slice_get es p ≡ Some entry
+    pub found : find text_cmp (key_text other k) (entries_meaning own es) ≡ Some (entry_meaning own entry.1)
+
+  has-own : (k : WorldKey) (own_key : WorldKey) (is : IsKey own v own_key) → key_text other k ≡ key_text own own_key → (p : ℕ) → IsUnder own v own_key is es 0 p → HasOwn k p
+  has-own k own_key is same p z =
+      let j = z.place in
+      let none_before : 0 + j ≡ j = omega arith in record {
+        entry = z.entry;
+        stands = ap (slice_get es) (z.number ∙ none_before) ∙ z.stands;
+        found = ap (λ (t : Text). find text_cmp t (entries_meaning own es)) same ∙ z.found;
+      }
+
+  pub own-entry : (k : WorldKey) → IsKey other u k → (p : ℕ) → own_place_in m es k ≡ Some p → HasOwn k p
+  own-entry (key.Name name) g p e = has-own (key.Name name) (key.Name name) g refl p (under own v (key.Name name) g es all 0 p (sym (position_from-zero (key_eq (key.Name name)) (map (λ (e : WorldKey × WorldItem). e.0) es)) ∙ e))
+  own-entry (key.Interface id) g p e =
+      let a = unpacked (λ (x : InterfaceId). position (key_eq (key.Interface x)) (map (λ (e : WorldKey × WorldItem). e.0) es)) (own_id m id.0) p e in
+      let path = some-of (interface_path other id.0) g in
+      let has = id-has id.0 path.0 path.1 a.0 a.1 in
+      let is : is_some (interface_path own a.0.0) ≡ true = ap is_some has in
+      has-own (key.Interface id) (key.Interface a.0) is (ap (λ (o : Option Text). unwrap_or o []) (path.1 ∙ sym has)) p (under own v (key.Interface a.0) is es all 0 p (sym (position_from-zero (key_eq (key.Interface a.0)) (map (λ (e : WorldKey × WorldItem). e.0) es)) ∙ a.2))
+
+  pub no-own-entry : (k : WorldKey) → IsKey other u k → own_place_in m es k ≡ None → find text_cmp (key_text other k) (entries_meaning own es) ≡ None
+  no-own-entry (key.Name name) g e = none-under own v (key.Name name) g es all 0 (sym (position_from-zero (key_eq (key.Name name)) (map (λ (e : WorldKey × WorldItem). e.0) es)) ∙ e)
+  no-own-entry (key.Interface id) g e = by (own_id m id.0) refl e
+    where
+      path : (t : Text) × (interface_path other id.0 ≡ Some t)
+      path = some-of (interface_path other id.0) g
+
+      text : key_text other (key.Interface id) ≡ path.0
+      text = ap (λ (o : Option Text). unwrap_or o []) path.1
+
+      other-text : own_id m id.0 ≡ None → (k : WorldKey) → IsKey own v k → text_eq (key_text other (key.Interface id)) (key_text own k) ≡ false
+      other-text f (key.Name s) lacks = keys-apart other u (key.Interface id) (key.Name s) g lacks refl
+      other-text f (key.Interface j) is = same-or (text_eq (key_text other (key.Interface id)) (key_text own (key.Interface j))) refl
+        where
+          theirs : (t : Text) × (interface_path own j.0 ≡ Some t)
+          theirs = some-of (interface_path own j.0) is
+
+          same-or : (b : Bool) → text_eq (key_text other (key.Interface id)) (key_text own (key.Interface j)) ≡ b → b ≡ false
+          same-or true t =
+              let one : theirs.0 ≡ path.0 = sym (ap (λ (o : Option Text). unwrap_or o []) theirs.1) ∙ (sym (text-same (key_text other (key.Interface id)) (key_text own (key.Interface j)) t) ∙ text) in
+              absurd (id-none id.0 path.0 path.1 f j.0 (theirs.1 ∙ ap Some one))
+          same-or false t = refl
+
+      by : (o : Option InterfaceId) → own_id m id.0 ≡ o → option_and_then (λ (x : InterfaceId). position (key_eq (key.Interface x)) (map (λ (e : WorldKey × WorldItem). e.0) es)) o ≡ None → find text_cmp (key_text other (key.Interface id)) (entries_meaning own es) ≡ None
+      by None f none = no-entry own (key_text other (key.Interface id)) es (λ d c. other-text f d.0 (all d c))
+      by (Some x) f none =
+          let has = id-has id.0 path.0 path.1 x f in
+          let is : is_some (interface_path own x.0) ≡ true = ap is_some has in
+          ap (λ (t : Text). find text_cmp t (entries_meaning own es)) (ap (λ (o : Option Text). unwrap_or o []) (path.1 ∙ sym has)) ∙ none-under own v (key.Interface x) is es all 0 (sym (position_from-zero (key_eq (key.Interface x)) (map (λ (e : WorldKey × WorldItem). e.0) es)) ∙ none)

@@ -1,0 +1,35 @@
+-- Functions that are copied into a map one behind the other.
+use Rattle.std.proofs.Common.{◌≡◌, refl, sym, ap, subst, ◌∙◌, ℕ, Bool, true, List, [], ◌∷◌}
+use Rattle.std.specs.List.{AllZip}
+use Rattle.std.specs.Prelude.{String}
+use Rattle.std.specs.String.{string_eq}
+use Rattle.std.specs.Map.{keys_of}
+use Rattle.std.specs.List.{IsDistinct}
+use Rattle.std.specs.declared.alloc.Global.{Global}
+use Rattle.indexmap.specs.IndexMap.{insert_entry}
+use Rattle.wit_model.proofs.Distinct.{text_eq_flip}
+use Rattle.wit_model.specs.Text.{text_eq, text_of}
+use Rattle.wit_model.specs.declared.model.Function.{Function}
+use Rattle.bind_copy.specs.Copies.{CopiedSoFar, IsFunctionEntry, IsFunctionUnder}
+use Rattle.bind_copy.proofs.Copied.{all_copied, all_pass, one_copied}
+
+module _ (types : List ℕ) where
+  same_keys : (x y u v : String Global × Function) → IsFunctionEntry types x u → IsFunctionEntry types y v → string_eq v.0 u.0 ≡ string_eq x.0 y.0
+  same_keys x y u v r s = ap (λ t. text_eq t (text_of u.0)) s.0 ∙ (ap (text_eq (text_of y.0)) r.0 ∙ text_eq_flip (text_of y.0) (text_of x.0))
+
+  -- one more is copied
+  pub function_more : (whole left rest done new : List (String Global × Function)) (e : String Global × Function) (name : String Global) (f : Function) → left ≡ e ∷ rest
+      → text_of name ≡ text_of e.0 → IsFunctionUnder types e.1 f → new ≡ insert_entry string_eq done name f
+      → (IsDistinct string_eq (keys_of whole) → CopiedSoFar (IsFunctionEntry types) (λ e. true) whole left done)
+      → IsDistinct string_eq (keys_of whole) → CopiedSoFar (IsFunctionEntry types) (λ e. true) whole rest new
+  function_more whole left rest done new e name f step named copied added before apart =
+      one_copied string_eq string_eq (IsFunctionEntry types) (λ e. true) same_keys whole rest done e
+      (subst (λ l. CopiedSoFar (IsFunctionEntry types) (λ e. true) whole l done) step (before apart)) (name, f) new apart refl (named, copied) added
+
+  -- all are copied
+  pub functions_all : (whole left done : List (String Global × Function)) → left ≡ []
+      → (IsDistinct string_eq (keys_of whole) → CopiedSoFar (IsFunctionEntry types) (λ e. true) whole left done)
+      → IsDistinct string_eq (keys_of whole) → AllZip (IsFunctionEntry types) whole done
+  functions_all whole left done ended before apart =
+      subst (λ l. AllZip (IsFunctionEntry types) l done) (all_pass whole)
+      (all_copied string_eq string_eq (IsFunctionEntry types) (λ e. true) same_keys whole done (subst (λ l. CopiedSoFar (IsFunctionEntry types) (λ e. true) whole l done) ended (before apart)))

@@ -1,0 +1,2 @@
+mod SectionLaws
+mod BoundTo

@@ -1,0 +1,34 @@
+-- Why the data of a section is refused.
+use Rattle.std.proofs.Common.{◌≡◌, ◌∙◌, refl, sym, ap, subst, ℕ, List, [], ◌∷◌, length, Result, Ok, Err, IfErr, arith}
+use Rattle.std.specs.Prelude.{IsErrAnd}
+use Rattle.wit_model.specs.declared.error.Error.{Error}
+use Rattle.wit_model.specs.declared.error.Error.TheVariants as errors
+use Rattle.comp_read.specs.DecodedWorlds.{RefusesWorldBytes}
+use Rattle.bind_sections.specs.SectionBindings.{RefusesSection}
+
+-- an error that is handed on
+pub passed_on : {X : Type 0} (P : Error → Type 0) (e : Error) (given : Result X Error) → P e → IsErrAnd given (λ d. d ≡ e) → IfErr given P
+passed_on P e (Ok x) h same = tt
+passed_on P e (Err d) h same = subst P (sym same) h
+
+-- what has no length is nothing, and what has a first byte is something
+pub is-nothing : (bytes : List ℕ) → length bytes ≡ 0 → bytes ≡ []
+is-nothing [] none = refl
+is-nothing (b ∷ bytes) none = let no : ⊥ = omega (arith, none) in absurd no
+
+pub is-something : (bytes : List ℕ) (first : ℕ) (behind : List ℕ) → bytes ≡ first ∷ behind → bytes ≡ [] → ⊥
+is-something bytes first behind begins none = let wrong = ap length (sym begins ∙ none) in omega (arith, wrong)
+
+-- what begins with another byte than 3
+pub other-begins : (bytes : List ℕ) (first : ℕ) (behind : List ℕ) → bytes ≡ first ∷ behind → (first ≡ 3 → ⊥) → (rest : List ℕ) → bytes ≡ 3 ∷ rest → ⊥
+other-begins bytes first behind begins other rest is = other (ap first-of (sym begins ∙ is))
+  where
+    first-of : List ℕ → ℕ
+    first-of [] = 0
+    first-of (b ∷ bs) = b
+
+-- what refuses bytes as one world refuses them as a section
+pub unread-section : (bytes : List ℕ) (e : Error) → (bytes ≡ [] → ⊥) → ((rest : List ℕ) → bytes ≡ 3 ∷ rest → ⊥) → RefusesWorldBytes bytes e → RefusesSection bytes e
+unread-section bytes (errors.NoReading cause offset) some other r = RefusesSection.unread some other cause offset refl r.0 r.1
+unread-section bytes errors.Memory some other r = RefusesSection.memory refl
+unread-section bytes _ some other r = absurd r

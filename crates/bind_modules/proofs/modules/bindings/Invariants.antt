@@ -1,0 +1,10 @@
+use Rattle.std.proofs.Common.{length}
+use Rattle.bind_modules.specs.BoundTo.{IsBoundTo}
+use Rattle.bind_modules.proofs.modules.bindings.Given as goal
+
+-- the sections in front have been bound
+abbrev pub invariant-loop-rest : goal.invariant-loop-rest
+invariant-loop-rest l = IsBoundTo l.fn.bytes l.bound l.rest
+
+abbrev pub decreases-loop-rest : goal.decreases-loop-rest
+decreases-loop-rest l = length l.rest

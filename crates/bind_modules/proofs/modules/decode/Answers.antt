@@ -1,0 +1,11 @@
+use Rattle.wit_bind.specs.Bindings.{binding_of}
+use Rattle.bind_sections.specs.Bound.{RefusesBindings}
+use Rattle.bind_modules.proofs.BoundTo.{strip-refused}
+use Rattle.bind_modules.proofs.SectionLaws.{passed_on}
+use Rattle.bind_modules.proofs.modules.decode.Goals as goal
+
+pub returns-in_err-module-clause-refuses : goal.returns-in_err-module-clause-refuses
+returns-in_err-module-clause-refuses c =
+    let e = c.in_err-module.field-0.0 in
+    passed_on (RefusesBindings c.args.bytes.now) e c.from_residual-in_err-module.result
+    (strip-refused c.args.bytes.now (binding_of c.in_ok-bound.bound) e c.in_ok-bound.ensures.bound c.in_err-module.ensures.refuses) c.from_residual-in_err-module.ensures.1

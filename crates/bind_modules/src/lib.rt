@@ -1,0 +1,7 @@
+//! What the sections of a core module bind together, and the module without them.
+#![tactic(auto)]
+
+mod modules;
+mod sections;
+
+pub use modules::decode;

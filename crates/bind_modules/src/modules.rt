@@ -1,0 +1,96 @@
+//! The sections of a module, bound one after the other.
+
+ghost use Rattle.std.specs.Prelude.{◌≡◌, ◌≢◌, ◌≤◌, ◌<◌, ℕ, List, [], length, IfErr, IfOk, OnOk};
+ghost use Rattle.wit_bind.specs.Bindings.{IsBindgen, binding_of};
+ghost use Rattle.wit_metadata.specs.Modules.{IsFrontData, StripsModule};
+ghost use Rattle.bind_sections.specs.Bound.{IsBound, RefusesBindings};
+ghost use Rattle.bind_sections.specs.Steps.{IsDataInFront};
+ghost use Rattle.bind_modules.specs.BoundTo.{BeginsWithRoot, IsBoundTo};
+
+use crate::sections::decode_section;
+use std::alloc::Global;
+use wit_bind::Bindgen;
+use wit_metadata::{carried_in, sections_of, stripped};
+use wit_model::Error;
+
+// Binds what the data of a section carries, onto what has been bound.
+fn bind_section(alloc: Global, bound: &mut Bindgen, section: &[u8]) -> Result<(), Error>
+    requires { IsBindgen bound.old }
+    ensures ok { (input bytes rest : List ℕ) → IsBoundTo input bound.old bytes → IsDataInFront bytes section.now rest → OnOk result (IsBoundTo input bound.new rest) }
+    ensures refuses { (input bytes rest : List ℕ) → IsBoundTo input bound.old bytes → IsDataInFront bytes section.now rest → IfErr result (RefusesBindings input) }
+{
+    let other = decode_section(alloc, section)?;
+    let _keys = bound.merge(alloc, other)?;
+    Ok(())
+}
+
+// The same where a section carries data. Where it carries none, nothing is bound.
+fn bind_carried(alloc: Global, bound: &mut Bindgen, carried: Option<&[u8]>) -> Result<(), Error>
+    requires { IsBindgen bound.old }
+    ensures ok { (input bytes rest : List ℕ) → IsBoundTo input bound.old bytes → IsFrontData bytes carried.entry rest → OnOk result (IsBoundTo input bound.new rest) }
+    ensures refuses { (input bytes rest : List ℕ) → IsBoundTo input bound.old bytes → IsFrontData bytes carried.entry rest → IfErr result (RefusesBindings input) }
+{
+    match carried {
+        Some(section) => bind_section(alloc, bound, section),
+        None => Ok(()),
+    }
+}
+
+// Binds the section in front, and answers the bytes behind it. They are those of a module from this offset on.
+fn bind_front<'a>(
+    alloc: Global,
+    bound: &mut Bindgen,
+    bytes: &'a [u8],
+    offset: usize,
+) -> Result<&'a [u8], Error>
+    requires bindgen { IsBindgen bound.old }
+    requires some { bytes.now ≢ [] }
+    ensures ok { (input : List ℕ) → IsBoundTo input bound.old bytes.now → IfOk result (λ rest. IsBoundTo input bound.new rest.now) }
+    ensures shorter { IfOk result (λ rest. length rest.now < length bytes.now) }
+    ensures refuses { (input : List ℕ) → offset ≤ length input → IsBoundTo input bound.old bytes.now → IfErr result (RefusesBindings input) }
+{
+    let (carried, behind) = carried_in(bytes, offset)?;
+    bind_carried(alloc, bound, carried)?;
+    Ok(behind)
+}
+
+// What the sections of a module bind, in their order.
+fn bindings(alloc: Global, bytes: &[u8]) -> Result<Bindgen, Error>
+    ensures bound { IfOk result (λ b. IsBound bytes.now (binding_of b)) }
+    ensures valid { IfOk result IsBindgen }
+    ensures root { IfOk result (λ b. BeginsWithRoot b.resolve) }
+    ensures refuses { IfErr result (RefusesBindings bytes.now) }
+{
+    let mut rest = sections_of(bytes)?;
+    let mut bound = Bindgen::default(alloc)?;
+    while !rest.is_empty() {
+        rest = bind_front(alloc, &mut bound, rest, bytes.len() - rest.len())?;
+    }
+    Ok(bound)
+}
+
+/// The bindings of a core module, and the module without the sections that carry worlds, or none where no section carries one (wit-component README,
+/// "Custom Section Format").
+///
+/// The bindings are those of a module that carries no world, as `Bindgen::default` answers them, merged with those of each custom section whose name
+/// begins with `component-type`, one after the other. The data of such a section binds the world that it means by itself, with the string encoding that it says
+/// for each function. Package 0 is `root:root`. The module that is answered has the other sections, in order, with their ids and contents.
+///
+/// The first refusal in the order of the bytes ends the call: `NotAModule` where they don't begin as a core module; of a section's data, `Historical`
+/// where it begins with the byte 3, `NoReading` where it means no one world, at offset 0 with `Truncated` where it is empty, and else that of its encoding,
+/// which is missing or not known; `Clash` where what it binds clashes with what was bound before; `BadModule` where no section stands, or a custom one without a
+/// name. Beside these it refuses with `Memory`, and with `Size` only where a list of the bindings would pass 4,294,967,295.
+///
+/// Takes time linear in the module, and for each section that carries a world as long as it takes to decode the world and to merge it onto what was bound
+/// before; memory for the bindings and the module.
+pub fn decode(alloc: Global, bytes: &[u8]) -> Result<(Option<Vec<u8>>, Bindgen), Error>
+    ensures bound { IfOk result (λ x. IsBound bytes.now (binding_of x.1)) }
+    ensures valid { IfOk result (λ x. IsBindgen x.1) }
+    ensures root { IfOk result (λ x. BeginsWithRoot x.1.resolve) }
+    ensures strips { IfOk result (λ x. StripsModule bytes.now x.0) }
+    ensures refuses { IfErr result (RefusesBindings bytes.now) }
+{
+    let bound = bindings(alloc, bytes)?;
+    let module = stripped(alloc, bytes)?;
+    Ok((module, bound))
+}

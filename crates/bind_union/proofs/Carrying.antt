@@ -1,0 +1,223 @@
+-- What is carried into another `Resolve` stands in the same places, for the same trees, and meets the same named types.
+use Rattle.std.proofs.Common.{◌≡◌, ◌⊎◌, inl, inr, refl, sym, ap, subst, ◌∙◌, ℕ, zero, suc, ◌<◌, ◌+◌, arith, true, ◌||◌, ◌==◌, nat_lt, ltb-true, List, [], ◌∷◌, ◌++◌, map, Option, Some, None, option_map, option_and_then, option_to_list, is_some}
+use Rattle.std.specs.Prelude.{String}
+use Rattle.std.specs.declared.alloc.Global.{Global}
+use Rattle.std.specs.List.{list_all, flat_map}
+use Rattle.std.specs.Option.{option_map_or}
+use Rattle.std.proofs.lemmas.Bool.{or_right}
+use Rattle.std.proofs.lemmas.List.Folds.{list_all-append}
+use Rattle.semver.specs.declared.Version.{Version}
+use Rattle.semver.specs.Identifiers.{parts_of, parts_text}
+use Rattle.wit_model.specs.declared.model.Resolve.{Resolve}
+use Rattle.wit_model.specs.declared.model.Package.{Package}
+use Rattle.wit_model.specs.declared.model.PackageId.{PackageId}
+use Rattle.wit_model.specs.declared.model.PackageName.{PackageName}
+use Rattle.wit_model.specs.declared.model.Interface.{Interface}
+use Rattle.wit_model.specs.declared.model.TypeDef.{TypeDef}
+use Rattle.wit_model.specs.declared.model.TypeOwner.{TypeOwner}
+use Rattle.wit_model.specs.declared.model.TypeOwner.TheVariants as owner
+use Rattle.wit_model.specs.declared.model.«Type».{«Type» as ValueType}
+use Rattle.wit_model.specs.declared.model.«Type».TheVariants as ty
+use Rattle.wit_model.specs.Text.{Text, text_of, optional_text}
+use Rattle.wit_model.specs.Names.{path_in}
+use Rattle.wit_model.specs.Lookup.{package_at, interface_at, identity_of, path_in_package, path_of_interface, interface_path, place_of_path, place_of, optional_version_text}
+use Rattle.wit_model.specs.Types.{number_of, number_tree, type_tree}
+use Rattle.wit_model.specs.Parts.{kind_numbers, met_by, met_of, used_by_type}
+use Rattle.wit_model.specs.Uses.{has}
+use Rattle.wit_model.specs.Rules.{passes, in_list, package_number}
+use Rattle.wit_model.specs.Valid.{Keeps, KeepsRules, numbers_in_range}
+use Rattle.wit_model.specs.Checks.{references}
+use Rattle.wit_model.proofs.Lists.{first_true, second_true}
+use Rattle.wit_model.proofs.Entries.{each_from_all, lists_pass, types_keep}
+use Rattle.wit_model.proofs.TreeTable.{kept_numbers}
+use Rattle.wit_model.proofs.Checks.{below_at}
+use Rattle.wit_model.proofs.Owners.{met_step}
+use Rattle.std.proofs.lemmas.List.{map-append}
+use Rattle.wit_model.proofs.OnePath.{found-in}
+use Rattle.bind_union.specs.Views.{renamed_type}
+use Rattle.bind_union.specs.Images.{HasImageKind, AreCarried, RefersBelow}
+use Rattle.bind_union.specs.Carried.{Renumbering, owner_under, carries_owner, IsSameName, IsNamesake, IsType, IsInterface, IsCarried}
+use Rattle.wit_model.proofs.Elements.{all-contained, has-contains, same-number, both}
+use Rattle.bind_union.proofs.Lists.{each_at, no_true}
+use Rattle.bind_union.proofs.Images.{same_trees, numbers_of_view}
+use Rattle.bind_union.proofs.ViewTests.{numbers_same}
+
+-- ---- rules of a valid one
+
+pub references_of : (r : Resolve) → KeepsRules r → Keeps references r
+unfolding references
+references_of r v = types_keep (λ r n def. list_all (λ m. nat_lt m n) (kind_numbers def.kind)) r (each_from_all _ 0 r.types.items (λ n def is. let here : n ≡ 0 + n = omega arith in subst (λ m. list_all (λ k. nat_lt k m) (kind_numbers def.kind) ≡ true) here (kept_numbers r v n def is)))
+
+pub refers_below : (r : Resolve) → Keeps references r → RefersBelow r
+refers_below r h n def is = below_at r h n def is
+
+-- the package of an interface is there
+package_there : (r : Resolve) → KeepsRules r → (n : ℕ) (i : Interface) → interface_at r n ≡ Some i → (p : ℕ) → package_number i.«package» ≡ Some p → (q : Package) × (package_at r p ≡ Some q)
+unfolding numbers_in_range
+package_there r v n i is p e =
+    let passed : numbers_in_range.interface_ r n i ≡ true = each_at (numbers_in_range.interface_ r) r.interfaces.items n i (lists_pass numbers_in_range r v.numbers_in_range).1 is in
+    let range : passes (in_list r.packages.items) (package_number i.«package») ≡ true = first_true _ _ (second_true _ _ passed) in
+    found-in r.packages.items p (ap (passes (in_list r.packages.items)) (sym e) ∙ range)
+
+-- ---- paths
+
+version_by_parts : (v : Option Version) → optional_version_text v ≡ option_map parts_text (option_map parts_of v)
+version_by_parts None = refl
+version_by_parts (Some v) = refl
+
+pub same_identity : (a b : PackageName) → IsSameName a b → identity_of b ≡ identity_of a
+same_identity a b h = λ i. record {
+  namespace = h.namespace i;
+  name = h.name i;
+  version = (version_by_parts b.version ∙ (ap (option_map parts_text) h.version ∙ sym (version_by_parts a.version))) i;
+}
+
+abbrev pub path_by : Resolve → Option Text → Option ℕ → Option Text
+path_by r name p = option_and_then (λ t. option_and_then (λ n. path_in_package r n t) p) name
+
+pub path_parts : (r : Resolve) (i : Interface) → path_of_interface r i ≡ path_by r (optional_text i.name) (package_number i.«package»)
+path_parts r i = go i.name i.«package»
+  where
+    go : (name : Option (String Global)) (p : Option PackageId) → option_and_then (λ x. option_and_then (λ id. path_in_package r id.0 (text_of x)) p) name ≡ path_by r (optional_text name) (package_number p)
+    go None p = refl
+    go (Some name) None = refl
+    go (Some name) (Some p) = refl
+
+module _ (r s : Resolve) (f : Renumbering) (valid : KeepsRules r) (is : IsCarried r s f) (below_s : Keeps references s) where
+  abbrev below_r : Keeps references r
+  below_r = references_of r valid
+
+  pub same_path_by : (name : Option Text) (p : Option ℕ) → ((n : ℕ) → p ≡ Some n → (q : Package) × (package_at r n ≡ Some q)) → path_by s name (option_map f.packages p) ≡ path_by r name p
+  same_path_by None p h = refl
+  same_path_by (Some t) None h = refl
+  same_path_by (Some t) (Some n) h =
+      let q = h n refl in
+      let image = is.packages n q.0 q.1 in
+      ap (option_map (λ package_. path_in (identity_of package_.name) t)) image.at_image
+      ∙ (ap (λ d. Some (path_in d t)) (same_identity q.0.name image.image.name image.name)
+      ∙ sym (ap (option_map (λ package_. path_in (identity_of package_.name) t)) q.1))
+
+  pub path_same : (n : ℕ) → f.carries_interface n ≡ true → interface_path s (f.interfaces n) ≡ interface_path r n
+  path_same n c =
+      let i = is.interfaces n c in
+      ap (option_and_then (path_of_interface s)) i.at_image
+      ∙ (path_parts s i.image
+      ∙ (ap (λ t. path_by s t (package_number i.image.«package»)) i.name
+      ∙ (go i i.old.name refl
+      ∙ (sym (path_parts r i.old)
+      ∙ sym (ap (option_and_then (path_of_interface r)) i.found)))))
+    where
+      go : (i : IsInterface r s f n) (o : Option (String Global)) → i.old.name ≡ o → path_by s (optional_text i.old.name) (package_number i.image.«package») ≡ path_by r (optional_text i.old.name) (package_number i.old.«package»)
+      go i None e = ap (λ x. path_by s (optional_text x) (package_number i.image.«package»)) e ∙ sym (ap (λ x. path_by r (optional_text x) (package_number i.old.«package»)) e)
+      go i (Some x) e =
+          ap (path_by s (optional_text i.old.name)) (i.in_package (ap is_some e))
+          ∙ same_path_by (optional_text i.old.name) (package_number i.old.«package») (package_there r valid n i.old i.found)
+
+  pub place_same : (o : TypeOwner) → carries_owner f o ≡ true → place_of s (owner_under f o) ≡ place_of r o
+  place_same (owner.World id) c = refl
+  place_same (owner.Interface id) c = ap place_of_path (path_same id.0 c)
+  place_same owner.None c = refl
+
+  -- ---- trees
+
+  pub image_kind : (def image : TypeDef) → def.name ≡ None → HasImageKind f.types f.carries_type def image ⊎ IsNamesake f def image → HasImageKind f.types f.carries_type def image
+  image_kind def image none (inl k) = k
+  image_kind def image none (inr k) = no_true (sym (ap is_some none) ∙ k.named)
+
+  pub carried_types : AreCarried r s f.types f.carries_type
+  carried_types n c =
+      let t = is.types n c in
+      record {
+        def = t.def;
+        found = t.found;
+        image = t.image;
+        at_image = t.at_image;
+        is_image = record {
+          name = t.name;
+          place = ap (place_of s) t.home ∙ place_same t.def.owner t.carries_home;
+          kind = λ none. image_kind t.def t.image none t.kind;
+        };
+      }
+
+  pub tree_same : (n : ℕ) → f.carries_type n ≡ true → number_tree s (f.types n) ≡ number_tree r n
+  tree_same n c = same_trees r s f.types f.carries_type (refers_below r below_r) (refers_below s below_s) carried_types n c
+
+  -- the numbers in a type
+  pub type_tree_same : (t : ValueType) → list_all f.carries_type (option_to_list (number_of t)) ≡ true → type_tree s (renamed_type f.types t) ≡ type_tree r t
+  type_tree_same ty.Bool h = refl
+  type_tree_same ty.U8 h = refl
+  type_tree_same ty.U16 h = refl
+  type_tree_same ty.U32 h = refl
+  type_tree_same ty.U64 h = refl
+  type_tree_same ty.S8 h = refl
+  type_tree_same ty.S16 h = refl
+  type_tree_same ty.S32 h = refl
+  type_tree_same ty.S64 h = refl
+  type_tree_same ty.F32 h = refl
+  type_tree_same ty.F64 h = refl
+  type_tree_same ty.Char h = refl
+  type_tree_same ty.String h = refl
+  type_tree_same ty.ErrorContext h = refl
+  type_tree_same (ty.Id id) h = tree_same id.0 (first_true _ _ h)
+
+  -- the numbers in a kind that is carried are carried
+  pub kind_carried : (def image : TypeDef) → HasImageKind f.types f.carries_type def image → list_all f.carries_type (kind_numbers def.kind) ≡ true
+  kind_carried def image k = ap (list_all f.carries_type) (sym (numbers_of_view def.kind)) ∙ k.parts
+
+  -- ---- named types that are met
+
+  all_met : (ns : List ℕ) → list_all f.carries_type ns ≡ true
+      → ((n : ℕ) → has ns n ≡ true → (f.carries_type n ≡ true) → (met_by (met_of s) (f.types n) ≡ map f.types (met_by (met_of r) n)) × (list_all f.carries_type (met_by (met_of r) n) ≡ true))
+      → (flat_map (met_by (met_of s)) (map f.types ns) ≡ map f.types (flat_map (met_by (met_of r)) ns)) × (list_all f.carries_type (flat_map (met_by (met_of r)) ns) ≡ true)
+  all_met [] h each = (refl, refl)
+  all_met (n ∷ ns) h each =
+      let one = each n (ap (λ b. b || has ns n) (same-number n)) (first_true _ _ h) in
+      let rest = all_met ns (second_true _ _ h) (λ m c. each m (or_right (n == m) (has ns m) c)) in (
+        (λ i. one.0 i ++ rest.0 i) ∙ sym (map-append f.types (met_by (met_of r) n) (flat_map (met_by (met_of r)) ns)),
+        list_all-append f.carries_type (met_by (met_of r) n) (flat_map (met_by (met_of r)) ns) ∙ both _ _ one.1 rest.1,
+      )
+
+  abbrev IsMetAlike : ℕ → Type 0
+  IsMetAlike n = (met_by (met_of s) (f.types n) ≡ map f.types (met_by (met_of r) n)) × (list_all f.carries_type (met_by (met_of r) n) ≡ true)
+
+  met_step_same : (n : ℕ) → f.carries_type n ≡ true → ((m : ℕ) → m < n → f.carries_type m ≡ true → IsMetAlike m) → IsMetAlike n
+  met_step_same n c smaller = go t.def.name t.image.name refl refl t.name
+    where
+      t : IsType r s f n
+      t = is.types n c
+
+      old : met_by (met_of r) n ≡ option_map_or (λ name. n ∷ []) t.def.name (used_by_type r t.def)
+      old = met_step r below_r n t.def t.found
+
+      new : met_by (met_of s) (f.types n) ≡ option_map_or (λ name. f.types n ∷ []) t.image.name (used_by_type s t.image)
+      new = met_step s below_s (f.types n) t.image t.at_image
+
+      unnamed : HasImageKind f.types f.carries_type t.def t.image → (used_by_type s t.image ≡ map f.types (used_by_type r t.def)) × (list_all f.carries_type (used_by_type r t.def) ≡ true)
+      unnamed k =
+          let rest = all_met (kind_numbers t.def.kind) (kind_carried t.def t.image k) (λ m h d. smaller m (ltb-true m n (all-contained (λ x. nat_lt x n) (kind_numbers t.def.kind) m (below_at r below_r n t.def t.found) (has-contains (kind_numbers t.def.kind) m h))) d) in
+          (ap (flat_map (met_by (met_of s))) (numbers_same f.types t.def.kind t.image.kind k.kinds) ∙ rest.0, rest.1)
+
+      go : (x y : Option (String Global)) → t.def.name ≡ x → t.image.name ≡ y → optional_text t.image.name ≡ optional_text t.def.name → IsMetAlike n
+      go None None e d same =
+          let k = unnamed (image_kind t.def t.image e t.kind) in (
+            (new ∙ ap (λ o. option_map_or (λ name. f.types n ∷ []) o (used_by_type s t.image)) d) ∙ (k.0 ∙ sym (ap (map f.types) (old ∙ ap (λ o. option_map_or (λ name. n ∷ []) o (used_by_type r t.def)) e))),
+            ap (list_all f.carries_type) (old ∙ ap (λ o. option_map_or (λ name. n ∷ []) o (used_by_type r t.def)) e) ∙ k.1,
+          )
+      go None (Some y) e d same = let wrong : None ≡ Some (text_of y) = sym (sym (ap optional_text d) ∙ (same ∙ ap optional_text e)) in absurd cc
+      go (Some x) None e d same = let wrong : None ≡ Some (text_of x) = sym (ap optional_text d) ∙ (same ∙ ap optional_text e) in absurd cc
+      go (Some x) (Some y) e d same = (
+        (new ∙ ap (λ o. option_map_or (λ name. f.types n ∷ []) o (used_by_type s t.image)) d) ∙ sym (ap (map f.types) (old ∙ ap (λ o. option_map_or (λ name. n ∷ []) o (used_by_type r t.def)) e)),
+        ap (list_all f.carries_type) (old ∙ ap (λ o. option_map_or (λ name. n ∷ []) o (used_by_type r t.def)) e) ∙ both _ _ c refl,
+      )
+
+  met_below : (fuel n : ℕ) → n < fuel → f.carries_type n ≡ true → IsMetAlike n
+  met_below zero n h c = absurd (omega (arith, h))
+  met_below (suc fuel) n h c = met_step_same n c (λ m low d. met_below fuel m (omega (arith, low, h)) d)
+
+  -- what is met at a new number are the new numbers of what is met
+  pub met_same : (n : ℕ) → f.carries_type n ≡ true → IsMetAlike n
+  met_same n c = met_below (suc n) n (omega arith) c
+
+  pub used_same : (ns : List ℕ) → list_all f.carries_type ns ≡ true
+      → (flat_map (met_by (met_of s)) (map f.types ns) ≡ map f.types (flat_map (met_by (met_of r)) ns)) × (list_all f.carries_type (flat_map (met_by (met_of r)) ns) ≡ true)
+  used_same ns h = all_met ns h (λ n d c. met_same n c)

@@ -1,0 +1,178 @@
+-- What is carried keeps its owner, and a resource stays one.
+use Rattle.std.proofs.Common.{◌≡◌, ◌⊎◌, inl, inr, refl, sym, ap, subst, ◌∙◌, ℕ, zero, suc, ◌<◌, arith, Bool, true, false, ◌||◌, ◌==◌, nat_lt, ltb-true, ◌++◌, Option, Some, None, option_map, option_to_list, filter_map}
+use Rattle.std.specs.List.{list_all}
+use Rattle.std.specs.Option.{option_map_or}
+use Rattle.std.proofs.lemmas.List.Folds.{list_all-append}
+use Rattle.wit_model.specs.declared.model.Resolve.{Resolve}
+use Rattle.wit_model.specs.declared.model.TypeDef.{TypeDef}
+use Rattle.wit_model.specs.declared.model.TypeDefKind.{TypeDefKind}
+use Rattle.wit_model.specs.declared.model.TypeDefKind.TheVariants as kind
+use Rattle.wit_model.specs.declared.model.TypeOwner.{TypeOwner}
+use Rattle.wit_model.specs.declared.model.TypeOwner.TheVariants as owner
+use Rattle.wit_model.specs.declared.model.«Type».{«Type» as ValueType}
+use Rattle.wit_model.specs.Types.{number_of}
+use Rattle.wit_model.specs.Parts.{kind_numbers, member_types, handled, is_resource, is_resource_type, is_resource_kind, same_owner, has_owner}
+use Rattle.wit_model.specs.Uses.{alias_target}
+use Rattle.wit_model.specs.Rules.{passes, is_resource_itself}
+use Rattle.wit_model.specs.Valid.{Keeps, KeepsRules}
+use Rattle.wit_model.specs.Checks.{references}
+use Rattle.wit_model.proofs.Lists.{first_true, second_true}
+use Rattle.wit_model.proofs.Checks.{below_at}
+use Rattle.wit_model.proofs.Elements.{equal, same-number}
+use Rattle.wit_model.proofs.Resources.{resource_step}
+use Rattle.bind_union.specs.Views.{renamed_type}
+use Rattle.bind_union.specs.Images.{HasImageKind}
+use Rattle.bind_union.specs.Carried.{Renumbering, Rises, owner_under, carries_owner, IsNamesake, IsType, IsCarried}
+use Rattle.bind_union.proofs.Lists.{no_true}
+use Rattle.bind_union.proofs.ViewTests.{alias_same, resource_same, number_under}
+use Rattle.bind_union.proofs.Carrying.{references_of, kind_carried}
+
+-- ---- kinds
+
+-- a kind is a resource, or an alias of one
+resource_kind : (test : ℕ → Bool) (k : TypeDefKind) → is_resource_kind test k ≡ (is_resource_itself k || option_map_or test (alias_target k) false)
+resource_kind test kind.Resource = refl
+resource_kind test (kind.Type_ t) = refl
+resource_kind test (kind.Record x) = refl
+resource_kind test (kind.Handle x) = refl
+resource_kind test (kind.Flags x) = refl
+resource_kind test (kind.Tuple x) = refl
+resource_kind test (kind.Variant x) = refl
+resource_kind test (kind.Enum x) = refl
+resource_kind test (kind.Option x) = refl
+resource_kind test (kind.Result x) = refl
+resource_kind test (kind.List x) = refl
+resource_kind test (kind.Map x y) = refl
+resource_kind test (kind.FixedLengthList x y) = refl
+resource_kind test (kind.Future x) = refl
+resource_kind test (kind.Stream x) = refl
+
+-- what is asked of all numbers in a kind is asked of an alias's target
+pub alias_of_all : (p : ℕ → Bool) (k : TypeDefKind) → list_all p (kind_numbers k) ≡ true → passes p (alias_target k) ≡ true
+alias_of_all p k h = go (alias_target k) (second_true (list_all p (option_to_list (handled k))) _ (sym (list_all-append p (option_to_list (handled k)) (option_to_list (alias_target k))) ∙ second_true (list_all p (filter_map number_of (member_types k))) _ (sym (list_all-append p (filter_map number_of (member_types k)) (option_to_list (handled k) ++ option_to_list (alias_target k))) ∙ h)))
+  where
+    go : (o : Option ℕ) → list_all p (option_to_list o) ≡ true → passes p o ≡ true
+    go None h = refl
+    go (Some n) h = first_true _ _ h
+
+pub handled_of_all : (p : ℕ → Bool) (k : TypeDefKind) → list_all p (kind_numbers k) ≡ true → passes p (handled k) ≡ true
+handled_of_all p k h = go (handled k) (first_true (list_all p (option_to_list (handled k))) _ (sym (list_all-append p (option_to_list (handled k)) (option_to_list (alias_target k))) ∙ second_true (list_all p (filter_map number_of (member_types k))) _ (sym (list_all-append p (filter_map number_of (member_types k)) (option_to_list (handled k) ++ option_to_list (alias_target k))) ∙ h)))
+  where
+    go : (o : Option ℕ) → list_all p (option_to_list o) ≡ true → passes p o ≡ true
+    go None h = refl
+    go (Some n) h = first_true _ _ h
+
+pub members_of_all : (p : ℕ → Bool) (k : TypeDefKind) → list_all p (kind_numbers k) ≡ true → list_all p (filter_map number_of (member_types k)) ≡ true
+members_of_all p k h = first_true _ _ (sym (list_all-append p (filter_map number_of (member_types k)) (option_to_list (handled k) ++ option_to_list (alias_target k))) ∙ h)
+
+-- ---- owners
+
+pub owner_equal : (a b : TypeOwner) → same_owner a b ≡ true → a ≡ b
+owner_equal (owner.World a) (owner.World b) h = ap (λ (n : ℕ). owner.World (record { 0 = n })) (equal a.0 b.0 h)
+owner_equal (owner.Interface a) (owner.Interface b) h = ap (λ (n : ℕ). owner.Interface (record { 0 = n })) (equal a.0 b.0 h)
+owner_equal owner.None owner.None h = refl
+owner_equal (owner.World a) (owner.Interface b) h = no_true h
+owner_equal (owner.World a) owner.None h = no_true h
+owner_equal (owner.Interface a) (owner.World b) h = no_true h
+owner_equal (owner.Interface a) owner.None h = no_true h
+owner_equal owner.None (owner.World b) h = no_true h
+owner_equal owner.None (owner.Interface b) h = no_true h
+
+pub owner_itself : (a : TypeOwner) → same_owner a a ≡ true
+owner_itself (owner.World a) = same-number a.0
+owner_itself (owner.Interface a) = same-number a.0
+owner_itself owner.None = refl
+
+-- a copy has no other's number
+pub apart : (f : ℕ → ℕ) (carries copies : ℕ → Bool) → Rises f carries copies → ((n : ℕ) → copies n ≡ true → carries n ≡ true) → (m n : ℕ) → carries m ≡ true → copies n ≡ true → f m ≡ f n → m ≡ n
+apart f carries copies rise both_ m n c d e = go (copies m) refl (nat_lt m n) (nat_lt n m) refl refl
+  where
+    go : (k : Bool) → copies m ≡ k → (x y : Bool) → nat_lt m n ≡ x → nat_lt n m ≡ y → m ≡ n
+    go false k x y p q = let less = rise m n c d (inr k) in absurd (omega (arith, less, e))
+    go true k true y p q = let less = rise m n c d (inl (ltb-true m n p)) in absurd (omega (arith, less, e))
+    go true k false true p q = let less = rise n m (both_ n d) k (inl (ltb-true n m q)) in absurd (omega (arith, less, e))
+    go true k false false p q = grind (arith, p, q)
+
+module _ (r s : Resolve) (f : Renumbering) (valid : KeepsRules r) (is : IsCarried r s f) (below_s : Keeps references s) where
+  abbrev below_r : Keeps references r
+  below_r = references_of r valid
+
+  -- ---- aliases
+
+  pub alias_there : (n : ℕ) (t : IsType r s f n) → (alias_target t.image.kind ≡ option_map f.types (alias_target t.def.kind)) × (passes f.carries_type (alias_target t.def.kind) ≡ true) × (is_resource_itself t.image.kind ≡ is_resource_itself t.def.kind)
+  alias_there n t = go t.kind
+    where
+      go : HasImageKind f.types f.carries_type t.def t.image ⊎ IsNamesake f t.def t.image → (alias_target t.image.kind ≡ option_map f.types (alias_target t.def.kind)) × (passes f.carries_type (alias_target t.def.kind) ≡ true) × (is_resource_itself t.image.kind ≡ is_resource_itself t.def.kind)
+      go (inl k) = (alias_same f.types t.def.kind t.image.kind k.kinds, alias_of_all f.carries_type t.def.kind (kind_carried r s f valid is below_s t.def t.image k), resource_same f.types t.def.kind t.image.kind k.kinds)
+      go (inr k) = (k.alias, k.target, k.resource)
+
+  -- ---- resources
+
+  resource_step_same : (n : ℕ) → f.carries_type n ≡ true → ((m : ℕ) → m < n → f.carries_type m ≡ true → is_resource s (f.types m) ≡ is_resource r m) → is_resource s (f.types n) ≡ is_resource r n
+  resource_step_same n c smaller =
+      resource_step s below_s (f.types n) t.image t.at_image
+      ∙ (resource_kind (is_resource s) t.image.kind
+      ∙ ((λ i. a.2 i || option_map_or (is_resource s) (a.0 i) false)
+      ∙ (ap (λ b. is_resource_itself t.def.kind || b) (target (alias_target t.def.kind) a.1 (alias_of_all (λ m. nat_lt m n) t.def.kind (below_at r below_r n t.def t.found)))
+      ∙ (sym (resource_kind (is_resource r) t.def.kind)
+      ∙ sym (resource_step r below_r n t.def t.found)))))
+    where
+      t : IsType r s f n
+      t = is.types n c
+
+      a : (alias_target t.image.kind ≡ option_map f.types (alias_target t.def.kind)) × (passes f.carries_type (alias_target t.def.kind) ≡ true) × (is_resource_itself t.image.kind ≡ is_resource_itself t.def.kind)
+      a = alias_there n t
+
+      target : (o : Option ℕ) → passes f.carries_type o ≡ true → passes (λ m. nat_lt m n) o ≡ true → option_map_or (is_resource s) (option_map f.types o) false ≡ option_map_or (is_resource r) o false
+      target None d low = refl
+      target (Some m) d low = smaller m (ltb-true m n low) d
+
+  resource_below : (fuel n : ℕ) → n < fuel → f.carries_type n ≡ true → is_resource s (f.types n) ≡ is_resource r n
+  resource_below zero n h c = absurd (omega (arith, h))
+  resource_below (suc fuel) n h c = resource_step_same n c (λ m low d. resource_below fuel m (omega (arith, low, h)) d)
+
+  -- a number is a resource exactly where the new one is
+  pub resource_same_at : (n : ℕ) → f.carries_type n ≡ true → is_resource s (f.types n) ≡ is_resource r n
+  resource_same_at n c = resource_below (suc n) n (omega arith) c
+
+  pub resource_type_same : (t : ValueType) → list_all f.carries_type (option_to_list (number_of t)) ≡ true → is_resource_type s (renamed_type f.types t) ≡ is_resource_type r t
+  resource_type_same t h = ap (λ o. option_map_or (is_resource s) o false) (number_under f.types t) ∙ go (number_of t) h
+    where
+      go : (o : Option ℕ) → list_all f.carries_type (option_to_list o) ≡ true → option_map_or (is_resource s) (option_map f.types o) false ≡ option_map_or (is_resource r) o false
+      go None h = refl
+      go (Some n) h = resource_same_at n (first_true _ _ h)
+
+  -- ---- owners
+
+  abbrev owner_at : (r : Resolve) (o : TypeOwner) → Option TypeDef → Bool
+  owner_at r o d = option_map_or (λ def. same_owner def.owner o) d false
+
+  -- what belongs to an owner belongs to the new one
+  pub owner_stays : (o : TypeOwner) (n : ℕ) → f.carries_type n ≡ true → has_owner r o n ≡ true → has_owner s (owner_under f o) (f.types n) ≡ true
+  owner_stays o n c h =
+      let t = is.types n c in
+      let same : t.def.owner ≡ o = owner_equal t.def.owner o (sym (ap (λ d. option_map_or (λ def. same_owner def.owner o) d false) t.found) ∙ h) in
+      ap (λ d. option_map_or (λ def. same_owner def.owner (owner_under f o)) d false) t.at_image
+      ∙ (ap (λ x. same_owner x (owner_under f o)) (t.home ∙ ap (owner_under f) same)
+      ∙ owner_itself (owner_under f o))
+
+  -- the owners to which nothing else is carried
+  abbrev pub alone : TypeOwner → Bool
+  alone (owner.World id) = f.carries_world id.0
+  alone (owner.Interface id) = f.copies_interface id.0
+  alone owner.None = false
+
+  pub owner_apart : (o p : TypeOwner) → carries_owner f p ≡ true → alone o ≡ true → same_owner (owner_under f p) (owner_under f o) ≡ true → same_owner p o ≡ true
+  owner_apart (owner.World a) (owner.World b) c d h = subst (λ (k : ℕ). (b.0 == k) ≡ true) (is.worlds_apart b.0 a.0 c d (equal (f.worlds b.0) (f.worlds a.0) h)) (same-number b.0)
+  owner_apart (owner.World a) (owner.Interface b) c d h = no_true h
+  owner_apart (owner.World a) owner.None c d h = no_true h
+  owner_apart (owner.Interface a) (owner.World b) c d h = no_true h
+  owner_apart (owner.Interface a) (owner.Interface b) c d h = subst (λ (k : ℕ). (b.0 == k) ≡ true) (apart f.interfaces f.carries_interface f.copies_interface is.interfaces_rise is.copied_interfaces b.0 a.0 c d (equal (f.interfaces b.0) (f.interfaces a.0) h)) (same-number b.0)
+  owner_apart (owner.Interface a) owner.None c d h = no_true h
+  owner_apart owner.None p c d h = no_true d
+
+  pub owner_back : (o : TypeOwner) (n : ℕ) → alone o ≡ true → f.carries_type n ≡ true → has_owner s (owner_under f o) (f.types n) ≡ true → has_owner r o n ≡ true
+  owner_back o n d c h =
+      let t = is.types n c in
+      ap (λ d. option_map_or (λ def. same_owner def.owner o) d false) t.found
+      ∙ owner_apart o t.def.owner t.carries_home d (sym (ap (λ x. same_owner x (owner_under f o)) t.home) ∙ (sym (ap (λ d. option_map_or (λ def. same_owner def.owner (owner_under f o)) d false) t.at_image) ∙ h))

@@ -1,0 +1,299 @@
+-- Types under other numbers stand for the same trees.
+use Rattle.std.proofs.Common.{◌≡◌, refl, sym, ap, ◌∙◌, ℕ, zero, suc, ◌<◌, Bool, true, nat_lt, List, [], ◌∷◌, ◌++◌, map, arith, ltb-true, append-nil, Option, Some, None, option_map, unwrap_or}
+use Rattle.std.specs.Prelude.{String, option_to_list}
+use Rattle.std.specs.declared.alloc.Global.{Global}
+use Rattle.std.specs.List.{list_all, flat_map, filter_map, cons_option}
+use Rattle.std.proofs.lemmas.List.Elements.{filter_map-append}
+use Rattle.std.specs.Option.{option_map_or}
+use Rattle.wit_model.specs.declared.model.Resolve.{Resolve}
+use Rattle.wit_model.specs.declared.model.TypeDef.{TypeDef}
+use Rattle.wit_model.specs.declared.model.TypeDefKind.{TypeDefKind}
+use Rattle.wit_model.specs.declared.model.TypeDefKind.TheVariants as kind
+use Rattle.wit_model.specs.declared.model.«Type».{«Type» as ValueType}
+use Rattle.wit_model.specs.declared.model.«Type».TheVariants as ty
+use Rattle.wit_model.specs.declared.model.Handle.TheVariants as handle
+use Rattle.wit_model.specs.Text.{Text, text_of, optional_text}
+use Rattle.wit_model.specs.Lookup.{type_at, place_of}
+use Rattle.wit_model.specs.declared.model.Field.{Field}
+use Rattle.wit_model.specs.declared.model.Case.{Case}
+use Rattle.wit_model.specs.Tree.{Tree, Place, named, type_, record_tree, variant_tree, tuple_tree, option_tree, result_tree, list_tree, map_tree, fixed_list_tree, future_tree, stream_tree, own_tree, borrow_tree}
+use Rattle.wit_model.specs.Types.{no_tree, number_of, tree_at, tree_of, declared_by, tree_of_definition, tree_of_declaration, trees_of, number_tree, declaration_of}
+use Rattle.wit_model.specs.Parts.{kind_numbers}
+use Rattle.wit_model.proofs.TreeTable.{trees_at}
+use Rattle.wit_model.proofs.Lists.{first_true, second_true}
+use Rattle.bind_union.specs.Views.{KindView, record_view, variant_view, flags_view, enum_view, tuple_view, resource_view, own_view, borrow_view, option_view, result_view, list_view, map_view, fixed_list_view, future_view, stream_view, alias_view, kind_view, renamed_type, renamed, declared_view, type_numbers, optional_numbers, view_numbers}
+use Rattle.bind_union.specs.Images.{HasImageKind, IsCarriedType, AreCarried, RefersBelow, SameTrees, SameDeclarations}
+
+-- ---- by the view
+
+mapped_twice : {X Y Z : Type 0} (f : Y → Z) (g : X → Y) (xs : List X) → map f (map g xs) ≡ map (λ x. f (g x)) xs
+mapped_twice f g [] = refl
+mapped_twice f g (x ∷ xs) = ap (λ ys. f (g x) ∷ ys) (mapped_twice f g xs)
+
+-- a kind declares what its view does
+pub declared_by_view : (trees : List Tree) (k : TypeDefKind) → declared_view trees (kind_view k) ≡ declared_by trees k
+declared_by_view trees (kind.Record record_) = ap (λ fs. type_ (record_tree fs)) (mapped_twice _ _ record_.fields.items)
+declared_by_view trees kind.Resource = refl
+declared_by_view trees (kind.Handle (handle.Own id)) = refl
+declared_by_view trees (kind.Handle (handle.Borrow id)) = refl
+declared_by_view trees (kind.Flags flags) = refl
+declared_by_view trees (kind.Tuple tuple) = refl
+declared_by_view trees (kind.Variant variant) = ap (λ cs. type_ (variant_tree cs)) (mapped_twice _ _ variant.cases.items)
+declared_by_view trees (kind.Enum enum) = refl
+declared_by_view trees (kind.Option t) = refl
+declared_by_view trees (kind.Result result) = refl
+declared_by_view trees (kind.List t) = refl
+declared_by_view trees (kind.Map k v) = refl
+declared_by_view trees (kind.FixedLengthList t n) = refl
+declared_by_view trees (kind.Future t) = refl
+declared_by_view trees (kind.Stream t) = refl
+declared_by_view trees (kind.Type_ t) = refl
+
+-- ---- under other numbers
+
+-- each of the numbers has the fact
+abbrev pub Each : (ℕ → Type 0) → List ℕ → Type 0
+Each P [] = Unit {0}
+Each P (n ∷ ns) = P n × Each P ns
+
+each_split : (P : ℕ → Type 0) (xs ys : List ℕ) → Each P (xs ++ ys) → Each P xs × Each P ys
+each_split P [] ys h = (tt, h)
+each_split P (x ∷ xs) ys h = ((h.0, (each_split P xs ys h.1).0), (each_split P xs ys h.1).1)
+
+abbrev field_tree : List Tree → Text × ValueType → Text × Tree
+field_tree trees x = (x.0, tree_of trees x.1)
+
+abbrev case_tree : List Tree → Text × Option ValueType → Text × Option Tree
+case_tree trees x = (x.0, option_map (tree_of trees) x.1)
+
+abbrev renamed_field : (ℕ → ℕ) → Text × ValueType → Text × ValueType
+renamed_field f x = (x.0, renamed_type f x.1)
+
+abbrev renamed_case : (ℕ → ℕ) → Text × Option ValueType → Text × Option ValueType
+renamed_case f x = (x.0, option_map (renamed_type f) x.1)
+
+pub filter_map_none : {X Y : Type 0} (h : X → Option Y) (x : X) (xs : List X) → h x ≡ None → filter_map h (x ∷ xs) ≡ filter_map h xs
+filter_map_none h x xs e = ap (λ o. cons_option o (filter_map h xs)) e
+
+pub filter_map_some : {X Y : Type 0} (h : X → Option Y) (x : X) (y : Y) (xs : List X) → h x ≡ Some y → filter_map h (x ∷ xs) ≡ y ∷ filter_map h xs
+filter_map_some h x y xs e = ap (λ o. cons_option o (filter_map h xs)) e
+
+module _ (f : ℕ → ℕ) (us trees : List Tree) where
+  abbrev pub Same : ℕ → Type 0
+  Same n = tree_at us (f n) ≡ tree_at trees n
+
+  type_same : (t : ValueType) → Each Same (type_numbers t) → tree_of us (renamed_type f t) ≡ tree_of trees t
+  type_same ty.Bool h = refl
+  type_same ty.U8 h = refl
+  type_same ty.U16 h = refl
+  type_same ty.U32 h = refl
+  type_same ty.U64 h = refl
+  type_same ty.S8 h = refl
+  type_same ty.S16 h = refl
+  type_same ty.S32 h = refl
+  type_same ty.S64 h = refl
+  type_same ty.F32 h = refl
+  type_same ty.F64 h = refl
+  type_same ty.Char h = refl
+  type_same ty.String h = refl
+  type_same ty.ErrorContext h = refl
+  type_same (ty.Id id) h = h.0
+
+  option_same : (t : Option ValueType) → Each Same (optional_numbers t) → option_map (tree_of us) (option_map (renamed_type f) t) ≡ option_map (tree_of trees) t
+  option_same None h = refl
+  option_same (Some t) h = ap Some (type_same t h)
+
+  types_same : (ts : List ValueType) → Each Same (flat_map type_numbers ts) → map (tree_of us) (map (renamed_type f) ts) ≡ map (tree_of trees) ts
+  types_same [] h = refl
+  types_same (t ∷ ts) h = let parts = each_split Same (type_numbers t) (flat_map type_numbers ts) h in λ i. type_same t parts.0 i ∷ types_same ts parts.1 i
+
+  fields_same : (xs : List (Text × ValueType)) → Each Same (flat_map (λ x. type_numbers x.1) xs) → map (field_tree us) (map (renamed_field f) xs) ≡ map (field_tree trees) xs
+  fields_same [] h = refl
+  fields_same (x ∷ xs) h = let parts = each_split Same (type_numbers x.1) (flat_map (λ y. type_numbers y.1) xs) h in λ i. (x.0, type_same x.1 parts.0 i) ∷ fields_same xs parts.1 i
+
+  cases_same : (xs : List (Text × Option ValueType)) → Each Same (flat_map (λ x. optional_numbers x.1) xs) →
+      map (case_tree us) (map (renamed_case f) xs) ≡ map (case_tree trees) xs
+  cases_same [] h = refl
+  cases_same (x ∷ xs) h = let parts = each_split Same (optional_numbers x.1) (flat_map (λ y. optional_numbers y.1) xs) h in λ i. (x.0, option_same x.1 parts.0 i) ∷ cases_same xs parts.1 i
+
+  pub view_same : (v : KindView) → Each Same (view_numbers v) → declared_view us (renamed f v) ≡ declared_view trees v
+  view_same (record_view fields) h = ap (λ xs. type_ (record_tree xs)) (fields_same fields h)
+  view_same (variant_view cases) h = ap (λ xs. type_ (variant_tree xs)) (cases_same cases h)
+  view_same (flags_view names) h = refl
+  view_same (enum_view names) h = refl
+  view_same (tuple_view ts) h = ap (λ xs. type_ (tuple_tree xs)) (types_same ts h)
+  view_same resource_view h = refl
+  view_same (own_view n) h = ap (λ t. type_ (own_tree t)) h.0
+  view_same (borrow_view n) h = ap (λ t. type_ (borrow_tree t)) h.0
+  view_same (option_view t) h = ap (λ x. type_ (option_tree x)) (type_same t h)
+  view_same (result_view ok err) h = let parts = each_split Same (optional_numbers ok) (optional_numbers err) h in λ i. type_ (result_tree (option_same ok parts.0 i) (option_same err parts.1 i))
+  view_same (list_view t) h = ap (λ x. type_ (list_tree x)) (type_same t h)
+  view_same (map_view k v) h = let parts = each_split Same (type_numbers k) (type_numbers v) h in λ i. type_ (map_tree (type_same k parts.0 i) (type_same v parts.1 i))
+  view_same (fixed_list_view t n) h = ap (λ x. type_ (fixed_list_tree x n)) (type_same t h)
+  view_same (future_view t) h = ap (λ x. type_ (future_tree x)) (option_same t h)
+  view_same (stream_view t) h = ap (λ x. type_ (stream_tree x)) (option_same t h)
+  view_same (alias_view t) h = ap type_ (type_same t h)
+
+-- ---- the numbers of a view
+
+pub numbers_cons : (t : ValueType) (ts : List ValueType) → filter_map number_of (t ∷ ts) ≡ type_numbers t ++ filter_map number_of ts
+numbers_cons ty.Bool ts = refl
+numbers_cons ty.U8 ts = refl
+numbers_cons ty.U16 ts = refl
+numbers_cons ty.U32 ts = refl
+numbers_cons ty.U64 ts = refl
+numbers_cons ty.S8 ts = refl
+numbers_cons ty.S16 ts = refl
+numbers_cons ty.S32 ts = refl
+numbers_cons ty.S64 ts = refl
+numbers_cons ty.F32 ts = refl
+numbers_cons ty.F64 ts = refl
+numbers_cons ty.Char ts = refl
+numbers_cons ty.String ts = refl
+numbers_cons ty.ErrorContext ts = refl
+numbers_cons (ty.Id id) ts = refl
+
+flat_numbers : (ts : List ValueType) → flat_map type_numbers ts ≡ filter_map number_of ts
+flat_numbers [] = refl
+flat_numbers (t ∷ ts) = ap (λ ns. type_numbers t ++ ns) (flat_numbers ts) ∙ sym (numbers_cons t ts)
+
+field_numbers : (fs : List Field) → flat_map (λ x. type_numbers x.1) (map {B = Text × ValueType} (λ f. (text_of f.name, f.ty)) fs) ≡ filter_map number_of (map (λ f. f.ty) fs)
+field_numbers [] = refl
+field_numbers (f ∷ fs) = ap (λ ns. type_numbers f.ty ++ ns) (field_numbers fs) ∙ sym (numbers_cons f.ty (map (λ x. x.ty) fs))
+
+case_numbers : (cs : List Case) → flat_map (λ x. optional_numbers x.1) (map {B = Text × Option ValueType} (λ c. (text_of c.name, c.ty)) cs) ≡ filter_map number_of (filter_map (λ c. c.ty) cs)
+case_numbers [] = refl
+case_numbers (c ∷ cs) = elim (c.ty) as (λ t. c.ty ≡ t → optional_numbers c.ty ++ flat_map (λ x. optional_numbers x.1) (map {B = Text × Option ValueType} (λ x. (text_of x.name, x.ty)) cs) ≡ filter_map number_of (filter_map (λ x. x.ty) (c ∷ cs))) [
+  | None ↦ λ e. ap (λ o. optional_numbers o ++ flat_map (λ x. optional_numbers x.1) (map {B = Text × Option ValueType} (λ x. (text_of x.name, x.ty)) cs)) e ∙ (case_numbers cs ∙ ap (filter_map number_of) (sym (without e)))
+  | Some t ↦ λ e. ap (λ o. optional_numbers o ++ flat_map (λ x. optional_numbers x.1) (map {B = Text × Option ValueType} (λ x. (text_of x.name, x.ty)) cs)) e ∙ (ap (λ ns. type_numbers t ++ ns) (case_numbers cs) ∙ (sym (numbers_cons t (filter_map (λ x. x.ty) cs)) ∙ ap (filter_map number_of) (sym (given t e))))
+] refl
+  where
+    without : c.ty ≡ None → filter_map (λ x. x.ty) (c ∷ cs) ≡ filter_map (λ x. x.ty) cs
+    without e = filter_map_none (λ x. x.ty) c cs e
+
+    given : (t : ValueType) → c.ty ≡ Some t → filter_map (λ x. x.ty) (c ∷ cs) ≡ t ∷ filter_map (λ x. x.ty) cs
+    given t e = filter_map_some (λ x. x.ty) c t cs e
+
+behind : (xs : List ℕ) (ts : List ValueType) → xs ≡ filter_map number_of ts → xs ≡ filter_map number_of ts ++ ([] ++ [])
+behind xs ts e = e ∙ sym (append-nil (filter_map number_of ts))
+
+one_number : (t : ValueType) → type_numbers t ≡ filter_map number_of (t ∷ [])
+one_number t = sym (append-nil (type_numbers t)) ∙ sym (numbers_cons t [])
+
+pub given_numbers : (t : Option ValueType) → optional_numbers t ≡ filter_map number_of (option_to_list t)
+given_numbers None = refl
+given_numbers (Some t) = one_number t
+
+-- the numbers in a kind are those in its view
+pub numbers_of_view : (k : TypeDefKind) → view_numbers (kind_view k) ≡ kind_numbers k
+numbers_of_view (kind.Record record_) = behind _ (map (λ f. f.ty) record_.fields.items) (field_numbers record_.fields.items)
+numbers_of_view kind.Resource = refl
+numbers_of_view (kind.Handle (handle.Own id)) = refl
+numbers_of_view (kind.Handle (handle.Borrow id)) = refl
+numbers_of_view (kind.Flags flags) = refl
+numbers_of_view (kind.Tuple tuple) = behind _ tuple.types.items (flat_numbers tuple.types.items)
+numbers_of_view (kind.Variant variant) = behind _ (filter_map (λ c. c.ty) variant.cases.items) (case_numbers variant.cases.items)
+numbers_of_view (kind.Enum enum) = refl
+numbers_of_view (kind.Option t) = behind _ (t ∷ []) (one_number t)
+numbers_of_view (kind.Result result) = behind _ (option_to_list result.ok ++ option_to_list result.err)
+    ((λ i. given_numbers result.ok i ++ given_numbers result.err i) ∙ sym (filter_map-append number_of (option_to_list result.ok) (option_to_list result.err)))
+numbers_of_view (kind.List t) = behind _ (t ∷ []) (one_number t)
+numbers_of_view (kind.Map k v) = behind _ (k ∷ v ∷ []) (ap (λ ns. type_numbers k ++ ns) (one_number v) ∙ sym (numbers_cons k (v ∷ [])))
+numbers_of_view (kind.FixedLengthList t n) = behind _ (t ∷ []) (one_number t)
+numbers_of_view (kind.Future t) = behind _ (option_to_list t) (given_numbers t)
+numbers_of_view (kind.Stream t) = behind _ (option_to_list t) (given_numbers t)
+numbers_of_view (kind.Type_ t) = alias_numbers t
+  where
+    alias_numbers : (t : ValueType) → type_numbers t ≡ option_to_list (number_of t)
+    alias_numbers ty.Bool = refl
+    alias_numbers ty.U8 = refl
+    alias_numbers ty.U16 = refl
+    alias_numbers ty.U32 = refl
+    alias_numbers ty.U64 = refl
+    alias_numbers ty.S8 = refl
+    alias_numbers ty.S16 = refl
+    alias_numbers ty.S32 = refl
+    alias_numbers ty.S64 = refl
+    alias_numbers ty.F32 = refl
+    alias_numbers ty.F64 = refl
+    alias_numbers ty.Char = refl
+    alias_numbers ty.String = refl
+    alias_numbers ty.ErrorContext = refl
+    alias_numbers (ty.Id id) = refl
+
+-- ---- trees
+
+-- the tree of a definition by the text of its name
+abbrev by_name : Place → Option Text → Tree → Tree
+by_name place None tree = tree
+by_name place (Some name) tree = named place name
+
+tree_by_name : (r : Resolve) (trees : List Tree) (def : TypeDef) → tree_of_definition r trees def ≡ by_name (place_of r def.owner) (optional_text def.name) (tree_of_declaration (declared_by trees def.kind))
+tree_by_name r trees def = elim (def.name) as (λ o. option_map_or (λ name. named (place_of r def.owner) (text_of name)) o (tree_of_declaration (declared_by trees def.kind)) ≡ by_name (place_of r def.owner) (optional_text o) (tree_of_declaration (declared_by trees def.kind))) [
+  | None ↦ refl
+  | Some name ↦ refl
+]
+
+module _ (r s : Resolve) (f : ℕ → ℕ) (carried : ℕ → Bool) (below_r : RefersBelow r) (below_s : RefersBelow s) (are : AreCarried r s f carried) where
+  same_at : (n : ℕ) → Type 0
+  same_at n = carried n ≡ true → number_tree s (f n) ≡ number_tree r n
+
+  -- from smaller numbers, those that are carried
+  each_same : (n : ℕ) → ((m : ℕ) → m < n → carried m ≡ true → number_tree s (f m) ≡ number_tree r m) → (ns : List ℕ) → list_all (λ m. nat_lt m n) ns ≡ true → list_all carried ns ≡ true → Each (Same f (trees_of s) (trees_of r)) ns
+  each_same n same [] small all = tt
+  each_same n same (m ∷ ns) small all =
+      (same m (ltb-true m n (first_true _ _ small)) (first_true _ _ all), each_same n same ns (second_true _ _ small) (second_true _ _ all))
+
+  found : (n : ℕ) (def : TypeDef) → type_at r n ≡ Some def → number_tree r n ≡ by_name (place_of r def.owner) (optional_text def.name) (tree_of_declaration (declared_by (trees_of r) def.kind))
+  found n def is = ap (λ o. unwrap_or o no_tree) (trees_at r n def is (below_r n def is)) ∙ tree_by_name r (trees_of r) def
+
+  found_there : (n : ℕ) (def : TypeDef) → type_at s n ≡ Some def → number_tree s n ≡ by_name (place_of s def.owner) (optional_text def.name) (tree_of_declaration (declared_by (trees_of s) def.kind))
+  found_there n def is = ap (λ o. unwrap_or o no_tree) (trees_at s n def is (below_s n def is)) ∙ tree_by_name s (trees_of s) def
+
+  -- a kind whose numbers stand for the same declares the same
+  kind_same : (def image : TypeDef) → HasImageKind f carried def image → Each (Same f (trees_of s) (trees_of r)) (view_numbers (kind_view def.kind)) → declared_by (trees_of s) image.kind ≡ declared_by (trees_of r) def.kind
+  kind_same def image h each =
+      sym (declared_by_view (trees_of s) image.kind)
+      ∙ (ap (declared_view (trees_of s)) h.kinds
+      ∙ (view_same f (trees_of s) (trees_of r) (kind_view def.kind) each
+      ∙ declared_by_view (trees_of r) def.kind))
+
+  one_same : (n : ℕ) → ((m : ℕ) → m < n → carried m ≡ true → number_tree s (f m) ≡ number_tree r m) → carried n ≡ true → number_tree s (f n) ≡ number_tree r n
+  one_same n same is =
+      let c = are n is in
+      found_there (f n) c.image c.at_image
+      ∙ ((λ i. by_name (c.is_image.place i) (c.is_image.name i) (tree_of_declaration (declared_by (trees_of s) c.image.kind)))
+      ∙ (unnamed_same c (c.def.name) refl
+      ∙ sym (found n c.def c.found)))
+    where
+      unnamed_same : (c : IsCarriedType r s f carried n) (o : Option (String Global)) → c.def.name ≡ o →
+          by_name (place_of r c.def.owner) (optional_text c.def.name) (tree_of_declaration (declared_by (trees_of s) c.image.kind))
+          ≡ by_name (place_of r c.def.owner) (optional_text c.def.name) (tree_of_declaration (declared_by (trees_of r) c.def.kind))
+      unnamed_same c None e =
+          let h = c.is_image.kind e in
+          ap (λ d. by_name (place_of r c.def.owner) (optional_text c.def.name) (tree_of_declaration d))
+          (kind_same c.def c.image h
+          (each_same n same (view_numbers (kind_view c.def.kind)) (ap (list_all (λ m. nat_lt m n)) (numbers_of_view c.def.kind) ∙ below_r n c.def c.found) h.parts))
+      unnamed_same c (Some name) e =
+          ap (λ o. by_name (place_of r c.def.owner) (optional_text o) (tree_of_declaration (declared_by (trees_of s) c.image.kind))) e
+          ∙ sym (ap (λ o. by_name (place_of r c.def.owner) (optional_text o) (tree_of_declaration (declared_by (trees_of r) c.def.kind))) e)
+
+  below_same : (fuel n : ℕ) → n < fuel → carried n ≡ true → number_tree s (f n) ≡ number_tree r n
+  below_same zero n h is = absurd (omega (arith, h))
+  below_same (suc fuel) n h is = one_same n (λ m small c. below_same fuel m (omega (arith, h, small)) c) is
+
+  pub all_same : (n : ℕ) → carried n ≡ true → number_tree s (f n) ≡ number_tree r n
+  all_same n is = below_same (suc n) n (omega arith) is
+
+  pub declarations_same : (def image : TypeDef) → HasImageKind f carried def image → declaration_of s image ≡ declaration_of r def
+  declarations_same def image h = kind_same def image h (each_carried (view_numbers (kind_view def.kind)) h.parts)
+    where
+      each_carried : (ns : List ℕ) → list_all carried ns ≡ true → Each (Same f (trees_of s) (trees_of r)) ns
+      each_carried [] all = tt
+      each_carried (n ∷ ns) all = (all_same n (first_true _ _ all), each_carried ns (second_true _ _ all))
+
+pub same_trees : SameTrees
+same_trees r s f carried below_r below_s are n is = all_same r s f carried below_r below_s are n is
+
+pub same_declarations : SameDeclarations
+same_declarations r s f carried below_r below_s are def image h = declarations_same r s f carried below_r below_s are def image h

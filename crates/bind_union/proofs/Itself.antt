@@ -1,0 +1,240 @@
+-- What was there is carried into what grows, under its own numbers.
+use Rattle.std.proofs.Common.{◌≡◌, ◌⊎◌, inl, inr, refl, sym, ap, ◌∙◌, ℕ, zero, suc, ◌<◌, true, false, ◌&&◌, List, [], ◌∷◌, ◌++◌, map, Option, Some, None, option_map, slice_get}
+use Rattle.std.specs.Prelude.{String}
+use Rattle.std.specs.declared.alloc.Global.{Global}
+use Rattle.std.specs.List.{AllZip, list_all}
+use Rattle.std.proofs.lemmas.List.Folds.{list_all-map}
+use Rattle.indexmap.specs.IndexMap.{values}
+use Rattle.wit_model.specs.declared.model.Resolve.{Resolve}
+use Rattle.wit_model.specs.declared.model.Package.{Package}
+use Rattle.wit_model.specs.declared.model.World.{World}
+use Rattle.wit_model.specs.declared.model.TypeId.{TypeId}
+use Rattle.wit_model.specs.declared.model.TypeOwner.{TypeOwner}
+use Rattle.wit_model.specs.declared.model.TypeOwner.TheVariants as owner
+use Rattle.wit_model.specs.declared.model.Param.{Param}
+use Rattle.wit_model.specs.declared.model.Function.{Function}
+use Rattle.wit_model.specs.declared.model.FunctionKind.{FunctionKind}
+use Rattle.wit_model.specs.declared.model.FunctionKind.TheVariants as call
+use Rattle.wit_model.specs.declared.model.WorldKey.{WorldKey}
+use Rattle.wit_model.specs.declared.model.WorldKey.TheVariants as key
+use Rattle.wit_model.specs.declared.model.WorldItem.{WorldItem}
+use Rattle.wit_model.specs.declared.model.WorldItem.TheVariants as item
+use Rattle.wit_model.specs.declared.model.«Type».{«Type» as ValueType}
+use Rattle.wit_model.specs.declared.model.«Type».TheVariants as ty
+use Rattle.wit_model.specs.Text.{Text, text_of}
+use Rattle.wit_model.specs.Lookup.{package_at, world_at}
+use Rattle.wit_model.specs.Parts.{kind_numbers}
+use Rattle.wit_model.specs.Rules.{passes, in_list, package_number, interface_type_numbers, function_in_range, owner_in_range, key_in_range, item_in_range, entries_in_range}
+use Rattle.wit_model.specs.Valid.{KeepsRules, numbers_in_range, is_place}
+use Rattle.wit_model.proofs.Lists.{first_true, second_true}
+use Rattle.wit_model.proofs.OnePath.{found-in, interface-passes}
+use Rattle.bind_meaning.proofs.WorldPaths.{world-passes}
+use Rattle.bind_union.specs.Views.{KindView, record_view, variant_view, flags_view, enum_view, tuple_view, resource_view, own_view, borrow_view, option_view, result_view, list_view, map_view, fixed_list_view, future_view, stream_view, alias_view, kind_view, renamed_type, renamed}
+use Rattle.bind_union.specs.Images.{HasImageKind}
+use Rattle.bind_union.specs.Carried.{Renumbering, IsSameName, owner_under, carries_owner, copies_owner, call_under, IsFunctionCopy, IsFunctionEntry, IsType, IsInterface, IsCarried, KeyBecomes, ItemBecomes}
+use Rattle.bind_union.specs.Joined.{Joined, none, added}
+use Rattle.bind_union.specs.Merged.{BeginsWith}
+use Rattle.bind_union.proofs.Lists.{no_true}
+use Rattle.bind_union.proofs.Images.{numbers_of_view}
+use Rattle.bind_union.proofs.TypeRules.{type_passes}
+use Rattle.bind_union.proofs.UsedInterfaces.{passes_at}
+
+abbrev pub itself : Resolve → Renumbering
+itself r = record {
+  packages = λ n. n;
+  interfaces = λ n. n;
+  worlds = λ n. n;
+  types = λ n. n;
+  carries_interface = in_list r.interfaces.items;
+  carries_world = in_list r.worlds.items;
+  carries_type = in_list r.types.items;
+  copies_interface = in_list r.interfaces.items;
+  copies_type = in_list r.types.items;
+}
+
+-- ---- the same under the same numbers
+
+abbrev pub same : ℕ → ℕ
+same n = n
+
+pub same_type : (t : ValueType) → renamed_type same t ≡ t
+same_type ty.Bool = refl
+same_type ty.U8 = refl
+same_type ty.U16 = refl
+same_type ty.U32 = refl
+same_type ty.U64 = refl
+same_type ty.S8 = refl
+same_type ty.S16 = refl
+same_type ty.S32 = refl
+same_type ty.S64 = refl
+same_type ty.F32 = refl
+same_type ty.F64 = refl
+same_type ty.Char = refl
+same_type ty.String = refl
+same_type ty.ErrorContext = refl
+same_type (ty.Id id) = refl
+
+same_option : (o : Option ValueType) → option_map (renamed_type same) o ≡ o
+same_option None = refl
+same_option (Some t) = ap Some (same_type t)
+
+pub map_same : {X : Type 0} (g : X → X) → ((x : X) → g x ≡ x) → (xs : List X) → map g xs ≡ xs
+map_same g h [] = refl
+map_same g h (x ∷ xs) = λ i. h x i ∷ map_same g h xs i
+
+same_view : (v : KindView) → renamed same v ≡ v
+same_view (record_view fields) = ap record_view (map_same (λ x. (x.0, renamed_type same x.1)) (λ x. ap {B = Text × ValueType} (λ t. (x.0, t)) (same_type x.1)) fields)
+same_view (variant_view cases) = ap variant_view (map_same (λ x. (x.0, option_map (renamed_type same) x.1)) (λ x. ap {B = Text × Option ValueType} (λ t. (x.0, t)) (same_option x.1)) cases)
+same_view (flags_view names) = refl
+same_view (enum_view names) = refl
+same_view (tuple_view ts) = ap tuple_view (map_same (renamed_type same) same_type ts)
+same_view resource_view = refl
+same_view (own_view n) = refl
+same_view (borrow_view n) = refl
+same_view (option_view t) = ap option_view (same_type t)
+same_view (result_view ok err) = λ i. result_view (same_option ok i) (same_option err i)
+same_view (list_view t) = ap list_view (same_type t)
+same_view (map_view k v) = λ i. map_view (same_type k i) (same_type v i)
+same_view (fixed_list_view t n) = ap (λ x. fixed_list_view x n) (same_type t)
+same_view (future_view t) = ap future_view (same_option t)
+same_view (stream_view t) = ap stream_view (same_option t)
+same_view (alias_view t) = ap alias_view (same_type t)
+
+pub get_begin : {X : Type 0} (xs ys : List X) → BeginsWith xs ys → (n : ℕ) (x : X) → slice_get xs n ≡ Some x → slice_get ys n ≡ Some x
+get_begin xs ys b n x e = ap (λ zs. slice_get zs n) b.1 ∙ go xs n e
+  where
+    go : (zs : List _) (k : ℕ) → slice_get zs k ≡ Some x → slice_get (zs ++ b.0) k ≡ Some x
+    go [] k e = let wrong : ⊥ = cc in absurd wrong
+    go (z ∷ zs) zero e = e
+    go (z ∷ zs) (suc k) e = go zs k e
+
+option_same : (o : Option ℕ) → o ≡ option_map same o
+option_same None = refl
+option_same (Some n) = refl
+
+module _ (r : Resolve) (valid : KeepsRules r) where
+  abbrev f : Renumbering
+  f = itself r
+
+  same_owner : (o : TypeOwner) → o ≡ owner_under f o
+  same_owner (owner.World id) = refl
+  same_owner (owner.Interface id) = refl
+  same_owner owner.None = refl
+
+  same_call : (k : FunctionKind) → k ≡ call_under f k
+  same_call call.Freestanding = refl
+  same_call call.AsyncFreestanding = refl
+  same_call (call.Method id) = refl
+  same_call (call.AsyncMethod id) = refl
+  same_call (call.Static id) = refl
+  same_call (call.AsyncStatic id) = refl
+  same_call (call.Constructor id) = refl
+
+  pub function_itself : (g : Function) → function_in_range r g ≡ true → IsFunctionCopy f g g
+  function_itself g range = record {
+    name = refl;
+    kind = same_call g.kind;
+    params = params g.params.items;
+    result = sym (same_option g.result);
+    parts = range;
+    stability = refl;
+    external_id = refl;
+  }
+    where
+      params : (ps : List Param) → map {B = Text × ValueType} (λ p. (text_of p.name, p.ty)) ps ≡ map (λ p. (text_of p.name, renamed_type same p.ty)) ps
+      params [] = refl
+      params (p ∷ ps) = λ i. (text_of p.name, sym (same_type p.ty) i) ∷ params ps i
+
+  zip_itself : (es : List (String Global × Function)) → list_all (λ (e : String Global × Function). function_in_range r e.1) es ≡ true → AllZip (IsFunctionEntry f) es es
+  zip_itself [] h = tt
+  zip_itself (e ∷ es) h = ((refl, function_itself e.1 (first_true _ _ h)), zip_itself es (second_true (function_in_range r e.1) _ h))
+
+  -- ---- entries
+
+  pub key_itself : (k : WorldKey) → key_in_range r k ≡ true → KeyBecomes f k k
+  key_itself (key.Name name) h = refl
+  key_itself (key.Interface id) h = (refl, h)
+
+  pub item_itself : (i : WorldItem) → item_in_range r i ≡ true → ItemBecomes f i i
+  item_itself (item.Interface id st docs ext) h = (refl, h, refl, refl)
+  item_itself (item.Function g) h = function_itself g h
+  item_itself (item.Type_ id) h = (refl, h)
+
+  pub joined_itself : (es : List (WorldKey × WorldItem)) → entries_in_range r es ≡ true → Joined f [] es es
+  joined_itself [] h = none
+  joined_itself (e ∷ es) h =
+      let here = first_true (key_in_range r e.0 && item_in_range r e.1) (entries_in_range r es) h in
+      added e e es es refl (key_itself e.0 (first_true _ _ here), item_itself e.1 (second_true (key_in_range r e.0) _ here)) (joined_itself es (second_true (key_in_range r e.0 && item_in_range r e.1) (entries_in_range r es) h))
+
+  pub world_range : (n : ℕ) (w : World) → world_at r n ≡ Some w → (entries_in_range r w.imports.entries ≡ true) × (entries_in_range r w.exports.entries ≡ true)
+  unfolding numbers_in_range
+  world_range n w e =
+      let old : (is_place n && (passes (in_list r.packages.items) (package_number w.«package») && (entries_in_range r w.imports.entries && entries_in_range r w.exports.entries))) ≡ true = world-passes numbers_in_range r valid.numbers_in_range n w e in
+      let two = second_true (passes (in_list r.packages.items) (package_number w.«package»)) _ (second_true (is_place n) _ old) in
+      (first_true _ _ two, second_true (entries_in_range r w.imports.entries) _ two)
+
+  module _ (s : Resolve) (types : BeginsWith r.types.items s.types.items) (interfaces : BeginsWith r.interfaces.items s.interfaces.items) (packages : (n : ℕ) (p : Package) → package_at r n ≡ Some p → (q : Package) × (package_at s n ≡ Some q) × IsSameName p.name q.name) where
+    carried_owner : (o : TypeOwner) → owner_in_range r o ≡ true → (carries_owner f o ≡ true) × (copies_owner f o ≡ true)
+    carried_owner (owner.World id) h = (h, h)
+    carried_owner (owner.Interface id) h = (h, h)
+    carried_owner owner.None h = (refl, refl)
+
+    type_itself : (n : ℕ) → in_list r.types.items n ≡ true → IsType r s f n
+    unfolding numbers_in_range
+    type_itself n c =
+        let d = found-in r.types.items n c in
+        let old : (is_place n && (list_all (in_list r.types.items) (kind_numbers d.0.kind) && owner_in_range r d.0.owner)) ≡ true = type_passes numbers_in_range r valid.numbers_in_range n d.0 d.1 in
+        let two = second_true (is_place n) _ old in
+        let home = carried_owner d.0.owner (second_true (list_all (in_list r.types.items) (kind_numbers d.0.kind)) _ two) in
+        let kind : HasImageKind f.types f.carries_type d.0 d.0 = record { kinds = sym (same_view (kind_view d.0.kind)); parts = ap (list_all (in_list r.types.items)) (numbers_of_view d.0.kind) ∙ first_true _ _ two } in
+        record {
+          def = d.0;
+          found = d.1;
+          image = d.0;
+          at_image = get_begin r.types.items s.types.items types n d.0 d.1;
+          name = refl;
+          home = same_owner d.0.owner;
+          carries_home = home.0;
+          kind = inl kind;
+          copied = λ h. record { home = home.1; kind = kind; stability = refl; external_id = refl };
+        }
+
+    interface_itself : (n : ℕ) → in_list r.interfaces.items n ≡ true → IsInterface r s f n
+    unfolding numbers_in_range
+    interface_itself n c =
+        let d = found-in r.interfaces.items n c in
+        let i = d.0 in
+        let old : (is_place n && (passes (in_list r.packages.items) (package_number i.«package») && (list_all (λ id. in_list r.types.items id.0) (values i.types) && list_all (function_in_range r) (values i.functions)))) ≡ true = interface-passes numbers_in_range r valid.numbers_in_range n i d.1 in
+        let two = second_true (passes (in_list r.packages.items) (package_number i.«package»)) _ (second_true (is_place n) _ old) in
+        let numbers = first_true (list_all (λ id. in_list r.types.items id.0) (values i.types)) _ two in
+        record {
+          old = i;
+          found = d.1;
+          image = i;
+          at_image = get_begin r.interfaces.items s.interfaces.items interfaces n i d.1;
+          name = refl;
+          in_package = λ h. option_same (package_number i.«package»);
+          types = λ m h. (m, h, passes_at (in_list r.types.items) (interface_type_numbers i) m (list_all-map (in_list r.types.items) (λ (id : TypeId). id.0) (values i.types) ∙ numbers) h, refl);
+          copied = λ h. record {
+            types = refl;
+            copies = numbers;
+            functions = zip_itself i.functions.entries (sym (list_all-map (function_in_range r) (λ (e : String Global × Function). e.1) i.functions.entries) ∙ second_true (list_all (λ id. in_list r.types.items id.0) (values i.types)) _ two);
+            stability = refl;
+          };
+        }
+
+    rise : {X : Type 0} (xs : List X) (m n : ℕ) → in_list xs m ≡ true → in_list xs n ≡ true → (m < n) ⊎ (in_list xs m ≡ false) → m < n
+    rise xs m n c d (inl h) = h
+    rise xs m n c d (inr h) = no_true (sym h ∙ c)
+
+    pub carried_itself : IsCarried r s f
+    carried_itself = record {
+      packages = λ n p e. let q = packages n p e in record { image = q.0; at_image = q.1; name = q.2 };
+      interfaces = interface_itself;
+      types = type_itself;
+      copied_interfaces = λ n h. h;
+      copied_types = λ n h. h;
+      interfaces_rise = rise r.interfaces.items;
+      types_rise = rise r.types.items;
+      worlds_apart = λ m n c d e. e;
+    }

@@ -1,0 +1,219 @@
+-- What stands in the packages of what was merged has its name and its package there.
+use Rattle.std.proofs.Common.{◌≡◌, ◌⊎◌, inl, inr, refl, sym, ap, ◌∙◌, ℕ, Bool, true, false, ◌&&◌, ◌||◌, ◌==◌, not, List, [], ◌∷◌, Option, Some, None, is_some}
+use Rattle.std.specs.Prelude.{String}
+use Rattle.std.specs.declared.alloc.Global.{Global}
+use Rattle.std.specs.List.{list_all}
+use Rattle.std.specs.Option.{option_map_or}
+use Rattle.std.proofs.lemmas.Bool.{lt-ltb, or_right}
+use Rattle.std.proofs.lemmas.Option.{slice_get_within}
+use Rattle.std.proofs.lemmas.List.Folds.{list_all-append, list_all-map}
+use Rattle.indexmap.specs.IndexMap.{values}
+use Rattle.wit_model.specs.declared.model.Resolve.{Resolve}
+use Rattle.wit_model.specs.declared.model.Package.{Package}
+use Rattle.wit_model.specs.declared.model.InterfaceId.{InterfaceId}
+use Rattle.wit_model.specs.declared.model.WorldId.{WorldId}
+use Rattle.wit_model.specs.declared.model.World.{World}
+use Rattle.wit_model.specs.Text.{Text, text_of, text_eq}
+use Rattle.wit_model.specs.Lookup.{package_at, interface_at, world_at}
+use Rattle.wit_model.specs.Rules.{passes, in_list, is_id, text_is, package_number, interface_belongs, world_belongs, names_itself, is_world_name}
+use Rattle.wit_model.specs.Valid.{Keeps, KeepsRules, is_place, numbers_in_range, places, names_in_packages}
+use Rattle.wit_model.proofs.Lists.{first_true, second_true}
+use Rattle.wit_model.proofs.Entries.{free_passes}
+use Rattle.wit_model.proofs.Elements.{same-some, equal, both}
+use Rattle.wit_model.proofs.OnePath.{found-in, package-passes}
+use Rattle.bind_union.specs.Carried.{Renumbering}
+use Rattle.bind_union.specs.Merged.{interface_names, world_names, IsJoinedPackage, PackageStands, grown, brought, IsKeptPackage, IsPackageOf, IsMerged}
+use Rattle.bind_union.proofs.Lists.{no_true, all_two, each_by_number}
+use Rattle.bind_union.proofs.EntryRules.{text_alike}
+use Rattle.bind_union.proofs.FunctionRules.{id_under}
+use Rattle.bind_union.proofs.Itself.{get_begin}
+use Rattle.bind_union.proofs.Kept.{kept}
+use Rattle.bind_union.proofs.PackageNames.{names_pass}
+
+-- the interface is there, and has this name and this package
+abbrev pub is_interface_of : Resolve → ℕ → Text × ℕ → Bool
+is_interface_of r n e = option_map_or (λ i. text_is i.name e.0 && is_id n (package_number i.«package»)) (interface_at r e.1) false
+
+abbrev pub is_world_of : Resolve → ℕ → Text × ℕ → Bool
+is_world_of r n e = option_map_or (λ w. text_eq (text_of w.name) e.0 && is_id n (package_number w.«package»)) (world_at r e.1) false
+
+-- ---- in a valid one
+
+module _ (r : Resolve) (valid : KeepsRules r) (n : ℕ) (p : Package) (found : package_at r n ≡ Some p) where
+  ranges : (list_all (λ id. in_list r.interfaces.items id.0) (values p.interfaces) && list_all (λ id. in_list r.worlds.items id.0) (values p.worlds)) ≡ true
+  unfolding numbers_in_range
+  ranges =
+      let old : (is_place n && (list_all (λ id. in_list r.interfaces.items id.0) (values p.interfaces) && list_all (λ id. in_list r.worlds.items id.0) (values p.worlds))) ≡ true = package-passes numbers_in_range r valid.numbers_in_range n p found in
+      second_true (is_place n) _ old
+
+  abbrev third_place : Bool
+  third_place = list_all (λ e. not (is_world_name p (text_of e.0)) || names_itself r e) p.interfaces.entries
+
+  belong : (list_all (interface_belongs r n) p.interfaces.entries && (list_all (world_belongs r n) p.worlds.entries && third_place)) ≡ true
+  unfolding places
+  belong = package-passes places r valid.places n p found
+
+  named : (list_all (λ e. passes (λ i. text_is i.name (text_of e.0)) (interface_at r e.1.0)) p.interfaces.entries && list_all (λ e. passes (λ w. text_eq (text_of w.name) (text_of e.0)) (world_at r e.1.0)) p.worlds.entries) ≡ true
+  unfolding names_in_packages
+  named = package-passes names_in_packages r valid.names_in_packages n p found
+
+  all_three : {A : Type 0} (p q s t : A → Bool) → ((x : A) → p x ≡ true → q x ≡ true → s x ≡ true → t x ≡ true) → (xs : List A) → list_all p xs ≡ true → list_all q xs ≡ true → list_all s xs ≡ true → list_all t xs ≡ true
+  all_three p q s t one [] a b c = refl
+  all_three p q s t one (x ∷ xs) a b c = both _ _ (one x (first_true _ _ a) (first_true _ _ b) (first_true _ _ c)) (all_three p q s t one xs (second_true (p x) _ a) (second_true (q x) _ b) (second_true (s x) _ c))
+
+  interface_of : (name : Option (String Global)) (t : Text) (b : Bool) → text_is name t ≡ true → passes (λ s. b && text_eq (text_of s) t) name ≡ true → (text_is name t && b) ≡ true
+  interface_of None t b h k = no_true h
+  interface_of (Some s) t b h k = both _ _ h (first_true _ _ k)
+
+  pub interfaces_stand : list_all (is_interface_of r n) (interface_names p) ≡ true
+  interfaces_stand =
+      list_all-map (is_interface_of r n) (λ e. (text_of e.0, e.1.0)) p.interfaces.entries
+      ∙ all_three (λ e. in_list r.interfaces.items e.1.0) (interface_belongs r n) (λ e. passes (λ i. text_is i.name (text_of e.0)) (interface_at r e.1.0)) (λ e. is_interface_of r n (text_of e.0, e.1.0))
+      (λ e a b c.
+      let i = found-in r.interfaces.items e.1.0 a in
+      ap (λ o. option_map_or (λ i. text_is i.name (text_of e.0) && is_id n (package_number i.«package»)) o false) i.1
+      ∙ interface_of i.0.name (text_of e.0) (is_id n (package_number i.0.«package»)) (sym (ap (passes (λ i. text_is i.name (text_of e.0))) i.1) ∙ c)
+      (sym (ap (passes (λ i. passes (λ name. is_id n (package_number i.«package») && text_eq (text_of name) (text_of e.0)) i.name)) i.1) ∙ b))
+      p.interfaces.entries (sym (list_all-map (λ (id : InterfaceId). in_list r.interfaces.items id.0) (λ e. e.1) p.interfaces.entries) ∙ first_true _ _ ranges) (first_true _ _ belong) (first_true _ _ named)
+
+  pub worlds_stand : list_all (is_world_of r n) (world_names p) ≡ true
+  worlds_stand =
+      list_all-map (is_world_of r n) (λ e. (text_of e.0, e.1.0)) p.worlds.entries
+      ∙ all_two (λ e. in_list r.worlds.items e.1.0) (world_belongs r n) (λ e. is_world_of r n (text_of e.0, e.1.0))
+      (λ e a b.
+      let w = found-in r.worlds.items e.1.0 a in
+      let old : (is_id n (package_number w.0.«package») && text_eq (text_of w.0.name) (text_of e.0)) ≡ true = sym (ap (passes (λ w. is_id n (package_number w.«package») && text_eq (text_of w.name) (text_of e.0))) w.1) ∙ b in
+      ap (λ o. option_map_or (λ w. text_eq (text_of w.name) (text_of e.0) && is_id n (package_number w.«package»)) o false) w.1
+      ∙ both _ _ (second_true (is_id n (package_number w.0.«package»)) _ old) (first_true _ _ old))
+      p.worlds.entries (sym (list_all-map (λ (id : WorldId). in_list r.worlds.items id.0) (λ e. e.1) p.worlds.entries) ∙ second_true (list_all (λ id. in_list r.interfaces.items id.0) (values p.interfaces)) _ ranges)
+      (first_true _ _ (second_true (list_all (interface_belongs r n) p.interfaces.entries) _ belong))
+
+named_too : (o : Option (String Global)) (t : Text) → text_is o t ≡ true → is_some o ≡ true
+named_too None t h = no_true h
+named_too (Some s) t h = refl
+
+-- ---- back to the rules
+
+pub found_option : {A : Type 0} (test : A → Bool) (o : Option A) → option_map_or test o false ≡ true → (x : A) × (o ≡ Some x) × (test x ≡ true)
+found_option test None h = no_true h
+found_option test (Some x) h = (x, refl, h)
+
+module _ (r : Resolve) (n : ℕ) (p : Package) (stand : list_all (is_interface_of r n) (interface_names p) ≡ true) (worlds : list_all (is_world_of r n) (world_names p) ≡ true) where
+  each_interface : (q : String Global × InterfaceId → Bool) → ((e : String Global × InterfaceId) → is_interface_of r n (text_of e.0, e.1.0) ≡ true → q e ≡ true) → list_all q p.interfaces.entries ≡ true
+  each_interface q one = all_two (λ e. is_interface_of r n (text_of e.0, e.1.0)) (λ e. is_interface_of r n (text_of e.0, e.1.0)) q (λ e a b. one e a) p.interfaces.entries own own
+    where
+      own : list_all (λ e. is_interface_of r n (text_of e.0, e.1.0)) p.interfaces.entries ≡ true
+      own = sym (list_all-map (is_interface_of r n) (λ e. (text_of e.0, e.1.0)) p.interfaces.entries) ∙ stand
+
+  each_world : (q : String Global × WorldId → Bool) → ((e : String Global × WorldId) → is_world_of r n (text_of e.0, e.1.0) ≡ true → q e ≡ true) → list_all q p.worlds.entries ≡ true
+  each_world q one = all_two (λ e. is_world_of r n (text_of e.0, e.1.0)) (λ e. is_world_of r n (text_of e.0, e.1.0)) q (λ e a b. one e a) p.worlds.entries own own
+    where
+      own : list_all (λ e. is_world_of r n (text_of e.0, e.1.0)) p.worlds.entries ≡ true
+      own = sym (list_all-map (is_world_of r n) (λ e. (text_of e.0, e.1.0)) p.worlds.entries) ∙ worlds
+
+  pub ranges_hold : (list_all (λ id. in_list r.interfaces.items id.0) (values p.interfaces) && list_all (λ id. in_list r.worlds.items id.0) (values p.worlds)) ≡ true
+  ranges_hold =
+      both _ _
+      (list_all-map (λ (id : InterfaceId). in_list r.interfaces.items id.0) (λ e. e.1) p.interfaces.entries ∙ each_interface (λ e. in_list r.interfaces.items e.1.0) (λ e h. let i = found_option _ (interface_at r e.1.0) h in lt-ltb _ _ (slice_get_within r.interfaces.items e.1.0 i.0 i.1)))
+      (list_all-map (λ (id : WorldId). in_list r.worlds.items id.0) (λ e. e.1) p.worlds.entries ∙ each_world (λ e. in_list r.worlds.items e.1.0) (λ e h. let w = found_option _ (world_at r e.1.0) h in lt-ltb _ _ (slice_get_within r.worlds.items e.1.0 w.0 w.1)))
+
+  pub names_hold : names_in_packages.package_ r n p ≡ true
+  unfolding names_in_packages
+  names_hold =
+      both _ _
+      (each_interface (λ e. passes (λ i. text_is i.name (text_of e.0)) (interface_at r e.1.0)) (λ e h. let i = found_option _ (interface_at r e.1.0) h in ap (passes (λ i. text_is i.name (text_of e.0))) i.1 ∙ first_true _ _ i.2))
+      (each_world (λ e. passes (λ w. text_eq (text_of w.name) (text_of e.0)) (world_at r e.1.0)) (λ e h. let w = found_option _ (world_at r e.1.0) h in ap (passes (λ w. text_eq (text_of w.name) (text_of e.0))) w.1 ∙ first_true _ _ w.2))
+
+  belongs : (name : Option (String Global)) (t : Text) (b : Bool) → text_is name t ≡ true → b ≡ true → passes (λ s. b && text_eq (text_of s) t) name ≡ true
+  belongs None t b h k = refl
+  belongs (Some s) t b h k = both _ _ k h
+
+  pub places_hold : places.package_ r n p ≡ true
+  unfolding places
+  places_hold =
+      both _ _
+      (each_interface (interface_belongs r n) (λ e h. let i = found_option _ (interface_at r e.1.0) h in ap (passes (λ i. passes (λ name. is_id n (package_number i.«package») && text_eq (text_of name) (text_of e.0)) i.name)) i.1 ∙ belongs i.0.name (text_of e.0) (is_id n (package_number i.0.«package»)) (first_true _ _ i.2) (second_true (text_is i.0.name (text_of e.0)) _ i.2)))
+      (both _ _
+      (each_world (world_belongs r n) (λ e h. let w = found_option _ (world_at r e.1.0) h in ap (passes (λ w. is_id n (package_number w.«package») && text_eq (text_of w.name) (text_of e.0))) w.1 ∙ both _ _ (second_true (text_eq (text_of w.0.name) (text_of e.0)) _ w.2) (first_true _ _ w.2)))
+      (each_interface (λ e. not (is_world_name p (text_of e.0)) || names_itself r e) (λ e h. let i = found_option _ (interface_at r e.1.0) h in or_right (not (is_world_name p (text_of e.0))) (names_itself r e) (ap (λ o. option_map_or (λ i. text_is i.name (text_of e.0)) o false) i.1 ∙ first_true _ _ i.2))))
+
+-- ---- in what was merged
+
+module _ (own other merged : Resolve) (bound other_bound : ℕ) (first second : Renumbering) (left_out : ℕ → Bool) (valid_own : KeepsRules own) (valid_other : KeepsRules other) (is : IsMerged own other merged bound other_bound first second left_out) where
+  own_interface : (n : ℕ) (e : Text × ℕ) → is_interface_of own n e ≡ true → is_interface_of merged n e ≡ true
+  own_interface n e h =
+      let i = found_option _ (interface_at own e.1) h in
+      ap (λ o. option_map_or (λ i. text_is i.name e.0 && is_id n (package_number i.«package»)) o false) (get_begin own.interfaces.items merged.interfaces.items is.interfaces e.1 i.0 i.1) ∙ i.2
+
+  own_world : (n : ℕ) (e : Text × ℕ) → is_world_of own n e ≡ true → is_world_of merged n e ≡ true
+  own_world n e h = go (found_option _ (world_at own e.1) h) (e.1 == bound) refl
+    where
+      go : (w : World) × (world_at own e.1 ≡ Some w) × ((text_eq (text_of w.name) e.0 && is_id n (package_number w.«package»)) ≡ true) → (b : Bool) → (e.1 == bound) ≡ b → is_world_of merged n e ≡ true
+      go w false apart = ap (λ o. option_map_or (λ w. text_eq (text_of w.name) e.0 && is_id n (package_number w.«package»)) o false) (is.worlds e.1 w.0 w.1 apart) ∙ w.2
+      go w true same =
+          let here : second.worlds other_bound ≡ e.1 = is.bound_there ∙ sym (equal e.1 bound same) in
+          let old : is.own_bound ≡ w.0 = same-some is.own_bound w.0 (sym is.bound_at ∙ (ap (world_at own) (sym (equal e.1 bound same)) ∙ w.1)) in
+          ap (λ o. option_map_or (λ w. text_eq (text_of w.name) e.0 && is_id n (package_number w.«package»)) o false) (sym (ap (world_at merged) here) ∙ is.joined.at_image)
+          ∙ ((λ i. text_eq (text_of (is.bound_name i)) e.0 && is_id n (package_number (is.bound_package i)))
+          ∙ ((λ i. text_eq (text_of (old i).name) e.0 && is_id n (package_number (old i).«package»)) ∙ w.2))
+
+  copied_interface : (n : ℕ) (name : Text) (m : ℕ) → first.copies_interface m ≡ true → is_interface_of other n (name, m) ≡ true → is_interface_of merged (first.packages n) (name, first.interfaces m) ≡ true
+  copied_interface n name m c h =
+      let i = is.first_copies.carried.interfaces m (is.first_copies.carried.copied_interfaces m c) in
+      let old : (text_is i.old.name name && is_id n (package_number i.old.«package»)) ≡ true = sym (ap (λ o. option_map_or (λ i. text_is i.name name && is_id n (package_number i.«package»)) o false) i.found) ∙ h in
+      ap (λ o. option_map_or (λ i. text_is i.name name && is_id (first.packages n) (package_number i.«package»)) o false) i.at_image
+      ∙ both _ _ (text_alike i.image.name i.old.name name i.name ∙ first_true _ _ old)
+      (ap (is_id (first.packages n)) (i.in_package (named_too i.old.name name (first_true _ _ old))) ∙ id_under first.packages n (package_number i.old.«package») (second_true (text_is i.old.name name) _ old))
+
+  copied_world : (n : ℕ) (name : Text) (m : ℕ) → first.carries_world m ≡ true → is_world_of other n (name, m) ≡ true → is_world_of merged (first.packages n) (name, first.worlds m) ≡ true
+  copied_world n name m c h =
+      let w = is.first_worlds m c in
+      let j = w.joined in
+      let old : (text_eq (text_of j.old.name) name && is_id n (package_number j.old.«package»)) ≡ true = sym (ap (λ o. option_map_or (λ w. text_eq (text_of w.name) name && is_id n (package_number w.«package»)) o false) j.found) ∙ h in
+      ap (λ o. option_map_or (λ w. text_eq (text_of w.name) name && is_id (first.packages n) (package_number w.«package»)) o false) j.at_image
+      ∙ both _ _ (ap (λ t. text_eq t name) w.name ∙ first_true _ _ old)
+      (ap (is_id (first.packages n)) w.in_package ∙ id_under first.packages n (package_number j.old.«package») (second_true (text_eq (text_of j.old.name) name) _ old))
+
+  own_stand : (n : ℕ) (p : Package) → package_at own n ≡ Some p → (list_all (is_interface_of merged n) (interface_names p) ≡ true) × (list_all (is_world_of merged n) (world_names p) ≡ true)
+  own_stand n p e = (
+    all_two (is_interface_of own n) (is_interface_of own n) (is_interface_of merged n) (λ x a b. own_interface n x a) (interface_names p) (interfaces_stand own valid_own n p e) (interfaces_stand own valid_own n p e),
+    all_two (is_world_of own n) (is_world_of own n) (is_world_of merged n) (λ x a b. own_world n x a) (world_names p) (worlds_stand own valid_own n p e) (worlds_stand own valid_own n p e),
+  )
+
+  joined_stand : (n : ℕ) (p : Package) → package_at other n ≡ Some p → (own_interfaces own_worlds : List (Text × ℕ)) → (j : IsJoinedPackage merged first left_out n p own_interfaces own_worlds)
+      → list_all (is_interface_of merged (first.packages n)) own_interfaces ≡ true → list_all (is_world_of merged (first.packages n)) own_worlds ≡ true
+      → (list_all (is_interface_of merged (first.packages n)) (interface_names j.image) ≡ true) × (list_all (is_world_of merged (first.packages n)) (world_names j.image) ≡ true)
+  joined_stand n p e own_interfaces own_worlds j oi ow = (
+    ap (list_all (is_interface_of merged (first.packages n))) j.interfaces
+        ∙ (list_all-append (is_interface_of merged (first.packages n)) own_interfaces j.new_interfaces
+        ∙ both _ _ oi (names_pass first.interfaces first.copies_interface (λ m. false) own_interfaces (is_interface_of other n) (is_interface_of merged (first.packages n)) (copied_interface n) (interface_names p) j.new_interfaces j.joined_interfaces (interfaces_stand other valid_other n p e))),
+    ap (list_all (is_world_of merged (first.packages n))) j.worlds
+        ∙ (list_all-append (is_world_of merged (first.packages n)) own_worlds j.new_worlds
+        ∙ both _ _ ow (names_pass first.worlds first.carries_world left_out own_worlds (is_world_of other n) (is_world_of merged (first.packages n)) (copied_world n) (world_names p) j.new_worlds j.joined_worlds (worlds_stand other valid_other n p e))),
+  )
+
+  stand_of : (n : ℕ) (p : Package) → package_at other n ≡ Some p → PackageStands own merged first left_out n p → (q : Package) × (package_at merged (first.packages n) ≡ Some q) × (list_all (is_interface_of merged (first.packages n)) (interface_names q) ≡ true) × (list_all (is_world_of merged (first.packages n)) (world_names q) ≡ true)
+  stand_of n p e (grown o at j a b) = let h = own_stand (first.packages n) o at in let k = joined_stand n p e (interface_names o) (world_names o) j h.0 h.1 in (j.image, j.at_image, k.0, k.1)
+  stand_of n p e (brought high j fresh) = let k = joined_stand n p e [] [] j refl refl in (j.image, j.at_image, k.0, k.1)
+
+  pub all_stand : (n : ℕ) (q : Package) → package_at merged n ≡ Some q → (list_all (is_interface_of merged n) (interface_names q) ≡ true) × (list_all (is_world_of merged n) (world_names q) ≡ true)
+  all_stand n q e = go (is.package_from n (slice_get_within merged.packages.items n q e))
+    where
+      go : IsKeptPackage own merged n ⊎ IsPackageOf other first n → (list_all (is_interface_of merged n) (interface_names q) ≡ true) × (list_all (is_world_of merged n) (world_names q) ≡ true)
+      go (inl k) =
+          let h = own_stand n k.old k.found in
+          let here : k.image ≡ q = same-some k.image q (sym k.at_image ∙ e) in (
+            ap (λ x. list_all (is_interface_of merged n) (interface_names x)) (sym here) ∙ (ap (list_all (is_interface_of merged n)) k.interfaces ∙ h.0),
+            ap (λ x. list_all (is_world_of merged n) (world_names x)) (sym here) ∙ (ap (list_all (is_world_of merged n)) k.worlds ∙ h.1),
+          )
+      go (inr k) =
+          let h = stand_of k.number k.old k.found (is.packages_stand k.number k.old k.found) in
+          let here : h.0 ≡ q = same-some h.0 q (sym h.1 ∙ (ap (package_at merged) k.here ∙ e)) in
+          ((λ i. list_all (is_interface_of merged (sym k.here i)) (interface_names (sym here i))) ∙ h.2, (λ i. list_all (is_world_of merged (sym k.here i)) (world_names (sym here i))) ∙ h.3)
+
+  -- names in packages
+  pub names_in_packages_kept : Keeps names_in_packages merged
+  unfolding names_in_packages
+  names_in_packages_kept =
+      kept names_in_packages merged (each_by_number (names_in_packages.package_ merged) merged.packages.items (λ n q e. let h = all_stand n q e in names_hold merged n q h.0 h.1))
+      (free_passes merged 0 merged.interfaces.items) (free_passes merged 0 merged.worlds.items) (free_passes merged 0 merged.types.items)

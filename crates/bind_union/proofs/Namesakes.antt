@@ -1,0 +1,502 @@
+-- Types of interfaces of one path and one sense stand for each other.
+use Rattle.std.proofs.Common.{◌≡◌, ◌⊎◌, inl, inr, refl, sym, ap, subst, ◌∙◌, ℕ, zero, suc, ◌+◌, arith, Bool, true, false, ◌&&◌, ◌||◌, ◌==◌, not, cond, List, [], ◌∷◌, map, nat_lt, Option, Some, None, option_map, is_some, unwrap_or}
+use Rattle.std.specs.Prelude.{String, bytes_eq, count_by}
+use Rattle.std.specs.declared.alloc.Global.{Global}
+use Rattle.std.specs.List.{list_all, list_any, flat_map, Contains}
+use Rattle.std.specs.Option.{option_map_or}
+use Rattle.std.specs.Map.{lookup}
+use Rattle.std.specs.HashMap.{get_by_text}
+use Rattle.std.specs.FinMap.{find, from_entries, get-from_entries}
+use Rattle.std.proofs.lemmas.Cmp.{nat_list_cmp_total}
+use Rattle.std.proofs.lemmas.List.Sums.{sum_by-cons}
+use Rattle.std.proofs.lemmas.List.Folds.{list_all-map}
+use Rattle.indexmap.specs.IndexMap.{values}
+use Rattle.wit_model.specs.declared.model.Resolve.{Resolve}
+use Rattle.wit_model.specs.declared.model.Interface.{Interface}
+use Rattle.wit_model.specs.declared.model.TypeId.{TypeId}
+use Rattle.wit_model.specs.declared.model.TypeDef.{TypeDef}
+use Rattle.wit_model.specs.declared.model.TypeDefKind.{TypeDefKind}
+use Rattle.wit_model.specs.declared.model.TypeDefKind.TheVariants as kind
+use Rattle.wit_model.specs.declared.model.TypeOwner.{TypeOwner}
+use Rattle.wit_model.specs.declared.model.TypeOwner.TheVariants as owner
+use Rattle.wit_model.specs.declared.model.Handle.TheVariants as handle
+use Rattle.wit_model.specs.declared.model.«Type».TheVariants as ty
+use Rattle.wit_model.specs.Text.{Text, text_of, text_eq, text_cmp, optional_text, TextMap}
+use Rattle.wit_model.specs.Lookup.{interface_at, type_at, interface_path, place_of, place_of_path}
+use Rattle.wit_model.specs.Tree.{Tree, Place, Declaration, type_, resource, named, primitive, node, of_interface, here}
+use Rattle.wit_model.specs.Types.{no_tree, tree_at, declared_by, trees_of, declaration_of, tree_of_declaration}
+use Rattle.wit_model.specs.Parts.{kind_numbers, same_owner, has_owner, met_by, met_of, used_by_type}
+use Rattle.wit_model.specs.Uses.{has, alias_target, owner_interface}
+use Rattle.wit_model.specs.Meaning.{TypeMeaning, InterfaceSense}
+use Rattle.wit_model.specs.Meant.{interface_meaning, type_meaning, type_meaning_at, no_type}
+use Rattle.wit_model.specs.Rules.{passes, in_list, is_id, package_number, function_in_range, interface_type_numbers, is_listed, is_listed_in_interface, is_named_of, is_named_number, are_in_order, is_use, is_resource_itself, is_named_kind, owner_in_range}
+use Rattle.wit_model.specs.Valid.{IsValid, is_place, as_interface, numbers_in_range, order_of_types, owners, named_kinds}
+use Rattle.wit_model.proofs.Lists.{first_true, second_true}
+use Rattle.wit_model.proofs.AnyOrder.{same-text, text-same}
+use Rattle.wit_model.proofs.Elements.{equal, same-number, same-some, none-in, contains-later, contains-has, has-contains, contains-map}
+use Rattle.wit_model.proofs.Functions.{all_flat}
+use Rattle.wit_model.proofs.OnePath.{path-once, named-path, found-in, interface-passes}
+use Rattle.wit_model.proofs.Owners.{met_step, owned_stays}
+use Rattle.wit_model.proofs.TreeTable.{kept_trees_at}
+use Rattle.std.proofs.lemmas.Simd.{map-map}
+use Rattle.bind_meaning.proofs.Listed.{from-map}
+use Rattle.bind_union.specs.Matching.{type_names, IsMatch, AreMatched, AreNamesakes, MatchesAreNamesakes, MatchesAreOnto}
+use Rattle.bind_union.proofs.Lists.{no_true, lookup_of_map}
+use Rattle.bind_union.proofs.Carrying.{references_of}
+use Rattle.bind_union.proofs.Homes.{owner_equal, alias_of_all}
+use Rattle.bind_union.proofs.TypeRules.{type_passes}
+use Rattle.bind_union.proofs.Listed.{under_text, found_by_text}
+use Rattle.bind_union.proofs.UsedInterfaces.{passes_at}
+
+-- ---- kinds
+
+-- an alias declares its target's tree
+pub alias_declares : (trees : List Tree) (k : TypeDefKind) (t : ℕ) → alias_target k ≡ Some t → declared_by trees k ≡ type_ (tree_at trees t)
+alias_declares trees (kind.Type_ (ty.Id id)) t h = ap (λ n. type_ (tree_at trees n)) (same-some id.0 t h)
+alias_declares trees (kind.Type_ ty.Bool) t h = let wrong : ⊥ = cc in absurd wrong
+alias_declares trees (kind.Type_ ty.U8) t h = let wrong : ⊥ = cc in absurd wrong
+alias_declares trees (kind.Type_ ty.U16) t h = let wrong : ⊥ = cc in absurd wrong
+alias_declares trees (kind.Type_ ty.U32) t h = let wrong : ⊥ = cc in absurd wrong
+alias_declares trees (kind.Type_ ty.U64) t h = let wrong : ⊥ = cc in absurd wrong
+alias_declares trees (kind.Type_ ty.S8) t h = let wrong : ⊥ = cc in absurd wrong
+alias_declares trees (kind.Type_ ty.S16) t h = let wrong : ⊥ = cc in absurd wrong
+alias_declares trees (kind.Type_ ty.S32) t h = let wrong : ⊥ = cc in absurd wrong
+alias_declares trees (kind.Type_ ty.S64) t h = let wrong : ⊥ = cc in absurd wrong
+alias_declares trees (kind.Type_ ty.F32) t h = let wrong : ⊥ = cc in absurd wrong
+alias_declares trees (kind.Type_ ty.F64) t h = let wrong : ⊥ = cc in absurd wrong
+alias_declares trees (kind.Type_ ty.Char) t h = let wrong : ⊥ = cc in absurd wrong
+alias_declares trees (kind.Type_ ty.String) t h = let wrong : ⊥ = cc in absurd wrong
+alias_declares trees (kind.Type_ ty.ErrorContext) t h = let wrong : ⊥ = cc in absurd wrong
+alias_declares trees (kind.Record x) n h = let wrong : ⊥ = cc in absurd wrong
+alias_declares trees kind.Resource n h = let wrong : ⊥ = cc in absurd wrong
+alias_declares trees (kind.Handle (handle.Own id)) n h = let wrong : ⊥ = cc in absurd wrong
+alias_declares trees (kind.Handle (handle.Borrow id)) n h = let wrong : ⊥ = cc in absurd wrong
+alias_declares trees (kind.Flags x) n h = let wrong : ⊥ = cc in absurd wrong
+alias_declares trees (kind.Tuple x) n h = let wrong : ⊥ = cc in absurd wrong
+alias_declares trees (kind.Variant x) n h = let wrong : ⊥ = cc in absurd wrong
+alias_declares trees (kind.Enum x) n h = let wrong : ⊥ = cc in absurd wrong
+alias_declares trees (kind.Option t) n h = let wrong : ⊥ = cc in absurd wrong
+alias_declares trees (kind.Result x) n h = let wrong : ⊥ = cc in absurd wrong
+alias_declares trees (kind.List t) n h = let wrong : ⊥ = cc in absurd wrong
+alias_declares trees (kind.Map k v) n h = let wrong : ⊥ = cc in absurd wrong
+alias_declares trees (kind.FixedLengthList t m) n h = let wrong : ⊥ = cc in absurd wrong
+alias_declares trees (kind.Future t) n h = let wrong : ⊥ = cc in absurd wrong
+alias_declares trees (kind.Stream t) n h = let wrong : ⊥ = cc in absurd wrong
+
+abbrev declares_name : Declaration → Bool
+declares_name (type_ (named p n)) = true
+declares_name (type_ (primitive p)) = false
+declares_name (type_ (node form ts)) = false
+declares_name resource = false
+
+-- what declares a name is an alias
+pub name_is_alias : (trees : List Tree) (k : TypeDefKind) (p : Place) (n : Text) → declared_by trees k ≡ type_ (named p n) → (t : ℕ) × (alias_target k ≡ Some t) × (tree_at trees t ≡ named p n)
+name_is_alias trees (kind.Type_ (ty.Id id)) p n h = (id.0, refl, ap tree_of_declaration h)
+name_is_alias trees (kind.Type_ ty.Bool) p n h = no_true (ap declares_name h)
+name_is_alias trees (kind.Type_ ty.U8) p n h = no_true (ap declares_name h)
+name_is_alias trees (kind.Type_ ty.U16) p n h = no_true (ap declares_name h)
+name_is_alias trees (kind.Type_ ty.U32) p n h = no_true (ap declares_name h)
+name_is_alias trees (kind.Type_ ty.U64) p n h = no_true (ap declares_name h)
+name_is_alias trees (kind.Type_ ty.S8) p n h = no_true (ap declares_name h)
+name_is_alias trees (kind.Type_ ty.S16) p n h = no_true (ap declares_name h)
+name_is_alias trees (kind.Type_ ty.S32) p n h = no_true (ap declares_name h)
+name_is_alias trees (kind.Type_ ty.S64) p n h = no_true (ap declares_name h)
+name_is_alias trees (kind.Type_ ty.F32) p n h = no_true (ap declares_name h)
+name_is_alias trees (kind.Type_ ty.F64) p n h = no_true (ap declares_name h)
+name_is_alias trees (kind.Type_ ty.Char) p n h = no_true (ap declares_name h)
+name_is_alias trees (kind.Type_ ty.String) p n h = no_true (ap declares_name h)
+name_is_alias trees (kind.Type_ ty.ErrorContext) p n h = no_true (ap declares_name h)
+name_is_alias trees (kind.Record x) p n h = no_true (ap declares_name h)
+name_is_alias trees kind.Resource p n h = no_true (ap declares_name h)
+name_is_alias trees (kind.Handle (handle.Own id)) p n h = no_true (ap declares_name h)
+name_is_alias trees (kind.Handle (handle.Borrow id)) p n h = no_true (ap declares_name h)
+name_is_alias trees (kind.Flags x) p n h = no_true (ap declares_name h)
+name_is_alias trees (kind.Tuple x) p n h = no_true (ap declares_name h)
+name_is_alias trees (kind.Variant x) p n h = no_true (ap declares_name h)
+name_is_alias trees (kind.Enum x) p n h = no_true (ap declares_name h)
+name_is_alias trees (kind.Option t) p n h = no_true (ap declares_name h)
+name_is_alias trees (kind.Result x) p n h = no_true (ap declares_name h)
+name_is_alias trees (kind.List t) p n h = no_true (ap declares_name h)
+name_is_alias trees (kind.Map k v) p n h = no_true (ap declares_name h)
+name_is_alias trees (kind.FixedLengthList t m) p n h = no_true (ap declares_name h)
+name_is_alias trees (kind.Future t) p n h = no_true (ap declares_name h)
+name_is_alias trees (kind.Stream t) p n h = no_true (ap declares_name h)
+
+abbrev pub declares_resource : Declaration → Bool
+declares_resource (type_ t) = false
+declares_resource resource = true
+
+pub resource_declares : (trees : List Tree) (k : TypeDefKind) → is_resource_itself k ≡ declares_resource (declared_by trees k)
+resource_declares trees (kind.Record x) = refl
+resource_declares trees kind.Resource = refl
+resource_declares trees (kind.Handle (handle.Own id)) = refl
+resource_declares trees (kind.Handle (handle.Borrow id)) = refl
+resource_declares trees (kind.Flags x) = refl
+resource_declares trees (kind.Tuple x) = refl
+resource_declares trees (kind.Variant x) = refl
+resource_declares trees (kind.Enum x) = refl
+resource_declares trees (kind.Option t) = refl
+resource_declares trees (kind.Result x) = refl
+resource_declares trees (kind.List t) = refl
+resource_declares trees (kind.Map k v) = refl
+resource_declares trees (kind.FixedLengthList t m) = refl
+resource_declares trees (kind.Future t) = refl
+resource_declares trees (kind.Stream t) = refl
+resource_declares trees (kind.Type_ t) = refl
+
+-- ---- places
+
+abbrev pub is_here : Place → Bool
+is_here here = false
+is_here (of_interface path) = true
+
+abbrev pub path_of : Place → Option Text
+path_of here = None
+path_of (of_interface path) = Some path
+
+abbrev pub place_in : Tree → Place
+place_in (named p n) = p
+place_in (primitive p) = here
+place_in (node form ts) = here
+
+abbrev pub name_in : Tree → Text
+name_in (named p n) = n
+name_in (primitive p) = []
+name_in (node form ts) = []
+
+-- ---- names in lists
+
+-- what is found stands there
+pub under_contains : (name : Text) (es : List (Text × ℕ)) (t : ℕ) → under_text name es ≡ Some t → Contains es (name, t)
+under_contains name [] t h = let wrong : ⊥ = cc in absurd wrong
+under_contains name (e ∷ es) t h = go (bytes_eq name e.0) refl h (under_contains name es t)
+  where
+    go : (b : Bool) → text_eq name e.0 ≡ b → cond b (Some e.1) (under_text name es) ≡ Some t → (under_text name es ≡ Some t → Contains es (name, t)) → Contains (e ∷ es) (name, t)
+    go true k h rest = (0, omega arith, λ i. (sym (text-same name e.0 k) i, same-some e.1 t h i))
+    go false k h rest = contains-later e es (name, t) (rest h)
+
+pub some_id : (n : ℕ) (o : Option ℕ) → is_id n o ≡ true → o ≡ Some n
+some_id n None h = no_true h
+some_id n (Some m) h = ap Some (equal m n h)
+
+pub number_listed : (es : List (Text × ℕ)) (name : Text) (t : ℕ) → Contains es (name, t) → has (map (λ (e : Text × ℕ). e.1) es) t ≡ true
+number_listed es name t c = contains-has (map (λ (e : Text × ℕ). e.1) es) t (contains-map (λ (e : Text × ℕ). e.1) es (name, t) c)
+
+abbrev often : ℕ → List (Text × ℕ) → ℕ
+often t es = count_by (λ k. k == t) (map (λ (e : Text × ℕ). e.1) es)
+
+stands_often : (es : List (Text × ℕ)) (name : Text) (t : ℕ) → Contains es (name, t) → often t es ≡ 0 → ⊥
+stands_often [] name t c h = none-in (name, t) c
+stands_often (e ∷ es) name t c h = go (e.1 == t) refl c (stands_often es name t)
+  where
+    step : often t (e ∷ es) ≡ cond (e.1 == t) 1 0 + often t es
+    step = sum_by-cons (λ k. cond (k == t) 1 0) e.1 (map (λ (x : Text × ℕ). x.1) es)
+
+    go : (b : Bool) → (e.1 == t) ≡ b → Contains (e ∷ es) (name, t) → (Contains es (name, t) → often t es ≡ 0 → ⊥) → ⊥
+    go true k c rest = let one : cond (e.1 == t) 1 0 ≡ 1 = ap {B = ℕ} (λ b. cond b 1 0) k in let s = step in omega (arith, s, one, h)
+    go false k (zero, l, d) rest = no_true (sym k ∙ subst (λ (x : ℕ). (e.1 == x) ≡ true) (ap (λ (x : Text × ℕ). x.1) d) (same-number e.1))
+    go false k (suc i, l, d) rest = let one : cond (e.1 == t) 1 0 ≡ 0 = ap {B = ℕ} (λ b. cond b 1 0) k in let s = step in rest (i, omega (arith, l), d) (omega (arith, s, one, h))
+
+-- what stands once stands under one name
+one_name : (es : List (Text × ℕ)) (a b : Text) (t : ℕ) → Contains es (a, t) → Contains es (b, t) → often t es ≡ 1 → a ≡ b
+one_name [] a b t c d h = none-in (a, t) c
+one_name (e ∷ es) a b t c d h = go c d (one_name es a b t)
+  where
+    step : often t (e ∷ es) ≡ cond (e.1 == t) 1 0 + often t es
+    step = sum_by-cons (λ k. cond (k == t) 1 0) e.1 (map (λ (x : Text × ℕ). x.1) es)
+
+    is_head : (x : Text) → e ≡ (x, t) → often t es ≡ 0
+    is_head x d =
+        let one : cond (e.1 == t) 1 0 ≡ 1 = ap {B = ℕ} (λ b. cond b 1 0) (subst (λ (y : ℕ). (e.1 == y) ≡ true) (ap (λ (y : Text × ℕ). y.1) d) (same-number e.1)) in
+        let s = step in omega (arith, s, one, h)
+
+    rest_once : (x : Text) → Contains es (x, t) → often t es ≡ 1
+    rest_once x c = by (e.1 == t) refl
+      where
+        by : (y : Bool) → (e.1 == t) ≡ y → often t es ≡ 1
+        by true k =
+            let one : cond (e.1 == t) 1 0 ≡ 1 = ap {B = ℕ} (λ b. cond b 1 0) k in
+            let s = step in
+            absurd (stands_often es x t c (omega (arith, s, one, h)))
+        by false k = let one : cond (e.1 == t) 1 0 ≡ 0 = ap {B = ℕ} (λ b. cond b 1 0) k in let s = step in omega (arith, s, one, h)
+
+    go : Contains (e ∷ es) (a, t) → Contains (e ∷ es) (b, t) → (Contains es (a, t) → Contains es (b, t) → often t es ≡ 1 → a ≡ b) → a ≡ b
+    go (zero, l, c) (zero, m, d) rest = ap (λ (x : Text × ℕ). x.0) (sym c ∙ d)
+    go (zero, l, c) (suc j, m, d) rest = absurd (stands_often es b t (j, omega (arith, m), d) (is_head a c))
+    go (suc i, l, c) (zero, m, d) rest = absurd (stands_often es a t (i, omega (arith, l), c) (is_head b d))
+    go (suc i, l, c) (suc j, m, d) rest = rest (i, omega (arith, l), c) (j, omega (arith, m), d) (rest_once a (i, omega (arith, l), c))
+
+pub numbers_are : (i : Interface) → interface_type_numbers i ≡ map (λ (e : Text × ℕ). e.1) (type_names i)
+numbers_are i = map-map (λ (id : TypeId). id.0) (λ e. e.1) i.types.entries ∙ sym (map-map (λ (e : Text × ℕ). e.1) (λ e. (text_of e.0, e.1.0)) i.types.entries)
+
+-- ---- in a valid one
+
+module _ (r : Resolve) (v : IsValid r) where
+  -- a named type of an interface is found there under its name, once
+  pub home_listed : (t : ℕ) (def : TypeDef) → type_at r t ≡ Some def → (s : String Global) → def.name ≡ Some s → (n : ℕ) → def.owner ≡ as_interface n → (i : Interface) → interface_at r n ≡ Some i → (under_text (text_of s) (type_names i) ≡ Some t) × (often t (type_names i) ≡ 1)
+  unfolding order_of_types
+  home_listed t def e s named_ n home i at =
+      let old = type_passes order_of_types r v.rules.order_of_types t def e in
+      let listed : is_listed r t (text_of s) def.owner ≡ true = sym (ap (λ o. option_map_or (λ name. is_listed r t (text_of name) def.owner) o (same_owner def.owner owner.None)) named_) ∙ second_true (list_all (λ m. nat_lt m t) (kind_numbers def.kind)) _ old in
+      let in_it : is_listed_in_interface t (text_of s) i ≡ true = sym (ap (passes (is_listed_in_interface t (text_of s))) at) ∙ (sym (ap (is_listed r t (text_of s)) home) ∙ listed) in (
+        some_id t (under_text (text_of s) (type_names i)) (sym (ap (is_id t) (found_by_text i (text_of s))) ∙ first_true _ _ in_it),
+        equal (often t (type_names i)) 1 (sym (ap (λ ns. count_by (λ k. k == t) ns == 1) (numbers_are i)) ∙ second_true (is_id t (option_map (λ id. id.0) (get_by_text i.types (text_of s)))) _ in_it),
+      )
+
+  pub record IsListedType (n : ℕ) (i : Interface) (name : Text) (t : ℕ) : Type 0 where
+    pub def : TypeDef
+    pub found : type_at r t ≡ Some def
+    pub name_is : optional_text def.name ≡ Some name
+    pub home : def.owner ≡ as_interface n
+    pub under : under_text name (type_names i) ≡ Some t
+
+  -- a type that stands under a name bears it
+  pub listed_type : (n : ℕ) (i : Interface) → interface_at r n ≡ Some i → (name : Text) (t : ℕ) → Contains (type_names i) (name, t) → IsListedType n i name t
+  unfolding order_of_types numbers_in_range
+  listed_type n i at name t c = by d.0.name refl
+    where
+      listed : has (interface_type_numbers i) t ≡ true
+      listed = ap (λ ns. has ns t) (numbers_are i) ∙ number_listed (type_names i) name t c
+
+      range : (is_place n && (passes (in_list r.packages.items) (package_number i.«package») && (list_all (λ id. in_list r.types.items id.0) (values i.types) && list_all (function_in_range r) (values i.functions)))) ≡ true
+      range = interface-passes numbers_in_range r v.rules.numbers_in_range n i at
+
+      low : list_all (in_list r.types.items) (interface_type_numbers i) ≡ true
+      low = list_all-map (in_list r.types.items) (λ (id : TypeId). id.0) (values i.types) ∙ first_true (list_all (λ id. in_list r.types.items id.0) (values i.types)) (list_all (function_in_range r) (values i.functions)) (second_true (passes (in_list r.packages.items) (package_number i.«package»)) (list_all (λ id. in_list r.types.items id.0) (values i.types) && list_all (function_in_range r) (values i.functions)) (second_true (is_place n) _ range))
+
+      d : (x : TypeDef) × (type_at r t ≡ Some x)
+      d = found-in r.types.items t (passes_at (in_list r.types.items) (interface_type_numbers i) t low listed)
+
+      order : (list_all (is_named_of r (as_interface n)) (interface_type_numbers i) && are_in_order r (interface_type_numbers i)) ≡ true
+      order = interface-passes order_of_types r v.rules.order_of_types n i at
+
+      ours : (is_some d.0.name && same_owner d.0.owner (as_interface n)) ≡ true
+      ours = sym (ap (passes (λ def. is_some def.name && same_owner def.owner (as_interface n))) d.1) ∙ passes_at (is_named_of r (as_interface n)) (interface_type_numbers i) t (first_true (list_all (is_named_of r (as_interface n)) (interface_type_numbers i)) (are_in_order r (interface_type_numbers i)) order) listed
+
+      home : d.0.owner ≡ as_interface n
+      home = owner_equal d.0.owner (as_interface n) (second_true (is_some d.0.name) (same_owner d.0.owner (as_interface n)) ours)
+
+      by : (o : Option (String Global)) → d.0.name ≡ o → IsListedType n i name t
+      by None e = no_true (sym (ap is_some e) ∙ first_true (is_some d.0.name) (same_owner d.0.owner (as_interface n)) ours)
+      by (Some s) e =
+          let x = home_listed t d.0 d.1 s e n home i at in
+          let same : text_of s ≡ name = one_name (type_names i) (text_of s) name t (under_contains (text_of s) (type_names i) t x.0) c x.1 in
+          record {
+            def = d.0;
+            found = d.1;
+            name_is = ap optional_text e ∙ ap Some same;
+            home = home;
+            under = ap (λ y. under_text y (type_names i)) (sym same) ∙ x.0;
+          }
+
+  -- the tree of a named type is its name
+  pub named_tree : (t : ℕ) (def : TypeDef) → type_at r t ≡ Some def → (s : String Global) → def.name ≡ Some s → tree_at (trees_of r) t ≡ named (place_of r def.owner) (text_of s)
+  named_tree t def e s named_ =
+      ap (λ o. unwrap_or o no_tree) (kept_trees_at r v.rules t def e)
+      ∙ ap (λ o. option_map_or (λ name. named (place_of r def.owner) (text_of name)) o (tree_of_declaration (declared_by (trees_of r) def.kind))) named_
+
+  pub record IsTarget (t : ℕ) : Type 0 where
+    pub def : TypeDef
+    pub found : type_at r t ≡ Some def
+    pub name : String Global
+    pub named_ : def.name ≡ Some name
+
+  -- the target of an alias has a name
+  pub target_named : (t : ℕ) (def : TypeDef) → type_at r t ≡ Some def → (u : ℕ) → alias_target def.kind ≡ Some u → IsTarget u
+  unfolding named_kinds numbers_in_range
+  target_named t def e u alias = by d.0.name refl
+    where
+      range : (is_place t && (list_all (in_list r.types.items) (kind_numbers def.kind) && owner_in_range r def.owner)) ≡ true
+      range = type_passes numbers_in_range r v.rules.numbers_in_range t def e
+
+      d : (x : TypeDef) × (type_at r u ≡ Some x)
+      d = found-in r.types.items u (sym (ap (passes (in_list r.types.items)) alias) ∙ alias_of_all (in_list r.types.items) def.kind (first_true (list_all (in_list r.types.items) (kind_numbers def.kind)) (owner_in_range r def.owner) (second_true (is_place t) _ range)))
+
+      old : ((not (is_named_kind def.kind) || is_some def.name) && passes (is_named_number r) (alias_target def.kind)) ≡ true
+      old = type_passes named_kinds r v.rules.named_kinds t def e
+
+      has_name : is_some d.0.name ≡ true
+      has_name = sym (ap (passes (λ x. is_some x.name)) d.1) ∙ (sym (ap (passes (is_named_number r)) alias) ∙ second_true (not (is_named_kind def.kind) || is_some def.name) (passes (is_named_number r) (alias_target def.kind)) old)
+
+      by : (o : Option (String Global)) → d.0.name ≡ o → IsTarget u
+      by None k = no_true (sym (ap is_some k) ∙ has_name)
+      by (Some s) k = record { def = d.0; found = d.1; name = s; named_ = k }
+
+  -- what a type of an interface with a path is another name of belongs to an interface with a path
+  pub target_home : (t : ℕ) (def : TypeDef) → type_at r t ≡ Some def → (n : ℕ) → def.owner ≡ as_interface n → is_some (interface_path r n) ≡ true → (u : ℕ) → alias_target def.kind ≡ Some u → (x : IsTarget u) → (a : ℕ) × (x.def.owner ≡ as_interface a) × (is_some (interface_path r a) ≡ true)
+  unfolding owners
+  target_home t def e n home path u alias x = go (list_all (has_owner r def.owner) (used_by_type r def)) refl (owned_stays r def (type_passes owners r v.rules.owners t def e) (ap (λ o. same_owner o owner.None) home))
+    where
+      met : met_by (met_of r) u ≡ u ∷ []
+      met = met_step r (references_of r v.rules) u x.def x.found ∙ ap (λ o. option_map_or (λ name. u ∷ []) o (used_by_type r x.def)) x.named_
+
+      own_one : list_all (has_owner r def.owner) (used_by_type r def) ≡ true → x.def.owner ≡ as_interface n
+      own_one h =
+          let all : list_all (λ m. list_all (has_owner r def.owner) (met_by (met_of r) m)) (kind_numbers def.kind) ≡ true = sym (all_flat (has_owner r def.owner) (met_by (met_of r)) (kind_numbers def.kind)) ∙ h in
+          let one : list_all (has_owner r def.owner) (met_by (met_of r) u) ≡ true = sym (ap (passes (λ m. list_all (has_owner r def.owner) (met_by (met_of r) m))) alias) ∙ alias_of_all (λ m. list_all (has_owner r def.owner) (met_by (met_of r) m)) def.kind all in
+          let here_ : has_owner r def.owner u ≡ true = first_true (has_owner r def.owner u) true (sym (ap (list_all (has_owner r def.owner)) met) ∙ one) in
+          owner_equal x.def.owner def.owner (sym (ap (λ o. option_map_or (λ y. same_owner y.owner def.owner) o false) x.found) ∙ here_) ∙ home
+
+      by_owner : (o : TypeOwner) → x.def.owner ≡ o → option_map_or (λ i. option_map_or (λ other. is_some other.name) (interface_at r i) false) (owner_interface o) false ≡ true → (a : ℕ) × (x.def.owner ≡ as_interface a) × (is_some (interface_path r a) ≡ true)
+      by_owner (owner.World id) k h = no_true h
+      by_owner owner.None k h = no_true h
+      by_owner (owner.Interface id) k h = (id.0, k, named-path r v id.0 h)
+
+      another : is_use r def ≡ true → (a : ℕ) × (x.def.owner ≡ as_interface a) × (is_some (interface_path r a) ≡ true)
+      another h =
+          let one : option_map_or (λ target. not (same_owner target.owner def.owner) && option_map_or (λ i. option_map_or (λ other. is_some other.name) (interface_at r i) false) (owner_interface target.owner) false) (type_at r u) false ≡ true =
+          sym (ap (λ o. option_map_or (λ m. option_map_or (λ target. not (same_owner target.owner def.owner) && option_map_or (λ i. option_map_or (λ other. is_some other.name) (interface_at r i) false) (owner_interface target.owner) false) (type_at r m) false) o false) alias) ∙ h in
+          by_owner x.def.owner refl (second_true (not (same_owner x.def.owner def.owner)) _ (sym (ap (λ o. option_map_or (λ target. not (same_owner target.owner def.owner) && option_map_or (λ i. option_map_or (λ other. is_some other.name) (interface_at r i) false) (owner_interface target.owner) false) o false) x.found) ∙ one))
+
+      go : (b : Bool) → list_all (has_owner r def.owner) (used_by_type r def) ≡ b → (list_all (has_owner r def.owner) (used_by_type r def) || is_use r def) ≡ true → (a : ℕ) × (x.def.owner ≡ as_interface a) × (is_some (interface_path r a) ≡ true)
+      go true k h = (n, own_one k, path)
+      go false k h = another (sym (ap (λ b. b || is_use r def) k) ∙ h)
+
+-- ---- maps of equal senses
+
+module _ {X : Type 0} where
+  abbrev pub entry_under : Text → List (Text × X) → Option X
+  entry_under q es = lookup (text_eq q) es
+
+  pub find_is : (q : Text) (es : List (Text × X)) → find text_cmp q es ≡ entry_under q es
+  find_is q [] = refl
+  find_is q (e ∷ es) = let rest = find_is q es in let key = same-text q e.0 in λ i. cond (key i) (Some e.1) (rest i)
+
+  pub found_same : (es fs : List (Text × X)) → ◌≡◌ {A = TextMap X} (from_entries es) (from_entries fs) → (q : Text) → entry_under q es ≡ entry_under q fs
+  found_same es fs same q =
+      sym (find_is q es) ∙ (sym (get-from_entries nat_list_cmp_total es q) ∙ (ap (λ m. Rattle.std.specs.FinMap.get m q) same ∙ (get-from_entries nat_list_cmp_total fs q ∙ find_is q fs)))
+
+-- what stands under a name means what its type does
+pub meaning_under : (r : Resolve) (i : Interface) (name : Text) → entry_under name (interface_meaning r i).types ≡ option_map (type_meaning_at r) (under_text name (type_names i))
+meaning_under r i name =
+    lookup_of_map (text_eq name) text_of (λ (id : TypeId). type_meaning_at r id.0) i.types.entries
+    ∙ (twice (lookup (λ k. text_eq name (text_of k)) i.types.entries)
+    ∙ ap (option_map (type_meaning_at r)) (sym (lookup_of_map (λ t. bytes_eq name t) text_of (λ (id : TypeId). id.0) i.types.entries)))
+  where
+    twice : (o : Option TypeId) → option_map (λ id. type_meaning_at r id.0) o ≡ option_map (type_meaning_at r) (option_map (λ id. id.0) o)
+    twice None = refl
+    twice (Some id) = refl
+
+module _ (own other : Resolve) (interfaces types : ℕ → ℕ) (valid_own : IsValid own) (valid_other : IsValid other) where
+  same_under : (n : ℕ) (is : IsMatch own other interfaces types n) (name : Text) → option_map (type_meaning_at own) (under_text name (type_names is.image)) ≡ option_map (type_meaning_at other) (under_text name (type_names is.old))
+  same_under n is name =
+      sym (meaning_under own is.image name)
+      ∙ (found_same (interface_meaning own is.image).types (interface_meaning other is.old).types (ap (λ (s : InterfaceSense). s.types) is.sense) name
+      ∙ meaning_under other is.old name)
+
+  name_of_number : (i : Interface) (t : ℕ) → has (interface_type_numbers i) t ≡ true → (name : Text) × Contains (type_names i) (name, t)
+  name_of_number i t h =
+      let x = from-map (λ (e : Text × ℕ). e.1) (type_names i) t (has-contains (map (λ (e : Text × ℕ). e.1) (type_names i)) t (sym (ap (λ ns. has ns t) (numbers_are i)) ∙ h)) in
+      (x.0.0, subst (λ (k : ℕ). Contains (type_names i) (x.0.0, k)) x.1.1 x.1.0)
+
+  -- ---- onto
+
+  onto : (n : ℕ) (is : IsMatch own other interfaces types n) (m : ℕ) → has (interface_type_numbers is.image) m ≡ true → (t : ℕ) × (has (interface_type_numbers is.old) t ≡ true) × (types t ≡ m)
+  onto n is m h = go (under_text name.0 (type_names is.old)) refl (sym (same_under n is name.0) ∙ ap (option_map (type_meaning_at own)) there_.under)
+    where
+      name : (x : Text) × Contains (type_names is.image) (x, m)
+      name = name_of_number is.image m h
+
+      there_ : IsListedType own valid_own (interfaces n) is.image name.0 m
+      there_ = listed_type own valid_own (interfaces n) is.image is.at_image name.0 m name.1
+
+      go : (o : Option ℕ) → under_text name.0 (type_names is.old) ≡ o → option_map (type_meaning_at other) o ≡ Some (type_meaning_at own m) → (t : ℕ) × (has (interface_type_numbers is.old) t ≡ true) × (types t ≡ m)
+      go None e k = let wrong : None ≡ Some (type_meaning_at own m) = k in absurd cc
+      go (Some t) e k =
+          let c = under_contains name.0 (type_names is.old) t e in
+          let image = listed_type own valid_own (interfaces n) is.image is.at_image name.0 (types t) (is.by_name name.0 t c) in
+          (t, ap (λ ns. has ns t) (numbers_are is.old) ∙ number_listed (type_names is.old) name.0 t c, same-some (types t) m (sym image.under ∙ there_.under))
+
+  -- ---- namesakes
+
+  module _ (matched : AreMatched own other interfaces types) where
+    pub place_back : (o : TypeOwner) (path : Text) → place_of own o ≡ of_interface path → (b : ℕ) × (o ≡ as_interface b) × (interface_path own b ≡ Some path)
+    place_back (owner.World id) path h = no_true (ap (λ p. is_here p) h)
+    place_back owner.None path h = no_true (ap (λ p. is_here p) h)
+    place_back (owner.Interface id) path h = (id.0, refl, go (interface_path own id.0) h)
+      where
+        go : (o : Option Text) → place_of_path o ≡ of_interface path → o ≡ Some path
+        go None h = no_true (ap (λ p. is_here p) h)
+        go (Some x) h = ap (λ p. path_of p) h
+
+    pub the_path : (o : Option Text) → is_some o ≡ true → (path : Text) × (o ≡ Some path)
+    the_path None h = no_true h
+    the_path (Some x) h = (x, refl)
+
+    -- what has one path and one name is one
+    pub same_by_path : (u v a : ℕ) (x : IsTarget other valid_other u) → x.def.owner ≡ as_interface a → is_some (interface_path other a) ≡ true → (y : IsTarget own valid_own v) → named (place_of own y.def.owner) (text_of y.name) ≡ named (place_of other x.def.owner) (text_of x.name)
+        → IsMatch own other interfaces types a ⊎ ((m : ℕ) → interface_path own m ≡ interface_path other a → ⊥) → types u ≡ v
+    same_by_path u v a x there_ has_path y trees m = by m
+      where
+        path : (p : Text) × (interface_path other a ≡ Some p)
+        path = the_path (interface_path other a) has_path
+
+        place : place_of own y.def.owner ≡ of_interface path.0
+        place = ap place_in trees ∙ (ap (place_of other) there_ ∙ ap place_of_path path.1)
+
+        names : text_of y.name ≡ text_of x.name
+        names = ap name_in trees
+
+        b : (k : ℕ) × (y.def.owner ≡ as_interface k) × (interface_path own k ≡ Some path.0)
+        b = place_back y.def.owner path.0 place
+
+        by : IsMatch own other interfaces types a ⊎ ((m : ℕ) → interface_path own m ≡ interface_path other a → ⊥) → types u ≡ v
+        by (inr none_such) = absurd (none_such b.0 (b.2 ∙ sym path.1))
+        by (inl m) =
+            let here_ : interfaces a ≡ b.0 = path-once own valid_own (interfaces a) b.0 path.0 (m.path ∙ path.1) b.2 in
+            let listed = home_listed other valid_other u x.def x.found x.name x.named_ a there_ m.old m.found in
+            let c = under_contains (text_of x.name) (type_names m.old) u listed.0 in
+            let image_ = listed_type own valid_own (interfaces a) m.image m.at_image (text_of x.name) (types u) (m.by_name (text_of x.name) u c) in
+            let target = home_listed own valid_own v y.def y.found y.name y.named_ b.0 b.1 m.image (ap (interface_at own) (sym here_) ∙ m.at_image) in
+            same-some (types u) v (sym image_.under ∙ (ap (λ s. under_text s (type_names m.image)) (sym names) ∙ target.0))
+
+    -- the own type that an own alias names is the one that stands for the other's target
+    same_target : (n : ℕ) (is : IsMatch own other interfaces types n) (t : ℕ) (def image : TypeDef) → type_at other t ≡ Some def → type_at own (types t) ≡ Some image → def.owner ≡ as_interface n
+        → declaration_of own image ≡ declaration_of other def → (o : Option ℕ) → alias_target def.kind ≡ o → alias_target image.kind ≡ option_map types o
+    same_target n is t def image found at home same None e = none_there (alias_target image.kind) refl
+      where
+        none_there : (o : Option ℕ) → alias_target image.kind ≡ o → alias_target image.kind ≡ None
+        none_there None k = k
+        none_there (Some u) k =
+            let x = target_named own valid_own (types t) image at u k in
+            let tree = alias_declares (trees_of own) image.kind u k ∙ ap type_ (named_tree own valid_own u x.def x.found x.name x.named_) in
+            let back = name_is_alias (trees_of other) def.kind (place_of own x.def.owner) (text_of x.name) (sym same ∙ tree) in
+            let wrong : None ≡ Some back.0 = sym e ∙ back.1 in absurd cc
+    same_target n is t def image found at home same (Some u) e =
+        let x = target_named other valid_other t def found u e in
+        let tree = alias_declares (trees_of other) def.kind u e ∙ ap type_ (named_tree other valid_other u x.def x.found x.name x.named_) in
+        let image_alias = name_is_alias (trees_of own) image.kind (place_of other x.def.owner) (text_of x.name) (same ∙ tree) in
+        let y = target_named own valid_own (types t) image at image_alias.0 image_alias.1 in
+        let trees : named (place_of own y.def.owner) (text_of y.name) ≡ named (place_of other x.def.owner) (text_of x.name) = sym (named_tree own valid_own image_alias.0 y.def y.found y.name y.named_) ∙ image_alias.2 in
+        let from = target_home other valid_other t def found n home is.has_path u e x in
+        image_alias.1 ∙ ap Some (sym (same_by_path u image_alias.0 from.0 x from.1 from.2 y trees (matched from.0 from.2)))
+
+    namesakes : (n : ℕ) (is : IsMatch own other interfaces types n) (t : ℕ) → has (interface_type_numbers is.old) t ≡ true → AreNamesakes own other interfaces types n t
+    namesakes n is t h =
+        let name = name_of_number is.old t h in
+        let old = listed_type other valid_other n is.old is.found name.0 t name.1 in
+        let new = listed_type own valid_own (interfaces n) is.image is.at_image name.0 (types t) (is.by_name name.0 t name.1) in
+        let meanings : type_meaning_at own (types t) ≡ type_meaning_at other t = same-some (type_meaning_at own (types t)) (type_meaning_at other t) (sym (ap (option_map (type_meaning_at own)) new.under) ∙ (same_under n is name.0 ∙ ap (option_map (type_meaning_at other)) old.under)) in
+        let declarations : declaration_of own new.def ≡ declaration_of other old.def = sym (ap (λ o. (option_map_or (type_meaning own) o no_type).declaration) new.found) ∙ (ap (λ (m : TypeMeaning). m.declaration) meanings ∙ ap (λ o. (option_map_or (type_meaning other) o no_type).declaration) old.found) in
+        record {
+          def = old.def;
+          found = old.found;
+          image = new.def;
+          at_image = new.found;
+          named = has_text old.def.name name.0 old.name_is;
+          name = new.name_is ∙ sym old.name_is;
+          home = old.home;
+          image_home = new.home;
+          resource = resource_declares (trees_of own) new.def.kind ∙ (ap declares_resource declarations ∙ sym (resource_declares (trees_of other) old.def.kind));
+          alias = same_target n is t old.def new.def old.found new.found old.home declarations (alias_target old.def.kind) refl;
+        }
+      where
+        has_text : (o : Option (String Global)) (name : Text) → optional_text o ≡ Some name → is_some o ≡ true
+        has_text None name h = let wrong : None ≡ Some name = h in absurd cc
+        has_text (Some s) name h = refl
+
+pub matches_are_namesakes : MatchesAreNamesakes
+matches_are_namesakes own other interfaces types valid_own valid_other matched n is t h = namesakes own other interfaces types valid_own valid_other matched n is t h
+
+pub matches_are_onto : MatchesAreOnto
+matches_are_onto own other interfaces types valid_own valid_other n is m h = onto own other interfaces types valid_own valid_other n is m h

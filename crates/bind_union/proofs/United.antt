@@ -1,0 +1,146 @@
+-- The interfaces of what was merged, by path, are those of both.
+use Rattle.std.proofs.Common.{◌≡◌, ◌⊎◌, inl, inr, sym, ap, subst, ◌∙◌, ℕ, zero, suc, ◌≤◌, arith, Bool, true, false, List, [], length, Option, Some, None, option_map, option_and_then}
+use Rattle.std.specs.Prelude.{String}
+use Rattle.std.specs.declared.alloc.Global.{Global}
+use Rattle.std.specs.List.{Contains}
+use Rattle.std.proofs.lemmas.Bool.{lt-ltb}
+use Rattle.std.proofs.lemmas.Option.{slice_get_within}
+use Rattle.wit_model.specs.declared.model.Resolve.{Resolve}
+use Rattle.wit_model.specs.declared.model.Interface.{Interface}
+use Rattle.wit_model.specs.Text.{Text, text_of, optional_text}
+use Rattle.wit_model.specs.Names.{path_in}
+use Rattle.wit_model.specs.Lookup.{interface_at, interface_path, path_of_interface, identity_of}
+use Rattle.wit_model.specs.Meaning.{InterfaceMeaning}
+use Rattle.wit_model.specs.Meant.{interface_meaning_at}
+use Rattle.wit_model.specs.Rules.{is_id, text_is, package_number}
+use Rattle.wit_model.specs.Valid.{Keeps, IsValid, HasDistinctKeys}
+use Rattle.wit_model.specs.Checks.{references}
+use Rattle.wit_model.proofs.Lists.{first_true, second_true}
+use Rattle.wit_model.proofs.AnyOrder.{text-same}
+use Rattle.wit_model.proofs.Elements.{same-some, none-in, all-contained}
+use Rattle.wit_model.proofs.OnePath.{HasPath, has-path, path-listed, path-once, found-in}
+use Rattle.bind_union.specs.Carried.{Renumbering}
+use Rattle.bind_union.specs.Merged.{interface_names, JoinedNames, none, met, left, added, PackageStands, grown, brought, IsCopyUnder, IsMerged}
+use Rattle.bind_union.specs.Meanings.{OwnMeansTheSame, CopiesMeanTheSame, Shows, ShowsNone, InterfacesAreUnited}
+use Rattle.bind_union.proofs.Lists.{no_true}
+use Rattle.bind_union.proofs.Carrying.{path_parts, path_by, same_identity, path_same}
+use Rattle.bind_union.proofs.Sources.{low_or_high}
+use Rattle.bind_union.proofs.Kept.{below}
+use Rattle.bind_union.proofs.KeptPackages.{is_interface_of, interfaces_stand, found_option}
+use Rattle.bind_union.proofs.PackageNames.{interfaces_by_name}
+use Rattle.bind_union.proofs.Listed.{under_text}
+use Rattle.bind_union.proofs.Namesakes.{some_id, under_contains}
+use Rattle.bind_union.proofs.Meanings.{merged_means}
+use Rattle.bind_union.proofs.Valid.{merged_is_valid}
+
+pub some_name : (o : Option (String Global)) (t : Text) → text_is o t ≡ true → optional_text o ≡ Some t
+some_name None t h = no_true h
+some_name (Some s) t h = ap Some (text-same (text_of s) t h)
+
+-- what stood under a name is met or copied
+joined_either : (number : ℕ → ℕ) (copies : ℕ → Bool) (own olds news : List (Text × ℕ)) → JoinedNames number copies (λ n. false) own olds news → (name : Text) (n : ℕ) → Contains olds (name, n) → Contains own (name, number n) ⊎ (copies n ≡ true)
+joined_either number copies own _ _ none name n c = none-in (name, n) c
+joined_either number copies own _ _ (left t old olds news l rest) name n c = no_true l
+joined_either number copies own _ _ (met t old olds news held rest) name n (zero, l, e) = inl (subst (λ (x : Text × ℕ). Contains own (x.0, number x.1)) e held)
+joined_either number copies own _ _ (met t old olds news held rest) name n (suc k, l, e) = joined_either number copies own olds news rest name n (k, omega (arith, l), e)
+joined_either number copies own _ _ (added t old olds news c l new rest) name n (zero, d, e) = inr (subst (λ (x : Text × ℕ). copies x.1 ≡ true) e c)
+joined_either number copies own _ _ (added t old olds news c l new rest) name n (suc k, d, e) = joined_either number copies own olds news rest name n (k, omega (arith, d), e)
+
+-- an interface without a name has no path
+no_name_no_path : (r : Resolve) (n : ℕ) (i : Interface) → interface_at r n ≡ Some i → i.name ≡ None → interface_path r n ≡ None
+no_name_no_path r n i e h =
+    ap (option_and_then (path_of_interface r)) e
+    ∙ (path_parts r i ∙ ap (λ o. path_by r (optional_text o) (package_number i.«package»)) h)
+
+module _ (own other merged : Resolve) (bound other_bound : ℕ) (first second : Renumbering) (left_out : ℕ → Bool) (valid_own : IsValid own) (valid_other : IsValid other) (distinct : HasDistinctKeys merged) (is : IsMerged own other merged bound other_bound first second left_out) where
+  valid : IsValid merged
+  valid = merged_is_valid own other merged bound other_bound first second left_out valid_own valid_other distinct is
+
+  ours : OwnMeansTheSame own merged bound
+  ours = (merged_means own other merged bound other_bound first second left_out valid_own valid_other is).0
+
+  theirs : CopiesMeanTheSame other merged first
+  theirs = (merged_means own other merged bound other_bound first second left_out valid_own valid_other is).1
+
+  below_s : Keeps references merged
+  below_s = below own other merged bound other_bound first second left_out valid_own.rules valid_other.rules is
+
+  module _ (path : Text) (meaning : InterfaceMeaning) where
+    from_own : Shows own path meaning → Shows merged path meaning
+    from_own x =
+        let h = has-path own x.0 path x.1 in
+        let m = ours.interfaces x.0 h.def h.there in
+        (x.0, m.1 ∙ x.1, m.0 ∙ x.2)
+
+    copied : (m : ℕ) → first.copies_interface m ≡ true → (interface_meaning_at merged (first.interfaces m) ≡ interface_meaning_at other m) × (interface_path merged (first.interfaces m) ≡ interface_path other m)
+    copied m copy = theirs.interfaces m copy
+
+    new_path : (n : ℕ) → length own.interfaces.items ≤ n → interface_path merged n ≡ Some path → ShowsNone own path
+    new_path n high e k at =
+        let h = has-path own k path at in
+        let m = ours.interfaces k h.def h.there in
+        let same = path-once merged valid k n path (m.1 ∙ at) e in
+        let low = slice_get_within own.interfaces.items k h.def h.there in
+        omega (arith, high, low, same)
+
+    back : Shows merged path meaning → Shows own path meaning ⊎ (Shows other path meaning × ShowsNone own path)
+    back (n, e, d) = elim (low_or_high n (length own.interfaces.items)) [
+      | inl low ↦ inl (own_one (found-in own.interfaces.items n (lt-ltb n (length own.interfaces.items) low)))
+      | inr high ↦ inr (copy high (is.interface_from n high (slice_get_within merged.interfaces.items n (has-path merged n path e).def (has-path merged n path e).there)))
+    ]
+      where
+        own_one : (x : Interface) × (interface_at own n ≡ Some x) → Shows own path meaning
+        own_one x = let m = ours.interfaces n x.0 x.1 in (n, sym m.1 ∙ e, sym m.0 ∙ d)
+
+        copy : length own.interfaces.items ≤ n → IsCopyUnder first.interfaces first.copies_interface n ⊎ IsCopyUnder second.interfaces second.copies_interface n → Shows other path meaning × ShowsNone own path
+        copy high (inl c) =
+            let m = copied c.0 c.1 in
+            ((c.0, sym m.1 ∙ (ap (interface_path merged) c.2 ∙ e), sym m.0 ∙ (ap (interface_meaning_at merged) c.2 ∙ d)), new_path n high e)
+        copy high (inr c) =
+            let carried = is.second_copies.carried.copied_interfaces c.0 c.1 in
+            let i = is.second_copies.carried.interfaces c.0 carried in
+            let nothing : interface_path other c.0 ≡ None = no_name_no_path other c.0 i.old i.found (is.second_inline c.0 i.old c.1 i.found) in
+            let same : interface_path merged (second.interfaces c.0) ≡ interface_path other c.0 = path_same other merged second valid_other.rules is.second_copies.carried below_s c.0 carried in
+            let wrong : None ≡ Some path = sym nothing ∙ (sym same ∙ (ap (interface_path merged) c.2 ∙ e)) in absurd cc
+
+    from_other : Shows other path meaning → ShowsNone own path → Shows merged path meaning
+    from_other (n, e, d) none_such = stands (is.packages_stand h.home.0 h.package_ h.stands)
+      where
+        h : HasPath other n path
+        h = has-path other n path e
+
+        held : Contains (interface_names h.package_) (text_of h.name, n)
+        held = under_contains (text_of h.name) (interface_names h.package_) n (some_id n (under_text (text_of h.name) (interface_names h.package_)) (sym (ap (is_id n) (interfaces_by_name h.package_ (text_of h.name))) ∙ path-listed other valid_other n path h))
+
+        brings : first.copies_interface n ≡ true → Shows merged path meaning
+        brings copy = let m = copied n copy in (first.interfaces n, m.1 ∙ e, m.0 ∙ d)
+
+        stands : PackageStands own merged first left_out h.home.0 h.package_ → Shows merged path meaning
+        stands (brought high j fresh) = by (joined_either first.interfaces first.copies_interface [] (interface_names h.package_) j.new_interfaces j.joined_interfaces (text_of h.name) n held)
+          where
+            by : Contains {X = Text × ℕ} [] (text_of h.name, first.interfaces n) ⊎ (first.copies_interface n ≡ true) → Shows merged path meaning
+            by (inl c) = none-in (text_of h.name, first.interfaces n) c
+            by (inr c) = brings c
+        stands (grown o at j a b) = by (joined_either first.interfaces first.copies_interface (interface_names o) (interface_names h.package_) j.new_interfaces j.joined_interfaces (text_of h.name) n held)
+          where
+            by : Contains (interface_names o) (text_of h.name, first.interfaces n) ⊎ (first.copies_interface n ≡ true) → Shows merged path meaning
+            by (inr c) = brings c
+            by (inl c) =
+                let i = found_option _ (interface_at own (first.interfaces n)) (all-contained (is_interface_of own (first.packages h.home.0)) (interface_names o) (text_of h.name, first.interfaces n) (interfaces_stand own valid_own.rules (first.packages h.home.0) o at) c) in
+                let q = is.packages (first.packages h.home.0) o at in
+                let p = is.first_copies.carried.packages h.home.0 h.package_ h.stands in
+                let one : p.image ≡ q.0 = same-some p.image q.0 (sym p.at_image ∙ q.1) in
+                let identities : identity_of o.name ≡ identity_of h.package_.name = sym (same_identity o.name q.0.name q.2) ∙ (ap (λ x. identity_of x.name) (sym one) ∙ same_identity h.package_.name p.image.name p.name) in
+                let its_path : interface_path own (first.interfaces n) ≡ Some (path_in (identity_of o.name) (text_of h.name)) =
+                ap (option_and_then (path_of_interface own)) i.1
+                ∙ (path_parts own i.0
+                ∙ ((λ z. path_by own (some_name i.0.name (text_of h.name) (first_true _ _ i.2) z) (some_id (first.packages h.home.0) (package_number i.0.«package») (second_true (text_is i.0.name (text_of h.name)) _ i.2) z))
+                ∙ ap (option_map (λ package_. path_in (identity_of package_.name) (text_of h.name))) at)) in
+                absurd (none_such (first.interfaces n) (its_path ∙ ap Some (ap (λ x. path_in x (text_of h.name)) identities ∙ sym h.spelled)))
+
+pub interfaces_are_united : InterfacesAreUnited
+interfaces_are_united own other merged bound other_bound first second left_out valid_own valid_other distinct is path meaning = (
+  back own other merged bound other_bound first second left_out valid_own valid_other distinct is path meaning,
+  from_own own other merged bound other_bound first second left_out valid_own valid_other distinct is path meaning,
+  from_other own other merged bound other_bound first second left_out valid_own valid_other distinct is path meaning,
+)

@@ -1,0 +1,221 @@
+-- The worlds of what was merged, by path, are those of both, but for the bound one.
+use Rattle.std.proofs.Common.{◌≡◌, ◌⊎◌, inl, inr, refl, sym, ap, subst, ◌∙◌, ℕ, zero, suc, arith, Bool, true, false, ◌==◌, List, [], Option, Some, None, option_map, option_and_then}
+use Rattle.std.specs.Option.{option_map_or}
+use Rattle.std.specs.List.{Contains}
+use Rattle.wit_model.specs.declared.model.Resolve.{Resolve}
+use Rattle.wit_model.specs.declared.model.Package.{Package}
+use Rattle.wit_model.specs.declared.model.PackageId.{PackageId}
+use Rattle.wit_model.specs.declared.model.World.{World}
+use Rattle.wit_model.specs.Text.{Text, text_of, text_eq}
+use Rattle.wit_model.specs.Names.{path_in}
+use Rattle.wit_model.specs.Lookup.{package_at, world_at, path_of_world, path_in_package, identity_of}
+use Rattle.wit_model.specs.Meaning.{WorldMeaning}
+use Rattle.wit_model.specs.Meant.{world_meaning, no_world}
+use Rattle.wit_model.specs.Rules.{passes, in_list, is_id, package_number, same_package_name}
+use Rattle.wit_model.specs.Valid.{Keeps, IsValid}
+use Rattle.wit_model.specs.Checks.{references}
+use Rattle.wit_model.proofs.Lists.{first_true, second_true}
+use Rattle.wit_model.proofs.AnyOrder.{text-same}
+use Rattle.wit_model.proofs.NameLaws.{one_path}
+use Rattle.wit_model.proofs.VersionLaws.{same_name}
+use Rattle.wit_model.proofs.Elements.{same-some, equal, same-number, none-in, all-contained}
+use Rattle.wit_model.proofs.OnePath.{package-name, package-once, found-in}
+use Rattle.bind_meaning.proofs.WorldPaths.{HasWorldPath, has-world-path, world-label, world-listed}
+use Rattle.bind_union.specs.Carried.{Renumbering}
+use Rattle.bind_union.specs.Merged.{world_names, is_name, JoinedNames, none, met, left, added, PackageStands, grown, brought, IsMerged}
+use Rattle.bind_union.specs.Meanings.{ShowsWorld, ShowsNoWorld, WorldsAreUnited}
+use Rattle.bind_union.proofs.Lists.{no_true}
+use Rattle.bind_union.proofs.Carrying.{path_by, same_path_by, same_identity}
+use Rattle.bind_union.proofs.Kept.{below}
+use Rattle.bind_union.proofs.KeptPackages.{is_world_of, worlds_stand, found_option}
+use Rattle.bind_union.proofs.KeptNumbers.{world_package}
+use Rattle.bind_union.proofs.KeptPlaces.{world_case, own_world_low}
+use Rattle.bind_union.proofs.PackageNames.{worlds_by_name, found_name, copy_found}
+use Rattle.bind_union.proofs.Listed.{under_text}
+use Rattle.bind_union.proofs.Namesakes.{some_id, under_contains}
+use Rattle.bind_union.proofs.Meanings.{merged_means}
+
+-- the path of a world by its name and its package
+pub world_path : (r : Resolve) (w : World) → path_of_world r w ≡ path_by r (Some (text_of w.name)) (package_number w.«package»)
+world_path r w = go w.«package»
+  where
+    go : (p : Option PackageId) → option_and_then (λ p. path_in_package r p.0 (text_of w.name)) p ≡ option_and_then (λ n. path_in_package r n (text_of w.name)) (package_number p)
+    go None = refl
+    go (Some p) = refl
+
+-- what stood under a name is met, left out or copied
+joined_world : (number : ℕ → ℕ) (copies left_out : ℕ → Bool) (own olds news : List (Text × ℕ)) → JoinedNames number copies left_out own olds news → (name : Text) (n : ℕ) → Contains olds (name, n) → left_out n ≡ false → Contains own (name, number n) ⊎ (copies n ≡ true)
+joined_world number copies left_out own _ _ none name n c k = none-in (name, n) c
+joined_world number copies left_out own _ _ (left t old olds news l rest) name n (zero, d, e) k = no_true (sym k ∙ subst (λ (x : Text × ℕ). left_out x.1 ≡ true) e l)
+joined_world number copies left_out own _ _ (left t old olds news l rest) name n (suc i, d, e) k = joined_world number copies left_out own olds news rest name n (i, omega (arith, d), e) k
+joined_world number copies left_out own _ _ (met t old olds news held rest) name n (zero, l, e) k = inl (subst (λ (x : Text × ℕ). Contains own (x.0, number x.1)) e held)
+joined_world number copies left_out own _ _ (met t old olds news held rest) name n (suc i, l, e) k = joined_world number copies left_out own olds news rest name n (i, omega (arith, l), e) k
+joined_world number copies left_out own _ _ (added t old olds news c l new rest) name n (zero, d, e) k = inr (subst (λ (x : Text × ℕ). copies x.1 ≡ true) e c)
+joined_world number copies left_out own _ _ (added t old olds news c l new rest) name n (suc i, d, e) k = joined_world number copies left_out own olds news rest name n (i, omega (arith, d), e) k
+
+-- the numbers under the name of a world with a path
+listed_by_path : (r : Resolve) (v : IsValid r) (n : ℕ) (path : Text) (h : HasWorldPath r n path) → is_id n (under_text (text_of h.def.name) (world_names h.package_)) ≡ true
+listed_by_path r v n path h = sym (ap (is_id n) (worlds_by_name h.package_ (text_of h.def.name))) ∙ world-listed r v n path h
+
+module _ (own other merged : Resolve) (bound other_bound : ℕ) (first second : Renumbering) (left_out : ℕ → Bool) (valid_own : IsValid own) (valid_other : IsValid other) (is : IsMerged own other merged bound other_bound first second left_out) where
+  below_s : Keeps references merged
+  below_s = below own other merged bound other_bound first second left_out valid_own.rules valid_other.rules is
+
+  -- ---- paths
+
+  own_path_by : (t : Text) (p : Option ℕ) → passes (in_list own.packages.items) p ≡ true → path_by merged (Some t) p ≡ path_by own (Some t) p
+  own_path_by t None h = refl
+  own_path_by t (Some k) h =
+      let p = found-in own.packages.items k h in
+      let q = is.packages k p.0 p.1 in
+      ap (option_map (λ package_. path_in (identity_of package_.name) t)) q.1
+      ∙ (ap (λ d. Some (path_in d t)) (same_identity p.0.name q.0.name q.2)
+      ∙ sym (ap (option_map (λ package_. path_in (identity_of package_.name) t)) p.1))
+
+  own_path : (n : ℕ) (w : World) → world_at own n ≡ Some w → path_of_world merged w ≡ path_of_world own w
+  own_path n w e =
+      world_path merged w
+      ∙ (own_path_by (text_of w.name) (package_number w.«package») (world_package own other merged bound other_bound first second left_out valid_own.rules valid_other.rules is own valid_own.rules n w e)
+      ∙ sym (world_path own w))
+
+  bound_path : path_of_world merged is.joined.image ≡ path_of_world own is.own_bound
+  bound_path =
+      world_path merged is.joined.image
+      ∙ ((λ i. path_by merged (Some (text_of (is.bound_name i))) (package_number (is.bound_package i)))
+      ∙ (sym (world_path merged is.own_bound) ∙ own_path bound is.own_bound is.bound_at))
+
+  copy_path : (m : ℕ) (c : first.carries_world m ≡ true) → path_of_world merged (is.first_worlds m c).joined.image ≡ path_of_world other (is.first_worlds m c).joined.old
+  copy_path m c =
+      let w = is.first_worlds m c in
+      let j = w.joined in
+      let range = world_package own other merged bound other_bound first second left_out valid_own.rules valid_other.rules is other valid_other.rules m j.old j.found in
+      world_path merged j.image
+      ∙ ((λ i. path_by merged (Some (w.name i)) (w.in_package i))
+      ∙ (same_path_by other merged first valid_other.rules is.first_copies.carried below_s (Some (text_of j.old.name)) (package_number j.old.«package») (λ k e. found-in other.packages.items k (sym (ap (passes (in_list other.packages.items)) e) ∙ range))
+      ∙ sym (world_path other j.old)))
+
+  -- ---- meanings
+
+  own_means : (n : ℕ) (w : World) → world_at own n ≡ Some w → (n == bound) ≡ false → world_meaning merged w ≡ world_meaning own w
+  own_means n w e apart =
+      sym (ap (λ o. option_map_or (world_meaning merged) o no_world) (is.worlds n w e apart))
+      ∙ ((merged_means own other merged bound other_bound first second left_out valid_own valid_other is).0.worlds n w e (λ same. no_true (sym apart ∙ subst (λ (k : ℕ). (k == bound) ≡ true) (sym same) (same-number bound)))
+      ∙ ap (λ o. option_map_or (world_meaning own) o no_world) e)
+
+  copy_means : (m : ℕ) (c : first.carries_world m ≡ true) → world_meaning merged (is.first_worlds m c).joined.image ≡ world_meaning other (is.first_worlds m c).joined.old
+  copy_means m c =
+      let j = (is.first_worlds m c).joined in
+      sym (ap (λ o. option_map_or (world_meaning merged) o no_world) j.at_image)
+      ∙ ((merged_means own other merged bound other_bound first second left_out valid_own valid_other is).2 m c
+      ∙ ap (λ o. option_map_or (world_meaning other) o no_world) j.found)
+
+  -- ---- one path
+
+  -- names of one text in own and in other packages
+  grown_identity : (k : ℕ) (o p : Package) → package_at own (first.packages k) ≡ Some o → package_at other k ≡ Some p → identity_of o.name ≡ identity_of p.name
+  grown_identity k o p at e =
+      let q = is.packages (first.packages k) o at in
+      let x = is.first_copies.carried.packages k p e in
+      let one : x.image ≡ q.0 = same-some x.image q.0 (sym x.at_image ∙ q.1) in
+      sym (same_identity o.name q.0.name q.2) ∙ (ap (λ y. identity_of y.name) (sym one) ∙ same_identity p.name x.image.name x.name)
+
+  -- a world that is copied has the path of no own one
+  no_own_world : (m : ℕ) (c : first.carries_world m ≡ true) (path : Text) → path_of_world other (is.first_worlds m c).joined.old ≡ Some path → ShowsNoWorld own path
+  no_own_world m c path e n w at own_e = stands (is.packages_stand h.home.0 h.package_ h.stands)
+    where
+      h : HasWorldPath other m path
+      h = has-world-path other m path (ap (option_and_then (path_of_world other)) (is.first_worlds m c).joined.found ∙ e)
+
+      g : HasWorldPath own n path
+      g = has-world-path own n path (ap (option_and_then (path_of_world own)) at ∙ own_e)
+
+      parts : (identity_of g.package_.name ≡ identity_of h.package_.name) × (text_of g.def.name ≡ text_of h.def.name)
+      parts = one_path (identity_of g.package_.name) (identity_of h.package_.name) (text_of g.def.name) (text_of h.def.name) (package-name own valid_own g.home.0 g.package_ g.stands).identity (world-label own valid_own n path g) (package-name other valid_other h.home.0 h.package_ h.stands).identity (world-label other valid_other m path h) (sym g.spelled ∙ h.spelled)
+
+      same_packages : same_package_name g.package_.name h.package_.name ≡ true
+      same_packages = (same_name g.package_.name h.package_.name (package-name own valid_own g.home.0 g.package_ g.stands).version (package-name other valid_other h.home.0 h.package_ h.stands).version).1 parts.0
+
+      stands : PackageStands own merged first left_out h.home.0 h.package_ → ⊥
+      stands (brought high j fresh) = no_true (sym (fresh g.home.0 g.package_ g.stands) ∙ same_packages)
+      stands (grown o d j a b) =
+          let own_name = package-name own valid_own (first.packages h.home.0) o d in
+          let g_name = package-name own valid_own g.home.0 g.package_ g.stands in
+          let again : same_package_name o.name g.package_.name ≡ true = (same_name o.name g.package_.name own_name.version g_name.version).1 (grown_identity h.home.0 o h.package_ d h.stands ∙ sym parts.0) in
+          let home : g.home.0 ≡ first.packages h.home.0 = package-once own valid_own (first.packages h.home.0) g.home.0 o g.package_ d g.stands again in
+          let one : g.package_ ≡ o = same-some g.package_ o (sym g.stands ∙ (ap (package_at own) home ∙ d)) in
+          let there_ : is_name (text_of g.def.name) (world_names o) ≡ true = ap (λ x. is_name (text_of g.def.name) (world_names x)) (sym one) ∙ found_name (text_of g.def.name) n (world_names g.package_) (listed_by_path own valid_own n path g) in
+          let new = copy_found first.worlds first.carries_world left_out (world_names o) (world_names h.package_) j.new_worlds j.joined_worlds (text_of h.def.name) m
+          (λ x y. let low = own_world_low own other merged bound other_bound first second left_out valid_own.rules valid_other.rules is (first.packages h.home.0) o d x (first.worlds m) y in let high = is.new_worlds m c in omega (arith, low, high)) (is.not_left_out m c) (listed_by_path other valid_other m path h) in
+          no_true (sym new.1 ∙ (ap (λ x. is_name x (world_names o)) (sym parts.1) ∙ there_))
+
+  module _ (path : Text) (meaning : WorldMeaning) (not_bound : path_of_world own is.own_bound ≡ Some path → ⊥) where
+    copied : (m : ℕ) (c : first.carries_world m ≡ true) → path_of_world other (is.first_worlds m c).joined.old ≡ Some path → world_meaning other (is.first_worlds m c).joined.old ≡ meaning → ShowsWorld merged path meaning
+    copied m c e d = record { number = first.worlds m; world = (is.first_worlds m c).joined.image; found = (is.first_worlds m c).joined.at_image; path_is = copy_path m c ∙ e; means = copy_means m c ∙ d }
+
+    back : ShowsWorld merged path meaning → ShowsWorld own path meaning ⊎ (((x : ShowsWorld other path meaning) × (left_out x.number ≡ false)) × ShowsNoWorld own path)
+    back x = elim (world_case own other merged bound other_bound first second left_out valid_own.rules valid_other.rules is x.number x.world x.found) [
+      | inl w ↦ inl (record { number = x.number; world = x.world; found = w.0; path_is = sym (own_path x.number x.world w.0) ∙ x.path_is; means = sym (own_means x.number x.world w.0 w.1) ∙ x.means })
+      | inr v ↦ elim v [
+        | inl b ↦ absurd (not_bound (sym bound_path ∙ (ap (path_of_world merged) b.1 ∙ x.path_is)))
+        | inr c ↦ inr (copy c.0 c.1 c.3)
+      ]
+    ]
+      where
+        copy : (m : ℕ) (c : first.carries_world m ≡ true) → (is.first_worlds m c).joined.image ≡ x.world → (((y : ShowsWorld other path meaning) × (left_out y.number ≡ false)) × ShowsNoWorld own path)
+        copy m c same =
+            let its_path : path_of_world other (is.first_worlds m c).joined.old ≡ Some path = sym (copy_path m c) ∙ (ap (path_of_world merged) same ∙ x.path_is) in (
+              (record { number = m; world = (is.first_worlds m c).joined.old; found = (is.first_worlds m c).joined.found; path_is = its_path; means = sym (copy_means m c) ∙ (ap (world_meaning merged) same ∙ x.means) }, is.not_left_out m c),
+              no_own_world m c path its_path,
+            )
+
+    from_own : ShowsWorld own path meaning → ShowsWorld merged path meaning
+    from_own x = go (x.number == bound) refl
+      where
+        go : (b : Bool) → (x.number == bound) ≡ b → ShowsWorld merged path meaning
+        go false apart = record { number = x.number; world = x.world; found = is.worlds x.number x.world x.found apart; path_is = own_path x.number x.world x.found ∙ x.path_is; means = own_means x.number x.world x.found apart ∙ x.means }
+        go true same =
+            let one : is.own_bound ≡ x.world = same-some is.own_bound x.world (sym is.bound_at ∙ (ap (world_at own) (sym (equal x.number bound same)) ∙ x.found)) in
+            absurd (not_bound (ap (path_of_world own) one ∙ x.path_is))
+
+    from_other : (x : ShowsWorld other path meaning) → left_out x.number ≡ false → ShowsNoWorld own path → ShowsWorld merged path meaning
+    from_other x kept none_such = stands (is.packages_stand h.home.0 h.package_ h.stands)
+      where
+        h : HasWorldPath other x.number path
+        h = has-world-path other x.number path (ap (option_and_then (path_of_world other)) x.found ∙ x.path_is)
+
+        held : Contains (world_names h.package_) (text_of h.def.name, x.number)
+        held = under_contains (text_of h.def.name) (world_names h.package_) x.number (some_id x.number (under_text (text_of h.def.name) (world_names h.package_)) (listed_by_path other valid_other x.number path h))
+
+        brings : first.carries_world x.number ≡ true → ShowsWorld merged path meaning
+        brings c =
+            let old : (is.first_worlds x.number c).joined.old ≡ x.world = same-some (is.first_worlds x.number c).joined.old x.world (sym (is.first_worlds x.number c).joined.found ∙ x.found) in
+            copied x.number c (ap (path_of_world other) old ∙ x.path_is) (ap (world_meaning other) old ∙ x.means)
+
+        stands : PackageStands own merged first left_out h.home.0 h.package_ → ShowsWorld merged path meaning
+        stands (brought high j fresh) = by (joined_world first.worlds first.carries_world left_out [] (world_names h.package_) j.new_worlds j.joined_worlds (text_of h.def.name) x.number held kept)
+          where
+            by : Contains {X = Text × ℕ} [] (text_of h.def.name, first.worlds x.number) ⊎ (first.carries_world x.number ≡ true) → ShowsWorld merged path meaning
+            by (inl c) = none-in (text_of h.def.name, first.worlds x.number) c
+            by (inr c) = brings c
+        stands (grown o at j a b) = by (joined_world first.worlds first.carries_world left_out (world_names o) (world_names h.package_) j.new_worlds j.joined_worlds (text_of h.def.name) x.number held kept)
+          where
+            by : Contains (world_names o) (text_of h.def.name, first.worlds x.number) ⊎ (first.carries_world x.number ≡ true) → ShowsWorld merged path meaning
+            by (inr c) = brings c
+            by (inl c) =
+                let w = found_option _ (world_at own (first.worlds x.number)) (all-contained (is_world_of own (first.packages h.home.0)) (world_names o) (text_of h.def.name, first.worlds x.number) (worlds_stand own valid_own.rules (first.packages h.home.0) o at) c) in
+                let name : text_of w.0.name ≡ text_of h.def.name = text-same (text_of w.0.name) (text_of h.def.name) (first_true _ _ w.2) in
+                let its_path : path_of_world own w.0 ≡ Some (path_in (identity_of o.name) (text_of h.def.name)) =
+                world_path own w.0
+                ∙ ((λ z. path_by own (Some (name z)) (some_id (first.packages h.home.0) (package_number w.0.«package») (second_true (text_eq (text_of w.0.name) (text_of h.def.name)) _ w.2) z))
+                ∙ ap (option_map (λ package_. path_in (identity_of package_.name) (text_of h.def.name))) at) in
+                absurd (none_such (first.worlds x.number) w.0 w.1 (its_path ∙ ap Some (ap (λ d. path_in d (text_of h.def.name)) (grown_identity h.home.0 o h.package_ at h.stands) ∙ sym h.spelled)))
+
+pub worlds_are_united : WorldsAreUnited
+worlds_are_united own other merged bound other_bound first second left_out valid_own valid_other distinct is = (
+  bound_path own other merged bound other_bound first second left_out valid_own valid_other is,
+  λ path meaning not_bound. (
+    back own other merged bound other_bound first second left_out valid_own valid_other is path meaning not_bound,
+    from_own own other merged bound other_bound first second left_out valid_own valid_other is path meaning not_bound,
+    from_other own other merged bound other_bound first second left_out valid_own valid_other is path meaning not_bound,
+  ),
+)

@@ -1,0 +1,168 @@
+//! The bytes behind forms, which are gone along only to find their end: nothing is kept of them.
+
+ghost use Rattle.std.specs.Prelude.{◌≡◌, List, ℕ, Option};
+ghost use Rattle.comp_bytes.specs.FirstByte.{defined_type_at, function_type_at};
+ghost use Rattle.comp_bytes.specs.Raw.{Labeled};
+ghost use Rattle.comp_bytes.specs.Reading.{Reader, case_at, field_at, name_at, sequence_at, value_type_at, vector_at};
+ghost use Rattle.comp_bytes.specs.declared.forms.ComponentValType.{ComponentValType as RawValueType};
+ghost use Rattle.read_follow.specs.Bodies.{behind};
+ghost use Rattle.read_follow.specs.Declares.{type_by_first};
+ghost use Rattle.read_follow.specs.Found.{Gives};
+
+use crate::definitions::{defined_type_of, result_list_of};
+use crate::front::u32_of;
+use crate::refusal::Refusal;
+use crate::vector::Form;
+use comp_bytes::ComponentValType;
+use std::alloc::Global;
+use wit_model::Cause;
+
+/// A form whose end is found.
+pub(crate) trait Skips<'a> {
+    /// What a form of it stands for.
+    ghost Raw: { Type 0 };
+
+    /// The definition that finds it.
+    ghost reader: { Reader Raw };
+
+    /// The bytes behind the form in front.
+    fn skip(alloc: Global, bytes: &'a [u8]) -> Result<&'a [u8], Refusal>
+        ensures { Gives (λ rest. rest.now) result (behind (reader bytes.now)) };
+}
+
+/// The bytes behind so many forms.
+pub(crate) fn skip_each<'a, T: Skips<'a>>(
+    alloc: Global,
+    count: u32,
+    bytes: &'a [u8],
+) -> Result<&'a [u8], Refusal>
+    ensures { Gives (λ rest. rest.now) result (behind (sequence_at T.reader count bytes.now)) }
+{
+    let mut rest = bytes;
+    for _ in 0..count {
+        match T::skip(alloc, rest) {
+            Ok(after) => rest = after,
+            Err(refusal) => return Err(refusal),
+        }
+    }
+    Ok(rest)
+}
+
+/// The bytes behind a vector.
+fn skip_vector<'a, T: Skips<'a>>(alloc: Global, bytes: &'a [u8]) -> Result<&'a [u8], Refusal>
+    ensures { Gives (λ rest. rest.now) result (behind (vector_at T.reader bytes.now)) }
+{
+    match u32_of(bytes) {
+        Ok((count, items)) => skip_each::<T>(alloc, count, items),
+        Err(refusal) => Err(refusal),
+    }
+}
+
+/// The bytes behind a form that is read and dropped.
+fn skip_read<'a, T: Form<'a> + Drop>(alloc: Global, bytes: &'a [u8]) -> Result<&'a [u8], Refusal>
+    ensures { Gives (λ rest. rest.now) result (behind (T.reader bytes.now)) }
+{
+    match T::read(alloc, bytes) {
+        Ok((_item, rest)) => Ok(rest),
+        Err(refusal) => Err(refusal),
+    }
+}
+
+impl<'a> Skips<'a> for ComponentValType {
+    ghost Raw = { RawValueType };
+
+    ghost reader = { value_type_at };
+
+    fn skip(alloc: Global, bytes: &'a [u8]) -> Result<&'a [u8], Refusal> {
+        skip_read::<ComponentValType>(alloc, bytes)
+    }
+}
+
+impl<'a> Skips<'a> for &'a str {
+    ghost Raw = { List ℕ };
+
+    ghost reader = { name_at };
+
+    fn skip(alloc: Global, bytes: &'a [u8]) -> Result<&'a [u8], Refusal> {
+        skip_read::<&'a str>(alloc, bytes)
+    }
+}
+
+impl<'a> Skips<'a> for (&'a str, ComponentValType) {
+    ghost Raw = { Labeled RawValueType };
+
+    ghost reader = { field_at };
+
+    fn skip(alloc: Global, bytes: &'a [u8]) -> Result<&'a [u8], Refusal> {
+        skip_read::<(&'a str, ComponentValType)>(alloc, bytes)
+    }
+}
+
+impl<'a> Skips<'a> for (&'a str, Option<ComponentValType>) {
+    ghost Raw = { Labeled (Option RawValueType) };
+
+    ghost reader = { case_at };
+
+    fn skip(alloc: Global, bytes: &'a [u8]) -> Result<&'a [u8], Refusal> {
+        skip_read::<(&'a str, Option<ComponentValType>)>(alloc, bytes)
+    }
+}
+
+/// The bytes behind the definition of a value type, which is read and dropped, behind its first byte, in front of which so many bytes were left.
+fn skip_small<'a>(alloc: Global, tag: u8, left: usize, bytes: &'a [u8]) -> Result<&'a [u8], Refusal>
+    ensures { Gives (λ rest. rest.now) result (behind (defined_type_at tag bytes.now)) }
+{
+    match defined_type_of(alloc, tag, left, bytes) {
+        Ok((_definition, rest)) => Ok(rest),
+        Err(refusal) => Err(refusal),
+    }
+}
+
+/// The bytes behind the definition of a value type, behind its first byte, in front of which so many bytes were left.
+fn skip_definition<'a>(
+    alloc: Global,
+    tag: u8,
+    left: usize,
+    bytes: &'a [u8],
+) -> Result<&'a [u8], Refusal>
+    ensures { Gives (λ rest. rest.now) result (behind (defined_type_at tag bytes.now)) }
+{
+    match tag {
+        0x72 => skip_vector::<(&'a str, ComponentValType)>(alloc, bytes),
+        0x71 => skip_vector::<(&'a str, Option<ComponentValType>)>(alloc, bytes),
+        0x6f => skip_vector::<ComponentValType>(alloc, bytes),
+        0x6e => skip_vector::<&'a str>(alloc, bytes),
+        0x6d => skip_vector::<&'a str>(alloc, bytes),
+        _ => skip_small(alloc, tag, left, bytes),
+    }
+}
+
+/// The bytes behind the type of a function, behind its first byte.
+fn skip_function<'a>(alloc: Global, async_: bool, bytes: &'a [u8]) -> Result<&'a [u8], Refusal>
+    ensures { Gives (λ rest. rest.now) result (behind (function_type_at async_ bytes.now)) }
+{
+    match skip_vector::<(&'a str, ComponentValType)>(alloc, bytes) {
+        Ok(rest) => match result_list_of(rest) {
+            Ok((_given, rest)) => Ok(rest),
+            Err(refusal) => Err(refusal),
+        },
+        Err(refusal) => Err(refusal),
+    }
+}
+
+/// The bytes behind the declaration of a type, behind the byte that says that it is one.
+#[tactic(auto, unfolding(crate::specs::Declares::type_by_first))]
+pub(crate) fn skip_type<'a>(alloc: Global, bytes: &'a [u8]) -> Result<&'a [u8], Refusal>
+    ensures { Gives (λ rest. rest.now) result (behind (type_by_first bytes.now)) }
+{
+    let Some((first, rest)) = bytes.split_first() else {
+        return Err(Refusal::Absent(Cause::Truncated, 0));
+    };
+    if *first == 0x40 {
+        return skip_function(alloc, false, rest);
+    }
+    if *first == 0x43 {
+        return skip_function(alloc, true, rest);
+    }
+    skip_definition(alloc, *first, bytes.len(), rest)
+}

@@ -1,0 +1,180 @@
+-- The least key that has two encodings, found one entry after the other; and encodings added to others.
+use Rattle.std.proofs.Common.{◌≡◌, refl, sym, ap, subst, ◌∙◌, ◌⊎◌, inl, inr, Bool, true, false, not, List, [], ◌∷◌, cond, Option, Some, None, String, string_eq}
+use mathlib.Core.Bool.{true≢false}
+use Rattle.std.specs.Prelude.{◌≢◌, ◌==◌}
+use Rattle.std.specs.List.{AllByRecursion, IsDistinct}
+use Rattle.std.specs.Map.{keys_of}
+use Rattle.std.specs.Option.{option_map_or}
+use Rattle.std.specs.declared.alloc.Global.{Global}
+use Rattle.std.proofs.lemmas.Slice.Eq.{bytes_eq-Decides}
+use Rattle.indexmap.specs.IndexMap.{insert_all, insert_entry}
+use Rattle.wit_model.specs.declared.model.StringEncoding.{StringEncoding}
+use Rattle.wit_model.specs.declared.model.StringEncoding.TheVariants as encodings
+use Rattle.wit_model.specs.contracts.model.StringEncodingPartialEq.TheImpl as encoding
+use Rattle.wit_model.specs.Text.{Text, text_eq, text_of}
+use Rattle.wit_model.proofs.AnyOrder.{text-same}
+use Rattle.wit_model.proofs.VersionLaws.{same_text}
+use Rattle.bind_meaning.specs.Clash.{Differ, EncodingFault, itself}
+use Rattle.bind_clash.specs.Faults.{IsLeastFault, least_of}
+use Rattle.bind_clash.proofs.LeastFaults.{of_two, one_fault, same_faults}
+use Rattle.wit_bind.specs.Encodings.{Encodings, encoding_at, kept_encodings, number_of_encoding}
+use Rattle.wit_bind.specs.Unions.{conflict_at, Gains, has_another, or_else}
+use Rattle.wit_bind.proofs.Kept.{Entries, kept_at, under, under_put}
+
+-- ---- the least of what is left, beside the least so far
+
+abbrev pub least_from : Encodings → Option Text → Entries → Option Text
+least_from m so_far [] = so_far
+least_from m so_far (e ∷ es) = least_from m (least_of so_far (conflict_at m (text_of e.0) e.1)) es
+
+-- the entry has the key, which has another encoding
+abbrev Here : Encodings → String Global × StringEncoding → Text → Type 0
+Here m e t = (t ≡ text_of e.0) × (has_another m t e.1 ≡ true)
+
+-- one of the entries does
+abbrev Among : Encodings → Entries → Text → Type 0
+Among m [] t = ⊥
+Among m (e ∷ es) t = Here m e t ⊎ Among m es t
+
+of_one : (m : Encodings) (e : String Global × StringEncoding) → IsLeastFault (Here m e) (conflict_at m (text_of e.0) e.1)
+of_one m e = by (has_another m (text_of e.0) e.1) refl
+  where
+    by : (b : Bool) → has_another m (text_of e.0) e.1 ≡ b → IsLeastFault (Here m e) (cond b (Some (text_of e.0)) None)
+    by true h = one_fault (Here m e) (text_of e.0) (refl, h) (λ s x. x.0)
+    by false h = λ t x. true≢false (sym (subst (λ (s : Text). has_another m s e.1 ≡ true) x.0 x.1) ∙ h)
+
+of_all : (m : Encodings) (P : Text → Type 0) (so_far : Option Text) (es : Entries) → IsLeastFault P so_far → IsLeastFault (λ t. P t ⊎ Among m es t) (least_from m so_far es)
+of_all m P so_far [] h = same_faults P (λ t. P t ⊎ ⊥) (λ t p. inl p) (λ t x. elim x [ inl p ↦ p | inr z ↦ absurd z ]) so_far h
+of_all m P so_far (e ∷ es) h =
+    same_faults (λ t. (P t ⊎ Here m e t) ⊎ Among m es t) (λ t. P t ⊎ Among m (e ∷ es) t) forth back
+    (least_from m (least_of so_far (conflict_at m (text_of e.0) e.1)) es)
+    (of_all m (λ t. P t ⊎ Here m e t) (least_of so_far (conflict_at m (text_of e.0) e.1)) es (of_two P (Here m e) so_far (conflict_at m (text_of e.0) e.1) h (of_one m e)))
+  where
+    forth : (t : Text) → (P t ⊎ Here m e t) ⊎ Among m es t → P t ⊎ Among m (e ∷ es) t
+    forth t (inl (inl p)) = inl p
+    forth t (inl (inr x)) = inr (inl x)
+    forth t (inr x) = inr (inr x)
+
+    back : (t : Text) → P t ⊎ Among m (e ∷ es) t → (P t ⊎ Here m e t) ⊎ Among m es t
+    back t (inl p) = inl (inl p)
+    back t (inr (inl x)) = inl (inr x)
+    back t (inr (inr x)) = inr x
+
+-- ---- another encoding
+
+itself_is : (e : StringEncoding) → not (number_of_encoding e == number_of_encoding e) ≡ false
+itself_is encodings.UTF8 = refl
+itself_is encodings.UTF16 = refl
+itself_is encodings.CompactUTF16 = refl
+
+is_another : (f e : StringEncoding) → f ≢ e → not (number_of_encoding f == number_of_encoding e) ≡ true
+is_another encodings.UTF8 encodings.UTF8 h = absurd (h refl)
+is_another encodings.UTF8 encodings.UTF16 h = refl
+is_another encodings.UTF8 encodings.CompactUTF16 h = refl
+is_another encodings.UTF16 encodings.UTF8 h = refl
+is_another encodings.UTF16 encodings.UTF16 h = absurd (h refl)
+is_another encodings.UTF16 encodings.CompactUTF16 h = refl
+is_another encodings.CompactUTF16 encodings.UTF8 h = refl
+is_another encodings.CompactUTF16 encodings.UTF16 h = refl
+is_another encodings.CompactUTF16 encodings.CompactUTF16 h = absurd (h refl)
+
+differs : (o : Option StringEncoding) (e : StringEncoding) → option_map_or (λ f. not (number_of_encoding f == number_of_encoding e)) o false ≡ true → Differ itself o (Some e)
+differs None e h = true≢false (sym h)
+differs (Some f) e h = λ same. true≢false (sym h ∙ (ap (λ (x : StringEncoding). not (number_of_encoding x == number_of_encoding e)) same ∙ itself_is e))
+
+differing : (o : Option StringEncoding) (e : StringEncoding) → Differ itself o (Some e) → option_map_or (λ f. not (number_of_encoding f == number_of_encoding e)) o false ≡ true
+differing None e h = absurd h
+differing (Some f) e h = is_another f e h
+
+none_differs : (o : Option StringEncoding) → Differ itself o None → ⊥
+none_differs None h = h
+none_differs (Some f) h = h
+
+-- ---- entries, of which no two have one key
+
+abbrev Apart : String Global → Entries → Type 0
+Apart k es = AllByRecursion (λ y. string_eq k y ≡ false) (keys_of es)
+
+not_first : (m : Encodings) (k : String Global) (es : Entries) → Apart k es → (t : Text) → Among m es t → text_eq t (text_of k) ≡ false
+not_first m k [] apart t x = absurd x
+not_first m k (e ∷ es) apart t (inr x) = not_first m k es apart.1 t x
+not_first m k (e ∷ es) apart t (inl (same, h)) = by (text_eq t (text_of k)) refl
+  where
+    by : (b : Bool) → text_eq t (text_of k) ≡ b → b ≡ false
+    by false s = refl
+    by true s = absurd (true≢false (sym (same_text (text_of k) (text_of e.0) (sym (text-same t (text_of k) s) ∙ same)) ∙ apart.0))
+
+is_fault : (m : Encodings) (es : Entries) → IsDistinct string_eq (keys_of es) → (t : Text) → Among m es t → Differ itself (encoding_at m t) (under t es)
+unfolding IsDistinct
+is_fault m [] d t x = absurd x
+is_fault m (e ∷ es) d t (inl (same, h)) =
+    subst (λ (b : Bool). Differ itself (encoding_at m t) (cond b (Some e.1) (under t es))) (sym (same_text t (text_of e.0) same)) (differs (encoding_at m t) e.1 h)
+is_fault m (e ∷ es) d t (inr x) =
+    subst (λ (b : Bool). Differ itself (encoding_at m t) (cond b (Some e.1) (under t es))) (sym (not_first m e.0 es d.0 t x)) (is_fault m es d.1 t x)
+
+is_among : (m : Encodings) (es : Entries) (t : Text) → Differ itself (encoding_at m t) (under t es) → Among m es t
+is_among m [] t h = none_differs (encoding_at m t) h
+is_among m (e ∷ es) t h = by (text_eq t (text_of e.0)) refl h (is_among m es t)
+  where
+    by : (b : Bool) → text_eq t (text_of e.0) ≡ b → Differ itself (encoding_at m t) (cond b (Some e.1) (under t es)) → (Differ itself (encoding_at m t) (under t es) → Among m es t) → Here m e t ⊎ Among m es t
+    by true s x rest = inl (text-same t (text_of e.0) s, differing (encoding_at m t) e.1 x)
+    by false s x rest = inr (rest x)
+
+pub least_is : (m : Encodings) (es : Entries) → IsDistinct string_eq (keys_of es) → IsLeastFault (EncodingFault m (kept_encodings es)) (least_from m None es)
+least_is m es d =
+    same_faults (λ t. ⊥ ⊎ Among m es t) (EncodingFault m (kept_encodings es))
+    (λ t x. elim x [ inl z ↦ absurd z | inr y ↦ subst (Differ itself (encoding_at m t)) (sym (kept_at t es)) (is_fault m es d t y) ])
+    (λ t x. inr (is_among m es t (subst (Differ itself (encoding_at m t)) (kept_at t es) x)))
+    (least_from m None es) (of_all m (λ t. ⊥) None es (λ t z. z))
+
+-- ---- added
+
+none_under : (q : Text) (k : String Global) (es : Entries) → Apart k es → text_eq q (text_of k) ≡ true → under q es ≡ None
+none_under q k [] apart s = refl
+none_under q k (e ∷ es) apart s = by (text_eq q (text_of e.0)) refl (none_under q k es apart.1 s)
+  where
+    by : (b : Bool) → text_eq q (text_of e.0) ≡ b → under q es ≡ None → cond b (Some e.1) (under q es) ≡ None
+    by false h rest = rest
+    by true h rest = absurd (true≢false (sym (same_text (text_of k) (text_of e.0) (sym (text-same q (text_of k) s) ∙ text-same q (text_of e.0) h)) ∙ apart.0))
+
+gained : (q : Text) (more es : Entries) → IsDistinct string_eq (keys_of more) → under q (insert_all string_eq es more) ≡ or_else (under q more) (under q es)
+unfolding IsDistinct
+gained q [] es d = refl
+gained q (e ∷ more) es d =
+    gained q more (insert_entry string_eq es e.0 e.1) d.1
+    ∙ (ap (or_else (under q more)) (under_put q e.0 e.1 es) ∙ by (text_eq q (text_of e.0)) refl)
+  where
+    by : (b : Bool) → text_eq q (text_of e.0) ≡ b → or_else (under q more) (cond b (Some e.1) (under q es)) ≡ or_else (cond b (Some e.1) (under q more)) (under q es)
+    by false s = refl
+    by true s = ap (λ o. or_else o (Some e.1)) (none_under q e.0 more d.0 s)
+
+-- entries that are put in order are gained
+pub gains : (more old new : Entries) → IsDistinct string_eq (keys_of more) → new ≡ insert_all string_eq old more → Gains (kept_encodings more) (kept_encodings old) (kept_encodings new)
+gains more old new d h q =
+    kept_at q new ∙ (ap (under q) h ∙ (gained q more old d ∙ (λ i. or_else (sym (kept_at q more) i) (sym (kept_at q old) i))))
+
+-- ---- one key
+
+abbrev pub conflict_for : Text → StringEncoding → Option StringEncoding → Option Text
+conflict_for key e o = cond (option_map_or (λ f. not (number_of_encoding f == number_of_encoding e)) o false) (Some key) None
+
+-- what stands under the key decides
+pub conflict_is : (m : Encodings) (es : Entries) (key : Text) (e : StringEncoding) (o : Option StringEncoding) → kept_encodings es ≡ m → o ≡ under key es → conflict_at m key e ≡ conflict_for key e o
+conflict_is m es key e o view h = ap (conflict_for key e) (ap (λ n. encoding_at n key) (sym view) ∙ (kept_at key es ∙ sym h))
+
+pub eq_is : (f e : StringEncoding) → encoding.ghosts.eq f e ≡ (number_of_encoding f == number_of_encoding e)
+eq_is encodings.UTF8 encodings.UTF8 = refl
+eq_is encodings.UTF8 encodings.UTF16 = refl
+eq_is encodings.UTF8 encodings.CompactUTF16 = refl
+eq_is encodings.UTF16 encodings.UTF8 = refl
+eq_is encodings.UTF16 encodings.UTF16 = refl
+eq_is encodings.UTF16 encodings.CompactUTF16 = refl
+eq_is encodings.CompactUTF16 encodings.UTF8 = refl
+eq_is encodings.CompactUTF16 encodings.UTF16 = refl
+eq_is encodings.CompactUTF16 encodings.CompactUTF16 = refl
+
+pub same_there : (key : Text) (f e : StringEncoding) → encoding.ghosts.eq f e ≡ true → conflict_for key e (Some f) ≡ None
+same_there key f e h = ap (λ b. cond (not b) (Some key) None) (sym (eq_is f e) ∙ h)
+
+pub another_there : (key : Text) (f e : StringEncoding) → encoding.ghosts.eq f e ≡ false → conflict_for key e (Some f) ≡ Some key
+another_there key f e h = ap (λ b. cond (not b) (Some key) None) (sym (eq_is f e) ∙ h)

@@ -1,0 +1,46 @@
+-- What is planned can be added, and what is added is behind what there was.
+use Rattle.std.proofs.Common.{◌≡◌, sym, subst, ℕ, ◌<◌, Bool, true, List, length, Result, Ok, Err, OnErr, OnOk}
+use Rattle.std.specs.Prelude.{IfOk}
+use Rattle.wit_model.specs.declared.model.Resolve.{Resolve}
+use Rattle.wit_model.specs.declared.model.WorldKey.{WorldKey}
+use Rattle.wit_model.specs.Valid.{key_eq}
+use Rattle.bind_add.specs.Growth.{are_in_range, IsAddable, IsAdded, IsSameResolve}
+use Rattle.bind_add.specs.declared.added.Added.{Added}
+use Rattle.bind_carry.proofs.Addable.{unions_are_addable}
+use Rattle.bind_copy.proofs.Gained.{test_is}
+use Rattle.wit_model.specs.contracts.model.WorldKeyPartialEq.TheImpl as world_key
+use Rattle.wit_bind.specs.declared.bindgen.Bindgen.{Bindgen}
+use Rattle.wit_bind.specs.Bindings.{IsBindgen}
+use Rattle.wit_bind.specs.Merges.{IsPlanOf}
+use Rattle.wit_bind.proofs.Refusals.{element_at}
+
+pub plan_addable : (own other : Bindgen) → IsBindgen own → IsBindgen other → (added : Added) (keys : List WorldKey) → IsPlanOf own other added keys → IsAddable own.resolve own.world.0 added
+plan_addable own other o t added keys p =
+    let w = element_at own.resolve.worlds.items own.world.0 o.in_range in
+    let v = element_at other.resolve.worlds.items other.world.0 t.in_range in
+    unions_are_addable own.resolve other.resolve own.world.0 other.world.0 p.matches w.0 v.0 added keys t.valid (p.union w.0 v.0 w.1 v.1) o.in_range p.matched.packages
+
+-- keys are told apart as the code does it
+pub added_by_key : (world : ℕ) (added : Added) (old new : Resolve) → IsAdded world_key.ghosts.eq world added old new → IsAdded key_eq world added old new
+added_by_key world added old new h = subst (λ (same : WorldKey → WorldKey → Bool). IsAdded same world added old new) test_is h
+
+-- room for more keeps what can be added
+pub addable_with_room : (world : ℕ) (added : Added) (old between : Resolve) → IsSameResolve world old between → IsAddable old world added → IsAddable between world added
+addable_with_room world added old between same h = record {
+  in_range = subst (λ (k : ℕ). are_in_range k added.names.items ≡ true) (sym same.packages.count) h.in_range;
+  different = h.different;
+  in_worlds = subst (λ (k : ℕ). world < k) (sym same.worlds) h.in_worlds;
+}
+
+pub on_err : {A E P : Type 0} → P → (r : Result A E) → OnErr r P
+on_err p (Ok x) = tt
+on_err p (Err e) = p
+
+pub on_ok : {A E P : Type 0} → P → (r : Result A E) → OnOk r P
+on_ok p (Ok x) = p
+on_ok p (Err e) = tt
+
+-- what follows of both at `Ok`
+pub if_ok_both : {X E : Type 0} (P Q R : X → Type 0) → ((x : X) → P x → Q x → R x) → (r : Result X E) → IfOk r P → IfOk r Q → IfOk r R
+if_ok_both P Q R f (Ok x) p q = f x p q
+if_ok_both P Q R f (Err e) p q = tt

@@ -1,0 +1,125 @@
+-- What comes of two bindings that don't clash, once all that the one brings is added to the other.
+use Rattle.std.proofs.Common.{◌≡◌, sym, ap, ◌∙◌, ℕ, false, List, [], ◌++◌, map, Some}
+use Rattle.std.specs.Map.{keys_of}
+use Rattle.std.specs.Option.{option_map_or}
+use Rattle.wit_model.specs.declared.model.Resolve.{Resolve}
+use Rattle.wit_model.specs.declared.model.World.{World}
+use Rattle.wit_model.specs.declared.model.WorldId.{WorldId}
+use Rattle.wit_model.specs.declared.model.WorldKey.{WorldKey}
+use Rattle.wit_model.specs.Lookup.{key_text, world_at}
+use Rattle.bind_add.specs.declared.added.Added.{Added}
+use Rattle.bind_carry.specs.AddedApart.{AreMatchedByName}
+use Rattle.bind_carry.specs.AddedKeys.{key_view}
+use Rattle.bind_carry.specs.Apart.{IsApart}
+use Rattle.bind_carry.specs.First.{first_fates}
+use Rattle.bind_carry.specs.MatchedSame.{AreMatchedAt, NoneOfPath}
+use Rattle.bind_carry.specs.Renumbered.{first_of}
+use Rattle.bind_carry.specs.SecondPass.{is_left_out, second_pass_of}
+use Rattle.bind_carry.specs.Union.{IsUnionOf}
+use Rattle.bind_carry.specs.Which.{AreMatchedAll}
+use Rattle.bind_carry.proofs.NamesMerged.{names_are_merged}
+use Rattle.bind_carry.proofs.MergedUnion.{unions_are_merged}
+use Rattle.bind_carry.proofs.UnionApart.{unions_are_apart}
+use Rattle.bind_carry.proofs.UnionDistinct.{unions_have_distinct_keys}
+use Rattle.bind_carry.proofs.UnionKeys.{exports_come_behind, keys_keep_texts}
+use Rattle.bind_match.specs.Matching.{is_root_world}
+use Rattle.bind_meaning.specs.Clash.{CanUnite}
+use Rattle.bind_meaning.specs.Union.{union}
+use Rattle.bind_union.proofs.BoundMeanings.{bound_means}
+use Rattle.bind_union.proofs.Valid.{merged_is_valid}
+use Rattle.wit_bind.specs.declared.bindgen.Bindgen.{Bindgen}
+use Rattle.wit_bind.specs.Bindings.{binding_of, IsBindgen}
+use Rattle.wit_bind.specs.Extends.{Extends, listed_names, merged_names}
+use Rattle.wit_bind.specs.MergedLaws.{AgreeByNumbers, IsUnited}
+use Rattle.wit_bind.specs.Merges.{export_keys, IsGrownBy, IsPlanOf}
+use Rattle.wit_bind.proofs.Extending.{grown_extend}
+use Rattle.wit_bind.proofs.MatchedPaths.{matches_have_paths}
+use Rattle.wit_bind.proofs.NumbersAgree.{united_agree_by_numbers}
+use Rattle.wit_bind.proofs.Refusals.{element_at}
+use Rattle.wit_bind.proofs.UnionBound.{united_are_the_union}
+
+module _ (own other new : Bindgen) (o : IsBindgen own) (t : IsBindgen other) (can : CanUnite (binding_of own) (binding_of other)) (added : Added) (keys : List WorldKey) (p : IsPlanOf own other added keys) (g : IsGrownBy added other.metadata own new) where
+  abbrev r : Resolve
+  r = own.resolve
+
+  abbrev s : Resolve
+  s = other.resolve
+
+  -- ---- what is given
+
+  bound : (w : World) × (world_at r own.world.0 ≡ Some w)
+  bound = element_at r.worlds.items own.world.0 o.in_range
+
+  other-bound : (v : World) × (world_at s other.world.0 ≡ Some v)
+  other-bound = element_at s.worlds.items other.world.0 t.in_range
+
+  abbrev w : World
+  w = bound.0
+
+  abbrev v : World
+  v = other-bound.0
+
+  planned : IsUnionOf r s own.world.0 other.world.0 p.matches w v added keys
+  planned = p.union w v bound.1 other-bound.1
+
+  paths : AreMatchedAll s p.matches × AreMatchedAt r s p.matches.interfaces.items planned.carried.packages.items × NoneOfPath r s p.matches.interfaces.items
+  paths = matches_have_paths own other o t can p.matches p.matched own.world.0 other.world.0 w v added keys planned
+
+  agree : AgreeByNumbers r s w v
+  agree = united_agree_by_numbers own other o t can w v bound.1 other-bound.1
+
+  by-name : AreMatchedByName r s p.matches
+  by-name = record { packages = p.matched.packages; interfaces = p.matched.interfaces; worlds = p.matched.worlds }
+
+  -- ---- the union
+
+  -- what is left out is the root world
+  root-left-out : (n : ℕ) (x : World) → world_at s n ≡ Some x → is_left_out s n ≡ is_root_world s x
+  root-left-out n x at = ap (λ y. option_map_or (is_root_world s) y false) at
+
+  united : IsUnited own other new
+  united = record {
+    first = first_of p.matches.interfaces.items planned.carried (first_fates r s p.matches.interfaces.items planned.carried) planned.types;
+    second = second_pass_of r s p.matches planned.carried own.world.0 other.world.0 w v planned.second.copied planned.second.interfaces planned.types planned.second.types;
+    left_out = is_left_out s;
+    merged = unions_are_merged r s new.resolve own.world.0 other.world.0 p.matches w v added keys planned o.valid t.valid g.all_added p.few bound.1 other-bound.1 p.matched.packages p.matched.interfaces p.matched.worlds
+        paths.1 paths.2 agree.bound agree.no_world agree.no_interface;
+    root = root-left-out;
+    distinct = unions_have_distinct_keys r s new.resolve own.world.0 other.world.0 p.matches w v added keys planned o.valid t.valid g.all_added bound.1 other-bound.1 paths.0 paths.1 paths.2;
+    world = g.world;
+    imports = g.imports;
+    exports = g.exports;
+  }
+
+  pub merged_are_the_union : IsBindgen new × (binding_of new ≡ union (binding_of own) (binding_of other))
+  merged_are_the_union = united_are_the_union merged_is_valid bound_means own other new o t can united
+
+  -- ---- what was there
+
+  apart : IsApart added r own.world.0
+  apart = unions_are_apart r s own.world.0 other.world.0 p.matches w v added keys planned o.valid t.valid bound.1 other-bound.1 by-name paths.1 paths.2
+
+  pub merged_extend : Extends r new.resolve own.world.0
+  merged_extend = grown_extend added other.metadata own new o.in_range apart g
+
+  pub merged_order : listed_names new.resolve ≡ merged_names (listed_names r) (listed_names s)
+  merged_order = names_are_merged r s new.resolve own.world.0 other.world.0 p.matches w v added keys planned o.valid t.valid g.all_added by-name
+
+  -- ---- exports
+
+  number : new.world.0 ≡ own.world.0
+  number = ap (λ (k : WorldId). k.0) g.world
+
+  -- the keys that are answered are those of the new ones
+  pub merged_exports : map key_view (export_keys new.resolve new.world.0) ≡ map key_view (export_keys r own.world.0 ++ keys)
+  merged_exports =
+      let x = merged_extend.bound_world w bound.1 in
+      ap (λ k. map key_view (export_keys new.resolve k)) number
+      ∙ (ap (λ y. map key_view (option_map_or (λ (z : World). keys_of z.exports.entries) y [])) x.1
+      ∙ (exports_come_behind r s new.resolve own.world.0 other.world.0 p.matches w v added keys planned o.valid t.valid g.all_added bound.1 other-bound.1 paths.0 paths.1 paths.2 agree.bound.exports x.0 x.1
+      ∙ sym (ap (λ y. map key_view (option_map_or (λ (z : World). keys_of z.exports.entries) y [] ++ keys)) bound.1)))
+
+  pub merged_answer : map (key_text new.resolve) keys ≡ map (key_text s) (export_keys s other.world.0)
+  merged_answer =
+      keys_keep_texts r s new.resolve own.world.0 other.world.0 p.matches w v added keys planned o.valid t.valid g.all_added bound.1 other-bound.1 paths.0 p.matched.packages paths.1 paths.2
+      ∙ sym (ap (λ y. map (key_text s) (option_map_or (λ (x : World). keys_of x.exports.entries) y [])) other-bound.1)

@@ -1,0 +1,100 @@
+-- Bindings that unite, by the entries and the numbers of their `Resolve`s.
+use Rattle.std.proofs.Common.{◌≡◌, ◌≢◌, refl, sym, ap, subst, ◌∙◌, ℕ, Bool, true, false, cond, List, map, Option, Some, None, option_and_then, Contains}
+use mathlib.Core.Bool.{true≢false}
+use Rattle.std.specs.FinMap.{get}
+use Rattle.std.specs.Ordering.{eq_by_cmp}
+use Rattle.std.specs.Option.{option_map_or}
+use Rattle.wit_model.specs.declared.model.Interface.{Interface}
+use Rattle.wit_model.specs.declared.model.Resolve.{Resolve}
+use Rattle.wit_model.specs.declared.model.World.{World}
+use Rattle.wit_model.specs.declared.model.WorldItem.{WorldItem}
+use Rattle.wit_model.specs.declared.model.WorldKey.{WorldKey}
+use Rattle.wit_model.specs.Text.{Text, text_cmp}
+use Rattle.wit_model.specs.Lookup.{interface_at, key_text, path_of_interface, path_of_world, world_at}
+use Rattle.wit_model.specs.Meaning.{Entry, InterfaceMeaning, WorldMeaning, entry_sense}
+use Rattle.wit_model.specs.Meant.{entries_meaning, entry_meaning, interface_meaning_at, no_world, world_meaning, world_meaning_at}
+use Rattle.wit_model.specs.Rules.{are_distinct}
+use Rattle.wit_model.proofs.Elements.{contains-map}
+use Rattle.bind_match.specs.Matching.{is_root_world}
+use Rattle.bind_meaning.specs.Binding.{Stand}
+use Rattle.bind_meaning.specs.Clash.{Agree, CanUnite, carried_worlds, entry_under}
+use Rattle.bind_meaning.specs.Roots.{root_path}
+use Rattle.bind_meaning.proofs.Maps.{by_tie, get-without}
+use Rattle.bind_meaning.proofs.WorldBindings.{exports-distinct, imports-distinct, interface-found, world-found}
+use Rattle.bind_clash.proofs.KeysMatched.{found-distinct}
+use Rattle.bind_clash.proofs.PathsMatched.{has-root, world-path-of}
+use Rattle.wit_bind.specs.declared.bindgen.Bindgen.{Bindgen}
+use Rattle.wit_bind.specs.Bindings.{binding_of, IsBindgen}
+use Rattle.wit_bind.specs.MergedLaws.{AgreeByNumbers, UnitedAgreeByNumbers}
+use Rattle.wit_bind.proofs.MatchedPaths.{agreed}
+
+-- both are known
+known : {X Y : Type 0} (o : Option X) (p : Option Y) (x : X) (y : Y) → o ≡ Some x → p ≡ Some y → Stand o p
+known {X} {Y} o p x y e f = subst (λ (z : Option Y). Stand {X = X} {Y = Y} o z) (sym f) (subst (λ (z : Option X). Stand {X = X} {Y = Y} z (Some y)) (sym e) tt)
+
+-- an entry is found under its key
+entry-found : (r : Resolve) (es : List (WorldKey × WorldItem)) (x : WorldKey × WorldItem) → are_distinct (map (λ (e : Text × Entry InterfaceMeaning). e.0) (entries_meaning r es)) ≡ true → Contains es x
+    → entry_under (key_text r x.0) (entries_meaning r es) ≡ Some (entry_meaning r x.1)
+entry-found r es x d c = found-distinct (entries_meaning r es) (key_text r x.0) (entry_meaning r x.1) d (contains-map (λ (e : WorldKey × WorldItem). (key_text r e.0, entry_meaning r e.1)) es x c)
+
+module _ (own other : Bindgen) (o : IsBindgen own) (t : IsBindgen other) (can : CanUnite (binding_of own) (binding_of other)) (w v : World) (at_w : world_at own.resolve own.world.0 ≡ Some w) (at_v : world_at other.resolve other.world.0 ≡ Some v) where
+  abbrev r : Resolve
+  r = own.resolve
+
+  abbrev s : Resolve
+  s = other.resolve
+
+  ours : world_meaning r w ≡ (binding_of own).bound
+  ours = sym (ap (λ (z : Option World). option_map_or (world_meaning r) z no_world) at_w)
+
+  theirs : world_meaning s v ≡ (binding_of other).bound
+  theirs = sym (ap (λ (z : Option World). option_map_or (world_meaning s) z no_world) at_v)
+
+  own-import : (x : WorldKey × WorldItem) → Contains w.imports.entries x → entry_under (key_text r x.0) (binding_of own).bound.imports ≡ Some (entry_meaning r x.1)
+  own-import x c = ap (λ (b : WorldMeaning). entry_under (key_text r x.0) b.imports) (sym ours) ∙ entry-found r w.imports.entries x (imports-distinct r o.valid own.world.0 w at_w) c
+
+  other-import : (x : WorldKey × WorldItem) → Contains v.imports.entries x → entry_under (key_text s x.0) (binding_of other).bound.imports ≡ Some (entry_meaning s x.1)
+  other-import x c = ap (λ (b : WorldMeaning). entry_under (key_text s x.0) b.imports) (sym theirs) ∙ entry-found s v.imports.entries x (imports-distinct s t.valid other.world.0 v at_v) c
+
+  own-export : (x : WorldKey × WorldItem) → Contains w.exports.entries x → entry_under (key_text r x.0) (binding_of own).bound.exports ≡ Some (entry_meaning r x.1)
+  own-export x c = ap (λ (b : WorldMeaning). entry_under (key_text r x.0) b.exports) (sym ours) ∙ entry-found r w.exports.entries x (exports-distinct r o.valid own.world.0 w at_w) c
+
+  other-export : (x : WorldKey × WorldItem) → Contains v.exports.entries x → entry_under (key_text s x.0) (binding_of other).bound.exports ≡ Some (entry_meaning s x.1)
+  other-export x c = ap (λ (b : WorldMeaning). entry_under (key_text s x.0) b.exports) (sym theirs) ∙ entry-found s v.exports.entries x (exports-distinct s t.valid other.world.0 v at_v) c
+
+  imports-agree : (x e : WorldKey × WorldItem) → Contains w.imports.entries x → Contains v.imports.entries e → key_text r x.0 ≡ key_text s e.0 → entry_sense (entry_meaning r x.1) ≡ entry_sense (entry_meaning s e.1)
+  imports-agree x e c d same =
+      agreed entry_sense (entry_under (key_text s e.0) (binding_of own).bound.imports) (entry_under (key_text s e.0) (binding_of other).bound.imports) (entry_meaning r x.1) (entry_meaning s e.1) (can.imports (key_text s e.0))
+      (ap (λ (k : Text). entry_under k (binding_of own).bound.imports) (sym same) ∙ own-import x c) (other-import e d)
+
+  exports-apart : (x e : WorldKey × WorldItem) → Contains w.exports.entries x → Contains v.exports.entries e → key_text r x.0 ≡ key_text s e.0 → ⊥
+  exports-apart x e c d same =
+      can.exports (key_text s e.0)
+      (known (entry_under (key_text s e.0) (binding_of own).bound.exports) (entry_under (key_text s e.0) (binding_of other).bound.exports) (entry_meaning r x.1) (entry_meaning s e.1)
+      (ap (λ (k : Text). entry_under k (binding_of own).bound.exports) (sym same) ∙ own-export x c) (other-export e d))
+
+  no-own-world : (n : ℕ) (i : Interface) (k : ℕ) (x : World) (path : Text) → interface_at s n ≡ Some i → path_of_interface s i ≡ Some path → world_at r k ≡ Some x → path_of_world r x ≡ Some path → ⊥
+  no-own-world n i k x path at e there f =
+      can.no_interface path
+      (known (get (binding_of own).worlds path) (get (binding_of other).interfaces path) (world_meaning_at r k) (interface_meaning_at s n)
+      (world-found r o.valid k path (ap (option_and_then (path_of_world r)) there ∙ f)) (interface-found s t.valid n path (ap (option_and_then (path_of_interface s)) at ∙ e)))
+
+  carried-found : (k : ℕ) (x : World) (path : Text) → world_at s k ≡ Some x → is_root_world s x ≡ false → path_of_world s x ≡ Some path → get (carried_worlds (binding_of other)) path ≡ Some (world_meaning_at s k)
+  carried-found k x path at not e = get-without (binding_of other).worlds root_path path ∙ by (eq_by_cmp text_cmp path root_path) refl
+    where
+      by : (b : Bool) → eq_by_cmp text_cmp path root_path ≡ b → cond b None (get (binding_of other).worlds path) ≡ Some (world_meaning_at s k)
+      by false q = world-found s t.valid k path (ap (option_and_then (path_of_world s)) at ∙ e)
+      by true q = absurd (true≢false (sym (has-root s t.valid x path (world-path-of s t.valid k x at path e) (by_tie path root_path q)) ∙ not))
+
+  no-own-interface : (n : ℕ) (i : Interface) (k : ℕ) (x : World) (path : Text) → interface_at r n ≡ Some i → path_of_interface r i ≡ Some path → world_at s k ≡ Some x → is_root_world s x ≡ false → path_of_world s x ≡ Some path → ⊥
+  no-own-interface n i k x path at e there not f =
+      can.no_world path
+      (known (get (binding_of own).interfaces path) (get (carried_worlds (binding_of other)) path) (interface_meaning_at r n) (world_meaning_at s k)
+      (interface-found r o.valid n path (ap (option_and_then (path_of_interface r)) at ∙ e)) (carried-found k x path there not f))
+
+pub united_agree_by_numbers : UnitedAgreeByNumbers
+united_agree_by_numbers own other o t can w v at_w at_v = record {
+  bound = record { imports = imports-agree own other o t can w v at_w at_v; exports = exports-apart own other o t can w v at_w at_v };
+  no_world = no-own-world own other o t can w v at_w at_v;
+  no_interface = no-own-interface own other o t can w v at_w at_v;
+}

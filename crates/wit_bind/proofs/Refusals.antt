@@ -1,0 +1,78 @@
+-- Why bindings can't be united, or that they can, from what is compared by numbers.
+use Rattle.std.proofs.Common.{◌≡◌, refl, sym, subst, ◌∙◌, ◌⊎◌, inl, inr, arith, ℕ, ◌<◌, zero, suc, length, List, [], ◌∷◌, Some, slice_get, Option, String}
+use Rattle.std.specs.declared.alloc.Global.{Global}
+use Rattle.wit_model.specs.declared.error.Error.{Error}
+use Rattle.wit_model.specs.declared.error.Error.TheVariants as errors
+use Rattle.wit_model.specs.declared.error.ClashKind.{ClashKind}
+use Rattle.wit_model.specs.declared.error.ClashKind.TheVariants as kinds
+use Rattle.wit_model.specs.declared.model.World.{World}
+use Rattle.wit_model.specs.Lookup.{world_at}
+use Rattle.wit_model.specs.Text.{Text, optional_text, text_of}
+use Rattle.bind_match.specs.declared.matches.Matches.{Matches}
+use Rattle.bind_meaning.specs.Clash.{EncodingFault, IsClash, IsLeast, NoFault}
+use Rattle.bind_clash.specs.Faults.{HasNoClash, IsClashAt, IsFaultError, IsLeastFault, IsMatched}
+use Rattle.bind_clash.specs.Laws.{AreWorlds}
+use Rattle.bind_clash.proofs.ClashesMeant.{clashes_are_of_bindings, encodings_clash_last}
+use Rattle.wit_bind.specs.declared.bindgen.Bindgen.{Bindgen}
+use Rattle.wit_bind.specs.declared.metadata.ModuleMetadata.{ModuleMetadata}
+use Rattle.wit_bind.specs.Bindings.{binding_of, IsBindgen}
+use Rattle.wit_bind.specs.Merges.{IsEncodingRefusal, IsMergeRefusal}
+
+-- an element by its number
+pub element_at : {X : Type 0} (xs : List X) (n : ℕ) → n < length xs → (x : X) × (slice_get xs n ≡ Some x)
+element_at [] n h = absurd (omega (arith, h))
+element_at (x ∷ xs) zero h = (x, refl)
+element_at (x ∷ xs) (suc n) h = element_at xs n (omega (arith, h))
+
+-- ---- encodings
+
+-- a fault of imported encodings is the refusal
+pub imported_refused : (own other : ModuleMetadata) (f : Option (String Global)) (e : Error) → IsFaultError kinds.Encoding f e → IsLeastFault (EncodingFault own.import_encodings other.import_encodings) (optional_text f) → IsEncodingRefusal own other e
+imported_refused own other f e h p =
+    subst (IsEncodingRefusal own other) (sym h.2) (refl, inl (subst (λ (o : Option (String Global)). IsLeastFault (EncodingFault own.import_encodings other.import_encodings) (optional_text o)) h.1 p))
+
+-- and so is one of exported ones, where imported ones have none
+pub exported_refused : (own other : ModuleMetadata) (f : Option (String Global)) (e : Error) → NoFault (EncodingFault own.import_encodings other.import_encodings) → IsFaultError kinds.Encoding f e
+    → IsLeastFault (EncodingFault own.export_encodings other.export_encodings) (optional_text f) → IsEncodingRefusal own other e
+exported_refused own other f e none h p =
+    subst (IsEncodingRefusal own other) (sym h.2) (refl, inr (none, subst (λ (o : Option (String Global)). IsLeastFault (EncodingFault own.export_encodings other.export_encodings) (optional_text o)) h.1 p))
+
+pub memory_refused : (own other : ModuleMetadata) (e : Error) → e ≡ errors.Memory → IsEncodingRefusal own other e
+memory_refused own other e h = subst (IsEncodingRefusal own other) (sym h) tt
+
+-- ---- bindings
+
+module _ (own other : Bindgen) (o : IsBindgen own) (t : IsBindgen other) (m : Matches) (matched : IsMatched own.resolve other.resolve m) where
+  abbrev pub ClashesNowhere : Type 0
+  ClashesNowhere = (w v : World) → world_at own.resolve own.world.0 ≡ Some w → world_at other.resolve other.world.0 ≡ Some v → HasNoClash own.resolve other.resolve m own.world.0 other.world.0 w v
+
+  pub own_world : (w : World) × (world_at own.resolve own.world.0 ≡ Some w)
+  own_world = element_at own.resolve.worlds.items own.world.0 o.in_range
+
+  pub other_world : (v : World) × (world_at other.resolve other.world.0 ≡ Some v)
+  other_world = element_at other.resolve.worlds.items other.world.0 t.in_range
+
+  pub worlds : AreWorlds own.resolve other.resolve m own.world.0 other.world.0 own_world.0 other_world.0
+  worlds = record { own_valid = o.valid; other_valid = t.valid; matched = matched; own_at = own_world.1; other_at = other_world.1 }
+
+  pub memory_is : (e : Error) → e ≡ errors.Memory → IsMergeRefusal own other e
+  memory_is e h = subst (IsMergeRefusal own other) (sym h) tt
+
+  -- what clashes by numbers is the refusal
+  pub clash_is : (e : Error) → ((w v : World) → world_at own.resolve own.world.0 ≡ Some w → world_at other.resolve other.world.0 ≡ Some v → IsClashAt own.resolve other.resolve m own.world.0 other.world.0 w v e) → IsMergeRefusal own other e
+  clash_is e h = by (clashes_are_of_bindings own.resolve other.resolve m own.world.0 other.world.0 own_world.0 other_world.0 worlds
+      own.metadata.import_encodings own.metadata.export_encodings other.metadata.import_encodings other.metadata.export_encodings e (h own_world.0 other_world.0 own_world.1 other_world.1))
+    where
+      by : (e ≡ errors.Memory) ⊎ ((kind : ClashKind) × (key : String Global) × (e ≡ errors.Clash kind key) × IsClash (binding_of own) (binding_of other) kind (text_of key)) → IsMergeRefusal own other e
+      by (inl memory) = subst (IsMergeRefusal own other) (sym memory) tt
+      by (inr c) = subst (IsMergeRefusal own other) (sym c.2) c.3
+
+  -- what clashes in encodings is, where nothing else clashes
+  pub encodings_are : ClashesNowhere → (e : Error) → IsEncodingRefusal own.metadata other.metadata e → IsMergeRefusal own other e
+  encodings_are none errors.Memory h = tt
+  encodings_are none (errors.Clash kind key) h =
+      subst (λ (k : ClashKind). IsClash (binding_of own) (binding_of other) k (text_of key)) (sym h.0)
+      (encodings_clash_last own.resolve other.resolve m own.world.0 other.world.0 own_world.0 other_world.0 worlds
+      own.metadata.import_encodings own.metadata.export_encodings other.metadata.import_encodings other.metadata.export_encodings
+      (none own_world.0 other_world.0 own_world.1 other_world.1) (text_of key) h.1)
+  encodings_are none e h = absurd h
