@@ -1,6 +1,5 @@
 mod BindingsLaws
 mod DemoLaws
-mod NamedLaws
-mod PrintedLaws
+mod MemberLaws
 mod RefusedLaws
 mod RunLaws

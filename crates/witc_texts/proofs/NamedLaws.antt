@@ -14,7 +14,7 @@ use Rattle.wit_model.specs.Valid.{IsValid, is_place, numbers_in_range}
 use Rattle.wit_model.proofs.Elements.{all-contained}
 use Rattle.wit_model.proofs.Entries.{each_from_at, lists_pass}
 use Rattle.wit_model.proofs.Lists.{second_true}
-use Rattle.witc.specs.Named.{NamesWorld, world_named}
+use Rattle.witc_texts.specs.Named.{NamesWorld, world_named}
 
 stands : {X : Type 0} (xs : List X) (n : ℕ) → nat_lt n (length xs) ≡ true → (x : X) × (slice_get xs n ≡ Some x)
 stands {X = X} xs n h = by (slice_get_cases xs n).1

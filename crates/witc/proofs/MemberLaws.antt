@@ -1,11 +1,10 @@
--- The text of a package that was printed, and the bytes of the demo's that were encoded.
-use Rattle.std.proofs.Common.{◌≡◌, ◌||◌, ℕ, Bool, true, false, refl, sym, ap, subst, ◌∙◌, List, [], ◌∷◌, codes, map, Option, Some, None, option_map}
+-- The demo's package holds a world.
+use Rattle.std.proofs.Common.{◌≡◌, ◌||◌, Bool, true, false, refl, sym, ap, ◌∙◌, List, [], ◌∷◌, codes, map, Some, option_map}
 use Rattle.std.specs.declared.alloc.Global.{Global}
 use Rattle.std.specs.Prelude.{String}
 use Rattle.comp_meaning.specs.Follow.{is_filled}
 use Rattle.wit_component.specs.Packages.{HasMembers}
 use Rattle.wit_model.specs.declared.model.Package.{Package}
-use Rattle.wit_model.specs.declared.model.PackageId.{PackageId}
 use Rattle.wit_model.specs.declared.model.Resolve.{Resolve}
 use Rattle.wit_model.specs.declared.model.WorldId.{WorldId}
 use Rattle.wit_model.specs.Lookup.{package_at}
@@ -13,14 +12,8 @@ use Rattle.wit_model.specs.Meaning.{PackageMeaning, WorldMeaning}
 use Rattle.wit_model.specs.Meant.{Meant, package_meaning, world_meaning_at}
 use Rattle.wit_model.specs.Text.{Text, text_of}
 use Rattle.wit_model.proofs.Elements.{same-some}
-use Rattle.print_output.proofs.RenderLaws.{Moves-writes}
-use Rattle.print_grammar.specs.AsRead.{file_as_read}
-use Rattle.print_grammar.specs.Calls.{file_calls}
-use Rattle.print_output.specs.OutputCall.{Moves, View}
-use Rattle.print_grammar.specs.Reading.{IsOnlyReading}
-use Rattle.print_output.specs.Render.{Written, blank, render, writes}
-use Rattle.wit_print.specs.Shown.{shown_file}
 use Rattle.witc.specs.Demo.{demo, foo}
+<<<<<<< HEAD:crates/witc/proofs/PrintedLaws.antt
 use Rattle.witc.specs.Printed.{IsTextOf}
 
 -- what an output holds that was blank before the calls
@@ -29,6 +22,8 @@ pub printed : (r : Resolve) (id : PackageId) (nested : List PackageId) (text : L
 printed r id nested text new moved is reads =
     let rendered : text ≡ render (file_calls true (shown_file r id nested)) = is ∙ ap (λ (v : View Written). v.kept.text) (Moves-writes moved) in
     record { rendered = rendered; reads = subst (λ (t : List ℕ). IsOnlyReading t (file_as_read (shown_file r id nested))) (sym rendered) reads }
+=======
+>>>>>>> 2521c7da (witc_texts: what is over byte slices, for the program and a static library (not checked); witc_ffi begun):crates/witc/proofs/MemberLaws.antt
 
 -- a package that means the demo's holds a world
 pub holds-world : (r : Resolve) (p : Package) → package_at r 0 ≡ Some p → Meant r 0 demo → HasMembers p

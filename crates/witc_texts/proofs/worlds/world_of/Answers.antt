@@ -1,8 +1,8 @@
 use Rattle.std.proofs.Common.{refl, sym, ap, ◌∙◌, Some, None}
 use Rattle.std.specs.Option.{option_copied}
 use Rattle.std.proofs.lemmas.Option.{slice_get_read}
-use Rattle.witc.proofs.NamedLaws.{found}
-use Rattle.witc.proofs.worlds.world_of.Goals as goal
+use Rattle.witc_texts.proofs.NamedLaws.{found}
+use Rattle.witc_texts.proofs.worlds.world_of.Goals as goal
 
 pub returns-in-Some : goal.returns-in-Some
 returns-in-Some c =

@@ -1,0 +1,3 @@
+mod NamedLaws
+mod PrintedLaws
+mod RefusedLaws
