@@ -7,8 +7,8 @@ use Rattle.witc.specs.Words.{Asked, compat}
 use Rattle.witc.specs.Worlds.{ComparesInput}
 use Rattle.witc.specs.declared.refusal.Refusal.{Refusal}
 use Rattle.witc_texts.specs.Lines.{compatible, no_such_world, usage}
-use Rattle.witc_texts.specs.declared.compat.Compared.{Compared}
-use Rattle.witc_texts.specs.declared.compat.Compared.TheVariants as compared
+use Rattle.witc_texts.specs.declared.comparison.Compared.{Compared}
+use Rattle.witc_texts.specs.declared.comparison.Compared.TheVariants as compared
 
 -- what is true of each value is true of an answer
 pub if-ok : {X E : Type 0} (P Q : X → Type 0) → ((x : X) → P x → Q x) → (r : Result X E) → IfOk r P → IfOk r Q

@@ -15,8 +15,8 @@ use Rattle.witc.specs.Words.{Asked, demo_text, demo_hex, print, module_text, str
 use Rattle.witc.specs.Worlds.{ComparesInput}
 use Rattle.witc.specs.declared.refusal.Refusal.{Refusal}
 use Rattle.witc_texts.specs.Lines.{compatible, no_such_world, usage}
-use Rattle.witc_texts.specs.declared.compat.Compared.{Compared}
-use Rattle.witc_texts.specs.declared.compat.Compared.TheVariants as compared
+use Rattle.witc_texts.specs.declared.comparison.Compared.{Compared}
+use Rattle.witc_texts.specs.declared.comparison.Compared.TheVariants as compared
 
 -- This text is what was asked for. The demo's commands leave the reader alone, the others read all that it has left.
 abbrev pub IsDone : Option (List ℕ) → Option (List ℕ) → Asked → List ℕ → Type 0

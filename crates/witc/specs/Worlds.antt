@@ -6,7 +6,7 @@ use Rattle.witc.specs.Input.{ReadsWhole}
 use Rattle.witc.specs.declared.refusal.Refusal.{Refusal}
 use Rattle.witc.specs.declared.refusal.Refusal.TheVariants as refusals
 use Rattle.witc_texts.specs.Worlds.{ComparesBytes, RefusesCompared}
-use Rattle.witc_texts.specs.declared.compat.Compared.{Compared}
+use Rattle.witc_texts.specs.declared.comparison.Compared.{Compared}
 
 -- All that a reader has left means a package, and this comes of the names in it.
 pub record ComparesInput (left rest : Option (List ℕ)) (prev new : List ℕ) (c : Compared) : Type 0 where

@@ -6,7 +6,7 @@ use Rattle.wit_component.specs.Decoded.{MeansNothing}
 use Rattle.witc_texts.specs.Lines.{compatible, no_such_world, usage}
 use Rattle.witc_texts.specs.Printed.{PrintsBytes}
 use Rattle.witc_texts.specs.Worlds.{ComparesBytes, RefusesCompared}
-use Rattle.witc_texts.specs.declared.compat.Compared.TheVariants as compared
+use Rattle.witc_texts.specs.declared.comparison.Compared.TheVariants as compared
 use Rattle.witc_ffi.specs.Outcomes.{IsNoLack}
 
 -- The text of the package that the bytes mean; or they mean none; or memory was wanting, and there are no bytes. What a refusal's text says is

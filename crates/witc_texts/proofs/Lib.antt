@@ -1,3 +1,3 @@
 mod NamedLaws
+mod PassedLaws
 mod PrintedLaws
-mod RefusedLaws

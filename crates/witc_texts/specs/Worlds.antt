@@ -7,8 +7,8 @@ use Rattle.wit_model.specs.declared.model.World.{World}
 use Rattle.wit_component.specs.Compatible.{Accepts, IsRefused}
 use Rattle.wit_component.specs.Decoded.{IsDecoded, RefusesBytes}
 use Rattle.witc_texts.specs.Named.{world_named}
-use Rattle.witc_texts.specs.declared.compat.Compared.{Compared}
-use Rattle.witc_texts.specs.declared.compat.Compared.TheVariants as compared
+use Rattle.witc_texts.specs.declared.comparison.Compared.{Compared}
+use Rattle.witc_texts.specs.declared.comparison.Compared.TheVariants as compared
 
 -- What comes of two names. The first is looked for first.
 pub data ComparesTo (r : Resolve) (n : ℕ) (prev new : List ℕ) : Compared → Type 0 where

@@ -8,7 +8,7 @@ use Rattle.print_grammar.specs.Reading.{IsOnlyReading}
 use Rattle.print_output.specs.Render.{Written, render, writes}
 use Rattle.wit_print.specs.Shown.{shown_file}
 use Rattle.witc_texts.proofs.PrintedLaws.{printed}
-use Rattle.witc_texts.proofs.print.text_of_package.Goals as goal
+use Rattle.witc_texts.proofs.packages.text_of_package.Goals as goal
 
 pub returns-clause-text : goal.returns-clause-text
 returns-clause-text c =
