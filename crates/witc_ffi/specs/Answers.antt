@@ -1,5 +1,5 @@
 -- What the status of each call and its bytes say, of the bytes and names handed in.
-use Rattle.std.specs.Prelude.{◌≡◌, ◌&&◌, ℕ, List, [], true, false}
+use Rattle.std.specs.Prelude.{◌≡◌, ◌&&◌, ℕ, List, [], false}
 use Rattle.std.specs.Str.{is_utf8}
 use Rattle.wit_model.specs.declared.error.Error.{Error}
 use Rattle.wit_component.specs.Decoded.{MeansNothing}
@@ -12,16 +12,16 @@ use Rattle.witc_ffi.specs.Outcomes.{IsNoLack}
 -- The text of the package that the bytes mean; or they mean none; or memory was wanting, and there are no bytes. What a refusal's text says is
 -- left open.
 pub data PrintAnswers (bytes : List ℕ) : ℕ → List ℕ → Type 0 where
-  done : (text : List ℕ) → PrintsBytes bytes text → PrintAnswers bytes 0 text
-  refused : (text : List ℕ) → MeansNothing bytes → PrintAnswers bytes 1 text
-  lacking : PrintAnswers bytes 3 []
+  print_done : (text : List ℕ) → PrintsBytes bytes text → PrintAnswers bytes 0 text
+  print_refused : (text : List ℕ) → MeansNothing bytes → PrintAnswers bytes 1 text
+  print_lacking : PrintAnswers bytes 3 []
 
 -- The second world may take the place of the first; or the bytes, or the worlds, are refused; or a world isn't there; or a name isn't UTF-8; or memory
 -- was wanting, and there are no bytes.
 pub data CompatAnswers (bytes prev new : List ℕ) : ℕ → List ℕ → Type 0 where
-  done : ComparesBytes bytes prev new compared.Compatible → CompatAnswers bytes prev new 0 compatible
-  refused : (text : List ℕ) (e : Error) → RefusesCompared bytes prev new e → IsNoLack e → CompatAnswers bytes prev new 1 text
+  compat_done : ComparesBytes bytes prev new compared.Compatible → CompatAnswers bytes prev new 0 compatible
+  compat_refused : (text : List ℕ) (e : Error) → RefusesCompared bytes prev new e → IsNoLack e → CompatAnswers bytes prev new 1 text
   no_prev : ComparesBytes bytes prev new compared.NoPrev → CompatAnswers bytes prev new 2 (no_such_world prev)
   no_new : ComparesBytes bytes prev new compared.NoNew → CompatAnswers bytes prev new 2 (no_such_world new)
   no_names : (is_utf8 prev && is_utf8 new) ≡ false → CompatAnswers bytes prev new 2 usage
-  lacking : CompatAnswers bytes prev new 3 []
+  compat_lacking : CompatAnswers bytes prev new 3 []

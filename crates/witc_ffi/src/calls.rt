@@ -1,6 +1,7 @@
 //! What comes of each call, of its bytes.
 
-ghost use Rattle.std.specs.Prelude.{IfOk};
+ghost use Rattle.std.specs.Prelude.{◌≡◌, true, false, IfOk, MatchOption};
+ghost use Rattle.std.specs.Str.{is_utf8};
 ghost use Rattle.witc_ffi.specs.Answers.{CompatAnswers, PrintAnswers};
 
 use crate::outcome::{DONE, NO_WORLD, Outcome, known, no_world, refusal};
@@ -26,9 +27,22 @@ pub fn compared(
 ) -> Result<Outcome, AllocError>
     ensures { IfOk result (λ o. CompatAnswers bytes.now prev.now new.now o.status o.text.items) }
 {
-    match (str::from_utf8(prev), str::from_utf8(new)) {
-        (Ok(prev), Ok(new)) => compared_names(alloc, bytes, prev, new),
-        _ => known(alloc, NO_WORLD, USAGE),
+    let Some(prev) = text_of(prev) else {
+        return known(alloc, NO_WORLD, USAGE);
+    };
+    let Some(new) = text_of(new) else {
+        return known(alloc, NO_WORLD, USAGE);
+    };
+    compared_names(alloc, bytes, prev, new)
+}
+
+/// A name as text, where it is UTF-8.
+fn text_of(name: &[u8]) -> Option<&str>
+    ensures { MatchOption result (is_utf8 name.now ≡ false) (λ text. (text.now ≡ name.now) × (is_utf8 name.now ≡ true)) }
+{
+    match str::from_utf8(name) {
+        Ok(text) => Some(text),
+        Err(_) => None,
     }
 }
 

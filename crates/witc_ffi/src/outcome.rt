@@ -80,7 +80,7 @@ pub fn hand_out(alloc: Global, outcome: Result<Outcome, AllocError>, answer: &mu
 }
 
 fn answered(alloc: Global, outcome: Result<Outcome, AllocError>) -> Result<(u8, Answer), AllocError>
-    ensures { IfOk result (λ a. IfOk outcome (λ o. (a.0 ≡ o.status) × (a.1.text ≡ o.text.items))) }
+    ensures { IfOk result (λ a. MatchResult outcome (λ o. (a.0 ≡ o.status) × (a.1.text ≡ o.text.items)) (λ e. ⊥)) }
 {
     let Outcome { status, text } = outcome?;
     Ok((status, Answer::of(alloc, text)?))
