@@ -1,5 +1,6 @@
 mod BindingsLaws
 mod DemoLaws
+mod InputLaws
 mod MemberLaws
 mod RefusedLaws
 mod RunLaws
