@@ -19,12 +19,7 @@ pub fn printed(alloc: Global, bytes: &[u8]) -> Result<Outcome, AllocError>
 }
 
 /// What comes of two names of worlds of the package that the bytes mean. The names are looked at first.
-pub fn compared(
-    alloc: Global,
-    bytes: &[u8],
-    prev: &[u8],
-    new: &[u8],
-) -> Result<Outcome, AllocError>
+pub fn compared(alloc: Global, bytes: &[u8], prev: &[u8], new: &[u8]) -> Result<Outcome, AllocError>
     ensures { IfOk result (λ o. CompatAnswers bytes.now prev.now new.now o.status o.text.items) }
 {
     let Some(prev) = text_of(prev) else {
@@ -46,12 +41,7 @@ fn text_of(name: &[u8]) -> Option<&str>
     }
 }
 
-fn compared_names(
-    alloc: Global,
-    bytes: &[u8],
-    prev: &str,
-    new: &str,
-) -> Result<Outcome, AllocError>
+fn compared_names(alloc: Global, bytes: &[u8], prev: &str, new: &str) -> Result<Outcome, AllocError>
     ensures { IfOk result (λ o. CompatAnswers bytes.now prev.now new.now o.status o.text.items) }
 {
     match compat(alloc, bytes, prev, new) {

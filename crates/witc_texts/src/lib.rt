@@ -6,9 +6,6 @@ mod lines;
 mod packages;
 mod worlds;
 
-pub use comparison::Compared;
-pub use comparison::compat;
-pub use lines::COMPATIBLE;
-pub use lines::USAGE;
-pub use packages::print;
-pub use packages::text_of_package;
+pub use comparison::{Compared, compat};
+pub use lines::{COMPATIBLE, USAGE};
+pub use packages::{print, text_of_package};
