@@ -4,7 +4,9 @@
 //!     ./print print < package.wasm
 
 use std::env;
+use std::ffi::OsString;
 use std::io::{self, Read, Write};
+use std::os::unix::ffi::OsStrExt;
 use std::process::ExitCode;
 
 /// The library, behind functions that are safe to call.
@@ -95,9 +97,9 @@ mod witc {
 }
 
 fn main() -> ExitCode {
-    let words: Vec<String> = env::args().skip(1).collect();
-    let words: Vec<&str> = words.iter().map(String::as_str).collect();
-    if !matches!(words[..], ["print"] | ["compat", _, _]) {
+    let words: Vec<OsString> = env::args_os().skip(1).collect();
+    let words: Vec<&[u8]> = words.iter().map(|word| word.as_bytes()).collect();
+    if !matches!(words[..], [b"print"] | [b"compat", _, _]) {
         eprintln!("usage: print print | compat PREV NEW");
         return ExitCode::from(2);
     }
@@ -107,7 +109,7 @@ fn main() -> ExitCode {
         return ExitCode::from(witc::REFUSED);
     }
     let answer = match words[..] {
-        [_, prev, next] => witc::compat(&bytes, prev.as_bytes(), next.as_bytes()),
+        [_, prev, next] => witc::compat(&bytes, prev, next),
         _ => witc::print(&bytes),
     };
     if answer.status == witc::LACKING {
