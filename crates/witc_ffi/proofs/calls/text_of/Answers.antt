@@ -1,4 +1,4 @@
-use Rattle.std.proofs.Common.{refl, Bool, true, false, ◌≡◌}
+use Rattle.std.proofs.Common.{refl, true, false, ◌≡◌}
 use Rattle.std.specs.Str.{is_utf8}
 use Rattle.std.proofs.lemmas.Str.{IsUtf8-from_is_utf8, is_utf8-from_IsUtf8}
 use Rattle.witc_ffi.proofs.calls.text_of.Goals as goal
