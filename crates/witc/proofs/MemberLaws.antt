@@ -13,17 +13,6 @@ use Rattle.wit_model.specs.Meant.{Meant, package_meaning, world_meaning_at}
 use Rattle.wit_model.specs.Text.{Text, text_of}
 use Rattle.wit_model.proofs.Elements.{same-some}
 use Rattle.witc.specs.Demo.{demo, foo}
-<<<<<<< HEAD:crates/witc/proofs/PrintedLaws.antt
-use Rattle.witc.specs.Printed.{IsTextOf}
-
--- what an output holds that was blank before the calls
-pub printed : (r : Resolve) (id : PackageId) (nested : List PackageId) (text : List ℕ) (new : View Written) → Moves writes blank (file_calls true (shown_file r id nested)) new → text ≡ new.kept.text
-    → IsOnlyReading (render (file_calls true (shown_file r id nested))) (file_as_read (shown_file r id nested)) → IsTextOf r id nested text
-printed r id nested text new moved is reads =
-    let rendered : text ≡ render (file_calls true (shown_file r id nested)) = is ∙ ap (λ (v : View Written). v.kept.text) (Moves-writes moved) in
-    record { rendered = rendered; reads = subst (λ (t : List ℕ). IsOnlyReading t (file_as_read (shown_file r id nested))) (sym rendered) reads }
-=======
->>>>>>> 2521c7da (witc_texts: what is over byte slices, for the program and a static library (not checked); witc_ffi begun):crates/witc/proofs/MemberLaws.antt
 
 -- a package that means the demo's holds a world
 pub holds-world : (r : Resolve) (p : Package) → package_at r 0 ≡ Some p → Meant r 0 demo → HasMembers p

@@ -2,12 +2,8 @@
 use Rattle.std.specs.Prelude.{◌≡◌, ℕ, List, Option, Some, None, Result, MatchResult, Vec, vec_items}
 use Rattle.std.specs.declared.alloc.Global.{Global}
 use Rattle.std.specs.Io.KnownBytes.{Appends}
-<<<<<<< HEAD
-use Rattle.witc.specs.Answers.{Answers, line_of}
-use Rattle.witc.specs.Bindings.{PrintsBindings}
-=======
 use Rattle.witc.specs.Answers.{Answers}
->>>>>>> 2521c7da (witc_texts: what is over byte slices, for the program and a static library (not checked); witc_ffi begun)
+use Rattle.witc.specs.Bindings.{PrintsBindings}
 use Rattle.witc.specs.DemoShown.{IsDemoDigits, IsDemoText}
 use Rattle.witc.specs.Printed.{PrintsInput}
 use Rattle.witc.specs.Stripped.{StripsInput}
