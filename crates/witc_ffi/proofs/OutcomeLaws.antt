@@ -3,9 +3,10 @@ use Rattle.std.proofs.Common.{◌≡◌, ◌&&◌, ℕ, List, [], Bool, true, fa
 use Rattle.std.specs.declared.alloc.AllocError.{AllocError}
 use Rattle.wit_model.specs.declared.error.Error.{Error}
 use Rattle.wit_model.specs.declared.error.Error.TheVariants as errors
+use Rattle.wit_component.specs.Bound.{RefusesBindings}
 use Rattle.wit_component.specs.Decoded.{MeansNothing, RefusesBytes}
 use Rattle.witc_texts.specs.Worlds.{RefusesCompared}
-use Rattle.witc_ffi.specs.Answers.{CompatAnswers, PrintAnswers, compat_refused, print_refused}
+use Rattle.witc_ffi.specs.Answers.{CompatAnswers, ModuleAnswers, PrintAnswers, StripAnswers, compat_refused, module_refused, print_refused, strip_refused}
 use Rattle.witc_ffi.specs.Outcomes.{HandsOut, IsNoLack, IsOutcome, handed, lacking}
 use Rattle.witc_ffi.specs.declared.outcome.Outcome.{Outcome}
 
@@ -48,6 +49,15 @@ pub refused-compat : (bytes prev new : List ℕ) (e : Error) → RefusesCompared
     → IfOk r (λ o. CompatAnswers bytes prev new o.status o.text.items)
 refused-compat bytes prev new e refuses (Ok o) is = subst (λ (n : ℕ). CompatAnswers bytes prev new n o.text.items) (sym is.0) (compat_refused o.text.items e refuses is.1)
 refused-compat bytes prev new e refuses (Err lack) is = tt
+
+-- a refusal of a module
+pub refused-module : (bytes : List ℕ) (e : Error) → RefusesBindings bytes e → (r : Result Outcome AllocError) → IfOk r (λ o. (o.status ≡ 1) × IsNoLack e) → IfOk r (λ o. ModuleAnswers bytes o.status o.text.items)
+refused-module bytes e refuses (Ok o) is = subst (λ (n : ℕ). ModuleAnswers bytes n o.text.items) (sym is.0) (module_refused o.text.items e refuses is.1)
+refused-module bytes e refuses (Err lack) is = tt
+
+pub refused-strip : (bytes : List ℕ) (e : Error) → RefusesBindings bytes e → (r : Result Outcome AllocError) → IfOk r (λ o. (o.status ≡ 1) × IsNoLack e) → IfOk r (λ o. StripAnswers bytes o.status o.text.items)
+refused-strip bytes e refuses (Ok o) is = subst (λ (n : ℕ). StripAnswers bytes n o.text.items) (sym is.0) (strip_refused o.text.items e refuses is.1)
+refused-strip bytes e refuses (Err lack) is = tt
 
 pub first-bad : (a b : Bool) → a ≡ false → (a && b) ≡ false
 first-bad a b is = subst (λ (x : Bool). (x && b) ≡ false) (sym is) refl

@@ -2,9 +2,12 @@
 use Rattle.std.specs.Prelude.{◌≡◌, ◌&&◌, ℕ, List, [], false}
 use Rattle.std.specs.Str.{is_utf8}
 use Rattle.wit_model.specs.declared.error.Error.{Error}
+use Rattle.wit_component.specs.Bound.{RefusesBindings}
 use Rattle.wit_component.specs.Decoded.{MeansNothing}
+use Rattle.witc_texts.specs.Bindings.{PrintsModule}
 use Rattle.witc_texts.specs.Lines.{compatible, no_such_world, usage}
 use Rattle.witc_texts.specs.Printed.{PrintsBytes}
+use Rattle.witc_texts.specs.Stripped.{StripsBytes}
 use Rattle.witc_texts.specs.Worlds.{ComparesBytes, RefusesCompared}
 use Rattle.witc_texts.specs.declared.comparison.Compared.TheVariants as compared
 use Rattle.witc_ffi.specs.Outcomes.{IsNoLack}
@@ -15,6 +18,20 @@ pub data PrintAnswers (bytes : List ℕ) : ℕ → List ℕ → Type 0 where
   print_done : (text : List ℕ) → PrintsBytes bytes text → PrintAnswers bytes 0 text
   print_refused : (text : List ℕ) → MeansNothing bytes → PrintAnswers bytes 1 text
   print_lacking : PrintAnswers bytes 3 []
+
+-- The text of what the module binds that the bytes are; or they are no module, or one whose bindings are refused; or memory was wanting, and there are no
+-- bytes.
+pub data ModuleAnswers (bytes : List ℕ) : ℕ → List ℕ → Type 0 where
+  module_done : (text : List ℕ) → PrintsModule bytes text → ModuleAnswers bytes 0 text
+  module_refused : (text : List ℕ) (e : Error) → RefusesBindings bytes e → IsNoLack e → ModuleAnswers bytes 1 text
+  module_lacking : ModuleAnswers bytes 3 []
+
+-- The module that the bytes are without the sections that carry worlds, or the bytes where it has none; or it is refused in the same way; or memory was
+-- wanting, and there are no bytes.
+pub data StripAnswers (bytes : List ℕ) : ℕ → List ℕ → Type 0 where
+  strip_done : (text : List ℕ) → StripsBytes bytes text → StripAnswers bytes 0 text
+  strip_refused : (text : List ℕ) (e : Error) → RefusesBindings bytes e → IsNoLack e → StripAnswers bytes 1 text
+  strip_lacking : StripAnswers bytes 3 []
 
 -- The second world may take the place of the first; or the bytes, or the worlds, are refused; or a world isn't there; or a name isn't UTF-8; or memory
 -- was wanting, and there are no bytes.

@@ -2,11 +2,11 @@
 
 ghost use Rattle.std.specs.Prelude.{◌≡◌, true, false, IfOk, MatchOption};
 ghost use Rattle.std.specs.Str.{is_utf8};
-ghost use Rattle.witc_ffi.specs.Answers.{CompatAnswers, PrintAnswers};
+ghost use Rattle.witc_ffi.specs.Answers.{CompatAnswers, ModuleAnswers, PrintAnswers, StripAnswers};
 
-use crate::outcome::{DONE, NO_WORLD, Outcome, known, no_world, refusal};
+use crate::outcome::{DONE, NO_WORLD, Outcome, copied, known, no_world, refusal};
 use std::alloc::{AllocError, Global};
-use witc_texts::{COMPATIBLE, Compared, USAGE, compat, print};
+use witc_texts::{COMPATIBLE, Compared, USAGE, compat, module_text, print, strip};
 
 /// What comes of the bytes of a package, printed.
 pub fn printed(alloc: Global, bytes: &[u8]) -> Result<Outcome, AllocError>
@@ -14,6 +14,27 @@ pub fn printed(alloc: Global, bytes: &[u8]) -> Result<Outcome, AllocError>
 {
     match print(alloc, bytes) {
         Ok(text) => Ok(Outcome { status: DONE, text }),
+        Err(error) => refusal(alloc, error),
+    }
+}
+
+/// What comes of the bytes of a core module: the text of what it binds.
+pub fn bound(alloc: Global, bytes: &[u8]) -> Result<Outcome, AllocError>
+    ensures { IfOk result (λ o. ModuleAnswers bytes.now o.status o.text.items) }
+{
+    match module_text(alloc, bytes) {
+        Ok(text) => Ok(Outcome { status: DONE, text }),
+        Err(error) => refusal(alloc, error),
+    }
+}
+
+/// What comes of the bytes of a core module: what is left of it without the sections that carry worlds.
+pub fn stripped(alloc: Global, bytes: &[u8]) -> Result<Outcome, AllocError>
+    ensures { IfOk result (λ o. StripAnswers bytes.now o.status o.text.items) }
+{
+    match strip(alloc, bytes) {
+        Ok(Some(text)) => Ok(Outcome { status: DONE, text }),
+        Ok(None) => copied(alloc, bytes),
         Err(error) => refusal(alloc, error),
     }
 }

@@ -4,7 +4,7 @@
 #![tactic(auto)]
 
 ghost use Rattle.std.specs.Prelude.{◌≡◌, IfOk, []};
-ghost use Rattle.witc_ffi.specs.Answers.{CompatAnswers, PrintAnswers};
+ghost use Rattle.witc_ffi.specs.Answers.{CompatAnswers, ModuleAnswers, PrintAnswers, StripAnswers};
 
 mod answer;
 mod calls;
@@ -12,7 +12,7 @@ mod loose;
 mod outcome;
 
 use answer::Answer;
-use calls::{compared, printed};
+use calls::{bound, compared, printed, stripped};
 use outcome::hand_out;
 use std::alloc::Global;
 
@@ -22,6 +22,22 @@ pub extern "C" fn witc_print_slice(alloc: Global, bytes: &[u8], answer: &mut Ans
     ensures { PrintAnswers bytes.now result answer.new.text }
 {
     hand_out(alloc, printed(alloc, bytes), answer)
+}
+
+/// The text of what the core module binds that the bytes are.
+#[unsafe(no_mangle)]
+pub extern "C" fn witc_module_slice(alloc: Global, bytes: &[u8], answer: &mut Answer) -> u8
+    ensures { ModuleAnswers bytes.now result answer.new.text }
+{
+    hand_out(alloc, bound(alloc, bytes), answer)
+}
+
+/// The core module that the bytes are, without the sections that carry worlds.
+#[unsafe(no_mangle)]
+pub extern "C" fn witc_strip_slice(alloc: Global, bytes: &[u8], answer: &mut Answer) -> u8
+    ensures { StripAnswers bytes.now result answer.new.text }
+{
+    hand_out(alloc, stripped(alloc, bytes), answer)
 }
 
 /// Whether the world of the second name may take the place of the one of the first, in the package that the bytes mean.

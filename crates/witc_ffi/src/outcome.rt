@@ -63,6 +63,16 @@ pub fn known(alloc: Global, status: u8, text: &str) -> Result<Outcome, AllocErro
     })
 }
 
+/// The outcome of a call that is done and leaves the bytes as they are.
+pub fn copied(alloc: Global, bytes: &[u8]) -> Result<Outcome, AllocError>
+    ensures { IfOk result (IsOutcome 0 bytes.now) }
+{
+    Ok(Outcome {
+        status: DONE,
+        text: Vec::from_slice(alloc, bytes)?,
+    })
+}
+
 /// Gives C the bytes of an outcome, and answers its status. Where memory is wanting, there are no bytes.
 pub fn hand_out(alloc: Global, outcome: Result<Outcome, AllocError>, answer: &mut Answer) -> u8
     ensures { HandsOut outcome result answer.new.text }

@@ -1,3 +1,5 @@
+mod BindingsLaws
 mod NamedLaws
 mod PassedLaws
 mod PrintedLaws
+mod StrippedLaws

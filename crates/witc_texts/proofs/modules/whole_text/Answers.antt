@@ -2,8 +2,8 @@ use Rattle.std.proofs.Common.{◌≡◌, ◌∙◌, sym, subst, true}
 use Rattle.std.specs.List.{list_all}
 use Rattle.wit_model.specs.declared.model.PackageId.{PackageId}
 use Rattle.wit_model.specs.Rules.{in_list}
-use Rattle.witc.proofs.BindingsLaws.{others-there}
-use Rattle.witc.proofs.module.whole_text.Goals as goal
+use Rattle.witc_texts.proofs.BindingsLaws.{others-there}
+use Rattle.witc_texts.proofs.modules.whole_text.Goals as goal
 
 pub text_of_package-requires-clause-nested : goal.text_of_package-requires-clause-nested
 text_of_package-requires-clause-nested c =

@@ -1,6 +1,6 @@
 use Rattle.std.proofs.Common.{◌≡◌, ◌≤◌, ◌-◌, map}
 use Rattle.std.specs.List.{range_with_len}
-use Rattle.witc.proofs.module.other_packages.Given as goal
+use Rattle.witc_texts.proofs.modules.other_packages.Given as goal
 
 -- the packages so far
 abbrev pub invariant-loop-number : goal.invariant-loop-number

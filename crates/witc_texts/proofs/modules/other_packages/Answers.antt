@@ -1,6 +1,6 @@
 use Rattle.std.proofs.Common.{arith}
-use Rattle.witc.proofs.BindingsLaws.{few-packages, one-more}
-use Rattle.witc.proofs.module.other_packages.Goals as goal
+use Rattle.witc_texts.proofs.BindingsLaws.{few-packages, one-more}
+use Rattle.witc_texts.proofs.modules.other_packages.Goals as goal
 
 pub overflow_cast-number : goal.overflow_cast-number
 overflow_cast-number c = let few = few-packages c.args.resolve.now c.requires.valid in omega (arith, few)
