@@ -1,4 +1,4 @@
-/* WIT packages as bytes and as text, for C and C++: the functions of libwitc_ffi.a.
+/* WIT packages and core modules as bytes and as text, for C and C++: the functions of libwitc_ffi.a.
  *
  * Each call takes bytes as a pointer and a length, answers a status, and puts bytes of its own into an answer:
  *
@@ -50,6 +50,8 @@ void witc_free(witc_answer *answer);
 
 /* The functions of the library, for which no pointer is null, also not with the length 0. */
 uint8_t witc_print_slice(const uint8_t *bytes, size_t length, witc_answer *answer);
+uint8_t witc_module_slice(const uint8_t *bytes, size_t length, witc_answer *answer);
+uint8_t witc_strip_slice(const uint8_t *bytes, size_t length, witc_answer *answer);
 uint8_t witc_compat_slices(const uint8_t *bytes, size_t length, const uint8_t *prev, size_t prev_length, const uint8_t *next, size_t next_length,
                            witc_answer *answer);
 
@@ -62,6 +64,17 @@ static inline const uint8_t *witc_some(const uint8_t *bytes) {
 /* The bytes of a WIT package to its text, as `witc print` writes it: WITC_DONE, WITC_REFUSED or WITC_LACKING. */
 static inline uint8_t witc_print(const uint8_t *bytes, size_t length, witc_answer *answer) {
     return witc_print_slice(witc_some(bytes), length, answer);
+}
+
+/* The bytes of a core module to the text of what its sections that carry worlds bind together, as `witc module` writes it: WITC_DONE, WITC_REFUSED or
+ * WITC_LACKING. */
+static inline uint8_t witc_module(const uint8_t *bytes, size_t length, witc_answer *answer) {
+    return witc_module_slice(witc_some(bytes), length, answer);
+}
+
+/* The bytes of a core module to those without these sections, as `witc strip` writes them: WITC_DONE, WITC_REFUSED or WITC_LACKING. */
+static inline uint8_t witc_strip(const uint8_t *bytes, size_t length, witc_answer *answer) {
+    return witc_strip_slice(witc_some(bytes), length, answer);
 }
 
 /* Whether the package's world `next` may take the place of its world `prev`, as `witc compat` answers it: WITC_DONE with the line `compatible`,

@@ -1,4 +1,4 @@
-/* Does what `witc print` and `witc compat PREV NEW` do, by the library. From the top of the repository, with $KIT as examples/run finds it:
+/* Does what `witc print`, `module`, `strip` and `compat PREV NEW` do, by the library. From the top of the repository, with $KIT as examples/run finds it:
  *
  *     cc -Iinclude examples/c/print.c crates/witc_ffi/out/libwitc_ffi.a $KIT/c/liblibc_c.a -o print
  *     ./print print < package.wasm
@@ -39,9 +39,11 @@ int main(int count, char **words) {
     witc_answer answer = WITC_NO_ANSWER;
     uint8_t status;
     int prints = count == 2 && !strcmp(words[1], "print");
+    int binds = count == 2 && !strcmp(words[1], "module");
+    int strips = count == 2 && !strcmp(words[1], "strip");
     int compares = count == 4 && !strcmp(words[1], "compat");
-    if (!prints && !compares) {
-        fputs("usage: print print | compat PREV NEW\n", stderr);
+    if (!prints && !binds && !strips && !compares) {
+        fputs("usage: print print | module | strip | compat PREV NEW\n", stderr);
         return 2;
     }
     uint8_t *bytes = read_all(&length);
@@ -51,6 +53,10 @@ int main(int count, char **words) {
     }
     if (prints) {
         status = witc_print(bytes, length, &answer);
+    } else if (binds) {
+        status = witc_module(bytes, length, &answer);
+    } else if (strips) {
+        status = witc_strip(bytes, length, &answer);
     } else {
         status = witc_compat(bytes, length, (const uint8_t *)words[2], strlen(words[2]), (const uint8_t *)words[3], strlen(words[3]), &answer);
     }

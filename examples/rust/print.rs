@@ -1,4 +1,4 @@
-//! Does what `witc print` and `witc compat PREV NEW` do, by the library. From the top of the repository, with $KIT as examples/run finds it:
+//! Does what `witc print`, `module`, `strip` and `compat PREV NEW` do, by the library. From the top of the repository, with $KIT as examples/run finds it:
 //!
 //!     rustc -O examples/rust/print.rs -L crates/witc_ffi/out -L $KIT/c -l static=witc_ffi -l static=libc_c -o print
 //!     ./print print < package.wasm
@@ -25,6 +25,8 @@ mod witc {
     unsafe extern "C" {
         fn witc_free(answer: *mut RawAnswer);
         fn witc_print_slice(bytes: *const u8, length: usize, answer: *mut RawAnswer) -> u8;
+        fn witc_module_slice(bytes: *const u8, length: usize, answer: *mut RawAnswer) -> u8;
+        fn witc_strip_slice(bytes: *const u8, length: usize, answer: *mut RawAnswer) -> u8;
         fn witc_compat_slices(
             bytes: *const u8,
             length: usize,
@@ -79,6 +81,18 @@ mod witc {
         Answer::of(|answer| unsafe { witc_print_slice(bytes.as_ptr(), bytes.len(), answer) })
     }
 
+    /// The bytes of a core module to the text of what it binds.
+    pub fn module(bytes: &[u8]) -> Answer {
+        // SAFETY: the pointer and the length are of one slice, which is borrowed for the call.
+        Answer::of(|answer| unsafe { witc_module_slice(bytes.as_ptr(), bytes.len(), answer) })
+    }
+
+    /// The bytes of a core module to those without the sections that carry worlds.
+    pub fn strip(bytes: &[u8]) -> Answer {
+        // SAFETY: the pointer and the length are of one slice, which is borrowed for the call.
+        Answer::of(|answer| unsafe { witc_strip_slice(bytes.as_ptr(), bytes.len(), answer) })
+    }
+
     /// Whether the package's world `next` may take the place of its world `prev`.
     pub fn compat(bytes: &[u8], prev: &[u8], next: &[u8]) -> Answer {
         // SAFETY: each pointer and its length are of one slice, which is borrowed for the call.
@@ -99,8 +113,8 @@ mod witc {
 fn main() -> ExitCode {
     let words: Vec<OsString> = env::args_os().skip(1).collect();
     let words: Vec<&[u8]> = words.iter().map(|word| word.as_bytes()).collect();
-    if !matches!(words[..], [b"print"] | [b"compat", _, _]) {
-        eprintln!("usage: print print | compat PREV NEW");
+    if !matches!(words[..], [b"print" | b"module" | b"strip"] | [b"compat", _, _]) {
+        eprintln!("usage: print print | module | strip | compat PREV NEW");
         return ExitCode::from(2);
     }
     let mut bytes = Vec::new();
@@ -110,6 +124,8 @@ fn main() -> ExitCode {
     }
     let answer = match words[..] {
         [_, prev, next] => witc::compat(&bytes, prev, next),
+        [b"module"] => witc::module(&bytes),
+        [b"strip"] => witc::strip(&bytes),
         _ => witc::print(&bytes),
     };
     if answer.status == witc::LACKING {
