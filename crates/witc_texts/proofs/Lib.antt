@@ -2,4 +2,4 @@ mod BindingsLaws
 mod NamedLaws
 mod PassedLaws
 mod PrintedLaws
-mod StrippedLaws
+pub mod StrippedLaws
