@@ -3,9 +3,10 @@
 ghost use Rattle.std.specs.Prelude.{◌≡◌, ◌<◌, true, is_none, length};
 ghost use Rattle.std.specs.List.{list_all};
 ghost use Rattle.wit_model.specs.Valid.{IsValid};
+ghost use Rattle.wit_interfaces.specs.InterfaceEncoders.{interface_encoder_view};
+ghost use Rattle.refused_growths.specs.Asked.{CanBeAsked};
 
-use crate::outcome::done;
-use crate::probe::{begin, is_late};
+use crate::probe::{begin, end};
 use crate::session::Refusal;
 use std::alloc::Global;
 use wit_component::{
@@ -19,13 +20,25 @@ pub fn are_unnamed(types: &[TypeDef]) -> bool
     types.iter().all(|def| def.name.is_none())
 }
 
+// What the encoder answers for a type, of which it can be asked again.
+fn asked<'a>(
+    alloc: Global,
+    encoder: &mut InterfaceEncoder<'a>,
+    resolve: &'a Resolve,
+    ty: &Type,
+) -> Result<ComponentValType, Error>
+    requires { CanBeAsked resolve.now ty.now (interface_encoder_view encoder.old) }
+    ensures { CanBeAsked resolve.now ty.now (interface_encoder_view encoder.new) }
+{
+    encode_valtype(alloc, encoder, resolve, ty)
+}
+
 /// The type of a number, by one encoder: first where a growth may be refused, and then twice more. The slot that is answered after a refusal may be
 /// another one, and then stays.
 pub fn word_of_encoder(
     alloc: Global,
     resolve: &Resolve,
     id: TypeId,
-    count: u32,
 ) -> Result<&'static str, Refusal>
     requires valid { IsValid resolve.now }
     requires unnamed { list_all (λ def. is_none def.name) resolve.now.types.items ≡ true }
@@ -33,12 +46,12 @@ pub fn word_of_encoder(
 {
     let ty = Type::Id(id);
     let mut encoder = InterfaceEncoder::new(alloc, resolve);
-    begin(alloc, count)?;
-    let first = encode_valtype(alloc, &mut encoder, resolve, &ty);
-    let is_late = is_late(alloc);
-    let again = encode_valtype(alloc, &mut encoder, resolve, &ty);
-    let third = encode_valtype(alloc, &mut encoder, resolve, &ty);
-    Ok(word_of(first, again, third, is_late))
+    begin(alloc)?;
+    let first = asked(alloc, &mut encoder, resolve, &ty);
+    end(alloc)?;
+    let again = asked(alloc, &mut encoder, resolve, &ty);
+    let third = asked(alloc, &mut encoder, resolve, &ty);
+    Ok(word_of(first, again, third))
 }
 
 fn slot_of(answer: &Result<ComponentValType, Error>) -> Option<u32> {
@@ -52,10 +65,9 @@ fn word_of(
     first: Result<ComponentValType, Error>,
     again: Result<ComponentValType, Error>,
     third: Result<ComponentValType, Error>,
-    is_late: bool,
 ) -> &'static str {
     if slot_of(&first).is_some() {
-        return done(is_late);
+        return "done";
     }
     match first {
         Ok(_) => "another value",

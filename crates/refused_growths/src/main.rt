@@ -1,7 +1,7 @@
 //! Calls of the library, each made where a growth may be refused: what is answered, in one word.
 //!
-//! Each line of the input is the name of a call and a number. So many requests for memory are made and given back, and then the call is made. Where
-//! the runner refuses the request of one number (`rt try --fail-alloc`), the number on the line chooses which request of the call that is.
+//! Each line of the input is the name of a call, which is made with memory first, then between two marks, and then with memory again. Where nothing is
+//! refused the word is `done`; where requests for memory are, between the marks, it has to be `memory`. The script `refusals` does that.
 #![tactic(auto)]
 
 mod calls;

@@ -5,9 +5,9 @@ ghost use Rattle.wit_component.specs.Bindings.{IsBindgen};
 ghost use Rattle.wit_component.specs.Valid.{IsValid};
 
 use crate::encodings::sum_of_world;
-use crate::outcome::{Summary, done, word_of};
+use crate::outcome::{Summary, word_of};
 use crate::packages::whole;
-use crate::probe::{begin, is_late};
+use crate::probe::{begin, end};
 use crate::session::Refusal;
 use std::alloc::Global;
 use wit_component::{
@@ -49,7 +49,7 @@ fn binding(alloc: Global, resolve: Resolve) -> Result<Bindgen, Refusal>
 }
 
 // What is merged.
-fn other(alloc: Global) -> Result<Bindgen, Refusal>
+fn other_bindings(alloc: Global) -> Result<Bindgen, Refusal>
     ensures { IfOk result IsBindgen }
 {
     let resolve = whole(alloc)?;
@@ -57,11 +57,11 @@ fn other(alloc: Global) -> Result<Bindgen, Refusal>
 }
 
 // What it is merged into: bindings of the same exports, or of a world of the same package that has others.
-fn own(alloc: Global, clashes: bool) -> Result<Bindgen, Refusal>
+fn own_bindings(alloc: Global, clashes: bool) -> Result<Bindgen, Refusal>
     ensures { IfOk result IsBindgen }
 {
     if clashes {
-        return other(alloc);
+        return other_bindings(alloc);
     }
     let resolve = host_and_guest(alloc)?;
     binding(alloc, resolve)
@@ -144,25 +144,25 @@ struct Outcome {
 fn outcome_of(alloc: Global, mut own: Bindgen) -> Result<Outcome, Refusal>
     requires { IsBindgen own }
 {
-    let other = other(alloc)?;
+    let other = other_bindings(alloc)?;
     let answer = merged(alloc, &mut own, other);
     let state = state_of(alloc, &own)?;
     Ok(Outcome { answer, state })
 }
 
 /// The merge that is united, or the one that clashes.
-pub fn word_of_merge(alloc: Global, clashes: bool, count: u32) -> Result<&'static str, Refusal> {
-    let wanted = outcome_of(alloc, own(alloc, clashes)?)?;
-    let mut own = own(alloc, clashes)?;
-    let other = other(alloc)?;
+pub fn word_of_merge(alloc: Global, clashes: bool) -> Result<&'static str, Refusal> {
+    let wanted = outcome_of(alloc, own_bindings(alloc, clashes)?)?;
+    let mut own = own_bindings(alloc, clashes)?;
+    let other = other_bindings(alloc)?;
     let before = state_of(alloc, &own)?;
-    begin(alloc, count)?;
+    begin(alloc)?;
     let first = merged(alloc, &mut own, other);
-    let is_late = is_late(alloc);
+    end(alloc)?;
     let after = state_of(alloc, &own)?;
     if first == wanted.answer {
         if are_same(&after, &wanted.state) {
-            return Ok(done(is_late));
+            return Ok("done");
         }
         return Ok("another state");
     }
@@ -173,5 +173,5 @@ pub fn word_of_merge(alloc: Global, clashes: bool, count: u32) -> Result<&'stati
     if !are_same(&again.state, &wanted.state) {
         return Ok("refused, and then another state");
     }
-    Ok(word_of(wanted.answer, first, again.answer, is_late))
+    Ok(word_of(wanted.answer, first, again.answer))
 }

@@ -3,8 +3,8 @@
 ghost use Rattle.std.specs.Prelude.{◌<◌, length};
 
 use crate::encodings::sum_of_world;
-use crate::outcome::{done, summary_of};
-use crate::probe::{begin, is_late};
+use crate::outcome::summary_of;
+use crate::probe::{begin, end};
 use crate::session::Refusal;
 use std::alloc::Global;
 use wit_component::{
@@ -136,16 +136,16 @@ fn all(alloc: Global, metadata: &ModuleMetadata, resolve: &Resolve) -> Result<u6
 }
 
 /// All of them. The word is `memory` only where one made a request that was refused.
-pub fn word_of_calls(alloc: Global, resolve: &Resolve, count: u32) -> Result<&'static str, Refusal>
+pub fn word_of_calls(alloc: Global, resolve: &Resolve) -> Result<&'static str, Refusal>
     requires in_range { 0 < length resolve.now.worlds.items }
 {
     let metadata = ModuleMetadata::new(alloc, resolve, WorldId(0), StringEncoding::UTF8)?;
     let wanted = all(alloc, &metadata, resolve);
-    begin(alloc, count)?;
+    begin(alloc)?;
     let found = all(alloc, &metadata, resolve);
-    let is_late = is_late(alloc);
+    end(alloc)?;
     if found == wanted {
-        return Ok(done(is_late));
+        return Ok("done");
     }
     match found {
         Err(Error::Memory) => Ok("memory"),

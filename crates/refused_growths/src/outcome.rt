@@ -32,21 +32,14 @@ pub fn summary_of(bytes: &[u8]) -> Summary {
     }
 }
 
-/// The word for the answer that was wanted, where a request that comes later is refused, or none at all.
-pub fn done(is_late: bool) -> &'static str {
-    if is_late { "no refusal" } else { "done" }
-}
-
-/// The word for a call that is made before, where nothing is refused, then where a growth may be, and then again. It is late where a request that
-/// comes after the second is refused.
+/// The word for a call that is made first where nothing is refused, then where a growth may be, and then again.
 pub fn word_of(
     wanted: Result<Summary, Error>,
     first: Result<Summary, Error>,
     again: Result<Summary, Error>,
-    is_late: bool,
 ) -> &'static str {
     if first == wanted {
-        return done(is_late);
+        return "done";
     }
     match first {
         Ok(_) => "another value",

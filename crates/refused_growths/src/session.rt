@@ -74,13 +74,13 @@ pub fn valid_whole(alloc: Global) -> Result<Resolve, Refusal>
     Ok(resolve)
 }
 
-fn encoder_word(alloc: Global, count: u32) -> Result<&'static str, Refusal> {
+fn encoder_word(alloc: Global) -> Result<&'static str, Refusal> {
     let resolve = unnamed(alloc)?;
     if !are_unnamed(&resolve.types) || resolve.types.len() < 8 {
         return Err(Refusal::Line);
     }
     resolve.check(alloc)?;
-    word_of_encoder(alloc, &resolve, TypeId(7), count)
+    word_of_encoder(alloc, &resolve, TypeId(7))
 }
 
 fn package_bytes(alloc: Global, resolve: &Resolve) -> Result<Vec<u8>, Error>
@@ -106,52 +106,41 @@ fn module_bytes(alloc: Global, resolve: &Resolve) -> Result<Vec<u8>, Error>
 }
 
 // The calls that bytes or bindings are made for.
-fn other_word(
-    alloc: Global,
-    resolve: &Resolve,
-    call: &str,
-    count: u32,
-) -> Result<&'static str, Refusal>
+fn other_word(alloc: Global, resolve: &Resolve, call: &str) -> Result<&'static str, Refusal>
     requires valid { IsValid resolve.now }
     requires packages { 0 < length resolve.now.packages.items }
     requires worlds { 0 < length resolve.now.worlds.items }
 {
     match call {
-        "decode" => word_of_decode(alloc, &package_bytes(alloc, resolve)?, count),
-        "decode_world" => word_of_world(alloc, &world_bytes(alloc, resolve)?, count),
-        "metadata::decode" => word_of_module(alloc, &module_bytes(alloc, resolve)?, count),
-        "merge" => word_of_merge(alloc, false, count),
-        "clash" => word_of_merge(alloc, true, count),
-        "encode_valtype" => encoder_word(alloc, count),
+        "decode" => word_of_decode(alloc, &package_bytes(alloc, resolve)?),
+        "decode_world" => word_of_world(alloc, &world_bytes(alloc, resolve)?),
+        "metadata::decode" => word_of_module(alloc, &module_bytes(alloc, resolve)?),
+        "merge" => word_of_merge(alloc, false),
+        "clash" => word_of_merge(alloc, true),
+        "encode_valtype" => encoder_word(alloc),
         _ => Err(Refusal::Line),
     }
 }
 
-fn word(alloc: Global, call: &str, count: u32) -> Result<&'static str, Refusal> {
+fn word(alloc: Global, call: &str) -> Result<&'static str, Refusal> {
     let resolve = valid_whole(alloc)?;
     match call {
-        "check" => word_of_check(alloc, &resolve, count),
-        "encode" => word_of_encode(alloc, &resolve, false, count),
-        "canonical" => word_of_encode(alloc, &resolve, true, count),
-        "print" => word_of_print(alloc, &resolve, count),
-        "metadata::encode" => word_of_carried(alloc, &resolve, count),
-        "semver_check" => word_of_compare(alloc, count),
-        "same_sense" => word_of_sense(alloc, &resolve, count),
-        "from_unversioned" => word_of_carried_over(alloc, &resolve, count),
-        "none" => word_of_calls(alloc, &resolve, count),
-        _ => other_word(alloc, &resolve, call, count),
+        "check" => word_of_check(alloc, &resolve),
+        "encode" => word_of_encode(alloc, &resolve, false),
+        "canonical" => word_of_encode(alloc, &resolve, true),
+        "print" => word_of_print(alloc, &resolve),
+        "metadata::encode" => word_of_carried(alloc, &resolve),
+        "semver_check" => word_of_compare(alloc),
+        "same_sense" => word_of_sense(alloc, &resolve),
+        "from_unversioned" => word_of_carried_over(alloc, &resolve),
+        "none" => word_of_calls(alloc, &resolve),
+        _ => other_word(alloc, &resolve, call),
     }
 }
 
-/// The word for a line: a call, a space and a number.
+/// The word for a line, which is the name of a call.
 pub fn answer_line(alloc: Global, line: &str) -> Result<&'static str, Refusal> {
-    let Some((call, count)) = line.split_once(' ') else {
-        return Err(Refusal::Line);
-    };
-    let Ok(count) = count.parse::<u32>() else {
-        return Err(Refusal::Line);
-    };
-    match word(alloc, call, count) {
+    match word(alloc, line) {
         Err(Refusal::Early) => Ok("early"),
         answer => answer,
     }

@@ -7,67 +7,58 @@ use crate::calls::{
     carried, carried_over, checked, compared, decoded, encoded, module_decoded, printed, sensed,
     world_decoded,
 };
-use crate::outcome::{done, word_of};
+use crate::outcome::word_of;
 use crate::packages::unversioned;
-use crate::probe::{begin, is_late};
+use crate::probe::{begin, end};
 use crate::session::{Refusal, valid_whole};
 use std::alloc::Global;
 use wit_component::{Error, Resolve};
 
-pub fn word_of_check(
-    alloc: Global,
-    resolve: &Resolve,
-    count: u32,
-) -> Result<&'static str, Refusal> {
+pub fn word_of_check(alloc: Global, resolve: &Resolve) -> Result<&'static str, Refusal> {
     let wanted = checked(alloc, resolve);
-    begin(alloc, count)?;
+    begin(alloc)?;
     let first = checked(alloc, resolve);
-    let is_late = is_late(alloc);
+    end(alloc)?;
     let again = checked(alloc, resolve);
-    Ok(word_of(wanted, first, again, is_late))
+    Ok(word_of(wanted, first, again))
 }
 
 pub fn word_of_encode(
     alloc: Global,
     resolve: &Resolve,
     canonical_names: bool,
-    count: u32,
 ) -> Result<&'static str, Refusal>
     requires valid { IsValid resolve.now }
     requires in_range { 0 < length resolve.now.packages.items }
 {
     let wanted = encoded(alloc, resolve, canonical_names);
-    begin(alloc, count)?;
+    begin(alloc)?;
     let first = encoded(alloc, resolve, canonical_names);
-    let is_late = is_late(alloc);
+    end(alloc)?;
     let again = encoded(alloc, resolve, canonical_names);
-    Ok(word_of(wanted, first, again, is_late))
+    Ok(word_of(wanted, first, again))
 }
 
-pub fn word_of_carried(
-    alloc: Global,
-    resolve: &Resolve,
-    count: u32,
-) -> Result<&'static str, Refusal>
+pub fn word_of_carried(alloc: Global, resolve: &Resolve) -> Result<&'static str, Refusal>
     requires valid { IsValid resolve.now }
     requires in_range { 0 < length resolve.now.worlds.items }
 {
     let wanted = carried(alloc, resolve);
-    begin(alloc, count)?;
+    begin(alloc)?;
     let first = carried(alloc, resolve);
-    let is_late = is_late(alloc);
+    end(alloc)?;
     let again = carried(alloc, resolve);
-    Ok(word_of(wanted, first, again, is_late))
+    Ok(word_of(wanted, first, again))
 }
 
-pub fn word_of_print(alloc: Global, resolve: &Resolve, count: u32) -> Result<&'static str, Refusal>
+pub fn word_of_print(alloc: Global, resolve: &Resolve) -> Result<&'static str, Refusal>
     requires valid { IsValid resolve.now }
     requires in_range { 0 < length resolve.now.packages.items }
 {
     let (wanted, _) = printed(alloc, resolve);
-    begin(alloc, count)?;
+    begin(alloc)?;
     let (text, result) = printed(alloc, resolve);
-    let is_late = is_late(alloc);
+    end(alloc)?;
     let (again, _) = printed(alloc, resolve);
     if !wanted.starts_with(text.as_str()) {
         return Ok("another beginning");
@@ -75,7 +66,7 @@ pub fn word_of_print(alloc: Global, resolve: &Resolve, count: u32) -> Result<&'s
     match result {
         Ok(()) => {
             if text == wanted {
-                Ok(done(is_late))
+                Ok("done")
             } else {
                 Ok("another text")
             }
@@ -91,68 +82,64 @@ pub fn word_of_print(alloc: Global, resolve: &Resolve, count: u32) -> Result<&'s
     }
 }
 
-pub fn word_of_decode(alloc: Global, bytes: &[u8], count: u32) -> Result<&'static str, Refusal> {
+pub fn word_of_decode(alloc: Global, bytes: &[u8]) -> Result<&'static str, Refusal> {
     let wanted = decoded(alloc, bytes);
-    begin(alloc, count)?;
+    begin(alloc)?;
     let first = decoded(alloc, bytes);
-    let is_late = is_late(alloc);
+    end(alloc)?;
     let again = decoded(alloc, bytes);
-    Ok(word_of(wanted, first, again, is_late))
+    Ok(word_of(wanted, first, again))
 }
 
-pub fn word_of_world(alloc: Global, bytes: &[u8], count: u32) -> Result<&'static str, Refusal> {
+pub fn word_of_world(alloc: Global, bytes: &[u8]) -> Result<&'static str, Refusal> {
     let wanted = world_decoded(alloc, bytes);
-    begin(alloc, count)?;
+    begin(alloc)?;
     let first = world_decoded(alloc, bytes);
-    let is_late = is_late(alloc);
+    end(alloc)?;
     let again = world_decoded(alloc, bytes);
-    Ok(word_of(wanted, first, again, is_late))
+    Ok(word_of(wanted, first, again))
 }
 
-pub fn word_of_module(alloc: Global, bytes: &[u8], count: u32) -> Result<&'static str, Refusal> {
+pub fn word_of_module(alloc: Global, bytes: &[u8]) -> Result<&'static str, Refusal> {
     let wanted = module_decoded(alloc, bytes);
-    begin(alloc, count)?;
+    begin(alloc)?;
     let first = module_decoded(alloc, bytes);
-    let is_late = is_late(alloc);
+    end(alloc)?;
     let again = module_decoded(alloc, bytes);
-    Ok(word_of(wanted, first, again, is_late))
+    Ok(word_of(wanted, first, again))
 }
 
-pub fn word_of_compare(alloc: Global, count: u32) -> Result<&'static str, Refusal> {
+pub fn word_of_compare(alloc: Global) -> Result<&'static str, Refusal> {
     let wanted = compared(alloc, valid_whole(alloc)?);
     let one = valid_whole(alloc)?;
     let other = valid_whole(alloc)?;
-    begin(alloc, count)?;
+    begin(alloc)?;
     let first = compared(alloc, one);
-    let is_late = is_late(alloc);
+    end(alloc)?;
     let again = compared(alloc, other);
-    Ok(word_of(wanted, first, again, is_late))
+    Ok(word_of(wanted, first, again))
 }
 
-pub fn word_of_sense(alloc: Global, resolve: &Resolve, count: u32) -> Result<&'static str, Refusal>
+pub fn word_of_sense(alloc: Global, resolve: &Resolve) -> Result<&'static str, Refusal>
     requires valid { IsValid resolve.now }
 {
     let other = valid_whole(alloc)?;
     let wanted = sensed(alloc, resolve, &other);
-    begin(alloc, count)?;
+    begin(alloc)?;
     let first = sensed(alloc, resolve, &other);
-    let is_late = is_late(alloc);
+    end(alloc)?;
     let again = sensed(alloc, resolve, &other);
-    Ok(word_of(wanted, first, again, is_late))
+    Ok(word_of(wanted, first, again))
 }
 
-pub fn word_of_carried_over(
-    alloc: Global,
-    resolve: &Resolve,
-    count: u32,
-) -> Result<&'static str, Refusal>
+pub fn word_of_carried_over(alloc: Global, resolve: &Resolve) -> Result<&'static str, Refusal>
     requires in_range { 0 < length resolve.now.worlds.items }
 {
     let map = unversioned(alloc)?;
     let wanted = carried_over(alloc, resolve, &map);
-    begin(alloc, count)?;
+    begin(alloc)?;
     let first = carried_over(alloc, resolve, &map);
-    let is_late = is_late(alloc);
+    end(alloc)?;
     let again = carried_over(alloc, resolve, &map);
-    Ok(word_of(wanted, first, again, is_late))
+    Ok(word_of(wanted, first, again))
 }
