@@ -18,7 +18,7 @@ const NUMBER: &[u8] = &[0x81, 0x80, 0x80, 0x80, 0x00];
 
 const NAME: &[u8] = &[0x02, 0x61, 0x62, 0x07];
 
-const SECTIONS: &[u8] = &[0x00, 0x03, 0x01, 0x61, 0x09, 0x05, 0x01, 0x08];
+const SECTIONS: &[u8] = &[0x00, 0x03, 0x01, 0x61, 0x09, 0x05, 0x02, 0x08];
 
 // The call of each, folded to a number: none of them is refused but for the last section, which is cut.
 fn read_all() -> Result<u64, Error> {
@@ -42,12 +42,12 @@ fn read_all() -> Result<u64, Error> {
     match sections.next() {
         Err(Error::NoReading(_, offset)) => sum = sum.wrapping_mul(31).wrapping_add(offset as u64),
         Err(error) => return Err(error),
-        Ok(_) => sum = 0,
+        Ok(_) => return Err(Error::Size),
     }
     match read_u32(NUMBER, 5) {
         Err(Error::NoReading(_, offset)) => Ok(sum.wrapping_mul(31).wrapping_add(offset as u64)),
         Err(error) => Err(error),
-        Ok(_) => Ok(0),
+        Ok(_) => Err(Error::Size),
     }
 }
 
@@ -144,6 +144,9 @@ pub fn word_of_calls(alloc: Global, resolve: &Resolve) -> Result<&'static str, R
     begin(alloc)?;
     let found = all(alloc, &metadata, resolve);
     end(alloc)?;
+    if wanted.is_err() {
+        return Ok("refused, where nothing is");
+    }
     if found == wanted {
         return Ok("done");
     }

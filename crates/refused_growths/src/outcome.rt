@@ -38,6 +38,9 @@ pub fn word_of(
     first: Result<Summary, Error>,
     again: Result<Summary, Error>,
 ) -> &'static str {
+    if wanted == Err(Error::Memory) {
+        return "memory, where nothing is refused";
+    }
     if first == wanted {
         return "done";
     }

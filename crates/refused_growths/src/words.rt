@@ -55,11 +55,14 @@ pub fn word_of_print(alloc: Global, resolve: &Resolve) -> Result<&'static str, R
     requires valid { IsValid resolve.now }
     requires in_range { 0 < length resolve.now.packages.items }
 {
-    let (wanted, _) = printed(alloc, resolve);
+    let (wanted, answer) = printed(alloc, resolve);
     begin(alloc)?;
     let (text, result) = printed(alloc, resolve);
     end(alloc)?;
     let (again, _) = printed(alloc, resolve);
+    if answer.is_err() {
+        return Ok("refused, where nothing is");
+    }
     if !wanted.starts_with(text.as_str()) {
         return Ok("another beginning");
     }
