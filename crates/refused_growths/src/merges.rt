@@ -5,7 +5,7 @@ ghost use Rattle.wit_component.specs.Bindings.{IsBindgen};
 ghost use Rattle.wit_component.specs.Valid.{IsValid};
 
 use crate::encodings::sum_of_world;
-use crate::outcome::{Summary, word_of};
+use crate::outcome::{Summary, word_of_answers};
 use crate::packages::whole;
 use crate::probe::{begin, end};
 use crate::session::Refusal;
@@ -150,9 +150,21 @@ fn outcome_of(alloc: Global, mut own: Bindgen) -> Result<Outcome, Refusal>
     Ok(Outcome { answer, state })
 }
 
+// Whether a merge with memory is refused for a clash, or united.
+fn is_meant(answer: &Result<Summary, Error>, clashes: bool) -> bool {
+    match answer {
+        Ok(_) => !clashes,
+        Err(Error::Clash(_, _)) => clashes,
+        Err(_) => false,
+    }
+}
+
 /// The merge that is united, or the one that clashes.
 pub fn word_of_merge(alloc: Global, clashes: bool) -> Result<&'static str, Refusal> {
     let wanted = outcome_of(alloc, own_bindings(alloc, clashes)?)?;
+    if !is_meant(&wanted.answer, clashes) {
+        return Ok("another answer, where nothing is refused");
+    }
     let mut own = own_bindings(alloc, clashes)?;
     let other = other_bindings(alloc)?;
     let before = state_of(alloc, &own)?;
@@ -173,5 +185,5 @@ pub fn word_of_merge(alloc: Global, clashes: bool) -> Result<&'static str, Refus
     if !are_same(&again.state, &wanted.state) {
         return Ok("refused, and then another state");
     }
-    Ok(word_of(wanted.answer, first, again.answer))
+    Ok(word_of_answers(wanted.answer, first, again.answer))
 }

@@ -32,15 +32,24 @@ pub fn summary_of(bytes: &[u8]) -> Summary {
     }
 }
 
-/// The word for a call that is made first where nothing is refused, then where a growth may be, and then again.
+/// The word for a call that is made first where nothing is refused, and then answers, then where a growth may be, and then again.
 pub fn word_of(
     wanted: Result<Summary, Error>,
     first: Result<Summary, Error>,
     again: Result<Summary, Error>,
 ) -> &'static str {
-    if wanted == Err(Error::Memory) {
-        return "memory, where nothing is refused";
+    if wanted.is_err() {
+        return "refused, where nothing is";
     }
+    word_of_answers(wanted, first, again)
+}
+
+/// The same for a call that may also be refused for what it is called with.
+pub fn word_of_answers(
+    wanted: Result<Summary, Error>,
+    first: Result<Summary, Error>,
+    again: Result<Summary, Error>,
+) -> &'static str {
     if first == wanted {
         return "done";
     }
