@@ -74,10 +74,21 @@ fn of_item(resolve: &Resolve, key: &WorldKey, item: &WorldItem) -> u64 {
     if resolve.external_id_value(key, item).is_some() {
         sum = sum.wrapping_add(11);
     }
-    if item.stability(resolve) == &Stability::Unknown {
+    if is_unstable_interface(resolve, item) {
         sum = sum.wrapping_add(13);
     }
     sum
+}
+
+// Whether the item is an interface of which no stability is known.
+fn is_unstable_interface(resolve: &Resolve, item: &WorldItem) -> bool {
+    let WorldItem::Interface { id, .. } = item else {
+        return false;
+    };
+    if id.0 as usize >= resolve.interfaces.len() {
+        return false;
+    }
+    item.stability(resolve) == &Stability::Unknown
 }
 
 fn of_packages(metadata: &ModuleMetadata, resolve: &Resolve) -> u64 {
