@@ -1,5 +1,5 @@
 -- Where no type has a name, each can be encoded by an encoder of interfaces that hasn't been used.
-use Rattle.std.proofs.Common.{◌≡◌, refl, subst, ap, ◌∙◌, ℕ, zero, suc, ◌<◌, ⊥, absurd, Bool, true, List, [], ◌∷◌, length, slice_get, Option, None, Some, unwrap_or, is_some}
+use Rattle.std.proofs.Common.{◌≡◌, refl, subst, ap, ◌∙◌, ℕ, zero, suc, ◌<◌, Bool, true, List, [], ◌∷◌, length, slice_get, Option, None, Some, unwrap_or, is_some}
 use Rattle.std.specs.List.{list_all}
 use Rattle.std.specs.Prelude.{is_none}
 use Rattle.wit_model.specs.Types.{number_of}
