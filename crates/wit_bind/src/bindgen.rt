@@ -5,10 +5,12 @@ ghost use Rattle.wit_model.specs.declared.error.Error.TheVariants.{Memory};
 ghost use Rattle.wit_model.specs.Lookup.{key_text};
 ghost use Rattle.bind_add.specs.Growth.{IsAddable};
 ghost use Rattle.bind_carry.specs.AddedKeys.{key_view};
+ghost use Rattle.bind_match.specs.Matching.{own_package_of};
 ghost use Rattle.bind_meaning.specs.Clash.{CanUnite};
 ghost use Rattle.bind_meaning.specs.Union.{union};
 ghost use Rattle.wit_bind.specs.Bindings.{IsBindgen, binding_of};
 ghost use Rattle.wit_bind.specs.Extends.{Extends, IsKept, listed_names, merged_names};
+ghost use Rattle.wit_bind.specs.Merged.{IsMerge};
 ghost use Rattle.wit_bind.specs.Merges.{IsGrownBy, IsMergeRefusal, IsPlanOf, export_keys};
 ghost use Rattle.wit_bind.specs.Roots.{IsRoot, IsRootPackage, IsRootResolve, IsRootWorld};
 
@@ -16,7 +18,7 @@ use crate::metadata::ModuleMetadata;
 use bind_add::{Added, add, reserve};
 use bind_carry::union_of;
 use bind_clash::refuse_clash;
-use bind_match::matches_of;
+use bind_match::{matched_packages, matches_of};
 use indexmap::IndexSet;
 use std::alloc::Global;
 use wit_model::{
@@ -103,14 +105,20 @@ impl Bindgen {
     }
 
     // What the union with other bindings adds to the `Resolve`, and the keys of their exports in it; or why there is none.
-    fn planned(&self, alloc: Global, other: &Bindgen) -> Result<(Added, IndexSet<WorldKey>), Error>
+    fn planned(
+        &self,
+        alloc: Global,
+        other: &Bindgen,
+        packages: Vec<Option<PackageId>>,
+    ) -> Result<(Added, IndexSet<WorldKey>), Error>
         requires own { IsBindgen self.now }
         requires others { IsBindgen other.now }
+        requires packages { packages.items ≡ map (own_package_of self.now.resolve.packages.items) other.now.resolve.packages.items }
         ensures united { IfOk result (λ plan. CanUnite (binding_of self.now) (binding_of other.now)) }
         ensures ok { IfOk result (λ plan. IsPlanOf self.now other.now plan.0 plan.1.keys) }
         ensures refusal { IfErr result (IsMergeRefusal self.now other.now) }
     {
-        let matches = matches_of(alloc, &self.resolve, &other.resolve)?;
+        let matches = matches_of(alloc, &self.resolve, &other.resolve, packages)?;
         refuse_clash(
             alloc,
             &self.resolve,
@@ -168,8 +176,29 @@ impl Bindgen {
         ensures refusal { IfErr result (IsMergeRefusal self.old other) }
         ensures kept { OnErr result (IsKept self.old self.new) }
     {
-        let (added, keys) = self.planned(alloc, &other)?;
-        self.grow(added, other.metadata)?;
-        Ok(keys)
+        let packages = matched_packages(alloc, &self.resolve.packages, &other.resolve.packages)?;
+        merge_matched(self, alloc, other, packages)
     }
+}
+
+/// As `Bindgen::merge`, where the own packages of the names of the other's are known. Takes time and memory linear in the other bindings alone, with hashed
+/// look-ups, apart from what lists and maps take to grow.
+pub fn merge_matched(
+    own: &mut Bindgen,
+    alloc: Global,
+    other: Bindgen,
+    packages: Vec<Option<PackageId>>,
+) -> Result<IndexSet<WorldKey>, Error>
+    requires own { IsBindgen own.old }
+    requires others { IsBindgen other }
+    requires packages { packages.items ≡ map (own_package_of own.old.resolve.packages.items) other.resolve.packages.items }
+
+    ensures merged { IfOk result (λ answer. IsMerge own.old other own.new answer.keys) }
+    ensures world { own.new.world ≡ own.old.world }
+    ensures refusal { IfErr result (IsMergeRefusal own.old other) }
+    ensures kept { OnErr result (IsKept own.old own.new) }
+{
+    let (added, keys) = own.planned(alloc, &other, packages)?;
+    own.grow(added, other.metadata)?;
+    Ok(keys)
 }

@@ -9,6 +9,6 @@ mod metadata;
 mod versions;
 mod wanted;
 
-pub use bindgen::Bindgen;
+pub use bindgen::{Bindgen, merge_matched};
 pub use encodings::{EncodingMap, Side};
 pub use metadata::ModuleMetadata;

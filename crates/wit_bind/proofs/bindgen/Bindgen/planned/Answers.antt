@@ -1,6 +1,5 @@
 use Rattle.std.proofs.Common.{◌≡◌, sym, ◌≤◌}
 use Rattle.bind_carry.proofs.KeysCopied.{if_ok}
-use Rattle.bind_carry.proofs.Ranges.{is_in_range}
 use Rattle.bind_carry.specs.Numbers.{IsMemoryOrSize}
 use Rattle.bind_clash.specs.Faults.{IsMatched}
 use Rattle.bind_clash.proofs.FirstClash.{err_is, err_said}
@@ -11,9 +10,6 @@ use Rattle.wit_bind.proofs.Refusals.{clash_is, encodings_are}
 use Rattle.wit_bind.proofs.TooMany.{refused-so}
 use Rattle.wit_bind.proofs.Uniting.{unite}
 use Rattle.wit_bind.proofs.bindgen.Bindgen.planned.Goals as goal
-
-pub matches_of-requires : goal.matches_of-requires
-matches_of-requires c = (is_in_range c.args.self.now.resolve c.requires.own.valid).few_packages
 
 pub refuse_clash-requires-clause-matches : goal.refuse_clash-requires-clause-matches
 refuse_clash-requires-clause-matches c = record { packages = c.in_ok-matches.ensures.packages; interfaces = c.in_ok-matches.ensures.interfaces; worlds = c.in_ok-matches.ensures.worlds }
