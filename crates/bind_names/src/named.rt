@@ -1,6 +1,6 @@
 //! Packages by their names.
 
-ghost use Rattle.std.specs.Prelude.{◌≡◌, ◌≤◌, ◌<◌, length, List, map, take, IfErr, IfOk, OnOk};
+ghost use Rattle.std.specs.Prelude.{◌≡◌, ◌≤◌, [], length, List, map, take, IfErr, IfOk, OnOk};
 ghost use Rattle.std.specs.HashMap.{get_by};
 ghost use Rattle.wit_model.specs.Rules.{same_package_name};
 ghost use Rattle.wit_model.specs.declared.error.Error.TheVariants.{Memory};
