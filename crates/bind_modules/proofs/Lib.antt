@@ -1,2 +1,3 @@
 mod SectionLaws
 mod BoundTo
+pub mod KnownNames

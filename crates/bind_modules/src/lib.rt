@@ -2,6 +2,7 @@
 #![tactic(auto)]
 
 mod modules;
+mod named;
 mod sections;
 
 pub use modules::decode;

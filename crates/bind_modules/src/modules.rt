@@ -5,33 +5,50 @@ ghost use Rattle.wit_bind.specs.Bindings.{IsBindgen, binding_of};
 ghost use Rattle.wit_metadata.specs.Modules.{IsFrontData, StripsModule};
 ghost use Rattle.bind_sections.specs.Bound.{IsBound, RefusesBindings};
 ghost use Rattle.bind_sections.specs.Steps.{IsDataInFront};
+ghost use Rattle.bind_names.specs.Named.{AreNamed};
 ghost use Rattle.bind_modules.specs.BoundTo.{BeginsWithRoot, IsBoundTo};
 
+use crate::named::{merge_named, named_by_bytes};
 use crate::sections::decode_section;
+use bind_names::PackagesByName;
 use std::alloc::Global;
 use wit_bind::Bindgen;
 use wit_metadata::{carried_in, sections_of, stripped};
 use wit_model::Error;
 
-// Binds what the data of a section carries, onto what has been bound.
-fn bind_section(alloc: Global, bound: &mut Bindgen, section: &[u8]) -> Result<(), Error>
-    requires { IsBindgen bound.old }
+// Binds what the data of a section carries, onto what has been bound, whose packages are known by their names.
+fn bind_section(
+    alloc: Global,
+    bound: &mut Bindgen,
+    named: &mut PackagesByName,
+    section: &[u8],
+) -> Result<(), Error>
+    requires bindgen { IsBindgen bound.old }
+    requires named { AreNamed bound.old.resolve.packages.items named.old }
+    ensures named { OnOk result (AreNamed bound.new.resolve.packages.items named.new) }
     ensures ok { (input bytes rest : List ℕ) → IsBoundTo input bound.old bytes → IsDataInFront bytes section.now rest → OnOk result (IsBoundTo input bound.new rest) }
     ensures refuses { (input bytes rest : List ℕ) → IsBoundTo input bound.old bytes → IsDataInFront bytes section.now rest → IfErr result (RefusesBindings input) }
 {
     let other = decode_section(alloc, section)?;
-    let _keys = bound.merge(alloc, other)?;
+    merge_named(alloc, bound, named, other)?;
     Ok(())
 }
 
 // The same where a section carries data. Where it carries none, nothing is bound.
-fn bind_carried(alloc: Global, bound: &mut Bindgen, carried: Option<&[u8]>) -> Result<(), Error>
-    requires { IsBindgen bound.old }
+fn bind_carried(
+    alloc: Global,
+    bound: &mut Bindgen,
+    named: &mut PackagesByName,
+    carried: Option<&[u8]>,
+) -> Result<(), Error>
+    requires bindgen { IsBindgen bound.old }
+    requires named { AreNamed bound.old.resolve.packages.items named.old }
+    ensures named { OnOk result (AreNamed bound.new.resolve.packages.items named.new) }
     ensures ok { (input bytes rest : List ℕ) → IsBoundTo input bound.old bytes → IsFrontData bytes carried.entry rest → OnOk result (IsBoundTo input bound.new rest) }
     ensures refuses { (input bytes rest : List ℕ) → IsBoundTo input bound.old bytes → IsFrontData bytes carried.entry rest → IfErr result (RefusesBindings input) }
 {
     match carried {
-        Some(section) => bind_section(alloc, bound, section),
+        Some(section) => bind_section(alloc, bound, named, section),
         None => Ok(()),
     }
 }
@@ -40,17 +57,20 @@ fn bind_carried(alloc: Global, bound: &mut Bindgen, carried: Option<&[u8]>) -> R
 fn bind_front<'a>(
     alloc: Global,
     bound: &mut Bindgen,
+    named: &mut PackagesByName,
     bytes: &'a [u8],
     offset: usize,
 ) -> Result<&'a [u8], Error>
     requires bindgen { IsBindgen bound.old }
+    requires named { AreNamed bound.old.resolve.packages.items named.old }
     requires some { bytes.now ≢ [] }
     ensures ok { (input : List ℕ) → IsBoundTo input bound.old bytes.now → IfOk result (λ rest. IsBoundTo input bound.new rest.now) }
+    ensures named { OnOk result (AreNamed bound.new.resolve.packages.items named.new) }
     ensures shorter { IfOk result (λ rest. length rest.now < length bytes.now) }
     ensures refuses { (input : List ℕ) → offset ≤ length input → IsBoundTo input bound.old bytes.now → IfErr result (RefusesBindings input) }
 {
     let (carried, behind) = carried_in(bytes, offset)?;
-    bind_carried(alloc, bound, carried)?;
+    bind_carried(alloc, bound, named, carried)?;
     Ok(behind)
 }
 
@@ -63,8 +83,10 @@ fn bindings(alloc: Global, bytes: &[u8]) -> Result<Bindgen, Error>
 {
     let mut rest = sections_of(bytes)?;
     let mut bound = Bindgen::default(alloc)?;
+    let mut named = named_by_bytes(alloc, bytes, &bound)?;
     while !rest.is_empty() {
-        rest = bind_front(alloc, &mut bound, rest, bytes.len() - rest.len())?;
+        let offset = bytes.len() - rest.len();
+        rest = bind_front(alloc, &mut bound, &mut named, rest, offset)?;
     }
     Ok(bound)
 }
@@ -81,8 +103,8 @@ fn bindings(alloc: Global, bytes: &[u8]) -> Result<Bindgen, Error>
 /// which is missing or not known; `Clash` where what it binds clashes with what was bound before; `BadModule` where no section stands, or a custom one without a
 /// name. Beside these it refuses with `Memory`, and with `Size` only where a list of the bindings would pass 4,294,967,295.
 ///
-/// Takes time linear in the module, and for each section that carries a world as long as it takes to decode the world and to merge it onto what was bound
-/// before; memory for the bindings and the module.
+/// Takes time linear in the module, with hashed look-ups, and for each section that carries a world as long as it takes to decode the world and to merge it, whatever
+/// was bound before; memory for the bindings, the names of their packages, and the module.
 pub fn decode(alloc: Global, bytes: &[u8]) -> Result<(Option<Vec<u8>>, Bindgen), Error>
     ensures bound { IfOk result (λ x. IsBound bytes.now (binding_of x.1)) }
     ensures valid { IfOk result (λ x. IsBindgen x.1) }

@@ -1,5 +1,5 @@
 -- What is planned can be added, and what is added is behind what there was.
-use Rattle.std.proofs.Common.{◌≡◌, sym, subst, ℕ, ◌<◌, Bool, true, List, length, Result, Ok, Err, OnErr, OnOk}
+use Rattle.std.proofs.Common.{◌≡◌, sym, subst, ℕ, ◌<◌, ◌≤◌, Bool, true, List, length, Result, Ok, Err, OnErr, OnOk}
 use Rattle.std.specs.Prelude.{IfOk}
 use Rattle.wit_model.specs.declared.model.Resolve.{Resolve}
 use Rattle.wit_model.specs.declared.model.WorldKey.{WorldKey}
@@ -7,6 +7,7 @@ use Rattle.wit_model.specs.Valid.{key_eq}
 use Rattle.bind_add.specs.Growth.{are_in_range, IsAddable, IsAdded, IsSameResolve}
 use Rattle.bind_add.specs.declared.added.Added.{Added}
 use Rattle.bind_carry.proofs.Addable.{unions_are_addable}
+use Rattle.bind_carry.proofs.Ranges.{is_in_range}
 use Rattle.bind_copy.proofs.Gained.{test_is}
 use Rattle.wit_model.specs.contracts.model.WorldKeyPartialEq.TheImpl as world_key
 use Rattle.wit_bind.specs.declared.bindgen.Bindgen.{Bindgen}
@@ -19,6 +20,10 @@ plan_addable own other o t added keys p =
     let w = element_at own.resolve.worlds.items own.world.0 o.in_range in
     let v = element_at other.resolve.worlds.items other.world.0 t.in_range in
     unions_are_addable own.resolve other.resolve own.world.0 other.world.0 p.matches w.0 v.0 added keys t.valid (p.union w.0 v.0 w.1 v.1) o.in_range p.matched.packages
+
+-- the packages of bindings can be numbered
+pub few_bound : (b : Bindgen) → IsBindgen b → length b.resolve.packages.items ≤ 4294967295
+few_bound b is = (is_in_range b.resolve is.valid).few_packages
 
 -- keys are told apart as the code does it
 pub added_by_key : (world : ℕ) (added : Added) (old new : Resolve) → IsAdded world_key.ghosts.eq world added old new → IsAdded key_eq world added old new

@@ -1,11 +1,10 @@
 use Rattle.bind_carry.proofs.KeysCopied.{if_ok}
-use Rattle.bind_carry.proofs.Ranges.{is_in_range}
 use Rattle.wit_bind.proofs.AsItWas.{kept_itself}
-use Rattle.wit_bind.proofs.Growing.{on_err, so_ok}
+use Rattle.wit_bind.proofs.Growing.{few_bound, on_err, so_ok}
 use Rattle.wit_bind.proofs.bindgen.Bindgen.merge.Goals as goal
 
 pub matched_packages-requires : goal.matched_packages-requires
-matched_packages-requires c = (is_in_range c.args.self.now.resolve c.requires.own.valid).few_packages
+matched_packages-requires c = few_bound c.args.self.now c.requires.own
 
 pub returns-in_err-packages-clause-kept : goal.returns-in_err-packages-clause-kept
 returns-in_err-packages-clause-kept c = on_err (kept_itself c.args.self.now) c.from_residual.result
