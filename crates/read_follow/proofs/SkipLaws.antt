@@ -1,8 +1,9 @@
 -- What is behind a form that is read to find its end.
 use Rattle.std.proofs.Common.{◌≡◌, refl, sym, ap, ◌∙◌, ℕ, suc, ◌+◌, ◌-◌, ◌<◌, ◌≤◌, arith, Bool, true, false, cond, eqb-true, List, [], ◌∷◌, Option, Some, None, ◌==◌}
 use Rattle.comp_bytes.specs.FirstByte.{declared_type_at, defined_type_at, function_type_at}
-use Rattle.comp_bytes.specs.Raw.{Declaration, DefinedType}
-use Rattle.comp_bytes.specs.Reading.{Reader, ◌>>=◌, as_at, case_at, declaration_at, field_at, function_of, name_at, pair_at, result_list_at, sequence_at, u32_at, value_type_at, vector_at}
+use Rattle.comp_bytes.specs.Raw.{Declaration, DefinedType, ExternName}
+use Rattle.comp_bytes.specs.declared.forms.ComponentTypeRef.{ComponentTypeRef}
+use Rattle.comp_bytes.specs.Reading.{Reader, ◌>>=◌, as_at, case_at, choose, declaration_at, description_at, extern_name_at, field_at, function_of, name_at, pair_at, plain_name, result_list_at, sequence_at, tagged_at, u32_at, value_type_at, vector_at}
 use Rattle.read_follow.specs.Bodies.{behind, held_declaration_at, is_import}
 use Rattle.read_follow.specs.Declares.{declaration_by_first, type_by_first}
 use Rattle.read_follow.proofs.BodyLaws.{found_before, none_found}
@@ -46,7 +47,7 @@ pub vector_found : {A : Type 0} (reader : Reader A) (bytes : List ℕ) (o : Opti
 unfolding vector_at
 vector_found reader bytes o e = ap (λ p. p >>= λ n. sequence_at reader n.0 n.1) e
 
--- ---- functions
+-- ---- pairs
 
 abbrev paired : {A B : Type 0} → A → B × List ℕ → (A × B) × List ℕ
 paired x y = ((x, y.0), y.1)
@@ -61,6 +62,29 @@ one_behind f x (Some y) = refl
 both_behind : {A B C : Type 0} (f : A × B → C) (second : Reader B) (o : Option (A × List ℕ)) → behind ((o >>= next_of second) >>= λ p. Some (f p.0, p.1)) ≡ (behind o >>= λ rest. behind (second rest))
 both_behind f second None = refl
 both_behind f second (Some x) = one_behind f x.0 (second x.1)
+
+-- ---- fields, and imports and exports
+
+module _ (bytes : List ℕ) where
+  field_behind : behind (field_at bytes) ≡ (behind (name_at bytes) >>= λ rest. behind (value_type_at rest))
+  unfolding field_at as_at pair_at
+  field_behind = both_behind (λ p. record { label = p.0; type_of = p.1 }) value_type_at (name_at bytes)
+
+  pub field_passed : (found : Option (List ℕ)) → behind (name_at bytes) ≡ found → behind (field_at bytes) ≡ (found >>= λ rest. behind (value_type_at rest))
+  field_passed found e = field_behind ∙ ap (λ o. o >>= λ rest. behind (value_type_at rest)) e
+
+  seen_behind : behind (pair_at extern_name_at description_at bytes) ≡ (behind (extern_name_at bytes) >>= λ rest. behind (description_at rest))
+  unfolding pair_at
+  seen_behind = sym (behind_as (λ p. p) (extern_name_at bytes >>= next_of description_at)) ∙ both_behind (λ p. p) description_at (extern_name_at bytes)
+
+  pub seen_passed : (found : Option (List ℕ)) → behind (extern_name_at bytes) ≡ found → behind (pair_at extern_name_at description_at bytes) ≡ (found >>= λ rest. behind (description_at rest))
+  seen_passed found e = seen_behind ∙ ap (λ o. o >>= λ rest. behind (description_at rest)) e
+
+pub plain_skipped : (bytes rest : List ℕ) (tag : ℕ) → bytes ≡ tag ∷ rest → tag ≡ 0 → behind (extern_name_at bytes) ≡ behind (name_at rest)
+unfolding extern_name_at tagged_at choose as_at
+plain_skipped bytes rest tag front is = ap (λ text. behind (extern_name_at text)) (front ∙ ap (λ b. b ∷ rest) is) ∙ behind_as plain_name (name_at rest)
+
+-- ---- functions
 
 module _ (is_async : Bool) (bytes : List ℕ) where
   function_behind : behind (function_type_at is_async bytes) ≡ (behind (vector_at field_at bytes) >>= λ rest. behind (result_list_at rest))
@@ -135,6 +159,42 @@ module _ (bytes rest : List ℕ) (tag : ℕ) (front : bytes ≡ tag ∷ rest) (i
   pub held_type_skipped : behind (held_declaration_at bytes) ≡ behind (type_by_first rest)
   unfolding held_declaration_at
   held_type_skipped = ap behind (ap held (ap declaration_at split ∙ type_declared rest) ∙ held_type rest)
+
+-- ---- declared imports and exports
+
+abbrev seen_at : Reader (ExternName × ComponentTypeRef)
+seen_at = pair_at extern_name_at description_at
+
+abbrev imported : ExternName × ComponentTypeRef → Declaration
+imported p = Declaration.imported p.0 p.1
+
+abbrev exported : ExternName × ComponentTypeRef → Declaration
+exported p = Declaration.exported p.0 p.1
+
+import_declared : (rest : List ℕ) → declaration_at (3 ∷ rest) ≡ as_at imported seen_at rest
+unfolding declaration_by_first
+import_declared rest = declaration_first (3 ∷ rest)
+
+export_declared : (rest : List ℕ) → declaration_at (4 ∷ rest) ≡ as_at exported seen_at rest
+unfolding declaration_by_first
+export_declared rest = declaration_first (4 ∷ rest)
+
+module _ (bytes rest : List ℕ) (tag : ℕ) (front : bytes ≡ tag ∷ rest) where
+  front_is : (first : ℕ) → tag ≡ first → bytes ≡ first ∷ rest
+  front_is first is = front ∙ ap (λ b. b ∷ rest) is
+
+  pub import_skipped : tag ≡ 3 → behind (declaration_at bytes) ≡ behind (pair_at extern_name_at description_at rest)
+  unfolding as_at
+  import_skipped is = ap behind (ap declaration_at (front_is 3 is) ∙ import_declared rest) ∙ behind_as imported (seen_at rest)
+
+  pub export_skipped : tag ≡ 4 → behind (declaration_at bytes) ≡ behind (pair_at extern_name_at description_at rest)
+  unfolding as_at
+  export_skipped is = ap behind (ap declaration_at (front_is 4 is) ∙ export_declared rest) ∙ behind_as exported (seen_at rest)
+
+  pub held_export_skipped : tag ≡ 4 → behind (held_declaration_at bytes) ≡ behind (pair_at extern_name_at description_at rest)
+  unfolding held_declaration_at as_at
+  held_export_skipped is =
+      ap behind (ap held (ap declaration_at (front_is 4 is) ∙ export_declared rest) ∙ held_as exported (λ p. refl) (seen_at rest)) ∙ behind_as exported (seen_at rest)
 
 -- ---- declared types, by their first byte
 

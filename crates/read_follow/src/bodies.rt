@@ -11,7 +11,7 @@ ghost use Rattle.read_follow.specs.Found.{Finds, Gives};
 use crate::declarations::{Declared, declaration_of};
 use crate::front::u32_of;
 use crate::refusal::Refusal;
-use crate::skips::{Skips, skip_each, skip_type};
+use crate::skips::{Skips, skip_each, skip_seen, skip_type};
 use std::alloc::Global;
 use wit_model::Cause;
 
@@ -66,6 +66,9 @@ fn skip_held<'a>(alloc: Global, bytes: &'a [u8]) -> Result<&'a [u8], Refusal>
     };
     if *first == 0x01 {
         return skip_type(alloc, rest);
+    }
+    if *first == 0x04 {
+        return skip_seen(alloc, rest);
     }
     match held_declaration_of(alloc, bytes) {
         Ok((_declared, rest)) => Ok(rest),
@@ -160,6 +163,12 @@ fn skip_declaration<'a>(alloc: Global, bytes: &'a [u8]) -> Result<&'a [u8], Refu
     };
     if *first == 0x01 {
         return skip_type(alloc, rest);
+    }
+    if *first == 0x03 {
+        return skip_seen(alloc, rest);
+    }
+    if *first == 0x04 {
+        return skip_seen(alloc, rest);
     }
     match declaration_of(alloc, bytes) {
         Ok((_declared, rest)) => Ok(rest),

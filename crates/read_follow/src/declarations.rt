@@ -94,7 +94,7 @@ fn type_description_of(bytes: &[u8]) -> Result<(Description, &[u8]), Refusal>
 
 /// What an import or an export is: a function, a type, a component or an instance.
 #[tactic(auto, unfolding(comp_bytes::specs::Reading::description_at, crate::specs::Declares::type_description_at, comp_bytes::specs::Reading::tagged_at, comp_bytes::specs::Reading::choose, comp_bytes::specs::Reading::as_at))]
-fn description_of(bytes: &[u8]) -> Result<(Description, &[u8]), Refusal>
+pub(crate) fn description_of(bytes: &[u8]) -> Result<(Description, &[u8]), Refusal>
     ensures { Finds (λ d. d.kind) result (description_at bytes.now) }
 {
     let Some((first, behind)) = bytes.split_first() else {

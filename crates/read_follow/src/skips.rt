@@ -3,15 +3,18 @@
 ghost use Rattle.std.specs.Prelude.{◌≡◌, List, ℕ, Option};
 ghost use Rattle.comp_bytes.specs.FirstByte.{defined_type_at, function_type_at};
 ghost use Rattle.comp_bytes.specs.Raw.{Labeled};
-ghost use Rattle.comp_bytes.specs.Reading.{Reader, case_at, field_at, name_at, sequence_at, value_type_at, vector_at};
+ghost use Rattle.comp_bytes.specs.Reading.{Reader, case_at, description_at, extern_name_at, field_at, name_at, pair_at, sequence_at, value_type_at, vector_at};
 ghost use Rattle.comp_bytes.specs.declared.forms.ComponentValType.{ComponentValType as RawValueType};
 ghost use Rattle.read_follow.specs.Bodies.{behind};
 ghost use Rattle.read_follow.specs.Declares.{type_by_first};
 ghost use Rattle.read_follow.specs.Found.{Gives};
 
+use crate::declarations::description_of;
 use crate::definitions::{defined_type_of, result_list_of};
-use crate::front::u32_of;
+use crate::front::{index_of, name_of, u32_of};
+use crate::names::extern_name_of;
 use crate::refusal::Refusal;
+use crate::value::primitive_of;
 use crate::vector::Form;
 use comp_bytes::ComponentValType;
 use std::alloc::Global;
@@ -68,13 +71,39 @@ fn skip_read<'a, T: Form<'a> + Drop>(alloc: Global, bytes: &'a [u8]) -> Result<&
     }
 }
 
+/// The bytes behind a value type.
+fn skip_value(bytes: &[u8]) -> Result<&[u8], Refusal>
+    ensures { Gives (λ rest. rest.now) result (behind (value_type_at bytes.now)) }
+{
+    let Some((first, rest)) = bytes.split_first() else {
+        return Err(Refusal::Absent(Cause::Truncated, 0));
+    };
+    match primitive_of(*first) {
+        Some(_primitive) => Ok(rest),
+        None => match index_of(bytes) {
+            Ok((_index, rest)) => Ok(rest),
+            Err(refusal) => Err(refusal),
+        },
+    }
+}
+
 impl<'a> Skips<'a> for ComponentValType {
     ghost Raw = { RawValueType };
 
     ghost reader = { value_type_at };
 
-    fn skip(alloc: Global, bytes: &'a [u8]) -> Result<&'a [u8], Refusal> {
-        skip_read::<ComponentValType>(alloc, bytes)
+    fn skip(_alloc: Global, bytes: &'a [u8]) -> Result<&'a [u8], Refusal> {
+        skip_value(bytes)
+    }
+}
+
+/// The bytes behind a name.
+fn skip_name(bytes: &[u8]) -> Result<&[u8], Refusal>
+    ensures { Gives (λ rest. rest.now) result (behind (name_at bytes.now)) }
+{
+    match name_of(bytes) {
+        Ok((_name, rest)) => Ok(rest),
+        Err(refusal) => Err(refusal),
     }
 }
 
@@ -83,8 +112,18 @@ impl<'a> Skips<'a> for &'a str {
 
     ghost reader = { name_at };
 
-    fn skip(alloc: Global, bytes: &'a [u8]) -> Result<&'a [u8], Refusal> {
-        skip_read::<&'a str>(alloc, bytes)
+    fn skip(_alloc: Global, bytes: &'a [u8]) -> Result<&'a [u8], Refusal> {
+        skip_name(bytes)
+    }
+}
+
+/// The bytes behind a field or a parameter.
+fn skip_field(bytes: &[u8]) -> Result<&[u8], Refusal>
+    ensures { Gives (λ rest. rest.now) result (behind (field_at bytes.now)) }
+{
+    match skip_name(bytes) {
+        Ok(rest) => skip_value(rest),
+        Err(refusal) => Err(refusal),
     }
 }
 
@@ -93,8 +132,8 @@ impl<'a> Skips<'a> for (&'a str, ComponentValType) {
 
     ghost reader = { field_at };
 
-    fn skip(alloc: Global, bytes: &'a [u8]) -> Result<&'a [u8], Refusal> {
-        skip_read::<(&'a str, ComponentValType)>(alloc, bytes)
+    fn skip(_alloc: Global, bytes: &'a [u8]) -> Result<&'a [u8], Refusal> {
+        skip_field(bytes)
     }
 }
 
@@ -165,4 +204,34 @@ pub(crate) fn skip_type<'a>(alloc: Global, bytes: &'a [u8]) -> Result<&'a [u8], 
         return skip_function(alloc, true, rest);
     }
     skip_definition(alloc, *first, bytes.len(), rest)
+}
+
+/// The bytes behind the name of an import or an export.
+#[tactic(auto, unfolding(comp_bytes::specs::Reading::extern_name_at, comp_bytes::specs::Reading::tagged_at))]
+fn skip_extern_name<'a>(alloc: Global, bytes: &'a [u8]) -> Result<&'a [u8], Refusal>
+    ensures { Gives (λ rest. rest.now) result (behind (extern_name_at bytes.now)) }
+{
+    let Some((first, rest)) = bytes.split_first() else {
+        return Err(Refusal::Absent(Cause::Truncated, 0));
+    };
+    if *first == 0x00 {
+        return skip_name(rest);
+    }
+    match extern_name_of(alloc, bytes) {
+        Ok((_name, rest)) => Ok(rest),
+        Err(refusal) => Err(refusal),
+    }
+}
+
+/// The bytes behind an import or an export, behind its first byte.
+pub(crate) fn skip_seen<'a>(alloc: Global, bytes: &'a [u8]) -> Result<&'a [u8], Refusal>
+    ensures { Gives (λ rest. rest.now) result (behind (pair_at extern_name_at description_at bytes.now)) }
+{
+    match skip_extern_name(alloc, bytes) {
+        Ok(rest) => match description_of(rest) {
+            Ok((_description, rest)) => Ok(rest),
+            Err(refusal) => Err(refusal),
+        },
+        Err(refusal) => Err(refusal),
+    }
 }
