@@ -1,6 +1,6 @@
 mod BindingsLaws
 mod DemoLaws
-mod NamedLaws
-mod PrintedLaws
+mod InputLaws
+mod MemberLaws
 mod RefusedLaws
 mod RunLaws

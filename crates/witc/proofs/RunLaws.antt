@@ -2,12 +2,13 @@
 use Rattle.std.proofs.Common.{◌≡◌, ◌≤◌, ℕ, List, refl, sym, subst, Option, Some, None, Result, Ok, Err, IfOk, MatchResult, Vec, arith}
 use Rattle.std.specs.declared.alloc.Global.{Global}
 use Rattle.witc.specs.Answers.{Answers, failed, written}
-use Rattle.witc.specs.Runs.{AnswersNames, AnswersText, Ends, IsDone, LacksWorld, bad_words, compatible, done, lacks_world, no_new, no_prev, no_such_world, refused, usage}
+use Rattle.witc.specs.Runs.{AnswersNames, AnswersText, Ends, IsDone, LacksWorld, bad_words, done, lacks_world, no_new, no_prev, refused}
 use Rattle.witc.specs.Words.{Asked, compat}
 use Rattle.witc.specs.Worlds.{ComparesInput}
-use Rattle.witc.specs.declared.compat.Compared.{Compared}
-use Rattle.witc.specs.declared.compat.Compared.TheVariants as compared
 use Rattle.witc.specs.declared.refusal.Refusal.{Refusal}
+use Rattle.witc_texts.specs.Lines.{compatible, no_such_world, usage}
+use Rattle.witc_texts.specs.declared.comparison.Compared.{Compared}
+use Rattle.witc_texts.specs.declared.comparison.Compared.TheVariants as compared
 
 -- what is true of each value is true of an answer
 pub if-ok : {X E : Type 0} (P Q : X → Type 0) → ((x : X) → P x → Q x) → (r : Result X E) → IfOk r P → IfOk r Q

@@ -1,10 +1,6 @@
 -- What a text that is written has to do with the exit status.
-use Rattle.std.specs.Prelude.{ℕ, List, [], ◌∷◌, ◌++◌, Option}
+use Rattle.std.specs.Prelude.{ℕ, List, Option}
 use Rattle.std.specs.Io.KnownBytes.{Appends}
-
--- a text and its line end
-abbrev pub line_of : List ℕ → List ℕ
-line_of text = text ++ (10 ∷ [])
 
 -- The status is 1, and a write failed; or it is the one that was handed in, and the writer holds the text behind what it held before.
 pub data Answers (old new : Option (List ℕ)) (text : List ℕ) (status : ℕ) : ℕ → Type 0 where

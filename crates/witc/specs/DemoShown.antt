@@ -5,7 +5,7 @@ use Rattle.wit_model.specs.Meant.{Meant}
 use Rattle.comp_meaning.specs.Reads.{Reads}
 use Rattle.witc.specs.Demo.{demo}
 use Rattle.witc.specs.Hex.{hex_text}
-use Rattle.witc.specs.Printed.{IsTextOf}
+use Rattle.witc_texts.specs.Printed.{IsTextOf}
 
 -- The text is of a `Resolve` whose first package means the demo's.
 pub record IsDemoText (text : List ℕ) : Type 0 where

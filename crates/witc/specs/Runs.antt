@@ -1,27 +1,18 @@
 -- What a run answers and writes.
-use Rattle.std.specs.Prelude.{◌≡◌, ◌++◌, ℕ, List, codes, Option, Some, None, Result, MatchResult, Vec, vec_items}
+use Rattle.std.specs.Prelude.{◌≡◌, ℕ, List, Option, Some, None, Result, MatchResult, Vec, vec_items}
 use Rattle.std.specs.declared.alloc.Global.{Global}
 use Rattle.std.specs.Io.KnownBytes.{Appends}
-use Rattle.witc.specs.Answers.{Answers, line_of}
+use Rattle.witc.specs.Answers.{Answers}
 use Rattle.witc.specs.Bindings.{PrintsBindings}
 use Rattle.witc.specs.DemoShown.{IsDemoDigits, IsDemoText}
 use Rattle.witc.specs.Printed.{PrintsInput}
 use Rattle.witc.specs.Stripped.{StripsInput}
 use Rattle.witc.specs.Words.{Asked, demo_text, demo_hex, print, module_text, strip, compat}
 use Rattle.witc.specs.Worlds.{ComparesInput}
-use Rattle.witc.specs.declared.compat.Compared.{Compared}
-use Rattle.witc.specs.declared.compat.Compared.TheVariants as compared
 use Rattle.witc.specs.declared.refusal.Refusal.{Refusal}
-
--- the lines that are written
-abbrev pub usage : List ℕ
-usage = line_of (codes "usage: witc demo text | demo hex | print | module | strip | compat PREV NEW")
-
-abbrev pub compatible : List ℕ
-compatible = line_of (codes "compatible")
-
-abbrev pub no_such_world : List ℕ → List ℕ
-no_such_world name = line_of (codes "no such world: " ++ name)
+use Rattle.witc_texts.specs.Lines.{compatible, no_such_world, usage}
+use Rattle.witc_texts.specs.declared.comparison.Compared.{Compared}
+use Rattle.witc_texts.specs.declared.comparison.Compared.TheVariants as compared
 
 -- This text is what was asked for. The demo's commands leave the reader alone, the others read all that it has left.
 abbrev pub IsDone : Option (List ℕ) → Option (List ℕ) → Asked → List ℕ → Type 0

@@ -1,8 +1,9 @@
 //! What is written at the end of a run, and the exit status.
 
-ghost use Rattle.std.specs.Prelude.{◌≡◌, ◌++◌, OnOk, codes};
+ghost use Rattle.std.specs.Prelude.{◌≡◌, OnOk};
 ghost use Rattle.std.specs.Io.KnownBytes.{Appends};
-ghost use Rattle.witc.specs.Answers.{Answers, line_of};
+ghost use Rattle.witc.specs.Answers.{Answers};
+ghost use Rattle.witc_texts.specs.Lines.{no_such_world};
 
 use crate::refusal::Refusal;
 use std::io::{Result, Write};
@@ -26,7 +27,7 @@ pub fn answer<W: Write>(writer: &mut W, text: &[u8], status: u8) -> u8
 
 /// Writes that a world isn't there, and answers `BAD_WORDS`, or `REFUSED` where the write fails.
 pub fn answer_no_world<W: Write>(writer: &mut W, name: &str) -> u8
-    ensures { Answers (W.contents writer.old) (W.contents writer.new) (line_of (codes "no such world: " ++ name.now)) 2 result }
+    ensures { Answers (W.contents writer.old) (W.contents writer.new) (no_such_world name.now) 2 result }
 {
     match write_no_world(writer, name) {
         Ok(()) => BAD_WORDS,
@@ -50,7 +51,7 @@ fn write_text<W: Write>(writer: &mut W, text: &[u8]) -> Result<()>
 }
 
 fn write_no_world<W: Write>(writer: &mut W, name: &str) -> Result<()>
-    ensures { OnOk result (Appends (W.contents writer.old) (W.contents writer.new) (line_of (codes "no such world: " ++ name.now))) }
+    ensures { OnOk result (Appends (W.contents writer.old) (W.contents writer.new) (no_such_world name.now)) }
 {
     writeln!(writer, "no such world: {name}")?;
     writer.flush()

@@ -6,10 +6,6 @@ ghost use Rattle.std.specs.Str.{is_utf8};
 ghost use Rattle.witc.specs.Asks.{asked_by};
 ghost use Rattle.witc.specs.Words.{asked_of, is_word};
 
-/// What is written where the words are no command.
-pub const USAGE: &str =
-    "usage: witc demo text | demo hex | print | module | strip | compat PREV NEW\n";
-
 /// What the words ask for.
 #[derive(Clone, Copy)]
 pub enum Command<'a> {

@@ -7,13 +7,13 @@ ghost use Rattle.witc.specs.Demo.{HoldsDemo, IsFoo, IsOneFunction};
 ghost use Rattle.witc.specs.DemoShown.{IsDemoDigits, IsDemoText};
 
 use crate::hex::hex_lines;
-use crate::print::text_of_package;
 use crate::refusal::Refusal;
 use std::alloc::Global;
 use wit_component::{
     Check, Docs, Error, Function, FunctionKind, Map, Package, PackageId, PackageName, Resolve,
     Stability, World, WorldId, WorldItem, WorldKey, encode,
 };
+use witc_texts::text_of_package;
 
 /// The package's number in `package`.
 const PACKAGE: PackageId = PackageId(0);

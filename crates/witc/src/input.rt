@@ -2,13 +2,11 @@
 
 ghost use Rattle.std.specs.Prelude.{◌≡◌, ◌<◌, true, length, vec_len, IfErr, IfOk};
 ghost use Rattle.std.specs.Io.KnownBytes.{IsAtEnd};
-ghost use Rattle.witc.specs.Decodes.{DecodesInput, RefusesInput};
 ghost use Rattle.witc.specs.Input.{IsUnread, ReadsPart, ReadsWhole};
 
 use crate::refusal::Refusal;
 use std::alloc::{AllocError, Global};
 use std::io::{ErrorKind, Read};
-use wit_component::{PackageId, Resolve, decode};
 
 /// So many calls of a reader are made at most.
 const MOST_CALLS: u64 = 4_294_967_296;
@@ -62,13 +60,4 @@ pub fn read_whole<R: Read>(alloc: Global, reader: &mut R) -> Result<Vec<u8>, Ref
         }
     }
     Err(Refusal::Unread)
-}
-
-/// The package that the bytes mean which a reader gives.
-pub fn decode_input<R: Read>(alloc: Global, reader: &mut R) -> Result<(Resolve, PackageId), Refusal>
-    ensures decoded { IfOk result (λ x. DecodesInput (R.remaining reader.old) (R.remaining reader.new) x.0 x.1.0) }
-    ensures refused { IfErr result (RefusesInput (R.remaining reader.old) (R.remaining reader.new)) }
-{
-    let bytes = read_whole(alloc, reader)?;
-    Ok(decode(alloc, &bytes)?)
 }

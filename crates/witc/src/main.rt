@@ -14,7 +14,6 @@ mod print;
 mod refusal;
 mod run;
 mod words;
-mod worlds;
 
 use answer::refuse;
 use refusal::Refusal;

@@ -6,17 +6,15 @@ ghost use Rattle.witc.specs.Runs.{AnswersNames, AnswersText, Ends};
 ghost use Rattle.witc.specs.Words.{asked_of};
 
 use crate::answer::{BAD_WORDS, DONE, answer, answer_no_world, refuse};
-use crate::command::{Command, USAGE, command_of};
-use crate::compat::{Compared, compare_input};
+use crate::command::{Command, command_of};
+use crate::compat::compare_input;
 use crate::demo::{demo_hex, demo_text};
 use crate::module::{module_input, strip_input};
 use crate::print::print_input;
 use crate::refusal::Refusal;
 use std::alloc::Global;
 use std::io::{Read, Write};
-
-/// What is written where a world may take the place of another.
-const COMPATIBLE: &str = "compatible\n";
+use witc_texts::{COMPATIBLE, Compared, USAGE};
 
 /// Carries out what the words, the program's name not among them, ask for, and answers the exit status: `DONE`, `REFUSED` where
 /// it is refused or a write fails, `BAD_WORDS` where the words are no command or name a world that isn't there. All output goes to the

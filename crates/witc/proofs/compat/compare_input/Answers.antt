@@ -1,23 +1,29 @@
-use Rattle.std.proofs.lemmas.Option.{slice_get_within}
-use Rattle.witc.specs.Worlds.{RefusesWorlds, input, names}
+use Rattle.std.proofs.Common.{List, ℕ, subst}
+use Rattle.witc.specs.Worlds.{RefusesWorlds, compared, unread}
 use Rattle.witc.specs.declared.refusal.Refusal.TheVariants as refusals
-use Rattle.witc.proofs.RefusedLaws.{passed}
+use Rattle.witc_texts.specs.Worlds.{RefusesCompared}
+use Rattle.witc.proofs.InputLaws.{compares}
+use Rattle.witc.proofs.RefusedLaws.{from-reading, passed}
 use Rattle.witc.proofs.compat.compare_input.Goals as goal
 
-pub returns-in_err-resolve-clause-refused : goal.returns-in_err-resolve-clause-refused
-returns-in_err-resolve-clause-refused g c =
-    let refusal = c.in_err-resolve.field-0.0 in
-    passed (RefusesWorlds (g.R.Read.remaining c.args.reader.now) (g.R.Read.remaining c.decode_input.new.reader) c.args.prev.now c.args.new.now) c.from_residual.result refusal
-    c.from_residual.ensures.1 (input refusal c.in_err-resolve.ensures.refused)
+pub returns-in_err-bytes-clause-refused : goal.returns-in_err-bytes-clause-refused
+returns-in_err-bytes-clause-refused g c =
+    let left = g.R.Read.remaining c.args.reader.now in
+    let rest = g.R.Read.remaining c.read_whole.new.reader in
+    let refusal = c.in_err-bytes.field-0.0 in
+    passed (RefusesWorlds left rest c.args.prev.now c.args.new.now) c.from_residual.result refusal c.from_residual.ensures.1
+    (unread refusal (from-reading left rest refusal c.in_err-bytes.ensures.refused))
 
-pub compare-requires-clause-in_range : goal.compare-requires-clause-in_range
-compare-requires-clause-in_range g c =
-    let is = c.in_ok-resolve.ensures.decoded.decoded in
-    slice_get_within c.in_ok-resolve.resolve.packages.items c.in_ok-resolve.id.0 is.package_ is.stands
+pub returns-in_err-compat-clause-refused : goal.returns-in_err-compat-clause-refused
+returns-in_err-compat-clause-refused g c =
+    let left = g.R.Read.remaining c.args.reader.now in
+    let rest = g.R.Read.remaining c.read_whole.new.reader in
+    let e = c.in_err-compat.field-0.0 in
+    passed (RefusesWorlds left rest c.args.prev.now c.args.new.now) c.from_residual-in_err-compat.result (refusals.Error e) c.from_residual-in_err-compat.ensures.1
+    (compared c.in_ok-bytes.bytes.items e c.in_ok-bytes.ensures.whole
+    (subst (λ (xs : List ℕ). RefusesCompared xs c.args.prev.now c.args.new.now e) c.deref.ensures.value c.in_err-compat.ensures.refused))
 
-pub returns-in_err-compare-clause-refused : goal.returns-in_err-compare-clause-refused
-returns-in_err-compare-clause-refused g c =
-    let e = c.in_err-compare.field-0.0 in
-    passed (RefusesWorlds (g.R.Read.remaining c.args.reader.now) (g.R.Read.remaining c.decode_input.new.reader) c.args.prev.now c.args.new.now) c.from_residual-in_err-compare.result
-    (refusals.Error e) c.from_residual-in_err-compare.ensures.1
-    (names c.in_ok-resolve.resolve c.in_ok-resolve.id.0 e c.in_ok-resolve.ensures.decoded c.in_err-compare.ensures.refused)
+pub returns-clause-compared : goal.returns-clause-compared
+returns-clause-compared g c =
+    compares (g.R.Read.remaining c.args.reader.now) (g.R.Read.remaining c.read_whole.new.reader) c.args.prev.now c.args.new.now c.in_ok-bytes.bytes.items c.in_ok-bytes.ensures.whole
+    _ c.deref.ensures.value _ c.in_ok-compat.ensures.compared

@@ -1,7 +1,7 @@
 use Rattle.std.proofs.Common.{ap, ◌∙◌}
 use Rattle.witc.specs.Demo.{demo}
 use Rattle.witc.specs.Hex.{hex_text}
-use Rattle.witc.proofs.PrintedLaws.{holds-world}
+use Rattle.witc.proofs.MemberLaws.{holds-world}
 use Rattle.witc.proofs.demo.demo_hex.Goals as goal
 
 pub returns : goal.returns

@@ -1,0 +1,76 @@
+-- Packages by their numbers, and modules that are refused.
+use Rattle.std.proofs.Common.{◌≡◌, ◌≤◌, ◌<◌, ◌+◌, ◌-◌, ◌∙◌, ◌&&◌, refl, sym, ap, subst, ℕ, zero, suc, nat_lt, Bool, true, false, List, [], ◌∷◌, ◌++◌, length, map, Some, arith}
+use Rattle.std.specs.Prelude.{slice_get}
+use Rattle.std.specs.List.{list_all, range_with_len}
+use Rattle.std.proofs.lemmas.Bool.{lt-ltb, ltb-false, ltb-true}
+use Rattle.std.proofs.lemmas.List.FromFn.{map-range_with_len_more}
+use Rattle.wit_model.specs.declared.error.Error.{Error}
+use Rattle.wit_model.specs.declared.error.Error.TheVariants.{Memory}
+use Rattle.wit_model.specs.declared.model.Package.{Package}
+use Rattle.wit_model.specs.declared.model.PackageId.{PackageId}
+use Rattle.wit_model.specs.declared.model.Resolve.{Resolve}
+use Rattle.wit_model.specs.Lookup.{package_at}
+use Rattle.wit_model.specs.Rules.{in_list}
+use Rattle.wit_model.specs.Valid.{IsValid, is_place, numbers_in_range}
+use Rattle.wit_model.proofs.Lists.{first_true}
+use Rattle.wit_model.proofs.OnePath.{package-passes}
+use Rattle.wit_component.specs.Bound.{RefusesBindings}
+use Rattle.wit_component.specs.BoundTo.{BeginsWithRoot}
+use Rattle.witc_texts.specs.Bindings.{other_packages_of}
+
+-- ---- how many packages there are
+
+there : {X : Type 0} (xs : List X) (n : ℕ) → n < length xs → (x : X) × (slice_get xs n ≡ Some x)
+there [] n l = absurd (omega (arith, l))
+there (x ∷ xs) zero l = (x, refl)
+there (x ∷ xs) (suc n) l = there xs n (omega (arith, l))
+
+no-place : is_place 4294967295 ≡ true → ⊥
+no-place h = cc
+
+in-place : (r : Resolve) → IsValid r → (n : ℕ) (p : Package) → package_at r n ≡ Some p → is_place n ≡ true
+unfolding numbers_in_range
+in-place r valid n p at = first_true (is_place n) _ (package-passes numbers_in_range r valid.rules.numbers_in_range n p at)
+
+-- Each has a number of 32 bits.
+pub few-packages : (r : Resolve) → IsValid r → length r.packages.items ≤ 4294967295
+few-packages r valid = by (nat_lt 4294967295 (length r.packages.items)) refl
+  where
+    by : (b : Bool) → nat_lt 4294967295 (length r.packages.items) ≡ b → length r.packages.items ≤ 4294967295
+    by true e = let p = there r.packages.items 4294967295 (ltb-true 4294967295 (length r.packages.items) e) in absurd (no-place (in-place r valid 4294967295 p.0 p.1))
+    by false e = ltb-false 4294967295 (length r.packages.items) e
+
+-- there is one, where the first is known
+pub some-packages : (r : Resolve) → BeginsWithRoot r → 0 < length r.packages.items
+some-packages r root = by r.packages.items root.first
+  where
+    by : (ps : List Package) → slice_get ps 0 ≡ Some root.package_ → 0 < length ps
+    by [] e = let no : ⊥ = cc in absurd no
+    by (p ∷ ps) e = omega arith
+
+-- ---- all of them but the first
+
+all-there : {X : Type 0} (xs : List X) (from many : ℕ) → from + many ≤ length xs → list_all (λ (id : PackageId). in_list xs id.0) (map (λ n. record { 0 = n }) (range_with_len from many)) ≡ true
+all-there xs from zero within = refl
+all-there xs from (suc many) within = ap (λ b. b && list_all (λ (id : PackageId). in_list xs id.0) (map (λ n. record { 0 = n }) (range_with_len (from + 1) many))) (lt-ltb from (length xs) (omega (arith, within)))
+    ∙ all-there xs (from + 1) many (omega (arith, within))
+
+-- a number more
+pub one-more : (number : ℕ) (old new : List PackageId) → 1 ≤ number → old ≡ map (λ n. record { 0 = n }) (range_with_len 1 (number - 1)) → new ≡ old ++ record { 0 = number } ∷ []
+    → new ≡ map (λ n. record { 0 = n }) (range_with_len 1 (number + 1 - 1))
+one-more number old new some is pushed =
+    let numbered : ℕ → PackageId = λ n. record { 0 = n } in
+    let behind : 1 + (number - 1) ≡ number = omega (arith, some) in
+    let longer : (number - 1) + 1 ≡ number + 1 - 1 = omega (arith, some) in
+    pushed
+    ∙ (ap (λ (ids : List PackageId). ids ++ numbered number ∷ []) is
+    ∙ (sym (map-range_with_len_more numbered 1 (number - 1) number behind) ∙ ap (λ (k : ℕ). map numbered (range_with_len 1 k)) longer))
+
+pub others-there : (r : Resolve) → 0 < length r.packages.items → list_all (λ (id : PackageId). in_list r.packages.items id.0) (other_packages_of r) ≡ true
+others-there r some = all-there r.packages.items 1 (length r.packages.items - 1) (omega (arith, some))
+
+-- ---- refusals
+
+-- want of memory
+pub no-memory : (bytes : List ℕ) (e : Error) → e ≡ Memory → RefusesBindings bytes e
+no-memory bytes e is = subst (RefusesBindings bytes) (sym is) tt

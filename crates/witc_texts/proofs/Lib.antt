@@ -1,0 +1,5 @@
+mod BindingsLaws
+mod NamedLaws
+mod PassedLaws
+mod PrintedLaws
+pub mod StrippedLaws

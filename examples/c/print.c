@@ -1,0 +1,68 @@
+/* Does what `witc print`, `module`, `strip` and `compat PREV NEW` do, by the library. From the top of the repository, with $KIT as examples/run finds it:
+ *
+ *     cc -Iinclude examples/c/print.c crates/witc_ffi/out/libwitc_ffi.a $KIT/c/liblibc_c.a -o print
+ *     ./print print < package.wasm
+ */
+#include <stdio.h>
+#include <stdlib.h>
+#include <string.h>
+
+#include "witc.h"
+
+/* All of standard input, or NULL where it can't be read or held. */
+static uint8_t *read_all(size_t *length) {
+    size_t room = 0;
+    uint8_t *bytes = NULL;
+    *length = 0;
+    for (;;) {
+        if (*length == room) {
+            uint8_t *more = realloc(bytes, room = room ? 2 * room : 65536);
+            if (!more) {
+                free(bytes);
+                return NULL;
+            }
+            bytes = more;
+        }
+        size_t count = fread(bytes + *length, 1, room - *length, stdin);
+        if (count == 0) break;
+        *length += count;
+    }
+    if (ferror(stdin)) {
+        free(bytes);
+        return NULL;
+    }
+    return bytes;
+}
+
+int main(int count, char **words) {
+    size_t length;
+    witc_answer answer = WITC_NO_ANSWER;
+    uint8_t status;
+    int prints = count == 2 && !strcmp(words[1], "print");
+    int binds = count == 2 && !strcmp(words[1], "module");
+    int strips = count == 2 && !strcmp(words[1], "strip");
+    int compares = count == 4 && !strcmp(words[1], "compat");
+    if (!prints && !binds && !strips && !compares) {
+        fputs("usage: print print | module | strip | compat PREV NEW\n", stderr);
+        return 2;
+    }
+    uint8_t *bytes = read_all(&length);
+    if (!bytes) {
+        fputs("the input can't be read\n", stderr);
+        return 1;
+    }
+    if (prints) {
+        status = witc_print(bytes, length, &answer);
+    } else if (binds) {
+        status = witc_module(bytes, length, &answer);
+    } else if (strips) {
+        status = witc_strip(bytes, length, &answer);
+    } else {
+        status = witc_compat(bytes, length, (const uint8_t *)words[2], strlen(words[2]), (const uint8_t *)words[3], strlen(words[3]), &answer);
+    }
+    free(bytes);
+    if (status == WITC_LACKING) fputs("want of memory\n", stderr);
+    if (answer.length > 0 && fwrite(answer.at, 1, answer.length, stdout) < answer.length) status = WITC_REFUSED;
+    witc_free(&answer);
+    return status;
+}
