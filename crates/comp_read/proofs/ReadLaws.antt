@@ -18,6 +18,7 @@ use Rattle.read_exports.specs.declared.members.Member.{Member}
 use Rattle.read_exports.specs.Members.{homes_in, numbered_members}
 use Rattle.read_rules.specs.declared.tables.Fact.{Fact as KeptFact}
 use Rattle.plan_package.specs.PlanWhole.{MayBeWhole}
+use Rattle.plan_build.proofs.BuildableLaws.{plans_are_buildable}
 use Rattle.read_numbers.specs.FactLaws.{known_by}
 use Rattle.read_numbers.specs.KnownScopes.{AreKnown}
 use Rattle.read_numbers.specs.NumberedInput.{tables_of}
@@ -28,7 +29,7 @@ use Rattle.read_members.proofs.DecidedLaws.{packages_are_decided}
 use Rattle.comp_read.specs.ReadPackages.{IsReadPackage}
 use Rattle.comp_read.proofs.ReadPackages.{read_may_be_planned, read_packages_have_sources, read_plans_are_meant}
 use Rattle.comp_read.specs.MembersRead.{AreReadOf, IsMain}
-use Rattle.comp_read.specs.Planned.{PlansMean}
+use Rattle.comp_read.specs.Planned.{CanBeBuilt, PlansMean}
 
 -- ---- the package of the first member
 
@@ -63,6 +64,9 @@ module _ (x : Followed) (t : Tables) (facts : List KeptFact) (h : Homes) (ms : L
     plans_mean p planned fits =
         let is = read_plans_are_meant pieces x t facts h n ms is_package p planned fits in
         record { plan = is.plan; means = is.means }
+
+    pub can_be_built : CanBeBuilt t h.packages (home_at h) n ms
+    can_be_built p planned fits = plans_are_buildable p (plans_mean p planned fits).plan.plan
 
   -- ---- members that are none
 

@@ -21,6 +21,7 @@ use Rattle.read_rules.specs.declared.scopes.Scope.{Scope}
 use Rattle.read_rules.specs.declared.tables.Fact.{Fact as KeptFact}
 use Rattle.read_rules.specs.declared.views.View.{View}
 use Rattle.plan_package.specs.PlanWhole.{MayBeWhole}
+use Rattle.plan_build.proofs.BuildableLaws.{plans_are_buildable}
 use Rattle.read_numbers.specs.FactLaws.{known_by}
 use Rattle.read_numbers.specs.NumberedInput.{tables_of}
 use Rattle.read_members.specs.DecidedWorlds.{AreWorldDecided, IsPartDecided}
@@ -30,7 +31,7 @@ use Rattle.comp_read.proofs.ReadPackages.{read_packages_have_sources}
 use Rattle.comp_read.specs.ReadWorlds.{AreBeside, IsReadWorld}
 use Rattle.comp_read.proofs.WorldWhole.{read_world_is_whole, read_world_plans_are_meant}
 use Rattle.comp_read.specs.MembersRead.{AreReadOf}
-use Rattle.comp_read.specs.Planned.{WorldPlansMean}
+use Rattle.comp_read.specs.Planned.{CanBeBuilt, WorldPlansMean}
 use Rattle.comp_read.specs.WorldsRead.{IsAlone, IsWorldReadOf, are_one_world, is_alone}
 
 -- ---- the one member
@@ -79,6 +80,9 @@ module _ (x : Followed) (t : Tables) (facts : List KeptFact) (h : Homes) (m : Me
   world_plans_mean p planned fits =
       let is = read_world_plans_are_meant pieces x t facts h m w is_world own are p planned fits in
       record { plan = is.plan; means = is.means; meaning = is.meaning; is = is.found }
+
+  pub world_can_be_built : CanBeBuilt t h.packages (home_at h) m.package_number (m ∷ own)
+  world_can_be_built p planned fits = plans_are_buildable p (world_plans_mean p planned fits).plan.plan
 
 -- ---- members that are none
 

@@ -39,6 +39,10 @@ WorldPlansMean t identities homes n ms found = (p : Plan) → PlansWhole t ident
 
 -- ---- what is built
 
+-- Each plan that is made of the members and fits in numbers of 32 bits can be built.
+abbrev pub CanBeBuilt : Tables → List PackageIdentity → (ℕ → Option Home) → ℕ → List Member → Type 0
+CanBeBuilt t identities homes n ms = (p : Plan) → PlansWhole t identities homes n ms p → FitsInput p → IsBuildable p
+
 -- The `Resolve` is built of a plan of the members, whose main package has this number: it is the plan's, valid where that was read, and means what it does.
 pub record IsBuiltOf (t : Tables) (identities : List PackageIdentity) (homes : ℕ → Option Home) (n : ℕ) (ms : List Member) (r : Resolve) (main : ℕ) : Type 0 where
   pub plan : Plan

@@ -7,15 +7,23 @@ use Rattle.plan_meaning.specs.NumberedMembers.{home_at}
 use Rattle.comp_read.specs.Decoded.{HoldsFound}
 use Rattle.comp_read.specs.Planned.{IsBuiltOf}
 use Rattle.comp_read.proofs.BuildLaws.{few_in_package, package_built}
-use Rattle.comp_read.proofs.ReadLaws.{main_is, may_be_whole, no_package, none_is, plans_mean}
+use Rattle.comp_read.proofs.ReadLaws.{can_be_built, main_is, may_be_whole, no_package, none_is, plans_mean}
 use Rattle.comp_read.proofs.packages.package_of_members.Goals as goal
 
-pub built-requires : goal.built-requires
-built-requires c =
+pub built-requires-clause-whole : goal.built-requires-clause-whole
+built-requires-clause-whole c =
     let t = numbered_tables c.args.tables.now in
     let h = homes_in c.args.packages.now c.args.homes.now in
     let ms = c.args.members.now in
     may_be_whole c.args.followed.now t c.args.tables.now.facts.now h ms c.requires.read c.requires.followed.pieces c.requires.followed.followed c.in-Some.main
+    (main_is t h (known_in c.args.tables.now) ms ms refl c.in_ok-main.field-0 c.in-Some.main c.in-Some.is (c.in_ok-main.ensures c.args.packages.now))
+
+pub built-requires-clause-buildable : goal.built-requires-clause-buildable
+built-requires-clause-buildable c =
+    let t = numbered_tables c.args.tables.now in
+    let h = homes_in c.args.packages.now c.args.homes.now in
+    let ms = c.args.members.now in
+    can_be_built c.args.followed.now t c.args.tables.now.facts.now h ms c.requires.read c.requires.followed.pieces c.requires.followed.followed c.in-Some.main
     (main_is t h (known_in c.args.tables.now) ms ms refl c.in_ok-main.field-0 c.in-Some.main c.in-Some.is (c.in_ok-main.ensures c.args.packages.now))
 
 pub returns-in-Some-clause-holds : goal.returns-in-Some-clause-holds

@@ -7,18 +7,26 @@ use Rattle.plan_package.specs.PlanWhole.{MayBeWhole}
 use Rattle.plan_package.proofs.PackageLaws.{if_ok}
 use Rattle.plan_meaning.specs.NumberedMembers.{home_at}
 use Rattle.comp_read.specs.DecodedWorlds.{HoldsWorldFound}
-use Rattle.comp_read.specs.Planned.{IsBuiltOf}
+use Rattle.comp_read.specs.Planned.{CanBeBuilt, IsBuiltOf}
 use Rattle.comp_read.proofs.WorldLaws.{few_in_world, world_built}
-use Rattle.comp_read.proofs.WorldReadLaws.{world_may_be_whole, world_plans_mean}
+use Rattle.comp_read.proofs.WorldReadLaws.{world_can_be_built, world_may_be_whole, world_plans_mean}
 use Rattle.comp_read.proofs.worlds.built_world.Goals as goal
 
-pub built-requires : goal.built-requires
-built-requires c =
+pub built-requires-clause-whole : goal.built-requires-clause-whole
+built-requires-clause-whole c =
     let t = numbered_tables c.args.tables.now in
     let h = homes_in c.args.packages.now c.args.homes.now in
     let all = c.deref-2.ensures.value ∙ (c.in_ok-members.ensures ∙ ap (λ (own : List Member). c.args.world ∷ own) c.deref.ensures.value) in
     subst (λ (ms : List Member). MayBeWhole t ms) (sym all)
     (world_may_be_whole c.args.followed.now t c.args.tables.now.facts.now h c.args.world c.args.scope c.requires.read c.requires.followed.pieces c.requires.followed.followed c.in_ok-own.own.items (c.in_ok-own.ensures c.args.packages.now))
+
+pub built-requires-clause-buildable : goal.built-requires-clause-buildable
+built-requires-clause-buildable c =
+    let t = numbered_tables c.args.tables.now in
+    let h = homes_in c.args.packages.now c.args.homes.now in
+    let all = c.deref-2.ensures.value ∙ (c.in_ok-members.ensures ∙ ap (λ (own : List Member). c.args.world ∷ own) c.deref.ensures.value) in
+    subst (λ (ms : List Member). CanBeBuilt t c.args.packages.now (home_at h) c.args.world.package_number ms) (sym all)
+    (world_can_be_built c.args.followed.now t c.args.tables.now.facts.now h c.args.world c.args.scope c.requires.read c.requires.followed.pieces c.requires.followed.followed c.in_ok-own.own.items (c.in_ok-own.ensures c.args.packages.now))
 
 pub returns-clause-holds : goal.returns-clause-holds
 returns-clause-holds c = λ pieces followed.
