@@ -50,7 +50,7 @@ pub record IsDecoded (bytes : List ℕ) (r : Resolve) (n : ℕ) : Type 0 where
 abbrev pub MeansNothing : List ℕ → Type 0
 MeansNothing bytes = (m : PackageMeaning) → Reads bytes m → ⊥
 
--- Bytes that mean no package are refused with an offset among them, and all others for want of memory alone.
+-- Bytes that mean no package are refused with an offset among them, and all others with `Memory` alone.
 abbrev pub RefusesBytes : List ℕ → Error → Type 0
 RefusesBytes bytes (errors.NoReading cause offset) = (offset ≤ length bytes) × MeansNothing bytes
 RefusesBytes bytes errors.Memory = Unit {0}

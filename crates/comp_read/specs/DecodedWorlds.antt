@@ -56,7 +56,7 @@ pub record IsDecodedWorld (bytes : List ℕ) (r : Resolve) (n : ℕ) : Type 0 wh
 abbrev pub MeansNoWorld : List ℕ → Type 0
 MeansNoWorld bytes = (m : WorldPackage) → ReadsWorld bytes m → ⊥
 
--- Bytes that mean no one world are refused with an offset among them, and all others for want of memory alone.
+-- Bytes that mean no one world are refused with an offset among them, and all others with `Memory` alone.
 abbrev pub RefusesWorldBytes : List ℕ → Error → Type 0
 RefusesWorldBytes bytes (errors.NoReading cause offset) = (offset ≤ length bytes) × MeansNoWorld bytes
 RefusesWorldBytes bytes errors.Memory = Unit {0}

@@ -44,7 +44,8 @@ fn error_of(refusal: Refusal, length: usize) -> Error
 /// Takes time linear in the bytes, expected, or n log n where types are used of an interface that shows more than a few, and memory linear in what is
 /// declared. Refuses with `NoReading` exactly where the bytes mean no package, at an offset that is at most their length: with the cause of
 /// `component_of` or `follow_parts`, and else, at the end of the bytes, `Disagree` where views of an interface differ, `TooDeep` where a type has
-/// more than 100 levels, or `NotWit`; else with `Memory`.
+/// more than 100 levels, or `NotWit`. Else refuses with `Memory`: for want of memory, or where there are more types, interfaces, worlds or packages than
+/// numbers of 32 bits count, each of which takes a byte at least, so that there are 2^32 bytes or more.
 pub fn decode(alloc: Global, bytes: &[u8]) -> Result<(Resolve, PackageId), Error>
     ensures decoded { IfOk result (λ x. IsDecoded bytes.now x.0 x.1.0) }
     ensures refuses { IfErr result (RefusesBytes bytes.now) }
@@ -66,7 +67,7 @@ pub fn decode(alloc: Global, bytes: &[u8]) -> Result<(Resolve, PackageId), Error
 /// declared. Refuses with `NoReading` exactly where the bytes mean no one world, at an offset that is at most their length: with the cause of
 /// `component_of` or `follow_parts`, and else, at the end of the bytes, `Disagree` where there is one world and views of an interface differ,
 /// `TooDeep` where a type has more than 100 levels, or `NotWit`, so where a package has another member beside the world, or where the world shows an
-/// interface under its own path; else with `Memory`.
+/// interface under its own path. Else refuses with `Memory`, as `decode` does.
 pub fn decode_world(alloc: Global, bytes: &[u8]) -> Result<(Resolve, WorldId), Error>
     ensures decoded { IfOk result (λ x. IsDecodedWorld bytes.now x.0 x.1.0) }
     ensures refuses { IfErr result (RefusesWorldBytes bytes.now) }

@@ -132,8 +132,8 @@ fn fits(plan: &Plan) -> bool
 /// A named type is what it is shown as first, of the interface or the world of its place. An interface has the types of the first view of its
 /// place, and the functions of the first that shows some. `homes` has for each place the package by its number, and the name of the interface, if
 /// the place has a path; an interface without is one of the package `main`, which also lists what is exported. Takes time and memory linear in
-/// what is shown, in the parts of all types, in the packages, and in the largest number of a place, expected. Refuses for want of memory alone,
-/// also where there are 2^32 types, interfaces, worlds or packages, or more.
+/// what is shown, in the parts of all types, in the packages, and in the largest number of a place, expected. Refuses for want of memory, and,
+/// however much there is, where there are 2^32 types, interfaces, worlds or packages, or more.
 pub fn plan_of<'a>(
     alloc: Global,
     tables: &Tables<'a>,
