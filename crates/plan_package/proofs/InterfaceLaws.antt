@@ -1,5 +1,5 @@
 -- The interfaces of a plan.
-use Rattle.std.proofs.Common.{◌≡◌, refl, sym, ap, subst, ◌∙◌, ℕ, ◌+◌, ◌<◌, Bool, true, false, ◌&&◌, ◌==◌, cond, if◌then◌else◌, List, [], ◌∷◌, ◌++◌, map, take, length, get_or, Bor, Option, Some, Result, Ok, Err, IfOk, is_some}
+use Rattle.std.proofs.Common.{◌≡◌, refl, sym, ap, subst, ◌∙◌, ℕ, ◌+◌, ◌<◌, Bool, true, false, ◌&&◌, ◌==◌, cond, if◌then◌else◌, List, [], ◌∷◌, ◌++◌, map, take, length, get_or, Bor, Option, Some, None, Result, Ok, Err, IfOk, is_some}
 use Rattle.std.proofs.lemmas.Bool.{eqb-true, eq-eqb}
 use Rattle.std.proofs.lemmas.List.{map-append, take_more}
 use Rattle.std.specs.List.{AllByRecursion, AllZip}
@@ -56,6 +56,10 @@ zip_more {A = A} P h xs i d within old new y added is before =
     (zip-push P (take i xs) (map h old) (get_or xs i d) (h y) before is))
 
 -- ---- places that were seen
+
+pub is_there : {A : Type 0} (o : Option A) → is_some o ≡ true → o ≡ None → ⊥
+is_there None seen e = let wrong : false ≡ true = seen in absurd cc
+is_there (Some x) seen e = let wrong : Some x ≡ None = e in absurd cc
 
 seen_below : (n p : ℕ) (sights : List Sight) → AllByRecursion (λ (s : Sight). s.place < n) sights → is_some (first_at p (map numbered_sight sights)) ≡ true → p < n
 seen_below n p [] all seen = let wrong : false ≡ true = seen in absurd cc

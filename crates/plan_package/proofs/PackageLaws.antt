@@ -1,5 +1,5 @@
 -- The packages of a plan.
-use Rattle.std.proofs.Common.{◌≡◌, refl, sym, ap, subst, ◌∙◌, ℕ, zero, suc, ◌+◌, ◌<◌, ◌≤◌, arith, Bool, true, false, ◌==◌, cond, List, [], ◌∷◌, ◌++◌, append_assoc, map, drop, length, get_or, slice_index_or, slice_set, Bor, Option, Some, slice_get, ◌⊎◌, inl, inr, Result, Ok, Err, IfOk}
+use Rattle.std.proofs.Common.{◌≡◌, refl, sym, ap, subst, ◌∙◌, ℕ, zero, suc, ◌+◌, ◌<◌, ◌≤◌, arith, Bool, true, false, ◌==◌, cond, List, [], ◌∷◌, ◌++◌, append_assoc, map, drop, length, get_or, slice_index_or, slice_set, Bor, Option, Some, None, option_map, slice_get, ◌⊎◌, inl, inr, Result, Ok, Err, IfOk}
 use Rattle.std.proofs.lemmas.Bool.{eqb-true, eq-eqb}
 use Rattle.std.proofs.Math.ListN.{drop_of_length-le}
 use Rattle.std.proofs.lemmas.List.{drop_more, length-append, map-append}
@@ -15,9 +15,19 @@ use Rattle.wit_model.specs.Names.{PackageIdentity}
 use Rattle.plan_package.proofs.ListedLaws.{below, none_there}
 use Rattle.plan_package.specs.WholePackages.{entries_from, entry_of, listed_at, numbered_interface, numbered_labels, AreListed, ArePlanned, Entries, IsMainPackage, ListsEntry, PlansPackage, PlansPackages, the_main}
 
+below_none : (k : ℕ) → k < 0 → ⊥
+below_none k h = omega (arith, h)
+
 append_none : {A : Type 0} (xs : List A) → xs ++ [] ≡ xs
 append_none [] = refl
 append_none (x ∷ xs) = ap (λ l. x ∷ l) (append_none xs)
+
+-- what stands in a list is there
+pub in_list : {A B : Type 0} (f : A → B) (o : Option A) (xs : List B) (n : ℕ) → option_map f o ≡ slice_get xs n → n < length xs → o ≡ None → ⊥
+in_list f (Some x) xs n e within none = let wrong : Some x ≡ None = none in absurd cc
+in_list f None [] n e within none = below_none n within
+in_list f None (x ∷ xs) zero e within none = let wrong : None ≡ Some x = e in absurd cc
+in_list f None (x ∷ xs) (suc n) e within none = in_list f None xs n e (omega (arith, within)) refl
 
 -- worlds that are numbered, and those that are left
 module _ {A B : Type 0} (f : A → Text × Scope) (h : B → Text × ℕ) (xs : List A) (i : ℕ) (old : List B) {v : List (Text × ℕ)} (kept : map h old ++ numbered_labels i (map f (drop i xs)) ≡ v) where
@@ -32,9 +42,6 @@ module _ {A B : Type 0} (f : A → Text × Scope) (h : B → Text × ℕ) (xs : 
   all_numbered past = sym (append_none (map h old)) ∙ (ap (λ l. map h old ++ numbered_labels i (map f l)) (sym (drop_of_length-le xs past)) ∙ kept)
 
 -- ---- what is listed for each package
-
-below_none : (k : ℕ) → k < 0 → ⊥
-below_none k h = omega (arith, h)
 
 read_at : (old : List Entries) (k : ℕ) (d : Entries) → k < length old → listed_at old k ≡ map numbered_interface (slice_index_or old k d).items
 read_at [] k d h = absurd (below_none k h)

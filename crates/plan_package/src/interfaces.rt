@@ -2,11 +2,11 @@
 
 ghost use Rattle.std.specs.List.{AllByRecursion, AllZip};
 ghost use Rattle.std.specs.Option.{option_map_or};
-ghost use Rattle.std.specs.Prelude.{◌≡◌, ◌<◌, [], false, true, length, map, option_map, IfOk, Some};
+ghost use Rattle.std.specs.Prelude.{◌≡◌, ◌<◌, [], false, true, length, map, option_map, is_some, IfOk, Some};
 ghost use Rattle.wit_model.specs.declared.model.PackageId.{PackageId as Number};
 ghost use Rattle.plan_meaning.specs.GatheredPlan.{functions_seen};
 ghost use Rattle.plan_meaning.specs.NumberedMembers.{home_at as home_at_lem};
-ghost use Rattle.plan_meaning.specs.NumberedViews.{NumberedSight};
+ghost use Rattle.plan_meaning.specs.NumberedViews.{NumberedSight, first_at as first_in};
 ghost use Rattle.read_homes.specs.Homes.{given_home};
 ghost use Rattle.plan_build.specs.PlanOf.{stated_interface};
 ghost use Rattle.plan_parts.specs.Interfaces.{IsFunctionOver, IsKeptSlot};
@@ -109,11 +109,12 @@ fn interface_at<'a>(
     requires wholes { TellsFirst true (length wholes.now) (map numbered_sight sights.now) wholes.now }
     requires place { place < length firsts.now }
     requires place_too { place < length wholes.now }
+    requires seen { is_some (first_in place (map numbered_sight sights.now)) ≡ true }
     requires kept { AllByRecursion (λ s. ViewIsKept (numbered_tables tables.now) kept.now s.view) (map numbered_sight sights.now) }
     ensures { IfOk result (λ i. PlansPlace (numbered_tables tables.now) kept.now main (home_at_lem (homes_alone homes.now)) (map numbered_sight sights.now) place (stated_interface i)) }
 {
     let Some(first) = first_at(sights, firsts, place) else {
-        return Err(AllocError);
+        unreachable!();
     };
     let whole = view_in(first_at(sights, wholes, place));
     interface_of(
@@ -145,6 +146,7 @@ fn all_interfaces<'a>(
     requires wholes { TellsFirst true (length wholes.now) (map numbered_sight sights.now) wholes.now }
     requires places { AllByRecursion (λ p. p < length firsts.now) places.now }
     requires places_too { AllByRecursion (λ p. p < length wholes.now) places.now }
+    requires seen { AreSeen (map numbered_sight sights.now) places.now }
     requires kept { AllByRecursion (λ s. ViewIsKept (numbered_tables tables.now) kept.now s.view) (map numbered_sight sights.now) }
     ensures { IfOk result (λ all. AllZip (PlansPlace (numbered_tables tables.now) kept.now main (home_at_lem (homes_alone homes.now)) (map numbered_sight sights.now)) places.now (map stated_interface all.items)) }
 {

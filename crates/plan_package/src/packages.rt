@@ -235,11 +235,12 @@ fn package_at<'a>(
     number: usize,
     interfaces: Vec<(&'a str, InterfaceId)>,
 ) -> Result<PlannedPackage<'a>, AllocError>
-    requires { AllByRecursion (IsPlaced places.now.keys) (interfaces_in members.now) }
+    requires placed { AllByRecursion (IsPlaced places.now.keys) (interfaces_in members.now) }
+    requires there { number < length packages.now }
     ensures { IfOk result (λ k. PlansPackage packages.now main places.now.keys members.now (map numbered_interface interfaces.entry.items) number (stated_package k)) }
 {
     let Some(texts) = packages.texts(number) else {
-        return Err(AllocError);
+        unreachable!();
     };
     if number == main {
         main_package(alloc, texts, places, members)
@@ -257,7 +258,8 @@ fn all_packages<'a>(
     members: &[Member<'a>],
     lists: &mut [Vec<(&'a str, InterfaceId)>],
 ) -> Result<Vec<PlannedPackage<'a>>, AllocError>
-    requires { AllByRecursion (IsPlaced places.now.keys) (interfaces_in members.now) }
+    requires placed { AllByRecursion (IsPlaced places.now.keys) (interfaces_in members.now) }
+    requires many { length lists.old ≡ length packages.now }
     ensures { IfOk result (λ all. ArePlanned packages.now main places.now.keys members.now (listed_at lists.old) (length lists.old) (map stated_package all.items)) }
 {
     let mut all = Vec::new(alloc);

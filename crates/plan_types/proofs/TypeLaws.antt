@@ -31,6 +31,11 @@ module _ (t : Tables) (kept : List ℕ) (find : ℕ → Option NumberedShowing) 
         let wrong : None ≡ Some (q, name) = sym no_name ∙ (ap name_in (same-some r s (sym there ∙ at)) ∙ is) in absurd cc
     shown_declares (a_name r p other x there named_so first may) q name is y shown = subst (λ (z : NumberedShowing). MayBeDeclared t kept z.declared) (same-some x y (sym first ∙ shown)) may
 
+    pub is_shown : MayBePlanned t kept find n → (q : ℕ) (name : Text) → name_in s ≡ Some (q, name) → find n ≡ None → ⊥
+    is_shown (a_form r there no_name over) q name is none =
+        let wrong : None ≡ Some (q, name) = sym no_name ∙ (ap name_in (same-some r s (sym there ∙ at)) ∙ is) in absurd cc
+    is_shown (a_name r p other x there named_so first may) q name is none = let wrong : None ≡ Some x = sym none ∙ first in absurd cc
+
     module _ (owners : ℕ → TypeOwner) {E : Type 0} where
       pub unnamed_planned : (r : Result PlannedType E) → name_in s ≡ None → IfOk r (λ x. (stated_type x).name ≡ None) → IfOk r (λ x. (stated_type x).owner ≡ owner.None) → IfOk r (λ x. (stated_type x).external_id ≡ None)
           → IfOk r (λ x. IsFormed kept s (stated_type x).kind) → IfOk r (λ x. PlansType t kept find owners n (stated_type x))

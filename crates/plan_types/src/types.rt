@@ -137,7 +137,7 @@ fn planned_type<'a>(
     let owner = owner_of(places, homes, place)?;
     match first_of(first, number) {
         Some(showing) => named_type(alloc, tables, kept, name, owner, showing),
-        None => Err(AllocError),
+        None => unreachable!(),
     }
 }
 

@@ -6,9 +6,15 @@ use Rattle.read_rules.specs.Sights.{numbered_sight}
 use Rattle.read_rules.specs.Tables.{numbered_tables}
 use Rattle.read_rules.specs.Views.{numbered_function, numbered_view}
 use Rattle.plan_meaning.specs.NumberedMembers.{home_at}
-use Rattle.plan_meaning.specs.NumberedViews.{NumberedSight}
-use Rattle.plan_package.proofs.InterfaceLaws.{place_planned}
+use Rattle.plan_meaning.specs.NumberedViews.{NumberedSight, first_at}
+use Rattle.read_exports.proofs.WalkLaws.{none_left}
+use Rattle.plan_package.proofs.InterfaceLaws.{is_there, place_planned}
 use Rattle.plan_package.proofs.interfaces.interface_at.Goals as goal
+
+pub unreachable-requires : goal.unreachable-requires
+unreachable-requires c =
+    is_there (first_at c.args.place (map numbered_sight c.args.sights.now)) c.requires.seen
+    (c.requires.firsts c.args.place c.requires.place ∙ (sym c.first_at.ensures ∙ ap (option_map numbered_sight) (none_left c.first_at.result c.in_default.not-Some)))
 
 pub returns : goal.returns
 returns c =

@@ -1,8 +1,12 @@
 use Rattle.std.proofs.Common.{◌∙◌, ap, map, option_map, sym}
 use Rattle.read_homes.specs.Homes.{identity_of}
 use Rattle.plan_package.specs.WholePackages.{numbered_interface, another}
-use Rattle.plan_package.proofs.PackageLaws.{main_planned}
+use Rattle.read_exports.proofs.WalkLaws.{none_left}
+use Rattle.plan_package.proofs.PackageLaws.{in_list, main_planned}
 use Rattle.plan_package.proofs.packages.package_at.Goals as goal
+
+pub unreachable-requires : goal.unreachable-requires
+unreachable-requires c = in_list identity_of c.texts.result c.args.packages.now c.args.number c.texts.ensures c.requires.there (none_left c.texts.result c.in_default.not-Some)
 
 pub returns-then-number-main : goal.returns-then-number-main
 returns-then-number-main c =

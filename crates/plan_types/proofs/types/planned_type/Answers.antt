@@ -4,7 +4,7 @@ use Rattle.read_rules.specs.Tables.{name_of, numbered_shape, numbered_tables}
 use Rattle.plan_types.specs.FirstShown.{showing_at}
 use Rattle.plan_types.specs.PlannedTypes.{owner_in}
 use Rattle.plan_types.specs.Showings.{numbered_showing}
-use Rattle.plan_types.proofs.TypeLaws.{named_planned, over_form, shown_declares, unnamed_planned}
+use Rattle.plan_types.proofs.TypeLaws.{is_shown, named_planned, over_form, shown_declares, unnamed_planned}
 use Rattle.plan_types.proofs.types.planned_type.Goals as goal
 
 pub unnamed_type-requires : goal.unnamed_type-requires
@@ -22,8 +22,13 @@ named_type-requires c =
     shown_declares (numbered_tables c.args.tables.now) c.args.kept.now (showing_at c.args.first.now) c.args.number (numbered_shape c.shape_of-shape.result) c.shape_of-shape.ensures c.requires c.in-Some.place c.in-Some.name.now
     (sym c.name_in.ensures ∙ ap (option_map name_of) c.in-Some.is) (numbered_showing c.in-Some-first_of.showing) (sym c.first_of.ensures ∙ ap (option_map numbered_showing) c.in-Some-first_of.is)
 
-pub returns-in-Some-first_of : goal.returns-in-Some-first_of
-returns-in-Some-first_of c =
+pub unreachable-requires : goal.unreachable-requires
+unreachable-requires c =
+    is_shown (numbered_tables c.args.tables.now) c.args.kept.now (showing_at c.args.first.now) c.args.number (numbered_shape c.shape_of-shape.result) c.shape_of-shape.ensures c.requires c.in-Some.place c.in-Some.name.now
+    (sym c.name_in.ensures ∙ ap (option_map name_of) c.in-Some.is) (sym c.first_of.ensures ∙ ap (option_map numbered_showing) c.in-None.is)
+
+pub returns : goal.returns
+returns c =
     named_planned (numbered_tables c.args.tables.now) c.args.kept.now (showing_at c.args.first.now) c.args.number (numbered_shape c.shape_of-shape.result) c.shape_of-shape.ensures (owner_in c.args.places.now.keys c.args.homes.now.keys) c.named_type.result c.in-Some.place
     c.in-Some.name.now (sym c.name_in.ensures ∙ ap (option_map name_of) c.in-Some.is) (numbered_showing c.in-Some-first_of.showing) (sym c.first_of.ensures ∙ ap (option_map numbered_showing) c.in-Some-first_of.is)
     c.in_ok-owner.owner c.in_ok-owner.ensures c.named_type.ensures.name c.named_type.ensures.owner c.named_type.ensures.id c.named_type.ensures.kind
