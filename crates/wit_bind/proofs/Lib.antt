@@ -11,6 +11,7 @@ pub mod Unchanged
 pub mod UnionBound
 pub mod MatchedPaths
 pub mod TooMany
+pub mod Growth
 pub mod NumbersAgree
 pub mod Putting
 pub mod FunctionKeys

@@ -255,7 +255,7 @@ module _ (own other : Resolve) (v : IsValid own) (u : IsValid other) (m : Matche
     chosen : AreChosen other m.interfaces.items c.copied_worlds.items c.copied_interfaces.items
     chosen = chosen_so own other m c (is_in_range other u) all numbered
 
-    carried-few : copied_count c.copied_interfaces.items ≤ count_by (is_new_interface own other) other.interfaces.items
+    pub carried-few : copied_count c.copied_interfaces.items ≤ count_by (is_new_interface own other) other.interfaces.items
     carried-few = flags_few (is_new_interface own other) c.copied_interfaces.items other.interfaces.items numbered.interface_count (new-interface c.copied_worlds.items c.copied_interfaces.items chosen)
 
     unnamed : (n : ℕ) (t : TypeDef) → slice_get other.types.items n ≡ Some t → is_none t.name ≡ true → t.owner ≡ owner.None

@@ -1,10 +1,12 @@
+use Rattle.std.proofs.Common.{◌≤◌, List, length, subst, sym}
+use Rattle.wit_model.specs.declared.model.Package.{Package}
 use Rattle.bind_carry.proofs.KeysCopied.{if_ok}
 use Rattle.wit_bind.proofs.AsItWas.{kept_itself}
 use Rattle.wit_bind.proofs.Growing.{few_bound, on_err, so_ok}
 use Rattle.wit_bind.proofs.bindgen.Bindgen.merge.Goals as goal
 
 pub matched_packages-requires : goal.matched_packages-requires
-matched_packages-requires c = few_bound c.args.self.now c.requires.own
+matched_packages-requires c = subst (λ (packages : List Package). length packages ≤ 4294967295) (sym c.deref.ensures.value) (few_bound c.args.self.now c.requires.own)
 
 pub returns-in_err-packages-clause-kept : goal.returns-in_err-packages-clause-kept
 returns-in_err-packages-clause-kept c = on_err (kept_itself c.args.self.now) c.from_residual.result
@@ -20,6 +22,9 @@ returns-clause-valid c = so_ok _ _ (λ answer h. h.valid) c.merge_matched.result
 
 pub returns-clause-extends : goal.returns-clause-extends
 returns-clause-extends c = so_ok _ _ (λ answer h. h.extends) c.merge_matched.result c.merge_matched.ensures.merged
+
+pub returns-clause-growth : goal.returns-clause-growth
+returns-clause-growth c = so_ok _ _ (λ answer h. h.grows) c.merge_matched.result c.merge_matched.ensures.merged
 
 pub returns-clause-order : goal.returns-clause-order
 returns-clause-order c = so_ok _ _ (λ answer h. h.order) c.merge_matched.result c.merge_matched.ensures.merged
