@@ -1,18 +1,18 @@
 -- What is known of bindings behind each section of a module.
-use Rattle.std.proofs.Common.{◌≡◌, ◌∙◌, refl, sym, ap, subst, ℕ, ◌≤◌, ◌<◌, suc, List, [], ◌∷◌, ◌++◌, append-nil, length, Option, Some, None, arith}
+use Rattle.std.proofs.Common.{◌≡◌, ◌∙◌, refl, sym, ap, subst, ℕ, ◌-◌, ◌≤◌, ◌<◌, suc, List, [], ◌∷◌, ◌++◌, append-nil, length, Option, Some, None, arith}
 use Rattle.std.specs.Prelude.{◌≢◌, slice_get}
 use Rattle.std.specs.Borrow.{Bor}
 use Rattle.std.proofs.lemmas.List.{length-append}
 use Rattle.wit_model.specs.declared.error.Error.{Error}
 use Rattle.wit_model.specs.declared.error.Error.TheVariants as errors
 use Rattle.wit_model.specs.declared.model.Resolve.{Resolve}
+use Rattle.wit_model.specs.declared.model.WorldKey.{WorldKey}
 use Rattle.wit_model.specs.Lookup.{identity_of, optional_version_text}
 use Rattle.bind_meaning.specs.Binding.{Binding}
-use Rattle.bind_meaning.specs.Clash.{CanUnite}
-use Rattle.bind_meaning.specs.Union.{union}
 use Rattle.wit_bind.specs.declared.bindgen.Bindgen.{Bindgen}
-use Rattle.wit_bind.specs.Bindings.{IsBindgen, binding_of}
+use Rattle.wit_bind.specs.Bindings.{binding_of}
 use Rattle.wit_bind.specs.Extends.{Extends}
+use Rattle.wit_bind.specs.Merged.{IsMerge}
 use Rattle.wit_bind.specs.Roots.{IsRoot}
 use Rattle.wit_bind.proofs.RootBindings.{roots_are_roots}
 use Rattle.wit_metadata.specs.Modules.{Framed, IsFrontData, IsFrontless, IsInFront, IsModule, IsNoModule, RefusesModule, module_preamble}
@@ -22,6 +22,7 @@ use Rattle.bind_sections.specs.Steps.{IsDataInFront, IsReadTo}
 use Rattle.bind_sections.proofs.DecodeSteps.{section-merged}
 use Rattle.bind_sections.proofs.Steps.{left_overs_end, others_are_passed, reading_begins, reading_ends}
 use Rattle.bind_modules.specs.BoundTo.{BeginsWithRoot, IsBoundTo}
+use Rattle.bind_modules.specs.Reached.{IsReached}
 
 -- ---- the first package
 
@@ -47,6 +48,7 @@ begins input rest b parts root =
       read = subst (λ c. IsReadTo input c rest) (sym is.1) (reading_begins input rest parts);
       bindgen = is.0;
       root = root_begins b root;
+      reached = IsReached.begun b rest parts root;
     }
 
 -- a section that carries data
@@ -55,17 +57,22 @@ data-in-front bytes rest found (f, front, carries) =
     record { frame = f; front = front; carry = CarryData.carrying f [] (carries.name, found.now) [] carries.custom carries.named_ carries.begins CarryData.none }
 
 -- it was merged
-pub merged : (input bytes rest d : List ℕ) (own b new : Bindgen) → IsBoundTo input own bytes → IsDataInFront bytes d rest → IsBoundBy d b
-    → CanUnite (binding_of own) (binding_of b) → binding_of new ≡ union (binding_of own) (binding_of b) → IsBindgen new → Extends own.resolve new.resolve own.world.0 → IsBoundTo input new rest
-merged input bytes rest d own b new h x bound unites is valid grown = record {
-  read = section-merged input bytes rest d own h.read x b bound new unites is;
-  bindgen = valid;
-  root = grown_begins own.resolve new.resolve own.world.0 grown h.root;
+pub merged : (input bytes rest d : List ℕ) (own b new : Bindgen) (answer : List WorldKey) → IsBoundTo input own bytes → IsDataInFront bytes d rest → IsBoundBy d b → IsMerge own b new answer → IsBoundTo input new rest
+merged input bytes rest d own b new answer h x bound is = record {
+  read = section-merged input bytes rest d own h.read x b bound new is.united is.union;
+  bindgen = is.valid;
+  root = grown_begins own.resolve new.resolve own.world.0 is.extends h.root;
+  reached = IsReached.merged own b new answer bytes d rest h.reached x bound is;
 }
 
 -- one that carries none
 pub passed : (input bytes rest : List ℕ) (b : Bindgen) → IsBoundTo input b bytes → IsFrontData bytes None rest → IsBoundTo input b rest
-passed input bytes rest b h (f, front, never) = record { read = others_are_passed input bytes rest (binding_of b) f h.read front never; bindgen = h.bindgen; root = h.root }
+passed input bytes rest b h (f, front, never) = record {
+  read = others_are_passed input bytes rest (binding_of b) f h.read front never;
+  bindgen = h.bindgen;
+  root = h.root;
+  reached = IsReached.passed b bytes rest f h.reached front never;
+}
 
 -- each has bytes
 one-shorter : (bytes rest : List ℕ) (f : Framed) → IsInFront bytes f rest → length rest < length bytes
@@ -84,6 +91,9 @@ part input rest b h =
     let whole = ap length h.read.parts ∙ length-append module_preamble (h.read.front ++ rest) in
     let behind = length-append h.read.front rest in
     omega (arith, whole, behind)
+
+pub less : (a b : ℕ) → a - b ≤ a
+less a b = omega arith
 
 -- ---- the end
 

@@ -1,3 +1,4 @@
 mod SectionLaws
 mod BoundTo
+mod Reached
 pub mod KnownNames

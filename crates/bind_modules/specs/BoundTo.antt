@@ -7,6 +7,7 @@ use Rattle.bind_meaning.specs.Roots.{root_meaning}
 use Rattle.wit_bind.specs.declared.bindgen.Bindgen.{Bindgen}
 use Rattle.wit_bind.specs.Bindings.{IsBindgen, binding_of}
 use Rattle.bind_sections.specs.Steps.{IsReadTo}
+use Rattle.bind_modules.specs.Reached.{IsReached}
 
 -- The first package is `root:root`, without version.
 pub record BeginsWithRoot (r : Resolve) : Type 0 where
@@ -19,3 +20,4 @@ pub record IsBoundTo (input : List ℕ) (b : Bindgen) (rest : List ℕ) : Type 0
   pub read : IsReadTo input (binding_of b) rest
   pub bindgen : IsBindgen b
   pub root : BeginsWithRoot b.resolve
+  pub reached : IsReached input b rest

@@ -1,1 +1,2 @@
 pub mod BoundTo
+pub mod Reached

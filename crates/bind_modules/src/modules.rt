@@ -1,12 +1,14 @@
 //! The sections of a module, bound one after the other.
 
 ghost use Rattle.std.specs.Prelude.{◌≡◌, ◌≢◌, ◌≤◌, ◌<◌, ℕ, List, [], length, IfErr, IfOk, OnOk};
+ghost use Rattle.wit_model.specs.declared.error.Error.TheVariants.{Size};
 ghost use Rattle.wit_bind.specs.Bindings.{IsBindgen, binding_of};
 ghost use Rattle.wit_metadata.specs.Modules.{IsFrontData, StripsModule};
 ghost use Rattle.bind_sections.specs.Bound.{IsBound, RefusesBindings};
 ghost use Rattle.bind_sections.specs.Steps.{IsDataInFront};
 ghost use Rattle.bind_names.specs.Named.{AreNamed};
 ghost use Rattle.bind_modules.specs.BoundTo.{BeginsWithRoot, IsBoundTo};
+ghost use Rattle.bind_modules.specs.Reached.{OutgrowsLists};
 
 use crate::named::{merge_named, named_by_bytes};
 use crate::sections::decode_section;
@@ -28,6 +30,7 @@ fn bind_section(
     ensures named { OnOk result (AreNamed bound.new.resolve.packages.items named.new) }
     ensures ok { (input bytes rest : List ℕ) → IsBoundTo input bound.old bytes → IsDataInFront bytes section.now rest → OnOk result (IsBoundTo input bound.new rest) }
     ensures refuses { (input bytes rest : List ℕ) → IsBoundTo input bound.old bytes → IsDataInFront bytes section.now rest → IfErr result (RefusesBindings input) }
+    ensures size { (input bytes rest : List ℕ) → IsBoundTo input bound.old bytes → IsDataInFront bytes section.now rest → IfErr result (λ e. e ≡ Size → OutgrowsLists input) }
 {
     let other = decode_section(alloc, section)?;
     merge_named(alloc, bound, named, other)?;
@@ -46,6 +49,7 @@ fn bind_carried(
     ensures named { OnOk result (AreNamed bound.new.resolve.packages.items named.new) }
     ensures ok { (input bytes rest : List ℕ) → IsBoundTo input bound.old bytes → IsFrontData bytes carried.entry rest → OnOk result (IsBoundTo input bound.new rest) }
     ensures refuses { (input bytes rest : List ℕ) → IsBoundTo input bound.old bytes → IsFrontData bytes carried.entry rest → IfErr result (RefusesBindings input) }
+    ensures size { (input bytes rest : List ℕ) → IsBoundTo input bound.old bytes → IsFrontData bytes carried.entry rest → IfErr result (λ e. e ≡ Size → OutgrowsLists input) }
 {
     match carried {
         Some(section) => bind_section(alloc, bound, named, section),
@@ -68,6 +72,7 @@ fn bind_front<'a>(
     ensures named { OnOk result (AreNamed bound.new.resolve.packages.items named.new) }
     ensures shorter { IfOk result (λ rest. length rest.now < length bytes.now) }
     ensures refuses { (input : List ℕ) → offset ≤ length input → IsBoundTo input bound.old bytes.now → IfErr result (RefusesBindings input) }
+    ensures size { (input : List ℕ) → IsBoundTo input bound.old bytes.now → IfErr result (λ e. e ≡ Size → OutgrowsLists input) }
 {
     let (carried, behind) = carried_in(bytes, offset)?;
     bind_carried(alloc, bound, named, carried)?;
@@ -80,6 +85,7 @@ fn bindings(alloc: Global, bytes: &[u8]) -> Result<Bindgen, Error>
     ensures valid { IfOk result IsBindgen }
     ensures root { IfOk result (λ b. BeginsWithRoot b.resolve) }
     ensures refuses { IfErr result (RefusesBindings bytes.now) }
+    ensures size { IfErr result (λ e. e ≡ Size → OutgrowsLists bytes.now) }
 {
     let mut rest = sections_of(bytes)?;
     let mut bound = Bindgen::default(alloc)?;
@@ -101,7 +107,8 @@ fn bindings(alloc: Global, bytes: &[u8]) -> Result<Bindgen, Error>
 /// The first refusal in the order of the bytes ends the call: `NotAModule` where they don't begin as a core module; of a section's data, `Historical`
 /// where it begins with the byte 3, `NoReading` where it means no one world, at offset 0 with `Truncated` where it is empty, and else that of its encoding,
 /// which is missing or not known; `Clash` where what it binds clashes with what was bound before; `BadModule` where no section stands, or a custom one without a
-/// name. Beside these it refuses with `Memory`, and with `Size` only where a list of the bindings would pass 4,294,967,295.
+/// name. Beside these it refuses with `Memory`, and with `Size` only where a list of what the sections in front have bound would pass 4,294,967,295 with all that may
+/// come of the next one, as `Bindgen::merge` does.
 ///
 /// Takes time linear in the module, with hashed look-ups, and for each section that carries a world as long as it takes to decode the world and to merge it, whatever
 /// was bound before; memory for the bindings, the names of their packages, and the module.
@@ -111,6 +118,7 @@ pub fn decode(alloc: Global, bytes: &[u8]) -> Result<(Option<Vec<u8>>, Bindgen),
     ensures root { IfOk result (λ x. BeginsWithRoot x.1.resolve) }
     ensures strips { IfOk result (λ x. StripsModule bytes.now x.0) }
     ensures refuses { IfErr result (RefusesBindings bytes.now) }
+    ensures size { IfErr result (λ e. e ≡ Size → OutgrowsLists bytes.now) }
 {
     let bound = bindings(alloc, bytes)?;
     let module = stripped(alloc, bytes)?;

@@ -11,5 +11,9 @@ pub returns-in-Some-clause-refuses : goal.returns-in-Some-clause-refuses
 returns-in-Some-clause-refuses c input bytes rest h x =
     c.bind_section.ensures.refuses input bytes rest h (data-in-front bytes rest c.in-Some.section (subst (λ carried. IsFrontData bytes carried rest) c.in-Some.is x))
 
+pub returns-in-Some-clause-size : goal.returns-in-Some-clause-size
+returns-in-Some-clause-size c input bytes rest h x =
+    c.bind_section.ensures.size input bytes rest h (data-in-front bytes rest c.in-Some.section (subst (λ carried. IsFrontData bytes carried rest) c.in-Some.is x))
+
 pub returns-in-None-clause-ok : goal.returns-in-None-clause-ok
 returns-in-None-clause-ok c input bytes rest h x = passed input bytes rest c.args.bound.now h (subst (λ carried. IsFrontData bytes carried rest) c.in-None.is x)

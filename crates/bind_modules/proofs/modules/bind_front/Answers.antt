@@ -1,4 +1,8 @@
+use Rattle.std.proofs.Common.{◌≡◌, ◌∙◌, sym}
+use Rattle.wit_model.specs.declared.error.Error.{Error}
+use Rattle.wit_model.specs.declared.error.Error.TheVariants as errors
 use Rattle.bind_sections.specs.Bound.{RefusesBindings}
+use Rattle.bind_modules.specs.Reached.{OutgrowsLists}
 use Rattle.bind_modules.proofs.BoundTo.{left-over}
 use Rattle.bind_modules.proofs.SectionLaws.{passed_on}
 use Rattle.bind_modules.proofs.modules.bind_front.Goals as goal
@@ -13,6 +17,17 @@ pub returns-in_err-bind_carried-clause-refuses : goal.returns-in_err-bind_carrie
 returns-in_err-bind_carried-clause-refuses c input within h =
     passed_on (RefusesBindings input) c.in_err-bind_carried.field-0.0 c.from_residual-in_err-bind_carried.result
     (c.in_err-bind_carried.ensures.refuses input c.args.bytes.now c.in_ok-carried.behind.now h c.in_ok-carried.ensures.ok) c.from_residual-in_err-bind_carried.ensures.1
+
+pub returns-in_err-carried-clause-size : goal.returns-in_err-carried-clause-size
+returns-in_err-carried-clause-size c input h =
+    let e = c.in_err-carried.field-0.0 in
+    passed_on (λ (d : Error). d ≡ errors.Size → OutgrowsLists input) e c.from_residual.result
+    (λ so. let is : errors.BadModule c.args.offset ≡ errors.Size = sym c.in_err-carried.ensures.refuses ∙ so in let no : ⊥ = cc in absurd no) c.from_residual.ensures.1
+
+pub returns-in_err-bind_carried-clause-size : goal.returns-in_err-bind_carried-clause-size
+returns-in_err-bind_carried-clause-size c input h =
+    passed_on (λ (d : Error). d ≡ errors.Size → OutgrowsLists input) c.in_err-bind_carried.field-0.0 c.from_residual-in_err-bind_carried.result
+    (c.in_err-bind_carried.ensures.size input c.args.bytes.now c.in_ok-carried.behind.now h c.in_ok-carried.ensures.ok) c.from_residual-in_err-bind_carried.ensures.1
 
 pub returns-clause-ok : goal.returns-clause-ok
 returns-clause-ok c input h = c.in_ok-bind_carried.ensures.ok input c.args.bytes.now c.in_ok-carried.behind.now h c.in_ok-carried.ensures.ok

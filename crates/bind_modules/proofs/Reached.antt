@@ -1,0 +1,67 @@
+-- When a list would get too long: where what a section binds is merged, and nowhere else.
+use Rattle.std.proofs.Common.{◌≡◌, ◌∙◌, sym, ap, subst, ℕ, ◌==◌, Bool, true, false, cond, List, [], ◌∷◌, Option, Some, None, Err}
+use Rattle.std.specs.Prelude.{Result}
+use Rattle.wit_model.specs.declared.error.Error.{Error}
+use Rattle.wit_model.specs.declared.error.Error.TheVariants as errors
+use Rattle.wit_model.specs.declared.model.StringEncoding.{StringEncoding}
+use Rattle.wit_bind.specs.declared.bindgen.Bindgen.{Bindgen}
+use Rattle.wit_bind.specs.Merges.{IsMergeRefusal}
+use Rattle.wit_metadata.specs.Carried.{contents_under, last_of}
+use Rattle.wit_metadata.specs.Encodings.{encoding_at, section_name}
+use Rattle.wit_metadata.specs.Modules.{RefusesModule}
+use Rattle.wit_metadata.specs.Said.{said_by, said_by_code}
+use Rattle.bind_sections.specs.SectionBindings.{IsBoundBy, RefusesSection}
+use Rattle.bind_sections.specs.Steps.{IsDataInFront}
+use Rattle.bind_modules.specs.BoundTo.{IsBoundTo}
+use Rattle.bind_modules.specs.Reached.{OutgrowsLists}
+
+-- ---- sections and what is left of the module
+
+abbrev Answer : Type 0
+Answer = Result StringEncoding Error
+
+abbrev size : Answer
+size = Err errors.Size
+
+-- no encoding is refused so
+said-otherwise : (x : Option (List ℕ)) → size ≡ said_by x → ⊥
+said-otherwise None is = cc
+said-otherwise (Some []) is = cc
+said-otherwise (Some (b ∷ [])) is = cc
+said-otherwise (Some (b ∷ code ∷ [])) is = at-four (b == 4) is
+  where
+    by-code : (o : Option StringEncoding) → size ≡ said_by_code code o → ⊥
+    by-code None same = cc
+    by-code (Some x) same = cc
+
+    at-four : (t : Bool) → size ≡ cond t (said_by_code code (encoding_at code)) (Err (errors.EncodingVersion b)) → ⊥
+    at-four true same = by-code (encoding_at code) same
+    at-four false same = cc
+said-otherwise (Some (b ∷ code ∷ c ∷ rest)) is = cc
+
+-- nor is a section
+pub section-otherwise : (d : List ℕ) (e : Error) → RefusesSection d e → e ≡ errors.Size → ⊥
+section-otherwise d e (RefusesSection.empty none is) so = cc
+section-otherwise d e (RefusesSection.historical rest begins is) so = cc
+section-otherwise d e (RefusesSection.unread some other cause offset is within none) so = cc
+section-otherwise d e (RefusesSection.unsaid m reads says) so = said-otherwise (last_of (contents_under section_name reads.sections)) (ap (λ x. let y : Answer = Err x in y) (sym so) ∙ says reads.sections reads.spelled)
+section-otherwise d e (RefusesSection.memory is) so = cc
+
+-- nor a module that is stripped
+pub strip-otherwise : (input : List ℕ) (e : Error) → RefusesModule input e → e ≡ errors.Size → ⊥
+strip-otherwise input e r so = subst (RefusesModule input) so r
+
+-- ---- merges
+
+pub outgrown : (input bytes rest d : List ℕ) (own b : Bindgen) → IsBoundTo input own bytes → IsDataInFront bytes d rest → IsBoundBy d b → (e : Error) → IsMergeRefusal own b e → e ≡ errors.Size → OutgrowsLists input
+outgrown input bytes rest d own b h x bound e why so = record {
+  own = own;
+  bytes = bytes;
+  reached = h.reached;
+  data_ = d;
+  rest = rest;
+  next = x;
+  other = b;
+  binds = bound;
+  too_many = subst (IsMergeRefusal own b) so why;
+}
