@@ -92,6 +92,7 @@ part input rest b h =
     let behind = length-append h.read.front rest in
     omega (arith, whole, behind)
 
+-- an offset is within the module
 pub less : (a b : ℕ) → a - b ≤ a
 less a b = omega arith
 

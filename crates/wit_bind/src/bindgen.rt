@@ -155,8 +155,8 @@ impl Bindgen {
     /// bound world is bound, too: what it imports and exports comes behind what is imported and exported here. What stands under one path on
     /// both sides has to mean the same, and keeps this side's documentation and stability; the other's world `root:root/root` isn't compared
     /// and not carried over. Own numbers stay, and no list gets longer than by what may come: packages, interfaces and worlds that aren't here by name or path, the
-    /// inline interfaces of the other's bound world once more, the types of these, and once more those of no named interface. The answer is the keys of the other's
-    /// exports, as they stand here, in their order.
+    /// inline interfaces of the other's bound world once more, the types of these interfaces and of none, and once more those of no named interface. The answer is
+    /// the keys of the other's exports, as they stand here, in their order.
     ///
     /// Both `Resolve`s are valid, and each world is one of its own. Refuses with `Clash` where the two clash, and names the first fault; with `Memory`;
     /// and with `Size` only where a list would pass 4,294,967,295 with all that may come. Takes time and memory linear in both, with hashed look-ups.
