@@ -13,13 +13,14 @@ use Rattle.wit_model.specs.declared.model.Resolve.{Resolve}
 use Rattle.wit_model.specs.declared.model.Function.{Function}
 use Rattle.wit_model.specs.declared.model.«Type».{«Type» as ValueType}
 use Rattle.encode_types.specs.declared.key.FunctionKey.{FunctionKey}
+use Rattle.encode_types.specs.declared.codes.KeyList.{KeyList}
 use Rattle.encode_types.specs.declared.maps.TypeEncodingMaps.{TypeEncodingMaps}
 use Rattle.encode_types.specs.Key.{IsKeyOf, key_signature}
 use Rattle.encode_types.specs.Maps.{MapsAgree, NamesGrow, HasKey, LacksKey, LearnsKey, by_key}
 use Rattle.encode_types.specs.Slots.{Pairs, function}
 use Rattle.encode_types.specs.Scope.{Scope}
 use Rattle.encode_types.specs.Fits.{CanEncode}
-use Rattle.encode_types.specs.Codes.{names_of, lists_of, IsListed, IsKeyList}
+use Rattle.encode_types.specs.Codes.{names_of, lists_of, IsListed, IsKeyList, IsListOf}
 use Rattle.encode_types.specs.Distinct.{KnowsKey, key_of}
 use Rattle.wit_model.specs.Lookup.{is_async}
 use Rattle.wit_model.specs.declared.model.Param.{Param}
@@ -83,3 +84,6 @@ lacks-same m m' key e l i h = l i (
   subst (λ (ns : List (Bor Text × ℕ)). IsKeyList (map {B = Text × ℕ} (λ e. (e.0.now, e.1)) ns) key h.0) e.names_ h.1,
   subst (λ (es : List (Vec ℕ Global × ℕ)). Contains (map {B = List ℕ × ℕ} (λ e. (e.0.items, e.1)) es) (h.0, i)) e.lists h.2,
 )
+
+pub list-same : (m m' : TypeEncodingMaps) (key : FunctionKey) (list : KeyList) → SameKeys m m' → IsListOf (names_of m.names) key list → IsListOf (names_of m'.names) key list
+list-same m m' key list e l = subst (λ (ns : List (Bor Text × ℕ)). IsListOf (map {B = Text × ℕ} (λ e. (e.0.now, e.1)) ns) key list) (sym e.names_) l

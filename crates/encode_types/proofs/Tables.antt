@@ -18,12 +18,12 @@ use Rattle.std.proofs.lemmas.List.{map-append, take_more}
 use Rattle.wit_model.specs.Text.{Text, text_of}
 use Rattle.wit_model.specs.declared.model.Param.{Param}
 use Rattle.encode_types.specs.declared.key.FunctionKey.{FunctionKey}
-use Rattle.encode_types.specs.Codes.{names_of, lists_of, Names, IsTable, AreListed, AddsParams, IsKeyList, type_code}
+use Rattle.encode_types.specs.Codes.{names_of, lists_of, Names, IsTable, AreListed, AddsParams, AddsParam, IsKeyStart, IsKeyList, type_code}
 use Rattle.encode_types.specs.KeyLaws.{key_equiv}
 use Rattle.encode_types.proofs.EqualLists.{lists-of-keys, key-shrink}
-use Rattle.encode_types.specs.Maps.{AreNumbered, NamesGrow, NamesParams, AddsNames, IsOnce, LacksKey, LacksList}
+use Rattle.encode_types.specs.Maps.{AreNumbered, NamesGrow, AddsNames, IsOnce, LacksKey, LacksList}
 use Rattle.encode_types.specs.declared.maps.TypeEncodingMaps.{TypeEncodingMaps}
-use Rattle.encode_types.proofs.Lists.{none-in}
+use Rattle.encode_types.proofs.Lists.{none-in, element-at}
 use Rattle.wit_model.proofs.Elements.{contains-map}
 
 pub equal-is : (o : Ordering) → is_eq o ≡ true → o ≡ Equal
@@ -303,24 +303,34 @@ pub key-grow : (names names' : Names) (key : FunctionKey) (xs : List ℕ) → Na
 key-grow names names' key xs g h = record { middle = h.middle; listed = listed-grow names names' key.params.0.now h.middle g h.listed; is = h.is }
 
 -- one more parameter of a loop
-pub named-more : (names names' : Names) (ps : List Param) (i : ℕ) (p : Param) → i < length ps → p ≡ get_or ps i p → NamesGrow names names' → NamesParams names (take i ps) → (n : ℕ) × Contains names' (text_of p.name, n) → NamesParams names' (take (i + 1) ps)
-named-more names names' ps i p l e g h new q c =
-    elim (Contains-push_cases (take i ps) (get_or ps i p) q (subst (λ (xs : List Param). Contains xs q) (take_more ps i p l) c)) [
-      | inl d ↦ let x = h q d in (x.0, g.kept _ x.0 x.1)
-      | inr d ↦ (new.0, subst (λ (z : Param). Contains names' (text_of z.name, new.0)) (e ∙ d) new.1)
-    ]
+pub listed-next : (names : Names) (ps : List Param) (i : ℕ) (p : Param) (n : ℕ) (start before after : List ℕ) → i < length ps → p ≡ get_or ps i p → AddsParams names i start before ps → Contains names (text_of p.name, n) → after ≡ before ++ n ∷ type_code p.ty ∷ []
+    → AddsParams names (i + 1) start after ps
+listed-next names ps i p n start before after l e a c is = record {
+  middle = a.middle ++ n ∷ type_code p.ty ∷ [];
+  is = is ∙ ap (λ xs. xs ++ n ∷ type_code p.ty ∷ []) a.is ∙ append_assoc start a.middle (n ∷ type_code p.ty ∷ []);
+  are = subst (λ (xs : List Param). AreListed names xs (a.middle ++ n ∷ type_code p.ty ∷ [])) (ap (λ z. take i ps ++ z ∷ []) e ∙ sym (take_more ps i p l)) (listed-more names (take i ps) a.middle p n a.are c);
+  most = omega (arith, l);
+}
 
-pub listed-next : (names : Names) (ps : List Param) (i : ℕ) (p : Param) (n : ℕ) (start before between after : List ℕ) → i < length ps → p ≡ get_or ps i p → AddsParams names true start before (take i ps) → Contains names (text_of p.name, n)
-    → between ≡ before ++ n ∷ [] → after ≡ between ++ type_code p.ty ∷ [] → AddsParams names true start after (take (i + 1) ps)
-listed-next names ps i p n start before between after l e (middle, is, h) c b a = (
-  middle ++ n ∷ type_code p.ty ∷ [],
-  a ∙ ap (λ xs. xs ++ type_code p.ty ∷ []) (b ∙ ap (λ xs. xs ++ n ∷ []) is) ∙ append_assoc (start ++ middle) (n ∷ []) (type_code p.ty ∷ []) ∙ append_assoc start middle (n ∷ type_code p.ty ∷ []),
-  subst (λ (xs : List Param). AreListed names xs (middle ++ n ∷ type_code p.ty ∷ [])) (ap (λ z. take i ps ++ z ∷ []) e ∙ sym (take_more ps i p l)) (listed-more names (take i ps) middle p n h c),
-)
+pub adds-next : (names : Names) (ps : List Param) (i : ℕ) (p : Param) (start before after : List ℕ) → i < length ps → p ≡ get_or ps i p → AddsParams names i start before ps → AddsParam names before after p → AddsParams names (i + 1) start after ps
+adds-next names ps i p start before after l e a b = listed-next names ps i p b.number start before after l e a b.there b.is
+
+pub adds-grow : (names names' : Names) (n : ℕ) (xs ys : List ℕ) (ps : List Param) → NamesGrow names names' → AddsParams names n xs ys ps → AddsParams names' n xs ys ps
+adds-grow names names' n xs ys ps g a = record { middle = a.middle; is = a.is; are = listed-grow names names' (take n ps) a.middle g a.are; most = a.most }
+
+-- a key has no list where the name of a parameter has no number
+pub lacks-list : (names : Names) (key : FunctionKey) (n : ℕ) (xs ys : List ℕ) → IsKeyStart names key n xs → IsKeyList names key ys → ⊥
+lacks-list names key n xs ys s h =
+    let p = element-at key.params.0.now n s.before in
+    let r = listed-names names key.params.0.now h.middle p.0 h.listed (n, s.before, sym p.1) in
+    s.lacks p.0 s.before p.1 r.0 r.1
 
 -- one key has one list
 pub one-list : (names : Names) (key : FunctionKey) (xs ys : List ℕ) → IsTable names → IsKeyList names key xs → IsKeyList names key ys → xs ≡ ys
 one-list names key xs ys t p q = lists-of-keys names key key xs ys t p q (key_equiv.refl key)
+
+pub adds-same-names : (m : TypeEncodingMaps) → AddsNames m m
+adds-same-names m = record { rest = record { numbers = refl; kinds = refl; keys = refl; names_ = refl; unit_future_ = refl; unit_stream_ = refl }; grow = names-same (names_of m.names) (names_of m.names) refl }
 
 pub adds-names-then : {a b c : TypeEncodingMaps} → AddsNames a b → AddsNames b c → AddsNames a c
 adds-names-then p q = record {
@@ -334,17 +344,6 @@ adds-names-then p q = record {
   };
   grow = names-then p.grow q.grow;
 }
-
--- names that all have a number give a list
-listed-all : (names : Names) (ps : List Param) → NamesParams names ps → (xs : List ℕ) × AreListed names ps xs
-listed-all names [] h = ([], tt)
-listed-all names (p ∷ ps) h =
-    let n = h p (0, omega arith, refl) in
-    let r = listed-all names ps (λ q c. h q (suc c.0, (let l = c.1 in omega (arith, l)), c.2)) in
-    (n.0 ∷ type_code p.ty ∷ r.0, (n.1, refl, r.1))
-
-pub key-listed : (names : Names) (key : FunctionKey) → NamesParams names key.params.0.now → (xs : List ℕ) × IsKeyList names key xs
-key-listed names key h = let r = listed-all names key.params.0.now h in (_, record { middle = r.0; listed = r.1; is = refl })
 
 -- a key that the maps lack has a list that they lack, also by more names
 pub list-lacking : (m : TypeEncodingMaps) (names' : Names) (key : FunctionKey) (xs : List ℕ) → IsOnce m → NamesGrow (names_of m.names) names' → LacksKey m key → IsKeyList names' key xs → LacksList (lists_of m.func_type_map) xs

@@ -1,5 +1,5 @@
 -- Types, unnamed kinds and keys of functions as numbers and lists of numbers, for ordered tables.
-use Rattle.std.specs.Prelude.{ℕ, ◌≡◌, ◌+◌, Bool, true, false, List, [], ◌∷◌, ◌++◌, map, length, Option, Some, None, Vec}
+use Rattle.std.specs.Prelude.{ℕ, ◌≡◌, ◌+◌, ◌<◌, ◌≤◌, Bool, true, false, List, [], ◌∷◌, ◌++◌, map, length, take, get_or, Option, Some, None, Vec}
 use Rattle.std.specs.Borrow.{Bor}
 use Rattle.std.specs.BTreeMap.{BTreeMap}
 use Rattle.std.specs.List.{Contains}
@@ -12,6 +12,8 @@ use Rattle.wit_model.specs.declared.model.Handle.TheVariants as handle
 use Rattle.wit_model.specs.declared.model.«Type».{«Type» as ValueType}
 use Rattle.wit_model.specs.declared.model.«Type».TheVariants as ty
 use Rattle.encode_types.specs.declared.key.FunctionKey.{FunctionKey}
+use Rattle.encode_types.specs.declared.codes.KeyList.{KeyList}
+use Rattle.encode_types.specs.declared.codes.KeyList.TheVariants as listed
 
 -- the number of a type: those of primitive types are below 14
 abbrev pub type_code : ValueType → ℕ
@@ -81,18 +83,40 @@ pub record IsListed (names : Names) (is_async : Bool) (params : List Param) (res
 abbrev pub IsKeyList : Names → FunctionKey → List ℕ → Type 0
 IsKeyList names key xs = IsListed names key.async_ key.params.0.now key.result.now xs
 
--- no list is that of the key: a name has no number
-abbrev pub LacksKeyList : Names → FunctionKey → Type 0
-LacksKeyList names key = (xs : List ℕ) → IsKeyList names key xs → ⊥
-
 -- the names of an ordered map
 abbrev pub names_of : BTreeMap (Bor Text) ℕ → Names
 names_of t = map (λ e. (e.0.now, e.1)) t.entries
 
--- what has been added to a list stands for the parameters; or a name has no number
-abbrev pub AddsParams : Names → Bool → List ℕ → List ℕ → List Param → Type 0
-AddsParams names true xs ys params = (middle : List ℕ) × (ys ≡ xs ++ middle) × AreListed names params middle
-AddsParams names false xs ys params = (middle : List ℕ) → AreListed names params middle → ⊥
+-- what has been added to a list stands for the first n parameters
+pub record AddsParams (names : Names) (n : ℕ) (xs ys : List ℕ) (params : List Param) : Type 0 where
+  pub middle : List ℕ
+  pub is : ys ≡ xs ++ middle
+  pub are : AreListed names (take n params) middle
+  pub most : n ≤ length params
+
+-- the same of one parameter
+pub record AddsParam (names : Names) (xs ys : List ℕ) (p : Param) : Type 0 where
+  pub number : ℕ
+  pub there : Contains names (text_of p.name, number)
+  pub is : ys ≡ xs ++ number ∷ type_code p.ty ∷ []
+
+-- a text has no number
+abbrev pub LacksText : Names → Text → Type 0
+LacksText names t = (m : ℕ) → Contains names (t, m) → ⊥
+
+-- the name of parameter n, where there is one, has no number
+abbrev pub LacksNumber : Names → List Param → ℕ → Type 0
+LacksNumber names params n = (p : Param) → n < length params → p ≡ get_or params n p → LacksText names (text_of p.name)
+
+-- the list is that of a key up to parameter n, whose name has no number
+pub record IsKeyStart (names : Names) (key : FunctionKey) (n : ℕ) (xs : List ℕ) : Type 0 where
+  pub adds : AddsParams names n (async_code key.async_ ∷ length key.params.0.now ∷ []) xs key.params.0.now
+  pub before : n < length key.params.0.now
+  pub lacks : LacksNumber names key.params.0.now n
+
+abbrev pub IsListOf : Names → FunctionKey → KeyList → Type 0
+IsListOf names key (listed.Whole xs) = IsKeyList names key xs.items
+IsListOf names key (listed.Start xs n) = IsKeyStart names key n xs.items
 
 -- the lists of an ordered map, each with its number
 abbrev pub lists_of : BTreeMap (Vec ℕ Global) ℕ → List (List ℕ × ℕ)

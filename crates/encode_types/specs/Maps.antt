@@ -2,8 +2,7 @@
 use Rattle.std.specs.Prelude.{ℕ, ◌≡◌, ◌<◌, ◌++◌, Bool, false, List, [], ◌∷◌, length, Some, None, AllPairs, IsPermutation, nat_eq, ◌⊎◌}
 use Rattle.std.specs.List.{Contains}
 use Rattle.wit_model.specs.Rules.{is_named_kind}
-use Rattle.wit_model.specs.Text.{Text, text_of}
-use Rattle.wit_model.specs.declared.model.Param.{Param}
+use Rattle.wit_model.specs.Text.{Text}
 use Rattle.wit_model.specs.Tree.{future_tree, stream_tree}
 use Rattle.wit_model.specs.Types.{number_tree}
 use Rattle.wit_model.specs.declared.model.Resolve.{Resolve}
@@ -136,10 +135,6 @@ pub record NamesGrow (names names' : Names) : Type 0 where
 pub record AddsNames (m m' : TypeEncodingMaps) : Type 0 where
   pub rest : SameMaps m (record m' { names = m.names })
   pub grow : NamesGrow (names_of m.names) (names_of m'.names)
-
--- each parameter has a name with a number
-abbrev pub NamesParams : Names → List Param → Type 0
-NamesParams names params = (p : Param) → Contains params p → (n : ℕ) × Contains names (text_of p.name, n)
 
 -- one type number more, and the rest as it was
 pub record LearnsNumber (m m' : TypeEncodingMaps) (id : TypeId) (i : ℕ) : Type 0 where

@@ -1,8 +1,8 @@
 //! Types, unnamed kinds and keys of functions as lists of numbers, by which ordered tables find them.
 
-ghost use Rattle.std.specs.Prelude.{◌≡◌, ◌+◌, ◌++◌, false, IfOk, OnOk, IfSome, IfNone, map};
+ghost use Rattle.std.specs.Prelude.{◌≡◌, ◌+◌, ◌++◌, ◌∷◌, [], false, IfOk, OnOk, map};
 ghost use Rattle.wit_model.specs.Rules.{is_named_kind};
-ghost use Rattle.encode_types.specs.Codes.{type_code as code_of, optional_code, kind_code, names_of, IsKeyList, LacksKeyList, AddsParams};
+ghost use Rattle.encode_types.specs.Codes.{type_code as code_of, optional_code, kind_code, names_of, IsListOf, AddsParams, LacksNumber};
 
 use crate::key::FunctionKey;
 use std::alloc::{AllocError, Global};
@@ -41,7 +41,7 @@ pub(crate) fn type_code(ty: &Type) -> u64
     }
 }
 
-fn push_optional(list: &mut Vec<u64>, ty: &Option<Type>) -> Result<(), AllocError>
+pub(crate) fn push_optional(list: &mut Vec<u64>, ty: &Option<Type>) -> Result<(), AllocError>
     ensures { OnOk result (list.new.items ≡ list.old.items ++ optional_code ty.now) }
 {
     match ty {
@@ -118,36 +118,55 @@ pub(crate) fn kind_list(alloc: Global, kind: &TypeDefKind) -> Result<Vec<u64>, A
     Ok(list)
 }
 
-/// Adds the parameters to a list, each by the numbers of its name and its type. Answers whether each name has one.
-fn push_params(names: &Names, list: &mut Vec<u64>, params: &[Param]) -> Result<bool, AllocError>
-    ensures { IfOk result (λ b. AddsParams (names_of names.now) b list.old.items list.new.items params.now) }
+/// The list of a key, as far as the names of its parameters have numbers.
+#[derive(Drop)]
+pub(crate) enum KeyList {
+    /// All of it.
+    Whole(Vec<u64>),
+    /// What stands before the first parameter whose name has no number, and the place of this parameter.
+    Start(Vec<u64>, usize),
+}
+
+/// Adds a parameter to a list, by the numbers of its name and its type.
+pub(crate) fn push_param(list: &mut Vec<u64>, number: u64, ty: &Type) -> Result<(), AllocError>
+    ensures { OnOk result (list.new.items ≡ list.old.items ++ number ∷ code_of ty.now ∷ []) }
 {
-    for param in params {
+    list.push(number)?;
+    list.push(type_code(ty))?;
+    Ok(())
+}
+
+/// Adds the parameters to a list, up to the first whose name has no number. Answers how many there are.
+fn push_params(names: &Names, list: &mut Vec<u64>, params: &[Param]) -> Result<usize, AllocError>
+    ensures adds { IfOk result (λ n. AddsParams (names_of names.now) n list.old.items list.new.items params.now) }
+    ensures stops { IfOk result (LacksNumber (names_of names.now) params.now) }
+{
+    for i in 0..params.len() {
+        let param = &params[i];
         let Some(number) = names.get(param.name.as_str()) else {
-            return Ok(false);
+            return Ok(i);
         };
-        list.push(*number)?;
-        list.push(type_code(&param.ty))?;
+        push_param(list, *number, &param.ty)?;
     }
-    Ok(true)
+    Ok(params.len())
 }
 
 /// The list of a key: whether it is asynchronous, how many parameters it has, each by the numbers of its name and its type, and the result.
-/// There is none where a name of a parameter has no number.
+/// It stops where a name of a parameter has no number.
 pub(crate) fn key_list(
     alloc: Global,
     names: &Names,
     key: &FunctionKey,
-) -> Result<Option<Vec<u64>>, AllocError>
-    ensures some { IfOk result (λ o. IfSome o (λ v. IsKeyList (names_of names.now) key.now v.items)) }
-    ensures none { IfOk result (λ o. IfNone o (LacksKeyList (names_of names.now) key.now)) }
+) -> Result<KeyList, AllocError>
+    ensures { IfOk result (IsListOf (names_of names.now) key.now) }
 {
     let mut list = Vec::with_capacity(alloc, 2 * key.params.0.len() + 4)?;
     list.push(u64::from(key.async_))?;
     list.push(key.params.0.len() as u64)?;
-    if !push_params(names, &mut list, key.params.0)? {
-        return Ok(None);
+    let listed = push_params(names, &mut list, key.params.0)?;
+    if listed < key.params.0.len() {
+        return Ok(KeyList::Start(list, listed));
     }
     push_optional(&mut list, key.result)?;
-    Ok(Some(list))
+    Ok(KeyList::Whole(list))
 }

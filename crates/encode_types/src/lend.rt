@@ -9,13 +9,14 @@ ghost use Rattle.wit_model.specs.Tree.{future_tree, stream_tree};
 ghost use Rattle.encode_types.specs.Slots.{tree, function};
 ghost use Rattle.encode_types.specs.Key.{key_signature};
 ghost use Rattle.encode_types.specs.Kinds.{kind_of, parts_of};
-ghost use Rattle.encode_types.specs.Codes.{lists_of};
+ghost use Rattle.encode_types.specs.Codes.{names_of, lists_of, IsListOf};
 ghost use Rattle.encode_types.specs.Maps.{IsKnown, HasKey, IsOnce, LacksKey, LacksList, StandsAsKind, IsReady, AllReady, IsWritten, LearnsNumber, LearnsList, LearnsKey};
 ghost use Rattle.encode_types.specs.Definition.{IsWrittenParam, FollowsKind};
 ghost use Rattle.encode_types.specs.Plan.{IsLayered, AllInRange, IsOrderOf};
 ghost use Rattle.encode_types.specs.View.{Agrees};
 ghost use Rattle.encode_types.specs.Leaves.{Leaves};
 
+use crate::codes::KeyList;
 use crate::definition::{definition, params_in};
 use crate::encoder::ValtypeEncoder;
 use crate::key::FunctionKey;
@@ -43,16 +44,28 @@ pub(crate) fn index_of_kind<'a, E: ValtypeEncoder<'a>>(enc: &mut E, list: &[u64]
     enc.type_encoding_maps().index_of_kind(list)
 }
 
-pub(crate) fn index_of_key<'a, E: ValtypeEncoder<'a>>(
+pub(crate) fn list_of_key<'a, E: ValtypeEncoder<'a>>(
     alloc: Global,
     enc: &mut E,
     key: &FunctionKey,
-) -> Result<Option<u32>, AllocError>
+) -> Result<KeyList, AllocError>
     ensures same { enc.new ≡ enc.old }
-    ensures some { IfOk result (λ o. IfSome o (HasKey (E.view enc.old).maps key.now)) }
-    ensures none { IfOk result (λ o. IfNone o (IsOnce (E.view enc.old).maps → LacksKey (E.view enc.old).maps key.now)) }
+    ensures list { IfOk result (IsListOf (names_of (E.view enc.old).maps.names) key.now) }
 {
-    enc.type_encoding_maps().index_of_key(alloc, key)
+    enc.type_encoding_maps().list_of_key(alloc, key)
+}
+
+pub(crate) fn index_of_key<'a, E: ValtypeEncoder<'a>>(
+    enc: &mut E,
+    key: &FunctionKey,
+    list: &KeyList,
+) -> Option<u32>
+    requires { IsListOf (names_of (E.view enc.old).maps.names) key.now list.now }
+    ensures same { enc.new ≡ enc.old }
+    ensures some { IfSome result (HasKey (E.view enc.old).maps key.now) }
+    ensures none { IfNone result (IsOnce (E.view enc.old).maps → LacksKey (E.view enc.old).maps key.now) }
+{
+    enc.type_encoding_maps().index_of_key(key, list)
 }
 
 pub(crate) fn unit_future<'a, E: ValtypeEncoder<'a>>(enc: &mut E) -> Option<u32>
@@ -159,13 +172,14 @@ pub(crate) fn remember_kind<'a, E: ValtypeEncoder<'a>>(
 }
 
 pub(crate) fn remember_key<'a, E: ValtypeEncoder<'a>>(
-    alloc: Global,
     enc: &mut E,
     resolve: &'a Resolve,
     key: FunctionKey<'a>,
+    list: KeyList,
     index: u32,
 ) -> Result<(), Error>
     requires stands { (E.view enc.old).stands index (function (key_signature resolve.now key)) }
+    requires list { IsListOf (names_of (E.view enc.old).maps.names) key list }
     requires fresh { LacksKey (E.view enc.old).maps key }
     requires agree { Agrees resolve.now (E.view enc.old) }
     ensures ok { OnOk result (LearnsKey (E.view enc.old).maps (E.view enc.new).maps key.entry index) }
@@ -176,7 +190,7 @@ pub(crate) fn remember_key<'a, E: ValtypeEncoder<'a>>(
     ensures size { result ≡ Err Size → ⊥ }
     ensures refuses { IfErr result IsMemoryOrSize }
 {
-    enc.type_encoding_maps().remember_key(alloc, key, index)
+    enc.type_encoding_maps().remember_key(key, list, index)
 }
 
 pub(crate) fn remember_unit_future<'a, E: ValtypeEncoder<'a>>(enc: &mut E, index: u32)

@@ -2,10 +2,11 @@
 
 ghost use Rattle.std.specs.Prelude.{◌≡◌, Err, [], IfOk, IfSome, IsSome, IfNone, OnOk, OnErr, IfErr};
 ghost use Rattle.comp_bytes.specs.Refusal.{IsMemoryOrSize};
+ghost use Rattle.wit_model.specs.Text.{text_of};
 ghost use Rattle.wit_model.specs.declared.error.Error.TheVariants.{Size};
 ghost use Rattle.encode_types.specs.Maps.{IsReady, IsWritten};
 
-use crate::codes::key_list;
+use crate::codes::{KeyList, key_list, push_optional, push_param};
 use crate::key::FunctionKey;
 use comp_bytes::{ComponentValType, PrimitiveValType};
 use std::alloc::{AllocError, Global};
@@ -32,8 +33,8 @@ pub struct TypeEncodingMaps<'a> {
 }
 
 impl<'a> TypeEncodingMaps<'a> {
-    ghost use Rattle.encode_types.specs.Codes.{names_of, lists_of};
-    ghost use Rattle.encode_types.specs.Maps.{IsKnown, HasKey, LacksKey, IsOnce, LacksList, AddsNames, NamesParams, LearnsNumber, LearnsList, LearnsKey, SameMaps};
+    ghost use Rattle.encode_types.specs.Codes.{names_of, lists_of, IsKeyList, IsKeyStart, IsListOf, LacksText, AddsParam};
+    ghost use Rattle.encode_types.specs.Maps.{IsKnown, HasKey, LacksKey, IsOnce, LacksList, AddsNames, LearnsNumber, LearnsList, LearnsKey, SameMaps};
     ghost use Rattle.std.specs.List.{Contains};
 
     /// Maps that hold nothing. Takes constant time and no memory.
@@ -71,19 +72,27 @@ impl<'a> TypeEncodingMaps<'a> {
         self.def_to_index.get(list).copied()
     }
 
-    /// The index under which an equal key is known.
-    pub(crate) fn index_of_key(
+    /// The list of a key, as far as the names of its parameters have numbers.
+    pub(crate) fn list_of_key(
         &self,
         alloc: Global,
         key: &FunctionKey,
-    ) -> Result<Option<u32>, AllocError>
-        ensures some { IfOk result (λ o. IfSome o (HasKey self.now key.now)) }
-        ensures none { IfOk result (λ o. IfNone o (IsOnce self.now → LacksKey self.now key.now)) }
+    ) -> Result<KeyList, AllocError>
+        ensures { IfOk result (IsListOf (names_of self.now.names) key.now) }
     {
-        let Some(list) = key_list(alloc, &self.names, key)? else {
-            return Ok(None);
-        };
-        Ok(self.func_type_map.get(list.as_slice()).copied())
+        key_list(alloc, &self.names, key)
+    }
+
+    /// The index under which an equal key is known, by the list of the key.
+    pub(crate) fn index_of_key(&self, key: &FunctionKey, list: &KeyList) -> Option<u32>
+        requires { IsListOf (names_of self.now.names) key.now list.now }
+        ensures some { IfSome result (HasKey self.now key.now) }
+        ensures none { IfNone result (IsOnce self.now → LacksKey self.now key.now) }
+    {
+        match list {
+            KeyList::Whole(list) => self.func_type_map.get(list.as_slice()).copied(),
+            KeyList::Start(_, _) => None,
+        }
     }
 
     pub(crate) fn remember_id(&mut self, id: TypeId, index: u32) -> Result<(), Error>
@@ -108,40 +117,102 @@ impl<'a> TypeEncodingMaps<'a> {
         Ok(())
     }
 
-    /// Gives a name a number, unless it has one.
-    fn intern(&mut self, name: &'a str) -> Result<(), Error>
+    /// Gives a name without a number one, and answers it.
+    fn give_number(&mut self, name: &'a str) -> Result<u64, Error>
+        requires { LacksText (names_of self.old.names) name.now }
         ensures names { AddsNames self.old self.new }
-        ensures ok { OnOk result ((n : _) × Contains (names_of self.new.names) (name.entry.now, n)) }
+        ensures ok { IfOk result (λ n. Contains (names_of self.new.names) (name.entry.now, n)) }
         ensures size { result ≡ Err Size → ⊥ }
         ensures refuses { IfErr result IsMemoryOrSize }
     {
-        if self.names.contains_key(&name) {
-            return Ok(());
-        }
         let number = self.names.len() as u64;
         self.names.insert(name, number)?;
-        Ok(())
+        Ok(number)
     }
 
-    /// Gives each name of the parameters a number.
-    fn intern_all(&mut self, params: &'a [Param]) -> Result<(), Error>
+    /// The number of a name, which is given one unless it has one.
+    fn number_of(&mut self, name: &'a str) -> Result<u64, Error>
         ensures names { AddsNames self.old self.new }
-        ensures ok { OnOk result (NamesParams (names_of self.new.names) params.entry.now) }
+        ensures ok { IfOk result (λ n. Contains (names_of self.new.names) (name.entry.now, n)) }
         ensures size { result ≡ Err Size → ⊥ }
         ensures refuses { IfErr result IsMemoryOrSize }
     {
-        for param in params {
-            self.intern(param.name.as_str())?;
+        if let Some(number) = self.names.get(name).copied() {
+            return Ok(number);
         }
+        self.give_number(name)
+    }
+
+    /// Adds the parameter whose name has no number yet to the start of the list of its key.
+    fn push_first(&mut self, list: &mut Vec<u64>, param: &'a Param) -> Result<(), Error>
+        requires { LacksText (names_of self.old.names) (text_of param.now.name) }
+        ensures names { AddsNames self.old self.new }
+        ensures ok { OnOk result (AddsParam (names_of self.new.names) list.old.items list.new.items param.entry.now) }
+        ensures size { result ≡ Err Size → ⊥ }
+        ensures refuses { IfErr result IsMemoryOrSize }
+    {
+        let number = self.give_number(param.name.as_str())?;
+        push_param(list, number, &param.ty)?;
         Ok(())
     }
 
+    /// Adds another parameter, whose name is given a number unless it has one.
+    fn push_next(&mut self, list: &mut Vec<u64>, param: &'a Param) -> Result<(), Error>
+        ensures names { AddsNames self.old self.new }
+        ensures ok { OnOk result (AddsParam (names_of self.new.names) list.old.items list.new.items param.entry.now) }
+        ensures size { result ≡ Err Size → ⊥ }
+        ensures refuses { IfErr result IsMemoryOrSize }
+    {
+        let number = self.number_of(param.name.as_str())?;
+        push_param(list, number, &param.ty)?;
+        Ok(())
+    }
+
+    /// The list of a key whose start ends before parameter `from`.
+    fn rest_of_list(
+        &mut self,
+        key: &FunctionKey<'a>,
+        list: Vec<u64>,
+        from: usize,
+    ) -> Result<Vec<u64>, Error>
+        requires { IsKeyStart (names_of self.old.names) key.now from list.items }
+        ensures names { AddsNames self.old self.new }
+        ensures ok { IfOk result (λ v. IsKeyList (names_of self.new.names) key.now v.items) }
+        ensures size { result ≡ Err Size → ⊥ }
+        ensures refuses { IfErr result IsMemoryOrSize }
+    {
+        let mut list = list;
+        let params = key.params.0;
+        self.push_first(&mut list, &params[from])?;
+        for i in from + 1..params.len() {
+            self.push_next(&mut list, &params[i])?;
+        }
+        push_optional(&mut list, key.result)?;
+        Ok(list)
+    }
+
+    /// All of the list of a key, whose names are given numbers.
+    fn whole_list(&mut self, key: &FunctionKey<'a>, list: KeyList) -> Result<Vec<u64>, Error>
+        requires { IsListOf (names_of self.old.names) key.now list }
+        ensures names { AddsNames self.old self.new }
+        ensures ok { IfOk result (λ v. IsKeyList (names_of self.new.names) key.now v.items) }
+        ensures size { result ≡ Err Size → ⊥ }
+        ensures refuses { IfErr result IsMemoryOrSize }
+    {
+        match list {
+            KeyList::Whole(list) => Ok(list),
+            KeyList::Start(list, from) => self.rest_of_list(key, list, from),
+        }
+    }
+
+    /// Remembers a key by its list, as far as there is one.
     pub(crate) fn remember_key(
         &mut self,
-        alloc: Global,
         key: FunctionKey<'a>,
+        list: KeyList,
         index: u32,
     ) -> Result<(), Error>
+        requires list { IsListOf (names_of self.old.names) key list }
         requires lacks { LacksKey self.old key }
         requires once { IsOnce self.old }
         ensures ok { OnOk result (LearnsKey self.old self.new key.entry index) }
@@ -149,11 +220,8 @@ impl<'a> TypeEncodingMaps<'a> {
         ensures size { result ≡ Err Size → ⊥ }
         ensures refuses { IfErr result IsMemoryOrSize }
     {
-        self.intern_all(key.params.0)?;
-        match key_list(alloc, &self.names, &key)? {
-            Some(list) => self.func_type_map.insert(list, index)?,
-            None => unreachable!(),
-        };
+        let list = self.whole_list(&key, list)?;
+        self.func_type_map.insert(list, index)?;
         Ok(())
     }
 

@@ -68,8 +68,7 @@ pub(crate) fn foreign(own: Option<InterfaceId>, owner: TypeOwner) -> Option<Inte
 
 /// Adds what a type needs to the order, each number after its parts and once.
 ///
-/// Takes a step for each reference between the types that are added, with a search among the numbers met,
-/// and one look into the maps for each number.
+/// Takes a step for each reference between the types that are added, with a search among the numbers met and a look into the maps.
 pub(crate) fn plan<'a>(
     alloc: Global,
     resolve: &'a Resolve,
@@ -92,7 +91,6 @@ pub(crate) fn plan<'a>(
         return Ok(());
     }
     if maps.index_of(id).is_some() {
-        order.mark(maps, id)?;
         return Ok(());
     }
     let def = &resolve.types[id.0 as usize];

@@ -11,7 +11,7 @@ use Rattle.encode_types.specs.Maps.{LearnsKey, MapsGrow}
 use Rattle.encode_types.specs.Slots.{function}
 use Rattle.encode_types.proofs.Defining.{leaves-kept, leaves-trans, lists-longer}
 use Rattle.encode_types.proofs.Learning.{met-key}
-use Rattle.encode_types.proofs.Functions.{key-signature, key-new, counts-key, lacks-same}
+use Rattle.encode_types.proofs.Functions.{key-signature, key-new, counts-key, lacks-same, list-same}
 use Rattle.encode_types.proofs.func_type.define_key.Given.{Over}
 use Rattle.encode_types.proofs.func_type.define_key.Goals as goal
 use Rattle.encode_types.proofs.func_type.define_key.Goals.{In_ok-index}
@@ -36,8 +36,11 @@ remember_key-requires g c = λ _. (
   (
     subst (λ (s : Signature). (g.E.ValtypeEncoder.view c.define_function_type.new.self).stands c.in_ok-index.index (function s)) (sym (key-signature c.args.resolve.now c.args.key c.args.func.now c.requires.is_key)) (stands g (goal.at.remember_key-requires g c).In_ok-index),
     (
-      rw c.define_function_type.ensures.maps_stay (lacks-same (g.E.ValtypeEncoder.view c.args.enc.now).maps (g.E.ValtypeEncoder.view c.function_of.new.enc).maps c.args.key c.in_ok-def.ensures.counts.keys c.requires.lacks),
-      (leaves-kept {v = g.E.ValtypeEncoder.view c.function_of.new.enc} {v' = g.E.ValtypeEncoder.view c.define_function_type.new.self} c.function_of.ensures.leaves.agree c.define_function_type.ensures.grows c.define_function_type.ensures.scope_stays c.define_function_type.ensures.maps_stay).agree,
+      rw c.define_function_type.ensures.maps_stay (list-same (g.E.ValtypeEncoder.view c.args.enc.now).maps (g.E.ValtypeEncoder.view c.function_of.new.enc).maps c.args.key c.args.list c.in_ok-def.ensures.counts.keys c.requires.list),
+      (
+        rw c.define_function_type.ensures.maps_stay (lacks-same (g.E.ValtypeEncoder.view c.args.enc.now).maps (g.E.ValtypeEncoder.view c.function_of.new.enc).maps c.args.key c.in_ok-def.ensures.counts.keys c.requires.lacks),
+        (leaves-kept {v = g.E.ValtypeEncoder.view c.function_of.new.enc} {v' = g.E.ValtypeEncoder.view c.define_function_type.new.self} c.function_of.ensures.leaves.agree c.define_function_type.ensures.grows c.define_function_type.ensures.scope_stays c.define_function_type.ensures.maps_stay).agree,
+      ),
     ),
   ),
 )

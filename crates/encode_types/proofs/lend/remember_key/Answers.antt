@@ -13,3 +13,6 @@ returns-clause-leaves g c =
 
 pub remember_key-requires-clause-lacks : goal.remember_key-requires-clause-lacks
 remember_key-requires-clause-lacks g c = let same : c.type_encoding_maps.result.now ≡ (g.E.ValtypeEncoder.view c.args.enc.now).maps = search rules in rw same c.requires.fresh
+
+pub remember_key-requires-clause-list : goal.remember_key-requires-clause-list
+remember_key-requires-clause-list g c = let same : c.type_encoding_maps.result.now ≡ (g.E.ValtypeEncoder.view c.args.enc.now).maps = search rules in rw same c.requires.list

@@ -18,7 +18,7 @@ use Rattle.wit_model.proofs.Elements.{some-from}
 pub returns-then-is_some : goal.returns-then-is_some
 returns-then-is_some t c =
     let k : IsKnown c.args.maps.now c.in-Id.id.0 = some-from _ c.index_of.result (search rules) c.index_of.ensures.some in
-    rw c.in-Id.is (planned-there c.args.resolve.now c.args.own c.args.maps.now c.mark.new.self c.args.order.now.numbers.items (ty.Id c.in-Id.id) c.mark.ensures.numbers c.requires.ordered c.in_ok-mark.ensures.met
+    rw c.in-Id.is (planned-there c.args.resolve.now c.args.own c.args.maps.now c.args.order.now c.args.order.now.numbers.items (ty.Id c.in-Id.id) refl c.requires.ordered c.requires.met
     (stands-id c.args.resolve.now c.args.own c.args.maps.now c.args.order.now.numbers.items c.in-Id.id (inl k)))
 
 pub returns-then-is_some-2 : goal.returns-then-is_some-2
