@@ -56,12 +56,16 @@ impl<'a> TypeEncodingMaps<'a> {
         }
     }
 
-    /// The index under which a type number is known.
+    /// The index under which a type number is known. Types are mostly defined by ascending numbers: the last is asked for most.
     pub(crate) fn index_of(&self, id: TypeId) -> Option<u32>
         ensures some { IfSome result (λ i. Contains self.now.id_to_index.entries (id.0, i)) }
         ensures none { IsKnown self.now id.0 → IsSome result }
     {
-        self.id_to_index.get(&id.0).copied()
+        let (last, index) = self.id_to_index.last_key_value()?;
+        if id.0 < *last {
+            return self.id_to_index.get(&id.0).copied();
+        }
+        if id.0 == *last { Some(*index) } else { None }
     }
 
     /// The index under which the list of a kind is known.

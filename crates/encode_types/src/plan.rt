@@ -1,6 +1,6 @@
 //! Which types a type needs, in the order in which they are defined.
 
-ghost use Rattle.std.specs.Prelude.{◌≡◌, ◌⊎◌, ◌++◌, ◌∷◌, [], IfOk, OnOk, length};
+ghost use Rattle.std.specs.Prelude.{◌≡◌, ◌⊎◌, ◌++◌, ◌∷◌, [], true, IfOk, OnOk, length};
 ghost use Rattle.std.specs.List.{Contains};
 ghost use Rattle.encode_types.specs.Maps.{IsKnown};
 ghost use Rattle.encode_types.specs.Plan.{foreign_owner, IsLayered, InRange, AllInRange, IsOrdered, MetStand, IsPlanned, IsOrderOf};
@@ -15,9 +15,11 @@ use wit_model::{InterfaceId, Resolve, Type, TypeId, TypeOwner};
 #[derive(Drop)]
 pub(crate) struct Order {
     pub(crate) numbers: Vec<u32>,
-    /// The numbers that need no second look.
+    /// Those behind the first few, which are looked through one by one.
     pub(crate) met: BTreeSet<u32>,
 }
+
+const FEW: usize = 8;
 
 impl Order {
     pub(crate) fn new(alloc: Global) -> Order
@@ -28,6 +30,18 @@ impl Order {
             numbers: Vec::new(alloc),
             met: BTreeSet::new(alloc),
         }
+    }
+
+    /// Whether a number stands in the order.
+    fn has(&self, maps: &TypeEncodingMaps, id: TypeId) -> bool
+        requires { MetStand maps.now self.now }
+        ensures { result ≡ true → IsKnown maps.now id.0 ⊎ Contains self.now.numbers.items id.0 }
+    {
+        let numbers = self.numbers.as_slice();
+        if numbers.len() <= FEW {
+            return numbers.contains(&id.0);
+        }
+        numbers.split_at(FEW).0.contains(&id.0) || self.met.contains(&id.0)
     }
 
     /// Marks a number that is known or stands in the order.
@@ -48,6 +62,9 @@ impl Order {
         ensures numbers { OnOk result (self.new.numbers.items ≡ self.old.numbers.items ++ id.0 ∷ []) }
     {
         self.numbers.push(id.0)?;
+        if self.numbers.len() <= FEW {
+            return Ok(());
+        }
         self.mark(maps, id)
     }
 }
@@ -87,7 +104,7 @@ pub(crate) fn plan<'a>(
         Type::Id(id) => *id,
         _ => return Ok(()),
     };
-    if order.met.contains(&id.0) {
+    if order.has(maps, id) {
         return Ok(());
     }
     if maps.index_of(id).is_some() {
