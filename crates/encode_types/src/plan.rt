@@ -6,7 +6,7 @@ ghost use Rattle.encode_types.specs.Maps.{IsKnown};
 ghost use Rattle.encode_types.specs.Plan.{foreign_owner, IsLayered, InRange, AllInRange, IsOrdered, MetStand, IsPlanned, IsOrderOf};
 
 use crate::maps::TypeEncodingMaps;
-use crate::shape::kind_parts;
+use crate::shape::{kind_parts, only_part};
 use std::alloc::{AllocError, Global};
 use std::collections::BTreeSet;
 use wit_model::{InterfaceId, Resolve, Type, TypeId, TypeOwner};
@@ -112,6 +112,11 @@ pub(crate) fn plan<'a>(
     }
     let def = &resolve.types[id.0 as usize];
     if foreign(own, def.owner).is_some() {
+        order.push(maps, id)?;
+        return Ok(());
+    }
+    if let Some(part) = only_part(&def.kind) {
+        plan(alloc, resolve, maps, own, &part, order)?;
         order.push(maps, id)?;
         return Ok(());
     }

@@ -1,6 +1,6 @@
 //! The forms of types, borrowed from the packages.
 
-ghost use Rattle.std.specs.Prelude.{◌≡◌, ◌++◌, ◌∷◌, [], IfOk, OnOk, true, map, option_to_list, filter_map};
+ghost use Rattle.std.specs.Prelude.{◌≡◌, ◌++◌, ◌∷◌, [], IfOk, IfSome, OnOk, true, map, option_to_list, filter_map};
 ghost use Rattle.encode_types.specs.Kinds.{parts_of, has_form, kind_of};
 
 use std::alloc::{AllocError, Global};
@@ -141,6 +141,20 @@ pub(crate) fn shape_parts(alloc: Global, shape: Shape) -> Result<Vec<Type>, Allo
         Shape::Handle(handle) => two_types(alloc, Some(handle_target(handle)), None),
         Shape::Flags(_) => Ok(Vec::new(alloc)),
         Shape::Enum(_) => Ok(Vec::new(alloc)),
+    }
+}
+
+/// The type that a kind is made of, of the kinds that are made of one.
+pub(crate) fn only_part(kind: &TypeDefKind) -> Option<Type>
+    ensures { IfSome result (λ t. parts_of kind.now ≡ t ∷ []) }
+{
+    match kind {
+        TypeDefKind::Handle(handle) => Some(handle_target(*handle)),
+        TypeDefKind::Option(ty) => Some(*ty),
+        TypeDefKind::List(ty) => Some(*ty),
+        TypeDefKind::FixedLengthList(ty, _) => Some(*ty),
+        TypeDefKind::Type_(ty) => Some(*ty),
+        _ => None,
     }
 }
 

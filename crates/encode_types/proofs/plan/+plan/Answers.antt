@@ -1,4 +1,4 @@
-use Rattle.std.proofs.Common.{rules, ◌≡◌, refl, ◌∙◌, arith, inl, ◌+◌, ◌<◌, length, get_or, subst, Some, true, false, List}
+use Rattle.std.proofs.Common.{rules, ◌≡◌, refl, ◌∙◌, arith, inl, ◌+◌, ◌<◌, length, get_or, subst, Some, true, false, List, [], ◌∷◌, sym, ℕ}
 use Rattle.std.proofs.lemmas.Option.{slice_get_read}
 use Rattle.std.proofs.lemmas.List.Elements.{Contains-get_or}
 use Rattle.std.specs.List.{Contains}
@@ -11,8 +11,11 @@ use Rattle.encode_types.specs.Kinds.{parts_of}
 use Rattle.encode_types.specs.Maps.{IsKnown}
 use Rattle.encode_types.specs.Plan.{foreign_owner, rank}
 use Rattle.encode_types.proofs.Agree.{not-known}
+use Rattle.encode_types.proofs.Lists.{contains-one}
+use Rattle.encode_types.proofs.Tables.{at-some}
 use Rattle.encode_types.proofs.Planning.{planned-there, planned-foreign, planned-own, planned-step, stands-id, part-smaller, rank_below}
 use Rattle.encode_types.proofs.plan.+plan.Goals as goal
+use Rattle.encode_types.proofs.plan.+plan.Goals.{In-Some}
 use Rattle.wit_model.proofs.Elements.{some-from}
 
 pub returns-then-is_some : goal.returns-then-is_some
@@ -28,8 +31,30 @@ returns-then-is_some-2 t c =
     let lacks : is_some c.index_of.result ≡ false = search rules in
     rw c.in-Id.is (planned-foreign c.args.resolve.now c.args.own c.args.maps.now c.args.order.now.numbers.items c.push.new.self c.in-Id.id c.index-def.result.now (λ k. not-known c.index_of.result lacks (c.index_of.ensures.none k)) c.in_ok-push.ensures.numbers c.in_ok-push.ensures.met c.requires.ordered at f)
 
+only : (t : ℕ) (c : In-Some t) → parts_of c.index-def.result.now.kind ≡ c.in-Some.part ∷ []
+only t c = at-some c.only_part.result (λ t. parts_of c.index-def.result.now.kind ≡ t ∷ []) c.in-Some.part c.in-Some.is c.only_part.ensures
+
 pub plan-requires : goal.plan-requires
 plan-requires t c =
+    let at : type_at c.args.resolve.now c.in-Id.id.0 ≡ Some c.index-def.result.now = slice_get_read _ _ _ _ refl (c.requires.in_range c.in-Id.id c.in-Id.is) c.index-def.ensures in
+    let here : Contains (parts_of c.index-def.result.now.kind) c.in-Some.part = subst (λ (xs : List ValueType). Contains xs c.in-Some.part) (sym (only t (goal.at.plan-requires t c).In-Some)) (contains-one c.in-Some.part) in
+    let below : (id : TypeId) → c.in-Some.part ≡ ty.Id id → id.0 < c.in-Id.id.0 =
+    (λ id q. part-smaller c.args.resolve.now c.requires.layered c.in-Id.id.0 c.index-def.result.now id at (subst (λ (x : ValueType). Contains (parts_of c.index-def.result.now.kind) x) q here)) in
+    let fall : rank c.in-Some.part < c.in-Id.id.0 + 1 = rank_below c.in-Id.id.0 _ below in
+    let inside : c.in-Id.id.0 < length c.args.resolve.now.types.items = c.requires.in_range c.in-Id.id c.in-Id.is in
+    let m : rank c.args.ty.now ≡ t = c.decreases in
+    (rw (← m, c.in-Id.is) fall, (c.requires.layered, ((λ id q. let l : id.0 < c.in-Id.id.0 = below id q in omega arith), (c.requires.ordered, c.requires.met))))
+
+pub returns-in-Some : goal.returns-in-Some
+returns-in-Some t c =
+    let at : type_at c.args.resolve.now c.in-Id.id.0 ≡ Some c.index-def.result.now = slice_get_read _ _ _ _ refl (c.requires.in_range c.in-Id.id c.in-Id.is) c.index-def.ensures in
+    let f : is_some (foreign_owner c.args.own c.index-def.result.now.owner) ≡ false = search rules in
+    let lacks : is_some c.index_of.result ≡ false = search rules in
+    rw c.in-Id.is (planned-own c.args.resolve.now c.args.own c.args.maps.now c.args.order.now.numbers.items c.plan.new.order c.push-in-Some.new.self c.in-Id.id c.index-def.result.now (c.in-Some.part ∷ []) 1 (λ k. not-known c.index_of.result lacks (c.index_of.ensures.none k)) c.in_ok-push-2.ensures.numbers c.in_ok-push-2.ensures.met at f
+    (sym (only t (goal.at.returns-in-Some t c).In-Some)) (omega arith) c.in_ok-plan.ensures)
+
+pub plan-requires-in-loop-part : goal.plan-requires-in-loop-part
+plan-requires-in-loop-part t c =
     let at : type_at c.args.resolve.now c.in-Id.id.0 ≡ Some c.index-def.result.now = slice_get_read _ _ _ _ refl (c.requires.in_range c.in-Id.id c.in-Id.is) c.index-def.ensures in
     let e = c.deref-part-items.ensures.value ∙ c.in_ok-parts.ensures in
     let here : Contains (parts_of c.index-def.result.now.kind) (get_or c.deref-part-items.result.now c.loop-part.part-index ty.Bool) =
@@ -42,7 +67,7 @@ plan-requires t c =
     (rw (← m, c.in-Id.is) fall, (c.requires.layered, ((λ id q. let l : id.0 < c.in-Id.id.0 = below id q in omega arith), (c.loop-part.invariant.ordered, c.loop-part.invariant.met))))
 
 pub loop-part-preserved : goal.loop-part-preserved
-loop-part-preserved t c = planned-step c.args.resolve.now c.args.own c.args.maps.now c.args.order.now.numbers.items c.deref-part-items.result.now c.loop-part.part-index c.loop-part.order c.plan.new.order ty.Bool c.loop-part-test.true c.loop-part.invariant c.in_ok-plan.ensures
+loop-part-preserved t c = planned-step c.args.resolve.now c.args.own c.args.maps.now c.args.order.now.numbers.items c.deref-part-items.result.now c.loop-part.part-index c.loop-part.order c.plan-in-loop-part.new.order ty.Bool c.loop-part-test.true c.loop-part.invariant c.in_ok-plan-2.ensures
 
 pub returns : goal.returns
 returns t c =
@@ -50,4 +75,4 @@ returns t c =
     let f : is_some (foreign_owner c.args.own c.index-def.result.now.owner) ≡ false = search rules in
     let lacks : is_some c.index_of.result ≡ false = search rules in
     let e = c.deref-part-items.ensures.value ∙ c.in_ok-parts.ensures in
-    rw c.in-Id.is (planned-own c.args.resolve.now c.args.own c.args.maps.now c.args.order.now.numbers.items c.loop-part.order c.push-2.new.self c.in-Id.id c.index-def.result.now _ _ (λ k. not-known c.index_of.result lacks (c.index_of.ensures.none k)) c.in_ok-push-2.ensures.numbers c.in_ok-push-2.ensures.met at f e c.loop-part-test.false c.loop-part.invariant)
+    rw c.in-Id.is (planned-own c.args.resolve.now c.args.own c.args.maps.now c.args.order.now.numbers.items c.loop-part.order c.push-2.new.self c.in-Id.id c.index-def.result.now _ _ (λ k. not-known c.index_of.result lacks (c.index_of.ensures.none k)) c.in_ok-push-3.ensures.numbers c.in_ok-push-3.ensures.met at f e c.loop-part-test.false c.loop-part.invariant)
