@@ -4,7 +4,7 @@ use Rattle.std.specs.Prelude.{IsPermutation, AllPairs, ◌⊎◌, IfSome, IfNone
 use Rattle.std.specs.Cmp.{IsTotalOrder}
 use Rattle.std.proofs.lemmas.Cmp.{nat_cmp_total, nat_list_cmp_total}
 use Rattle.std.specs.declared.cmp.Ordering.TheVariants.{Less, Equal, Greater}
-use Rattle.std.specs.Ordering.{is_eq, match_ordering, ordering_reverse}
+use Rattle.std.specs.Ordering.{is_eq, is_lt, match_ordering, ordering_reverse}
 use Rattle.std.specs.List.{Contains, swap}
 use Rattle.std.specs.Map.{lookup}
 use Rattle.std.specs.BTreeMap.{insert_entry, is_at}
@@ -217,6 +217,17 @@ module _ {K : Type 0} (f : K → List ℕ) where
       go : (o : Option ℕ) → lookup (at_list xs) es ≡ o → is_some o ≡ false → (i : ℕ) → Contains (read es) (xs, i) → ⊥
       go None q t = lacks es xs q
       go (Some v) q t = absurd (let z : ⊥ = cc in z)
+
+  -- a list that is above the greatest isn't there
+  pub list-above : (es : List (K × ℕ)) (xs ys : List ℕ) → slice_cmp nat_cmp xs ys ≡ Greater → ((k : K) → IsSome (lookup (at_list (f k)) es) → is_lt (slice_cmp nat_cmp ys (f k)) ≡ false) → (i : ℕ) → Contains (read es) (xs, i) → ⊥
+  list-above es xs ys above most i c =
+      let r = contains-unmap (λ (e : K × ℕ). (f e.0, e.1)) es (xs, i) c in
+      let same : f r.0.0 ≡ xs = ap (λ (z : List ℕ × ℕ). z.0) r.2 in
+      let there : IsSome (lookup (at_list (f r.0.0)) es) = some-or (lookup (at_list (f r.0.0)) es) (λ e. absent (at_list (f r.0.0)) es e r.0.0 r.0.1 r.1 (ap is_eq (equal-self nat_list_cmp_total (f r.0.0)))) in
+      let below : slice_cmp nat_cmp ys xs ≡ Less = nat_list_cmp_total.antisymm ys xs ∙ ap ordering_reverse above in
+      let bad : true ≡ false = sym (ap is_lt below) ∙ ap (λ zs. is_lt (slice_cmp nat_cmp ys zs)) (sym same) ∙ most r.0.0 there in
+      let z : ⊥ = cc in
+      z
 
   pub list-inserted : (es fs : List (K × ℕ)) (k : K) (i : ℕ) → ((j : ℕ) → Contains (read es) (f k, j) → ⊥) → fs ≡ insert_entry (λ a b. slice_cmp nat_cmp (f a) (f b)) es k i
       → IsPermutation (read es ++ (f k, i) ∷ []) (read fs)

@@ -1,11 +1,14 @@
 //! Types, unnamed kinds and keys of functions as lists of numbers, by which ordered tables find them.
 
 ghost use Rattle.std.specs.Prelude.{◌≡◌, ◌+◌, ◌++◌, ◌∷◌, [], false, IfOk, OnOk, map};
+ghost use Rattle.std.specs.Ordering.{nat_cmp};
+ghost use Rattle.std.specs.Cmp.Lexicographic.{slice_cmp};
 ghost use Rattle.wit_model.specs.Rules.{is_named_kind};
 ghost use Rattle.encode_types.specs.Codes.{type_code as code_of, optional_code, kind_code, names_of, IsListOf, AddsParams, LacksNumber};
 
 use crate::key::FunctionKey;
 use std::alloc::{AllocError, Global};
+use std::cmp::Ordering;
 use std::collections::BTreeMap;
 use wit_model::{Handle, Param, Type, TypeDefKind, TypeId};
 
@@ -149,6 +152,13 @@ fn push_params(names: &Names, list: &mut Vec<u64>, params: &[Param]) -> Result<u
         push_param(list, *number, &param.ty)?;
     }
     Ok(params.len())
+}
+
+/// The order in which tables hold lists.
+pub(crate) fn list_order<'x>(a: &'x [u64], b: &'x [u64]) -> Ordering
+    ensures { result ≡ slice_cmp nat_cmp a.now b.now }
+{
+    Ord::cmp(&a, &b)
 }
 
 /// The list of a key: whether it is asynchronous, how many parameters it has, each by the numbers of its name and its type, and the result.

@@ -6,10 +6,11 @@ ghost use Rattle.wit_model.specs.Text.{text_of};
 ghost use Rattle.wit_model.specs.declared.error.Error.TheVariants.{Size};
 ghost use Rattle.encode_types.specs.Maps.{IsReady, IsWritten};
 
-use crate::codes::{KeyList, key_list, push_optional, push_param};
+use crate::codes::{KeyList, key_list, list_order, push_optional, push_param};
 use crate::key::FunctionKey;
 use comp_bytes::{ComponentValType, PrimitiveValType};
 use std::alloc::{AllocError, Global};
+use std::cmp::Ordering;
 use std::collections::BTreeMap;
 use wit_model::{Error, Param, Type, TypeId};
 
@@ -87,6 +88,19 @@ impl<'a> TypeEncodingMaps<'a> {
         key_list(alloc, &self.names, key)
     }
 
+    /// The index under which the list of a key is known. New names and types have greater numbers: the last list is looked at first.
+    fn index_of_list(&self, list: &[u64]) -> Option<u32>
+        ensures some { IfSome result (λ i. Contains (lists_of self.now.func_type_map) (list.now, i)) }
+        ensures none { IfNone result (LacksList (lists_of self.now.func_type_map) list.now) }
+    {
+        let (last, index) = self.func_type_map.last_key_value()?;
+        match list_order(list, last.as_slice()) {
+            Ordering::Less => self.func_type_map.get(list).copied(),
+            Ordering::Equal => Some(*index),
+            Ordering::Greater => None,
+        }
+    }
+
     /// The index under which an equal key is known, by the list of the key.
     pub(crate) fn index_of_key(&self, key: &FunctionKey, list: &KeyList) -> Option<u32>
         requires { IsListOf (names_of self.now.names) key.now list.now }
@@ -94,7 +108,7 @@ impl<'a> TypeEncodingMaps<'a> {
         ensures none { IfNone result (IsOnce self.now → LacksKey self.now key.now) }
     {
         match list {
-            KeyList::Whole(list) => self.func_type_map.get(list.as_slice()).copied(),
+            KeyList::Whole(list) => self.index_of_list(list.as_slice()),
             KeyList::Start(_, _) => None,
         }
     }

@@ -15,10 +15,11 @@ use wit_model::{InterfaceId, Resolve, Type, TypeId, TypeOwner};
 #[derive(Drop)]
 pub(crate) struct Order {
     pub(crate) numbers: Vec<u32>,
-    /// Those behind the first few, which are looked through one by one.
+    /// Those behind the first few.
     pub(crate) met: BTreeSet<u32>,
 }
 
+/// How many numbers at the start are looked through one by one.
 const FEW: usize = 8;
 
 impl Order {
