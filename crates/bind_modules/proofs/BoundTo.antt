@@ -105,6 +105,9 @@ no-bytes (b ∷ text) e = let no : ⊥ = omega (arith, e) in absurd no
 pub ends : (input rest : List ℕ) (b : Bindgen) → IsBoundTo input b rest → length rest ≡ 0 → IsBound input (binding_of b)
 ends input rest b h none = reading_ends input (binding_of b) (subst (IsReadTo input (binding_of b)) (no-bytes rest none) h.read)
 
+pub ends-reached : (input rest : List ℕ) (b : Bindgen) → IsBoundTo input b rest → length rest ≡ 0 → IsReached input b []
+ends-reached input rest b h none = subst (IsReached input b) (no-bytes rest none) h.reached
+
 -- ---- refusals
 
 pub no-module : (input : List ℕ) (e : Error) → e ≡ errors.NotAModule → IsNoModule input → RefusesBindings input e

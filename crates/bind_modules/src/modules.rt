@@ -8,7 +8,7 @@ ghost use Rattle.bind_sections.specs.Bound.{IsBound, RefusesBindings};
 ghost use Rattle.bind_sections.specs.Steps.{IsDataInFront};
 ghost use Rattle.bind_names.specs.Named.{AreNamed};
 ghost use Rattle.bind_modules.specs.BoundTo.{BeginsWithRoot, IsBoundTo};
-ghost use Rattle.bind_modules.specs.Reached.{OutgrowsLists};
+ghost use Rattle.bind_modules.specs.Reached.{IsReached, OutgrowsLists};
 
 use crate::named::{merge_named, named_by_bytes};
 use crate::sections::decode_section;
@@ -84,6 +84,7 @@ fn bindings(alloc: Global, bytes: &[u8]) -> Result<Bindgen, Error>
     ensures bound { IfOk result (λ b. IsBound bytes.now (binding_of b)) }
     ensures valid { IfOk result IsBindgen }
     ensures root { IfOk result (λ b. BeginsWithRoot b.resolve) }
+    ensures reached { IfOk result (λ b. IsReached bytes.now b []) }
     ensures refuses { IfErr result (RefusesBindings bytes.now) }
     ensures size { IfErr result (λ e. e ≡ Size → OutgrowsLists bytes.now) }
 {
@@ -116,6 +117,7 @@ pub fn decode(alloc: Global, bytes: &[u8]) -> Result<(Option<Vec<u8>>, Bindgen),
     ensures bound { IfOk result (λ x. IsBound bytes.now (binding_of x.1)) }
     ensures valid { IfOk result (λ x. IsBindgen x.1) }
     ensures root { IfOk result (λ x. BeginsWithRoot x.1.resolve) }
+    ensures reached { IfOk result (λ x. IsReached bytes.now x.1 []) }
     ensures strips { IfOk result (λ x. StripsModule bytes.now x.0) }
     ensures refuses { IfErr result (RefusesBindings bytes.now) }
     ensures size { IfErr result (λ e. e ≡ Size → OutgrowsLists bytes.now) }

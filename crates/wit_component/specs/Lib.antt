@@ -35,3 +35,4 @@ pub use Rattle.wit_metadata.specs.Modules
 pub use Rattle.wit_metadata.specs.Said
 pub use Rattle.bind_sections.specs.Bound
 pub use Rattle.bind_modules.specs.BoundTo
+pub use Rattle.bind_modules.specs.Reached

@@ -4,7 +4,7 @@ use Rattle.wit_model.specs.declared.error.Error.TheVariants as errors
 use Rattle.wit_bind.proofs.RootBindings.{roots_are_roots}
 use Rattle.bind_sections.specs.Bound.{RefusesBindings}
 use Rattle.bind_modules.specs.Reached.{OutgrowsLists}
-use Rattle.bind_modules.proofs.BoundTo.{begins, ends, less}
+use Rattle.bind_modules.proofs.BoundTo.{begins, ends, ends-reached, less}
 use Rattle.bind_modules.proofs.SectionLaws.{passed_on}
 use Rattle.bind_modules.proofs.modules.bindings.Goals as goal
 
@@ -31,3 +31,8 @@ pub returns-clause-bound : goal.returns-clause-bound
 returns-clause-bound c =
     let none : length c.loop-rest.rest.now ≡ 0 = search rules in
     ends c.args.bytes.now c.loop-rest.rest.now c.loop-rest.bound c.loop-rest.invariant.0 none
+
+pub returns-clause-reached : goal.returns-clause-reached
+returns-clause-reached c =
+    let none : length c.loop-rest.rest.now ≡ 0 = search rules in
+    ends-reached c.args.bytes.now c.loop-rest.rest.now c.loop-rest.bound c.loop-rest.invariant.0 none
