@@ -59,5 +59,7 @@ pub(crate) fn functions_of(
         let value = function_of(alloc, function)?;
         built.insert(name, value)?;
     }
+    // The least room of a map is for nine entries.
+    built.shrink_to_fit();
     Ok(built)
 }

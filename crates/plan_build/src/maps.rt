@@ -20,5 +20,7 @@ pub(crate) fn numbers_of<N: Copy>(
         let name = copied(alloc, entry.0)?;
         built.insert(name, entry.1)?;
     }
+    // The least room of a map is for nine entries.
+    built.shrink_to_fit();
     Ok(built)
 }

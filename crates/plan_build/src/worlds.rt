@@ -53,6 +53,8 @@ fn entries_of(
         let item = item_of(alloc, &entry.1)?;
         built.insert(key, item)?;
     }
+    // The least room of a map is for nine entries.
+    built.shrink_to_fit();
     Ok(built)
 }
 

@@ -3,7 +3,7 @@ use Rattle.std.proofs.lemmas.List.{take_all}
 use Rattle.std.specs.Prelude.{string_eq}
 use Rattle.wit_model.specs.Text.{text_of, text_eq}
 use Rattle.wit_model.proofs.Distinct.{text_eq_flip}
-use Rattle.plan_build.specs.PlanOf.{stated_number}
+use Rattle.plan_build.specs.PlanOf.{built_number, stated_number}
 use Rattle.plan_build.proofs.Mapping.{entry_more}
 use Rattle.plan_build.proofs.Named.{texts_differ}
 use Rattle.plan_build.proofs.maps.numbers_of.Goals as goal
@@ -17,4 +17,4 @@ loop-entry-preserved g c =
     c.in_ok-insert.ensures.entries c.in_ok-name.ensures (texts_differ (map (λ e. e.0.now) xs) ∙ apart) (c.loop-entry.invariant apart) refl
 
 pub returns : goal.returns
-returns g c = λ apart. c.loop-entry.invariant apart ∙ ap (map stated_number) (take_all c.loop-entry.entry-index c.args.entries.now c.loop-entry-test.false)
+returns g c = λ apart. ap (map (built_number {N = g.row.N.Denot})) c.shrink_to_fit.ensures.entries ∙ c.loop-entry.invariant apart ∙ ap (map stated_number) (take_all c.loop-entry.entry-index c.args.entries.now c.loop-entry-test.false)
