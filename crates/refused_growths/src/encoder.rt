@@ -6,8 +6,8 @@ ghost use Rattle.wit_model.specs.Valid.{IsValid};
 ghost use Rattle.wit_interfaces.specs.InterfaceEncoders.{interface_encoder_view};
 ghost use Rattle.refused_growths.specs.Asked.{CanBeAsked};
 
+use crate::lines::Refusal;
 use crate::probe::{begin, end};
-use crate::session::Refusal;
 use std::alloc::Global;
 use wit_component::{
     ComponentValType, Error, InterfaceEncoder, Resolve, Type, TypeDef, TypeId, encode_valtype,

@@ -7,15 +7,15 @@
 mod calls;
 mod encoder;
 mod encodings;
+mod lines;
 mod merges;
 mod no_memory;
 mod outcome;
 mod packages;
 mod probe;
-mod session;
 mod words;
 
-use session::{Refusal, answer_line};
+use lines::{Refusal, answer_line};
 use std::process::ExitCode;
 
 /// No input has more lines.

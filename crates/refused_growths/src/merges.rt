@@ -5,10 +5,10 @@ ghost use Rattle.wit_component.specs.Bindings.{IsBindgen};
 ghost use Rattle.wit_component.specs.Valid.{IsValid};
 
 use crate::encodings::sum_of_world;
+use crate::lines::Refusal;
 use crate::outcome::{Summary, word_of_answers};
 use crate::packages::whole;
 use crate::probe::{begin, end};
-use crate::session::Refusal;
 use std::alloc::Global;
 use wit_component::{
     Bindgen, Check, Error, ModuleMetadata, OutputToString, PackageId, Resolve, StringEncoding,

@@ -3,9 +3,9 @@
 ghost use Rattle.std.specs.Prelude.{◌<◌, length};
 
 use crate::encodings::sum_of_world;
+use crate::lines::Refusal;
 use crate::outcome::summary_of;
 use crate::probe::{begin, end};
-use crate::session::Refusal;
 use std::alloc::Global;
 use wit_component::{
     ComponentType, Error, FlatEncoder, Function, InstanceType, InterfaceEncoder, LendsMaps,

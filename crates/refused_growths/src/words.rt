@@ -7,10 +7,10 @@ use crate::calls::{
     carried, carried_over, checked, compared, decoded, encoded, module_decoded, printed, sensed,
     world_decoded,
 };
+use crate::lines::{Refusal, valid_whole};
 use crate::outcome::word_of;
 use crate::packages::unversioned;
 use crate::probe::{begin, end};
-use crate::session::{Refusal, valid_whole};
 use std::alloc::Global;
 use wit_component::{Error, Resolve};
 
