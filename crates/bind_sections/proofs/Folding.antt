@@ -1,5 +1,5 @@
 -- What sections bind is what comes of the bindings that their data mean, in each order.
-use Rattle.std.proofs.Common.{◌≡◌, ℕ, List, [], ◌∷◌, refl, subst}
+use Rattle.std.proofs.Common.{◌≡◌, ℕ, List, [], ◌∷◌, refl, sym, ap, subst}
 use Rattle.bind_meaning.specs.Binding.{Binding}
 use Rattle.bind_meaning.specs.ByMeaning.{binding_of_world}
 use Rattle.bind_meaning.specs.Clash.{CanUnite}
@@ -8,9 +8,11 @@ use Rattle.bind_meaning.specs.Orders as orders
 use Rattle.bind_meaning.specs.Roots.{root_binding}
 use Rattle.bind_meaning.specs.Union.{union}
 use Rattle.bind_meaning.proofs.EachOrder as each
-use Rattle.bind_sections.specs.Bound.{Binds}
-use Rattle.bind_sections.specs.Orders.{AreBindingsOf, IsDataPutInto, IsReorderedData, SectionsFold, SectionsInEachOrder}
+use Rattle.wit_metadata.specs.Modules.{Framed}
+use Rattle.bind_sections.specs.Bound.{Binds, CarryData}
+use Rattle.bind_sections.specs.Orders.{AreBindingsOf, IsDataPutInto, IsReorderedData, ModulesInEachOrder, SectionsFold, SectionsInEachOrder}
 use Rattle.bind_sections.specs.Orders as sections
+use Rattle.bind_sections.proofs.BoundLaws.{one-data, one-reading}
 
 to-fold : (a c : Binding) (ds : List (List ℕ)) → Binds a ds c → (bs : List Binding) × AreBindingsOf ds bs × Folds a bs c
 to-fold a c [] h = ([], tt, h)
@@ -55,3 +57,10 @@ sections_in_each_order ds es c same binds =
     let r = reordered ds es f.0 f.1 same in
     let g = (each.every_order_folds f.0 r.0 r.2).0 (c, f.2) in
     (g.0, from-fold root_binding g.0 es r.0 r.1 g.1, each.orders_give_the_same f.0 r.0 c g.0 r.2 f.2 g.1)
+
+pub modules_in_each_order : ModulesInEachOrder
+modules_in_each_order input other fs gs ds es c stand carry there carried same bound =
+    let read = one-reading input fs bound.sections [] [] stand bound.stand in
+    let is : ds ≡ bound.data_ = one-data bound.sections ds bound.data_ (subst (λ (xs : List Framed). CarryData xs ds) (ap (λ (r : List Framed × List ℕ). r.0) read) carry) bound.carry in
+    let found = sections_in_each_order ds es c same (subst (λ (xs : List (List ℕ)). Binds root_binding xs c) (sym is) bound.binds) in
+    (found.0, record { sections = gs; stand = there; data_ = es; carry = carried; binds = found.1 }, found.2)

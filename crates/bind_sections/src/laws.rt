@@ -1,7 +1,7 @@
 //! Laws of what a module binds, over the definitions.
 
 ghost use Rattle.bind_meaning.specs.Orders.{EveryOrderFolds, FoldsHoldTheirs, OrdersGiveTheSame, SameInEachOrder};
-ghost use Rattle.bind_sections.specs.Orders.{BindsWhereNoTwoClash, EachUnitesOrClashes, SectionsFold, SectionsInEachOrder};
+ghost use Rattle.bind_sections.specs.Orders.{BindsWhereNoTwoClash, EachUnitesOrClashes, ModulesInEachOrder, SectionsFold, SectionsInEachOrder};
 ghost use Rattle.bind_sections.specs.Steps.{LeftOversEnd, OthersArePassed, ReadingBegins, ReadingEnds, RefusalsEnd, WorldsAreBound};
 ghost use Rattle.bind_sections.specs.BoundLaws.{BoundAreBindings, BoundIsNotRefused, BoundOnce, BoundSectionsMean, OneRefusal, OneSectionBinds, SectionsAreBindings, SectionsBindTheirWorlds, SectionsMeanOnce};
 
@@ -20,6 +20,7 @@ pub fn any_order()
     ensures either { EachUnitesOrClashes }
     ensures folds { SectionsFold }
     ensures in_each_order { SectionsInEachOrder }
+    ensures modules { ModulesInEachOrder }
 {}
 
 /// A module binds one thing at most, by one world and one encoding of each section, or is refused in one way, and never both, want of memory aside.

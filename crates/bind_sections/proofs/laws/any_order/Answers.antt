@@ -26,3 +26,6 @@ returns-clause-folds c = folding.sections_fold
 
 pub returns-clause-in_each_order : goal.returns-clause-in_each_order
 returns-clause-in_each_order c = folding.sections_in_each_order
+
+pub returns-clause-modules : goal.returns-clause-modules
+returns-clause-modules c = folding.modules_in_each_order
