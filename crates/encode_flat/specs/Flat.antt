@@ -22,7 +22,7 @@ use Rattle.encode_flat.specs.declared.forms.Form.{Form}
 use Rattle.encode_flat.specs.declared.forms.Form.TheVariants as form
 use Rattle.encode_flat.specs.declared.marks.Mark.{Mark}
 use Rattle.encode_flat.specs.declared.marks.Mark.TheVariants as mark
-use Rattle.encode_flat.specs.Marked.{mark_count, slot_count}
+use Rattle.encode_flat.specs.Marked.{Imports, mark_count, slot_count}
 
 -- what a form stands for, after the slots that say S
 abbrev pub ReadsAs : Place → Pairs → Form → Standing → Type 0
@@ -84,6 +84,11 @@ forms_of e = reverse e.forms.items
 abbrev pub marks_of : FlatEncoderOf TypeEncodingMaps → List Mark
 marks_of e = e.marks
 
+-- A type of another interface that has a slot keeps it, and nothing is added. Another one gets the next slot.
+abbrev pub ImportsOnce : FlatEncoderOf TypeEncodingMaps → ℕ → FlatEncoderOf TypeEncodingMaps → Type 0
+ImportsOnce e n e' = Imports (marks_of e) n (marks_of e')
+
+-- what it holds, as a user of the encoder sees it
 abbrev pub flat_view : FlatEncoderOf TypeEncodingMaps → View
 flat_view e = record {
   scope = table_scope e.resolve.now e.owner;
