@@ -8,7 +8,7 @@ pub use bind_sections::laws::{
     any_order, bound_are_bindings, bound_once, modules_are_read_in_order, one_section_binds,
     sections_bind_their_worlds,
 };
-pub use comp_meaning::laws::one_meaning;
+pub use comp_read::laws::one_meaning;
 pub use print_grammar::laws::one_reading;
 pub use wit_compat::laws::{semver_check_counted, transitive};
 pub use wit_encode::laws::equal_lists;
