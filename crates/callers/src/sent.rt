@@ -36,7 +36,7 @@ pub fn carried(
     decode_world(alloc, &bytes)
 }
 
-/// Whether what is read so may take its own place: it may at `Ok`, and then no key of it stands twice without version.
+/// Compares what is read so with itself: at `Ok` it may take its own place, and no key of it stands twice without version.
 pub fn replaces_itself(
     alloc: Global,
     resolve: &Resolve,
@@ -51,7 +51,7 @@ pub fn replaces_itself(
     semver_check(alloc, again, number, number)
 }
 
-/// The same of the first world of a `Resolve` that is checked before, or nothing where it isn't valid or has no world.
+/// Whether a `Resolve` that was not checked is valid and has a world, the first of which is read back so and may take its own place.
 pub fn checked_and_carried(alloc: Global, resolve: &Resolve) -> Result<bool, Error>
     ensures { IfOk result (λ is. is ≡ true → IsCarriedAndReplaced resolve.now 0) }
 {
