@@ -1,5 +1,7 @@
 pub mod ReadBack
+pub mod RootBinding
 pub mod SectionBindings
+pub mod SectionOrders
 -- ---- definitions of the crates below that clauses of callers cite
 
 pub use Rattle.wit_model.specs.Lookup
@@ -24,15 +26,26 @@ pub use Rattle.print_grammar.specs.Calls
 pub use Rattle.print_grammar.specs.Reading
 pub use Rattle.print_output.specs.Render
 pub use Rattle.wit_print.specs.Shown
+pub use Rattle.bind_meaning.specs.Binding
+pub use Rattle.bind_meaning.specs.ByMeaning
+pub use Rattle.bind_meaning.specs.Clash
+pub use Rattle.bind_meaning.specs.Laws
+pub use Rattle.bind_meaning.specs.Orders
+pub use Rattle.bind_meaning.specs.Union
 pub use Rattle.wit_bind.specs.Bindings
 pub use Rattle.wit_bind.specs.Encodings
+pub use Rattle.wit_bind.specs.Extends
 pub use Rattle.wit_bind.specs.Functions
 pub use Rattle.wit_bind.specs.Keys
+pub use Rattle.wit_bind.specs.Merged
+pub use Rattle.wit_bind.specs.Merges
 pub use Rattle.wit_bind.specs.OldKeys
 pub use Rattle.wit_bind.specs.Roots
 pub use Rattle.wit_metadata.specs.Carried
 pub use Rattle.wit_metadata.specs.Modules
 pub use Rattle.wit_metadata.specs.Said
 pub use Rattle.bind_sections.specs.Bound
+pub use Rattle.bind_sections.specs.BoundLaws
+pub use Rattle.bind_sections.specs.Steps
 pub use Rattle.bind_modules.specs.BoundTo
 pub use Rattle.bind_modules.specs.Reached

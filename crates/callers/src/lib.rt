@@ -1,0 +1,8 @@
+//! What programs do with the library, one call behind the other. What comes of it is proved by the contracts of the calls alone.
+#![tactic(auto)]
+
+mod merged;
+mod sent;
+
+pub use merged::{merged_modules, merged_modules_text, merged_worlds};
+pub use sent::{carried, checked_and_carried, is_valid, replaces_itself};
