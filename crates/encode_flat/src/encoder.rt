@@ -81,6 +81,7 @@ impl<'a, M> LendsMaps<M> for FlatEncoderOf<'a, M> {
 impl<'a> ValtypeEncoder<'a> for FlatEncoderOf<'a, TypeEncodingMaps<'a>> {
     ghost use Rattle.wit_model.specs.Lookup.{place_of};
     ghost use Rattle.wit_model.specs.Types.{number_tree};
+    ghost use Rattle.encode_types.specs.Known.{ReachesAround};
     ghost use Rattle.encode_types.specs.Room.{import_of};
     ghost use Rattle.encode_types.specs.Slots.{tree};
     ghost use Rattle.encode_types.specs.View.{Grows, HoldsMore, Refuses, WritesImport};
@@ -114,6 +115,7 @@ impl<'a> ValtypeEncoder<'a> for FlatEncoderOf<'a, TypeEncodingMaps<'a>> {
     fn import_type(&mut self, _interface: InterfaceId, id: TypeId) -> Result<u32, Error>
         ensures ok { IfOk result (λ i. (flat_view self.new).stands i (tree (number_tree (flat_view self.old).scope.packages id.0))) }
         ensures grows { Grows (flat_view self.old) (flat_view self.new) }
+        ensures reaches { ReachesAround (flat_view self.old).scope.packages id (flat_view self.old).around (flat_view self.new).around }
         ensures scope_stays { (flat_view self.new).scope ≡ (flat_view self.old).scope }
         ensures maps_stay { (flat_view self.new).maps ≡ (flat_view self.old).maps }
         ensures counts { OnOk result ((flat_view self.new).definitions ≡ (flat_view self.old).definitions) }
