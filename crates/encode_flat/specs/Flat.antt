@@ -65,11 +65,11 @@ exports_more slot more before = record { types = before.types; exported = before
 -- what a form defines, in this slot, or exports
 abbrev pub defined_by : List (Text × TypeMeaning) → ℕ → Form → Definitions → Definitions
 defined_by declarations k (form.Definition d) before = one_type_more k before
-defined_by declarations k (form.Function f) before = one_function_more before
+defined_by declarations k (form.Function f) before = one_function_more k before
 defined_by declarations k x before = exports_more (exported_slot x) (exported_by declarations x) before
 
 abbrev pub flat_definitions : List (Text × TypeMeaning) → List Mark → List Form → Definitions
-flat_definitions declarations [] xs = record { types = []; exported = []; functions = 0; exports = [] }
+flat_definitions declarations [] xs = record { types = []; exported = []; functions = []; exports = [] }
 flat_definitions declarations (mark.Import n ∷ ks) xs = flat_definitions declarations ks xs
 flat_definitions declarations (mark.Form ∷ ks) [] = flat_definitions declarations ks []
 flat_definitions declarations (mark.Form ∷ ks) (x ∷ xs) = defined_by declarations (slot_count ks) x (flat_definitions declarations ks xs)

@@ -84,6 +84,7 @@ impl<'a> ValtypeEncoder<'a> for FlatEncoderOf<'a, TypeEncodingMaps<'a>> {
     ghost use Rattle.wit_model.specs.Types.{number_tree};
     ghost use Rattle.comp_bytes.specs.RawOf.{raw_name};
     ghost use Rattle.encode_types.specs.Extents.{name_extent};
+    ghost use Rattle.encode_types.specs.Known.{ReachesAround};
     ghost use Rattle.encode_types.specs.Room.{export_name, import_of};
     ghost use Rattle.encode_types.specs.Scope.{DeclaresSlot};
     ghost use Rattle.encode_types.specs.Slots.{tree};
@@ -131,6 +132,7 @@ impl<'a> ValtypeEncoder<'a> for FlatEncoderOf<'a, TypeEncodingMaps<'a>> {
     fn import_type(&mut self, _interface: InterfaceId, id: TypeId) -> Result<u32, Error>
         ensures ok { IfOk result (λ i. (flat_view self.new).stands i (tree (number_tree (flat_view self.old).scope.packages id.0))) }
         ensures grows { Grows (flat_view self.old) (flat_view self.new) }
+        ensures reaches { ReachesAround (flat_view self.old).scope.packages id (flat_view self.old).around (flat_view self.new).around }
         ensures scope_stays { (flat_view self.new).scope ≡ (flat_view self.old).scope }
         ensures maps_stay { (flat_view self.new).maps ≡ (flat_view self.old).maps }
         ensures counts { OnOk result ((flat_view self.new).definitions ≡ (flat_view self.old).definitions) }
