@@ -1,1 +1,3 @@
 mod Flows
+mod GivenTypes
+mod Printing

@@ -3,6 +3,10 @@
 
 mod merged;
 mod sent;
+mod texts;
 
-pub use merged::{merged_modules, merged_modules_text, merged_worlds};
+pub use merged::{
+    merged_modules, merged_modules_text, merged_with_root, merged_with_root_text, merged_worlds,
+};
 pub use sent::{carried, checked_and_carried, is_valid, replaces_itself};
+pub use texts::{text_of, text_of_types};
