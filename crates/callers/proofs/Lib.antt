@@ -1,3 +1,4 @@
 mod Flows
 mod GivenTypes
+mod Importing
 mod Printing
