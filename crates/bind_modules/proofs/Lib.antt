@@ -1,4 +1,5 @@
 mod SectionLaws
 mod BoundTo
 mod Reached
+mod Bare
 pub mod KnownNames

@@ -2,6 +2,7 @@
 
 ghost use Rattle.std.specs.Prelude.{◌≡◌, ◌≢◌, ◌≤◌, ◌<◌, ℕ, List, [], length, IfErr, IfOk, OnOk};
 ghost use Rattle.wit_model.specs.declared.error.Error.TheVariants.{Size};
+ghost use Rattle.plan_meaning.specs.Built.{IsBare};
 ghost use Rattle.wit_bind.specs.Bindings.{IsBindgen, binding_of};
 ghost use Rattle.wit_metadata.specs.Modules.{IsFrontData, StripsModule};
 ghost use Rattle.bind_sections.specs.Bound.{IsBound, RefusesBindings};
@@ -118,6 +119,7 @@ pub fn decode(alloc: Global, bytes: &[u8]) -> Result<(Option<Vec<u8>>, Bindgen),
     ensures valid { IfOk result (λ x. IsBindgen x.1) }
     ensures root { IfOk result (λ x. BeginsWithRoot x.1.resolve) }
     ensures reached { IfOk result (λ x. IsReached bytes.now x.1 []) }
+    ensures bare { IfOk result (λ x. IsBare x.1.resolve) }
     ensures strips { IfOk result (λ x. StripsModule bytes.now x.0) }
     ensures refuses { IfErr result (RefusesBindings bytes.now) }
     ensures size { IfErr result (λ e. e ≡ Size → OutgrowsLists bytes.now) }

@@ -6,6 +6,7 @@ pub mod DecodedKeys
 pub mod BoundWorlds
 pub mod ReadBindings
 pub mod Orders
+pub mod Folding
 pub mod Steps
 pub mod DecodeSteps
 mod ModuleExamples

@@ -1,13 +1,16 @@
 //! Laws of what a module binds, over the definitions.
 
 ghost use Rattle.bind_meaning.specs.Orders.{EveryOrderFolds, FoldsHoldTheirs, OrdersGiveTheSame, SameInEachOrder};
-ghost use Rattle.bind_sections.specs.Orders.{BindsWhereNoTwoClash, EachUnitesOrClashes};
+ghost use Rattle.bind_sections.specs.Orders.{BindsWhereNoTwoClash, EachUnitesOrClashes, ModulesInEachOrder, SectionsFold, SectionsInEachOrder};
 ghost use Rattle.bind_sections.specs.Steps.{LeftOversEnd, OthersArePassed, ReadingBegins, ReadingEnds, RefusalsEnd, WorldsAreBound};
 ghost use Rattle.bind_sections.specs.BoundLaws.{BoundAreBindings, BoundIsNotRefused, BoundOnce, BoundSectionsMean, OneRefusal, OneSectionBinds, SectionsAreBindings, SectionsBindTheirWorlds, SectionsMeanOnce};
 
 /// A list of section bindings is bound, one after the other onto the empty root world, exactly where no two of them clash in either order, the empty
 /// root world counted as one of them. What is bound has, by sense, exactly the packages, interfaces, worlds, imports, exports and encodings of its
 /// members. So a list is bound in every order or in none, and each order gives the same. Two bindings unite or clash.
+///
+/// What the sections of a module bind is what comes of the bindings that their data mean. So a module whose sections stand in another order binds the
+/// same by sense.
 pub fn any_order()
     ensures binds { BindsWhereNoTwoClash }
     ensures theirs { FoldsHoldTheirs }
@@ -15,6 +18,9 @@ pub fn any_order()
     ensures every { EveryOrderFolds }
     ensures orders { OrdersGiveTheSame }
     ensures either { EachUnitesOrClashes }
+    ensures folds { SectionsFold }
+    ensures in_each_order { SectionsInEachOrder }
+    ensures modules { ModulesInEachOrder }
 {}
 
 /// A module binds one thing at most, by one world and one encoding of each section, or is refused in one way, and never both, want of memory aside.

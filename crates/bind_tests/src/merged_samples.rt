@@ -1,15 +1,17 @@
 //! Worlds to be merged, of number 0 each.
 
+use semver::Version;
 use std::alloc::{AllocError, Global};
 use wit_component::{
     Docs, Function, FunctionKind, InterfaceId, PackageId, Resolve, Stability, Type, TypeDef,
     TypeDefKind, TypeId, TypeOwner, WorldId, WorldItem, WorldKey,
 };
 use wit_samples::drafts::{
-    NO_DOCS, add_inline, add_interface, add_package, add_unnamed, add_world, empty, export,
-    function, import, import_under, nullary, package, param, put_function, set_version, shown,
+    NO_DOCS, add_inline, add_interface, add_package, add_type, add_unnamed, add_world, empty,
+    export, function, import, import_under, nullary, package, param, put_function, set_version,
+    shown,
 };
-use wit_samples::kinds::{borrow_of, id, tuple_of};
+use wit_samples::kinds::{borrow_of, enum_of, id, tuple_of};
 use wit_samples::samples::host_and_guest;
 
 #[derive(Clone, Copy)]
@@ -26,6 +28,8 @@ pub(super) enum Sample {
     Shows,
     /// The same, with documentation of `c`.
     ShowsWithDocs,
+    /// The same, with documentation and a stability of all there is, and with an enumeration `t` in `c`.
+    ShowsWithNotes,
     /// The same with `f: func(x: list<u8>)`.
     ShowsTaken,
     /// The same of the package `a:b` of this version.
@@ -105,6 +109,71 @@ fn shows(alloc: Global, docs: Option<&str>) -> Result<Resolve, AllocError> {
     if let (Some(text), Some(interface)) = (docs, resolve.interfaces.first_mut()) {
         let contents = Some(String::from_str(alloc, text)?);
         interface.docs = Docs { contents };
+    }
+    Ok(resolve)
+}
+
+fn docs(alloc: Global, text: &str) -> Result<Docs, AllocError> {
+    let contents = Some(String::from_str(alloc, text)?);
+    Ok(Docs { contents })
+}
+
+// Since 0.2.0, and deprecated since 0.3.0 or not at all.
+fn since(is_deprecated: bool) -> Stability {
+    Stability::Stable {
+        since: Version::new(0, 2, 0),
+        deprecated: is_deprecated.then(|| Version::new(0, 3, 0)),
+    }
+}
+
+fn unstable(alloc: Global, feature: &str) -> Result<Stability, AllocError> {
+    let feature = String::from_str(alloc, feature)?;
+    Ok(Stability::Unstable {
+        feature,
+        deprecated: None,
+    })
+}
+
+// The interface `c`, stable and deprecated, with an enumeration and a function that are unstable.
+fn note_interface(alloc: Global, resolve: &mut Resolve) -> Result<(), AllocError> {
+    add_type(alloc, resolve, "t", enum_of(alloc, &["a"])?)?;
+    if let Some(def) = resolve.types.first_mut() {
+        def.docs = docs(alloc, "of t")?;
+        def.stability = unstable(alloc, "z")?;
+        if let TypeDefKind::Enum(of) = &mut def.kind {
+            if let Some(case) = of.cases.first_mut() {
+                case.docs = docs(alloc, "of a")?;
+            }
+        }
+    }
+    let mut f = taking(alloc, "f", None)?;
+    f.docs = docs(alloc, "of f")?;
+    f.stability = unstable(alloc, "y")?;
+    put_function(alloc, resolve, 0, "f", f)?;
+    if let Some(interface) = resolve.interfaces.first_mut() {
+        interface.docs = docs(alloc, "of c")?;
+        interface.stability = since(true);
+    }
+    Ok(())
+}
+
+fn shows_with_notes(alloc: Global) -> Result<Resolve, AllocError> {
+    let mut resolve = package_and_world(alloc, "a", "b", "w")?;
+    add_interface(alloc, &mut resolve, "c")?;
+    note_interface(alloc, &mut resolve)?;
+    let item = WorldItem::Interface {
+        id: InterfaceId(0),
+        stability: since(false),
+        docs: docs(alloc, "of the import")?,
+        external_id: None,
+    };
+    import_under(&mut resolve, WorldKey::Interface(InterfaceId(0)), item)?;
+    if let Some(world) = resolve.worlds.first_mut() {
+        world.docs = docs(alloc, "of w")?;
+        world.stability = unstable(alloc, "x")?;
+    }
+    if let Some(package) = resolve.packages.first_mut() {
+        package.docs = docs(alloc, "of a:b")?;
     }
     Ok(resolve)
 }
@@ -232,6 +301,7 @@ pub(super) fn sample_of(alloc: Global, sample: Sample) -> Result<Resolve, AllocE
         Sample::OtherHostTakes => other_host(alloc, Some(Type::U32)),
         Sample::Shows => shows(alloc, None),
         Sample::ShowsWithDocs => shows(alloc, Some("c")),
+        Sample::ShowsWithNotes => shows_with_notes(alloc),
         Sample::ShowsTaken => shows_taken(alloc),
         Sample::ShowsOf(major, minor) => shows_of(alloc, major, minor),
         Sample::Bar => bar(alloc),

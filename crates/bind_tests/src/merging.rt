@@ -10,8 +10,8 @@ use std::alloc::Global;
 use std::process::Abort;
 use std::test::Fail;
 use wit_component::{
-    Bindgen, Check, ClashKind, EncodingMap, Error, ModuleMetadata, OutputToString, PackageId,
-    Resolve, StringEncoding, WitPrinter, WorldId, WorldKey,
+    Bindgen, Check, ClashKind, EncodingMap, Error, InterfaceId, ModuleMetadata, OutputToString,
+    PackageId, Resolve, StringEncoding, WitPrinter, WorldId, WorldKey,
 };
 
 // ---- bindings
@@ -168,7 +168,13 @@ const FOO_TEXT: &str =
 const W_TEXT: &str =
     "package a:b;\n\ninterface c {\n  f: func();\n}\n\nworld w {\n  import c;\n}\n";
 
-static ROWS: [Row; 18] = [
+const NOTED_INTERFACE_TEXT: &str =
+    "/// of a:b\npackage a:b;\n\n/// of c\n@since(version = 0.2.0)\n@deprecated(version = 0.3.0)\ninterface c {\n  /// of t\n  @unstable(feature = z)\n  enum t {\n    /// of a\n    a,\n  }\n\n  /// of f\n  @unstable(feature = y)\n  f: func();\n}\n\n";
+
+const NOTED_WORLD_TEXT: &str =
+    "/// of w\n@unstable(feature = x)\nworld w {\n  /// of the import\n  @since(version = 0.2.0)\n  import c;\n}\n";
+
+static ROWS: [Row; 20] = [
     Row {
         first: None,
         second: Sample::Host,
@@ -238,6 +244,32 @@ static ROWS: [Row; 18] = [
             "package root:root;\n\nworld root {\n  import a:b/c;\n}\n",
             W_TEXT,
             "",
+        ],
+    },
+    Row {
+        first: None,
+        second: Sample::ShowsWithDocs,
+        encoding: UTF8,
+        outcome: "",
+        counts: [1, 2, 0],
+        encodings: NONE,
+        packages: [
+            "package root:root;\n\nworld root {\n  import a:b/c;\n}\n",
+            "package a:b;\n\n/// c\ninterface c {\n  f: func();\n}\n\nworld w {\n  import c;\n}\n",
+            "",
+        ],
+    },
+    Row {
+        first: None,
+        second: Sample::ShowsWithNotes,
+        encoding: UTF8,
+        outcome: "",
+        counts: [1, 2, 1],
+        encodings: NONE,
+        packages: [
+            "package root:root;\n\nworld root {\n  /// of the import\n  @since(version = 0.2.0)\n  import a:b/c;\n}\n",
+            NOTED_INTERFACE_TEXT,
+            NOTED_WORLD_TEXT,
         ],
     },
     Row {
@@ -433,5 +465,20 @@ fn towers(rt: HostRuntime) -> Result<(), Fail> {
     let other = binding(alloc, tower(alloc)?, UTF8)?;
     assert_eq!(rt; outcome(alloc, &mut own, other)?.as_str(), "");
     assert!(rt; counts_of(&own.resolve) == before && before[0] == 1 && before[1] == 2);
+    Ok(())
+}
+
+// Two versions of an interface keep the encodings that they came with.
+#[test]
+fn versions_with_their_encodings(rt: HostRuntime) -> Result<(), Fail> {
+    let alloc = rt.alloc();
+    let mut own = start(alloc, Some(Sample::ShowsOf(0, 1)))?;
+    let other = binding(alloc, sample_of(alloc, Sample::ShowsOf(0, 2))?, UTF16)?;
+    assert_eq!(rt; outcome(alloc, &mut own, other)?.as_str(), "");
+    let map = &own.metadata.import_encodings;
+    let first = map.get(&own.resolve, &WorldKey::Interface(InterfaceId(0)), "f");
+    let second = map.get(&own.resolve, &WorldKey::Interface(InterfaceId(1)), "f");
+    assert!(rt; first == Some(UTF8));
+    assert!(rt; second == Some(UTF16));
     Ok(())
 }

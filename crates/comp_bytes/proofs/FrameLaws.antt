@@ -76,3 +76,19 @@ front_none bytes none f front rest parts spelled =
 pub some_left : (bytes rest : List ℕ) (at : ℕ) → rest ≡ drop at bytes → false ≡ (length rest == 0) → at < length bytes
 some_left bytes [] at is empty = absurd (false≢true empty)
 some_left bytes (b ∷ rest) at is empty = let l : suc (length rest) ≡ length bytes - at = ap length is ∙ length-drop at bytes in omega (arith, l)
+
+-- the same, where the contents begin at a place that is counted from the offset
+pub record FoundBehind (bytes : List ℕ) (at start id : ℕ) (contents rest : List ℕ) : Type 0 where
+  pub fits : length rest ≤ length bytes
+  pub starts : at + start + length contents ≡ length bytes - length rest
+  pub spelled : IsFrame (id, contents) (slice_range bytes at (length bytes - length rest))
+  pub part : slice_range bytes (at + start) (length bytes - length rest) ≡ contents
+
+-- what the reader of the front says of the part from an offset on
+pub found_behind : (bytes part : List ℕ) (at start id : ℕ) (contents rest : List ℕ) → at ≤ length bytes → part ≡ drop at bytes → frame_at part ≡ Some ((id, contents), rest)
+    → start + length contents + length rest ≡ length part → FoundBehind bytes at start id contents rest
+found_behind bytes part at start id contents rest le is e begins =
+    let f = found bytes at id contents rest le (ap frame_at (sym is) ∙ e) in
+    let long : length part ≡ length bytes - at = ap length is ∙ length-drop at bytes in
+    let from : length bytes - length rest - length contents ≡ at + start = omega (arith, long, begins, le, f.fits, f.inner) in
+    record { fits = f.fits; starts = omega (arith, from, f.fits, f.inner); spelled = f.spelled; part = ap (λ n. slice_range bytes n (length bytes - length rest)) (sym from) ∙ f.part }

@@ -48,6 +48,24 @@ fn frame_of(bytes: &[u8]) -> Result<((u8, &[u8]), &[u8]), Cause>
     Ok(((*id, contents), rest))
 }
 
+/// The section in front of bytes, with its start among them, and the bytes behind it.
+fn front_of(bytes: &[u8]) -> Result<(Section<'_>, &[u8]), Cause>
+    ensures found { Gives (λ s. (s.id, s.contents.now)) result (frame_at bytes.now) }
+    ensures start { IfOk result (λ x. x.0.start + length x.0.contents.now + length x.1.now ≡ length bytes.now) }
+{
+    let ((id, contents), rest) = frame_of(bytes)?;
+    let ends = bytes.len() - rest.len();
+    let start = ends - contents.len();
+    Ok((
+        Section {
+            id,
+            contents,
+            start,
+        },
+        rest,
+    ))
+}
+
 /// The section at the offset and its end, or none at the end of the input.
 fn section_at(bytes: &[u8], at: usize) -> Result<Option<(Section<'_>, usize)>, Cause>
     requires { at ≤ length bytes.now }
@@ -57,19 +75,15 @@ fn section_at(bytes: &[u8], at: usize) -> Result<Option<(Section<'_>, usize)>, C
     if rest.is_empty() {
         return Ok(None);
     }
-    match frame_of(rest) {
-        Ok(((id, contents), after)) => {
-            let end = bytes.len() - after.len();
-            let start = end - contents.len();
-            Ok(Some((
-                Section {
-                    id,
-                    contents,
-                    start,
-                },
-                end,
-            )))
-        }
+    match front_of(rest) {
+        Ok((section, behind)) => Ok(Some((
+            Section {
+                id: section.id,
+                contents: section.contents,
+                start: at + section.start,
+            },
+            bytes.len() - behind.len(),
+        ))),
         Err(cause) => Err(cause),
     }
 }
@@ -83,19 +97,8 @@ pub fn front_section(bytes: &[u8]) -> Result<(Section<'_>, &[u8]), Error>
     ensures start { IfOk result (λ x. x.0.start + length x.0.contents.now + length x.1.now ≡ length bytes.now) }
     ensures refuses { IfErr result RefusesFront }
 {
-    match frame_of(bytes) {
-        Ok(((id, contents), rest)) => {
-            let ends = bytes.len() - rest.len();
-            let start = ends - contents.len();
-            Ok((
-                Section {
-                    id,
-                    contents,
-                    start,
-                },
-                rest,
-            ))
-        }
+    match front_of(bytes) {
+        Ok(found) => Ok(found),
         Err(cause) => Err(Error::NoReading(cause, 0)),
     }
 }

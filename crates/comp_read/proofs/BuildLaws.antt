@@ -30,6 +30,8 @@ use Rattle.plan_package.specs.PlanWhole.{owners_in, shown_first, PlansWhole}
 use Rattle.plan_package.specs.WholeInterfaces.{Home}
 use Rattle.wit_model.specs.Names.{PackageIdentity}
 use Rattle.comp_read.specs.Decoded.{HoldsFound}
+use Rattle.comp_read.specs.Order.{OthersRise}
+use Rattle.comp_read.proofs.WorldOrder.{others_rise, plan_others_rise}
 use Rattle.comp_read.specs.Planned.{IsBuiltOf, MeansFound, PlansMean}
 
 -- ---- what it holds
@@ -45,7 +47,7 @@ means_some p k at = ap (option_map (package_meaning p)) at
 both : (r : Resolve) (n : ℕ) (m : PackageMeaning) (a b : Option PackageMeaning) → a ≡ b → (Meant r n m → a ≡ Some m) × ((a ≡ Some m) → Meant r n m) → (Meant r n m → b ≡ Some m) × ((b ≡ Some m) → Meant r n m)
 both r n m a b same is = subst (λ (o : Option PackageMeaning). (Meant r n m → o ≡ Some m) × ((o ≡ Some m) → Meant r n m)) same is
 
-module _ (p : Plan) (r : Resolve) (found : Option PackageMeaning) (is : MeansFound found p) (built : IsBuildable p → IsBuilt p r) (valid : IsPlan p → IsValid r) (meant : MeansPlan p r) where
+module _ (p : Plan) (r : Resolve) (found : Option PackageMeaning) (is : MeansFound found p) (built : IsBuildable p → IsBuilt p r) (valid : IsPlan p → IsValid r) (meant : MeansPlan p r) (others : OthersRise p p.main) where
   are_built : IsBuilt p r
   are_built = built (plans_are_buildable p is.plan.plan)
 
@@ -62,6 +64,7 @@ module _ (p : Plan) (r : Resolve) (found : Option PackageMeaning) (is : MeansFou
     package_ = stands.0;
     stands = stands.1;
     alone = package_holds_alone p r is.plan are_built stands.0 stands.1;
+    listed = others_rise p r are_built p.main others;
     meaning = package_meaning p main.0;
     is = sym is.means ∙ means_some p main.0 main.1;
     meant = λ m. both r p.main m (plan_meaning p) found is.means (meant.package_ is.plan m);
@@ -154,7 +157,10 @@ module _ (t : Tables) (packages : List PackageIdentity) (homes : ℕ → Option 
   meant_found = mean is.plan is.planned is.fits
 
   pub package_built : HoldsFound found r main
-  package_built = subst (HoldsFound found r) is.main_is (holds is.plan r found meant_found is.built is.valid is.meant)
+  package_built = subst (HoldsFound found r) is.main_is (holds is.plan r found meant_found is.built is.valid is.meant others)
+    where
+      others : OthersRise is.plan is.plan.main
+      others = subst (OthersRise is.plan) (sym is.planned.main) (plan_others_rise t packages homes n ms is.plan is.planned)
 
   pub few_in_package : TypesFall t → length r.types.items ≤ length t.shapes
   few_in_package fall = few_built t fall packages homes n ms is.plan is.planned r (is.built (plans_are_buildable is.plan meant_found.plan.plan))

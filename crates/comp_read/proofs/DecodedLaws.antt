@@ -34,6 +34,7 @@ module _ (bytes : List ℕ) where
     package_ = held.package_;
     stands = held.stands;
     alone = held.alone;
+    listed = held.listed;
     meaning = held.meaning;
     read = reads held.meaning held.is;
     meant = λ m. ((λ means. reads m ((held.meant m).0 means)), (λ is. (held.meant m).1 (found m is)));
@@ -66,6 +67,7 @@ module _ (bytes : List ℕ) where
     package_ = n;
     home = held.home;
     alone = held.alone;
+    listed = held.listed;
     meaning = held.meaning;
     read = reads_world held.meaning held.is;
     meant = λ m. ((λ means. reads_world m ((held.meant m).0 means)), (λ is. (held.meant m).1 (found_world m is)));

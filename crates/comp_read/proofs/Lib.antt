@@ -12,7 +12,10 @@ pub mod Whole
 pub mod KeyLabels
 pub mod FollowedWorlds
 pub mod ReadPackages
+pub mod OwnOrder
 pub mod OwnLaws
+pub mod Rising
+pub mod WorldOrder
 pub mod OwnTrees
 pub mod OwnViews
 pub mod WorldInput

@@ -21,7 +21,8 @@ use Rattle.read_exports.specs.Members.{homes_alone, homes_in, numbered_member, n
 use Rattle.read_exports.specs.declared.members.Member.{Member}
 use Rattle.plan_laws.specs.OneWorld.{AreOwnInterfaces, IsOwnInterface, place_of_part}
 use Rattle.plan_laws.proofs.Inside.{flat_cases}
-use Rattle.comp_read.specs.OwnMembers.{AddsInterface, AddsView, AreOwnAmong, IsOfView, IsOwnAmong, another, known, new, own}
+use Rattle.comp_read.specs.OwnMembers.{AddsInterface, AddsView, AreOwnAmong, IsOfView, IsOwnAmong, StandAsShown, another, known, new, own, own_places}
+use Rattle.comp_read.proofs.OwnOrder.{filter_known, filter_new, filter_other}
 
 -- ---- lists
 
@@ -136,10 +137,11 @@ pub record IsGathered (h : Homes) (n : ℕ) (seen done : List NumberedSight) (pl
   pub of : flat_map (λ (m : NumberedMember). place_of_part m.part) ms ≡ places
   pub all : (s : NumberedSight) → Contains done s → is_of_package h n s.place ≡ true → has places s.place ≡ true
   pub once : are_once places ≡ true
+  pub order : places ≡ own_places h n done
 
 pub none_gathered : (h : Homes) (n : ℕ) (seen : List NumberedSight) (places : List ℕ) → places ≡ [] → (ms : List NumberedMember) → ms ≡ [] → IsGathered h n seen [] places ms
 none_gathered h n seen places e ms none =
-    subst (IsGathered h n seen [] places) (sym none) (record { each = tt; of = sym e; all = λ s c is. none-in s c; once = ap are_once e })
+    subst (IsGathered h n seen [] places) (sym none) (record { each = tt; of = sym e; all = λ s c is. none-in s c; once = ap are_once e; order = e })
 
 home_is_of : (h : Homes) (n p : ℕ) (label : Text) → home_at h p ≡ Some (n, label) → is_of_package h n p ≡ true
 home_is_of h n p label e = ap (λ o. option_map_or (λ (x : ℕ × Text). x.0 == n) o false) e ∙ same-number n
@@ -163,10 +165,11 @@ module _ (h : Homes) (n : ℕ) (done rest : List NumberedSight) (s : NumberedSig
       | inr same ↦ no_true (sym foreign ∙ (ap (λ (v : NumberedSight). is_of_package h n v.place) same ∙ is))
     ];
     once = g.once;
+    order = g.order ∙ sym (filter_other (is_of_package h n) (λ (u : NumberedSight). u.place) done s foreign);
   }
 
-  known_step : (places : List ℕ) (ms : List NumberedMember) → IsGathered h n seen done places ms → has places s.place ≡ true → Next places ms
-  known_step places ms g there = record {
+  known_step : (places : List ℕ) (ms : List NumberedMember) → IsGathered h n seen done places ms → is_of_package h n s.place ≡ true → has places s.place ≡ true → Next places ms
+  known_step places ms g is there = record {
     each = g.each;
     of = g.of;
     all = λ u c is. elim (next_view u c) [
@@ -174,6 +177,7 @@ module _ (h : Homes) (n : ℕ) (done rest : List NumberedSight) (s : NumberedSig
       | inr same ↦ subst (λ (v : NumberedSight). has places v.place ≡ true) same there
     ];
     once = g.once;
+    order = g.order ∙ sym (filter_known (is_of_package h n) (λ (u : NumberedSight). u.place) done s is (subst (λ (ps : List ℕ). has ps s.place ≡ true) g.order there));
   }
 
   module _ (places : List ℕ) (ms : List NumberedMember) (g : IsGathered h n seen done places ms) (label : Text) (home : home_at h s.place ≡ Some (n, label)) (m : NumberedMember) (none : has places s.place ≡ false) (is : IsOfView n label s m) where
@@ -203,10 +207,11 @@ module _ (h : Homes) (n : ℕ) (done rest : List NumberedSight) (s : NumberedSig
         | inr same ↦ contains-has (places ++ s.place ∷ []) u.place (Contains-append_right places (s.place ∷ []) u.place (subst (λ (v : NumberedSight). Contains (s.place ∷ []) v.place) same (contains-one s.place)))
       ];
       once = once_behind places s.place g.once none;
+      order = ap (λ ps. ps ++ s.place ∷ []) g.order ∙ sym (filter_new (is_of_package h n) (λ (u : NumberedSight). u.place) done s (home_is_of h n s.place label home) (subst (λ (ps : List ℕ). has ps s.place ≡ false) g.order none));
     }
 
   interface_step : (places : List ℕ) (ms : List NumberedMember) → IsGathered h n seen done places ms → (label : Text) → home_at h s.place ≡ Some (n, label) → (later : List ℕ) (more : List NumberedMember) → AddsInterface n label s places ms later more → Next later more
-  interface_step places ms g label home later more (known there) = known_step places ms g there
+  interface_step places ms g label home later more (known there) = known_step places ms g (home_is_of h n s.place label home) there
   interface_step places ms g label home later more (new m none is) = new_step places ms g label home m none is
 
   pub one_gathered : (places : List ℕ) (ms : List NumberedMember) → IsGathered h n seen done places ms → (later : List ℕ) (more : List NumberedMember) → AddsView h n s places ms later more → Next later more
@@ -227,7 +232,7 @@ module _ (h : Homes) (n : ℕ) (seen : List NumberedSight) (places : List ℕ) (
       get_any (λ (m : NumberedMember). is_interface_of q m.part) ms at.0 from.0 at.1 (part_is q from.0.part from.2)
 
   pub all_gathered : AreOwnAmong h n seen ms
-  all_gathered = record { each = g.each; all = λ s c is. any_of_place s.place (g.all s c is); once = ap are_once g.of ∙ g.once }
+  all_gathered = record { each = g.each; all = λ s c is. any_of_place s.place (g.all s c is); once = ap are_once g.of ∙ g.once; order = g.of ∙ g.order }
 
 -- ---- views that are looked at one after the other
 
@@ -260,3 +265,6 @@ module _ (t : Tables) (packages : List PackageIdentity) (homes : List (Option (�
   own_are views same ms are =
       let here = subst (λ (ss : List NumberedSight). AreOwnAmong (homes_alone homes) n ss ms) same are in
       record { each = recursion_weaker (IsOwnAmong (homes_alone homes) n (sights_of_scope t w)) (IsOwnInterface t (homes_in packages homes) n w) own_is ms here.each; all = here.all; once = here.once }
+
+  pub own_stand : (views : List NumberedSight) → views ≡ sights_of_scope t w → (ms : List NumberedMember) → AreOwnAmong (homes_alone homes) n views ms → StandAsShown t (homes_in packages homes) n w ms
+  own_stand views same ms are = (subst (λ (ss : List NumberedSight). AreOwnAmong (homes_alone homes) n ss ms) same are).order

@@ -21,10 +21,13 @@ use Rattle.plan_build.specs.MeansPlan.{MeansPlan}
 use Rattle.plan_build.proofs.BuildableLaws.{plans_are_buildable}
 use Rattle.read_exports.specs.declared.members.Member.{Member}
 use Rattle.plan_types.specs.Used.{TypesFall}
+use Rattle.plan_package.specs.PlanWhole.{PlansWhole}
 use Rattle.plan_package.specs.WholeInterfaces.{Home}
 use Rattle.comp_read.specs.DecodedWorlds.{HoldsWorldFound}
 use Rattle.comp_read.specs.Planned.{IsBuiltOf, MeansWorldFound, WorldPlansMean}
+use Rattle.comp_read.specs.Order.{PackagesRise}
 use Rattle.comp_read.proofs.BuildLaws.{few_built}
+use Rattle.comp_read.proofs.WorldOrder.{built_rise}
 
 id_is : (n : ℕ) (o : Option ℕ) → is_id n o ≡ true → o ≡ Some n
 id_is n None e = let wrong : false ≡ true = e in absurd cc
@@ -33,7 +36,7 @@ id_is n (Some m) e = ap Some (eqb-true m n e)
 both : (r : Resolve) (m : WorldPackage) (a b : Option WorldPackage) → a ≡ b → (MeantWorld r 0 m → a ≡ Some m) × ((a ≡ Some m) → MeantWorld r 0 m) → (MeantWorld r 0 m → b ≡ Some m) × ((b ≡ Some m) → MeantWorld r 0 m)
 both r m a b same is = subst (λ (o : Option WorldPackage). (MeantWorld r 0 m → o ≡ Some m) × ((o ≡ Some m) → MeantWorld r 0 m)) same is
 
-module _ (p : Plan) (r : Resolve) (found : Option WorldPackage) (is : MeansWorldFound found p) (built : IsBuildable p → IsBuilt p r) (valid : IsPlan p → IsValid r) (meant : MeansPlan p r) where
+module _ (p : Plan) (r : Resolve) (found : Option WorldPackage) (is : MeansWorldFound found p) (built : IsBuildable p → IsBuilt p r) (valid : IsPlan p → IsValid r) (meant : MeansPlan p r) (rises : PackagesRise p) where
   are_built : IsBuilt p r
   are_built = built (plans_are_buildable p is.plan.plan)
 
@@ -49,6 +52,7 @@ module _ (p : Plan) (r : Resolve) (found : Option WorldPackage) (is : MeansWorld
     stands = stands.1;
     home = ap (λ (w : PlannedWorld). w.package_) stands.2 ∙ id_is p.main is.plan.world.package_ is.plan.home;
     alone = world_holds_alone p r is.plan are_built stands.0 stands.1;
+    listed = built_rise p r are_built rises;
     meaning = is.meaning;
     is = is.is;
     meant = λ m. both r m (plan_world_meaning p) found is.means (meant.world is.plan m);
@@ -60,8 +64,8 @@ module _ (t : Tables) (packages : List PackageIdentity) (homes : ℕ → Option 
   meant_found : MeansWorldFound found is.plan
   meant_found = mean is.plan is.planned is.fits
 
-  pub world_built : HoldsWorldFound found r main
-  world_built = subst (HoldsWorldFound found r) is.main_is (holds_world is.plan r found meant_found is.built is.valid is.meant)
+  pub world_built : ((p : Plan) → PlansWhole t packages homes n ms p → PackagesRise p) → HoldsWorldFound found r main
+  world_built rises = subst (HoldsWorldFound found r) is.main_is (holds_world is.plan r found meant_found is.built is.valid is.meant (rises is.plan is.planned))
 
   pub few_in_world : TypesFall t → length r.types.items ≤ length t.shapes
   few_in_world fall = few_built t fall packages homes n ms is.plan is.planned r (is.built (plans_are_buildable is.plan meant_found.plan.plan))

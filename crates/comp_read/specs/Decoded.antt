@@ -16,31 +16,34 @@ use Rattle.read_follow.specs.declared.refusal.Refusal.{Refusal}
 use Rattle.read_follow.specs.declared.refusal.Refusal.TheVariants as refusals
 use Rattle.plan_meaning.specs.Built.{IsBare}
 use Rattle.plan_meaning.specs.NothingElse.{HoldsPackageAlone}
+use Rattle.comp_read.specs.Order.{OthersListByNumber}
 
 -- what bytes mean, by what their sections do
 abbrev pub package_found : List ℕ → Option PackageMeaning
 package_found bytes = levels_of bytes >>= package_of_pieces
 
 -- The `Resolve` is valid, without documentation and with no stability known; its package of this number means just what was found, and nothing stands
--- there beyond that.
+-- there beyond that. Each other package lists its interfaces in the order of their numbers.
 pub record HoldsFound (found : Option PackageMeaning) (r : Resolve) (n : ℕ) : Type 0 where
   pub valid : IsValid r
   pub bare : IsBare r
   pub package_ : Package
   pub stands : package_at r n ≡ Some package_
   pub alone : HoldsPackageAlone r n package_
+  pub listed : OthersListByNumber r n
   pub meaning : PackageMeaning
   pub is : found ≡ Some meaning
   pub meant : (m : PackageMeaning) → Meant r n m ↔ (found ≡ Some m)
 
 -- The bytes mean a package, and the `Resolve` is valid, without documentation and with no stability known; its package of this number means just what
--- they do, nothing stands there beyond that, and it has no more types than there are bytes.
+-- they do, nothing stands there beyond that, each other package lists its interfaces in the order of their numbers, and there are no more types than bytes.
 pub record IsDecoded (bytes : List ℕ) (r : Resolve) (n : ℕ) : Type 0 where
   pub valid : IsValid r
   pub bare : IsBare r
   pub package_ : Package
   pub stands : package_at r n ≡ Some package_
   pub alone : HoldsPackageAlone r n package_
+  pub listed : OthersListByNumber r n
   pub meaning : PackageMeaning
   pub read : Reads bytes meaning
   pub meant : (m : PackageMeaning) → Meant r n m ↔ Reads bytes m

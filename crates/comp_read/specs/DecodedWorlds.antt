@@ -14,6 +14,7 @@ use Rattle.comp_meaning.specs.ByLevels.{world_of_pieces}
 use Rattle.comp_meaning.specs.Reads.{ReadsWorld}
 use Rattle.plan_meaning.specs.Built.{IsBare}
 use Rattle.plan_meaning.specs.NothingElse.{HoldsWorldAlone}
+use Rattle.comp_read.specs.Order.{ListByNumber}
 
 -- what bytes mean as one world, by what their sections do
 abbrev pub world_found : List ℕ → Option WorldPackage
@@ -24,7 +25,7 @@ abbrev pub package_of : World → Option ℕ
 package_of w = option_map (λ id. id.0) w.package
 
 -- The `Resolve` is valid, without documentation and with no stability known; its world of number 0, in the package of this number, means just what was
--- found, and nothing stands there beyond that.
+-- found, and nothing stands there beyond that. Each package lists its interfaces in the order of their numbers.
 pub record HoldsWorldFound (found : Option WorldPackage) (r : Resolve) (n : ℕ) : Type 0 where
   pub valid : IsValid r
   pub bare : IsBare r
@@ -32,12 +33,14 @@ pub record HoldsWorldFound (found : Option WorldPackage) (r : Resolve) (n : ℕ)
   pub stands : world_at r 0 ≡ Some world
   pub home : package_of world ≡ Some n
   pub alone : HoldsWorldAlone r n world
+  pub listed : ListByNumber r
   pub meaning : WorldPackage
   pub is : found ≡ Some meaning
   pub meant : (m : WorldPackage) → MeantWorld r 0 m ↔ (found ≡ Some m)
 
 -- The bytes mean one world, and the `Resolve` is valid, without documentation and with no stability known; its world of this number, which is 0, means
--- just what they do, nothing stands there beyond that, and it has no more types than there are bytes.
+-- just what they do, nothing stands there beyond that, each package lists its interfaces in the order of their numbers, and there are no more types than
+-- bytes.
 pub record IsDecodedWorld (bytes : List ℕ) (r : Resolve) (n : ℕ) : Type 0 where
   pub first : n ≡ 0
   pub valid : IsValid r
@@ -47,6 +50,7 @@ pub record IsDecodedWorld (bytes : List ℕ) (r : Resolve) (n : ℕ) : Type 0 wh
   pub package_ : ℕ
   pub home : package_of world ≡ Some package_
   pub alone : HoldsWorldAlone r package_ world
+  pub listed : ListByNumber r
   pub meaning : WorldPackage
   pub read : ReadsWorld bytes meaning
   pub meant : (m : WorldPackage) → MeantWorld r n m ↔ ReadsWorld bytes m

@@ -4,6 +4,8 @@ pub mod FollowedWorlds
 pub mod ReadPackages
 pub mod OwnMembers
 pub mod ReadWorlds
+pub mod Order
+pub mod Causes
 pub mod Decoded
 pub mod DecodedWorlds
 pub mod MembersRead

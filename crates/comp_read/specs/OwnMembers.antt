@@ -1,11 +1,11 @@
 -- The interfaces of a package that views show, each once, as it is seen first (WIT.md, "Worlds"; Component Model WIT.md, "Package Format").
-use Rattle.std.specs.Prelude.{◌≡◌, ℕ, true, false, List, [], ◌∷◌, ◌++◌, Option, Some, None}
-use Rattle.std.specs.List.{AllByRecursion, Contains, flat_map, list_any}
+use Rattle.std.specs.Prelude.{◌≡◌, ℕ, true, false, List, [], ◌∷◌, ◌++◌, map, Option, Some, None}
+use Rattle.std.specs.List.{AllByRecursion, Contains, filter, flat_map, list_any}
 use Rattle.wit_model.specs.Text.{Text}
-use Rattle.wit_model.specs.Uses.{has}
+use Rattle.wit_model.specs.Uses.{has, once as each_once}
 use Rattle.plan_meaning.specs.NumberedMembers.{Homes, NumberedMember, home_at, interface, is_interface_of, is_of_package}
-use Rattle.plan_meaning.specs.NumberedViews.{NumberedSight, NumberedView, first_at}
-use Rattle.plan_meaning.specs.NumberedWorlds.{are_once}
+use Rattle.plan_meaning.specs.NumberedViews.{NumberedSight, NumberedView, Tables, first_at}
+use Rattle.plan_meaning.specs.NumberedWorlds.{NumberedScope, are_once, sights_of_scope}
 use Rattle.plan_laws.specs.OneWorld.{place_of_part}
 
 -- ---- all views
@@ -21,11 +21,24 @@ pub record IsOwnAmong (h : Homes) (n : ℕ) (seen : List NumberedSight) (m : Num
   pub shown : first_at place seen ≡ Some first
   pub is : first.view ≡ view
 
--- All that are seen, each once.
+-- the places of the package among these views, each where it is seen first
+abbrev pub own_places : Homes → ℕ → List NumberedSight → List ℕ
+own_places h n seen = each_once (filter (is_of_package h n) (map (λ s. s.place) seen))
+
+-- the places of the interfaces
+abbrev pub places_of : List NumberedMember → List ℕ
+places_of ms = flat_map (λ m. place_of_part m.part) ms
+
+-- All that are seen, each once, in the order in which they are seen first.
 pub record AreOwnAmong (h : Homes) (n : ℕ) (seen : List NumberedSight) (ms : List NumberedMember) : Type 0 where
   pub each : AllByRecursion (IsOwnAmong h n seen) ms
   pub all : (s : NumberedSight) → Contains seen s → is_of_package h n s.place ≡ true → list_any (λ m. is_interface_of s.place m.part) ms ≡ true
   pub once : are_once (flat_map (λ m. place_of_part m.part) ms) ≡ true
+  pub order : places_of ms ≡ own_places h n seen
+
+-- the interfaces of the package stand in the order in which the world shows them first
+abbrev pub StandAsShown : Tables → Homes → ℕ → NumberedScope → List NumberedMember → Type 0
+StandAsShown t h n w ms = places_of ms ≡ own_places h n (sights_of_scope t w)
 
 -- ---- one view
 

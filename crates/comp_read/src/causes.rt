@@ -1,8 +1,10 @@
 //! Why what was read is no package, or no world by itself.
 
-ghost use Rattle.std.specs.Prelude.{List, Some};
+ghost use Rattle.std.specs.Prelude.{◌≡◌, List, Some, IfOk};
+ghost use Rattle.wit_model.specs.declared.error.Cause.TheVariants.{Disagree};
 ghost use Rattle.comp_bytes.specs.Levels.{Piece};
 ghost use Rattle.read_members.specs.ReadMembers.{Because};
+ghost use Rattle.comp_read.specs.Causes.{cause_by_depth, cause_by_views, has_deep, views_agree};
 ghost use Rattle.comp_read.specs.declared.wanted.Wanted.{Wanted};
 ghost use Rattle.comp_read.specs.WantedFound.{MeansNone};
 
@@ -14,7 +16,9 @@ use std::alloc::{AllocError, Global};
 use wit_model::Cause;
 
 /// Whether a type has more levels than a type may have.
-fn has_deep_type(tables: &Tables<'_>) -> bool {
+fn has_deep_type(tables: &Tables<'_>) -> bool
+    ensures { result ≡ has_deep tables.now.facts.now }
+{
     for fact in tables.facts {
         if fact.levels > 100 {
             return true;
@@ -28,7 +32,9 @@ pub(crate) fn cause_among(
     alloc: Global,
     tables: &Tables<'_>,
     members: &[Member<'_>],
-) -> Result<Cause, AllocError> {
+) -> Result<Cause, AllocError>
+    ensures { IfOk result (λ cause. cause ≡ cause_by_views (views_agree tables.now members.now)) }
+{
     let sights = sights_of_members(alloc, tables, members)?;
     if agree(alloc, &sights)? {
         Ok(Cause::NotWit)
@@ -39,7 +45,10 @@ pub(crate) fn cause_among(
 
 /// Why what was read over these tables is no package, or no world, where members that were read say this: views that differ, a type that is too deep, or else
 /// another fault.
-fn cause_over(tables: &Tables<'_>, cause: Cause) -> Cause {
+fn cause_over(tables: &Tables<'_>, cause: Cause) -> Cause
+    ensures differ { cause ≡ Disagree → result ≡ Disagree }
+    ensures other { (cause ≡ Disagree → ⊥) → result ≡ cause_by_depth (has_deep tables.now.facts.now) }
+{
     if cause == Cause::Disagree {
         cause
     } else if has_deep_type(tables) {

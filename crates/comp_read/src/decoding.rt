@@ -38,14 +38,14 @@ fn error_of(refusal: Refusal, length: usize) -> Error
 /// The package that the bytes of a component mean (Component Model WIT.md, "Package Format"), and its number in the `Resolve`.
 ///
 /// The `Resolve` is valid, has no documentation and no known stability, and nothing beyond what the package means: its own interfaces and
-/// worlds in the order of the exports at the top, and of other packages the interfaces that are seen, with the functions of the first view
-/// that shows some. It has no more types than there are bytes.
+/// worlds in the order of the exports at the top, and of other packages the interfaces that are seen, in the order of their numbers, with the functions
+/// of the first view that shows some. It has no more types than there are bytes.
 ///
 /// Takes time linear in the bytes, expected, or n log n where types are used of an interface that shows more than a few, and memory linear in what is
 /// declared. Refuses with `NoReading` exactly where the bytes mean no package, at an offset that is at most their length: with the cause of
 /// `component_of` or `follow_parts`, and else, at the end of the bytes, `Disagree` where views of an interface differ, `TooDeep` where a type has
-/// more than 100 levels, or `NotWit`. Else refuses with `Memory`: for want of memory, or where there are more types, interfaces, worlds or packages than
-/// numbers of 32 bits count, each of which takes a byte at least, so that there are 2^32 bytes or more.
+/// more than 100 levels, or `NotWit`. Else refuses with `Memory`, for want of memory: what is numbered by 32 bits takes a byte at least, and `component_of`
+/// refuses 2^32 bytes.
 pub fn decode(alloc: Global, bytes: &[u8]) -> Result<(Resolve, PackageId), Error>
     ensures decoded { IfOk result (λ x. IsDecoded bytes.now x.0 x.1.0) }
     ensures refuses { IfErr result (RefusesBytes bytes.now) }

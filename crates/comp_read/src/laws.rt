@@ -24,6 +24,8 @@ ghost use Rattle.comp_read.specs.ReadPackages.{
 };
 ghost use Rattle.comp_read.specs.ReadWorlds.{ReadWorldIsWhole, ReadWorldPlansAreMeant};
 
+pub use comp_meaning::laws::one_meaning;
+
 /// Each part at the top that was read is well-formed.
 pub fn read_members_stand()
     ensures { ReadMembersStand }

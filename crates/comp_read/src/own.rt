@@ -8,7 +8,7 @@ ghost use Rattle.read_rules.specs.Scopes.{numbered_scope};
 ghost use Rattle.read_rules.specs.Sights.{numbered_sight};
 ghost use Rattle.read_rules.specs.Tables.{numbered_tables};
 ghost use Rattle.plan_laws.specs.OneWorld.{AreOwnInterfaces};
-ghost use Rattle.comp_read.specs.OwnMembers.{AddsInterface, AddsView, AreOwnAmong, IsNameIn};
+ghost use Rattle.comp_read.specs.OwnMembers.{AddsInterface, AddsView, AreOwnAmong, IsNameIn, StandAsShown};
 
 use indexmap::IndexSet;
 use read_exports::{Member, Part, home_at};
@@ -102,7 +102,8 @@ pub fn own_interfaces<'a>(
     package_number: usize,
     scope: Scope<'a>,
 ) -> Result<Vec<Member<'a>>, AllocError>
-    ensures { (packages : List PackageIdentity) → IfOk result (λ own. AreOwnInterfaces (numbered_tables tables.now) (homes_in packages homes.now) package_number (numbered_scope scope.entry) (numbered_members own.items)) }
+    ensures own { (packages : List PackageIdentity) → IfOk result (λ own. AreOwnInterfaces (numbered_tables tables.now) (homes_in packages homes.now) package_number (numbered_scope scope.entry) (numbered_members own.items)) }
+    ensures order { (packages : List PackageIdentity) → IfOk result (λ own. StandAsShown (numbered_tables tables.now) (homes_in packages homes.now) package_number (numbered_scope scope.entry) (numbered_members own.items)) }
 {
     let sights = sights_of_scope(alloc, tables, scope)?;
     interfaces_among(alloc, homes, package_number, &sights)

@@ -2,12 +2,14 @@
 
 ghost use Rattle.std.specs.Prelude.{◌≡◌, ◌≤◌, List, length, map, IfErr, IfOk, None};
 ghost use Rattle.wit_model.specs.Names.{PackageIdentity};
+ghost use Rattle.wit_model.specs.declared.error.Cause.TheVariants.{NotWit};
 ghost use Rattle.comp_bytes.specs.Levels.{Piece as RawPiece};
 ghost use Rattle.comp_meaning.specs.ByLevels.{world_of_pieces};
 ghost use Rattle.read_parts.specs.Input.{IsFollowed};
 ghost use Rattle.read_exports.specs.Members.{homes_in};
 ghost use Rattle.read_rules.specs.Tables.{known_in, numbered_tables};
 ghost use Rattle.read_members.specs.ReadMembers.{lent_member, Because};
+ghost use Rattle.comp_read.specs.Causes.{cause_by_views, views_agree};
 ghost use Rattle.comp_read.specs.DecodedWorlds.{HoldsWorldFound};
 ghost use Rattle.comp_read.specs.MembersRead.{AreReadOf};
 ghost use Rattle.comp_read.specs.Planned.{IsMemory};
@@ -73,7 +75,10 @@ fn cause_of_no_world(
     alloc: Global,
     tables: &Tables<'_>,
     members: &[Member<'_>],
-) -> Result<Cause, AllocError> {
+) -> Result<Cause, AllocError>
+    ensures one { length members.now ≡ 1 → IfOk result (λ cause. cause ≡ cause_by_views (views_agree tables.now members.now)) }
+    ensures other { (length members.now ≡ 1 → ⊥) → IfOk result (λ cause. cause ≡ NotWit) }
+{
     match one_member(members) {
         Some(_) => cause_among(alloc, tables, members),
         None => Ok(Cause::NotWit),

@@ -62,8 +62,8 @@ definition-added (Ok i) declarations ks ks' old new def h = rw h.1 (rw (reversed
 definition-added (Err e) declarations ks ks' old new def h = h
 
 pub function-added : {E : Type 0} (res : Result ℕ E) (declarations : List (Text × TypeMeaning)) (ks ks' : List Mark) (old new : List Form) (def : ComponentFuncType) → IfOk res (AddsForm ks old (form.Function def) ks' new)
-    → OnOk res (flat_definitions declarations ks' (reverse new) ≡ one_function_more (flat_definitions declarations ks (reverse old)))
-function-added (Ok i) declarations ks ks' old new def h = rw h.1 (rw (reversed old new (form.Function def) h.2) refl)
+    → IfOk res (λ i. flat_definitions declarations ks' (reverse new) ≡ one_function_more i (flat_definitions declarations ks (reverse old)))
+function-added (Ok i) declarations ks ks' old new def h = rw h.1 (rw (reversed old new (form.Function def) h.2) (ap (λ (k : ℕ). one_function_more k (flat_definitions declarations ks (reverse old))) (sym h.0)))
 function-added (Err e) declarations ks ks' old new def h = h
 
 -- ---- names

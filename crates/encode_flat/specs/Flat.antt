@@ -22,7 +22,7 @@ use Rattle.encode_flat.specs.declared.forms.Form.{Form}
 use Rattle.encode_flat.specs.declared.forms.Form.TheVariants as form
 use Rattle.encode_flat.specs.declared.marks.Mark.{Mark}
 use Rattle.encode_flat.specs.declared.marks.Mark.TheVariants as mark
-use Rattle.encode_flat.specs.Marked.{mark_count, slot_count}
+use Rattle.encode_flat.specs.Marked.{Imports, mark_count, slot_count}
 
 -- what a form stands for, after the slots that say S
 abbrev pub ReadsAs : Place → Pairs → Form → Standing → Type 0
@@ -65,11 +65,11 @@ exports_more slot more before = record { types = before.types; exported = before
 -- what a form defines, in this slot, or exports
 abbrev pub defined_by : List (Text × TypeMeaning) → ℕ → Form → Definitions → Definitions
 defined_by declarations k (form.Definition d) before = one_type_more k before
-defined_by declarations k (form.Function f) before = one_function_more before
+defined_by declarations k (form.Function f) before = one_function_more k before
 defined_by declarations k x before = exports_more (exported_slot x) (exported_by declarations x) before
 
 abbrev pub flat_definitions : List (Text × TypeMeaning) → List Mark → List Form → Definitions
-flat_definitions declarations [] xs = record { types = []; exported = []; functions = 0; exports = [] }
+flat_definitions declarations [] xs = record { types = []; exported = []; functions = []; exports = [] }
 flat_definitions declarations (mark.Import n ∷ ks) xs = flat_definitions declarations ks xs
 flat_definitions declarations (mark.Form ∷ ks) [] = flat_definitions declarations ks []
 flat_definitions declarations (mark.Form ∷ ks) (x ∷ xs) = defined_by declarations (slot_count ks) x (flat_definitions declarations ks xs)
@@ -84,6 +84,11 @@ forms_of e = reverse e.forms.items
 abbrev pub marks_of : FlatEncoderOf TypeEncodingMaps → List Mark
 marks_of e = e.marks
 
+-- A type of another interface that has a slot keeps it, and nothing is added. Another one gets the next slot.
+abbrev pub ImportsOnce : FlatEncoderOf TypeEncodingMaps → ℕ → FlatEncoderOf TypeEncodingMaps → Type 0
+ImportsOnce e n e' = Imports (marks_of e) n (marks_of e')
+
+-- what it holds, as a user of the encoder sees it
 abbrev pub flat_view : FlatEncoderOf TypeEncodingMaps → View
 flat_view e = record {
   scope = table_scope e.resolve.now e.owner;

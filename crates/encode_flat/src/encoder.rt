@@ -1,7 +1,7 @@
 //! The encoder, and that it keeps the law.
 
 ghost use Rattle.std.proofs.Common.{rules, refl};
-ghost use Rattle.std.specs.Prelude.{◌≡◌, ◌+◌, ◌^◌, ◌++◌, ◌∷◌, [], nat_lt, false, Err, IfOk, OnErr, OnOk, IfErr};
+ghost use Rattle.std.specs.Prelude.{◌≡◌, ◌+◌, ◌^◌, ◌++◌, ◌∷◌, [], nat_lt, false, None, Some, Err, IfOk, OnErr, OnOk, IfErr};
 ghost use Rattle.wit_model.specs.declared.error.Error.TheVariants.{Size};
 ghost use Rattle.comp_bytes.specs.Refusal.{IsMemoryOrSize};
 ghost use Rattle.encode_flat.specs.declared.forms.Form.TheVariants as form;
@@ -80,12 +80,16 @@ impl<'a, M> LendsMaps<M> for FlatEncoderOf<'a, M> {
 
 impl<'a> ValtypeEncoder<'a> for FlatEncoderOf<'a, TypeEncodingMaps<'a>> {
     ghost use Rattle.wit_model.specs.Lookup.{place_of};
+    ghost use Rattle.wit_model.specs.Tree.{named};
     ghost use Rattle.wit_model.specs.Types.{number_tree};
-    ghost use Rattle.encode_types.specs.Room.{import_of};
+    ghost use Rattle.comp_bytes.specs.RawOf.{raw_name};
+    ghost use Rattle.encode_types.specs.Extents.{name_extent};
+    ghost use Rattle.encode_types.specs.Known.{ReachesAround};
+    ghost use Rattle.encode_types.specs.Room.{export_name, import_of};
+    ghost use Rattle.encode_types.specs.Scope.{DeclaresSlot};
     ghost use Rattle.encode_types.specs.Slots.{tree};
-    ghost use Rattle.encode_types.specs.View.{Grows, HoldsMore, Refuses, WritesImport};
-    ghost use Rattle.encode_flat.specs.Flat.{flat_view, flat-in_range, forms_of, marks_of};
-    ghost use Rattle.encode_flat.specs.Marked.{Imports};
+    ghost use Rattle.encode_types.specs.View.{Exports, ExportsName, Grows, HoldsMore, Refuses, Writes, WritesImport};
+    ghost use Rattle.encode_flat.specs.Flat.{ImportsOnce, flat_view, flat-in_range, forms_of};
 
     ghost view = { λ e. flat_view e };
 
@@ -97,11 +101,25 @@ impl<'a> ValtypeEncoder<'a> for FlatEncoderOf<'a, TypeEncodingMaps<'a>> {
         add_form(&mut self.forms, &mut self.marks, Form::Function(def))
     }
 
+    /// The name is one more name of the type's slot. It takes no slot, so the answer is `None`.
     fn export_type(
         &mut self,
         index: u32,
         name: ComponentExternName<'a>,
-    ) -> Result<Option<u32>, Error> {
+    ) -> Result<Option<u32>, Error>
+        requires { DeclaresSlot (flat_view self.old).scope (flat_view self.old).stands (raw_name name) index }
+        ensures ok { IfOk result (Exports (flat_view self.old) (flat_view self.new) index (named (flat_view self.old).scope.place (raw_name name.entry).text)) }
+        ensures grows { Grows (flat_view self.old) (flat_view self.new) }
+        ensures scope_stays { (flat_view self.new).scope ≡ (flat_view self.old).scope }
+        ensures around_stays { (flat_view self.new).around ≡ (flat_view self.old).around }
+        ensures maps_stay { (flat_view self.new).maps ≡ (flat_view self.old).maps }
+        ensures counts { OnOk result (ExportsName (flat_view self.old) (flat_view self.new) (Some index) (raw_name name.entry)) }
+        ensures held { HoldsMore 1 (flat_view self.old) (flat_view self.new) }
+        ensures written { OnOk result (Writes (name_extent (raw_name name.entry)) (flat_view self.old) (flat_view self.new)) }
+        ensures size { result ≡ Err Size → Refuses (flat_view self.old) (flat_view self.new) (export_name (raw_name name.entry)) }
+        ensures refuses { IfErr result IsMemoryOrSize }
+        ensures none { IfOk result (λ slot. slot ≡ None) }
+    {
         add_name(&mut self.forms, &mut self.marks, index, name)?;
         Ok(None)
     }
@@ -114,6 +132,7 @@ impl<'a> ValtypeEncoder<'a> for FlatEncoderOf<'a, TypeEncodingMaps<'a>> {
     fn import_type(&mut self, _interface: InterfaceId, id: TypeId) -> Result<u32, Error>
         ensures ok { IfOk result (λ i. (flat_view self.new).stands i (tree (number_tree (flat_view self.old).scope.packages id.0))) }
         ensures grows { Grows (flat_view self.old) (flat_view self.new) }
+        ensures reaches { ReachesAround (flat_view self.old).scope.packages id (flat_view self.old).around (flat_view self.new).around }
         ensures scope_stays { (flat_view self.new).scope ≡ (flat_view self.old).scope }
         ensures maps_stay { (flat_view self.new).maps ≡ (flat_view self.old).maps }
         ensures counts { OnOk result ((flat_view self.new).definitions ≡ (flat_view self.old).definitions) }
@@ -121,7 +140,7 @@ impl<'a> ValtypeEncoder<'a> for FlatEncoderOf<'a, TypeEncodingMaps<'a>> {
         ensures written { OnOk result (WritesImport (flat_view self.old) (flat_view self.new) id.0) }
         ensures size { result ≡ Err Size → Refuses (flat_view self.old) (flat_view self.new) (import_of id.0) }
         ensures refuses { IfErr result IsMemoryOrSize }
-        ensures once { OnOk result (Imports (marks_of self.old) id.0 (marks_of self.new)) }
+        ensures once { OnOk result (ImportsOnce self.old id.0 self.new) }
     {
         self.marks.import(id.0)
     }

@@ -1,5 +1,5 @@
 -- Types of functions by their keys.
-use Rattle.std.proofs.Common.{◌≡◌, refl, sym, subst, ap, ℕ, ◌+◌, List, [], ◌∷◌, ◌++◌, inl, inr, map, Result, Ok, Err, IfOk, option_map, length, arith, Vec, Bool, Option}
+use Rattle.std.proofs.Common.{◌≡◌, refl, sym, subst, ap, ◌∙◌, ℕ, List, [], ◌∷◌, ◌++◌, inl, inr, map, Result, Ok, Err, IfOk, option_map, Vec, Bool, Option}
 use Rattle.std.specs.Prelude.{IsPermutation}
 use Rattle.std.specs.Borrow.{Bor}
 use Rattle.std.specs.declared.alloc.Global.{Global}
@@ -25,7 +25,7 @@ use Rattle.encode_types.specs.Distinct.{KnowsKey, key_of}
 use Rattle.wit_model.specs.Lookup.{is_async}
 use Rattle.wit_model.specs.declared.model.Param.{Param}
 use Rattle.encode_types.specs.Counts.{SameKeys, Definitions, one_function_more, AddsTypes, AddsFunction}
-use Rattle.encode_types.proofs.Defining.{shows-none, shows-trans, lists-longer}
+use Rattle.encode_types.proofs.Defining.{shows-none, shows-trans}
 use Rattle.encode_types.proofs.Marking.{slots-none, slots-then}
 
 pub ok-map : {A E : Type 0} (x : Result A E) (P Q : A → Type 0) → ((a : A) → P a → Q a) → IfOk x P → IfOk x Q
@@ -64,19 +64,17 @@ encode-right r scope scope' xs ys e c =
 
 -- ---- counts
 
-pub counts-key : (r : Resolve) (scope : Scope) (m m₁ m' : TypeEncodingMaps) (d d₁ d' : Definitions) (key : FunctionKey) (i : ℕ) → LacksKey m key → AddsTypes r scope m m₁ d d₁ → LearnsKey m₁ m' key i → d' ≡ one_function_more d₁ → AddsFunction r scope m m' d d' key i
+pub counts-key : (r : Resolve) (scope : Scope) (m m₁ m' : TypeEncodingMaps) (d d₁ d' : Definitions) (key : FunctionKey) (i : ℕ) → LacksKey m key → AddsTypes r scope m m₁ d d₁ → LearnsKey m₁ m' key i → d' ≡ one_function_more i d₁ → AddsFunction r scope m m' d d' key i
 counts-key r scope m m₁ m' d d₁ d' key i lacks a l e =
-    let f : d'.functions ≡ d₁.functions + 1 = ap (λ (z : Definitions). z.functions) e in
-    let f₁ : d₁.functions ≡ d.functions = a.functions in
+    let f : d'.functions ≡ d.functions ++ i ∷ [] = ap (λ (z : Definitions). z.functions) e ∙ ap (λ (xs : List ℕ). xs ++ i ∷ []) a.functions in
     let rest = slots-none r scope m₁ m' d₁ d' l.rest.numbers l.rest.kinds (ap (λ (z : Definitions). z.types) e) (ap (λ (z : Definitions). z.exported) e) in
     let more : IsPermutation (lists_of m.func_type_map ++ (l.list, i) ∷ []) (lists_of m'.func_type_map) =
     subst (λ (es : List (Vec ℕ Global × ℕ)). IsPermutation (map {B = List ℕ × ℕ} (λ e. (e.0.items, e.1)) es ++ (l.list, i) ∷ []) (lists_of m'.func_type_map)) a.keys.lists l.more in
-    let many : length m'.func_type_map.entries ≡ length m.func_type_map.entries + 1 = lists-longer (λ (v : Vec ℕ Global). v.items) m.func_type_map.entries m'.func_type_map.entries (l.list, i) more in
     let grow : NamesGrow (names_of m.names) (names_of m'.names) = subst (λ (ns : List (Bor Text × ℕ)). NamesGrow (map {B = Text × ℕ} (λ e. (e.0.now, e.1)) ns) (names_of m'.names)) a.keys.names_ l.grow in
-    record { slots = slots-then a.slots rest; functions = omega arith; keys = inr (lacks, record { grow = grow; list = l.list; is = l.is; more = more }); shows = shows-trans a.shows (shows-none r scope m₁ m' d₁ d' l.rest.numbers (ap (λ (z : Definitions). z.exports) e)) }
+    record { slots = slots-then a.slots rest; keys = inr (lacks, record { grow = grow; list = l.list; is = l.is; more = more }, f); shows = shows-trans a.shows (shows-none r scope m₁ m' d₁ d' l.rest.numbers (ap (λ (z : Definitions). z.exports) e)) }
 
 pub counts-known : (r : Resolve) (scope : Scope) (m : TypeEncodingMaps) (d : Definitions) (key : FunctionKey) (i : ℕ) → HasKey m key i → AddsFunction r scope m m d d key i
-counts-known r scope m d key i h = record { slots = slots-none r scope m m d d refl refl refl refl; functions = refl; keys = inl (h, record { lists = refl; names_ = refl }); shows = shows-none r scope m m d d refl refl }
+counts-known r scope m d key i h = record { slots = slots-none r scope m m d d refl refl refl refl; keys = inl (h, record { lists = refl; names_ = refl }, refl); shows = shows-none r scope m m d d refl refl }
 
 pub lacks-same : (m m' : TypeEncodingMaps) (key : FunctionKey) → SameKeys m m' → LacksKey m key → LacksKey m' key
 lacks-same m m' key e l i h = l i (

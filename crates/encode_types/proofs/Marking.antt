@@ -13,7 +13,7 @@ use Rattle.encode_types.specs.declared.maps.TypeEncodingMaps.{TypeEncodingMaps}
 use Rattle.encode_types.specs.Codes.{lists_of}
 use Rattle.encode_types.specs.Maps.{LearnsNumber, LearnsList}
 use Rattle.encode_types.specs.Scope.{Scope}
-use Rattle.encode_types.specs.Counts.{Definitions, Marked, slots_of, named_slots, other_slots, kind_slots, names_defined, is_defined_by_name, type_more_if, IsTarget, AddsSlots}
+use Rattle.encode_types.specs.Counts.{Definitions, Marked, slots_of, named_slots, other_slots, kind_slots, key_slots, names_defined, is_defined_by_name, type_more_if, IsTarget, AddsSlots}
 use Rattle.encode_types.proofs.Lists.{none-in}
 use Rattle.wit_model.proofs.Elements.{one-contained}
 
@@ -41,6 +41,16 @@ one-kind-more m m' xs i l =
     let p : IsPermutation (map (λ e. e.1) (lists_of m.def_to_index ++ (xs, i) ∷ [])) (map (λ e. e.1) (lists_of m'.def_to_index)) = IsPermutation-map (λ (e : List ℕ × ℕ). e.1) _ _ l.more in
     subst (λ ys. IsPermutation ys (kind_slots m')) (map-append (λ (e : List ℕ × ℕ). e.1) (lists_of m.def_to_index) ((xs, i) ∷ []) ∙ ap (λ ys. ys ++ i ∷ []) (slot-lists m.def_to_index.entries))
     (subst (λ ys. IsPermutation (map (λ (e : List ℕ × ℕ). e.1) (lists_of m.def_to_index ++ (xs, i) ∷ [])) ys) (slot-lists m'.def_to_index.entries) p)
+
+-- the keys of functions, likewise
+pub same-keys : (m m' : TypeEncodingMaps) → m'.func_type_map.entries ≡ m.func_type_map.entries → IsPermutation (key_slots m ++ []) (key_slots m')
+same-keys m m' e = subst (λ (es : List (Vec ℕ Global × ℕ)). IsPermutation (key_slots m ++ []) (map (λ e. e.1) es)) (sym e) (subst (λ xs. IsPermutation xs (key_slots m)) (sym (append-nil (key_slots m))) (IsPermutation-refl (key_slots m)))
+
+pub one-key-more : (m m' : TypeEncodingMaps) (xs : List ℕ) (i : ℕ) → IsPermutation (lists_of m.func_type_map ++ (xs, i) ∷ []) (lists_of m'.func_type_map) → IsPermutation (key_slots m ++ i ∷ []) (key_slots m')
+one-key-more m m' xs i more =
+    let p : IsPermutation (map (λ e. e.1) (lists_of m.func_type_map ++ (xs, i) ∷ [])) (map (λ e. e.1) (lists_of m'.func_type_map)) = IsPermutation-map (λ (e : List ℕ × ℕ). e.1) _ _ more in
+    subst (λ ys. IsPermutation ys (key_slots m')) (map-append (λ (e : List ℕ × ℕ). e.1) (lists_of m.func_type_map) ((xs, i) ∷ []) ∙ ap (λ ys. ys ++ i ∷ []) (slot-lists m.func_type_map.entries))
+    (subst (λ ys. IsPermutation (map (λ (e : List ℕ × ℕ). e.1) (lists_of m.func_type_map ++ (xs, i) ∷ [])) ys) (slot-lists m'.func_type_map.entries) p)
 
 pub count-push : {X : Type 0} (p : X → Bool) (xs : List X) (x : X) → count_by p (xs ++ x ∷ []) ≡ count_by p xs + cond (p x) 1 0
 count-push p xs x = sum_by-append (λ y. cond (p y) 1 0) xs (x ∷ []) ∙ ap (λ n. count_by p xs + n) (zero-add (cond (p x) 1 0))

@@ -1,9 +1,24 @@
 -- The order in which types are defined, made step by step.
-use Rattle.std.proofs.Common.{◌≡◌, refl, sym, subst, ap, ◌∙◌, ℕ, ◌+◌, ◌<◌, ◌≤◌, List, [], ◌∷◌, ◌++◌, ◌⊎◌, inl, inr, Option, Some, None, length, take, get_or, arith, length-append, below_more, true, false, nat_lt, T, ltb→lt, filter_map}
+use Rattle.std.proofs.Common.{◌≡◌, refl, sym, subst, ap, ◌∙◌, ℕ, ◌+◌, ◌<◌, ◌≤◌, List, [], ◌∷◌, ◌++◌, ◌⊎◌, inl, inr, Option, Some, None, length, take, get_or, arith, length-append, below_more, true, false, nat_lt, T, ltb→lt, filter_map, Bool, nat_eq, zero, suc, ◌||◌, cond, drop, Decides}
 use Rattle.std.specs.Prelude.{slice_index, option_to_list}
 use Rattle.std.specs.Option.{is_some}
-use Rattle.std.specs.List.{Contains}
-use Rattle.std.proofs.lemmas.List.{take_more, take_all, take-append-le, take_at, get_or_append_left}
+use Rattle.std.specs.List.{Contains, IsDistinct}
+use Rattle.std.specs.List.{list_any}
+use Rattle.std.specs.Set.{is_member}
+use Rattle.std.specs.BTreeSet.{contains}
+use Rattle.std.specs.BTreeMap.{is_at}
+use Rattle.std.specs.Ordering.{nat_cmp, is_eq}
+use Rattle.std.proofs.lemmas.Bool.{eq-eqb}
+use Rattle.std.proofs.lemmas.Cmp.{nat_cmp_total}
+use Rattle.std.proofs.lemmas.Map.Lookups.{exact_unsigned}
+use Rattle.encode_types.proofs.Tables.{equal-is, equal-self}
+use Rattle.encode_types.proofs.Lists.{none-in}
+use Rattle.std.proofs.lemmas.List.Elements.{Contains-append_right, Contains-append_cases}
+use Rattle.std.proofs.lemmas.Cmp.{nat_eq_equiv}
+use Rattle.std.proofs.lemmas.Map.Keys.{IsDistinct-push}
+use Rattle.std.proofs.lemmas.Map.Made.{is_member-Decides}
+use Rattle.std.proofs.lemmas.Bool.Decides.{Decides-eqb}
+use Rattle.std.proofs.lemmas.List.{take_more, take_all, take-append-le, take_at, get_or_append_left, take-append-drop, drop_all, drop-append-le}
 use Rattle.std.proofs.Math.Seq.{get_or-append_seam}
 use Rattle.std.proofs.lemmas.List.Elements.{Contains-append_left, Contains-push_cases, Contains-push}
 use Rattle.wit_model.specs.Lookup.{type_at}
@@ -23,7 +38,7 @@ use Rattle.encode_types.specs.declared.maps.TypeEncodingMaps.{TypeEncodingMaps}
 use Rattle.encode_types.specs.declared.plan.Order.{Order}
 use Rattle.encode_types.specs.Kinds.{parts_of}
 use Rattle.encode_types.specs.Maps.{IsKnown}
-use Rattle.encode_types.specs.Plan.{foreign_owner, Meets, at_once, further, IsLayered, PartsStand, IsOrdered, MetStand, Stands, IsPlanned, IsOrderOf, rank}
+use Rattle.encode_types.specs.Plan.{foreign_owner, Meets, at_once, further, IsLayered, PartsStand, IsOrdered, AreMet, Stands, IsPlanned, IsOrderOf, rank}
 use Rattle.encode_types.proofs.Lists.{contains-one}
 use Rattle.wit_model.proofs.Elements.{contains-filter_map, one-contained, all-contained}
 
@@ -63,15 +78,83 @@ pub rank_below : (n : ℕ) (p : ValueType) → ((id : TypeId) → p ≡ ty.Id id
 rank_below n (ty.Id id) h = (let l : id.0 < n = h id refl in omega arith)
 rank_below n _ h = omega arith
 
+-- ---- numbers of a list
+
+pub lacks-member : (xs : List ℕ) (n : ℕ) → (Contains xs n → ⊥) → is_member nat_eq xs n ≡ false
+lacks-member xs n h = by (is_member nat_eq xs n) refl
+  where
+    by : (b : Bool) → is_member nat_eq xs n ≡ b → is_member nat_eq xs n ≡ false
+    by false e = e
+    by true e = absurd (h ((is_member-Decides Decides-eqb xs n).0 e))
+
+found-first : (xs : List ℕ) (n : ℕ) → Contains xs n → list_any (λ y. nat_eq y n) xs ≡ true
+found-first [] n (i, l, e) = absurd (omega (arith, l))
+found-first (x ∷ xs) n (zero, l, e) = ap (λ b. b || list_any (λ y. nat_eq y n) xs) (eq-eqb x n e)
+found-first (x ∷ xs) n (suc i, l, e) = or-second (nat_eq x n) (list_any (λ y. nat_eq y n) xs) (found-first xs n (i, omega (arith, l), e))
+  where
+    or-second : (a b : Bool) → b ≡ true → (a || b) ≡ true
+    or-second true b h = refl
+    or-second false b h = h
+
+-- what doesn't stand among the first stands where it is met
+pub met-decides : (order : Order) (front : List ℕ) (n : ℕ) → AreMet order → front ≡ take 8 order.numbers.items → list_any (λ y. nat_eq y n) front ≡ false → Decides (contains nat_cmp order.met n) (Contains order.numbers.items n)
+met-decides order front n met is lacks = (
+  λ h. subst (λ xs. Contains xs n) (take-append-drop 8 order.numbers.items) (Contains-append_right (take 8 order.numbers.items) (drop 8 order.numbers.items) n ((met n).0 h)),
+  λ c. elim (Contains-append_cases (take 8 order.numbers.items) (drop 8 order.numbers.items) n (subst (λ xs. Contains xs n) (sym (take-append-drop 8 order.numbers.items)) c)) [
+    | inl a ↦ absurd (let e : list_any (λ y. nat_eq y n) front ≡ true = found-first front n (subst (λ xs. Contains xs n) (sym is) a) in let z : ⊥ = cc in z)
+    | inr b ↦ (met n).1 b
+  ],
+)
+
+-- a number more: among the first, or met
+pub met-few : (order after : Order) (n : ℕ) → AreMet order → after.numbers.items ≡ order.numbers.items ++ n ∷ [] → length after.numbers.items ≤ 8 → after.met ≡ order.met → AreMet after
+met-few order after n met is few same q = (
+  λ h. let c = (met q).0 (ap (λ s. contains nat_cmp s q) (sym same) ∙ h) in none-in q (subst (λ xs. Contains xs q) (drop_all 8 order.numbers.items (let l = length-append order.numbers.items (n ∷ []) in let e : length after.numbers.items ≡ length (order.numbers.items ++ n ∷ []) = ap length is in omega (arith, few, l, e))) c),
+  λ c. none-in q (subst (λ xs. Contains xs q) (drop_all 8 after.numbers.items few) c),
+)
+
+pub met-more : (order after : Order) (n : ℕ) → AreMet order → after.numbers.items ≡ order.numbers.items ++ n ∷ [] → 8 < length after.numbers.items → ((q : ℕ) → contains nat_cmp after.met q ≡ cond (is_at (nat_cmp n) q) true (contains nat_cmp order.met q)) → AreMet after
+met-more order after n met is many adds q = by (is_at (nat_cmp n) q) refl
+  where
+    l : 8 ≤ length order.numbers.items
+    l = let a = length-append order.numbers.items (n ∷ []) in let e : length after.numbers.items ≡ length (order.numbers.items ++ n ∷ []) = ap length is in omega (arith, many, a, e)
+
+    rest : drop 8 after.numbers.items ≡ drop 8 order.numbers.items ++ n ∷ []
+    rest = ap (drop 8) is ∙ drop-append-le 8 order.numbers.items (n ∷ []) l
+
+    by : (b : Bool) → is_at (nat_cmp n) q ≡ b → Decides (contains nat_cmp after.met q) (Contains (drop 8 after.numbers.items) q)
+    by true e = (
+      λ h. subst (λ xs. Contains xs q) (sym rest) (subst (λ (m : ℕ). Contains (drop 8 order.numbers.items ++ n ∷ []) m) (exact_unsigned n q (equal-is _ e)) (Contains-push (drop 8 order.numbers.items) n)),
+      λ c. adds q ∙ ap (λ b. cond b true (contains nat_cmp order.met q)) e,
+    )
+    by false e = (
+      λ h. subst (λ xs. Contains xs q) (sym rest) (Contains-append_left (drop 8 order.numbers.items) (n ∷ []) q ((met q).0 (sym (adds q ∙ ap (λ b. cond b true (contains nat_cmp order.met q)) e) ∙ h))),
+      λ c. adds q ∙ ap (λ b. cond b true (contains nat_cmp order.met q)) e ∙ elim (Contains-push_cases (drop 8 order.numbers.items) n q (subst (λ xs. Contains xs q) rest c)) [
+        | inl a ↦ (met q).1 a
+        | inr same ↦ absurd (let t : is_at (nat_cmp n) q ≡ true = subst (λ (m : ℕ). is_at (nat_cmp n) m ≡ true) same (ap is_eq (equal-self nat_cmp_total n)) in let z : ⊥ = cc in z)
+      ],
+    )
+
+pub lacks-now : (b : Bool) (xs : List ℕ) (n : ℕ) → Decides b (Contains xs n) → b ≡ false → Contains xs n → ⊥
+lacks-now b xs n d e c = let t : b ≡ true = d.1 c in let z : ⊥ = cc in z
+
+none-twice : IsDistinct nat_eq []
+unfolding IsDistinct
+none-twice = tt
+
 -- ---- the order
 
 module _ (r : Resolve) (own : Option InterfaceId) (m : TypeEncodingMaps) where
-  pub planned-start : (order : Order) (ts : List ValueType) → IsOrdered r own m order.numbers.items → MetStand m order → IsPlanned r own m order.numbers.items ts 0 order
-  planned-start order ts o met = record {
-    kept = λ n h. h;
-    added = λ n h. inl h;
-    ordered = o;
-    met = met;
+  pub planned-none : (order : Order) (ts : List ValueType) → order.numbers.items ≡ [] → order.met.keys ≡ [] → IsPlanned r own m [] ts 0 order
+  planned-none order ts e none = record {
+    kept = λ n h. none-in n h;
+    added = λ n h. none-in n (subst (λ (xs : List ℕ). Contains xs n) e h);
+    ordered = λ k l. absurd (let z : length order.numbers.items ≡ 0 = ap length e in omega (arith, l, z));
+    met = λ n. (
+      λ h. absurd (let f : contains nat_cmp order.met n ≡ false = ap (list_any (is_at (nat_cmp n))) none in let z : ⊥ = cc in z),
+      λ c. none-in n (subst (λ (xs : List ℕ). Contains (drop 8 xs) n) e c),
+    );
+    once = subst (λ (xs : List ℕ). IsDistinct nat_eq xs) (sym e) none-twice;
     stands = λ t h. absurd (omega (arith, h.1));
   }
 
@@ -87,6 +170,7 @@ module _ (r : Resolve) (own : Option InterfaceId) (m : TypeEncodingMaps) where
     ];
     ordered = p.ordered;
     met = p.met;
+    once = p.once;
     stands = λ t h. elim (Contains-push_cases _ _ _ (subst (λ (xs : List ValueType). Contains xs t) (take_more ts i d lt) h)) [
       | inl q ↦ (λ id e. elim (w.stands t q id e) [ inl k ↦ inl k | inr c ↦ inr (p.kept id.0 c) ])
       | inr e' ↦ (λ id e. p.stands (get_or ts i d) (contains-one (get_or ts i d)) id (e' ∙ e))
@@ -104,9 +188,9 @@ module _ (r : Resolve) (own : Option InterfaceId) (m : TypeEncodingMaps) where
   stands-one : (order : List ℕ) (x : ValueType) → Stands m order x → (t : ValueType) → Contains (x ∷ []) t → Stands m order t
   stands-one order x s t c id e = s id (one-contained x t c ∙ e)
 
-  pub planned-push : (before a : List ℕ) (after : Order) (id : TypeId) → (IsKnown m id.0 → ⊥) → after.numbers.items ≡ a ++ id.0 ∷ [] → MetStand m after → ((n : ℕ) → Contains before n → Contains a n) → ((n : ℕ) → Contains a n → Contains before n ⊎ Meets r own m (ty.Id id) n) → IsOrdered r own m a → PartsStand r own m a id.0
-      → IsPlanned r own m before (ty.Id id ∷ []) 1 after
-  planned-push before a after id lacks is met kept added o p = record {
+  pub planned-push : (before a : List ℕ) (after : Order) (id : TypeId) → (IsKnown m id.0 → ⊥) → after.numbers.items ≡ a ++ id.0 ∷ [] → AreMet after → ((n : ℕ) → Contains before n → Contains a n) → ((n : ℕ) → Contains a n → Contains before n ⊎ Meets r own m (ty.Id id) n) → IsOrdered r own m a → PartsStand r own m a id.0
+      → IsDistinct nat_eq a → (Contains a id.0 → ⊥) → IsPlanned r own m before (ty.Id id ∷ []) 1 after
+  planned-push before a after id lacks is met kept added o p once new = record {
     kept = λ n h. subst (λ (xs : List ℕ). Contains xs n) (sym is) (Contains-append_left a _ n (kept n h));
     added = λ n h. elim (Contains-push_cases a id.0 n (subst (λ (xs : List ℕ). Contains xs n) is h)) [
       | inl q ↦ elim (added n q) [ inl b ↦ inl b | inr re ↦ inr (ty.Id id, contains-one (ty.Id id), re) ]
@@ -114,17 +198,27 @@ module _ (r : Resolve) (own : Option InterfaceId) (m : TypeEncodingMaps) where
     ];
     ordered = subst (λ (xs : List ℕ). IsOrdered r own m xs) (sym is) (ordered-push a id.0 o p);
     met = met;
+    once = subst (λ (xs : List ℕ). IsDistinct nat_eq xs) (sym is) (IsDistinct-push nat_eq_equiv a id.0 once (lacks-member a id.0 new));
     stands = stands-one after.numbers.items (ty.Id id) (λ id' e. inr (let e' : id ≡ id' = cc in subst (λ (x : TypeId). Contains after.numbers.items x.0) e' (subst (λ (xs : List ℕ). Contains xs id.0) (sym is) (Contains-push a id.0))));
   }
 
-  pub planned-foreign : (before : List ℕ) (after : Order) (id : TypeId) (def : TypeDef) → (IsKnown m id.0 → ⊥) → after.numbers.items ≡ before ++ id.0 ∷ [] → MetStand m after → IsOrdered r own m before → type_at r id.0 ≡ Some def → is_some (foreign_owner own def.owner) ≡ true
-      → IsPlanned r own m before (ty.Id id ∷ []) 1 after
-  planned-foreign before after id def lacks is met o at f = planned-push before before after id lacks is met (λ n h. h) (λ n h. inl h) o
+  pub planned-foreign : (before : List ℕ) (after : Order) (id : TypeId) (def : TypeDef) → (IsKnown m id.0 → ⊥) → after.numbers.items ≡ before ++ id.0 ∷ [] → AreMet after → IsOrdered r own m before → type_at r id.0 ≡ Some def → is_some (foreign_owner own def.owner) ≡ true
+      → IsDistinct nat_eq before → (Contains before id.0 → ⊥) → IsPlanned r own m before (ty.Id id ∷ []) 1 after
+  planned-foreign before after id def lacks is met o at f once new = planned-push before before after id lacks is met (λ n h. h) (λ n h. inl h) o
       (λ def' p at' f' c. let e : def ≡ def' = cc in let bad : true ≡ false = sym f ∙ ap (λ (x : TypeDef). is_some (foreign_owner own x.owner)) e ∙ ap is_some f' in absurd (let z : ⊥ = cc in z))
+      once new
 
-  pub planned-own : (before : List ℕ) (mid after : Order) (id : TypeId) (def : TypeDef) (ts : List ValueType) (i : ℕ) → (IsKnown m id.0 → ⊥) → after.numbers.items ≡ mid.numbers.items ++ id.0 ∷ [] → MetStand m after → type_at r id.0 ≡ Some def → is_some (foreign_owner own def.owner) ≡ false → ts ≡ parts_of def.kind → length ts ≤ i
-      → IsPlanned r own m before ts i mid → IsPlanned r own m before (ty.Id id ∷ []) 1 after
-  planned-own before mid after id def ts i lacks is met at f e le w =
+  -- what is met on the way down from a type is no larger
+  meets-below : IsLayered r → (t : ValueType) (n : ℕ) → Meets r own m t n → n < rank t
+  meets-below l _ _ (at_once id lacks) = omega arith
+  meets-below l _ _ (further id def t n lacks at f c p) =
+      let below = meets-below l t n p in
+      let fall = rank_below id.0 t (λ id' e. part-smaller r l id.0 def id' at (subst (λ (x : ValueType). Contains (parts_of def.kind) x) e c)) in
+      omega arith
+
+  pub planned-own : (before : List ℕ) (mid after : Order) (id : TypeId) (def : TypeDef) (ts : List ValueType) (i : ℕ) → (IsKnown m id.0 → ⊥) → after.numbers.items ≡ mid.numbers.items ++ id.0 ∷ [] → AreMet after → type_at r id.0 ≡ Some def → is_some (foreign_owner own def.owner) ≡ false → ts ≡ parts_of def.kind → length ts ≤ i
+      → IsLayered r → (Contains before id.0 → ⊥) → IsPlanned r own m before ts i mid → IsPlanned r own m before (ty.Id id ∷ []) 1 after
+  planned-own before mid after id def ts i lacks is met at f e le l new w =
       planned-push before mid.numbers.items after id lacks is met w.kept
       (λ n h. elim (w.added n h) [
         | inl q ↦ inl q
@@ -133,14 +227,24 @@ module _ (r : Resolve) (own : Option InterfaceId) (m : TypeEncodingMaps) where
       w.ordered
       (λ def' p at' f' c. let d : def ≡ def' = cc in
       w.stands (ty.Id p) (subst (λ (xs : List ValueType). Contains xs (ty.Id p)) (ap (λ (x : TypeDef). parts_of x.kind) (sym d) ∙ sym e ∙ sym (take_all i ts le)) c) p refl)
+      w.once
+      (λ h. elim (w.added id.0 h) [
+        | inl q ↦ new q
+        | inr q ↦ (
+            let part : Contains (parts_of def.kind) q.0 = subst (λ (xs : List ValueType). Contains xs q.0) (take_all i ts le ∙ e) q.1 in
+            let below : id.0 < rank q.0 = meets-below l q.0 id.0 q.2 in
+            let fall : rank q.0 < id.0 + 1 = rank_below id.0 q.0 (λ id' e'. part-smaller r l id.0 def id' at (subst (λ (x : ValueType). Contains (parts_of def.kind) x) e' part)) in
+            let z : ⊥ = omega arith in z)
+      ])
 
   -- nothing has to be added
-  pub planned-there : (order : Order) (before : List ℕ) (t : ValueType) → order.numbers.items ≡ before → IsOrdered r own m before → MetStand m order → Stands m before t → IsPlanned r own m before (t ∷ []) 1 order
-  planned-there order before t is o met s = record {
+  pub planned-there : (order : Order) (before : List ℕ) (t : ValueType) → order.numbers.items ≡ before → IsOrdered r own m before → AreMet order → IsDistinct nat_eq before → Stands m before t → IsPlanned r own m before (t ∷ []) 1 order
+  planned-there order before t is o met once s = record {
     kept = λ n h. subst (λ (xs : List ℕ). Contains xs n) (sym is) h;
     added = λ n h. inl (subst (λ (xs : List ℕ). Contains xs n) is h);
     ordered = subst (λ (xs : List ℕ). IsOrdered r own m xs) (sym is) o;
     met = met;
+    once = subst (λ (xs : List ℕ). IsDistinct nat_eq xs) (sym is) once;
     stands = stands-one order.numbers.items t (subst (λ (xs : List ℕ). Stands m xs t) (sym is) s);
   }
 
@@ -154,5 +258,6 @@ module _ (r : Resolve) (own : Option InterfaceId) (m : TypeEncodingMaps) where
       | inr q ↦ (q.0, subst (λ (xs : List ValueType). Contains xs q.0) (take_all i ts le) q.1, q.2)
     ];
     ordered = subst (λ (xs : List ℕ). IsOrdered r own m xs) (sym s) p.ordered;
+    once = subst (λ (xs : List ℕ). IsDistinct nat_eq xs) (sym s) p.once;
     stands = λ t c. subst (λ (xs : List ℕ). Stands m xs t) (sym s) (p.stands t (subst (λ (xs : List ValueType). Contains xs t) (sym (take_all i ts le)) c));
   }

@@ -19,20 +19,21 @@ use Rattle.encode_types.specs.Maps.{HasKey, LacksKey, NamesGrow}
 use Rattle.encode_types.specs.Plan.{foreign_owner}
 use Rattle.encode_types.specs.Scope.{Scope, exported_name}
 
--- the slots of the value types that have been defined in a scope, in order, and those that have been exported under a name, in order; how
--- many types of functions have been defined; and which declarations have been exported, in order
+-- the slots of the value types that have been defined in a scope, those that have been exported under a name, and those of the types of
+-- functions that have been defined, each in order; and which declarations have been exported, in order
 pub record Definitions : Type 0 where
   pub types : List ℕ
   pub exported : List ℕ
-  pub functions : ℕ
+  pub functions : List ℕ
   pub exports : List (Text × TypeMeaning)
 
 -- a value type has been defined in slot i
 abbrev pub one_type_more : ℕ → Definitions → Definitions
 one_type_more i d = record { types = d.types ++ i ∷ []; exported = d.exported; functions = d.functions; exports = d.exports }
 
-abbrev pub one_function_more : Definitions → Definitions
-one_function_more d = record { types = d.types; exported = d.exported; functions = d.functions + 1; exports = d.exports }
+-- the type of a function has been defined in slot i
+abbrev pub one_function_more : ℕ → Definitions → Definitions
+one_function_more i d = record { types = d.types; exported = d.exported; functions = d.functions ++ i ∷ []; exports = d.exports }
 
 -- the same where this holds
 abbrev pub type_more_if : Bool → ℕ → Definitions → Definitions
@@ -104,6 +105,10 @@ other_slots xs = slots_of (filter (λ x. not x.0) xs)
 abbrev pub kind_slots : TypeEncodingMaps → List ℕ
 kind_slots m = map (λ e. e.1) m.def_to_index.entries
 
+-- the slots of the keys of functions that are known
+abbrev pub key_slots : TypeEncodingMaps → List ℕ
+key_slots m = map (λ e. e.1) m.func_type_map.entries
+
 -- a slot is that of a type number which a named type is another name of
 pub record IsTarget (r : Resolve) (m : TypeEncodingMaps) (i : ℕ) : Type 0 where
   pub number : ℕ
@@ -134,9 +139,9 @@ pub record AddsTypes (r : Resolve) (scope : Scope) (m m' : TypeEncodingMaps) (d 
   pub keys : SameKeys m m'
   pub shows : Shows r scope m m' d d'
 
--- The key of a function was in the maps already, or is there now at a new index. What has been defined is what the maps have learnt.
+-- The key of a function was in the maps already, and no type of a function has been defined; or the key is there now at a new index, in which
+-- its type has been defined, and no other. What else has been defined is what the maps have learnt.
 pub record AddsFunction (r : Resolve) (scope : Scope) (m m' : TypeEncodingMaps) (d d' : Definitions) (key : FunctionKey) (i : ℕ) : Type 0 where
   pub slots : AddsSlots r scope m m' d d'
-  pub functions : d'.functions + length m.func_type_map.entries ≡ d.functions + length m'.func_type_map.entries
-  pub keys : (HasKey m key i × SameKeys m m') ⊎ (LacksKey m key × AddsKey m m' key i)
+  pub keys : (HasKey m key i × SameKeys m m' × (d'.functions ≡ d.functions)) ⊎ (LacksKey m key × AddsKey m m' key i × (d'.functions ≡ d.functions ++ i ∷ []))
   pub shows : Shows r scope m m' d d'

@@ -1,14 +1,17 @@
 -- What the declarations of an instance type or a component type define: each function type and each unnamed kind once.
-use Rattle.std.specs.Prelude.{ℕ, ◌≡◌, ◌+◌, ◌&&◌, ◌⊎◌, ◌++◌, ◌∷◌, [], Bool, true, false, cond, nat_eq, List, map, filter, length, count_by, option_to_list, IsPermutation, Option, Some, None}
+use Rattle.std.specs.Prelude.{ℕ, ◌≡◌, ◌+◌, ◌&&◌, ◌⊎◌, ◌++◌, ◌∷◌, [], Bool, true, false, cond, nat_eq, List, map, filter, length, count_by, option_to_list, option_map, IsPermutation, Option, Some, None}
 use Rattle.std.specs.List.{IsDistinct, Contains, AllZip}
 use Rattle.std.specs.Option.{option_eq, option_map_or, is_some, is_none}
 use Rattle.std.specs.Set.{is_member, distinct_count}
 use Rattle.std.specs.Cmp.Lexicographic.{pointwise}
 use mathlib.Core.Bool.{beq}
-use Rattle.comp_bytes.specs.Raw.{Declaration, Declarations}
+use Rattle.comp_bytes.specs.Raw.{Declaration, Declarations, from_list}
 use Rattle.comp_bytes.specs.Held.{declaration_slots}
 use Rattle.comp_bytes.specs.declared.forms.ComponentTypeRef.{ComponentTypeRef}
 use Rattle.comp_bytes.specs.declared.forms.ComponentTypeRef.TheVariants as refs
+use Rattle.wit_model.specs.Text.{text_of}
+use Rattle.wit_model.specs.Meaning.{Signature}
+use Rattle.wit_model.specs.Types.{trees_of, tree_of}
 use Rattle.wit_model.specs.Lookup.{is_async, type_at}
 use Rattle.wit_model.specs.declared.model.Resolve.{Resolve}
 use Rattle.wit_model.specs.declared.model.InterfaceId.{InterfaceId}
@@ -22,11 +25,11 @@ use Rattle.encode_types.specs.declared.maps.TypeEncodingMaps.{TypeEncodingMaps}
 use Rattle.encode_types.specs.Codes.{IsListed, names_of, lists_of}
 use Rattle.encode_types.specs.Key.{same_type, same_param}
 use Rattle.encode_types.specs.Kinds.{has_definition, kind_tree}
-use Rattle.encode_types.specs.Slots.{Pairs, tree}
+use Rattle.encode_types.specs.Slots.{Pairs, tree, function}
 use Rattle.encode_types.specs.Plan.{foreign_owner}
 use Rattle.encode_types.specs.Scope.{Scope}
 use Rattle.encode_types.specs.MetKinds.{AreMetKinds, referred}
-use Rattle.encode_types.specs.Counts.{Definitions, AddsSlots}
+use Rattle.encode_types.specs.Counts.{Definitions, AddsSlots, key_slots}
 
 -- ---- keys of functions
 
@@ -41,6 +44,14 @@ key_of f = record { is_async = is_async f.kind; params = f.params.items; result_
 
 abbrev pub key_view : FunctionKey → Key
 key_view k = record { is_async = k.async_; params = k.params.0.now; result_type = k.result.now }
+
+-- the signature that a key makes
+abbrev pub signature_of_key : Resolve → Key → Signature
+signature_of_key r key = record {
+  is_async = key.is_async;
+  params = map (λ p. (text_of p.name, tree_of (trees_of r) p.ty)) key.params;
+  result = option_map (tree_of (trees_of r)) key.result_type;
+}
 
 -- whether two functions share a type
 abbrev pub are_same : Key → Key → Bool
@@ -62,10 +73,13 @@ defined_under_names r own ts = map (λ t. t.0) (filter (λ t. has_own_definition
 
 -- ---- what is learnt
 
--- What has been defined for functions is what the maps have learnt, and the keys that they have learnt are those of the functions.
+-- What has been defined for functions is what the maps have learnt, each type in the slot of its key, and the keys that they have learnt are
+-- those of the functions.
 pub record AddsFunctions (r : Resolve) (scope : Scope) (m m' : TypeEncodingMaps) (d d' : Definitions) (functions : List Function) : Type 0 where
   pub slots : AddsSlots r scope m m' d d'
-  pub functions_ : d'.functions + length m.func_type_map.entries ≡ d.functions + length m'.func_type_map.entries
+  pub types_added : List ℕ
+  pub functions_ : d'.functions ≡ d.functions ++ types_added
+  pub keys_ : IsPermutation (key_slots m ++ types_added) (key_slots m')
   pub known : (key : Key) → KnowsKey m' key → KnowsKey m key ⊎ (is_member are_same (map key_of functions) key ≡ true)
   pub stay : (key : Key) → KnowsKey m key → KnowsKey m' key
   pub learnt : (key : Key) → is_member are_same (map key_of functions) key ≡ true → KnowsKey m' key
@@ -80,12 +94,32 @@ abbrev pub is_function_type : Declaration → Bool
 is_function_type (Declaration.function f) = true
 is_function_type _ = false
 
--- one function type for each of these keys, of which no two are the same: they are the keys of the functions
-pub record DefinesKeys (functions : List Function) (declared : List Declaration) : Type 0 where
+-- the slots of the definitions of this sort at the first level, in order, behind so many slots
+abbrev pub slots_from : (Declaration → Bool) → ℕ → Declarations → List ℕ
+slots_from test n Declarations.no_more = []
+slots_from test n (Declarations.declares d rest) = cond (test d) (n ∷ []) [] ++ slots_from test (n + declaration_slots d) rest
+slots_from test n (Declarations.component inner rest) = slots_from test (n + 1) rest
+slots_from test n (Declarations.instance inner rest) = slots_from test (n + 1) rest
+
+-- the slots of the types of functions that are defined at the first level, in order
+abbrev pub function_slots : Declarations → List ℕ
+function_slots ds = slots_from is_function_type 0 ds
+
+-- Which types of functions are defined where the slots stand for this, and what for: for each of these keys one, in a slot of its own. There is
+-- no other.
+pub record StandForKeys (r : Resolve) (S : Pairs) (keys : List Key) (declared : Declarations) : Type 0 where
+  pub slots : List ℕ
+  pub stand : AllZip (λ key i. S i (function (signature_of_key r key))) keys slots
+  pub all : IsPermutation (function_slots declared) slots
+
+-- One function type for each of these keys, of which no two are the same: they are the keys of the functions. In a slot of its own the type of
+-- each is defined, and no other.
+pub record DefinesKeys (r : Resolve) (S : Pairs) (functions : List Function) (declared : List Declaration) : Type 0 where
   pub keys : List Key
   pub count : count_by is_function_type declared ≡ length keys
   pub different : IsDistinct are_same keys
   pub same : (key : Key) → is_member are_same keys key ≡ is_member are_same (map key_of functions) key
+  pub slots : StandForKeys r S keys (from_list declared)
 
 -- ---- which value types are declared
 
@@ -106,15 +140,9 @@ targets_of (Declarations.declares d rest) = option_to_list (target_of d) ++ targ
 targets_of (Declarations.component inner rest) = targets_of rest
 targets_of (Declarations.instance inner rest) = targets_of rest
 
--- the slots of the value types that are defined at the first level, in order, behind so many slots
-abbrev pub values_from : ℕ → Declarations → List ℕ
-values_from n Declarations.no_more = []
-values_from n (Declarations.declares d rest) = cond (is_value_type d) (n ∷ []) [] ++ values_from (n + declaration_slots d) rest
-values_from n (Declarations.component inner rest) = values_from (n + 1) rest
-values_from n (Declarations.instance inner rest) = values_from (n + 1) rest
-
+-- the slots of the value types that are defined at the first level, in order
 abbrev pub value_slots : Declarations → List ℕ
-value_slots ds = values_from 0 ds
+value_slots ds = slots_from is_value_type 0 ds
 
 -- Which value types are defined where the slots stand for this, and what for: in a slot of its own each kind of unnamed types that the types
 -- and functions meet, which is exported under no name; and in a slot of its own each type of the list that has a definition under its name, which

@@ -1,6 +1,6 @@
 -- In which order the types that a type needs are defined.
-use Rattle.std.specs.Prelude.{ℕ, ◌≡◌, ◌<◌, ◌+◌, ◌⊎◌, Bool, true, false, cond, nat_eq, nat_lt, List, take, length, slice_index, Option, Some, None}
-use Rattle.std.specs.List.{Contains, list_all}
+use Rattle.std.specs.Prelude.{ℕ, ◌≡◌, ◌<◌, ◌+◌, ◌⊎◌, Bool, true, false, Decides, cond, nat_eq, nat_lt, List, take, drop, length, slice_index, Option, Some, None}
+use Rattle.std.specs.List.{Contains, IsDistinct, list_all}
 use Rattle.std.specs.BTreeSet.{contains}
 use Rattle.std.specs.Ordering.{nat_cmp}
 use Rattle.wit_model.specs.Lookup.{type_at}
@@ -60,20 +60,21 @@ PartsStand r own m before n = (def : TypeDef) (id : TypeId) → type_at r n ≡ 
 abbrev pub IsOrdered : Resolve → Option InterfaceId → TypeEncodingMaps → List ℕ → Type 0
 IsOrdered r own m order = (k : ℕ) → k < length order → PartsStand r own m (take k order) (slice_index order k)
 
--- what has been met is known, or stands in the list
-abbrev pub MetStand : TypeEncodingMaps → Order → Type 0
-MetStand m order = (n : ℕ) → contains nat_cmp order.met n ≡ true → IsKnown m n ⊎ Contains order.numbers.items n
+-- the numbers that are met are those of the list behind the first eight
+abbrev pub AreMet : Order → Type 0
+AreMet order = (n : ℕ) → Decides (contains nat_cmp order.met n) (Contains (drop 8 order.numbers.items) n)
 
 -- a type is known, or stands in the list
 abbrev pub Stands : TypeEncodingMaps → List ℕ → ValueType → Type 0
 Stands m order t = (id : TypeId) → t ≡ ty.Id id → IsKnown m id.0 ⊎ Contains order id.0
 
--- what the first i types need has been added to an order
+-- what the first i types need has been added to an order, in which no number stands twice
 pub record IsPlanned (r : Resolve) (own : Option InterfaceId) (m : TypeEncodingMaps) (before : List ℕ) (ts : List ValueType) (i : ℕ) (after : Order) : Type 0 where
   pub kept : (n : ℕ) → Contains before n → Contains after.numbers.items n
   pub added : (n : ℕ) → Contains after.numbers.items n → Contains before n ⊎ MetFrom r own m (take i ts) n
   pub ordered : IsOrdered r own m after.numbers.items
-  pub met : MetStand m after
+  pub met : AreMet after
+  pub once : IsDistinct nat_eq after.numbers.items
   pub stands : (t : ValueType) → Contains (take i ts) t → Stands m after.numbers.items t
 
 -- the measure of a type: nothing is below a primitive
@@ -81,8 +82,9 @@ abbrev pub rank : ValueType → ℕ
 rank (ty.Id id) = id.0 + 1
 rank _ = 0
 
--- the numbers that some types need, in order
+-- the numbers that some types need, in order, none twice
 pub record IsOrderOf (r : Resolve) (own : Option InterfaceId) (m : TypeEncodingMaps) (ts : List ValueType) (order : List ℕ) : Type 0 where
   pub added : (n : ℕ) → Contains order n → MetFrom r own m ts n
   pub ordered : IsOrdered r own m order
   pub stands : (t : ValueType) → Contains ts t → Stands m order t
+  pub once : IsDistinct nat_eq order

@@ -19,6 +19,7 @@ ghost use Rattle.wit_model.specs.Tree.{Tree, flags_tree, enum_tree, future_tree,
 ghost use Rattle.wit_model.specs.Lookup.{type_at};
 ghost use Rattle.wit_model.specs.Meant.{signature_of};
 ghost use Rattle.wit_model.specs.Parts.{function_types};
+ghost use Rattle.encode_types.specs.Known.{ReachesAround};
 ghost use Rattle.encode_types.specs.Slots.{tree, function, StandsFor, StandsForOptional, NamedStands, Follows};
 ghost use Rattle.encode_types.specs.Kinds.{parts_of, kind_of, kind_tree, named_tree};
 ghost use Rattle.encode_types.specs.Maps.{IsReady, AllReady};
@@ -414,6 +415,7 @@ pub fn maybe_import_type<'a, E: ValtypeEncoder<'a>>(
     ensures none { result ≡ Ok None → enc.new ≡ enc.old }
     ensures foreign { (def : _) → type_at resolve.now id.0 ≡ Some def → IfOk result (λ o. is_some o ≡ is_foreign (E.view enc.old).scope def) }
     ensures grows { Grows (E.view enc.old) (E.view enc.new) }
+    ensures reaches { ReachesAround (E.view enc.old).scope.packages id (E.view enc.old).around (E.view enc.new).around }
     ensures scope_stays { (E.view enc.new).scope ≡ (E.view enc.old).scope }
     ensures maps_stay { (E.view enc.new).maps ≡ (E.view enc.old).maps }
     ensures counts { OnOk result ((E.view enc.new).definitions ≡ (E.view enc.old).definitions) }

@@ -10,6 +10,7 @@ ghost use Rattle.comp_bytes.specs.RawOf.{raw_name};
 ghost use Rattle.comp_bytes.specs.Refusal.{IsMemoryOrSize};
 ghost use Rattle.encode_types.specs.Slots.{Standing, tree, Follows, FollowsFunction, Defines, DefinesFunction};
 ghost use Rattle.encode_types.specs.View.{View, Grows, AddsSlot, AddsName, Exports, ExportsName, SameRest, HoldsMore, Refuses, LacksDefinition, LacksFunctionType, Writes, WritesDefinition, WritesFunctionType, WritesImport};
+ghost use Rattle.encode_types.specs.Known.{ReachesAround};
 ghost use Rattle.encode_types.specs.Scope.{DeclaresSlot, DeclaresResource, IsImportable};
 ghost use Rattle.encode_types.specs.Room.{export_name, import_of};
 ghost use Rattle.encode_types.specs.Extents.{name_extent};
@@ -43,12 +44,13 @@ pub trait LendsMaps<M> {
 ///
 /// A slot stands for a tree, which is a type with every index followed, or for the signature of a function.
 /// Old slots stand for what they did after every call, also after one that is refused, and no call changes the maps. Around its scope, a call
-/// of `import_type` may make aliases of types that had none, and no other call changes anything.
+/// of `import_type` makes one alias at most, of the type that it is asked for, where that had none, and no other call changes anything.
 /// A call answers `Error::Size` only where what it is asked to add has no room in 32 bits: then the view says so of the encoder that
 /// the call leaves (`View::lacks_room`). An implementor says in its view when that is, and how much it holds (`View::held`): a number
 /// of its own, which each call raises by one at most, and one that answers `Error::Size` not at all. It says there how much it has written,
 /// too (`View::extent`): a number of its own, which a call raises by no more than the bytes that what it is asked to add takes at most.
-/// And it says in which slots it has defined value types, and which slots it has exported under names, in order (`View::definitions`).
+/// And it says in which slots it has defined value types and types of functions, and which slots it has exported under names, in order
+/// (`View::definitions`).
 pub trait ValtypeEncoder<'a>: LendsMaps<TypeEncodingMaps<'a>> {
     // what it holds: what is around, its slots, how much has been defined, its maps, and what has no room
     ghost view: { Self → View };
@@ -75,7 +77,7 @@ pub trait ValtypeEncoder<'a>: LendsMaps<TypeEncodingMaps<'a>> {
         ensures scope_stays { (view self.new).scope ≡ (view self.old).scope }
         ensures around_stays { (view self.new).around ≡ (view self.old).around }
         ensures maps_stay { (view self.new).maps ≡ (view self.old).maps }
-        ensures counts { OnOk result ((view self.new).definitions ≡ one_function_more (view self.old).definitions) }
+        ensures counts { IfOk result (λ i. (view self.new).definitions ≡ one_function_more i (view self.old).definitions) }
         ensures held { HoldsMore 1 (view self.old) (view self.new) }
         ensures written { OnOk result (WritesFunctionType (view self.old) (view self.new) def.entry) }
         ensures size { result ≡ Err Size → LacksFunctionType (view self.old) (view self.new) def.entry }
@@ -119,6 +121,7 @@ pub trait ValtypeEncoder<'a>: LendsMaps<TypeEncodingMaps<'a>> {
         requires { IsImportable (view self.old).scope interface.0 id.0 }
         ensures ok { IfOk result (λ i. (view self.new).stands i (tree (number_tree (view self.old).scope.packages id.0))) }
         ensures grows { Grows (view self.old) (view self.new) }
+        ensures reaches { ReachesAround (view self.old).scope.packages id (view self.old).around (view self.new).around }
         ensures scope_stays { (view self.new).scope ≡ (view self.old).scope }
         ensures maps_stay { (view self.new).maps ≡ (view self.old).maps }
         ensures counts { OnOk result ((view self.new).definitions ≡ (view self.old).definitions) }

@@ -1,9 +1,8 @@
 //! Which types a type needs, in the order in which they are defined.
 
-ghost use Rattle.std.specs.Prelude.{◌≡◌, ◌⊎◌, ◌++◌, ◌∷◌, [], true, IfOk, OnOk, length};
-ghost use Rattle.std.specs.List.{Contains};
-ghost use Rattle.encode_types.specs.Maps.{IsKnown};
-ghost use Rattle.encode_types.specs.Plan.{foreign_owner, IsLayered, InRange, AllInRange, IsOrdered, MetStand, IsPlanned, IsOrderOf};
+ghost use Rattle.std.specs.Prelude.{◌≡◌, ◌++◌, ◌∷◌, [], Decides, IfOk, OnOk, nat_eq};
+ghost use Rattle.std.specs.List.{Contains, IsDistinct};
+ghost use Rattle.encode_types.specs.Plan.{foreign_owner, IsLayered, InRange, AllInRange, IsOrdered, AreMet, IsPlanned, IsOrderOf};
 
 use crate::maps::TypeEncodingMaps;
 use crate::shape::{kind_parts, only_part};
@@ -34,9 +33,9 @@ impl Order {
     }
 
     /// Whether a number stands in the order.
-    fn has(&self, maps: &TypeEncodingMaps, id: TypeId) -> bool
-        requires { MetStand maps.now self.now }
-        ensures { result ≡ true → IsKnown maps.now id.0 ⊎ Contains self.now.numbers.items id.0 }
+    fn has(&self, id: TypeId) -> bool
+        requires { AreMet self.now }
+        ensures { Decides result (Contains self.now.numbers.items id.0) }
     {
         let numbers = self.numbers.as_slice();
         if numbers.len() <= FEW {
@@ -45,28 +44,18 @@ impl Order {
         numbers.split_at(FEW).0.contains(&id.0) || self.met.contains(&id.0)
     }
 
-    /// Marks a number that is known or stands in the order.
-    fn mark(&mut self, maps: &TypeEncodingMaps, id: TypeId) -> Result<(), AllocError>
-        requires met { MetStand maps.now self.old }
-        requires stands { IsKnown maps.now id.0 ⊎ Contains self.old.numbers.items id.0 }
-        ensures met { OnOk result (MetStand maps.now self.new) }
-        ensures numbers { self.new.numbers.items ≡ self.old.numbers.items }
-    {
-        self.met.insert(id.0)?;
-        Ok(())
-    }
-
     /// Adds a number.
-    fn push(&mut self, maps: &TypeEncodingMaps, id: TypeId) -> Result<(), AllocError>
-        requires { MetStand maps.now self.old }
-        ensures met { OnOk result (MetStand maps.now self.new) }
+    fn push(&mut self, id: TypeId) -> Result<(), AllocError>
+        requires { AreMet self.old }
+        ensures met { OnOk result (AreMet self.new) }
         ensures numbers { OnOk result (self.new.numbers.items ≡ self.old.numbers.items ++ id.0 ∷ []) }
     {
         self.numbers.push(id.0)?;
         if self.numbers.len() <= FEW {
             return Ok(());
         }
-        self.mark(maps, id)
+        self.met.insert(id.0)?;
+        Ok(())
     }
 }
 
@@ -98,14 +87,15 @@ pub(crate) fn plan<'a>(
     requires layered { IsLayered resolve.now }
     requires in_range { InRange resolve.now ty.now }
     requires ordered { IsOrdered resolve.now own maps.now order.old.numbers.items }
-    requires met { MetStand maps.now order.old }
+    requires met { AreMet order.old }
+    requires once { IsDistinct nat_eq order.old.numbers.items }
     ensures { OnOk result (IsPlanned resolve.now own maps.now order.old.numbers.items (ty.now ∷ []) 1 order.new) }
 {
     let id = match ty {
         Type::Id(id) => *id,
         _ => return Ok(()),
     };
-    if order.has(maps, id) {
+    if order.has(id) {
         return Ok(());
     }
     if maps.index_of(id).is_some() {
@@ -113,19 +103,19 @@ pub(crate) fn plan<'a>(
     }
     let def = &resolve.types[id.0 as usize];
     if foreign(own, def.owner).is_some() {
-        order.push(maps, id)?;
+        order.push(id)?;
         return Ok(());
     }
     if let Some(part) = only_part(&def.kind) {
         plan(alloc, resolve, maps, own, &part, order)?;
-        order.push(maps, id)?;
+        order.push(id)?;
         return Ok(());
     }
     let parts = kind_parts(alloc, &def.kind)?;
     for part in &parts {
         plan(alloc, resolve, maps, own, part, order)?;
     }
-    order.push(maps, id)?;
+    order.push(id)?;
     Ok(())
 }
 

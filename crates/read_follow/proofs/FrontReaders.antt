@@ -9,7 +9,12 @@ use Rattle.comp_bytes.specs.Form.{Spellings}
 use Rattle.comp_bytes.specs.Reading.{Reader}
 use Rattle.comp_bytes.specs.Laws.{IsReadBy}
 use Rattle.std.proofs.lemmas.List.{take_at}
-use Rattle.read_follow.specs.Found.{Refuses, refusal_from}
+use Rattle.read_follow.specs.Found.{Refuses, refusal_from, IsNoReading}
+
+-- a reader that takes no memory refuses because of the bytes
+pub because_of_bytes : (e : Error) (bytes : List ℕ) (why : Type 0) → RefusesAt e bytes why → IsNoReading e
+because_of_bytes (errors.NoReading cause offset) bytes why r = tt
+because_of_bytes _ bytes why r = absurd r
 
 module _ {A : Type 0} {form : A → Spellings} {reader : Reader A} (law : IsReadBy form reader) where
   pub found_at : (bytes : List ℕ) (x : A) (end : ℕ) → form x (slice_range bytes 0 end) → reader bytes ≡ Some (x, drop end bytes)

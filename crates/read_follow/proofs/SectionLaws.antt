@@ -7,12 +7,15 @@ use Rattle.std.specs.List.{starts_with}
 use Rattle.wit_model.specs.declared.error.Error.{Error}
 use Rattle.wit_model.specs.declared.error.Error.TheVariants as errors
 use Rattle.comp_bytes.specs.Levels.{Piece, piece_of, pieces_in, levels_of}
-use Rattle.comp_bytes.specs.Reading.{◌>>=◌, frame_at}
+use Rattle.comp_bytes.specs.Reading.{◌>>=◌, frame_at, name_at}
+use Rattle.comp_bytes.specs.Answer.{Refuses as RefusesAt}
+use Rattle.comp_bytes.specs.Frames.{IsCustom, RefusesFront}
 use Rattle.comp_bytes.specs.Spelling.{preamble}
+use Rattle.comp_bytes.proofs.PartLaws.{name_law}
 use Rattle.comp_bytes.proofs.PieceLaws.{pieces_by_frames}
 use Rattle.read_follow.specs.declared.refusal.Refusal.{Refusal}
 use Rattle.read_follow.specs.declared.refusal.Refusal.TheVariants as refusals
-use Rattle.read_follow.specs.Found.{Refuses, refusal_from}
+use Rattle.read_follow.specs.Found.{Refuses, refusal_from, IsNoReading}
 use Rattle.read_follow.specs.Pieces.{piece_at, AreAlike}
 
 -- ---- the frame in front
@@ -20,6 +23,24 @@ use Rattle.read_follow.specs.Pieces.{piece_at, AreAlike}
 pub frame_refused : (bytes : List ℕ) (e : Error) (left : ℕ) → frame_at bytes ≡ None → Refuses (refusal_from e left) (frame_at bytes)
 frame_refused bytes (errors.NoReading cause offset) left none = none
 frame_refused bytes _ left none = tt
+
+-- it is refused because of the bytes
+pub front_refused : (e : Error) → RefusesFront e → IsNoReading e
+front_refused (errors.NoReading cause offset) r = tt
+front_refused _ r = absurd r
+
+-- ---- the name of a custom section
+
+pub custom_read : (contents name rest : List ℕ) → IsCustom (name, rest) contents → name_at contents ≡ Some (name, rest)
+custom_read contents name rest (front, behind, parts, spelled, is) = ap name_at parts ∙ (name_law.again name front behind spelled ∙ ap (λ (t : List ℕ). Some (name, t)) is)
+
+pub custom_refused : (contents : List ℕ) (left : ℕ) (e : Error) → RefusesAt e contents ((c : List ℕ × List ℕ) → IsCustom c contents → ⊥) → Refuses (refusal_from e left) (name_at contents)
+custom_refused contents left (errors.NoReading cause offset) r = none (name_at contents) refl
+  where
+    none : (found : Option (List ℕ × List ℕ)) → name_at contents ≡ found → found ≡ None
+    none None e = refl
+    none (Some c) e = let t = name_law.takes contents c.0 c.1 e in absurd (r.1 c (t.front, c.1, t.parts, t.spelled, refl))
+custom_refused contents left _ r = absurd r
 
 -- ---- refusals
 

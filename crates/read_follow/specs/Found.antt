@@ -21,6 +21,11 @@ abbrev pub Finds : {X A : Type 0} → (X → A) → Result (X × Bor (List ℕ))
 Finds view (Ok x) found = found ≡ Some (view x.0, x.1.now)
 Finds view (Err e) found = Refuses e found
 
+-- it is refused because of the bytes
+abbrev pub IsNoReading : Error → Type 0
+IsNoReading (errors.NoReading cause offset) = Unit {0}
+IsNoReading _ = ⊥
+
 -- the refusal that an error of a public reader stands for, with so many bytes left
 abbrev pub refusal_from : Error → ℕ → Refusal
 refusal_from (errors.NoReading cause offset) left = refusals.Absent cause left

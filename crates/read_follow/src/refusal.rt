@@ -1,7 +1,7 @@
 //! Why a reader of a form gives nothing.
 
 ghost use Rattle.std.specs.Prelude.{◌≡◌};
-ghost use Rattle.read_follow.specs.Found.{refusal_from};
+ghost use Rattle.read_follow.specs.Found.{refusal_from, IsNoReading};
 
 use std::alloc::{AllocError, AllocFailed};
 use wit_model::{Cause, Error};
@@ -35,12 +35,13 @@ impl<T: Drop> From<AllocFailed<T>> for Refusal {
     }
 }
 
-/// The refusal for an error of a reader that takes no memory, where so many bytes were left.
+/// The refusal for an error of a reader that takes no memory, and so refuses because of the bytes alone, where so many bytes were left.
 pub(crate) fn refusal_of(error: Error, left: usize) -> Refusal
+    requires { IsNoReading error }
     ensures { result ≡ refusal_from error left }
 {
     match error {
         Error::NoReading(cause, _) => Refusal::Absent(cause, left),
-        _ => Refusal::Memory,
+        _ => unreachable!(),
     }
 }

@@ -4,16 +4,16 @@ ghost use Rattle.std.specs.List.{AllByRecursion};
 ghost use Rattle.std.specs.Prelude.{◌≡◌, ◌<◌, length, map, IfOk};
 ghost use Rattle.comp_bytes.specs.Levels.{levels_of, piece_of as piece_of_lem, pieces_in};
 ghost use Rattle.comp_bytes.specs.Raw.{TopExport as RawExport};
-ghost use Rattle.comp_bytes.specs.Reading.{as_at, closed_at, frame_at, tag_at, top_export_at, u32_at, vector_at, whole};
+ghost use Rattle.comp_bytes.specs.Reading.{as_at, closed_at, frame_at, name_at, tag_at, top_export_at, u32_at, vector_at, whole};
 ghost use Rattle.read_follow.specs.Found.{Finds, Gives};
 ghost use Rattle.read_follow.specs.Pieces.{piece_at, raw_export, raw_piece, AreAlike, IsWholePiece};
 
-use crate::front::{name_of, u32_of};
+use crate::front::u32_of;
 use crate::names::{ExternName, extern_name_of};
 use crate::part_types::PartType;
 use crate::refusal::{Refusal, refusal_of};
 use crate::vector::{Form, vector_of};
-use comp_bytes::{Section, front_section};
+use comp_bytes::{Section, custom_name, front_section};
 use std::alloc::Global;
 use wit_model::Cause;
 
@@ -100,6 +100,16 @@ fn whole_vector_of<'a, T: Form<'a> + Drop>(
     }
 }
 
+/// The name of a custom section with these contents, and the bytes behind it. Takes time linear in the name.
+fn custom_of(contents: &[u8]) -> Result<(&str, &[u8]), Refusal>
+    ensures { Finds (λ text. text.now) result (name_at contents.now) }
+{
+    match custom_name(contents) {
+        Ok((name, rest)) => Ok((name, rest)),
+        Err(error) => Err(refusal_of(error, contents.len())),
+    }
+}
+
 /// What a section with this id and these contents is, behind which so many bytes stand.
 #[tactic(auto, unfolding(comp_bytes::specs::Levels::piece_of))]
 fn piece_of<'a>(
@@ -113,7 +123,7 @@ fn piece_of<'a>(
 {
     match id {
         0x00 => {
-            let (name, rest) = name_of(contents)?;
+            let (name, rest) = custom_of(contents)?;
             Ok(Piece::Custom(name, rest))
         }
         0x07 => {

@@ -6,6 +6,10 @@ pub mod Refusals
 pub mod Uniting
 pub mod Growing
 pub mod Extending
+pub mod Notes
+pub mod Brought
+pub mod Bringing
+pub mod Bare
 pub mod Merging
 pub mod Unchanged
 pub mod UnionBound

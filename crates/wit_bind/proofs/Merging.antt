@@ -1,22 +1,35 @@
 -- What comes of two bindings that don't clash, once all that the one brings is added to the other.
-use Rattle.std.proofs.Common.{◌≡◌, sym, ap, ◌∙◌, ℕ, false, List, [], ◌++◌, map, Some}
+use Rattle.std.proofs.Common.{◌≡◌, sym, ap, subst, ◌∙◌, ℕ, false, List, [], ◌++◌, map, Some, option_and_then, option_map, slice_get, String}
 use Rattle.std.specs.Map.{keys_of}
+use Rattle.std.specs.declared.alloc.Global.{Global}
 use Rattle.std.specs.Option.{option_map_or}
+use Rattle.wit_model.specs.declared.model.Package.{Package}
+use Rattle.wit_model.specs.declared.model.PackageId.{PackageId}
+use Rattle.wit_model.specs.declared.model.PackageName.{PackageName}
 use Rattle.wit_model.specs.declared.model.Resolve.{Resolve}
 use Rattle.wit_model.specs.declared.model.World.{World}
 use Rattle.wit_model.specs.declared.model.WorldId.{WorldId}
 use Rattle.wit_model.specs.declared.model.WorldKey.{WorldKey}
-use Rattle.wit_model.specs.Lookup.{key_text, world_at}
+use Rattle.wit_model.specs.Lookup.{identity_of, interface_path, key_text, path_in_package, path_of_interface, world_at}
+use Rattle.wit_model.specs.Names.{path_in}
+use Rattle.wit_model.specs.Text.{Text, text_of}
+use Rattle.wit_model.proofs.Elements.{contains-get, same-some}
+use Rattle.wit_model.proofs.OnePath.{has-path}
+use Rattle.plan_meaning.specs.Built.{IsBare}
 use Rattle.bind_add.specs.declared.added.Added.{Added}
 use Rattle.bind_carry.specs.AddedApart.{AreMatchedByName}
 use Rattle.bind_carry.specs.AddedKeys.{key_view}
 use Rattle.bind_carry.specs.Apart.{IsApart}
 use Rattle.bind_carry.specs.First.{first_fates}
+use Rattle.bind_carry.specs.FirstPass.{IsFirstPass}
 use Rattle.bind_carry.specs.MatchedSame.{AreMatchedAt, NoneOfPath}
 use Rattle.bind_carry.specs.Renumbered.{first_of}
-use Rattle.bind_carry.specs.SecondPass.{is_left_out, second_pass_of}
+use Rattle.bind_carry.specs.SecondPass.{is_left_out, second_pass_of, IsSecondPass}
 use Rattle.bind_carry.specs.Union.{IsUnionOf}
 use Rattle.bind_carry.specs.Which.{AreMatchedAll}
+use Rattle.bind_carry.proofs.FirstPackages.{front_at}
+use Rattle.bind_carry.proofs.FirstOfUnion.{unions_have_the_second}
+use Rattle.bind_carry.proofs.KeysGained.{by_path_apart}
 use Rattle.bind_carry.proofs.NamesMerged.{names_are_merged}
 use Rattle.bind_carry.proofs.MergedUnion.{unions_are_merged}
 use Rattle.bind_carry.proofs.UnionApart.{unions_are_apart}
@@ -29,9 +42,13 @@ use Rattle.bind_union.proofs.BoundMeanings.{bound_means}
 use Rattle.bind_union.proofs.Valid.{merged_is_valid}
 use Rattle.wit_bind.specs.declared.bindgen.Bindgen.{Bindgen}
 use Rattle.wit_bind.specs.Bindings.{binding_of, IsBindgen}
+use Rattle.wit_bind.specs.Brings.{key_texts, BringsEntries, BringsItsOwn}
 use Rattle.wit_bind.specs.Extends.{Extends, listed_names, merged_names}
 use Rattle.wit_bind.specs.MergedLaws.{AgreeByNumbers, IsUnited}
 use Rattle.wit_bind.specs.Merges.{export_keys, IsGrownBy, IsPlanOf}
+use Rattle.wit_bind.proofs.Bare.{merged_is_bare}
+use Rattle.wit_bind.proofs.Bringing.{new_interface_copied, new_package_copied, new_world_copied}
+use Rattle.wit_bind.proofs.Brought.{bound_brought, interface_brought, package_brought, type_source, world_brought}
 use Rattle.wit_bind.proofs.Extending.{grown_extend}
 use Rattle.wit_bind.proofs.MatchedPaths.{matches_have_paths}
 use Rattle.wit_bind.proofs.NumbersAgree.{united_agree_by_numbers}
@@ -123,3 +140,52 @@ module _ (own other new : Bindgen) (o : IsBindgen own) (t : IsBindgen other) (ca
   merged_answer =
       keys_keep_texts r s new.resolve own.world.0 other.world.0 p.matches w v added keys planned o.valid t.valid g.all_added bound.1 other-bound.1 paths.0 p.matched.packages paths.1 paths.2
       ∙ sym (ap (λ y. map (key_text s) (option_map_or (λ (x : World). keys_of x.exports.entries) y [])) other-bound.1)
+
+  -- ---- what is said of what is new
+
+  passes : (q : IsFirstPass r s new.resolve p.matches planned.carried planned.types)
+      × IsSecondPass r s new.resolve own.world.0 other.world.0 w v p.matches planned.carried planned.types q planned.second.copied planned.second.interfaces planned.second.types
+  passes = unions_have_the_second r s new.resolve own.world.0 other.world.0 p.matches w v added keys planned g.all_added bound.1 other-bound.1 agree.bound paths.0 p.matched.packages paths.1 paths.2
+
+  -- own interfaces keep their paths
+  own-paths : (n : ℕ) (t : Text) → interface_path r n ≡ Some t → interface_path new.resolve n ≡ Some t
+  own-paths n t e =
+      let h = has-path r n t e in
+      let q = merged_extend.packages h.home.0 h.package_ h.stands in
+      ap (option_and_then (path_of_interface new.resolve)) (ap (λ l. slice_get l n) merged_extend.interfaces.1 ∙ front_at r.interfaces.items merged_extend.interfaces.0 n h.def h.there)
+      ∙ (ap (option_and_then (λ (x : String Global). option_and_then (λ (p : PackageId). path_in_package new.resolve p.0 (text_of x)) h.def.«package»)) h.named_
+      ∙ (ap (option_and_then (λ (p : PackageId). path_in_package new.resolve p.0 (text_of h.name))) h.in_package
+      ∙ (ap (option_map (λ (p : Package). path_in (identity_of p.name) (text_of h.name))) q.1
+      ∙ ap Some (ap (λ (d : PackageName). path_in (identity_of d) (text_of h.name)) q.2.name ∙ sym h.spelled))))
+
+  abbrev Gained : World → World → World → Type 0
+  Gained a b x = BringsEntries (key_texts r a.imports.entries) s b.imports.entries new.resolve x.imports.entries × BringsEntries (key_texts r a.exports.entries) s b.exports.entries new.resolve x.exports.entries
+
+  pub merged_brings : BringsItsOwn own other new
+  merged_brings = record {
+    packages = λ q held fresh.
+        let k = contains-get s.packages.items q held in
+        package_brought r s new.resolve o.valid t.valid own.world.0 other.world.0 w v p.matches planned.carried planned.types passes.0 planned.second.copied planned.second.interfaces planned.second.types passes.1 k.0 q k.1
+        (new_package_copied r s o.valid t.valid p.matches p.matched paths.0 planned.carried planned.numbered paths.1 k.0 q k.1 fresh);
+    interfaces = λ i path held is fresh.
+        let k = contains-get s.interfaces.items i held in
+        interface_brought r s new.resolve o.valid t.valid own.world.0 other.world.0 w v p.matches planned.carried planned.types passes.0 planned.second.copied planned.second.interfaces planned.second.types passes.1 k.0 i path k.1
+        (new_interface_copied r s o.valid t.valid p.matches p.matched paths.0 planned.carried planned.numbered paths.1 k.0 i path k.1 is fresh) is;
+    worlds = λ x path held is fresh.
+        let k = contains-get s.worlds.items x held in
+        world_brought r s new.resolve o.valid t.valid own.world.0 other.world.0 w v p.matches planned.carried planned.types passes.0 planned.second.copied planned.second.interfaces planned.second.types passes.1 k.0 x path k.1
+        (new_world_copied r s o.valid t.valid p.matches p.matched paths.0 planned.carried planned.numbered paths.1 k.0 x path k.1 is fresh) is
+        (by_path_apart r s o.valid t.valid own.world.0 other.world.0 p.matches w v added keys planned other-bound.1 paths.0 paths.1 paths.2 k.0 x k.1);
+    bound = λ a b x at_a at_b at_x.
+        let ours : w ≡ a = same-some w a (sym bound.1 ∙ at_a) in
+        let theirs : v ≡ b = same-some v b (sym other-bound.1 ∙ at_b) in
+        subst (λ (y : World). Gained y b x) ours (subst (λ (y : World). Gained w y x) theirs
+        (bound_brought r s new.resolve o.valid t.valid own.world.0 other.world.0 w v p.matches planned.carried planned.types passes.0 planned.second.copied planned.second.interfaces planned.second.types passes.1 own-paths x
+        (sym (ap (world_at new.resolve) number) ∙ at_x)));
+  }
+
+  -- where neither side has documentation or a known stability, there is none
+  pub merged_bare : IsBare r → IsBare s → IsBare new.resolve
+  merged_bare =
+      merged_is_bare r s new.resolve o.valid t.valid own.world.0 other.world.0 p.matches w v added keys planned g.all_added bound.1 other-bound.1 paths.0 paths.1 paths.2 merged_extend
+      (type_source r s new.resolve o.valid t.valid own.world.0 other.world.0 w v p.matches planned.carried planned.types passes.0 planned.second.copied planned.second.interfaces planned.second.types passes.1)

@@ -1,5 +1,5 @@
 -- The `Resolve` of the empty root world is valid, and means it.
-use Rattle.std.proofs.Common.{◌≡◌, ◌∙◌, sym, ap, subst, ℕ, zero, suc, List, [], ◌∷◌, Some, None, string_eq}
+use Rattle.std.proofs.Common.{◌≡◌, ◌∙◌, sym, ap, subst, arith, ℕ, zero, suc, ◌<◌, length, List, [], ◌∷◌, Some, None, string_eq}
 use Rattle.std.specs.Prelude.{◌↔◌, option_and_then, option_map, slice_get}
 use Rattle.indexmap.specs.IndexMap.{IsUnique}
 use Rattle.wit_model.specs.declared.model.Interface.{Interface}
@@ -111,6 +111,9 @@ module _ (r : Resolve) (h : IsRootResolve r) where
 
   meant : option_and_then (λ (u : World). option_map (λ (q : Package). world_package r q u) (package_of_world r u)) (world_at r 0) ≡ Some root_meaning
   meant = simp (h.packages, h.worlds, h.is_world.home, h.is_package.namespace, h.is_package.name, h.is_package.unversioned, h.is_world.named_, h.is_world.no_imports, h.is_world.no_exports)
+
+  pub root-in-range : 0 < length r.worlds.items
+  root-in-range = let one : length r.worlds.items ≡ 1 = ap length h.worlds in omega (arith, one)
 
   pub root-means : (m : WorldPackage) → MeantWorld r 0 m ↔ (root_meaning ≡ m)
   unfolding MeantWorld

@@ -10,6 +10,7 @@ pub mod OldKeys
 pub mod Choices
 pub mod Bindings
 pub mod Extends
+pub mod Brings
 pub mod Merged
 pub mod Merges
 pub mod Unions

@@ -2,21 +2,26 @@
 use Rattle.std.specs.Prelude.{◌≡◌, ◌++◌, List, map}
 use Rattle.wit_model.specs.declared.model.WorldKey.{WorldKey}
 use Rattle.wit_model.specs.Lookup.{key_text}
+use Rattle.plan_meaning.specs.Built.{IsBare}
 use Rattle.bind_carry.specs.AddedKeys.{key_view}
 use Rattle.bind_meaning.specs.Clash.{CanUnite}
 use Rattle.bind_meaning.specs.Union.{union}
 use Rattle.wit_bind.specs.declared.bindgen.Bindgen.{Bindgen}
 use Rattle.wit_bind.specs.Bindings.{IsBindgen, binding_of}
+use Rattle.wit_bind.specs.Brings.{BringsItsOwn}
 use Rattle.wit_bind.specs.Extends.{Extends, listed_names, merged_names}
 use Rattle.wit_bind.specs.Merges.{export_keys, GrowsWithin}
 
--- The two unite, and the own bindings have become their union. Own numbers stay, and what is new stands behind what was there, and no more of it than may come.
+-- The two unite, and the own bindings have become their union. Own numbers stay, and what is new stands behind what was there, with its own documentation and
+-- stability, and no more of it than may come.
 -- The answer is the keys of the other's exports, as they stand here.
 pub record IsMerge (own other new : Bindgen) (answer : List WorldKey) : Type 0 where
   pub united : CanUnite (binding_of own) (binding_of other)
   pub union : binding_of new ≡ union (binding_of own) (binding_of other)
   pub valid : IsBindgen new
   pub extends : Extends own.resolve new.resolve own.world.0
+  pub brings : BringsItsOwn own other new
+  pub bare : IsBare own.resolve → IsBare other.resolve → IsBare new.resolve
   pub grows : GrowsWithin own.resolve other.resolve other.world.0 new.resolve
   pub order : listed_names new.resolve ≡ merged_names (listed_names own.resolve) (listed_names other.resolve)
   pub added : map key_view (export_keys new.resolve new.world.0) ≡ map key_view (export_keys own.resolve own.world.0 ++ answer)

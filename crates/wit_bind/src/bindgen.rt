@@ -3,12 +3,14 @@
 ghost use Rattle.std.specs.Prelude.{◌≡◌, ◌++◌, map, None, IfErr, IfOk, OnErr, OnOk};
 ghost use Rattle.wit_model.specs.declared.error.Error.TheVariants.{Memory};
 ghost use Rattle.wit_model.specs.Lookup.{key_text};
+ghost use Rattle.plan_meaning.specs.Built.{IsBare};
 ghost use Rattle.bind_add.specs.Growth.{IsAddable};
 ghost use Rattle.bind_carry.specs.AddedKeys.{key_view};
 ghost use Rattle.bind_match.specs.Matching.{own_package_of};
 ghost use Rattle.bind_meaning.specs.Clash.{CanUnite};
 ghost use Rattle.bind_meaning.specs.Union.{union};
 ghost use Rattle.wit_bind.specs.Bindings.{IsBindgen, binding_of};
+ghost use Rattle.wit_bind.specs.Brings.{BringsItsOwn};
 ghost use Rattle.wit_bind.specs.Extends.{Extends, IsKept, listed_names, merged_names};
 ghost use Rattle.wit_bind.specs.Merged.{IsMerge};
 ghost use Rattle.wit_bind.specs.Merges.{GrowsWithin, IsGrownBy, IsMergeRefusal, IsPlanOf, export_keys};
@@ -95,6 +97,7 @@ impl Bindgen {
     /// Takes constant time and memory. Refuses `Memory` alone.
     pub fn default(alloc: Global) -> Result<Bindgen, Error>
         ensures root { IfOk result IsRoot }
+        ensures valid { IfOk result IsBindgen }
         ensures refuses { IfErr result (λ e. e ≡ Memory) }
     {
         Ok(Bindgen {
@@ -154,7 +157,7 @@ impl Bindgen {
     /// Merges other bindings into these, which gain what is new, or are left as they were (wit-component README, "Merging Worlds"). The other's
     /// bound world is bound, too: what it imports and exports comes behind what is imported and exported here. What stands under one path on
     /// both sides has to mean the same, and keeps this side's documentation and stability; the other's world `root:root/root` isn't compared
-    /// and not carried over. Own numbers stay, and no list gets longer than by what may come: packages, interfaces and worlds that aren't here by name or path, the
+    /// and not carried over. What wasn't here keeps the other's documentation and stability. Own numbers stay, and no list gets longer than by what may come: packages, interfaces and worlds that aren't here by name or path, the
     /// inline interfaces of the other's bound world once more, the types of these interfaces and of none, and once more those of no named interface. The answer is
     /// the keys of the other's exports, as they stand here, in their order.
     ///
@@ -171,6 +174,8 @@ impl Bindgen {
         // Own numbers stay, and what is new stands behind what was there, and no more of it than may come.
         ensures world { self.new.world ≡ self.old.world }
         ensures extends { OnOk result (Extends self.old.resolve self.new.resolve self.old.world.0) }
+        ensures brings { OnOk result (BringsItsOwn self.old other self.new) }
+        ensures bare { OnOk result (IsBare self.old.resolve → IsBare other.resolve → IsBare self.new.resolve) }
         ensures growth { OnOk result (GrowsWithin self.old.resolve other.resolve other.world.0 self.new.resolve) }
         ensures order { OnOk result (listed_names self.new.resolve ≡ merged_names (listed_names self.old.resolve) (listed_names other.resolve)) }
         ensures added { IfOk result (λ added. map key_view (export_keys self.new.resolve self.new.world.0) ≡ map key_view (export_keys self.old.resolve self.old.world.0 ++ added.keys)) }

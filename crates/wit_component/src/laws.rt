@@ -8,12 +8,17 @@ pub use bind_sections::laws::{
     any_order, bound_are_bindings, bound_once, modules_are_read_in_order, one_section_binds,
     sections_bind_their_worlds,
 };
-pub use comp_meaning::laws::one_meaning;
+pub use comp_read::laws::one_meaning;
 pub use print_grammar::laws::one_reading;
 pub use wit_compat::laws::{semver_check_counted, transitive};
-pub use wit_encode::laws::equal_lists;
-pub use wit_interfaces::laws::definitions_leave_interfaces;
+pub use wit_bind::laws::roots_are_roots;
+pub use wit_encode::laws::{
+    equal_lists, exports_end, functions_encode, imports_grow, imports_stand,
+    interface_uses_dependencies, names_encode, table_scope_is_of_owner, types_encode,
+};
+pub use wit_interfaces::laws::{definitions_leave_interfaces, interface_scope_is_of_owner};
 pub use wit_model::laws::canonical_paths_join;
+pub use wit_print::laws::{interfaces_can_be_given, packages_read};
 
 /// Of bytes that mean exactly what a package of a `Resolve` does, as those that `encode` answers of a valid package with an interface or a
 /// world: what `decode` answers of them is valid, without documentation, and means that and nothing else; and it refuses them for want of

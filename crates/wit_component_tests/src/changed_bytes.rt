@@ -6,8 +6,8 @@ use std::test::Fail;
 use wit_component::{Error, decode};
 use wit_samples::bytes::INTERFACE_AND_WORLD;
 
-// Whether the package that bytes mean is the same when it is encoded and decoded again.
-fn keep_meaning(alloc: Global, bytes: &[u8]) -> Result<bool, Error> {
+/// Whether the package that bytes mean is the same when it is encoded and decoded again.
+pub fn keep_meaning(alloc: Global, bytes: &[u8]) -> Result<bool, Error> {
     let (resolve, package) = decode(alloc, bytes)?;
     is_kept(alloc, &resolve, package)
 }

@@ -24,3 +24,5 @@ mod same;
 mod senses;
 #[cfg(test)]
 mod table_calls;
+#[cfg(test)]
+mod whole_packages;

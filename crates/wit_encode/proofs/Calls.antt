@@ -26,10 +26,9 @@ use Rattle.encode_types.specs.Scope.{Scope, IsDeclared, DeclaresSlot, DeclaresRe
 use Rattle.encode_types.specs.Formed.{IsFormed, IsFormedSignature, is_formed}
 use Rattle.encode_types.specs.Counts.{one_type_more, one_function_more, ExportsOne}
 use Rattle.encode_types.specs.Distinct.{described_slot, target_of}
-use Rattle.wit_encode.proofs.ValueSlots.{values-more, targets-more}
+use Rattle.wit_encode.proofs.ValueSlots.{slots-more, targets-more}
 use Rattle.wit_encode.specs.Instance.{standing_at, SlotsStand, is_slot_of, Contents, no_view, outer_slots, inner_scope, inner_contents, is_value_type, is_function_type, place_in, resources_in, scope_with, definitions_with}
 use Rattle.encode_types.specs.Known.{Around}
-use Rattle.encode_types.proofs.Marking.{count-push}
 use Rattle.wit_encode.proofs.Strict.{bind, definition-strict, function-strict, follows-once, signature-once}
 use Rattle.wit_encode.proofs.Contents.{IsOf, Grew, grew-adds, grew-grows, same-grows, grew-scope}
 use Rattle.wit_encode.proofs.Declaring.{DeclaredAs, declared-slot, declared-resource}
@@ -102,16 +101,16 @@ inner-grew place outer ds d x shown m =
 abbrev pub shown_meanings : List ShownType → List (Text × TypeMeaning)
 shown_meanings ts = map (λ t. (t.name, t.meaning)) ts
 
-inner-definitions : (place : Place) (outer : Declarations) (ds : List Declaration) (d : Declaration) (x : Slot) (shown : List ShownType) → InnerMore place outer ds d x shown → (types exported : List ℕ) (functions : ℕ)
+inner-definitions : (place : Place) (outer : Declarations) (ds : List Declaration) (d : Declaration) (x : Slot) (shown : List ShownType) → InnerMore place outer ds d x shown → (types exported functions : List ℕ)
     → (inner_contents place outer ds).types ++ cond (is_value_type d) (type_slots ds ∷ []) [] ≡ types → (inner_contents place outer ds).exported ++ option_to_list (target_of d) ≡ exported
-    → (inner_contents place outer ds).functions + cond (is_function_type d) 1 0 ≡ functions
+    → (inner_contents place outer ds).functions ++ cond (is_function_type d) (type_slots ds ∷ []) [] ≡ functions
     → definitions_with (inner_contents place outer (ds ++ d ∷ [])) ≡ record { types = types; exported = exported; functions = functions; exports = (definitions_with (inner_contents place outer ds)).exports ++ shown_meanings shown }
 unfolding inner_contents
 inner-definitions place outer ds d x shown m types exported functions t u f =
     let next = steps.steps-more place (outer_slots outer) new_instance m.at.scope m.after ds d m.at.is m.step in
     let exports = ap (λ o. shown_meanings (option_map_or (λ s. s.shown) o no_view).types) next ∙ ap shown_meanings m.types ∙ map-append (λ (t : ShownType). (t.name, t.meaning)) m.at.scope.shown.types shown
     ∙ ap (λ xs. xs ++ shown_meanings shown) (sym (ap (λ o. shown_meanings (option_map_or (λ s. s.shown) o no_view).types) m.at.is)) in
-    λ i. record { types = (values-more ds d ∙ t) i; exported = (targets-more ds d ∙ u) i; functions = (count-push is_function_type ds d ∙ f) i; exports = exports i }
+    λ i. record { types = (slots-more is_value_type ds d ∙ t) i; exported = (targets-more ds d ∙ u) i; functions = (slots-more is_function_type ds d ∙ f) i; exports = exports i }
 
 -- ---- what stands in the new slot
 
@@ -219,13 +218,13 @@ module _ {E : Type 0} (res : Result ℕ E) (r : Resolve) (i : InterfaceId) (arou
         } in
         calls-from res r here around before after _ _ (Slot.value t) sound (formed-value (resources_in r here) t f.formed) (defines-of before.slots d t h)
         (more-ok (Declaration.defined (raw_defined d)) (Slot.value t) [] _ m (λ e. ap (λ zs. definitions_with (inner_contents (place_in r here) outer zs)) e
-        ∙ inner-definitions (place_in r here) outer ds (Declaration.defined (raw_defined d)) (Slot.value t) [] m (before.types ++ length before.slots ∷ []) before.exported before.functions (ap (λ (k : ℕ). before.types ++ k ∷ []) (inner-index (place_in r here) outer ds a)) (append-nil before.exported) (omega arith)
+        ∙ inner-definitions (place_in r here) outer ds (Declaration.defined (raw_defined d)) (Slot.value t) [] m (before.types ++ length before.slots ∷ []) before.exported before.functions (ap (λ (k : ℕ). before.types ++ k ∷ []) (inner-index (place_in r here) outer ds a)) (append-nil before.exported) (append-nil before.functions)
         ∙ (λ j. record { types = before.types ++ length before.slots ∷ []; exported = before.exported; functions = before.functions; exports = sym (nothing-more (definitions_with before).exports) j })) ok)
         (err-same err)
 
     pub function-inside : (d : ComponentFuncType) (s : Signature) → FollowsFunction (SlotsStand before.slots) d s → IsFormedSignature (scope_with r here around before) s
         → IfOk res (λ k. (k ≡ type_slots ds) × (ds' ≡ ds ++ Declaration.function (raw_function d) ∷ [])) → OnErr res (ds' ≡ ds)
-        → Calls res (scope_with r here around before) (scope_with r here around after) before after (DefinesFunction (SlotsStand before.slots) d) (definitions_with after ≡ one_function_more (definitions_with before))
+        → Calls res (scope_with r here around before) (scope_with r here around after) before after (DefinesFunction (SlotsStand before.slots) d) (definitions_with after ≡ one_function_more (length before.slots) (definitions_with before))
     function-inside d s h f ok err =
         let a = inner-there in
         let strict : function_signature a.scope.slots (raw_function d) ≡ Some s = ap (λ zs. function_signature zs (raw_function d)) (sym a.slots) ∙ function-strict (resources_in r here) before.slots inner-slots d s h f.params f.result_ in
@@ -239,8 +238,8 @@ module _ {E : Type 0} (res : Result ℕ E) (r : Resolve) (i : InterfaceId) (arou
         } in
         calls-from res r here around before after _ _ (Slot.function s) sound refl (function-of before.slots d s h)
         (more-ok (Declaration.function (raw_function d)) (Slot.function s) [] _ m (λ e. ap (λ zs. definitions_with (inner_contents (place_in r here) outer zs)) e
-        ∙ inner-definitions (place_in r here) outer ds (Declaration.function (raw_function d)) (Slot.function s) [] m before.types before.exported (before.functions + 1) (append-nil before.types) (append-nil before.exported) refl
-        ∙ (λ j. record { types = before.types; exported = before.exported; functions = before.functions + 1; exports = sym (nothing-more (definitions_with before).exports) j })) ok)
+        ∙ inner-definitions (place_in r here) outer ds (Declaration.function (raw_function d)) (Slot.function s) [] m before.types before.exported (before.functions ++ length before.slots ∷ []) (append-nil before.types) (append-nil before.exported) (ap (λ (k : ℕ). before.functions ++ k ∷ []) (inner-index (place_in r here) outer ds a))
+        ∙ (λ j. record { types = before.types; exported = before.exported; functions = before.functions ++ length before.slots ∷ []; exports = sym (nothing-more (definitions_with before).exports) j })) ok)
         (err-same err)
 
     -- a type around that is the name of a named interface
@@ -262,7 +261,7 @@ module _ {E : Type 0} (res : Result ℕ E) (r : Resolve) (i : InterfaceId) (arou
         calls-from res r here around before after _ _ x sound kept
         (record { gives = λ m e. stands ∙ ap Some (sym e); only = λ m e. some-standing _ m (sym stands ∙ e) })
         (more-ok d x [] _ m (λ e. ap (λ zs. definitions_with (inner_contents (place_in r here) outer zs)) e
-        ∙ inner-definitions (place_in r here) outer ds (Declaration.alias_of (Alias.of_outer 1 k)) x [] m before.types before.exported before.functions (append-nil before.types) (append-nil before.exported) (omega arith)
+        ∙ inner-definitions (place_in r here) outer ds (Declaration.alias_of (Alias.of_outer 1 k)) x [] m before.types before.exported before.functions (append-nil before.types) (append-nil before.exported) (append-nil before.functions)
         ∙ (λ j. record { types = before.types; exported = before.exported; functions = before.functions; exports = sym (nothing-more (definitions_with before).exports) j })) ok)
         (err-same err)
 
@@ -298,7 +297,7 @@ module _ {E : Type 0} (res : Result ℕ E) (r : Resolve) (i : InterfaceId) (arou
           there = declared.there;
           named_ = is;
           one_more = ap (λ zs. definitions_with (inner_contents (place_in r here) outer zs)) e
-              ∙ inner-definitions (place_in r here) outer ds (Declaration.exported name described) x (t ∷ []) m before.types (before.exported ++ option_to_list slot) before.functions (append-nil before.types) (ap (λ o. before.exported ++ option_to_list o) from) (omega arith)
+              ∙ inner-definitions (place_in r here) outer ds (Declaration.exported name described) x (t ∷ []) m before.types (before.exported ++ option_to_list slot) before.functions (append-nil before.types) (ap (λ o. before.exported ++ option_to_list o) from) (append-nil before.functions)
               ∙ (λ j. record { types = before.types; exported = before.exported ++ option_to_list slot; functions = before.functions; exports = (definitions_with before).exports ++ meant j ∷ [] });
         }) ok)
         (err-same err)

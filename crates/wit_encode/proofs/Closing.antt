@@ -25,7 +25,7 @@ use Rattle.wit_encode.proofs.Opening.{Placed, map-twice, values-permuted}
 
 -- the instance type takes its slot
 pub closes : {E : Type 0} (res : Result ℕ E) (r : Resolve) (a : Around) (outer outer' : Declarations) (foreign foreign' : Foreign) (i : InterfaceId) (def : Interface) (types : List TypeId) (declared : List Declaration) (fs : List Placed) → types ≡ values def.types
-    → GrowsAround r a (around_at outer foreign) → foreign' ≡ foreign → DefinesKeys (map (λ f. f.2.now) fs) declared → DefinesTypes r (Some i) (stands_inside r i outer declared) types (map (λ f. f.2.now) fs) (from_list declared)
+    → GrowsAround r a (around_at outer foreign) → foreign' ≡ foreign → DefinesKeys r (stands_inside r i outer declared) (map (λ f. f.2.now) fs) declared → DefinesTypes r (Some i) (stands_inside r i outer declared) types (map (λ f. f.2.now) fs) (from_list declared)
     → IsInstance r outer i declared (map (λ f. meaning_of r (placed_function f)) fs) → IfOk res (λ k. (k ≡ type_slots_of outer) × (outer' ≡ append outer (Declarations.instance (from_list declared) Declarations.no_more)))
     → IfOk res (λ k. EncodesPart r a (around_at outer' foreign') i def (map placed_function fs) (map (λ f. f.2.now) fs) k)
 closes (Err e) r a outer outer' foreign foreign' i def types declared fs l grown o keys kinds is h = h

@@ -1,5 +1,5 @@
 -- How much is defined for functions, and by an instance type as a whole.
-use Rattle.std.proofs.Common.{◌≡◌, refl, sym, subst, ap, ◌∙◌, ℕ, suc, ◌+◌, ◌<◌, ◌≤◌, Bool, true, false, ◌&&◌, ◌||◌, ◌⊎◌, inl, inr, List, [], ◌∷◌, ◌++◌, length, get_or, take, map, filter, cond, length-append, count_by, Result, Ok, Err, OnOk, Option, Some, None, slice_get, arith, Vec}
+use Rattle.std.proofs.Common.{◌≡◌, refl, sym, subst, ap, ◌∙◌, ℕ, suc, ◌+◌, ◌<◌, ◌≤◌, Bool, true, false, ◌&&◌, ◌||◌, ◌⊎◌, inl, inr, List, [], ◌∷◌, ◌++◌, length, get_or, take, map, filter, cond, length-append, append_assoc, append-nil, count_by, Result, Ok, Err, OnOk, Option, Some, None, slice_get, arith, Vec}
 use Rattle.std.specs.Prelude.{nat_eq, IsPermutation, String}
 use Rattle.std.specs.declared.alloc.Global.{Global}
 use Rattle.std.specs.List.{Contains, IsDistinct, list_any, filter_map, cons_option}
@@ -31,9 +31,9 @@ use Rattle.wit_model.specs.Lookup.{place_of}
 use Rattle.wit_model.specs.Valid.{IsValid}
 use Rattle.wit_model.specs.declared.model.TypeOwner.TheVariants as owner
 use Rattle.encode_types.specs.Slots.{Pairs, Standing, tree}
-use Rattle.encode_types.proofs.Marking.{slots-none, slots-then}
+use Rattle.encode_types.proofs.Marking.{slots-none, slots-then, more-then, same-keys, one-key-more}
 use Rattle.wit_encode.proofs.Calls.{inner-at}
-use Rattle.wit_encode.proofs.ValueSlots.{IsPlain, inner-values}
+use Rattle.wit_encode.proofs.ValueSlots.{IsPlain, inner-values, slots-counted}
 use Rattle.wit_encode.proofs.Mapped.{contains-filter, from-filter, from-map}
 use Rattle.wit_encode.proofs.DefinedTypes.{HeldKinds, defines-types}
 use Rattle.encode_types.specs.declared.key.FunctionKey.{FunctionKey}
@@ -47,13 +47,13 @@ use Rattle.encode_types.specs.Codes.{IsTable, names_of, lists_of}
 use Rattle.encode_types.specs.Maps.{IsOnce, IsKnown, MapsAgree}
 use Rattle.encode_types.specs.Scope.{Scope}
 use Rattle.encode_types.specs.MetKinds.{referred}
-use Rattle.encode_types.specs.Counts.{Definitions, names_defined, is_defined_by_name, is_defined_under_name, own_name, name_of_own, Shows, slots_of, named_slots, AddsSlots, AddsKey, AddsTypes, AddsFunction}
-use Rattle.encode_types.specs.Distinct.{Key, key_of, key_view, are_same, KnowsKey, defined_under_names, AddsFunctions, DefinesKeys, DefinesTypes, value_slots, is_function_type}
+use Rattle.encode_types.specs.Counts.{Definitions, names_defined, is_defined_by_name, is_defined_under_name, own_name, name_of_own, Shows, slots_of, named_slots, key_slots, AddsSlots, AddsKey, AddsTypes, AddsFunction}
+use Rattle.encode_types.specs.Distinct.{Key, key_of, key_view, are_same, KnowsKey, defined_under_names, AddsFunctions, DefinesKeys, DefinesTypes, value_slots, function_slots, is_function_type}
 use Rattle.wit_encode.specs.Instance.{own_of, contents_of, inner_contents, outer_slots, standing_at, SlotsStand, stands_inside, encoder_scope, definitions_with, opened, ShowsFunction}
 use Rattle.encode_types.proofs.Pairs.{pairs-map}
 use Rattle.encode_types.proofs.Tables.{kept-in, new-in, one-more-in}
 use Rattle.wit_encode.proofs.Naming.{or-second}
-use Rattle.wit_encode.proofs.HeldKeys.{both-ways, any-at, same_equiv, HasList, alike, grown, shrunk, knows-same, knows-along, knows-none, keyed}
+use Rattle.wit_encode.proofs.HeldKeys.{both-ways, any-at, same_equiv, HasList, alike, grown, shrunk, knows-same, knows-along, knows-none, keyed, stand-for-keys, slots-many}
 use Rattle.wit_model.proofs.Elements.{contains-map}
 
 -- ---- keys
@@ -96,7 +96,9 @@ names-alike r s s' m e = ap (λ (own : Option InterfaceId). count_by (λ (e : �
 pub adds-types : {r : Resolve} {scope : Scope} {m m' : TypeEncodingMaps} {d d' : Definitions} → AddsTypes r scope m m' d d' → AddsFunctions r scope m m' d d' []
 adds-types {r} {scope} {m} {m'} {d} {d'} a = record {
   slots = a.slots;
-  functions_ = (let f = a.functions in let n : length m'.func_type_map.entries ≡ length m.func_type_map.entries = ap length a.keys.lists in omega arith);
+  types_added = [];
+  functions_ = a.functions ∙ sym (append-nil d.functions);
+  keys_ = same-keys m m' a.keys.lists;
   known = λ q k. inl (knows-along m' m (sym a.keys.lists) (sym a.keys.names_) q k);
   stay = λ q k. knows-along m m' a.keys.lists a.keys.names_ q k;
   learnt = λ q h. absurd (none-member q h);
@@ -130,19 +132,29 @@ module _ (m m' : TypeEncodingMaps) (key : FunctionKey) (i : ℕ) (f : Function) 
 
 pub adds-function : {r : Resolve} {scope : Scope} {m m' : TypeEncodingMaps} {d d' : Definitions} (key : FunctionKey) (i : ℕ) (f : Function) → IsKeyOf key f → IsOnce m
     → AddsFunction r scope m m' d d' key i → AddsFunctions r scope m m' d d' (f ∷ [])
-adds-function {r} {scope} {m} {m'} {d} {d'} key i f is once a = record {
-  slots = a.slots;
-  functions_ = a.functions;
-  known = λ q k. elim a.keys [ inl h ↦ inl (knows-along m' m (sym h.1.lists) (sym h.1.names_) q k) | inr h ↦ new-known m m' key i f is once h.1 q k ];
-  stay = λ q k. elim a.keys [ inl h ↦ knows-along m m' h.1.lists h.1.names_ q k | inr h ↦ new-stay m m' key i f is once h.1 q k ];
-  learnt = λ q k. elim a.keys [
-    | inl h ↦ learns-member m m' key i f is (knows-along m m' h.1.lists h.1.names_ (key_view key) (h.0.0, i, h.0.1, h.0.2)) q k
-    | inr h ↦ learns-member m m' key i f is (new-learnt m m' key i f is once h.1) q k
-  ];
-}
+adds-function {r} {scope} {m} {m'} {d} {d'} key i f is once a = elim a.keys [
+  | inl h ↦ record {
+    slots = a.slots;
+    types_added = [];
+    functions_ = h.2 ∙ sym (append-nil d.functions);
+    keys_ = same-keys m m' h.1.lists;
+    known = λ q k. inl (knows-along m' m (sym h.1.lists) (sym h.1.names_) q k);
+    stay = λ q k. knows-along m m' h.1.lists h.1.names_ q k;
+    learnt = λ q k. learns-member m m' key i f is (knows-along m m' h.1.lists h.1.names_ (key_view key) (h.0.0, i, h.0.1, h.0.2)) q k;
+  }
+  | inr h ↦ record {
+    slots = a.slots;
+    types_added = i ∷ [];
+    functions_ = h.2;
+    keys_ = one-key-more m m' h.1.list i h.1.more;
+    known = λ q k. new-known m m' key i f is once h.1 q k;
+    stay = λ q k. new-stay m m' key i f is once h.1 q k;
+    learnt = λ q k. learns-member m m' key i f is (new-learnt m m' key i f is once h.1) q k;
+  }
+]
 
 pub adds-nothing : (r : Resolve) (scope : Scope) (m : TypeEncodingMaps) (d : Definitions) → AddsFunctions r scope m m d d []
-adds-nothing r scope m d = record { slots = slots-none r scope m m d d refl refl refl refl; functions_ = refl; known = λ q k. inl k; stay = λ q k. k; learnt = λ q h. absurd (none-member q h) }
+adds-nothing r scope m d = record { slots = slots-none r scope m m d d refl refl refl refl; types_added = []; functions_ = sym (append-nil d.functions); keys_ = same-keys m m refl; known = λ q k. inl k; stay = λ q k. k; learnt = λ q h. absurd (none-member q h) }
 
 -- what has been defined is the same by a scope of the same interface
 slots-alike : {r : Resolve} {s s' : Scope} {m m' : TypeEncodingMaps} {d d' : Definitions} → s'.own_interface ≡ s.own_interface → AddsSlots r s' m m' d d' → AddsSlots r s m m' d d'
@@ -163,7 +175,9 @@ pub adds-trans : {r : Resolve} {s s' : Scope} {a b c : TypeEncodingMaps} {d e f 
 adds-trans {r} {s} {s'} {a} {b} {c} {d} {e} {f} fs gs o p q =
     record {
       slots = slots-then p.slots (slots-alike o q.slots);
-      functions_ = (let x = p.functions_ in let y = q.functions_ in omega arith);
+      types_added = p.types_added ++ q.types_added;
+      functions_ = q.functions_ ∙ ap (λ xs. xs ++ q.types_added) p.functions_ ∙ append_assoc d.functions p.types_added q.types_added;
+      keys_ = more-then (key_slots a) (key_slots b) (key_slots c) p.types_added q.types_added p.keys_ q.keys_;
       known = λ k h. elim (q.known k h) [
         | inl x ↦ elim (p.known k x) [
           | inl y ↦ inl y
@@ -196,7 +210,9 @@ adds-alike {r} {s} {s'} {m} {m'} {m''} {d} {d'} {e} {e'} {fs} o h a x b a' x' b'
         others = q.others;
         numbers_stay = q.numbers_stay;
       };
-      functions_ = (let y = p.functions_ in omega arith);
+      types_added = p.types_added;
+      functions_ = b' ∙ p.functions_ ∙ ap (λ xs. xs ++ p.types_added) (sym b);
+      keys_ = p.keys_;
       known = p.known;
       stay = p.stay;
       learnt = p.learnt;
@@ -210,18 +226,15 @@ pub record Began (m : TypeEncodingMaps) : Type 0 where
   pub kinds : m.def_to_index.entries ≡ []
   pub keys : m.func_type_map.entries ≡ []
 
-defines-keys : (r : Resolve) (scope : Scope) (m m' : TypeEncodingMaps) (d d' : Definitions) (fs : List Function) (ds : List Declaration) → Began m
-    → d.functions ≡ 0 → d'.functions ≡ count_by is_function_type ds → AddsFunctions r scope m m' d d' fs → IsOnce m' → DefinesKeys fs ds
-defines-keys r scope m m' d d' fs ds b z n a once =
-    let k = keyed m' once in
+defines-keys : (r : Resolve) (S : Pairs) (scope : Scope) (m m' : TypeEncodingMaps) (d d' : Definitions) (fs : List Function) (ds : List Declaration) → Began m
+    → d.functions ≡ [] → d'.functions ≡ function_slots (from_list ds) → AddsFunctions r scope m m' d d' fs → MapsAgree r m' S → DefinesKeys r S fs ds
+defines-keys r S scope m m' d d' fs ds b z n a agree =
+    let k = keyed m' agree.once in
+    let slots = stand-for-keys r S m m' k (from_list ds) agree b.keys a.types_added (sym n ∙ a.functions_ ∙ ap (λ xs. xs ++ a.types_added) z) a.keys_ in
     record {
       keys = k.keys;
-      count =
-          let l : length m.func_type_map.entries ≡ 0 = ap length b.keys in
-          let x = a.functions_ in
-          let y = k.count in
-          let w : length (lists_of m'.func_type_map) ≡ length m'.func_type_map.entries = length-map m'.func_type_map.entries (λ (e : Vec ℕ Global × ℕ). (e.0.items, e.1)) in
-          omega arith;
+      count = sym (slots-counted is_function_type 0 ds) ∙ slots-many r S m' k (from_list ds) slots;
+      slots = slots;
       different = k.different;
       same = λ q. both-ways (is_member are_same k.keys q) (is_member are_same (map key_of fs) q)
           (λ h. elim (a.known q (k.known q h)) [ inl c ↦ absurd (knows-none m q b.keys c) | inr c ↦ c ])
@@ -229,7 +242,7 @@ defines-keys r scope m m' d d' fs ds b z n a once =
     }
 
 pub record Counted (r : Resolve) (i : InterfaceId) (S : Pairs) (fs : List Function) (ts : List TypeId) (ds : List Declaration) : Type 0 where
-  pub keys : DefinesKeys fs ds
+  pub keys : DefinesKeys r S fs ds
   pub types : DefinesTypes r (Some i) S ts fs (from_list ds)
 
 -- what slots stand for is one thing each
@@ -250,8 +263,8 @@ pub closed-counts : (r : Resolve) → IsValid r → (outer outer' : Declarations
     → names_defined r (encoder_scope r outer (opened i known)) m' ≡ distinct_count nat_eq (defined_under_names r (Some i) ts) → Counted r i (stands_inside r i outer' current.declared) fs ts current.declared
 unfolding inner_contents
 closed-counts r v outer outer' i known inner' current m m' fs ts is b held a agree followed defined = record {
-  keys = defines-keys r (encoder_scope r outer (opened i known)) m m' (definitions_with (contents_of r outer (opened i known)))
-      (definitions_with (contents_of r outer' inner')) fs current.declared b refl (ap (λ (o : Option OpenInterface). (contents_of r outer' o).functions) is) a agree.once;
+  keys = defines-keys r (stands_inside r i outer' current.declared) (encoder_scope r outer (opened i known)) m m' (definitions_with (contents_of r outer (opened i known)))
+      (definitions_with (contents_of r outer' inner')) fs current.declared b refl (ap (λ (o : Option OpenInterface). (contents_of r outer' o).functions) is) a agree;
   types = defines-types r v (Some i) (encoder_scope r outer (opened i known)) (stands_inside r i outer' current.declared) m m' (definitions_with (contents_of r outer (opened i known)))
       (definitions_with (contents_of r outer' inner')) ts fs (from_list current.declared) a.slots agree (slots-once _) (values-plain (place_of r (owner.Interface i)) outer' current.declared followed)
       (sym (ap (λ (o : Option OpenInterface). (contents_of r outer' o).types) is) ∙ a.slots.types) (sym (ap (λ (o : Option OpenInterface). (contents_of r outer' o).exported) is) ∙ a.slots.exported)
@@ -259,18 +272,19 @@ closed-counts r v outer outer' i known inner' current m m' fs ts is b held a agr
 }
 
 -- the keys of functions in another order
-permuted-same : (fs gs : List Function) (ds : List Declaration) → IsPermutation fs gs → (h : DefinesKeys gs ds) (q : Key) → is_member are_same h.keys q ≡ is_member are_same (map key_of fs) q
+permuted-same : {r : Resolve} {S : Pairs} (fs gs : List Function) (ds : List Declaration) → IsPermutation fs gs → (h : DefinesKeys r S gs ds) (q : Key) → is_member are_same h.keys q ≡ is_member are_same (map key_of fs) q
 permuted-same fs gs ds p h q = h.same q ∙ sym (list_any-IsPermutation (are_same q) (map key_of fs) (map key_of gs) (IsPermutation-map key_of fs gs p))
 
-pub permuted-keys : (fs gs : List Function) (ds : List Declaration) → IsPermutation fs gs → DefinesKeys gs ds → DefinesKeys fs ds
+pub permuted-keys : {r : Resolve} {S : Pairs} (fs gs : List Function) (ds : List Declaration) → IsPermutation fs gs → DefinesKeys r S gs ds → DefinesKeys r S fs ds
 permuted-keys fs gs ds p h = record {
   keys = h.keys;
   count = h.count;
   different = h.different;
   same = permuted-same fs gs ds p h;
+  slots = h.slots;
 }
 
-pub count-keys : (fs gs : List Function) (ds : List Declaration) → IsPermutation fs gs → DefinesKeys gs ds
+pub count-keys : {r : Resolve} {S : Pairs} (fs gs : List Function) (ds : List Declaration) → IsPermutation fs gs → DefinesKeys r S gs ds
     → count_by is_function_type ds ≡ distinct_count are_same (map key_of fs)
 count-keys fs gs ds p h = h.count ∙ length-from_keys same_equiv h.keys (map key_of fs) h.different (permuted-same fs gs ds p h)
 

@@ -1,9 +1,10 @@
 -- The keys of functions whose lists maps hold.
 use Rattle.std.proofs.Common.{◌≡◌, refl, sym, subst, ap, ◌∙◌, ℕ, zero, suc, ◌<◌, Bool, true, false, ◌&&◌, ◌||◌, inl, inr, List, [], ◌∷◌, ◌++◌, map, length, get_or, arith, Vec}
-use Rattle.std.specs.Prelude.{AllPairs}
+use Rattle.std.specs.Prelude.{AllPairs, IsPermutation}
 use Rattle.std.specs.Borrow.{Bor}
 use Rattle.std.specs.declared.alloc.Global.{Global}
-use Rattle.std.specs.List.{Contains, IsDistinct, list_any}
+use Rattle.std.specs.List.{Contains, IsDistinct, list_any, AllZip}
+use Rattle.std.proofs.lemmas.List.Sorted.{length_permutation}
 use Rattle.std.specs.Option.{option_eq}
 use Rattle.std.specs.Set.{is_member}
 use Rattle.std.specs.Cmp.{IsEquivalence, bool_eq_equiv}
@@ -20,8 +21,12 @@ use Rattle.encode_types.specs.declared.maps.TypeEncodingMaps.{TypeEncodingMaps}
 use Rattle.encode_types.specs.Key.{same_type, same_param}
 use Rattle.encode_types.specs.KeyLaws.{type_equiv, param_equiv, text_same}
 use Rattle.encode_types.specs.Codes.{type_code, optional_code, Names, IsTable, AreListed, async_code, IsListed, names_of, lists_of}
-use Rattle.encode_types.specs.Maps.{IsSomeKeyList, IsOnce, NamesGrow}
-use Rattle.encode_types.specs.Distinct.{Key, key_view, are_same, KnowsKey}
+use Rattle.encode_types.specs.Maps.{IsSomeKeyList, IsOnce, NamesGrow, MapsAgree, by_key}
+use Rattle.encode_types.specs.Counts.{key_slots}
+use Rattle.encode_types.specs.Slots.{Pairs, function}
+use Rattle.encode_types.specs.Distinct.{Key, key_view, are_same, KnowsKey, signature_of_key, function_slots, StandForKeys}
+use Rattle.comp_bytes.specs.Raw.{Declarations}
+use Rattle.wit_model.specs.declared.model.Resolve.{Resolve}
 use Rattle.encode_types.proofs.Lists.{none-in}
 use Rattle.encode_types.proofs.KindLaws.{same_types, optional_same}
 use Rattle.encode_types.proofs.EqualLists.{keys-of-lists, lists-of-keys, key-shrink}
@@ -124,7 +129,7 @@ knows-none m k e (xs, i, l, c) = none-in (xs, i) (subst (λ (es : List (Vec ℕ 
 
 -- ---- one key for each entry
 
-abbrev AreKeysOf : Names → List Key → List (List ℕ × ℕ) → Type 0
+abbrev pub AreKeysOf : Names → List Key → List (List ℕ × ℕ) → Type 0
 AreKeysOf names [] [] = Unit {0}
 AreKeysOf names (k ∷ ks) (e ∷ es) = HasList names k e.0 × AreKeysOf names ks es
 AreKeysOf names _ _ = ⊥
@@ -177,6 +182,7 @@ keys-apart names t ks es h p i j d l n = go (are_same (get_or ks i d) (get_or ks
 -- These keys, no two of them the same, are those that the maps know.
 pub record Keyed (m : TypeEncodingMaps) : Type 0 where
   pub keys : List Key
+  pub lists : AreKeysOf (names_of m.names) keys (lists_of m.func_type_map)
   pub count : length keys ≡ length (lists_of m.func_type_map)
   pub different : IsDistinct are_same keys
   pub known : (q : Key) → is_member are_same keys q ≡ true → KnowsKey m q
@@ -190,6 +196,7 @@ keyed m once =
     let ks = made.0 in
     record {
       keys = ks;
+      lists = made.1;
       count = keys-long names ks es made.1;
       different = IsDistinct-from_apart are_same ks (keys-apart names once.names_.table ks es made.1 once.keys);
       known = λ q h.
@@ -200,3 +207,36 @@ keyed m once =
           let there = list-there names ks es made.1 (k.0, k.1) k.3 in
           any-at (are_same q) ks there.0 there.1 (alike names q there.0 k.0 once.names_.table k.2 there.2);
     }
+
+-- ---- the slots of keys
+
+-- the slot of each key that is known
+keys-stand : (r : Resolve) (m : TypeEncodingMaps) (S : Pairs) → MapsAgree r m S → (ks : List Key) (es : List (Vec ℕ Global × ℕ)) → AreKeysOf (names_of m.names) ks (map {B = List ℕ × ℕ} (λ e. (e.0.items, e.1)) es)
+    → ((x : List ℕ × ℕ) → Contains (map {B = List ℕ × ℕ} (λ e. (e.0.items, e.1)) es) x → Contains (lists_of m.func_type_map) x)
+    → AllZip (λ k i. S i (function (signature_of_key r k))) ks (map (λ e. e.1) es)
+keys-stand r m S agree [] [] h known = tt
+keys-stand r m S agree [] (x ∷ es) h known = absurd h
+keys-stand r m S agree (k ∷ ks) [] h known = absurd h
+keys-stand r m S agree (k ∷ ks) (x ∷ es) h known = (
+  agree.says (by_key (as_key k)) x.1 (x.0.items, h.0, known (x.0.items, x.1) (0, omega arith, refl)),
+  keys-stand r m S agree ks es h.1 (λ y c. known y (suc c.0, (let l = c.1 in omega (arith, l)), c.2)),
+)
+
+-- What has been defined for functions since the maps held no key: the type of each key that they hold, in its slot.
+pub stand-for-keys : (r : Resolve) (S : Pairs) (m m' : TypeEncodingMaps) (k : Keyed m') (declared : Declarations) → MapsAgree r m' S → m.func_type_map.entries ≡ [] → (added : List ℕ)
+    → function_slots declared ≡ added → IsPermutation (key_slots m ++ added) (key_slots m') → StandForKeys r S k.keys declared
+stand-for-keys r S m m' k declared agree none added is p = record {
+  slots = key_slots m';
+  stand = keys-stand r m' S agree k.keys m'.func_type_map.entries k.lists (λ x c. c);
+  all = subst (λ xs. IsPermutation xs (key_slots m')) (sym is) (subst (λ (es : List (Vec ℕ Global × ℕ)). IsPermutation (map (λ e. e.1) es ++ added) (key_slots m')) none p);
+}
+
+-- there are as many of them as keys
+pub slots-many : (r : Resolve) (S : Pairs) (m : TypeEncodingMaps) (k : Keyed m) (declared : Declarations) → StandForKeys r S k.keys declared → length (function_slots declared) ≡ length k.keys
+slots-many r S m k declared s = sym (length_permutation (function_slots declared) s.slots s.all) ∙ sym (zip-long k.keys s.slots s.stand)
+  where
+    zip-long : (ks : List Key) (is : List ℕ) → AllZip (λ k i. S i (function (signature_of_key r k))) ks is → length ks ≡ length is
+    zip-long [] [] h = refl
+    zip-long [] (i ∷ is) h = absurd h
+    zip-long (k ∷ ks) [] h = absurd h
+    zip-long (k ∷ ks) (i ∷ is) h = ap suc (zip-long ks is h.1)

@@ -1,6 +1,6 @@
 -- What the calls of an encoder of interfaces do between interfaces: then what is defined stands in the component type.
 use Rattle.encode_types.specs.Distinct.{target_of, targets_of}
-use Rattle.wit_encode.proofs.ValueSlots.{values-next, targets-push}
+use Rattle.wit_encode.proofs.ValueSlots.{slots-next, targets-push}
 use Rattle.std.proofs.Common.{◌≡◌, refl, sym, subst, ap, ◌∙◌, ℕ, ◌+◌, true, cond, [], ◌∷◌, ◌++◌, append-nil, option_to_list, List, Result, Ok, Err, IfOk, OnErr, Option, Some, None, length, arith}
 use Rattle.std.specs.List.{list_all}
 use Rattle.std.specs.Option.{option_map_or, is_some}
@@ -22,7 +22,7 @@ use Rattle.encode_types.specs.Counts.{one_type_more, one_function_more}
 use Rattle.wit_encode.specs.Instance.{SlotsStand, is_slot_of, Contents, outer_scope, outer_contents, is_value_type, is_function_type, resources_in, scope_with, definitions_with}
 use Rattle.wit_encode.proofs.Strict.{bind, definition-strict, function-strict}
 use Rattle.wit_encode.proofs.Contents.{Grew, slots-kept}
-use Rattle.wit_encode.proofs.Components.{steps-count, steps-more, steps-instance, count-more}
+use Rattle.wit_encode.proofs.Components.{steps-count, steps-more, steps-instance}
 use Rattle.wit_encode.proofs.Calls.{Calls, calls-from, some-of, defines-of, function-of, formed-value}
 
 -- no slot stands for anything
@@ -58,10 +58,10 @@ outer-grew outer d x a step =
       followed = ap is_some next ∙ sym (ap is_some a.is);
     }
 
-outer-definitions : (outer : Declarations) (d : Declaration) (types : List ℕ) (functions : ℕ) → (outer_contents outer).types ++ cond (is_value_type d) (type_slots_of outer ∷ []) [] ≡ types → target_of d ≡ None → (outer_contents outer).functions + cond (is_function_type d) 1 0 ≡ functions
+outer-definitions : (outer : Declarations) (d : Declaration) (types functions : List ℕ) → (outer_contents outer).types ++ cond (is_value_type d) (type_slots_of outer ∷ []) [] ≡ types → target_of d ≡ None → (outer_contents outer).functions ++ cond (is_function_type d) (type_slots_of outer ∷ []) [] ≡ functions
     → definitions_with (outer_contents (append outer (Declarations.declares d Declarations.no_more))) ≡ record { types = types; exported = (outer_contents outer).exported; functions = functions; exports = (definitions_with (outer_contents outer)).exports }
 unfolding outer_contents
-outer-definitions outer d types functions t u f = λ i. record { types = (values-next outer d ∙ t) i; exported = (targets-push outer d ∙ ap (λ o. targets_of outer ++ option_to_list o) u ∙ append-nil (targets_of outer)) i; functions = (count-more is_function_type outer d ∙ f) i; exports = [] }
+outer-definitions outer d types functions t u f = λ i. record { types = (slots-next is_value_type outer d ∙ t) i; exported = (targets-push outer d ∙ ap (λ o. targets_of outer ++ option_to_list o) u ∙ append-nil (targets_of outer)) i; functions = (slots-next is_function_type outer d ∙ f) i; exports = [] }
 
 module _ {E : Type 0} (res : Result ℕ E) (r : Resolve) (outer outer' : Declarations) where
   abbrev before : Contents
@@ -104,18 +104,18 @@ module _ {E : Type 0} (res : Result ℕ E) (r : Resolve) (outer outer' : Declara
         let strict : definition a.scope.slots (raw_defined d) ≡ Some t = ap (λ zs. definition zs (raw_defined d)) (sym a.slots) ∙ definition-strict (resources_in r None) before.slots outer-slots d t h f.formed in
         calls-from res r None no_around before after _ _ (Slot.value t) sound (formed-value (resources_in r None) t f.formed) (defines-of before.slots d t h)
         (more-ok (Declaration.defined (raw_defined d)) (Slot.value t) _ (bind (definition a.scope.slots (raw_defined d)) t (λ u. Some (in_scope (Slot.value u) a.scope)) strict) (λ e. ap (λ zs. definitions_with (outer_contents zs)) e
-        ∙ outer-definitions outer (Declaration.defined (raw_defined d)) (before.types ++ length before.slots ∷ []) before.functions (ap (λ (k : ℕ). before.types ++ k ∷ []) (outer-index outer a)) refl (omega arith)) ok)
+        ∙ outer-definitions outer (Declaration.defined (raw_defined d)) (before.types ++ length before.slots ∷ []) before.functions (ap (λ (k : ℕ). before.types ++ k ∷ []) (outer-index outer a)) refl (append-nil before.functions)) ok)
         (err-same err)
 
     pub function-outside : (d : ComponentFuncType) (s : Signature) → FollowsFunction (SlotsStand before.slots) d s → IsFormedSignature (scope_with r None no_around before) s
         → IfOk res (λ k. (k ≡ type_slots_of outer) × (outer' ≡ append outer (Declarations.declares (Declaration.function (raw_function d)) Declarations.no_more))) → OnErr res (outer' ≡ outer)
-        → Calls res (scope_with r None no_around before) (scope_with r None no_around after) before after (DefinesFunction (SlotsStand before.slots) d) (definitions_with after ≡ one_function_more (definitions_with before))
+        → Calls res (scope_with r None no_around before) (scope_with r None no_around after) before after (DefinesFunction (SlotsStand before.slots) d) (definitions_with after ≡ one_function_more (length before.slots) (definitions_with before))
     function-outside d s h f ok err =
         let a = outer-there in
         let strict : function_signature a.scope.slots (raw_function d) ≡ Some s = ap (λ zs. function_signature zs (raw_function d)) (sym a.slots) ∙ function-strict (resources_in r None) before.slots outer-slots d s h f.params f.result_ in
         calls-from res r None no_around before after _ _ (Slot.function s) sound refl (function-of before.slots d s h)
         (more-ok (Declaration.function (raw_function d)) (Slot.function s) _ (bind (function_signature a.scope.slots (raw_function d)) s (λ u. Some (in_scope (Slot.function u) a.scope)) strict) (λ e. ap (λ zs. definitions_with (outer_contents zs)) e
-        ∙ outer-definitions outer (Declaration.function (raw_function d)) before.types (before.functions + 1) (append-nil before.types) refl refl) ok)
+        ∙ outer-definitions outer (Declaration.function (raw_function d)) before.types (before.functions ++ length before.slots ∷ []) (append-nil before.types) refl (ap (λ (k : ℕ). before.functions ++ k ∷ []) (outer-index outer a))) ok)
         (err-same err)
 
 -- a component type in which nothing has been declared yet

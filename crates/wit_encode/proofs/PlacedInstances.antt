@@ -18,8 +18,8 @@ use Rattle.encode_types.specs.Known.{Aliased, AreAliases, Around, GrowsAround, I
 use Rattle.encode_types.proofs.Lists.{both, none-in}
 use Rattle.wit_encode.specs.Encoders.{declared_after}
 use Rattle.wit_encode.specs.Instance.{count_declared}
-use Rattle.encode_types.specs.Distinct.{is_value_type, target_of, targets_of, value_slots}
-use Rattle.wit_encode.proofs.ValueSlots.{instances-behind, instances-kept, targets-instance, targets-kept, values-instance, values-kept}
+use Rattle.encode_types.specs.Distinct.{target_of, targets_of, slots_from}
+use Rattle.wit_encode.proofs.ValueSlots.{instances-behind, instances-kept, targets-instance, targets-kept, slots-instance, slots-kept}
 use Rattle.wit_encode.specs.Worlds.{brought_numbers, instances_declared, is_brought, is_of_listed}
 use Rattle.wit_encode.proofs.Components.{count-instance}
 use Rattle.wit_encode.proofs.Imported.{at-same}
@@ -85,9 +85,9 @@ aliases-instances : (a : Around) (made : List Aliased) → instances_declared (w
 aliases-instances a [] = refl
 aliases-instances a (x ∷ made) = aliases-instances (with_alias a x) made ∙ instances-kept a.declared (alias_declared x)
 
-aliases-values : (a : Around) (made : List Aliased) → value_slots (with_aliases a made).declared ≡ value_slots a.declared
-aliases-values a [] = refl
-aliases-values a (x ∷ made) = aliases-values (with_alias a x) made ∙ values-kept a.declared (alias_declared x) refl
+aliases-slots : (test : Declaration → Bool) → ((x : Aliased) → test (alias_declared x) ≡ false) → (a : Around) (made : List Aliased) → slots_from test 0 (with_aliases a made).declared ≡ slots_from test 0 a.declared
+aliases-slots test none a [] = refl
+aliases-slots test none a (x ∷ made) = aliases-slots test none (with_alias a x) made ∙ slots-kept test a.declared (alias_declared x) (none x)
 
 aliases-targets : (a : Around) (made : List Aliased) → targets_of (with_aliases a made).declared ≡ targets_of a.declared
 aliases-targets a [] = refl
@@ -161,10 +161,10 @@ module _ (r : Resolve) (a before : Around) (g : GrowsAround r a before) (inner :
       ∙ ap (λ (ds : List (Declarations × Declarations)). ds ++ (before.declared, inner) ∷ []) (ap (λ (z : Around). instances_declared z.declared) g.is ∙ aliases-instances a g.made)
 
   -- nothing is defined beside it, and no type is imported
-  pub placed-values : is_value_type d ≡ false → value_slots outer ≡ value_slots a.declared
-  placed-values other =
-      ap value_slots made ∙ values-kept behind d other ∙ values-instance 0 before.declared inner
-      ∙ ap (λ (z : Around). value_slots z.declared) g.is ∙ aliases-values a g.made
+  pub placed-slots : (test : Declaration → Bool) → ((x : Aliased) → test (alias_declared x) ≡ false) → test d ≡ false → slots_from test 0 outer ≡ slots_from test 0 a.declared
+  placed-slots test none other =
+      ap (slots_from test 0) made ∙ slots-kept test behind d other ∙ slots-instance test 0 before.declared inner
+      ∙ ap (λ (z : Around). slots_from test 0 z.declared) g.is ∙ aliases-slots test none a g.made
 
   pub placed-targets : target_of d ≡ None → targets_of outer ≡ targets_of a.declared
   placed-targets other =

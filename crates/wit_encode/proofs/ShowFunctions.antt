@@ -1,5 +1,5 @@
 -- A function that is exported from an instance type.
-use Rattle.std.proofs.Common.{◌≡◌, sym, subst, ap, ◌∙◌, ℕ, ◌+◌, true, List, [], ◌∷◌, ◌++◌, append-nil, count_by, Result, Ok, Err, OnOk, Option, Some, None, slice_get, arith}
+use Rattle.std.proofs.Common.{◌≡◌, sym, subst, ap, ◌∙◌, ℕ, ◌+◌, true, List, [], ◌∷◌, ◌++◌, append-nil, Result, Ok, Err, OnOk, Option, Some, None, slice_get, arith}
 use Rattle.std.specs.List.{list_all}
 use Rattle.std.specs.Option.{option_map_or, is_some}
 use Rattle.wit_model.specs.Text.{Text}
@@ -14,9 +14,8 @@ use Rattle.comp_meaning.specs.Follow.{Slot, InstanceScope, new_instance, is_simp
 use Rattle.wit_encode.specs.declared.interface.OpenInterface.{OpenInterface}
 use Rattle.encode_types.specs.Slots.{function}
 use Rattle.wit_encode.specs.Instance.{standing_at, SlotsStand, is_slot_of, no_view, outer_slots, inner_contents, is_function_type, resources_in, contents_of, encoder_scope, ShowsFunction}
-use Rattle.encode_types.proofs.Marking.{count-push}
-use Rattle.encode_types.specs.Distinct.{value_slots, targets_of}
-use Rattle.wit_encode.proofs.ValueSlots.{values-more, targets-more}
+use Rattle.encode_types.specs.Distinct.{is_value_type, value_slots, function_slots, targets_of}
+use Rattle.wit_encode.proofs.ValueSlots.{slots-more, targets-more}
 use Rattle.wit_encode.proofs.Strict.{bind}
 use Rattle.wit_encode.proofs.Calls.{inner-at}
 use Rattle.wit_encode.proofs.Steps as steps
@@ -48,9 +47,9 @@ shows-inside place outer ds name i s followed simple h =
       functions_shown = ap (λ o. (option_map_or (λ s. s.shown) o no_view).functions) next ∙ ap (λ xs. xs ++ f ∷ []) (sym (ap (λ o. (option_map_or (λ s. s.shown) o no_view).functions) a.is));
       types_shown = ap (λ o. (option_map_or (λ s. s.shown) o no_view).types) next ∙ sym (ap (λ o. (option_map_or (λ s. s.shown) o no_view).types) a.is);
       followed = ap is_some next ∙ sym (ap is_some a.is);
-      types = values-more ds (Declaration.exported name (refs.Func i)) ∙ append-nil (value_slots (from_list ds));
+      types = slots-more is_value_type ds (Declaration.exported name (refs.Func i)) ∙ append-nil (value_slots (from_list ds));
       exported = targets-more ds (Declaration.exported name (refs.Func i)) ∙ append-nil (targets_of (from_list ds));
-      functions = count-push is_function_type ds (Declaration.exported name (refs.Func i)) ∙ (let z : count_by is_function_type ds + 0 ≡ count_by is_function_type ds = omega arith in z);
+      functions = slots-more is_function_type ds (Declaration.exported name (refs.Func i)) ∙ append-nil (function_slots (from_list ds));
     }
 
 pub shows-within : {A E : Type 0} (res : Result A E) (r : Resolve) (outer : Declarations) (inner : Option OpenInterface) (current : OpenInterface) (ds' : List Declaration) (name : ExternName) (i : ℕ) (s : Signature)

@@ -1,6 +1,6 @@
 -- The slots in which value types are defined: which they are, and that each stands for a type without a name. The instance types of a
 -- component type, as it grows.
-use Rattle.std.proofs.Common.{◌≡◌, refl, sym, ap, subst, ◌∙◌, ℕ, zero, suc, ◌+◌, Bool, true, false, cond, List, [], ◌∷◌, ◌++◌, inl, inr, append_assoc, append-nil, Option, Some, None, option_to_list, slice_get, length, length-append, arith}
+use Rattle.std.proofs.Common.{◌≡◌, refl, sym, ap, subst, ◌∙◌, ℕ, zero, suc, ◌+◌, Bool, true, false, cond, List, [], ◌∷◌, ◌++◌, inl, inr, append_assoc, append-nil, Option, Some, None, option_to_list, slice_get, length, length-append, count_by, arith}
 use Rattle.std.specs.List.{Contains}
 use Rattle.std.proofs.lemmas.List.Elements.{Contains-append_cases}
 use Rattle.comp_bytes.specs.declared.forms.ComponentTypeRef.{ComponentTypeRef}
@@ -17,7 +17,10 @@ use Rattle.comp_meaning.specs.Follow.{Slot, InstanceScope, provided, when, each,
 use Rattle.comp_meaning.specs.Follow.{Scope, View, Key, Direction, Seen, import_, export_, see, in_scope, key_of, key_text, interface_of, place_of, used_view, exported_slot, see_instance, see_function, see_type, component_step, component_steps, flat}
 use Rattle.std.specs.Prelude.{not, nat_le, ◌==◌}
 use Rattle.std.specs.List.{list_any}
-use Rattle.encode_types.specs.Distinct.{is_value_type, target_of, targets_of, values_from, value_slots}
+use Rattle.std.proofs.lemmas.List.Sums.{sum_by-append}
+use Rattle.encode_types.specs.Distinct.{is_value_type, target_of, targets_of, slots_from}
+use Rattle.encode_types.proofs.Marking.{count-push}
+use Rattle.wit_encode.specs.Instance.{count_declared}
 use Rattle.encode_types.proofs.Lists.{none-in}
 use Rattle.wit_encode.specs.Worlds.{instances_from, instances_declared}
 use Rattle.wit_encode.proofs.Steps.{unbind, unprovided, unwhen}
@@ -30,25 +33,53 @@ use Rattle.wit_model.proofs.Elements.{one-contained}
 add-nothing : (n : ℕ) → n + 0 ≡ n
 add-nothing n = omega arith
 
-pub values-push : (n : ℕ) (ds : Declarations) (d : Declaration) → values_from n (append ds (Declarations.declares d Declarations.no_more)) ≡ values_from n ds ++ cond (is_value_type d) ((n + type_slots_of ds) ∷ []) []
-values-push n Declarations.no_more d = append-nil (cond (is_value_type d) (n ∷ []) []) ∙ ap (λ (k : ℕ). cond (is_value_type d) (k ∷ []) []) (sym (add-nothing n))
-values-push n (Declarations.declares e rest) d =
-    let here = cond (is_value_type e) (n ∷ []) [] in
+pub slots-push : (test : Declaration → Bool) (n : ℕ) (ds : Declarations) (d : Declaration) → slots_from test n (append ds (Declarations.declares d Declarations.no_more)) ≡ slots_from test n ds ++ cond (test d) ((n + type_slots_of ds) ∷ []) []
+slots-push test n Declarations.no_more d = append-nil (cond (test d) (n ∷ []) []) ∙ ap (λ (k : ℕ). cond (test d) (k ∷ []) []) (sym (add-nothing n))
+slots-push test n (Declarations.declares e rest) d =
+    let here = cond (test e) (n ∷ []) [] in
     let far : n + declaration_slots e + type_slots_of rest ≡ n + (declaration_slots e + type_slots_of rest) = omega arith in
-    ap (λ xs. here ++ xs) (values-push (n + declaration_slots e) rest d ∙ ap (λ (k : ℕ). values_from (n + declaration_slots e) rest ++ cond (is_value_type d) (k ∷ []) []) far)
-    ∙ sym (append_assoc here (values_from (n + declaration_slots e) rest) (cond (is_value_type d) ((n + (declaration_slots e + type_slots_of rest)) ∷ []) []))
-values-push n (Declarations.component inner rest) d =
+    ap (λ xs. here ++ xs) (slots-push test (n + declaration_slots e) rest d ∙ ap (λ (k : ℕ). slots_from test (n + declaration_slots e) rest ++ cond (test d) (k ∷ []) []) far)
+    ∙ sym (append_assoc here (slots_from test (n + declaration_slots e) rest) (cond (test d) ((n + (declaration_slots e + type_slots_of rest)) ∷ []) []))
+slots-push test n (Declarations.component inner rest) d =
     let far : n + 1 + type_slots_of rest ≡ n + (1 + type_slots_of rest) = omega arith in
-    values-push (n + 1) rest d ∙ ap (λ (k : ℕ). values_from (n + 1) rest ++ cond (is_value_type d) (k ∷ []) []) far
-values-push n (Declarations.instance inner rest) d =
+    slots-push test (n + 1) rest d ∙ ap (λ (k : ℕ). slots_from test (n + 1) rest ++ cond (test d) (k ∷ []) []) far
+slots-push test n (Declarations.instance inner rest) d =
     let far : n + 1 + type_slots_of rest ≡ n + (1 + type_slots_of rest) = omega arith in
-    values-push (n + 1) rest d ∙ ap (λ (k : ℕ). values_from (n + 1) rest ++ cond (is_value_type d) (k ∷ []) []) far
+    slots-push test (n + 1) rest d ∙ ap (λ (k : ℕ). slots_from test (n + 1) rest ++ cond (test d) (k ∷ []) []) far
 
-pub values-instance : (n : ℕ) (ds inner : Declarations) → values_from n (append ds (Declarations.instance inner Declarations.no_more)) ≡ values_from n ds
-values-instance n Declarations.no_more inner = refl
-values-instance n (Declarations.declares e rest) inner = ap (λ xs. cond (is_value_type e) (n ∷ []) [] ++ xs) (values-instance (n + declaration_slots e) rest inner)
-values-instance n (Declarations.component x rest) inner = values-instance (n + 1) rest inner
-values-instance n (Declarations.instance x rest) inner = values-instance (n + 1) rest inner
+pub slots-instance : (test : Declaration → Bool) (n : ℕ) (ds inner : Declarations) → slots_from test n (append ds (Declarations.instance inner Declarations.no_more)) ≡ slots_from test n ds
+slots-instance test n Declarations.no_more inner = refl
+slots-instance test n (Declarations.declares e rest) inner = ap (λ xs. cond (test e) (n ∷ []) [] ++ xs) (slots-instance test (n + declaration_slots e) rest inner)
+slots-instance test n (Declarations.component x rest) inner = slots-instance test (n + 1) rest inner
+slots-instance test n (Declarations.instance x rest) inner = slots-instance test (n + 1) rest inner
+
+-- how many there are
+one-long : (b : Bool) (n : ℕ) → length (cond b (n ∷ []) []) ≡ cond b 1 0
+one-long true n = refl
+one-long false n = refl
+
+pub slots-counted : (test : Declaration → Bool) (n : ℕ) (ds : List Declaration) → length (slots_from test n (from_list ds)) ≡ count_by test ds
+slots-counted test n [] = refl
+slots-counted test n (d ∷ ds) =
+    let more = slots-counted test (n + declaration_slots d) ds in
+    let both = length-append (cond (test d) (n ∷ []) []) (slots_from test (n + declaration_slots d) (from_list ds)) in
+    let here = one-long (test d) n in
+    let one : count_by test (d ∷ []) ≡ count_by test [] + cond (test d) 1 0 = count-push test [] d in
+    let none : count_by test [] ≡ 0 = refl in
+    let all : count_by test (d ∷ ds) ≡ count_by test (d ∷ []) + count_by test ds = sum_by-append (λ x. cond (test x) 1 0) (d ∷ []) ds in
+    omega (arith, more, both, here, one, none, all)
+
+pub slots-declared : (test : Declaration → Bool) (n : ℕ) (ds : Declarations) → length (slots_from test n ds) ≡ count_declared test ds
+slots-declared test n Declarations.no_more = refl
+slots-declared test n (Declarations.declares d rest) =
+    let more = slots-declared test (n + declaration_slots d) rest in
+    let both = length-append (cond (test d) (n ∷ []) []) (slots_from test (n + declaration_slots d) rest) in
+    let here = one-long (test d) n in
+    let one : count_by test (d ∷ []) ≡ count_by test [] + cond (test d) 1 0 = count-push test [] d in
+    let none : count_by test [] ≡ 0 = refl in
+    omega (arith, more, both, here, one, none)
+slots-declared test n (Declarations.component inner rest) = slots-declared test (n + 1) rest
+slots-declared test n (Declarations.instance inner rest) = slots-declared test (n + 1) rest
 
 pub targets-push : (ds : Declarations) (d : Declaration) → targets_of (append ds (Declarations.declares d Declarations.no_more)) ≡ targets_of ds ++ option_to_list (target_of d)
 targets-push Declarations.no_more d = append-nil (option_to_list (target_of d))
@@ -63,12 +94,12 @@ targets-instance (Declarations.component x rest) inner = targets-instance rest i
 targets-instance (Declarations.instance x rest) inner = targets-instance rest inner
 
 -- one declaration more
-pub values-next : (ds : Declarations) (d : Declaration) → value_slots (append ds (Declarations.declares d Declarations.no_more)) ≡ value_slots ds ++ cond (is_value_type d) (type_slots_of ds ∷ []) []
-values-next ds d = values-push 0 ds d ∙ ap (λ (k : ℕ). value_slots ds ++ cond (is_value_type d) (k ∷ []) []) (let e : 0 + type_slots_of ds ≡ type_slots_of ds = omega arith in e)
+pub slots-next : (test : Declaration → Bool) (ds : Declarations) (d : Declaration) → slots_from test 0 (append ds (Declarations.declares d Declarations.no_more)) ≡ slots_from test 0 ds ++ cond (test d) (type_slots_of ds ∷ []) []
+slots-next test ds d = slots-push test 0 ds d ∙ ap (λ (k : ℕ). slots_from test 0 ds ++ cond (test d) (k ∷ []) []) (let e : 0 + type_slots_of ds ≡ type_slots_of ds = omega arith in e)
 
 -- where nothing is defined, and no type is named
-pub values-kept : (ds : Declarations) (d : Declaration) → is_value_type d ≡ false → value_slots (append ds (Declarations.declares d Declarations.no_more)) ≡ value_slots ds
-values-kept ds d e = values-push 0 ds d ∙ ap (λ (b : Bool). value_slots ds ++ cond b ((0 + type_slots_of ds) ∷ []) []) e ∙ append-nil (value_slots ds)
+pub slots-kept : (test : Declaration → Bool) (ds : Declarations) (d : Declaration) → test d ≡ false → slots_from test 0 (append ds (Declarations.declares d Declarations.no_more)) ≡ slots_from test 0 ds
+slots-kept test ds d e = slots-push test 0 ds d ∙ ap (λ (b : Bool). slots_from test 0 ds ++ cond b ((0 + type_slots_of ds) ∷ []) []) e ∙ append-nil (slots_from test 0 ds)
 
 pub targets-kept : (ds : Declarations) (d : Declaration) → target_of d ≡ None → targets_of (append ds (Declarations.declares d Declarations.no_more)) ≡ targets_of ds
 targets-kept ds d e = targets-push ds d ∙ ap (λ (o : Option ℕ). targets_of ds ++ option_to_list o) e ∙ append-nil (targets_of ds)
@@ -82,8 +113,8 @@ list-slots : (ds : List Declaration) → 0 + type_slots_of (from_list ds) ≡ ty
 list-slots [] = refl
 list-slots (d ∷ ds) = let more = list-slots ds in omega arith
 
-pub values-more : (ds : List Declaration) (d : Declaration) → value_slots (from_list (ds ++ d ∷ [])) ≡ value_slots (from_list ds) ++ cond (is_value_type d) (type_slots ds ∷ []) []
-values-more ds d = ap value_slots (list-push ds d) ∙ values-push 0 (from_list ds) d ∙ ap (λ (k : ℕ). value_slots (from_list ds) ++ cond (is_value_type d) (k ∷ []) []) (list-slots ds)
+pub slots-more : (test : Declaration → Bool) (ds : List Declaration) (d : Declaration) → slots_from test 0 (from_list (ds ++ d ∷ [])) ≡ slots_from test 0 (from_list ds) ++ cond (test d) (type_slots ds ∷ []) []
+slots-more test ds d = ap (slots_from test 0) (list-push ds d) ∙ slots-push test 0 (from_list ds) d ∙ ap (λ (k : ℕ). slots_from test 0 (from_list ds) ++ cond (test d) (k ∷ []) []) (list-slots ds)
 
 pub targets-more : (ds : List Declaration) (d : Declaration) → targets_of (from_list (ds ++ d ∷ [])) ≡ targets_of (from_list ds) ++ option_to_list (target_of d)
 targets-more ds d = ap targets_of (list-push ds d) ∙ targets-push (from_list ds) d
@@ -237,14 +268,14 @@ inner-new place outer s m (Declaration.alias_of a) i e c = none-in i c
 inner-new place outer s m (Declaration.imported name described) i e c = none-in i c
 inner-new place outer s m (Declaration.exported name described) i e c = none-in i c
 
-pub inner-values : (place : Place) (outer : List Slot) (s s' : InstanceScope) (ds : List Declaration) (i : ℕ) → instance_steps place outer s ds ≡ Some s' → Contains (values_from (length s.slots) (from_list ds)) i → HoldsPlain s'.slots i
+pub inner-values : (place : Place) (outer : List Slot) (s s' : InstanceScope) (ds : List Declaration) (i : ℕ) → instance_steps place outer s ds ≡ Some s' → Contains (slots_from is_value_type (length s.slots) (from_list ds)) i → HoldsPlain s'.slots i
 inner-values place outer s s' [] i e c = none-in i c
 inner-values place outer s s' (d ∷ ds) i e c =
     let b = unbind (instance_step place outer s d) _ s' e in
     let count : length b.item.slots ≡ length s.slots + declaration_slots d = steps.step-count place outer s b.item d b.is in
-    elim (Contains-append_cases (cond (is_value_type d) (length s.slots ∷ []) []) (values_from (length s.slots + declaration_slots d) (from_list ds)) i c) [
+    elim (Contains-append_cases (cond (is_value_type d) (length s.slots ∷ []) []) (slots_from is_value_type (length s.slots + declaration_slots d) (from_list ds)) i c) [
       | inl here ↦ holds-front b.item.slots s'.slots i (inner-fronts place outer b.item s' ds b.then) (inner-new place outer s b.item d i b.is here)
-      | inr more ↦ inner-values place outer b.item s' ds i b.then (subst (λ (n : ℕ). Contains (values_from n (from_list ds)) i) (sym count) more)
+      | inr more ↦ inner-values place outer b.item s' ds i b.then (subst (λ (n : ℕ). Contains (slots_from is_value_type n (from_list ds)) i) (sym count) more)
     ]
 
 -- ---- in a component type
@@ -305,18 +336,18 @@ outer-new s m (Declaration.alias_of a) i e c = none-in i c
 outer-new s m (Declaration.imported name described) i e c = none-in i c
 outer-new s m (Declaration.exported name described) i e c = none-in i c
 
-pub outer-values : (s s' : Scope) (ds : Declarations) (i : ℕ) → component_steps s ds ≡ Some s' → Contains (values_from (length s.slots) ds) i → HoldsPlain s'.slots i
+pub outer-values : (s s' : Scope) (ds : Declarations) (i : ℕ) → component_steps s ds ≡ Some s' → Contains (slots_from is_value_type (length s.slots) ds) i → HoldsPlain s'.slots i
 outer-values s s' Declarations.no_more i e c = none-in i c
 outer-values s s' (Declarations.declares d rest) i e c =
     let b = unbind (component_step s d) _ s' e in
     let count : length b.item.slots ≡ length s.slots + declaration_slots d = components.step-count s b.item d b.is in
-    elim (Contains-append_cases (cond (is_value_type d) (length s.slots ∷ []) []) (values_from (length s.slots + declaration_slots d) rest) i c) [
+    elim (Contains-append_cases (cond (is_value_type d) (length s.slots ∷ []) []) (slots_from is_value_type (length s.slots + declaration_slots d) rest) i c) [
       | inl here ↦ holds-front b.item.slots s'.slots i (outer-fronts b.item s' rest b.then) (outer-new s b.item d i b.is here)
-      | inr more ↦ outer-values b.item s' rest i b.then (subst (λ (n : ℕ). Contains (values_from n rest) i) (sym count) more)
+      | inr more ↦ outer-values b.item s' rest i b.then (subst (λ (n : ℕ). Contains (slots_from is_value_type n rest) i) (sym count) more)
     ]
 outer-values s s' (Declarations.component inner rest) i e c = absurd (let z : ⊥ = cc in z)
 outer-values s s' (Declarations.instance inner rest) i e c =
     let b = unbind (flat inner) _ s' e in
     let x = Slot.instance b.item (length s.slots) in
     let count : length (in_scope x s).slots ≡ length s.slots + 1 = length-append s.slots (x ∷ []) in
-    outer-values (in_scope x s) s' rest i b.then (subst (λ (n : ℕ). Contains (values_from n rest) i) (sym count) c)
+    outer-values (in_scope x s) s' rest i b.then (subst (λ (n : ℕ). Contains (slots_from is_value_type n rest) i) (sym count) c)

@@ -29,7 +29,7 @@ use Rattle.encode_shown.specs.PackageTypes.{ArePackageTypes, IsInterfaceType, Is
 use Rattle.encode_shown.proofs.Owning.{own-path}
 use Rattle.encode_shown.proofs.PackageTypes as shown
 use Rattle.wit_encode.proofs.CustomSections.{exported-behind}
-use Rattle.wit_encode.specs.Packages.{AddsWorlds, AreNamed, AreWorlds, HasMembers, HasNoClashes, HasNoMembers, HaveNoEqualPaths, HoldsInterfaces, HoldsMembers, HoldsPackage, IsTypeOf, IsWrapperOf, Listed, ListedWorld, MeansPackage, PartsMean, RefusesInterfaces, RefusesPackage, RefusesWorlds}
+use Rattle.wit_encode.specs.Packages.{AddsWorlds, AreNamed, AreWorlds, HasMembers, HasNoClashes, HasNoMembers, HaveNoEqualPaths, HoldsInterfaces, HoldsMembers, HoldsPackage, IsTypeOf, IsWrapperOf, Listed, ListedWorld, MeansPackage, PartsMean, RefusesInterfaces, RefusesPackage, RefusesPackageAt, RefusesWorlds}
 
 -- ---- what stands in a package
 
@@ -158,6 +158,15 @@ module _ {X : Type 0} (r : Resolve) (p : Package) (canonical : Bool) (e : Error)
 
   pub component-refused : RefusesPackage r p canonical e → IsErrAnd given (λ d. d ≡ e) → IfErr given (RefusesPackage r p canonical)
   component-refused = passed
+
+-- the same of the package of a number
+pub package-at : {X : Type 0} (r : Resolve) (n : ℕ) (canonical : Bool) (given : Result X Error) → ((p : Package) → package_at r n ≡ Some p → IfErr given (RefusesPackage r p canonical)) → IfErr given (RefusesPackageAt r n canonical)
+package-at r n canonical (Ok x) h = tt
+package-at r n canonical (Err e) h = h
+
+pub package-passed : {X : Type 0} (r : Resolve) (n : ℕ) (canonical : Bool) (e : Error) (given : Result X Error) → RefusesPackageAt r n canonical e → IsErrAnd given (λ d. d ≡ e) → IfErr given (RefusesPackageAt r n canonical)
+package-passed r n canonical e (Ok x) h same = tt
+package-passed r n canonical e (Err d) h same = subst (RefusesPackageAt r n canonical) (sym same) h
 
 pub room-refused : {X : Type 0} (r : Resolve) (p : Package) (canonical : Bool) (given : Result X Error) → (canonical ≡ true → HasNoClashes r p) → IfErr given IsMemoryOrSize → IfErr given (RefusesPackage r p canonical)
 room-refused r p canonical (Ok x) differ h = tt

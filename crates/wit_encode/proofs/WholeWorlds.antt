@@ -1,6 +1,7 @@
 -- A component type in which all imports and exports of a world are shown is that of the world.
-use Rattle.std.proofs.Common.{◌≡◌, sym, subst, Bool, true}
+use Rattle.std.proofs.Common.{◌≡◌, sym, subst, ℕ, Bool, true, Some}
 use Rattle.std.specs.Prelude.{IfErr, IsErrAnd, OnOk, Result, Ok, Err}
+use Rattle.wit_model.specs.Lookup.{world_at}
 use Rattle.wit_model.specs.Valid.{IsValid}
 use Rattle.wit_model.specs.declared.error.Error.{Error}
 use Rattle.wit_model.specs.declared.error.Error.TheVariants as errors
@@ -12,6 +13,7 @@ use Rattle.encode_shown.proofs.Worlds.{world-obeys}
 use Rattle.encode_shown.proofs.WorldMeans.{world-means, world-package-means}
 use Rattle.encode_names.specs.Clashes.{HasNoClash, RefusesNames}
 use Rattle.encode_names.proofs.WorldSteps.{worlds_are_shown}
+use Rattle.wit_encode.specs.Packages.{RefusesWorldAt}
 use Rattle.wit_encode.specs.WholeWorlds.{RefusesWorld, ShowsWorldType}
 use Rattle.wit_encode.specs.WorldItems.{HasShown, ended}
 use Rattle.wit_encode.specs.Worlds.{WorldEncoder}
@@ -39,12 +41,18 @@ module _ (r : Resolve) (w : World) (canonical : Bool) where
   room-refused none (Ok x) refuses = tt
   room-refused none (Err e) refuses = RefusesWorld.of_room none refuses
 
-  pub none-clash : {X : Type 0} → HasNoClash r w → (given : Result X Error) → OnOk given (HasNoClash r w)
-  none-clash none (Ok x) = none
-  none-clash none (Err e) = tt
-
   -- names that clash aren't too large
   pub clash-fits : {X Q : Type 0} (e : Error) (given : Result X Error) → RefusesNames r w canonical e → IsErrAnd given (λ f. f ≡ e) → given ≡ Err errors.Size → Q
   clash-fits e (Ok x) refuses h refused = absurd (let z : ⊥ = cc in z)
   clash-fits e (Err f) (RefusesNames.memory is) h refused = absurd (let z : ⊥ = cc in z)
   clash-fits e (Err f) (RefusesNames.clash asked name at is) h refused = absurd (let z : ⊥ = cc in z)
+
+-- what holds by itself holds of any result
+pub at-any : {X P : Type 0} (given : Result X Error) → P → OnOk given P
+at-any (Ok x) p = p
+at-any (Err e) p = tt
+
+-- the same of the world of a number
+pub world-at : {X : Type 0} (r : Resolve) (n : ℕ) (canonical : Bool) (given : Result X Error) → ((w : World) → world_at r n ≡ Some w → IfErr given (RefusesWorld r w canonical)) → IfErr given (RefusesWorldAt r n canonical)
+world-at r n canonical (Ok x) h = tt
+world-at r n canonical (Err e) h = h

@@ -33,7 +33,7 @@ abbrev DefinesTo : {E : Type 0} → Result ℕ E → Resolve → Declarations �
 DefinesTo res r outer inner outer' inner' d = CallsTo res r outer inner outer' inner' (Defines (SlotsStand (contents_of r outer inner).slots) d) (definitions_with (contents_of r outer' inner') ≡ one_type_more (length (contents_of r outer inner).slots) (definitions_with (contents_of r outer inner)))
 
 abbrev DefinesFunctionTo : {E : Type 0} → Result ℕ E → Resolve → Declarations → Option OpenInterface → Declarations → Option OpenInterface → ComponentFuncType → Type 0
-DefinesFunctionTo res r outer inner outer' inner' d = CallsTo res r outer inner outer' inner' (DefinesFunction (SlotsStand (contents_of r outer inner).slots) d) (definitions_with (contents_of r outer' inner') ≡ one_function_more (definitions_with (contents_of r outer inner)))
+DefinesFunctionTo res r outer inner outer' inner' d = CallsTo res r outer inner outer' inner' (DefinesFunction (SlotsStand (contents_of r outer inner).slots) d) (definitions_with (contents_of r outer' inner') ≡ one_function_more (length (contents_of r outer inner).slots) (definitions_with (contents_of r outer inner)))
 
 abbrev ShowsTo : {E : Type 0} → Result ℕ E → Resolve → Declarations → Option OpenInterface → Option OpenInterface → Option ℕ → ExternName → Type 0
 ShowsTo res r outer inner inner' slot name = CallsTo res r outer inner outer inner' (λ m. m ≡ tree (named (encoder_scope r outer inner).place name.text)) (ExportsOne (encoder_scope r outer inner) (definitions_with (contents_of r outer inner)) (definitions_with (contents_of r outer inner')) slot name)
@@ -42,6 +42,11 @@ ShowsTo res r outer inner inner' slot name = CallsTo res r outer inner outer inn
 pub slot-defined : {E : Type 0} (res : Result ℕ E) (S S' : Pairs) (n n' : ℕ) (P : Standing → Type 0) (d d' : Definitions) → IfOk res (λ k. SlotAdded S S' n n' k P) → OnOk res (d' ≡ one_type_more n d) → IfOk res (λ k. d' ≡ one_type_more k d)
 slot-defined (Ok k) S S' n n' P d d' a e = e ∙ ap (λ (i : ℕ). one_type_more i d) (sym a.index)
 slot-defined (Err q) S S' n n' P d d' a e = e
+
+-- the type of a function, likewise
+pub slot-function : {E : Type 0} (res : Result ℕ E) (S S' : Pairs) (n n' : ℕ) (P : Standing → Type 0) (d d' : Definitions) → IfOk res (λ k. SlotAdded S S' n n' k P) → OnOk res (d' ≡ one_function_more n d) → IfOk res (λ k. d' ≡ one_function_more k d)
+slot-function (Ok k) S S' n n' P d d' a e = e ∙ ap (λ (i : ℕ). one_function_more i d) (sym a.index)
+slot-function (Err q) S S' n n' P d d' a e = e
 
 module _ {E : Type 0} (res : Result ℕ E) (r : Resolve) (outer : Declarations) (inner : Option OpenInterface) where
   module _ (current : OpenInterface) (ds' : List Declaration) (is : inner ≡ Some current) where

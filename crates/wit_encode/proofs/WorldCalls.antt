@@ -33,7 +33,7 @@ use Rattle.encode_types.specs.Scope.{Scope, IsDeclared, DeclaresSlot, DeclaresRe
 use Rattle.encode_types.specs.Formed.{IsFormed, IsFormedSignature}
 use Rattle.encode_types.specs.Counts.{one_type_more, one_function_more, ExportsOne}
 use Rattle.encode_types.specs.Distinct.{is_value_type, is_function_type, described_slot, target_of}
-use Rattle.wit_encode.proofs.ValueSlots.{values-next, targets-push, instances-kept}
+use Rattle.wit_encode.proofs.ValueSlots.{slots-next, targets-push, instances-kept}
 use Rattle.encode_types.specs.Known.{Around, Aliased, IsAlias, IsSource, ReachesAround, as_before, aliased, alias_declared, are_right, is_slot_for, known_slot, outer_scope, outer_slots, standing_instances, with_alias}
 use Rattle.encode_types.specs.Standing.{SlotsStand, is_slot_of, standing_at}
 use Rattle.encode_types.specs.View.{View, Grows}
@@ -44,7 +44,7 @@ use Rattle.wit_encode.specs.Encoders.{declared_after}
 use Rattle.wit_encode.specs.WrittenNames.{described_name, instance_declarations, instance_name}
 use Rattle.wit_encode.specs.Worlds.{declared_type, is_sound_outside, world_definitions, world_resources, world_scope, world_view, instances_declared}
 use Rattle.wit_encode.proofs.Calls.{defines-of, formed-value, function-of}
-use Rattle.wit_encode.proofs.Components.{count-more, steps-count, steps-more}
+use Rattle.wit_encode.proofs.Components.{steps-count, steps-more}
 use Rattle.wit_encode.proofs.Contents.{IsOf, slots-kept}
 use Rattle.wit_encode.proofs.Declaring.{DeclaredAs, declared-slot, declared-resource}
 use Rattle.wit_encode.proofs.Importing.{Stands, cut-short, importable-sound, importable-stands, known-right, named-slot, right-more, stands, still-right}
@@ -91,13 +91,13 @@ module _ (r : Resolve) (w : WorldId) (a : Around) (sound : SoundOutside r w a) w
       }
 
   -- what has been defined afterwards
-  definitions-after : (outer : Declarations) (d : Declaration) (x : Slot) (types : List Seen) → Widens r w a (after_declaring a outer) x types → outer ≡ declared_after a.declared d → (n u : List ℕ) (k : ℕ)
+  definitions-after : (outer : Declarations) (d : Declaration) (x : Slot) (types : List Seen) → Widens r w a (after_declaring a outer) x types → outer ≡ declared_after a.declared d → (n u k : List ℕ)
       → (world_definitions a.declared).types ++ cond (is_value_type d) (type_slots_of a.declared ∷ []) [] ≡ n → (world_definitions a.declared).exported ++ option_to_list (target_of d) ≡ u
-      → (world_definitions a.declared).functions + cond (is_function_type d) 1 0 ≡ k → world_definitions outer ≡ record { types = n; exported = u; functions = k; exports = (world_definitions a.declared).exports ++ filter_map declared_type types }
+      → (world_definitions a.declared).functions ++ cond (is_function_type d) (type_slots_of a.declared ∷ []) [] ≡ k → world_definitions outer ≡ record { types = n; exported = u; functions = k; exports = (world_definitions a.declared).exports ++ filter_map declared_type types }
   definitions-after outer d x types m e n u k t q f = λ i. record {
-    types = (ap (λ z. (world_definitions z).types) e ∙ values-next a.declared d ∙ t) i;
+    types = (ap (λ z. (world_definitions z).types) e ∙ slots-next is_value_type a.declared d ∙ t) i;
     exported = (ap (λ z. (world_definitions z).exported) e ∙ targets-push a.declared d ∙ q) i;
-    functions = (ap (λ z. (world_definitions z).functions) e ∙ count-more is_function_type a.declared d ∙ f) i;
+    functions = (ap (λ z. (world_definitions z).functions) e ∙ slots-next is_function_type a.declared d ∙ f) i;
     exports = exports-more r w a (after_declaring a outer) x types m sound i;
   }
 
@@ -148,21 +148,21 @@ module _ {E : Type 0} (res : Result ℕ E) (r : Resolve) (w : WorldId) (count : 
         (bind (definition sound.scope.slots (raw_defined d)) t (λ u. Some (in_scope (Slot.value u) sound.scope)) strict) (slot-extends sound.scope (Slot.value t) refl) refl (formed-value (world_resources r w) t f.formed)
         (defines-of (outer_slots a.declared) d t h)
         (λ m e. definitions-after r w a sound outer (Declaration.defined (raw_defined d)) (Slot.value t) [] m e ((world_definitions a.declared).types ++ length (outer_slots a.declared) ∷ []) (world_definitions a.declared).exported (world_definitions a.declared).functions
-        (ap (λ (k : ℕ). (world_definitions a.declared).types ++ k ∷ []) (index-next r w a sound)) (append-nil (world_definitions a.declared).exported) (omega arith)
+        (ap (λ (k : ℕ). (world_definitions a.declared).types ++ k ∷ []) (index-next r w a sound)) (append-nil (world_definitions a.declared).exported) (append-nil (world_definitions a.declared).functions)
         ∙ (λ i. record { types = (world_definitions a.declared).types ++ length (outer_slots a.declared) ∷ []; exported = (world_definitions a.declared).exported; functions = (world_definitions a.declared).functions; exports = append-nil (world_definitions a.declared).exports i }))
         ok err
 
     pub defines-function : (d : ComponentFuncType) (s : Signature) → FollowsFunction (SlotsStand (outer_slots a.declared)) d s → IsFormedSignature scope s → Declared (Declaration.function (raw_function d)) → OnErr res (outer ≡ a.declared)
-        → Leads (DefinesFunction (SlotsStand (outer_slots a.declared)) d) (world_definitions outer ≡ one_function_more (world_definitions a.declared))
+        → Leads (DefinesFunction (SlotsStand (outer_slots a.declared)) d) (world_definitions outer ≡ one_function_more (length (outer_slots a.declared)) (world_definitions a.declared))
     defines-function d s h f ok err =
         let strict : function_signature sound.scope.slots (raw_function d) ≡ Some s = ap (λ zs. function_signature zs (raw_function d)) (sym (same-slots r w a sound))
         ∙ function-strict (world_resources r w) (outer_slots a.declared) (slots-sound r w a sound) d s h f.params f.result_ in
         declares (Declaration.function (raw_function d)) (Slot.function s) [] (in_scope (Slot.function s) sound.scope) _ _
         (bind (function_signature sound.scope.slots (raw_function d)) s (λ u. Some (in_scope (Slot.function u) sound.scope)) strict) (slot-extends sound.scope (Slot.function s) refl) refl refl
         (function-of (outer_slots a.declared) d s h)
-        (λ m e. definitions-after r w a sound outer (Declaration.function (raw_function d)) (Slot.function s) [] m e (world_definitions a.declared).types (world_definitions a.declared).exported ((world_definitions a.declared).functions + 1)
-        (append-nil (world_definitions a.declared).types) (append-nil (world_definitions a.declared).exported) refl
-        ∙ (λ i. record { types = (world_definitions a.declared).types; exported = (world_definitions a.declared).exported; functions = (world_definitions a.declared).functions + 1; exports = append-nil (world_definitions a.declared).exports i }))
+        (λ m e. definitions-after r w a sound outer (Declaration.function (raw_function d)) (Slot.function s) [] m e (world_definitions a.declared).types (world_definitions a.declared).exported ((world_definitions a.declared).functions ++ length (outer_slots a.declared) ∷ [])
+        (append-nil (world_definitions a.declared).types) (append-nil (world_definitions a.declared).exported) (ap (λ (k : ℕ). (world_definitions a.declared).functions ++ k ∷ []) (index-next r w a sound))
+        ∙ (λ i. record { types = (world_definitions a.declared).types; exported = (world_definitions a.declared).exported; functions = (world_definitions a.declared).functions ++ length (outer_slots a.declared) ∷ []; exports = append-nil (world_definitions a.declared).exports i }))
         ok err
 
     -- ---- types of the world, which are imported
@@ -199,7 +199,7 @@ module _ {E : Type 0} (res : Result ℕ E) (r : Resolve) (w : WorldId) (count : 
           there = declared.there;
           named_ = is;
           one_more = definitions-after r w a sound outer (Declaration.imported name described) x (seen ∷ []) m e (world_definitions a.declared).types ((world_definitions a.declared).exported ++ option_to_list slot) (world_definitions a.declared).functions
-              (append-nil (world_definitions a.declared).types) (ap (λ o. (world_definitions a.declared).exported ++ option_to_list o) from) (omega arith)
+              (append-nil (world_definitions a.declared).types) (ap (λ o. (world_definitions a.declared).exported ++ option_to_list o) from) (append-nil (world_definitions a.declared).functions)
               ∙ (λ j. record { types = (world_definitions a.declared).types; exported = (world_definitions a.declared).exported ++ option_to_list slot; functions = (world_definitions a.declared).functions; exports = (world_definitions a.declared).exports ++ meant j ∷ [] });
         })
         ok err
@@ -265,6 +265,7 @@ pub record WorldImports (r : Resolve) (v v' : View) (n : ℕ) (known : List (ℕ
   pub grows : Grows v v'
   pub scope_stays : v'.scope ≡ v.scope
   pub counted : v'.definitions ≡ v.definitions
+  pub around_stays : v'.around ≡ v.around
 
 module _ (r : Resolve) (w : WorldId) (count : ℕ) (a : Around) (maps : TypeEncodingMaps) (j : ℕ) (id : TypeId) (m : IsImportable (world_scope r w count a) j id.0) where
   abbrev importable : SoundOutside r w a
@@ -289,6 +290,7 @@ module _ (r : Resolve) (w : WorldId) (count : ℕ) (a : Around) (maps : TypeEnco
     grows = record { kept = λ i s h. h; more = omega arith; around_ = around-same refl };
     scope_stays = refl;
     counted = refl;
+    around_stays = refl;
   }
 
   was-made : (al : Aliased) → IsAlias r a al → al.number ≡ id → ImportsTo (with_alias a al)
@@ -323,9 +325,10 @@ module _ (r : Resolve) (w : WorldId) (count : ℕ) (a : Around) (maps : TypeEnco
           around_ = around-same (λ i. record { declared = wide.instances i; instances = []; known = [] });
         };
         scope_stays = scope-stays r w a (with_alias a al) x [] wide s count;
+        around_stays = λ i. record { declared = wide.instances i; instances = []; known = [] };
         counted = definitions-after r w a s (with_alias a al).declared (alias_declared al) x []
             (declared-widens r w a s (with_alias a al).declared (alias_declared al) x [] (in_scope x s.scope) step (slot-extends s.scope x foreign.plain) refl foreign.kept refl) refl
-            (world_definitions a.declared).types (world_definitions a.declared).exported (world_definitions a.declared).functions (append-nil (world_definitions a.declared).types) (append-nil (world_definitions a.declared).exported) (omega arith)
+            (world_definitions a.declared).types (world_definitions a.declared).exported (world_definitions a.declared).functions (append-nil (world_definitions a.declared).types) (append-nil (world_definitions a.declared).exported) (append-nil (world_definitions a.declared).functions)
             ∙ (λ i. record { types = (world_definitions a.declared).types; exported = (world_definitions a.declared).exported; functions = (world_definitions a.declared).functions; exports = append-nil (world_definitions a.declared).exports i });
       }
     where

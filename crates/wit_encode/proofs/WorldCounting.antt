@@ -29,7 +29,7 @@ use Rattle.encode_types.specs.declared.key.FunctionKey.{FunctionKey}
 use Rattle.encode_types.specs.declared.maps.TypeEncodingMaps.{TypeEncodingMaps}
 use Rattle.encode_types.specs.Codes.{lists_of}
 use Rattle.encode_types.specs.Counts.{AddsTypes, AddsFunction, names_defined}
-use Rattle.encode_types.specs.Distinct.{key_of, are_same, is_value_type, is_function_type, described_slot, target_of, targets_of, value_slots, defined_under_names, AddsFunctions}
+use Rattle.encode_types.specs.Distinct.{key_of, are_same, is_value_type, is_function_type, described_slot, target_of, targets_of, value_slots, function_slots, StandForKeys, defined_under_names, AddsFunctions}
 use Rattle.encode_types.specs.Key.{IsKeyOf}
 use Rattle.encode_types.specs.Maps.{IsKnown, IsOnce}
 use Rattle.encode_types.specs.MetKinds.{LearnsFrom, LearnsMet}
@@ -43,12 +43,12 @@ use Rattle.wit_encode.specs.WorldCounts.{DefinesInterface, DefinesOnce, HasDefin
 use Rattle.wit_encode.specs.WorldRoom.{functions_among, referred_among, type_ids_among}
 use Rattle.wit_encode.specs.Worlds.{WorldEncoder, instances_declared, world_around, world_definitions, world_view_of}
 use Rattle.wit_encode.proofs.Components.{count-more}
-use Rattle.wit_encode.proofs.ValueSlots.{IsPlain, values-kept, targets-kept, instances-kept, outer-values}
+use Rattle.wit_encode.proofs.ValueSlots.{IsPlain, slots-kept, slots-declared, targets-kept, instances-kept, outer-values}
 use Rattle.wit_encode.proofs.DefinedTypes.{HeldKinds, defines-types}
 use Rattle.wit_encode.proofs.WorldScope.{sound-outside}
 use Rattle.wit_encode.proofs.Counting.{slots-once, adds-alike, adds-function, adds-nothing, adds-trans, adds-types, exact-names}
 use Rattle.wit_encode.proofs.Mapped.{from-map}
-use Rattle.wit_encode.proofs.HeldKeys.{Keyed, both-ways, keyed, knows-none}
+use Rattle.wit_encode.proofs.HeldKeys.{Keyed, both-ways, keyed, knows-none, stand-for-keys, slots-many}
 use Rattle.wit_encode.proofs.Referring.{from-met, from-none, from-then, interface-kinds}
 use Rattle.wit_model.proofs.Elements.{contains-map}
 
@@ -148,9 +148,9 @@ function-defined r e e' es scope own k i f is key n direction name outer h once 
     let x : Entry = (k, item.Function f) in
     let next : WorldEncoder = record e' { outer = outer } in
     let d = declared_towards direction name (refs.Func n) in
-    let values_ : value_slots outer ≡ value_slots e'.outer = ap value_slots made ∙ values-kept e'.outer d (towards-value direction name (refs.Func n)) in
+    let values_ : value_slots outer ≡ value_slots e'.outer = ap value_slots made ∙ slots-kept is_value_type e'.outer d (towards-value direction name (refs.Func n)) in
     let targets_ : targets_of outer ≡ targets_of e'.outer = ap targets_of made ∙ targets-kept e'.outer d (towards-target direction name (refs.Func n) refl) in
-    let functions_ : count_declared is_function_type outer ≡ count_declared is_function_type e'.outer = ap (count_declared is_function_type) made ∙ counts-declared is_function_type e'.outer d (towards-function direction name (refs.Func n)) in
+    let functions_ : function_slots outer ≡ function_slots e'.outer = ap function_slots made ∙ slots-kept is_function_type e'.outer d (towards-function direction name (refs.Func n)) in
     subst (λ (j : WorldItem). HasDefined r next (es ++ (k, j) ∷ [])) (sym is)
     (defines-more r e next es h x (f ∷ []) (function_types f) refl (function-referred k f)
     (adds-alike (sym own) refl refl refl refl values_ targets_ functions_ (adds-function key n f is_key once a))
@@ -171,7 +171,7 @@ none-defined r e o a b c = record {
   no_numbers = a;
   no_kinds = b;
   no_keys = c;
-  adds = adds-alike refl refl refl refl refl (ap value_slots o) (ap targets_of o) (ap (count_declared is_function_type) o) (adds-nothing r (no_interface r) e.maps nothing_defined);
+  adds = adds-alike refl refl refl refl refl (ap value_slots o) (ap targets_of o) (ap function_slots o) (adds-nothing r (no_interface r) e.maps nothing_defined);
   learns = from-none r None [] e.maps;
   inside = subst (λ (z : Declarations). AllZip (DefinesInterface r) [] (instances_declared z)) (sym o) tt;
 }
@@ -182,15 +182,14 @@ pub defines-once : (r : Resolve) → IsValid r → (w : World) (e : WorldEncoder
 defines-once r v w e done s h = record {
   keys = k.keys;
   function_types =
-      (let none : length h.began.func_type_map.entries ≡ 0 = ap length h.no_keys in
-      let x = h.adds.functions_ in
-      let y = k.count in
-      let z : length (lists_of e.maps.func_type_map) ≡ length e.maps.func_type_map.entries = length-map e.maps.func_type_map.entries (λ (e : Vec ℕ Global × ℕ). (e.0.items, e.1)) in
-      omega (arith, none, x, y, z));
+      (let a = slots-declared is_function_type 0 e.outer in
+      let b = slots-many r (SlotsStand (outer_slots e.outer)) e.maps k e.outer slots in
+      omega (arith, a, b));
   different = k.different;
   same = λ q. both-ways (is_member are_same k.keys q) (is_member are_same (map key_of (functions_among es)) q)
       (λ m. elim (h.adds.known q (k.known q m)) [ inl c ↦ absurd (knows-none h.began q h.no_keys c) | inr c ↦ c ])
       (λ m. k.all q (h.adds.learnt q m));
+  slots = slots;
   value_types = defines-types r v None (no_interface r) (SlotsStand (outer_slots e.outer)) h.began e.maps nothing_defined (world_definitions e.outer) (type_ids_among es) (functions_among es) e.outer
       h.adds.slots s.agree (slots-once (outer_slots e.outer)) plain h.adds.slots.types h.adds.slots.exported h.no_numbers h.no_kinds held names;
   inside = h.inside;
@@ -204,6 +203,9 @@ defines-once r v w e done s h = record {
 
     k : Keyed e.maps
     k = keyed e.maps once
+
+    slots : StandForKeys r (SlotsStand (outer_slots e.outer)) k.keys e.outer
+    slots = stand-for-keys r (SlotsStand (outer_slots e.outer)) h.began e.maps k e.outer s.agree h.no_keys h.adds.types_added h.adds.functions_ h.adds.keys_
 
     number : ℕ → TypeId
     number n = record { 0 = n }

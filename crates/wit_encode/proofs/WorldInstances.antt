@@ -19,7 +19,6 @@ use Rattle.comp_bytes.specs.declared.forms.ComponentTypeRef.TheVariants as refs
 use Rattle.comp_meaning.specs.Follow.{Direction, import_, export_}
 use Rattle.encode_shown.proofs.Zips.{zip-append}
 use Rattle.encode_types.specs.declared.maps.TypeEncodingMaps.{TypeEncodingMaps}
-use Rattle.encode_types.specs.Distinct.{is_function_type}
 use Rattle.encode_types.specs.Known.{Aliased, Around, GrowsAround, alias_declared, known_instance}
 use Rattle.encode_types.specs.Maps.{IsOnce}
 use Rattle.encode_types.specs.MetKinds.{LearnsFrom}
@@ -28,14 +27,15 @@ use Rattle.encode_types.proofs.Lists.{none-in}
 use Rattle.encode_names.specs.WorldNames.{name_of_item}
 use Rattle.encode_names.specs.WorldSteps.{Entry, Entries, declared_towards, interfaces_among}
 use Rattle.wit_encode.specs.Encoders.{InterfaceLacksRoom, declared_after}
-use Rattle.wit_encode.specs.Instance.{EncodesInterface, LacksInstanceRoom, count_declared}
+use Rattle.encode_types.specs.Distinct.{is_value_type, is_function_type}
+use Rattle.wit_encode.specs.Instance.{EncodesInterface, LacksInstanceRoom}
 use Rattle.wit_encode.specs.WorldCounts.{DefinesInterface, HasDefined, no_interface}
 use Rattle.wit_encode.specs.WorldHolds.{HoldsFew, LacksDeclaration}
 use Rattle.wit_encode.specs.WorldItems.{IsNext, ListsInstance, all_done}
 use Rattle.wit_encode.specs.WorldRoom.{functions_among, count_among, entries_in, WorldLacksRoom, an_interface, a_name}
 use Rattle.wit_encode.specs.Worlds.{WorldEncoder, brought_numbers, instances_declared, world_around, world_definitions}
 use Rattle.wit_encode.proofs.Counting.{adds-alike, adds-nothing}
-use Rattle.wit_encode.proofs.PlacedInstances.{grown-few, grown-listed, listed-cases, one-behind, placed-counted, placed-few, placed-instances, placed-targets, placed-values}
+use Rattle.wit_encode.proofs.PlacedInstances.{grown-few, grown-listed, listed-cases, one-behind, placed-few, placed-instances, placed-targets, placed-slots}
 use Rattle.wit_encode.proofs.Referring.{from-none}
 use Rattle.wit_encode.proofs.Refusing.{counts-refused, outer-slots-few}
 use Rattle.wit_encode.proofs.WorldCounting.{defines-behind, interfaces-more, towards-function, towards-target, towards-value}
@@ -89,14 +89,11 @@ module _ (r : Resolve) (e e' e'' : WorldEncoder) (x : Entry) (i : InterfaceId) (
   instances-then : instances_declared e''.outer ≡ instances_declared e.outer ++ (before.declared, inner) ∷ []
   instances-then = placed-instances r (world_around e) before encodes.part.aliases inner described e''.outer outer-then
 
-  counted-then : (test : Declaration → Bool) → ((a : Aliased) → test (alias_declared a) ≡ false) → test described ≡ false → count_declared test e''.outer ≡ count_declared test e.outer
-  counted-then = placed-counted r (world_around e) before encodes.part.aliases inner described e''.outer outer-then
-
   -- nothing is defined beside the instance type
   pub interface-defined : (es : List Entry) → HasDefined r e es → HasDefined r e'' (es ++ x ∷ [])
   interface-defined es h = defines-behind r e e'' es h x [] [] (no-function x i.0 is) (λ t c. none-in t c)
-      (adds-alike refl same-maps refl refl refl (placed-values r (world_around e) before encodes.part.aliases inner described e''.outer outer-then (towards-value direction name (refs.Instance k)))
-      (placed-targets r (world_around e) before encodes.part.aliases inner described e''.outer outer-then (towards-target direction name (refs.Instance k) refl)) (counted-then is_function_type (λ a. refl) (towards-function direction name (refs.Instance k)))
+      (adds-alike refl same-maps refl refl refl (placed-slots r (world_around e) before encodes.part.aliases inner described e''.outer outer-then is_value_type (λ a. refl) (towards-value direction name (refs.Instance k)))
+      (placed-targets r (world_around e) before encodes.part.aliases inner described e''.outer outer-then (towards-target direction name (refs.Instance k) refl)) (placed-slots r (world_around e) before encodes.part.aliases inner described e''.outer outer-then is_function_type (λ a. refl) (towards-function direction name (refs.Instance k)))
       (adds-nothing r (no_interface r) e.maps (world_definitions e.outer)))
       (subst (λ (m : TypeEncodingMaps). LearnsFrom r None [] e.maps m) (sym same-maps) (from-none r None [] e.maps))
       (subst (λ (ns : List ℕ). AllZip (DefinesInterface r) ns (instances_declared e''.outer)) (sym (interfaces-more es (x ∷ []) ∙ ap (λ (ns : List ℕ). interfaces_among es ++ ns) (among-one x i.0 is)))

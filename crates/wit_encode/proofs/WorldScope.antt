@@ -154,7 +154,7 @@ module _ (r : Resolve) (w : WorldId) (a a' : Around) (x : Slot) (types : List Se
 -- ---- a call
 
 abbrev slots_held : Around → Contents
-slots_held a = record { slots = outer_slots a.declared; shown = no_view; is_followed = true; types = []; exported = []; functions = 0 }
+slots_held a = record { slots = outer_slots a.declared; shown = no_view; is_followed = true; types = []; exported = []; functions = [] }
 
 -- what a call that adds a slot ensures
 pub record WorldCalls {E : Type 0} (res : Result ℕ E) (v v' : View) (P : Standing → Type 0) (counts : Type 0) : Type 0 where

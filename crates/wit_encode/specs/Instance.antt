@@ -45,7 +45,7 @@ use Rattle.encode_types.specs.Fits.{CanEncode}
 use Rattle.encode_types.specs.Scope.{Scope, no_others}
 use Rattle.wit_encode.specs.Order.{functions_in_order}
 pub use Rattle.encode_types.specs.Distinct.{is_value_type, is_function_type}
-use Rattle.encode_types.specs.Distinct.{key_of, are_same, value_slots, targets_of, DefinesKeys, DefinesTypes}
+use Rattle.encode_types.specs.Distinct.{key_of, are_same, value_slots, function_slots, targets_of, DefinesKeys, DefinesTypes}
 use Rattle.encode_types.specs.Counts.{Definitions}
 
 -- ---- what has been declared in a scope
@@ -54,10 +54,10 @@ pub record Contents : Type 0 where
   pub slots : List Slot
   pub shown : View
   pub is_followed : Bool
-  -- the slots of the value types that are defined, and those that are exported under names; how many types of functions are defined
+  -- the slots of the value types that are defined, those that are exported under names, and those of the types of functions that are defined
   pub types : List ℕ
   pub exported : List ℕ
-  pub functions : ℕ
+  pub functions : List ℕ
 
 abbrev pub no_view : View
 no_view = record { types = []; functions = [] }
@@ -77,7 +77,7 @@ outer_contents outer = record {
   is_followed = is_some (outer_scope outer);
   types = value_slots outer;
   exported = targets_of outer;
-  functions = count_declared is_function_type outer;
+  functions = function_slots outer;
 }
 
 abbrev pub inner_scope : Place → Declarations → List Declaration → Option InstanceScope
@@ -91,7 +91,7 @@ inner_contents place outer ds = record {
   is_followed = is_some (inner_scope place outer ds);
   types = value_slots (from_list ds);
   exported = targets_of (from_list ds);
-  functions = count_by is_function_type ds;
+  functions = function_slots (from_list ds);
 }
 
 -- ---- the encoder
@@ -275,7 +275,7 @@ pub record EncodesPart (r : Resolve) (around around' : Around) (i : InterfaceId)
   pub index : k ≡ type_slots_of before.declared
   pub one_more : around' ≡ record before { declared = append before.declared (Declarations.instance (from_list declared) Declarations.no_more) }
   pub is_instance : IsInstance r before.declared i declared (map (meaning_of r) written)
-  pub function_types : DefinesKeys functions declared
+  pub function_types : DefinesKeys r (stands_inside r i before.declared declared) functions declared
   pub value_types : DefinesTypes r (Some i) (stands_inside r i before.declared declared) (values def.types) functions (from_list declared)
 
 -- So it is with the types of the interface and all its functions: what is shown is the interface.

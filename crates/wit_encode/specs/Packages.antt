@@ -5,7 +5,7 @@ use Rattle.std.specs.List.{AllZip, Contains, list_all}
 use Rattle.std.specs.declared.alloc.Global.{Global}
 use Rattle.wit_model.specs.Text.{Text, text_of}
 use Rattle.wit_model.specs.Names.{PackageIdentity, path_in}
-use Rattle.wit_model.specs.Lookup.{identity_of, interface_path, world_at}
+use Rattle.wit_model.specs.Lookup.{identity_of, interface_path, package_at, world_at}
 use Rattle.wit_model.specs.declared.error.Error.{Error}
 use Rattle.wit_model.specs.declared.model.Resolve.{Resolve}
 use Rattle.wit_model.specs.declared.model.InterfaceId.{InterfaceId}
@@ -15,7 +15,8 @@ use Rattle.wit_model.specs.declared.model.WorldId.{WorldId}
 use Rattle.comp_bytes.specs.Raw.{Declarations}
 use Rattle.comp_bytes.specs.Refusal.{IsMemoryOrSize}
 use Rattle.comp_bytes.specs.Parts.{Part, sections_of_parts}
-use Rattle.comp_bytes.specs.Spelling.{IsComponent}
+use Rattle.comp_bytes.specs.Spelling.{IsComponent, preamble}
+use Rattle.comp_bytes.specs.Writing.{component_bytes}
 use Rattle.wit_model.specs.Meant.{Meant}
 use Rattle.wit_model.specs.Meaning.{PackageMeaning}
 use Rattle.comp_meaning.specs.Follow.{is_filled}
@@ -116,6 +117,22 @@ AddsWorlds r canonical p worlds old new = (interfaces : List Listed) → HoldsMe
 abbrev pub AreWorlds : Resolve → List ListedWorld → Type 0
 AreWorlds r entries = (e : ListedWorld) → Contains entries e → e.1.0 < length r.worlds.items
 
+-- the declarations show world n
+abbrev pub ShowsWorldAt : Resolve → ℕ → Declarations → Type 0
+ShowsWorldAt r n declared = (w : World) → world_at r n ≡ Some w → ShowsWorldType r w declared
+
+-- each definition of world n once
+abbrev pub DefinesWorldOnce : Resolve → ℕ → Declarations → Type 0
+DefinesWorldOnce r n declared = (w : World) → world_at r n ≡ Some w → DefinesOnce r declared (entries_in w)
+
+-- the names of world n, whole or canonical
+abbrev pub WritesNamesAt : Resolve → Bool → ℕ → Declarations → Type 0
+WritesNamesAt r canonical n declared = (w : World) → world_at r n ≡ Some w → WritesNames r canonical w declared
+
+-- the wrapper of world n
+abbrev pub WrapsWorldAt : Resolve → Bool → PackageIdentity → ℕ → Declarations → Type 0
+WrapsWorldAt r canonical p n declared = (w : World) → world_at r n ≡ Some w → WrapsWorld r canonical p n w declared
+
 -- no two imports and no two exports of world n have one canonical name
 abbrev pub HasNoClashAt : Resolve → ℕ → Type 0
 HasNoClashAt r n = (w : World) → world_at r n ≡ Some w → HasNoClash r w
@@ -145,10 +162,11 @@ pub record HoldsPackage (r : Resolve) (canonical : Bool) (p : Package) (parts : 
   pub is : parts ≡ exporting types
   pub members : HoldsMembers r canonical (identity_of p.name) p.interfaces.entries p.worlds.entries parts
 
--- The bytes spell such a component.
+-- The bytes are those of such a component in the one spelling that is written, where each number is in its shortest form.
 pub record SpellsPackage (r : Resolve) (canonical : Bool) (p : Package) (bytes : List ℕ) : Type 0 where
   pub parts : List Part
   pub holds : HoldsPackage r canonical p parts
+  pub are : bytes ≡ component_bytes (sections_of_parts parts)
   pub spells : IsComponent (sections_of_parts parts) bytes
 
 -- In no component type of the package two imports, or two exports, have one canonical name.
@@ -181,3 +199,33 @@ is_custom (Part.custom name contents) = true
 -- The bytes of a component with these parts, and custom sections behind them or none, are read as exactly what package n means.
 abbrev pub PartsMean : Resolve → ℕ → List Part → Type 0
 PartsMean r n parts = (more : List Part) → list_all is_custom more ≡ true → (bytes : List ℕ) → IsComponent (sections_of_parts (parts ++ more)) bytes → MeansPackage r n bytes
+
+-- ---- package n
+
+-- a component that holds package n
+abbrev pub HoldsPackageAt : Resolve → Bool → ℕ → List Part → Type 0
+HoldsPackageAt r canonical n parts = (p : Package) → package_at r n ≡ Some p → HoldsPackage r canonical p parts
+
+-- the bytes of such a component
+abbrev pub SpellsPackageAt : Resolve → Bool → ℕ → List ℕ → Type 0
+SpellsPackageAt r canonical n bytes = (p : Package) → package_at r n ≡ Some p → SpellsPackage r canonical p bytes
+
+-- Where package n has an interface or a world, the parts mean it.
+abbrev pub PartsMeanAt : Resolve → ℕ → List Part → Type 0
+PartsMeanAt r n parts = (p : Package) → package_at r n ≡ Some p → HasMembers p → PartsMean r n parts
+
+-- Where package n has an interface or a world, the bytes are read as exactly what it means.
+abbrev pub MeansPackageAt : Resolve → ℕ → List ℕ → Type 0
+MeansPackageAt r n bytes = (p : Package) → package_at r n ≡ Some p → HasMembers p → MeansPackage r n bytes
+
+-- Where package n has neither, the bytes are the preamble alone.
+abbrev pub IsPreambleAt : Resolve → ℕ → List ℕ → Type 0
+IsPreambleAt r n bytes = (p : Package) → package_at r n ≡ Some p → HasNoMembers p → bytes ≡ preamble
+
+-- in no component type of package n two imports, or two exports, have one canonical name
+abbrev pub HasNoClashesAt : Resolve → ℕ → Type 0
+HasNoClashesAt r n = (p : Package) → package_at r n ≡ Some p → HasNoClashes r p
+
+-- what package n is refused for
+abbrev pub RefusesPackageAt : Resolve → ℕ → Bool → Error → Type 0
+RefusesPackageAt r n canonical e = (p : Package) → package_at r n ≡ Some p → RefusesPackage r p canonical e

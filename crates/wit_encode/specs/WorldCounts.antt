@@ -11,7 +11,7 @@ use Rattle.wit_model.specs.declared.model.TypeOwner.TheVariants as owner
 use Rattle.comp_bytes.specs.Raw.{Declaration, Declarations, from_list}
 use Rattle.encode_types.specs.declared.maps.TypeEncodingMaps.{TypeEncodingMaps}
 use Rattle.encode_types.specs.Counts.{Definitions}
-use Rattle.encode_types.specs.Distinct.{Key, key_of, are_same, is_function_type, AddsFunctions, DefinesKeys, DefinesTypes}
+use Rattle.encode_types.specs.Distinct.{Key, key_of, are_same, is_function_type, AddsFunctions, DefinesKeys, StandForKeys, DefinesTypes}
 use Rattle.encode_types.specs.MetKinds.{LearnsFrom}
 use Rattle.encode_types.specs.Scope.{Scope}
 use Rattle.encode_types.specs.Table.{table_scope}
@@ -30,24 +30,26 @@ pub record DefinesInterface (r : Resolve) (i : ℕ) (declared : Declarations × 
   pub there : interface_at r i ≡ Some def
   pub declarations : List Declaration
   pub is : declared.1 ≡ from_list declarations
-  pub function_types : DefinesKeys (functions_of_interface def) declarations
+  pub function_types : DefinesKeys r (stands_inside r (record { 0 = i }) declared.0 declarations) (functions_of_interface def) declarations
   pub value_types : DefinesTypes r (Some (record { 0 = i })) (stands_inside r (record { 0 = i }) declared.0 declarations) (values def.types) (functions_of_interface def) (from_list declarations)
 
--- The component type defines one function type for each key of these functions, and one value type for each unnamed kind that these types
--- and functions meet and for each of the types that has a definition of its own, in slots of their own, and no others. It has an instance type
+-- The component type defines one function type for each key of these functions, in a slot of its own that stands for the key's signature, and
+-- one value type for each unnamed kind that these types and functions meet and for each of the types that has a definition of its own, in slots
+-- of their own, and no others. It has an instance type
 -- for each interface, in order, which does the same for it.
 pub record DefinesOnce (r : Resolve) (outer : Declarations) (es : List Entry) : Type 0 where
   pub keys : List Key
   pub function_types : count_declared is_function_type outer ≡ length keys
   pub different : IsDistinct are_same keys
   pub same : (key : Key) → is_member are_same keys key ≡ is_member are_same (map key_of (functions_among es)) key
+  pub slots : StandForKeys r (SlotsStand (outer_slots outer)) keys outer
   pub value_types : DefinesTypes r None (SlotsStand (outer_slots outer)) (type_ids_among es) (functions_among es) outer
   pub inside : AllZip (DefinesInterface r) (interfaces_among es) (instances_declared outer)
 
 -- ---- between two items
 
 abbrev pub nothing_defined : Definitions
-nothing_defined = record { types = []; exported = []; functions = 0; exports = [] }
+nothing_defined = record { types = []; exported = []; functions = []; exports = [] }
 
 -- a scope that is that of no interface
 abbrev pub no_interface : Resolve → Scope

@@ -15,7 +15,7 @@ use Rattle.comp_bytes.specs.Raw.{Declarations, append, declaration_count}
 use Rattle.comp_meaning.specs.Follow.{Seen, Shown, instance_types}
 use Rattle.encode_types.specs.declared.maps.TypeEncodingMaps.{TypeEncodingMaps}
 use Rattle.encode_types.specs.Counts.{Definitions}
-use Rattle.encode_types.specs.Distinct.{is_function_type, value_slots, targets_of}
+use Rattle.encode_types.specs.Distinct.{value_slots, function_slots, targets_of}
 use Rattle.encode_types.specs.Known.{Around, are_right, below, known_instance, known_slot, outer_instances, outer_scope, outer_slots, standing_instances}
 use Rattle.encode_types.specs.Resources.{Names, resource_names, is_met_owner}
 use Rattle.encode_types.specs.Room.{LacksRoomBehind}
@@ -24,7 +24,7 @@ use Rattle.encode_types.specs.Standing.{SlotsStand, is_slot_of}
 use Rattle.encode_types.specs.Table.{table_scope}
 use Rattle.encode_types.specs.View.{View}
 use Rattle.encode_names.specs.Rebuilt.{others_seen}
-use Rattle.wit_encode.specs.Instance.{around_at, count_declared, declared_extent}
+use Rattle.wit_encode.specs.Instance.{around_at, declared_extent}
 use Rattle.wit_encode.specs.WrittenNames.{instances_around}
 use Rattle.wit_encode.specs.declared.world.WorldEncoderOf.{WorldEncoderOf}
 
@@ -101,7 +101,7 @@ abbrev pub world_definitions : Declarations → Definitions
 world_definitions outer = record {
   types = value_slots outer;
   exported = targets_of outer;
-  functions = count_declared is_function_type outer;
+  functions = function_slots outer;
   exports = filter_map declared_type (seen_imports outer);
 }
 

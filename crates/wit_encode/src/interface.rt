@@ -525,7 +525,7 @@ impl<'a> InstanceEncoderOf<'a, TypeEncodingMaps<'a>> {
         ensures reaches { Reaches self.old self.new }
         ensures maps { self.new.maps ≡ self.old.maps }
         ensures ok { IfOk result (λ ds. IsInstance self.old.resolve.now self.new.outer interface ds (meanings_of self.old.resolve.now functions.now)) }
-        ensures function_types { IfOk result (DefinesKeys (plain functions.now)) }
+        ensures function_types { IfOk result (λ ds. DefinesKeys self.old.resolve.now (stands_inside self.old.resolve.now interface self.new.outer ds) (plain functions.now) ds) }
         ensures value_types { IfOk result (λ ds. DefinesTypes self.old.resolve.now (Some interface) (stands_inside self.old.resolve.now interface self.new.outer ds) types.now (plain functions.now) (from_list ds)) }
         ensures written { IfOk result (λ ds. TakesFew self.old.resolve.now interface (referred types.now (plain functions.now)) (map placed_function functions.now) (declared_extent self.old.outer) (declared_extent self.new.outer + declared_extent (from_list ds))) }
         ensures size { result ≡ Err Size → LacksWithin self.old interface types.now functions.now }

@@ -1,19 +1,16 @@
 //! The components of packages.
 
-ghost use Rattle.std.specs.Prelude.{◌≡◌, ◌<◌, [], List, true, Some, Err, IfErr, IfOk, OnOk, is_some, length};
+ghost use Rattle.std.specs.Prelude.{◌≡◌, ◌<◌, [], List, true, Err, IfErr, IfOk, OnOk, is_some, length};
 ghost use Rattle.comp_bytes.specs.Refusal.{IsMemoryOrSize};
-ghost use Rattle.wit_model.specs.Lookup.{identity_of, interface_path, package_at, world_at};
+ghost use Rattle.wit_model.specs.Lookup.{identity_of, interface_path};
 ghost use Rattle.wit_model.specs.Names.{path_in};
 ghost use Rattle.wit_model.specs.Valid.{IsValid};
 ghost use Rattle.wit_model.specs.Weight.{package_weight};
-ghost use Rattle.wit_model.specs.declared.model.Package.{Package as PackageValue};
-ghost use Rattle.wit_model.specs.declared.model.World.{World as WorldValue};
-ghost use Rattle.comp_bytes.specs.Spelling.{preamble};
 ghost use Rattle.wit_model.specs.declared.error.Error.TheVariants.{Size};
 ghost use Rattle.encode_shown.specs.PackageTypes.{wrapper};
 ghost use Rattle.wit_encode.specs.Scopes.{HasNoEqualPaths, RefusesInterface};
 ghost use Rattle.wit_encode.specs.PackageRoom.{InterfacesLackRoom, IsHeavyWorld, LacksInterface, LacksWorld, WorldsLackRoom};
-ghost use Rattle.wit_encode.specs.Packages.{AddsInterface, AddsWorld, AddsWorlds, AreNamed, AreWorlds, HasMembers, HasNoClashAt, HasNoClashes, HasNoMembers, HoldsMembers, Listed, HaveNoClash, HaveNoEqualPaths, HoldsInterfaces, HoldsPackage, MeansPackage, PartsMean, RefusesInterfaces, RefusesPackage, RefusesWorldAt, RefusesWorlds, SpellsPackage, WrapsWorld};
+ghost use Rattle.wit_encode.specs.Packages.{AddsInterface, AddsWorld, AddsWorlds, AreNamed, AreWorlds, HasNoClashAt, HasNoClashesAt, HoldsMembers, Listed, HaveNoClash, HaveNoEqualPaths, HoldsInterfaces, HoldsPackageAt, IsPreambleAt, MeansPackageAt, PartsMeanAt, RefusesInterfaces, RefusesPackageAt, RefusesWorldAt, RefusesWorlds, SpellsPackageAt, WrapsWorldAt};
 
 use crate::component_types::interface_type;
 use crate::world::encode_world;
@@ -108,7 +105,7 @@ pub fn wrapped_world(
 ) -> Result<ComponentType, Error>
     requires valid { IsValid resolve.now }
     requires in_range { world.0 < length resolve.now.worlds.items }
-    ensures wraps { IfOk result (λ declared. (w : WorldValue) → world_at resolve.now world.0 ≡ Some w → WrapsWorld resolve.now canonical_names (identity_of «package».now) world.0 w declared) }
+    ensures wraps { IfOk result (WrapsWorldAt resolve.now canonical_names (identity_of «package».now) world.0) }
     ensures differ { canonical_names ≡ true → OnOk result (HasNoClashAt resolve.now world.0) }
     ensures size { result ≡ Err Size → IsHeavyWorld resolve.now (identity_of «package».now) world.0 }
     ensures refuses { IfErr result (RefusesWorldAt resolve.now world.0 canonical_names) }
@@ -191,11 +188,11 @@ pub fn encode_component(
 ) -> Result<ComponentBuilder, Error>
     requires valid { IsValid resolve.now }
     requires in_range { «package».0 < length resolve.now.packages.items }
-    ensures means { IfOk result (λ parts. (p : PackageValue) → package_at resolve.now «package».0 ≡ Some p → HasMembers p → PartsMean resolve.now «package».0 parts) }
-    ensures holds { IfOk result (λ parts. (p : PackageValue) → package_at resolve.now «package».0 ≡ Some p → HoldsPackage resolve.now canonical_names p parts) }
-    ensures differ { (p : PackageValue) → package_at resolve.now «package».0 ≡ Some p → canonical_names ≡ true → OnOk result (HasNoClashes resolve.now p) }
+    ensures means { IfOk result (PartsMeanAt resolve.now «package».0) }
+    ensures holds { IfOk result (HoldsPackageAt resolve.now canonical_names «package».0) }
+    ensures differ { canonical_names ≡ true → OnOk result (HasNoClashesAt resolve.now «package».0) }
     ensures size { result ≡ Err Size → 4294967295 < package_weight resolve.now «package».0 }
-    ensures refuses { (p : PackageValue) → package_at resolve.now «package».0 ≡ Some p → IfErr result (RefusesPackage resolve.now p canonical_names) }
+    ensures refuses { IfErr result (RefusesPackageAt resolve.now «package».0 canonical_names) }
 {
     let own = &resolve.packages[package.0 as usize];
     let mut builder = interfaces_component(alloc, resolve, &own.interfaces, canonical_names)?;
@@ -211,7 +208,8 @@ pub fn encode_component(
 }
 
 /// The bytes of a package: of one with an interface or a world, bytes that are read as exactly what the package means, with canonical names
-/// and without; of one without, the preamble alone. They spell what `encode_component` answers.
+/// and without; of one without, the preamble alone. They are the bytes of what `encode_component` answers, as `ComponentBuilder::finish` writes
+/// them: each number in its shortest form, and 00 in front of a name without attributes.
 ///
 /// Takes as long as `encode_component`, and refuses what it does.
 pub fn encode(
@@ -222,12 +220,12 @@ pub fn encode(
 ) -> Result<Vec<u8>, Error>
     requires valid { IsValid resolve.now }
     requires in_range { «package».0 < length resolve.now.packages.items }
-    ensures means { IfOk result (λ bytes. (p : PackageValue) → package_at resolve.now «package».0 ≡ Some p → HasMembers p → MeansPackage resolve.now «package».0 bytes.items) }
-    ensures holds { IfOk result (λ bytes. (p : PackageValue) → package_at resolve.now «package».0 ≡ Some p → SpellsPackage resolve.now canonical_names p bytes.items) }
-    ensures empty { IfOk result (λ bytes. (p : PackageValue) → package_at resolve.now «package».0 ≡ Some p → HasNoMembers p → bytes.items ≡ preamble) }
-    ensures differ { (p : PackageValue) → package_at resolve.now «package».0 ≡ Some p → canonical_names ≡ true → OnOk result (HasNoClashes resolve.now p) }
+    ensures means { IfOk result (λ bytes. MeansPackageAt resolve.now «package».0 bytes.items) }
+    ensures holds { IfOk result (λ bytes. SpellsPackageAt resolve.now canonical_names «package».0 bytes.items) }
+    ensures empty { IfOk result (λ bytes. IsPreambleAt resolve.now «package».0 bytes.items) }
+    ensures differ { canonical_names ≡ true → OnOk result (HasNoClashesAt resolve.now «package».0) }
     ensures size { result ≡ Err Size → 4294967295 < package_weight resolve.now «package».0 }
-    ensures refuses { (p : PackageValue) → package_at resolve.now «package».0 ≡ Some p → IfErr result (RefusesPackage resolve.now p canonical_names) }
+    ensures refuses { IfErr result (RefusesPackageAt resolve.now «package».0 canonical_names) }
 {
     encode_component(alloc, resolve, package, canonical_names)?.finish()
 }

@@ -15,19 +15,17 @@ ghost use Rattle.wit_model.specs.Weight.{world_weight};
 ghost use Rattle.wit_model.specs.declared.model.World.{World as WorldValue};
 ghost use Rattle.wit_model.specs.declared.model.WorldItem.TheVariants as item_kinds;
 ghost use Rattle.encode_names.specs.WorldSteps.{declared_towards};
-ghost use Rattle.encode_names.specs.Clashes.{HasNoClash};
 ghost use Rattle.encode_types.specs.Known.{standing_instances, GrowsAround, UsedStand};
 ghost use Rattle.encode_types.specs.View.{Agrees};
 ghost use Rattle.wit_encode.specs.Encoders.{declared_after, DeclaresOutside};
-ghost use Rattle.wit_encode.specs.WorldCounts.{Defines, DefinesAll, DefinesOnce, HasDefined};
+ghost use Rattle.wit_encode.specs.WorldCounts.{Defines, DefinesAll, HasDefined};
 ghost use Rattle.wit_encode.specs.WorldHolds.{HoldsAll, HoldsFew, HoldsOn, LacksDeclaration, LacksDependencyHere, LacksInstanceHere, LacksRoomTowards, LacksWorldRoom};
-ghost use Rattle.wit_encode.specs.WholeWorlds.{RefusesWorld, ShowsWorldType};
+ghost use Rattle.wit_encode.specs.Packages.{DefinesWorldOnce, HasNoClashAt, RefusesWorldAt, ShowsWorldAt, WritesNamesAt};
 ghost use Rattle.wit_encode.specs.WorldItems.{entry_of, towards, AwaitsAll, AwaitsNext, DefinesDependency, DefinesInstance, Encodes, EncodesAll, HasShown, ListsInstance};
-ghost use Rattle.wit_encode.specs.WorldRoom.{entries_in};
 ghost use Rattle.wit_encode.specs.Worlds.{world_around, world_view_of};
 ghost use Rattle.wit_encode.specs.Instance.{declared_extent};
 ghost use Rattle.wit_encode.specs.WrittenBytes.{AddsBytes, AddsLearnt, items_extent, types_extent, whole_extent};
-ghost use Rattle.wit_encode.specs.WrittenNames.{NamesMore, WritesNames};
+ghost use Rattle.wit_encode.specs.WrittenNames.{NamesMore};
 
 use crate::interface::{
     Foreign, InstanceEncoderOf, define_function_outside, define_outside, no_foreign, reach,
@@ -418,11 +416,11 @@ fn encode_entries(
 ) -> Result<ComponentType, Error>
     requires valid { IsValid resolve.now }
     requires in_range { world.0 < length resolve.now.worlds.items }
-    ensures shows { IfOk result (λ declared. (w : WorldValue) → world_at resolve.now world.0 ≡ Some w → ShowsWorldType resolve.now w declared) }
-    ensures once { IfOk result (λ declared. (w : WorldValue) → world_at resolve.now world.0 ≡ Some w → DefinesOnce resolve.now declared (entries_in w)) }
+    ensures shows { IfOk result (ShowsWorldAt resolve.now world.0) }
+    ensures once { IfOk result (DefinesWorldOnce resolve.now world.0) }
     ensures light { IfOk result (λ declared. declared_extent declared ≤ world_weight resolve.now world.0) }
     ensures size { result ≡ Err Size → 4294967295 < world_weight resolve.now world.0 }
-    ensures names { IfOk result (λ declared. (w : WorldValue) → world_at resolve.now world.0 ≡ Some w → WritesNames resolve.now canonical_names w declared) }
+    ensures names { IfOk result (WritesNamesAt resolve.now canonical_names world.0) }
     ensures refuses { IfErr result IsMemoryOrSize }
 {
     let def = &resolve.worlds[world.0 as usize];
@@ -467,13 +465,13 @@ pub fn encode_world(
 ) -> Result<ComponentType, Error>
     requires valid { IsValid resolve.now }
     requires in_range { world.0 < length resolve.now.worlds.items }
-    ensures shows { IfOk result (λ declared. (w : WorldValue) → world_at resolve.now world.0 ≡ Some w → ShowsWorldType resolve.now w declared) }
-    ensures once { IfOk result (λ declared. (w : WorldValue) → world_at resolve.now world.0 ≡ Some w → DefinesOnce resolve.now declared (entries_in w)) }
+    ensures shows { IfOk result (ShowsWorldAt resolve.now world.0) }
+    ensures once { IfOk result (DefinesWorldOnce resolve.now world.0) }
     ensures light { IfOk result (λ declared. declared_extent declared ≤ world_weight resolve.now world.0) }
     ensures size { result ≡ Err Size → 4294967295 < world_weight resolve.now world.0 }
-    ensures names { IfOk result (λ declared. (w : WorldValue) → world_at resolve.now world.0 ≡ Some w → WritesNames resolve.now canonical_names w declared) }
-    ensures clashes { (w : WorldValue) → world_at resolve.now world.0 ≡ Some w → canonical_names ≡ true → OnOk result (HasNoClash resolve.now w) }
-    ensures refuses { (w : WorldValue) → world_at resolve.now world.0 ≡ Some w → IfErr result (RefusesWorld resolve.now w canonical_names) }
+    ensures names { IfOk result (WritesNamesAt resolve.now canonical_names world.0) }
+    ensures clashes { canonical_names ≡ true → OnOk result (HasNoClashAt resolve.now world.0) }
+    ensures refuses { IfErr result (RefusesWorldAt resolve.now world.0 canonical_names) }
 {
     let def = &resolve.worlds[world.0 as usize];
     refuse_clashes(alloc, resolve, def, canonical_names)?;

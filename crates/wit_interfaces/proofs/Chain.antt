@@ -1,5 +1,5 @@
 -- Interfaces imported one after the other.
-use Rattle.std.proofs.Common.{◌≡◌, inl, inr, refl, sym, subst, ap, ◌∙◌, ℕ, zero, suc, ◌+◌, ◌<◌, ◌≤◌, true, List, [], ◌∷◌, ◌++◌, length, take, Some, slice_get, is_some, arith}
+use Rattle.std.proofs.Common.{◌≡◌, inl, inr, refl, sym, subst, ap, ◌∙◌, ℕ, zero, suc, ◌+◌, ◌<◌, ◌≤◌, true, List, [], ◌∷◌, ◌++◌, length, take, drop, Some, slice_get, is_some, arith}
 use Rattle.std.specs.List.{Contains}
 use Rattle.std.proofs.lemmas.List.Elements.{Contains-append_cases}
 use Rattle.wit_model.specs.Lookup.{interface_path}
@@ -9,9 +9,8 @@ use Rattle.wit_model.specs.declared.model.InterfaceId.{InterfaceId}
 use Rattle.wit_model.proofs.Elements.{same-some}
 use Rattle.encode_types.specs.Known.{UsedStand}
 use Rattle.wit_encode.specs.Dependencies.{AreImportable}
-use Rattle.wit_encode.specs.DependencyRoom.{LacksImport}
 use Rattle.wit_encode.proofs.ImportLoop.{earlier-at, item, number-at, numbers, take-next}
-use Rattle.wit_interfaces.specs.InterfaceEncoders.{InterfaceEncoder, Imports, ImportsAll, LacksOneImport, LeavesInterfaces, component_of, has_canonical_names, interface_encoder_view}
+use Rattle.wit_interfaces.specs.InterfaceEncoders.{InterfaceEncoder, Imports, ImportsAll, ImportsInPart, ImportsSome, ImportsUpTo, LacksOneImport, LacksRoomToImport, LeavesInterfaces, interface_encoder_view}
 
 pub leaves-both : (e m e' : InterfaceEncoder) → LeavesInterfaces e m → LeavesInterfaces m e' → LeavesInterfaces e e'
 leaves-both e m e' first second = record {
@@ -23,14 +22,20 @@ leaves-both e m e' first second = record {
   can = second.can;
 }
 
-pub import-next : (e m e' : InterfaceEncoder) (xs : List InterfaceId) (i : InterfaceId) → ImportsAll e m xs → Imports m e' i → ImportsAll e e' (xs ++ i ∷ [])
-import-next e m e' [] i h one = (e', subst (λ (z : InterfaceEncoder). Imports z e' i) h one, refl)
-import-next e m e' (x ∷ xs) i h one = (h.0, h.1, import-next h.0 m e' xs i h.2 one)
+pub import-next : (e m e' : InterfaceEncoder) (xs : List InterfaceId) (i : InterfaceId) → ImportsAll e m xs → Imports m e' i → LeavesInterfaces m e' → ImportsAll e e' (xs ++ i ∷ [])
+import-next e m e' [] i h one leaves = (e', subst (λ (z : InterfaceEncoder). Imports z e' i) h one, subst (λ (z : InterfaceEncoder). LeavesInterfaces z e') h leaves, refl)
+import-next e m e' (x ∷ xs) i h one leaves = (h.0, h.1, h.2, import-next h.0 m e' xs i h.3 one leaves)
 
 item-at : (xs : List InterfaceId) (k : ℕ) → k < length xs → take k xs ++ item xs k ∷ [] ≡ take (suc k) xs
 item-at [] k l = absurd (omega (arith, l))
 item-at (x ∷ xs) zero l = refl
 item-at (x ∷ xs) (suc k) l = ap (λ ys. x ∷ ys) (item-at xs k (omega (arith, l)))
+
+-- the first of them, the next one, and the others
+parted : (xs : List InterfaceId) (k : ℕ) → k < length xs → xs ≡ take k xs ++ item xs k ∷ drop (suc k) xs
+parted [] k l = absurd (omega (arith, l))
+parted (x ∷ xs) zero l = refl
+parted (x ∷ xs) (suc k) l = ap (λ ys. x ∷ ys) (parted xs k (omega (arith, l)))
 
 -- at the end of the list all have been taken
 pub all-taken : (xs : List InterfaceId) (k : ℕ) → length xs ≤ k → take k (numbers xs) ≡ numbers xs
@@ -70,14 +75,14 @@ module _ (e m : InterfaceEncoder) (xs : List InterfaceId) (k : ℕ) (inside : k 
   pub next-uses : UsedStand (interface_encoder_view m).scope.packages (interface_encoder_view m).scope.instances next.0
   next-uses j c = stand j (earlier-at (interface_encoder_view e).scope.packages [] (numbers xs) k next.0 j can.earlier at (subst (λ (r : Resolve). Contains (direct_deps r next.0) j) leaves.packages_ c))
 
-  pub next-lacks : LacksImport (interface_encoder_view m).scope.packages (has_canonical_names m) (component_of m) next → LacksOneImport e (numbers xs)
-  next-lacks h = record {
-    interface = next;
-    among = listed (numbers xs) k next.0 at;
-    between = m;
-    leaves = leaves;
-    lacks = subst (λ (r : Resolve). LacksImport r (has_canonical_names e) (component_of m) next) leaves.packages_ (subst (λ b. LacksImport (interface_encoder_view m).scope.packages b (component_of m) next) leaves.names h);
-  }
+  up-to : ImportsAll e m (take k xs) → ImportsUpTo e m xs next
+  up-to h = record { before = take k xs; rest = drop (suc k) xs; are = parted xs k inside; imports = h }
+
+  pub next-lacks : ImportsAll e m (take k xs) → LacksRoomToImport m next → LacksOneImport e xs
+  next-lacks h lacks = record { next = next; between = m; before = up-to h; lacks = lacks }
+
+  pub next-in-part : (e' : InterfaceEncoder) → ImportsAll e m (take k xs) → ImportsInPart m e' next → ImportsSome e e' xs
+  next-in-part e' h part = record { next = next; between = m; before = up-to h; in_part = part }
 
   one-more : suc k ≡ k + 1
   one-more = omega arith
@@ -88,5 +93,5 @@ module _ (e m : InterfaceEncoder) (xs : List InterfaceId) (k : ℕ) (inside : k 
       all-but : (e' : InterfaceEncoder) → LeavesInterfaces m e' → Contains (interface_encoder_view e').scope.instances next.0 → (j : ℕ) → Contains (take (suc k) (numbers xs)) j → Contains (interface_encoder_view e').scope.instances j
       all-but e' more new j c = next-stands (numbers xs) k next.0 j (Contains (interface_encoder_view e').scope.instances) at (λ n d. more.instances n (stand n d)) new c
 
-  pub all-imported : (e' : InterfaceEncoder) → ImportsAll e m (take k xs) → Imports m e' next → ImportsAll e e' (take (k + 1) xs)
-  all-imported e' h one = subst (ImportsAll e e') (item-at xs k inside ∙ ap (λ (n : ℕ). take n xs) one-more) (import-next e m e' (take k xs) next h one)
+  pub all-imported : (e' : InterfaceEncoder) → ImportsAll e m (take k xs) → Imports m e' next → LeavesInterfaces m e' → ImportsAll e e' (take (k + 1) xs)
+  all-imported e' h one more = subst (ImportsAll e e') (item-at xs k inside ∙ ap (λ (n : ℕ). take n xs) one-more) (import-next e m e' (take k xs) next h one more)

@@ -1,7 +1,7 @@
 //! An encoder of interfaces for whoever encodes some of them, one after the other, in one component type.
 
 ghost use Rattle.std.proofs.Common.{refl};
-ghost use Rattle.std.specs.Prelude.{◌≡◌, ◌<◌, [], true, false, None, Some, Err, IfErr, IfOk, OnErr, OnOk, is_some, length, map, ℕ};
+ghost use Rattle.std.specs.Prelude.{◌≡◌, ◌<◌, [], true, false, None, Some, Err, IfErr, IfOk, OnErr, OnOk, is_some, length, ℕ};
 ghost use Rattle.std.specs.List.{Contains};
 ghost use Rattle.std.specs.BTreeMap.{insert_entry};
 ghost use Rattle.std.specs.Ordering.{nat_cmp};
@@ -12,14 +12,12 @@ ghost use Rattle.comp_bytes.specs.declared.forms.ComponentTypeRef.TheVariants as
 ghost use Rattle.wit_model.specs.Lookup.{interface_path};
 ghost use Rattle.wit_model.specs.Valid.{IsValid};
 ghost use Rattle.wit_model.specs.declared.error.Error.TheVariants.{Size};
-ghost use Rattle.encode_types.specs.Known.{GrowsAround, UsedStand, known_instance, no_around};
+ghost use Rattle.encode_types.specs.Known.{UsedStand, known_instance, no_around};
 ghost use Rattle.encode_types.specs.View.{Agrees};
 ghost use Rattle.wit_encode.specs.Dependencies.{AreImportable};
-ghost use Rattle.wit_encode.specs.DependencyRoom.{LacksImport};
 ghost use Rattle.wit_encode.specs.Encoders.{declared_after};
-ghost use Rattle.wit_interfaces.specs.InterfaceEncoders.{CanEncodeInterfaces, EncodesInterfaceAs, has_listed, Imports, ImportsAll, ImportsInPart, ImportsReached, LacksOneImport, LacksReached, LacksRoomFor, LeavesInterfaces, component_of, has_canonical_names, interface_encoder_view};
+ghost use Rattle.wit_interfaces.specs.InterfaceEncoders.{AddsAliases, AddsInterfaceBytes, CanEncodeInterfaces, EncodesInterfaceAs, has_listed, Imports, ImportsAll, ImportsInPart, ImportsReached, ImportsReachedInPart, ImportsSome, LacksOneImport, LacksReached, LacksRoomFor, LacksRoomToImport, LeavesInterfaces, component_of, has_canonical_names, interface_encoder_view, numbers_of, packages_of, standing_in};
 ghost use Rattle.wit_encode.specs.WorldHolds.{LacksDeclaration};
-ghost use Rattle.wit_encode.specs.WrittenBytes.{AddsBytes, whole_extent};
 
 use comp_bytes::{
     ComponentDefinedType, ComponentExternName, ComponentFuncType, ComponentType, ComponentTypeRef,
@@ -136,7 +134,7 @@ impl<'a> InterfaceEncoder<'a> {
     // An encoder with an empty component type.
     fn begin(alloc: Global, resolve: &'a Resolve, canonical_names: bool) -> InterfaceEncoder<'a>
         ensures names { has_canonical_names result ≡ canonical_names }
-        ensures packages { (interface_encoder_view result).scope.packages ≡ resolve.now }
+        ensures packages { packages_of result ≡ resolve.now }
         ensures empty { component_of result ≡ no_around }
         ensures sound { (interface_encoder_view result).scope.is_sound ≡ true }
         ensures can { IsValid resolve.now → CanEncodeInterfaces (interface_encoder_view result) }
@@ -152,7 +150,7 @@ impl<'a> InterfaceEncoder<'a> {
     /// An encoder with an empty component type, whose imports have paths with their whole version. Takes constant time and no memory.
     pub fn new(alloc: Global, resolve: &'a Resolve) -> InterfaceEncoder<'a>
         ensures names { has_canonical_names result ≡ false }
-        ensures packages { (interface_encoder_view result).scope.packages ≡ resolve.now }
+        ensures packages { packages_of result ≡ resolve.now }
         ensures empty { component_of result ≡ no_around }
         ensures sound { (interface_encoder_view result).scope.is_sound ≡ true }
         ensures can { IsValid resolve.now → CanEncodeInterfaces (interface_encoder_view result) }
@@ -165,7 +163,7 @@ impl<'a> InterfaceEncoder<'a> {
     /// it as an attribute. No call looks whether two of these are equal. Takes constant time and no memory.
     pub fn with_canonical_names(alloc: Global, resolve: &'a Resolve) -> InterfaceEncoder<'a>
         ensures names { has_canonical_names result ≡ true }
-        ensures packages { (interface_encoder_view result).scope.packages ≡ resolve.now }
+        ensures packages { packages_of result ≡ resolve.now }
         ensures empty { component_of result ≡ no_around }
         ensures sound { (interface_encoder_view result).scope.is_sound ≡ true }
         ensures can { IsValid resolve.now → CanEncodeInterfaces (interface_encoder_view result) }
@@ -184,14 +182,14 @@ impl<'a> InterfaceEncoder<'a> {
     // Imports the types of an interface that has not been imported.
     fn import_first(&mut self, interface: InterfaceId) -> Result<(), Error>
         requires can { CanEncodeInterfaces (interface_encoder_view self.old) }
-        requires named { is_some (interface_path (interface_encoder_view self.old).scope.packages interface.0) ≡ true }
-        requires uses { UsedStand (interface_encoder_view self.old).scope.packages (interface_encoder_view self.old).scope.instances interface.0 }
+        requires named { is_some (interface_path (packages_of self.old) interface.0) ≡ true }
+        requires uses { UsedStand (packages_of self.old) (standing_in self.old) interface.0 }
         requires first { has_listed self.old interface.0 ≡ false }
         ensures leaves { LeavesInterfaces self.old self.new }
-        ensures stands { OnOk result (Contains (interface_encoder_view self.new).scope.instances interface.0) }
+        ensures stands { OnOk result (Contains (standing_in self.new) interface.0) }
         ensures ok { OnOk result (Imports self.old self.new interface) }
         ensures err { OnErr result (ImportsInPart self.old self.new interface) }
-        ensures size { result ≡ Err Size → LacksImport (interface_encoder_view self.old).scope.packages (has_canonical_names self.old) (component_of self.old) interface }
+        ensures size { result ≡ Err Size → LacksRoomToImport self.old interface }
         ensures refuses { IfErr result IsMemoryOrSize }
     {
         let encoder = &mut self.encoder;
@@ -223,13 +221,13 @@ impl<'a> InterfaceEncoder<'a> {
     /// Takes as long as encoding the types.
     pub fn import_interface(&mut self, interface: InterfaceId) -> Result<(), Error>
         requires can { CanEncodeInterfaces (interface_encoder_view self.old) }
-        requires named { is_some (interface_path (interface_encoder_view self.old).scope.packages interface.0) ≡ true }
-        requires uses { UsedStand (interface_encoder_view self.old).scope.packages (interface_encoder_view self.old).scope.instances interface.0 }
+        requires named { is_some (interface_path (packages_of self.old) interface.0) ≡ true }
+        requires uses { UsedStand (packages_of self.old) (standing_in self.old) interface.0 }
         ensures leaves { LeavesInterfaces self.old self.new }
-        ensures stands { OnOk result (Contains (interface_encoder_view self.new).scope.instances interface.0) }
+        ensures stands { OnOk result (Contains (standing_in self.new) interface.0) }
         ensures ok { OnOk result (Imports self.old self.new interface) }
         ensures err { OnErr result (ImportsInPart self.old self.new interface) }
-        ensures size { result ≡ Err Size → LacksImport (interface_encoder_view self.old).scope.packages (has_canonical_names self.old) (component_of self.old) interface }
+        ensures size { result ≡ Err Size → LacksRoomToImport self.old interface }
         ensures refuses { IfErr result IsMemoryOrSize }
     {
         if self.has_imported(interface) {
@@ -241,11 +239,12 @@ impl<'a> InterfaceEncoder<'a> {
     // Imports the types of these interfaces, in order, but for those that have been imported.
     fn import_all(&mut self, interfaces: &[InterfaceId]) -> Result<(), Error>
         requires can { CanEncodeInterfaces (interface_encoder_view self.old) }
-        requires importable { AreImportable (interface_encoder_view self.old).scope.packages (map (λ id. id.0) interfaces.now) }
+        requires importable { AreImportable (packages_of self.old) (numbers_of interfaces.now) }
         ensures leaves { LeavesInterfaces self.old self.new }
-        ensures stand { OnOk result ((n : ℕ) → Contains (map (λ id. id.0) interfaces.now) n → Contains (interface_encoder_view self.new).scope.instances n) }
+        ensures stand { OnOk result ((n : ℕ) → Contains (numbers_of interfaces.now) n → Contains (standing_in self.new) n) }
         ensures ok { OnOk result (ImportsAll self.old self.new interfaces.now) }
-        ensures size { result ≡ Err Size → LacksOneImport self.old (map (λ id. id.0) interfaces.now) }
+        ensures err { OnErr result (ImportsSome self.old self.new interfaces.now) }
+        ensures size { result ≡ Err Size → LacksOneImport self.old interfaces.now }
         ensures refuses { IfErr result IsMemoryOrSize }
     {
         for interface in interfaces {
@@ -257,14 +256,17 @@ impl<'a> InterfaceEncoder<'a> {
     /// Imports the types of each interface that an interface reaches along uses, each behind those that it uses itself, but for those that have
     /// been imported. Then an instance stands of each that it uses, and it can be encoded or imported.
     ///
-    /// After a refusal the encoder can be used on; `Size` comes only where `import_interface` answers it for one of them.
+    /// After a refusal the encoder can be used on: then some first ones of these have been imported, and of the next one nothing has been
+    /// declared but aliases, and one instance type at most that nothing uses. `Size` comes only where `import_interface` answers it for one of
+    /// these, behind those in front of it.
     ///
     /// Takes as long as encoding the types of these interfaces.
     pub fn import_used(&mut self, interface: InterfaceId) -> Result<(), Error>
         requires can { CanEncodeInterfaces (interface_encoder_view self.old) }
         ensures leaves { LeavesInterfaces self.old self.new }
-        ensures uses { OnOk result (UsedStand (interface_encoder_view self.new).scope.packages (interface_encoder_view self.new).scope.instances interface.0) }
+        ensures uses { OnOk result (UsedStand (packages_of self.new) (standing_in self.new) interface.0) }
         ensures ok { OnOk result (ImportsReached self.old self.new interface) }
+        ensures err { OnErr result (ImportsReachedInPart self.old self.new interface) }
         ensures size { result ≡ Err Size → LacksReached self.old interface }
         ensures refuses { IfErr result IsMemoryOrSize }
     {
@@ -284,12 +286,12 @@ impl<'a> InterfaceEncoder<'a> {
     /// Takes as long as encoding the types and functions and sorting the functions, with a search in an ordered map for each.
     pub fn encode_instance(&mut self, interface: InterfaceId) -> Result<u32, Error>
         requires can { CanEncodeInterfaces (interface_encoder_view self.old) }
-        requires in_range { interface.0 < length (interface_encoder_view self.old).scope.packages.interfaces.items }
-        requires uses { UsedStand (interface_encoder_view self.old).scope.packages (interface_encoder_view self.old).scope.instances interface.0 }
+        requires in_range { interface.0 < length (packages_of self.old).interfaces.items }
+        requires uses { UsedStand (packages_of self.old) (standing_in self.old) interface.0 }
         ensures leaves { LeavesInterfaces self.old self.new }
         ensures ok { IfOk result (EncodesInterfaceAs self.old self.new interface) }
-        ensures err { OnErr result (GrowsAround (interface_encoder_view self.old).scope.packages (component_of self.old) (component_of self.new)) }
-        ensures written { OnOk result (AddsBytes (whole_extent (interface_encoder_view self.old).scope.packages interface.0) (component_of self.old).declared (component_of self.new).declared) }
+        ensures err { OnErr result (AddsAliases self.old self.new) }
+        ensures written { OnOk result (AddsInterfaceBytes self.old self.new interface) }
         ensures size { result ≡ Err Size → LacksRoomFor self.old interface }
         ensures refuses { IfErr result IsMemoryOrSize }
     {

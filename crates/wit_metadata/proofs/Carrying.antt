@@ -1,5 +1,5 @@
 -- A component with a world's wrapper behind a custom section means the world.
-use Rattle.std.proofs.Common.{◌≡◌, ◌∙◌, refl, ap, subst, ℕ, Bool, List, [], ◌∷◌, ◌++◌, Some}
+use Rattle.std.proofs.Common.{◌≡◌, ◌∙◌, refl, ap, subst, ℕ, Bool, List, [], ◌∷◌, ◌++◌, Some, Result, Ok, Err, IfOk}
 use Rattle.wit_model.specs.Text.{Text, text_of}
 use Rattle.wit_model.specs.Lookup.{identity_of, world_at}
 use Rattle.wit_model.specs.Valid.{IsValid}
@@ -10,6 +10,7 @@ use Rattle.wit_model.specs.declared.model.World.{World}
 use Rattle.comp_bytes.specs.Raw.{Declarations}
 use Rattle.comp_bytes.specs.Parts.{Part, sections_of_parts, top_slots}
 use Rattle.comp_bytes.specs.Spelling.{IsComponent}
+use Rattle.comp_bytes.specs.Writing.{component_bytes}
 use Rattle.encode_exports.specs.ExportedParts.{one_exported}
 use Rattle.encode_exports.proofs.Exports.{all_exported}
 use Rattle.encode_shown.specs.PackageTypes.{IsWorldType}
@@ -41,8 +42,13 @@ module _ (r : Resolve) (v : IsValid r) (n : ℕ) (w : World) (there : world_at r
   pub encoding-carried : CarriesEncoding e bytes
   encoding-carried = record { sections = sections_of_parts (encoding_part e ∷ one_exported 0 (text_of w.name, ds)); spelled = spelled; says = refl }
 
-  pub world-carried : CarriesWorld r canonical n e bytes
-  world-carried = record { world = w; there = there; home = home; declared = ds; wraps = wraps; spelled = spelled }
+  pub world-carried : bytes ≡ component_bytes (sections_of_parts (encoding_part e ∷ one_exported 0 (text_of w.name, ds))) → CarriesWorld r canonical n e bytes
+  world-carried are = record { world = w; there = there; home = home; declared = ds; wraps = wraps; are = are; spelled = spelled }
+
+-- two facts of one result
+pub both-of : {X E : Type 0} (P Q : X → Type 0) (given : Result X E) → IfOk given P → IfOk given Q → IfOk given (λ x. P x × Q x)
+both-of P Q (Ok x) p q = (p, q)
+both-of P Q (Err e) p q = p
 
 -- ---- what is built
 

@@ -13,6 +13,7 @@ use Rattle.wit_model.specs.Text.{Text, text_eq, text_of}
 use Rattle.comp_bytes.specs.Parts.{Part, sections_of_parts}
 use Rattle.comp_bytes.specs.Raw.{Declarations, Section}
 use Rattle.comp_bytes.specs.Spelling.{IsComponent}
+use Rattle.comp_bytes.specs.Writing.{component_bytes}
 use Rattle.comp_meaning.specs.Reads.{ReadsWorld}
 use Rattle.encode_exports.specs.ExportedParts.{one_exported}
 use Rattle.wit_encode.specs.Packages.{WrapsWorld}
@@ -52,11 +53,13 @@ MeansWorld r n bytes = (m : WorldPackage) → MeantWorld r n m ↔ ReadsWorld by
 abbrev pub encoding_part : StringEncoding → Part
 encoding_part e = Part.custom section_name (contents_of e)
 
--- The bytes spell a component with that section, and behind it the wrapper of world n, with names whole or canonical, exported under the world's name.
+-- The bytes are those of a component with that section, and behind it the wrapper of world n, with names whole or canonical, exported under the
+-- world's name, in the one spelling that is written, where each number is in its shortest form.
 pub record CarriesWorld (r : Resolve) (canonical : Bool) (n : ℕ) (e : StringEncoding) (bytes : List ℕ) : Type 0 where
   pub world : World
   pub there : world_at r n ≡ Some world
   pub home : HasHome r world
   pub declared : Declarations
   pub wraps : WrapsWorld r canonical (identity_of home.package_.name) n world declared
+  pub are : bytes ≡ component_bytes (sections_of_parts (encoding_part e ∷ one_exported 0 (text_of world.name, declared)))
   pub spelled : IsComponent (sections_of_parts (encoding_part e ∷ one_exported 0 (text_of world.name, declared))) bytes

@@ -31,7 +31,8 @@ fn package_name(resolve: &Resolve, world: WorldId) -> &PackageName
 /// The bytes under which a module carries a world: a component with the custom section `wit-component-encoding`, which says how strings pass,
 /// and the world's wrapper, exported under its name (wit-component README, "Custom Section Format"). They are read as exactly what the world
 /// means, with canonical names and without, and as that encoding. Nothing else stands in the component, and each path in the world's component type is
-/// written whole, or, with canonical names, with the canonical part of its version and an attribute that completes it.
+/// written whole, or, with canonical names, with the canonical part of its version and an attribute that completes it. Each number is written in
+/// its shortest form, and a name without attributes with 00 in front.
 ///
 /// With canonical names `CanonicalClash` is answered where two imports, or two exports, have one canonical name, with the first name that repeats
 /// an earlier one, imports before exports. Otherwise `Memory` and `Size` alone are refused, and `Size` only where the world in such a component

@@ -2,3 +2,4 @@ pub mod InterfaceHeads
 pub mod UndocumentedCalls
 pub mod AlikeTypes
 pub mod AlikeFiles
+pub mod Given

@@ -1,4 +1,6 @@
 pub mod Documentation
+pub mod Files
+pub mod Given
 pub mod Printer
 -- ---- definitions of the crates below that clauses of callers cite
 

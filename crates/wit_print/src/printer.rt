@@ -1,25 +1,20 @@
 //! The printer.
 
-ghost use Rattle.std.specs.Prelude.{◌≡◌, ◌<◌, ◌⊎◌, List, true, false, length, OnOk, OnErr, IsOkUnless};
-ghost use Rattle.std.specs.Borrow.{Bor};
+ghost use Rattle.std.specs.Prelude.{◌≡◌, ◌<◌, true, false, length, OnOk, OnErr, IsOkUnless};
 ghost use Rattle.std.specs.Iterator.{Drains, IsFinite};
 ghost use Rattle.std.specs.List.{list_all};
 ghost use Rattle.wit_model.specs.declared.error.Error.TheVariants.{Memory};
-ghost use Rattle.wit_model.specs.Text.{Text, text_of};
+ghost use Rattle.wit_model.specs.Text.{text_of};
 ghost use Rattle.wit_model.specs.Names.{is_label, is_version};
 ghost use Rattle.wit_model.specs.Parts.{same_owner};
 ghost use Rattle.wit_model.specs.Rules.{in_list, passes};
 ghost use Rattle.wit_model.specs.Types.{number_of};
 ghost use Rattle.wit_model.specs.Valid.{IsValid};
-ghost use Rattle.print_output.specs.OutputCall.{Moves, Begins};
-ghost use Rattle.print_grammar.specs.AsRead.{file_as_read};
-ghost use Rattle.print_grammar.specs.Reading.{IsOnlyReading};
-ghost use Rattle.print_output.specs.Render.{render};
 ghost use Rattle.print_items.specs.Shown.{shown_file, shown_head, shown_package, shown_type};
-ghost use Rattle.print_grammar.specs.Calls.{file_calls, members_calls, package_calls, package_outer_calls, printed_after, type_calls};
+ghost use Rattle.print_grammar.specs.Calls.{file_calls, package_calls, package_outer_calls, type_calls};
 ghost use Rattle.print_packages.specs.GivenTypes.{are_functions_of, given_members};
-ghost use Rattle.print_uses.specs.UseGroups.{is_listed_type, listed_of};
 ghost use Rattle.print_packages.specs.Heads.{interface_body_calls, interface_head_calls};
+ghost use Rattle.wit_print.specs.Files.{FileReads};
 
 use print_items::{Driver, write_type_name};
 use print_output::{Output, OutputToString};
@@ -44,7 +39,7 @@ pub struct WitPrinter<O: Output = OutputToString> {
 }
 
 impl<O: Output> WitPrinter<O> {
-    ghost use Rattle.wit_print.specs.Printer.{block_has_printed, emits_docs};
+    ghost use Rattle.wit_print.specs.Printer.{AreTypesOf, Prints, PrintsInPart, PrintsTypes, PrintsTypesInPart, block_has_printed, emits_docs};
 
     /// A printer to an output. Documentation is printed.
     pub fn new(output: O) -> WitPrinter<O>
@@ -87,9 +82,9 @@ impl<O: Output> WitPrinter<O> {
         requires valid { IsValid resolve.now }
         requires in_range { id.0 < length resolve.now.packages.items }
         requires nested { list_all (λ other. in_list resolve.now.packages.items other.0) nested.now ≡ true }
-        ensures ok { OnOk result (Moves O.keeps (O.view self.old.output) (file_calls (emits_docs self.old) (shown_file resolve.now id nested.now)) (O.view self.new.output)) }
-        ensures err { OnErr result (Begins O.keeps (O.view self.old.output) (file_calls (emits_docs self.old) (shown_file resolve.now id nested.now)) (O.view self.new.output)) }
-        ensures reads { IsOnlyReading (render (file_calls (emits_docs self.old) (shown_file resolve.now id nested.now))) (file_as_read (shown_file resolve.now id nested.now)) }
+        ensures ok { OnOk result (Prints O.keeps O.view self.old (file_calls (emits_docs self.old) (shown_file resolve.now id nested.now)) self.new) }
+        ensures err { OnErr result (PrintsInPart O.keeps O.view self.old (file_calls (emits_docs self.old) (shown_file resolve.now id nested.now)) self.new) }
+        ensures reads { FileReads (emits_docs self.old) (shown_file resolve.now id nested.now) }
         ensures memory { IsOkUnless result Memory }
         ensures docs { emits_docs self.new ≡ emits_docs self.old }
         ensures mark { block_has_printed self.new ≡ block_has_printed self.old }
@@ -110,8 +105,8 @@ impl<O: Output> WitPrinter<O> {
     ) -> Result<(), Error>
         requires valid { IsValid resolve.now }
         requires in_range { id.0 < length resolve.now.packages.items }
-        ensures ok { OnOk result (Moves O.keeps (O.view self.old.output) (package_calls (emits_docs self.old) is_main (shown_package resolve.now id)) (O.view self.new.output)) }
-        ensures err { OnErr result (Begins O.keeps (O.view self.old.output) (package_calls (emits_docs self.old) is_main (shown_package resolve.now id)) (O.view self.new.output)) }
+        ensures ok { OnOk result (Prints O.keeps O.view self.old (package_calls (emits_docs self.old) is_main (shown_package resolve.now id)) self.new) }
+        ensures err { OnErr result (PrintsInPart O.keeps O.view self.old (package_calls (emits_docs self.old) is_main (shown_package resolve.now id)) self.new) }
         ensures memory { IsOkUnless result Memory }
         ensures docs { emits_docs self.new ≡ emits_docs self.old }
         ensures mark { block_has_printed self.new ≡ block_has_printed self.old }
@@ -134,8 +129,8 @@ impl<O: Output> WitPrinter<O> {
         requires namespace { is_label (text_of «package».now.name.namespace) ≡ true }
         requires name { is_label (text_of «package».now.name.name) ≡ true }
         requires version { passes is_version «package».now.name.version ≡ true }
-        ensures ok { OnOk result (Moves O.keeps (O.view self.old.output) (package_outer_calls (emits_docs self.old) (shown_head «package».now)) (O.view self.new.output)) }
-        ensures err { OnErr result (Begins O.keeps (O.view self.old.output) (package_outer_calls (emits_docs self.old) (shown_head «package».now)) (O.view self.new.output)) }
+        ensures ok { OnOk result (Prints O.keeps O.view self.old (package_outer_calls (emits_docs self.old) (shown_head «package».now)) self.new) }
+        ensures err { OnErr result (PrintsInPart O.keeps O.view self.old (package_outer_calls (emits_docs self.old) (shown_head «package».now)) self.new) }
         ensures memory { IsOkUnless result Memory }
         ensures docs { emits_docs self.new ≡ emits_docs self.old }
         ensures mark { block_has_printed self.new ≡ block_has_printed self.old }
@@ -159,8 +154,8 @@ impl<O: Output> WitPrinter<O> {
         requires valid { IsValid resolve.now }
         requires in_range { id.0 < length resolve.now.interfaces.items }
         requires name { is_label name.now ≡ true }
-        ensures ok { OnOk result (Moves O.keeps (O.view self.old.output) (interface_head_calls (emits_docs self.old) resolve.now id name.now) (O.view self.new.output)) }
-        ensures err { OnErr result (Begins O.keeps (O.view self.old.output) (interface_head_calls (emits_docs self.old) resolve.now id name.now) (O.view self.new.output)) }
+        ensures ok { OnOk result (Prints O.keeps O.view self.old (interface_head_calls (emits_docs self.old) resolve.now id name.now) self.new) }
+        ensures err { OnErr result (PrintsInPart O.keeps O.view self.old (interface_head_calls (emits_docs self.old) resolve.now id name.now) self.new) }
         ensures memory { IsOkUnless result Memory }
         ensures docs { emits_docs self.new ≡ emits_docs self.old }
         ensures mark { block_has_printed self.new ≡ block_has_printed self.old }
@@ -181,8 +176,8 @@ impl<O: Output> WitPrinter<O> {
     ) -> Result<(), Error>
         requires valid { IsValid resolve.now }
         requires in_range { id.0 < length resolve.now.interfaces.items }
-        ensures ok { OnOk result (Moves O.keeps (O.view self.old.output) (interface_body_calls (emits_docs self.old) resolve.now id) (O.view self.new.output)) }
-        ensures err { OnErr result (Begins O.keeps (O.view self.old.output) (interface_body_calls (emits_docs self.old) resolve.now id) (O.view self.new.output)) }
+        ensures ok { OnOk result (Prints O.keeps O.view self.old (interface_body_calls (emits_docs self.old) resolve.now id) self.new) }
+        ensures err { OnErr result (PrintsInPart O.keeps O.view self.old (interface_body_calls (emits_docs self.old) resolve.now id) self.new) }
         ensures memory { IsOkUnless result Memory }
         ensures docs { emits_docs self.new ≡ emits_docs self.old }
         ensures mark { block_has_printed self.new ≡ block_has_printed self.old }
@@ -218,10 +213,10 @@ impl<O: Output> WitPrinter<O> {
         requires placed { same_owner owner TypeOwner.None ≡ false }
         requires can { I.can_next types }
         requires ends { IsFinite (I.remaining types) }
-        requires known { (xs : List (Bor Text × TypeId)) → Drains I.next_gives types xs → list_all (is_listed_type resolve.now owner) (listed_of xs) ≡ true }
+        requires known { AreTypesOf resolve.now owner (Drains I.next_gives types) }
         requires functions { are_functions_of resolve.now owner functions.now.entries ≡ true }
-        ensures ok { OnOk result ((xs : List (Bor Text × TypeId)) × Drains I.next_gives types xs × Moves O.keeps (O.view self.old.output) (members_calls (emits_docs self.old) (block_has_printed self.old) (given_members resolve.now owner functions.now.entries (listed_of xs))) (O.view self.new.output) × (block_has_printed self.new ≡ printed_after (block_has_printed self.old) (given_members resolve.now owner functions.now.entries (listed_of xs)))) }
-        ensures err { OnErr result ((O.view self.new.output ≡ O.view self.old.output) ⊎ ((xs : List (Bor Text × TypeId)) × Drains I.next_gives types xs × Begins O.keeps (O.view self.old.output) (members_calls (emits_docs self.old) (block_has_printed self.old) (given_members resolve.now owner functions.now.entries (listed_of xs))) (O.view self.new.output))) }
+        ensures ok { OnOk result (PrintsTypes O.keeps O.view self.old (Drains I.next_gives types) (given_members resolve.now owner functions.now.entries) self.new) }
+        ensures err { OnErr result (PrintsTypesInPart O.keeps O.view self.old (Drains I.next_gives types) (given_members resolve.now owner functions.now.entries) self.new) }
         ensures memory { IsOkUnless result Memory }
         ensures docs { emits_docs self.new ≡ emits_docs self.old }
     {
@@ -254,8 +249,8 @@ impl<O: Output> WitPrinter<O> {
     ) -> Result<(), Error>
         requires valid { IsValid resolve.now }
         requires in_range { passes (in_list resolve.now.types.items) (number_of ty.now) ≡ true }
-        ensures ok { OnOk result (Moves O.keeps (O.view self.old.output) (type_calls (shown_type resolve.now ty.now)) (O.view self.new.output)) }
-        ensures err { OnErr result (Begins O.keeps (O.view self.old.output) (type_calls (shown_type resolve.now ty.now)) (O.view self.new.output)) }
+        ensures ok { OnOk result (Prints O.keeps O.view self.old (type_calls (shown_type resolve.now ty.now)) self.new) }
+        ensures err { OnErr result (PrintsInPart O.keeps O.view self.old (type_calls (shown_type resolve.now ty.now)) self.new) }
         ensures memory { IsOkUnless result Memory }
         ensures docs { emits_docs self.new ≡ emits_docs self.old }
         ensures mark { block_has_printed self.new ≡ block_has_printed self.old }

@@ -1,8 +1,9 @@
 -- The text of what the core module binds that a reader gives.
-use Rattle.std.specs.Prelude.{ℕ, List, Option}
+use Rattle.std.specs.Prelude.{◌≡◌, ℕ, List, Option}
 use Rattle.wit_model.specs.declared.error.Error.{Error}
-use Rattle.wit_model.specs.declared.error.Error.TheVariants.{Memory}
+use Rattle.wit_model.specs.declared.error.Error.TheVariants.{Memory, Size}
 use Rattle.wit_component.specs.Bound.{RefusesBindings}
+use Rattle.wit_component.specs.Reached.{OutgrowsLists}
 use Rattle.witc.specs.Input.{ReadsWhole}
 use Rattle.witc.specs.declared.refusal.Refusal.{Refusal}
 use Rattle.witc.specs.declared.refusal.Refusal.TheVariants as refusals
@@ -14,8 +15,8 @@ pub record PrintsBindings (left rest : Option (List ℕ)) (text : List ℕ) : Ty
   pub read : ReadsWhole left rest input
   pub printed : PrintsModule input text
 
--- A read failed, memory was wanting, or all is read and is no module, or one whose bindings are refused.
+-- A read failed, memory was wanting, or all is read and is no module, or one whose bindings are refused, for size only where a list would get too long.
 pub data RefusesModuleInput (left rest : Option (List ℕ)) : Refusal → Type 0 where
   unread : RefusesModuleInput left rest refusals.Unread
   memory : RefusesModuleInput left rest (refusals.Error Memory)
-  bindings : (input : List ℕ) (e : Error) → ReadsWhole left rest input → RefusesBindings input e → RefusesModuleInput left rest (refusals.Error e)
+  bindings : (input : List ℕ) (e : Error) → ReadsWhole left rest input → RefusesBindings input e → (e ≡ Size → OutgrowsLists input) → RefusesModuleInput left rest (refusals.Error e)

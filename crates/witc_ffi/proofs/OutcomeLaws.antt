@@ -1,12 +1,14 @@
 -- What C is given of what comes of a call.
 use Rattle.std.proofs.Common.{◌≡◌, ◌&&◌, ℕ, List, [], Bool, true, false, refl, sym, subst, Result, Ok, Err, IfOk, MatchResult}
+use Rattle.std.specs.Str.{is_utf8}
 use Rattle.std.specs.declared.alloc.AllocError.{AllocError}
 use Rattle.wit_model.specs.declared.error.Error.{Error}
 use Rattle.wit_model.specs.declared.error.Error.TheVariants as errors
 use Rattle.wit_component.specs.Bound.{RefusesBindings}
 use Rattle.wit_component.specs.Decoded.{MeansNothing, RefusesBytes}
+use Rattle.wit_component.specs.Reached.{OutgrowsLists}
 use Rattle.witc_texts.specs.Worlds.{RefusesCompared}
-use Rattle.witc_ffi.specs.Answers.{CompatAnswers, ModuleAnswers, PrintAnswers, StripAnswers, compat_refused, module_refused, print_refused, strip_refused}
+use Rattle.witc_ffi.specs.Answers.{AreTexts, CompatAnswers, ModuleAnswers, PrintAnswers, StripAnswers, compat_refused, module_refused, print_refused, strip_refused}
 use Rattle.witc_ffi.specs.Outcomes.{HandsOut, IsNoLack, IsOutcome, handed, lacking}
 use Rattle.witc_ffi.specs.declared.outcome.Outcome.{Outcome}
 
@@ -45,22 +47,32 @@ refused-print bytes e refuses (Ok o) is = subst (λ (n : ℕ). PrintAnswers byte
 refused-print bytes e refuses (Err lack) is = tt
 
 -- a refusal of bytes and names
-pub refused-compat : (bytes prev new : List ℕ) (e : Error) → RefusesCompared bytes prev new e → (r : Result Outcome AllocError) → IfOk r (λ o. (o.status ≡ 1) × IsNoLack e)
+pub refused-compat : (bytes prev new : List ℕ) (e : Error) → AreTexts prev new → RefusesCompared bytes prev new e → (r : Result Outcome AllocError) → IfOk r (λ o. (o.status ≡ 1) × IsNoLack e)
     → IfOk r (λ o. CompatAnswers bytes prev new o.status o.text.items)
-refused-compat bytes prev new e refuses (Ok o) is = subst (λ (n : ℕ). CompatAnswers bytes prev new n o.text.items) (sym is.0) (compat_refused o.text.items e refuses is.1)
-refused-compat bytes prev new e refuses (Err lack) is = tt
+refused-compat bytes prev new e texts refuses (Ok o) is = subst (λ (n : ℕ). CompatAnswers bytes prev new n o.text.items) (sym is.0) (compat_refused o.text.items e texts refuses is.1)
+refused-compat bytes prev new e texts refuses (Err lack) is = tt
 
 -- a refusal of a module
-pub refused-module : (bytes : List ℕ) (e : Error) → RefusesBindings bytes e → (r : Result Outcome AllocError) → IfOk r (λ o. (o.status ≡ 1) × IsNoLack e) → IfOk r (λ o. ModuleAnswers bytes o.status o.text.items)
-refused-module bytes e refuses (Ok o) is = subst (λ (n : ℕ). ModuleAnswers bytes n o.text.items) (sym is.0) (module_refused o.text.items e refuses is.1)
-refused-module bytes e refuses (Err lack) is = tt
+pub refused-module : (bytes : List ℕ) (e : Error) → RefusesBindings bytes e → (e ≡ errors.Size → OutgrowsLists bytes) → (r : Result Outcome AllocError) → IfOk r (λ o. (o.status ≡ 1) × IsNoLack e)
+    → IfOk r (λ o. ModuleAnswers bytes o.status o.text.items)
+refused-module bytes e refuses size (Ok o) is = subst (λ (n : ℕ). ModuleAnswers bytes n o.text.items) (sym is.0) (module_refused o.text.items e refuses size is.1)
+refused-module bytes e refuses size (Err lack) is = tt
 
-pub refused-strip : (bytes : List ℕ) (e : Error) → RefusesBindings bytes e → (r : Result Outcome AllocError) → IfOk r (λ o. (o.status ≡ 1) × IsNoLack e) → IfOk r (λ o. StripAnswers bytes o.status o.text.items)
-refused-strip bytes e refuses (Ok o) is = subst (λ (n : ℕ). StripAnswers bytes n o.text.items) (sym is.0) (strip_refused o.text.items e refuses is.1)
-refused-strip bytes e refuses (Err lack) is = tt
+pub refused-strip : (bytes : List ℕ) (e : Error) → RefusesBindings bytes e → (e ≡ errors.Size → OutgrowsLists bytes) → (r : Result Outcome AllocError) → IfOk r (λ o. (o.status ≡ 1) × IsNoLack e)
+    → IfOk r (λ o. StripAnswers bytes o.status o.text.items)
+refused-strip bytes e refuses size (Ok o) is = subst (λ (n : ℕ). StripAnswers bytes n o.text.items) (sym is.0) (strip_refused o.text.items e refuses size is.1)
+refused-strip bytes e refuses size (Err lack) is = tt
 
 pub first-bad : (a b : Bool) → a ≡ false → (a && b) ≡ false
 first-bad a b is = subst (λ (x : Bool). (x && b) ≡ false) (sym is) refl
+
+both-good : (a b : Bool) → a ≡ true → b ≡ true → (a && b) ≡ true
+both-good a b one other = subst (λ (x : Bool). (x && b) ≡ true) (sym one) other
+
+-- texts that are the bytes of names which are UTF-8
+pub are-texts : (xs ys prev new : List ℕ) → (xs ≡ prev) × (is_utf8 prev ≡ true) → (ys ≡ new) × (is_utf8 new ≡ true) → AreTexts xs ys
+are-texts xs ys prev new one other =
+    both-good (is_utf8 xs) (is_utf8 ys) (subst (λ (t : List ℕ). is_utf8 t ≡ true) (sym one.0) one.1) (subst (λ (t : List ℕ). is_utf8 t ≡ true) (sym other.0) other.1)
 
 pub second-bad : (a b : Bool) → a ≡ true → b ≡ false → (a && b) ≡ false
 second-bad a b good is = subst (λ (x : Bool). (x && b) ≡ false) (sym good) is

@@ -2,7 +2,7 @@
 
 ghost use Rattle.std.specs.Prelude.{◌≡◌, true, false, IfOk, MatchOption};
 ghost use Rattle.std.specs.Str.{is_utf8};
-ghost use Rattle.witc_ffi.specs.Answers.{CompatAnswers, ModuleAnswers, PrintAnswers, StripAnswers};
+ghost use Rattle.witc_ffi.specs.Answers.{AreTexts, CompatAnswers, ModuleAnswers, PrintAnswers, StripAnswers};
 
 use crate::outcome::{DONE, NO_WORLD, Outcome, copied, known, no_world, refusal};
 use std::alloc::{AllocError, Global};
@@ -63,6 +63,7 @@ fn text_of(name: &[u8]) -> Option<&str>
 }
 
 fn compared_names(alloc: Global, bytes: &[u8], prev: &str, new: &str) -> Result<Outcome, AllocError>
+    requires { AreTexts prev.now new.now }
     ensures { IfOk result (λ o. CompatAnswers bytes.now prev.now new.now o.status o.text.items) }
 {
     match compat(alloc, bytes, prev, new) {

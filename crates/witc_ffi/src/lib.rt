@@ -5,6 +5,7 @@
 
 ghost use Rattle.std.specs.Prelude.{◌≡◌, IfOk, []};
 ghost use Rattle.witc_ffi.specs.Answers.{CompatAnswers, ModuleAnswers, PrintAnswers, StripAnswers};
+ghost use denote.RawPtr.{null_ptr};
 
 mod answer;
 mod calls;
@@ -54,10 +55,10 @@ pub extern "C" fn witc_compat_slices(
     hand_out(alloc, compared(alloc, bytes, prev, new), answer)
 }
 
-/// Frees the bytes of an answer, which has none from then on.
+/// Frees the bytes of an answer, which has none from then on, and no pointer to any.
 #[unsafe(no_mangle)]
 pub extern "C" fn witc_free(alloc: Global, answer: &mut Answer)
-    ensures { (answer.new.text ≡ []) × (answer.new.length ≡ 0) }
+    ensures { (answer.new.text ≡ []) × (answer.new.at ≡ null_ptr) × (answer.new.length ≡ 0) × (answer.new.owner ≡ null_ptr) }
 {
     let old = std::mem::replace(answer, Answer::none());
     old.release(alloc);

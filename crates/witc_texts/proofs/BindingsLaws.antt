@@ -5,7 +5,7 @@ use Rattle.std.specs.List.{list_all, range_with_len}
 use Rattle.std.proofs.lemmas.Bool.{lt-ltb, ltb-false, ltb-true}
 use Rattle.std.proofs.lemmas.List.FromFn.{map-range_with_len_more}
 use Rattle.wit_model.specs.declared.error.Error.{Error}
-use Rattle.wit_model.specs.declared.error.Error.TheVariants.{Memory}
+use Rattle.wit_model.specs.declared.error.Error.TheVariants.{Memory, Size}
 use Rattle.wit_model.specs.declared.model.Package.{Package}
 use Rattle.wit_model.specs.declared.model.PackageId.{PackageId}
 use Rattle.wit_model.specs.declared.model.Resolve.{Resolve}
@@ -74,3 +74,10 @@ others-there r some = all-there r.packages.items 1 (length r.packages.items - 1)
 -- want of memory
 pub no-memory : (bytes : List ℕ) (e : Error) → e ≡ Memory → RefusesBindings bytes e
 no-memory bytes e is = subst (RefusesBindings bytes) (sym is) tt
+
+-- want of memory is never too large
+pub never-too-large : (X : Type 0) (e : Error) → e ≡ Memory → e ≡ Size → X
+never-too-large X e is large = let no : Memory ≡ Size = sym is ∙ large in absurd (by no)
+  where
+    by : Memory ≡ Size → ⊥
+    by h = cc

@@ -1,5 +1,5 @@
 -- The text of what a core module binds.
-use Rattle.std.specs.Prelude.{ℕ, ◌-◌, List, map, length}
+use Rattle.std.specs.Prelude.{ℕ, ◌-◌, List, [], map, length}
 use Rattle.std.specs.List.{range_with_len}
 use Rattle.wit_model.specs.declared.model.PackageId.{PackageId}
 use Rattle.wit_model.specs.declared.model.Resolve.{Resolve}
@@ -7,6 +7,7 @@ use Rattle.wit_bind.specs.declared.bindgen.Bindgen.{Bindgen}
 use Rattle.wit_component.specs.Bindings.{IsBindgen, binding_of}
 use Rattle.wit_component.specs.Bound.{IsBound}
 use Rattle.wit_component.specs.BoundTo.{BeginsWithRoot}
+use Rattle.wit_component.specs.Reached.{IsReached}
 use Rattle.witc_texts.specs.Printed.{IsTextOf}
 
 -- all packages but the first, in order
@@ -23,4 +24,5 @@ pub record PrintsModule (bytes text : List ℕ) : Type 0 where
   pub binds : IsBound bytes (binding_of bound)
   pub valid : IsBindgen bound
   pub root : BeginsWithRoot bound.resolve
+  pub reached : IsReached bytes bound []
   pub is_text : IsWholeText bound.resolve text

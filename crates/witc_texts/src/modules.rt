@@ -1,9 +1,10 @@
 //! What core modules bind, as text, and modules without the sections that carry worlds.
 
 ghost use Rattle.std.specs.Prelude.{◌≡◌, ◌<◌, length, IfErr, IfOk, IsOkUnless};
-ghost use Rattle.wit_model.specs.declared.error.Error.TheVariants.{Memory};
+ghost use Rattle.wit_model.specs.declared.error.Error.TheVariants.{Memory, Size};
 ghost use Rattle.wit_model.specs.Valid.{IsValid};
 ghost use Rattle.wit_component.specs.Bound.{RefusesBindings};
+ghost use Rattle.wit_component.specs.Reached.{OutgrowsLists};
 ghost use Rattle.witc_texts.specs.Bindings.{IsWholeText, PrintsModule, other_packages_of};
 ghost use Rattle.witc_texts.specs.Stripped.{StripsTo};
 
@@ -41,6 +42,7 @@ fn whole_text(alloc: Global, resolve: &Resolve) -> Result<Vec<u8>, Error>
 pub fn module_text(alloc: Global, bytes: &[u8]) -> Result<Vec<u8>, Error>
     ensures printed { IfOk result (λ text. PrintsModule bytes.now text.items) }
     ensures refused { IfErr result (RefusesBindings bytes.now) }
+    ensures size { IfErr result (λ e. e ≡ Size → OutgrowsLists bytes.now) }
 {
     let (_module, bound) = decode(alloc, bytes)?;
     whole_text(alloc, &bound.resolve)
@@ -51,6 +53,7 @@ pub fn module_text(alloc: Global, bytes: &[u8]) -> Result<Vec<u8>, Error>
 pub fn strip(alloc: Global, bytes: &[u8]) -> Result<Option<Vec<u8>>, Error>
     ensures stripped { IfOk result (StripsTo bytes.now) }
     ensures refused { IfErr result (RefusesBindings bytes.now) }
+    ensures size { IfErr result (λ e. e ≡ Size → OutgrowsLists bytes.now) }
 {
     let (stripped, _bound) = decode(alloc, bytes)?;
     Ok(stripped)

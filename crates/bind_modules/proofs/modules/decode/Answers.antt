@@ -1,9 +1,10 @@
-use Rattle.std.proofs.Common.{◌≡◌}
+use Rattle.std.proofs.Common.{◌≡◌, []}
 use Rattle.wit_model.specs.declared.error.Error.{Error}
 use Rattle.wit_model.specs.declared.error.Error.TheVariants as errors
 use Rattle.wit_bind.specs.Bindings.{binding_of}
 use Rattle.bind_sections.specs.Bound.{RefusesBindings}
 use Rattle.bind_modules.specs.Reached.{OutgrowsLists}
+use Rattle.bind_modules.proofs.Bare.{reached-bare}
 use Rattle.bind_modules.proofs.BoundTo.{strip-refused}
 use Rattle.bind_modules.proofs.Reached.{strip-otherwise}
 use Rattle.bind_modules.proofs.SectionLaws.{passed_on}
@@ -20,3 +21,6 @@ returns-in_err-module-clause-size c =
     let e = c.in_err-module.field-0.0 in
     passed_on (λ (d : Error). d ≡ errors.Size → OutgrowsLists c.args.bytes.now) e c.from_residual-in_err-module.result
     (λ so. absurd (strip-otherwise c.args.bytes.now e c.in_err-module.ensures.refuses so)) c.from_residual-in_err-module.ensures.1
+
+pub returns-clause-bare : goal.returns-clause-bare
+returns-clause-bare c = reached-bare c.args.bytes.now c.in_ok-bound.bound [] c.in_ok-bound.ensures.reached

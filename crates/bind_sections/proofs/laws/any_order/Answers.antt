@@ -1,4 +1,5 @@
 use Rattle.bind_meaning.proofs.EachOrder as each
+use Rattle.bind_sections.proofs.Folding as folding
 use Rattle.bind_sections.proofs.Orders as laws
 use Rattle.bind_sections.proofs.laws.any_order.Goals as goal
 
@@ -19,3 +20,12 @@ returns-clause-every c = each.every_order_folds
 
 pub returns-clause-orders : goal.returns-clause-orders
 returns-clause-orders c = each.orders_give_the_same
+
+pub returns-clause-folds : goal.returns-clause-folds
+returns-clause-folds c = folding.sections_fold
+
+pub returns-clause-in_each_order : goal.returns-clause-in_each_order
+returns-clause-in_each_order c = folding.sections_in_each_order
+
+pub returns-clause-modules : goal.returns-clause-modules
+returns-clause-modules c = folding.modules_in_each_order

@@ -1,8 +1,11 @@
 use Rattle.std.proofs.Common.{[], refl}
 use Rattle.std.proofs.lemmas.List.Elements.{Contains-get_or}
 use Rattle.wit_model.specs.declared.model.«Type».TheVariants as ty
-use Rattle.encode_types.proofs.Planning.{planned-step, order-done}
+use Rattle.encode_types.proofs.Planning.{planned-none, planned-step, order-done}
 use Rattle.encode_types.proofs.plan.order_of.Goals as goal
+
+pub loop-ty-init : goal.loop-ty-init
+loop-ty-init c = planned-none c.args.resolve.now c.args.own c.args.maps.now c.new-order.result c.args.types.now c.new-order.ensures.numbers c.new-order.ensures.met
 
 pub plan-requires-clause-in_range : goal.plan-requires-clause-in_range
 plan-requires-clause-in_range c = c.requires.in_range _ (Contains-get_or _ _ ty.Bool c.loop-ty-test.true)

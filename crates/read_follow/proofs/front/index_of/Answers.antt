@@ -1,5 +1,5 @@
 use Rattle.comp_bytes.proofs.FormLaws.{type_index_law}
-use Rattle.read_follow.proofs.FrontReaders.{found_at, refused_at}
+use Rattle.read_follow.proofs.FrontReaders.{because_of_bytes, found_at, refused_at}
 use Rattle.std.proofs.Common.{◌∙◌, ap, sym, Some}
 use Rattle.read_follow.proofs.front.index_of.Goals as goal
 
@@ -8,3 +8,6 @@ returns-in-Ok c = found_at type_index_law c.args.bytes.now c.in-Ok.number c.in-O
 
 pub returns-in-Err : goal.returns-in-Err
 returns-in-Err c = rw c.refusal_of.ensures (refused_at type_index_law c.args.bytes.now _ c.in-Err.error c.in-Err.ensures)
+
+pub refusal_of-requires : goal.refusal_of-requires
+refusal_of-requires c = because_of_bytes c.in-Err.error _ _ c.in-Err.ensures

@@ -1,11 +1,12 @@
-use Rattle.std.proofs.Common.{◌≡◌, Some, rules}
+use Rattle.std.proofs.Common.{◌≡◌, Some, Result, Ok, Err, IfOk, rules}
 use Rattle.std.proofs.lemmas.Result.{IfOk-weaker}
 use Rattle.wit_model.specs.Lookup.{package_at}
 use Rattle.wit_model.specs.declared.model.Package.{Package}
 use Rattle.comp_bytes.specs.Parts.{sections_of_parts}
 use Rattle.comp_bytes.specs.Spelling.{IsComponent, preamble}
-use Rattle.wit_encode.specs.Packages.{HasMembers, HasNoMembers, MeansPackage, SpellsPackage}
-use Rattle.wit_encode.proofs.WholePackages.{bytes-empty, bytes-mean}
+use Rattle.comp_bytes.specs.Writing.{component_bytes}
+use Rattle.wit_encode.specs.Packages.{HasMembers, HasNoMembers, MeansPackage, SpellsPackageAt}
+use Rattle.wit_encode.proofs.WholePackages.{bytes-empty, bytes-mean, package-at, package-passed, room-refused}
 use Rattle.wit_encode.proofs.PackageWeighing.{all-lack}
 use Rattle.wit_encode.proofs.package.encode.Goals as goal
 use Rattle.std.proofs.Common.{length}
@@ -20,13 +21,18 @@ returns-clause-means c =
     IfOk-weaker c.finish.result (λ bytes. IsComponent (sections_of_parts parts) bytes.items) (λ bytes. (p : Package) → package_at r n ≡ Some p → HasMembers p → MeansPackage r n bytes.items)
     (λ bytes spelled p is some. bytes-mean r c.requires.valid n p is c.args.canonical_names parts bytes.items (c.in_ok-encode_component.ensures.holds p is) spelled some) c.finish.ensures.spelled
 
+both-of : {X E : Type 0} (P Q : X → Type 0) (given : Result X E) → IfOk given P → IfOk given Q → IfOk given (λ x. P x × Q x)
+both-of P Q (Ok x) p q = (p, q)
+both-of P Q (Err e) p q = p
+
 pub returns-clause-holds : goal.returns-clause-holds
 returns-clause-holds c =
     let r = c.args.resolve.now in
     let n = c.args.package.0 in
     let parts = c.in_ok-encode_component.field-0 in
-    IfOk-weaker c.finish.result (λ bytes. IsComponent (sections_of_parts parts) bytes.items) (λ bytes. (p : Package) → package_at r n ≡ Some p → SpellsPackage r c.args.canonical_names p bytes.items)
-    (λ bytes spelled p is. record { parts = parts; holds = c.in_ok-encode_component.ensures.holds p is; spells = spelled }) c.finish.ensures.spelled
+    IfOk-weaker c.finish.result (λ bytes. (bytes.items ≡ component_bytes (sections_of_parts parts)) × IsComponent (sections_of_parts parts) bytes.items) (λ bytes. SpellsPackageAt r c.args.canonical_names n bytes.items)
+    (λ bytes written p is. record { parts = parts; holds = c.in_ok-encode_component.ensures.holds p is; are = written.0; spells = written.1 })
+    (both-of (λ bytes. bytes.items ≡ component_bytes (sections_of_parts parts)) (λ bytes. IsComponent (sections_of_parts parts) bytes.items) c.finish.result c.finish.ensures.ok c.finish.ensures.spelled)
 
 pub returns-clause-empty : goal.returns-clause-empty
 returns-clause-empty c =
@@ -35,6 +41,14 @@ returns-clause-empty c =
     let parts = c.in_ok-encode_component.field-0 in
     IfOk-weaker c.finish.result (λ bytes. IsComponent (sections_of_parts parts) bytes.items) (λ bytes. (p : Package) → package_at r n ≡ Some p → HasNoMembers p → bytes.items ≡ preamble)
     (λ bytes spelled p is none. bytes-empty r c.requires.valid n p is c.args.canonical_names parts bytes.items (c.in_ok-encode_component.ensures.holds p is) spelled none) c.finish.ensures.spelled
+
+pub returns-in_err-encode_component-clause-refuses : goal.returns-in_err-encode_component-clause-refuses
+returns-in_err-encode_component-clause-refuses c =
+    package-passed c.args.resolve.now c.args.package.0 c.args.canonical_names c.in_err-encode_component.field-0.0 c.from_residual.result c.in_err-encode_component.ensures.refuses c.from_residual.ensures.1
+
+pub returns-clause-refuses : goal.returns-clause-refuses
+returns-clause-refuses c = package-at c.args.resolve.now c.args.package.0 c.args.canonical_names c.finish.result
+    (λ p is. room-refused c.args.resolve.now p c.args.canonical_names c.finish.result (λ asked. c.in_ok-encode_component.ensures.differ asked p is) c.finish.ensures.refuses)
 
 pub returns-in_err-encode_component-clause-size : goal.returns-in_err-encode_component-clause-size
 returns-in_err-encode_component-clause-size c = λ h. c.encode_component.ensures.size (search rules)

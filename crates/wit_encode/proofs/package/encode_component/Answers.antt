@@ -4,7 +4,7 @@ use Rattle.wit_model.specs.Lookup.{package_at}
 use Rattle.wit_model.specs.declared.model.Package.{Package}
 use Rattle.wit_model.proofs.OnePath.{some-same}
 use Rattle.wit_encode.specs.Packages.{HasNoClashes, HaveNoEqualPaths, HoldsPackage, RefusesInterfaces, RefusesWorlds}
-use Rattle.wit_encode.proofs.WholePackages.{are-named, are-worlds, interfaces-refused, package-held, parts-mean, worlds-refused}
+use Rattle.wit_encode.proofs.WholePackages.{are-named, are-worlds, interfaces-refused, package-at, package-held, parts-mean, worlds-refused}
 use Rattle.wit_encode.proofs.PackageWeighing.{interfaces-lack, worlds-lack}
 use Rattle.wit_encode.proofs.package.encode_component.Goals as goal
 
@@ -17,16 +17,16 @@ add_worlds-requires-clause-in_range c =
     are-worlds c.args.resolve.now c.requires.valid c.args.package.0 c.index-own.result.now (slice_get_read _ _ _ _ refl c.requires.in_range c.index-own.ensures)
 
 pub returns-in_err-builder-clause-refuses : goal.returns-in_err-builder-clause-refuses
-returns-in_err-builder-clause-refuses c = λ p is.
+returns-in_err-builder-clause-refuses c = package-at c.args.resolve.now c.args.package.0 c.args.canonical_names c.from_residual.result (λ p is.
     let r = c.args.resolve.now in
     let own = c.index-own.result.now in
     let at : package_at r c.args.package.0 ≡ Some own = slice_get_read _ _ _ _ refl c.requires.in_range c.index-own.ensures in
     let same = some-same own p (sym at ∙ is) in
     interfaces-refused r p c.args.canonical_names c.in_err-builder.field-0.0 c.from_residual.result
-    (subst (λ (q : Package). RefusesInterfaces r q.interfaces.entries c.args.canonical_names c.in_err-builder.field-0.0) same c.in_err-builder.ensures.refuses) c.from_residual.ensures.1
+    (subst (λ (q : Package). RefusesInterfaces r q.interfaces.entries c.args.canonical_names c.in_err-builder.field-0.0) same c.in_err-builder.ensures.refuses) c.from_residual.ensures.1)
 
 pub returns-in_err-add_worlds-clause-refuses : goal.returns-in_err-add_worlds-clause-refuses
-returns-in_err-add_worlds-clause-refuses c = λ p is.
+returns-in_err-add_worlds-clause-refuses c = package-at c.args.resolve.now c.args.package.0 c.args.canonical_names c.from_residual-in_err-add_worlds.result (λ p is.
     let r = c.args.resolve.now in
     let own = c.index-own.result.now in
     let at : package_at r c.args.package.0 ≡ Some own = slice_get_read _ _ _ _ refl c.requires.in_range c.index-own.ensures in
@@ -34,7 +34,7 @@ returns-in_err-add_worlds-clause-refuses c = λ p is.
     worlds-refused r p c.args.canonical_names c.in_err-add_worlds.field-0.0 c.from_residual-in_err-add_worlds.result
     (λ asked. subst (λ (q : Package). HaveNoEqualPaths r q.interfaces.entries) same (c.in_ok-builder.ensures.differ asked))
     (subst (λ (q : Package). RefusesWorlds r q.worlds.entries c.args.canonical_names c.in_err-add_worlds.field-0.0) same c.in_err-add_worlds.ensures.refuses)
-    c.from_residual-in_err-add_worlds.ensures.1
+    c.from_residual-in_err-add_worlds.ensures.1)
 
 pub returns-clause-holds : goal.returns-clause-holds
 returns-clause-holds c = λ p is.
@@ -55,7 +55,7 @@ returns-clause-means c = λ p is some.
     (package-held r c.requires.valid c.args.package.0 own at c.args.canonical_names c.in_ok-builder.builder c.add_worlds.new.builder c.in_ok-builder.ensures.holds c.in_ok-add_worlds.ensures.adds)) some
 
 pub returns-clause-differ : goal.returns-clause-differ
-returns-clause-differ c = λ p is asked.
+returns-clause-differ c = λ asked p is.
     let r = c.args.resolve.now in
     let own = c.index-own.result.now in
     let at : package_at r c.args.package.0 ≡ Some own = slice_get_read _ _ _ _ refl c.requires.in_range c.index-own.ensures in

@@ -7,10 +7,11 @@ use Rattle.wit_model.specs.declared.model.PackageName.{PackageName}
 use Rattle.comp_bytes.specs.Parts.{Part, fits_component, sections_of_parts, top_slots}
 use Rattle.comp_bytes.specs.Raw.{TopType}
 use Rattle.comp_bytes.specs.Spelling.{IsComponent}
+use Rattle.comp_bytes.specs.Writing.{component_bytes}
 use Rattle.encode_exports.specs.ExportedParts.{one_exported}
 use Rattle.wit_encode.specs.PackageRoom.{IsHeavyWorld}
 use Rattle.wit_metadata.specs.Carried.{CarriesEncoding, CarriesWorld, MeansWorld, encoding_part}
-use Rattle.wit_metadata.proofs.Carrying.{built, encoding-carried, said, world-carried, world-meant, wrapped-at}
+use Rattle.wit_metadata.proofs.Carrying.{both-of, built, encoding-carried, said, world-carried, world-meant, wrapped-at}
 use Rattle.wit_metadata.proofs.Homes.{world-home}
 use Rattle.wit_metadata.proofs.Weighing.{heavy-world, long-export, long-whole, says-fits}
 use Rattle.wit_metadata.proofs.worlds.encode.Goals as goal
@@ -83,8 +84,11 @@ returns-clause-carries c =
     let is = wrapped-at r c.requires.valid c.args.canonical_names n def ds c.package_name-package.result.now at c.package_name-package.ensures c.in_ok-component.ensures.wraps in
     let front = said c.new-builder.result c.custom_section.new.self e c.encoding_byte.result c.new-builder.ensures c.in_ok-custom_section.ensures.ok c.encoding_byte.ensures in
     let whole = built c.custom_section.new.self c.export_component_type.new.builder e c.deref.result.now (text_of def.name) ds front c.deref.ensures c.in_ok-export_component_type.ensures.ok in
-    IfOk-weaker c.finish.result (λ bytes. IsComponent (sections_of_parts c.export_component_type.new.builder) bytes.items) (λ bytes. CarriesWorld r c.args.canonical_names n e bytes.items)
-    (λ bytes spelled. world-carried r c.requires.valid n def at is.home e ds c.args.canonical_names is.wraps bytes.items (subst (λ (ps : List Part). IsComponent (sections_of_parts ps) bytes.items) whole spelled)) c.finish.ensures.spelled
+    let ps = c.export_component_type.new.builder in
+    IfOk-weaker c.finish.result (λ bytes. (bytes.items ≡ component_bytes (sections_of_parts ps)) × IsComponent (sections_of_parts ps) bytes.items) (λ bytes. CarriesWorld r c.args.canonical_names n e bytes.items)
+    (λ bytes written. world-carried r c.requires.valid n def at is.home e ds c.args.canonical_names is.wraps bytes.items
+    (subst (λ (ps : List Part). IsComponent (sections_of_parts ps) bytes.items) whole written.1) (subst (λ (ps : List Part). bytes.items ≡ component_bytes (sections_of_parts ps)) whole written.0))
+    (both-of (λ bytes. bytes.items ≡ component_bytes (sections_of_parts ps)) (λ bytes. IsComponent (sections_of_parts ps) bytes.items) c.finish.result c.finish.ensures.ok c.finish.ensures.spelled)
 
 pub returns-clause-size : goal.returns-clause-size
 returns-clause-size c = λ h.

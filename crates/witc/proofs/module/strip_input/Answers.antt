@@ -1,5 +1,7 @@
-use Rattle.std.proofs.Common.{subst}
+use Rattle.std.proofs.Common.{◌≡◌, subst}
 use Rattle.wit_component.specs.Bound.{RefusesBindings}
+use Rattle.wit_component.specs.Reached.{OutgrowsLists}
+use Rattle.wit_model.specs.declared.error.Error.TheVariants.{Size}
 use Rattle.witc.specs.Bindings.{RefusesModuleInput, bindings}
 use Rattle.witc.specs.declared.refusal.Refusal.TheVariants as refusals
 use Rattle.witc.proofs.BindingsLaws.{no-reading}
@@ -20,7 +22,8 @@ returns-in_err-stripped-clause-refused g c =
     let rest = g.R.Read.remaining c.read_whole.new.reader in
     let e = c.in_err-stripped.field-0.0 in
     passed (RefusesModuleInput left rest) c.from_residual-in_err-stripped.result (refusals.Error e) c.from_residual-in_err-stripped.ensures.1
-    (bindings c.in_ok-bytes.bytes.items e c.in_ok-bytes.ensures.whole (subst (λ xs. RefusesBindings xs e) c.deref.ensures.value c.in_err-stripped.ensures.refused))
+    (bindings c.in_ok-bytes.bytes.items e c.in_ok-bytes.ensures.whole (subst (λ xs. RefusesBindings xs e) c.deref.ensures.value c.in_err-stripped.ensures.refused)
+    (subst (λ xs. e ≡ Size → OutgrowsLists xs) c.deref.ensures.value c.in_err-stripped.ensures.size))
 
 pub returns-in-Some-clause-stripped : goal.returns-in-Some-clause-stripped
 returns-in-Some-clause-stripped g c =

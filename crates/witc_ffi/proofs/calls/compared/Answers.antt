@@ -1,7 +1,7 @@
 use Rattle.std.specs.Str.{is_utf8}
 use Rattle.witc_texts.specs.Lines.{usage}
 use Rattle.witc_ffi.specs.Answers.{CompatAnswers, no_names}
-use Rattle.witc_ffi.proofs.OutcomeLaws.{first-bad, of-known, second-bad}
+use Rattle.witc_ffi.proofs.OutcomeLaws.{are-texts, first-bad, of-known, second-bad}
 use Rattle.witc_ffi.proofs.calls.compared.Goals as goal
 
 pub returns-in_default : goal.returns-in_default
@@ -16,3 +16,6 @@ returns-in_default-text_of c =
     let new = c.args.new.now in
     of-known (CompatAnswers c.args.bytes.now prev new) 2 usage (no_names (second-bad (is_utf8 prev) (is_utf8 new) c.in-Some.ensures.1 c.in_default-text_of.ensures)) c.known-in_default-text_of.result
     c.known-in_default-text_of.ensures
+
+pub compared_names-requires : goal.compared_names-requires
+compared_names-requires c = are-texts _ _ c.args.prev.now c.args.new.now c.in-Some.ensures c.in-Some-text_of.ensures

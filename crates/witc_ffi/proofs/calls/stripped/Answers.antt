@@ -13,4 +13,4 @@ returns-in-Ok-None c =
     of-known (StripAnswers bytes) 0 bytes (strip_done bytes (whole-left bytes _ c.in-Ok-None.field-0-is c.in-Ok-None.ensures.stripped)) c.copied.result c.copied.ensures
 
 pub returns-in-Err : goal.returns-in-Err
-returns-in-Err c = refused-strip c.args.bytes.now c.in-Err.error c.in-Err.ensures.refused c.refusal.result c.refusal.ensures
+returns-in-Err c = refused-strip c.args.bytes.now c.in-Err.error c.in-Err.ensures.refused c.in-Err.ensures.size c.refusal.result c.refusal.ensures

@@ -1,3 +1,5 @@
+use Rattle.std.proofs.Common.{refl}
+use Rattle.encode_types.specs.Known.{as_before}
 use Rattle.std.specs.Prelude.{reverse}
 use Rattle.wit_model.specs.Lookup.{place_of}
 use Rattle.encode_flat.proofs.FlatSteps.{import-ok}
@@ -5,3 +7,6 @@ use Rattle.encode_flat.proofs.encoder.FlatEncoderOfTypeEncodingMapsValtypeEncode
 
 pub returns-clause-ok : goal.returns-clause-ok
 returns-clause-ok c = import-ok c.import.result c.args.self.now.resolve.now (place_of c.args.self.now.resolve.now c.args.self.now.owner) c.import.new.self (reverse c.args.self.now.forms.items) c.args.id.0 c.import.ensures.ok
+
+pub returns-clause-reaches : goal.returns-clause-reaches
+returns-clause-reaches c = as_before refl

@@ -23,6 +23,12 @@ returns-clause-valid c = so_ok _ _ (λ answer h. h.valid) c.merge_matched.result
 pub returns-clause-extends : goal.returns-clause-extends
 returns-clause-extends c = so_ok _ _ (λ answer h. h.extends) c.merge_matched.result c.merge_matched.ensures.merged
 
+pub returns-clause-brings : goal.returns-clause-brings
+returns-clause-brings c = so_ok _ _ (λ answer h. h.brings) c.merge_matched.result c.merge_matched.ensures.merged
+
+pub returns-clause-bare : goal.returns-clause-bare
+returns-clause-bare c = so_ok _ _ (λ answer h. h.bare) c.merge_matched.result c.merge_matched.ensures.merged
+
 pub returns-clause-growth : goal.returns-clause-growth
 returns-clause-growth c = so_ok _ _ (λ answer h. h.grows) c.merge_matched.result c.merge_matched.ensures.merged
 

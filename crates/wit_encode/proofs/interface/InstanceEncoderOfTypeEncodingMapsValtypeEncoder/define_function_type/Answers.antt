@@ -1,7 +1,7 @@
 use Rattle.std.proofs.Common.{inl, sym, ap, ◌∙◌}
 use Rattle.wit_encode.specs.Instance.{around_of}
 use Rattle.encode_types.proofs.Around.{slots-grow}
-use Rattle.wit_encode.proofs.Within.{function-within, function-without}
+use Rattle.wit_encode.proofs.Within.{function-within, function-without, slot-function}
 use Rattle.wit_encode.specs.Instance.{stands_in}
 use Rattle.wit_encode.proofs.Refusing.{function-inside, function-outside, held-inside, held-outside, on-size, kept-inside, kept-outside}
 use Rattle.wit_encode.proofs.interface.InstanceEncoderOfTypeEncodingMapsValtypeEncoder.define_function_type.Goals as goal
@@ -18,7 +18,7 @@ pub returns-in-Some-clause-scope_stays : goal.returns-in-Some-clause-scope_stays
 returns-in-Some-clause-scope_stays c = (function-within c.define_function_inside.result c.args.self.now.resolve.now c.args.self.now.outer c.args.self.now.inner c.in-Some.current c.define_function_inside.new.inner c.in-Some.is c.args.def c.requires c.define_function_inside.ensures.ok c.define_function_inside.ensures.err).scope_stays
 
 pub returns-in-Some-clause-counts : goal.returns-in-Some-clause-counts
-returns-in-Some-clause-counts c = (function-within c.define_function_inside.result c.args.self.now.resolve.now c.args.self.now.outer c.args.self.now.inner c.in-Some.current c.define_function_inside.new.inner c.in-Some.is c.args.def c.requires c.define_function_inside.ensures.ok c.define_function_inside.ensures.err).counted
+returns-in-Some-clause-counts c = let calls = (function-within c.define_function_inside.result c.args.self.now.resolve.now c.args.self.now.outer c.args.self.now.inner c.in-Some.current c.define_function_inside.new.inner c.in-Some.is c.args.def c.requires c.define_function_inside.ensures.ok c.define_function_inside.ensures.err) in slot-function c.define_function_inside.result _ _ _ _ _ _ _ calls.ok calls.counted
 
 pub returns-clause-ok : goal.returns-clause-ok
 returns-clause-ok c = (function-without c.define_function_outside.result c.args.self.now.resolve.now c.args.self.now.outer c.args.self.now.inner c.define_function_outside.new.outer c.in-None.is c.args.def c.requires c.define_function_outside.ensures.ok c.define_function_outside.ensures.err).ok
@@ -30,7 +30,7 @@ pub returns-clause-scope_stays : goal.returns-clause-scope_stays
 returns-clause-scope_stays c = (function-without c.define_function_outside.result c.args.self.now.resolve.now c.args.self.now.outer c.args.self.now.inner c.define_function_outside.new.outer c.in-None.is c.args.def c.requires c.define_function_outside.ensures.ok c.define_function_outside.ensures.err).scope_stays
 
 pub returns-clause-counts : goal.returns-clause-counts
-returns-clause-counts c = (function-without c.define_function_outside.result c.args.self.now.resolve.now c.args.self.now.outer c.args.self.now.inner c.define_function_outside.new.outer c.in-None.is c.args.def c.requires c.define_function_outside.ensures.ok c.define_function_outside.ensures.err).counted
+returns-clause-counts c = let calls = (function-without c.define_function_outside.result c.args.self.now.resolve.now c.args.self.now.outer c.args.self.now.inner c.define_function_outside.new.outer c.in-None.is c.args.def c.requires c.define_function_outside.ensures.ok c.define_function_outside.ensures.err) in slot-function c.define_function_outside.result _ _ _ _ _ _ _ calls.ok calls.counted
 
 pub returns-in-Some-clause-held : goal.returns-in-Some-clause-held
 returns-in-Some-clause-held c = held-inside c.args.self.now.outer c.args.self.now.inner c.in-Some.current c.define_function_inside.new.inner c.in-Some.is c.define_function_inside.ensures.held

@@ -2,7 +2,7 @@ use Rattle.std.proofs.Common.{inl, sym, ap, ◌∙◌, subst, arith, Option, Som
 use Rattle.std.proofs.lemmas.Option.{slice_get_within}
 use Rattle.wit_encode.specs.declared.interface.OpenInterface.{OpenInterface}
 use Rattle.encode_types.specs.Scope.{IsImportable}
-use Rattle.encode_types.specs.Known.{Around, GrowsAround}
+use Rattle.encode_types.specs.Known.{Around, GrowsAround, ReachesAround}
 use Rattle.wit_encode.specs.Instance.{encoder_scope, scope_with, inner_contents, place_in, around_at, around_of}
 use Rattle.encode_types.proofs.Around.{reaches-grows}
 use Rattle.wit_encode.proofs.Importing.{ImportsTo, imported, imported-stands, import-source, none-outside}
@@ -68,3 +68,11 @@ returns-clause-written c = when-ok c.alias_inside.result _ _
       extent = imported-more (around_at c.args.self.now.outer c.in-Some.current.foreign) (around_at c.reach.new.outer c.reach.new.foreign) c.args.self.now.inner c.in-Some.current c.alias_inside.new.inner c.in_ok-slot-in-Some.slot def
           c.reach.ensures.reaches at c.in-Some.is made.1;
     }) c.alias_inside.ensures.ok
+
+pub returns-clause-reaches : goal.returns-clause-reaches
+returns-clause-reaches c =
+    subst (λ (o : Option OpenInterface). ReachesAround c.args.self.now.resolve.now c.args.id (around_of c.args.self.now.outer o) (around_at c.reach.new.outer c.reach.new.foreign)) (sym c.in-Some.is) c.reach.ensures.reaches
+
+pub returns-in_err-slot-in-Some-clause-reaches : goal.returns-in_err-slot-in-Some-clause-reaches
+returns-in_err-slot-in-Some-clause-reaches c =
+    subst (λ (o : Option OpenInterface). ReachesAround c.args.self.now.resolve.now c.args.id (around_of c.args.self.now.outer o) (around_at c.reach.new.outer c.reach.new.foreign)) (sym c.in-Some.is) c.reach.ensures.reaches

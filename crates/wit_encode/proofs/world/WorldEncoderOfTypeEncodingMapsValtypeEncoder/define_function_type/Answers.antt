@@ -1,4 +1,5 @@
-use Rattle.std.proofs.Common.{◌≡◌, refl, None}
+use Rattle.std.proofs.Common.{◌≡◌, refl, None, length}
+use Rattle.wit_encode.proofs.Within.{slot-function}
 use Rattle.encode_types.specs.Known.{outer_slots}
 use Rattle.encode_types.specs.Standing.{SlotsStand}
 use Rattle.wit_encode.specs.Worlds.{world_around, world_definitions, world_encoder_view, world_view}
@@ -15,7 +16,7 @@ use Rattle.wit_encode.proofs.BytesWritten.{one-more, when-ok}
 
 calls : (c : After-define_function_outside) → WorldCalls c.define_function_outside.result (world_encoder_view c.args.self.now)
     (world_view c.args.self.now.resolve.now c.args.self.now.world c.args.self.now.instances (after_declaring (world_around c.args.self.now) c.define_function_outside.new.outer) c.args.self.now.maps)
-    (DefinesFunction (SlotsStand (outer_slots c.args.self.now.outer)) c.args.def) (world_definitions c.define_function_outside.new.outer ≡ one_function_more (world_definitions c.args.self.now.outer))
+    (DefinesFunction (SlotsStand (outer_slots c.args.self.now.outer)) c.args.def) (world_definitions c.define_function_outside.new.outer ≡ one_function_more (length (outer_slots c.args.self.now.outer)) (world_definitions c.args.self.now.outer))
 calls c = defines-function c.define_function_outside.result c.args.self.now.resolve.now c.args.self.now.world c.args.self.now.instances (world_around c.args.self.now) c.define_function_outside.new.outer c.args.self.now.maps
     c.requires.2.sound c.args.def c.requires.0 c.requires.1 c.requires.2 c.define_function_outside.ensures.ok c.define_function_outside.ensures.err
 
@@ -29,7 +30,7 @@ pub returns-clause-scope_stays : goal.returns-clause-scope_stays
 returns-clause-scope_stays c = (calls (goal.at.returns-clause-scope_stays c).After-define_function_outside).scope_stays
 
 pub returns-clause-counts : goal.returns-clause-counts
-returns-clause-counts c = (calls (goal.at.returns-clause-counts c).After-define_function_outside).counted
+returns-clause-counts c = let made = calls (goal.at.returns-clause-counts c).After-define_function_outside in slot-function c.define_function_outside.result _ _ _ _ _ _ _ made.ok made.counted
 
 pub returns-clause-size : goal.returns-clause-size
 returns-clause-size c = λ h s f. record {

@@ -1,5 +1,6 @@
 use Rattle.std.proofs.Common.{ℕ, Result, Ok, Err, IfOk, OnOk}
 use Rattle.std.proofs.lemmas.Option.{slice_get_within}
+use Rattle.encode_types.specs.Known.{as_before}
 use Rattle.wit_encode.specs.Instance.{around_at}
 use Rattle.wit_encode.specs.Worlds.{world_around, world_encoder_view, world_view}
 use Rattle.wit_encode.proofs.Refusing.{alias-behind, on-size}
@@ -50,3 +51,6 @@ returns-clause-size c = λ h. record {
 
 pub returns-clause-written : goal.returns-clause-written
 returns-clause-written c = on-ok c.reach.result (λ def at. record { extent = (let l = reached-more c.reach.ensures.reaches def at in omega (arith, l)) })
+
+pub returns-clause-reaches : goal.returns-clause-reaches
+returns-clause-reaches c = as_before (imports (goal.at.returns-clause-reaches c).After-reach).around_stays

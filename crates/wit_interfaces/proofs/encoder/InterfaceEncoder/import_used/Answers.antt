@@ -1,10 +1,11 @@
-use Rattle.std.proofs.Common.{sym, subst, List, Result, Ok, Err, OnOk}
+use Rattle.std.proofs.Common.{refl, sym, subst, List, Result, Ok, Err, OnErr, OnOk}
 use Rattle.std.specs.List.{Contains}
 use Rattle.wit_model.specs.Uses.{direct_deps}
 use Rattle.wit_model.specs.declared.model.Resolve.{Resolve}
 use Rattle.wit_model.specs.declared.model.InterfaceId.{InterfaceId}
 use Rattle.wit_encode.specs.Dependencies.{AreImportable}
 use Rattle.wit_encode.proofs.ImportLoop.{numbers, reached-importable, reached-used}
+use Rattle.wit_interfaces.specs.InterfaceEncoders.{ImportsSome, LacksOneImport, some, unchanged}
 use Rattle.wit_interfaces.proofs.encoder.InterfaceEncoder.import_used.Goals as goal
 
 pub import_all-requires-clause-importable : goal.import_all-requires-clause-importable
@@ -15,6 +16,28 @@ on-each : {A E : Type 0} {P Q : Type 0} (res : Result A E) → (P → Q) → OnO
 on-each (Ok x) f p = f p
 on-each (Err e) f p = p
 
+on-err : {A E P : Type 0} (res : Result A E) → P → OnErr res P
+on-err (Ok x) p = tt
+on-err (Err e) p = p
+
+each-err : {A E : Type 0} {P Q : Type 0} (res : Result A E) → (P → Q) → OnErr res P → OnErr res Q
+each-err (Ok x) f p = p
+each-err (Err e) f p = f p
+
 pub returns-clause-uses : goal.returns-clause-uses
 returns-clause-uses c = on-each c.import_all.result (λ stand j d. stand j (subst (λ (xs : List InterfaceId). Contains (numbers xs) j) (sym c.deref.ensures.value)
     (reached-used c.args.self.now.encoder.resolve.now c.args.interface.0 (numbers c.in_ok-reached.reached.items) c.in_ok-reached.ensures.reached j (subst (λ (r : Resolve). Contains (direct_deps r c.args.interface.0) j) c.import_all.ensures.leaves.packages_ d)))) c.import_all.ensures.stand
+
+pub returns-in_err-reached-clause-err : goal.returns-in_err-reached-clause-err
+returns-in_err-reached-clause-err c = on-err _ (unchanged refl)
+
+pub returns-clause-err : goal.returns-clause-err
+returns-clause-err c = each-err c.import_all.result (λ h. some c.in_ok-reached.reached.items c.in_ok-reached.ensures.order
+    (subst (λ (xs : List InterfaceId). ImportsSome c.args.self.now c.import_all.new.self xs) c.deref.ensures.value h)) c.import_all.ensures.err
+
+pub returns-clause-size : goal.returns-clause-size
+returns-clause-size c = λ h. record {
+  reached = c.in_ok-reached.reached.items;
+  are = c.in_ok-reached.ensures.order;
+  lacks = subst (λ (xs : List InterfaceId). LacksOneImport c.args.self.now xs) c.deref.ensures.value (c.import_all.ensures.size h);
+}

@@ -1,0 +1,57 @@
+-- What a call says, said of what is made of its answer.
+use Rattle.std.proofs.Common.{◌≡◌, ◌<◌, ℕ, List, length, ap, sym, subst, Result, Ok, Err, IfErr, IfOk, MatchResult, slice_get}
+use Rattle.std.proofs.lemmas.Option.{slice_get_within}
+use Rattle.std.specs.Prelude.{IsErrAnd, OnOk}
+use Rattle.wit_model.specs.declared.model.Package.{Package}
+use Rattle.wit_model.specs.declared.model.Resolve.{Resolve}
+use Rattle.wit_model.specs.declared.model.WorldId.{WorldId}
+use Rattle.wit_bind.specs.declared.bindgen.Bindgen.{Bindgen}
+use Rattle.wit_component.specs.BoundTo.{BeginsWithRoot}
+use Rattle.wit_component.specs.Carried.{MeansWorld}
+use Rattle.wit_component.specs.DecodedWorlds.{IsDecodedWorld}
+use Rattle.wit_component.specs.Extends.{Extends}
+use Rattle.wit_component.specs.Roots.{IsRoot}
+use Rattle.wit_component.specs.Valid.{IsValid}
+use Rattle.callers.specs.Carried.{MeansTheSame}
+
+-- what is true of the refusal is true of the answer that passes it on
+pub passed : {X E : Type 0} (P : E → Type 0) (r : Result X E) (e : E) → IsErrAnd r (λ d. d ≡ e) → P e → IfErr r P
+passed P (Ok x) e same p = tt
+passed P (Err d) e same p = subst P (sym same) p
+
+-- what is true of each value is true of an answer
+pub if-ok : {X E : Type 0} (P Q : X → Type 0) → ((x : X) → P x → Q x) → (r : Result X E) → IfOk r P → IfOk r Q
+if-ok P Q f (Ok x) h = f x h
+if-ok P Q f (Err e) h = tt
+
+pub on-ok : {X E : Type 0} (A B : Type 0) (F : E → Type 0) → (A → B) → (r : Result X E) → MatchResult r (λ x. A) F → OnOk r B
+on-ok A B F f (Ok x) h = f h
+on-ok A B F f (Err e) h = tt
+
+pub on-ok-of : {X E : Type 0} (A B : Type 0) → (A → B) → (r : Result X E) → OnOk r A → OnOk r B
+on-ok-of A B f (Ok x) h = f h
+on-ok-of A B f (Err e) h = tt
+
+-- The first package is still there.
+pub some-left : (old new : Resolve) (k : ℕ) → BeginsWithRoot old → Extends old new k → 0 < length new.packages.items
+some-left old new k root extends =
+    let grown = extends.packages 0 root.package_ root.first in
+    slice_get_within new.packages.items 0 grown.0 grown.1
+
+pub root-left : (own : Bindgen) (new : Resolve) (k : ℕ) → IsRoot own → Extends own.resolve new k → 0 < length new.packages.items
+root-left own new k root extends =
+    let grown = extends.packages 0 root.holds.package_ (ap (λ (ps : List Package). slice_get ps 0) root.holds.packages) in
+    slice_get_within new.packages.items 0 grown.0 grown.1
+
+-- What was decoded of bytes that mean what a world does means the same.
+pub same-world : (r : Resolve) (n : ℕ) (bytes sent : List ℕ) → bytes ≡ sent → MeansWorld r n sent → (x : Resolve × WorldId) → IsDecodedWorld bytes x.0 x.1.0 → MeansTheSame r n x.0 x.1.0
+same-world r n bytes sent is means x decoded =
+    let here = subst (λ (b : List ℕ). IsDecodedWorld b x.0 x.1.0) is decoded in
+    record {
+      world = here.world;
+      stands = here.stands;
+      same = λ m. (λ h. (here.meant m).1 ((means m).0 h), λ h. (means m).1 ((here.meant m).0 h));
+    }
+
+pub valid-world : (bytes : List ℕ) (x : Resolve × WorldId) → IsDecodedWorld bytes x.0 x.1.0 → IsValid x.0
+valid-world bytes x decoded = decoded.valid

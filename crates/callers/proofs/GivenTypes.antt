@@ -1,0 +1,35 @@
+-- The types of an interface, as they are handed in to be printed.
+use Rattle.std.proofs.Common.{◌≡◌, ◌∙◌, ap, subst, true, false, List, [], Some}
+use Rattle.std.specs.List.{Contains, list_all}
+use Rattle.wit_model.specs.declared.model.Interface.{Interface}
+use Rattle.wit_model.specs.declared.model.InterfaceId.{InterfaceId}
+use Rattle.wit_model.specs.declared.model.Resolve.{Resolve}
+use Rattle.wit_model.specs.declared.model.TypeOwner.TheVariants as owner
+use Rattle.print_output.specs.OutputCall.{Moves, OutputCall, View}
+use Rattle.wit_component.specs.Calls.{members_calls}
+use Rattle.wit_component.specs.Given.{TypesCanBeGiven}
+use Rattle.wit_component.specs.GivenTypes.{Functions, given_members}
+use Rattle.wit_component.specs.Lookup.{interface_at}
+use Rattle.wit_component.specs.Printer.{GivenTypes, Prints, PrintsTypes, block_has_printed, emits_docs}
+use Rattle.wit_component.specs.Render.{Written, writes}
+use Rattle.wit_component.specs.Shown.{Listed, listed_types}
+use Rattle.wit_component.specs.UseGroups.{is_listed_type, listed_of}
+use Rattle.wit_component.specs.Valid.{IsValid}
+use Rattle.wit_print.specs.declared.printer.WitPrinter.{WitPrinter}
+use Rattle.callers.specs.Printed.{calls_of_types}
+
+pub can-be-given : TypesCanBeGiven → (r : Resolve) (id : InterfaceId) (i : Interface) → IsValid r → interface_at r id.0 ≡ Some i → (xs : GivenTypes) → listed_of xs ≡ listed_types i
+    → list_all (is_listed_type r (owner.Interface id)) (listed_of xs) ≡ true
+can-be-given law r id i valid there xs same = law r id i valid there (listed_of xs) (λ t h. subst (λ (l : List Listed). Contains l t) same h)
+
+-- what is printed where that is all that is handed in
+pub all-printed : (r : Resolve) (id : InterfaceId) (i : Interface) (p p' : WitPrinter (View Written)) (given : GivenTypes → Type 0) (entries : Functions)
+    → ((xs : GivenTypes) → given xs → listed_of xs ≡ listed_types i) → entries ≡ [] → emits_docs p ≡ true → block_has_printed p ≡ false
+    → PrintsTypes writes (λ it. it) p given (given_members r (owner.Interface id) entries) p' → Prints writes (λ it. it) p (calls_of_types r id i) p'
+all-printed r id i p p' given entries are none docs first h =
+    let o = owner.Interface id in
+    let calls = ap (λ b. members_calls b (block_has_printed p) (given_members r o entries (listed_of h.types))) docs
+    ∙ ap (λ b. members_calls true b (given_members r o entries (listed_of h.types))) first
+    ∙ ap (λ es. members_calls true false (given_members r o es (listed_of h.types))) none
+    ∙ ap (λ ls. members_calls true false (given_members r o [] ls)) (are h.types h.are) in
+    subst (λ (xs : List OutputCall). Moves writes p.output xs p'.output) calls h.prints

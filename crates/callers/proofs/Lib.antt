@@ -1,0 +1,4 @@
+mod Flows
+mod GivenTypes
+mod Importing
+mod Printing

@@ -1,0 +1,8 @@
+use Rattle.callers.specs.Merged.{RefusesWorlds}
+use Rattle.callers.proofs.Flows.{passed}
+use Rattle.callers.proofs.merged.merged_worlds.Goals as goal
+
+pub returns-in_err-merge-clause-refused : goal.returns-in_err-merge-clause-refused
+returns-in_err-merge-clause-refused c =
+    passed (RefusesWorlds c.args.first.now c.args.second.now c.args.encoding) _ _ c.from_residual-in_err-merge.ensures.1
+    (RefusesWorlds.apart _ _ c.in_ok-bound.ensures.binds c.in_ok-other.ensures.binds c.in_err-merge.ensures.refusal)

@@ -1,0 +1,4 @@
+pub mod Carried
+pub mod Encoded
+pub mod Merged
+pub mod Printed

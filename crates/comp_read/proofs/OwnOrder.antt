@@ -1,0 +1,47 @@
+-- Numbers, each once, where it stands first.
+use Rattle.std.proofs.Common.{◌≡◌, refl, sym, ap, ◌∙◌, ℕ, Bool, true, false, not, ◌||◌, ◌==◌, cond, List, [], ◌∷◌, ◌++◌, map, append-nil}
+use Rattle.std.specs.List.{filter}
+use Rattle.std.proofs.lemmas.Bool.{eq-eqb, eqb-true}
+use Rattle.std.proofs.lemmas.List.{map-append}
+use Rattle.std.proofs.lemmas.List.Elements.{filter-append}
+use Rattle.wit_model.specs.Uses.{has, once}
+use Rattle.wit_model.proofs.Chains.{has_once}
+
+-- one more stands behind the others, unless it is there
+pub once_more : (xs : List ℕ) (x : ℕ) → once (xs ++ x ∷ []) ≡ cond (has xs x) (once xs) (once xs ++ x ∷ [])
+once_more [] x = refl
+once_more (y ∷ xs) x = ap (λ zs. y ∷ filter others zs) (once_more xs x) ∙ by (y == x) (has xs x) refl
+  where
+    others : ℕ → Bool
+    others m = not (m == y)
+
+    last : (b : Bool) → (y == x) ≡ b → filter others (x ∷ []) ≡ cond b [] (x ∷ [])
+    last true e = ap (λ c. cond (not c) (x ∷ []) []) (eq-eqb x y (sym (eqb-true y x e)))
+    last false e = ap (λ c. cond (not c) (x ∷ []) []) (differ (x == y) refl)
+      where
+        differ : (c : Bool) → (x == y) ≡ c → (x == y) ≡ false
+        differ false d = d
+        differ true d = let wrong : true ≡ false = sym (eq-eqb y x (sym (eqb-true x y d))) ∙ e in absurd cc
+
+    by : (b c : Bool) → (y == x) ≡ b → y ∷ filter others (cond c (once xs) (once xs ++ x ∷ [])) ≡ cond (b || c) (y ∷ filter others (once xs)) ((y ∷ filter others (once xs)) ++ x ∷ [])
+    by true true e = refl
+    by false true e = refl
+    by true false e = ap (λ zs. y ∷ zs) (filter-append others (once xs) (x ∷ []) ∙ (ap (λ zs. filter others (once xs) ++ zs) (last true e) ∙ append-nil (filter others (once xs))))
+    by false false e = ap (λ zs. y ∷ zs) (filter-append others (once xs) (x ∷ []) ∙ ap (λ zs. filter others (once xs) ++ zs) (last false e))
+
+-- those that pass a test, behind which one more stands
+module _ {A : Type 0} (P : ℕ → Bool) (f : A → ℕ) (xs : List A) (x : A) where
+  filter_more : filter P (map f (xs ++ x ∷ [])) ≡ filter P (map f xs) ++ cond (P (f x)) (f x ∷ []) []
+  filter_more = ap (filter P) (map-append f xs (x ∷ [])) ∙ filter-append P (map f xs) (f x ∷ [])
+
+  pub filter_other : P (f x) ≡ false → once (filter P (map f (xs ++ x ∷ []))) ≡ once (filter P (map f xs))
+  filter_other fails = ap once (filter_more ∙ (ap (λ b. filter P (map f xs) ++ cond b (f x ∷ []) []) fails ∙ append-nil (filter P (map f xs))))
+
+  passes_too : P (f x) ≡ true → once (filter P (map f (xs ++ x ∷ []))) ≡ cond (has (filter P (map f xs)) (f x)) (once (filter P (map f xs))) (once (filter P (map f xs)) ++ f x ∷ [])
+  passes_too passes = ap once (filter_more ∙ ap (λ b. filter P (map f xs) ++ cond b (f x ∷ []) []) passes) ∙ once_more (filter P (map f xs)) (f x)
+
+  pub filter_known : P (f x) ≡ true → has (once (filter P (map f xs))) (f x) ≡ true → once (filter P (map f (xs ++ x ∷ []))) ≡ once (filter P (map f xs))
+  filter_known passes there = passes_too passes ∙ ap (λ b. cond b (once (filter P (map f xs))) (once (filter P (map f xs)) ++ f x ∷ [])) (sym (has_once (f x) (filter P (map f xs))) ∙ there)
+
+  pub filter_new : P (f x) ≡ true → has (once (filter P (map f xs))) (f x) ≡ false → once (filter P (map f (xs ++ x ∷ []))) ≡ once (filter P (map f xs)) ++ f x ∷ []
+  filter_new passes none = passes_too passes ∙ ap (λ b. cond b (once (filter P (map f xs))) (once (filter P (map f xs)) ++ f x ∷ [])) (sym (has_once (f x) (filter P (map f xs))) ∙ none)

@@ -1,0 +1,112 @@
+-- What a merge brings stands here as it stood there: with its documentation, its stability and its external ids, and with functions and types in their order.
+use Rattle.std.specs.Prelude.{◌≡◌, ℕ, true, false, is_none, if◌then◌else◌, List, [], map, Option, Some, None, option_and_then, option_map}
+use Rattle.std.specs.List.{Contains}
+use Rattle.wit_model.specs.declared.model.Function.{Function}
+use Rattle.wit_model.specs.declared.model.Interface.{Interface}
+use Rattle.wit_model.specs.declared.model.Package.{Package}
+use Rattle.wit_model.specs.declared.model.Resolve.{Resolve}
+use Rattle.wit_model.specs.declared.model.TypeDef.{TypeDef}
+use Rattle.wit_model.specs.declared.model.World.{World}
+use Rattle.wit_model.specs.declared.model.WorldItem.{WorldItem}
+use Rattle.wit_model.specs.declared.model.WorldItem.TheVariants as item
+use Rattle.wit_model.specs.declared.model.WorldKey.{WorldKey}
+use Rattle.wit_model.specs.Lookup.{identity_of, interface_at, key_text, path_of_interface, path_of_world, type_at, world_at}
+use Rattle.wit_model.specs.Text.{Text, optional_text, text_of}
+use Rattle.bind_copy.specs.Copies.{member_docs}
+use Rattle.bind_union.specs.Carried.{stability_view, StabilityView}
+use Rattle.wit_bind.specs.declared.bindgen.Bindgen.{Bindgen}
+use Rattle.wit_bind.specs.Merges.{is_new_interface, is_new_package, is_new_world, is_one_of}
+
+-- ---- what is said of things beside what they mean
+
+-- Of a function, a type or an item. The last is the documentation of a type's fields, cases or flags.
+pub record Notes : Type 0 where
+  pub docs : Option Text
+  pub stability : StabilityView
+  pub external_id : Option Text
+  pub of_members : List (Option Text)
+
+abbrev pub function_notes : Function → Notes
+function_notes f = record { docs = optional_text f.docs.contents; stability = stability_view f.stability; external_id = optional_text f.external_id; of_members = [] }
+
+abbrev pub type_notes : TypeDef → Notes
+type_notes t = record { docs = optional_text t.docs.contents; stability = stability_view t.stability; external_id = optional_text t.external_id; of_members = member_docs t.kind }
+
+-- the same of the type of a number
+abbrev pub type_notes_at : Resolve → ℕ → Option Notes
+type_notes_at r n = option_map type_notes (type_at r n)
+
+-- Of an interface, its functions by their names and its types by theirs, both in their order.
+pub record InterfaceNotes : Type 0 where
+  pub docs : Option Text
+  pub stability : StabilityView
+  pub functions : List (Text × Notes)
+  pub types : List (Text × Option Notes)
+
+abbrev pub interface_notes : Resolve → Interface → InterfaceNotes
+interface_notes r i = record {
+  docs = optional_text i.docs.contents;
+  stability = stability_view i.stability;
+  functions = map (λ e. (text_of e.0, function_notes e.1)) i.functions.entries;
+  types = map (λ e. (text_of e.0, type_notes_at r e.1.0)) i.types.entries;
+}
+
+-- the same of the interface of a number, where it is inline, and so comes with the item that shows it
+abbrev pub inline_notes : Resolve → ℕ → Option InterfaceNotes
+inline_notes r n = option_and_then (λ i. if is_none i.name then Some (interface_notes r i) else None) (interface_at r n)
+
+-- Of an item of a world, and of the inline interface that it shows.
+pub record ItemNotes : Type 0 where
+  pub itself : Option Notes
+  pub inline : Option InterfaceNotes
+
+abbrev pub item_notes : Resolve → WorldItem → ItemNotes
+item_notes r (item.Interface id stability docs external_id) = record {
+  itself = Some (record { docs = optional_text docs.contents; stability = stability_view stability; external_id = optional_text external_id; of_members = [] });
+  inline = inline_notes r id.0;
+}
+item_notes r (item.Function f) = record { itself = Some (function_notes f); inline = None }
+item_notes r (item.Type_ id) = record { itself = type_notes_at r id.0; inline = None }
+
+-- under the label or the path of its key
+abbrev pub entry_notes : Resolve → WorldKey × WorldItem → Text × ItemNotes
+entry_notes r e = (key_text r e.0, item_notes r e.1)
+
+-- Of a world, its imports and its exports in their order.
+pub record WorldNotes : Type 0 where
+  pub docs : Option Text
+  pub stability : StabilityView
+  pub imports : List (Text × ItemNotes)
+  pub exports : List (Text × ItemNotes)
+
+abbrev pub world_notes : Resolve → World → WorldNotes
+world_notes r w = record {
+  docs = optional_text w.docs.contents;
+  stability = stability_view w.stability;
+  imports = map (entry_notes r) w.imports.entries;
+  exports = map (entry_notes r) w.exports.entries;
+}
+
+-- ---- what is brought
+
+-- the labels and paths of entries
+abbrev pub key_texts : Resolve → List (WorldKey × WorldItem) → List Text
+key_texts r es = map (λ e. key_text r e.0) es
+
+-- Each entry under a label or path that isn't one of these has its own notes under it in the end.
+abbrev pub BringsEntries : List Text → Resolve → List (WorldKey × WorldItem) → Resolve → List (WorldKey × WorldItem) → Type 0
+BringsEntries here other olds new news =
+    (e : WorldKey × WorldItem) → Contains olds e → is_one_of here (key_text other e.0) ≡ false → (x : WorldKey × WorldItem) × Contains news x × (entry_notes new x ≡ entry_notes other e)
+
+-- Packages, interfaces and worlds of the other binding whose names or paths weren't here have theirs in the end, and so have imports and exports that the bound
+-- world hadn't.
+pub record BringsItsOwn (own other new : Bindgen) : Type 0 where
+  pub packages : (p : Package) → Contains other.resolve.packages.items p → is_new_package own.resolve p ≡ true
+      → (q : Package) × Contains new.resolve.packages.items q × (identity_of q.name ≡ identity_of p.name) × (optional_text q.docs.contents ≡ optional_text p.docs.contents)
+  pub interfaces : (i : Interface) (path : Text) → Contains other.resolve.interfaces.items i → path_of_interface other.resolve i ≡ Some path → is_new_interface own.resolve other.resolve i ≡ true
+      → (j : Interface) × Contains new.resolve.interfaces.items j × (path_of_interface new.resolve j ≡ Some path) × (interface_notes new.resolve j ≡ interface_notes other.resolve i)
+  pub worlds : (w : World) (path : Text) → Contains other.resolve.worlds.items w → path_of_world other.resolve w ≡ Some path → is_new_world own.resolve other.resolve w ≡ true
+      → (v : World) × Contains new.resolve.worlds.items v × (path_of_world new.resolve v ≡ Some path) × (world_notes new.resolve v ≡ world_notes other.resolve w)
+  pub bound : (w v x : World) → world_at own.resolve own.world.0 ≡ Some w → world_at other.resolve other.world.0 ≡ Some v → world_at new.resolve new.world.0 ≡ Some x
+      → BringsEntries (key_texts own.resolve w.imports.entries) other.resolve v.imports.entries new.resolve x.imports.entries
+      × BringsEntries (key_texts own.resolve w.exports.entries) other.resolve v.exports.entries new.resolve x.exports.entries

@@ -1,0 +1,34 @@
+-- What an interface of valid packages has can be handed in to be printed: its types under their names, and its functions by resource.
+use Rattle.std.specs.Prelude.{◌≡◌, true, List, Some, Vec}
+use Rattle.std.specs.Borrow.{Bor}
+use Rattle.std.specs.List.{Contains, list_all}
+use Rattle.std.specs.declared.alloc.Global.{Global}
+use Rattle.wit_model.specs.Lookup.{interface_at}
+use Rattle.wit_model.specs.Valid.{IsValid}
+use Rattle.wit_model.specs.declared.model.Function.{Function}
+use Rattle.wit_model.specs.declared.model.Interface.{Interface}
+use Rattle.wit_model.specs.declared.model.InterfaceId.{InterfaceId}
+use Rattle.wit_model.specs.declared.model.Resolve.{Resolve}
+use Rattle.wit_model.specs.declared.model.TypeId.{TypeId}
+use Rattle.wit_model.specs.declared.model.TypeOwner.TheVariants as owner
+use Rattle.print_items.specs.Shown.{Listed, listed_functions, listed_types}
+use Rattle.print_packages.specs.GivenTypes.{Functions, are_functions_of, behind}
+use Rattle.print_uses.specs.UseGroups.{is_listed_type}
+
+-- each of these is a type of the interface, under its name
+abbrev pub AreItsTypes : Interface → List Listed → Type 0
+AreItsTypes i given = (t : Listed) → Contains given t → Contains (listed_types i) t
+
+-- each of these is a function of the interface, whatever it stands under
+abbrev pub AreItsFunctions : Interface → Functions → Type 0
+AreItsFunctions i entries = (under : TypeId × Vec (Bor Function) Global) → Contains entries under → (f : Function) → Contains (behind under.1) f → Contains (listed_functions i) f
+
+-- types of an interface are listed types of it
+abbrev pub TypesCanBeGiven : Type 0
+TypesCanBeGiven = (r : Resolve) (id : InterfaceId) (i : Interface) → IsValid r → interface_at r id.0 ≡ Some i → (given : List Listed) → AreItsTypes i given
+    → list_all (is_listed_type r (owner.Interface id)) given ≡ true
+
+-- functions of an interface are such functions of it
+abbrev pub FunctionsCanBeGiven : Type 0
+FunctionsCanBeGiven = (r : Resolve) (id : InterfaceId) (i : Interface) → IsValid r → interface_at r id.0 ≡ Some i → (entries : Functions) → AreItsFunctions i entries
+    → are_functions_of r (owner.Interface id) entries ≡ true
