@@ -1,13 +1,15 @@
 -- How often worlds show an interface, and in which package.
-use Rattle.std.specs.Prelude.{◌≡◌, ℕ, zero, suc, ◌<◌, Bool, true, false, ◌&&◌, ◌||◌, ◌==◌, List, [], ◌∷◌, length, sum_by, Option, unwrap_or, slice_get}
+use Rattle.std.specs.Prelude.{◌≡◌, ℕ, zero, suc, ◌<◌, Bool, true, false, not, ◌&&◌, ◌||◌, ◌==◌, List, [], ◌∷◌, length, sum_by, Option, option_and_then, unwrap_or, slice_get}
 use Rattle.std.specs.List.{list_all}
-use Rattle.std.specs.Option.{option_eq}
+use Rattle.std.specs.Option.{option_eq, option_map_or}
 use Rattle.check_rules.specs.declared.shown.Shown.{Shown}
 use Rattle.check_rules.specs.declared.shown.Shown.TheVariants as shown
 use Rattle.wit_model.specs.declared.model.PackageId.{PackageId}
 use Rattle.wit_model.specs.declared.model.Resolve.{Resolve}
 use Rattle.wit_model.specs.declared.model.World.{World}
-use Rattle.wit_model.specs.Rules.{package_number, times_shown}
+use Rattle.wit_model.specs.Lookup.{package_at}
+use Rattle.wit_model.specs.Rules.{interface_is_listed, is_world_name, package_number, times_shown}
+use Rattle.wit_model.specs.Text.{Text}
 
 -- what is said of so many times in worlds of one package
 abbrev pub times : ℕ → Option PackageId → Shown
@@ -48,3 +50,7 @@ shown_entry table n = unwrap_or (slice_get table n) shown.Never
 -- the table says of each interface and package whether it is shown once, in that package
 abbrev pub IsShownTable : Resolve → List Shown → Type 0
 IsShownTable r table = (n : ℕ) → n < length r.interfaces.items → (p : Option PackageId) → is_once_in p (shown_entry table n) ≡ is_inline_in r.worlds.items n p
+
+-- whether a named interface stands in the map of its package, and no world stands there under its name; true of one with no package
+abbrev pub stands_in_map : Resolve → ℕ → Text → Option PackageId → Bool
+stands_in_map r n name home = option_map_or (λ p. interface_is_listed n name p && not (is_world_name p name)) (option_and_then (package_at r) (package_number home)) true

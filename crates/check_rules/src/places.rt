@@ -1,12 +1,12 @@
 //! The rule on places: interfaces and worlds have a package, and stand in its maps.
 
-ghost use Rattle.std.specs.Prelude.{◌≡◌, ◌&&◌, ◌||◌, ◌<◌, length, not, true, Some, is_some, OnOk, IfErr, option_map, option_and_then};
+ghost use Rattle.std.specs.Prelude.{◌≡◌, ◌&&◌, ◌||◌, ◌<◌, length, not, true, Some, is_some, OnOk, IfErr, option_map};
 ghost use Rattle.std.specs.Option.{option_map_or};
 ghost use Rattle.std.specs.List.{list_all};
 ghost use Rattle.wit_model.specs.Lookup.{package_at as package_at_lem, interface_at as interface_at_lem, world_at as world_at_lem};
 ghost use Rattle.wit_model.specs.Text.{text_eq, text_of};
 ghost use Rattle.wit_model.specs.Checks.{KeepsIn};
-ghost use Rattle.check_rules.specs.Places.{IsShownTable, is_once_in, shown_entry};
+ghost use Rattle.check_rules.specs.Places.{IsShownTable, is_once_in, shown_entry, stands_in_map};
 ghost use Rattle.wit_model.specs.Rules.{interface_belongs, interface_is_listed, is_id, is_world_name as is_world_name_lem, names_itself as names_itself_lem, package_number, passes, text_is, world_belongs, world_is_listed};
 ghost use Rattle.wit_model.specs.Valid.{places, entry_keeps, IsFaultOf, IsFound, Keeps};
 
@@ -147,7 +147,7 @@ fn is_interface_listed_in(resolve: &Resolve, number: usize, name: &String, id: P
 
 // Whether an interface has a package, and stands in its map or in one of its worlds.
 fn interface_is_placed(resolve: &Resolve, table: &[Shown], number: usize, entry: &Interface) -> bool
-    ensures { result ≡ (is_some entry.now.«package» && option_map_or (λ name. option_map_or (λ p. interface_is_listed number (text_of name) p && not (is_world_name_lem p (text_of name))) (option_and_then (package_at_lem resolve.now) (package_number entry.now.«package»)) true) entry.now.name (is_once_in entry.now.«package» (shown_entry table.now number))) }
+    ensures { result ≡ (is_some entry.now.«package» && option_map_or (λ name. stands_in_map resolve.now number (text_of name) entry.now.«package») entry.now.name (is_once_in entry.now.«package» (shown_entry table.now number))) }
 {
     match entry.package {
         Some(id) => match &entry.name {

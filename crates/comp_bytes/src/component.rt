@@ -1,11 +1,10 @@
 //! A component type under construction.
 
-ghost use Rattle.std.specs.Prelude.{◌≡◌, ◌&&◌, false, Err, OnOk, OnErr, IfErr};
+ghost use Rattle.std.specs.Prelude.{◌≡◌, false, Err, OnOk, OnErr, IfErr};
 ghost use Rattle.wit_model.specs.declared.error.Error.TheVariants.{Size};
 ghost use Rattle.comp_bytes.specs.Raw.{Declaration, Declarations, append, from_list};
 ghost use Rattle.comp_bytes.specs.RawOf.{raw_defined, raw_function, raw_alias, raw_name};
-ghost use Rattle.comp_bytes.specs.Fits.{fits_declaration};
-ghost use Rattle.comp_bytes.specs.Held.{declaration_slots, type_slots_of, fits_added};
+ghost use Rattle.comp_bytes.specs.Held.{type_slots_of, fits_added, fits_behind};
 ghost use Rattle.comp_bytes.specs.Refusal.{IsMemoryOrSize};
 
 use crate::declare::{
@@ -73,7 +72,7 @@ impl ComponentType {
     pub fn defined(&mut self, def: &ComponentDefinedType) -> Result<(), Error>
         ensures ok { OnOk result (self.new ≡ append self.old (Declarations.declares (Declaration.defined (raw_defined def.now)) Declarations.no_more)) }
         ensures err { OnErr result (self.new ≡ self.old) }
-        ensures size { result ≡ Err Size → (fits_declaration (Declaration.defined (raw_defined def.now)) && fits_added self.old (declaration_slots (Declaration.defined (raw_defined def.now)))) ≡ false }
+        ensures size { result ≡ Err Size → fits_behind self.old (Declaration.defined (raw_defined def.now)) ≡ false }
         ensures refuses { IfErr result IsMemoryOrSize }
     {
         let (count, types) = counts_on(self.count, self.types, 1)?;
@@ -90,7 +89,7 @@ impl ComponentType {
     pub fn function(&mut self, function: &ComponentFuncType) -> Result<(), Error>
         ensures ok { OnOk result (self.new ≡ append self.old (Declarations.declares (Declaration.function (raw_function function.now)) Declarations.no_more)) }
         ensures err { OnErr result (self.new ≡ self.old) }
-        ensures size { result ≡ Err Size → (fits_declaration (Declaration.function (raw_function function.now)) && fits_added self.old (declaration_slots (Declaration.function (raw_function function.now)))) ≡ false }
+        ensures size { result ≡ Err Size → fits_behind self.old (Declaration.function (raw_function function.now)) ≡ false }
         ensures refuses { IfErr result IsMemoryOrSize }
     {
         let (count, types) = counts_on(self.count, self.types, 1)?;
@@ -141,7 +140,7 @@ impl ComponentType {
     pub fn alias(&mut self, alias: &Alias) -> Result<(), Error>
         ensures ok { OnOk result (self.new ≡ append self.old (Declarations.declares (Declaration.alias_of (raw_alias alias.now)) Declarations.no_more)) }
         ensures err { OnErr result (self.new ≡ self.old) }
-        ensures size { result ≡ Err Size → (fits_declaration (Declaration.alias_of (raw_alias alias.now)) && fits_added self.old (declaration_slots (Declaration.alias_of (raw_alias alias.now)))) ≡ false }
+        ensures size { result ≡ Err Size → fits_behind self.old (Declaration.alias_of (raw_alias alias.now)) ≡ false }
         ensures refuses { IfErr result IsMemoryOrSize }
     {
         let (count, types) = counts_on(self.count, self.types, 1)?;
@@ -158,7 +157,7 @@ impl ComponentType {
     pub fn import(&mut self, name: &ComponentExternName, ty: ComponentTypeRef) -> Result<(), Error>
         ensures ok { OnOk result (self.new ≡ append self.old (Declarations.declares (Declaration.imported (raw_name name.now) ty) Declarations.no_more)) }
         ensures err { OnErr result (self.new ≡ self.old) }
-        ensures size { result ≡ Err Size → (fits_declaration (Declaration.imported (raw_name name.now) ty) && fits_added self.old (declaration_slots (Declaration.imported (raw_name name.now) ty))) ≡ false }
+        ensures size { result ≡ Err Size → fits_behind self.old (Declaration.imported (raw_name name.now) ty) ≡ false }
         ensures refuses { IfErr result IsMemoryOrSize }
     {
         let (count, types) = counts_on(self.count, self.types, described_slots(ty))?;
@@ -175,7 +174,7 @@ impl ComponentType {
     pub fn export(&mut self, name: &ComponentExternName, ty: ComponentTypeRef) -> Result<(), Error>
         ensures ok { OnOk result (self.new ≡ append self.old (Declarations.declares (Declaration.exported (raw_name name.now) ty) Declarations.no_more)) }
         ensures err { OnErr result (self.new ≡ self.old) }
-        ensures size { result ≡ Err Size → (fits_declaration (Declaration.exported (raw_name name.now) ty) && fits_added self.old (declaration_slots (Declaration.exported (raw_name name.now) ty))) ≡ false }
+        ensures size { result ≡ Err Size → fits_behind self.old (Declaration.exported (raw_name name.now) ty) ≡ false }
         ensures refuses { IfErr result IsMemoryOrSize }
     {
         let (count, types) = counts_on(self.count, self.types, described_slots(ty))?;

@@ -1,9 +1,9 @@
 //! Which interfaces an interface uses.
 
-ghost use Rattle.std.specs.Prelude.{◌≡◌, ◌++◌, ◌||◌, ◌==◌, ℕ, List, false, map, not, option_map, IfErr, IfOk, OnOk};
+ghost use Rattle.std.specs.Prelude.{◌≡◌, ◌||◌, ◌==◌, ℕ, List, false, map, not, option_map, IfErr, IfOk, OnOk};
 ghost use Rattle.std.specs.List.{cons_option};
 ghost use Rattle.wit_model.specs.declared.error.Error.TheVariants.{Memory};
-ghost use Rattle.wit_model.specs.DirectDeps.{number_of_interface, yet_unlisted};
+ghost use Rattle.wit_model.specs.DirectDeps.{listed_with, number_of_interface, yet_unlisted};
 ghost use Rattle.wit_model.specs.ItemOrders.{holds};
 ghost use Rattle.wit_model.specs.Uses.{direct_deps as direct_deps_lem, interfaces_used_by};
 
@@ -28,7 +28,7 @@ fn add_dep(
     own: InterfaceId,
     used: Option<InterfaceId>,
 ) -> Result<(), AllocError>
-    ensures { OnOk result ((rest : List ℕ) → map number_of_interface deps.new.items ++ yet_unlisted own.0 (holds listed.new) rest ≡ map number_of_interface deps.old.items ++ yet_unlisted own.0 (holds listed.old) (cons_option (option_map number_of_interface used) rest)) }
+    ensures { OnOk result ((rest : List ℕ) → listed_with deps.new.items own.0 (holds listed.new) rest ≡ listed_with deps.old.items own.0 (holds listed.old) (cons_option (option_map number_of_interface used) rest)) }
 {
     let Some(used) = used else {
         return Ok(());
