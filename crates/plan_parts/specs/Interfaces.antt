@@ -1,5 +1,6 @@
 -- Interfaces of a plan, over the types that are kept (WIT.md, "Interfaces").
-use Rattle.std.specs.Prelude.{◌≡◌, ◌≤◌, ◌+◌, ◌&&◌, ℕ, true, List, length, cond, Option, Some, slice_get}
+use Rattle.std.specs.Prelude.{◌≡◌, ◌≤◌, ◌+◌, ◌&&◌, ℕ, true, List, length, cond, map, Option, Some, slice_get}
+use Rattle.std.specs.Borrow.{Bor}
 use Rattle.std.specs.List.{AllZip}
 use Rattle.wit_model.specs.declared.model.TypeId.{TypeId}
 use Rattle.wit_model.specs.declared.model.TypeOwner.{TypeOwner}
@@ -10,7 +11,13 @@ use Rattle.plan_meaning.specs.NumberedRules.{Fact, is_interface, is_no_part}
 use Rattle.plan_meaning.specs.NumberedViews.{NumberedFunction, NumberedSlot, NumberedType, NumberedView, Tables, function_at, value, resource, PartsOf}
 use Rattle.plan_meaning.specs.Plan.{Plan, PlannedFunction}
 use Rattle.plan_meaning.specs.Renumbering.{IsPart}
-use Rattle.plan_parts.specs.Functions.{NamesKind, TakesAndGives}
+use Rattle.read_rules.specs.declared.tables.Tables.{Tables as KeptTables}
+use Rattle.read_rules.specs.declared.views.ViewFunction.{ViewFunction}
+use Rattle.read_rules.specs.Tables.{numbered_tables}
+use Rattle.read_rules.specs.Views.{numbered_function}
+use Rattle.plan_build.specs.declared.plan.PlannedFunction.{PlannedFunction as BuiltFunction}
+use Rattle.plan_build.specs.PlanOf.{named_function}
+use Rattle.plan_parts.specs.Functions.{found_under, NamesKind, TakesAndGives}
 use Rattle.plan_parts.specs.Kept.{IsKeptPart}
 
 -- the part that the index of a type stands for
@@ -46,6 +53,10 @@ pub record IsPlannedFunction (t : Tables) (kept : List ℕ) (find : Text → Opt
   pub kind : NamesKind find f.0 (function_at t f.1.signature).is_async e.1.kind
   pub parts : TakesAndGives kept (function_at t f.1.signature) e.1
   pub same_id : e.1.external_id ≡ f.1.external_id
+
+-- the functions that were planned are those of the view, one for one, where the resources have these numbers
+abbrev pub PlansFunctions : KeptTables → List ℕ → List (Bor Text × TypeId) → List ViewFunction → List BuiltFunction → Type 0
+PlansFunctions t kept resources fs planned = AllZip (IsPlannedFunction (numbered_tables t) kept (found_under resources)) (map numbered_function fs) (map named_function planned)
 
 -- ---- laws
 

@@ -3,18 +3,17 @@
 ghost use Rattle.std.specs.List.{AllByRecursion, AllZip};
 ghost use Rattle.std.specs.Prelude.{◌≡◌, map, IfOk};
 ghost use Rattle.wit_model.specs.Text.{Text};
-ghost use Rattle.plan_build.specs.PlanOf.{named_function, stated_number};
+ghost use Rattle.plan_build.specs.PlanOf.{stated_number};
 ghost use Rattle.read_rules.specs.Tables.{numbered_tables};
 ghost use Rattle.read_rules.specs.Views.{numbered_function, numbered_slot, numbered_type};
 ghost use Rattle.plan_parts.specs.Functions.{found_under};
-ghost use Rattle.plan_parts.specs.Interfaces.{noted, slot_part as slot_part_lem, AreResources, IsFunctionOver, IsKeptSlot, IsPlannedFunction, ListsType};
+ghost use Rattle.plan_parts.specs.Interfaces.{noted, slot_part as slot_part_lem, AreResources, IsFunctionOver, IsKeptSlot, ListsType, PlansFunctions};
 
 use crate::functions::{Resources, function_of};
 use crate::kept::Kept;
 use indexmap::IndexMap;
-use keyed_hash::{Digest, KeyedHash};
 use plan_build::PlannedFunction;
-use read_rules::{Tables, TypeSlot, ViewFunction, ViewType, function_at};
+use read_rules::{Tables, TypeSlot, ViewFunction, ViewType, function_at, hash_of};
 use std::alloc::{AllocError, Global};
 use wit_model::TypeId;
 
@@ -26,15 +25,6 @@ fn slot_part(slot: TypeSlot) -> usize
         TypeSlot::Value(part) => part,
         TypeSlot::Resource(part) => part,
     }
-}
-
-/// The hash that is keyed by the names of the types.
-fn hash_of(types: &[ViewType<'_>]) -> KeyedHash {
-    let mut digest = Digest::new();
-    for ty in types {
-        digest.add(ty.name.as_bytes());
-    }
-    digest.hash()
 }
 
 /// Notes the number of a type under its name, if it is a resource.
@@ -85,7 +75,7 @@ pub fn functions_of<'a>(
     functions: &[ViewFunction<'a>],
 ) -> Result<Vec<PlannedFunction<'a>>, AllocError>
     requires { AllByRecursion (IsFunctionOver (numbered_tables tables.now) kept.now) (map numbered_function functions.now) }
-    ensures { IfOk result (λ planned. AllZip (IsPlannedFunction (numbered_tables tables.entry.now) kept.entry.now (found_under resources.entry.now.entries)) (map numbered_function functions.entry.now) (map named_function planned.items)) }
+    ensures { IfOk result (λ planned. PlansFunctions tables.entry.now kept.entry.now resources.entry.now.entries functions.entry.now planned.items) }
 {
     let mut planned = Vec::with_capacity(alloc, functions.len())?;
     for function in functions {

@@ -13,7 +13,6 @@ pub mod FunctionKeyLaws
 pub mod HeldLaws
 pub mod JoinLaws
 pub mod KeyLaws
-pub mod LabelLaws
 pub mod LookUpLaws
 pub mod OverLaws
 pub mod NameTableLaws

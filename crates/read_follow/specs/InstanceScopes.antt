@@ -1,5 +1,5 @@
 -- Scopes of instance types as they are kept, and what their exports declare.
-use Rattle.std.specs.Prelude.{◌≡◌, ◌≤◌, ℕ, ◌+◌, ◌-◌, ◌==◌, ◌&&◌, nat_lt, if◌then◌else◌, Bool, true, false, List, [], length, Option, Some, None, slice_get, unwrap_or}
+use Rattle.std.specs.Prelude.{◌≡◌, ◌<◌, ◌≤◌, ℕ, ◌+◌, ◌-◌, ◌==◌, ◌&&◌, nat_lt, if◌then◌else◌, Bool, true, false, List, [], length, IfErr, OnOk, Option, Some, None, Result, slice_get, unwrap_or}
 use Rattle.std.specs.List.{AllByRecursion}
 use Rattle.wit_model.specs.Text.{Text}
 use Rattle.wit_model.specs.Tree as tree
@@ -17,7 +17,7 @@ use Rattle.read_follow.specs.declared.views.InstanceScope.{InstanceScope}
 use Rattle.read_follow.specs.declared.views.View.{View}
 use Rattle.read_follow.specs.Bodies.{held_declaration_at, items_in}
 use Rattle.read_follow.specs.Defining.{Grows}
-use Rattle.read_follow.specs.Following.{declared_in, scope_at, slots_at, view_at, AreMarked, AreTables, IsPlacedState, IsShownFunctionIn, IsShownIn, IsState, State}
+use Rattle.read_follow.specs.Following.{declared_in, scope_at, slots_at, view_at, AreMarked, AreTables, Halts, IsPlacedState, IsShownFunctionIn, IsShownIn, IsState, State, Steps}
 use Rattle.read_follow.specs.Found.{Refuses}
 use Rattle.read_follow.specs.Functions.{functions_in, FunctionShape}
 use Rattle.read_follow.specs.Slots.{slots_in}
@@ -26,6 +26,19 @@ use Rattle.plan_meaning.specs.Shapes.{Shape, shape_trees}
 -- the scope over the tables
 abbrev pub state_of : List Shape → List FunctionShape → InstanceScope → State
 state_of shapes fs s = record { shapes = shapes; signatures = fs; slots = s.slots.items; types = s.types.items; functions = s.functions.items }
+
+-- A scope that is kept goes on by this step in this place, whatever types of functions it is kept with. The table of types was the first list, and is the second.
+abbrev pub StepsBy : {A : Type 0} → List Bool → ℕ → ((ℕ → Place) → MeantScope → Option MeantScope) → List Shape → List Shape → InstanceScope → InstanceScope → Result A Refusal → Type 0
+StepsBy marks here step before after old new result = (fs : List FunctionShape) → IsState (length marks) (state_of before fs old) → OnOk result (Steps marks here 1 step (state_of before fs old) (state_of after fs new))
+
+-- the same where the place is one of those that are marked
+abbrev pub StepsHereBy : {A : Type 0} → List Bool → ℕ → ((ℕ → Place) → MeantScope → Option MeantScope) → List Shape → List Shape → InstanceScope → InstanceScope → Result A Refusal → Type 0
+StepsHereBy marks here step before after old new result =
+    (fs : List FunctionShape) → IsState (length marks) (state_of before fs old) → here < length marks → OnOk result (Steps marks here 1 step (state_of before fs old) (state_of after fs new))
+
+-- a refusal of it: the step makes nothing of the scope, unless memory ran out
+abbrev pub HaltsBy : {A : Type 0} → List Bool → ((ℕ → Place) → MeantScope → Option MeantScope) → List Shape → InstanceScope → Result A Refusal → Type 0
+HaltsBy marks step before old result = (fs : List FunctionShape) → IsState (length marks) (state_of before fs old) → IfErr result (Halts marks step (state_of before fs old))
 
 -- the name in its place, as a resource or as a type of a value
 abbrev pub name_meant : Bool → Place → Text → Meant

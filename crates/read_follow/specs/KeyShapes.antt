@@ -11,3 +11,7 @@ label_of p = (p.0.now, p.1)
 -- what a key says, without where it lies in memory
 abbrev pub shape_of : Key → Shape
 shape_of k = record { sort = k.sort; number = k.number; labels = map label_of k.labels.items; parts = k.parts.items }
+
+-- its labels
+abbrev pub labels_of : Key → List Text
+labels_of k = map (λ p. p.0.now) k.labels.items

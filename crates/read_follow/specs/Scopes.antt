@@ -1,5 +1,5 @@
 -- Scopes of component types as they are kept, what they stand for, and what each entry does to them.
-use Rattle.std.specs.Prelude.{◌≡◌, ◌⊎◌, ◌<◌, ◌≤◌, ◌+◌, ◌-◌, ◌==◌, ◌&&◌, ℕ, suc, Bool, true, false, not, if◌then◌else◌, List, [], ◌∷◌, ◌++◌, length, map, take, option_map, slice_get, unwrap_or, IfSome, Option, Some, None}
+use Rattle.std.specs.Prelude.{◌≡◌, ◌⊎◌, ◌<◌, ◌≤◌, ◌+◌, ◌-◌, ◌==◌, ◌&&◌, ℕ, suc, Bool, true, false, not, if◌then◌else◌, List, [], ◌∷◌, ◌++◌, length, map, take, option_map, slice_get, unwrap_or, IfErr, IfSome, OnOk, Option, Some, None, Result}
 use Rattle.std.specs.Borrow.{Bor}
 use Rattle.std.specs.List.{AllByRecursion, list_any}
 use Rattle.wit_model.specs.Meaning.{Signature}
@@ -270,6 +270,14 @@ pub record Goes (few : ℕ) (step : MeantScope → Option MeantScope) (old new :
 -- the step of the definition makes nothing of it, unless memory ran out
 abbrev pub Stops : (MeantScope → Option MeantScope) → World → List (Option Text) → Refusal → Type 0
 Stops step old paths e = (place : ℕ → Place) → ArePlacesOf paths place → Refuses e (step (meant_at place old))
+
+-- A world that is kept goes on by this step, whatever types of functions and places it is kept with. The table of types was the first list, and is the second.
+abbrev pub GoesBy : {A : Type 0} → (MeantScope → Option MeantScope) → List Shape → List Shape → Scope → Scope → Result A Refusal → Type 0
+GoesBy step before after old new result = (fs : List FunctionShape) (paths : List (Option Text)) → IsWorld (world_of before fs paths old) → OnOk result (Goes 1 step (world_of before fs paths old) (world_of after fs paths new))
+
+-- a refusal of it: the step makes nothing of the world, unless memory ran out
+abbrev pub StopsBy : {A : Type 0} → (MeantScope → Option MeantScope) → List Shape → Scope → Result A Refusal → Type 0
+StopsBy step before old result = (fs : List FunctionShape) (paths : List (Option Text)) → IsWorld (world_of before fs paths old) → IfErr result (Stops step (world_of before fs paths old) paths)
 
 -- ---- aliases
 

@@ -1,5 +1,5 @@
 -- What the slots of a scope stand for, where T are the trees of the table, and F the types of functions by number.
-use Rattle.std.specs.Prelude.{◌<◌, ◌+◌, ℕ, false, List, [], ◌∷◌, map, None, slice_get, unwrap_or}
+use Rattle.std.specs.Prelude.{◌<◌, ◌+◌, ℕ, false, List, [], ◌∷◌, map, IfErr, None, Option, Result, slice_get, unwrap_or}
 use Rattle.wit_model.specs.Meaning.{Signature}
 use Rattle.wit_model.specs.Tree.{Tree}
 use Rattle.comp_bytes.specs.declared.forms.PrimitiveValType.{PrimitiveValType}
@@ -7,6 +7,8 @@ use Rattle.comp_meaning.specs.Follow.{Slot as Meant, value, resource, function, 
 use Rattle.comp_meaning.specs.Same.{primitive_number}
 use Rattle.read_follow.specs.declared.slots.Slot.{Slot}
 use Rattle.read_follow.specs.declared.slots.Slot.TheVariants as slots
+use Rattle.read_follow.specs.declared.refusal.Refusal.{Refusal}
+use Rattle.read_follow.specs.Found.{Refuses}
 use Rattle.read_follow.specs.Bodies.{held_declaration_at, items_in}
 use Rattle.plan_meaning.specs.Shapes.{part_tree}
 
@@ -26,6 +28,18 @@ slot_in T F (slots.Instance b n) = instance (items_in held_declaration_at b) n
 
 abbrev pub slots_in : List Tree → List Signature → List Slot → List Meant
 slots_in T F ss = map (slot_in T F) ss
+
+-- what an index stands for, if it is in scope
+abbrev pub found_slot : List Tree → List Signature → List Slot → ℕ → Option Meant
+found_slot T F ss n = slice_get (slots_in T F ss) n
+
+-- the type of a function by its number
+abbrev pub signature_in : List Signature → ℕ → Signature
+signature_in F n = unwrap_or (slice_get F n) no_signature
+
+-- A refusal of what is read over a scope: nothing is read, unless memory ran out.
+abbrev pub RefusedOver : {X A : Type 0} → List Slot → (List Meant → Option A) → Result X Refusal → Type 0
+RefusedOver ss meaning result = IfErr result (λ e. (T : List Tree) (F : List Signature) → Refuses e (meaning (slots_in T F ss)))
 
 abbrev pub primitive_index : PrimitiveValType → ℕ
 primitive_index p = primitive_number (primitive_of_type p)

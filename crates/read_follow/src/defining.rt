@@ -4,13 +4,9 @@ ghost use Rattle.std.specs.Prelude.{◌≡◌, length, IfErr, OnErr, OnOk};
 ghost use Rattle.comp_bytes.specs.RawOf.{raw_defined, raw_function};
 ghost use Rattle.comp_meaning.specs.Follow.{function_signature};
 ghost use Rattle.read_follow.specs.Defining.{Grows, IsDefined, IsDefinedFunction, IsUndefined};
-ghost use Rattle.read_follow.specs.Found.{Refuses};
 ghost use Rattle.read_follow.specs.Functions.{AreApart};
-ghost use Rattle.read_follow.specs.Slots.{slots_in, AreInRange};
+ghost use Rattle.read_follow.specs.Slots.{AreInRange, RefusedOver};
 ghost use Rattle.plan_meaning.specs.Shapes.{IsTable};
-ghost use Rattle.std.specs.Prelude.{List};
-ghost use Rattle.wit_model.specs.Meaning.{Signature};
-ghost use Rattle.wit_model.specs.Tree.{Tree};
 
 use crate::definition_keys::{Definition, definition_of};
 use crate::functions::Functions;
@@ -65,7 +61,7 @@ pub fn define_function<'a>(
     function: &ComponentFuncType<'a>,
 ) -> Result<(), Refusal>
     ensures defined { OnOk result (IsDefinedFunction functions.old slots.old.items (raw_function function.now) functions.new slots.new.items) }
-    ensures refused { IfErr result (λ e. (T : List Tree) (F : List Signature) → Refuses e (function_signature (slots_in T F slots.old.items) (raw_function function.now))) }
+    ensures refused { RefusedOver slots.old.items (λ known. function_signature known (raw_function function.now)) result }
     ensures stays { OnErr result (slots.new.items ≡ slots.old.items) }
 {
     match function_key_of(alloc, slots, function) {

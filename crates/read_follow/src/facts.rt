@@ -1,17 +1,16 @@
 //! What is kept of each type beside its key, so that its parts need not be looked at again.
 
-ghost use Rattle.std.specs.List.{list_all, list_any, AllByRecursion};
+ghost use Rattle.std.specs.List.{list_all, AllByRecursion};
 ghost use Rattle.std.specs.Prelude.{◌≡◌, ◌<◌, ◌+◌, ℕ, List, length, map, min, IfOk};
 ghost use Rattle.wit_model.specs.Names.{is_label as is_label_lem};
-ghost use Rattle.wit_model.specs.Text.{text_eq};
 ghost use Rattle.wit_model.specs.Tree.{Place, Tree};
-ghost use Rattle.comp_meaning.specs.Rules.{are_labels as are_labels_lem, distinct};
+ghost use Rattle.comp_meaning.specs.Rules.{are_labels as are_labels_lem};
 ghost use Rattle.read_follow.specs.Facts.{cap, fact_at as fact_at_lem, is_named_sort as is_named_sort_lem, joined as joined_lem, node_fact as node_fact_lem, with_fact as with_fact_lem, FactsHold, Sums, Tells};
 ghost use Rattle.plan_meaning.specs.Shapes.{part_tree, shape_tree, IsShape};
-ghost use Rattle.read_follow.specs.KeyShapes.{shape_of};
+ghost use Rattle.read_follow.specs.KeyShapes.{labels_of, shape_of};
 
 use crate::keys::Key;
-use indexmap::IndexSet;
+use distinct_names::are_distinct_by;
 use keyed_hash::KeyedHash;
 use std::alloc::{AllocError, Global};
 use wit_model::is_label;
@@ -149,7 +148,7 @@ fn node_fact(parts: Summary, sort: u8, has_good_labels: bool) -> Fact
 
 /// What is known of the type of a key, from what is known of its parts and its labels.
 fn labelled_fact(facts: &[Fact], key: &Key<'_>, has_good_labels: bool) -> Fact
-    ensures { (trees : (ℕ → Place) → List Tree) → FactsHold facts.now trees → IsShape (length facts.now) (shape_of key.now) → has_good_labels ≡ are_labels_lem (map (λ l. l.0.now) key.now.labels.items) → Tells result (λ place. shape_tree place (trees place) (shape_of key.now)) }
+    ensures { (trees : (ℕ → Place) → List Tree) → FactsHold facts.now trees → IsShape (length facts.now) (shape_of key.now) → has_good_labels ≡ are_labels_lem (labels_of key.now) → Tells result (λ place. shape_tree place (trees place) (shape_of key.now)) }
 {
     let sort = key.sort;
     if sort == 0 {
@@ -165,56 +164,6 @@ fn labelled_fact(facts: &[Fact], key: &Key<'_>, has_good_labels: bool) -> Fact
     node_fact(summary, sort, has_good_labels)
 }
 
-/// Whether the label is among the others.
-fn stands_in(label: &str, others: &[(&str, bool)]) -> bool
-    ensures { result ≡ list_any (text_eq label.now) (map (λ l. l.0.now) others.now) }
-{
-    for other in others {
-        if label == other.0 {
-            return true;
-        }
-    }
-    false
-}
-
-/// Whether no label stands twice, found by comparing each with those behind it. Takes time quadratic in their number.
-fn few_are_distinct(labels: &[(&str, bool)]) -> bool
-    ensures { result ≡ distinct (map (λ l. l.0.now) labels.now) }
-{
-    match labels.split_first() {
-        Some((label, behind)) => !stands_in(label.0, behind) && few_are_distinct(behind),
-        None => true,
-    }
-}
-
-/// Whether no label stands twice, found by a table of those that were met.
-fn many_are_distinct(
-    alloc: Global,
-    hash: KeyedHash,
-    labels: &[(&str, bool)],
-) -> Result<bool, AllocError>
-    ensures { IfOk result (λ b. b ≡ distinct (map (λ l. l.0.now) labels.now)) }
-{
-    let mut seen = IndexSet::with_capacity_and_hasher(alloc, labels.len(), hash)?;
-    for label in labels {
-        if !seen.insert(label.0)? {
-            return Ok(false);
-        }
-    }
-    Ok(true)
-}
-
-/// Whether no label stands twice. Takes as much memory as there are labels, where they are more than a few.
-fn are_distinct(alloc: Global, hash: KeyedHash, labels: &[(&str, bool)]) -> Result<bool, AllocError>
-    ensures { IfOk result (λ b. b ≡ distinct (map (λ l. l.0.now) labels.now)) }
-{
-    if labels.len() > 8 {
-        many_are_distinct(alloc, hash, labels)
-    } else {
-        Ok(few_are_distinct(labels))
-    }
-}
-
 fn are_all_labels(labels: &[(&str, bool)]) -> bool
     ensures { result ≡ list_all (λ l. is_label_lem l.0.now) labels.now }
 {
@@ -228,7 +177,7 @@ fn are_labels(alloc: Global, hash: KeyedHash, labels: &[(&str, bool)]) -> Result
     if !are_all_labels(labels) {
         return Ok(false);
     }
-    are_distinct(alloc, hash, labels)
+    are_distinct_by(alloc, hash, labels)
 }
 
 /// What is known of the type of a key, from what is known of its parts. Takes time linear in the key, and as much memory as it has labels.

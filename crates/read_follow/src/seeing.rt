@@ -11,7 +11,7 @@ ghost use Rattle.read_follow.specs.Functions.{FunctionShape};
 ghost use Rattle.read_follow.specs.InstanceScopes.{tables_of};
 ghost use Rattle.read_follow.specs.NameTables.{marked_slot, AreNamesOf};
 ghost use Rattle.read_follow.specs.Places.{has_path, place_number};
-ghost use Rattle.read_follow.specs.Scopes.{direction, slot_of_instance, world_of, Goes, HasNoUsedView, IsInstanceAdded, IsUsedView, IsWorld, Stops};
+ghost use Rattle.read_follow.specs.Scopes.{direction, slot_of_instance, world_of, Goes, GoesBy, HasNoUsedView, IsInstanceAdded, IsUsedView, IsWorld, Stops, StopsBy};
 ghost use Rattle.read_follow.specs.declared.refusal.Refusal.TheVariants as refusals;
 ghost use Rattle.plan_meaning.specs.Shapes.{Shape};
 ghost use Rattle.std.specs.Prelude.{List, Option, Some, option_map, slice_get};
@@ -105,8 +105,8 @@ pub(crate) fn see_function<'a>(
     name: ExternName<'a>,
     n: u32,
 ) -> Result<(), Refusal>
-    ensures seen { (shapes : List Shape) (fs : List FunctionShape) (paths : List (Option Text)) → IsWorld (world_of shapes fs paths scope.old) → OnOk result (Goes 1 (see_function_lem (direction is_import) (raw_name name.entry) n) (world_of shapes fs paths scope.old) (world_of shapes fs paths scope.new)) }
-    ensures absent { (shapes : List Shape) (fs : List FunctionShape) (paths : List (Option Text)) → IsWorld (world_of shapes fs paths scope.old) → IfErr result (Stops (see_function_lem (direction is_import) (raw_name name.entry) n) (world_of shapes fs paths scope.old) paths) }
+    ensures seen { (shapes : List Shape) → GoesBy (see_function_lem (direction is_import) (raw_name name.entry) n) shapes shapes scope.old scope.new result }
+    ensures absent { (shapes : List Shape) → StopsBy (see_function_lem (direction is_import) (raw_name name.entry) n) shapes scope.old result }
     ensures instances { scope.new.instances ≡ scope.old.instances }
 {
     match function_in(&scope.slots, n) {
@@ -134,8 +134,8 @@ pub(crate) fn see_type<'a>(
     name: ExternName<'a>,
     kind: ComponentTypeRef,
 ) -> Result<(), Refusal>
-    ensures seen { (fs : List FunctionShape) (paths : List (Option Text)) → IsWorld (world_of table.old fs paths scope.old) → OnOk result (Goes 1 (see_type_lem (raw_name name.entry) kind) (world_of table.old fs paths scope.old) (world_of table.new fs paths scope.new)) }
-    ensures absent { (fs : List FunctionShape) (paths : List (Option Text)) → IsWorld (world_of table.old fs paths scope.old) → IfErr result (Stops (see_type_lem (raw_name name.entry) kind) (world_of table.old fs paths scope.old) paths) }
+    ensures seen { GoesBy (see_type_lem (raw_name name.entry) kind) table.old table.new scope.old scope.new result }
+    ensures absent { StopsBy (see_type_lem (raw_name name.entry) kind) table.old scope.old result }
     ensures home { scope.new.home ≡ scope.old.home }
     ensures instances { scope.new.instances ≡ scope.old.instances }
 {

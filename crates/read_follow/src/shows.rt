@@ -6,10 +6,8 @@ ghost use Rattle.wit_model.specs.Text.{Text};
 ghost use Rattle.wit_model.specs.Tree.{Place, Tree};
 ghost use Rattle.comp_meaning.specs.Follow.{is_simple as is_simple_lem, named_type, show as show_lem, show_function as show_function_lem, show_type as show_type_lem, when};
 ghost use Rattle.read_follow.specs.ExternNames.{raw_name};
-ghost use Rattle.read_follow.specs.Following.{Halts, IsState, Steps};
 ghost use Rattle.read_follow.specs.Found.{Gives};
-ghost use Rattle.read_follow.specs.Functions.{FunctionShape};
-ghost use Rattle.read_follow.specs.InstanceScopes.{named_by, name_slot as name_slot_lem, state_of};
+ghost use Rattle.read_follow.specs.InstanceScopes.{named_by, name_slot as name_slot_lem, HaltsBy, StepsBy, StepsHereBy};
 ghost use Rattle.read_follow.specs.Slots.{slots_in, AreInRange, AreNames};
 ghost use Rattle.read_follow.specs.declared.refusal.Refusal.TheVariants as refusals;
 ghost use Rattle.plan_meaning.specs.Shapes.{named_shape, Adds, IsTable, Shape};
@@ -106,8 +104,8 @@ fn show_type<'a>(
     name: ExternName<'a>,
     kind: ComponentTypeRef,
 ) -> Result<(), Refusal>
-    ensures shown { (marks : List Bool) (fs : List FunctionShape) → IsState (length marks) (state_of table.old fs scope.old) → here < length marks → OnOk result (Steps marks here 1 (λ place. show_type_lem (place here) (raw_name name.entry) kind) (state_of table.old fs scope.old) (state_of table.new fs scope.new)) }
-    ensures absent { (marks : List Bool) (fs : List FunctionShape) → IsState (length marks) (state_of table.old fs scope.old) → IfErr result (Halts marks (λ place. show_type_lem (place here) (raw_name name.entry) kind) (state_of table.old fs scope.old)) }
+    ensures shown { (marks : List Bool) → StepsHereBy marks here (λ place. show_type_lem (place here) (raw_name name.entry) kind) table.old table.new scope.old scope.new result }
+    ensures absent { (marks : List Bool) → HaltsBy marks (λ place. show_type_lem (place here) (raw_name name.entry) kind) table.old scope.old result }
 {
     match declared_by(&scope.slots, kind) {
         Ok(made) => {
@@ -132,8 +130,8 @@ fn show_function<'a>(
     name: ExternName<'a>,
     n: u32,
 ) -> Result<(), Refusal>
-    ensures shown { (marks : List Bool) (here : ℕ) (shapes : List Shape) (fs : List FunctionShape) → IsState (length marks) (state_of shapes fs scope.old) → OnOk result (Steps marks here 1 (λ place. show_function_lem (raw_name name.entry) n) (state_of shapes fs scope.old) (state_of shapes fs scope.new)) }
-    ensures absent { (marks : List Bool) (shapes : List Shape) (fs : List FunctionShape) → IsState (length marks) (state_of shapes fs scope.old) → IfErr result (Halts marks (λ place. show_function_lem (raw_name name.entry) n) (state_of shapes fs scope.old)) }
+    ensures shown { (marks : List Bool) (here : ℕ) (shapes : List Shape) → StepsBy marks here (λ place. show_function_lem (raw_name name.entry) n) shapes shapes scope.old scope.new result }
+    ensures absent { (marks : List Bool) (shapes : List Shape) → HaltsBy marks (λ place. show_function_lem (raw_name name.entry) n) shapes scope.old result }
 {
     match function_in(&scope.slots, n) {
         Ok(function) => {
@@ -164,8 +162,8 @@ pub(crate) fn show<'a>(
     name: ExternName<'a>,
     kind: ComponentTypeRef,
 ) -> Result<(), Refusal>
-    ensures shown { (marks : List Bool) (fs : List FunctionShape) → IsState (length marks) (state_of table.old fs scope.old) → here < length marks → OnOk result (Steps marks here 1 (λ place meant. when (is_simple_lem (raw_name name.entry)) (show_lem (place here) (raw_name name.entry) kind meant)) (state_of table.old fs scope.old) (state_of table.new fs scope.new)) }
-    ensures absent { (marks : List Bool) (fs : List FunctionShape) → IsState (length marks) (state_of table.old fs scope.old) → IfErr result (Halts marks (λ place meant. when (is_simple_lem (raw_name name.entry)) (show_lem (place here) (raw_name name.entry) kind meant)) (state_of table.old fs scope.old)) }
+    ensures shown { (marks : List Bool) → StepsHereBy marks here (λ place meant. when (is_simple_lem (raw_name name.entry)) (show_lem (place here) (raw_name name.entry) kind meant)) table.old table.new scope.old scope.new result }
+    ensures absent { (marks : List Bool) → HaltsBy marks (λ place meant. when (is_simple_lem (raw_name name.entry)) (show_lem (place here) (raw_name name.entry) kind meant)) table.old scope.old result }
 {
     if !is_simple(name) {
         return Err(Refusal::Absent(Cause::BadName, 0));

@@ -1,14 +1,14 @@
 //! The keys of types of functions, their indexes followed.
 
 ghost use Rattle.std.specs.List.{AllByRecursion};
-ghost use Rattle.std.specs.Prelude.{◌≡◌, ◌<◌, ◌+◌, ℕ, List, Some, map, slice_get, unwrap_or, IfErr, IfOk};
+ghost use Rattle.std.specs.Prelude.{◌≡◌, ◌<◌, ◌+◌, ℕ, List, Some, map, slice_get, IfErr, IfOk};
 ghost use Rattle.wit_model.specs.Meaning.{Signature};
 ghost use Rattle.wit_model.specs.Tree.{Tree};
 ghost use Rattle.comp_bytes.specs.RawOf.{labeled, raw_function};
 ghost use Rattle.comp_meaning.specs.Follow.{each, field_type, function_in as function_in_lem};
 ghost use Rattle.read_follow.specs.Found.{Refuses};
 ghost use Rattle.read_follow.specs.Functions.{param_of, param_tree, IsFunctionKeyOf};
-ghost use Rattle.read_follow.specs.Slots.{slots_in, no_signature, AreInRange};
+ghost use Rattle.read_follow.specs.Slots.{found_slot, signature_in, slots_in, AreInRange};
 ghost use Rattle.read_follow.specs.declared.slots.Slot.TheVariants as variants;
 ghost use Rattle.read_follow.specs.Found.{Gives};
 
@@ -68,7 +68,7 @@ pub fn function_key_of<'a>(
 /// Refuses with `Absent` exactly where there is none: `OutOfScope` where no slot has the index, `NotWit` where it stands for no function.
 pub fn function_in(slots: &[Slot<'_>], n: u32) -> Result<usize, Refusal>
     ensures at { IfOk result (λ k. slice_get slots.now n ≡ Some (variants.Function k)) }
-    ensures found { (T : List Tree) (F : List Signature) → Gives (λ k. unwrap_or (slice_get F k) no_signature) result (function_in_lem (slice_get (slots_in T F slots.now) n)) }
+    ensures found { (T : List Tree) (F : List Signature) → Gives (signature_in F) result (function_in_lem (found_slot T F slots.now n)) }
 {
     match slot_at(slots, n) {
         Some(Slot::Function(number)) => Ok(number),

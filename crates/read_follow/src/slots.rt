@@ -6,7 +6,7 @@ ghost use Rattle.wit_model.specs.Tree.{Tree};
 ghost use Rattle.comp_meaning.specs.Follow.{given, value_type, resource_in as resource_in_lem};
 ghost use Rattle.read_follow.specs.Found.{Gives};
 ghost use Rattle.plan_meaning.specs.Shapes.{part_tree};
-ghost use Rattle.read_follow.specs.Slots.{primitive_index as primitive_index_lem, slots_in, AreInRange, AreNames};
+ghost use Rattle.read_follow.specs.Slots.{found_slot, primitive_index as primitive_index_lem, slots_in, AreInRange, AreNames};
 
 use crate::bodies::Body;
 use crate::refusal::Refusal;
@@ -96,7 +96,7 @@ pub(crate) fn given_in(
 /// Refuses with `Absent` exactly where there is none: `OutOfScope` where no slot has the index, `NotWit` where it stands for no resource.
 pub fn resource_in(slots: &[Slot<'_>], n: u32) -> Result<usize, Refusal>
     ensures range { IfOk result (λ part. (n : ℕ) → AreInRange n slots.now → part < 14 + n) }
-    ensures found { (T : List Tree) (F : List Signature) → AreNames T slots.now → Gives (part_tree T) result (resource_in_lem (slice_get (slots_in T F slots.now) n)) }
+    ensures found { (T : List Tree) (F : List Signature) → AreNames T slots.now → Gives (part_tree T) result (resource_in_lem (found_slot T F slots.now n)) }
 {
     match slot_at(slots, n) {
         Some(Slot::Resource(part)) => Ok(part),

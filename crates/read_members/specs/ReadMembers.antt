@@ -31,6 +31,8 @@ use Rattle.read_rules.specs.Scopes.{numbered_scope}
 use Rattle.read_rules.specs.Views.{numbered_view}
 use Rattle.read_rules.specs.declared.scopes.Scope.{Scope}
 use Rattle.read_rules.specs.declared.tables.Fact.{Fact as KeptFact}
+use Rattle.read_rules.specs.declared.tables.Tables.{Tables as KeptTables}
+use Rattle.read_rules.specs.Tables.{known_in, numbered_tables}
 use Rattle.read_numbers.specs.FactLaws.{known_by}
 use Rattle.read_numbers.specs.ImportParts.{part_followed, part_seen}
 use Rattle.read_numbers.specs.KnownScopes.{AreKnown}
@@ -124,6 +126,10 @@ parts_read (read.Interface i imports) = []
 
 abbrev pub read_member : ReadMember → NumberedMember × List (Option ℕ)
 read_member m = (record { label = m.label.now; package_ = m.package_number; part = read_part m.part }, parts_read m.part)
+
+-- all that were followed are read as these, one for one
+abbrev pub AreReadMembers : KeptTables → Homes → List FollowedMember → List ReadMember → Type 0
+AreReadMembers t h xs ms = AreRead (numbered_tables t) (known_in t) h xs (map read_member ms)
 
 abbrev pub numbered_read : List ReadMember → List NumberedMember
 numbered_read ms = map (λ (m : ReadMember). (read_member m).0) ms

@@ -7,7 +7,7 @@ ghost use Rattle.read_exports.specs.Members.{homes_alone, homes_in};
 ghost use Rattle.read_rules.specs.Scopes.{numbered_scope};
 ghost use Rattle.read_rules.specs.Tables.{known_in, numbered_tables};
 ghost use Rattle.read_members.specs.Layers.{shown_of_member, shown_owned};
-ghost use Rattle.read_members.specs.ReadMembers.{read_member as read_member_lem, AreForMembers, AreRead, Because, IsElsewhere, IsForMember, IsInterfaceRead, IsMemberRead, IsNoMember, IsNoWorld, IsOneNone, IsPackageOf, IsWorldRead};
+ghost use Rattle.read_members.specs.ReadMembers.{read_member as read_member_lem, AreForMembers, AreReadMembers, Because, IsElsewhere, IsForMember, IsInterfaceRead, IsMemberRead, IsNoMember, IsNoWorld, IsOneNone, IsPackageOf, IsWorldRead};
 
 use crate::scopes::{OwnedScope, lent_scope};
 use read_exports::{home_at, interface_of};
@@ -150,7 +150,7 @@ pub fn read_members<'a>(
     scopes: &'a [OwnedScope<'a>],
 ) -> Result<Vec<ReadMember<'a>>, Refusal>
     requires { map shown_owned scopes.now ≡ map (shown_of_member (numbered_tables tables.now).paths) members.now }
-    ensures read { IfOk result (λ ms. AreRead (numbered_tables tables.now) (known_in tables.now) (homes_in packages.new homes.now) members.entry.now (map read_member_lem ms.items)) }
+    ensures read { IfOk result (λ ms. AreReadMembers tables.now (homes_in packages.new homes.now) members.entry.now ms.items) }
     ensures absent { IfErr result (λ e. Because e (IsOneNone (numbered_tables tables.now) (known_in tables.now) (homes_alone homes.now) members.entry.now)) }
     ensures grows { Grows packages.old packages.new }
     ensures packages { ArePackages packages.new }

@@ -1,7 +1,6 @@
 pub mod CountLaws
 pub mod ExportLaws
 pub mod InputLaws
-pub mod LabelLaws
 pub mod MemberLaws
 pub mod ScopeMeaning
 pub mod TopLaws

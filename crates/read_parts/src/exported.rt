@@ -10,8 +10,8 @@ ghost use Rattle.read_follow.specs.Pieces.{raw_piece, IsWholePiece};
 ghost use Rattle.read_parts.specs.Exported.{distinct_parts, part_under, raw_exported};
 ghost use Rattle.read_parts.specs.Tops.{label_and_number, top_of, AreTops};
 
-use crate::labels::are_distinct;
 use crate::tops::{Exported, TopType, Tops, tops_of};
+use distinct_names::are_distinct;
 use read_follow::{PartType, Piece, Refusal};
 use std::alloc::Global;
 use wit_model::Cause;

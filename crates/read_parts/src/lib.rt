@@ -3,7 +3,6 @@
 
 mod exported;
 mod following;
-mod labels;
 pub mod laws;
 mod members;
 mod offsets;

@@ -12,6 +12,7 @@ ghost use Rattle.read_follow.specs.declared.refusal.Refusal.TheVariants as refus
 ghost use Rattle.read_parts.specs.Tops.{empty_top, may_export as may_export_lem, number_found, top_of, AreTops, IsExportAdded};
 
 use crate::offsets::in_front;
+use distinct_names::Named;
 use indexmap::IndexSet;
 use read_follow::{ExternName, PartType, Piece, Refusal, TopExport};
 use std::alloc::Global;
@@ -30,6 +31,14 @@ pub(crate) struct TopType<'a> {
 pub(crate) struct Exported<'a> {
     pub label: &'a str,
     pub number: usize,
+}
+
+impl<'a> Named for Exported<'a> {
+    ghost name_of = { λ export. export.label.now };
+
+    fn name(&self) -> &str {
+        self.label
+    }
 }
 
 /// The types and the exports at the top, as far as they have been gone along.

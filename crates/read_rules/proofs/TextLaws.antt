@@ -1,36 +1,11 @@
--- Texts, none of which stands twice, and tests of one text among several.
-use Rattle.std.proofs.Common.{◌≡◌, refl, sym, ap, ◌∙◌, ℕ, ◌+◌, ◌<◌, ◌≤◌, Bool, true, false, not, ◌&&◌, ◌||◌, cond, List, [], ◌∷◌, ◌++◌, map, drop, length, get_or, Result, Ok, Err, IfOk}
+-- Tests of one text among several, and the names of parameters.
+use Rattle.std.proofs.Common.{◌≡◌, refl, sym, ap, ◌∙◌, ℕ, Bool, true, false, ◌&&◌, ◌||◌, List, [], ◌∷◌, map, Result, Ok, Err, IfOk}
 use Rattle.std.specs.Borrow.{Bor}
-use Rattle.std.specs.List.{list_all, list_any}
+use Rattle.std.specs.List.{list_any}
 use Rattle.std.proofs.lemmas.Slice.Eq.{bytes_eq-Decides}
 use Rattle.wit_model.specs.Text.{Text, text_eq}
-use Rattle.wit_model.specs.Names.{is_label}
-use Rattle.wit_model.specs.Rules.{are_distinct}
-use Rattle.wit_model.proofs.Distinct.{adds_new, adds_distinct, new_turn, old_turn, last_turn}
-use Rattle.comp_meaning.specs.Rules.{are_labels, distinct}
+use Rattle.comp_meaning.specs.Rules.{are_labels}
 use Rattle.read_rules.specs.Tables.{now_of, param_of}
-use Rattle.read_rules.proofs.PlaceLaws.{same_default}
-use Rattle.plan_meaning.proofs.KeptTypes.{distinct_same}
-
-adds_all : (ts : List Text) → adds_new text_eq [] ts ≡ distinct ts
-adds_all ts = adds_distinct ts ∙ distinct_same ts
-
-module _ (texts : List (Bor (List ℕ))) (i : ℕ) (d : Bor (List ℕ)) (more : i < length texts) (ks : List (Bor (List ℕ))) (r : Bool)
-    (tells : r ≡ not (list_any (λ o. text_eq (get_or texts i d).now o.now) ks))
-    (kept : adds_new text_eq (map now_of ks) (drop i (map now_of texts)) ≡ adds_new text_eq [] (map now_of texts)) where
-  pub text_seen : r ≡ false → false ≡ distinct (map now_of texts)
-  text_seen old =
-      let x = get_or texts i d in
-      sym (old_turn text_eq now_of now_of texts i x ks x r more (same_default texts i d x more) refl tells old) ∙ (kept ∙ adds_all (map now_of texts))
-
-  pub text_new : (new : List (Bor (List ℕ))) → r ≡ true → new ≡ cond (list_any (λ o. text_eq (get_or texts i d).now o.now) ks) ks (ks ++ get_or texts i d ∷ [])
-      → adds_new text_eq (map now_of new) (drop (i + 1) (map now_of texts)) ≡ adds_new text_eq [] (map now_of texts)
-  text_new new fresh added =
-      let x = get_or texts i d in
-      new_turn text_eq now_of now_of texts i x ks x new r (adds_new text_eq [] (map now_of texts)) more (same_default texts i d x more) refl tells fresh added kept
-
-pub texts_all : (texts : List (Bor (List ℕ))) (i : ℕ) (ks : List (Bor (List ℕ))) → length texts ≤ i → adds_new text_eq (map now_of ks) (drop i (map now_of texts)) ≡ adds_new text_eq [] (map now_of texts) → true ≡ distinct (map now_of texts)
-texts_all texts i ks past kept = sym (last_turn text_eq now_of texts i (map now_of ks) past) ∙ (kept ∙ adds_all (map now_of texts))
 
 -- ---- one text among several
 
@@ -69,10 +44,6 @@ any_none p none [] = refl
 any_none p none (x ∷ xs) = ap (λ b. b || list_any p xs) (none x) ∙ any_none p none xs
 
 -- ---- labels
-
-pub labels_good : {E : Type 0} (r : Result Bool E) (ls : List Text) → list_all is_label ls ≡ true → IfOk r (λ b. b ≡ distinct ls) → IfOk r (λ b. b ≡ are_labels ls)
-labels_good (Ok b) ls all h = h ∙ sym (ap (λ c. c && distinct ls) all)
-labels_good (Err e) ls all h = tt
 
 first_names : (ps : List (Bor (List ℕ) × ℕ)) → map now_of (map (λ x. x.0) ps) ≡ map (λ x. x.0) (map param_of ps)
 first_names [] = refl

@@ -5,7 +5,7 @@ use Rattle.std.specs.List.{list_all, list_any}
 use Rattle.wit_model.specs.Text.{Text, text_eq}
 use Rattle.wit_model.specs.Names.{constructor_name, method_name, static_name}
 use Rattle.comp_meaning.specs.Rules.{is_label_behind}
-use Rattle.plan_meaning.specs.NumberedRules.{begins_with_self, constructs}
+use Rattle.plan_meaning.specs.NumberedRules.{begins_with_self, constructs, is_function}
 use Rattle.plan_meaning.specs.NumberedViews.{FunctionShape}
 use Rattle.read_rules.specs.declared.tables.Tables.{Tables}
 use Rattle.read_rules.specs.Tables.{known_in, numbered_tables}
@@ -19,6 +19,10 @@ is_cut (Some t) text = text_eq t.now text
 abbrev pub IsLastCut : Text → Option (Bor (List ℕ) × Bor (List ℕ)) → Type 0
 IsLastCut text None = list_all (λ b. not (b == 46)) text ≡ true
 IsLastCut text (Some x) = (text ≡ x.0.now ++ (46 ∷ x.1.now)) × (list_all (λ b. not (b == 46)) x.1.now ≡ true)
+
+-- a function of this name and type may stand in the place, whose resources have these names
+abbrev pub is_function_in : Tables → ℕ → List Text → Text → FunctionShape → Bool
+is_function_in t p resources name f = is_function (numbered_tables t) (known_in t) p resources name f
 
 module _ (t : Tables) (p : ℕ) where
   abbrev pub constructs_one : List Text → Text → FunctionShape → Bool

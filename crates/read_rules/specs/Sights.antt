@@ -1,7 +1,10 @@
 -- Views of interfaces by their places, as the numbers and texts that they stand for.
 use Rattle.std.specs.Prelude.{◌≡◌, ℕ, Bool, List, ◌++◌, map}
+use Rattle.std.specs.List.{flat_map}
 use Rattle.plan_meaning.specs.NumberedRules.{is_interface}
+use Rattle.plan_meaning.specs.NumberedWorlds.{sights_of_instance}
 use Rattle.plan_meaning.specs.NumberedViews.{NumberedSight, NumberedView}
+use Rattle.read_rules.specs.Scopes.{numbered_instance}
 use Rattle.read_rules.specs.declared.scopes.Instance.{Instance}
 use Rattle.read_rules.specs.declared.sights.Sight.{Sight}
 use Rattle.read_rules.specs.declared.tables.Tables.{Tables}
@@ -22,3 +25,7 @@ placed_view i = (i.place, numbered_view i.view)
 -- The new sights are the old ones, and these behind them.
 abbrev pub AreBehind : List Sight → List NumberedSight → List Sight → Type 0
 AreBehind old added new = map numbered_sight new ≡ map numbered_sight old ++ added
+
+-- what instances show, in their order
+abbrev pub sights_of_all : Tables → List Instance → List NumberedSight
+sights_of_all t instances = flat_map (sights_of_instance (numbered_tables t)) (map numbered_instance instances)

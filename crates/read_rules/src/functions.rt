@@ -8,7 +8,6 @@ ghost use Rattle.plan_meaning.specs.NumberedRules.{
   begins_with_self as begins_with_self_lem,
   constructs as constructs_lem,
   held_in as held_in_lem,
-  is_function as is_function_lem,
   is_function_of,
   is_handle as is_handle_lem,
   is_name as is_name_lem,
@@ -16,7 +15,7 @@ ghost use Rattle.plan_meaning.specs.NumberedRules.{
   only_of as only_of_lem,
   shape_at as shape_at_lem,
 };
-ghost use Rattle.read_rules.specs.FunctionNames.{constructs_one, is_member_of_one, IsLastCut, is_cut, is_method_of_one, is_static_of_one};
+ghost use Rattle.read_rules.specs.FunctionNames.{constructs_one, is_function_in, is_member_of_one, IsLastCut, is_cut, is_method_of_one, is_static_of_one};
 ghost use Rattle.read_rules.specs.Tables.{known_in, now_of, numbered_function_type, numbered_shape, numbered_tables, param_of};
 
 use crate::parts::is_signature;
@@ -240,7 +239,7 @@ pub fn is_function(
     name: &str,
     function: FunctionType<'_>,
 ) -> Result<bool, AllocError>
-    ensures { IfOk result (λ b. b ≡ is_function_lem (numbered_tables tables.now) (known_in tables.now) place (map now_of resources.now.keys) name.now (numbered_function_type function.entry)) }
+    ensures { IfOk result (λ b. b ≡ is_function_in tables.now place (map now_of resources.now.keys) name.now (numbered_function_type function.entry)) }
 {
     let is_typed = is_signature(alloc, tables, place, function)?;
     Ok(is_typed && (is_label(name) || belongs(tables, place, resources, name, function)))

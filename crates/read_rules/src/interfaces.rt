@@ -7,12 +7,12 @@ ghost use Rattle.read_rules.specs.Interfaces.{are_functions as are_functions_lem
 ghost use Rattle.read_rules.specs.Tables.{known_in, now_of, numbered_tables};
 ghost use Rattle.read_rules.specs.Views.{numbered_function, numbered_type, numbered_view};
 
-use crate::distinct::are_distinct;
 use crate::functions::is_function;
 use crate::parts::is_declared;
 use crate::resources::{Resources, resources_of};
 use crate::tables::{Tables, function_at};
 use crate::views::{View, ViewFunction, ViewType};
+use distinct_names::are_distinct;
 use std::alloc::{AllocError, Global};
 use wit_model::is_label;
 

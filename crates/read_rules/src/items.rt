@@ -9,13 +9,13 @@ ghost use Rattle.read_rules.specs.Scopes.{numbered_seen, numbered_shown};
 ghost use Rattle.read_rules.specs.Tables.{known_in, now_of, numbered_tables};
 ghost use Rattle.read_rules.specs.Worlds.{are_exports as are_exports_lem, may_be_exported as may_be_exported_lem, may_be_imported as may_be_imported_lem, IsAdded};
 
-use crate::distinct::are_distinct;
 use crate::functions::is_function;
 use crate::interfaces::is_interface;
 use crate::parts::is_declared;
 use crate::resources::{Resources, add_resource};
 use crate::scopes::{Seen, Shown, place_of, shows_resource};
 use crate::tables::{Tables, function_at};
+use distinct_names::are_distinct;
 use indexmap::IndexSet;
 use keyed_hash::{Digest, KeyedHash};
 use std::alloc::{AllocError, Global};

@@ -1,7 +1,6 @@
 //! The rules of reading over numbers.
 #![tactic(auto)]
 
-mod distinct;
 mod functions;
 mod interfaces;
 mod items;
@@ -23,6 +22,7 @@ pub use items::{are_exports, are_imports};
 pub use parts::{is_declared, is_signature};
 pub use places::are_once;
 pub use reached::{ImportedView, are_reached};
+pub use resources::hash_of;
 pub use scopes::{Instance, InstanceKey, Scope, Seen, Shown};
 pub use sights::{Sight, add_sights, are_interfaces, sights_of_scope};
 pub use tables::{Fact, FunctionType, Names, Tables, TypeShape, function_at, name_in, shape_at};

@@ -16,8 +16,8 @@ ghost use Rattle.plan_meaning.specs.NumberedRules.{
 };
 ghost use Rattle.read_rules.specs.Tables.{known_in, now_of, numbered_fact, numbered_function_type, numbered_tables, param_of, standing};
 
-use crate::distinct::are_distinct;
 use crate::tables::{Fact, FunctionType, Names, Tables, fact_at, shape_at};
+use distinct_names::are_distinct;
 use std::alloc::{AllocError, Global};
 use wit_model::is_label;
 

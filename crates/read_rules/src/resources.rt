@@ -41,8 +41,8 @@ pub(crate) fn is_resource(declared: Option<usize>) -> bool
     }
 }
 
-/// The hash that is keyed by the names of the types.
-fn hash_of(types: &[ViewType<'_>]) -> KeyedHash {
+/// The hash that is keyed by the names of the types. Takes time linear in the names, and no memory.
+pub fn hash_of(types: &[ViewType<'_>]) -> KeyedHash {
     let mut digest = Digest::new();
     for ty in types {
         digest.add(ty.name.as_bytes());

@@ -1,11 +1,10 @@
 //! Views of interfaces by their places.
 
 ghost use Rattle.std.specs.Prelude.{◌≡◌, map, IfOk};
-ghost use Rattle.std.specs.List.{flat_map};
 ghost use Rattle.plan_meaning.specs.NumberedMembers.{are_interfaces as are_interfaces_lem};
 ghost use Rattle.plan_meaning.specs.NumberedWorlds.{sights_of_instance, sights_of_scope as sights_of_scope_lem};
 ghost use Rattle.read_rules.specs.Scopes.{numbered_instance, numbered_scope};
-ghost use Rattle.read_rules.specs.Sights.{numbered_sight, shows_interface as shows_interface_lem, AreBehind};
+ghost use Rattle.read_rules.specs.Sights.{numbered_sight, shows_interface as shows_interface_lem, sights_of_all, AreBehind};
 ghost use Rattle.read_rules.specs.Tables.{known_in, numbered_tables};
 
 use crate::interfaces::is_interface;
@@ -72,7 +71,7 @@ pub fn add_sights<'a>(
     tables: &Tables<'_>,
     instances: &[Instance<'a>],
 ) -> Result<(), AllocError>
-    ensures { IfOk result (λ _. AreBehind sights.old.items (flat_map (sights_of_instance (numbered_tables tables.now)) (map numbered_instance instances.now)) sights.new.items) }
+    ensures { IfOk result (λ _. AreBehind sights.old.items (sights_of_all tables.now instances.now) sights.new.items) }
 {
     for instance in instances {
         add_instance(sights, tables, *instance)?;

@@ -3,7 +3,7 @@ use Rattle.std.proofs.lemmas.List.Folds.{list_all-map}
 use Rattle.wit_model.specs.Names.{is_label}
 use Rattle.comp_meaning.specs.Rules.{distinct}
 use Rattle.read_rules.specs.Tables.{now_of}
-use Rattle.read_rules.proofs.TextLaws.{labels_good}
+use Rattle.distinct_names.proofs.NameLaws.{labels_good}
 use Rattle.read_rules.proofs.parts.are_labels.Goals as goal
 
 pub returns : goal.returns
