@@ -1,8 +1,8 @@
 //! Canonical names that repeat.
 
 ghost use Rattle.std.specs.Prelude.{◌≡◌, ◌++◌, ◌∷◌, [], false, true, IfErr, IfOk, IsOk, OnOk, map};
-ghost use Rattle.wit_model.specs.declared.error.Error.TheVariants.{Memory};
 ghost use Rattle.wit_model.specs.Text.{text_of};
+ghost use Rattle.wit_model.specs.Refusals.{IsMemory};
 ghost use Rattle.encode_names.specs.WorldNames.{written_key};
 ghost use Rattle.encode_names.specs.Clashes.{canonical_names_of, canonical_paths_of, AreDifferent, HasNoClash, RefusesItems, RefusesNames, RefusesPaths, RefusesText};
 
@@ -14,7 +14,7 @@ use wit_model::{Error, InterfaceId, Map, Resolve, World, WorldItem, WorldKey};
 // The label of a key, or its canonical path. Takes one pass over the text. Refuses `Memory` alone.
 fn canonical_name(alloc: Global, resolve: &Resolve, key: &WorldKey) -> Result<String, Error>
     ensures ok { IfOk result (λ name. text_of name ≡ written_key resolve.now true key.now) }
-    ensures refuses { IfErr result (λ e. e ≡ Memory) }
+    ensures refuses { IfErr result IsMemory }
 {
     match key {
         WorldKey::Name(name) => Ok(name.clone()?),

@@ -3,8 +3,8 @@
 ghost use Rattle.std.specs.Prelude.{◌≡◌, IfOk, IfErr, option_map};
 ghost use Rattle.std.specs.Option.{option_copied};
 ghost use Rattle.std.specs.Cow.{cow_str_bytes};
-ghost use Rattle.wit_model.specs.declared.error.Error.TheVariants.{Memory};
 ghost use Rattle.wit_model.specs.Text.{text_of};
+ghost use Rattle.wit_model.specs.Refusals.{IsMemory};
 ghost use Rattle.comp_bytes.specs.RawOf.{raw_name, text_given};
 ghost use Rattle.encode_names.specs.WorldNames.{name_of_interface, name_of_item, pathed_interface as pathed_interface_lem, written_key as written_key_lem, written_path as written_path_lem, written_suffix as written_suffix_lem};
 
@@ -21,7 +21,7 @@ pub(crate) fn written_path(
     canonical_names: bool,
 ) -> Result<String, Error>
     ensures ok { IfOk result (λ path. text_of path ≡ written_path_lem resolve.now canonical_names interface.0) }
-    ensures refuses { IfErr result (λ e. e ≡ Memory) }
+    ensures refuses { IfErr result IsMemory }
 {
     let path = if canonical_names {
         resolve.canonicalized_id_of(alloc, interface)?
@@ -42,7 +42,7 @@ fn written_key<'a>(
     canonical_names: bool,
 ) -> Result<CowStr<'a>, Error>
     ensures ok { IfOk result (λ text. cow_str_bytes text ≡ written_key_lem resolve.now canonical_names key.entry.now) }
-    ensures refuses { IfErr result (λ e. e ≡ Memory) }
+    ensures refuses { IfErr result IsMemory }
 {
     match key {
         WorldKey::Name(name) => Ok(CowStr::Borrowed(name.as_str())),
@@ -71,7 +71,7 @@ fn written_target<'a>(
     canonical_names: bool,
 ) -> Result<Option<CowStr<'a>>, Error>
     ensures ok { IfOk result (λ path. text_given path ≡ option_map (written_path_lem resolve.now canonical_names) (option_map (λ id. id.0) implemented)) }
-    ensures refuses { IfErr result (λ e. e ≡ Memory) }
+    ensures refuses { IfErr result IsMemory }
 {
     match implemented {
         Some(interface) => {
@@ -90,7 +90,7 @@ fn written_suffix<'a>(
     canonical_names: bool,
 ) -> Result<Option<CowStr<'a>>, Error>
     ensures ok { IfOk result (λ suffix. text_given suffix ≡ written_suffix_lem resolve.now canonical_names (option_map (λ id. id.0) interface)) }
-    ensures refuses { IfErr result (λ e. e ≡ Memory) }
+    ensures refuses { IfErr result IsMemory }
 {
     let Some(interface) = interface else {
         return Ok(None);
@@ -125,7 +125,7 @@ pub fn interface_name<'a>(
     canonical_names: bool,
 ) -> Result<ComponentExternName<'a>, Error>
     ensures ok { IfOk result (λ name. raw_name name ≡ name_of_interface resolve.now canonical_names interface.0) }
-    ensures refuses { IfErr result (λ e. e ≡ Memory) }
+    ensures refuses { IfErr result IsMemory }
 {
     let path = written_path(alloc, resolve, interface, canonical_names)?;
     Ok(ComponentExternName {
@@ -149,7 +149,7 @@ pub fn item_name<'a>(
     canonical_names: bool,
 ) -> Result<ComponentExternName<'a>, Error>
     ensures ok { IfOk result (λ name. raw_name name ≡ name_of_item resolve.entry.now canonical_names (key.entry.now, item.entry.now)) }
-    ensures refuses { IfErr result (λ e. e ≡ Memory) }
+    ensures refuses { IfErr result IsMemory }
 {
     let implemented = resolve.implements_interface(key, item);
     let pathed = pathed_interface(key, implemented);

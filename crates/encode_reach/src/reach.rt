@@ -4,7 +4,7 @@ ghost use Rattle.std.specs.Prelude.{◌≡◌, ◌++◌, [], List, map, reverse,
 ghost use Rattle.encode_reach.specs.Reach.{reached_in_order};
 ghost use Rattle.encode_reach.specs.Walk.{IsDone, listed_at_end, visits};
 ghost use Rattle.wit_model.specs.Valid.{IsValid};
-ghost use Rattle.wit_model.specs.declared.error.Error.TheVariants.{Memory};
+ghost use Rattle.wit_model.specs.Refusals.{IsMemory};
 ghost use Rattle.encode_shown.specs.Views.{AreReached};
 
 use indexmap::IndexSet;
@@ -40,7 +40,7 @@ fn take_step(
 ) -> Result<(), Error>
     requires { IsValid resolve.now }
     ensures done { OnOk result (IsDone resolve.now step steps.old.items steps.new.items listed.old.keys listed.new.keys) }
-    ensures refuses { IfErr result (λ e. e ≡ Memory) }
+    ensures refuses { IfErr result IsMemory }
 {
     match step {
         Step::Append(interface) => {
@@ -62,7 +62,7 @@ fn take_step(
 fn walk(alloc: Global, resolve: &Resolve, steps: Vec<Step>) -> Result<IndexSet<u32>, Error>
     requires { IsValid resolve.now }
     ensures listed { IfOk result (λ listed. listed.keys ≡ listed_at_end resolve.now steps.items []) }
-    ensures refuses { IfErr result (λ e. e ≡ Memory) }
+    ensures refuses { IfErr result IsMemory }
 {
     let mut steps = steps;
     let mut listed = IndexSet::new(alloc);
@@ -96,7 +96,7 @@ pub fn interfaces_reached(
     requires { IsValid resolve.now }
     ensures order { IfOk result (λ found. map (λ id. id.0) found.items ≡ reached_in_order resolve.now interface.0) }
     ensures reached { IfOk result (λ found. AreReached resolve.now interface.0 (map (λ id. id.0) found.items)) }
-    ensures refuses { IfErr result (λ e. e ≡ Memory) }
+    ensures refuses { IfErr result IsMemory }
 {
     let used = resolve.interface_direct_deps(alloc, interface)?;
     let mut steps = Vec::new(alloc);

@@ -2,10 +2,10 @@
 
 ghost use Rattle.std.specs.Prelude.{◌≡◌, ◌||◌, ◌==◌, ℕ, List, false, map, not, option_map, IfErr, IfOk, OnOk};
 ghost use Rattle.std.specs.List.{cons_option};
-ghost use Rattle.wit_model.specs.declared.error.Error.TheVariants.{Memory};
 ghost use Rattle.wit_model.specs.DirectDeps.{listed_with, number_of_interface, yet_unlisted};
 ghost use Rattle.wit_model.specs.ItemOrders.{holds};
 ghost use Rattle.wit_model.specs.Uses.{direct_deps as direct_deps_lem, interfaces_used_by};
+ghost use Rattle.wit_model.specs.Refusals.{IsMemory};
 
 use crate::lookup::{interface_at, interface_used_by};
 use crate::{Error, Interface, InterfaceId, Resolve};
@@ -73,7 +73,7 @@ impl Resolve {
         interface: InterfaceId,
     ) -> Result<Vec<InterfaceId>, Error>
         ensures ok { IfOk result (λ deps. map (λ id. id.0) deps.items ≡ direct_deps_lem self.now interface.0) }
-        ensures refuses { IfErr result (λ e. e ≡ Memory) }
+        ensures refuses { IfErr result IsMemory }
     {
         match interface_at(self, interface) {
             Some(entry) => Ok(deps_of(alloc, self, entry, interface)?),

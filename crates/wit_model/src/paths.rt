@@ -3,11 +3,11 @@
 ghost use Rattle.std.specs.Prelude.{◌≡◌, ◌<◌, length, option_map, Some, IfErr, IfOk};
 ghost use Rattle.std.specs.Option.{option_copied};
 ghost use Rattle.semver.specs.Identifiers.{parts_of};
-ghost use Rattle.wit_model.specs.declared.error.Error.TheVariants.{Memory};
 ghost use Rattle.wit_model.specs.Lookup.{canonical_identity_of, canonical_path, canonical_suffix, identity_of, interface_path, key_text, path_in_package};
 ghost use Rattle.wit_model.specs.Names.{canonical_version as canonical_version_lem, path_in, version_suffix as version_suffix_lem};
 ghost use Rattle.wit_model.specs.Paths.{full_name as full_name_lem, suffix_after};
 ghost use Rattle.wit_model.specs.Text.{optional_text, text_of};
+ghost use Rattle.wit_model.specs.Refusals.{IsMemory};
 
 use crate::lookup::full_name;
 use crate::names::after_prefix;
@@ -20,7 +20,7 @@ impl PackageName {
     /// package has one (WIT.md, "Package declaration"). Takes one pass over the texts. Refuses `Memory` alone.
     pub fn interface_id(&self, alloc: Global, interface: &str) -> Result<String, Error>
         ensures ok { IfOk result (λ path. text_of path ≡ path_in (identity_of self.now) interface.now) }
-        ensures refuses { IfErr result (λ e. e ≡ Memory) }
+        ensures refuses { IfErr result IsMemory }
     {
         let namespace = &self.namespace;
         let name = &self.name;
@@ -35,7 +35,7 @@ impl PackageName {
 
 fn canonical_version(alloc: Global, version: &Version) -> Result<String, Error>
     ensures ok { IfOk result (λ text. text_of text ≡ canonical_version_lem (parts_of version.now)) }
-    ensures refuses { IfErr result (λ e. e ≡ Memory) }
+    ensures refuses { IfErr result IsMemory }
 {
     let (major, minor, patch) = (version.major, version.minor, version.patch);
     if version.pre.as_str().len() > 0 {
@@ -59,7 +59,7 @@ fn suffix_of<'a>(text: &'a str, canonical: &str) -> Option<&'a str>
 
 fn version_suffix(alloc: Global, version: &Version) -> Result<Option<String>, Error>
     ensures ok { IfOk result (λ suffix. optional_text suffix ≡ version_suffix_lem (parts_of version.now)) }
-    ensures refuses { IfErr result (λ e. e ≡ Memory) }
+    ensures refuses { IfErr result IsMemory }
 {
     let text = format!(in alloc; "{version}")?;
     let canonical = canonical_version(alloc, version)?;
@@ -71,7 +71,7 @@ fn version_suffix(alloc: Global, version: &Version) -> Result<Option<String>, Er
 
 fn canonical_path_in(alloc: Global, own: &PackageName, name: &str) -> Result<String, Error>
     ensures ok { IfOk result (λ path. text_of path ≡ path_in (canonical_identity_of own.now) name.now) }
-    ensures refuses { IfErr result (λ e. e ≡ Memory) }
+    ensures refuses { IfErr result IsMemory }
 {
     let namespace = &own.namespace;
     let short = &own.name;
@@ -92,7 +92,7 @@ impl Resolve {
     pub fn id_of_name(&self, alloc: Global, package: PackageId, name: &str) -> Result<String, Error>
         requires { «package».0 < length self.now.packages.items }
         ensures ok { IfOk result (λ path. path_in_package self.now «package».0 name.now ≡ Some (text_of path)) }
-        ensures refuses { IfErr result (λ e. e ≡ Memory) }
+        ensures refuses { IfErr result IsMemory }
     {
         self.packages[package.0 as usize]
             .name
@@ -103,7 +103,7 @@ impl Resolve {
     /// out of range it is none. Takes one pass over the texts. Refuses `Memory` alone.
     pub fn id_of(&self, alloc: Global, interface: InterfaceId) -> Result<Option<String>, Error>
         ensures ok { IfOk result (λ path. optional_text path ≡ interface_path self.now interface.0) }
-        ensures refuses { IfErr result (λ e. e ≡ Memory) }
+        ensures refuses { IfErr result IsMemory }
     {
         match full_name(self, interface.0 as usize) {
             Some((own, name)) => Ok(Some(own.interface_id(alloc, name)?)),
@@ -120,7 +120,7 @@ impl Resolve {
         interface: InterfaceId,
     ) -> Result<Option<String>, Error>
         ensures ok { IfOk result (λ path. optional_text path ≡ canonical_path self.now interface.0) }
-        ensures refuses { IfErr result (λ e. e ≡ Memory) }
+        ensures refuses { IfErr result IsMemory }
     {
         match full_name(self, interface.0 as usize) {
             Some((own, name)) => Ok(Some(canonical_path_in(alloc, own, name)?)),
@@ -136,7 +136,7 @@ impl Resolve {
         interface: InterfaceId,
     ) -> Result<Option<String>, Error>
         ensures ok { IfOk result (λ suffix. optional_text suffix ≡ canonical_suffix self.now interface.0) }
-        ensures refuses { IfErr result (λ e. e ≡ Memory) }
+        ensures refuses { IfErr result IsMemory }
     {
         match full_name(self, interface.0 as usize) {
             Some((own, _)) => match &own.version {
@@ -151,7 +151,7 @@ impl Resolve {
     /// empty text. Takes one pass over the text. Refuses `Memory` alone.
     pub fn name_world_key(&self, alloc: Global, key: &WorldKey) -> Result<String, Error>
         ensures ok { IfOk result (λ text. text_of text ≡ key_text self.now key.now) }
-        ensures refuses { IfErr result (λ e. e ≡ Memory) }
+        ensures refuses { IfErr result IsMemory }
     {
         match key {
             WorldKey::Name(name) => Ok(name.clone()?),
