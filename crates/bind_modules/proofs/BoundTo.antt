@@ -1,5 +1,5 @@
 -- What is known of bindings behind each section of a module.
-use Rattle.std.proofs.Common.{◌≡◌, ◌∙◌, refl, sym, ap, subst, ℕ, ◌-◌, ◌≤◌, ◌<◌, suc, List, [], ◌∷◌, ◌++◌, append-nil, length, Option, Some, None, arith}
+use Rattle.std.proofs.Common.{◌≡◌, ◌∙◌, refl, sym, ap, subst, ℕ, ◌+◌, ◌-◌, ◌≤◌, ◌<◌, suc, List, [], ◌∷◌, ◌++◌, append-nil, length, Option, Some, None, arith}
 use Rattle.std.specs.Prelude.{◌≢◌, slice_get}
 use Rattle.std.specs.Borrow.{Bor}
 use Rattle.std.proofs.lemmas.List.{length-append}
@@ -92,9 +92,14 @@ part input rest b h =
     let behind = length-append h.read.front rest in
     omega (arith, whole, behind)
 
--- an offset is within the module
-pub less : (a b : ℕ) → a - b ≤ a
-less a b = omega arith
+behind : (n whole front rest : ℕ) → whole ≡ n + (front + rest) → whole - rest + rest ≡ whole
+behind n whole front rest e = omega (arith, e)
+
+-- where the bytes begin that are left
+pub begins-at : (input rest : List ℕ) (b : Bindgen) → IsBoundTo input b rest → length input - length rest + length rest ≡ length input
+begins-at input rest b h =
+    behind (length module_preamble) (length input) (length h.read.front) (length rest)
+    (ap length h.read.parts ∙ (length-append module_preamble (h.read.front ++ rest) ∙ ap (λ (n : ℕ). length module_preamble + n) (length-append h.read.front rest)))
 
 -- ---- the end
 
@@ -113,16 +118,16 @@ ends-reached input rest b h none = subst (IsReached input b) (no-bytes rest none
 pub no-module : (input : List ℕ) (e : Error) → e ≡ errors.NotAModule → IsNoModule input → RefusesBindings input e
 no-module input e is none = subst (RefusesBindings input) (sym is) (IsRefused.no_module none refl)
 
-pub left-over : (input bytes : List ℕ) (b : Bindgen) (offset : ℕ) (e : Error) → IsBoundTo input b bytes → bytes ≢ [] → IsFrontless bytes → offset ≤ length input → e ≡ errors.BadModule offset → RefusesBindings input e
-left-over input bytes b offset e h some none within is =
-    subst (RefusesBindings input) (sym is) (left_overs_end input bytes (binding_of b) (errors.BadModule offset) h.read none (some, within))
+pub left-over : (input bytes : List ℕ) (b : Bindgen) (offset : ℕ) (e : Error) → IsBoundTo input b bytes → bytes ≢ [] → IsFrontless bytes → offset + length bytes ≡ length input → e ≡ errors.BadModule offset → RefusesBindings input e
+left-over input bytes b offset e h some none at is =
+    subst (RefusesBindings input) (sym is) (left_overs_end input bytes (binding_of b) (errors.BadModule offset) h.read none (some, at))
 
 -- A module that binds something is refused, where it is stripped, for want of memory alone.
 pub strip-refused : (input : List ℕ) (c : Binding) (e : Error) → IsBound input c → RefusesModule input e → RefusesBindings input e
 strip-refused input c errors.Memory bound r = tt
 strip-refused input c errors.Size bound r = tt
 strip-refused input c errors.NotAModule bound r = absurd (r (bound.stand.front ++ []) bound.stand.parts)
-strip-refused input c (errors.BadModule offset) bound r = absurd (r.2 bound.sections (is-module bound.stand))
+strip-refused input c (errors.BadModule offset) bound r = absurd (r.1 bound.sections (is-module bound.stand))
   where
     is-module : HasSections input bound.sections [] → IsModule bound.sections input
     is-module s = (s.front, s.parts ∙ ap (λ (t : List ℕ). module_preamble ++ t) (append-nil s.front), s.sections)

@@ -1,6 +1,6 @@
 //! The sections of a module, bound one after the other.
 
-ghost use Rattle.std.specs.Prelude.{◌≡◌, ◌≢◌, ◌≤◌, ◌<◌, ℕ, List, [], length, IfErr, IfOk, OnOk};
+ghost use Rattle.std.specs.Prelude.{◌≡◌, ◌≢◌, ◌+◌, ◌<◌, ℕ, List, [], length, IfErr, IfOk, OnOk};
 ghost use Rattle.wit_model.specs.declared.error.Error.TheVariants.{Size};
 ghost use Rattle.plan_meaning.specs.Built.{IsBare};
 ghost use Rattle.wit_bind.specs.Bindings.{IsBindgen, binding_of};
@@ -72,7 +72,7 @@ fn bind_front<'a>(
     ensures ok { (input : List ℕ) → IsBoundTo input bound.old bytes.now → IfOk result (λ rest. IsBoundTo input bound.new rest.now) }
     ensures named { OnOk result (AreNamed bound.new.resolve.packages.items named.new) }
     ensures shorter { IfOk result (λ rest. length rest.now < length bytes.now) }
-    ensures refuses { (input : List ℕ) → offset ≤ length input → IsBoundTo input bound.old bytes.now → IfErr result (RefusesBindings input) }
+    ensures refuses { (input : List ℕ) → offset + length bytes.now ≡ length input → IsBoundTo input bound.old bytes.now → IfErr result (RefusesBindings input) }
     ensures size { (input : List ℕ) → IsBoundTo input bound.old bytes.now → IfErr result (λ e. e ≡ Size → OutgrowsLists input) }
 {
     let (carried, behind) = carried_in(bytes, offset)?;
@@ -108,8 +108,8 @@ fn bindings(alloc: Global, bytes: &[u8]) -> Result<Bindgen, Error>
 ///
 /// The first refusal in the order of the bytes ends the call: `NotAModule` where they don't begin as a core module; of a section's data, `Historical`
 /// where it begins with the byte 3, `NoReading` where it means no one world, at offset 0 with `Truncated` where it is empty, and else that of its encoding,
-/// which is missing or not known; `Clash` where what it binds clashes with what was bound before; `BadModule` where no section stands, or a custom one without a
-/// name. Beside these it refuses with `Memory`, and with `Size` only where a list of what the sections in front have bound would pass 4,294,967,295 with all that may
+/// which is missing or not known; `Clash` where what it binds clashes with what was bound before; `BadModule` at the offset where no section stands, or a custom one
+/// without a name. Beside these it refuses with `Memory`, and with `Size` only where a list of what the sections in front have bound would pass 4,294,967,295 with all that may
 /// come of the next one, as `Bindgen::merge` does.
 ///
 /// Takes time linear in the module, with hashed look-ups, and for each section that carries a world as long as it takes to decode the world and to merge it, whatever

@@ -1,5 +1,5 @@
 -- A module binds one thing at most, and what binds something isn't refused.
-use Rattle.std.proofs.Common.{◌≡◌, ◌∙◌, refl, sym, ap, subst, ℕ, List, [], ◌∷◌, ◌++◌, append_assoc, drop, length, Some, Ok, Err, arith}
+use Rattle.std.proofs.Common.{◌≡◌, ◌∙◌, refl, sym, ap, subst, ℕ, ◌+◌, List, [], ◌∷◌, ◌++◌, append_assoc, drop, length, Some, Ok, Err, arith}
 use mathlib.Core.Logic.{inl, inr}
 use Rattle.std.specs.Prelude.{◌≢◌, Result}
 use Rattle.std.specs.List.{AllByRecursion}
@@ -205,7 +205,9 @@ clashes-once a b (errors.Clash k s) _ x y = absurd y
 clashes-once a b _ f x y = absurd x
 
 left-once : (input left : List ℕ) (e f : Error) → IsLeftOver input left e → IsLeftOver input left f → SameRefusal e f
-left-once input left (errors.BadModule o) (errors.BadModule p) x y = SameRefusal.bad_module o p refl refl
+left-once input left (errors.BadModule o) (errors.BadModule p) x y =
+    let same_offset : o ≡ p = omega (arith, x.1, y.1) in
+    SameRefusal.same (ap errors.BadModule same_offset)
 left-once input left (errors.BadModule o) _ x y = absurd y
 left-once input left _ f x y = absurd x
 

@@ -67,7 +67,7 @@ one_byte f rest h =
     none-some {A = Framed × List ℕ} (f, rest) found
 
 left_over : IsRefused (module_preamble ++ 0 ∷ []) (errors.BadModule 8)
-left_over = IsRefused.first [] (0 ∷ []) [] (record { front = []; parts = refl; sections = (refl, tt); ends = one_byte }) CarryData.none ((λ is. let wrong : count (0 ∷ []) ≡ count [] = ap count is in let no : ⊥ = cc in no), omega arith)
+left_over = IsRefused.first [] (0 ∷ []) [] (record { front = []; parts = refl; sections = (refl, tt); ends = one_byte }) CarryData.none ((λ is. let wrong : count (0 ∷ []) ≡ count [] = ap count is in let no : ⊥ = cc in no), refl)
 
 -- ---- a section in the format of before there were versions
 

@@ -1,7 +1,7 @@
 -- What the sections of a core module bind together, or why they are refused (wit-component README, "Custom Section Format").
 -- The sections that carry worlds are bound in order, each onto what was bound before it, beginning with the empty root world. The first refusal ends
 -- it: that of a section, a clash, or, behind all sections, that what is left isn't empty.
-use Rattle.std.specs.Prelude.{◌≡◌, ◌≢◌, ◌⊎◌, ◌≤◌, ℕ, nat_eq, true, List, [], ◌∷◌, ◌++◌, length}
+use Rattle.std.specs.Prelude.{◌≡◌, ◌≢◌, ◌⊎◌, ◌+◌, ℕ, nat_eq, true, List, [], ◌∷◌, ◌++◌, length}
 use Rattle.std.specs.List.{starts_with}
 use Rattle.wit_model.specs.declared.error.Error.{Error}
 use Rattle.wit_model.specs.declared.error.Error.TheVariants as errors
@@ -61,9 +61,9 @@ Refuses Left a (d ∷ ds) error =
     ⊎ ((m : WorldPackage) × (e : StringEncoding) × SectionMeans d m e
     × (IsClashError a (binding_of_world m e) error ⊎ (CanUnite a (binding_of_world m e) × Refuses Left (union a (binding_of_world m e)) ds error)))
 
--- Bytes are left behind the sections of a module. The offset is within the module, and otherwise open.
+-- Bytes are left behind the sections of a module, and begin at this offset.
 abbrev pub IsLeftOver : List ℕ → List ℕ → Error → Type 0
-IsLeftOver input left (errors.BadModule offset) = (left ≢ []) × (offset ≤ length input)
+IsLeftOver input left (errors.BadModule offset) = (left ≢ []) × (offset + length left ≡ length input)
 IsLeftOver input left _ = ⊥
 
 -- ---- a module

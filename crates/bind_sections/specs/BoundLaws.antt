@@ -42,12 +42,10 @@ BoundOnce = (input : List ℕ) (c d : Binding) → IsBound input c → IsBound i
 abbrev pub BoundIsNotRefused : Type 0
 BoundIsNotRefused = (input : List ℕ) (c : Binding) (error : Error) → IsBound input c → IsRefused input error → error ≡ errors.Memory
 
--- Two refusals that say the same: the same error, but for the cause and the offset of what isn't read, the offset of a bad module, and where the text of a
--- clash lies in memory.
+-- Two refusals that say the same: the same error, but for the cause and the offset of what isn't read, and where the text of a clash lies in memory.
 pub data SameRefusal (e f : Error) : Type 0 where
   same : e ≡ f → SameRefusal e f
   unread : (c d : Cause) (o p : ℕ) → e ≡ errors.NoReading c o → f ≡ errors.NoReading d p → SameRefusal e f
-  bad_module : (o p : ℕ) → e ≡ errors.BadModule o → f ≡ errors.BadModule p → SameRefusal e f
   clash : (k l : ClashKind) (s t : String Global) → e ≡ errors.Clash k s → f ≡ errors.Clash l t → k ≡ l → text_of s ≡ text_of t → SameRefusal e f
 
 -- A module is refused in one way, want of memory aside.

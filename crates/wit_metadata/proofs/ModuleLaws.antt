@@ -1,5 +1,5 @@
 -- Sections in front of bytes, those behind them, and those that carry no world.
-use Rattle.std.proofs.Common.{◌≡◌, ◌≤◌, ◌<◌, ◌∙◌, refl, sym, ap, subst, ℕ, suc, ◌==◌, nat_eq, Bool, true, false, List, [], ◌∷◌, ◌++◌, append_assoc, append-nil, length, drop, Option, Some, None, Ok, Err, arith}
+use Rattle.std.proofs.Common.{◌≡◌, ◌≤◌, ◌<◌, ◌∙◌, ◌+◌, refl, sym, ap, subst, ℕ, suc, ◌==◌, nat_eq, Bool, true, false, List, [], ◌∷◌, ◌++◌, append_assoc, append-nil, length, drop, Option, Some, None, Ok, Err, arith}
 use Rattle.std.specs.Prelude.{◌-◌}
 use Rattle.std.specs.Borrow.{Bor}
 use Rattle.std.specs.List.{AllByRecursion, flat_map, starts_with}
@@ -252,7 +252,19 @@ none-left rest e = eqb-true (length rest) 0 (sym e)
 
 pub refused-at : (bytes rest kept : List ℕ) (bound : Bool) → IsRead bytes rest kept bound → (length rest ≡ 0 → ⊥) → IsFrontless rest → RefusesModule bytes (errors.BadModule (length bytes - length rest))
 refused-at bytes rest kept bound h filled none = (
-  omega arith,
-  (h.front ++ rest, h.parts),
+  record {
+    sections = h.sections;
+    front = h.front;
+    left = rest;
+    parts = h.parts;
+    are = (h.spelled, h.named_);
+    some = λ e. filled (ap length e);
+    ends = none;
+    at = behind (length module_preamble) (length bytes) (length h.front) (length rest)
+        (ap length h.parts ∙ (length-append module_preamble (h.front ++ rest) ∙ ap (λ (n : ℕ). length module_preamble + n) (length-append h.front rest)));
+  },
   no-module rest filled none bytes kept bound h,
 )
+  where
+    behind : (n whole front left : ℕ) → whole ≡ n + (front + left) → whole - left + left ≡ whole
+    behind n whole front left e = omega (arith, e)

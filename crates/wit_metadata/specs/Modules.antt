@@ -1,6 +1,6 @@
 -- The sections of a core module, and a module without those that carry worlds (core specification, "Binary Format", "Modules" and "Custom
 -- Section"; wit-component README, "Custom Section Format").
-use Rattle.std.specs.Prelude.{◌≡◌, ◌≤◌, ◌<◌, ℕ, nat_eq, Bool, true, false, List, [], ◌∷◌, ◌++◌, codes, length, Option, Some, None, Result, Ok, Err, Vec}
+use Rattle.std.specs.Prelude.{◌≡◌, ◌≢◌, ◌<◌, ◌+◌, ℕ, nat_eq, Bool, true, false, List, [], ◌∷◌, ◌++◌, codes, length, Option, Some, None, Result, Ok, Err, Vec}
 use Rattle.std.specs.List.{AllByRecursion, flat_map, starts_with}
 use Rattle.std.specs.Borrow.{Bor}
 use Rattle.std.specs.declared.alloc.Global.{Global}
@@ -67,15 +67,6 @@ abbrev pub StripsModule : List ℕ → Option (Vec ℕ Global) → Type 0
 StripsModule bytes None = IsUnbound bytes
 StripsModule bytes (Some kept) = IsStripped bytes kept.items
 
--- Refused is what doesn't begin as a module; at an offset within the bytes what begins so and has other bytes behind it than sections; or any
--- module for want of memory.
-abbrev pub RefusesModule : List ℕ → Error → Type 0
-RefusesModule bytes errors.NotAModule = (rest : List ℕ) → bytes ≡ module_preamble ++ rest → ⊥
-RefusesModule bytes (errors.BadModule offset) =
-    (offset ≤ length bytes) × ((rest : List ℕ) × (bytes ≡ module_preamble ++ rest)) × ((fs : List Framed) → IsModule fs bytes → ⊥)
-RefusesModule bytes errors.Memory = Unit {0}
-RefusesModule bytes _ = ⊥
-
 -- What stands in front of bytes: a section, whether it carries a world, and the bytes behind it; or no section.
 pub record IsInFront (bytes : List ℕ) (f : Framed) (rest : List ℕ) : Type 0 where
   pub front : List ℕ
@@ -85,6 +76,25 @@ pub record IsInFront (bytes : List ℕ) (f : Framed) (rest : List ℕ) : Type 0 
 
 abbrev pub IsFrontless : List ℕ → Type 0
 IsFrontless bytes = (f : Framed) (rest : List ℕ) → IsInFront bytes f rest → ⊥
+
+-- Behind some sections of a module bytes are left that begin none, at this offset.
+pub record IsBrokenAt (bytes : List ℕ) (offset : ℕ) : Type 0 where
+  pub sections : List Framed
+  pub front : List ℕ
+  pub left : List ℕ
+  pub parts : bytes ≡ module_preamble ++ (front ++ left)
+  pub are : AreSections sections front
+  pub some : left ≢ []
+  pub ends : IsFrontless left
+  pub at : offset + length left ≡ length bytes
+
+-- Refused is what doesn't begin as a module; what begins so and has other bytes behind it than sections, at the offset of the first that is none; or any
+-- module for want of memory.
+abbrev pub RefusesModule : List ℕ → Error → Type 0
+RefusesModule bytes errors.NotAModule = (rest : List ℕ) → bytes ≡ module_preamble ++ rest → ⊥
+RefusesModule bytes (errors.BadModule offset) = IsBrokenAt bytes offset × ((fs : List Framed) → IsModule fs bytes → ⊥)
+RefusesModule bytes errors.Memory = Unit {0}
+RefusesModule bytes _ = ⊥
 
 -- what is told of a section: that it has no name where it wants one, or whether it carries a world
 abbrev pub TellsCarrying : Framed → Result Bool Error → Type 0

@@ -8,13 +8,13 @@ use Rattle.bind_modules.proofs.SectionLaws.{passed_on}
 use Rattle.bind_modules.proofs.modules.bind_front.Goals as goal
 
 pub returns-in_err-carried-clause-refuses : goal.returns-in_err-carried-clause-refuses
-returns-in_err-carried-clause-refuses c input within h =
+returns-in_err-carried-clause-refuses c input at h =
     let e = c.in_err-carried.field-0.0 in
     passed_on (RefusesBindings input) e c.from_residual.result
-    (left-over input c.args.bytes.now c.args.bound.now c.args.offset e h c.requires.some c.in_err-carried.ensures.none within c.in_err-carried.ensures.refuses) c.from_residual.ensures.1
+    (left-over input c.args.bytes.now c.args.bound.now c.args.offset e h c.requires.some c.in_err-carried.ensures.none at c.in_err-carried.ensures.refuses) c.from_residual.ensures.1
 
 pub returns-in_err-bind_carried-clause-refuses : goal.returns-in_err-bind_carried-clause-refuses
-returns-in_err-bind_carried-clause-refuses c input within h =
+returns-in_err-bind_carried-clause-refuses c input at h =
     passed_on (RefusesBindings input) c.in_err-bind_carried.field-0.0 c.from_residual-in_err-bind_carried.result
     (c.in_err-bind_carried.ensures.refuses input c.args.bytes.now c.in_ok-carried.behind.now h c.in_ok-carried.ensures.ok) c.from_residual-in_err-bind_carried.ensures.1
 
