@@ -1,8 +1,8 @@
 -- The parts of a component that exports component types, each under its label (Component Model WIT.md, "Package Format").
-use Rattle.std.specs.Prelude.{ℕ, zero, suc, List, [], ◌∷◌, ◌++◌}
+use Rattle.std.specs.Prelude.{◌≡◌, ℕ, zero, suc, List, [], ◌∷◌, ◌++◌}
 use Rattle.wit_model.specs.Text.{Text}
 use Rattle.comp_bytes.specs.Raw.{Declarations, TopType}
-use Rattle.comp_bytes.specs.Parts.{Part, plain_export}
+use Rattle.comp_bytes.specs.Parts.{Part, plain_export, top_slots}
 
 -- a component type that takes this type index, and its export
 abbrev pub one_exported : ℕ → Text × Declarations → List Part
@@ -15,3 +15,17 @@ exporting_from n (x ∷ xs) = one_exported n x ++ exporting_from (suc (suc n)) x
 
 abbrev pub exporting : List (Text × Declarations) → List Part
 exporting xs = exporting_from zero xs
+
+-- ---- one more
+
+-- the parts, with a component type behind them
+abbrev pub with_type : List Part → Declarations → List Part
+with_type parts component = parts ++ Part.top_type (TopType.component component) ∷ []
+
+-- the parts, with a component type and its export behind them
+abbrev pub with_exported : List Part → Text × Declarations → List Part
+with_exported parts x = parts ++ one_exported (top_slots parts) x
+
+-- Where a component exported component types, it now exports the same and this one behind them.
+abbrev pub ExportsOneMore : List Part → Text × Declarations → List Part → Type 0
+ExportsOneMore old x new = (types : List (Text × Declarations)) → old ≡ exporting types → new ≡ exporting (types ++ x ∷ [])

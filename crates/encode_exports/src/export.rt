@@ -1,11 +1,9 @@
 //! Component types and their exports, in components under construction.
 
-ghost use Rattle.std.specs.Prelude.{◌≡◌, ◌⊎◌, ◌++◌, ◌&&◌, ◌∷◌, [], false, Err, IfErr, List, OnErr, OnOk};
-ghost use Rattle.comp_bytes.specs.Parts.{Part, fits_component, top_slots};
-ghost use Rattle.comp_bytes.specs.Raw.{Declarations, TopType};
+ghost use Rattle.std.specs.Prelude.{◌≡◌, ◌⊎◌, ◌&&◌, false, Err, IfErr, OnErr, OnOk};
+ghost use Rattle.comp_bytes.specs.Parts.{fits_component};
 ghost use Rattle.comp_bytes.specs.Refusal.{IsMemoryOrSize};
-ghost use Rattle.encode_exports.specs.ExportedParts.{exporting, one_exported};
-ghost use Rattle.wit_model.specs.Text.{Text};
+ghost use Rattle.encode_exports.specs.ExportedParts.{with_exported, with_type, ExportsOneMore};
 ghost use Rattle.wit_model.specs.declared.error.Error.TheVariants.{Size};
 
 use comp_bytes::{ComponentBuilder, ComponentType};
@@ -20,10 +18,10 @@ pub fn export_component_type(
     label: &str,
     component: &ComponentType,
 ) -> Result<(), Error>
-    ensures ok { OnOk result (builder.new ≡ builder.old ++ one_exported (top_slots builder.old) (label.now, component.now)) }
-    ensures more { OnOk result ((types : List (Text × Declarations)) → builder.old ≡ exporting types → builder.new ≡ exporting (types ++ (label.now, component.now) ∷ [])) }
-    ensures err { OnErr result ((builder.new ≡ builder.old) ⊎ (builder.new ≡ builder.old ++ Part.top_type (TopType.component component.now) ∷ [])) }
-    ensures size { result ≡ Err Size → (fits_component (builder.old ++ Part.top_type (TopType.component component.now) ∷ []) && fits_component (builder.old ++ one_exported (top_slots builder.old) (label.now, component.now))) ≡ false }
+    ensures ok { OnOk result (builder.new ≡ with_exported builder.old (label.now, component.now)) }
+    ensures more { OnOk result (ExportsOneMore builder.old (label.now, component.now) builder.new) }
+    ensures err { OnErr result ((builder.new ≡ builder.old) ⊎ (builder.new ≡ with_type builder.old component.now)) }
+    ensures size { result ≡ Err Size → (fits_component (with_type builder.old component.now) && fits_component (with_exported builder.old (label.now, component.now))) ≡ false }
     ensures refuses { IfErr result IsMemoryOrSize }
 {
     let index = builder.type_component(component)?;

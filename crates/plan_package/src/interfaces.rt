@@ -5,13 +5,12 @@ ghost use Rattle.std.specs.Option.{option_map_or};
 ghost use Rattle.std.specs.Prelude.{◌≡◌, ◌<◌, [], false, true, length, map, option_map, is_some, IfOk, Some};
 ghost use Rattle.wit_model.specs.declared.model.PackageId.{PackageId as Number};
 ghost use Rattle.plan_meaning.specs.GatheredPlan.{functions_seen};
-ghost use Rattle.plan_meaning.specs.NumberedMembers.{home_at as home_at_lem};
 ghost use Rattle.plan_meaning.specs.NumberedViews.{NumberedSight, first_at as first_in};
 ghost use Rattle.read_homes.specs.Homes.{given_home};
 ghost use Rattle.plan_build.specs.PlanOf.{stated_interface};
 ghost use Rattle.plan_parts.specs.Interfaces.{IsFunctionOver, IsKeptSlot};
 ghost use Rattle.plan_parts.specs.Views.{TellsFirst};
-ghost use Rattle.read_exports.specs.Members.{homes_alone};
+ghost use Rattle.read_exports.specs.Members.{home_of_place};
 ghost use Rattle.read_rules.specs.Sights.{numbered_sight};
 ghost use Rattle.read_rules.specs.Tables.{numbered_tables};
 ghost use Rattle.read_rules.specs.Views.{numbered_function, numbered_view};
@@ -88,7 +87,7 @@ pub(crate) fn home_of<'a>(
     homes: &[Option<(usize, &'a str)>],
     place: u32,
 ) -> Option<(usize, &'a str)>
-    ensures { given_home result ≡ home_at_lem (homes_alone homes.now) place }
+    ensures { given_home result ≡ home_of_place homes.now place }
 {
     homes.get(place as usize).copied().unwrap_or(None)
 }
@@ -111,7 +110,7 @@ fn interface_at<'a>(
     requires place_too { place < length wholes.now }
     requires seen { is_some (first_in place (map numbered_sight sights.now)) ≡ true }
     requires kept { AllByRecursion (λ s. ViewIsKept (numbered_tables tables.now) kept.now s.view) (map numbered_sight sights.now) }
-    ensures { IfOk result (λ i. PlansPlace (numbered_tables tables.now) kept.now main (home_at_lem (homes_alone homes.now)) (map numbered_sight sights.now) place (stated_interface i)) }
+    ensures { IfOk result (λ i. PlansPlace (numbered_tables tables.now) kept.now main (home_of_place homes.now) (map numbered_sight sights.now) place (stated_interface i)) }
 {
     let Some(first) = first_at(sights, firsts, place) else {
         unreachable!();
@@ -148,7 +147,7 @@ fn all_interfaces<'a>(
     requires places_too { AllByRecursion (λ p. p < length wholes.now) places.now }
     requires seen { AreSeen (map numbered_sight sights.now) places.now }
     requires kept { AllByRecursion (λ s. ViewIsKept (numbered_tables tables.now) kept.now s.view) (map numbered_sight sights.now) }
-    ensures { IfOk result (λ all. AllZip (PlansPlace (numbered_tables tables.now) kept.now main (home_at_lem (homes_alone homes.now)) (map numbered_sight sights.now)) places.now (map stated_interface all.items)) }
+    ensures { IfOk result (λ all. AllZip (PlansPlace (numbered_tables tables.now) kept.now main (home_of_place homes.now) (map numbered_sight sights.now)) places.now (map stated_interface all.items)) }
 {
     let mut all = Vec::new(alloc);
     for place in places {
@@ -182,7 +181,7 @@ pub(crate) fn interfaces_of<'a>(
 ) -> Result<Vec<PlannedInterface<'a>>, AllocError>
     requires seen { AreSeen (map numbered_sight sights.now) places.now.keys }
     requires kept { AllByRecursion (λ s. ViewIsKept (numbered_tables tables.now) kept.now s.view) (map numbered_sight sights.now) }
-    ensures { IfOk result (λ all. AllZip (PlansPlace (numbered_tables tables.now) kept.now main (home_at_lem (homes_alone homes.now)) (map numbered_sight sights.now)) places.now.keys (map stated_interface all.items)) }
+    ensures { IfOk result (λ all. AllZip (PlansPlace (numbered_tables tables.now) kept.now main (home_of_place homes.now) (map numbered_sight sights.now)) places.now.keys (map stated_interface all.items)) }
 {
     let (firsts, wholes) = first_tables(alloc, sights)?;
     let places = listed(alloc, places)?;

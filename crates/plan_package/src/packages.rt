@@ -2,10 +2,9 @@
 
 ghost use Rattle.std.specs.List.{AllByRecursion, AllZip};
 ghost use Rattle.std.specs.Prelude.{◌≡◌, ◌<◌, ◌++◌, ℕ, [], length, map, IfOk};
-ghost use Rattle.plan_meaning.specs.NumberedMembers.{home_at as home_at_lem};
 ghost use Rattle.read_homes.specs.Homes.{given_home, identity_of};
 ghost use Rattle.plan_build.specs.PlanOf.{stated_package};
-ghost use Rattle.read_exports.specs.Members.{homes_alone};
+ghost use Rattle.read_exports.specs.Members.{home_of_place};
 ghost use Rattle.plan_package.specs.WholePackages.{interface_in_part, interfaces_in, labelled_place, listed_at, numbered_labels, numbered_interface, numbered_world, AreListed, ArePlanned, IsForeignPackage, IsMainPackage, IsPlaced, ListsEntry, ListsPlace, PlansPackage, PlansPackages};
 ghost use Rattle.plan_package.specs.WholeWorlds.{labelled, worlds_in};
 
@@ -136,7 +135,7 @@ fn list_interfaces<'a>(
 ) -> Result<(), AllocError>
     requires { (q : ℕ) → listed_at table.old q ≡ [] }
     ensures many { IfOk result (λ _. length table.new ≡ length table.old) }
-    ensures listed { IfOk result (λ _. AreListed (home_at_lem (homes_alone homes.now)) places.now table.new) }
+    ensures listed { IfOk result (λ _. AreListed (home_of_place homes.now) places.now table.new) }
 {
     for (number, place) in places.iter().enumerate() {
         list_interface(table, home_of(homes, *place), number)?;
@@ -164,7 +163,7 @@ fn lists_of<'a>(
     places: &IndexSet<u32>,
 ) -> Result<Vec<Vec<(&'a str, InterfaceId)>>, AllocError>
     ensures many { IfOk result (λ table. length table.items ≡ count) }
-    ensures listed { IfOk result (λ table. AreListed (home_at_lem (homes_alone homes.now)) places.now.keys table.items) }
+    ensures listed { IfOk result (λ table. AreListed (home_of_place homes.now) places.now.keys table.items) }
 {
     let mut table = no_lists(alloc, count)?;
     let places = listed(alloc, places)?;
@@ -286,7 +285,7 @@ pub fn packages_of<'a>(
     members: &[Member<'a>],
 ) -> Result<Vec<PlannedPackage<'a>>, AllocError>
     requires { AllByRecursion (IsPlaced places.now.keys) (interfaces_in members.now) }
-    ensures { IfOk result (λ all. PlansPackages packages.now (home_at_lem (homes_alone homes.now)) main places.now.keys members.now (map stated_package all.items)) }
+    ensures { IfOk result (λ all. PlansPackages packages.now (home_of_place homes.now) main places.now.keys members.now (map stated_package all.items)) }
 {
     let mut lists = lists_of(alloc, packages.count(), homes, places)?;
     all_packages(alloc, packages, main, places, members, &mut lists)

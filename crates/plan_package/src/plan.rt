@@ -2,10 +2,9 @@
 
 ghost use Rattle.std.specs.List.{AllByRecursion, AllZip};
 ghost use Rattle.std.specs.Prelude.{◌≡◌, length, map, true, IfOk};
-ghost use Rattle.plan_meaning.specs.NumberedMembers.{home_at as home_at_lem};
 ghost use Rattle.plan_meaning.specs.ReadPlans.{FitsInput};
 ghost use Rattle.plan_build.specs.PlanOf.{stated_interface, stated_plan, stated_type};
-ghost use Rattle.read_exports.specs.Members.{homes_alone, numbered_members};
+ghost use Rattle.read_exports.specs.Members.{home_of_place, numbered_members};
 ghost use Rattle.read_rules.specs.Tables.{numbered_tables};
 ghost use Rattle.plan_types.specs.FirstShown.{showing_at, TellsFirst};
 ghost use Rattle.plan_types.specs.Orders.{homes_met};
@@ -80,7 +79,7 @@ fn seen_interfaces<'a>(
 ) -> Result<Vec<PlannedInterface<'a>>, AllocError>
     requires seen { AreSeen (views_of_members_lem (numbered_members members.now)) places.now.keys }
     requires kept { AllByRecursion (λ s. ViewIsKept (numbered_tables tables.now) kept.now s.view) (views_of_members_lem (numbered_members members.now)) }
-    ensures { IfOk result (λ all. AllZip (PlansPlace (numbered_tables tables.now) kept.now main (home_at_lem (homes_alone homes.now)) (views_of_members_lem (numbered_members members.now))) places.now.keys (map stated_interface all.items)) }
+    ensures { IfOk result (λ all. AllZip (PlansPlace (numbered_tables tables.now) kept.now main (home_of_place homes.now) (views_of_members_lem (numbered_members members.now))) places.now.keys (map stated_interface all.items)) }
 {
     let views = views_of_members(alloc, members)?;
     interfaces_of(alloc, tables, kept, main, homes, &views, places)
@@ -96,7 +95,7 @@ fn whole_plan<'a>(
     members: &[Member<'a>],
 ) -> Result<Plan<'a>, AllocError>
     requires { MayBeWhole (numbered_tables tables.now) members.now }
-    ensures { IfOk result (λ p. PlansWhole (numbered_tables tables.now) packages.now (home_at_lem (homes_alone homes.now)) main members.now (stated_plan p)) }
+    ensures { IfOk result (λ p. PlansWhole (numbered_tables tables.now) packages.now (home_of_place homes.now) main members.now (stated_plan p)) }
 {
     let (kept, firsts) = kept_types(alloc, tables, members)?;
     let places = places_of_members(alloc, members)?;
@@ -143,7 +142,7 @@ pub fn plan_of<'a>(
     members: &[Member<'a>],
 ) -> Result<Plan<'a>, AllocError>
     requires { MayBeWhole (numbered_tables tables.now) members.now }
-    ensures planned { IfOk result (λ p. PlansWhole (numbered_tables tables.now) packages.now (home_at_lem (homes_alone homes.now)) main members.now (stated_plan p)) }
+    ensures planned { IfOk result (λ p. PlansWhole (numbered_tables tables.now) packages.now (home_of_place homes.now) main members.now (stated_plan p)) }
     ensures fits { IfOk result (λ p. FitsInput (stated_plan p)) }
 {
     let plan = whole_plan(alloc, tables, packages, homes, main, members)?;

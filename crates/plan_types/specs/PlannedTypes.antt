@@ -1,5 +1,6 @@
 -- The types of a plan, by the types of the table that are kept (WIT.md, "Types"; Binary.md, "Type Definitions").
-use Rattle.std.specs.Prelude.{◌≡◌, ◌==◌, ℕ, List, Option, Some, None, slice_get, position}
+use Rattle.std.specs.Prelude.{◌≡◌, ◌==◌, ℕ, List, Option, Some, None, map, slice_get, position}
+use Rattle.std.specs.List.{AllZip}
 use Rattle.std.specs.Option.{option_map_or}
 use Rattle.wit_model.specs.declared.model.TypeOwner.{TypeOwner}
 use Rattle.wit_model.specs.declared.model.TypeOwner.TheVariants as owner
@@ -11,6 +12,10 @@ use Rattle.plan_meaning.specs.Plan.{PlannedType}
 use Rattle.plan_meaning.specs.Shapes.{Shape}
 use Rattle.plan_parts.specs.Kinds.{IsFormed, IsFormOver, IsKindFor, MayBeDeclared}
 use Rattle.plan_types.specs.Showings.{NumberedShowing}
+use Rattle.plan_types.specs.FirstShown.{showing_at}
+use Rattle.plan_types.specs.declared.showings.Showing.{Showing}
+use Rattle.plan_build.specs.PlanOf.{stated_type}
+use Rattle.plan_build.specs.declared.plan.PlannedType.{PlannedType as BuiltType}
 
 -- ---- owners
 
@@ -35,3 +40,7 @@ module _ (t : Tables) (kept : List ℕ) (find : ℕ → Option NumberedShowing) 
     unnamed : (s : Shape) → slice_get t.shapes n ≡ Some s → name_in s ≡ None → x.name ≡ None → x.owner ≡ owner.None → x.external_id ≡ None → IsFormed kept s x.kind → PlansType owners n x
     named : (s : Shape) (q : ℕ) (name : Text) (y : NumberedShowing) → slice_get t.shapes n ≡ Some s → name_in s ≡ Some (q, name) → find n ≡ Some y → x.name ≡ Some name → x.owner ≡ owners q → x.external_id ≡ y.external_id
         → IsKindFor t kept y.declared x.kind → PlansType owners n x
+
+-- the types of the plan for those of the table that are kept, in order, by the table of what each is shown as first
+abbrev pub PlansTypes : Tables → List ℕ → List (Option Showing) → (ℕ → TypeOwner) → List BuiltType → Type 0
+PlansTypes t kept first owners types = AllZip (PlansType t kept (showing_at first) owners) kept (map stated_type types)

@@ -7,7 +7,8 @@ use Rattle.wit_model.specs.Uses.{has}
 use Rattle.plan_meaning.specs.NumberedRules.{is_form, shape_at}
 use Rattle.plan_meaning.specs.NumberedViews.{FunctionShape, Tables, function_at}
 use Rattle.plan_parts.specs.Marks.{is_marked, IsUsed, PartsFall}
-use Rattle.plan_types.specs.Showings.{NumberedShowing}
+use Rattle.plan_types.specs.Showings.{NumberedShowing, numbered_showing}
+use Rattle.plan_types.specs.declared.showings.Showing.{Showing}
 
 -- the parts of a part that is a form
 abbrev pub form_parts : Tables → ℕ → List ℕ
@@ -44,6 +45,10 @@ pub record AreUsed (t : Tables) (parts : List ℕ) (marks : List Bool) : Type 0 
   pub shown : (n : ℕ) → n < length t.shapes → is_marked roots n ≡ has parts (14 + n)
   pub many : length roots ≡ length t.shapes
   pub marked : (n : ℕ) → (is_marked marks n ≡ true) ↔ IsUsed (map (λ s. s.parts) t.shapes) roots n
+
+-- the types that are marked are those that these showings and the functions of these numbers use
+abbrev pub AreUsedBy : Tables → List Showing → List ℕ → List Bool → Type 0
+AreUsedBy t showings signatures marks = AreUsed t (used_parts t (map numbered_showing showings) signatures) marks
 
 abbrev pub TypesFall : Tables → Type 0
 TypesFall t = PartsFall (map (λ s. s.parts) t.shapes)

@@ -1,14 +1,14 @@
 //! The types of a plan.
 
-ghost use Rattle.std.specs.List.{AllByRecursion, AllZip};
-ghost use Rattle.std.specs.Prelude.{◌≡◌, ◌<◌, length, map, option_map, slice_get, IfOk, None, Some};
+ghost use Rattle.std.specs.List.{AllByRecursion};
+ghost use Rattle.std.specs.Prelude.{◌≡◌, ◌<◌, length, option_map, slice_get, IfOk, None, Some};
 ghost use Rattle.wit_model.specs.declared.model.TypeOwner.TheVariants as owner;
 ghost use Rattle.plan_meaning.specs.NumberedRules.{name_in as name_in_lem};
 ghost use Rattle.plan_build.specs.PlanOf.{stated_kind, stated_type};
 ghost use Rattle.plan_parts.specs.Kinds.{IsFormed, IsFormOver, IsKindFor, MayBeDeclared};
 ghost use Rattle.read_rules.specs.Tables.{given_text, numbered_shape, numbered_tables};
 ghost use Rattle.plan_types.specs.FirstShown.{showing_at};
-ghost use Rattle.plan_types.specs.PlannedTypes.{number_in, owner_in, MayBePlanned, PlansType};
+ghost use Rattle.plan_types.specs.PlannedTypes.{number_in, owner_in, MayBePlanned, PlansType, PlansTypes};
 ghost use Rattle.plan_types.specs.Showings.{numbered_showing};
 
 use crate::showings::Showing;
@@ -155,7 +155,7 @@ pub fn planned_types<'a>(
     homes: &IndexSet<u32>,
 ) -> Result<Vec<PlannedType<'a>>, AllocError>
     requires { AllByRecursion (MayBePlanned (numbered_tables tables.now) kept.now (showing_at first.now)) kept.now }
-    ensures { IfOk result (λ types. AllZip (PlansType (numbered_tables tables.now) kept.now (showing_at first.now) (owner_in places.now.keys homes.now.keys)) kept.now (map stated_type types.items)) }
+    ensures { IfOk result (λ types. PlansTypes (numbered_tables tables.now) kept.now first.now (owner_in places.now.keys homes.now.keys) types.items) }
 {
     let mut types = Vec::new(alloc);
     for number in kept.shapes() {

@@ -6,7 +6,7 @@ ghost use Rattle.wit_model.specs.Text.{Text};
 ghost use Rattle.plan_parts.specs.Marks.{is_marked, parts_of};
 ghost use Rattle.read_rules.specs.Tables.{numbered_function_type, numbered_shape, numbered_tables, param_of};
 ghost use Rattle.plan_types.specs.Showings.{numbered_showing};
-ghost use Rattle.plan_types.specs.Used.{declared_parts, function_parts, showing_parts, signature_parts, used_parts, AreUsed, Marks, TypesFall};
+ghost use Rattle.plan_types.specs.Used.{declared_parts, function_parts, showing_parts, signature_parts, AreUsedBy, Marks, TypesFall};
 
 use crate::showings::Showing;
 use plan_parts::close;
@@ -142,7 +142,7 @@ fn mark_used(
     requires parts { parts_of parts.now ≡ map (λ s. s.parts) (map numbered_shape tables.now.shapes.now) }
     requires fall { TypesFall (numbered_tables tables.now) }
     ensures many { length marks.new ≡ length tables.now.shapes.now }
-    ensures used { AreUsed (numbered_tables tables.now) (used_parts (numbered_tables tables.now) (map numbered_showing showings.now) signatures.now) marks.new }
+    ensures used { AreUsedBy (numbered_tables tables.now) showings.now signatures.now marks.new }
 {
     mark_showings(marks, tables, showings);
     mark_functions(marks, tables, signatures);
@@ -160,7 +160,7 @@ pub fn used_types(
     signatures: &[usize],
 ) -> Result<Vec<bool>, AllocError>
     requires { TypesFall (numbered_tables tables.now) }
-    ensures { IfOk result (λ marks. AreUsed (numbered_tables tables.now) (used_parts (numbered_tables tables.now) (map numbered_showing showings.now) signatures.now) marks.items) }
+    ensures { IfOk result (λ marks. AreUsedBy (numbered_tables tables.now) showings.now signatures.now marks.items) }
 {
     let parts = parts_of_types(alloc, tables.shapes)?;
     let mut marks = no_marks(alloc, tables.shapes.len())?;

@@ -1,4 +1,4 @@
--- What calls do to a driver, which makes each call of its output at once, and makes no more once one was refused.
+-- What calls do to an output, and to a driver, which makes each call of its output at once, and makes no more once one was refused.
 use Rattle.std.specs.Prelude.{◌≡◌, Bool, true, false, List, ℕ, IsTrue}
 use Rattle.print_output.specs.OutputCall.{OutputCall, View, Moves, Begins, may_begin, may_follow}
 use Rattle.print_items.specs.declared.driver.Driver.{Driver}
@@ -14,6 +14,14 @@ module _ {O Kept : Type 0} (view : O → View Kept) (keeps : View Kept → Outpu
   pub record Drives (old : Driver O) (calls : List OutputCall) (new : Driver O) : Type 0 where
     pub same : new.output.ghost_name ≡ old.output.ghost_name
     pub runs : Runs keeps old.refused (view old.output.now) calls new.refused (view new.output.now)
+
+  -- An output has made these calls, in order.
+  abbrev pub Makes : O → List OutputCall → O → Type 0
+  Makes old calls new = Moves keeps (view old) calls (view new)
+
+  -- An output has made a beginning of these calls.
+  abbrev pub MakesInPart : O → List OutputCall → O → Type 0
+  MakesInPart old calls new = Begins keeps (view old) calls (view new)
 
 module _ {O Kept : Type 0} (view : O → View Kept) where
   -- Unless a call was refused, a line has just begun, or has not.

@@ -2,6 +2,7 @@
 use Rattle.std.specs.Prelude.{Bool, true, false, List, [], ◌∷◌, ◌++◌, ◌==◌, ◌&&◌, ℕ, Option, None, Some, map, drop, option_map, option_and_then, unwrap_or, slice_get, is_some, if◌then◌else◌, filter, String}
 use Rattle.std.specs.List.{filter_map}
 use Rattle.std.specs.Option.{option_map_or, option_eq}
+use Rattle.std.specs.Borrow.{Bor}
 use Rattle.std.specs.Str.{chars}
 use Rattle.std.specs.Str.Lines.{lines}
 use Rattle.std.specs.declared.alloc.Global.{Global}
@@ -32,6 +33,7 @@ use Rattle.wit_model.specs.declared.model.FunctionKind.{FunctionKind}
 use Rattle.wit_model.specs.declared.model.FunctionKind.TheVariants as function
 use Rattle.wit_model.specs.declared.model.Param.{Param}
 use Rattle.wit_model.specs.declared.model.Field.{Field}
+use Rattle.wit_model.specs.declared.model.Record.{Record}
 use Rattle.wit_model.specs.declared.model.Case.{Case}
 use Rattle.wit_model.specs.declared.model.Flag.{Flag}
 use Rattle.wit_model.specs.declared.model.EnumCase.{EnumCase}
@@ -152,8 +154,20 @@ type_trees resolve = trees_from resolve [] resolve.types.items
 abbrev pub shown_type : Resolve → ValueType → TypeTree
 shown_type resolve ty = used_type (type_trees resolve) ty
 
+-- a map from keys of one type to values of another
+abbrev pub shown_map : Resolve → ValueType → ValueType → TypeTree
+shown_map resolve key value = MapOf (shown_type resolve key) (shown_type resolve value)
+
+-- the type that a future or a stream carries, if there is one
+abbrev pub shown_payload : Resolve → Option ValueType → Option TypeTree
+shown_payload resolve payload = option_map (shown_type resolve) payload
+
 abbrev pub shown_field : Resolve → Field → FieldTree
 shown_field resolve field = record { docs = shown_docs field.docs; name = text_of field.name; ty = shown_type resolve field.ty }
+
+-- the fields of a record, in order
+abbrev pub shown_fields : Resolve → Record → List FieldTree
+shown_fields resolve r = map (shown_field resolve) r.fields.items
 
 abbrev pub shown_case : Resolve → Case → CaseTree
 shown_case resolve c = record { docs = shown_docs c.docs; name = text_of c.name; payload = option_map (shown_type resolve) c.ty }
@@ -203,6 +217,10 @@ shown_resource_member resolve f = by_kind f.kind
     by_kind (function.Static id) = Static (function_prefix f) (item_name f) (shown_signature resolve f)
     by_kind (function.AsyncStatic id) = Static (function_prefix f) (item_name f) (shown_signature resolve f)
     by_kind kind = Method (function_prefix f) (item_name f) (shown_signature resolve f)
+
+-- functions of a resource behind references, as its block has them
+abbrev pub shown_resource_members : Resolve → List (Bor Function) → List ResourceMember
+shown_resource_members resolve functions = map (λ f. shown_resource_member resolve f.now) functions
 
 -- ---- declarations and uses
 

@@ -1,16 +1,16 @@
 //! Types that `type` declares, printed.
 #![tactic(auto, using(crate::proofs::Driven::driving))]
 
-ghost use Rattle.std.specs.Prelude.{◌≡◌, true, false, option_map, IsTrue};
+ghost use Rattle.std.specs.Prelude.{◌≡◌, true, false, IsTrue};
 ghost use Rattle.wit_model.specs.Names.{is_label};
 ghost use Rattle.wit_model.specs.Parts.{handle_target};
 ghost use Rattle.wit_model.specs.Rules.{in_list};
 ghost use Rattle.wit_model.specs.Valid.{IsValid};
 ghost use Rattle.print_items.specs.Drives.{Drives, LineIs};
 ghost use Rattle.print_output.specs.OutputCall.{is_one_line, has_no_space_first};
-ghost use Rattle.print_items.specs.Shown.{named_handle, shown_type};
+ghost use Rattle.print_items.specs.Shown.{named_handle, shown_map, shown_payload, shown_type};
 ghost use Rattle.print_grammar.specs.Tree.Declared.{AliasOf};
-ghost use Rattle.print_grammar.specs.Tree.TypeTree.{FixedListOf, ListOf, MapOf};
+ghost use Rattle.print_grammar.specs.Tree.TypeTree.{FixedListOf, ListOf};
 ghost use Rattle.print_grammar.specs.Calls.{declared_calls, type_calls};
 ghost use Rattle.print_items.specs.DeclaredCalls.{alias_calls, alias_start_calls, angle_calls, angled_calls, carrier_calls, fixed_list_calls, is_word, map_calls, two_calls};
 ghost use Rattle.print_items.specs.TypeParts.{is_labelled, kind_calls, may_be_unnamed};
@@ -211,7 +211,7 @@ pub fn write_map_alias<O: Output>(
     requires label { is_label name.now ≡ true }
     requires key { is_well_type (shown_type resolve.now key.now) ≡ true }
     requires value { is_well_type (shown_type resolve.now value.now) ≡ true }
-    ensures calls { Drives O.view O.keeps driver.old (declared_calls true (AliasOf name.now (MapOf (shown_type resolve.now key.now) (shown_type resolve.now value.now)))) driver.new }
+    ensures calls { Drives O.view O.keeps driver.old (declared_calls true (AliasOf name.now (shown_map resolve.now key.now value.now))) driver.new }
 {
     write_alias_start(driver, name, TypeKind::Map);
     write_map(driver, resolve, key, value);
@@ -228,8 +228,8 @@ fn write_carrier<O: Output>(
     requires one_line { IsTrue (is_one_line word.now) }
     requires front { IsTrue (has_no_space_first word.now) }
     requires valid { IsValid resolve.now }
-    requires well { is_well_optional is_well_type (option_map (shown_type resolve.now) payload.now) ≡ true }
-    ensures calls { Drives O.view O.keeps driver.old (carrier_calls word.now (option_map (shown_type resolve.now) payload.now)) driver.new }
+    requires well { is_well_optional is_well_type (shown_payload resolve.now payload.now) ≡ true }
+    ensures calls { Drives O.view O.keeps driver.old (carrier_calls word.now (shown_payload resolve.now payload.now)) driver.new }
     ensures line { LineIs O.view false driver.new }
 {
     match payload {
@@ -251,8 +251,8 @@ pub fn write_carrier_alias<O: Output>(
     requires front { IsTrue (has_no_space_first word.now) }
     requires valid { IsValid resolve.now }
     requires label { is_label name.now ≡ true }
-    requires well { is_well_optional is_well_type (option_map (shown_type resolve.now) payload.now) ≡ true }
-    ensures calls { Drives O.view O.keeps driver.old (alias_calls name.now kind (carrier_calls word.now (option_map (shown_type resolve.now) payload.now))) driver.new }
+    requires well { is_well_optional is_well_type (shown_payload resolve.now payload.now) ≡ true }
+    ensures calls { Drives O.view O.keeps driver.old (alias_calls name.now kind (carrier_calls word.now (shown_payload resolve.now payload.now))) driver.new }
 {
     write_alias_start(driver, name, kind);
     write_carrier(driver, resolve, word, payload);

@@ -1,14 +1,14 @@
 //! Records, printed.
 #![tactic(auto, using(crate::proofs::Driven::driving))]
 
-ghost use Rattle.std.specs.Prelude.{◌≡◌, ◌∷◌, codes, true, false, map};
+ghost use Rattle.std.specs.Prelude.{◌≡◌, ◌∷◌, codes, true, false};
 ghost use Rattle.std.specs.List.{flat_map, list_all};
 ghost use Rattle.wit_model.specs.Names.{is_label};
 ghost use Rattle.wit_model.specs.Valid.{IsValid};
 ghost use Rattle.print_items.specs.Drives.{Drives, LineIs};
 ghost use Rattle.print_output.specs.OutputCall.{OutputCall};
 ghost use Rattle.print_grammar.specs.Keyword.{escaped};
-ghost use Rattle.print_items.specs.Shown.{shown_field, shown_type};
+ghost use Rattle.print_items.specs.Shown.{shown_field, shown_fields, shown_type};
 ghost use Rattle.print_grammar.specs.Tree.Declared.{RecordOf};
 ghost use Rattle.print_grammar.specs.Calls.{declared_calls, field_calls, type_calls};
 ghost use Rattle.print_grammar.specs.WellNamed.{is_well_declared, is_well_field, is_well_type};
@@ -76,8 +76,8 @@ pub fn write_record<O: Output>(
     of: &Record,
 )
     requires valid { IsValid resolve.now }
-    requires well { is_well_declared (RecordOf name.now (map (shown_field resolve.now) of.now.fields.items)) ≡ true }
-    ensures calls { Drives O.view O.keeps driver.old (declared_calls emits_docs (RecordOf name.now (map (shown_field resolve.now) of.now.fields.items))) driver.new }
+    requires well { is_well_declared (RecordOf name.now (shown_fields resolve.now of.now)) ≡ true }
+    ensures calls { Drives O.view O.keeps driver.old (declared_calls emits_docs (RecordOf name.now (shown_fields resolve.now of.now))) driver.new }
 {
     write_block_start(driver, "record", name, TypeKind::Record);
     write_fields(driver, emits_docs, resolve, &of.fields);

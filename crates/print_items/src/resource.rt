@@ -1,14 +1,14 @@
 //! Resources with their functions, printed.
 #![tactic(auto, using(crate::proofs::Driven::driving))]
 
-ghost use Rattle.std.specs.Prelude.{◌≡◌, true, false, map, option_map};
+ghost use Rattle.std.specs.Prelude.{◌≡◌, true, false, option_map};
 ghost use Rattle.std.specs.List.{flat_map, list_all};
 ghost use Rattle.wit_model.specs.declared.model.FunctionKind.TheVariants as kinds;
 ghost use Rattle.wit_model.specs.Calls.{item_name};
 ghost use Rattle.wit_model.specs.Names.{is_label};
 ghost use Rattle.wit_model.specs.Valid.{IsValid};
 ghost use Rattle.print_items.specs.Drives.{Drives, LineIs};
-ghost use Rattle.print_items.specs.Shown.{constructor_result, shown_params, shown_resource_member, shown_signature, shown_type};
+ghost use Rattle.print_items.specs.Shown.{constructor_result, shown_params, shown_resource_member, shown_resource_members, shown_signature, shown_type};
 ghost use Rattle.print_grammar.specs.Tree.Declared.{ResourceOf};
 ghost use Rattle.print_grammar.specs.Calls.{declared_calls, resource_body_calls, resource_member_calls};
 ghost use Rattle.print_items.specs.DeclaredCalls.{bare_member_calls, constructor_calls, resource_name_calls, static_calls, static_start_calls};
@@ -151,7 +151,7 @@ fn write_resource_body<O: Output>(
     requires same_line { LineIs O.view false driver.old }
     requires valid { IsValid resolve.now }
     requires well { list_all (λ f. is_well_resource_member (shown_resource_member resolve.now f.now)) functions.now ≡ true }
-    ensures calls { Drives O.view O.keeps driver.old (resource_body_calls emits_docs (map (λ f. shown_resource_member resolve.now f.now) functions.now)) driver.new }
+    ensures calls { Drives O.view O.keeps driver.old (resource_body_calls emits_docs (shown_resource_members resolve.now functions.now)) driver.new }
 {
     if functions.is_empty() {
         return driver.semicolon();
@@ -181,8 +181,8 @@ pub fn write_resource<O: Output>(
     functions: &[&Function],
 )
     requires valid { IsValid resolve.now }
-    requires well { is_well_declared (ResourceOf name.now (map (λ f. shown_resource_member resolve.now f.now) functions.now)) ≡ true }
-    ensures calls { Drives O.view O.keeps driver.old (declared_calls emits_docs (ResourceOf name.now (map (λ f. shown_resource_member resolve.now f.now) functions.now))) driver.new }
+    requires well { is_well_declared (ResourceOf name.now (shown_resource_members resolve.now functions.now)) ≡ true }
+    ensures calls { Drives O.view O.keeps driver.old (declared_calls emits_docs (ResourceOf name.now (shown_resource_members resolve.now functions.now))) driver.new }
 {
     write_resource_name(driver, name);
     write_resource_body(driver, emits_docs, resolve, functions);

@@ -12,6 +12,10 @@ abbrev pub Expands : List OutputCall → List OutputCall → Type 0
 Expands [] recorded = recorded ≡ []
 Expands (call ∷ calls) recorded = (rest : List OutputCall) × ((recorded ≡ call ∷ rest) ⊎ (recorded ≡ body_calls call ++ rest)) × Expands calls rest
 
+-- An output that lists its calls has listed these behind those from before, each as itself or as the calls of its body.
+abbrev pub ListsOn : View (List OutputCall) → List OutputCall → View (List OutputCall) → Type 0
+ListsOn old calls new = (listed : List OutputCall) × Expands calls listed × (new.kept ≡ old.kept ++ listed)
+
 -- No body was run: each begins with `indent_if_needed`, which the printer never calls.
 abbrev pub is_whole : List OutputCall → Bool
 is_whole [] = true

@@ -1,9 +1,9 @@
 //! Laws about what calls come to.
 
-ghost use Rattle.std.specs.Prelude.{◌≡◌, ◌++◌, List, true};
+ghost use Rattle.std.specs.Prelude.{◌≡◌, List, true};
 ghost use Rattle.print_output.specs.OutputCall.{OutputCall, View, Moves, after_all};
 ghost use Rattle.print_output.specs.Render.{Written, writes};
-ghost use Rattle.print_output.specs.Expansion.{Expands, appends, is_whole};
+ghost use Rattle.print_output.specs.Expansion.{Expands, ListsOn, appends, is_whole};
 
 /// An output that keeps a text keeps what the calls that moved it render to, however they were counted.
 pub fn text_is_rendered()
@@ -12,7 +12,7 @@ pub fn text_is_rendered()
 
 /// An output that lists its calls lists those that moved it, each as itself or as the calls of its body.
 pub fn list_is_expanded()
-    ensures { (calls : List OutputCall) (old new : View (List OutputCall)) → Moves appends old calls new → (listed : List OutputCall) × Expands calls listed × (new.kept ≡ old.kept ++ listed) }
+    ensures { (calls : List OutputCall) (old new : View (List OutputCall)) → Moves appends old calls new → ListsOn old calls new }
 {}
 
 /// A list of calls renders to the same text, whichever of them stand as the calls of their bodies.

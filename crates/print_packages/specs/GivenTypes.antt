@@ -3,6 +3,7 @@ use Rattle.std.specs.Prelude.{Bool, List, [], ◌++◌, ◌==◌, Vec, map, unwr
 use Rattle.std.specs.List.{flat_map, list_all}
 use Rattle.std.specs.Option.{option_map_or}
 use Rattle.std.specs.Borrow.{Bor}
+use Rattle.std.specs.HashMap.{HashMap}
 use Rattle.std.specs.Map.{lookup}
 use Rattle.std.specs.declared.alloc.Global.{Global}
 use Rattle.wit_model.specs.declared.model.Resolve.{Resolve}
@@ -10,13 +11,20 @@ use Rattle.wit_model.specs.declared.model.PackageId.{PackageId}
 use Rattle.wit_model.specs.declared.model.TypeOwner.{TypeOwner}
 use Rattle.wit_model.specs.declared.model.Function.{Function}
 use Rattle.wit_model.specs.declared.model.TypeId.{TypeId}
+use Rattle.wit_model.specs.Text.{Text}
+use Rattle.print_output.specs.OutputCall.{OutputCall}
+use Rattle.print_grammar.specs.Calls.{members_calls}
 use Rattle.print_grammar.specs.Tree.{MemberTree}
 use Rattle.print_items.specs.Shown.{Listed, owner_package}
-use Rattle.print_uses.specs.UseGroups.{is_listed_function, listed_declaration, use_members}
+use Rattle.print_uses.specs.UseGroups.{is_listed_function, listed_declaration, listed_of, use_members}
 
 -- functions by the resources that they stand under
 abbrev pub Functions : Type 0
 Functions = List (TypeId × Vec (Bor Function) Global)
+
+-- a map of them, however it hashes
+abbrev pub FunctionMap : Type 0 → Type 0
+FunctionMap S = HashMap TypeId (Vec (Bor Function) Global) S
 
 -- functions behind references
 abbrev pub behind : Vec (Bor Function) Global → List Function
@@ -37,6 +45,14 @@ package_of_owner r o = unwrap_or (owner_package r o) (record { 0 = 4294967295 })
 -- uses and then declared types
 abbrev pub given_members : Resolve → TypeOwner → Functions → List Listed → List MemberTree
 given_members r o entries types = use_members r (package_of_owner r o) o types ++ given_declarations r o entries types
+
+-- the same with functions in a map
+abbrev pub given_with : {S : Type 0} → Resolve → TypeOwner → FunctionMap S → List Listed → List MemberTree
+given_with r o functions = given_members r o functions.entries
+
+-- the calls for these members, of types that are handed in under their names, in a block that has printed something before or nothing
+abbrev pub given_calls : {S : Type 0} → Bool → Bool → Resolve → TypeOwner → FunctionMap S → List (Bor Text × TypeId) → List OutputCall
+given_calls emits_docs has_printed r o functions types = members_calls emits_docs has_printed (given_with r o functions (listed_of types))
 
 -- functions of resources of the owner
 abbrev pub are_functions_of : Resolve → TypeOwner → Functions → Bool

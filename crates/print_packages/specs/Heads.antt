@@ -18,6 +18,10 @@ head_calls emits_docs interface name = interface_outer_calls emits_docs (shown_d
 abbrev pub interface_head_calls : Bool → Resolve → InterfaceId → Text → List OutputCall
 interface_head_calls emits_docs r id name = option_map_or (λ interface. head_calls emits_docs interface name) (interface_at r id.0) []
 
--- what an interface has, by its number: a block of its own
+-- what an interface has: a block of its own
+abbrev pub interface_block_calls : Bool → Resolve → InterfaceId → Interface → List OutputCall
+interface_block_calls emits_docs r id interface = members_calls emits_docs false (shown_interface r id interface)
+
+-- the same of an interface's number
 abbrev pub interface_body_calls : Bool → Resolve → InterfaceId → List OutputCall
-interface_body_calls emits_docs r id = option_map_or (λ interface. members_calls emits_docs false (shown_interface r id interface)) (interface_at r id.0) []
+interface_body_calls emits_docs r id = option_map_or (λ interface. interface_block_calls emits_docs r id interface) (interface_at r id.0) []

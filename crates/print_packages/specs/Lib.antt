@@ -1,2 +1,3 @@
 pub mod GivenTypes
 pub mod Heads
+pub mod Members

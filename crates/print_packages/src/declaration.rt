@@ -8,12 +8,12 @@ ghost use Rattle.wit_model.specs.Lookup.{type_at};
 ghost use Rattle.wit_model.specs.Valid.{IsValid};
 ghost use Rattle.print_items.specs.Drives.{Drives};
 ghost use Rattle.print_output.specs.OutputCall.{Moves, Begins};
-ghost use Rattle.print_items.specs.Shown.{belongs_to as belongs_to_lem, declared_of, present_name, shown_prefix, shown_resource_member};
-ghost use Rattle.print_grammar.specs.Tree.MemberTree.{TypeMember};
+ghost use Rattle.print_items.specs.Shown.{belongs_to as belongs_to_lem, present_name};
 ghost use Rattle.print_grammar.specs.Calls.{declared_calls, members_calls, printed_after};
 ghost use Rattle.print_uses.specs.Printable.{declaration_of, is_printable_type};
 ghost use Rattle.print_packages.specs.GivenTypes.{functions_under, given_declarations};
-ghost use Rattle.print_uses.specs.UseGroups.{is_listed_function, is_listed_type, listed_declaration, listed_of};
+ghost use Rattle.print_packages.specs.Members.{declared_under, type_member, type_prefix};
+ghost use Rattle.print_uses.specs.UseGroups.{as_listed, is_listed_function, is_listed_type, listed_declaration, listed_of};
 ghost use Rattle.print_grammar.specs.WellNamed.{is_well_declared, is_well_prefix};
 
 use crate::interface::write_line_before;
@@ -40,8 +40,8 @@ fn write_declared<O: Output>(
 )
     requires valid { IsValid resolve.now }
     requires at { type_at resolve.now id.0 ≡ Some def.now }
-    requires well { is_well_declared (declared_of resolve.now name.now (map (λ f. shown_resource_member resolve.now f.now) functions.now) def.now.kind) ≡ true }
-    ensures calls { Drives O.view O.keeps driver.old (declared_calls emits_docs (declared_of resolve.now name.now (map (λ f. shown_resource_member resolve.now f.now) functions.now) def.now.kind)) driver.new }
+    requires well { is_well_declared (declared_under resolve.now name.now functions.now def.now) ≡ true }
+    ensures calls { Drives O.view O.keeps driver.old (declared_calls emits_docs (declared_under resolve.now name.now functions.now def.now)) driver.new }
 {
     match &def.kind {
         TypeDefKind::Record(of) => write_record(driver, emits_docs, resolve, name, of),
@@ -80,9 +80,9 @@ fn write_declaration<O: Output>(
 )
     requires valid { IsValid resolve.now }
     requires at { type_at resolve.now id.0 ≡ Some def.now }
-    requires prefix { is_well_prefix (shown_prefix def.now.docs def.now.stability def.now.external_id) ≡ true }
-    requires well { is_well_declared (declared_of resolve.now (present_name def.now.name) (map (λ f. shown_resource_member resolve.now f.now) functions.now) def.now.kind) ≡ true }
-    ensures calls { Drives O.view O.keeps driver.old (members_calls emits_docs has_printed (TypeMember (shown_prefix def.now.docs def.now.stability def.now.external_id) (declared_of resolve.now (present_name def.now.name) (map (λ f. shown_resource_member resolve.now f.now) functions.now) def.now.kind) ∷ [])) driver.new }
+    requires prefix { is_well_prefix (type_prefix def.now) ≡ true }
+    requires well { is_well_declared (declared_under resolve.now (present_name def.now.name) functions.now def.now) ≡ true }
+    ensures calls { Drives O.view O.keeps driver.old (members_calls emits_docs has_printed (type_member resolve.now functions.now def.now ∷ [])) driver.new }
 {
     write_line_before(driver, has_printed);
     write_prefix(
@@ -109,10 +109,10 @@ fn print_declaration<'a, O: Output>(
 ) -> Result<(), Error>
     requires valid { IsValid resolve.now }
     requires at { type_at resolve.now id.0 ≡ Some def.now }
-    requires prefix { is_well_prefix (shown_prefix def.now.docs def.now.stability def.now.external_id) ≡ true }
-    requires well { is_well_declared (declared_of resolve.now (present_name def.now.name) (map (λ f. shown_resource_member resolve.now f.now) functions.now) def.now.kind) ≡ true }
-    ensures ok { OnOk result (Moves O.keeps (O.view output.old) (members_calls emits_docs has_printed (TypeMember (shown_prefix def.now.docs def.now.stability def.now.external_id) (declared_of resolve.now (present_name def.now.name) (map (λ f. shown_resource_member resolve.now f.now) functions.now) def.now.kind) ∷ [])) (O.view output.new)) }
-    ensures err { OnErr result (Begins O.keeps (O.view output.old) (members_calls emits_docs has_printed (TypeMember (shown_prefix def.now.docs def.now.stability def.now.external_id) (declared_of resolve.now (present_name def.now.name) (map (λ f. shown_resource_member resolve.now f.now) functions.now) def.now.kind) ∷ [])) (O.view output.new)) }
+    requires prefix { is_well_prefix (type_prefix def.now) ≡ true }
+    requires well { is_well_declared (declared_under resolve.now (present_name def.now.name) functions.now def.now) ≡ true }
+    ensures ok { OnOk result (Moves O.keeps (O.view output.old) (members_calls emits_docs has_printed (type_member resolve.now functions.now def.now ∷ [])) (O.view output.new)) }
+    ensures err { OnErr result (Begins O.keeps (O.view output.old) (members_calls emits_docs has_printed (type_member resolve.now functions.now def.now ∷ [])) (O.view output.new)) }
     ensures memory { IsOkUnless result Memory }
 {
     let mut driver = Driver::new(output, alloc);
@@ -198,11 +198,11 @@ fn print_listed_type<'a, O: Output>(
     functions: &[&'a Function],
 ) -> Result<bool, Error>
     requires valid { IsValid resolve.now }
-    requires known { is_listed_type resolve.now owner (record { name = listed.0.now; id = listed.1 }) ≡ true }
+    requires known { is_listed_type resolve.now owner (as_listed listed) ≡ true }
     requires functions { list_all (is_listed_function resolve.now owner) (map (λ f. f.now) functions.now) ≡ true }
-    ensures ok { OnOk result (Moves O.keeps (O.view output.old) (members_calls emits_docs has_printed (listed_declaration resolve.now owner (map (λ f. f.now) functions.now) (record { name = listed.entry.0.now; id = listed.entry.1 }))) (O.view output.new)) }
-    ensures err { OnErr result (Begins O.keeps (O.view output.old) (members_calls emits_docs has_printed (listed_declaration resolve.now owner (map (λ f. f.now) functions.now) (record { name = listed.entry.0.now; id = listed.entry.1 }))) (O.view output.new)) }
-    ensures printed { IfOk result (λ b. b ≡ printed_after has_printed (listed_declaration resolve.now owner (map (λ f. f.now) functions.now) (record { name = listed.entry.0.now; id = listed.entry.1 }))) }
+    ensures ok { OnOk result (Moves O.keeps (O.view output.old) (members_calls emits_docs has_printed (listed_declaration resolve.now owner (map (λ f. f.now) functions.now) (as_listed listed.entry))) (O.view output.new)) }
+    ensures err { OnErr result (Begins O.keeps (O.view output.old) (members_calls emits_docs has_printed (listed_declaration resolve.now owner (map (λ f. f.now) functions.now) (as_listed listed.entry))) (O.view output.new)) }
+    ensures printed { IfOk result (λ b. b ≡ printed_after has_printed (listed_declaration resolve.now owner (map (λ f. f.now) functions.now) (as_listed listed.entry))) }
     ensures memory { IsOkUnless result Memory }
 {
     let def = &resolve.types[listed.1.0 as usize];
@@ -234,11 +234,11 @@ fn print_type_with_functions<'a, O: Output>(
     functions: &HashMap<TypeId, Vec<&'a Function>>,
 ) -> Result<bool, Error>
     requires valid { IsValid resolve.now }
-    requires known { is_listed_type resolve.now owner (record { name = listed.0.now; id = listed.1 }) ≡ true }
+    requires known { is_listed_type resolve.now owner (as_listed listed) ≡ true }
     requires functions { list_all (is_listed_function resolve.now owner) (functions_under functions.now.entries listed.1) ≡ true }
-    ensures ok { OnOk result (Moves O.keeps (O.view output.old) (members_calls emits_docs has_printed (listed_declaration resolve.now owner (functions_under functions.now.entries listed.entry.1) (record { name = listed.entry.0.now; id = listed.entry.1 }))) (O.view output.new)) }
-    ensures err { OnErr result (Begins O.keeps (O.view output.old) (members_calls emits_docs has_printed (listed_declaration resolve.now owner (functions_under functions.now.entries listed.entry.1) (record { name = listed.entry.0.now; id = listed.entry.1 }))) (O.view output.new)) }
-    ensures printed { IfOk result (λ b. b ≡ printed_after has_printed (listed_declaration resolve.now owner (functions_under functions.now.entries listed.entry.1) (record { name = listed.entry.0.now; id = listed.entry.1 }))) }
+    ensures ok { OnOk result (Moves O.keeps (O.view output.old) (members_calls emits_docs has_printed (listed_declaration resolve.now owner (functions_under functions.now.entries listed.entry.1) (as_listed listed.entry))) (O.view output.new)) }
+    ensures err { OnErr result (Begins O.keeps (O.view output.old) (members_calls emits_docs has_printed (listed_declaration resolve.now owner (functions_under functions.now.entries listed.entry.1) (as_listed listed.entry))) (O.view output.new)) }
+    ensures printed { IfOk result (λ b. b ≡ printed_after has_printed (listed_declaration resolve.now owner (functions_under functions.now.entries listed.entry.1) (as_listed listed.entry))) }
     ensures memory { IsOkUnless result Memory }
 {
     let found = match functions.get(&listed.1) {

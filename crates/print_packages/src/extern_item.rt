@@ -9,9 +9,10 @@ ghost use Rattle.wit_model.specs.Valid.{IsValid};
 ghost use Rattle.print_output.specs.OutputCall.{OutputCall, Moves, Begins, is_one_line, has_no_space_first};
 ghost use Rattle.print_grammar.specs.Calls.{world_extern_calls};
 ghost use Rattle.print_items.specs.ItemCalls.{front_calls, inline_start_calls, labelled_tree};
-ghost use Rattle.print_items.specs.Shown.{extern_docs, shown_docs, shown_interface, shown_path, shown_prefix};
-ghost use Rattle.print_grammar.specs.Tree.ExternTree.{NamedInterface, NamedPath, Path};
+ghost use Rattle.print_items.specs.Shown.{extern_docs, shown_docs, shown_path, shown_prefix};
+ghost use Rattle.print_grammar.specs.Tree.ExternTree.{NamedPath, Path};
 ghost use Rattle.print_grammar.specs.WellNamed.{is_well_extern, is_well_path, is_well_prefix};
+ghost use Rattle.print_packages.specs.Members.{inline_interface};
 
 use crate::interface::print_interface_body;
 use crate::world::{write_inline, write_keyed, write_labelled};
@@ -186,8 +187,8 @@ fn print_inline<'a, O: Output>(
     requires valid { IsValid resolve.now }
     requires at { interface_at resolve.now id.0 ≡ Some interface.now }
     requires label { is_label label.now ≡ true }
-    ensures ok { OnOk result (Moves O.keeps (O.view output.old) (world_extern_calls emits_docs (shown_prefix docs.now stability.now external_id.now) word.now (NamedInterface label.now (shown_interface resolve.now id interface.now))) (O.view output.new)) }
-    ensures err { OnErr result (Begins O.keeps (O.view output.old) (world_extern_calls emits_docs (shown_prefix docs.now stability.now external_id.now) word.now (NamedInterface label.now (shown_interface resolve.now id interface.now))) (O.view output.new)) }
+    ensures ok { OnOk result (Moves O.keeps (O.view output.old) (world_extern_calls emits_docs (shown_prefix docs.now stability.now external_id.now) word.now (inline_interface resolve.now label.now id interface.now)) (O.view output.new)) }
+    ensures err { OnErr result (Begins O.keeps (O.view output.old) (world_extern_calls emits_docs (shown_prefix docs.now stability.now external_id.now) word.now (inline_interface resolve.now label.now id interface.now)) (O.view output.new)) }
     ensures memory { IsOkUnless result Memory }
 {
     print_inline_start(

@@ -6,9 +6,9 @@ ghost use Rattle.std.specs.List.{list_all};
 ghost use Rattle.wit_model.specs.declared.error.Error.TheVariants.{Memory};
 ghost use Rattle.wit_model.specs.Parts.{same_owner};
 ghost use Rattle.wit_model.specs.Valid.{IsValid};
-ghost use Rattle.print_output.specs.OutputCall.{Moves, Begins};
-ghost use Rattle.print_grammar.specs.Calls.{members_calls, printed_after};
-ghost use Rattle.print_packages.specs.GivenTypes.{are_functions_of, given_members, package_of_owner};
+ghost use Rattle.print_items.specs.Drives.{Makes, MakesInPart};
+ghost use Rattle.print_grammar.specs.Calls.{printed_after};
+ghost use Rattle.print_packages.specs.GivenTypes.{are_functions_of, given_calls, given_with, package_of_owner};
 ghost use Rattle.print_items.specs.Shown.{owner_package as owner_package_lem};
 ghost use Rattle.print_uses.specs.UseGroups.{is_listed_type, listed_of};
 
@@ -60,9 +60,9 @@ pub fn print_given_types<'a, O: Output>(
     requires placed { same_owner owner TypeOwner.None ≡ false }
     requires known { list_all (is_listed_type resolve.now owner) (listed_of types.now) ≡ true }
     requires functions { are_functions_of resolve.now owner functions.now.entries ≡ true }
-    ensures ok { OnOk result (Moves O.keeps (O.view output.old) (members_calls emits_docs has_printed (given_members resolve.now owner functions.now.entries (listed_of types.now))) (O.view output.new)) }
-    ensures err { OnErr result (Begins O.keeps (O.view output.old) (members_calls emits_docs has_printed (given_members resolve.now owner functions.now.entries (listed_of types.now))) (O.view output.new)) }
-    ensures printed { IfOk result (λ b. b ≡ printed_after has_printed (given_members resolve.now owner functions.now.entries (listed_of types.now))) }
+    ensures ok { OnOk result (Makes O.view O.keeps output.old (given_calls emits_docs has_printed resolve.now owner functions.now types.now) output.new) }
+    ensures err { OnErr result (MakesInPart O.view O.keeps output.old (given_calls emits_docs has_printed resolve.now owner functions.now types.now) output.new) }
+    ensures printed { IfOk result (λ b. b ≡ printed_after has_printed (given_with resolve.now owner functions.now (listed_of types.now))) }
     ensures memory { IsOkUnless result Memory }
 {
     let here = here_of(resolve, owner);

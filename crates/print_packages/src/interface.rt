@@ -11,9 +11,9 @@ ghost use Rattle.wit_model.specs.Valid.{IsValid};
 ghost use Rattle.print_items.specs.Drives.{Drives, LineIs};
 ghost use Rattle.print_output.specs.OutputCall.{Moves, Begins};
 ghost use Rattle.print_grammar.specs.Calls.{members_calls};
-ghost use Rattle.print_packages.specs.Heads.{head_calls};
+ghost use Rattle.print_packages.specs.Heads.{head_calls, interface_block_calls};
 ghost use Rattle.print_uses.specs.Printable.{is_printable_function, line_between, shown_functions};
-ghost use Rattle.print_items.specs.Shown.{shown_function, shown_gates, shown_interface};
+ghost use Rattle.print_items.specs.Shown.{shown_function, shown_gates};
 ghost use Rattle.print_grammar.specs.WellNamed.{is_well_gates, is_well_member};
 
 use crate::types::print_interface_types;
@@ -162,8 +162,8 @@ pub fn print_interface_body<'a, O: Output>(
 ) -> Result<(), Error>
     requires valid { IsValid resolve.now }
     requires at { interface_at resolve.now id.0 ≡ Some interface.now }
-    ensures ok { OnOk result (Moves O.keeps (O.view output.old) (members_calls emits_docs false (shown_interface resolve.now id interface.now)) (O.view output.new)) }
-    ensures err { OnErr result (Begins O.keeps (O.view output.old) (members_calls emits_docs false (shown_interface resolve.now id interface.now)) (O.view output.new)) }
+    ensures ok { OnOk result (Moves O.keeps (O.view output.old) (interface_block_calls emits_docs resolve.now id interface.now) (O.view output.new)) }
+    ensures err { OnErr result (Begins O.keeps (O.view output.old) (interface_block_calls emits_docs resolve.now id interface.now) (O.view output.new)) }
     ensures memory { IsOkUnless result Memory }
 {
     let here = match interface.package {

@@ -8,10 +8,9 @@ ghost use Rattle.wit_model.specs.Valid.{IsValid};
 ghost use Rattle.print_output.specs.OutputCall.{Moves, Begins, is_one_line, has_no_space_first};
 ghost use Rattle.print_grammar.specs.Calls.{world_extern_calls};
 ghost use Rattle.print_uses.specs.Printable.{entry_calls, function_entry_calls, imports_calls, imports_functions, imports_interfaces, interface_entry_calls, is_printable_entry, is_printable_import, IsPrintableWorld, line_between, printed_imports, world_body_calls};
-ghost use Rattle.print_items.specs.Shown.{function_prefix, is_freestanding_item, is_interface_item, shown_signature};
-ghost use Rattle.print_grammar.specs.Tree.ExternTree.{NamedFunction};
+ghost use Rattle.print_items.specs.Shown.{function_prefix, is_freestanding_item, is_interface_item};
 ghost use Rattle.print_grammar.specs.WellNamed.{is_well_extern, is_well_prefix};
-ghost use Rattle.wit_model.specs.Text.{text_of};
+ghost use Rattle.print_packages.specs.Members.{named_function};
 
 use crate::extern_item::{docs_of, print_keyed, print_labelled};
 use crate::types::print_world_types;
@@ -35,9 +34,9 @@ fn print_world_function<'a, O: Output>(
     requires front { IsTrue (has_no_space_first word.now) }
     requires valid { IsValid resolve.now }
     requires prefix { is_well_prefix (function_prefix function.now) ≡ true }
-    requires well { is_well_extern (NamedFunction (text_of function.now.name) (shown_signature resolve.now function.now)) ≡ true }
-    ensures ok { OnOk result (Moves O.keeps (O.view output.old) (world_extern_calls emits_docs (function_prefix function.now) word.now (NamedFunction (text_of function.now.name) (shown_signature resolve.now function.now))) (O.view output.new)) }
-    ensures err { OnErr result (Begins O.keeps (O.view output.old) (world_extern_calls emits_docs (function_prefix function.now) word.now (NamedFunction (text_of function.now.name) (shown_signature resolve.now function.now))) (O.view output.new)) }
+    requires well { is_well_extern (named_function resolve.now function.now) ≡ true }
+    ensures ok { OnOk result (Moves O.keeps (O.view output.old) (world_extern_calls emits_docs (function_prefix function.now) word.now (named_function resolve.now function.now)) (O.view output.new)) }
+    ensures err { OnErr result (Begins O.keeps (O.view output.old) (world_extern_calls emits_docs (function_prefix function.now) word.now (named_function resolve.now function.now)) (O.view output.new)) }
     ensures memory { IsOkUnless result Memory }
 {
     let mut driver = Driver::new(output, alloc);

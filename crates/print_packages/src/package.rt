@@ -11,10 +11,10 @@ ghost use Rattle.wit_model.specs.Valid.{IsValid};
 ghost use Rattle.print_items.specs.Drives.{Drives, LineIs};
 ghost use Rattle.print_output.specs.OutputCall.{OutputCall, Moves, Begins};
 ghost use Rattle.print_uses.specs.Printable.{IsPrintableWorld, is_printable_interface, is_printable_listed, listed_calls, listed_interface_calls, listed_package_calls, world_start_calls, world_calls};
-ghost use Rattle.print_items.specs.Shown.{shown_docs, shown_gates, shown_head, shown_interface, shown_package};
+ghost use Rattle.print_items.specs.Shown.{shown_gates, shown_head, shown_package};
 ghost use Rattle.print_grammar.specs.Calls.{line_after_calls, package_calls, package_item_calls, package_outer_calls, package_start_calls, package_end_calls};
 ghost use Rattle.print_packages.specs.Heads.{head_calls};
-ghost use Rattle.print_grammar.specs.Tree.{ItemTree};
+ghost use Rattle.print_packages.specs.Members.{interface_item};
 ghost use Rattle.print_grammar.specs.WellNamed.{is_well_gates, is_well_optional};
 
 use crate::extern_item::print_block_end;
@@ -194,8 +194,8 @@ fn print_interface<'a, O: Output>(
     requires at { interface_at resolve.now id.0 ≡ Some interface.now }
     requires gates { is_well_gates (shown_gates interface.now.stability) ≡ true }
     requires name { is_label name.now ≡ true }
-    ensures ok { OnOk result (Moves O.keeps (O.view output.old) (package_item_calls emits_docs is_main (ItemTree.InterfaceItem (shown_docs interface.now.docs) (shown_gates interface.now.stability) name.now (shown_interface resolve.now id interface.now))) (O.view output.new)) }
-    ensures err { OnErr result (Begins O.keeps (O.view output.old) (package_item_calls emits_docs is_main (ItemTree.InterfaceItem (shown_docs interface.now.docs) (shown_gates interface.now.stability) name.now (shown_interface resolve.now id interface.now))) (O.view output.new)) }
+    ensures ok { OnOk result (Moves O.keeps (O.view output.old) (package_item_calls emits_docs is_main (interface_item resolve.now name.now id interface.now)) (O.view output.new)) }
+    ensures err { OnErr result (Begins O.keeps (O.view output.old) (package_item_calls emits_docs is_main (interface_item resolve.now name.now id interface.now)) (O.view output.new)) }
     ensures memory { IsOkUnless result Memory }
 {
     print_interface_start(output, alloc, emits_docs, name, interface)?;

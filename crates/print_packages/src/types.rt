@@ -9,7 +9,9 @@ ghost use Rattle.wit_model.specs.Text.{text_of};
 ghost use Rattle.wit_model.specs.Valid.{IsValid};
 ghost use Rattle.print_output.specs.OutputCall.{Moves, Begins};
 ghost use Rattle.print_grammar.specs.Calls.{members_calls, printed_after};
-ghost use Rattle.print_items.specs.Shown.{function_of_item as function_of_item_lem, imported_functions as imported_functions_lem, listed_imports, type_of_entry as type_of_entry_lem, listed_functions as listed_functions_lem, listed_types as listed_types_lem};
+ghost use Rattle.print_items.specs.Shown.{function_of_item as function_of_item_lem, imported_functions as imported_functions_lem, listed_imports, type_of_entry as type_of_entry_lem};
+ghost use Rattle.print_packages.specs.Members.{interface_type_members};
+ghost use Rattle.print_uses.specs.Printable.{world_type_members};
 ghost use Rattle.print_uses.specs.UseGroups.{is_listed_function, is_listed_type, listed_of, type_members};
 
 use crate::by_resource::by_resource;
@@ -103,9 +105,9 @@ pub(crate) fn print_interface_types<'a, O: Output>(
 ) -> Result<bool, Error>
     requires valid { IsValid resolve.now }
     requires at { interface_at resolve.now id.0 ≡ Some interface.now }
-    ensures ok { OnOk result (Moves O.keeps (O.view output.old) (members_calls emits_docs false (type_members resolve.now here (TypeOwner.Interface id) (listed_functions_lem interface.now) (listed_types_lem interface.now))) (O.view output.new)) }
-    ensures err { OnErr result (Begins O.keeps (O.view output.old) (members_calls emits_docs false (type_members resolve.now here (TypeOwner.Interface id) (listed_functions_lem interface.now) (listed_types_lem interface.now))) (O.view output.new)) }
-    ensures printed { IfOk result (λ b. b ≡ printed_after false (type_members resolve.now here (TypeOwner.Interface id) (listed_functions_lem interface.now) (listed_types_lem interface.now))) }
+    ensures ok { OnOk result (Moves O.keeps (O.view output.old) (members_calls emits_docs false (interface_type_members resolve.now here id interface.now)) (O.view output.new)) }
+    ensures err { OnErr result (Begins O.keeps (O.view output.old) (members_calls emits_docs false (interface_type_members resolve.now here id interface.now)) (O.view output.new)) }
+    ensures printed { IfOk result (λ b. b ≡ printed_after false (interface_type_members resolve.now here id interface.now)) }
     ensures memory { IsOkUnless result Memory }
 {
     let types = listed_types(alloc, &interface.types)?;
@@ -197,9 +199,9 @@ pub(crate) fn print_world_types<'a, O: Output>(
     requires valid { IsValid resolve.now }
     requires known { list_all (is_listed_type resolve.now (TypeOwner.World id)) (listed_imports world.now) ≡ true }
     requires functions { list_all (is_listed_function resolve.now (TypeOwner.World id)) (imported_functions_lem world.now) ≡ true }
-    ensures ok { OnOk result (Moves O.keeps (O.view output.old) (members_calls emits_docs has_printed (type_members resolve.now here (TypeOwner.World id) (imported_functions_lem world.now) (listed_imports world.now))) (O.view output.new)) }
-    ensures err { OnErr result (Begins O.keeps (O.view output.old) (members_calls emits_docs has_printed (type_members resolve.now here (TypeOwner.World id) (imported_functions_lem world.now) (listed_imports world.now))) (O.view output.new)) }
-    ensures printed { IfOk result (λ b. b ≡ printed_after has_printed (type_members resolve.now here (TypeOwner.World id) (imported_functions_lem world.now) (listed_imports world.now))) }
+    ensures ok { OnOk result (Moves O.keeps (O.view output.old) (members_calls emits_docs has_printed (world_type_members resolve.now here id world.now)) (O.view output.new)) }
+    ensures err { OnErr result (Begins O.keeps (O.view output.old) (members_calls emits_docs has_printed (world_type_members resolve.now here id world.now)) (O.view output.new)) }
+    ensures printed { IfOk result (λ b. b ≡ printed_after has_printed (world_type_members resolve.now here id world.now)) }
     ensures memory { IsOkUnless result Memory }
 {
     let types = imported_types(alloc, &world.imports)?;

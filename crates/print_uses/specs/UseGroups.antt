@@ -94,6 +94,10 @@ uses_calls path before (used ∷ uses) = use_run_calls path before used ++ uses_
 abbrev pub listed_of : List (Bor Text × TypeId) → List Listed
 listed_of types = map (λ t. record { name = t.0.now; id = t.1 }) types
 
+-- one type under its name, as its owner lists it
+abbrev pub as_listed : Bor Text × TypeId → Listed
+as_listed t = record { name = t.0.now; id = t.1 }
+
 -- the use that a listed type is, if it is one
 abbrev pub listed_use : Resolve → TypeOwner → Listed → Option Used
 listed_use r here listed = option_and_then (used_of r here listed.name) (type_at r listed.id.0)
@@ -116,6 +120,10 @@ listed_declaration r here functions listed =
 -- uses and then declared types of an owner in the package `here`, with the functions among which a resource's stand
 abbrev pub use_members : Resolve → PackageId → TypeOwner → List Listed → List MemberTree
 use_members r here o types = map (λ used. UseMember used.prefix (shown_path r here used.interface) used.names) (shown_uses r o types)
+
+-- the uses among types of an owner that are handed in under their names
+abbrev pub uses_of : Resolve → PackageId → TypeOwner → List (Bor Text × TypeId) → List MemberTree
+uses_of r here o types = use_members r here o (listed_of types)
 
 abbrev pub declared_members : Resolve → TypeOwner → List Function → List Listed → List MemberTree
 declared_members r o functions types = map (λ d. TypeMember d.prefix d.declared) (shown_declarations r o functions types)

@@ -1,19 +1,18 @@
 //! Paths to interfaces, printed.
 #![tactic(auto, using(print_items::proofs::Driven::driving))]
 
-ghost use Rattle.std.specs.Prelude.{◌≡◌, ◌∷◌, [], codes, true, false};
+ghost use Rattle.std.specs.Prelude.{◌≡◌, true, false};
 ghost use Rattle.wit_model.specs.Names.{is_label, is_version_text};
 ghost use Rattle.wit_model.specs.Lookup.{optional_version_text};
 ghost use Rattle.wit_model.specs.Rules.{in_list, package_number, passes};
 ghost use Rattle.wit_model.specs.Text.{text_of};
 ghost use Rattle.wit_model.specs.Valid.{IsValid};
 ghost use Rattle.print_items.specs.Drives.{Drives, LineIs};
-ghost use Rattle.print_output.specs.OutputCall.{OutputCall};
-ghost use Rattle.print_grammar.specs.Keyword.{escaped};
 ghost use Rattle.print_items.specs.Shown.{path_from, shown_path};
 ghost use Rattle.print_grammar.specs.Tree.PathTree.{Full};
 ghost use Rattle.print_grammar.specs.Calls.{path_calls};
 ghost use Rattle.print_grammar.specs.WellNamed.{is_well_optional, is_well_path};
+ghost use Rattle.print_uses.specs.Paths.{package_path_calls};
 
 use crate::parts::write_version;
 use print_items::{Driver, present};
@@ -24,7 +23,7 @@ use wit_model::{Interface, InterfaceId, PackageId, PackageName, Resolve};
 fn write_package_path<O: Output>(driver: &mut Driver<O>, name: &PackageName)
     requires namespace { is_label (text_of name.now.namespace) ≡ true }
     requires name { is_label (text_of name.now.name) ≡ true }
-    ensures calls { Drives O.view O.keeps driver.old (OutputCall.Ty (escaped (text_of name.now.namespace)) TypeKind.NamespacePath ∷ OutputCall.Str (codes ":") ∷ OutputCall.Ty (escaped (text_of name.now.name)) TypeKind.PackageNamePath ∷ OutputCall.Str (codes "/") ∷ []) driver.new }
+    ensures calls { Drives O.view O.keeps driver.old (package_path_calls name.now) driver.new }
     ensures line { LineIs O.view false driver.new }
 {
     driver.name(&name.namespace, TypeKind::NamespacePath);

@@ -15,13 +15,13 @@ ghost use Rattle.wit_model.specs.Text.{text_eq, text_of};
 ghost use Rattle.wit_model.specs.Types.{number_of as number_of_lem};
 ghost use Rattle.wit_model.specs.Uses.{alias_target};
 ghost use Rattle.wit_model.specs.Valid.{IsValid};
-ghost use Rattle.print_items.specs.Drives.{Drives, LineIs};
+ghost use Rattle.print_items.specs.Drives.{Drives, LineIs, Makes, MakesInPart};
 ghost use Rattle.print_output.specs.OutputCall.{OutputCall, Moves, Begins};
 ghost use Rattle.print_grammar.specs.Keyword.{escaped};
 ghost use Rattle.print_items.specs.Shown.{own_name, same_gates as same_gates_lem, same_group as same_group_lem, shown_external_id, shown_gates, shown_path, used_of};
 ghost use Rattle.print_grammar.specs.Tree.Gates.{Since, Ungated, Unstable};
 ghost use Rattle.print_grammar.specs.Calls.{members_calls, path_calls, printed_after, space, used_name_calls};
-ghost use Rattle.print_uses.specs.UseGroups.{group_end_calls, group_start_calls, is_listed_type, is_printable_use, listed_of, listed_use, listed_use_calls, more_names_calls, new_group_calls, open_end_calls, shown_use, use_after, use_from as use_from_lem, use_members, use_run_calls};
+ghost use Rattle.print_uses.specs.UseGroups.{as_listed, group_end_calls, group_start_calls, is_listed_type, is_printable_use, listed_of, listed_use, listed_use_calls, more_names_calls, new_group_calls, open_end_calls, shown_use, use_after, use_from as use_from_lem, use_run_calls, uses_of};
 ghost use Rattle.print_grammar.specs.WellNamed.{is_well_path};
 
 use crate::path::write_path;
@@ -458,10 +458,10 @@ fn print_listed_use<'a, O: Output>(
     requires valid { IsValid resolve.now }
     requires placed { same_owner_lem owner TypeOwner.None ≡ false }
     requires before { passes (is_printable_use resolve.now here) before ≡ true }
-    requires known { is_listed_type resolve.now owner (record { name = listed.0.now; id = listed.1 }) ≡ true }
-    ensures ok { OnOk result (Moves O.keeps (O.view output.old) (listed_use_calls (shown_path resolve.now here) (option_map shown_use before.entry) (listed_use resolve.now owner (record { name = listed.entry.0.now; id = listed.entry.1 }))) (O.view output.new)) }
-    ensures err { OnErr result (Begins O.keeps (O.view output.old) (listed_use_calls (shown_path resolve.now here) (option_map shown_use before.entry) (listed_use resolve.now owner (record { name = listed.entry.0.now; id = listed.entry.1 }))) (O.view output.new)) }
-    ensures after { IfOk result (λ last. option_map shown_use last ≡ use_after (option_map shown_use before.entry) (listed_use resolve.now owner (record { name = listed.entry.0.now; id = listed.entry.1 }))) }
+    requires known { is_listed_type resolve.now owner (as_listed listed) ≡ true }
+    ensures ok { OnOk result (Moves O.keeps (O.view output.old) (listed_use_calls (shown_path resolve.now here) (option_map shown_use before.entry) (listed_use resolve.now owner (as_listed listed.entry))) (O.view output.new)) }
+    ensures err { OnErr result (Begins O.keeps (O.view output.old) (listed_use_calls (shown_path resolve.now here) (option_map shown_use before.entry) (listed_use resolve.now owner (as_listed listed.entry))) (O.view output.new)) }
+    ensures after { IfOk result (λ last. option_map shown_use last ≡ use_after (option_map shown_use before.entry) (listed_use resolve.now owner (as_listed listed.entry))) }
     ensures printable { IfOk result (λ last. passes (is_printable_use resolve.now here) last ≡ true) }
     ensures memory { IsOkUnless result Memory }
 {
@@ -494,9 +494,9 @@ pub fn print_uses<'a, O: Output>(
     requires valid { IsValid resolve.now }
     requires placed { same_owner_lem owner TypeOwner.None ≡ false }
     requires known { list_all (is_listed_type resolve.now owner) (listed_of types.now) ≡ true }
-    ensures ok { OnOk result (Moves O.keeps (O.view output.old) (members_calls emits_docs has_printed (use_members resolve.now here owner (listed_of types.now))) (O.view output.new)) }
-    ensures err { OnErr result (Begins O.keeps (O.view output.old) (members_calls emits_docs has_printed (use_members resolve.now here owner (listed_of types.now))) (O.view output.new)) }
-    ensures printed { IfOk result (λ b. b ≡ printed_after has_printed (use_members resolve.now here owner (listed_of types.now))) }
+    ensures ok { OnOk result (Makes O.view O.keeps output.old (members_calls emits_docs has_printed (uses_of resolve.now here owner types.now)) output.new) }
+    ensures err { OnErr result (MakesInPart O.view O.keeps output.old (members_calls emits_docs has_printed (uses_of resolve.now here owner types.now)) output.new) }
+    ensures printed { IfOk result (λ b. b ≡ printed_after has_printed (uses_of resolve.now here owner types.now)) }
     ensures memory { IsOkUnless result Memory }
 {
     let _emits_docs = emits_docs;

@@ -1,5 +1,6 @@
 -- The component type of an interface, in numbers: its one export and its imports (Component Model WIT.md, "Package Format").
-use Rattle.std.specs.Prelude.{◌≡◌, ◌∷◌, ◌&&◌, ℕ, List, map, Option, Some, None, slice_get}
+use Rattle.std.specs.Prelude.{◌≡◌, ◌∷◌, ◌&&◌, ℕ, List, map, Option, Some, None, Vec, slice_get}
+use Rattle.std.specs.declared.alloc.Global.{Global}
 use Rattle.wit_model.specs.Names.{PackageIdentity}
 use Rattle.wit_model.specs.Text.{Text}
 use Rattle.comp_bytes.specs.Raw.{Declarations}
@@ -12,10 +13,18 @@ use Rattle.plan_meaning.specs.NumberedMembers.{Homes, HomesStand, exported_view,
 use Rattle.plan_meaning.specs.NumberedRules.{Fact}
 use Rattle.plan_meaning.specs.NumberedViews.{AreTables, NumberedView, Tables, view_of}
 use Rattle.plan_meaning.specs.NumberedWorlds.{NumberedScope, ScopeStands, Shows, are_once, are_reached}
+use Rattle.read_rules.specs.Reached.{numbered_import}
+use Rattle.read_rules.specs.Sights.{placed_view}
+use Rattle.read_rules.specs.declared.reached.ImportedView.{ImportedView}
+use Rattle.read_rules.specs.declared.scopes.Instance.{Instance}
 
 -- a view under the place of its interface
 abbrev pub Placed : Type 0
 Placed = ℕ × NumberedView
+
+-- what was found as numbers: the view that it exports, and those that it imports
+abbrev pub numbered_interface : Instance × Vec ImportedView Global → Placed × List Placed
+numbered_interface x = (placed_view x.0, map numbered_import x.1.items)
 
 -- The view that it exports and those that it imports, where no place stands twice, and each import is reached.
 abbrev pub shown_interface : Tables → NumberedScope → Option (Placed × List Placed)

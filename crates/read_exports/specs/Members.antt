@@ -3,14 +3,18 @@ use Rattle.std.specs.Prelude.{◌≡◌, ℕ, Bool, not, ◌||◌, List, [], map
 use Rattle.std.specs.Borrow.{Bor}
 use Rattle.std.specs.List.{list_any}
 use Rattle.wit_model.specs.Names.{PackageIdentity}
+use Rattle.wit_model.specs.Text.{Text}
 use Rattle.wit_model.specs.Uses.{has}
 use Rattle.read_homes.specs.Homes.{given_home}
 use Rattle.plan_meaning.specs.NumberedMembers as members
-use Rattle.plan_meaning.specs.NumberedMembers.{Homes, NumberedMember, NumberedPart, is_interface_of, is_of_package}
+use Rattle.plan_meaning.specs.NumberedMembers.{Homes, NumberedMember, NumberedPart, are_package, home_at, is_interface_of, is_of_package, is_one_world}
 use Rattle.plan_meaning.specs.NumberedViews.{NumberedSight}
 use Rattle.read_rules.specs.Reached.{numbered_import}
 use Rattle.read_rules.specs.Scopes.{numbered_scope}
+use Rattle.read_rules.specs.Tables.{known_in, numbered_tables}
 use Rattle.read_rules.specs.Views.{numbered_view}
+use Rattle.read_rules.specs.declared.scopes.Scope.{Scope}
+use Rattle.read_rules.specs.declared.tables.Tables.{Tables}
 use Rattle.read_exports.specs.declared.members.Member.{Member}
 use Rattle.read_exports.specs.declared.members.Part.{Part}
 use Rattle.read_exports.specs.declared.members.Part.TheVariants as parts
@@ -32,6 +36,18 @@ homes_in packages homes = record { packages = packages; homes = map given_home h
 -- the same, where it doesn't matter which packages these are
 abbrev pub homes_alone : List (Option (ℕ × Bor (List ℕ))) → Homes
 homes_alone homes = homes_in [] homes
+
+-- the package of a place by its number, and the name of its interface
+abbrev pub home_of_place : List (Option (ℕ × Bor (List ℕ))) → ℕ → Option (ℕ × Text)
+home_of_place homes = home_at (homes_alone homes)
+
+-- whether all that is exported is the package of this number, where the places have their homes in these packages
+abbrev pub is_package_in : Tables → List PackageIdentity → List (Option (ℕ × Bor (List ℕ))) → ℕ → List Member → Bool
+is_package_in t packages homes n ms = are_package (numbered_tables t) (homes_in packages homes) (known_in t) n (numbered_members ms)
+
+-- whether a world of this name stands by itself in the package of this number, where the places have their homes in these packages
+abbrev pub is_world_in : Tables → List PackageIdentity → List (Option (ℕ × Bor (List ℕ))) → ℕ → Text → Scope → Bool
+is_world_in t packages homes n name w = is_one_world (numbered_tables t) (homes_in packages homes) (known_in t) n name (numbered_scope w)
 
 -- an interface of the package that is seen is among these places
 abbrev pub stands_among : Homes → ℕ → List ℕ → NumberedSight → Bool

@@ -5,9 +5,8 @@ ghost use Rattle.comp_meaning.specs.Follow.{each};
 ghost use Rattle.plan_meaning.specs.NumberedMembers.{imported_view as imported_view_lem};
 ghost use Rattle.read_rules.specs.Reached.{numbered_import};
 ghost use Rattle.read_rules.specs.Scopes.{numbered_scope, numbered_seen};
-ghost use Rattle.read_rules.specs.Sights.{placed_view};
 ghost use Rattle.read_rules.specs.Tables.{numbered_tables};
-ghost use Rattle.read_exports.specs.Interfaces.{shown_interface};
+ghost use Rattle.read_exports.specs.Interfaces.{numbered_interface, shown_interface};
 
 use read_rules::{
     ImportedView, Instance, Scope, Seen, Tables, are_once, are_reached, exported_view,
@@ -58,7 +57,7 @@ pub fn interface_of<'a>(
     tables: &Tables<'_>,
     scope: Scope<'a>,
 ) -> Result<Option<(Instance<'a>, Vec<ImportedView<'a>>)>, AllocError>
-    ensures { IfOk result (λ found. option_map (λ x. (placed_view x.0, map numbered_import x.1.items)) found ≡ shown_interface (numbered_tables tables.now) (numbered_scope scope.entry)) }
+    ensures { IfOk result (λ found. option_map numbered_interface found ≡ shown_interface (numbered_tables tables.now) (numbered_scope scope.entry)) }
 {
     let Some(exported) = exported_view(scope.exports) else {
         return Ok(None);

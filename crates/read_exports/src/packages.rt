@@ -3,10 +3,8 @@
 ghost use Rattle.std.specs.List.{list_all};
 ghost use Rattle.std.specs.Prelude.{◌≡◌, ◌==◌, ◌&&◌, List, map, IfOk};
 ghost use Rattle.wit_model.specs.Names.{PackageIdentity};
-ghost use Rattle.plan_meaning.specs.NumberedMembers.{are_package as are_package_lem};
 ghost use Rattle.read_rules.specs.Sights.{numbered_sight};
-ghost use Rattle.read_rules.specs.Tables.{known_in, numbered_tables};
-ghost use Rattle.read_exports.specs.Members.{homes_alone, homes_in, numbered_members, stands_among};
+ghost use Rattle.read_exports.specs.Members.{homes_alone, is_package_in, stands_among};
 
 use crate::members::Member;
 use crate::places::{is_of_package, places_of};
@@ -76,7 +74,7 @@ pub fn are_package(
     package_number: usize,
     members: &[Member<'_>],
 ) -> Result<bool, AllocError>
-    ensures { (packages : List PackageIdentity) → IfOk result (λ b. b ≡ are_package_lem (numbered_tables tables.now) (homes_in packages homes.now) (known_in tables.now) package_number (numbered_members members.now)) }
+    ensures { (packages : List PackageIdentity) → IfOk result (λ b. b ≡ is_package_in tables.now packages homes.now package_number members.now) }
 {
     let sights = sights_of_members(alloc, tables, members)?;
     let places = places_of(alloc, members)?;

@@ -2,9 +2,9 @@
 
 ghost use Rattle.std.specs.Prelude.{◌≡◌, ◌||◌, ℕ, IfOk};
 ghost use Rattle.wit_model.specs.Uses.{has};
-ghost use Rattle.plan_meaning.specs.NumberedMembers.{home_at as home_at_lem, is_interface_of, is_named_in as is_named_in_lem, is_of_package as is_of_package_lem};
+ghost use Rattle.plan_meaning.specs.NumberedMembers.{is_interface_of, is_named_in as is_named_in_lem, is_of_package as is_of_package_lem};
 ghost use Rattle.read_homes.specs.Homes.{given_home};
-ghost use Rattle.read_exports.specs.Members.{homes_alone, numbered_members, numbered_part, ArePlaces};
+ghost use Rattle.read_exports.specs.Members.{home_of_place, homes_alone, numbered_members, numbered_part, ArePlaces};
 
 use crate::members::{Member, Part};
 use indexmap::IndexSet;
@@ -36,7 +36,7 @@ pub(crate) fn places_of(alloc: Global, members: &[Member<'_>]) -> Result<IndexSe
 
 /// The package of a place by its number, and the name of its interface, if the place has a path. Takes constant time.
 pub fn home_at<'a>(homes: &[Option<(usize, &'a str)>], place: u32) -> Option<(usize, &'a str)>
-    ensures { given_home result ≡ home_at_lem (homes_alone homes.now) place }
+    ensures { given_home result ≡ home_of_place homes.now place }
 {
     homes.get(place as usize).copied().unwrap_or(None)
 }

@@ -3,11 +3,9 @@
 ghost use Rattle.std.specs.List.{list_any};
 ghost use Rattle.std.specs.Prelude.{◌≡◌, ◌&&◌, not, List, map, IfOk};
 ghost use Rattle.wit_model.specs.Names.{PackageIdentity};
-ghost use Rattle.plan_meaning.specs.NumberedMembers.{is_named_in as is_named_in_lem, is_one_world as is_one_world_lem};
-ghost use Rattle.read_rules.specs.Scopes.{numbered_scope};
+ghost use Rattle.plan_meaning.specs.NumberedMembers.{is_named_in as is_named_in_lem};
 ghost use Rattle.read_rules.specs.Sights.{numbered_sight};
-ghost use Rattle.read_rules.specs.Tables.{known_in, numbered_tables};
-ghost use Rattle.read_exports.specs.Members.{homes_alone, homes_in};
+ghost use Rattle.read_exports.specs.Members.{homes_alone, is_world_in};
 
 use crate::places::is_named_in;
 use plan_parts::agree;
@@ -63,7 +61,7 @@ pub fn is_one_world(
     name: &str,
     scope: Scope<'_>,
 ) -> Result<bool, AllocError>
-    ensures { (packages : List PackageIdentity) → IfOk result (λ b. b ≡ is_one_world_lem (numbered_tables tables.now) (homes_in packages homes.now) (known_in tables.now) package_number name.now (numbered_scope scope.entry)) }
+    ensures { (packages : List PackageIdentity) → IfOk result (λ b. b ≡ is_world_in tables.now packages homes.now package_number name.now scope.entry) }
 {
     let sights = sights_of_scope(alloc, tables, scope)?;
     let do_agree = agree(alloc, &sights)?;

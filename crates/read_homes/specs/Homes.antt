@@ -113,3 +113,7 @@ HaveReasons old new homes = (n : ℕ) → n < length new → (n < length old) �
 -- what stands as it is known of the packages of places stands where there are more packages
 abbrev pub KeepsHomes : List PackageIdentity → List PackageIdentity → Type 0
 KeepsHomes old new = (t : Tables) (homes : List (Option (ℕ × Text))) → HomesStand t (record { packages = old; homes = homes }) → HomesStand t (record { packages = new; homes = homes })
+
+-- The homes stand in each table of these paths, where each is one.
+abbrev pub StandInTables : List (Option Text) → List PackageIdentity → List (Option (ℕ × Text)) → Type 0
+StandInTables paths packages homes = (t : Tables) → t.paths ≡ paths → ArePaths t.paths → HomesStand t (record { packages = packages; homes = homes })

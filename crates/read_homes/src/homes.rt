@@ -1,10 +1,8 @@
 //! The packages of places.
 
 ghost use Rattle.std.specs.List.{AllZip};
-ghost use Rattle.std.specs.Prelude.{◌≡◌, map, IfOk};
-ghost use Rattle.plan_meaning.specs.NumberedViews.{Tables};
-ghost use Rattle.plan_meaning.specs.NumberedMembers.{HomesStand};
-ghost use Rattle.read_homes.specs.Homes.{given_home, given_text, ArePackages, ArePaths, Grows, HaveReasons, IsHomeOf, IsReason, KeepsHomes};
+ghost use Rattle.std.specs.Prelude.{map, IfOk};
+ghost use Rattle.read_homes.specs.Homes.{given_home, given_text, ArePackages, Grows, HaveReasons, IsHomeOf, IsReason, KeepsHomes, StandInTables};
 
 use crate::packages::Packages;
 use std::alloc::{AllocError, Global};
@@ -43,7 +41,7 @@ pub fn homes_of<'a>(
     ensures grows { Grows packages.old packages.new }
     ensures packages { ArePackages packages.new }
     ensures reasons { IfOk result (λ homes. HaveReasons packages.old packages.new (map given_home homes.items)) }
-    ensures stand { IfOk result (λ homes. (t : Tables) → t.paths ≡ map given_text paths.now → ArePaths t.paths → HomesStand t (record { packages = packages.new; homes = map given_home homes.items })) }
+    ensures stand { IfOk result (λ homes. StandInTables (map given_text paths.now) packages.new (map given_home homes.items)) }
 {
     let _count = packages.count();
     let mut homes = Vec::new(alloc);

@@ -4,6 +4,7 @@ use Rattle.std.specs.Borrow.{Bor}
 use Rattle.std.specs.List.{Contains, IsDistinct}
 use Rattle.wit_model.specs.declared.model.Resolve.{Resolve}
 use Rattle.wit_model.specs.declared.model.World.{World}
+use Rattle.wit_model.specs.declared.model.WorldId.{WorldId}
 use Rattle.wit_model.specs.declared.model.WorldKey.{WorldKey}
 use Rattle.wit_model.specs.declared.model.WorldItem.{WorldItem}
 use Rattle.wit_model.specs.declared.error.Error.{Error}
@@ -11,6 +12,7 @@ use Rattle.wit_model.specs.declared.error.Error.TheVariants as error
 use Rattle.wit_model.specs.Text.{Text, text_of, text_eq}
 use Rattle.wit_model.specs.Names.{PackageIdentity}
 use Rattle.wit_model.specs.Rules.{entries_in_range}
+use Rattle.wit_model.specs.Lookup.{world_at}
 use Rattle.wit_model.specs.Meant.{package_of_world}
 use Rattle.wit_compat.specs.Opened.{bare_identity, bare_key}
 use Rattle.wit_compat.specs.Flat.{Name, Shown, find_named, flat_imports, flat_exports}
@@ -158,3 +160,7 @@ IsMismatch r prev new e =
 pub data IsRefused (r : Resolve) (prev new : World) : Error → Type 0 where
   memory : IsRefused r prev new error.Memory
   refused : (e : Error) (f : Refusal) → refusal_of e ≡ Some f → Refuses r prev new f → IsRefused r prev new e
+
+-- of the worlds of these two numbers
+abbrev pub OfWorlds : Resolve → WorldId → WorldId → (World → World → Type 0) → Type 0
+OfWorlds r prev new Holds = (p n : World) → world_at r prev.0 ≡ Some p → world_at r new.0 ≡ Some n → Holds p n

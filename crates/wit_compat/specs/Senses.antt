@@ -18,6 +18,10 @@ pub data Sense : Type 0 where
 abbrev pub import_at : Resolve → ℕ → ℕ → Option WorldItem
 import_at r w n = option_and_then (λ world. option_map (λ e. e.1) (slice_get world.imports.entries n)) (world_at r w)
 
+-- the sense of what a world imports or exports, without its key
+abbrev pub sense_of_item : Resolve → WorldItem → Entry InterfaceSense
+sense_of_item r i = entry_sense (entry_meaning r i)
+
 -- the sense of a place, and none where nothing stands there
 abbrev pub sense_of : Resolve → Place → Option Sense
 sense_of r (place.Interface id) = option_map (λ i. of_interface (interface_sense (interface_meaning r i))) (interface_at r id.0)

@@ -2,10 +2,11 @@
 
 ghost use Rattle.std.specs.Prelude.{◌≡◌, ◌↔◌, true, option_map, Some, IfOk, IsTrue, OnOk};
 ghost use Rattle.std.specs.HashMap.{get_by_text};
-ghost use Rattle.wit_model.specs.Meaning.{entries_sense, entry_sense, world_sense};
-ghost use Rattle.wit_model.specs.Meant.{entries_meaning, entry_meaning, world_meaning};
+ghost use Rattle.wit_model.specs.Meaning.{entries_sense, world_sense};
+ghost use Rattle.wit_model.specs.Meant.{entries_meaning, world_meaning};
 ghost use Rattle.wit_model.specs.Rules.{entries_in_range, item_in_range};
 ghost use Rattle.wit_model.specs.Text.{text_of};
+ghost use Rattle.wit_compat.specs.Senses.{sense_of_item};
 ghost use Rattle.wit_compat.specs.Compatible.{HasItemsInRange};
 ghost use Rattle.wit_compat.specs.TwoSides.{indexed_sense, AllItemsInRange, AllSame, IsSide, PutsFirst};
 
@@ -64,7 +65,7 @@ fn same_item_under(
     requires item { item_in_range left.now.resolve.now item.now ≡ true }
     requires others { AllItemsInRange right.now.resolve.now others.now.entries }
     requires pairs { AllSame left.now.resolve.now right.now.resolve.now pairs.old.keys }
-    ensures exact { IfOk result (λ y. IsTrue y ↔ (option_map (λ other. entry_sense (entry_meaning right.now.resolve.now other.now)) (get_by_text others.now (text_of key.now)) ≡ Some (entry_sense (entry_meaning left.now.resolve.now item.now)))) }
+    ensures exact { IfOk result (λ y. IsTrue y ↔ (option_map (λ other. sense_of_item right.now.resolve.now other.now) (get_by_text others.now (text_of key.now)) ≡ Some (sense_of_item left.now.resolve.now item.now))) }
     ensures kept { AllSame left.now.resolve.now right.now.resolve.now pairs.new.keys }
 {
     match others.get(key.as_str()) {

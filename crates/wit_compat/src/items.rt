@@ -1,9 +1,10 @@
 //! Whether items of worlds of two `Resolve`s have the same sense.
 
 ghost use Rattle.std.specs.Prelude.{◌≡◌, ◌<◌, ◌↔◌, true, length, IfOk, IsTrue};
-ghost use Rattle.wit_model.specs.Meaning.{entry_sense, item_sense};
-ghost use Rattle.wit_model.specs.Meant.{entry_meaning, interface_item};
+ghost use Rattle.wit_model.specs.Meaning.{item_sense};
+ghost use Rattle.wit_model.specs.Meant.{interface_item};
 ghost use Rattle.wit_model.specs.Rules.{item_in_range};
+ghost use Rattle.wit_compat.specs.Senses.{sense_of_item};
 ghost use Rattle.wit_compat.specs.TwoSides.{AllSame, IsSide, SameInterfaceEntries};
 
 use crate::declarations::same_type_meanings;
@@ -82,7 +83,7 @@ pub(crate) fn same_items(
     requires a { item_in_range left.now.resolve.now a.now ≡ true }
     requires b { item_in_range right.now.resolve.now b.now ≡ true }
     requires pairs { AllSame left.now.resolve.now right.now.resolve.now pairs.old.keys }
-    ensures exact { IfOk result (λ y. IsTrue y ↔ (entry_sense (entry_meaning left.now.resolve.now a.now) ≡ entry_sense (entry_meaning right.now.resolve.now b.now))) }
+    ensures exact { IfOk result (λ y. IsTrue y ↔ (sense_of_item left.now.resolve.now a.now ≡ sense_of_item right.now.resolve.now b.now)) }
     ensures kept { AllSame left.now.resolve.now right.now.resolve.now pairs.new.keys }
 {
     match a {

@@ -1,11 +1,10 @@
 //! Laws about the definitions, and the comparison of two worlds with its steps counted.
 
-ghost use Rattle.std.specs.Prelude.{◌≡◌, ◌<◌, length, is_ok, MatchResult, Some};
-ghost use Rattle.wit_compat.specs.Compatible.{Accepts, HasKeysOnce, IsRefused, Refusal, Refuses};
+ghost use Rattle.std.specs.Prelude.{◌≡◌, ◌<◌, length, is_ok, MatchResult};
+ghost use Rattle.wit_compat.specs.Compatible.{Accepts, HasKeysOnce, IsRefused, OfWorlds, Refusal, Refuses};
 ghost use Rattle.wit_compat.specs.Walk.{IsCounted};
 ghost use Rattle.wit_model.specs.declared.model.Resolve.{Resolve};
 ghost use Rattle.wit_model.specs.declared.model.World.{World};
-ghost use Rattle.wit_model.specs.Lookup.{world_at};
 ghost use Rattle.wit_model.specs.Valid.{IsValid};
 
 use crate::steps::Steps;
@@ -27,8 +26,8 @@ pub fn semver_check_counted(
     requires prev { prev.0 < length resolve.worlds.items }
     requires new { new.0 < length resolve.worlds.items }
     requires fresh { steps.old.count ≡ 0 }
-    ensures accepts { (p n : World) → world_at resolve prev.0 ≡ Some p → world_at resolve new.0 ≡ Some n → MatchResult result (λ u. Accepts resolve p n) (IsRefused resolve p n) }
-    ensures counted { (p n : World) → world_at resolve prev.0 ≡ Some p → world_at resolve new.0 ≡ Some n → IsCounted resolve p n steps.new.count (is_ok result) }
+    ensures accepts { OfWorlds resolve prev new (λ p n. MatchResult result (λ u. Accepts resolve p n) (IsRefused resolve p n)) }
+    ensures counted { OfWorlds resolve prev new (λ p n. IsCounted resolve p n steps.new.count (is_ok result)) }
 {
     compare(alloc, &resolve, prev, new, steps)
 }

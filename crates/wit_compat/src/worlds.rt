@@ -3,12 +3,10 @@
 ghost use Rattle.std.specs.Prelude.{◌≡◌, ◌++◌, ◌≤◌, ◌<◌, ◌⊎◌, [], true, false, is_ok, length, map, option_map, MatchResult, None, Some, IfOk, OnOk, IfErr};
 ghost use Rattle.std.specs.Option.{option_copied};
 ghost use Rattle.wit_model.specs.declared.error.Error.TheVariants.{Memory as MemoryError};
-ghost use Rattle.wit_model.specs.declared.model.World.{World as WorldModel};
-ghost use Rattle.wit_model.specs.Lookup.{world_at};
 ghost use Rattle.wit_model.specs.Meant.{package_of_world};
 ghost use Rattle.wit_model.specs.Rules.{entries_in_range};
 ghost use Rattle.wit_model.specs.Valid.{IsValid};
-ghost use Rattle.wit_compat.specs.Compatible.{package_name, refusal_of, twice_without_version, Accepts, Compatible, HasItemsInRange, HasKeysOnce, IsMismatch, IsRefused, IsRepeated};
+ghost use Rattle.wit_compat.specs.Compatible.{package_name, refusal_of, twice_without_version, Accepts, Compatible, HasItemsInRange, HasKeysOnce, IsMismatch, IsRefused, IsRepeated, OfWorlds};
 ghost use Rattle.wit_compat.specs.Opened.{bare_identity};
 ghost use Rattle.wit_compat.specs.Outline.{AreNames};
 ghost use Rattle.wit_compat.specs.Walk.{heads_of, pairs_of_worlds, IsCounted};
@@ -223,8 +221,8 @@ pub(crate) fn compare(
     requires prev { prev.0 < length resolve.now.worlds.items }
     requires new { new.0 < length resolve.now.worlds.items }
     requires fresh { steps.old.count ≡ 0 }
-    ensures accepts { (p n : WorldModel) → world_at resolve.now prev.0 ≡ Some p → world_at resolve.now new.0 ≡ Some n → MatchResult result (λ u. Accepts resolve.now p n) (IsRefused resolve.now p n) }
-    ensures counted { (p n : WorldModel) → world_at resolve.now prev.0 ≡ Some p → world_at resolve.now new.0 ≡ Some n → IsCounted resolve.now p n steps.new.count (is_ok result) }
+    ensures accepts { OfWorlds resolve.now prev new (λ p n. MatchResult result (λ u. Accepts resolve.now p n) (IsRefused resolve.now p n)) }
+    ensures counted { OfWorlds resolve.now prev new (λ p n. IsCounted resolve.now p n steps.new.count (is_ok result)) }
 {
     let prev = &resolve.worlds[prev.0 as usize];
     let new = &resolve.worlds[new.0 as usize];
@@ -252,7 +250,7 @@ pub fn semver_check(
     requires valid { IsValid resolve }
     requires prev { prev.0 < length resolve.worlds.items }
     requires new { new.0 < length resolve.worlds.items }
-    ensures { (p n : WorldModel) → world_at resolve prev.0 ≡ Some p → world_at resolve new.0 ≡ Some n → MatchResult result (λ u. Accepts resolve p n) (IsRefused resolve p n) }
+    ensures { OfWorlds resolve prev new (λ p n. MatchResult result (λ u. Accepts resolve p n) (IsRefused resolve p n)) }
 {
     let mut steps = Steps::new();
     semver_check_counted(alloc, resolve, prev, new, &mut steps)

@@ -19,6 +19,10 @@ pub record ArePrintable (r : Resolve) (main : PackageId) (nested : List PackageI
   pub in_range : main.0 < length r.packages.items
   pub nested_ : list_all (λ id. in_list r.packages.items id.0) nested ≡ true
 
+-- of each file of packages that can be printed: a main one, and others nested in it
+abbrev pub OfPrintableFiles : (FileTree → Type 0) → Type 0
+OfPrintableFiles Holds = (r : Resolve) (main : PackageId) (nested : List PackageId) → ArePrintable r main nested → Holds (shown_file r main nested)
+
 -- the text of a file is read as what is shown in it, and as nothing else
 abbrev pub FileReads : Bool → FileTree → Type 0
 FileReads emits_docs file = IsOnlyReading (render (file_calls emits_docs file)) (file_as_read file)

@@ -1,11 +1,9 @@
 //! Laws about what is printed of packages, and those of the crates below.
 
-ghost use Rattle.std.specs.Prelude.{Bool, List};
-ghost use Rattle.wit_model.specs.declared.model.PackageId.{PackageId};
+ghost use Rattle.std.specs.Prelude.{Bool};
 ghost use Rattle.wit_model.specs.declared.model.Resolve.{Resolve};
-ghost use Rattle.print_items.specs.Shown.{shown_file};
 ghost use Rattle.wit_print.specs.Documentation.{DifferInDocumentation};
-ghost use Rattle.wit_print.specs.Files.{ArePrintable, FileReads, KeptTextReads, PrintAlike};
+ghost use Rattle.wit_print.specs.Files.{FileReads, KeptTextReads, OfPrintableFiles, PrintAlike};
 ghost use Rattle.wit_print.specs.Given.{FunctionsCanBeGiven, TypesCanBeGiven};
 
 pub use print_grammar::laws::{one_reading, well_named_file_reads};
@@ -15,12 +13,12 @@ pub use print_output::laws::{
 
 /// The text of valid packages is read as what is shown of them and as nothing else, with documentation or without.
 pub fn packages_read()
-    ensures { (docs : Bool) (r : Resolve) (main : PackageId) (nested : List PackageId) → ArePrintable r main nested → FileReads docs (shown_file r main nested) }
+    ensures { (docs : Bool) → OfPrintableFiles (FileReads docs) }
 {}
 
 /// So is the text of an output that kept the text of a completed print from the start.
 pub fn kept_text_reads()
-    ensures { (docs : Bool) (r : Resolve) (main : PackageId) (nested : List PackageId) → ArePrintable r main nested → KeptTextReads docs (shown_file r main nested) }
+    ensures { (docs : Bool) → OfPrintableFiles (KeptTextReads docs) }
 {}
 
 /// Without documentation, packages that differ in documentation alone make the same calls, and so print the same text.

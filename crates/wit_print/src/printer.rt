@@ -12,7 +12,7 @@ ghost use Rattle.wit_model.specs.Types.{number_of};
 ghost use Rattle.wit_model.specs.Valid.{IsValid};
 ghost use Rattle.print_items.specs.Shown.{shown_file, shown_head, shown_package, shown_type};
 ghost use Rattle.print_grammar.specs.Calls.{file_calls, package_calls, package_outer_calls, type_calls};
-ghost use Rattle.print_packages.specs.GivenTypes.{are_functions_of, given_members};
+ghost use Rattle.print_packages.specs.GivenTypes.{are_functions_of, given_with};
 ghost use Rattle.print_packages.specs.Heads.{interface_body_calls, interface_head_calls};
 ghost use Rattle.wit_print.specs.Files.{FileReads};
 
@@ -215,8 +215,8 @@ impl<O: Output> WitPrinter<O> {
         requires ends { IsFinite (I.remaining types) }
         requires known { AreTypesOf resolve.now owner (Drains I.next_gives types) }
         requires functions { are_functions_of resolve.now owner functions.now.entries ≡ true }
-        ensures ok { OnOk result (PrintsTypes O.keeps O.view self.old (Drains I.next_gives types) (given_members resolve.now owner functions.now.entries) self.new) }
-        ensures err { OnErr result (PrintsTypesInPart O.keeps O.view self.old (Drains I.next_gives types) (given_members resolve.now owner functions.now.entries) self.new) }
+        ensures ok { OnOk result (PrintsTypes O.keeps O.view self.old (Drains I.next_gives types) (given_with resolve.now owner functions.now) self.new) }
+        ensures err { OnErr result (PrintsTypesInPart O.keeps O.view self.old (Drains I.next_gives types) (given_with resolve.now owner functions.now) self.new) }
         ensures memory { IsOkUnless result Memory }
         ensures docs { emits_docs self.new ≡ emits_docs self.old }
     {
