@@ -9,11 +9,11 @@ use Rattle.encode_types.specs.Known.{Around, Aliased, with_alias, with_aliases, 
 pub around-same : {r : Resolve} {a a' : Around} → a' ≡ a → GrowsAround r a a'
 around-same e = record { made = []; are = tt; is = e }
 
-with-both : (a : Around) (xs ys : List Aliased) → with_aliases (with_aliases a xs) ys ≡ with_aliases a (xs ++ ys)
+pub with-both : (a : Around) (xs ys : List Aliased) → with_aliases (with_aliases a xs) ys ≡ with_aliases a (xs ++ ys)
 with-both a [] ys = refl
 with-both a (x ∷ xs) ys = with-both (with_alias a x) xs ys
 
-are-both : (r : Resolve) (a : Around) (xs ys : List Aliased) → AreAliases r a xs → AreAliases r (with_aliases a xs) ys → AreAliases r a (xs ++ ys)
+pub are-both : (r : Resolve) (a : Around) (xs ys : List Aliased) → AreAliases r a xs → AreAliases r (with_aliases a xs) ys → AreAliases r a (xs ++ ys)
 are-both r a [] ys p q = q
 are-both r a (x ∷ xs) ys p q = (p.0, are-both r (with_alias a x) xs ys p.1 q)
 

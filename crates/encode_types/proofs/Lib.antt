@@ -16,3 +16,4 @@ pub mod Functions
 pub mod Rooms
 pub mod Learning
 pub mod Writing
+pub mod Aliasing

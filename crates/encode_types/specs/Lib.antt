@@ -14,6 +14,7 @@ pub mod Counts
 pub mod Room
 pub mod Extents
 pub mod View
+pub mod Aliases
 pub mod Fits
 pub mod Table
 pub mod Distinct

@@ -14,6 +14,8 @@ ghost use Rattle.wit_model.specs.Lookup.{type_at};
 ghost use Rattle.wit_model.specs.Meant.{type_meaning};
 ghost use Rattle.encode_types.specs.Slots.{tree};
 ghost use Rattle.encode_types.specs.Room.{value_type, export_name, import_of};
+ghost use Rattle.encode_types.specs.Known.{ReachesAround};
+ghost use Rattle.encode_types.specs.Aliases.{MakesMet};
 ghost use Rattle.encode_types.specs.View.{Agrees, Grows, ExportsName, HoldsMore, HoldsLearnt, Refuses, Writes, WritesImport, WritesLearnt};
 ghost use Rattle.encode_types.specs.Extents.{name_extent, number_extent, tree_extent};
 ghost use Rattle.encode_types.specs.Kinds.{parts_of, kind_of, kind_tree, has_form, has_definition};
@@ -53,6 +55,7 @@ pub(crate) fn define_shape<'a, E: ValtypeEncoder<'a>>(
     ensures ok { IfOk result (λ i. (E.view enc.new).stands i (tree (kind_tree resolve.now (kind_of shape.entry)))) }
     ensures grows { Grows (E.view enc.old) (E.view enc.new) }
     ensures scope_stays { (E.view enc.new).scope ≡ (E.view enc.old).scope }
+    ensures around_stays { (E.view enc.new).around ≡ (E.view enc.old).around }
     ensures maps_stay { (E.view enc.new).maps ≡ (E.view enc.old).maps }
     ensures counts { IfOk result (λ i. (E.view enc.new).definitions ≡ one_type_more i (E.view enc.old).definitions) }
     ensures held { HoldsMore 1 (E.view enc.old) (E.view enc.new) }
@@ -76,6 +79,7 @@ fn define_alias<'a, E: ValtypeEncoder<'a>>(
     ensures ok { IfOk result (λ i. (E.view enc.new).stands i (tree (tree_of (trees_of resolve.now) ty.now))) }
     ensures grows { Grows (E.view enc.old) (E.view enc.new) }
     ensures scope_stays { (E.view enc.new).scope ≡ (E.view enc.old).scope }
+    ensures around_stays { (E.view enc.new).around ≡ (E.view enc.old).around }
     ensures maps_stay { (E.view enc.new).maps ≡ (E.view enc.old).maps }
     ensures counts { IfOk result (DefinesIf (has_definition (TypeDefKind.Type_ ty.now)) (E.view enc.old) (E.view enc.new)) }
     ensures known { (id : _) → ty.now ≡ ValueType.Id id → IfOk result (λ i. Contains (E.view enc.old).maps.id_to_index.entries (id.0, i)) }
@@ -106,6 +110,7 @@ fn define_kind<'a, E: ValtypeEncoder<'a>>(
     ensures ok { IfOk result (λ i. (E.view enc.new).stands i (tree (kind_tree resolve.now kind.now))) }
     ensures grows { Grows (E.view enc.old) (E.view enc.new) }
     ensures scope_stays { (E.view enc.new).scope ≡ (E.view enc.old).scope }
+    ensures around_stays { (E.view enc.new).around ≡ (E.view enc.old).around }
     ensures maps_stay { (E.view enc.new).maps ≡ (E.view enc.old).maps }
     ensures counts { IfOk result (DefinesIf (has_definition kind.now) (E.view enc.old) (E.view enc.new)) }
     ensures known { (id : _) → kind.now ≡ TypeDefKind.Type_ (ValueType.Id id) → IfOk result (λ i. Contains (E.view enc.old).maps.id_to_index.entries (id.0, i)) }
@@ -137,6 +142,7 @@ fn define_new_kind<'a, E: ValtypeEncoder<'a>>(
     ensures ok { IfOk result (λ i. (E.view enc.new).stands i (tree (kind_tree resolve.now kind.now))) }
     ensures numbers { OnOk result ((E.view enc.new).maps.id_to_index.entries ≡ (E.view enc.old).maps.id_to_index.entries) }
     ensures leaves { Leaves resolve.now (E.view enc.old) (E.view enc.new) }
+    ensures around_stays { (E.view enc.new).around ≡ (E.view enc.old).around }
     ensures counts { OnOk result (CountsTypes resolve.now (E.view enc.old) (E.view enc.new)) }
     ensures kinds { OnOk result (LearnsKindOf (E.view enc.old).maps (E.view enc.new).maps kind.now) }
     ensures held { HoldsMore 1 (E.view enc.old) (E.view enc.new) }
@@ -163,6 +169,7 @@ fn define_unnamed_kind<'a, E: ValtypeEncoder<'a>>(
     ensures ok { IfOk result (λ i. (E.view enc.new).stands i (tree (kind_tree resolve.now kind.now))) }
     ensures numbers { OnOk result ((E.view enc.new).maps.id_to_index.entries ≡ (E.view enc.old).maps.id_to_index.entries) }
     ensures leaves { Leaves resolve.now (E.view enc.old) (E.view enc.new) }
+    ensures around_stays { (E.view enc.new).around ≡ (E.view enc.old).around }
     ensures counts { OnOk result (CountsTypes resolve.now (E.view enc.old) (E.view enc.new)) }
     ensures kinds { OnOk result (LearnsKindOf (E.view enc.old).maps (E.view enc.new).maps kind.now) }
     ensures held { OnOk result (HoldsKind kind.entry.now (E.view enc.old) (E.view enc.new)) }
@@ -195,6 +202,7 @@ fn define_unnamed<'a, E: ValtypeEncoder<'a>>(
     requires agree { Agrees resolve.now (E.view enc.old) }
     ensures ok { OnOk result (LearnsOne (E.view enc.old).maps (E.view enc.new).maps id.0) }
     ensures leaves { Leaves resolve.now (E.view enc.old) (E.view enc.new) }
+    ensures around_stays { (E.view enc.new).around ≡ (E.view enc.old).around }
     ensures counts { OnOk result (CountsTypes resolve.now (E.view enc.old) (E.view enc.new)) }
     ensures kinds { OnOk result (LearnsKindOf (E.view enc.old).maps (E.view enc.new).maps kind.now) }
     ensures held { OnOk result (HoldsKind kind.entry.now (E.view enc.old) (E.view enc.new)) }
@@ -221,6 +229,7 @@ fn define_resource<'a, E: ValtypeEncoder<'a>>(
     requires agree { Agrees resolve.now (E.view enc.old) }
     ensures ok { OnOk result (LearnsOne (E.view enc.old).maps (E.view enc.new).maps id.0) }
     ensures leaves { Leaves resolve.now (E.view enc.old) (E.view enc.new) }
+    ensures around_stays { (E.view enc.new).around ≡ (E.view enc.old).around }
     ensures counts { OnOk result (CountsTypes resolve.now (E.view enc.old) (E.view enc.new)) }
     ensures kinds { OnOk result ((E.view enc.new).maps.def_to_index.entries ≡ (E.view enc.old).maps.def_to_index.entries) }
     ensures held { HoldsMore 1 (E.view enc.old) (E.view enc.new) }
@@ -242,6 +251,7 @@ fn export<'a, E: ValtypeEncoder<'a>>(
     ensures ok { IfOk result (λ i. (E.view enc.new).stands i (tree (named (E.view enc.old).scope.place (raw_name name.entry).text))) }
     ensures grows { Grows (E.view enc.old) (E.view enc.new) }
     ensures scope_stays { (E.view enc.new).scope ≡ (E.view enc.old).scope }
+    ensures around_stays { (E.view enc.new).around ≡ (E.view enc.old).around }
     ensures maps_stay { (E.view enc.new).maps ≡ (E.view enc.old).maps }
     ensures counts { OnOk result (ExportsName (E.view enc.old) (E.view enc.new) (Some index) (raw_name name.entry)) }
     ensures held { HoldsMore 1 (E.view enc.old) (E.view enc.new) }
@@ -277,6 +287,7 @@ fn define_named<'a, E: ValtypeEncoder<'a>>(
     requires agree { Agrees resolve.now (E.view enc.old) }
     ensures ok { OnOk result (LearnsOne (E.view enc.old).maps (E.view enc.new).maps id.0) }
     ensures leaves { Leaves resolve.now (E.view enc.old) (E.view enc.new) }
+    ensures around_stays { (E.view enc.new).around ≡ (E.view enc.old).around }
     ensures counts { OnOk result (CountsTypes resolve.now (E.view enc.old) (E.view enc.new)) }
     ensures kinds { OnOk result ((E.view enc.new).maps.def_to_index.entries ≡ (E.view enc.old).maps.def_to_index.entries) }
     ensures held { HoldsMore (kind_count def.now.kind + 1) (E.view enc.old) (E.view enc.new) }
@@ -306,6 +317,7 @@ fn define_own<'a, E: ValtypeEncoder<'a>>(
     requires agree { Agrees resolve.now (E.view enc.old) }
     ensures ok { OnOk result (LearnsOne (E.view enc.old).maps (E.view enc.new).maps id.0) }
     ensures leaves { Leaves resolve.now (E.view enc.old) (E.view enc.new) }
+    ensures around_stays { (E.view enc.new).around ≡ (E.view enc.old).around }
     ensures counts { OnOk result (CountsTypes resolve.now (E.view enc.old) (E.view enc.new)) }
     ensures learns { OnOk result (LearnsParts resolve.now (E.view enc.old) (E.view enc.new)) }
     ensures held { OnOk result (HoldsLearnt resolve.now 0 (E.view enc.old) (E.view enc.new)) }
@@ -340,6 +352,7 @@ fn define_number<'a, E: ValtypeEncoder<'a>>(
     requires agree { Agrees resolve.now (E.view enc.old) }
     ensures ok { OnOk result (LearnsOne (E.view enc.old).maps (E.view enc.new).maps id.0) }
     ensures leaves { Leaves resolve.now (E.view enc.old) (E.view enc.new) }
+    ensures aliases { MakesMet resolve.now (ValueType.Id id ∷ []) (E.view enc.old) (E.view enc.new) }
     ensures counts { OnOk result (CountsTypes resolve.now (E.view enc.old) (E.view enc.new)) }
     ensures learns { OnOk result (LearnsParts resolve.now (E.view enc.old) (E.view enc.new)) }
     ensures held { OnOk result (HoldsLearnt resolve.now 0 (E.view enc.old) (E.view enc.new)) }
@@ -373,6 +386,7 @@ fn import<'a, E: ValtypeEncoder<'a>>(
     requires agree { Agrees resolve.now (E.view enc.old) }
     ensures ok { OnOk result (LearnsOne (E.view enc.old).maps (E.view enc.new).maps id.0) }
     ensures leaves { Leaves resolve.now (E.view enc.old) (E.view enc.new) }
+    ensures reaches { ReachesAround (E.view enc.old).scope.packages id (E.view enc.old).around (E.view enc.new).around }
     ensures counts { OnOk result (CountsTypes resolve.now (E.view enc.old) (E.view enc.new)) }
     ensures kinds { OnOk result ((E.view enc.new).maps.def_to_index.entries ≡ (E.view enc.old).maps.def_to_index.entries) }
     ensures held { HoldsMore 1 (E.view enc.old) (E.view enc.new) }
@@ -396,6 +410,7 @@ pub(crate) fn define_parts<'a, E: ValtypeEncoder<'a>>(
     ensures ready { OnOk result (AllReady (E.view enc.new).maps types.now) }
     ensures learns { OnOk result (LearnsFrom resolve.now types.now (E.view enc.old) (E.view enc.new)) }
     ensures leaves { Leaves resolve.now (E.view enc.old) (E.view enc.new) }
+    ensures aliases { MakesMet resolve.now types.now (E.view enc.old) (E.view enc.new) }
     ensures counts { OnOk result (CountsTypes resolve.now (E.view enc.old) (E.view enc.new)) }
     ensures held { OnOk result (HoldsLearnt resolve.now 0 (E.view enc.old) (E.view enc.new)) }
     ensures written { OnOk result (WritesLearnt resolve.now 0 (E.view enc.old) (E.view enc.new)) }

@@ -27,6 +27,7 @@ ghost use Rattle.encode_types.specs.Fits.{CanEncode, CanImport, is_foreign};
 ghost use Rattle.encode_types.specs.Formed.{IsFormed};
 ghost use Rattle.encode_types.specs.Counts.{one_type_more};
 ghost use Rattle.encode_types.specs.Room.{value_type, import_of};
+ghost use Rattle.encode_types.specs.Aliases.{MakesMet};
 ghost use Rattle.encode_types.specs.View.{Agrees, Grows, HoldsMore, HoldsIf, HoldsLearnt, Refuses, WritesLearnt};
 ghost use Rattle.encode_types.specs.Leaves.{Leaves, LearnsFrom, CountsTypes, CanDefine, DefinesKind, DefinesValue, DefinesIf, LacksRoom};
 
@@ -75,6 +76,7 @@ pub fn encode_valtype<'a, E: ValtypeEncoder<'a>>(
     ensures ok { IfOk result (λ v. StandsFor (E.view enc.new).stands v (type_tree resolve.now ty.now)) }
     ensures learns { OnOk result (LearnsFrom resolve.now (ty.now ∷ []) (E.view enc.old) (E.view enc.new)) }
     ensures leaves { Leaves resolve.now (E.view enc.old) (E.view enc.new) }
+    ensures aliases { MakesMet resolve.now (ty.now ∷ []) (E.view enc.old) (E.view enc.new) }
     ensures counts { OnOk result (CountsTypes resolve.now (E.view enc.old) (E.view enc.new)) }
     ensures knows { OnOk result (IsReady (E.view enc.new).maps ty.now) }
     ensures held { OnOk result (HoldsLearnt resolve.now 0 (E.view enc.old) (E.view enc.new)) }
@@ -100,6 +102,7 @@ pub fn encode_optional_valtype<'a, E: ValtypeEncoder<'a>>(
     ensures ok { IfOk result (λ v. StandsForOptional (E.view enc.new).stands v (option_map (type_tree resolve.now) (option_copied ty.entry))) }
     ensures learns { OnOk result (LearnsFrom resolve.now (option_to_list (option_copied ty.entry)) (E.view enc.old) (E.view enc.new)) }
     ensures leaves { Leaves resolve.now (E.view enc.old) (E.view enc.new) }
+    ensures aliases { MakesMet resolve.now (option_to_list (option_copied ty.entry)) (E.view enc.old) (E.view enc.new) }
     ensures counts { OnOk result (CountsTypes resolve.now (E.view enc.old) (E.view enc.new)) }
     ensures knows { OnOk result (AllReady (E.view enc.new).maps (option_to_list (option_copied ty.entry))) }
     ensures held { OnOk result (HoldsLearnt resolve.now 0 (E.view enc.old) (E.view enc.new)) }
@@ -130,6 +133,7 @@ pub fn encode_params<'a, E: ValtypeEncoder<'a>>(
     ensures ok { IfOk result (λ v. AllZip (NamedStands (E.view enc.new).stands) v.items (map (named_tree resolve.now) params.now)) }
     ensures learns { OnOk result (LearnsFrom resolve.now (map (λ p. p.ty) params.now) (E.view enc.old) (E.view enc.new)) }
     ensures leaves { Leaves resolve.now (E.view enc.old) (E.view enc.new) }
+    ensures aliases { MakesMet resolve.now (map (λ p. p.ty) params.now) (E.view enc.old) (E.view enc.new) }
     ensures counts { OnOk result (CountsTypes resolve.now (E.view enc.old) (E.view enc.new)) }
     ensures knows { OnOk result (AllReady (E.view enc.new).maps (map (λ p. p.ty) params.now)) }
     ensures held { OnOk result (HoldsLearnt resolve.now 0 (E.view enc.old) (E.view enc.new)) }
@@ -257,6 +261,7 @@ fn define<'a, E: ValtypeEncoder<'a>>(
     ensures ok { IfOk result (λ v. (t : Tree) → Follows (E.view enc.old).stands def.entry t → StandsFor (E.view enc.new).stands v t) }
     ensures grows { Grows (E.view enc.old) (E.view enc.new) }
     ensures scope_stays { (E.view enc.new).scope ≡ (E.view enc.old).scope }
+    ensures around_stays { (E.view enc.new).around ≡ (E.view enc.old).around }
     ensures maps_stay { (E.view enc.new).maps ≡ (E.view enc.old).maps }
     ensures counts { IfOk result (DefinesValue (E.view enc.old) (E.view enc.new)) }
     ensures held { HoldsMore 1 (E.view enc.old) (E.view enc.new) }
@@ -279,6 +284,7 @@ pub fn encode_flags<'a, E: ValtypeEncoder<'a>>(
     ensures ok { IfOk result (λ v. StandsFor (E.view enc.new).stands v (flags_tree (map (λ x. text_of x.name) ty.now.flags.items))) }
     ensures grows { Grows (E.view enc.old) (E.view enc.new) }
     ensures scope_stays { (E.view enc.new).scope ≡ (E.view enc.old).scope }
+    ensures around_stays { (E.view enc.new).around ≡ (E.view enc.old).around }
     ensures maps_stay { (E.view enc.new).maps ≡ (E.view enc.old).maps }
     ensures counts { IfOk result (DefinesValue (E.view enc.old) (E.view enc.new)) }
     ensures held { HoldsMore 1 (E.view enc.old) (E.view enc.new) }
@@ -301,6 +307,7 @@ pub fn encode_enum<'a, E: ValtypeEncoder<'a>>(
     ensures ok { IfOk result (λ v. StandsFor (E.view enc.new).stands v (enum_tree (map (λ x. text_of x.name) ty.now.cases.items))) }
     ensures grows { Grows (E.view enc.old) (E.view enc.new) }
     ensures scope_stays { (E.view enc.new).scope ≡ (E.view enc.old).scope }
+    ensures around_stays { (E.view enc.new).around ≡ (E.view enc.old).around }
     ensures maps_stay { (E.view enc.new).maps ≡ (E.view enc.old).maps }
     ensures counts { IfOk result (DefinesValue (E.view enc.old) (E.view enc.new)) }
     ensures held { HoldsMore 1 (E.view enc.old) (E.view enc.new) }
@@ -325,6 +332,7 @@ pub fn encode_unit_future<'a, E: ValtypeEncoder<'a>>(
     ensures first { IfSome (E.view enc.old).maps.unit_future (λ i. result ≡ Ok i) }
     ensures rest { (E.view enc.new).maps ≡ record (E.view enc.old).maps { unit_future = (E.view enc.new).maps.unit_future } }
     ensures leaves { Leaves (E.view enc.old).scope.packages (E.view enc.old) (E.view enc.new) }
+    ensures around_stays { (E.view enc.new).around ≡ (E.view enc.old).around }
     ensures counts { IfOk result (DefinesIf (is_none (E.view enc.old).maps.unit_future) (E.view enc.old) (E.view enc.new)) }
     ensures held { HoldsIf (is_none (E.view enc.old).maps.unit_future) (E.view enc.old) (E.view enc.new) }
     ensures size { result ≡ Err Size → Refuses (E.view enc.old) (E.view enc.new) (value_type (future_tree None)) }
@@ -345,6 +353,7 @@ fn define_unit_future<'a, E: ValtypeEncoder<'a>>(enc: &mut E) -> Result<u32, Err
     ensures cached { IfOk result (λ i. (E.view enc.new).maps.unit_future ≡ Some i) }
     ensures rest { (E.view enc.new).maps ≡ record (E.view enc.old).maps { unit_future = (E.view enc.new).maps.unit_future } }
     ensures leaves { Leaves (E.view enc.old).scope.packages (E.view enc.old) (E.view enc.new) }
+    ensures around_stays { (E.view enc.new).around ≡ (E.view enc.old).around }
     ensures counts { IfOk result (λ i. (E.view enc.new).definitions ≡ one_type_more i (E.view enc.old).definitions) }
     ensures held { HoldsMore 1 (E.view enc.old) (E.view enc.new) }
     ensures size { result ≡ Err Size → Refuses (E.view enc.old) (E.view enc.new) (value_type (future_tree None)) }
@@ -369,6 +378,7 @@ pub fn encode_unit_stream<'a, E: ValtypeEncoder<'a>>(
     ensures first { IfSome (E.view enc.old).maps.unit_stream (λ i. result ≡ Ok i) }
     ensures rest { (E.view enc.new).maps ≡ record (E.view enc.old).maps { unit_stream = (E.view enc.new).maps.unit_stream } }
     ensures leaves { Leaves (E.view enc.old).scope.packages (E.view enc.old) (E.view enc.new) }
+    ensures around_stays { (E.view enc.new).around ≡ (E.view enc.old).around }
     ensures counts { IfOk result (DefinesIf (is_none (E.view enc.old).maps.unit_stream) (E.view enc.old) (E.view enc.new)) }
     ensures held { HoldsIf (is_none (E.view enc.old).maps.unit_stream) (E.view enc.old) (E.view enc.new) }
     ensures size { result ≡ Err Size → Refuses (E.view enc.old) (E.view enc.new) (value_type (stream_tree None)) }
@@ -389,6 +399,7 @@ fn define_unit_stream<'a, E: ValtypeEncoder<'a>>(enc: &mut E) -> Result<u32, Err
     ensures cached { IfOk result (λ i. (E.view enc.new).maps.unit_stream ≡ Some i) }
     ensures rest { (E.view enc.new).maps ≡ record (E.view enc.old).maps { unit_stream = (E.view enc.new).maps.unit_stream } }
     ensures leaves { Leaves (E.view enc.old).scope.packages (E.view enc.old) (E.view enc.new) }
+    ensures around_stays { (E.view enc.new).around ≡ (E.view enc.old).around }
     ensures counts { IfOk result (λ i. (E.view enc.new).definitions ≡ one_type_more i (E.view enc.old).definitions) }
     ensures held { HoldsMore 1 (E.view enc.old) (E.view enc.new) }
     ensures size { result ≡ Err Size → Refuses (E.view enc.old) (E.view enc.new) (value_type (stream_tree None)) }

@@ -16,6 +16,7 @@ use Rattle.encode_types.proofs.define.define_number.Goals as goal
 use Rattle.encode_types.proofs.define.define_number.Goals.{After-foreign}
 use Rattle.encode_types.proofs.Writing.{writes-nothing, writes-number, foreign-extent, on-three}
 use Rattle.wit_model.proofs.Elements.{some-from}
+use Rattle.encode_types.proofs.Aliasing.{met-none, met-one}
 
 there : (g : Over) (c : After-foreign g) → type_at c.args.resolve.now c.args.id.0 ≡ Some c.index-def.result.now
 there g c = slice_get_read _ _ _ _ refl c.requires.in_range c.index-def.ensures
@@ -123,3 +124,15 @@ returns-clause-written g c =
     on-three c.define_own.result _ _ _ _
     (λ one counts w. writes-number counts.shows.learnt c.args.id.0 counts.shows.numbers one.known (unknown g a) w.extent)
     c.define_own.ensures.ok (rw c.index_of.ensures.same at c.define_own.ensures.counts) (rw c.index_of.ensures.same at c.define_own.ensures.written)
+
+pub returns-then-is_some-clause-aliases : goal.returns-then-is_some-clause-aliases
+returns-then-is_some-clause-aliases g c = rw c.index_of.ensures.same (met-none refl)
+
+pub returns-in-Some-clause-aliases : goal.returns-in-Some-clause-aliases
+returns-in-Some-clause-aliases g c =
+    let a = (goal.at.returns-in-Some-clause-aliases g c).After-foreign in
+    let f : foreign_owner (g.E.ValtypeEncoder.view c.args.enc.now).scope.own_interface c.index-def.result.now.owner ≡ Some c.in-Some.interface = sym (owner_is g a) ∙ c.in-Some.is in
+    met-one c.index-def.result.now c.in-Some.interface (there g a) f (rw (c.index_of.ensures.same, c.requires.packages) at c.import.ensures.reaches)
+
+pub returns-clause-aliases : goal.returns-clause-aliases
+returns-clause-aliases g c = met-none (rw c.index_of.ensures.same at c.define_own.ensures.around_stays)

@@ -16,6 +16,7 @@ use Rattle.encode_types.proofs.define.define_parts.Goals as goal
 use Rattle.encode_types.proofs.define.define_parts.Goals.{After-deref-n-items}
 use Rattle.encode_types.proofs.Writing.{writes-nothing, writes-then}
 use Rattle.wit_model.proofs.Elements.{one-contained}
+use Rattle.encode_types.proofs.Aliasing.{met-none, makes-number}
 
 ordered : (g : Over) (c : After-deref-n-items g) → IsOrderOf c.args.resolve.now (g.E.ValtypeEncoder.view c.args.enc.now).scope.own_interface (g.E.ValtypeEncoder.view c.args.enc.now).maps c.args.types.now c.deref-n-items.result.now
 ordered g c = rw c.deref-n-items.ensures.value c.in_ok-order.ensures.order
@@ -52,6 +53,7 @@ loop-n-preserved g c = record {
   learns = learns-more (g.E.ValtypeEncoder.view c.args.enc.now).maps (g.E.ValtypeEncoder.view c.loop-n.enc).maps (g.E.ValtypeEncoder.view c.define_number.new.enc).maps c.deref-n-items.result.now c.loop-n.n-index c.loop-n-test.true c.loop-n.invariant.learns c.in_ok-define_number.ensures.ok;
   learnt = learns-then (ap (λ (x : Scope). x.own_interface) c.loop-n.invariant.leaves.scope_stays) c.loop-n.invariant.learnt c.in_ok-define_number.ensures.learns;
   leaves = leaves-trans c.loop-n.invariant.leaves c.define_number.ensures.leaves;
+  aliases = makes-number (get_or c.deref-n-items.result.now c.loop-n.n-index 0) (ap (λ (x : Scope). x.own_interface) c.loop-n.invariant.leaves.scope_stays) (ordered g (goal.at.loop-n-preserved g c).After-deref-n-items) (Contains-get_or _ _ 0 c.loop-n-test.true) c.loop-n.invariant.aliases c.define_number.ensures.aliases;
   held = holds-then (ap (λ (x : Scope). x.own_interface) c.loop-n.invariant.leaves.scope_stays) c.loop-n.invariant.leaves.maps_grow c.define_number.ensures.leaves.maps_grow c.loop-n.invariant.held c.in_ok-define_number.ensures.held;
   written = writes-then c.loop-n.invariant.leaves.scope_stays c.loop-n.invariant.written c.in_ok-define_number.ensures.written;
   counts = counts-trans c.loop-n.invariant.leaves.scope_stays c.loop-n.invariant.counts c.in_ok-define_number.ensures.counts;
@@ -74,6 +76,7 @@ loop-n-init g c = rw c.order_of.ensures.same (record {
   learns = learns-nothing _ (g.E.ValtypeEncoder.view c.args.enc.now).maps;
   learnt = learns-none c.args.resolve.now (g.E.ValtypeEncoder.view c.args.enc.now).scope.own_interface (g.E.ValtypeEncoder.view c.args.enc.now).maps;
   leaves = leaves-kept c.requires.agree (record { kept = λ i s h. h; more = omega arith; around_ = around-same refl }) refl refl;
+  aliases = met-none refl;
   held = holds-none c.args.resolve.now (g.E.ValtypeEncoder.view c.args.enc.now).scope.own_interface (g.E.ValtypeEncoder.view c.args.enc.now).maps (g.E.ValtypeEncoder.view c.args.enc.now).held;
   written = writes-nothing c.args.resolve.now 0 (g.E.ValtypeEncoder.view c.args.enc.now);
   counts = counts-none c.args.resolve.now (g.E.ValtypeEncoder.view c.args.enc.now).scope (g.E.ValtypeEncoder.view c.args.enc.now).maps (g.E.ValtypeEncoder.view c.args.enc.now).definitions;
@@ -98,3 +101,11 @@ returns-in_err-define_number-clause-size g c = λ h.
           (subst (λ (t : ValueType). Reaches c.args.resolve.now before.scope.own_interface t k) (sym (one-contained (ty.Id (record { 0 = n })) reached.0 reached.1)) reached.2),
     ))
     (λ q c. none-in q c) (omega (arith, keys)) (c.define_number.ensures.size (search rules))
+
+pub returns-in_err-define_number-clause-aliases : goal.returns-in_err-define_number-clause-aliases
+returns-in_err-define_number-clause-aliases g c =
+    makes-number (get_or c.deref-n-items.result.now c.loop-n.n-index 0) (ap (λ (x : Scope). x.own_interface) c.loop-n.invariant.leaves.scope_stays) (ordered g (goal.at.returns-in_err-define_number-clause-aliases g c).After-deref-n-items) (Contains-get_or _ _ 0 c.loop-n-test.true)
+    c.loop-n.invariant.aliases c.define_number.ensures.aliases
+
+pub returns-in_err-order-clause-aliases : goal.returns-in_err-order-clause-aliases
+returns-in_err-order-clause-aliases g c = rw c.order_of.ensures.same (met-none refl)

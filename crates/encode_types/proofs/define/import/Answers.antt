@@ -24,3 +24,6 @@ returns-clause-leaves g c = leaves-trans (leaves-kept {v = g.E.ValtypeEncoder.vi
 
 pub returns-clause-written : goal.returns-clause-written
 returns-clause-written g c = on_ok c.remember_id.result _ _ (λ l def at. written-on (c.in_ok-index.ensures.written def at) c.remember_id.ensures.written) c.remember_id.ensures.ok
+
+pub returns-clause-reaches : goal.returns-clause-reaches
+returns-clause-reaches g c = rw c.remember_id.ensures.around_stays c.import_type.ensures.reaches

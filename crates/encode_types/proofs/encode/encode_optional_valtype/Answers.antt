@@ -3,6 +3,8 @@ use Rattle.encode_types.proofs.Defining.{counts-none}
 use Rattle.encode_types.proofs.encode.encode_optional_valtype.Goals as goal
 use Rattle.encode_types.proofs.Writing.{writes-nothing}
 use Rattle.encode_types.proofs.Rooms.{holds-none}
+use Rattle.std.proofs.Common.{refl}
+use Rattle.encode_types.proofs.Aliasing.{met-none}
 
 pub returns-in_ok-value-in-Some-clause-learns : goal.returns-in_ok-value-in-Some-clause-learns
 returns-in_ok-value-in-Some-clause-learns g c = rw c.in-Some.is c.in_ok-value-in-Some.ensures.learns
@@ -24,3 +26,12 @@ returns-in-None-clause-written g c = writes-nothing c.args.resolve.now 0 (g.E.Va
 
 pub returns-in-None-clause-held : goal.returns-in-None-clause-held
 returns-in-None-clause-held g c = holds-none c.args.resolve.now (g.E.ValtypeEncoder.view c.args.enc.now).scope.own_interface (g.E.ValtypeEncoder.view c.args.enc.now).maps (g.E.ValtypeEncoder.view c.args.enc.now).held
+
+pub returns-in_ok-value-in-Some-clause-aliases : goal.returns-in_ok-value-in-Some-clause-aliases
+returns-in_ok-value-in-Some-clause-aliases g c = rw c.in-Some.is c.encode_valtype.ensures.aliases
+
+pub returns-in_err-value-in-Some-clause-aliases : goal.returns-in_err-value-in-Some-clause-aliases
+returns-in_err-value-in-Some-clause-aliases g c = rw c.in-Some.is c.encode_valtype.ensures.aliases
+
+pub returns-in-None-clause-aliases : goal.returns-in-None-clause-aliases
+returns-in-None-clause-aliases g c = met-none refl

@@ -1,6 +1,7 @@
 use Rattle.std.proofs.Common.{refl}
 use Rattle.encode_types.proofs.Defining.{params-stand}
 use Rattle.encode_types.proofs.encode.encode_params.Goals as goal
+use Rattle.encode_types.proofs.Aliasing.{met-none}
 
 pub params_of-requires : goal.params_of-requires
 params_of-requires g c = λ _. ((refl, tt), (rw (c.deref.ensures.value, c.in_ok-types.ensures) at c.in_ok-define_parts.ensures.ready))
@@ -13,3 +14,15 @@ returns-clause-learns g c = rw c.params_of.ensures.same (rw (c.deref.ensures.val
 
 pub returns-clause-knows : goal.returns-clause-knows
 returns-clause-knows g c = rw c.params_of.ensures.same (rw (c.deref.ensures.value, c.in_ok-types.ensures) at c.in_ok-define_parts.ensures.ready)
+
+pub returns-clause-aliases : goal.returns-clause-aliases
+returns-clause-aliases g c = rw c.params_of.ensures.same (rw (c.deref.ensures.value, c.in_ok-types.ensures) at c.define_parts.ensures.aliases)
+
+pub returns-in_err-values-clause-aliases : goal.returns-in_err-values-clause-aliases
+returns-in_err-values-clause-aliases g c = rw c.params_of.ensures.same (rw (c.deref.ensures.value, c.in_ok-types.ensures) at c.define_parts.ensures.aliases)
+
+pub returns-in_err-define_parts-clause-aliases : goal.returns-in_err-define_parts-clause-aliases
+returns-in_err-define_parts-clause-aliases g c = rw (c.deref.ensures.value, c.in_ok-types.ensures) at c.define_parts.ensures.aliases
+
+pub returns-in_err-types-clause-aliases : goal.returns-in_err-types-clause-aliases
+returns-in_err-types-clause-aliases g c = met-none refl

@@ -10,13 +10,15 @@ use Rattle.encode_types.specs.Kinds.{parts_of, kind_of, kind_tree}
 use Rattle.encode_types.specs.Scope.{Scope}
 use Rattle.encode_types.specs.Room.{value_type}
 use Rattle.encode_types.specs.View.{View}
+use Rattle.encode_types.specs.Aliases.{MakesMet}
 use Rattle.encode_types.specs.Leaves.{Leaves, LacksRoom, LearnsFrom, KindLacksRoom, DefinesKind}
 use Rattle.encode_types.proofs.Around.{around-same}
+use Rattle.encode_types.proofs.Aliasing.{met-none, makes-same}
 use Rattle.encode_types.proofs.Defining.{leaves-kept, leaves-trans}
 use Rattle.encode_types.proofs.Rooms.{room-more, room-after, only-reached, lacks-request, holds-same}
 use Rattle.encode_types.proofs.encode.encode_shape.Given.{Over}
 use Rattle.encode_types.proofs.encode.encode_shape.Goals as goal
-use Rattle.encode_types.proofs.encode.encode_shape.Goals.{In_ok-define_parts, After-branch-index}
+use Rattle.encode_types.proofs.encode.encode_shape.Goals.{After-define_parts, In_ok-define_parts, After-branch-index}
 use Rattle.encode_types.proofs.Lists.{none-in}
 
 pub define_parts-requires : goal.define_parts-requires
@@ -31,10 +33,13 @@ learnt g c = rw (c.deref.ensures.value, c.in_ok-parts.ensures) at c.in_ok-define
 leaves : (g : Over) (c : After-branch-index g) → Leaves c.args.resolve.now (g.E.ValtypeEncoder.view c.args.enc.now) (g.E.ValtypeEncoder.view c.define_shape.new.enc)
 leaves g c = leaves-trans c.define_parts.ensures.leaves (leaves-kept {v = g.E.ValtypeEncoder.view c.define_parts.new.enc} {v' = g.E.ValtypeEncoder.view c.define_shape.new.enc} c.define_parts.ensures.leaves.agree c.define_shape.ensures.grows c.define_shape.ensures.scope_stays c.define_shape.ensures.maps_stay)
 
+made : (g : Over) (c : After-define_parts g) → MakesMet c.args.resolve.now (parts_of (kind_of c.args.shape)) (g.E.ValtypeEncoder.view c.args.enc.now) (g.E.ValtypeEncoder.view c.define_parts.new.enc)
+made g c = rw (c.deref.ensures.value, c.in_ok-parts.ensures) at c.define_parts.ensures.aliases
+
 -- what a refusal leaves
-refused : (r : Resolve) (kind : TypeDefKind) (v v' : View) (res : Result ComponentValType Error) → IsErr res → Leaves r v v' → (res ≡ Err Size → KindLacksRoom r kind v v') → IfErr res IsMemoryOrSize → DefinesKind r kind v v' res
-refused r kind v v' (Ok x) h l s f = absurd (let z : ⊥ = cc in z)
-refused r kind v v' (Err e) h l s f = record { ok = tt; learns = tt; leaves = l; counts = tt; held = tt; size = s; refuses = f }
+refused : (r : Resolve) (kind : TypeDefKind) (v v' : View) (res : Result ComponentValType Error) → IsErr res → Leaves r v v' → MakesMet r (parts_of kind) v v' → (res ≡ Err Size → KindLacksRoom r kind v v') → IfErr res IsMemoryOrSize → DefinesKind r kind v v' res
+refused r kind v v' (Ok x) h l a s f = absurd (let z : ⊥ = cc in z)
+refused r kind v v' (Err e) h l a s f = record { ok = tt; learns = tt; leaves = l; aliases = a; counts = tt; held = tt; size = s; refuses = f }
 
 pub returns : goal.returns
 returns g c =
@@ -43,6 +48,7 @@ returns g c =
       ok = c.in_ok-index.ensures.ok;
       learns = rw c.define_shape.ensures.maps_stay (learnt g at.In_ok-define_parts);
       leaves = leaves g at.After-branch-index;
+      aliases = makes-same c.define_shape.ensures.around_stays (made g at.After-define_parts);
       counts = record {
         slot = c.in_ok-index.index;
         is = refl;
@@ -60,11 +66,12 @@ returns-in_err-parts g c =
     let v = g.E.ValtypeEncoder.view c.args.enc.now in
     refused c.args.resolve.now (kind_of c.args.shape) v v c.from_residual.result (search rules)
     (leaves-kept {v = v} {v' = v} c.requires.agree (record { kept = λ i m h. h; more = omega arith; around_ = around-same refl }) refl refl)
+    (met-none refl)
     (λ h. absurd (let z : ⊥ = search rules in z)) (search rules)
 
 pub returns-in_err-define_parts : goal.returns-in_err-define_parts
 returns-in_err-define_parts g c =
-    refused c.args.resolve.now (kind_of c.args.shape) _ _ c.from_residual-in_err-define_parts.result (search rules) c.define_parts.ensures.leaves
+    refused c.args.resolve.now (kind_of c.args.shape) _ _ c.from_residual-in_err-define_parts.result (search rules) c.define_parts.ensures.leaves (made g (goal.at.returns-in_err-define_parts g c).After-define_parts)
     (λ h.
     let lacks : LacksRoom c.args.resolve.now (parts_of (kind_of c.args.shape)) [] (g.E.ValtypeEncoder.view c.args.enc.now) (g.E.ValtypeEncoder.view c.define_parts.new.enc) = (rw (c.deref.ensures.value, c.in_ok-parts.ensures) at (c.define_parts.ensures.size (search rules))) in
     room-more refl (λ n x. x) (λ q k. none-in q k) (omega arith) lacks)
@@ -76,7 +83,7 @@ returns-in_err-index g c =
     let before = g.E.ValtypeEncoder.view c.args.enc.now in
     let between = g.E.ValtypeEncoder.view c.define_parts.new.enc in
     let after = g.E.ValtypeEncoder.view c.define_shape.new.enc in
-    refused c.args.resolve.now (kind_of c.args.shape) before after c.from_residual-in_err-index.result (search rules) (leaves g at.After-branch-index)
+    refused c.args.resolve.now (kind_of c.args.shape) before after c.from_residual-in_err-index.result (search rules) (leaves g at.After-branch-index) (makes-same c.define_shape.ensures.around_stays (made g at.After-define_parts))
     (λ h.
     let keys : length between.maps.func_type_map.entries ≡ length before.maps.func_type_map.entries = ap length c.in_ok-define_parts.ensures.counts.keys.lists in
     let lacks = c.define_shape.ensures.size (search rules) in

@@ -14,3 +14,6 @@ returns-clause-learns g c = rw c.value_of.ensures.same c.in_ok-define_parts.ensu
 
 pub returns-clause-knows : goal.returns-clause-knows
 returns-clause-knows g c = rw c.value_of.ensures.same (ready-one (g.E.ValtypeEncoder.view c.define_parts.new.enc).maps c.args.ty.now c.in_ok-define_parts.ensures.ready)
+
+pub returns-clause-aliases : goal.returns-clause-aliases
+returns-clause-aliases g c = rw c.value_of.ensures.same c.define_parts.ensures.aliases

@@ -20,6 +20,7 @@ use Rattle.encode_types.specs.View.{WritesLearnt}
 use Rattle.encode_types.proofs.Writing.{writes-beside, writes-most}
 use Rattle.std.proofs.Common.{◌≤◌, ◌+◌}
 use Rattle.encode_types.specs.Extents.{signature_extent}
+use Rattle.encode_types.proofs.Aliasing.{makes-same}
 
 pub function_of-requires : goal.function_of-requires
 function_of-requires g c = λ _. ((refl, tt), (c.requires.encodable, (c.requires.is_key.async, c.requires.agree)))
@@ -106,3 +107,12 @@ returns-clause-written g c =
     let w : WritesLearnt c.args.resolve.now (0 + signature_extent (signature_of c.args.resolve.now c.args.func.now)) (g.E.ValtypeEncoder.view c.args.enc.now) (g.E.ValtypeEncoder.view c.remember_key.new.enc) =
     writes-beside (signature_extent (signature_of c.args.resolve.now c.args.func.now)) c.in_ok-def.ensures.written all (c.in_ok-remember_key.ensures.ok.rest.numbers ∙ ap (λ (z : TypeEncodingMaps). z.id_to_index.entries) c.define_function_type.ensures.maps_stay) in
     writes-most (omega arith) w
+
+pub returns-clause-aliases : goal.returns-clause-aliases
+returns-clause-aliases g c = makes-same (c.remember_key.ensures.around_stays ∙ c.define_function_type.ensures.around_stays) c.function_of.ensures.aliases
+
+pub returns-in_err-remember_key-clause-aliases : goal.returns-in_err-remember_key-clause-aliases
+returns-in_err-remember_key-clause-aliases g c = makes-same (c.remember_key.ensures.around_stays ∙ c.define_function_type.ensures.around_stays) c.function_of.ensures.aliases
+
+pub returns-in_err-index-clause-aliases : goal.returns-in_err-index-clause-aliases
+returns-in_err-index-clause-aliases g c = makes-same c.define_function_type.ensures.around_stays c.function_of.ensures.aliases

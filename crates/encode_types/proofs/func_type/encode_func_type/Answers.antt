@@ -6,6 +6,7 @@ use Rattle.encode_types.proofs.Functions.{key-stands, counts-known, ok-map}
 use Rattle.encode_types.proofs.func_type.encode_func_type.Goals as goal
 use Rattle.encode_types.proofs.Writing.{writes-nothing}
 use Rattle.encode_types.proofs.Rooms.{holds-none}
+use Rattle.encode_types.proofs.Aliasing.{met-none}
 
 pub returns-in-Some-clause-ok : goal.returns-in-Some-clause-ok
 returns-in-Some-clause-ok g c = rw (c.index_of_key.ensures.same, c.list_of_key.ensures.same) (key-stands c.args.resolve.now (g.E.ValtypeEncoder.view c.args.enc.now).maps (g.E.ValtypeEncoder.view c.args.enc.now).stands c.key_of-key.result c.args.func.now c.in-Some.index c.requires.agree c.key_of-key.ensures (at-some c.index_of_key.result (HasKey (g.E.ValtypeEncoder.view c.args.enc.now).maps c.key_of-key.result) c.in-Some.index c.in-Some.is (rw c.list_of_key.ensures.same at c.index_of_key.ensures.some)))
@@ -30,3 +31,12 @@ returns-in-Some-clause-written g c = rw (c.index_of_key.ensures.same, c.list_of_
 
 pub returns-in-Some-clause-held : goal.returns-in-Some-clause-held
 returns-in-Some-clause-held g c = rw (c.index_of_key.ensures.same, c.list_of_key.ensures.same) (holds-none c.args.resolve.now (g.E.ValtypeEncoder.view c.args.enc.now).scope.own_interface (g.E.ValtypeEncoder.view c.args.enc.now).maps (g.E.ValtypeEncoder.view c.args.enc.now).held)
+
+pub returns-in-Some-clause-aliases : goal.returns-in-Some-clause-aliases
+returns-in-Some-clause-aliases g c = rw (c.index_of_key.ensures.same, c.list_of_key.ensures.same) (met-none refl)
+
+pub returns-clause-aliases : goal.returns-clause-aliases
+returns-clause-aliases g c = rw (c.index_of_key.ensures.same, c.list_of_key.ensures.same) at c.define_key.ensures.aliases
+
+pub returns-in_err-list-clause-aliases : goal.returns-in_err-list-clause-aliases
+returns-in_err-list-clause-aliases g c = rw c.list_of_key.ensures.same (met-none refl)

@@ -8,6 +8,8 @@ use Rattle.encode_types.proofs.Functions.{encode-left, encode-right}
 use Rattle.encode_types.proofs.Defining.{leaves-trans, counts-trans, zip-kept, stands-more}
 use Rattle.encode_types.proofs.func_type.function_of.Goals as goal
 use Rattle.encode_types.proofs.Writing.{writes-then}
+use Rattle.encode_types.specs.Aliases.{MakesMet}
+use Rattle.encode_types.proofs.Aliasing.{met-more, makes-then}
 
 pub encode_params-requires : goal.encode_params-requires
 encode_params-requires g c = λ _. ((refl, tt), (rw c.deref.ensures.value (encode-left c.args.resolve.now (g.E.ValtypeEncoder.view c.args.enc.now).scope (map (λ p. p.ty) c.args.func.now.params.items) (option_to_list c.args.func.now.result) c.requires.encodable), c.requires.agree))
@@ -68,3 +70,24 @@ returns-clause-held g c = holds-then (ap (λ (z : Scope). z.own_interface) c.enc
 
 pub returns-clause-written : goal.returns-clause-written
 returns-clause-written g c = writes-then c.encode_params.ensures.leaves.scope_stays c.in_ok-params.ensures.written c.in_ok-result.ensures.written
+
+pub returns-in_err-params-clause-aliases : goal.returns-in_err-params-clause-aliases
+returns-in_err-params-clause-aliases g c =
+    let first : MakesMet c.args.resolve.now (map (λ p. p.ty) c.args.func.now.params.items) (g.E.ValtypeEncoder.view c.args.enc.now) (g.E.ValtypeEncoder.view c.encode_params.new.enc) = (rw c.deref.ensures.value at c.encode_params.ensures.aliases) in
+    met-more (reached-left (map (λ p. p.ty) c.args.func.now.params.items) (option_to_list c.args.func.now.result)) first
+
+pub returns-clause-aliases : goal.returns-clause-aliases
+returns-clause-aliases g c =
+    let params = map (λ p. p.ty) c.args.func.now.params.items in
+    let answer = option_to_list c.args.func.now.result in
+    let first : MakesMet c.args.resolve.now (map (λ p. p.ty) c.args.func.now.params.items) (g.E.ValtypeEncoder.view c.args.enc.now) (g.E.ValtypeEncoder.view c.encode_params.new.enc) = (rw c.deref.ensures.value at c.encode_params.ensures.aliases) in
+    let second : MakesMet c.args.resolve.now (option_to_list c.args.func.now.result) (g.E.ValtypeEncoder.view c.encode_params.new.enc) (g.E.ValtypeEncoder.view c.encode_optional_valtype.new.enc) = (rw c.as_ref.ensures.value at c.encode_optional_valtype.ensures.aliases) in
+    makes-then (ap (λ (z : Scope). z.own_interface) c.encode_params.ensures.leaves.scope_stays) (met-more (reached-left params answer) first) (met-more (reached-right params answer) second)
+
+pub returns-in_err-result-clause-aliases : goal.returns-in_err-result-clause-aliases
+returns-in_err-result-clause-aliases g c =
+    let params = map (λ p. p.ty) c.args.func.now.params.items in
+    let answer = option_to_list c.args.func.now.result in
+    let first : MakesMet c.args.resolve.now (map (λ p. p.ty) c.args.func.now.params.items) (g.E.ValtypeEncoder.view c.args.enc.now) (g.E.ValtypeEncoder.view c.encode_params.new.enc) = (rw c.deref.ensures.value at c.encode_params.ensures.aliases) in
+    let second : MakesMet c.args.resolve.now (option_to_list c.args.func.now.result) (g.E.ValtypeEncoder.view c.encode_params.new.enc) (g.E.ValtypeEncoder.view c.encode_optional_valtype.new.enc) = (rw c.as_ref.ensures.value at c.encode_optional_valtype.ensures.aliases) in
+    makes-then (ap (λ (z : Scope). z.own_interface) c.encode_params.ensures.leaves.scope_stays) (met-more (reached-left params answer) first) (met-more (reached-right params answer) second)

@@ -1,0 +1,75 @@
+-- Aliases of what is met.
+use Rattle.std.proofs.Common.{◌≡◌, sym, subst, ap, ◌∙◌, ℕ, List, [], ◌∷◌, ◌++◌, Option, Some, inl, inr}
+use Rattle.std.specs.List.{Contains}
+use Rattle.std.proofs.lemmas.List.Elements.{Contains-append_cases}
+use Rattle.wit_model.proofs.Elements.{contains-one, one-contained}
+use Rattle.wit_model.specs.Lookup.{type_at}
+use Rattle.wit_model.specs.declared.model.Resolve.{Resolve}
+use Rattle.wit_model.specs.declared.model.TypeId.{TypeId}
+use Rattle.wit_model.specs.declared.model.TypeDef.{TypeDef}
+use Rattle.wit_model.specs.declared.model.InterfaceId.{InterfaceId}
+use Rattle.wit_model.specs.declared.model.«Type».{«Type» as ValueType}
+use Rattle.wit_model.specs.declared.model.«Type».TheVariants as ty
+use Rattle.encode_types.specs.declared.maps.TypeEncodingMaps.{TypeEncodingMaps}
+use Rattle.encode_types.specs.Aliases.{IsMetElsewhere, AliasesMet}
+use Rattle.encode_types.specs.Known.{Around, Aliased, with_aliases, AreAliases, ReachesAround, as_before, aliased}
+use Rattle.encode_types.specs.MetKinds.{ReachedFrom}
+use Rattle.encode_types.specs.Plan.{foreign_owner, itself, Reaches, IsOrderOf}
+use Rattle.encode_types.proofs.Around.{with-both, are-both}
+use Rattle.encode_types.proofs.Encoding.{meets-reaches}
+use Rattle.encode_types.proofs.Lists.{none-in}
+use Rattle.encode_types.proofs.Rooms.{reaches-then}
+
+-- none have been made
+pub met-none : {r : Resolve} {own : Option InterfaceId} {ts : List ValueType} {a a' : Around} → a' ≡ a → AliasesMet r own ts a a'
+met-none e = record { grown = record { made = []; are = tt; is = e }; met = λ x c. none-in x c }
+
+pub met-then : {r : Resolve} {own : Option InterfaceId} {ts : List ValueType} {a b c : Around} → AliasesMet r own ts a b → AliasesMet r own ts b c → AliasesMet r own ts a c
+met-then {r} {own} {ts} {a} {b} {c} p q = record {
+  grown = record {
+    made = p.grown.made ++ q.grown.made;
+    are = are-both r a p.grown.made q.grown.made p.grown.are (subst (λ (z : Around). AreAliases r z q.grown.made) p.grown.is q.grown.are);
+    is = q.grown.is ∙ ap (λ (z : Around). with_aliases z q.grown.made) p.grown.is ∙ with-both a p.grown.made q.grown.made;
+  };
+  met = λ x h. elim (Contains-append_cases p.grown.made q.grown.made x h) [ inl y ↦ p.met x y | inr y ↦ q.met x y ];
+}
+
+-- of types that are met from others, too
+pub met-more : {r : Resolve} {own : Option InterfaceId} {ts us : List ValueType} {a b : Around} → ((n : ℕ) → ReachedFrom r own ts n → ReachedFrom r own us n) → AliasesMet r own ts a b → AliasesMet r own us a b
+met-more f p = record {
+  grown = p.grown;
+  met = λ x c. let m = p.met x c in record { met = f x.number.0 m.met; def = m.def; there = m.there; interface = m.interface; foreign = m.foreign };
+}
+
+-- one of this type, which is of another interface
+pub met-one : {r : Resolve} {own : Option InterfaceId} {id : TypeId} {a b : Around} (def : TypeDef) (interface : InterfaceId) → type_at r id.0 ≡ Some def → foreign_owner own def.owner ≡ Some interface → ReachesAround r id a b → AliasesMet r own (ty.Id id ∷ []) a b
+met-one def interface at f (as_before e) = met-none e
+met-one {r} {own} {id} {a} {b} def interface at f (aliased x is n e) = record {
+  grown = record { made = x ∷ []; are = (is, tt); is = e };
+  met = λ y c. subst (λ (z : Aliased). IsMetElsewhere r own (ty.Id id ∷ []) z.number.0) (one-contained x y c)
+      (subst (λ (z : TypeId). IsMetElsewhere r own (ty.Id id ∷ []) z.0) (sym n) (record { met = (ty.Id id, contains-one (ty.Id id), itself id); def = def; there = at; interface = interface; foreign = f }));
+}
+
+-- ---- between two encoders
+
+pub makes-then : {r : Resolve} {own own' : Option InterfaceId} {ts : List ValueType} {a b c : Around} → own' ≡ own → AliasesMet r own ts a b → AliasesMet r own' ts b c → AliasesMet r own ts a c
+makes-then {r} {own} {own'} {ts} {a} {b} {c} s p q = met-then p (subst (λ (z : Option InterfaceId). AliasesMet r z ts b c) s q)
+
+-- with what makes none behind it
+pub makes-same : {r : Resolve} {own : Option InterfaceId} {ts : List ValueType} {a b c : Around} → c ≡ b → AliasesMet r own ts a b → AliasesMet r own ts a c
+makes-same {r} {own} {ts} {a} {b} {c} e p = subst (λ (z : Around). AliasesMet r own ts a z) (sym e) p
+
+-- from one number of an order
+pub makes-number : {r : Resolve} {own own' : Option InterfaceId} {m : TypeEncodingMaps} {ts : List ValueType} {items : List ℕ} {a b c : Around} (n : ℕ) → own' ≡ own → IsOrderOf r own m ts items → Contains items n
+    → AliasesMet r own ts a b → AliasesMet r own' (ty.Id (record { 0 = n }) ∷ []) b c → AliasesMet r own ts a c
+makes-number {r} {own} {own'} {m} {ts} {items} {a} {b} {c} n s o h p q =
+    let met = o.added n h in
+    met-then p
+    (met-more
+    (λ k reached. (
+      met.0,
+      met.1,
+      reaches-then r own met.0 n (meets-reaches r own m met.0 n met.2) k
+          (subst (λ (t : ValueType). Reaches r own t k) (sym (one-contained (ty.Id (record { 0 = n })) reached.0 reached.1)) reached.2),
+    ))
+    (subst (λ (z : Option InterfaceId). AliasesMet r z (ty.Id (record { 0 = n }) ∷ []) b c) s q))

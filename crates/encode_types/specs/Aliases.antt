@@ -1,0 +1,29 @@
+-- Of which types aliases are made in the scope around: of those that are met, once for each.
+use Rattle.std.specs.Prelude.{ℕ, ◌≡◌, List, Option, Some}
+use Rattle.std.specs.List.{Contains}
+use Rattle.wit_model.specs.Lookup.{type_at}
+use Rattle.wit_model.specs.declared.model.Resolve.{Resolve}
+use Rattle.wit_model.specs.declared.model.TypeDef.{TypeDef}
+use Rattle.wit_model.specs.declared.model.InterfaceId.{InterfaceId}
+use Rattle.wit_model.specs.declared.model.«Type».{«Type» as ValueType}
+use Rattle.encode_types.specs.Known.{Around, Aliased, GrowsAround}
+use Rattle.encode_types.specs.Plan.{foreign_owner}
+use Rattle.encode_types.specs.MetKinds.{ReachedFrom}
+use Rattle.encode_types.specs.View.{View}
+
+-- a type of another interface, met on the way down from these types
+pub record IsMetElsewhere (r : Resolve) (own : Option InterfaceId) (ts : List ValueType) (n : ℕ) : Type 0 where
+  pub met : ReachedFrom r own ts n
+  pub def : TypeDef
+  pub there : type_at r n ≡ Some def
+  pub interface : InterfaceId
+  pub foreign : foreign_owner own def.owner ≡ Some interface
+
+-- Nothing has been declared around but aliases of such types, each of one that had none.
+pub record AliasesMet (r : Resolve) (own : Option InterfaceId) (ts : List ValueType) (a a' : Around) : Type 0 where
+  pub grown : GrowsAround r a a'
+  pub met : (x : Aliased) → Contains grown.made x → IsMetElsewhere r own ts x.number.0
+
+-- so it is around the scope of an encoder
+abbrev pub MakesMet : Resolve → List ValueType → View → View → Type 0
+MakesMet r ts v v' = AliasesMet r v.scope.own_interface ts v.around v'.around
