@@ -18,6 +18,7 @@ pub mod Rising
 pub mod WorldOrder
 pub mod ShownOrder
 pub mod PlanOrder
+pub mod MetPlaces
 pub mod OwnTrees
 pub mod OwnViews
 pub mod WorldInput

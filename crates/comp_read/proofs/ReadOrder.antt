@@ -17,8 +17,10 @@ use Rattle.plan_meaning.specs.NumberedMembers.{Homes, HomesStand, IsMember, are_
 use Rattle.plan_meaning.specs.NumberedViews.{Tables}
 use Rattle.plan_meaning.specs.Plan.{Plan}
 use Rattle.plan_package.specs.PlanWhole.{PlansWhole}
-use Rattle.read_exports.specs.Members.{numbered_members}
+use Rattle.plan_laws.specs.Whole.{IsPackageInput}
+use Rattle.read_exports.specs.Members.{numbered_members, numbered_part}
 use Rattle.read_exports.specs.declared.members.Member.{Member}
+use Rattle.read_exports.specs.declared.members.Part.{Part}
 use Rattle.read_members.specs.ReadMembers.{AreRead, lent_member}
 use Rattle.read_numbers.specs.FactLaws.{known_by}
 use Rattle.read_numbers.specs.NumberedInput.{tables_of}
@@ -35,7 +37,8 @@ use Rattle.comp_read.specs.ReadInput.{IsReadInput}
 use Rattle.comp_read.specs.ReadWorlds.{AreBeside, IsReadWorld}
 use Rattle.comp_read.specs.WorldsRead.{IsWorldReadOf}
 use Rattle.comp_read.proofs.ByScopes.{members_by_scopes}
-use Rattle.comp_read.proofs.PlanOrder.{package_follows, world_follows}
+use Rattle.comp_read.proofs.MetPlaces.{HavePaths, all_have, stand_alone}
+use Rattle.comp_read.proofs.PlanOrder.{StandAlone, package_follows, world_follows}
 use Rattle.comp_read.proofs.ReadPackages.{read_members_are_input}
 use Rattle.comp_read.proofs.Whole.{read_is_package_input}
 use Rattle.comp_read.proofs.WorldOrder.{places_are}
@@ -54,13 +57,16 @@ module _ (x : Followed) (facts : List KeptFact) (h : Homes) (n : ℕ) (ms : List
   package_read : (members : List reads.Member) × IsReadInput pieces x h ms members
   package_read = read_members_are_input pieces x followed facts read.known h read.stand ms read.read
 
+  packaged : IsPackageInput (tables_of x) h (known_by facts) n ms package_read.0
+  packaged = read_is_package_input pieces x h ms package_read.0 package_read.1 facts read.known read.homes n obeys
+
   follows_package : (p : Plan) → PlansWhole (tables_of x) h.packages (home_at h) n ms p → (r : Resolve) → IsBuilt p r → FollowsLevels (Some pieces) r
   follows_package p planned r built = record {
     members = package_read.0;
     exported = exported pieces x h ms package_read.0 package_read.1;
     follows =
         package_follows (tables_of x) h (known_by facts) n ms package_read.0
-        (read_is_package_input pieces x h ms package_read.0 package_read.1 facts read.known read.homes n obeys) p planned r built;
+        packaged (stand_alone pieces x h ms package_read.0 package_read.1 (all_have (tables_of x) (numbered_members ms) packaged.input.numbers)) p planned r built;
   }
 
 module _ (x : Followed) (t : Tables) (facts : List KeptFact) (h : Homes) (n : ℕ) (ms : List Member) (read : AreReadOf x t facts h (map lent_member ms)) (pieces : List Piece) (followed : IsFollowed pieces x)
@@ -91,11 +97,14 @@ module _ (x : Followed) (t : Tables) (facts : List KeptFact) (h : Homes) (m : Me
   world_in_order can r main is =
       let whole = read_world_is_whole pieces x t facts h m w world_is_read own are in
       let zip = over_tables (λ (u : Tables). AllZip (IsMember u h) (numbered_members (m ∷ [])) world_read.0) world_read.1.shown in
+      let alone = stand_alone pieces x h (m ∷ []) world_read.0 world_read.1 (subst (λ (a : Part). HavePaths (tables_of x) (numbered_part a)) (sym given.is) tt, tt) in
       let met = places_are t h given.read.homes m.package_number m w given.is own are order in
       record {
         members = world_read.0;
         exported = exported pieces x h (m ∷ []) world_read.0 world_read.1;
-        follows = world_follows t h (known_by facts) m.package_number m own whole.members whole.input w given.is are met world_read.0 zip is.plan is.planned r (is.built (can is.plan is.planned is.fits));
+        follows =
+            world_follows t h (known_by facts) m.package_number m own whole.members whole.input w given.is are met world_read.0 zip (over_tables (λ (u : Tables). StandAlone u (m ∷ [])) alone) is.plan is.planned r
+            (is.built (can is.plan is.planned is.fits));
       }
 
 -- ---- bytes

@@ -1,11 +1,13 @@
 -- The order in which what is decoded stands in a `Resolve` (Component Model WIT.md, "Package Format").
-use Rattle.std.specs.Prelude.{◌≡◌, ℕ, Bool, true, not, ◌&&◌, nat_lt, List, [], ◌∷◌, filter, filter_map, flat_map, map, Option, Some, slice_get}
+use Rattle.std.specs.Prelude.{◌≡◌, ℕ, Bool, true, not, ◌&&◌, false, nat_lt, List, [], ◌∷◌, ◌++◌, filter, flat_map, map, Option, Some, None, slice_get}
 use Rattle.std.specs.List.{list_all}
+use Rattle.std.specs.Option.{option_map_or}
 use Rattle.indexmap.specs.IndexMap.{values}
 use Rattle.wit_model.specs.declared.model.Interface.{Interface}
 use Rattle.wit_model.specs.declared.model.Package.{Package}
 use Rattle.wit_model.specs.declared.model.Resolve.{Resolve}
 use Rattle.wit_model.specs.Lookup.{interface_at, package_at, path_of_interface}
+use Rattle.wit_model.specs.Names.{path_in}
 use Rattle.wit_model.specs.Text.{Text, text_eq, text_of}
 use Rattle.comp_bytes.specs.Levels.{Piece}
 use Rattle.comp_bytes.specs.Raw.{Section}
@@ -13,7 +15,7 @@ use Rattle.comp_bytes.specs.Reading.{◌>>=◌}
 use Rattle.comp_bytes.specs.Spelling.{IsComponent}
 use Rattle.comp_meaning.specs.ByLevels.{exported_parts, member_by_levels}
 use Rattle.comp_meaning.specs.Follow.{each}
-use Rattle.comp_meaning.specs.Reads.{Member, exported_types, functions_of, member, sights, worlds_of}
+use Rattle.comp_meaning.specs.Reads.{Member, Part, exported_types, functions_of, interface, member, sights, world, worlds_of}
 use Rattle.plan_meaning.specs.Plan.{Plan, PlannedPackage, numbers_of}
 
 -- each number is smaller than those behind it
@@ -48,14 +50,26 @@ pub record ExportParts (bytes : List ℕ) (members : List Member) : Type 0 where
   pub spelled : IsComponent sections bytes
   pub are : (exported_types sections >>= each member) ≡ Some members
 
--- texts, each once, where it stands first
-abbrev pub each_once : List Text → List Text
-each_once [] = []
-each_once (x ∷ xs) = x ∷ filter (λ y. not (text_eq x y)) (each_once xs)
+-- The paths under which a part shows interfaces, in order. An inline interface has none.
+abbrev pub shown_under : Member → List (Option Text)
+shown_under m = of_part m.part
+  where
+    of_part : Part → List (Option Text)
+    of_part (world scope) = map (λ i. i.interface) scope.instances
+    of_part (interface exported imports) = map (λ i. Some i.0) imports ++ Some (path_in m.package_ m.label) ∷ []
 
--- the paths of the interfaces that parts show, each where it is shown first
-abbrev pub paths_shown : List Member → List Text
-paths_shown members = each_once (map (λ s. s.path) (flat_map sights members))
+abbrev pub is_under : Text → Option Text → Bool
+is_under path o = option_map_or (text_eq path) o false
+
+-- each path once, where it stands first; what has none stays
+abbrev pub once_by_path : List (Option Text) → List (Option Text)
+once_by_path [] = []
+once_by_path (None ∷ os) = None ∷ once_by_path os
+once_by_path (Some path ∷ os) = Some path ∷ filter (λ o. not (is_under path o)) (once_by_path os)
+
+-- the paths of the interfaces that parts show, each interface where it is shown first
+abbrev pub paths_shown : List Member → List (Option Text)
+paths_shown members = once_by_path (flat_map shown_under members)
 
 -- the names of the functions of a path, in the order of the first view that shows them
 abbrev pub functions_shown : List Member → Text → List Text
@@ -68,10 +82,10 @@ worlds_shown members = map (λ w. w.0) (flat_map worlds_of members)
 abbrev pub function_names : Interface → List Text
 function_names i = map (λ e. text_of e.0) i.functions.entries
 
--- Interfaces with a path are numbered in the order in which the parts show them first, worlds in the order in which they are exported. The functions of an
--- interface with a path stand in the order of the first view that shows them.
+-- Interfaces are numbered in the order in which the parts show them first, inline ones too, and worlds in the order in which they are exported. The functions
+-- of an interface with a path stand in the order of the first view that shows them.
 pub record FollowsParts (members : List Member) (r : Resolve) : Type 0 where
-  pub interfaces : filter_map (path_of_interface r) r.interfaces.items ≡ paths_shown members
+  pub interfaces : map (path_of_interface r) r.interfaces.items ≡ paths_shown members
   pub functions : (k : ℕ) (i : Interface) (path : Text) → interface_at r k ≡ Some i → path_of_interface r i ≡ Some path → function_names i ≡ functions_shown members path
   pub worlds : map (λ w. text_of w.name) r.worlds.items ≡ worlds_shown members
 
