@@ -16,12 +16,16 @@ pub mod OwnOrder
 pub mod OwnLaws
 pub mod Rising
 pub mod WorldOrder
+pub mod ShownOrder
+pub mod PlanOrder
+pub mod MetPlaces
 pub mod OwnTrees
 pub mod OwnViews
 pub mod WorldInput
 pub mod WorldLabels
 pub mod WorldPackage
 pub mod WorldWhole
+pub mod ReadOrder
 pub mod BuildLaws
 pub mod DecodedLaws
 pub mod FollowedLaws

@@ -41,13 +41,13 @@ use Rattle.comp_read.proofs.Lists.{IsOfOne, all_different, before_of, filter_fla
 use Rattle.comp_read.proofs.Members.{IsBoth, IsWorldRead, numbered_at, placed, scope_at, scope_in, seen_at, world_read, world_scope}
 use Rattle.comp_read.proofs.Scopes.{IsSeen}
 
-no_place : (o : Option Text) → is_none o ≡ true → o ≡ None
+pub no_place : (o : Option Text) → is_none o ≡ true → o ≡ None
 no_place None e = refl
 no_place (Some path) e = let wrong : false ≡ true = e in absurd cc
 
 module _ (t : Tables) where
   -- instances without a path, whose places differ
-  places_differ : (is : List NumberedInstance) → ((j k : ℕ) (i l : NumberedInstance) → slice_get is j ≡ Some i → slice_get is k ≡ Some l → path_at t i.place ≡ None → i.place ≡ l.place → j ≡ k)
+  pub places_differ : (is : List NumberedInstance) → ((j k : ℕ) (i l : NumberedInstance) → slice_get is j ≡ Some i → slice_get is k ≡ Some l → path_at t i.place ≡ None → i.place ≡ l.place → j ≡ k)
       → AreDifferent (map (λ (i : NumberedInstance). i.place) (filter (no_path t) is))
   places_differ [] apart = tt
   places_differ (i ∷ is) apart = by (no_path t i) refl (places_differ is (λ j k a b e f none same. let one = apart (suc j) (suc k) a b e f none same in omega (arith, one)))

@@ -95,7 +95,7 @@ module _ (P : ℕ → Bool) where
 joined_more : (ys : List ℕ) (x : ℕ) → joined (once ys) x ≡ once (ys ++ x ∷ [])
 joined_more ys x = ap (λ b. cond b (once ys) (once ys ++ x ∷ [])) (has_once x ys) ∙ sym (once_more ys x)
 
-joined_behind : (ys xs : List ℕ) → joined_all (once ys) xs ≡ once (ys ++ xs)
+pub joined_behind : (ys xs : List ℕ) → joined_all (once ys) xs ≡ once (ys ++ xs)
 joined_behind ys [] = ap once (sym (nothing_behind ys))
   where
     nothing_behind : (zs : List ℕ) → zs ++ [] ≡ zs
@@ -168,7 +168,7 @@ module _ (t : Tables) (h : Homes) (are_homes : AreHomesOf t h) (n : ℕ) where
     within : list_all (has met) (places_of (numbered_members own)) ≡ true
     within = ap (list_all (has met)) own_are ∙ passing_within (is_of_package h n) met met (λ z there. there)
 
-    places_are : places_in (m ∷ own) ≡ met
+    pub places_are : places_in (m ∷ own) ≡ met
     places_are =
         ap (λ (a : Part). joined_all [] (places_of_part (numbered_part a) ++ flat_map (λ (k : NumberedMember). places_of_part k.part) (numbered_members own))) is
         ∙ (ap (λ ps. joined_all [] (map (λ (i : NumberedInstance). i.place) (numbered_scope w).instances ++ ps)) (places_alone (numbered_members own) are.each)

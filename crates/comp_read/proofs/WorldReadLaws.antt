@@ -59,7 +59,7 @@ module _ (t : Tables) (h : Homes) (known : ℕ → Fact) (ms : List Member) (m :
 -- ---- a world that stands by itself
 
 module _ (x : Followed) (t : Tables) (facts : List KeptFact) (h : Homes) (m : Member) (w : Scope) (given : IsWorldReadOf x t facts h m w) (pieces : List Piece) (followed : IsFollowed pieces x) (own : List Member) (are : AreBeside t h m w own) where
-  is_world : IsReadWorld pieces x t facts h m w
+  pub is_world : IsReadWorld pieces x t facts h m w
   is_world = record {
     tables = given.read.tables;
     followed = followed;

@@ -1,10 +1,21 @@
 -- The order in which what is decoded stands in a `Resolve` (Component Model WIT.md, "Package Format").
-use Rattle.std.specs.Prelude.{◌≡◌, ℕ, Bool, true, ◌&&◌, nat_lt, List, [], ◌∷◌, map, Some, slice_get}
+use Rattle.std.specs.Prelude.{◌≡◌, ℕ, Bool, true, not, ◌&&◌, false, nat_lt, List, [], ◌∷◌, ◌++◌, filter, flat_map, map, Option, Some, None, slice_get}
 use Rattle.std.specs.List.{list_all}
+use Rattle.std.specs.Option.{option_map_or}
 use Rattle.indexmap.specs.IndexMap.{values}
+use Rattle.wit_model.specs.declared.model.Interface.{Interface}
 use Rattle.wit_model.specs.declared.model.Package.{Package}
 use Rattle.wit_model.specs.declared.model.Resolve.{Resolve}
-use Rattle.wit_model.specs.Lookup.{package_at}
+use Rattle.wit_model.specs.Lookup.{interface_at, package_at, path_of_interface}
+use Rattle.wit_model.specs.Names.{path_in}
+use Rattle.wit_model.specs.Text.{Text, text_eq, text_of}
+use Rattle.comp_bytes.specs.Levels.{Piece}
+use Rattle.comp_bytes.specs.Raw.{Section}
+use Rattle.comp_bytes.specs.Reading.{◌>>=◌}
+use Rattle.comp_bytes.specs.Spelling.{IsComponent}
+use Rattle.comp_meaning.specs.ByLevels.{exported_parts, member_by_levels}
+use Rattle.comp_meaning.specs.Follow.{each}
+use Rattle.comp_meaning.specs.Reads.{Member, Part, exported_types, functions_of, interface, member, sights, world, worlds_of}
 use Rattle.plan_meaning.specs.Plan.{Plan, PlannedPackage, numbers_of}
 
 -- each number is smaller than those behind it
@@ -30,3 +41,62 @@ PackagesRise p = (k : ℕ) (q : PlannedPackage) → slice_get p.packages k ≡ S
 
 abbrev pub OthersRise : Plan → ℕ → Type 0
 OthersRise p n = (k : ℕ) (q : PlannedPackage) → (k ≡ n → ⊥) → slice_get p.packages k ≡ Some q → rise (numbers_of q.interfaces) ≡ true
+
+-- ---- the order in which bytes show things
+
+-- The bytes export these parts at the top, in this order.
+pub record ExportParts (bytes : List ℕ) (members : List Member) : Type 0 where
+  pub sections : List Section
+  pub spelled : IsComponent sections bytes
+  pub are : (exported_types sections >>= each member) ≡ Some members
+
+-- The paths under which a part shows interfaces, in order. An inline interface has none.
+abbrev pub shown_under : Member → List (Option Text)
+shown_under m = of_part m.part
+  where
+    of_part : Part → List (Option Text)
+    of_part (world scope) = map (λ i. i.interface) scope.instances
+    of_part (interface exported imports) = map (λ i. Some i.0) imports ++ Some (path_in m.package_ m.label) ∷ []
+
+abbrev pub is_under : Text → Option Text → Bool
+is_under path o = option_map_or (text_eq path) o false
+
+-- each path once, where it stands first; what has none stays
+abbrev pub once_by_path : List (Option Text) → List (Option Text)
+once_by_path [] = []
+once_by_path (None ∷ os) = None ∷ once_by_path os
+once_by_path (Some path ∷ os) = Some path ∷ filter (λ o. not (is_under path o)) (once_by_path os)
+
+-- the paths of the interfaces that parts show, each interface where it is shown first
+abbrev pub paths_shown : List Member → List (Option Text)
+paths_shown members = once_by_path (flat_map shown_under members)
+
+-- the names of the functions of a path, in the order of the first view that shows them
+abbrev pub functions_shown : List Member → Text → List Text
+functions_shown members path = map (λ f. f.0) (functions_of path (flat_map sights members))
+
+-- the labels of the worlds that are exported
+abbrev pub worlds_shown : List Member → List Text
+worlds_shown members = map (λ w. w.0) (flat_map worlds_of members)
+
+abbrev pub function_names : Interface → List Text
+function_names i = map (λ e. text_of e.0) i.functions.entries
+
+-- Interfaces are numbered in the order in which the parts show them first, inline ones too, and worlds in the order in which they are exported. The functions
+-- of an interface with a path stand in the order of the first view that shows them.
+pub record FollowsParts (members : List Member) (r : Resolve) : Type 0 where
+  pub interfaces : map (path_of_interface r) r.interfaces.items ≡ paths_shown members
+  pub functions : (k : ℕ) (i : Interface) (path : Text) → interface_at r k ≡ Some i → path_of_interface r i ≡ Some path → function_names i ≡ functions_shown members path
+  pub worlds : map (λ w. text_of w.name) r.worlds.items ≡ worlds_shown members
+
+-- So it is with what the bytes export,
+pub record FollowsBytes (bytes : List ℕ) (r : Resolve) : Type 0 where
+  pub members : List Member
+  pub exported : ExportParts bytes members
+  pub follows : FollowsParts members r
+
+-- which is what their sections do, if there are any.
+pub record FollowsLevels (levels : Option (List Piece)) (r : Resolve) : Type 0 where
+  pub members : List Member
+  pub exported : (levels >>= λ pieces. exported_parts pieces >>= each member_by_levels) ≡ Some members
+  pub follows : FollowsParts members r

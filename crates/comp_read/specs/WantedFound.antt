@@ -8,11 +8,17 @@ use Rattle.comp_read.specs.declared.wanted.Wanted.{Wanted}
 use Rattle.comp_read.specs.declared.wanted.Wanted.TheVariants as wanted
 use Rattle.comp_read.specs.Decoded.{HoldsFound}
 use Rattle.comp_read.specs.DecodedWorlds.{HoldsWorldFound}
+use Rattle.comp_read.specs.Order.{FollowsLevels}
 
 -- the `Resolve` holds what the sections mean, if there are any, in the package of this number
-abbrev pub HoldsWanted : Wanted → Option (List Piece) → Resolve → ℕ → Type 0
-HoldsWanted wanted.Package o r n = HoldsFound (o >>= package_of_pieces) r n
-HoldsWanted wanted.World o r n = HoldsWorldFound (o >>= world_of_pieces) r n
+abbrev pub HoldsMeaning : Wanted → Option (List Piece) → Resolve → ℕ → Type 0
+HoldsMeaning wanted.Package o r n = HoldsFound (o >>= package_of_pieces) r n
+HoldsMeaning wanted.World o r n = HoldsWorldFound (o >>= world_of_pieces) r n
+
+-- So it does, in the order in which they show it.
+pub record HoldsWanted (w : Wanted) (o : Option (List Piece)) (r : Resolve) (n : ℕ) : Type 0 where
+  pub holds : HoldsMeaning w o r n
+  pub follows : FollowsLevels o r
 
 -- they mean no such thing
 abbrev pub MeansNone : Wanted → Option (List Piece) → Type 0

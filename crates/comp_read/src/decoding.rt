@@ -5,6 +5,7 @@ ghost use Rattle.comp_bytes.specs.Levels.{levels_of};
 ghost use Rattle.read_members.specs.ReadMembers.{Because};
 ghost use Rattle.comp_read.specs.Decoded.{error_from, IsDecoded, RefusesBytes};
 ghost use Rattle.comp_read.specs.DecodedWorlds.{IsDecodedWorld, RefusesWorldBytes};
+ghost use Rattle.comp_read.specs.Order.{FollowsBytes};
 ghost use Rattle.comp_read.specs.WantedFound.{HoldsWanted, MeansNone};
 
 use crate::reading::wanted_of_pieces;
@@ -39,7 +40,8 @@ fn error_of(refusal: Refusal, length: usize) -> Error
 ///
 /// The `Resolve` is valid, has no documentation and no known stability, and nothing beyond what the package means: its own interfaces and
 /// worlds in the order of the exports at the top, and of other packages the interfaces that are seen, in the order of their numbers, with the functions
-/// of the first view that shows some. It has no more types than there are bytes.
+/// of the first view that shows some. Interfaces are numbered in the order in which the bytes show them first, worlds in that of the exports.
+/// It has no more types than there are bytes.
 ///
 /// Takes time linear in the bytes, expected, or n log n where types are used of an interface that shows more than a few, and memory linear in what is
 /// declared. Refuses with `NoReading` exactly where the bytes mean no package, at an offset that is at most their length: with the cause of
@@ -48,6 +50,7 @@ fn error_of(refusal: Refusal, length: usize) -> Error
 /// refuses 2^32 bytes.
 pub fn decode(alloc: Global, bytes: &[u8]) -> Result<(Resolve, PackageId), Error>
     ensures decoded { IfOk result (λ x. IsDecoded bytes.now x.0 x.1.0) }
+    ensures order { IfOk result (λ x. FollowsBytes bytes.now x.0) }
     ensures refuses { IfErr result (RefusesBytes bytes.now) }
 {
     match wanted_in(alloc, Wanted::Package, bytes) {
@@ -61,7 +64,7 @@ pub fn decode(alloc: Global, bytes: &[u8]) -> Result<(Resolve, PackageId), Error
 ///
 /// The `Resolve` is valid, has no documentation and no known stability, and nothing beyond what the world means: the world, the interfaces that it
 /// imports and exports, each as the world shows it, and their packages. Those of its own package are the package's, in the order in which the world
-/// shows them first. It has no more types than there are bytes.
+/// shows them first, and all interfaces are numbered in that order. It has no more types than there are bytes.
 ///
 /// Takes time linear in the bytes, expected, or n log n where types are used of an interface that shows more than a few, and memory linear in what is
 /// declared. Refuses with `NoReading` exactly where the bytes mean no one world, at an offset that is at most their length: with the cause of
@@ -70,6 +73,7 @@ pub fn decode(alloc: Global, bytes: &[u8]) -> Result<(Resolve, PackageId), Error
 /// interface under its own path. Else refuses with `Memory`, as `decode` does.
 pub fn decode_world(alloc: Global, bytes: &[u8]) -> Result<(Resolve, WorldId), Error>
     ensures decoded { IfOk result (λ x. IsDecodedWorld bytes.now x.0 x.1.0) }
+    ensures order { IfOk result (λ x. FollowsBytes bytes.now x.0) }
     ensures refuses { IfErr result (RefusesWorldBytes bytes.now) }
 {
     match wanted_in(alloc, Wanted::World, bytes) {

@@ -1,6 +1,6 @@
 //! The package that members are.
 
-ghost use Rattle.std.specs.Prelude.{◌≡◌, ◌≤◌, List, length, map, IfErr, IfOk, None};
+ghost use Rattle.std.specs.Prelude.{◌≡◌, ◌≤◌, List, length, map, IfErr, IfOk, None, Some};
 ghost use Rattle.wit_model.specs.Names.{PackageIdentity};
 ghost use Rattle.comp_bytes.specs.Levels.{Piece as RawPiece};
 ghost use Rattle.comp_meaning.specs.ByLevels.{package_of_pieces};
@@ -10,6 +10,7 @@ ghost use Rattle.read_rules.specs.Tables.{known_in, numbered_tables};
 ghost use Rattle.read_members.specs.ReadMembers.{lent_member, Because};
 ghost use Rattle.comp_read.specs.Decoded.{HoldsFound};
 ghost use Rattle.comp_read.specs.MembersRead.{AreReadOf, IsMain};
+ghost use Rattle.comp_read.specs.Order.{FollowsLevels};
 ghost use Rattle.comp_read.specs.SomeFollowed.{IsSomeFollowed};
 
 use crate::building::built;
@@ -54,6 +55,7 @@ pub(crate) fn package_of_members<'a>(
     requires followed { IsSomeFollowed followed.now }
     requires read { AreReadOf followed.now (numbered_tables tables.now) tables.now.facts.now (homes_in packages.now homes.now) (map lent_member members.now) }
     ensures holds { (pieces : List RawPiece) → IsFollowed pieces followed.now → IfOk result (λ x. HoldsFound (package_of_pieces pieces) x.0 x.1.0) }
+    ensures follows { (pieces : List RawPiece) → IsFollowed pieces followed.now → IfOk result (λ x. FollowsLevels (Some pieces) x.0) }
     ensures few { IfOk result (λ x. length x.0.types.items ≤ length (numbered_tables tables.now).shapes) }
     ensures absent { (pieces : List RawPiece) → IsFollowed pieces followed.now → IfErr result (λ e. Because e (package_of_pieces pieces ≡ None)) }
 {

@@ -1,6 +1,6 @@
 //! The one world that members are.
 
-ghost use Rattle.std.specs.Prelude.{◌≡◌, ◌≤◌, List, length, map, IfErr, IfOk, None};
+ghost use Rattle.std.specs.Prelude.{◌≡◌, ◌≤◌, List, length, map, IfErr, IfOk, None, Some};
 ghost use Rattle.wit_model.specs.Names.{PackageIdentity};
 ghost use Rattle.wit_model.specs.declared.error.Cause.TheVariants.{NotWit};
 ghost use Rattle.comp_bytes.specs.Levels.{Piece as RawPiece};
@@ -12,6 +12,7 @@ ghost use Rattle.read_members.specs.ReadMembers.{lent_member, Because};
 ghost use Rattle.comp_read.specs.Causes.{cause_by_views, views_agree};
 ghost use Rattle.comp_read.specs.DecodedWorlds.{HoldsWorldFound};
 ghost use Rattle.comp_read.specs.MembersRead.{AreReadOf};
+ghost use Rattle.comp_read.specs.Order.{FollowsLevels};
 ghost use Rattle.comp_read.specs.Planned.{IsMemory};
 ghost use Rattle.comp_read.specs.SomeFollowed.{IsSomeFollowed};
 ghost use Rattle.comp_read.specs.WorldsRead.{IsOneMember, IsOneWorld, IsWorldReadOf};
@@ -98,6 +99,7 @@ fn built_world<'a>(
     requires followed { IsSomeFollowed followed.now }
     requires read { IsWorldReadOf followed.now (numbered_tables tables.now) tables.now.facts.now (homes_in packages.now homes.now) world scope }
     ensures holds { (pieces : List RawPiece) → IsFollowed pieces followed.now → IfOk result (λ x. HoldsWorldFound (world_of_pieces pieces) x.0 x.1.0) }
+    ensures follows { (pieces : List RawPiece) → IsFollowed pieces followed.now → IfOk result (λ x. FollowsLevels (Some pieces) x.0) }
     ensures few { IfOk result (λ x. length x.0.types.items ≤ length (numbered_tables tables.now).shapes) }
     ensures refuses { IfErr result IsMemory }
 {
@@ -125,6 +127,7 @@ pub(crate) fn world_of_members<'a>(
     requires followed { IsSomeFollowed followed.now }
     requires read { AreReadOf followed.now (numbered_tables tables.now) tables.now.facts.now (homes_in packages.now homes.now) (map lent_member members.now) }
     ensures holds { (pieces : List RawPiece) → IsFollowed pieces followed.now → IfOk result (λ x. HoldsWorldFound (world_of_pieces pieces) x.0 x.1.0) }
+    ensures follows { (pieces : List RawPiece) → IsFollowed pieces followed.now → IfOk result (λ x. FollowsLevels (Some pieces) x.0) }
     ensures few { IfOk result (λ x. length x.0.types.items ≤ length (numbered_tables tables.now).shapes) }
     ensures absent { (pieces : List RawPiece) → IsFollowed pieces followed.now → IfErr result (λ e. Because e (world_of_pieces pieces ≡ None)) }
 {

@@ -1,4 +1,4 @@
-use Rattle.std.proofs.Common.{◌≤◌, ap, subst, sym, ◌∙◌, List, ◌∷◌, length}
+use Rattle.std.proofs.Common.{◌≤◌, Some, ap, subst, sym, ◌∙◌, List, ◌∷◌, length}
 use Rattle.comp_meaning.specs.ByLevels.{world_of_pieces}
 use Rattle.read_exports.specs.Members.{homes_in}
 use Rattle.read_exports.specs.declared.members.Member.{Member}
@@ -7,10 +7,12 @@ use Rattle.plan_package.specs.PlanWhole.{MayBeWhole}
 use Rattle.plan_package.proofs.PackageLaws.{if_ok}
 use Rattle.plan_meaning.specs.NumberedMembers.{home_at}
 use Rattle.comp_read.specs.DecodedWorlds.{HoldsWorldFound}
+use Rattle.comp_read.specs.Order.{FollowsLevels}
 use Rattle.comp_read.specs.Planned.{CanBeBuilt, IsBuiltOf}
 use Rattle.comp_read.proofs.WorldLaws.{few_in_world, world_built}
 use Rattle.comp_read.proofs.WorldOrder.{world_packages_rise}
 use Rattle.comp_read.proofs.WorldReadLaws.{world_can_be_built, world_may_be_whole, world_plans_mean}
+use Rattle.comp_read.proofs.ReadOrder.{world_in_order}
 use Rattle.comp_read.proofs.worlds.built_world.Goals as goal
 
 pub built-requires-clause-whole : goal.built-requires-clause-whole
@@ -41,6 +43,20 @@ returns-clause-holds c = λ pieces followed.
     if_ok c.built.result (λ x. IsBuiltOf t c.args.packages.now (home_at h) n c.deref-2.result.now x.0 x.1.0) (λ x. HoldsWorldFound (world_of_pieces pieces) x.0 x.1.0)
     (λ x is. world_built t c.args.packages.now (home_at h) n (c.args.world ∷ own) x.0 x.1.0 (subst (λ (ms : List Member). IsBuiltOf t c.args.packages.now (home_at h) n ms x.0 x.1.0) all is) (world_of_pieces pieces) mean rises)
     c.built.ensures.built
+
+pub returns-clause-follows : goal.returns-clause-follows
+returns-clause-follows c = λ pieces followed.
+    let t = numbered_tables c.args.tables.now in
+    let h = homes_in c.args.packages.now c.args.homes.now in
+    let n = c.args.world.package_number in
+    let own = c.in_ok-own.own.items in
+    let facts = c.args.tables.now.facts.now in
+    let all = c.deref-2.ensures.value ∙ (c.in_ok-members.ensures ∙ ap (λ (ms : List Member). c.args.world ∷ ms) c.deref.ensures.value) in
+    let beside = c.in_ok-own.ensures.own c.args.packages.now in
+    let can = world_can_be_built c.args.followed.now t facts h c.args.world c.args.scope c.requires.read pieces followed own beside in
+    if_ok c.built.result (λ x. IsBuiltOf t c.args.packages.now (home_at h) n c.deref-2.result.now x.0 x.1.0) (λ x. FollowsLevels (Some pieces) x.0)
+    (λ x is. world_in_order c.args.followed.now t facts h c.args.world c.args.scope c.requires.read pieces followed own beside (c.in_ok-own.ensures.order c.args.packages.now) can x.0 x.1.0
+    (subst (λ (ms : List Member). IsBuiltOf t c.args.packages.now (home_at h) n ms x.0 x.1.0) all is)) c.built.ensures.built
 
 pub returns-clause-few : goal.returns-clause-few
 returns-clause-few c =
