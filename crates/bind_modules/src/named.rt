@@ -1,8 +1,8 @@
 //! What has been bound, with its packages by their names.
 
 ghost use Rattle.std.specs.Prelude.{◌≡◌, List, IfErr, IfOk, OnOk};
-ghost use Rattle.wit_model.specs.declared.error.Error.TheVariants.{Memory};
 ghost use Rattle.wit_model.specs.declared.model.WorldKey.{WorldKey};
+ghost use Rattle.wit_model.specs.Refusals.{IsMemory};
 ghost use Rattle.wit_bind.specs.Bindings.{IsBindgen};
 ghost use Rattle.wit_bind.specs.Merged.{IsMerge};
 ghost use Rattle.wit_bind.specs.Merges.{IsMergeRefusal};
@@ -22,7 +22,7 @@ pub(crate) fn named_by_bytes(
 ) -> Result<PackagesByName, Error>
     requires { IsBindgen bound.now }
     ensures named { IfOk result (AreNamed bound.now.resolve.packages.items) }
-    ensures refuses { IfErr result (λ e. e ≡ Memory) }
+    ensures refuses { IfErr result IsMemory }
 {
     let mut digest = Digest::new();
     digest.add(bytes);

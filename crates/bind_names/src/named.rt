@@ -3,8 +3,8 @@
 ghost use Rattle.std.specs.Prelude.{◌≡◌, ◌≤◌, [], length, List, map, take, IfErr, IfOk, OnOk};
 ghost use Rattle.std.specs.HashMap.{get_by};
 ghost use Rattle.wit_model.specs.Rules.{same_package_name};
-ghost use Rattle.wit_model.specs.declared.error.Error.TheVariants.{Memory};
 ghost use Rattle.wit_model.specs.declared.model.Package.{Package as PackageModel};
+ghost use Rattle.wit_model.specs.Refusals.{IsMemory};
 ghost use Rattle.bind_match.specs.Matching.{own_package_of};
 ghost use Rattle.bind_names.specs.Named.{AreNamed, GainsName};
 
@@ -32,7 +32,7 @@ fn add_package(
     id: PackageId,
 ) -> Result<(), Error>
     ensures gains { OnOk result (GainsName named.old name.now id named.new) }
-    ensures refuses { IfErr result (λ e. e ≡ Memory) }
+    ensures refuses { IfErr result IsMemory }
 {
     if !named.contains_key(name) {
         let copy = copy_package_name(alloc, name)?;
@@ -54,7 +54,7 @@ pub fn add_packages(
     requires range { known ≤ length packages.now }
     requires known { AreNamed (take known packages.now) named.old }
     ensures named { OnOk result (AreNamed packages.now named.new) }
-    ensures refuses { IfErr result (λ e. e ≡ Memory) }
+    ensures refuses { IfErr result IsMemory }
 {
     for number in known..packages.len() {
         add_package(

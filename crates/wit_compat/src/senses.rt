@@ -1,10 +1,10 @@
 //! The senses of places of two `Resolve`s.
 
 ghost use Rattle.std.specs.Prelude.{◌≡◌, ◌<◌, ◌↔◌, true, is_some, length, IfErr, IfOk, IsTrue};
-ghost use Rattle.wit_model.specs.declared.error.Error.TheVariants.{Memory as MemoryError};
 ghost use Rattle.wit_model.specs.Meaning.{world_sense};
 ghost use Rattle.wit_model.specs.Meant.{world_meaning_at};
 ghost use Rattle.wit_model.specs.Valid.{IsValid};
+ghost use Rattle.wit_model.specs.Refusals.{IsMemory};
 ghost use Rattle.wit_compat.specs.Senses.{sense_of};
 ghost use Rattle.wit_compat.specs.TwoSides.{first_of, second_of, AllSame, IsReady, IsSide};
 
@@ -100,7 +100,7 @@ impl<'a> Senses<'a> {
         ensures ready { IfOk result IsReady }
         ensures first { IfOk result (λ s. first_of s ≡ left.entry.now) }
         ensures second { IfOk result (λ s. second_of s ≡ right.entry.now) }
-        ensures refuses { IfErr result (λ e. e ≡ MemoryError) }
+        ensures refuses { IfErr result IsMemory }
     {
         Ok(Senses {
             left: Side { resolve: left },
@@ -125,7 +125,7 @@ impl<'a> Senses<'a> {
         requires at { is_some (sense_of (first_of self.old) at) ≡ true }
         requires other { is_some (sense_of (second_of self.old) other) ≡ true }
         ensures exact { IfOk result (λ y. IsTrue y ↔ (sense_of (first_of self.old) at ≡ sense_of (second_of self.old) other)) }
-        ensures refuses { IfErr result (λ e. e ≡ MemoryError) }
+        ensures refuses { IfErr result IsMemory }
         ensures ready { IsReady self.new }
         ensures first { first_of self.new ≡ first_of self.old }
         ensures second { second_of self.new ≡ second_of self.old }
@@ -151,7 +151,7 @@ pub fn same_sense(
     requires at { is_some (sense_of resolve.now at) ≡ true }
     requires place { is_some (sense_of other.now place) ≡ true }
     ensures exact { IfOk result (λ y. IsTrue y ↔ (sense_of resolve.now at ≡ sense_of other.now place)) }
-    ensures refuses { IfErr result (λ e. e ≡ MemoryError) }
+    ensures refuses { IfErr result IsMemory }
 {
     let mut senses = match Senses::new(alloc, resolve, other) {
         Ok(senses) => senses,
