@@ -6,7 +6,13 @@ use Rattle.wit_model.specs.Uses.{has, once as each_once}
 use Rattle.plan_meaning.specs.NumberedMembers.{Homes, NumberedMember, home_at, interface, is_interface_of, is_of_package}
 use Rattle.plan_meaning.specs.NumberedViews.{NumberedSight, NumberedView, Tables, first_at}
 use Rattle.plan_meaning.specs.NumberedWorlds.{NumberedScope, are_once, sights_of_scope}
-use Rattle.plan_laws.specs.OneWorld.{place_of_part}
+use Rattle.read_rules.specs.declared.scopes.Scope.{Scope}
+use Rattle.read_rules.specs.declared.tables.Tables.{Tables as KeptTables}
+use Rattle.read_rules.specs.Scopes.{numbered_scope}
+use Rattle.read_rules.specs.Tables.{numbered_tables}
+use Rattle.read_exports.specs.declared.members.Member.{Member}
+use Rattle.read_exports.specs.Members.{numbered_members}
+use Rattle.plan_laws.specs.OneWorld.{AreOwnInterfaces, place_of_part}
 
 -- ---- all views
 
@@ -62,3 +68,11 @@ pub data AddsInterface (n : ℕ) (label : Text) (s : NumberedSight) (places : Li
 pub data AddsView (h : Homes) (n : ℕ) (s : NumberedSight) (places : List ℕ) (ms : List NumberedMember) : List ℕ → List NumberedMember → Type 0 where
   another : is_of_package h n s.place ≡ false → AddsView h n s places ms places ms
   own : (label : Text) (later : List ℕ) (more : List NumberedMember) → home_at h s.place ≡ Some (n, label) → AddsInterface n label s places ms later more → AddsView h n s places ms later more
+
+-- the members that were read are the interfaces of its own package that a world shows,
+abbrev pub AreReadOwn : KeptTables → Homes → ℕ → Scope → List Member → Type 0
+AreReadOwn t h n w own = AreOwnInterfaces (numbered_tables t) h n (numbered_scope w) (numbered_members own)
+
+-- and they stand in the order in which it shows them first
+abbrev pub StandAsReadOwn : KeptTables → Homes → ℕ → Scope → List Member → Type 0
+StandAsReadOwn t h n w own = StandAsShown (numbered_tables t) h n (numbered_scope w) (numbered_members own)

@@ -4,11 +4,8 @@ ghost use Rattle.std.specs.Prelude.{◌≡◌, ◌∷◌, List, map, option_map,
 ghost use Rattle.wit_model.specs.Names.{PackageIdentity};
 ghost use Rattle.comp_bytes.specs.RawOf.{text_of};
 ghost use Rattle.read_exports.specs.Members.{homes_alone, homes_in, numbered_members};
-ghost use Rattle.read_rules.specs.Scopes.{numbered_scope};
 ghost use Rattle.read_rules.specs.Sights.{numbered_sight};
-ghost use Rattle.read_rules.specs.Tables.{numbered_tables};
-ghost use Rattle.plan_laws.specs.OneWorld.{AreOwnInterfaces};
-ghost use Rattle.comp_read.specs.OwnMembers.{AddsInterface, AddsView, AreOwnAmong, IsNameIn, StandAsShown};
+ghost use Rattle.comp_read.specs.OwnMembers.{AddsInterface, AddsView, AreOwnAmong, AreReadOwn, IsNameIn, StandAsReadOwn};
 
 use indexmap::IndexSet;
 use read_exports::{Member, Part, home_at};
@@ -102,8 +99,8 @@ pub fn own_interfaces<'a>(
     package_number: usize,
     scope: Scope<'a>,
 ) -> Result<Vec<Member<'a>>, AllocError>
-    ensures own { (packages : List PackageIdentity) → IfOk result (λ own. AreOwnInterfaces (numbered_tables tables.now) (homes_in packages homes.now) package_number (numbered_scope scope.entry) (numbered_members own.items)) }
-    ensures order { (packages : List PackageIdentity) → IfOk result (λ own. StandAsShown (numbered_tables tables.now) (homes_in packages homes.now) package_number (numbered_scope scope.entry) (numbered_members own.items)) }
+    ensures own { (packages : List PackageIdentity) → IfOk result (λ own. AreReadOwn tables.now (homes_in packages homes.now) package_number scope.entry own.items) }
+    ensures order { (packages : List PackageIdentity) → IfOk result (λ own. StandAsReadOwn tables.now (homes_in packages homes.now) package_number scope.entry own.items) }
 {
     let sights = sights_of_scope(alloc, tables, scope)?;
     interfaces_among(alloc, homes, package_number, &sights)
