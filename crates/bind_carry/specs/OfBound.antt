@@ -1,7 +1,6 @@
 -- Words for what is said of the two bound worlds, the own one and the one whose items it gains.
 use Rattle.std.specs.Prelude.{◌≡◌, ◌+◌, ◌<◌, ◌≤◌, ℕ, Bool, List, length, Some}
 use Rattle.wit_model.specs.Lookup.{world_at}
-use Rattle.wit_model.specs.declared.model.Interface.{Interface}
 use Rattle.wit_model.specs.declared.model.Resolve.{Resolve}
 use Rattle.wit_model.specs.declared.model.TypeDef.{TypeDef}
 use Rattle.wit_model.specs.declared.model.World.{World}
@@ -11,7 +10,7 @@ use Rattle.bind_add.specs.declared.added.Added.{Added}
 use Rattle.bind_copy.specs.Copies.{AreNewCopied}
 use Rattle.bind_match.specs.declared.matches.Matches.{Matches}
 use Rattle.bind_carry.specs.Bound.{IsBoundOver}
-use Rattle.bind_carry.specs.BoundGains.{bound_fates, gained_inline, unified}
+use Rattle.bind_carry.specs.BoundGains.{bound_fates}
 use Rattle.bind_carry.specs.Fates.{AreCopied}
 use Rattle.bind_carry.specs.Few.{AreFew}
 use Rattle.bind_carry.specs.TooLong.{copies_of, AreTooManyGained, IsTooLong}
