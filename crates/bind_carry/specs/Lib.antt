@@ -28,3 +28,4 @@ pub mod AddedDistinct
 pub mod AddedKeys
 pub mod ListedNames
 pub mod AddedNames
+pub mod OfBound

@@ -7,14 +7,13 @@ ghost use Rattle.wit_model.specs.declared.error.Error.TheVariants.{Memory, Size}
 ghost use Rattle.wit_model.specs.declared.model.Interface.{Interface as InterfaceValue};
 ghost use Rattle.wit_model.specs.declared.model.World.{World as WorldValue};
 ghost use Rattle.std.specs.List.{AllZip};
-ghost use Rattle.bind_copy.specs.Copies.{are_names_below, AreEntriesBelow, AreFunctionsBelow, AreNewCopied, IsInterfaceUnder};
+ghost use Rattle.bind_copy.specs.Copies.{are_names_below, AreEntriesBelow, AreFunctionsBelow, IsInterfaceUnder};
 ghost use Rattle.bind_carry.specs.Whole.{kept};
-ghost use Rattle.bind_carry.specs.BoundGains.{are_types_below, bound_fates, gained_inline, gains_any, type_under_key, unified, unify_one as unify_one_lem, AreInlineCopied, AreKeysUnder, AreWorldKeysBelow};
-ghost use Rattle.bind_carry.specs.Fates.{AreCopied, FallBelow};
-ghost use Rattle.bind_carry.specs.Bound.{IsBoundOver, IsBoundReady, IsSameButItems};
-ghost use Rattle.bind_carry.specs.Few.{AreFew};
+ghost use Rattle.bind_carry.specs.BoundGains.{are_types_below, gained_inline, gains_any, type_under_key, unified, unify_one as unify_one_lem, AreInlineCopied, AreKeysUnder, AreWorldKeysBelow};
+ghost use Rattle.bind_carry.specs.Fates.{FallBelow};
+ghost use Rattle.bind_carry.specs.Bound.{IsBoundReady, IsSameButItems};
 ghost use Rattle.bind_carry.specs.Numbers.{copied_count, numbers_of, IsMemoryOrSize};
-ghost use Rattle.bind_carry.specs.TooLong.{copies_of, AreTooManyGained};
+ghost use Rattle.bind_carry.specs.OfBound.{AreExportsBound, AreImportsBound, AreTooManyTypes, AreTypesBound, IsAllBound, IsTooMuchBound, OfBound, StaysFew};
 ghost use Rattle.bind_carry.specs.Shown.{any_new, are_keys_below, type_in, AreNewShownBelow};
 ghost use Rattle.bind_carry.specs.First.{beside_first, is_named_at, second_from, second_in, IsHomeIn};
 ghost use Rattle.wit_model.specs.declared.model.TypeDef.{TypeDef as TypeDefValue};
@@ -72,7 +71,7 @@ fn copied_inline(alloc: Global, bound: Bound<'_>, interfaces: &[u32]) -> Result<
     requires other_range { bound.other_world.0 < length bound.other.now.worlds.items }
     requires imports { (v : WorldValue) → world_at bound.other.now bound.other_world.0 ≡ Some v → AreNewShownBelow (length interfaces.now) (length bound.other.now.interfaces.items) v.imports.entries }
     requires exports { (v : WorldValue) → world_at bound.other.now bound.other_world.0 ≡ Some v → AreNewShownBelow (length interfaces.now) (length bound.other.now.interfaces.items) v.exports.entries }
-    ensures flags { IfOk result (λ f. (w v : WorldValue) → world_at bound.entry.own.now bound.entry.world.0 ≡ Some w → world_at bound.entry.other.now bound.entry.other_world.0 ≡ Some v → f.items ≡ gained_inline bound.entry.other.now interfaces.now w v) }
+    ensures flags { IfOk result (λ f. OfBound bound.entry (λ w v. f.items ≡ gained_inline bound.entry.other.now interfaces.now w v)) }
     ensures count { IfOk result (λ f. length f.items ≡ length bound.entry.other.now.interfaces.items) }
     ensures refuses { IfErr result (λ error. error ≡ Memory) }
 {
@@ -260,7 +259,7 @@ fn unify_types(bound: Bound<'_>, fates: &mut [Fate])
     requires own_range { bound.world.0 < length bound.own.now.worlds.items }
     requires other_range { bound.other_world.0 < length bound.other.now.worlds.items }
     requires types { (v : WorldValue) → world_at bound.other.now bound.other_world.0 ≡ Some v → are_types_below (length fates.old) v.imports.entries ≡ true }
-    ensures fates { (w v : WorldValue) → world_at bound.entry.own.now bound.entry.world.0 ≡ Some w → world_at bound.entry.other.now bound.entry.other_world.0 ≡ Some v → fates.new ≡ unified w.imports.entries v.imports.entries fates.old }
+    ensures fates { OfBound bound.entry (λ w v. fates.new ≡ unified w.imports.entries v.imports.entries fates.old) }
     ensures count { length fates.new ≡ length fates.old }
 {
     let own = own_world(bound);
@@ -316,11 +315,11 @@ fn bind_types(
     requires owners { (n : ℕ) (def : TypeDefValue) → type_at bound.other.now n ≡ Some def → IsHomeIn (length copied.now) def.owner }
     requires imports { (v : WorldValue) → world_at bound.other.now bound.other_world.0 ≡ Some v → are_types_below (length bound.other.now.types.items) v.imports.entries ≡ true }
     requires falls { FallBelow bound.other.now.types.items }
-    ensures copied { IfOk result (λ numbers. (w v : WorldValue) → world_at bound.entry.own.now bound.entry.world.0 ≡ Some w → world_at bound.entry.other.now bound.entry.other_world.0 ≡ Some v → AreCopied (length bound.entry.own.now.types.items) numbers.items bound.entry.other.now.types.items (bound_fates bound.entry.other.now bound.entry.world.0 bound.entry.other_world.0 w v copied.now interfaces.now first.entry.fates.now first.entry.types.now) added.old.items added.new.items) }
+    ensures copied { IfOk result (λ numbers. AreTypesBound bound.entry first.entry copied.now interfaces.now numbers.items added.old.items added.new.items) }
     ensures count { IfOk result (λ numbers. length numbers.items ≡ length bound.entry.other.now.types.items) }
     ensures few { IfOk result (λ numbers. length bound.entry.own.now.types.items + length added.new.items ≤ 4294967295) }
     ensures refuses { IfErr result IsMemoryOrSize }
-    ensures size { IfErr result (λ e. e ≡ Size → ((w v : WorldValue) → world_at bound.entry.own.now bound.entry.world.0 ≡ Some w → world_at bound.entry.other.now bound.entry.other_world.0 ≡ Some v → 4294967295 < (length bound.entry.own.now.types.items + length added.old.items) + copies_of (bound_fates bound.entry.other.now bound.entry.world.0 bound.entry.other_world.0 w v copied.now interfaces.now first.entry.fates.now first.entry.types.now))) }
+    ensures size { IfErr result (λ e. e ≡ Size → AreTooManyTypes bound.entry first.entry copied.now interfaces.now (length added.old.items)) }
 {
     let mut fates = first_fates(alloc, bound, copied, interfaces, first)?;
     unify_types(bound, &mut fates);
@@ -400,8 +399,8 @@ fn bind_entries(
     requires other_range { bound.other_world.0 < length bound.other.now.worlds.items }
     requires imports { (v : WorldValue) → world_at bound.other.now bound.other_world.0 ≡ Some v → AreEntriesBelow (length numbers.interfaces.now) (length numbers.types.now) v.imports.entries }
     requires exports { (v : WorldValue) → world_at bound.other.now bound.other_world.0 ≡ Some v → AreEntriesBelow (length numbers.interfaces.now) (length numbers.types.now) v.exports.entries }
-    ensures imports { OnOk result ((w v : WorldValue) → world_at bound.entry.own.now bound.entry.world.0 ≡ Some w → world_at bound.entry.other.now bound.entry.other_world.0 ≡ Some v → AreNewCopied numbers.entry.interfaces.now numbers.entry.types.now w.imports.entries v.imports.entries added.new.imports.entries) }
-    ensures exports { OnOk result ((w v : WorldValue) → world_at bound.entry.own.now bound.entry.world.0 ≡ Some w → world_at bound.entry.other.now bound.entry.other_world.0 ≡ Some v → AreNewCopied numbers.entry.interfaces.now numbers.entry.types.now w.exports.entries v.exports.entries added.new.exports.entries) }
+    ensures imports { OnOk result (AreImportsBound bound.entry numbers.entry.interfaces.now numbers.entry.types.now added.new.imports.entries) }
+    ensures exports { OnOk result (AreExportsBound bound.entry numbers.entry.interfaces.now numbers.entry.types.now added.new.exports.entries) }
     ensures lists { IsSameButItems added.old added.new }
     ensures refuses { IfErr result (λ error. error ≡ Memory) }
 {
@@ -420,10 +419,10 @@ pub(crate) fn bind_items(
     added: &mut Added,
 ) -> Result<(), Error>
     requires { IsBoundReady bound.own.now bound.other.now bound.world.0 bound.other_world.0 first.carried.now first.fates.now first.types.now }
-    ensures gained { OnOk result ((w v : WorldValue) → world_at bound.entry.own.now bound.entry.world.0 ≡ Some w → world_at bound.entry.other.now bound.entry.other_world.0 ≡ Some v → IsBoundOver bound.entry.own.now bound.entry.other.now bound.entry.world.0 bound.entry.other_world.0 w v first.entry.carried.now first.entry.fates.now first.entry.types.now added.old added.new) }
-    ensures few { OnOk result (length bound.entry.own.now.packages.items + length added.old.packages.items ≤ 4294967295 → length bound.entry.own.now.worlds.items + length added.old.worlds.items ≤ 4294967295 → AreFew bound.entry.own.now added.new) }
+    ensures gained { OnOk result (IsAllBound bound.entry first.entry added.old added.new) }
+    ensures few { OnOk result (StaysFew bound.entry.own.now added.old added.new) }
     ensures refuses { IfErr result IsMemoryOrSize }
-    ensures size { IfErr result (λ e. e ≡ Size → ((w v : WorldValue) → world_at bound.entry.own.now bound.entry.world.0 ≡ Some w → world_at bound.entry.other.now bound.entry.other_world.0 ≡ Some v → AreTooManyGained bound.entry.own.now bound.entry.other.now bound.entry.world.0 bound.entry.other_world.0 w v first.entry.carried.now first.entry.fates.now first.entry.types.now (length added.old.interfaces.items) (length added.old.types.items))) }
+    ensures size { IfErr result (λ e. e ≡ Size → IsTooMuchBound bound.entry first.entry added.old) }
 {
     let copied = copied_inline(alloc, bound, &first.carried.interfaces)?;
     let before = added.interfaces.len();
