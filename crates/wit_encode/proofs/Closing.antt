@@ -15,23 +15,25 @@ use Rattle.comp_bytes.specs.Held.{type_slots_of}
 use Rattle.encode_shown.specs.Views.{ShowsInterface, ShowsTypes, functions_of}
 use Rattle.encode_shown.proofs.Interfaces.{interface-means, types-mean}
 use Rattle.encode_types.specs.Distinct.{DefinesKeys, DefinesTypes}
-use Rattle.encode_types.specs.Known.{Around, GrowsAround}
+use Rattle.encode_types.specs.Aliases.{AliasesMet}
+use Rattle.encode_types.specs.MetKinds.{referred}
+use Rattle.encode_types.specs.Known.{Around}
 use Rattle.wit_encode.specs.declared.interface.Foreign.{Foreign}
 use Rattle.wit_encode.specs.Order.{functions_in_order}
 use Rattle.wit_encode.specs.Instance.{stands_inside, around_at, keyed, placed_function, meaning_of, EncodesInterface, EncodesDependency, EncodesPart, IsInstance}
 use Rattle.wit_encode.proofs.Counting.{count-keys, permuted-keys}
-use Rattle.wit_encode.proofs.Referring.{permuted-types}
+use Rattle.wit_encode.proofs.Referring.{permuted-aliases, permuted-types}
 use Rattle.wit_encode.proofs.Opening.{Placed, map-twice, values-permuted}
 
 -- the instance type takes its slot
 pub closes : {E : Type 0} (res : Result ℕ E) (r : Resolve) (a : Around) (outer outer' : Declarations) (foreign foreign' : Foreign) (i : InterfaceId) (def : Interface) (types : List TypeId) (declared : List Declaration) (fs : List Placed) → types ≡ values def.types
-    → GrowsAround r a (around_at outer foreign) → foreign' ≡ foreign → DefinesKeys r (stands_inside r i outer declared) (map (λ f. f.2.now) fs) declared → DefinesTypes r (Some i) (stands_inside r i outer declared) types (map (λ f. f.2.now) fs) (from_list declared)
+    → AliasesMet r (Some i) (referred types (map (λ f. f.2.now) fs)) a (around_at outer foreign) → foreign' ≡ foreign → DefinesKeys r (stands_inside r i outer declared) (map (λ f. f.2.now) fs) declared → DefinesTypes r (Some i) (stands_inside r i outer declared) types (map (λ f. f.2.now) fs) (from_list declared)
     → IsInstance r outer i declared (map (λ f. meaning_of r (placed_function f)) fs) → IfOk res (λ k. (k ≡ type_slots_of outer) × (outer' ≡ append outer (Declarations.instance (from_list declared) Declarations.no_more)))
     → IfOk res (λ k. EncodesPart r a (around_at outer' foreign') i def (map placed_function fs) (map (λ f. f.2.now) fs) k)
 closes (Err e) r a outer outer' foreign foreign' i def types declared fs l grown o keys kinds is h = h
 closes (Ok k) r a outer outer' foreign foreign' i def types declared fs l grown o keys kinds is h = record {
   before = around_at outer foreign;
-  aliases = grown;
+  aliases = subst (λ (ts : List TypeId). AliasesMet r (Some i) (referred ts (map (λ f. f.2.now) fs)) a (around_at outer foreign)) l grown;
   declared = declared;
   index = h.0;
   one_more = λ j. around_at (h.1 j) (o j);
@@ -46,7 +48,7 @@ pub whole : (r : Resolve) → IsValid r → (a a' : Around) (i : InterfaceId) (d
 whole r v a a' i def fs k there p ordered e = record {
   part = record {
     before = e.before;
-    aliases = e.aliases;
+    aliases = permuted-aliases r (Some i) (values def.types) (values def.functions) (map (λ f. f.2.now) fs) (values-permuted def fs p) e.aliases;
     declared = e.declared;
     index = e.index;
     one_more = e.one_more;

@@ -7,6 +7,7 @@ use Rattle.wit_model.specs.declared.model.Resolve.{Resolve}
 use Rattle.wit_model.specs.declared.model.Interface.{Interface}
 use Rattle.wit_model.specs.declared.model.InterfaceId.{InterfaceId}
 use Rattle.wit_model.specs.declared.model.Function.{Function}
+use Rattle.wit_model.specs.declared.model.«Type».{«Type» as ValueType}
 use Rattle.wit_model.specs.Text.{Text}
 use Rattle.comp_bytes.specs.Raw.{Declaration, Declarations, ExternName, append, declaration_count, from_list}
 use Rattle.comp_bytes.specs.Held.{fits_counts, type_slots_of}
@@ -20,10 +21,12 @@ use Rattle.encode_types.specs.Room.{limit}
 use Rattle.wit_model.proofs.OnePath.{some-of}
 use Rattle.encode_names.specs.WorldNames.{name_of_interface}
 use Rattle.wit_encode.specs.Dependencies.{HasImported, ImportsTypes, with_export}
+use Rattle.wit_encode.specs.DependencyAliases.{HasImportAliases}
+use Rattle.wit_encode.proofs.DependencyAliases.{export-aliased}
 use Rattle.wit_encode.specs.DependencyCounts.{DefinesComponent, DefinesImports, DefinesTypesOf}
 use Rattle.wit_encode.specs.DependencyRoom.{HoldsImports, LacksImport, its_types, its_path, a_place, ImportsLackRoom, an_interface, a_path, too_many, ComponentLacksRoom, of_imports, of_interface, of_path, TypesLackRoom}
 use Rattle.wit_encode.specs.Encoders.{InterfaceLacksRoom}
-use Rattle.wit_encode.specs.Instance.{EncodesInterface, EncodesPart, LacksInstanceRoom}
+use Rattle.wit_encode.specs.Instance.{EncodesInterface, EncodesPart, LacksInstanceRoom, whole_interface, types_alone_of}
 use Rattle.wit_encode.specs.Worlds.{brought_numbers, instances_declared}
 use Rattle.wit_encode.proofs.PlacedInstances.{grown-few, grown-listed, one-behind, placed-counted, placed-few, placed-instances}
 use Rattle.wit_encode.proofs.Refusing.{counts-refused, outer-slots-few}
@@ -47,9 +50,9 @@ module _ (r : Resolve) (canonical : Bool) (a a' : Around) (i : InterfaceId) (num
   pub import-few : (ns : List ℕ) → HoldsImports r a ns → HoldsImports r a' (ns ++ i.0 ∷ [])
   import-few ns h =
       let f : declaration_count a'.declared + length (brought_numbers r a) ≤ declaration_count a.declared + (length (brought_numbers r a') + 2) =
-      placed-few r a before t.encodes.part.aliases inner described a'.declared made i.0 number a'.instances a'.known
+      placed-few r a before t.encodes.part.aliases.grown inner described a'.declared made i.0 number a'.instances a'.known
       (ap (λ (z : Around). z.instances) t.imports ∙ ap (λ (z : Around). insert_entry nat_cmp z.instances i.0 number) t.encodes.part.one_more
-      ∙ ap (λ (es : List (ℕ × ℕ)). insert_entry nat_cmp es i.0 number) (grown-listed r a before t.encodes.part.aliases))
+      ∙ ap (λ (es : List (ℕ × ℕ)). insert_entry nat_cmp es i.0 number) (grown-listed r a before t.encodes.part.aliases.grown))
       (ap (λ (z : Around). z.known) t.imports ∙ ap (λ (z : Around). z.known) t.encodes.part.one_more) in
       let l = length-append ns (i.0 ∷ []) in
       omega (arith, f, h, l)
@@ -57,10 +60,10 @@ module _ (r : Resolve) (canonical : Bool) (a a' : Around) (i : InterfaceId) (num
   pub import-defines : (ns : List ℕ) → DefinesImports r a.declared ns → DefinesImports r a'.declared (ns ++ i.0 ∷ [])
   import-defines ns h = record {
     beside = record {
-      value_types = placed-counted r a before t.encodes.part.aliases inner described a'.declared made is_value_type (λ x. refl) refl ∙ h.beside.value_types;
-      function_types = placed-counted r a before t.encodes.part.aliases inner described a'.declared made is_function_type (λ x. refl) refl ∙ h.beside.function_types;
+      value_types = placed-counted r a before t.encodes.part.aliases.grown inner described a'.declared made is_value_type (λ x. refl) refl ∙ h.beside.value_types;
+      function_types = placed-counted r a before t.encodes.part.aliases.grown inner described a'.declared made is_function_type (λ x. refl) refl ∙ h.beside.function_types;
     };
-    inside = subst (AllZip (DefinesTypesOf r) (ns ++ i.0 ∷ [])) (sym (placed-instances r a before t.encodes.part.aliases inner described a'.declared made))
+    inside = subst (AllZip (DefinesTypesOf r) (ns ++ i.0 ∷ [])) (sym (placed-instances r a before t.encodes.part.aliases.grown inner described a'.declared made))
         (zip-append (DefinesTypesOf r) ns (instances_declared a.declared) (i.0 ∷ []) ((before.declared, inner) ∷ []) h.inside (one, tt));
   }
     where
@@ -85,17 +88,18 @@ module _ (r : Resolve) (canonical : Bool) (a a' : Around) (i : InterfaceId) (def
   made_last : outer ≡ append (append encodes.part.before.declared (Declarations.instance own Declarations.no_more)) (Declarations.declares exported_by Declarations.no_more)
   made_last = is ∙ ap (λ (z : Around). append z.declared (Declarations.declares exported_by Declarations.no_more)) encodes.part.one_more
 
-  pub export-defines : (ns : List ℕ) → interface_at r i.0 ≡ Some def → ns ≡ reached_in_order r i.0 → DefinesImports r a.declared ns → DefinesComponent r i.0 outer
-  export-defines ns there order h = record {
+  pub export-defines : (ns : List ℕ) → interface_at r i.0 ≡ Some def → ns ≡ reached_in_order r i.0 → DefinesImports r a.declared ns → HasImported r a ns → HasImportAliases r a ns → DefinesComponent r i.0 outer
+  export-defines ns there order h imported aliased = record {
     beside = record {
-      value_types = placed-counted r a encodes.part.before encodes.part.aliases own exported_by outer made_last is_value_type (λ x. refl) refl ∙ h.beside.value_types;
-      function_types = placed-counted r a encodes.part.before encodes.part.aliases own exported_by outer made_last is_function_type (λ x. refl) refl ∙ h.beside.function_types;
+      value_types = placed-counted r a encodes.part.before encodes.part.aliases.grown own exported_by outer made_last is_value_type (λ x. refl) refl ∙ h.beside.value_types;
+      function_types = placed-counted r a encodes.part.before encodes.part.aliases.grown own exported_by outer made_last is_function_type (λ x. refl) refl ∙ h.beside.function_types;
     };
     imports = instances_declared a.declared;
     own = (encodes.part.before.declared, own);
-    are = placed-instances r a encodes.part.before encodes.part.aliases own exported_by outer made_last;
+    are = placed-instances r a encodes.part.before encodes.part.aliases.grown own exported_by outer made_last;
     reached = subst (λ (xs : List ℕ). AllZip (DefinesTypesOf r) xs (instances_declared a.declared)) order h.inside;
     exported = record { def = def; there = there; declarations = encodes.part.declared; is = refl; function_types = encodes.part.function_types; value_types = encodes.part.value_types };
+    aliases = export-aliased r canonical a a' ns i def k outer there encodes is order imported aliased;
   }
 
 -- ---- a call that has no room
@@ -108,22 +112,21 @@ by-name {Q} name declared unfit over = go (fits_name name) refl
     go false u g = unfit u
     go true u g = let few = outer-slots-few declared in over (counts-refused (declaration_count declared) (type_slots_of declared + 0) (omega (arith, few)) g)
 
-full-after : (r : Resolve) (a : Around) → (l : LacksInstanceRoom r a) → limit ≤ declaration_count l.after.declared + 1
-full-after r a l =
+full-after : {r : Resolve} {i : InterfaceId} {ts : List ValueType} {a : Around} (l : LacksInstanceRoom r i ts a) → limit ≤ declaration_count l.after.declared + 1
+full-after l =
     let few = outer-slots-few l.after.declared in
     let over = counts-refused (declaration_count l.after.declared) (type_slots_of l.after.declared + 1) (omega (arith, few)) l.full in
     omega (arith, over)
 
 module _ (r : Resolve) (canonical : Bool) (a : Around) (i : InterfaceId) (def : Interface) where
-  pub slot-lacks : interface_at r i.0 ≡ Some def → TypesLackRoom r i def ⊎ LacksInstanceRoom r a → LacksImport r canonical a i
+  pub slot-lacks : interface_at r i.0 ≡ Some def → TypesLackRoom r i def ⊎ LacksInstanceRoom r i (types_alone_of def) a → LacksImport r canonical a i
   slot-lacks there (inl l) = its_types def there l
-  slot-lacks there (inr l) = a_place l.after l.grown (full-after r a l)
+  slot-lacks there (inr l) = a_place l.after (record { def = def; there = there; made = l.grown }) (full-after l)
 
-pub import-lacks : (r : Resolve) (canonical : Bool) (a a' : Around) (i : InterfaceId) (def : Interface) (written : List (Text × Function)) (fs : List Function) (k : ℕ) (part : EncodesPart r a a' i def written fs k) (name : ExternName)
-    → name ≡ name_of_interface r canonical i.0 → (fits_name name && fits_counts (declaration_count a'.declared + 1) (type_slots_of a'.declared + 0)) ≡ false → LacksImport r canonical a i
-import-lacks r canonical a a' i def written fs k part name named =
+pub import-lacks : (r : Resolve) (canonical : Bool) (a a' : Around) (i : InterfaceId) (def : Interface) (written : List (Text × Function)) (k : ℕ) → interface_at r i.0 ≡ Some def → (part : EncodesPart r a a' i def written [] k) (name : ExternName) → name ≡ name_of_interface r canonical i.0 → (fits_name name && fits_counts (declaration_count a'.declared + 1) (type_slots_of a'.declared + 0)) ≡ false → LacksImport r canonical a i
+import-lacks r canonical a a' i def written k there part name named =
     by-name name a'.declared (λ u. its_path (ap fits_name (sym named) ∙ u))
-    (λ over. let one = one-behind part.before (from_list part.declared) a'.declared (ap (λ (z : Around). z.declared) part.one_more) in a_place part.before part.aliases (omega (arith, over, one)))
+    (λ over. let one = one-behind part.before (from_list part.declared) a'.declared (ap (λ (z : Around). z.declared) part.one_more) in a_place part.before (record { def = def; there = there; made = part.aliases }) (omega (arith, over, one)))
 
 -- ---- all of them
 
@@ -137,13 +140,13 @@ module _ (r : Resolve) (interfaces front : List ℕ) (among : (n : ℕ) → Cont
   pub next-lacks : (canonical : Bool) (i : InterfaceId) → Contains interfaces i.0 → LacksImport r canonical a i → ImportsLackRoom r interfaces
   next-lacks canonical i c (its_types def there l) = an_interface i def c there l
   next-lacks canonical i c (its_path u) = a_path canonical i.0 c u
-  next-lacks canonical i c (a_place after g over) = place-lacks after g over
+  next-lacks canonical i c (a_place after g over) = place-lacks after g.made.grown over
 
 -- the interface itself, behind all imports
 module _ (r : Resolve) (ns : List ℕ) (a : Around) (h : HasImported r a ns) (held : HoldsImports r a ns) (i : InterfaceId) (def : Interface) where
-  pub own-lacks : interface_at r i.0 ≡ Some def → InterfaceLacksRoom r i def ⊎ LacksInstanceRoom r a → ComponentLacksRoom r i ns
+  pub own-lacks : interface_at r i.0 ≡ Some def → InterfaceLacksRoom r i def ⊎ LacksInstanceRoom r i (whole_interface def) a → ComponentLacksRoom r i ns
   own-lacks there (inl l) = of_interface def there l
-  own-lacks there (inr l) = of_imports (place-lacks r ns ns (λ n c. c) (omega arith) a h held l.after l.grown (full-after r a l))
+  own-lacks there (inr l) = of_imports (place-lacks r ns ns (λ n c. c) (omega arith) a h held l.after l.grown.grown (full-after l))
 
   pub export-lacks : (canonical : Bool) (a' : Around) (k : ℕ) → EncodesInterface r a a' i def k → (name : ExternName) → name ≡ name_of_interface r canonical i.0
       → (fits_name name && fits_counts (declaration_count a'.declared + 1) (type_slots_of a'.declared + 0)) ≡ false → ComponentLacksRoom r i ns
@@ -151,4 +154,4 @@ module _ (r : Resolve) (ns : List ℕ) (a : Around) (h : HasImported r a ns) (he
       let part = encodes.part in
       by-name name a'.declared (λ u. of_path canonical (ap fits_name (sym named) ∙ u))
       (λ over. let one = one-behind part.before (from_list part.declared) a'.declared (ap (λ (z : Around). z.declared) part.one_more) in
-      of_imports (place-lacks r ns ns (λ n c. c) (omega arith) a h held part.before part.aliases (omega (arith, over, one))))
+      of_imports (place-lacks r ns ns (λ n c. c) (omega arith) a h held part.before part.aliases.grown (omega (arith, over, one))))

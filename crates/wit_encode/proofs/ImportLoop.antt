@@ -23,6 +23,8 @@ use Rattle.wit_model.proofs.OnePath.{found-in, some-of}
 use Rattle.comp_bytes.specs.Raw.{Declarations}
 use Rattle.wit_encode.specs.Dependencies.{AreImportable, HasImported, ImportsTypes, with_import}
 use Rattle.wit_encode.specs.DependencyCounts.{DefinesImports}
+use Rattle.wit_encode.specs.DependencyAliases.{HasImportAliases}
+use Rattle.wit_encode.proofs.DependencyAliases.{import-aliased}
 use Rattle.wit_encode.specs.DependencyRoom.{HoldsImports, ImportsLackRoom, LacksImport}
 use Rattle.wit_encode.specs.WrittenNames.{NamesInterfaces}
 use Rattle.wit_encode.proofs.DependencyHolding.{import-defines, import-few, next-lacks}
@@ -208,6 +210,12 @@ defines-next r r' canonical xs k a a' e l t h =
     let u : ImportsTypes r canonical a a' (item xs k) k = subst (λ (q : Resolve). ImportsTypes q canonical a a' (item xs k) k) e t in
     subst (DefinesImports r a'.declared) (numbers-next xs k l) (import-defines r canonical a a' (item xs k) k u (take k (numbers xs)) h)
 
+pub aliases-next : (r r' : Resolve) (canonical : Bool) (xs : List InterfaceId) (k : ℕ) (a a' : Around) → r' ≡ r → k < length xs → ImportsTypes r' canonical a a' (item xs k) k → HasImported r' a (take k (numbers xs)) → HasImportAliases r a (take k (numbers xs))
+    → HasImportAliases r a' (take (k + 1) (numbers xs))
+aliases-next r r' canonical xs k a a' e l t imported h =
+    subst (HasImportAliases r a') (numbers-next xs k l)
+    (import-aliased r canonical a a' (take k (numbers xs)) (item xs k) k (subst (λ (q : Resolve). ImportsTypes q canonical a a' (item xs k) k) e t) (subst (λ (q : Resolve). HasImported q a (take k (numbers xs))) e imported) h)
+
 pub held-next : (r r' : Resolve) (canonical : Bool) (xs : List InterfaceId) (k : ℕ) (a a' : Around) → r' ≡ r → k < length xs → ImportsTypes r' canonical a a' (item xs k) k → HoldsImports r a (take k (numbers xs)) → HoldsImports r a' (take (k + 1) (numbers xs))
 held-next r r' canonical xs k a a' e l t h =
     subst (HoldsImports r a') (numbers-next xs k l) (import-few r canonical a a' (item xs k) k (subst (λ (q : Resolve). ImportsTypes q canonical a a' (item xs k) k) e t) (take k (numbers xs)) h)
@@ -238,6 +246,11 @@ pub all-defined : (r : Resolve) (xs : List InterfaceId) (k : ℕ) (declared : De
 all-defined r xs k declared l h =
     let same : length (numbers xs) ≡ length xs = length-map xs (λ (id : InterfaceId). id.0) in
     subst (DefinesImports r declared) (take_all k (numbers xs) (omega (arith, same, l))) h
+
+pub all-aliased : (r : Resolve) (xs : List InterfaceId) (k : ℕ) (a : Around) → length xs ≤ k → HasImportAliases r a (take k (numbers xs)) → HasImportAliases r a (numbers xs)
+all-aliased r xs k a l h =
+    let same : length (numbers xs) ≡ length xs = length-map xs (λ (id : InterfaceId). id.0) in
+    subst (HasImportAliases r a) (take_all k (numbers xs) (omega (arith, same, l))) h
 
 pub all-held : (r : Resolve) (xs : List InterfaceId) (k : ℕ) (a : Around) → length xs ≤ k → HoldsImports r a (take k (numbers xs)) → HoldsImports r a (numbers xs)
 all-held r xs k a l h =

@@ -145,7 +145,7 @@ module _ (i : ℕ) (ns : List ℕ) (es : List (ℕ × ℕ)) (first : known_insta
 module _ (r : Resolve) (v : IsValid r) (canonical : Bool) (a a' : Around) (ns : List ℕ) (i : InterfaceId) (def : Interface) (path : Text) (written : List (Text × Function)) (fs : List Function) (k : ℕ)
     (is : interface_path r i.0 ≡ Some path) (h : HasImported r a ns) (e : EncodesPart r a a' i def written fs k) where
   before : HasImported r e.before ns
-  before = aliases_leave_imports r a e.before ns h e.aliases
+  before = aliases_leave_imports r a e.before ns h e.aliases.grown
 
   abbrev s : Scope
   s = before.scope
@@ -233,7 +233,7 @@ module _ (r : Resolve) (v : IsValid r) (canonical : Bool) (a a' : Around) (ns : 
       kept b (y ∷ made) = kept (with_alias b y) made
 
       missing : known_instance e.before.instances i.0 ≡ None
-      missing = ap (λ es. known_instance es i.0) (ap (λ (z : Around). z.instances) e.aliases.is ∙ kept a e.aliases.made) ∙ first
+      missing = ap (λ es. known_instance es i.0) (ap (λ (z : Around). z.instances) e.aliases.grown.is ∙ kept a e.aliases.grown.made) ∙ first
 
   export-ends : component_scope (with_export r canonical i k a'.declared) ≡ Some (next export_)
   export-ends =

@@ -64,6 +64,7 @@ pub mod WorldCounting
 pub mod WorldHolding
 pub mod PlacedInstances
 pub mod WorldInstances
+pub mod DependencyAliases
 pub mod DependencyHolding
 pub mod DependencyWeighing
 pub mod Lengths

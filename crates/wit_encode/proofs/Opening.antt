@@ -227,3 +227,12 @@ closed-stay (Ok k) r a outer outer' foreign foreign' es g e ok err j h =
     (instances-then r foreign outer es j (outer_scope outer) refl (are_right r foreign.known.entries (outer_slots outer)) refl (grown-stay r a (around_at outer foreign) g j h))
 closed-stay (Err x) r a outer outer' foreign foreign' es g e ok err j h =
     subst (λ (z : Around). Contains (standing_instances r z) j) (λ i. around_at (sym err i) (sym e i)) (grown-stay r a (around_at outer foreign) g j h)
+
+-- what holds anyway
+pub when-err : {A E P : Type 0} (res : Result A E) → P → OnErr res P
+when-err (Ok x) p = tt
+when-err (Err e) p = p
+
+pub err-then : {A E P Q : Type 0} (res : Result A E) → (P → Q) → OnErr res P → OnErr res Q
+err-then (Ok x) f p = p
+err-then (Err e) f p = f p

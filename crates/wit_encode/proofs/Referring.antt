@@ -1,4 +1,7 @@
 -- What the types and functions of an interface meet, and what maps learn of it, type by type and function by function.
+use Rattle.encode_types.specs.Aliases.{AliasesMet}
+use Rattle.encode_types.specs.Known.{Around}
+use Rattle.encode_types.proofs.Aliasing.{met-more}
 use Rattle.std.proofs.Common.{◌≡◌, refl, sym, subst, ap, ◌∙◌, ℕ, suc, ◌+◌, ◌<◌, ◌≤◌, true, ◌&&◌, inl, inr, List, [], ◌∷◌, ◌++◌, map, take, length, get_or, Option, option_to_list, Result, Ok, Err, OnOk, arith, Vec}
 use Rattle.std.specs.declared.alloc.Global.{Global}
 use Rattle.std.specs.Prelude.{IsPermutation, flat_map}
@@ -181,6 +184,9 @@ module _ (r : Resolve) (own : Option InterfaceId) (types : List TypeId) (fs gs :
 
   pub permuted-kinds : (kinds : List TypeDefKind) → AreMetKinds r own (referred types gs) kinds → AreMetKinds r own (referred types fs) kinds
   permuted-kinds kinds a = record { different = a.different; met = λ k c. met-too gs fs forth k (a.met k c); all = λ k x. a.all k (met-too fs gs back k x) }
+
+pub permuted-aliases : (r : Resolve) (own : Option InterfaceId) (types : List TypeId) (fs gs : List Function) → IsPermutation fs gs → {a a' : Around} → AliasesMet r own (referred types gs) a a' → AliasesMet r own (referred types fs) a a'
+permuted-aliases r own types fs gs p m = met-more (λ n x. (x.0, refers-too r own types fs gs p gs fs (forth r own types fs gs p) x.0 x.1, x.2)) m
 
 pub permuted-types : (r : Resolve) (own : Option InterfaceId) (S : Pairs) (types : List TypeId) (fs gs : List Function) (ds : Declarations) → IsPermutation fs gs → DefinesTypes r own S types gs ds → DefinesTypes r own S types fs ds
 permuted-types r own S types fs gs ds p t = record {

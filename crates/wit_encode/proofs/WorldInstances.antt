@@ -28,7 +28,7 @@ use Rattle.encode_names.specs.WorldNames.{name_of_item}
 use Rattle.encode_names.specs.WorldSteps.{Entry, Entries, declared_towards, interfaces_among}
 use Rattle.wit_encode.specs.Encoders.{InterfaceLacksRoom, declared_after}
 use Rattle.encode_types.specs.Distinct.{is_value_type, is_function_type}
-use Rattle.wit_encode.specs.Instance.{EncodesInterface, LacksInstanceRoom}
+use Rattle.wit_encode.specs.Instance.{EncodesInterface, LacksInstanceRoom, whole_interface}
 use Rattle.wit_encode.specs.WorldCounts.{DefinesInterface, HasDefined, no_interface}
 use Rattle.wit_encode.specs.WorldHolds.{HoldsFew, LacksDeclaration}
 use Rattle.wit_encode.specs.WorldItems.{IsNext, ListsInstance, all_done}
@@ -84,16 +84,16 @@ module _ (r : Resolve) (e e' e'' : WorldEncoder) (x : Entry) (i : InterfaceId) (
   known-then = ap (λ (z : WorldEncoder). z.foreign.known.entries) lists.rest ∙ ap (λ (z : Around). z.known) encodes.part.one_more
 
   listed-then : e''.foreign.instances.entries ≡ insert_entry nat_cmp e.foreign.instances.entries i.0 e'.instances
-  listed-then = lists.listed ∙ ap (λ (es : List (ℕ × ℕ)). insert_entry nat_cmp es i.0 e'.instances) (ap (λ (z : Around). z.instances) encodes.part.one_more ∙ grown-listed r (world_around e) before encodes.part.aliases)
+  listed-then = lists.listed ∙ ap (λ (es : List (ℕ × ℕ)). insert_entry nat_cmp es i.0 e'.instances) (ap (λ (z : Around). z.instances) encodes.part.one_more ∙ grown-listed r (world_around e) before encodes.part.aliases.grown)
 
   instances-then : instances_declared e''.outer ≡ instances_declared e.outer ++ (before.declared, inner) ∷ []
-  instances-then = placed-instances r (world_around e) before encodes.part.aliases inner described e''.outer outer-then
+  instances-then = placed-instances r (world_around e) before encodes.part.aliases.grown inner described e''.outer outer-then
 
   -- nothing is defined beside the instance type
   pub interface-defined : (es : List Entry) → HasDefined r e es → HasDefined r e'' (es ++ x ∷ [])
   interface-defined es h = defines-behind r e e'' es h x [] [] (no-function x i.0 is) (λ t c. none-in t c)
-      (adds-alike refl same-maps refl refl refl (placed-slots r (world_around e) before encodes.part.aliases inner described e''.outer outer-then is_value_type (λ a. refl) (towards-value direction name (refs.Instance k)))
-      (placed-targets r (world_around e) before encodes.part.aliases inner described e''.outer outer-then (towards-target direction name (refs.Instance k) refl)) (placed-slots r (world_around e) before encodes.part.aliases inner described e''.outer outer-then is_function_type (λ a. refl) (towards-function direction name (refs.Instance k)))
+      (adds-alike refl same-maps refl refl refl (placed-slots r (world_around e) before encodes.part.aliases.grown inner described e''.outer outer-then is_value_type (λ a. refl) (towards-value direction name (refs.Instance k)))
+      (placed-targets r (world_around e) before encodes.part.aliases.grown inner described e''.outer outer-then (towards-target direction name (refs.Instance k) refl)) (placed-slots r (world_around e) before encodes.part.aliases.grown inner described e''.outer outer-then is_function_type (λ a. refl) (towards-function direction name (refs.Instance k)))
       (adds-nothing r (no_interface r) e.maps (world_definitions e.outer)))
       (subst (λ (m : TypeEncodingMaps). LearnsFrom r None [] e.maps m) (sym same-maps) (from-none r None [] e.maps))
       (subst (λ (ns : List ℕ). AllZip (DefinesInterface r) ns (instances_declared e''.outer)) (sym (interfaces-more es (x ∷ []) ∙ ap (λ (ns : List ℕ). interfaces_among es ++ ns) (among-one x i.0 is)))
@@ -112,7 +112,7 @@ module _ (r : Resolve) (e e' e'' : WorldEncoder) (x : Entry) (i : InterfaceId) (
     held =
         (let few = h.held in
         let a : declaration_count e''.outer + length (brought_numbers r (world_around e)) ≤ declaration_count e.outer + (length (brought_numbers r (world_around e'')) + 2) =
-        placed-few r (world_around e) before encodes.part.aliases inner described e''.outer outer-then i.0 e'.instances e''.foreign.instances.entries e''.foreign.known.entries listed-then known-then in
+        placed-few r (world_around e) before encodes.part.aliases.grown inner described e''.outer outer-then i.0 e'.instances e''.foreign.instances.entries e''.foreign.known.entries listed-then known-then in
         let o : length e''.maps.id_to_index.entries ≡ length e.maps.id_to_index.entries = ap (λ (z : TypeEncodingMaps). length z.id_to_index.entries) same-maps in
         let p = count-both es (x ∷ []) in
         let q = count-one x i.0 is in
@@ -147,7 +147,7 @@ module _ (r : Resolve) (w : World) (e : WorldEncoder) (done : Entries) (directio
   among = next-among r w direction done x n
 
   -- the instance type has none, or there is none for it
-  pub instance-lacks : (def : Interface) → interface_at r i.0 ≡ Some def → InterfaceLacksRoom r i def ⊎ LacksInstanceRoom r (world_around e) → WorldLacksRoom r w
+  pub instance-lacks : (def : Interface) → interface_at r i.0 ≡ Some def → InterfaceLacksRoom r i def ⊎ LacksInstanceRoom r i (whole_interface def) (world_around e) → WorldLacksRoom r w
   instance-lacks def there (inl l) = an_interface i def (subst (λ (es : List Entry). Contains (interfaces_among es) i.0) (sym among.1) (here (all_done done) among.0)) there l
     where
       here : (es rest : List Entry) → Contains (interfaces_among (es ++ x ∷ rest)) i.0
@@ -156,7 +156,7 @@ module _ (r : Resolve) (w : World) (e : WorldEncoder) (done : Entries) (directio
           (subst (λ (ns : List ℕ). Contains ns i.0) (sym (among-one x i.0 is)) (0, omega arith, refl)))))
   instance-lacks def there (inr l) =
       let few = outer-slots-few l.after.declared in
-      over-behind l.after l.grown l.after.declared (omega arith) (counts-refused (declaration_count l.after.declared) (type_slots_of l.after.declared + 1) (omega (arith, few)) l.full)
+      over-behind l.after l.grown.grown l.after.declared (omega arith) (counts-refused (declaration_count l.after.declared) (type_slots_of l.after.declared + 1) (omega (arith, few)) l.full)
 
   -- its import or export has none
   pub placed-lacks : (canonical : Bool) (name : ExternName) (k : ℕ) (a : Around) (def : Interface) → EncodesInterface r (world_around e) a i def k → name ≡ name_of_item r canonical x
@@ -174,6 +174,6 @@ module _ (r : Resolve) (w : World) (e : WorldEncoder) (done : Entries) (directio
       by false u g = a_name canonical x (subst (λ (es : List Entry). Contains es x) (sym among.1) (there (all_done done) among.0)) (no-type x i.0 is) (ap fits_name (sym named) ∙ u)
       by true u g =
           let few = outer-slots-few a.declared in
-          over-behind encodes.part.before encodes.part.aliases a.declared
+          over-behind encodes.part.before encodes.part.aliases.grown a.declared
           (one-behind encodes.part.before (from_list encodes.part.declared) a.declared (ap (λ (z : Around). z.declared) encodes.part.one_more))
           (counts-refused (declaration_count a.declared) (type_slots_of a.declared + 0) (omega (arith, few)) g)

@@ -320,7 +320,7 @@ module _ (r : Resolve) (v : IsValid r) (w : World) (e e' : WorldEncoder) (done :
   between = with_outer e before.declared e'.foreign
 
   shown-between : HasShown r w between done
-  shown-between = aliases-shown r w e done h before.declared e'.foreign (subst (λ (q : Resolve). GrowsAround q (world_around e) (around_at before.declared e'.foreign)) (sym h.packages_) (subst (GrowsAround r (world_around e)) (sym same-around) encodes.part.aliases))
+  shown-between = aliases-shown r w e done h before.declared e'.foreign (subst (λ (q : Resolve). GrowsAround q (world_around e) (around_at before.declared e'.foreign)) (sym h.packages_) (subst (GrowsAround r (world_around e)) (sym same-around) encodes.part.aliases.grown))
 
   declared-then : outer ≡ declared_after (append before.declared (Declarations.instance (from_list encodes.part.declared) Declarations.no_more)) (declared_towards direction (name_of_item r canonical x) (refs.Instance k))
   declared-then = declared ∙ ap (λ (z : Around). declared_after z.declared (declared_towards direction (name_of_item r canonical x) (refs.Instance k))) encodes.part.one_more

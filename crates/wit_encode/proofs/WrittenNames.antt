@@ -94,7 +94,7 @@ function-names r q canonical x f ds es outer direction name k is g declared =
 -- an instance type has no name
 part-names : (q : Resolve) (a a' : Around) (i : InterfaceId) (def : Interface) (written : List (Text × Function)) (functions : List Function) (k : ℕ) → EncodesPart q a a' i def written functions k → instance_names a'.declared ≡ instance_names a.declared
 part-names q a a' i def written functions k part =
-    ap (λ (z : Around). instance_names z.declared) part.one_more ∙ names-behind part.before.declared _ ∙ ap (λ (z : Around). instance_names z.declared) part.aliases.is ∙ names-aliased a part.aliases.made
+    ap (λ (z : Around). instance_names z.declared) part.one_more ∙ names-behind part.before.declared _ ∙ ap (λ (z : Around). instance_names z.declared) part.aliases.grown.is ∙ names-aliased a part.aliases.grown.made
 
 pub interface-names : (r q : Resolve) (canonical : Bool) (x : Entry) (i : InterfaceId) (a a' : Around) (def : Interface) (outer : Declarations) (direction : Direction) (name : ExternName) (k : ℕ) → item_interface x.1 ≡ Some i.0
     → EncodesInterface q a a' i def k → outer ≡ declared_after a'.declared (declared_towards direction name (refs.Instance k)) → name ≡ name_of_item r canonical x → NamesMore r canonical (x ∷ []) a.declared outer

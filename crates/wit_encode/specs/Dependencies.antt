@@ -76,6 +76,10 @@ pub record ShowsComponent (r : Resolve) (n : ℕ) (path : Text) (declared : Decl
   pub exported : View
   pub shows : ShowsDependencies r n path scope imports exported
 
+-- So they show this interface by whichever path it has.
+abbrev pub ShowsComponentAt : Resolve → ℕ → Declarations → Type 0
+ShowsComponentAt r n declared = (path : Text) → interface_path r n ≡ Some path → ShowsComponent r n path declared
+
 -- ---- laws
 
 -- Nothing has been imported where nothing has been declared.

@@ -9,6 +9,7 @@ use Rattle.wit_model.specs.declared.model.Interface.{Interface}
 use Rattle.comp_bytes.specs.Raw.{Declaration, Declarations, from_list}
 use Rattle.encode_reach.specs.Reach.{reached_in_order}
 use Rattle.encode_types.specs.Distinct.{is_value_type, is_function_type, DefinesTypes}
+use Rattle.wit_encode.specs.DependencyAliases.{HasAliases, IsAskedFor}
 use Rattle.wit_encode.specs.Instance.{count_declared, stands_inside}
 use Rattle.wit_encode.specs.Worlds.{instances_declared}
 use Rattle.wit_encode.specs.WorldCounts.{DefinesInterface}
@@ -32,7 +33,8 @@ pub record DefinesImports (r : Resolve) (outer : Declarations) (interfaces : Lis
   pub beside : DefinesNothing outer
   pub inside : AllZip (DefinesTypesOf r) interfaces (instances_declared outer)
 
--- Behind those of what interface n reaches there is its own.
+-- Behind those of what interface n reaches there is its own. Aliases stand there of types that these and the interface itself meet, no type twice,
+-- each by the one instance of its interface.
 pub record DefinesComponent (r : Resolve) (n : ℕ) (outer : Declarations) : Type 0 where
   pub beside : DefinesNothing outer
   pub imports : List (Declarations × Declarations)
@@ -40,3 +42,4 @@ pub record DefinesComponent (r : Resolve) (n : ℕ) (outer : Declarations) : Typ
   pub are : instances_declared outer ≡ imports ++ own ∷ []
   pub reached : AllZip (DefinesTypesOf r) (reached_in_order r n) imports
   pub exported : DefinesInterface r n own
+  pub aliases : HasAliases r (reached_in_order r n) (IsAskedFor r n) outer

@@ -12,11 +12,12 @@ use Rattle.wit_model.specs.declared.model.InterfaceId.{InterfaceId}
 use Rattle.comp_bytes.specs.Fits.{fits_name}
 use Rattle.comp_bytes.specs.Raw.{declaration_count}
 use Rattle.encode_shown.specs.Views.{AreReached}
-use Rattle.encode_types.specs.Known.{Around, GrowsAround}
+use Rattle.encode_types.specs.Known.{Around}
 use Rattle.encode_types.specs.MetKinds.{referred}
 use Rattle.encode_types.specs.Room.{HasNoRoom, limit}
 use Rattle.encode_names.specs.WorldNames.{name_of_interface}
 use Rattle.wit_encode.specs.Encoders.{InterfaceLacksRoom}
+use Rattle.wit_encode.specs.Instance.{AliasesForTypes}
 use Rattle.wit_encode.specs.WorldRoom.{AreSome, IsNamedTypeOf}
 use Rattle.wit_encode.specs.Worlds.{brought_numbers}
 
@@ -31,11 +32,11 @@ abbrev pub TypesLackRoom : Resolve → InterfaceId → Interface → Type 0
 TypesLackRoom r i def = HasNoRoom r (Some i) (referred (values def.types) []) []
 
 -- Why the types of an interface can't be imported: they have no room in an instance type, its path doesn't fit, or the component type, after
--- aliases have been made, has no room for the instance type and the import.
+-- aliases have been made that they ask for, has no room for the instance type and the import.
 pub data LacksImport (r : Resolve) (canonical : Bool) (around : Around) (i : InterfaceId) : Type 0 where
   its_types : (def : Interface) → interface_at r i.0 ≡ Some def → TypesLackRoom r i def → LacksImport r canonical around i
   its_path : fits_name (name_of_interface r canonical i.0) ≡ false → LacksImport r canonical around i
-  a_place : (after : Around) → GrowsAround r around after → limit ≤ declaration_count after.declared + 1 → LacksImport r canonical around i
+  a_place : (after : Around) → AliasesForTypes r i around after → limit ≤ declaration_count after.declared + 1 → LacksImport r canonical around i
 
 -- ---- the whole
 

@@ -24,13 +24,14 @@ use Rattle.encode_types.specs.MetKinds.{LearnsFrom}
 use Rattle.wit_encode.specs.Order.{functions_in_order}
 use Rattle.encode_types.specs.declared.maps.TypeEncodingMaps.{TypeEncodingMaps}
 use Rattle.wit_encode.specs.declared.interface.InstanceEncoderOf.{InstanceEncoderOf}
-use Rattle.encode_types.specs.Known.{Around, GrowsAround, UsedStand}
+use Rattle.encode_types.specs.Aliases.{AliasesMet}
+use Rattle.encode_types.specs.Known.{Around, UsedStand}
 use Rattle.encode_types.specs.Scope.{Scope}
 use Rattle.encode_types.specs.Room.{HasNoRoom}
 use Rattle.encode_types.specs.MetKinds.{referred}
 use Rattle.indexmap.specs.IndexMap.{values}
 use Rattle.encode_types.specs.View.{View, Agrees, HoldsLearnt, WritesLearnt}
-use Rattle.wit_encode.specs.Instance.{own_of, ShowsFunction, placed_function, meaning_of, Contents, contents_of, encoder_scope, around_of, around_at, slots_in, stands_in, defined_in, opened, standing_instances, Continues, EncodesInterface, EncodesDependency, EncodesPart, held_in, extent_in, lacks_room_in, LacksInstanceRoom}
+use Rattle.wit_encode.specs.Instance.{own_of, ShowsFunction, placed_function, meaning_of, Contents, contents_of, encoder_scope, around_of, around_at, slots_in, stands_in, defined_in, opened, standing_instances, Continues, EncodesInterface, EncodesDependency, EncodesPart, AliasesFor, AliasesForTypes, whole_interface, types_alone_of, held_in, extent_in, lacks_room_in, LacksInstanceRoom}
 
 abbrev pub InstanceEncoder : Type 0
 InstanceEncoder = InstanceEncoderOf TypeEncodingMaps
@@ -100,7 +101,7 @@ abbrev pub AddsInstance : Declarations → Declarations → List Declaration →
 AddsInstance outer outer' ds k = (k ≡ type_slots_of outer) × (outer' ≡ append outer (Declarations.instance (from_list ds) Declarations.no_more))
 
 -- functions that have a place in an order, without it, and what they mean
-abbrev Placed : Type 0
+abbrev pub Placed : Type 0
 Placed = ℕ × Bor (String Global) × Bor Function
 
 abbrev pub plain : List Placed → List Function
@@ -160,9 +161,16 @@ UsedAround e i = UsedStand e.resolve.now (standing_instances e.resolve.now (outs
 abbrev pub InstancesStay : InstanceEncoder → InstanceEncoder → Type 0
 InstancesStay e e' = (j : ℕ) → Contains (standing_instances e.resolve.now (outside e)) j → Contains (standing_instances e.resolve.now (outside e')) j
 
--- in the component type nothing has been declared but aliases of types that had none
-abbrev pub Reaches : InstanceEncoder → InstanceEncoder → Type 0
-Reaches e e' = GrowsAround e.resolve.now (outside e) (outside e')
+-- in the component type nothing has been declared but aliases of types that had none and that an interface meets from these
+abbrev pub ReachesMet : InstanceEncoder → InstanceEncoder → InterfaceId → List ValueType → Type 0
+ReachesMet e e' i ts = AliasesMet e.resolve.now (Some i) ts (outside e) (outside e')
+
+-- that it meets, or that its types alone meet
+abbrev pub ReachesWhole : InstanceEncoder → InstanceEncoder → InterfaceId → Type 0
+ReachesWhole e e' i = AliasesFor e.resolve.now i (outside e) (outside e')
+
+abbrev pub ReachesTypes : InstanceEncoder → InstanceEncoder → InterfaceId → Type 0
+ReachesTypes e e' i = AliasesForTypes e.resolve.now i (outside e) (outside e')
 
 -- slot k of the component type is new, and stands for the interface
 abbrev pub EncodesAs : InstanceEncoder → InstanceEncoder → InterfaceId → ℕ → Type 0
@@ -183,12 +191,12 @@ InterfaceLacksRoom r i def = HasNoRoom r (Some i) (referred (values def.types) (
 -- An instance type has no room for the types and functions of the interface. Or the component type, after aliases have been made, has none
 -- for one more alias or instance type.
 abbrev pub LacksInstance : InstanceEncoder → InterfaceId → Type 0
-LacksInstance e i = (def : Interface) → interface_at e.resolve.now i.0 ≡ Some def → InterfaceLacksRoom e.resolve.now i def ⊎ LacksInstanceRoom e.resolve.now (outside e)
+LacksInstance e i = (def : Interface) → interface_at e.resolve.now i.0 ≡ Some def → InterfaceLacksRoom e.resolve.now i def ⊎ LacksInstanceRoom e.resolve.now i (whole_interface def) (outside e)
 
 -- the same of the interface's types alone
 abbrev pub LacksDependency : InstanceEncoder → InterfaceId → Type 0
-LacksDependency e i = (def : Interface) → interface_at e.resolve.now i.0 ≡ Some def → HasNoRoom e.resolve.now (Some i) (referred (values def.types) []) [] ⊎ LacksInstanceRoom e.resolve.now (outside e)
+LacksDependency e i = (def : Interface) → interface_at e.resolve.now i.0 ≡ Some def → HasNoRoom e.resolve.now (Some i) (types_alone_of def) [] ⊎ LacksInstanceRoom e.resolve.now i (types_alone_of def) (outside e)
 
 -- the same of these types and functions of the interface
 abbrev pub LacksWithin : InstanceEncoder → InterfaceId → List TypeId → List Placed → Type 0
-LacksWithin e i types fs = HasNoRoom e.resolve.now (Some i) (referred types (plain fs)) (map placed_function fs) ⊎ LacksInstanceRoom e.resolve.now (outside e)
+LacksWithin e i types fs = HasNoRoom e.resolve.now (Some i) (referred types (plain fs)) (map placed_function fs) ⊎ LacksInstanceRoom e.resolve.now i (referred types (plain fs)) (outside e)

@@ -27,6 +27,7 @@ use Rattle.std.specs.List.{Contains}
 use Rattle.indexmap.specs.IndexMap.{values}
 use Rattle.wit_model.specs.declared.model.Interface.{Interface}
 use Rattle.wit_model.specs.declared.model.TypeId.{TypeId}
+use Rattle.wit_model.specs.declared.model.«Type».{«Type» as ValueType}
 use Rattle.wit_model.specs.declared.model.«Type».TheVariants as ty
 use Rattle.comp_bytes.specs.Held.{type_slots_of, fits_added}
 use Rattle.encode_types.specs.Slots.{Pairs}
@@ -47,6 +48,8 @@ use Rattle.wit_encode.specs.Order.{functions_in_order}
 pub use Rattle.encode_types.specs.Distinct.{is_value_type, is_function_type}
 use Rattle.encode_types.specs.Distinct.{key_of, are_same, value_slots, function_slots, targets_of, DefinesKeys, DefinesTypes}
 use Rattle.encode_types.specs.Counts.{Definitions}
+use Rattle.encode_types.specs.Aliases.{AliasesMet}
+use Rattle.encode_types.specs.MetKinds.{referred}
 
 -- ---- what has been declared in a scope
 
@@ -250,10 +253,31 @@ pub record IsInstance (r : Resolve) (outer : Declarations) (i : InterfaceId) (ds
   pub shows : view.functions ≡ functions
   pub types : view.types ≡ option_map_or (types_of r i.0) (interface_at r i.0) []
 
--- after aliases have been made, the component type has no room for one more alias or instance type
-pub record LacksInstanceRoom (r : Resolve) (around : Around) : Type 0 where
+-- what an interface refers to: its types, and those of its functions, or its types alone
+abbrev pub whole_interface : Interface → List ValueType
+whole_interface def = referred (values def.types) (values def.functions)
+
+abbrev pub types_alone_of : Interface → List ValueType
+types_alone_of def = referred (values def.types) []
+
+-- In the component type nothing has been declared but aliases of types of other interfaces that are met from an interface, each of one that had
+-- none.
+pub record AliasesFor (r : Resolve) (i : InterfaceId) (around around' : Around) : Type 0 where
+  pub def : Interface
+  pub there : interface_at r i.0 ≡ Some def
+  pub made : AliasesMet r (Some i) (whole_interface def) around around'
+
+-- So it is, and they are met from its types alone.
+pub record AliasesForTypes (r : Resolve) (i : InterfaceId) (around around' : Around) : Type 0 where
+  pub def : Interface
+  pub there : interface_at r i.0 ≡ Some def
+  pub made : AliasesMet r (Some i) (types_alone_of def) around around'
+
+-- After aliases have been made that an interface asks for, which refers to these types, the component type has no room for one more alias or
+-- instance type.
+pub record LacksInstanceRoom (r : Resolve) (i : InterfaceId) (ts : List ValueType) (around : Around) : Type 0 where
   pub after : Around
-  pub grown : GrowsAround r around after
+  pub grown : AliasesMet r (Some i) ts around after
   pub full : fits_added after.declared 1 ≡ false
 
 -- what an interface asks for, when it is encoded in this component type
@@ -266,11 +290,11 @@ abbrev pub stands_inside : Resolve → InterfaceId → Declarations → List Dec
 stands_inside r i outer ds = SlotsStand (inner_contents (place_of r (owner.Interface i)) outer ds).slots
 
 -- Slot k of the component type is new: an instance type that can be followed, and that shows the types of the interface, in order, and these
--- functions, in order, with what they mean. Before it, nothing has been declared but aliases of types that had none. Types of functions and
--- value types are defined as the interface's types and these functions, in any order, ask for, each once, and no others.
+-- functions, in order, with what they mean. Before it, nothing has been declared but aliases of types that had none and that the interface's
+-- types and these functions meet. Types of functions and value types are defined as the interface's types and these functions, in any order, ask for, each once, and no others.
 pub record EncodesPart (r : Resolve) (around around' : Around) (i : InterfaceId) (def : Interface) (written : List (Text × Function)) (functions : List Function) (k : ℕ) : Type 0 where
   pub before : Around
-  pub aliases : GrowsAround r around before
+  pub aliases : AliasesMet r (Some i) (referred (values def.types) functions) around before
   pub declared : List Declaration
   pub index : k ≡ type_slots_of before.declared
   pub one_more : around' ≡ record before { declared = append before.declared (Declarations.instance (from_list declared) Declarations.no_more) }

@@ -18,6 +18,7 @@ pub mod WorldCounts
 pub mod WorldHolds
 pub mod FunctionRoom
 pub mod DependencyRoom
+pub mod DependencyAliases
 pub mod DependencyCounts
 pub mod PackageRoom
 pub mod Extents

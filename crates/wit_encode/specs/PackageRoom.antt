@@ -55,3 +55,7 @@ LacksWorld r canonical p e old =
 pub data WorldsLackRoom (r : Resolve) (canonical : Bool) (p : PackageIdentity) (interfaces : List Listed) (entries : List ListedWorld) : Type 0 where
   too_heavy : (e : ListedWorld) → Contains entries e → IsHeavyWorld r p e.1.0 → WorldsLackRoom r canonical p interfaces entries
   too_long : (first rest : List ListedWorld) → entries ≡ first ++ rest → AreLong (HoldsMembers r canonical p interfaces first) → WorldsLackRoom r canonical p interfaces entries
+
+-- so it is behind whichever interfaces these parts hold
+abbrev pub WorldsLackRoomBehind : Resolve → Bool → PackageIdentity → List Part → List ListedWorld → Type 0
+WorldsLackRoomBehind r canonical p parts entries = (interfaces : List Listed) → HoldsMembers r canonical p interfaces [] parts → WorldsLackRoom r canonical p interfaces entries

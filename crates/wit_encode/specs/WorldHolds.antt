@@ -1,7 +1,6 @@
 -- How much an encoder of a world holds between two items, and which calls have no room.
 use Rattle.std.specs.Prelude.{ℕ, ◌≡◌, ◌≤◌, ◌+◌, ◌*◌, ◌&&◌, true, false, ◌⊎◌, List, [], ◌∷◌, ◌++◌, length, Some, is_some}
 use Rattle.std.specs.List.{Contains}
-use Rattle.indexmap.specs.IndexMap.{values}
 use Rattle.wit_model.specs.Lookup.{interface_at}
 use Rattle.wit_model.specs.declared.model.Resolve.{Resolve}
 use Rattle.wit_model.specs.declared.model.Interface.{Interface}
@@ -12,12 +11,11 @@ use Rattle.comp_bytes.specs.Held.{declaration_slots, fits_added}
 use Rattle.comp_bytes.specs.Raw.{Declaration, Declarations, declaration_count}
 use Rattle.comp_meaning.specs.Follow.{Direction}
 use Rattle.encode_types.specs.Known.{known_instance}
-use Rattle.encode_types.specs.MetKinds.{referred}
 use Rattle.encode_types.specs.Room.{HasNoRoom}
 use Rattle.encode_names.specs.WorldSteps.{Entry, Entries, interfaces_among}
 use Rattle.wit_encode.specs.declared.world.Placed.{Placed}
 use Rattle.wit_encode.specs.Encoders.{InterfaceLacksRoom}
-use Rattle.wit_encode.specs.Instance.{LacksInstanceRoom}
+use Rattle.wit_encode.specs.Instance.{LacksInstanceRoom, whole_interface, types_alone_of}
 use Rattle.wit_encode.specs.WorldCounts.{HasDefined}
 use Rattle.wit_encode.specs.WorldItems.{HasShown, IsNext, all_done, begun, entry_of, towards}
 use Rattle.wit_encode.specs.WorldRoom.{WorldLacksRoom, count_among}
@@ -48,11 +46,11 @@ LacksRoomTowards r e direction = (w : World) → HasShown r w e (begun direction
 -- An instance type has no room for the interface. Or the component type, after aliases have been made, has none for one more alias or instance
 -- type.
 abbrev pub LacksInstanceHere : WorldEncoder → InterfaceId → Type 0
-LacksInstanceHere e i = (def : Interface) → interface_at e.resolve.now i.0 ≡ Some def → InterfaceLacksRoom e.resolve.now i def ⊎ LacksInstanceRoom e.resolve.now (world_around e)
+LacksInstanceHere e i = (def : Interface) → interface_at e.resolve.now i.0 ≡ Some def → InterfaceLacksRoom e.resolve.now i def ⊎ LacksInstanceRoom e.resolve.now i (whole_interface def) (world_around e)
 
 -- So it is with its types alone.
 abbrev pub LacksDependencyHere : WorldEncoder → InterfaceId → Type 0
-LacksDependencyHere e i = (def : Interface) → interface_at e.resolve.now i.0 ≡ Some def → HasNoRoom e.resolve.now (Some i) (referred (values def.types) []) [] ⊎ LacksInstanceRoom e.resolve.now (world_around e)
+LacksDependencyHere e i = (def : Interface) → interface_at e.resolve.now i.0 ≡ Some def → HasNoRoom e.resolve.now (Some i) (types_alone_of def) [] ⊎ LacksInstanceRoom e.resolve.now i (types_alone_of def) (world_around e)
 
 -- The declaration doesn't fit behind those of a component type, or a count doesn't with it.
 abbrev pub LacksDeclaration : Declarations → Declaration → Type 0

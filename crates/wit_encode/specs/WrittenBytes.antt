@@ -1,21 +1,23 @@
 -- How many bytes have been declared: no more than what was asked for takes, and each type number that has been learnt on the way
 -- (Component Model Binary.md, "Type Definitions").
-use Rattle.std.specs.Prelude.{ℕ, ◌≡◌, ◌≤◌, ◌+◌, Bool, false, nat_eq, List, sum_by, Some, None}
+use Rattle.std.specs.Prelude.{ℕ, ◌≡◌, ◌≤◌, ◌+◌, Bool, false, nat_eq, List, map, sum_by, Some, None}
 use Rattle.std.specs.List.{AllPairs, Contains}
 use Rattle.wit_model.specs.Text.{Text}
 use Rattle.wit_model.specs.Weight.{types_instance_weight, whole_instance_weight}
 use Rattle.wit_model.specs.declared.model.Resolve.{Resolve}
 use Rattle.wit_model.specs.declared.model.Function.{Function}
 use Rattle.wit_model.specs.declared.model.InterfaceId.{InterfaceId}
+use Rattle.wit_model.specs.declared.model.TypeId.{TypeId}
 use Rattle.wit_model.specs.declared.model.«Type».{«Type» as ValueType}
-use Rattle.comp_bytes.specs.Raw.{Declarations}
+use Rattle.comp_bytes.specs.Raw.{Declaration, Declarations, from_list}
 use Rattle.encode_types.specs.Extents.{function_extent, known_extent, number_extent}
-use Rattle.encode_types.specs.MetKinds.{ReachedFrom}
+use Rattle.encode_types.specs.MetKinds.{ReachedFrom, referred}
 use Rattle.encode_types.specs.declared.maps.TypeEncodingMaps.{TypeEncodingMaps}
 use Rattle.encode_names.specs.WorldNames.{name_of_interface}
 use Rattle.encode_names.specs.WorldSteps.{Entry}
 use Rattle.wit_encode.specs.Extents.{instance_extent, item_extent}
-use Rattle.wit_encode.specs.Instance.{declared_extent}
+use Rattle.wit_encode.specs.Instance.{declared_extent, placed_function}
+use Rattle.wit_encode.specs.Encoders.{InstanceEncoder, Placed, plain}
 
 -- at most so many bytes more
 pub record AddsBytes (n : ℕ) (outer outer' : Declarations) : Type 0 where
@@ -31,6 +33,14 @@ pub record TakesFew (r : Resolve) (i : InterfaceId) (types : List ValueType) (fu
   pub different : AllPairs (λ x y. nat_eq x y ≡ false) numbers
   pub met : (n : ℕ) → Contains numbers n → ReachedFrom r (Some i) types n
   pub few : after ≤ before + (sum_by (number_extent r (Some i)) numbers + sum_by (function_extent r) functions)
+
+-- So it is with these types and functions of interface i, in the component type and an instance type in it, or in the component type with the
+-- instance type behind it.
+abbrev pub TakesInside : InstanceEncoder → InstanceEncoder → InterfaceId → List TypeId → List Placed → List Declaration → Type 0
+TakesInside e e' i types fs ds = TakesFew e.resolve.now i (referred types (plain fs)) (map placed_function fs) (declared_extent e.outer) (declared_extent e'.outer + declared_extent (from_list ds))
+
+abbrev pub TakesPart : InstanceEncoder → InstanceEncoder → InterfaceId → List TypeId → List Placed → Type 0
+TakesPart e e' i types fs = TakesFew e.resolve.now i (referred types (plain fs)) (map placed_function fs) (declared_extent e.outer + 8) (declared_extent e'.outer)
 
 -- the instance type of an interface, or of its types alone, with what stands before it
 abbrev pub whole_extent : Resolve → ℕ → ℕ

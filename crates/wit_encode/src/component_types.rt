@@ -5,13 +5,13 @@ ghost use Rattle.std.specs.List.{Contains};
 ghost use Rattle.comp_bytes.specs.RawOf.{raw_name};
 ghost use Rattle.comp_bytes.specs.Refusal.{IsMemoryOrSize};
 ghost use Rattle.wit_model.specs.Lookup.{interface_path};
-ghost use Rattle.wit_model.specs.Text.{Text};
 ghost use Rattle.wit_model.specs.declared.error.Error.TheVariants.{Size};
 ghost use Rattle.wit_model.specs.Valid.{IsValid};
 ghost use Rattle.wit_model.specs.Weight.{interface_weight, types_instance_weight};
 ghost use Rattle.encode_names.specs.WorldNames.{name_of_interface};
 ghost use Rattle.wit_encode.specs.Encoders.{outside, UsedAround};
-ghost use Rattle.wit_encode.specs.Dependencies.{AreImportable, HasImported, ImportsTypes, ShowsComponent};
+ghost use Rattle.wit_encode.specs.Dependencies.{AreImportable, HasImported, ImportsTypes, ShowsComponentAt};
+ghost use Rattle.wit_encode.specs.DependencyAliases.{HasImportAliases};
 ghost use Rattle.wit_encode.specs.DependencyCounts.{DefinesComponent, DefinesImports};
 ghost use Rattle.wit_encode.specs.DependencyRoom.{HoldsImports, ImportsLackRoom, LacksImport};
 ghost use Rattle.wit_encode.specs.Extents.{instance_extent};
@@ -72,6 +72,7 @@ fn import_dependencies<'a>(
     ensures imported { OnOk result (HasImported encoder.old.resolve.now (outside encoder.new) (map (λ id. id.0) interfaces.now)) }
     ensures held { HoldsImports encoder.old.resolve.now (outside encoder.old) [] → OnOk result (HoldsImports encoder.old.resolve.now (outside encoder.new) (map (λ id. id.0) interfaces.now)) }
     ensures once { DefinesImports encoder.old.resolve.now encoder.old.outer [] → OnOk result (DefinesImports encoder.old.resolve.now encoder.new.outer (map (λ id. id.0) interfaces.now)) }
+    ensures aliases { HasImportAliases encoder.old.resolve.now (outside encoder.old) [] → OnOk result (HasImportAliases encoder.old.resolve.now (outside encoder.new) (map (λ id. id.0) interfaces.now)) }
     ensures written { OnOk result (AddsBytes (imports_extent encoder.old.resolve.now canonical_names (map (λ id. id.0) interfaces.now)) encoder.old.outer encoder.new.outer) }
     ensures named { OnOk result (NamesInterfaces encoder.old.resolve.now canonical_names (map (λ id. id.0) interfaces.now) encoder.old.outer encoder.new.outer) }
     ensures size { result ≡ Err Size → HoldsImports encoder.old.resolve.now (outside encoder.old) [] → ImportsLackRoom encoder.old.resolve.now (map (λ id. id.0) interfaces.now) }
@@ -90,7 +91,7 @@ fn import_dependencies<'a>(
 ///
 /// Nothing is defined beside instance types, and in each of them each unnamed kind that is met is defined once, as is each named type that has
 /// a definition of its own; in that of the interface itself there are as many types of functions as its functions have keys, and in the others
-/// none.
+/// none. A type of another interface that one of them meets gets one alias, of the instance of its interface, and nothing else does.
 ///
 /// Takes as long as encoding the types of these interfaces, and the functions of this one, and its declarations take no more bytes than the
 /// interface, with what it reaches, weighs. Refuses `Memory` besides, and `Size` only where that is more than 4,294,967,295.
@@ -102,7 +103,7 @@ pub fn interface_type(
 ) -> Result<ComponentType, Error>
     requires valid { IsValid resolve.now }
     requires named { is_some (interface_path resolve.now interface.0) ≡ true }
-    ensures shows { IfOk result (λ declared. (path : Text) → interface_path resolve.now interface.0 ≡ Some path → ShowsComponent resolve.now interface.0 path declared) }
+    ensures shows { IfOk result (ShowsComponentAt resolve.now interface.0) }
     ensures names { IfOk result (WritesPaths resolve.now canonical_names interface.0) }
     ensures once { IfOk result (DefinesComponent resolve.now interface.0) }
     ensures differ { canonical_names ≡ true → OnOk result (HasNoEqualPaths resolve.now interface.0) }

@@ -333,10 +333,10 @@ impl<'a> InstanceEncoderOf<'a, TypeEncodingMaps<'a>> {
     ghost use Rattle.wit_model.specs.Valid.{IsValid};
     ghost use Rattle.encode_types.specs.View.{Agrees, HoldsMore, Refuses, Writes};
     ghost use Rattle.encode_types.specs.Extents.{function_extent, name_extent};
-    ghost use Rattle.wit_encode.specs.WrittenBytes.{AddsBytes, TakesFew, types_extent, whole_extent};
-    ghost use Rattle.wit_encode.specs.Instance.{declared_extent};
+    ghost use Rattle.wit_encode.specs.WrittenBytes.{AddsBytes, TakesInside, TakesPart, types_extent, whole_extent};
     ghost use Rattle.encode_types.specs.Leaves.{Leaves, CountsTypes, CountsFunctions, LacksRoom};
     ghost use Rattle.encode_types.specs.Fits.{CanEncode};
+    ghost use Rattle.encode_types.specs.Aliases.{MakesMet};
     ghost use Rattle.encode_types.specs.Counts.{names_defined};
     ghost use Rattle.std.specs.Set.{distinct_count};
     ghost use Rattle.std.specs.Prelude.{nat_eq, sum_by};
@@ -348,7 +348,7 @@ impl<'a> InstanceEncoderOf<'a, TypeEncodingMaps<'a>> {
     ghost use Rattle.wit_encode.specs.Exports.{AreTypesOf, AllKnown, KnowsUsed, UsesListed};
     ghost use Rattle.wit_model.specs.declared.model.«Type».TheVariants as ValueType;
     ghost use Rattle.wit_encode.specs.Instance.{ShowsFunction, CanEncodeFunction, IsInstance, placed_function, meaning_of, own_of, declarations_in, stands_inside};
-    ghost use Rattle.wit_encode.specs.Encoders.{encoder_view, view_of, contents_in, shown_as, scope_within, outside, GoesOn, Reaches, InstancesStay, UsedAround, EncodesAs, EncodesPlaced, EncodesTypesAs, LacksDependency, LacksInstance, LacksWithin, plain, meanings_of, ShowsAs, ShowsMore, HoldsInside, LacksInside, TypesStay, NamesStay, LearnsInside, WritesInside, DefinesNames, IsEncoding, Begins};
+    ghost use Rattle.wit_encode.specs.Encoders.{encoder_view, view_of, contents_in, shown_as, scope_within, outside, GoesOn, ReachesMet, ReachesWhole, ReachesTypes, InstancesStay, UsedAround, EncodesAs, EncodesPlaced, EncodesTypesAs, LacksDependency, LacksInstance, LacksWithin, plain, meanings_of, ShowsAs, ShowsMore, HoldsInside, LacksInside, TypesStay, NamesStay, LearnsInside, WritesInside, DefinesNames, IsEncoding, Begins};
     ghost use Rattle.encode_types.specs.Room.{export_name};
     ghost use Rattle.encode_types.specs.Maps.{MapsGrow};
 
@@ -410,6 +410,7 @@ impl<'a> InstanceEncoderOf<'a, TypeEncodingMaps<'a>> {
         requires encodable { CanEncodeFunction resolve.now (view_of resolve.now self.old).scope func.now }
         requires used { KnowsUsed resolve.now self.old.maps func.now }
         ensures continues { GoesOn resolve.now self.old self.new }
+        ensures aliases { MakesMet resolve.now (function_types func.now) (encoder_view self.old) (encoder_view self.new) }
         ensures shows { OnOk result (ShowsMore resolve.now self.old self.new ((text_of name.now, function_meaning resolve.now func.now) ∷ [])) }
         ensures counts { OnOk result (CountsFunctions resolve.now (view_of resolve.now self.old) (view_of resolve.now self.new) (func.now ∷ [])) }
         ensures learns { OnOk result (LearnsInside resolve.now self.old self.new (function_types func.now)) }
@@ -436,6 +437,7 @@ impl<'a> InstanceEncoderOf<'a, TypeEncodingMaps<'a>> {
         requires encodable { (f : _) → Contains functions.now f → CanEncodeFunction resolve.now (view_of resolve.now self.old).scope f.2.now }
         requires used { (f : _) → Contains functions.now f → KnowsUsed resolve.now self.old.maps f.2.now }
         ensures continues { GoesOn resolve.now self.old self.new }
+        ensures aliases { MakesMet resolve.now (flat_map function_types (plain functions.now)) (encoder_view self.old) (encoder_view self.new) }
         ensures shows { OnOk result (ShowsMore resolve.now self.old self.new (meanings_of resolve.now functions.now)) }
         ensures counts { OnOk result (CountsFunctions resolve.now (view_of resolve.now self.old) (view_of resolve.now self.new) (plain functions.now)) }
         ensures learns { OnOk result (LearnsInside resolve.now self.old self.new (flat_map function_types (plain functions.now))) }
@@ -463,6 +465,7 @@ impl<'a> InstanceEncoderOf<'a, TypeEncodingMaps<'a>> {
         requires begins { Begins resolve.now self.old types.now }
         requires encodable { (t : _) → Contains types.now t → CanEncode resolve.now (encoder_view self.old).scope (ValueType.Id t ∷ []) }
         ensures leaves { Leaves resolve.now (encoder_view self.old) (encoder_view self.new) }
+        ensures aliases { MakesMet resolve.now (map (λ t. ValueType.Id t) types.now) (encoder_view self.old) (encoder_view self.new) }
         ensures counts { OnOk result (CountsTypes resolve.now (encoder_view self.old) (encoder_view self.new)) }
         ensures learns { OnOk result (LearnsInside resolve.now self.old self.new (map (λ t. ValueType.Id t) types.now)) }
         ensures known { OnOk result (AllKnown self.new.maps types.now) }
@@ -493,6 +496,7 @@ impl<'a> InstanceEncoderOf<'a, TypeEncodingMaps<'a>> {
         requires functions { (f : _) → Contains functions.now f → CanEncodeFunction resolve.now (encoder_view self.old).scope f.2.now }
         requires uses { (f : _) → Contains functions.now f → UsesListed resolve.now types.now f.2.now }
         ensures continues { GoesOn resolve.now self.old self.new }
+        ensures aliases { MakesMet resolve.now (referred types.now (plain functions.now)) (encoder_view self.old) (encoder_view self.new) }
         ensures shows { OnOk result (ShowsMore resolve.now self.old self.new (meanings_of resolve.now functions.now)) }
         ensures counts { OnOk result (CountsFunctions resolve.now (view_of resolve.now self.old) (view_of resolve.now self.new) (plain functions.now)) }
         ensures known { OnOk result (AllKnown self.new.maps types.now) }
@@ -522,12 +526,12 @@ impl<'a> InstanceEncoderOf<'a, TypeEncodingMaps<'a>> {
         requires uses { (f : _) → Contains functions.now f → UsesListed self.old.resolve.now types.now f.2.now }
         ensures closed { self.new.inner ≡ None }
         ensures resolve { self.new.resolve.now ≡ self.old.resolve.now }
-        ensures reaches { Reaches self.old self.new }
+        ensures reaches { ReachesMet self.old self.new interface (referred types.now (plain functions.now)) }
         ensures maps { self.new.maps ≡ self.old.maps }
         ensures ok { IfOk result (λ ds. IsInstance self.old.resolve.now self.new.outer interface ds (meanings_of self.old.resolve.now functions.now)) }
         ensures function_types { IfOk result (λ ds. DefinesKeys self.old.resolve.now (stands_inside self.old.resolve.now interface self.new.outer ds) (plain functions.now) ds) }
         ensures value_types { IfOk result (λ ds. DefinesTypes self.old.resolve.now (Some interface) (stands_inside self.old.resolve.now interface self.new.outer ds) types.now (plain functions.now) (from_list ds)) }
-        ensures written { IfOk result (λ ds. TakesFew self.old.resolve.now interface (referred types.now (plain functions.now)) (map placed_function functions.now) (declared_extent self.old.outer) (declared_extent self.new.outer + declared_extent (from_list ds))) }
+        ensures written { IfOk result (TakesInside self.old self.new interface types.now functions.now) }
         ensures size { result ≡ Err Size → LacksWithin self.old interface types.now functions.now }
         ensures refuses { IfErr result IsMemoryOrSize }
     {
@@ -582,12 +586,12 @@ impl<'a> InstanceEncoderOf<'a, TypeEncodingMaps<'a>> {
         ensures closed { self.new.inner ≡ None }
         ensures resolve { self.new.resolve.now ≡ self.old.resolve.now }
         ensures maps { self.new.maps ≡ self.old.maps }
-        ensures err { OnErr result (Reaches self.old self.new) }
+        ensures err { OnErr result (ReachesMet self.old self.new interface (referred types.now (plain functions.now))) }
         ensures ok { IfOk result (EncodesPlaced self.old self.new interface functions.now) }
         ensures stands { Keeps (encoder_view self.old).stands (encoder_view self.new).stands }
         ensures sound { (encoder_view self.old).scope.is_sound ≡ true → (encoder_view self.new).scope.is_sound ≡ true }
         ensures instances { InstancesStay self.old self.new }
-        ensures written { OnOk result (TakesFew self.old.resolve.now interface (referred types.now (plain functions.now)) (map placed_function functions.now) (declared_extent self.old.outer + 8) (declared_extent self.new.outer)) }
+        ensures written { OnOk result (TakesPart self.old self.new interface types.now functions.now) }
         ensures size { result ≡ Err Size → LacksWithin self.old interface types.now functions.now }
         ensures refuses { IfErr result IsMemoryOrSize }
     {
@@ -600,7 +604,7 @@ impl<'a> InstanceEncoderOf<'a, TypeEncodingMaps<'a>> {
     ///
     /// It asks for what `encode_instance` asks for, and leaves what that leaves. `Size` comes only where a type that is met from the types of
     /// the interface doesn't fit in 32 bits by itself, where the declarations are more than 4,294,967,295 (counted as for `encode_instance`), or
-    /// where the component type, after aliases have been made, has no room for one more alias or instance type.
+    /// where the component type, after aliases have been made that the types ask for, has no room for one more alias or instance type.
     ///
     /// Takes as long as encoding the types.
     pub(crate) fn encode_dependency(
@@ -615,7 +619,7 @@ impl<'a> InstanceEncoderOf<'a, TypeEncodingMaps<'a>> {
         ensures closed { self.new.inner ≡ None }
         ensures resolve { self.new.resolve.now ≡ self.old.resolve.now }
         ensures maps { self.new.maps ≡ self.old.maps }
-        ensures err { OnErr result (Reaches self.old self.new) }
+        ensures err { OnErr result (ReachesTypes self.old self.new interface) }
         ensures ok { IfOk result (EncodesTypesAs self.old self.new interface) }
         ensures stands { Keeps (encoder_view self.old).stands (encoder_view self.new).stands }
         ensures sound { (encoder_view self.old).scope.is_sound ≡ true → (encoder_view self.new).scope.is_sound ≡ true }
@@ -632,11 +636,11 @@ impl<'a> InstanceEncoderOf<'a, TypeEncodingMaps<'a>> {
     /// Encodes an interface as an instance type, and answers its slot: its types in order, then functions of resources by the order of
     /// their resource, then the others. The type of a function is defined just before its export, where its key is new.
     ///
-    /// Of each interface that it uses, an instance stands in the component type, and `foreign` has its number. An interface that uses no
-    /// other asks for nothing. A type of another interface gets an alias in the component type when it is first met,
-    /// which later calls use, too. No instance stands by this call alone. After a refusal the encoder is as it was, but for aliases that have
-    /// been made. `Size` comes only where a type that is met from the interface, or a function of it, doesn't fit in 32 bits by itself, where
-    /// the declarations are more than 4,294,967,295, or where the component type, after aliases have been made, has no room for one more alias
+    /// Of each interface that it uses, an instance stands in the component type, and `foreign` has its number. An interface that uses no other
+    /// asks for nothing. A type of another interface gets an alias in the component type when it is first met, which later calls use, too, and
+    /// no other type does. No instance stands by this call alone. After a refusal the encoder is as it was, but for such aliases that have been
+    /// made. `Size` comes only where a type that is met from the interface, or a function of it, doesn't fit in 32 bits by itself, where the
+    /// declarations are more than 4,294,967,295, or where the component type, after such aliases have been made, has no room for one more alias
     /// or instance type. The declarations are a definition and an export for each type that is met and is defined under its name, one for each
     /// kind of unnamed types, one for each other type, and for the functions one for each key and an export each.
     ///
@@ -653,7 +657,7 @@ impl<'a> InstanceEncoderOf<'a, TypeEncodingMaps<'a>> {
         ensures closed { self.new.inner ≡ None }
         ensures resolve { self.new.resolve.now ≡ self.old.resolve.now }
         ensures maps { self.new.maps ≡ self.old.maps }
-        ensures err { OnErr result (Reaches self.old self.new) }
+        ensures err { OnErr result (ReachesWhole self.old self.new interface) }
         ensures ok { IfOk result (EncodesAs self.old self.new interface) }
         ensures stands { Keeps (encoder_view self.old).stands (encoder_view self.new).stands }
         ensures sound { (encoder_view self.old).scope.is_sound ≡ true → (encoder_view self.new).scope.is_sound ≡ true }

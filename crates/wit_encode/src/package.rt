@@ -9,8 +9,8 @@ ghost use Rattle.wit_model.specs.Weight.{package_weight};
 ghost use Rattle.wit_model.specs.declared.error.Error.TheVariants.{Size};
 ghost use Rattle.encode_shown.specs.PackageTypes.{wrapper};
 ghost use Rattle.wit_encode.specs.Scopes.{HasNoEqualPaths, RefusesInterface};
-ghost use Rattle.wit_encode.specs.PackageRoom.{InterfacesLackRoom, IsHeavyWorld, LacksInterface, LacksWorld, WorldsLackRoom};
-ghost use Rattle.wit_encode.specs.Packages.{AddsInterface, AddsWorld, AddsWorlds, AreNamed, AreWorlds, HasNoClashAt, HasNoClashesAt, HoldsMembers, Listed, HaveNoClash, HaveNoEqualPaths, HoldsInterfaces, HoldsPackageAt, IsPreambleAt, MeansPackageAt, PartsMeanAt, RefusesInterfaces, RefusesPackageAt, RefusesWorldAt, RefusesWorlds, SpellsPackageAt, WrapsWorldAt};
+ghost use Rattle.wit_encode.specs.PackageRoom.{InterfacesLackRoom, IsHeavyWorld, LacksInterface, LacksWorld, WorldsLackRoomBehind};
+ghost use Rattle.wit_encode.specs.Packages.{AddsInterface, AddsWorld, AddsWorlds, AreNamed, AreWorlds, HasNoClashAt, HasNoClashesAt, HaveNoClash, HaveNoEqualPaths, HoldsInterfaces, HoldsPackageAt, IsPreambleAt, MeansPackageAt, PartsMeanAt, RefusesInterfaces, RefusesPackageAt, RefusesWorldAt, RefusesWorlds, SpellsPackageAt, WrapsWorldAt};
 
 use crate::component_types::interface_type;
 use crate::world::encode_world;
@@ -149,7 +149,7 @@ fn add_worlds(
     requires in_range { AreWorlds resolve.now worlds.now.entries }
     ensures adds { OnOk result (AddsWorlds resolve.now canonical_names (identity_of «package».now) worlds.now.entries builder.old builder.new) }
     ensures differ { canonical_names ≡ true → OnOk result (HaveNoClash resolve.now worlds.now.entries) }
-    ensures size { result ≡ Err Size → (interfaces : List Listed) → HoldsMembers resolve.now canonical_names (identity_of «package».now) interfaces [] builder.old → WorldsLackRoom resolve.now canonical_names (identity_of «package».now) interfaces worlds.now.entries }
+    ensures size { result ≡ Err Size → WorldsLackRoomBehind resolve.now canonical_names (identity_of «package».now) builder.old worlds.now.entries }
     ensures refuses { IfErr result (RefusesWorlds resolve.now worlds.now.entries canonical_names) }
 {
     for (name, world) in worlds {

@@ -15,7 +15,7 @@ ghost use Rattle.wit_model.specs.Weight.{world_weight};
 ghost use Rattle.wit_model.specs.declared.model.World.{World as WorldValue};
 ghost use Rattle.wit_model.specs.declared.model.WorldItem.TheVariants as item_kinds;
 ghost use Rattle.encode_names.specs.WorldSteps.{declared_towards};
-ghost use Rattle.encode_types.specs.Known.{standing_instances, GrowsAround, UsedStand};
+ghost use Rattle.encode_types.specs.Known.{standing_instances, UsedStand};
 ghost use Rattle.encode_types.specs.View.{Agrees};
 ghost use Rattle.wit_encode.specs.Encoders.{declared_after, DeclaresOutside};
 ghost use Rattle.wit_encode.specs.WorldCounts.{Defines, DefinesAll, HasDefined};
@@ -23,7 +23,7 @@ ghost use Rattle.wit_encode.specs.WorldHolds.{HoldsAll, HoldsFew, HoldsOn, Lacks
 ghost use Rattle.wit_encode.specs.Packages.{DefinesWorldOnce, HasNoClashAt, RefusesWorldAt, ShowsWorldAt, WritesNamesAt};
 ghost use Rattle.wit_encode.specs.WorldItems.{entry_of, towards, AwaitsAll, AwaitsNext, DefinesDependency, DefinesInstance, Encodes, EncodesAll, HasShown, ListsInstance};
 ghost use Rattle.wit_encode.specs.Worlds.{world_around, world_view_of};
-ghost use Rattle.wit_encode.specs.Instance.{declared_extent};
+ghost use Rattle.wit_encode.specs.Instance.{AliasesFor, AliasesForTypes, declared_extent};
 ghost use Rattle.wit_encode.specs.WrittenBytes.{AddsBytes, AddsLearnt, items_extent, types_extent, whole_extent};
 ghost use Rattle.wit_encode.specs.WrittenNames.{NamesMore};
 
@@ -261,7 +261,7 @@ impl<'a> WorldEncoderOf<'a, TypeEncodingMaps<'a>> {
         requires in_range { interface.0 < length self.old.resolve.now.interfaces.items }
         requires around { UsedStand self.old.resolve.now (standing_instances self.old.resolve.now (world_around self.old)) interface.0 }
         ensures ok { IfOk result (DefinesInstance self.old self.new interface) }
-        ensures err { OnErr result (GrowsAround self.old.resolve.now (world_around self.old) (world_around self.new)) }
+        ensures err { OnErr result (AliasesFor self.old.resolve.now interface (world_around self.old) (world_around self.new)) }
         ensures written { OnOk result (AddsBytes (whole_extent self.old.resolve.now interface.0) self.old.outer self.new.outer) }
         ensures size { result ≡ Err Size → LacksInstanceHere self.old interface }
         ensures rest { self.new ≡ record self.old { outer = self.new.outer; foreign = self.new.foreign } }
@@ -286,7 +286,7 @@ impl<'a> WorldEncoderOf<'a, TypeEncodingMaps<'a>> {
         requires in_range { interface.0 < length self.old.resolve.now.interfaces.items }
         requires around { UsedStand self.old.resolve.now (standing_instances self.old.resolve.now (world_around self.old)) interface.0 }
         ensures ok { IfOk result (DefinesDependency self.old self.new interface) }
-        ensures err { OnErr result (GrowsAround self.old.resolve.now (world_around self.old) (world_around self.new)) }
+        ensures err { OnErr result (AliasesForTypes self.old.resolve.now interface (world_around self.old) (world_around self.new)) }
         ensures written { OnOk result (AddsBytes (types_extent self.old.resolve.now interface.0) self.old.outer self.new.outer) }
         ensures size { result ≡ Err Size → LacksDependencyHere self.old interface }
         ensures rest { self.new ≡ record self.old { outer = self.new.outer; foreign = self.new.foreign } }

@@ -15,7 +15,7 @@ use Rattle.encode_types.specs.Known.{Around, GrowsAround, UsedStand, known_insta
 use Rattle.wit_encode.specs.declared.interface.Foreign.{Foreign}
 use Rattle.wit_encode.specs.Dependencies.{with_import}
 use Rattle.wit_encode.specs.Encoders.{declared_after}
-use Rattle.wit_encode.specs.Instance.{EncodesDependency, EncodesInterface, around_at}
+use Rattle.wit_encode.specs.Instance.{AliasesFor, EncodesDependency, EncodesInterface, around_at}
 use Rattle.wit_encode.specs.Worlds.{WorldEncoder, is_sound_outside, world_around, world_scope}
 use Rattle.wit_encode.proofs.Importing.{importable-stands}
 use Rattle.wit_encode.specs.WorldItems.{DefinesInstance}
@@ -113,15 +113,15 @@ pub stays-as-it-is : (e : InterfaceEncoder) → CanEncodeInterfaces (interface_e
 stays-as-it-is e h = record { packages_ = refl; names = refl; maps_ = refl; stands = λ i m s. s; instances = λ j s. s; can = h }
 
 pub encode-leaves : {E : Type 0} (res : Result ℕ E) (e : InterfaceEncoder) (h : CanEncodeInterfaces (interface_encoder_view e)) (d : WorldEncoder) (rest : d ≡ record e.encoder { outer = d.outer; foreign = d.foreign }) (i : InterfaceId)
-    → i.0 < length e.encoder.resolve.now.interfaces.items → IfOk res (DefinesInstance e.encoder d i) → OnErr res (GrowsAround e.encoder.resolve.now (component_of e) (world_around d)) → LeavesInterfaces e (record e { encoder = d })
+    → i.0 < length e.encoder.resolve.now.interfaces.items → IfOk res (DefinesInstance e.encoder d i) → OnErr res (AliasesFor e.encoder.resolve.now i (component_of e) (world_around d)) → LeavesInterfaces e (record e { encoder = d })
 encode-leaves (Ok k) e h d rest i l ok err =
     let found = found-in e.encoder.resolve.now.interfaces.items i.0 (lt-ltb i.0 (length e.encoder.resolve.now.interfaces.items) l) in
     interface-leaves e h d rest i found.0 k (ok found.0 found.1)
-encode-leaves (Err x) e h d rest i l ok err = aliases-leave e h d rest err
+encode-leaves (Err x) e h d rest i l ok err = aliases-leave e h d rest err.made.grown
 
 -- what wasn't listed isn't behind aliases and an instance type
 pub first-listed : (r : Resolve) (a a' : Around) (i : InterfaceId) (def : Interface) (k : ℕ) → EncodesDependency r a a' i def k → is_some (known_instance a.instances i.0) ≡ false → known_instance a'.instances i.0 ≡ None
-first-listed r a a' i def k is none = ap (λ (es : List (ℕ × ℕ)). known_instance es i.0) (ap (λ (z : Around). z.instances) is.part.one_more ∙ grown-listed r a is.part.before is.part.aliases) ∙ nothing (known_instance a.instances i.0) none
+first-listed r a a' i def k is none = ap (λ (es : List (ℕ × ℕ)). known_instance es i.0) (ap (λ (z : Around). z.instances) is.part.one_more ∙ grown-listed r a is.part.before is.part.aliases.grown) ∙ nothing (known_instance a.instances i.0) none
   where
     nothing : (o : Option ℕ) → is_some o ≡ false → o ≡ None
     nothing None e = refl

@@ -300,7 +300,7 @@ module _ (r : Resolve) (w : WorldId) (maps : TypeEncodingMaps) where
     before = e.before
 
     aliased : GoesOn r w count count maps a before
-    aliased = aliases-go-on r w count maps a before h e.aliases
+    aliased = aliases-go-on r w count maps a before h e.aliases.grown
 
     -- behind aliases and an instance type
     pub part-goes-on : GoesOn r w count count maps a a'

@@ -9,14 +9,14 @@ use Rattle.wit_model.specs.declared.model.Resolve.{Resolve}
 use Rattle.wit_model.specs.declared.model.TypeOwner.{TypeOwner}
 use Rattle.wit_model.specs.declared.model.TypeOwner.TheVariants as owner
 use Rattle.encode_reach.specs.Reach.{reached_in_order}
-use Rattle.encode_types.specs.Known.{Around, GrowsAround, known_instance}
+use Rattle.encode_types.specs.Known.{Around, known_instance}
 use Rattle.encode_types.specs.Slots.{Keeps}
 use Rattle.encode_types.specs.View.{Grows, View}
 use Rattle.wit_interfaces.specs.declared.encoder.InterfaceEncoderOf.{InterfaceEncoderOf}
 use Rattle.wit_encode.specs.Dependencies.{ImportsTypes}
 use Rattle.wit_encode.specs.DependencyRoom.{LacksImport}
 use Rattle.wit_encode.specs.Encoders.{InterfaceLacksRoom}
-use Rattle.wit_encode.specs.Instance.{EncodesDependency, EncodesInterface, LacksInstanceRoom}
+use Rattle.wit_encode.specs.Instance.{AliasesFor, AliasesForTypes, EncodesDependency, EncodesInterface, LacksInstanceRoom, whole_interface}
 use Rattle.wit_encode.specs.OwnerScope.{IsScopeOf}
 use Rattle.wit_encode.specs.Worlds.{WorldEncoder, world_around, world_encoder_view}
 use Rattle.wit_encode.specs.WrittenBytes.{AddsBytes, whole_extent}
@@ -94,9 +94,12 @@ pub record LeavesInterfaces (e e' : InterfaceEncoder) : Type 0 where
 abbrev pub EncodesInterfaceAs : InterfaceEncoder → InterfaceEncoder → InterfaceId → ℕ → Type 0
 EncodesInterfaceAs e e' i k = (def : Interface) → interface_at (packages_of e) i.0 ≡ Some def → EncodesInterface (packages_of e) (component_of e) (component_of e') i def k
 
--- nothing is new but aliases
-abbrev pub AddsAliases : InterfaceEncoder → InterfaceEncoder → Type 0
-AddsAliases e e' = GrowsAround (packages_of e) (component_of e) (component_of e')
+-- nothing is new but aliases of types of other interfaces that are met from an interface, or from its types alone
+abbrev pub AddsAliases : InterfaceEncoder → InterfaceEncoder → InterfaceId → Type 0
+AddsAliases e e' i = AliasesFor (packages_of e) i (component_of e) (component_of e')
+
+abbrev pub AddsAliasesForTypes : InterfaceEncoder → InterfaceEncoder → InterfaceId → Type 0
+AddsAliasesForTypes e e' i = AliasesForTypes (packages_of e) i (component_of e) (component_of e')
 
 -- the component type has grown by no more bytes than the interface takes
 abbrev pub AddsInterfaceBytes : InterfaceEncoder → InterfaceEncoder → InterfaceId → Type 0
@@ -108,9 +111,9 @@ pub data Imports (e e' : InterfaceEncoder) (i : InterfaceId) : Type 0 where
   imported : has_listed e i.0 ≡ false
       → ImportsTypes (packages_of e) (has_canonical_names e) (component_of e) (component_of e') i (length (interface_encoder_view e).scope.others.instances) → Imports e e' i
 
--- Nothing is new but aliases, and one instance type of the interface's types at most.
+-- Nothing is new but aliases that the interface's types ask for, and one instance type of them at most.
 pub data ImportsInPart (e e' : InterfaceEncoder) (i : InterfaceId) : Type 0 where
-  aliases : AddsAliases e e' → ImportsInPart e e' i
+  aliases : AddsAliasesForTypes e e' i → ImportsInPart e e' i
   unused : (def : Interface) (k : ℕ) → interface_at (packages_of e) i.0 ≡ Some def → EncodesDependency (packages_of e) (component_of e) (component_of e') i def k → ImportsInPart e e' i
 
 -- These have been imported, one after the other, each where it had not been.
@@ -152,7 +155,7 @@ pub data ImportsReachedInPart (e e' : InterfaceEncoder) (i : InterfaceId) : Type
 -- An instance type has no room for the types and functions of the interface. Or the component type, after aliases have been made, has none
 -- for one more alias or instance type.
 abbrev pub LacksRoomFor : InterfaceEncoder → InterfaceId → Type 0
-LacksRoomFor e i = (def : Interface) → interface_at (packages_of e) i.0 ≡ Some def → InterfaceLacksRoom (packages_of e) i def ⊎ LacksInstanceRoom (packages_of e) (component_of e)
+LacksRoomFor e i = (def : Interface) → interface_at (packages_of e) i.0 ≡ Some def → InterfaceLacksRoom (packages_of e) i def ⊎ LacksInstanceRoom (packages_of e) i (whole_interface def) (component_of e)
 
 -- the types of an interface can't be imported for want of room
 abbrev pub LacksRoomToImport : InterfaceEncoder → InterfaceId → Type 0

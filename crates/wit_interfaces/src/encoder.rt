@@ -213,10 +213,11 @@ impl<'a> InterfaceEncoder<'a> {
     /// (WIT.md, "Package Format"). From then on an instance of it stands. Of one that has been imported nothing is done.
     ///
     /// Of each interface that it uses itself, an instance stands: so interfaces are imported in the order in which they use each other.
-    /// After a refusal the encoder can be used on: then nothing has been declared but aliases, and one instance type at most that nothing uses.
+    /// After a refusal the encoder can be used on: then nothing has been declared but aliases that its types ask for, and one instance type at
+    /// most that nothing uses.
     /// `Size` comes only where a type that is met from the types of the interface doesn't fit in 32 bits by itself, where there are too many of
-    /// them, where its path doesn't fit, or where the component type, after aliases have been made, has no room for the instance type and
-    /// its import.
+    /// them, where its path doesn't fit, or where the component type, after such aliases have been made, has no room for the instance type
+    /// and its import.
     ///
     /// Takes as long as encoding the types.
     pub fn import_interface(&mut self, interface: InterfaceId) -> Result<(), Error>
@@ -278,10 +279,10 @@ impl<'a> InterfaceEncoder<'a> {
     /// their resource, then the others. The type of a function is defined just before its export, where its key is new.
     ///
     /// Of each interface that it uses, an instance stands, since it has been imported. A type of another interface gets an alias in the component
-    /// type when it is first met, which later calls use, too. No instance stands by this call alone. After a refusal the encoder is as it was,
-    /// but for aliases that have been made. `Size` comes only where a type that is met from the interface, or a function of it, doesn't fit in
+    /// type when it is first met, which later calls use, too, and no other type does. No instance stands by this call alone. After a refusal the
+    /// encoder is as it was, but for such aliases that have been made. `Size` comes only where a type that is met from the interface, or a function of it, doesn't fit in
     /// 32 bits by itself, where there are too many of them (two declarations for each type number that is met, each once, and two for each
-    /// function), or where the component type, after aliases have been made, has no room for one more alias or instance type.
+    /// function), or where the component type, after such aliases have been made, has no room for one more alias or instance type.
     ///
     /// Takes as long as encoding the types and functions and sorting the functions, with a search in an ordered map for each.
     pub fn encode_instance(&mut self, interface: InterfaceId) -> Result<u32, Error>
@@ -290,7 +291,7 @@ impl<'a> InterfaceEncoder<'a> {
         requires uses { UsedStand (packages_of self.old) (standing_in self.old) interface.0 }
         ensures leaves { LeavesInterfaces self.old self.new }
         ensures ok { IfOk result (EncodesInterfaceAs self.old self.new interface) }
-        ensures err { OnErr result (AddsAliases self.old self.new) }
+        ensures err { OnErr result (AddsAliases self.old self.new interface) }
         ensures written { OnOk result (AddsInterfaceBytes self.old self.new interface) }
         ensures size { result ≡ Err Size → LacksRoomFor self.old interface }
         ensures refuses { IfErr result IsMemoryOrSize }

@@ -4,12 +4,12 @@ use Rattle.wit_model.specs.declared.model.InterfaceId.{InterfaceId}
 use Rattle.wit_encode.specs.Encoders.{outside}
 use Rattle.wit_encode.specs.Dependencies.{HasImported}
 use Rattle.wit_encode.specs.WrittenNames.{instance_names}
-use Rattle.wit_encode.proofs.ImportLoop.{all-defined, all-held, all-imported, defines-next, held-next, is-next, named-next, named-whole, next-refused}
+use Rattle.wit_encode.proofs.ImportLoop.{aliases-next, all-aliased, all-defined, all-held, all-imported, defines-next, held-next, is-next, named-next, named-whole, next-refused}
 use Rattle.wit_encode.proofs.component_types.import_dependencies.Goals as goal
 use Rattle.wit_encode.proofs.BytesWritten.{adds-nothing, imports-next, imports-whole}
 
 pub loop-number-init : goal.loop-number-init
-loop-number-init c = record { closed = c.requires.closed; packages_ = refl; imported = c.requires.nothing; named = sym (append-nil (instance_names c.args.encoder.now.outer)); written = adds-nothing c.args.encoder.now.outer; held = λ h. h; defines = λ h. h }
+loop-number-init c = record { closed = c.requires.closed; packages_ = refl; imported = c.requires.nothing; named = sym (append-nil (instance_names c.args.encoder.now.outer)); written = adds-nothing c.args.encoder.now.outer; held = λ h. h; aliases = λ h. h; defines = λ h. h }
 
 pub import_dependency-requires-clause-closed : goal.import_dependency-requires-clause-closed
 import_dependency-requires-clause-closed c = c.loop-number.invariant.closed
@@ -40,6 +40,8 @@ loop-number-preserved c = record {
       c.loop-number.invariant.packages_ c.loop-number-test.true c.loop-number.invariant.written c.in_ok-import_dependency.ensures.written;
   held = λ h. held-next c.args.encoder.now.resolve.now c.loop-number.encoder.resolve.now c.args.canonical_names c.args.interfaces.now c.loop-number.number (outside c.loop-number.encoder) (outside c.import_dependency.new.encoder)
       c.loop-number.invariant.packages_ c.loop-number-test.true c.in_ok-import_dependency.ensures.imports (c.loop-number.invariant.held h);
+  aliases = λ h. aliases-next c.args.encoder.now.resolve.now c.loop-number.encoder.resolve.now c.args.canonical_names c.args.interfaces.now c.loop-number.number (outside c.loop-number.encoder) (outside c.import_dependency.new.encoder)
+      c.loop-number.invariant.packages_ c.loop-number-test.true c.in_ok-import_dependency.ensures.imports c.loop-number.invariant.imported (c.loop-number.invariant.aliases h);
   defines = λ h. defines-next c.args.encoder.now.resolve.now c.loop-number.encoder.resolve.now c.args.canonical_names c.args.interfaces.now c.loop-number.number (outside c.loop-number.encoder) (outside c.import_dependency.new.encoder)
       c.loop-number.invariant.packages_ c.loop-number-test.true c.in_ok-import_dependency.ensures.imports (c.loop-number.invariant.defines h);
 }
@@ -55,6 +57,9 @@ returns-clause-imported c = all-imported c.args.encoder.now.resolve.now c.loop-n
 
 pub returns-clause-held : goal.returns-clause-held
 returns-clause-held c = λ h. all-held c.args.encoder.now.resolve.now c.args.interfaces.now c.loop-number.number (outside c.loop-number.encoder) c.loop-number-test.false (c.loop-number.invariant.held h)
+
+pub returns-clause-aliases : goal.returns-clause-aliases
+returns-clause-aliases c = λ h. all-aliased c.args.encoder.now.resolve.now c.args.interfaces.now c.loop-number.number (outside c.loop-number.encoder) c.loop-number-test.false (c.loop-number.invariant.aliases h)
 
 pub returns-clause-once : goal.returns-clause-once
 returns-clause-once c = λ h. all-defined c.args.encoder.now.resolve.now c.args.interfaces.now c.loop-number.number c.loop-number.encoder.outer c.loop-number-test.false (c.loop-number.invariant.defines h)

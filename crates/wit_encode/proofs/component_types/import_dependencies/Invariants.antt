@@ -2,6 +2,7 @@ use Rattle.std.proofs.Common.{◌≡◌, None, [], map, take}
 use Rattle.wit_encode.specs.Encoders.{outside}
 use Rattle.wit_encode.specs.Dependencies.{HasImported}
 use Rattle.wit_encode.specs.DependencyCounts.{DefinesImports}
+use Rattle.wit_encode.specs.DependencyAliases.{HasImportAliases}
 use Rattle.wit_encode.specs.DependencyRoom.{HoldsImports}
 use Rattle.wit_encode.specs.WrittenBytes.{AddsBytes, imports_extent}
 use Rattle.wit_encode.specs.WrittenNames.{NamesInterfaces}
@@ -15,5 +16,6 @@ invariant-loop-number l = record {
   named : NamesInterfaces l.fn.encoder.resolve.now l.canonical_names (take l.number (map (λ id. id.0) l.interfaces)) l.fn.encoder.outer l.encoder.outer;
   written : AddsBytes (imports_extent l.fn.encoder.resolve.now l.canonical_names (take l.number (map (λ id. id.0) l.interfaces))) l.fn.encoder.outer l.encoder.outer;
   held : HoldsImports l.fn.encoder.resolve.now (outside l.fn.encoder) [] → HoldsImports l.fn.encoder.resolve.now (outside l.encoder) (take l.number (map (λ id. id.0) l.interfaces));
+  aliases : HasImportAliases l.fn.encoder.resolve.now (outside l.fn.encoder) [] → HasImportAliases l.fn.encoder.resolve.now (outside l.encoder) (take l.number (map (λ id. id.0) l.interfaces));
   defines : DefinesImports l.fn.encoder.resolve.now l.fn.encoder.outer [] → DefinesImports l.fn.encoder.resolve.now l.encoder.outer (take l.number (map (λ id. id.0) l.interfaces));
 }

@@ -10,10 +10,12 @@ use Rattle.comp_bytes.specs.Raw.{Declaration, Declarations, append}
 use Rattle.comp_bytes.specs.declared.forms.ComponentTypeRef.TheVariants as refs
 use Rattle.encode_types.specs.Known.{Around, UsedStand, standing_instances}
 use Rattle.wit_model.proofs.OnePath.{found-in}
+use Rattle.wit_encode.specs.DependencyAliases.{HasImportAliases, IsMetAmong}
+use Rattle.wit_encode.proofs.DependencyAliases.{nothing-aliased}
 use Rattle.wit_encode.specs.DependencyCounts.{DefinesImports}
 use Rattle.wit_encode.specs.DependencyRoom.{ImportsLackRoom, of_imports}
 use Rattle.wit_encode.specs.Encoders.{InterfaceLacksRoom, outside}
-use Rattle.wit_encode.specs.Instance.{EncodesInterface, LacksInstanceRoom}
+use Rattle.wit_encode.specs.Instance.{EncodesInterface, LacksInstanceRoom, whole_interface}
 use Rattle.wit_encode.specs.Dependencies.{AreImportable, HasImported, ShowsComponent}
 use Rattle.wit_encode.proofs.DependencyHolding.{export-defines, export-lacks, nothing-defined, nothing-held, own-lacks}
 use Rattle.wit_encode.proofs.DependencyWeighing.{lacking-components-heavy}
@@ -93,6 +95,9 @@ returns-clause-once c =
     export-defines r c.args.canonical_names (outside before) (outside after) c.args.interface found.0 c.in_ok-slot.slot c.export.new.self encodes
     (c.in_ok-export.ensures.ok ∙ ap (λ n. append after.outer (Declarations.declares (Declaration.exported n (refs.Instance c.in_ok-slot.slot)) Declarations.no_more)) c.in_ok-name.ensures.ok)
     (map (λ (id : InterfaceId). id.0) c.deref-2.result.now) found.1 (ap (map (λ (id : InterfaceId). id.0)) c.deref-2.ensures.value ∙ c.in_ok-reached.ensures.order) defined
+    (subst (λ (q : Resolve). HasImported q (outside before) (map (λ (id : InterfaceId). id.0) c.deref-2.result.now)) c.new-encoder.ensures.resolve c.in_ok-import_dependencies.ensures.imported)
+    (subst (λ (q : Resolve). HasImportAliases q (outside before) (map (λ (id : InterfaceId). id.0) c.deref-2.result.now)) c.new-encoder.ensures.resolve
+    (c.in_ok-import_dependencies.ensures.aliases (nothing-aliased q (IsMetAmong q []) (outside c.new-encoder.result) c.new-encoder.ensures.outer)))
 
 pub returns-in_err-refuse_equal_paths-clause-size : goal.returns-in_err-refuse_equal_paths-clause-size
 returns-in_err-refuse_equal_paths-clause-size c = λ refused. paths-fit c.args.resolve.now (map (λ (id : InterfaceId). id.0) c.deref.result.now) c.args.canonical_names c.in_err-refuse_equal_paths.field-0.0
@@ -122,7 +127,7 @@ returns-in_err-slot-clause-size c = λ h.
     (c.in_ok-import_dependencies.ensures.held (nothing-held q (outside c.new-encoder.result) c.new-encoder.ensures.outer)) in
     lacking-components-heavy r c.args.interface ns c.requires.valid c.requires.named c.in_ok-reached.ensures.reached
     (own-lacks r ns (outside before) imported held c.args.interface found.0 found.1
-    (subst (λ (q : Resolve). InterfaceLacksRoom q c.args.interface found.0 ⊎ LacksInstanceRoom q (outside before)) same
+    (subst (λ (q : Resolve). InterfaceLacksRoom q c.args.interface found.0 ⊎ LacksInstanceRoom q c.args.interface (whole_interface found.0) (outside before)) same
     (c.encode_instance.ensures.size refused found.0 (ap (λ (q : Resolve). interface_at q c.args.interface.0) same ∙ found.1))))
 
 pub returns-in_err-export-clause-size : goal.returns-in_err-export-clause-size

@@ -16,6 +16,11 @@ use Rattle.wit_encode.proofs.interface.InstanceEncoderOf+TypeEncodingMaps.encode
 use Rattle.wit_encode.proofs.interface.InstanceEncoderOf+TypeEncodingMaps.encode_dependency.Goals.{After-index-def}
 use Rattle.wit_encode.proofs.BytesWritten.{types-few}
 use Rattle.encode_types.proofs.Agree.{on_ok}
+use Rattle.encode_types.specs.Aliases.{AliasesMet}
+use Rattle.encode_types.specs.MetKinds.{referred}
+use Rattle.wit_encode.specs.Instance.{AliasesForTypes}
+use Rattle.wit_encode.proofs.Opening.{err-then, when-err}
+use Rattle.encode_types.proofs.Aliasing.{met-none}
 
 there : (c : After-index-def) → interface_at c.args.self.now.resolve.now c.args.interface.0 ≡ Some c.index-def.result.now
 there c = slice_get_read _ _ _ _ refl c.requires.in_range c.index-def.ensures
@@ -50,10 +55,28 @@ returns-clause-size c = λ h def is.
     let is_def = some-same c.index-def.result.now def (sym at ∙ is) in
     elim (c.encode_part.ensures.size h) [
       | inl room ↦ inl (room-listed c.args.self.now.resolve.now c.args.interface _ _ [] [] (c.deref.ensures.value ∙ c.in_ok-types.ensures ∙ ap (λ (z : Interface). values z.types) is_def) refl room)
-      | inr around ↦ inr around
+      | inr around ↦ inr (record {
+        after = around.after;
+        grown = subst (λ (ts : List TypeId). AliasesMet c.args.self.now.resolve.now (Some c.args.interface) (referred ts []) (outside c.args.self.now) around.after) (c.deref.ensures.value ∙ c.in_ok-types.ensures ∙ ap (λ (z : Interface). values z.types) is_def) around.grown;
+        full = around.full;
+      })
     ]
 
 pub returns-clause-written : goal.returns-clause-written
 returns-clause-written c = on_ok c.encode_part.result _ _
     (λ t. types-few c.args.self.now.resolve.now c.requires.valid c.args.interface c.index-def.result.now (there (goal.at.returns-clause-written c).After-index-def) c.deref.result.now (c.deref.ensures.value ∙ c.in_ok-types.ensures)
     c.args.self.now.outer c.encode_part.new.self.outer t) c.encode_part.ensures.written
+
+nothing-new : (c : After-index-def) → AliasesForTypes c.args.self.now.resolve.now c.args.interface (outside c.args.self.now) (outside c.args.self.now)
+nothing-new c = record { def = c.index-def.result.now; there = there c; made = met-none refl }
+
+pub returns-in_err-types-clause-err : goal.returns-in_err-types-clause-err
+returns-in_err-types-clause-err c = when-err _ (nothing-new (goal.at.returns-in_err-types-clause-err c).After-index-def)
+
+pub returns-clause-err : goal.returns-clause-err
+returns-clause-err c = err-then c.encode_part.result
+    (λ made. record {
+      def = c.index-def.result.now;
+      there = there (goal.at.returns-clause-err c).After-index-def;
+      made = subst (λ (ts : List TypeId). AliasesMet c.args.self.now.resolve.now (Some c.args.interface) (referred ts []) (outside c.args.self.now) (outside c.encode_part.new.self)) (c.deref.ensures.value ∙ c.in_ok-types.ensures) made;
+    }) c.encode_part.ensures.err

@@ -26,6 +26,7 @@ use Rattle.encode_types.proofs.Agree.{on_ok}
 use Rattle.encode_types.proofs.Writing.{writes-beside}
 use Rattle.encode_types.specs.Extents.{name_extent}
 use Rattle.std.proofs.Common.{◌≤◌, ◌+◌}
+use Rattle.encode_types.proofs.Aliasing.{makes-same}
 
 pub encode_func_type-requires : goal.encode_func_type-requires
 encode_func_type-requires c = λ _. ((refl, tt), rw c.requires.open.packages_ (c.requires.encodable.types, (c.requires.encodable.formed, c.requires.open.agree)))
@@ -132,3 +133,6 @@ returns-clause-written c =
     (λ w.
     let more : after.extent ≤ between.extent + name_extent (function_name (text_of c.args.name.now, c.args.func.now)) = (let l = w.extent in omega (arith, named, l)) in
     writes-beside (name_extent (function_name (text_of c.args.name.now, c.args.func.now))) c.in_ok-index.ensures.written more (ap (λ (m : TypeEncodingMaps). m.id_to_index.entries) c.export_function.ensures.maps)) c.export_function.ensures.written
+
+pub returns-clause-aliases : goal.returns-clause-aliases
+returns-clause-aliases c = makes-same c.export_function.ensures.around c.encode_func_type.ensures.aliases

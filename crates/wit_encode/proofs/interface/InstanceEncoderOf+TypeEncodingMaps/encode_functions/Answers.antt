@@ -24,6 +24,7 @@ use Rattle.encode_types.proofs.Writing.{writes-along, writes-most, writes-nothin
 use Rattle.encode_types.specs.Extents.{function_extent}
 use Rattle.wit_encode.specs.Encoders.{encoder_view}
 use Rattle.wit_model.proofs.Elements.{contains-flat}
+use Rattle.encode_types.proofs.Aliasing.{met-none, met-more, makes-then}
 
 pub encode_function-requires-clause-encodable : goal.encode_function-requires-clause-encodable
 encode_function-requires-clause-encodable c = function-continues _ c.loop-entry.invariant.continues (c.requires.encodable c.entry-item.result (contains-at c.args.functions.now c.loop-entry.entry-index c.entry-item.result c.loop-entry-test.true c.entry-item.is))
@@ -33,6 +34,14 @@ loop-entry-preserved c = record {
   packages_ = search rules;
   own = search rules;
   continues = continues-trans c.loop-entry.invariant.continues c.encode_function.ensures.continues.continues refl;
+  aliases = makes-then c.loop-entry.invariant.own c.loop-entry.invariant.aliases (met-more
+      (λ n x. (
+        x.0,
+        contains-flat function_types _ c.entry-item.result.2.now x.0 (contains-map (λ (f : ℕ × Bor (String Global) × Bor Function). f.2.now) c.args.functions.now c.entry-item.result
+            (contains-at c.args.functions.now c.loop-entry.entry-index c.entry-item.result c.loop-entry-test.true c.entry-item.is)) x.1,
+        x.2,
+      ))
+      c.encode_function.ensures.aliases);
   shows = grind (arith, common_steps);
   counts =
       functions-counted (λ (f : ℕ × Bor (String Global) × Bor Function). f.2.now)
@@ -91,6 +100,7 @@ loop-entry-init c = record {
   packages_ = search rules;
   own = search rules;
   continues = search rules;
+  aliases = met-none refl;
   shows = search rules;
   counts = adds-nothing c.args.resolve.now (encoder_scope c.args.resolve.now c.args.self.now.outer c.args.self.now.inner) c.args.self.now.maps (definitions_with (contents_of c.args.resolve.now c.args.self.now.outer c.args.self.now.inner));
   learns = search rules;
@@ -106,3 +116,14 @@ pub returns-clause-written : goal.returns-clause-written
 returns-clause-written c =
     let all = functions-whole (function_extent c.args.resolve.now) placed_function c.args.functions.now c.loop-entry.entry-index c.loop-entry-test.false in
     writes-most (omega (arith, all)) c.loop-entry.invariant.written
+
+pub returns-in_err-encode_function-clause-aliases : goal.returns-in_err-encode_function-clause-aliases
+returns-in_err-encode_function-clause-aliases c =
+    makes-then c.loop-entry.invariant.own c.loop-entry.invariant.aliases (met-more
+    (λ n x. (
+      x.0,
+      contains-flat function_types _ c.entry-item.result.2.now x.0 (contains-map (λ (f : ℕ × Bor (String Global) × Bor Function). f.2.now) c.args.functions.now c.entry-item.result
+          (contains-at c.args.functions.now c.loop-entry.entry-index c.entry-item.result c.loop-entry-test.true c.entry-item.is)) x.1,
+      x.2,
+    ))
+    c.encode_function.ensures.aliases)

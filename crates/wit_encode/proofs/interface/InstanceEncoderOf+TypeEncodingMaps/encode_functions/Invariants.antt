@@ -5,10 +5,11 @@ use Rattle.std.specs.List.{flat_map}
 use Rattle.std.specs.Prelude.{sum_by}
 use Rattle.encode_types.specs.Extents.{function_extent}
 use Rattle.wit_model.specs.Parts.{function_types}
+use Rattle.encode_types.specs.Aliases.{AliasesMet}
 use Rattle.encode_types.specs.MetKinds.{LearnsFrom}
 use Rattle.encode_types.specs.Counts.{names_defined}
 use Rattle.encode_types.specs.Distinct.{AddsFunctions}
-use Rattle.wit_encode.specs.Instance.{placed_function, meaning_of, own_of, contents_of, encoder_scope, definitions_with, Continues, exports_in}
+use Rattle.wit_encode.specs.Instance.{placed_function, meaning_of, own_of, around_of, contents_of, encoder_scope, definitions_with, Continues, exports_in}
 use Rattle.encode_types.specs.Maps.{MapsGrow}
 use Rattle.wit_encode.proofs.interface.InstanceEncoderOf+TypeEncodingMaps.encode_functions.Given as goal
 
@@ -17,6 +18,7 @@ invariant-loop-entry l = record {
   packages_ : l.self.resolve.now ≡ l.resolve;
   own : own_of l.self.inner ≡ own_of l.fn.self.inner;
   continues : Continues l.resolve l.resolve l.fn.self.outer l.self.outer l.fn.self.inner l.self.inner l.fn.self.maps l.self.maps;
+  aliases : AliasesMet l.resolve (own_of l.fn.self.inner) (flat_map function_types (map (λ f. f.2.now) l.functions)) (around_of l.fn.self.outer l.fn.self.inner) (around_of l.self.outer l.self.inner);
   shows : (contents_of l.resolve l.self.outer l.self.inner).shown.functions ≡ (contents_of l.resolve l.fn.self.outer l.fn.self.inner).shown.functions ++ map (λ f. meaning_of l.resolve (placed_function f)) (take l.entry-index l.functions);
   counts : AddsFunctions l.resolve (encoder_scope l.resolve l.fn.self.outer l.fn.self.inner) l.fn.self.maps l.self.maps
       (definitions_with (contents_of l.resolve l.fn.self.outer l.fn.self.inner)) (definitions_with (contents_of l.resolve l.self.outer l.self.inner))

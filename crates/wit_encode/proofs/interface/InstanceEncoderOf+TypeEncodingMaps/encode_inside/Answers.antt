@@ -7,10 +7,11 @@ use Rattle.encode_types.specs.Fits.{CanEncode}
 use Rattle.encode_types.specs.Maps.{MapsAgree}
 use Rattle.wit_model.proofs.Lists.{first_true}
 use Rattle.encode_types.specs.Distinct.{AddsFunctions}
-use Rattle.wit_encode.specs.Instance.{Contents, SlotsStand, stands_inside, encoder_scope, contents_of, definitions_with, CanEncodeFunction, Continues, placed_function, meaning_of, exports_in, opened, around_at}
+use Rattle.wit_encode.specs.Instance.{Contents, SlotsStand, stands_inside, encoder_scope, contents_of, definitions_with, CanEncodeFunction, Continues, placed_function, meaning_of, exports_in, opened, own_of, around_of, around_at}
 use Rattle.wit_encode.proofs.Referring.{interface-kinds}
-use Rattle.wit_encode.proofs.Opening.{closed, closed-instance, closed-around, listed-there, opened-exports, opened-with}
-use Rattle.encode_types.specs.Known.{GrowsAround}
+use Rattle.wit_encode.proofs.Opening.{closed, closed-instance, listed-there, opened-exports, opened-with}
+use Rattle.encode_types.specs.Aliases.{AliasesMet}
+use Rattle.encode_types.specs.MetKinds.{referred}
 use Rattle.wit_encode.proofs.Counting.{Began, Counted, closed-counts}
 use Rattle.wit_encode.proofs.Refusing.{no-room}
 use Rattle.wit_encode.proofs.interface.InstanceEncoderOf+TypeEncodingMaps.encode_inside.Goals as goal
@@ -34,9 +35,13 @@ continued c =
     subst (λ (o : Option OpenInterface). Continues c.args.self.now.resolve.now c.args.self.now.resolve.now c.args.self.now.outer after.outer o after.inner c.replace-saved.new.dest after.maps)
     (opened-with c.args.interface c.new-2.result c.replace-foreign.result c.args.self.now.foreign c.new-2.ensures c.replace-foreign.ensures.value) c.encode_parts-outcome.ensures.continues.continues
 
-around-grown : (c : In-Some) → GrowsAround c.args.self.now.resolve.now (around_at c.args.self.now.outer c.args.self.now.foreign) (around_at c.encode_parts-outcome.new.self.outer c.in-Some.current.foreign)
-around-grown c = closed-around c.args.self.now.resolve.now c.args.self.now.outer c.encode_parts-outcome.new.self.outer c.args.interface c.args.self.now.foreign c.encode_parts-outcome.new.self.inner c.in-Some.current _ _
-    (sym c.replace-inner.ensures.value ∙ c.in-Some.is) (continued c)
+around-grown : (c : In-Some) → AliasesMet c.args.self.now.resolve.now (Some c.args.interface) (referred c.args.types.now (map (λ f. f.2.now) c.args.functions.now)) (around_at c.args.self.now.outer c.args.self.now.foreign) (around_at c.encode_parts-outcome.new.self.outer c.in-Some.current.foreign)
+around-grown c =
+    let after = c.encode_parts-outcome.new.self in
+    let ts = referred c.args.types.now (map (λ f. f.2.now) c.args.functions.now) in
+    subst (λ (o : Option OpenInterface). AliasesMet c.args.self.now.resolve.now (Some c.args.interface) ts (around_at c.args.self.now.outer c.args.self.now.foreign) (around_of after.outer o)) (sym c.replace-inner.ensures.value ∙ c.in-Some.is)
+    (subst (λ (o : Option OpenInterface). AliasesMet c.args.self.now.resolve.now (own_of o) ts (around_of c.args.self.now.outer o) (around_of after.outer after.inner))
+    (opened-with c.args.interface c.new-2.result c.replace-foreign.result c.args.self.now.foreign c.new-2.ensures c.replace-foreign.ensures.value) c.encode_parts-outcome.ensures.aliases)
 
 pub returns-clause-reaches : goal.returns-clause-reaches
 returns-clause-reaches c = around-grown (goal.at.returns-clause-reaches c).In-Some

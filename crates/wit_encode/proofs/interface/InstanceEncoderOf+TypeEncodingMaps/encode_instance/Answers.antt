@@ -19,10 +19,17 @@ use Rattle.wit_model.specs.declared.model.Interface.{Interface}
 use Rattle.wit_encode.specs.Order.{functions_in_order}
 use Rattle.wit_encode.proofs.Refusing.{room-listed}
 use Rattle.wit_encode.proofs.interface.InstanceEncoderOf+TypeEncodingMaps.encode_instance.Goals as goal
-use Rattle.wit_encode.proofs.interface.InstanceEncoderOf+TypeEncodingMaps.encode_instance.Goals.{After-index-def}
+use Rattle.wit_encode.proofs.interface.InstanceEncoderOf+TypeEncodingMaps.encode_instance.Goals.{After-index-def, After-encode_part}
 use Rattle.wit_encode.proofs.BytesWritten.{whole-few}
 use Rattle.encode_types.proofs.Agree.{on_ok}
 use Rattle.wit_model.proofs.Elements.{contains-map}
+use Rattle.encode_types.specs.Aliases.{AliasesMet}
+use Rattle.encode_types.specs.Known.{Around}
+use Rattle.encode_types.specs.MetKinds.{referred}
+use Rattle.wit_encode.specs.Instance.{AliasesFor, whole_interface}
+use Rattle.wit_encode.proofs.Opening.{err-then, values-permuted, when-err}
+use Rattle.wit_encode.proofs.Referring.{permuted-aliases}
+use Rattle.encode_types.proofs.Aliasing.{met-none}
 
 there : (c : After-index-def) → interface_at c.args.self.now.resolve.now c.args.interface.0 ≡ Some c.index-def.result.now
 there c = slice_get_read _ _ _ _ refl c.requires.in_range c.index-def.ensures
@@ -72,6 +79,16 @@ returns-clause-ok c =
     (ap (map placed_function) c.deref-2.ensures.value ∙ c.in_ok-functions.ensures.order ∙ ap functions_in_order is_def) (all def is))
     c.encode_part.ensures.ok
 
+-- what is met from all that the interface refers to
+whole-met : (c : After-encode_part) (a : Around) → AliasesMet c.args.self.now.resolve.now (Some c.args.interface) (referred c.deref.result.now (map (λ f. f.2.now) c.deref-2.result.now)) (outside c.args.self.now) a
+    → AliasesMet c.args.self.now.resolve.now (Some c.args.interface) (whole_interface c.index-def.result.now) (outside c.args.self.now) a
+whole-met c a made =
+    let def = c.index-def.result.now in
+    let fs = c.deref-2.result.now in
+    permuted-aliases c.args.self.now.resolve.now (Some c.args.interface) (values def.types) (values def.functions) (map (λ f. f.2.now) fs)
+    (values-permuted def fs (subst (λ xs. IsPermutation (map keyed def.functions.entries) (map placed_function xs)) (sym c.deref-2.ensures.value) c.in_ok-functions.ensures.all))
+    (subst (λ (ts : List TypeId). AliasesMet c.args.self.now.resolve.now (Some c.args.interface) (referred ts (map (λ f. f.2.now) fs)) (outside c.args.self.now) a) (c.deref.ensures.value ∙ c.in_ok-types.ensures) made)
+
 pub returns-clause-size : goal.returns-clause-size
 returns-clause-size c = λ h def is.
     let at = there (goal.at.returns-clause-size c).After-index-def in
@@ -80,10 +97,27 @@ returns-clause-size c = λ h def is.
     ap (map placed_function) c.deref-2.ensures.value ∙ c.in_ok-functions.ensures.order ∙ ap functions_in_order is_def in
     elim (c.encode_part.ensures.size h) [
       | inl room ↦ inl (room-listed c.args.self.now.resolve.now c.args.interface _ _ c.deref-2.result.now _ (c.deref.ensures.value ∙ c.in_ok-types.ensures ∙ ap (λ (z : Interface). values z.types) is_def) same room)
-      | inr around ↦ inr around
+      | inr around ↦ inr (record {
+        after = around.after;
+        grown = subst (λ (d : Interface). AliasesMet c.args.self.now.resolve.now (Some c.args.interface) (whole_interface d) (outside c.args.self.now) around.after) is_def (whole-met (goal.at.returns-clause-size c).After-encode_part around.after around.grown);
+        full = around.full;
+      })
     ]
 
 pub returns-clause-written : goal.returns-clause-written
 returns-clause-written c = on_ok c.encode_part.result _ _
     (λ t. whole-few c.args.self.now.resolve.now c.requires.valid c.args.interface c.index-def.result.now (there (goal.at.returns-clause-written c).After-index-def) c.deref.result.now (c.deref.ensures.value ∙ c.in_ok-types.ensures)
     c.deref-2.result.now (ap (map placed_function) c.deref-2.ensures.value ∙ c.in_ok-functions.ensures.order) c.args.self.now.outer c.encode_part.new.self.outer t) c.encode_part.ensures.written
+
+nothing-new : (c : After-index-def) → AliasesFor c.args.self.now.resolve.now c.args.interface (outside c.args.self.now) (outside c.args.self.now)
+nothing-new c = record { def = c.index-def.result.now; there = there c; made = met-none refl }
+
+pub returns-in_err-types-clause-err : goal.returns-in_err-types-clause-err
+returns-in_err-types-clause-err c = when-err _ (nothing-new (goal.at.returns-in_err-types-clause-err c).After-index-def)
+
+pub returns-in_err-functions-clause-err : goal.returns-in_err-functions-clause-err
+returns-in_err-functions-clause-err c = when-err _ (nothing-new (goal.at.returns-in_err-functions-clause-err c).After-index-def)
+
+pub returns-clause-err : goal.returns-clause-err
+returns-clause-err c = err-then c.encode_part.result
+    (λ made. record { def = c.index-def.result.now; there = there (goal.at.returns-clause-err c).After-index-def; made = whole-met (goal.at.returns-clause-err c).After-encode_part (outside c.encode_part.new.self) made }) c.encode_part.ensures.err

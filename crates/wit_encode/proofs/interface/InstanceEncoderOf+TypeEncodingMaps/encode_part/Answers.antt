@@ -22,22 +22,22 @@ returns-clause-ok c =
 
 pub returns-clause-stands : goal.returns-clause-stands
 returns-clause-stands c = closed-keeps c.close.result c.args.self.now.resolve.now c.close.new.self.resolve.now (outside c.args.self.now) c.encode_inside.new.self.outer c.close.new.self.outer c.encode_inside.new.self.foreign c.args.self.now.inner c.close.new.self.inner c.in_ok-declared.declared c.requires.closed
-    ((λ i. (c.close.ensures.rest i).inner) ∙ c.encode_inside.ensures.closed) c.encode_inside.ensures.reaches c.close.ensures.ok c.close.ensures.err
+    ((λ i. (c.close.ensures.rest i).inner) ∙ c.encode_inside.ensures.closed) c.encode_inside.ensures.reaches.grown c.close.ensures.ok c.close.ensures.err
 
 pub returns-in_err-declared-clause-stands : goal.returns-in_err-declared-clause-stands
 returns-in_err-declared-clause-stands c =
     reached-keeps c.args.self.now.resolve.now c.encode_inside.new.self.resolve.now (outside c.args.self.now) c.encode_inside.new.self.outer c.encode_inside.new.self.foreign c.args.self.now.inner c.encode_inside.new.self.inner c.requires.closed
-    c.encode_inside.ensures.closed c.encode_inside.ensures.reaches
+    c.encode_inside.ensures.closed c.encode_inside.ensures.reaches.grown
 
 pub returns-clause-size : goal.returns-clause-size
 returns-clause-size c = λ h. inr (record { after = outside c.encode_inside.new.self; grown = c.encode_inside.ensures.reaches; full = c.close.ensures.size h })
 
 pub returns-clause-instances : goal.returns-clause-instances
 returns-clause-instances c = closed-stay c.close.result c.args.self.now.resolve.now (outside c.args.self.now) c.encode_inside.new.self.outer c.close.new.self.outer c.encode_inside.new.self.foreign c.close.new.self.foreign c.in_ok-declared.declared
-    c.encode_inside.ensures.reaches (λ i. (c.close.ensures.rest i).foreign) c.close.ensures.ok c.close.ensures.err
+    c.encode_inside.ensures.reaches.grown (λ i. (c.close.ensures.rest i).foreign) c.close.ensures.ok c.close.ensures.err
 
 pub returns-in_err-declared-clause-instances : goal.returns-in_err-declared-clause-instances
-returns-in_err-declared-clause-instances c = grown-stay c.args.self.now.resolve.now (outside c.args.self.now) (outside c.encode_inside.new.self) c.encode_inside.ensures.reaches
+returns-in_err-declared-clause-instances c = grown-stay c.args.self.now.resolve.now (outside c.args.self.now) (outside c.encode_inside.new.self) c.encode_inside.ensures.reaches.grown
 
 pub returns-clause-written : goal.returns-clause-written
 returns-clause-written c = when-ok c.close.result _ _ (λ k made. taken-closed c.encode_inside.new.self.outer c.close.new.self.outer (from_list c.in_ok-declared.declared) made.1 c.in_ok-declared.ensures.written) c.close.ensures.ok
@@ -46,11 +46,11 @@ pub returns-clause-sound : goal.returns-clause-sound
 returns-clause-sound c = λ h.
     let r = c.args.self.now.resolve.now in
     sound-closed r c.close.new.self.resolve.now c.close.new.self.outer c.close.new.self.inner ((λ i. (c.close.ensures.rest i).resolve.now) ∙ c.encode_inside.ensures.resolve) ((λ i. (c.close.ensures.rest i).inner) ∙ c.encode_inside.ensures.closed)
-    ∙ closed-sound c.close.result r (outside c.args.self.now) c.encode_inside.new.self.outer c.close.new.self.outer c.encode_inside.new.self.foreign c.in_ok-declared.declared c.encode_inside.ensures.reaches c.close.ensures.ok c.close.ensures.err
+    ∙ closed-sound c.close.result r (outside c.args.self.now) c.encode_inside.new.self.outer c.close.new.self.outer c.encode_inside.new.self.foreign c.in_ok-declared.declared c.encode_inside.ensures.reaches.grown c.close.ensures.ok c.close.ensures.err
     (sym (sound-closed r r c.args.self.now.outer c.args.self.now.inner refl c.requires.closed) ∙ h)
 
 pub returns-in_err-declared-clause-sound : goal.returns-in_err-declared-clause-sound
 returns-in_err-declared-clause-sound c = λ h.
     let r = c.args.self.now.resolve.now in
     sound-closed r c.encode_inside.new.self.resolve.now c.encode_inside.new.self.outer c.encode_inside.new.self.inner c.encode_inside.ensures.resolve c.encode_inside.ensures.closed
-    ∙ grown-sound r (outside c.args.self.now) (outside c.encode_inside.new.self) c.encode_inside.ensures.reaches (sym (sound-closed r r c.args.self.now.outer c.args.self.now.inner refl c.requires.closed) ∙ h)
+    ∙ grown-sound r (outside c.args.self.now) (outside c.encode_inside.new.self) c.encode_inside.ensures.reaches.grown (sym (sound-closed r r c.args.self.now.outer c.args.self.now.inner refl c.requires.closed) ∙ h)

@@ -16,6 +16,7 @@ use Rattle.wit_encode.proofs.FunctionExports.{listed-used, exported-after}
 use Rattle.wit_encode.proofs.interface.InstanceEncoderOf+TypeEncodingMaps.encode_parts.Goals as goal
 use Rattle.wit_encode.proofs.interface.InstanceEncoderOf+TypeEncodingMaps.encode_parts.Goals.{After-encode_types}
 use Rattle.encode_types.proofs.Writing.{writes-most, writes-then}
+use Rattle.encode_types.proofs.Aliasing.{met-more, makes-then}
 
 pub encode_functions-requires-clause-encodable : goal.encode_functions-requires-clause-encodable
 encode_functions-requires-clause-encodable c = λ f h. subst (λ (s : Scope). CanEncodeFunction c.args.resolve.now s f.2.now)
@@ -73,3 +74,12 @@ returns-clause-size c = λ h.
 
 pub returns-clause-written : goal.returns-clause-written
 returns-clause-written c = on_ok c.encode_functions.result _ _ (λ w. writes-most (omega arith) (writes-then c.encode_types.ensures.leaves.scope_stays c.in_ok-encode_types.ensures.written w)) c.encode_functions.ensures.written
+
+pub returns-in_err-encode_types-clause-aliases : goal.returns-in_err-encode_types-clause-aliases
+returns-in_err-encode_types-clause-aliases c = met-more (reached-left (map (λ t. ty.Id t) c.args.types.now) (flat_map function_types (map (λ f. f.2.now) c.args.functions.now))) c.encode_types.ensures.aliases
+
+pub returns-clause-aliases : goal.returns-clause-aliases
+returns-clause-aliases c =
+    let types = map (λ t. ty.Id t) c.args.types.now in
+    let others = flat_map function_types (map (λ f. f.2.now) c.args.functions.now) in
+    makes-then (ap (λ (s : Scope). s.own_interface) c.encode_types.ensures.leaves.scope_stays) (met-more (reached-left types others) c.encode_types.ensures.aliases) (met-more (reached-right types others) c.encode_functions.ensures.aliases)

@@ -19,10 +19,12 @@ use Rattle.wit_encode.proofs.Exporting.{exports-start, exports-next, exports-end
 use Rattle.wit_encode.proofs.interface.InstanceEncoderOf+TypeEncodingMaps.encode_types.Goals as goal
 use Rattle.encode_types.proofs.Writing.{writes-nothing, writes-then}
 use Rattle.wit_model.proofs.Elements.{contains-map, one-contained}
+use Rattle.encode_types.proofs.Aliasing.{met-none, met-more, makes-then}
 
 pub loop-id-init : goal.loop-id-init
 loop-id-init c = record {
   leaves = leaves-kept c.requires.begins.agree (record { kept = λ i m h. h; more = omega arith; around_ = around-same refl }) refl refl;
+  aliases = met-none refl;
   held = holds-none c.args.resolve.now (own_of c.args.self.now.inner) c.args.self.now.maps (encoder_view c.args.self.now).held;
   written = writes-nothing c.args.resolve.now 0 (encoder_view c.args.self.now);
   learns = from-none c.args.resolve.now (own_of c.args.self.now.inner) _ c.args.self.now.maps;
@@ -42,6 +44,14 @@ encode_valtype-requires c = λ _. (
 pub loop-id-preserved : goal.loop-id-preserved
 loop-id-preserved c = record {
   leaves = leaves-trans c.loop-id.invariant.leaves c.encode_valtype.ensures.leaves;
+  aliases = makes-then (ap (λ (z : Scope). z.own_interface) c.loop-id.invariant.leaves.scope_stays) c.loop-id.invariant.aliases (met-more
+      (λ n x. (
+        x.0,
+        subst (Contains (map (λ (t : TypeId). ty.Id t) c.args.types.now)) (one-contained (ty.Id (get_or c.args.types.now c.loop-id.id-index (record { 0 = 0 }))) x.0 x.1)
+            (contains-map (λ (t : TypeId). ty.Id t) c.args.types.now (get_or c.args.types.now c.loop-id.id-index (record { 0 = 0 })) (Contains-get_or c.args.types.now c.loop-id.id-index (record { 0 = 0 }) c.loop-id-test.true)),
+        x.2,
+      ))
+      c.encode_valtype.ensures.aliases);
   held = holds-then (ap (λ (z : Scope). z.own_interface) c.loop-id.invariant.leaves.scope_stays) c.loop-id.invariant.leaves.maps_grow c.encode_valtype.ensures.leaves.maps_grow c.loop-id.invariant.held c.in_ok-encode_valtype.ensures.held;
   written = writes-then c.loop-id.invariant.leaves.scope_stays c.loop-id.invariant.written c.in_ok-encode_valtype.ensures.written;
   learns = from-type c.args.resolve.now (own_of c.args.self.now.inner) (own_of c.loop-id.self.inner) c.args.types.now c.loop-id.id-index (record { 0 = 0 }) c.args.self.now.maps c.loop-id.self.maps c.encode_valtype.new.enc.maps
@@ -82,3 +92,14 @@ returns-in_err-encode_valtype-clause-size c = λ h.
     (only-more (λ n x. (x.0, map-taken (λ (t : TypeId). ty.Id t) c.args.types.now c.loop-id.id-index x.0 x.1, x.2)) c.loop-id.invariant.learns.only)
     (λ n x. (x.0, subst (Contains (map (λ (t : TypeId). ty.Id t) c.args.types.now)) (one-contained (ty.Id t) x.0 x.1) (contains-map (λ (t : TypeId). ty.Id t) c.args.types.now t (Contains-get_or c.args.types.now c.loop-id.id-index (record { 0 = 0 }) c.loop-id-test.true)), x.2))
     (λ q k. k) (omega (arith, keys)) (c.encode_valtype.ensures.size (search rules))
+
+pub returns-in_err-encode_valtype-clause-aliases : goal.returns-in_err-encode_valtype-clause-aliases
+returns-in_err-encode_valtype-clause-aliases c = makes-then (ap (λ (z : Scope). z.own_interface) c.loop-id.invariant.leaves.scope_stays) c.loop-id.invariant.aliases
+    (met-more
+    (λ n x. (
+      x.0,
+      subst (Contains (map (λ (t : TypeId). ty.Id t) c.args.types.now)) (one-contained (ty.Id (get_or c.args.types.now c.loop-id.id-index (record { 0 = 0 }))) x.0 x.1)
+          (contains-map (λ (t : TypeId). ty.Id t) c.args.types.now (get_or c.args.types.now c.loop-id.id-index (record { 0 = 0 })) (Contains-get_or c.args.types.now c.loop-id.id-index (record { 0 = 0 }) c.loop-id-test.true)),
+      x.2,
+    ))
+    c.encode_valtype.ensures.aliases)

@@ -2,6 +2,7 @@ use Rattle.std.proofs.Common.{map, take}
 use Rattle.wit_model.specs.declared.model.«Type».TheVariants as ty
 use Rattle.encode_types.specs.MetKinds.{LearnsFrom}
 use Rattle.wit_encode.specs.Instance.{own_of}
+use Rattle.encode_types.specs.Aliases.{MakesMet}
 use Rattle.encode_types.specs.Leaves.{Leaves, CountsTypes}
 use Rattle.wit_encode.specs.Exports.{ShowsFirst}
 use Rattle.encode_types.specs.View.{HoldsLearnt, WritesLearnt}
@@ -11,6 +12,7 @@ use Rattle.wit_encode.proofs.interface.InstanceEncoderOf+TypeEncodingMaps.encode
 abbrev pub invariant-loop-id : goal.invariant-loop-id
 invariant-loop-id l = record {
   leaves : Leaves l.resolve (encoder_view l.fn.self) (encoder_view l.self);
+  aliases : MakesMet l.resolve (map (λ t. ty.Id t) l.types) (encoder_view l.fn.self) (encoder_view l.self);
   counts : CountsTypes l.resolve (encoder_view l.fn.self) (encoder_view l.self);
   held : HoldsLearnt l.resolve 0 (encoder_view l.fn.self) (encoder_view l.self);
   written : WritesLearnt l.resolve 0 (encoder_view l.fn.self) (encoder_view l.self);

@@ -2,11 +2,9 @@ use Rattle.std.proofs.Common.{◌≡◌, ◌⊎◌, sym, subst, Some, []}
 use Rattle.std.specs.Prelude.{IfOk}
 use Rattle.wit_model.specs.Lookup.{interface_at}
 use Rattle.wit_model.specs.declared.model.Interface.{Interface}
-use Rattle.encode_types.specs.Known.{Around, GrowsAround, UsedStand, standing_instances}
-use Rattle.encode_types.specs.MetKinds.{referred}
+use Rattle.encode_types.specs.Known.{Around, UsedStand, standing_instances}
 use Rattle.encode_types.specs.Room.{HasNoRoom}
-use Rattle.indexmap.specs.IndexMap.{values}
-use Rattle.wit_encode.specs.Instance.{EncodesDependency, LacksInstanceRoom, around_at}
+use Rattle.wit_encode.specs.Instance.{EncodesDependency, AliasesForTypes, LacksInstanceRoom, types_alone_of, around_at}
 use Rattle.wit_encode.proofs.world.WorldEncoderOf+TypeEncodingMaps.define_dependency.Goals as goal
 use Rattle.comp_bytes.specs.Raw.{Declarations}
 use Rattle.std.proofs.Common.{OnErr, OnOk}
@@ -27,7 +25,7 @@ returns-clause-ok c =
 pub returns-clause-size : goal.returns-clause-size
 returns-clause-size c = λ refused.
     let q = c.args.self.now.resolve.now in
-    subst (λ (z : Around). (def : Interface) → interface_at q c.args.interface.0 ≡ Some def → HasNoRoom q (Some c.args.interface) (referred (values def.types) []) [] ⊎ LacksInstanceRoom q z)
+    subst (λ (z : Around). (def : Interface) → interface_at q c.args.interface.0 ≡ Some def → HasNoRoom q (Some c.args.interface) (types_alone_of def) [] ⊎ LacksInstanceRoom q c.args.interface (types_alone_of def) z)
     (λ j. record { declared = c.replace.ensures.value j; instances = (c.replace-2.ensures.value j).instances.entries; known = (c.replace-2.ensures.value j).known.entries }) (c.encode_dependency-outcome.ensures.size refused)
 
 pub returns-clause-written : goal.returns-clause-written
@@ -38,5 +36,5 @@ pub returns-clause-err : goal.returns-clause-err
 returns-clause-err c =
     let q = c.args.self.now.resolve.now in
     let after = c.encode_dependency-outcome.new.self in
-    subst (λ (z : Around). OnErr c.encode_dependency-outcome.result (GrowsAround q z (around_at after.outer after.foreign)))
+    subst (λ (z : Around). OnErr c.encode_dependency-outcome.result (AliasesForTypes q c.args.interface z (around_at after.outer after.foreign)))
     (λ j. record { declared = c.replace.ensures.value j; instances = (c.replace-2.ensures.value j).instances.entries; known = (c.replace-2.ensures.value j).known.entries }) c.encode_dependency-outcome.ensures.err

@@ -7,7 +7,7 @@ use Rattle.comp_bytes.specs.declared.forms.ComponentTypeRef.TheVariants as refs
 use Rattle.encode_names.specs.WorldSteps.{declared_towards}
 use Rattle.encode_types.specs.Known.{UsedStand, standing_instances}
 use Rattle.wit_encode.specs.Encoders.{InterfaceLacksRoom, declared_after}
-use Rattle.wit_encode.specs.Instance.{EncodesInterface, LacksInstanceRoom}
+use Rattle.wit_encode.specs.Instance.{EncodesInterface, LacksInstanceRoom, whole_interface}
 use Rattle.wit_encode.specs.WorldItems.{entry_of, towards}
 use Rattle.wit_encode.specs.Worlds.{WorldEncoder, world_around}
 use Rattle.wit_encode.specs.WrittenNames.{NamesMore}
@@ -90,7 +90,7 @@ returns-in_err-slot-clause-size c = λ h.
     λ w done shown next d few.
     let there = interface-there c.args.resolve.now c.requires.valid w c.args.self.now done shown (towards c.args.placed.direction) (entry_of c.args.placed) next c.args.interface c.requires.item in
     instance-lacks c.args.resolve.now w c.args.self.now done (towards c.args.placed.direction) (entry_of c.args.placed) next d few shown.agree.once c.args.interface c.requires.item there.0 there.1
-    (subst (λ (q : Resolve). InterfaceLacksRoom q c.args.interface there.0 ⊎ LacksInstanceRoom q (world_around c.args.self.now)) shown.packages_
+    (subst (λ (q : Resolve). InterfaceLacksRoom q c.args.interface there.0 ⊎ LacksInstanceRoom q c.args.interface (whole_interface there.0) (world_around c.args.self.now)) shown.packages_
     (c.define_instance.ensures.size refused there.0 (ap (λ (q : Resolve). interface_at q c.args.interface.0) shown.packages_ ∙ there.1)))
 
 pub returns-in_err-declare-clause-size : goal.returns-in_err-declare-clause-size

@@ -1,4 +1,5 @@
 use Rattle.std.proofs.Common.{◌≡◌, refl, ℕ, true, length, [], Some, is_some, Result, Ok, Err, OnErr, arith, rules}
+use Rattle.std.specs.Result.{IsErr}
 use Rattle.std.proofs.lemmas.Bool.{lt-ltb}
 use Rattle.wit_model.specs.Lookup.{interface_at, interface_path}
 use Rattle.wit_model.specs.Text.{Text}
@@ -9,8 +10,9 @@ use Rattle.wit_model.proofs.OnePath.{found-in, some-of}
 use Rattle.wit_encode.specs.Worlds.{world_around}
 use Rattle.wit_encode.proofs.DependencyHolding.{import-lacks, slot-lacks}
 use Rattle.wit_encode.proofs.ImportLoop.{path-in-range}
-use Rattle.wit_interfaces.specs.InterfaceEncoders.{InterfaceEncoder, component_of, interface_encoder_view, unused}
+use Rattle.wit_interfaces.specs.InterfaceEncoders.{InterfaceEncoder, aliases, component_of, interface_encoder_view, unused}
 use Rattle.wit_interfaces.proofs.Calls.{aliases-leave, first-listed, import-leaves, import-made, import-room, import-stands, part-leaves, part-left, used-outside}
+use Rattle.encode_types.proofs.Aliasing.{met-none}
 use Rattle.wit_interfaces.proofs.encoder.InterfaceEncoder.import_first.Goals as goal
 
 there : (e : InterfaceEncoder) (i : ℕ) → is_some (interface_path (interface_encoder_view e).scope.packages i) ≡ true → (def : Interface) × (interface_at (interface_encoder_view e).scope.packages i ≡ Some def)
@@ -31,8 +33,12 @@ import_instance-requires c =
     let found = there e c.args.interface.0 c.requires.named in
     first-listed e.encoder.resolve.now (component_of e) (world_around c.define_dependency.new.self) c.args.interface found.0 c.in_ok-slot.slot (c.in_ok-slot.ensures.ok found.0 found.1) c.requires.first
 
+made-in : {A E P : Type 0} (res : Result A E) → IsErr res → OnErr res P → P
+made-in (Ok x) h p = absurd (let z : ⊥ = cc in z)
+made-in (Err e) h p = p
+
 pub returns-in_err-slot-clause-leaves : goal.returns-in_err-slot-clause-leaves
-returns-in_err-slot-clause-leaves c = aliases-leave c.args.self.now c.requires.can c.define_dependency.new.self c.define_dependency.ensures.rest (search rules)
+returns-in_err-slot-clause-leaves c = aliases-leave c.args.self.now c.requires.can c.define_dependency.new.self c.define_dependency.ensures.rest (made-in c.define_dependency.result (search rules) c.define_dependency.ensures.err).made.grown
 
 pub returns-in_err-slot-clause-size : goal.returns-in_err-slot-clause-size
 returns-in_err-slot-clause-size c = λ h.
@@ -102,4 +108,9 @@ returns-in_err-import_instance-clause-size c = λ h.
     let found = there e c.args.interface.0 c.requires.named in
     let named = path e c.args.interface.0 c.requires.named in
     let refused = c.import_instance.ensures.size (search rules) in
-    import-lacks e.encoder.resolve.now e.canonical_names (component_of e) (world_around c.define_dependency.new.self) c.args.interface found.0 [] [] c.in_ok-slot.slot (c.in_ok-slot.ensures.ok found.0 found.1).part _ c.in_ok-name.ensures.ok refused
+    import-lacks e.encoder.resolve.now e.canonical_names (component_of e) (world_around c.define_dependency.new.self) c.args.interface found.0 [] c.in_ok-slot.slot found.1 (c.in_ok-slot.ensures.ok found.0 found.1).part _ c.in_ok-name.ensures.ok refused
+
+pub returns-in_err-name-clause-err : goal.returns-in_err-name-clause-err
+returns-in_err-name-clause-err c =
+    let found = there c.args.self.now c.args.interface.0 c.requires.named in
+    on-err _ (aliases (record { def = found.0; there = found.1; made = met-none refl }))
