@@ -3,7 +3,7 @@
 ghost use Rattle.std.specs.Prelude.{◌≡◌, ◌<◌, ◌≤◌, ◌+◌, ℕ, Err, IfErr, IfOk, OnOk, nat_lt, true, length, Some};
 ghost use Rattle.std.specs.Option.{option_map_or};
 ghost use Rattle.wit_model.specs.Lookup.{interface_at, type_at, world_at};
-ghost use Rattle.wit_model.specs.declared.error.Error.TheVariants.{Memory, Size};
+ghost use Rattle.wit_model.specs.declared.error.Error.TheVariants.{Size};
 ghost use Rattle.wit_model.specs.declared.model.Interface.{Interface as InterfaceValue};
 ghost use Rattle.wit_model.specs.declared.model.World.{World as WorldValue};
 ghost use Rattle.std.specs.List.{AllZip};
@@ -17,6 +17,7 @@ ghost use Rattle.bind_carry.specs.OfBound.{AreExportsBound, AreImportsBound, Are
 ghost use Rattle.bind_carry.specs.Shown.{any_new, are_keys_below, type_in, AreNewShownBelow};
 ghost use Rattle.bind_carry.specs.First.{beside_first, is_named_at, second_from, second_in, IsHomeIn};
 ghost use Rattle.wit_model.specs.declared.model.TypeDef.{TypeDef as TypeDefValue};
+ghost use Rattle.wit_model.specs.Refusals.{IsMemory};
 
 use crate::fate::Fate;
 use crate::fates::{copy_types, settle};
@@ -73,7 +74,7 @@ fn copied_inline(alloc: Global, bound: Bound<'_>, interfaces: &[u32]) -> Result<
     requires exports { (v : WorldValue) → world_at bound.other.now bound.other_world.0 ≡ Some v → AreNewShownBelow (length interfaces.now) (length bound.other.now.interfaces.items) v.exports.entries }
     ensures flags { IfOk result (λ f. OfBound bound.entry (λ w v. f.items ≡ gained_inline bound.entry.other.now interfaces.now w v)) }
     ensures count { IfOk result (λ f. length f.items ≡ length bound.entry.other.now.interfaces.items) }
-    ensures refuses { IfErr result (λ error. error ≡ Memory) }
+    ensures refuses { IfErr result IsMemory }
 {
     let mut copied = unmarked(alloc, bound.other.interfaces.len())?;
     let own = own_world(bound);
@@ -107,7 +108,7 @@ fn inline_copies(
     requires names { (n : ℕ) (i : InterfaceValue) → interface_at other.now n ≡ Some i → are_names_below (length types.now) i.types.entries ≡ true }
     requires functions { (n : ℕ) (i : InterfaceValue) → interface_at other.now n ≡ Some i → AreFunctionsBelow (length types.now) i.functions.entries }
     ensures copies { IfOk result (λ v. AllZip (IsInterfaceUnder types.now home) (kept copied.now other.now.interfaces.items) v.items) }
-    ensures refuses { IfErr result (λ error. error ≡ Memory) }
+    ensures refuses { IfErr result IsMemory }
 {
     let mut interfaces = Vec::new(alloc);
     for (number, interface) in other.interfaces.iter().enumerate() {
@@ -132,7 +133,7 @@ fn copy_inline(
     requires names { (n : ℕ) (i : InterfaceValue) → interface_at bound.other.now n ≡ Some i → are_names_below (length types.now) i.types.entries ≡ true }
     requires functions { (n : ℕ) (i : InterfaceValue) → interface_at bound.other.now n ≡ Some i → AreFunctionsBelow (length types.now) i.functions.entries }
     ensures copied { OnOk result ((w : WorldValue) → world_at bound.entry.own.now bound.entry.world.0 ≡ Some w → AreInlineCopied types.now w.«package» copied.now bound.entry.other.now.interfaces.items added.old.items added.new.items) }
-    ensures refuses { IfErr result (λ error. error ≡ Memory) }
+    ensures refuses { IfErr result IsMemory }
 {
     let world = own_world(bound);
     let mut copies = inline_copies(alloc, bound.other, world.package, copied, types)?;
@@ -343,7 +344,7 @@ fn keys_under(
 ) -> Result<IndexSet<WorldKey>, Error>
     requires { are_keys_below (length interfaces.now) items.now.entries ≡ true }
     ensures keys { IfOk result (λ keys. AreKeysUnder interfaces.now items.now.entries keys.keys) }
-    ensures refuses { IfErr result (λ error. error ≡ Memory) }
+    ensures refuses { IfErr result IsMemory }
 {
     let mut keys = IndexSet::new(alloc);
     for (key, _) in items {
@@ -361,7 +362,7 @@ pub(crate) fn export_keys(
     requires other_range { bound.other_world.0 < length bound.other.now.worlds.items }
     requires keys { (v : WorldValue) → world_at bound.other.now bound.other_world.0 ≡ Some v → AreWorldKeysBelow (length interfaces.now) v }
     ensures keys { IfOk result (λ keys. (v : WorldValue) → world_at bound.entry.other.now bound.entry.other_world.0 ≡ Some v → AreKeysUnder interfaces.now v.exports.entries keys.keys) }
-    ensures refuses { IfErr result (λ error. error ≡ Memory) }
+    ensures refuses { IfErr result IsMemory }
 {
     let other = other_world(bound);
     keys_under(alloc, interfaces, &other.exports)
@@ -402,7 +403,7 @@ fn bind_entries(
     ensures imports { OnOk result (AreImportsBound bound.entry numbers.entry.interfaces.now numbers.entry.types.now added.new.imports.entries) }
     ensures exports { OnOk result (AreExportsBound bound.entry numbers.entry.interfaces.now numbers.entry.types.now added.new.exports.entries) }
     ensures lists { IsSameButItems added.old added.new }
-    ensures refuses { IfErr result (λ error. error ≡ Memory) }
+    ensures refuses { IfErr result IsMemory }
 {
     let own = own_world(bound);
     let other = other_world(bound);

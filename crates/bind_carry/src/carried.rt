@@ -9,10 +9,11 @@ ghost use Rattle.bind_carry.specs.Which.{IsNumbered};
 ghost use Rattle.bind_carry.specs.First.{fate_named, fate_of, first_fates};
 ghost use Rattle.bind_carry.specs.Numbers.{IsMemoryOrSize};
 ghost use Rattle.bind_carry.specs.Over.{IsCarriedOver, IsCarriedReady};
-ghost use Rattle.wit_model.specs.declared.error.Error.TheVariants.{Memory, Size};
+ghost use Rattle.wit_model.specs.declared.error.Error.TheVariants.{Size};
 ghost use Rattle.bind_carry.specs.Few.{AreFewNumbered};
 ghost use Rattle.bind_carry.specs.TooLong.{AreTooManyByPath};
 ghost use Rattle.wit_model.specs.Text.{optional_text, text_of};
+ghost use Rattle.wit_model.specs.Refusals.{IsMemory};
 ghost use Rattle.bind_carry.specs.Listed.{type_named, IsOwnerBelow, IsWhole};
 
 use crate::fate::Fate;
@@ -162,7 +163,7 @@ pub(crate) fn added(
     requires whole { IsWhole carried.now }
     requires ready { IsCarriedReady other.now carried.now (length types.now) }
     ensures added { IfOk result (IsCarriedOver other.now carried.now types.now type_defs.items) }
-    ensures refuses { IfErr result (λ error. error ≡ Memory) }
+    ensures refuses { IfErr result IsMemory }
 {
     let packages = new_package_list(alloc, other, carried)?;
     let names = gained_names(alloc, other, carried)?;

@@ -5,9 +5,9 @@ ghost use Rattle.bind_add.specs.declared.added.Names.{Names as NamesValue};
 ghost use Rattle.std.specs.List.{AllZip};
 ghost use Rattle.bind_carry.specs.Packaged.{grown_packages, AreInterfaceNames, AreWorldNames, IsGained, IsPackageCarried};
 ghost use Rattle.bind_carry.specs.Whole.{kept};
-ghost use Rattle.wit_model.specs.declared.error.Error.TheVariants.{Memory};
 ghost use Rattle.wit_model.specs.declared.model.Package.{Package as PackageValue};
 ghost use Rattle.wit_model.specs.Lookup.{package_at};
+ghost use Rattle.wit_model.specs.Refusals.{IsMemory};
 ghost use Rattle.bind_carry.specs.Listed.{are_interfaces_below, are_worlds_below, IsWhole};
 
 use crate::plan::Carried;
@@ -25,7 +25,7 @@ fn interface_names(
     requires whole { IsWhole carried.now }
     requires below { are_interfaces_below (length carried.now.copied_interfaces.items) names.now.entries ≡ true }
     ensures names { IfOk result (AreInterfaceNames carried.now names.now) }
-    ensures refuses { IfErr result (λ error. error ≡ Memory) }
+    ensures refuses { IfErr result IsMemory }
 {
     let mut copy = Map::new(alloc);
     for (name, id) in names {
@@ -47,7 +47,7 @@ fn world_names(
     requires whole { IsWhole carried.now }
     requires below { are_worlds_below (length carried.now.copied_worlds.items) names.now.entries ≡ true }
     ensures names { IfOk result (AreWorldNames carried.now names.now) }
-    ensures refuses { IfErr result (λ error. error ≡ Memory) }
+    ensures refuses { IfErr result IsMemory }
 {
     let mut copy = Map::new(alloc);
     for (name, id) in names {
@@ -65,7 +65,7 @@ fn new_package(alloc: Global, carried: &Carried, package: &Package) -> Result<Pa
     requires interfaces { are_interfaces_below (length carried.now.copied_interfaces.items) «package».now.interfaces.entries ≡ true }
     requires worlds { are_worlds_below (length carried.now.copied_worlds.items) «package».now.worlds.entries ≡ true }
     ensures copy { IfOk result (IsPackageCarried carried.now «package».now) }
-    ensures refuses { IfErr result (λ error. error ≡ Memory) }
+    ensures refuses { IfErr result IsMemory }
 {
     Ok(Package {
         name: copy_package_name(alloc, &package.name)?,
@@ -86,7 +86,7 @@ pub(crate) fn new_package_list(
     requires interfaces { (n : ℕ) (p : PackageValue) → package_at other.now n ≡ Some p → are_interfaces_below (length carried.now.copied_interfaces.items) p.interfaces.entries ≡ true }
     requires worlds { (n : ℕ) (p : PackageValue) → package_at other.now n ≡ Some p → are_worlds_below (length carried.now.copied_worlds.items) p.worlds.entries ≡ true }
     ensures packages { IfOk result (λ v. AllZip (IsPackageCarried carried.now) (kept carried.now.new_packages.items other.now.packages.items) v.items) }
-    ensures refuses { IfErr result (λ error. error ≡ Memory) }
+    ensures refuses { IfErr result IsMemory }
 {
     let mut packages = Vec::new(alloc);
     for (number, package) in other.packages.iter().enumerate() {
@@ -107,7 +107,7 @@ fn names(
     requires interfaces { are_interfaces_below (length carried.now.copied_interfaces.items) «package».now.interfaces.entries ≡ true }
     requires worlds { are_worlds_below (length carried.now.copied_worlds.items) «package».now.worlds.entries ≡ true }
     ensures names { IfOk result (IsGained carried.now (own.0, «package».now)) }
-    ensures refuses { IfErr result (λ error. error ≡ Memory) }
+    ensures refuses { IfErr result IsMemory }
 {
     Ok(Names {
         package: own,
@@ -130,7 +130,7 @@ fn gain(
     requires worlds { are_worlds_below (length carried.now.copied_worlds.items) «package».now.worlds.entries ≡ true }
     ensures new { OnOk result (is_new ≡ true → gained.new.items ≡ gained.old.items) }
     ensures grown { OnOk result (is_new ≡ false → (g : NamesValue) × IsGained carried.now (own, «package».now) g × (gained.new.items ≡ gained.old.items ++ g ∷ [])) }
-    ensures refuses { IfErr result (λ error. error ≡ Memory) }
+    ensures refuses { IfErr result IsMemory }
 {
     if is_new {
         return Ok(());
@@ -150,7 +150,7 @@ pub(crate) fn gained_names(
     requires interfaces { (n : ℕ) (p : PackageValue) → package_at other.now n ≡ Some p → are_interfaces_below (length carried.now.copied_interfaces.items) p.interfaces.entries ≡ true }
     requires worlds { (n : ℕ) (p : PackageValue) → package_at other.now n ≡ Some p → are_worlds_below (length carried.now.copied_worlds.items) p.worlds.entries ≡ true }
     ensures names { IfOk result (λ v. AllZip (IsGained carried.now) (grown_packages carried.now.new_packages.items carried.now.packages.items other.now.packages.items) v.items) }
-    ensures refuses { IfErr result (λ error. error ≡ Memory) }
+    ensures refuses { IfErr result IsMemory }
 {
     let mut gained = Vec::new(alloc);
     for (number, package) in other.packages.iter().enumerate() {

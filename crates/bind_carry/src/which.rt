@@ -1,9 +1,9 @@
 //! Which interfaces and worlds of another `Resolve` are copied.
 
 ghost use Rattle.std.specs.Prelude.{◌≡◌, ◌≤◌, ℕ, false, is_none, length, replicate, IfErr, IfOk, Some};
-ghost use Rattle.wit_model.specs.declared.error.Error.TheVariants.{Memory};
 ghost use Rattle.wit_model.specs.Lookup.{world_at};
 ghost use Rattle.wit_model.specs.declared.model.World.{World as WorldValue};
+ghost use Rattle.wit_model.specs.Refusals.{IsMemory};
 ghost use Rattle.bind_carry.specs.Which.{new_interfaces, new_worlds};
 ghost use Rattle.bind_carry.specs.Marked.{mark_item, mark_items, mark_new_items, mark_worlds};
 ghost use Rattle.bind_carry.specs.Shown.{AreNewShownBelow, AreShownBelow, IsShownBelow};
@@ -134,7 +134,7 @@ pub(crate) fn copied_interfaces(
 /// So many flags, none of them set.
 pub(crate) fn unmarked(alloc: Global, count: usize) -> Result<Vec<bool>, Error>
     ensures flags { IfOk result (λ v. v.items ≡ replicate count false) }
-    ensures refuses { IfErr result (λ error. error ≡ Memory) }
+    ensures refuses { IfErr result IsMemory }
 {
     Ok(vec![in alloc; false; count]?)
 }

@@ -2,10 +2,10 @@
 
 ghost use Rattle.std.specs.Prelude.{◌≡◌, ◌<◌, ℕ, true, length, IfErr, IfOk, Some};
 ghost use Rattle.std.specs.List.{AllZip};
-ghost use Rattle.wit_model.specs.declared.error.Error.TheVariants.{Memory};
 ghost use Rattle.wit_model.specs.declared.model.Interface.{Interface as InterfaceValue};
 ghost use Rattle.wit_model.specs.declared.model.World.{World as WorldValue};
 ghost use Rattle.wit_model.specs.Lookup.{interface_at, world_at};
+ghost use Rattle.wit_model.specs.Refusals.{IsMemory};
 ghost use Rattle.bind_copy.specs.Copies.{are_names_below, AreEntriesBelow, AreFunctionsBelow};
 ghost use Rattle.bind_carry.specs.Listed.{IsHomeBelow, IsWhole};
 ghost use Rattle.bind_carry.specs.Whole.{home_under, kept, IsInterfaceCarried, IsWorldCarried};
@@ -36,7 +36,7 @@ fn copy_named(
     requires names { are_names_below (length types.now) interface.now.types.entries ≡ true }
     requires functions { AreFunctionsBelow (length types.now) interface.now.functions.entries }
     ensures copy { IfOk result (IsInterfaceCarried carried.now types.now interface.now) }
-    ensures refuses { IfErr result (λ error. error ≡ Memory) }
+    ensures refuses { IfErr result IsMemory }
 {
     let home = home(&carried.packages, interface.package);
     copy_interface(alloc, types, interface, home)
@@ -55,7 +55,7 @@ pub(crate) fn copy_interfaces(
     requires names { (n : ℕ) (i : InterfaceValue) → interface_at other.now n ≡ Some i → are_names_below (length types.now) i.types.entries ≡ true }
     requires functions { (n : ℕ) (i : InterfaceValue) → interface_at other.now n ≡ Some i → AreFunctionsBelow (length types.now) i.functions.entries }
     ensures interfaces { IfOk result (λ v. AllZip (IsInterfaceCarried carried.now types.now) (kept carried.now.copied_interfaces.items other.now.interfaces.items) v.items) }
-    ensures refuses { IfErr result (λ error. error ≡ Memory) }
+    ensures refuses { IfErr result IsMemory }
 {
     let mut interfaces = Vec::new(alloc);
     for (number, interface) in other.interfaces.iter().enumerate() {
@@ -77,7 +77,7 @@ fn copy_world(
     requires imports { AreEntriesBelow (length carried.now.interfaces.items) (length types.now) world.now.imports.entries }
     requires exports { AreEntriesBelow (length carried.now.interfaces.items) (length types.now) world.now.exports.entries }
     ensures copy { IfOk result (IsWorldCarried carried.now types.now world.now) }
-    ensures refuses { IfErr result (λ error. error ≡ Memory) }
+    ensures refuses { IfErr result IsMemory }
 {
     let nothing = Map::new(alloc);
     let numbers = Numbers {
@@ -107,7 +107,7 @@ pub(crate) fn copy_worlds(
     requires imports { (n : ℕ) (w : WorldValue) → world_at other.now n ≡ Some w → AreEntriesBelow (length carried.now.interfaces.items) (length types.now) w.imports.entries }
     requires exports { (n : ℕ) (w : WorldValue) → world_at other.now n ≡ Some w → AreEntriesBelow (length carried.now.interfaces.items) (length types.now) w.exports.entries }
     ensures worlds { IfOk result (λ v. AllZip (IsWorldCarried carried.now types.now) (kept carried.now.copied_worlds.items other.now.worlds.items) v.items) }
-    ensures refuses { IfErr result (λ error. error ≡ Memory) }
+    ensures refuses { IfErr result IsMemory }
 {
     let mut worlds = Vec::new(alloc);
     for (number, world) in other.worlds.iter().enumerate() {

@@ -2,8 +2,8 @@
 
 ghost use Rattle.std.specs.Prelude.{◌≡◌, ◌++◌, [], true, nat_lt, length, map, option_map, IfOk, IfErr};
 ghost use Rattle.std.specs.List.{list_all};
-ghost use Rattle.wit_model.specs.declared.error.Error.TheVariants.{Memory};
 ghost use Rattle.wit_model.specs.declared.model.TypeDefKind.TheVariants as kinds;
+ghost use Rattle.wit_model.specs.Refusals.{IsMemory};
 ghost use Rattle.bind_union.specs.Views.{kind_view, optional_numbers, renamed, renamed_type, type_numbers, view_numbers};
 ghost use Rattle.bind_copy.specs.Copies.{case_docs, cases_of, cases_under, enum_docs, enum_names, field_docs, fields_of, fields_under, flag_docs, flag_names, member_docs, number_under};
 
@@ -30,7 +30,7 @@ fn copy_fields(alloc: Global, numbers: &[u32], fields: &[Field]) -> Result<Vec<F
     requires { list_all (λ f. list_all (λ n. nat_lt n (length numbers.now)) (type_numbers f.ty)) fields.now ≡ true }
     ensures fields { IfOk result (λ copy. fields_of copy.items ≡ fields_under numbers.now fields.now) }
     ensures docs { IfOk result (λ copy. field_docs copy.items ≡ field_docs fields.now) }
-    ensures refusal { IfErr result (λ error. error ≡ Memory) }
+    ensures refusal { IfErr result IsMemory }
 {
     let mut copy = Vec::new(alloc);
     for field in fields {
@@ -60,7 +60,7 @@ fn copy_cases(alloc: Global, numbers: &[u32], cases: &[Case]) -> Result<Vec<Case
     requires { list_all (λ c. list_all (λ n. nat_lt n (length numbers.now)) (optional_numbers c.ty)) cases.now ≡ true }
     ensures cases { IfOk result (λ copy. cases_of copy.items ≡ cases_under numbers.now cases.now) }
     ensures docs { IfOk result (λ copy. case_docs copy.items ≡ case_docs cases.now) }
-    ensures refusal { IfErr result (λ error. error ≡ Memory) }
+    ensures refusal { IfErr result IsMemory }
 {
     let mut copy = Vec::new(alloc);
     for case in cases {
@@ -78,7 +78,7 @@ fn copy_cases(alloc: Global, numbers: &[u32], cases: &[Case]) -> Result<Vec<Case
 fn copy_flags(alloc: Global, flags: &[Flag]) -> Result<Vec<Flag>, Error>
     ensures flags { IfOk result (λ copy. flag_names copy.items ≡ flag_names flags.now) }
     ensures docs { IfOk result (λ copy. flag_docs copy.items ≡ flag_docs flags.now) }
-    ensures refusal { IfErr result (λ error. error ≡ Memory) }
+    ensures refusal { IfErr result IsMemory }
 {
     let mut copy = Vec::new(alloc);
     for flag in flags {
@@ -92,7 +92,7 @@ fn copy_flags(alloc: Global, flags: &[Flag]) -> Result<Vec<Flag>, Error>
 fn copy_enum_cases(alloc: Global, cases: &[EnumCase]) -> Result<Vec<EnumCase>, Error>
     ensures cases { IfOk result (λ copy. enum_names copy.items ≡ enum_names cases.now) }
     ensures docs { IfOk result (λ copy. enum_docs copy.items ≡ enum_docs cases.now) }
-    ensures refusal { IfErr result (λ error. error ≡ Memory) }
+    ensures refusal { IfErr result IsMemory }
 {
     let mut copy = Vec::new(alloc);
     for case in cases {
@@ -106,7 +106,7 @@ fn copy_enum_cases(alloc: Global, cases: &[EnumCase]) -> Result<Vec<EnumCase>, E
 fn copy_types(alloc: Global, numbers: &[u32], types: &[Type]) -> Result<Vec<Type>, Error>
     requires { list_all (λ t. list_all (λ n. nat_lt n (length numbers.now)) (type_numbers t)) types.now ≡ true }
     ensures types { IfOk result (λ copy. copy.items ≡ map (renamed_type (number_under numbers.now)) types.now) }
-    ensures refusal { IfErr result (λ error. error ≡ Memory) }
+    ensures refusal { IfErr result IsMemory }
 {
     let mut copy = Vec::new(alloc);
     for ty in types {
@@ -131,7 +131,7 @@ fn copy_record(alloc: Global, numbers: &[u32], record_: &Record) -> Result<TypeD
     requires { list_all (λ n. nat_lt n (length numbers.now)) (view_numbers (kind_view (kinds.Record record_.now))) ≡ true }
     ensures view { IfOk result (λ copy. kind_view copy ≡ renamed (number_under numbers.now) (kind_view (kinds.Record record_.now))) }
     ensures docs { IfOk result (λ copy. member_docs copy ≡ member_docs (kinds.Record record_.now)) }
-    ensures refusal { IfErr result (λ error. error ≡ Memory) }
+    ensures refusal { IfErr result IsMemory }
 {
     Ok(TypeDefKind::Record(Record {
         fields: copy_fields(alloc, numbers, &record_.fields)?,
@@ -143,7 +143,7 @@ fn copy_variant(alloc: Global, numbers: &[u32], variant: &Variant) -> Result<Typ
     requires { list_all (λ n. nat_lt n (length numbers.now)) (view_numbers (kind_view (kinds.Variant variant.now))) ≡ true }
     ensures view { IfOk result (λ copy. kind_view copy ≡ renamed (number_under numbers.now) (kind_view (kinds.Variant variant.now))) }
     ensures docs { IfOk result (λ copy. member_docs copy ≡ member_docs (kinds.Variant variant.now)) }
-    ensures refusal { IfErr result (λ error. error ≡ Memory) }
+    ensures refusal { IfErr result IsMemory }
 {
     Ok(TypeDefKind::Variant(Variant {
         cases: copy_cases(alloc, numbers, &variant.cases)?,
@@ -155,7 +155,7 @@ fn copy_tuple(alloc: Global, numbers: &[u32], tuple: &Tuple) -> Result<TypeDefKi
     requires { list_all (λ n. nat_lt n (length numbers.now)) (view_numbers (kind_view (kinds.Tuple tuple.now))) ≡ true }
     ensures view { IfOk result (λ copy. kind_view copy ≡ renamed (number_under numbers.now) (kind_view (kinds.Tuple tuple.now))) }
     ensures docs { IfOk result (λ copy. member_docs copy ≡ member_docs (kinds.Tuple tuple.now)) }
-    ensures refusal { IfErr result (λ error. error ≡ Memory) }
+    ensures refusal { IfErr result IsMemory }
 {
     Ok(TypeDefKind::Tuple(Tuple {
         types: copy_types(alloc, numbers, &tuple.types)?,
@@ -190,7 +190,7 @@ pub(crate) fn copy_kind(
     requires { list_all (λ n. nat_lt n (length numbers.now)) (view_numbers (kind_view kind.now)) ≡ true }
     ensures view { IfOk result (λ copy. kind_view copy ≡ renamed (number_under numbers.now) (kind_view kind.now)) }
     ensures docs { IfOk result (λ copy. member_docs copy ≡ member_docs kind.now) }
-    ensures refusal { IfErr result (λ error. error ≡ Memory) }
+    ensures refusal { IfErr result IsMemory }
 {
     match kind {
         TypeDefKind::Record(record) => copy_record(alloc, numbers, record),

@@ -1,9 +1,9 @@
 //! Types under new numbers.
 
 ghost use Rattle.std.specs.Prelude.{◌≡◌, true, length, IfOk, IfErr};
-ghost use Rattle.wit_model.specs.declared.error.Error.TheVariants.{Memory};
 ghost use Rattle.bind_union.specs.Views.{kind_view, view_numbers};
 ghost use Rattle.bind_copy.specs.Copies.{all_below, IsTypeUnder};
+ghost use Rattle.wit_model.specs.Refusals.{IsMemory};
 
 use crate::kinds::copy_kind;
 use crate::texts::{copy_docs, copy_optional_text, copy_stability};
@@ -19,7 +19,7 @@ pub fn copy_type(
 ) -> Result<TypeDef, Error>
     requires { all_below (length types.now) (view_numbers (kind_view def.now.kind)) ≡ true }
     ensures copy { IfOk result (IsTypeUnder types.now owner def.now) }
-    ensures refuses { IfErr result (λ error. error ≡ Memory) }
+    ensures refuses { IfErr result IsMemory }
 {
     Ok(TypeDef {
         name: copy_optional_text(alloc, &def.name)?,

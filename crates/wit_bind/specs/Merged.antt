@@ -12,6 +12,10 @@ use Rattle.wit_bind.specs.Brings.{BringsItsOwn}
 use Rattle.wit_bind.specs.Extends.{Extends, listed_names, merged_names}
 use Rattle.wit_bind.specs.Merges.{export_keys, GrowsWithin}
 
+-- What the bound world exports is what it exported, followed by what stands under these keys.
+abbrev pub ExportsGrowBy : Bindgen → Bindgen → List WorldKey → Type 0
+ExportsGrowBy old new keys = map key_view (export_keys new.resolve new.world.0) ≡ map key_view (export_keys old.resolve old.world.0 ++ keys)
+
 -- The two unite, and the own bindings have become their union. Own numbers stay, and what is new stands behind what was there, with its own documentation and
 -- stability, and no more of it than may come.
 -- The answer is the keys of the other's exports, as they stand here.
@@ -24,5 +28,5 @@ pub record IsMerge (own other new : Bindgen) (answer : List WorldKey) : Type 0 w
   pub bare : IsBare own.resolve → IsBare other.resolve → IsBare new.resolve
   pub grows : GrowsWithin own.resolve other.resolve other.world.0 new.resolve
   pub order : listed_names new.resolve ≡ merged_names (listed_names own.resolve) (listed_names other.resolve)
-  pub added : map key_view (export_keys new.resolve new.world.0) ≡ map key_view (export_keys own.resolve own.world.0 ++ answer)
+  pub added : ExportsGrowBy own new answer
   pub answer_is : map (key_text new.resolve) answer ≡ map (key_text other.resolve) (export_keys other.resolve other.world.0)

@@ -1,18 +1,17 @@
 //! What is bound to a core module, and the bindings of a module that carries no world.
 
 ghost use Rattle.std.specs.Prelude.{◌≡◌, ◌++◌, map, None, IfErr, IfOk, OnErr, OnOk};
-ghost use Rattle.wit_model.specs.declared.error.Error.TheVariants.{Memory};
 ghost use Rattle.wit_model.specs.Lookup.{key_text};
+ghost use Rattle.wit_model.specs.Refusals.{IsMemory};
 ghost use Rattle.plan_meaning.specs.Built.{IsBare};
 ghost use Rattle.bind_add.specs.Growth.{IsAddable};
-ghost use Rattle.bind_carry.specs.AddedKeys.{key_view};
 ghost use Rattle.bind_match.specs.Matching.{own_package_of};
 ghost use Rattle.bind_meaning.specs.Clash.{CanUnite};
 ghost use Rattle.bind_meaning.specs.Union.{union};
 ghost use Rattle.wit_bind.specs.Bindings.{IsBindgen, binding_of};
 ghost use Rattle.wit_bind.specs.Brings.{BringsItsOwn};
 ghost use Rattle.wit_bind.specs.Extends.{Extends, IsKept, listed_names, merged_names};
-ghost use Rattle.wit_bind.specs.Merged.{IsMerge};
+ghost use Rattle.wit_bind.specs.Merged.{ExportsGrowBy, IsMerge};
 ghost use Rattle.wit_bind.specs.Merges.{GrowsWithin, IsGrownBy, IsMergeRefusal, IsPlanOf, export_keys};
 ghost use Rattle.wit_bind.specs.Roots.{IsRoot, IsRootPackage, IsRootResolve, IsRootWorld};
 
@@ -44,7 +43,7 @@ fn no_docs() -> Docs
 // The package `root:root`, in which the world of number 0 is listed as `root`.
 fn root_package(alloc: Global) -> Result<Package, Error>
     ensures ok { IfOk result IsRootPackage }
-    ensures refuses { IfErr result (λ e. e ≡ Memory) }
+    ensures refuses { IfErr result IsMemory }
 {
     let mut worlds = Map::new(alloc);
     worlds.insert(String::from_str(alloc, "root")?, WorldId(0))?;
@@ -63,7 +62,7 @@ fn root_package(alloc: Global) -> Result<Package, Error>
 // The world `root` of the package of number 0, which imports nothing and exports nothing.
 fn root_world(alloc: Global) -> Result<World, Error>
     ensures ok { IfOk result IsRootWorld }
-    ensures refuses { IfErr result (λ e. e ≡ Memory) }
+    ensures refuses { IfErr result IsMemory }
 {
     Ok(World {
         name: String::from_str(alloc, "root")?,
@@ -78,7 +77,7 @@ fn root_world(alloc: Global) -> Result<World, Error>
 // The package and the world, and nothing else.
 fn root_resolve(alloc: Global) -> Result<Resolve, Error>
     ensures ok { IfOk result IsRootResolve }
-    ensures refuses { IfErr result (λ e. e ≡ Memory) }
+    ensures refuses { IfErr result IsMemory }
 {
     let package = root_package(alloc)?;
     let world = root_world(alloc)?;
@@ -98,7 +97,7 @@ impl Bindgen {
     pub fn default(alloc: Global) -> Result<Bindgen, Error>
         ensures root { IfOk result IsRoot }
         ensures valid { IfOk result IsBindgen }
-        ensures refuses { IfErr result (λ e. e ≡ Memory) }
+        ensures refuses { IfErr result IsMemory }
     {
         Ok(Bindgen {
             resolve: root_resolve(alloc)?,
@@ -146,7 +145,7 @@ impl Bindgen {
         requires { IsAddable self.old.resolve self.old.world.0 added }
         ensures ok { OnOk result (IsGrownBy added metadata self.old self.new) }
         ensures kept { OnErr result (IsKept self.old self.new) }
-        ensures refuses { IfErr result (λ e. e ≡ Memory) }
+        ensures refuses { IfErr result IsMemory }
     {
         reserve(&mut self.resolve, self.world, &added)?;
         self.metadata.unite(metadata)?;
@@ -178,7 +177,7 @@ impl Bindgen {
         ensures bare { OnOk result (IsBare self.old.resolve → IsBare other.resolve → IsBare self.new.resolve) }
         ensures growth { OnOk result (GrowsWithin self.old.resolve other.resolve other.world.0 self.new.resolve) }
         ensures order { OnOk result (listed_names self.new.resolve ≡ merged_names (listed_names self.old.resolve) (listed_names other.resolve)) }
-        ensures added { IfOk result (λ added. map key_view (export_keys self.new.resolve self.new.world.0) ≡ map key_view (export_keys self.old.resolve self.old.world.0 ++ added.keys)) }
+        ensures added { IfOk result (λ added. ExportsGrowBy self.old self.new added.keys) }
         ensures answer { IfOk result (λ added. map (key_text self.new.resolve) added.keys ≡ map (key_text other.resolve) (export_keys other.resolve other.world.0)) }
 
         ensures refusal { IfErr result (IsMergeRefusal self.old other) }

@@ -3,9 +3,9 @@
 ghost use Rattle.std.specs.Prelude.{◌≡◌, ◌<◌, [], ◌∷◌, length, IfErr, IfOk, OnErr, OnOk};
 ghost use Rattle.std.specs.FinMap.{empty};
 ghost use Rattle.indexmap.specs.IndexMap.{get_by_text};
-ghost use Rattle.wit_model.specs.declared.error.Error.TheVariants.{Memory};
 ghost use Rattle.wit_model.specs.Text.{optional_text, text_of};
 ghost use Rattle.wit_model.specs.Valid.{IsValid};
+ghost use Rattle.wit_model.specs.Refusals.{IsMemory};
 ghost use Rattle.wit_bind.specs.Keys.{function_key};
 ghost use Rattle.wit_bind.specs.Encodings.{encoding_under};
 ghost use Rattle.wit_bind.specs.KeyLists.{Puts};
@@ -82,7 +82,7 @@ impl EncodingMap {
         requires in_range { world.0 < length resolve.now.worlds.items }
         ensures each { IsValid resolve.now → IfOk result (CarriesEach (λ t. get_by_text unversioned.now t) resolve.now (items_on side resolve.now world.0)) }
         ensures carries { IfOk result (CarriesOver (λ t. get_by_text unversioned.now t) resolve.now (items_on side resolve.now world.0)) }
-        ensures refuses { IfErr result (λ e. e ≡ Memory) }
+        ensures refuses { IfErr result IsMemory }
     {
         let items = items_of(&resolve.worlds[world.0 as usize], side);
         wanted_encodings(alloc, resolve, items, &Wanted::Kept(unversioned))
@@ -116,7 +116,7 @@ impl EncodingMap {
     pub(crate) fn put(&mut self, key: String, encoding: StringEncoding) -> Result<(), Error>
         ensures ok { OnOk result (Puts ((text_of key, encoding) ∷ []) self.old self.new) }
         ensures err { OnErr result (self.new ≡ self.old) }
-        ensures refuses { IfErr result (λ e. e ≡ Memory) }
+        ensures refuses { IfErr result IsMemory }
     {
         self.encodings.insert(key, encoding)?;
         Ok(())
@@ -130,7 +130,7 @@ impl EncodingMap {
         encoding: StringEncoding,
     ) -> Result<Option<String>, Error>
         ensures ok { IfOk result (λ p. optional_text p ≡ conflict_at self.now key.now encoding) }
-        ensures refuses { IfErr result (λ e. e ≡ Memory) }
+        ensures refuses { IfErr result IsMemory }
     {
         match self.encodings.get(key) {
             Some(found) => {
@@ -152,7 +152,7 @@ impl EncodingMap {
         other: &EncodingMap,
     ) -> Result<Option<String>, Error>
         ensures least { IfOk result (λ p. IsLeastFault (EncodingFault self.now other.now) (optional_text p)) }
-        ensures refuses { IfErr result (λ e. e ≡ Memory) }
+        ensures refuses { IfErr result IsMemory }
     {
         let mut least = None;
         for (key, encoding) in &other.encodings {
@@ -175,7 +175,7 @@ pub(crate) fn unite_both(
     ensures exports { OnOk result (Gains more_exports exports.old exports.new) }
     ensures imports_kept { OnErr result (imports.new ≡ imports.old) }
     ensures exports_kept { OnErr result (exports.new ≡ exports.old) }
-    ensures refuses { IfErr result (λ e. e ≡ Memory) }
+    ensures refuses { IfErr result IsMemory }
 {
     imports.encodings.reserve(more_imports.encodings.len())?;
     exports.encodings.reserve(more_exports.encodings.len())?;

@@ -2,11 +2,11 @@
 
 ghost use Rattle.std.specs.Prelude.{◌≡◌, ◌++◌, option_map, IfOk, IfErr, IfSome, Some};
 ghost use Rattle.std.specs.Option.{option_copied};
-ghost use Rattle.wit_model.specs.declared.error.Error.TheVariants.{Memory};
 ghost use Rattle.wit_model.specs.Lookup.{canonical_identity_of};
 ghost use Rattle.wit_model.specs.Text.{optional_text, text_of};
 ghost use Rattle.wit_model.specs.Names.{path_in};
 ghost use Rattle.wit_model.specs.Rules.{after_prefix as after_prefix_lem};
+ghost use Rattle.wit_model.specs.Refusals.{IsMemory};
 ghost use Rattle.wit_bind.specs.Keys.{function_key as function_key_lem, scope_of, text_under, unversioned, unversioned_key as unversioned_key_lem};
 ghost use Rattle.wit_bind.specs.KeyTests.{after_interface as after_interface_lem, after_names as after_names_lem, after_scope as after_scope_lem, after_slash, is_key_of};
 
@@ -19,7 +19,7 @@ use wit_model::{Error, PackageName, Resolve, WorldKey, after_prefix};
 
 fn key_under(alloc: Global, scope: &str, function: &str) -> Result<String, Error>
     ensures ok { IfOk result (λ key. text_of key ≡ text_under scope.now function.now) }
-    ensures refuses { IfErr result (λ e. e ≡ Memory) }
+    ensures refuses { IfErr result IsMemory }
 {
     Ok(format!(in alloc; "{scope}/{function}")?)
 }
@@ -33,7 +33,7 @@ pub(crate) fn function_key(
     function: &str,
 ) -> Result<Option<String>, Error>
     ensures ok { IfOk result (λ text. optional_text text ≡ function_key_lem resolve.now key.now function.now) }
-    ensures refuses { IfErr result (λ e. e ≡ Memory) }
+    ensures refuses { IfErr result IsMemory }
 {
     match key {
         WorldKey::Name(label) => Ok(Some(key_under(alloc, label, function)?)),
@@ -51,7 +51,7 @@ fn unversioned_path_key(
     function: &str,
 ) -> Result<String, Error>
     ensures ok { IfOk result (λ key. text_of key ≡ text_under (path_in (unversioned own.now) interface.now) function.now) }
-    ensures refuses { IfErr result (λ e. e ≡ Memory) }
+    ensures refuses { IfErr result IsMemory }
 {
     let namespace = &own.namespace;
     let name = &own.name;
@@ -67,7 +67,7 @@ pub(crate) fn unversioned_key(
     function: &str,
 ) -> Result<Option<String>, Error>
     ensures ok { IfOk result (λ text. optional_text text ≡ unversioned_key_lem resolve.now key.now function.now) }
-    ensures refuses { IfErr result (λ e. e ≡ Memory) }
+    ensures refuses { IfErr result IsMemory }
 {
     match key {
         WorldKey::Name(label) => Ok(Some(key_under(alloc, label, function)?)),

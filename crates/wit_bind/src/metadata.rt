@@ -2,11 +2,11 @@
 
 ghost use Rattle.std.specs.Prelude.{◌≡◌, ◌<◌, length, IfErr, IfOk, OnErr, OnOk};
 ghost use Rattle.std.specs.FinMap.{empty as nothing};
-ghost use Rattle.wit_model.specs.declared.error.Error.TheVariants.{Memory};
 ghost use Rattle.bind_meaning.specs.Clash.{EncodingFault, NoFault};
 ghost use Rattle.wit_bind.specs.Functions.{exports_of, imports_of, MapsFunctions};
 ghost use Rattle.wit_bind.specs.Merges.{IsEncodingRefusal};
 ghost use Rattle.wit_bind.specs.Unions.{Gains};
+ghost use Rattle.wit_model.specs.Refusals.{IsMemory};
 
 use crate::encodings::{EncodingMap, unite_both};
 use crate::wanted::{Wanted, wanted_encodings};
@@ -29,7 +29,7 @@ fn encodings(
     encoding: StringEncoding,
 ) -> Result<EncodingMap, Error>
     ensures ok { IfOk result (MapsFunctions resolve.now items.now.entries encoding) }
-    ensures refuses { IfErr result (λ e. e ≡ Memory) }
+    ensures refuses { IfErr result IsMemory }
 {
     wanted_encodings(alloc, resolve, items, &Wanted::One(encoding))
 }
@@ -46,7 +46,7 @@ impl ModuleMetadata {
         requires in_range { world.0 < length resolve.now.worlds.items }
         ensures imports { IfOk result (λ m. MapsFunctions resolve.now (imports_of resolve.now world.0) encoding m.import_encodings) }
         ensures exports { IfOk result (λ m. MapsFunctions resolve.now (exports_of resolve.now world.0) encoding m.export_encodings) }
-        ensures refuses { IfErr result (λ e. e ≡ Memory) }
+        ensures refuses { IfErr result IsMemory }
     {
         let world = &resolve.worlds[world.0 as usize];
         Ok(ModuleMetadata {
@@ -89,7 +89,7 @@ impl ModuleMetadata {
         ensures exports { OnOk result (Gains other.export_encodings self.old.export_encodings self.new.export_encodings) }
         ensures imports_kept { OnErr result (self.new.import_encodings ≡ self.old.import_encodings) }
         ensures exports_kept { OnErr result (self.new.export_encodings ≡ self.old.export_encodings) }
-        ensures refuses { IfErr result (λ e. e ≡ Memory) }
+        ensures refuses { IfErr result IsMemory }
     {
         unite_both(
             &mut self.import_encodings,

@@ -2,9 +2,9 @@
 
 ghost use Rattle.std.specs.Prelude.{◌≡◌, option_to_list, IfErr, IfOk, OnOk};
 ghost use Rattle.std.specs.FinMap.{empty};
-ghost use Rattle.wit_model.specs.declared.error.Error.TheVariants.{Memory};
 ghost use Rattle.wit_bind.specs.Choices.{choice_of};
 ghost use Rattle.wit_bind.specs.KeyLists.{entries_of_item, entries_of_items, entry_of, member_entries, own_entries, Puts};
+ghost use Rattle.wit_model.specs.Refusals.{IsMemory};
 
 use crate::encodings::EncodingMap;
 use crate::keys::{function_key, unversioned_key};
@@ -31,7 +31,7 @@ fn wanted_for(
     wanted: &Wanted<'_>,
 ) -> Result<Option<StringEncoding>, Error>
     ensures ok { IfOk result (λ e. e ≡ choice_of resolve.now wanted.now scope.now name.now) }
-    ensures refuses { IfErr result (λ e. e ≡ Memory) }
+    ensures refuses { IfErr result IsMemory }
 {
     match wanted {
         Wanted::One(encoding) => Ok(Some(*encoding)),
@@ -52,7 +52,7 @@ fn put_function(
     map: &mut EncodingMap,
 ) -> Result<(), Error>
     ensures ok { OnOk result (Puts (option_to_list (entry_of resolve.now (choice_of resolve.now wanted.now) scope.now name.now)) map.old map.new) }
-    ensures refuses { IfErr result (λ e. e ≡ Memory) }
+    ensures refuses { IfErr result IsMemory }
 {
     let Some(encoding) = wanted_for(alloc, resolve, scope, name, wanted)? else {
         return Ok(());
@@ -73,7 +73,7 @@ fn put_members(
     map: &mut EncodingMap,
 ) -> Result<(), Error>
     ensures ok { OnOk result (Puts (member_entries resolve.now (choice_of resolve.now wanted.now) scope.now functions.now.entries) map.old map.new) }
-    ensures refuses { IfErr result (λ e. e ≡ Memory) }
+    ensures refuses { IfErr result IsMemory }
 {
     for (name, _function) in functions {
         put_function(alloc, resolve, scope, name, wanted, map)?;
@@ -90,7 +90,7 @@ fn put_itself(
     map: &mut EncodingMap,
 ) -> Result<(), Error>
     ensures ok { OnOk result (Puts (own_entries resolve.now (choice_of resolve.now wanted.now) scope.now) map.old map.new) }
-    ensures refuses { IfErr result (λ e. e ≡ Memory) }
+    ensures refuses { IfErr result IsMemory }
 {
     match scope {
         WorldKey::Name(name) => put_function(alloc, resolve, scope, name, wanted, map),
@@ -108,7 +108,7 @@ fn put_item(
     map: &mut EncodingMap,
 ) -> Result<(), Error>
     ensures ok { OnOk result (Puts (entries_of_item resolve.now (choice_of resolve.now wanted.now) scope.now item.now) map.old map.new) }
-    ensures refuses { IfErr result (λ e. e ≡ Memory) }
+    ensures refuses { IfErr result IsMemory }
 {
     match item {
         WorldItem::Interface { id, .. } => match interface_at(resolve, *id) {
@@ -135,7 +135,7 @@ pub(crate) fn wanted_encodings(
     wanted: &Wanted<'_>,
 ) -> Result<EncodingMap, Error>
     ensures ok { IfOk result (λ m. Puts (entries_of_items resolve.now (choice_of resolve.now wanted.now) items.now.entries) empty m) }
-    ensures refuses { IfErr result (λ e. e ≡ Memory) }
+    ensures refuses { IfErr result IsMemory }
 {
     let mut map = EncodingMap::new(alloc);
     for (key, item) in items {
