@@ -1,6 +1,6 @@
 //! What is bound to a core module, and the bindings of a module that carries no world.
 
-ghost use Rattle.std.specs.Prelude.{◌≡◌, ◌++◌, map, None, IfErr, IfOk, OnErr, OnOk};
+ghost use Rattle.std.specs.Prelude.{◌≡◌, map, None, IfErr, IfOk, OnErr, OnOk};
 ghost use Rattle.wit_model.specs.Lookup.{key_text};
 ghost use Rattle.wit_model.specs.Refusals.{IsMemory};
 ghost use Rattle.plan_meaning.specs.Built.{IsBare};
