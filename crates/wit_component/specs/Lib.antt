@@ -8,6 +8,7 @@ pub use Rattle.wit_model.specs.Lookup
 pub use Rattle.wit_model.specs.Meaning
 pub use Rattle.wit_model.specs.Meant
 pub use Rattle.wit_model.specs.Names
+pub use Rattle.wit_model.specs.Refusals
 pub use Rattle.wit_model.specs.Text
 pub use Rattle.wit_model.specs.Tree
 pub use Rattle.wit_model.specs.Valid
@@ -19,6 +20,7 @@ pub use Rattle.plan_meaning.specs.NothingElse
 pub use Rattle.comp_read.specs.Decoded
 pub use Rattle.comp_read.specs.DecodedWorlds
 pub use Rattle.comp_read.specs.Order
+pub use Rattle.encode_types.specs.Aliases
 pub use Rattle.encode_types.specs.Fits
 pub use Rattle.encode_types.specs.Formed
 pub use Rattle.encode_types.specs.Kinds
@@ -33,6 +35,7 @@ pub use Rattle.encode_types.specs.Table
 pub use Rattle.encode_types.specs.View
 pub use Rattle.encode_flat.specs.Flat
 pub use Rattle.wit_encode.specs.Dependencies
+pub use Rattle.wit_encode.specs.DependencyAliases
 pub use Rattle.wit_encode.specs.OwnerScope
 pub use Rattle.wit_encode.specs.Packages
 pub use Rattle.wit_encode.specs.WholeWorlds

@@ -2,7 +2,7 @@
 
 ghost use Rattle.std.proofs.Common.{refl};
 ghost use Rattle.std.specs.Prelude.{◌≡◌, ◌<◌, ◌≤◌, ◌+◌, ◌&&◌, length, [], ◌∷◌, true, false, Err, Some, IfOk, IfErr, OnOk, OnErr};
-ghost use Rattle.wit_model.specs.declared.error.Error.TheVariants.{Memory, Size};
+ghost use Rattle.wit_model.specs.declared.error.Error.TheVariants.{Size};
 ghost use Rattle.comp_bytes.specs.Raw.{Declaration, Declarations, declaration_count};
 ghost use Rattle.comp_bytes.specs.RawOf.{raw_name};
 ghost use Rattle.comp_bytes.specs.Held.{fits_added, type_slots_of};
@@ -14,6 +14,7 @@ ghost use Rattle.wit_model.specs.Valid.{IsValid};
 ghost use Rattle.wit_model.specs.Weight.{world_weight};
 ghost use Rattle.wit_model.specs.declared.model.World.{World as WorldValue};
 ghost use Rattle.wit_model.specs.declared.model.WorldItem.TheVariants as item_kinds;
+ghost use Rattle.wit_model.specs.Refusals.{IsMemory};
 ghost use Rattle.encode_names.specs.WorldSteps.{declared_towards};
 ghost use Rattle.encode_types.specs.Known.{standing_instances, UsedStand};
 ghost use Rattle.encode_types.specs.View.{Agrees};
@@ -309,7 +310,7 @@ impl<'a> WorldEncoderOf<'a, TypeEncodingMaps<'a>> {
     fn list_instance(&mut self, interface: InterfaceId) -> Result<(), Error>
         requires { self.old.instances < type_slots_of self.old.outer }
         ensures ok { OnOk result (ListsInstance self.old self.new interface) }
-        ensures memory { IfErr result (λ e. e ≡ Memory) }
+        ensures memory { IfErr result IsMemory }
         ensures refuses { IfErr result IsMemoryOrSize }
     {
         // each instance has a type of its own
