@@ -20,7 +20,7 @@ exporting xs = exporting_from zero xs
 
 -- the parts, with a component type behind them
 abbrev pub with_type : List Part → Declarations → List Part
-with_type parts component = parts ++ Part.top_type (TopType.component component) ∷ []
+with_type parts ds = parts ++ Part.top_type (TopType.component ds) ∷ []
 
 -- the parts, with a component type and its export behind them
 abbrev pub with_exported : List Part → Text × Declarations → List Part

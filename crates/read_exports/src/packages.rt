@@ -4,7 +4,7 @@ ghost use Rattle.std.specs.List.{list_all};
 ghost use Rattle.std.specs.Prelude.{◌≡◌, ◌==◌, ◌&&◌, List, map, IfOk};
 ghost use Rattle.wit_model.specs.Names.{PackageIdentity};
 ghost use Rattle.read_rules.specs.Sights.{numbered_sight};
-ghost use Rattle.read_exports.specs.Members.{homes_alone, is_package_in, stands_among};
+ghost use Rattle.read_exports.specs.Members.{homes_alone, is_package_in, numbered_members, stands_among};
 
 use crate::members::Member;
 use crate::places::{is_of_package, places_of};
