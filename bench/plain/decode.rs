@@ -1,224 +1,9 @@
-//! A package from bytes. It checks frames, forms, indexes and that the views of an interface agree; of the other rules (names, validity,
-//! levels, whether each import is used) it checks nothing.
+//! A package from bytes. It checks frames, forms, indexes, labels, names that stand twice and that the views of an interface agree; of the other
+//! rules (levels, whether each import is used, what is reached, keys of maps) it checks nothing.
 
+use crate::forms::*;
 use crate::model::*;
 use std::collections::HashMap;
-
-type Fail = &'static str;
-
-#[derive(Clone, Copy)]
-enum Val {
-    Prim(u8),
-    Index(u32),
-}
-
-enum Def<'a> {
-    Prim(u8),
-    Record(Vec<(&'a str, Val)>),
-    Variant(Vec<(&'a str, Option<Val>)>),
-    List(Val),
-    Fixed(Val, u32),
-    Tuple(Vec<Val>),
-    Flags(Vec<&'a str>),
-    Enum(Vec<&'a str>),
-    Option(Val),
-    Result(Option<Val>, Option<Val>),
-    Own(u32),
-    Borrow(u32),
-    Stream(Option<Val>),
-    Future(Option<Val>),
-    Map(Val, Val),
-}
-
-struct Func<'a> {
-    is_async: bool,
-    params: Vec<(&'a str, Val)>,
-    result: Option<Val>,
-}
-
-enum Raw<'a> {
-    Def(Def<'a>),
-    Func(Func<'a>),
-    Instance(Vec<Decl<'a>>),
-    Component(Vec<Decl<'a>>),
-}
-
-struct Name<'a> {
-    text: &'a str,
-    implements: Option<String>,
-    external_id: Option<&'a str>,
-}
-
-#[derive(Clone, Copy)]
-enum Desc {
-    Func(u32),
-    Eq(u32),
-    Resource,
-    Component(u32),
-    Instance(u32),
-}
-
-enum Decl<'a> {
-    Type(Raw<'a>),
-    Alias(u32, &'a str),
-    Outer(u32),
-    Import(Name<'a>, Desc),
-    Export(Name<'a>, Desc),
-}
-
-pub struct Input<'a> {
-    pub bytes: &'a [u8],
-    pub at: usize,
-}
-
-impl<'a> Input<'a> {
-    pub fn byte(&mut self) -> Result<u8, Fail> {
-        let b = *self.bytes.get(self.at).ok_or("truncated")?;
-        self.at += 1;
-        Ok(b)
-    }
-    pub fn u32(&mut self) -> Result<u32, Fail> {
-        let mut n = 0u32;
-        for k in 0..5 {
-            let b = self.byte()?;
-            if k == 4 && b > 0x0f {
-                return Err("number");
-            }
-            n |= ((b & 0x7f) as u32) << (7 * k);
-            if b & 0x80 == 0 {
-                return Ok(n);
-            }
-        }
-        Err("number")
-    }
-    pub fn take(&mut self, n: usize) -> Result<&'a [u8], Fail> {
-        let end = self.at.checked_add(n).filter(|e| *e <= self.bytes.len()).ok_or("truncated")?;
-        let out = &self.bytes[self.at..end];
-        self.at = end;
-        Ok(out)
-    }
-    pub fn name(&mut self) -> Result<&'a str, Fail> {
-        let n = self.u32()? as usize;
-        std::str::from_utf8(self.take(n)?).map_err(|_| "utf-8")
-    }
-    fn list<T>(&mut self, mut one: impl FnMut(&mut Self) -> Result<T, Fail>) -> Result<Vec<T>, Fail> {
-        let n = self.u32()?;
-        let mut out = Vec::new();
-        for _ in 0..n {
-            out.push(one(self)?);
-        }
-        Ok(out)
-    }
-    fn val(&mut self) -> Result<Val, Fail> {
-        let b = *self.bytes.get(self.at).ok_or("truncated")?;
-        if (0x40..0x80).contains(&b) {
-            self.at += 1;
-            return if matches!(b, 0x64 | 0x73..=0x7f) { Ok(Val::Prim(b)) } else { Err("form") };
-        }
-        Ok(Val::Index(self.u32()?))
-    }
-    fn opt(&mut self) -> Result<Option<Val>, Fail> {
-        match self.byte()? {
-            0 => Ok(None),
-            1 => Ok(Some(self.val()?)),
-            _ => Err("form"),
-        }
-    }
-    fn raw(&mut self) -> Result<Raw<'a>, Fail> {
-        let def = match self.byte()? {
-            0x72 => Def::Record(self.list(|i| Ok((i.name()?, i.val()?)))?),
-            0x71 => Def::Variant(self.list(|i| {
-                let case = (i.name()?, i.opt()?);
-                if i.byte()? != 0 {
-                    return Err("form");
-                }
-                Ok(case)
-            })?),
-            0x70 => Def::List(self.val()?),
-            0x67 => Def::Fixed(self.val()?, self.u32()?),
-            0x6f => Def::Tuple(self.list(Self::val)?),
-            0x6e => Def::Flags(self.list(Self::name)?),
-            0x6d => Def::Enum(self.list(Self::name)?),
-            0x6b => Def::Option(self.val()?),
-            0x6a => Def::Result(self.opt()?, self.opt()?),
-            0x69 => Def::Own(self.u32()?),
-            0x68 => Def::Borrow(self.u32()?),
-            0x66 => Def::Stream(self.opt()?),
-            0x65 => Def::Future(self.opt()?),
-            0x63 => Def::Map(self.val()?, self.val()?),
-            b @ (0x40 | 0x43) => {
-                let params = self.list(|i| Ok((i.name()?, i.val()?)))?;
-                let result = match self.byte()? {
-                    0 => Some(self.val()?),
-                    _ => {
-                        if self.byte()? != 0 {
-                            return Err("form");
-                        }
-                        None
-                    }
-                };
-                return Ok(Raw::Func(Func { is_async: b == 0x43, params, result }));
-            }
-            0x41 => return Ok(Raw::Component(self.list(Self::decl)?)),
-            0x42 => return Ok(Raw::Instance(self.list(Self::decl)?)),
-            b if matches!(b, 0x64 | 0x73..=0x7f) => Def::Prim(b),
-            _ => return Err("form"),
-        };
-        Ok(Raw::Def(def))
-    }
-    fn extern_name(&mut self) -> Result<Name<'a>, Fail> {
-        let form = self.byte()?;
-        let text = self.name()?;
-        let mut out = Name { text, implements: None, external_id: None };
-        match form {
-            0 | 1 => {}
-            2 => {
-                for _ in 0..self.u32()? {
-                    match self.byte()? {
-                        0 => out.implements = Some(self.name()?.to_string()),
-                        2 => out.external_id = Some(self.name()?),
-                        _ => return Err("suffixes aren't read"),
-                    }
-                }
-            }
-            _ => return Err("form"),
-        }
-        Ok(out)
-    }
-    fn desc(&mut self) -> Result<Desc, Fail> {
-        Ok(match self.byte()? {
-            1 => Desc::Func(self.u32()?),
-            3 => match self.byte()? {
-                0 => Desc::Eq(self.u32()?),
-                1 => Desc::Resource,
-                _ => return Err("form"),
-            },
-            4 => Desc::Component(self.u32()?),
-            5 => Desc::Instance(self.u32()?),
-            _ => return Err("form"),
-        })
-    }
-    fn decl(&mut self) -> Result<Decl<'a>, Fail> {
-        Ok(match self.byte()? {
-            1 => Decl::Type(self.raw()?),
-            2 => match (self.byte()?, self.byte()?) {
-                (3, 0) => Decl::Alias(self.u32()?, self.name()?),
-                (3, 2) => {
-                    if self.u32()? != 1 {
-                        return Err("count");
-                    }
-                    Decl::Outer(self.u32()?)
-                }
-                _ => return Err("form"),
-            },
-            3 => Decl::Import(self.extern_name()?, self.desc()?),
-            4 => Decl::Export(self.extern_name()?, self.desc()?),
-            _ => return Err("form"),
-        })
-    }
-}
-
-// ---------------------------------------------------------------- following
 
 /// What a type index stands for.
 #[derive(Clone)]
@@ -229,6 +14,16 @@ enum Slot<'b, 'a> {
     Func(&'b Func<'a>),
     Instance(&'b [Decl<'a>]),
     Component,
+}
+
+/// Imports and exports.
+type Sides = (Map<Key, Item>, Map<Key, Item>);
+
+/// What stands in a component type so far.
+struct Scope<'b, 'a> {
+    slots: Vec<Slot<'b, 'a>>,
+    instances: Vec<u32>,
+    names: HashMap<String, u32>,
 }
 
 #[derive(Default)]
@@ -249,59 +44,19 @@ fn split(path: &str) -> Result<(&str, &str, &str, Option<&str>), Fail> {
     Ok((namespace, package, name, version))
 }
 
-/// Words of lower-case (or upper-case) letters and digits with hyphens between, each beginning with a letter.
-pub fn is_label(text: &str) -> bool {
-    let mut first = true;
-    let mut fresh = true;
-    let mut upper = false;
-    let mut lower = false;
-    for b in text.bytes() {
-        match b {
-            b'a'..=b'z' => {
-                if upper {
-                    return false;
-                }
-                lower = true;
-                fresh = false;
-            }
-            b'A'..=b'Z' => {
-                if lower {
-                    return false;
-                }
-                upper = true;
-                fresh = false;
-            }
-            b'0'..=b'9' if !fresh || !first => fresh = false,
-            b'-' if !fresh => {
-                first = false;
-                fresh = true;
-                upper = false;
-                lower = false;
-            }
-            _ => return false,
+/// What a function's name says: the letter of its kind, and the name of its resource.
+fn sort_of(text: &str) -> Result<(u8, Option<&str>), Fail> {
+    for (word, sort) in [("[method]", b'm'), ("[static]", b's')] {
+        if let Some(rest) = text.strip_prefix(word) {
+            let (resource, own) = rest.split_once('.').ok_or("name")?;
+            return if is_label(resource) && is_label(own) { Ok((sort, Some(resource))) } else { Err("name") };
         }
     }
-    !fresh
-}
-
-/// Labels, each once.
-fn labels<'a>(names: impl ExactSizeIterator<Item = &'a str> + Clone) -> Result<(), Fail> {
-    if names.len() <= 8 {
-        let mut rest = names.clone();
-        while let Some(x) = rest.next() {
-            if !is_label(x) || rest.clone().any(|y| x == y) {
-                return Err("label");
-            }
-        }
-        return Ok(());
+    match text.strip_prefix("[constructor]") {
+        Some(rest) => Ok((b'c', Some(rest))),
+        None if is_label(text) => Ok((b'f', None)),
+        None => Err("name"),
     }
-    let mut seen = std::collections::HashSet::with_capacity(names.len());
-    for x in names {
-        if !is_label(x) || !seen.insert(x) {
-            return Err("label");
-        }
-    }
-    Ok(())
 }
 
 impl Build {
@@ -436,35 +191,12 @@ impl Build {
             Slot::Func(f) => *f,
             _ => return Err("sort"),
         };
-        let (sort, of) = if let Some(rest) = name.text.strip_prefix("[method]") {
-            (b'm', rest.split_once('.').map(|x| x.0))
-        } else if let Some(rest) = name.text.strip_prefix("[static]") {
-            (b's', rest.split_once('.').map(|x| x.0))
-        } else if let Some(rest) = name.text.strip_prefix("[constructor]") {
-            (b'c', Some(rest))
-        } else {
-            (b'f', None)
-        };
+        let (sort, of) = sort_of(name.text)?;
         let resource = match of {
             Some(text) => Some(resource(self, text).ok_or("no resource")?),
-            None if sort == b'f' => None,
-            None => return Err("name"),
+            None => None,
         };
         labels(f.params.iter().map(|p| p.0))?;
-        match sort {
-            b'm' | b's' => {
-                let (a, b) = name.text[8..].split_once('.').ok_or("name")?;
-                if !is_label(a) || !is_label(b) {
-                    return Err("name");
-                }
-            }
-            b'c' => {}
-            _ => {
-                if !is_label(name.text) {
-                    return Err("name");
-                }
-            }
-        }
         let params: Result<_, Fail> = f.params.iter().map(|p| Ok((p.0.to_string(), self.val(slots, p.1)?))).collect();
         Ok(Function {
             name: name.text.to_string(),
@@ -479,27 +211,69 @@ impl Build {
         })
     }
 
-    /// An instance under a path, or inline: its number, whether its types were known, and its functions here.
-    fn instance<'b, 'a>(&mut self, decls: &'b [Decl<'a>], path: Option<&str>, home: u32, outer: &[Slot<'b, 'a>]) -> Result<u32, Fail> {
-        let known = path.and_then(|p| self.interfaces.get(p).copied());
-        let id = match known {
-            Some(id) => id,
-            None => {
-                let id = self.r.interfaces.len() as u32;
-                let (name, package) = match path {
-                    Some(p) => {
-                        let (namespace, package, name, version) = split(p)?;
-                        let package = self.package(namespace, package, version);
-                        self.r.packages[package as usize].interfaces.insert(name.to_string(), id);
-                        self.interfaces.insert(p.to_string(), id);
-                        (Some(name.to_string()), package)
-                    }
-                    None => (None, home),
-                };
-                self.r.interfaces.push(Interface { name, package, ..Interface::default() });
-                id
+    /// The interface of a path, or a new one, and whether it was known.
+    fn interface_at(&mut self, path: Option<&str>, home: u32) -> Result<(u32, bool), Fail> {
+        if let Some(id) = path.and_then(|p| self.interfaces.get(p)) {
+            return Ok((*id, true));
+        }
+        let id = self.r.interfaces.len() as u32;
+        let (name, package) = match path {
+            Some(p) => {
+                let (namespace, package, name, version) = split(p)?;
+                let package = self.package(namespace, package, version);
+                self.r.packages[package as usize].interfaces.insert(name.to_string(), id);
+                self.interfaces.insert(p.to_string(), id);
+                (Some(name.to_string()), package)
             }
+            None => (None, home),
         };
+        self.r.interfaces.push(Interface { name, package, ..Interface::default() });
+        Ok((id, false))
+    }
+    /// A type that a known interface has at this place.
+    fn known_type(&self, id: u32, at: usize, name: &Name, kind: &Kind) -> Result<u32, Fail> {
+        let (text, t) = self.r.interfaces[id as usize].types.get_index(at).ok_or("disagree")?;
+        let def = &self.r.types[*t as usize];
+        if text != name.text || def.kind != *kind || def.external_id.as_deref() != name.external_id {
+            return Err("disagree");
+        }
+        Ok(*t)
+    }
+    fn own_type(&mut self, id: u32, name: &Name, kind: Kind) -> Result<u32, Fail> {
+        let t = self.new_type(name.text, Owner::Interface(id), name.external_id, kind);
+        if !is_label(name.text) {
+            return Err("label");
+        }
+        match self.r.interfaces[id as usize].types.insert(name.text.to_string(), t) {
+            Some(_) => Err("twice"),
+            None => Ok(t),
+        }
+    }
+    /// The functions of a view: the interface gets them, or has the same.
+    fn agree(&mut self, id: u32, functions: Map<String, Function>) -> Result<(), Fail> {
+        let own = &mut self.r.interfaces[id as usize].functions;
+        if own.is_empty() {
+            *own = functions;
+            return Ok(());
+        }
+        if functions.is_empty() {
+            return Ok(());
+        }
+        if own.len() != functions.len() {
+            return Err("disagree");
+        }
+        for (text, f) in &functions {
+            let g = own.get(text.as_str()).ok_or("disagree")?;
+            if g.params != f.params || g.result != f.result || g.is_async != f.is_async || g.external_id != f.external_id {
+                return Err("disagree");
+            }
+        }
+        Ok(())
+    }
+
+    /// An instance under a path, or inline: its number.
+    fn instance<'b, 'a>(&mut self, decls: &'b [Decl<'a>], path: Option<&str>, home: u32, outer: &[Slot<'b, 'a>]) -> Result<u32, Fail> {
+        let (id, is_known) = self.interface_at(path, home)?;
         let mut slots: Vec<Slot<'b, 'a>> = Vec::new();
         let mut count = 0;
         let mut functions = Map::new();
@@ -522,23 +296,7 @@ impl Build {
                 }
                 Decl::Export(name, desc) => {
                     let kind = self.declared(&slots, *desc)?;
-                    let t = if known.is_some() {
-                        let (text, t) = self.r.interfaces[id as usize].types.get_index(count).ok_or("disagree")?;
-                        let def = &self.r.types[*t as usize];
-                        if text != name.text || def.kind != kind || def.external_id.as_deref() != name.external_id {
-                            return Err("disagree");
-                        }
-                        *t
-                    } else {
-                        let t = self.new_type(name.text, Owner::Interface(id), name.external_id, kind);
-                        if !is_label(name.text) {
-                            return Err("label");
-                        }
-                        if self.r.interfaces[id as usize].types.insert(name.text.to_string(), t).is_some() {
-                            return Err("twice");
-                        }
-                        t
-                    };
+                    let t = if is_known { self.known_type(id, count, name, &kind)? } else { self.own_type(id, name, kind)? };
                     count += 1;
                     slots.push(Slot::Type(Type::Id(t)));
                 }
@@ -548,86 +306,73 @@ impl Build {
         if count != self.r.interfaces[id as usize].types.len() {
             return Err("disagree");
         }
-        let own = &mut self.r.interfaces[id as usize].functions;
-        if own.is_empty() {
-            *own = functions;
-        } else if !functions.is_empty() {
-            if own.len() != functions.len() {
-                return Err("disagree");
-            }
-            for (text, f) in &functions {
-                let g = own.get(text.as_str()).ok_or("disagree")?;
-                if g.params != f.params || g.result != f.result || g.is_async != f.is_async || g.external_id != f.external_id {
-                    return Err("disagree");
-                }
-            }
-        }
+        self.agree(id, functions)?;
         Ok(id)
     }
 
+    /// The slot of a declaration that declares no import or export.
+    fn slot<'b, 'a>(&mut self, scope: &mut Scope<'b, 'a>, d: &'b Decl<'a>) -> Result<Slot<'b, 'a>, Fail> {
+        Ok(match d {
+            Decl::Type(Raw::Def(def)) => self.def(&mut scope.slots, def)?,
+            Decl::Type(Raw::Func(f)) => Slot::Func(f),
+            Decl::Type(Raw::Instance(x)) => Slot::Instance(x),
+            Decl::Type(Raw::Component(_)) => Slot::Component,
+            Decl::Alias(i, text) => {
+                let id = *scope.instances.get(*i as usize).ok_or("scope")?;
+                Slot::Type(Type::Id(*self.r.interfaces[id as usize].types.get(*text).ok_or("no such name")?))
+            }
+            _ => return Err("form"),
+        })
+    }
+    /// An import or export, as an item of a world.
+    fn item<'b, 'a>(&mut self, scope: &mut Scope<'b, 'a>, name: &Name<'a>, desc: Desc, world: u32, home: u32) -> Result<(Key, Item), Fail> {
+        let own = || Key::Name(name.text.to_string());
+        match desc {
+            Desc::Func(i) => {
+                let names = &scope.names;
+                let f = self.function(&mut scope.slots, name, i, |_, text| names.get(text).copied())?;
+                Ok((own(), Item::Function(f)))
+            }
+            Desc::Instance(i) => {
+                let x = match scope.slots.get(i as usize).ok_or("scope")? {
+                    Slot::Instance(x) => *x,
+                    _ => return Err("sort"),
+                };
+                let is_path = name.text.contains(':');
+                let path = if is_path { Some(name.text) } else { name.implements.as_deref() };
+                let id = self.instance(x, path, home, &scope.slots)?;
+                scope.instances.push(id);
+                let key = if is_path { Key::Interface(id) } else { own() };
+                let external_id = name.external_id.map(str::to_string);
+                Ok((key, Item::Interface { id, stability: Stability::Unknown, docs: None, external_id }))
+            }
+            Desc::Component(_) => Err("sort"),
+            desc => {
+                let kind = self.declared(&scope.slots, desc)?;
+                let t = self.new_type(name.text, Owner::World(world), name.external_id, kind);
+                scope.names.insert(name.text.to_string(), t);
+                scope.slots.push(Slot::Type(Type::Id(t)));
+                Ok((own(), Item::Type(t)))
+            }
+        }
+    }
+
     /// The imports and exports of a component type; of an interface they are instances.
-    fn component<'b, 'a>(&mut self, decls: &'b [Decl<'a>], world: u32, home: u32) -> Result<(Map<Key, Item>, Map<Key, Item>), Fail> {
-        let mut slots: Vec<Slot<'b, 'a>> = Vec::new();
-        let mut instances: Vec<u32> = Vec::new();
-        let mut names: HashMap<String, u32> = HashMap::new();
+    fn component<'b, 'a>(&mut self, decls: &'b [Decl<'a>], world: u32, home: u32) -> Result<Sides, Fail> {
+        let mut scope = Scope { slots: Vec::new(), instances: Vec::new(), names: HashMap::new() };
         let (mut imports, mut exports) = (Map::new(), Map::new());
         for d in decls {
-            let (is_import, name, desc) = match d {
-                Decl::Type(Raw::Def(def)) => {
-                    let slot = self.def(&mut slots, def)?;
-                    slots.push(slot);
+            let (items, name, desc) = match d {
+                Decl::Import(name, desc) => (&mut imports, name, desc),
+                Decl::Export(name, desc) => (&mut exports, name, desc),
+                other => {
+                    let slot = self.slot(&mut scope, other)?;
+                    scope.slots.push(slot);
                     continue;
-                }
-                Decl::Type(Raw::Func(f)) => {
-                    slots.push(Slot::Func(f));
-                    continue;
-                }
-                Decl::Type(Raw::Instance(x)) => {
-                    slots.push(Slot::Instance(x));
-                    continue;
-                }
-                Decl::Type(Raw::Component(_)) => {
-                    slots.push(Slot::Component);
-                    continue;
-                }
-                Decl::Alias(i, text) => {
-                    let id = *instances.get(*i as usize).ok_or("scope")?;
-                    let t = *self.r.interfaces[id as usize].types.get(*text).ok_or("no such name")?;
-                    slots.push(Slot::Type(Type::Id(t)));
-                    continue;
-                }
-                Decl::Outer(_) => return Err("form"),
-                Decl::Import(name, desc) => (true, name, desc),
-                Decl::Export(name, desc) => (false, name, desc),
-            };
-            let is_path = name.text.contains(':');
-            let external_id = name.external_id.map(str::to_string);
-            let (key, item) = match desc {
-                Desc::Func(i) => {
-                    let f = self.function(&mut slots, name, *i, |_, text| names.get(text).copied())?;
-                    (Key::Name(name.text.to_string()), Item::Function(f))
-                }
-                Desc::Instance(i) => {
-                    let x = match slots.get(*i as usize).ok_or("scope")? {
-                        Slot::Instance(x) => *x,
-                        _ => return Err("sort"),
-                    };
-                    let path = if is_path { Some(name.text) } else { name.implements.as_deref() };
-                    let id = self.instance(x, path, home, &slots)?;
-                    instances.push(id);
-                    let key = if is_path { Key::Interface(id) } else { Key::Name(name.text.to_string()) };
-                    (key, Item::Interface { id, stability: Stability::Unknown, docs: None, external_id })
-                }
-                Desc::Component(_) => return Err("sort"),
-                desc => {
-                    let kind = self.declared(&slots, *desc)?;
-                    let t = self.new_type(name.text, Owner::World(world), name.external_id, kind);
-                    names.insert(name.text.to_string(), t);
-                    slots.push(Slot::Type(Type::Id(t)));
-                    (Key::Name(name.text.to_string()), Item::Type(t))
                 }
             };
-            if if is_import { &mut imports } else { &mut exports }.insert(key, item).is_some() {
+            let (key, item) = self.item(&mut scope, name, *desc, world, home)?;
+            if items.insert(key, item).is_some() {
                 return Err("twice");
             }
         }
@@ -641,14 +386,7 @@ impl Build {
             let home = self.package(namespace, package, version);
             let id = self.r.worlds.len() as u32;
             self.r.packages[home as usize].worlds.insert(short.to_string(), id);
-            self.r.worlds.push(World {
-                name: short.to_string(),
-                package: home,
-                docs: None,
-                stability: Stability::Unknown,
-                imports: Map::new(),
-                exports: Map::new(),
-            });
+            self.r.worlds.push(World::new(short, home));
             let (imports, exports) = self.component(inner, id, home)?;
             let w = &mut self.r.worlds[id as usize];
             (w.imports, w.exports) = (imports, exports);
@@ -672,65 +410,75 @@ pub fn decode(bytes: &[u8]) -> Result<(Resolve, u32), Fail> {
     read(bytes, false)
 }
 
+/// What the sections of a component have given so far.
+#[derive(Default)]
+struct Sections {
+    build: Build,
+    own: Option<u32>,
+    listed: Map<String, u32>,
+    slots: u32,
+    exported: u32,
+}
+
+impl Sections {
+    fn types(&mut self, inner: &mut Input) -> Result<(), Fail> {
+        for _ in 0..inner.u32()? {
+            let decls = match inner.raw()? {
+                Raw::Component(decls) => decls,
+                _ => return Err("no component"),
+            };
+            let (home, interface) = self.build.top(&decls)?;
+            if let Some(id) = interface {
+                self.listed.insert(self.build.r.interfaces[id as usize].name.clone().expect("a name"), id);
+            }
+            if *self.own.get_or_insert(home) != home {
+                return Err("two packages");
+            }
+            self.slots += 1;
+        }
+        Ok(())
+    }
+    fn exports(&mut self, inner: &mut Input) -> Result<(), Fail> {
+        for _ in 0..inner.u32()? {
+            inner.extern_name()?;
+            if inner.byte()? != 3 || inner.u32()? >= self.slots || inner.byte()? != 0 {
+                return Err("export");
+            }
+            self.slots += 1;
+            self.exported += 1;
+        }
+        Ok(())
+    }
+}
+
 fn read(bytes: &[u8], is_world: bool) -> Result<(Resolve, u32), Fail> {
     let mut input = Input { bytes, at: 0 };
     if input.take(8)? != [0, 0x61, 0x73, 0x6d, 0x0d, 0, 1, 0] {
         return Err("preamble");
     }
-    let mut build = Build::default();
-    let mut own = None;
-    let mut listed = Map::new();
-    let mut slots = 0;
-    let mut exported = 0;
+    let mut found = Sections::default();
     while input.at < bytes.len() {
         let id = input.byte()?;
         let length = input.u32()? as usize;
         let mut inner = Input { bytes: input.take(length)?, at: 0 };
         match id {
             0 => continue,
-            7 => {
-                for _ in 0..inner.u32()? {
-                    let decls = match inner.raw()? {
-                        Raw::Component(decls) => decls,
-                        _ => return Err("no component"),
-                    };
-                    let (home, interface) = build.top(&decls)?;
-                    if let Some(id) = interface {
-                        listed.insert(build.r.interfaces[id as usize].name.clone().expect("a name"), id);
-                    }
-                    if *own.get_or_insert(home) != home {
-                        return Err("two packages");
-                    }
-                    slots += 1;
-                }
-            }
-            11 => {
-                for _ in 0..inner.u32()? {
-                    inner.extern_name()?;
-                    if inner.byte()? != 3 || inner.u32()? >= slots || inner.byte()? != 0 {
-                        return Err("export");
-                    }
-                    slots += 1;
-                    exported += 1;
-                }
-            }
+            7 => found.types(&mut inner)?,
+            11 => found.exports(&mut inner)?,
             _ => return Err("section"),
         }
         if inner.at != length {
             return Err("trailing");
         }
     }
-    match own {
-        Some(own) if is_world => {
-            if slots != 2 || exported != 1 || build.r.worlds.len() != 1 {
-                return Err("no world");
-            }
-            Ok((build.r, own))
-        }
-        Some(own) if exported > 0 => {
+    let mut r = found.build.r;
+    match found.own {
+        Some(own) if is_world && found.slots == 2 && found.exported == 1 && r.worlds.len() == 1 => Ok((r, own)),
+        Some(_) if is_world => Err("no world"),
+        Some(own) if found.exported > 0 => {
             // A package lists its interfaces in the order in which they stand at the top.
-            build.r.packages[own as usize].interfaces = listed;
-            Ok((build.r, own))
+            r.packages[own as usize].interfaces = found.listed;
+            Ok((r, own))
         }
         _ => Err("no package"),
     }

@@ -158,34 +158,33 @@ impl<'a> Place<'a, '_> {
                 return Val::Index(*i);
             }
         }
-        let export = if self.imports { 3 } else { 4 };
-        let index = match (&def.name, &def.kind) {
-            (Some(text), _) if def.owner.interface().map_or(false, |o| self.here.own != Some(o)) => {
-                self.foreign(def.owner.interface().expect("an interface"), id, text)
-            }
-            (Some(text), Kind::Resource) => {
-                self.here.bytes.push(export);
-                extern_name(&mut self.here.bytes, text, def.external_id.as_deref());
-                self.here.bytes.extend_from_slice(&[3, 1]);
-                self.here.slot()
-            }
-            _ => {
-                let mut i = self.kind(&def.kind);
-                if let Some(text) = &def.name {
-                    self.here.bytes.push(export);
-                    extern_name(&mut self.here.bytes, text, def.external_id.as_deref());
-                    self.here.bytes.extend_from_slice(&[3, 0]);
-                    leb(&mut self.here.bytes, i);
-                    i = self.here.slot();
-                }
-                i
-            }
-        };
+        let index = self.new_type(id, def);
         self.here.ids.insert(id, index);
         if def.name.is_none() {
             self.here.kinds.insert(&def.kind, index);
         }
         Val::Index(index)
+    }
+    /// A type that this scope doesn't have yet.
+    fn new_type(&mut self, id: u32, def: &'a TypeDef) -> u32 {
+        let text = match &def.name {
+            None => return self.kind(&def.kind),
+            Some(text) => text,
+        };
+        if let Some(o) = def.owner.interface().filter(|o| self.here.own != Some(*o)) {
+            return self.foreign(o, id, text);
+        }
+        let equal = if def.kind == Kind::Resource { None } else { Some(self.kind(&def.kind)) };
+        self.here.bytes.push(if self.imports { 3 } else { 4 });
+        extern_name(&mut self.here.bytes, text, def.external_id.as_deref());
+        match equal {
+            None => self.here.bytes.extend_from_slice(&[3, 1]),
+            Some(i) => {
+                self.here.bytes.extend_from_slice(&[3, 0]);
+                leb(&mut self.here.bytes, i);
+            }
+        }
+        self.here.slot()
     }
 
     /// A type of an interface whose instance stands around.
@@ -215,62 +214,61 @@ impl<'a> Place<'a, '_> {
         }
     }
 
-    fn kind(&mut self, kind: &'a Kind) -> u32 {
-        let mut out = Vec::new();
+    /// A record, a variant, flags or an enum.
+    fn members(&mut self, kind: &'a Kind, out: &mut Vec<u8>) {
         match kind {
-            Kind::Resource => unreachable!(),
             Kind::Record(fields) => {
                 let vals: Vec<Val> = fields.iter().map(|f| self.valtype(f.1)).collect();
                 out.push(0x72);
-                leb(&mut out, fields.len() as u32);
+                leb(out, fields.len() as u32);
                 for (f, v) in fields.iter().zip(vals) {
-                    name(&mut out, &f.0);
-                    val(&mut out, v);
+                    name(out, &f.0);
+                    val(out, v);
                 }
             }
             Kind::Variant(cases) => {
                 let vals: Vec<Option<Val>> = cases.iter().map(|c| self.optional(c.1)).collect();
                 out.push(0x71);
-                leb(&mut out, cases.len() as u32);
+                leb(out, cases.len() as u32);
                 for (c, v) in cases.iter().zip(vals) {
-                    name(&mut out, &c.0);
-                    opt(&mut out, v);
+                    name(out, &c.0);
+                    opt(out, v);
                     out.push(0);
                 }
             }
             Kind::Flags(names) | Kind::Enum(names) => {
                 out.push(if matches!(kind, Kind::Flags(_)) { 0x6e } else { 0x6d });
-                leb(&mut out, names.len() as u32);
-                for n in names {
-                    name(&mut out, &n.0);
-                }
+                leb(out, names.len() as u32);
+                names.iter().for_each(|n| name(out, &n.0));
             }
+            _ => unreachable!(),
+        }
+    }
+    /// A byte and the value types behind it.
+    fn form(&mut self, out: &mut Vec<u8>, byte: u8, types: &[Type]) {
+        let vals = self.vals(types);
+        out.push(byte);
+        vals.into_iter().for_each(|v| val(out, v));
+    }
+
+    fn kind(&mut self, kind: &'a Kind) -> u32 {
+        let mut out = Vec::new();
+        match kind {
+            Kind::Resource => unreachable!(),
+            Kind::Record(_) | Kind::Variant(_) | Kind::Flags(_) | Kind::Enum(_) => self.members(kind, &mut out),
             Kind::Tuple(types) => {
                 let vals = self.vals(types);
                 out.push(0x6f);
                 leb(&mut out, types.len() as u32);
-                for v in vals {
-                    val(&mut out, v);
-                }
+                vals.into_iter().for_each(|v| val(&mut out, v));
             }
-            Kind::List(ty) | Kind::Option(ty) | Kind::Fixed(ty, _) => {
-                let v = self.valtype(*ty);
-                out.push(match kind {
-                    Kind::List(_) => 0x70,
-                    Kind::Option(_) => 0x6b,
-                    _ => 0x67,
-                });
-                val(&mut out, v);
-                if let Kind::Fixed(_, n) = kind {
-                    leb(&mut out, *n);
-                }
+            Kind::List(ty) => self.form(&mut out, 0x70, &[*ty]),
+            Kind::Option(ty) => self.form(&mut out, 0x6b, &[*ty]),
+            Kind::Fixed(ty, n) => {
+                self.form(&mut out, 0x67, &[*ty]);
+                leb(&mut out, *n);
             }
-            Kind::Map(k, v) => {
-                let vals = self.vals(&[*k, *v]);
-                out.push(0x63);
-                val(&mut out, vals[0]);
-                val(&mut out, vals[1]);
-            }
+            Kind::Map(k, v) => self.form(&mut out, 0x63, &[*k, *v]),
             Kind::Result(ok, err) => {
                 let (ok, err) = (self.optional(*ok), self.optional(*err));
                 out.push(0x6a);
@@ -346,8 +344,7 @@ fn instance<'a>(r: &'a Resolve, id: u32, whole: bool, outer: &mut Scope<'a>, for
     outer.slot()
 }
 
-fn place_instance(scope: &mut Scope, foreign: &mut Foreign, id: u32) {
-    let _ = scope;
+fn place_instance(foreign: &mut Foreign, id: u32) {
     foreign.stands.insert(id, foreign.instances);
     foreign.instances += 1;
 }
@@ -366,7 +363,7 @@ fn world<'a>(r: &'a Resolve, w: &'a World, out: &mut Vec<u8>) {
                         Key::Interface(_) => (path.as_deref().expect("a path"), None),
                     };
                     scope.item(byte, text, implements, external_id.as_deref(), 5, slot);
-                    place_instance(&mut scope, &mut foreign, *id);
+                    place_instance(&mut foreign, *id);
                 }
                 Item::Function(f) => {
                     let mut place = Place { r, here: scope, outer: None, foreign: &mut foreign, imports: true };
@@ -401,7 +398,7 @@ fn uses(r: &Resolve, id: u32) -> Vec<u32> {
     out
 }
 
-fn interface<'a>(r: &'a Resolve, id: u32, out: &mut Vec<u8>) {
+fn interface(r: &Resolve, id: u32, out: &mut Vec<u8>) {
     let mut seen = std::collections::HashSet::from([id]);
     let mut order = Vec::new();
     let mut stack = vec![(id, uses(r, id), 0)];
@@ -421,7 +418,7 @@ fn interface<'a>(r: &'a Resolve, id: u32, out: &mut Vec<u8>) {
     for i in order {
         let slot = instance(r, i, i == id, &mut scope, &mut foreign);
         scope.item(if i == id { 4 } else { 3 }, &r.path_of(i).expect("a path"), None, None, 5, slot);
-        place_instance(&mut scope, &mut foreign, i);
+        place_instance(&mut foreign, i);
     }
     scope.finish(0x41, out);
 }

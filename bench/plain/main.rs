@@ -9,6 +9,7 @@ mod collide;
 mod compare;
 mod decode;
 mod encode;
+mod forms;
 mod map;
 mod merge;
 mod model;
@@ -34,13 +35,13 @@ enum Answer {
 type Asked = Result<Answer, String>;
 
 #[derive(Default)]
-struct Session {
+struct State {
     current: Option<Resolve>,
     other: Option<Resolve>,
     kept: Vec<u8>,
 }
 
-impl Session {
+impl State {
     /// The bytes that follow, or those that were kept.
     fn on_bytes(&self, word: &str, t: &mut Tokens) -> Asked {
         let given = t.next().map(unhex);
@@ -120,6 +121,8 @@ fn quoted(text: &str) -> String {
             '"' => out.push_str("\\\""),
             '\\' => out.push_str("\\\\"),
             '\n' => out.push_str("\\n"),
+            '\r' => out.push_str("\\r"),
+            '\t' => out.push_str("\\t"),
             _ => out.push(c),
         }
     }
@@ -150,7 +153,7 @@ fn main() {
         return collide::print(count.parse().expect("a count"));
     }
     let mut out = std::io::BufWriter::new(std::io::stdout().lock());
-    let mut session = Session::default();
+    let mut state = State::default();
     let mut brief = false;
     for line in std::io::stdin().lock().lines() {
         let line = line.expect("a line");
@@ -160,7 +163,7 @@ fn main() {
             _ => {}
         }
         let start = Instant::now();
-        let answer = session.answer(&line);
+        let answer = state.answer(&line);
         let spent = start.elapsed().as_nanos();
         let mut text = line_of(&answer, brief);
         if brief {

@@ -2,6 +2,7 @@
 
 use crate::bound::{Gain, Numbers, re_function, re_kind};
 use crate::decode;
+use crate::forms::Input;
 use crate::model::*;
 use crate::senses::{Same, key_text};
 use std::collections::HashMap;
@@ -243,13 +244,13 @@ pub fn decode(bytes: &[u8]) -> Result<(Option<Vec<u8>>, Bindgen), String> {
     let mut bound = Bindgen::root();
     let mut kept = bytes[..8].to_vec();
     let mut found = false;
-    let mut input = decode::Input { bytes, at: 8 };
+    let mut input = Input { bytes, at: 8 };
     while input.at < bytes.len() {
         let id = input.byte()?;
         let length = input.u32()? as usize;
         let contents = input.take(length)?;
         if id == 0 {
-            let mut inner = decode::Input { bytes: contents, at: 0 };
+            let mut inner = Input { bytes: contents, at: 0 };
             if inner.name()?.starts_with("component-type") {
                 bound.merge(Bindgen::section(&contents[inner.at..])?)?;
                 found = true;
@@ -260,5 +261,5 @@ pub fn decode(bytes: &[u8]) -> Result<(Option<Vec<u8>>, Bindgen), String> {
         crate::encode::leb(&mut kept, length as u32);
         kept.extend_from_slice(contents);
     }
-    Ok((found.then(|| kept), bound))
+    Ok((found.then_some(kept), bound))
 }

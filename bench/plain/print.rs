@@ -8,6 +8,9 @@ const KEYWORDS: &str = "use type func u8 u16 u32 u64 s8 s16 s32 s64 f32 f64 floa
 bool string option result future stream list own borrow _ as from static interface tuple world import export package with include \
 constructor error-context async map";
 
+/// Names of one interface that are used: its number, the first type, and each name with the one that it has there.
+type Group<'a> = (u32, &'a TypeDef, Vec<(&'a str, &'a str)>);
+
 struct Printer<'a> {
     r: &'a Resolve,
     keywords: HashSet<&'static str>,
@@ -198,35 +201,9 @@ impl<'a> Printer<'a> {
         self.out.push_str(word);
         self.id(text);
         match &def.kind {
-            Kind::Record(fields) => {
+            Kind::Record(_) | Kind::Variant(_) | Kind::Flags(_) | Kind::Enum(_) => {
                 self.open();
-                for (text, ty, docs) in fields {
-                    self.case(docs, text);
-                    self.out.push_str(": ");
-                    self.ty(*ty);
-                    self.out.push_str(",\n");
-                }
-                self.close();
-            }
-            Kind::Variant(cases) => {
-                self.open();
-                for (text, ty, docs) in cases {
-                    self.case(docs, text);
-                    if let Some(ty) = ty {
-                        self.out.push('(');
-                        self.ty(*ty);
-                        self.out.push(')');
-                    }
-                    self.out.push_str(",\n");
-                }
-                self.close();
-            }
-            Kind::Flags(names) | Kind::Enum(names) => {
-                self.open();
-                for (text, docs) in names {
-                    self.case(docs, text);
-                    self.out.push_str(",\n");
-                }
+                self.members(&def.kind);
                 self.close();
             }
             Kind::Own(id) => {
@@ -239,6 +216,36 @@ impl<'a> Printer<'a> {
                 self.kind(kind);
                 self.out.push_str(";\n");
             }
+        }
+    }
+    fn members(&mut self, kind: &Kind) {
+        match kind {
+            Kind::Record(fields) => {
+                for (text, ty, docs) in fields {
+                    self.case(docs, text);
+                    self.out.push_str(": ");
+                    self.ty(*ty);
+                    self.out.push_str(",\n");
+                }
+            }
+            Kind::Variant(cases) => {
+                for (text, ty, docs) in cases {
+                    self.case(docs, text);
+                    if let Some(ty) = ty {
+                        self.out.push('(');
+                        self.ty(*ty);
+                        self.out.push(')');
+                    }
+                    self.out.push_str(",\n");
+                }
+            }
+            Kind::Flags(names) | Kind::Enum(names) => {
+                for (text, docs) in names {
+                    self.case(docs, text);
+                    self.out.push_str(",\n");
+                }
+            }
+            _ => unreachable!(),
         }
     }
     fn resource(&mut self, def: &TypeDef, functions: &[&'a Function]) {
@@ -264,9 +271,30 @@ impl<'a> Printer<'a> {
         }
         self.close();
     }
+    /// A `use` of names of one interface, each with the name that it has there.
+    fn group(&mut self, interface: u32, package: u32, first: &TypeDef, names: &[(&str, &str)]) {
+        self.any = true;
+        self.gate(&first.stability);
+        self.external_id(&first.external_id);
+        self.begin();
+        self.out.push_str("use ");
+        self.path(interface, package);
+        self.out.push_str(".{");
+        for (k, (own, other)) in names.iter().enumerate() {
+            if k > 0 {
+                self.out.push_str(", ");
+            }
+            self.id(other);
+            if own != other {
+                self.out.push_str(" as ");
+                self.id(own);
+            }
+        }
+        self.out.push_str("};\n");
+    }
     fn types(&mut self, owner: Owner, package: u32, types: &[(&'a str, u32)], functions: &HashMap<u32, Vec<&'a Function>>) {
         let r = self.r;
-        let mut groups: Vec<(u32, &TypeDef, Vec<(&str, &str)>)> = Vec::new();
+        let mut groups: Vec<Group> = Vec::new();
         let mut others = Vec::new();
         for (text, id) in types {
             let def = &r.types[*id as usize];
@@ -287,24 +315,7 @@ impl<'a> Printer<'a> {
             }
         }
         for (interface, first, names) in groups {
-            self.any = true;
-            self.gate(&first.stability);
-            self.external_id(&first.external_id);
-            self.begin();
-            self.out.push_str("use ");
-            self.path(interface, package);
-            self.out.push_str(".{");
-            for (k, (own, other)) in names.iter().enumerate() {
-                if k > 0 {
-                    self.out.push_str(", ");
-                }
-                self.id(other);
-                if own != other {
-                    self.out.push_str(" as ");
-                    self.id(own);
-                }
-            }
-            self.out.push_str("};\n");
+            self.group(interface, package, first, &names);
         }
         for id in others {
             let def = &r.types[id as usize];
