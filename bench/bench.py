@@ -24,7 +24,7 @@ def parsed():
     p.add_argument("--count-to", metavar="N", type=int, help="the largest size at which instructions are counted (10000 with valgrind)")
     p.add_argument("--report", action="store_true", help="writes docs/SPEED.md, its pictures and bench/recorded.txt")
     p.add_argument("--written", action="store_true", help="with --report: writes the page from bench/recorded.txt, and measures nothing")
-    p.add_argument("--hostile", action="store_true", help="bytes that are made to hurt, at 0.25, 1 and 4 MB")
+    p.add_argument("--hostile", action="store_true", help="bytes that are made to hurt, at 0.25, 1 and 4 MB; with --report the page has them")
     p.add_argument("--compare", metavar="FILE", help="instructions now against a stored run; status 1 where a call takes over a tenth more")
     p.add_argument("--unproved", action="store_true", help="builds without a proof, and marks each figure so")
     return p.parse_args()
@@ -75,6 +75,19 @@ def measured(a):
     return bench.stored
 
 
+def say_growth(stored):
+    """The exponent of growth of each call on each shape, between the first size and the last one that were measured."""
+    for call in dict.fromkeys(key[0] for key in stored.figures):
+        for shape in stored.shapes(call):
+            parts = []
+            for field, what in (("count", "instructions"), ("ms", "time"), ("peak", "memory")):
+                both = [stored.exponent(call, shape, program, field) for program in ("cases", "plain")]
+                if both[0] is not None and call != "witc print":
+                    parts.append(f"{what} by {', '.join(f'{x:.2f}' for x in both if x is not None)}")
+            if parts:
+                print(f"{call:17} {shape:16} grows in {'; '.join(parts)}")
+
+
 def compared(a):
     """Instructions of the library's program now, beside those of a stored run."""
     old = read(a.compare)
@@ -87,7 +100,8 @@ def compared(a):
     for row in chosen(bench, a):
         for size in old.sizes(row.call):
             then = old.get(row.call, row.shape, size, "cases", "count")
-            if then is None or a.quick and size > 1000 or a.sizes and str(size) not in a.sizes.split(","):
+            is_left_out = size > bench.count_to or a.quick and size > 1000 or a.sizes and str(size) not in a.sizes.split(",")
+            if then is None or is_left_out:
                 continue
             bench.count_row(row, size, *row.make(size), names=("cases",))
             now = bench.stored.get(row.call, row.shape, size, "cases", "count")
@@ -108,11 +122,13 @@ def main():
         if a.compare:
             return compared(a)
         if a.hostile:
-            return hostile.run(a)
-        if a.report and a.written:
+            hostile.run(a)
+        if a.report and (a.written or a.hostile):
             report.write(read(RECORDED), PAGE)
+        if a.hostile or a.report and a.written:
             return 0
         stored = measured(a)
+        say_growth(stored)
         if a.report:
             stored.write(RECORDED)
             report.write(stored, PAGE)

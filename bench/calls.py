@@ -1,4 +1,5 @@
 """The calls that are measured, each on its shapes."""
+import forms
 import shapes
 from programs import on_lines
 
@@ -44,26 +45,11 @@ class Maker:
         return lambda n: (["bytes ." + self.bytes_of(self.value(make, n), encode).hex()], call)
 
     def module(self, sides):
-        """A core module with a custom section for each world."""
-        out = bytearray.fromhex("0061736d01000000")
-        for k, side in enumerate(sides):
-            name = f"component-type:{k}".encode()
-            data = bytes([len(name)]) + name + self.bytes_of(side, "metadata 0 8 0")
-            out += b"\0" + leb(len(data)) + data
-        return bytes(out)
+        """A core module with a section for each world."""
+        return forms.module([self.bytes_of(side, "metadata 0 8 0") for side in sides])
 
     def on_module(self, make, call):
         return lambda n: (["bytes ." + self.module(self.value(make, n)).hex()], call)
-
-
-def leb(n):
-    """An unsigned number, seven bits a byte."""
-    out = bytearray()
-    while n >= 0x80:
-        out.append(n & 0x7f | 0x80)
-        n >>= 7
-    out.append(n)
-    return bytes(out)
 
 
 MERGE = {"cases": "wit_bind::bindgen::merge_matched", "plain": "*merge::Bindgen::merge*"}

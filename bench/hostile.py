@@ -124,4 +124,3 @@ def run(a):
     if a.report:
         with open(KEPT, "w", encoding="utf-8") as f:
             f.write("\n".join([f"sizes: {a.sizes or ','.join(map(str, sizes))}", f"build: {'unproved' if a.unproved else 'proved'}", *lines, ""]))
-    return 0

@@ -1,7 +1,7 @@
 """Bytes made to hurt: each function makes about so many of them, of one shape. What takes more than linear time in one of the steps would show here."""
-from forms import (FUNC, MODULE, PREAMBLE, U32, U8, alias, borrow, carried, custom, enum, export_func, export_instance, export_resource, export_type, ext,
-                   flags, func, import_func, import_implementing, import_instance, instance, interface, leb, list_of, many, module, name, named_types,
-                   option_of, outer, package, record, section, slot, tuple_of, typed, world, worlds)
+from forms import (FUNC, PREAMBLE, U32, U8, alias, borrow, carried, custom, enum, export_func, export_instance, export_resource, export_type, ext,
+                   flags, func, import_func, import_implementing, import_instance, instance, interface, leb, list_of, module, named_types, option_of,
+                   outer, package, record, section, slot, tuple_of, typed, world, worlds)
 
 COLLIDING = []      # names whose hashes are equal where they are hashed without a key
 

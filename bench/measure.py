@@ -59,6 +59,7 @@ class Bench:
             "build": "unproved" if self.unproved else "proved",
             "program": digest,
             "counter": self.tool or "none",
+            "runs": str(self.times),
             "rustc": programs.said(["rustc", "--version"]),
             "machine": f"{os.cpu_count()} processors, {model}",
             "load": f"{os.getloadavg()[0]:.1f}",

@@ -16,7 +16,8 @@ class Picture:
 
     def rect(self, x, y, width, height, colour, title=""):
         inner = f"<title>{escape(title)}</title>" if title else ""
-        self.parts.append(f"<rect x='{x:.1f}' y='{y:.1f}' width='{width:.1f}' height='{max(height, 0.5):.1f}' fill='{self.theme[colour]}'>{inner}</rect>")
+        self.parts.append(f"<rect x='{x:.1f}' y='{y:.1f}' width='{width:.1f}' height='{max(height, 0.5):.1f}' "
+                          f"fill='{self.theme[colour]}'>{inner}</rect>")
 
     def line(self, points, colour, width=1.0):
         listed = " ".join(f"{x:.1f},{y:.1f}" for x, y in points)

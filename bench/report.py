@@ -1,6 +1,7 @@
 """Writes docs/SPEED.md: the text of bench/page.md with the tables in their places, and the pictures."""
 import os
 import re
+import textwrap
 
 import pictures
 import shapes
@@ -55,15 +56,19 @@ def last_with(stored, call, field):
     return fit[-1] if fit else None
 
 
+def grows(stored, call, shape, field):
+    """Both exponents of growth."""
+    both = [stored.exponent(call, shape, program, field) for program in ("cases", "plain")]
+    return ", ".join(f"{x:.2f}" for x in both if x is not None) or "-"
+
+
 def columns(stored, call):
     """The columns of a call's table: their heads, and for a shape their cells."""
     counted = [n for n in stored.sizes(call) if any(stored.get(call, s, n, "cases", "count") for s in stored.shapes(call))]
     out = [(f"M instructions, {n:,}", lambda s, n=n: three(stored, call, s, n, "count", 1e6)) for n in counted]
-    if counted:
-        def grows(s):
-            both = [stored.exponent(call, s, program, "count") for program in ("cases", "plain")]
-            return ", ".join(f"{x:.2f}" for x in both if x is not None) or "-"
-        out.append(("grows by", grows))
+    fields = (["count"] if counted else []) + ([] if is_busy(stored) else ["ms"])
+    for field in fields:
+        out.append(("grows by" if field == "count" else "time grows by", lambda s, field=field: grows(stored, call, s, field)))
     for field, unit in (("ms", "ms"), ("peak", "MB at most")):
         n = last_with(stored, call, field)
         if n:
@@ -126,8 +131,10 @@ def measured_on(stored):
     busy = (f" Other programs worked on the machine meanwhile (load {about['load']}), so times are rough here, and instructions are what to go by."
             if is_busy(stored) else "")
     counter = {"perf": "`perf`", "valgrind": "`valgrind`"}.get(about["counter"], "nothing")
-    return (f"Measured on {about['date']}: {build}; the library as of commit {about['commit']}; {about['kit']}; {about['rustc']}; {about['machine']}. "
-            f"Instructions were counted by {counter}.{busy}")
+    runs = "one process" if about.get("runs", "1") == "1" else f"{about['runs']} processes"
+    text = (f"Measured on {about['date']}: {build}; the library as of commit {about['commit']}; {about['kit']}; {about['rustc']}; {about['machine']}. "
+            f"Instructions were counted by {counter}, and times are the least of {runs}, with three calls each.{busy}")
+    return textwrap.fill(text, 160, break_on_hyphens=False)
 
 
 def hostile():
