@@ -2,6 +2,7 @@
 import math
 import os
 import resource
+import signal
 import subprocess
 import sys
 import tempfile
@@ -52,17 +53,22 @@ def run_once(command, data):
         return seconds, peak, status, out.seek(0, os.SEEK_END), front
 
 
+def has_failed(run):
+    """Whether a run was stopped, or had not memory enough."""
+    return run[3] < 0 or "want of memory" in run[5]
+
+
 def answer_of(status, front):
     """What came of it, in a few words."""
     if status < 0:
-        return f"stopped after {SECONDS} s" if status in (-24, -9) else f"ended by signal {-status}"
+        return f"stopped after {SECONDS} s" if status == -signal.SIGXCPU else f"ended by signal {-status}"
     return front.split("\n")[0][:40] if status else "ok"
 
 
 def exponent(low, high, at):
     """How a figure grows between two runs, where it is large enough to tell."""
     (n, a), (k, b) = (low[0], low[at]), (high[0], high[at])
-    return math.log(b / a) / math.log(k / n) if min(a, b) > 0.02 and k > n else None
+    return math.log(b / a) / math.log(k / n) if min(a, b) > 0.02 and k > 1.5 * n else None
 
 
 def rows(witc, chosen, sizes, bar):
@@ -81,12 +87,15 @@ def rows(witc, chosen, sizes, bar):
 
 def line_of(make, words, runs):
     """One line of the table."""
+    ended = [r for r in runs if not has_failed(r)]
+    failed = [r for r in runs if has_failed(r)]
     last = runs[-1]
-    grows = [exponent(runs[-2], last, at) if len(runs) > 1 else None for at in (1, 2)]
+    answer = answer_of(last[3], last[5]) + (f", from {failed[0][0] / 1e6:.2f} MB on" if failed else "")
+    grows = [exponent(*ended[-2:], at) if len(ended) > 1 else None for at in (1, 2)]
     shown = ["-" if x is None else f"{x:.2f}" for x in grows]
     seconds = ", ".join(f"{r[1]:.2f}" for r in runs)
     return (f"| {make.__doc__} | `{words[0]}` | {last[0] / 1e6:.1f} | {seconds} | {shown[0]} | {last[2]:.0f} | {shown[1]} | "
-            f"{last[4] / 1e6:.1f} | {answer_of(last[3], last[5])} | {hurt.FORCED.get((make, words), '')} |")
+            f"{last[4] / 1e6:.1f} | {answer} | {hurt.FORCED.get((make, words), '')} |")
 
 
 HEAD = ("| Shape | `witc` | MB | Seconds | Grows by | Memory, MB | Grows by | Written, MB | Answer | Forced, since |",

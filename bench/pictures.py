@@ -52,7 +52,7 @@ def bars(groups, title, below, file, theme):
     """Groups of bars: each a name and pairs of a shape and a ratio. A line stands at 1, where both programs take as much."""
     left, high, low = 44, 66, 250
     width = left + sum(len(b) * (BAR + BESIDE) + GAP for _, b in groups) + 10
-    p = Picture(max(width, 560), 322, theme)
+    p = Picture(max(width + 30, 560), 322, theme)
     top = top_of(groups)
 
     def y_of(ratio):
@@ -76,7 +76,7 @@ def bars(groups, title, below, file, theme):
 
 # ---- growth, log by log
 
-ROOM_X, ROOM_Y = 228, 190
+ROOM_X, ROOM_Y = 240, 190
 
 
 def decades(values):

@@ -139,7 +139,7 @@ def measured_on(stored):
 
 def hostile():
     """The table of bytes made to hurt, as it was kept."""
-    from hostile import HEAD
+    from hostile import HEAD, MEGABYTES, SECONDS
     if not os.path.exists(HURT):
         return "Not measured."
     with open(HURT, encoding="utf-8") as f:
@@ -147,7 +147,8 @@ def hostile():
     about = dict(line.split(": ", 1) for line in lines if not line.startswith("|") and ": " in line)
     build = "a build without a proof" if about["build"] == "unproved" else "the proved build"
     mega = about["sizes"].replace(",", ", ")
-    return "\n".join([f"Of {build}, at about {mega} million bytes, in seconds of the processor.", "", *HEAD, *(x for x in lines if x.startswith("|"))])
+    head = f"Of {build}, at about {mega} million bytes, in seconds of the processor. A process may take {SECONDS} s and {MEGABYTES:,} MB of addresses."
+    return "\n".join([head, "", *HEAD, *(x for x in lines if x.startswith("|"))])
 
 
 def drawn(stored, folder):
