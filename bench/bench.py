@@ -27,7 +27,12 @@ def parsed():
     p.add_argument("--hostile", action="store_true", help="bytes that are made to hurt, at 0.25, 1 and 4 MB; with --report the page has them")
     p.add_argument("--compare", metavar="FILE", help="instructions now against a stored run; status 1 where a call takes over a tenth more")
     p.add_argument("--unproved", action="store_true", help="builds without a proof, and marks each figure so")
-    return p.parse_args()
+    a = p.parse_args()
+    if a.report and (a.call or a.shape):
+        p.error("--report is of all calls and shapes: leave --call and --shape out")
+    if a.compare and not os.path.isfile(a.compare):
+        p.error(f"there is no file {a.compare}")
+    return a
 
 
 def chosen(bench, a):
