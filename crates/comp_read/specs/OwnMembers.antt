@@ -71,8 +71,8 @@ pub data AddsView (h : Homes) (n : ℕ) (s : NumberedSight) (places : List ℕ) 
 
 -- the members that were read are the interfaces of its own package that a world shows,
 abbrev pub AreReadOwn : KeptTables → Homes → ℕ → Scope → List Member → Type 0
-AreReadOwn t h n w own = AreOwnInterfaces (numbered_tables t) h n (numbered_scope w) (numbered_members own)
+AreReadOwn t h n w ms = AreOwnInterfaces (numbered_tables t) h n (numbered_scope w) (numbered_members ms)
 
 -- and they stand in the order in which it shows them first
 abbrev pub StandAsReadOwn : KeptTables → Homes → ℕ → Scope → List Member → Type 0
-StandAsReadOwn t h n w own = StandAsShown (numbered_tables t) h n (numbered_scope w) (numbered_members own)
+StandAsReadOwn t h n w ms = StandAsShown (numbered_tables t) h n (numbered_scope w) (numbered_members ms)
