@@ -38,7 +38,7 @@ use Rattle.bind_carry.proofs.FirstCarried.{chosen_so}
 use Rattle.bind_carry.proofs.FirstPackages.{found_own, mapped_at}
 use Rattle.bind_carry.proofs.Ranges.{is_in_range}
 use Rattle.bind_carry.proofs.SecondKnown.{any_at}
-use Rattle.wit_bind.specs.Merges.{is_new_interface, is_new_package, is_new_world, is_one_of}
+use Rattle.wit_bind.specs.Comes.{is_new_interface, is_new_package, is_new_world, is_one_of}
 
 -- ---- what stands under a path
 

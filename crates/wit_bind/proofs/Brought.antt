@@ -56,7 +56,7 @@ use Rattle.bind_carry.proofs.SecondKnown.{any_at}
 use Rattle.bind_carry.proofs.UnionKeys.{carried_path}
 use Rattle.bind_carry.proofs.WorldEntries.{export_keyed, import_keyed}
 use Rattle.wit_bind.specs.Brings.{entry_notes, interface_notes, key_texts, type_notes, type_notes_at, world_notes, BringsEntries}
-use Rattle.wit_bind.specs.Merges.{is_one_of}
+use Rattle.wit_bind.specs.Comes.{is_one_of}
 use Rattle.wit_bind.proofs.Notes.{entries_noted, interface_noted, met_or_noted, IsMetOrNoted}
 
 type_noted : (numbers : List ℕ) (home : TypeOwner) (old new : TypeDef) → IsTypeUnder numbers home old new → type_notes new ≡ type_notes old

@@ -11,6 +11,7 @@ pub mod Choices
 pub mod Bindings
 pub mod Extends
 pub mod Brings
+pub mod Comes
 pub mod Merged
 pub mod Merges
 pub mod Unions
