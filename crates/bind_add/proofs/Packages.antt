@@ -1,9 +1,10 @@
 -- Packages that stay what they are while they get room.
-use Rattle.std.proofs.Common.{◌≡◌, ◌≢◌, refl, sym, ap, subst, ◌∙◌, ◌⊎◌, inl, inr, ℕ, ◌+◌, ◌<◌, ◌≤◌, zero, suc, arith, List, length, get_or, slice_get, Some}
+use Rattle.std.proofs.Common.{◌≡◌, ◌≢◌, refl, sym, ap, subst, ◌∙◌, ◌⊎◌, inl, inr, ℕ, ◌+◌, ◌<◌, ◌≤◌, arith, List, length, get_or, slice_get, Some}
 use Rattle.std.proofs.lemmas.Option.{slice_get_within, slice_get-get_or}
 use Rattle.wit_model.specs.declared.model.Package.{Package}
 use Rattle.bind_add.specs.Growth.{ArePackages, HasRoom, HaveRoom, IsSameWithRoom, OthersStay}
 use Rattle.bind_add.specs.declared.added.Names.{Names}
+use Rattle.std.proofs.lemmas.Bool.{cases_lt as below_or}
 
 -- what stands at a place of the one list stands at it in a list that is as long
 pub there : {X : Type 0} (xs ys : List X) → length ys ≡ length xs → (n : ℕ) (q : X) → slice_get ys n ≡ Some q → (p : X) × (slice_get xs n ≡ Some p)
@@ -43,11 +44,6 @@ HaveRoomBefore i names packages = (k : ℕ) (n : Names) (p : Package) → k < i 
 
 pub room_first : (names : List Names) (packages : List Package) → HaveRoomBefore 0 names packages
 room_first names packages k n p before at_n at_p = absurd (omega (arith, before))
-
-below_or : (k n : ℕ) → (k < n) ⊎ (n ≤ k)
-below_or k zero = inr (omega arith)
-below_or zero (suc n) = inl (omega arith)
-below_or (suc k) (suc n) = elim (below_or k n) [ inl h ↦ inl (omega (arith, h)) | inr h ↦ inr (omega (arith, h)) ]
 
 still : (n : Names) (p q : Package) → HasRoom n p → IsSameWithRoom p q → HasRoom n q
 still n p q h s = record { interfaces = omega (arith, h.interfaces, s.1.interfaces); worlds = omega (arith, h.worlds, s.1.worlds) }

@@ -1,6 +1,6 @@
 -- What is added to a `Resolve` that got room is added to the one before.
 use Rattle.std.proofs.Common.{◌≡◌, ◌≢◌, refl, sym, ap, subst, ◌∙◌, ℕ, zero, suc, ◌<◌, Bool, List, [], ◌∷◌, ◌++◌, arith, length, get_or, slice_get, slice_set, string_eq, Some}
-use Rattle.std.proofs.lemmas.Option.{slice_get-get_or, slice_get_within}
+use Rattle.std.proofs.lemmas.Option.{slice_get-get_or, slice_get_within, same_Some as same_element}
 use Rattle.indexmap.specs.IndexMap.{insert_all}
 use Rattle.wit_model.specs.declared.model.Interface.{Interface}
 use Rattle.wit_model.specs.declared.model.Package.{Package}
@@ -36,9 +36,6 @@ items_of same imports exports old between new s g = record {
 -- an element of a list is one of each that is as long
 also_at : {X : Type 0} (xs ys : List X) → length ys ≡ length xs → (n : ℕ) (x : X) → slice_get xs n ≡ Some x → (y : X) × (slice_get ys n ≡ Some y)
 also_at xs ys count n x at = (get_or ys n x, slice_get-get_or ys n x (subst (λ m. n < m) (sym count) (slice_get_within xs n x at)))
-
-same_element : {X : Type 0} (x y : X) → Some x ≡ Some y → x ≡ y
-same_element x y e = cc
 
 same_lists : {X : Type 0} (xs ys : List X) → length ys ≡ length xs → ((n : ℕ) → slice_get ys n ≡ slice_get xs n) → ys ≡ xs
 same_lists [] [] count h = refl

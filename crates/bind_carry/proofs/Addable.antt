@@ -1,6 +1,6 @@
 -- What own packages gain is of packages that there are, and of none twice.
 use Rattle.std.proofs.Common.{◌≡◌, refl, sym, ap, subst, ◌∙◌, ℕ, zero, suc, ◌<◌, arith, Bool, true, false, nat_lt, List, [], ◌∷◌, length, map, Option, Some, is_none, slice_get}
-use Rattle.std.specs.List.{list_all, AllZip}
+use Rattle.std.specs.List.{AllZip}
 use Rattle.std.proofs.lemmas.Bool.{lt-ltb}
 use Rattle.std.proofs.lemmas.List.{length-map}
 use Rattle.wit_model.specs.declared.model.Package.{Package}
@@ -8,7 +8,6 @@ use Rattle.wit_model.specs.declared.model.PackageId.{PackageId}
 use Rattle.wit_model.specs.declared.model.Resolve.{Resolve}
 use Rattle.wit_model.specs.Rules.{same_package_name}
 use Rattle.wit_model.specs.Valid.{IsValid}
-use Rattle.wit_model.proofs.Elements.{both}
 use Rattle.wit_model.proofs.OnePath.{package-once}
 use Rattle.bind_add.specs.Growth.{are_in_range, AreOfDifferent}
 use Rattle.bind_add.specs.declared.added.Names.{Names}
@@ -22,7 +21,10 @@ use Rattle.bind_carry.specs.Packaged.{grown_packages, IsGained}
 use Rattle.bind_carry.specs.declared.plan.Carried.{Carried}
 use Rattle.bind_carry.proofs.CopiesPlaced.{nothing_there, some_same}
 use Rattle.bind_carry.proofs.FirstMatched.{uncopied_under}
-use Rattle.bind_carry.proofs.FirstPackages.{found_number, found_own, mapped_at, unflagged_found, within_list, IsFound}
+use Rattle.bind_carry.proofs.FirstPackages.{found_number, found_own, unflagged_found, IsFound}
+use Rattle.base_lemmas.proofs.Elements.{all_by_number as all_of}
+use Rattle.base_lemmas.proofs.Lists.{mapped_get as mapped_at}
+use Rattle.std.proofs.lemmas.Option.{slice_get_within as within_list}
 
 -- how many flags in front of a place aren't set
 abbrev rank : List Bool → ℕ → ℕ
@@ -56,10 +58,6 @@ gain_at c (false ∷ bs) (n ∷ ns) (p ∷ ps) (y ∷ ys) zip zero g at =
 gain_at c (false ∷ bs) (n ∷ ns) (p ∷ ps) (y ∷ ys) zip (suc i) g at =
     let r = gain_at c bs ns ps ys zip.1 i g at in
     record { place = suc r.place; old = r.old; at_place = r.at_place; bare = r.bare; number = r.number; rank_is = ap suc r.rank_is }
-
-all_of : {X : Type 0} (p : X → Bool) (xs : List X) → ((i : ℕ) (x : X) → slice_get xs i ≡ Some x → p x ≡ true) → list_all p xs ≡ true
-all_of p [] h = refl
-all_of p (x ∷ xs) h = both (p x) (list_all p xs) (h zero x refl) (all_of p xs (λ i y at. h (suc i) y at))
 
 module _ (own other : Resolve) (valid : IsValid other) (c : Carried) (ms : List (Option PackageId)) (matched : ms ≡ map (own_package_of own.packages.items) other.packages.items) (flags : c.new_packages.items ≡ map is_none ms)
     (numbers : c.packages.items ≡ numbers_of (length own.packages.items) c.new_packages.items (map package_number ms)) (gs : List Names) (zip : AllZip (IsGained c) (grown_packages c.new_packages.items c.packages.items other.packages.items) gs) where

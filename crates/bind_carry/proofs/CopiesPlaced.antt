@@ -10,6 +10,8 @@ use Rattle.bind_carry.specs.First.{flag_under}
 use Rattle.bind_carry.specs.Renumbered.{is_copied}
 use Rattle.bind_carry.specs.declared.fate.Fate.{Fate}
 use Rattle.bind_carry.specs.declared.fate.Fate.TheVariants as fate
+use Rattle.base_lemmas.proofs.Numbers.{equal_or_past}
+use Rattle.std.proofs.lemmas.List.{length_push as length_behind}
 
 -- ---- lists
 
@@ -25,10 +27,6 @@ get_behind [] y ys zero e = refl
 get_behind [] y ys (suc n) e = absurd (omega (arith, e))
 get_behind (x ∷ xs) y ys zero e = absurd (omega (arith, e))
 get_behind (x ∷ xs) y ys (suc n) e = get_behind xs y ys n (omega (arith, e))
-
-pub length_behind : {X : Type 0} (xs : List X) (y : X) → length (xs ++ y ∷ []) ≡ length xs + 1
-length_behind [] y = refl
-length_behind (x ∷ xs) y = let r = length_behind xs y in omega (arith, r)
 
 -- ---- flags of fates
 
@@ -126,12 +124,6 @@ copied_past first (fate.Stands k ∷ fs) zero h = no_true h
 copied_past first (fate.Stands k ∷ fs) (suc n) h = copied_past first fs n h
 copied_past first (fate.Copied home ∷ fs) zero h = omega arith
 copied_past first (fate.Copied home ∷ fs) (suc n) h = let r = copied_past (first + 1) fs n h in omega (arith, r)
-
-equal_or_past : (a b : ℕ) → a ≤ b → (a ≡ b) ⊎ (a + 1 ≤ b)
-equal_or_past zero zero l = inl refl
-equal_or_past zero (suc b) l = inr (omega arith)
-equal_or_past (suc a) zero l = absurd (omega (arith, l))
-equal_or_past (suc a) (suc b) l = elim (equal_or_past a b (omega (arith, l))) [ inl e ↦ inl (ap suc e) | inr r ↦ inr (omega (arith, r)) ]
 
 -- each number from the first copy on, as far as copies go, is a copy's
 pub copied_from : (first : ℕ) (types : List TypeDef) (fates : List Fate) (n : ℕ) → first ≤ n → n < first + length (copied_types types fates) → (m : ℕ) × (is_copied fates m ≡ true) × (number_under (numbers_by first fates) m ≡ n)

@@ -18,7 +18,6 @@ use Rattle.wit_model.specs.declared.model.WorldId.{WorldId}
 use Rattle.wit_model.specs.declared.model.WorldItem.{WorldItem}
 use Rattle.wit_model.specs.declared.model.WorldItem.TheVariants as item
 use Rattle.wit_model.specs.declared.model.WorldKey.{WorldKey}
-use Rattle.wit_model.proofs.Elements.{same-some}
 use Rattle.bind_copy.specs.Copies.{is_new_under}
 use Rattle.bind_match.specs.Matching.{is_root_world}
 use Rattle.bind_union.specs.Views.{kind_view, view_numbers}
@@ -37,6 +36,7 @@ use Rattle.bind_carry.specs.declared.fate.Fate.TheVariants as fate
 use Rattle.bind_carry.specs.declared.plan.Carried.{Carried}
 use Rattle.bind_carry.proofs.Counting.{length_both}
 use Rattle.bind_carry.proofs.Marking.{mark_items_long}
+use Rattle.std.proofs.lemmas.Option.{same_Some as same-some}
 
 -- ---- flags
 

@@ -1,7 +1,7 @@
 -- How many are copied.
 use Rattle.std.proofs.Common.{◌≡◌, refl, sym, ap, subst, ◌∙◌, ℕ, ◌+◌, ◌≤◌, Bool, true, false, arith, List, [], ◌∷◌, ◌++◌, length, map}
 use Rattle.std.specs.List.{AllZip}
-use Rattle.std.specs.Prelude.{Err, IfErr, Ok, OnOk, Option, Result}
+use Rattle.std.specs.Prelude.{Err, IfErr, Ok, Option, Result}
 use Rattle.std.specs.Result.{IsErrAnd}
 use Rattle.wit_model.specs.declared.error.Error.{Error}
 use Rattle.wit_model.specs.declared.model.Interface.{Interface}
@@ -15,6 +15,7 @@ use Rattle.bind_carry.specs.BoundGains.{AreInlineCopied}
 use Rattle.bind_carry.specs.Numbers.{copied_count}
 use Rattle.bind_carry.specs.TooLong.{copies_of}
 use Rattle.bind_carry.specs.Whole.{kept}
+use Rattle.base_lemmas.proofs.Elements.{zip_long}
 
 -- at most as many are kept as flags are set
 pub kept_few : {X : Type 0} (bs : List Bool) (xs : List X) → length (kept bs xs) ≤ copied_count bs
@@ -31,11 +32,6 @@ kept_all (true ∷ bs) (x ∷ xs) long = let r = kept_all bs xs (omega (arith, l
 kept_all (false ∷ bs) (x ∷ xs) long = kept_all bs xs (omega (arith, long))
 
 -- lists that go together are of one length
-pub zip_long : {X Y : Type 0} (P : X → Y → Type 0) (xs : List X) (ys : List Y) → AllZip P xs ys → length xs ≡ length ys
-zip_long P [] [] h = refl
-zip_long P [] (y ∷ ys) h = absurd h
-zip_long P (x ∷ xs) [] h = absurd h
-zip_long P (x ∷ xs) (y ∷ ys) h = let r = zip_long P xs ys h.1 in omega (arith, r)
 
 pub length_both : {X : Type 0} (xs ys : List X) → length (xs ++ ys) ≡ length xs + length ys
 length_both [] ys = omega arith
@@ -87,9 +83,6 @@ inline_long types home copied interfaces old new c =
 -- ---- answers
 
 -- what holds anyway holds where an answer is there
-pub on_ok : {A E P : Type 0} → P → (r : Result A E) → OnOk r P
-on_ok p (Ok a) = p
-on_ok p (Err e) = tt
 
 -- ---- lists that are made of what is kept
 

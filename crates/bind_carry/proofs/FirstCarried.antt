@@ -1,5 +1,5 @@
 -- What is carried by path is carried as the laws on unions ask for it: interfaces, and how numbers rise.
-use Rattle.std.proofs.Common.{◌≡◌, ◌⊎◌, inl, inr, refl, sym, ap, subst, ◌∙◌, ℕ, zero, suc, ◌+◌, ◌<◌, arith, Bool, true, false, ◌||◌, ◌==◌, List, [], ◌∷◌, ◌++◌, length, map, Option, Some, None, is_some, slice_get}
+use Rattle.std.proofs.Common.{◌≡◌, ◌⊎◌, inl, inr, refl, sym, ap, subst, ◌∙◌, ℕ, zero, suc, ◌+◌, ◌<◌, arith, Bool, true, false, ◌||◌, ◌==◌, List, [], ◌∷◌, ◌++◌, length, map, Option, Some, slice_get}
 use Rattle.std.specs.List.{list_all, AllZip}
 use Rattle.std.specs.String.{string_eq}
 use Rattle.std.proofs.lemmas.Bool.{or_left, or_right}
@@ -17,7 +17,7 @@ use Rattle.wit_model.specs.Lookup.{interface_at, interface_path}
 use Rattle.wit_model.specs.Rules.{interface_type_numbers, package_number}
 use Rattle.wit_model.specs.Uses.{has}
 use Rattle.wit_model.specs.Valid.{IsValid}
-use Rattle.wit_model.proofs.Elements.{all-contained, equal, has-contains, same-number}
+use Rattle.wit_model.proofs.Elements.{has-contains}
 use Rattle.wit_model.proofs.OnePath.{path-once}
 use Rattle.bind_copy.specs.Copies.{number_under}
 use Rattle.bind_union.specs.Carried.{IsInterface, Renumbering, Rises}
@@ -48,6 +48,10 @@ use Rattle.bind_carry.proofs.Marking.{are_chosen, AreWorldsBelow}
 use Rattle.bind_carry.proofs.Ranges.{is_in_range, shown_below}
 use Rattle.bind_carry.proofs.KeptPlaced.{kept_placed, IsKeptAt}
 use Rattle.bind_carry.proofs.SettledParts.{settled_long}
+use Rattle.base_lemmas.proofs.Elements.{all-contained}
+use Rattle.base_lemmas.proofs.Lists.{within_there}
+use Rattle.base_lemmas.proofs.Numbers.{equal, same-number}
+use Rattle.base_lemmas.proofs.Options.{there as some_of}
 
 -- a number of a mapped list is that of one of the list
 pub has_map : (g : ℕ → ℕ) (ns : List ℕ) (m : ℕ) → has (map g ns) m ≡ true → (k : ℕ) × (has ns k ≡ true) × (g k ≡ m)
@@ -58,19 +62,10 @@ has_map g (n ∷ ns) m h = go (g n == m) refl h (has_map g ns m)
     go true e h rest = (n, ap (λ b. b || has ns n) (same-number n), equal (g n) m e)
     go false e h rest = let r = rest h in (r.0, or_right (n == r.0) (has ns r.0) r.1, r.2)
 
-some_of : {X : Type 0} (o : Option X) → is_some o ≡ true → (x : X) × (o ≡ Some x)
-some_of None h = no_true h
-some_of (Some x) h = (x, refl)
-
 pub flag_within : (flags : List Bool) (n : ℕ) → flag_under flags n ≡ true → n < length flags
 flag_within [] n h = no_true h
 flag_within (b ∷ bs) zero h = omega arith
 flag_within (b ∷ bs) (suc n) h = let r = flag_within bs n h in omega (arith, r)
-
-pub within_there : {X : Type 0} (xs : List X) (n : ℕ) → n < length xs → (x : X) × (slice_get xs n ≡ Some x)
-within_there [] n l = absurd (omega (arith, l))
-within_there (x ∷ xs) zero l = (x, refl)
-within_there (x ∷ xs) (suc n) l = within_there xs n (omega (arith, l))
 
 module _ (own other : Resolve) (valid_own : IsValid own) (valid_other : IsValid other) (matched : List (Option InterfaceId)) (c : Carried) (numbers : List ℕ) (chosen : AreChosen other matched c.copied_worlds.items c.copied_interfaces.items)
     (same : AreMatchedAt own other matched c.packages.items) (none : NoneOfPath own other matched) (long : length c.copied_interfaces.items ≡ length matched)

@@ -18,8 +18,6 @@ use Rattle.wit_model.specs.Text.{text_of}
 use Rattle.wit_model.specs.Rules.{interface_is_listed, is_id, is_world_name, package_number, times_shown}
 use Rattle.wit_model.specs.Uses.{has, item_interface, items_of}
 use Rattle.wit_model.specs.Valid.{IsValid, places}
-use Rattle.wit_model.proofs.Elements.{equal, same-number}
-use Rattle.wit_model.proofs.Lists.{first_true, second_true}
 use Rattle.wit_model.proofs.OnePath.{interface-passes}
 use Rattle.bind_copy.specs.Copies.{number_under}
 use Rattle.bind_union.proofs.Images.{filter_map_none, filter_map_some}
@@ -34,6 +32,8 @@ use Rattle.bind_carry.proofs.CopiesPlaced.{flag_is_copied, some_same}
 use Rattle.bind_carry.proofs.FirstCarried.{chosen_so, first_is_carried}
 use Rattle.bind_carry.proofs.FirstMatched.{named_of_path}
 use Rattle.bind_carry.proofs.Ranges.{is_in_range}
+use Rattle.base_lemmas.proofs.Bools.{left_of as first_true, right_of as second_true}
+use Rattle.base_lemmas.proofs.Numbers.{equal, same-number}
 
 -- ---- numbers
 

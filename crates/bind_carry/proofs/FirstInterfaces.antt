@@ -11,13 +11,13 @@ use Rattle.wit_model.specs.declared.model.PackageId.{PackageId}
 use Rattle.wit_model.specs.declared.model.TypeId.{TypeId}
 use Rattle.wit_model.specs.Rules.{interface_type_numbers, package_number}
 use Rattle.wit_model.specs.Text.{Text, text_of}
-use Rattle.wit_model.proofs.Lists.{first_true, second_true}
 use Rattle.bind_copy.specs.Copies.{number_under, type_names, type_names_under, IsInterfaceUnder}
 use Rattle.bind_copy.specs.Copies.{IsFunctionEntry as IsEntryUnderNumbers}
 use Rattle.bind_union.specs.Carried.{IsFunctionEntry, IsInterfaceCopy, Renumbering}
 use Rattle.bind_carry.specs.CarriedParts.{is_function_carried}
 use Rattle.bind_carry.specs.Whole.{home_under}
 use Rattle.bind_carry.proofs.JoinedItems.{function_copy}
+use Rattle.base_lemmas.proofs.Bools.{left_of as first_true, right_of as second_true}
 
 -- ---- packages
 

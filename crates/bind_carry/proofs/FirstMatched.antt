@@ -21,7 +21,6 @@ use Rattle.wit_model.specs.Rules.{are_in_order, function_in_range, in_list, inte
 use Rattle.wit_model.specs.Text.{Text, optional_text, text_of}
 use Rattle.wit_model.specs.Uses.{has}
 use Rattle.wit_model.specs.Valid.{IsValid, as_interface, is_place, numbers_in_range, order_of_types}
-use Rattle.wit_model.proofs.Lists.{first_true, second_true}
 use Rattle.wit_model.proofs.OnePath.{found-in, interface-passes}
 use Rattle.bind_copy.specs.Copies.{number_under}
 use Rattle.bind_union.specs.Carried.{carries_owner, IsInterface, IsType, Renumbering}
@@ -29,7 +28,7 @@ use Rattle.bind_union.specs.Matching.{type_names, AreMatched, IsMatch}
 use Rattle.bind_union.specs.Merged.{BeginsWith}
 use Rattle.bind_union.proofs.Homes.{owner_equal}
 use Rattle.bind_union.proofs.Listed.{found_by_text, under_text}
-use Rattle.bind_union.proofs.Lists.{all_two, no_true}
+use Rattle.bind_union.proofs.Lists.{no_true}
 use Rattle.bind_union.proofs.MatchedStand.{matched_stand}
 use Rattle.bind_union.proofs.Namesakes.{found_same, home_listed, listed_type, matches_are_namesakes, meaning_under, number_listed, numbers_are as numbers_are_of, under_contains, IsListedType}
 use Rattle.bind_carry.specs.Fates.{is_carried, numbers_by, AreCopied}
@@ -43,6 +42,8 @@ use Rattle.bind_carry.specs.declared.fate.Fate.{Fate}
 use Rattle.bind_carry.specs.declared.plan.Carried.{Carried}
 use Rattle.bind_carry.proofs.CopiesPlaced.{stands_under}
 use Rattle.bind_carry.proofs.FirstTypes.{excluded, final_stands, first_types, named_carried, owned_copied, stood_how}
+use Rattle.base_lemmas.proofs.Bools.{left_of as first_true, right_of as second_true}
+use Rattle.base_lemmas.proofs.Elements.{all_two}
 
 -- ---- own numbers
 

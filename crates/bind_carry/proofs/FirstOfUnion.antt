@@ -1,10 +1,9 @@
 -- What a union adds, once it is added, has all that is carried by path.
-use Rattle.std.proofs.Common.{◌≡◌, refl, sym, ap, subst, ◌∙◌, ℕ, zero, suc, true, false, ◌==◌, List, [], ◌∷◌, ◌++◌, length}
+use Rattle.std.proofs.Common.{◌≡◌, refl, sym, ap, subst, ◌∙◌, ℕ, zero, suc, List, [], ◌∷◌, ◌++◌, length}
 use Rattle.std.specs.Prelude.{slice_get, slice_set, Some}
 use Rattle.std.specs.List.{AllZip}
 use Rattle.wit_model.specs.declared.model.TypeDef.{TypeDef}
 use Rattle.wit_model.specs.declared.model.World.{World}
-use Rattle.wit_model.proofs.Elements.{same-number}
 use Rattle.bind_add.specs.declared.added.Names.{Names}
 use Rattle.bind_carry.specs.BoundGains.{bound_fates}
 use Rattle.bind_carry.specs.Fates.{AreCopied}
@@ -12,7 +11,8 @@ use Rattle.bind_carry.specs.First.{first_fates}
 use Rattle.bind_carry.specs.FirstPass.{UnionsHaveTheFirst}
 use Rattle.bind_carry.specs.Packaged.{grown_packages, IsGained}
 use Rattle.bind_carry.specs.SecondPass.{UnionsHaveTheSecond}
-use Rattle.bind_carry.proofs.FirstPackages.{front_at}
+use Rattle.base_lemmas.proofs.Lists.{front_at}
+use Rattle.base_lemmas.proofs.Numbers.{differ}
 
 pub set_count : (ws : List World) (n : ℕ) (v : World) → length (slice_set ws n v) ≡ length ws
 set_count [] n v = refl
@@ -58,9 +58,6 @@ set_other (x ∷ xs) more zero zero u v e h = absurd (h refl)
 set_other (x ∷ xs) more zero (suc k) u v e h = front_at xs more k u e
 set_other (x ∷ xs) more (suc n) zero u v e h = e
 set_other (x ∷ xs) more (suc n) (suc k) u v e h = set_other xs more n k u v e (λ q. h (ap suc q))
-
-differ : (k n : ℕ) → (k == n) ≡ false → k ≡ n → ⊥
-differ k n f e = let wrong : true ≡ false = sym (same-number k) ∙ (ap (λ (x : ℕ). k == x) e ∙ f) in let no : ⊥ = cc in no
 
 -- and what the bound world gains
 pub unions_have_the_second : UnionsHaveTheSecond

@@ -2,10 +2,10 @@
 use Rattle.std.proofs.Common.{◌≡◌, ◌⊎◌, inl, inr, refl, sym, ap, subst, ◌∙◌, ℕ, zero, suc, ◌+◌, ◌<◌, arith, Bool, true, false, ◌&&◌, ◌==◌, cond, List, [], ◌∷◌, ◌++◌, length, map, Option, Some, None, is_none, option_map, slice_get, unwrap_or, append-nil}
 use Rattle.std.specs.List.{AllZip}
 use Rattle.std.specs.Option.{option_eq}
-use Rattle.std.proofs.lemmas.Bool.{eq-eqb, eqb-true}
+use Rattle.std.proofs.lemmas.Bool.{eq-eqb}
 use Rattle.std.proofs.lemmas.List.{length-map}
 use Rattle.semver.specs.declared.Version.{Version}
-use Rattle.semver.specs.Identifiers.{build_text, parts_of, pre_text}
+use Rattle.semver.specs.Identifiers.{parts_of}
 use Rattle.wit_model.specs.declared.model.Package.{Package}
 use Rattle.wit_model.specs.declared.model.PackageId.{PackageId}
 use Rattle.wit_model.specs.declared.model.PackageName.{PackageName}
@@ -13,8 +13,6 @@ use Rattle.wit_model.specs.declared.model.Resolve.{Resolve}
 use Rattle.wit_model.specs.Lookup.{package_at}
 use Rattle.wit_model.specs.Rules.{same_package_name, same_version}
 use Rattle.wit_model.specs.Text.{text_eq, text_of}
-use Rattle.wit_model.proofs.Elements.{equal}
-use Rattle.wit_model.proofs.Lists.{first_true, second_true}
 use Rattle.wit_model.proofs.VersionLaws.{text_same}
 use Rattle.bind_add.specs.Growth.{GainsNone, HaveGained}
 use Rattle.bind_add.specs.declared.added.Names.{Names}
@@ -29,38 +27,13 @@ use Rattle.bind_carry.specs.Whole.{kept}
 use Rattle.bind_carry.specs.declared.plan.Carried.{Carried}
 use Rattle.bind_carry.proofs.FirstMatched.{uncopied_under}
 use Rattle.bind_carry.proofs.KeptPlaced.{kept_placed, IsKeptAt}
+use Rattle.base_lemmas.proofs.Bools.{left_of as first_true, right_of as second_true}
+use Rattle.base_lemmas.proofs.Lists.{front_at, mapped_get as mapped_at}
+use Rattle.base_lemmas.proofs.Numbers.{equal}
+use Rattle.std.proofs.lemmas.Option.{slice_get_within as within_list}
+use Rattle.wit_model.proofs.VersionLaws.{same_versions as version_parts}
 
 -- ---- names
-
-version_parts : (a b : Version) → same_version a b ≡ true → parts_of a ≡ parts_of b
-version_parts a b h = λ i. (major i, minor i, patch i, pre i, build i)
-  where
-    rest : Bool
-    rest = text_eq (pre_text a.pre) (pre_text b.pre) && text_eq (build_text a.build) (build_text b.build)
-
-    after_major : ((a.minor == b.minor) && ((a.patch == b.patch) && rest)) ≡ true
-    after_major = second_true (a.major == b.major) ((a.minor == b.minor) && ((a.patch == b.patch) && rest)) h
-
-    after_minor : ((a.patch == b.patch) && rest) ≡ true
-    after_minor = second_true (a.minor == b.minor) ((a.patch == b.patch) && rest) after_major
-
-    texts : rest ≡ true
-    texts = second_true (a.patch == b.patch) rest after_minor
-
-    major : a.major ≡ b.major
-    major = eqb-true a.major b.major (first_true (a.major == b.major) ((a.minor == b.minor) && ((a.patch == b.patch) && rest)) h)
-
-    minor : a.minor ≡ b.minor
-    minor = eqb-true a.minor b.minor (first_true (a.minor == b.minor) ((a.patch == b.patch) && rest) after_major)
-
-    patch : a.patch ≡ b.patch
-    patch = eqb-true a.patch b.patch (first_true (a.patch == b.patch) rest after_minor)
-
-    pre : pre_text a.pre ≡ pre_text b.pre
-    pre = text_same (pre_text a.pre) (pre_text b.pre) (first_true (text_eq (pre_text a.pre) (pre_text b.pre)) (text_eq (build_text a.build) (build_text b.build)) texts)
-
-    build : build_text a.build ≡ build_text b.build
-    build = text_same (build_text a.build) (build_text b.build) (second_true (text_eq (pre_text a.pre) (pre_text b.pre)) (text_eq (build_text a.build) (build_text b.build)) texts)
 
 optional_parts : (a b : Option Version) → option_eq same_version a b ≡ true → option_map parts_of b ≡ option_map parts_of a
 optional_parts None None h = refl
@@ -157,21 +130,6 @@ pub found_number : (ms : List (Option PackageId)) (n : ℕ) (id : PackageId) →
 found_number [] n id e = let wrong : ⊥ = cc in absurd wrong
 found_number (m ∷ ms) zero id e = ap (λ (o : Option (Option PackageId)). package_number (unwrap_or o m)) e
 found_number (m ∷ ms) (suc n) id e = found_number ms n id e
-
-pub mapped_at : {X Y : Type 0} (f : X → Y) (xs : List X) (n : ℕ) (x : X) → slice_get xs n ≡ Some x → slice_get (map f xs) n ≡ Some (f x)
-mapped_at f [] n x e = let wrong : ⊥ = cc in absurd wrong
-mapped_at f (y ∷ ys) zero x e = ap (option_map f) e
-mapped_at f (y ∷ ys) (suc n) x e = mapped_at f ys n x e
-
-pub front_at : {X : Type 0} (xs ys : List X) (n : ℕ) (x : X) → slice_get xs n ≡ Some x → slice_get (xs ++ ys) n ≡ Some x
-front_at [] ys n x e = let wrong : ⊥ = cc in absurd wrong
-front_at (y ∷ xs) ys zero x e = e
-front_at (y ∷ xs) ys (suc n) x e = front_at xs ys n x e
-
-pub within_list : {X : Type 0} (xs : List X) (n : ℕ) (x : X) → slice_get xs n ≡ Some x → n < length xs
-within_list [] n x e = let wrong : ⊥ = cc in absurd wrong
-within_list (y ∷ ys) zero x e = omega arith
-within_list (y ∷ ys) (suc n) x e = let r = within_list ys n x e in omega (arith, r)
 
 module _ (own other merged : Resolve) (c : Carried) (ms : List (Option PackageId)) (matched : ms ≡ map (own_package_of own.packages.items) other.packages.items) (flags : c.new_packages.items ≡ map is_none ms)
     (numbers : c.packages.items ≡ numbers_of (length own.packages.items) c.new_packages.items (map package_number ms))

@@ -1,5 +1,5 @@
 -- What becomes of types by path: each one that is carried has its image under its new number.
-use Rattle.std.proofs.Common.{◌≡◌, inl, refl, sym, ap, ◌∙◌, ℕ, zero, suc, ◌<◌, arith, Bool, true, false, ◌&&◌, ◌||◌, not, nat_lt, List, [], ◌∷◌, ◌++◌, length, map, Option, Some, None, option_and_then, option_map, is_none, is_some, slice_get, if◌then◌else◌}
+use Rattle.std.proofs.Common.{◌≡◌, inl, refl, sym, ap, ◌∙◌, ℕ, zero, suc, ◌<◌, arith, Bool, true, false, ◌&&◌, ◌||◌, not, nat_lt, List, [], ◌∷◌, ◌++◌, length, map, Option, Some, None, option_and_then, option_map, is_some, slice_get, if◌then◌else◌}
 use Rattle.std.specs.Prelude.{String}
 use Rattle.std.specs.declared.alloc.Global.{Global}
 use Rattle.std.specs.List.{list_all, list_any}
@@ -39,16 +39,9 @@ use Rattle.bind_carry.specs.declared.plan.Carried.{Carried}
 use Rattle.bind_carry.proofs.CopiesPlaced.{copy_placed, IsPlaced}
 use Rattle.bind_carry.proofs.PartsCarried.{has_home, no_home, parts_are_carried}
 use Rattle.bind_carry.proofs.SettledParts.{copied_still, settled_all, settled_long, stands_still, unnamed_carried, unnamed_parts}
+use Rattle.base_lemmas.proofs.Options.{nameless as some_none, none_some}
 
 -- ---- tests
-
-none_some : {X : Type 0} (o : Option X) → is_some o ≡ false → is_none o ≡ true
-none_some None h = refl
-none_some (Some x) h = let wrong : ⊥ = cc in absurd wrong
-
-some_none : {X : Type 0} (o : Option X) → is_some o ≡ true → is_none o ≡ false
-some_none None h = no_true h
-some_none (Some x) h = refl
 
 no_false : {A : Type 0} → true ≡ false → A
 no_false e = let wrong : ⊥ = cc in absurd wrong

@@ -18,14 +18,11 @@ use Rattle.wit_model.specs.Parts.{same_owner}
 use Rattle.wit_model.specs.Rules.{entries_in_range, export_stands, import_stands, in_list, is_id, is_interface_key, item_in_range, key_in_range, package_number, passes, text_is}
 use Rattle.wit_model.specs.Text.{text_of}
 use Rattle.wit_model.specs.Uses.{item_interface}
-use Rattle.wit_model.specs.Valid.{IsValid, Keeps, Rule, as_world, is_place, item_function, numbers_in_range, world_items}
-use Rattle.wit_model.proofs.Elements.{same-number}
-use Rattle.wit_model.proofs.Entries.{lists_pass}
-use Rattle.wit_model.proofs.Lists.{first_true, second_true}
+use Rattle.wit_model.specs.Valid.{IsValid, as_world, is_place, item_function, numbers_in_range, world_items}
 use Rattle.wit_model.proofs.OnePath.{found-in}
 use Rattle.bind_union.specs.Carried.{Renumbering}
 use Rattle.bind_union.proofs.Homes.{owner_equal}
-use Rattle.bind_union.proofs.Lists.{each_at, no_true}
+use Rattle.bind_union.proofs.Lists.{no_true}
 use Rattle.bind_union.proofs.WorldRules.{by_entries}
 use Rattle.bind_carry.specs.CarriedParts.{is_function_carried}
 use Rattle.bind_carry.specs.First.{first_fates, flag_under}
@@ -40,18 +37,13 @@ use Rattle.bind_carry.proofs.FirstTypes.{adds_world, excluded, parts_of, world_o
 use Rattle.wit_model.specs.Valid.{as_interface}
 use Rattle.std.specs.Prelude.{String}
 use Rattle.std.specs.declared.alloc.Global.{Global}
+use Rattle.base_lemmas.proofs.Bools.{left_of as first_true, right_of as second_true}
+use Rattle.base_lemmas.proofs.Elements.{all_get as all_at}
+use Rattle.base_lemmas.proofs.Numbers.{same-number}
+use Rattle.std.proofs.lemmas.Map.Keys.{any_passes_from_place as any_of_at}
+use Rattle.bind_meaning.proofs.WorldPaths.{world-passes as world_passes}
 
 -- ---- lists
-
-all_at : {A : Type 0} (p : A → Bool) (xs : List A) (n : ℕ) (x : A) → list_all p xs ≡ true → slice_get xs n ≡ Some x → p x ≡ true
-all_at p [] n x h e = let wrong : ⊥ = cc in absurd wrong
-all_at p (y ∷ ys) zero x h e = let same : y ≡ x = ap (λ o. unwrap_or o y) e in ap p (sym same) ∙ first_true (p y) (list_all p ys) h
-all_at p (y ∷ ys) (suc n) x h e = all_at p ys n x (second_true (p y) (list_all p ys) h) e
-
-any_of_at : {A : Type 0} (p : A → Bool) (xs : List A) (n : ℕ) (x : A) → slice_get xs n ≡ Some x → p x ≡ true → list_any p xs ≡ true
-any_of_at p [] n x e h = let wrong : ⊥ = cc in absurd wrong
-any_of_at p (y ∷ ys) zero x e h = let same : y ≡ x = ap (λ o. unwrap_or o y) e in or_left (p y) (list_any p ys) (ap p same ∙ h)
-any_of_at p (y ∷ ys) (suc n) x e h = or_right (p y) (list_any p ys) (any_of_at p ys n x e h)
 
 -- what a thing whose flag is set passes, some that is kept passes
 kept_any : {A : Type 0} (p : A → Bool) (flags : List Bool) (xs : List A) (n : ℕ) (x : A) → slice_get xs n ≡ Some x → flag_under flags n ≡ true → p x ≡ true → list_any p (kept flags xs) ≡ true
@@ -61,9 +53,6 @@ kept_any p (true ∷ bs) (y ∷ ys) zero x e set h = let same : y ≡ x = ap (λ
 kept_any p (true ∷ bs) (y ∷ ys) (suc n) x e set h = or_right (p y) (list_any p (kept bs ys)) (kept_any p bs ys n x e set h)
 kept_any p (false ∷ bs) (y ∷ ys) zero x e set h = no_true set
 kept_any p (false ∷ bs) (y ∷ ys) (suc n) x e set h = kept_any p bs ys n x e set h
-
-world_passes : (rule : Rule) (r : Resolve) → Keeps rule r → (n : ℕ) (w : World) → world_at r n ≡ Some w → rule.world_ r n w ≡ true
-world_passes rule r h n w is = each_at (rule.world_ r) r.worlds.items n w (lists_pass rule r h).2 is
 
 module _ (own other : Resolve) (valid : IsValid other) (matched : List (Option InterfaceId)) (c : Carried) (numbers : List ℕ) (chosen : AreChosen other matched c.copied_worlds.items c.copied_interfaces.items)
     (names : (n : ℕ) (def : TypeDef) (a : ℕ) (s : String Global) → type_at other n ≡ Some def → def.name ≡ Some s → def.owner ≡ as_interface a → is_matched matched a ≡ true → (id : TypeId) × (type_named own matched a (text_of s) ≡ Some id))

@@ -9,11 +9,12 @@ use Rattle.bind_copy.specs.Copies.{number_under}
 use Rattle.bind_carry.specs.FirstPass.{FirstWorldsAreCopied}
 use Rattle.bind_carry.specs.Marked.{AreChosen}
 use Rattle.bind_carry.specs.Numbers.{world_number}
-use Rattle.bind_carry.proofs.FirstCarried.{chosen_so, flag_within, interfaces_once, within_there}
+use Rattle.bind_carry.proofs.FirstCarried.{chosen_so, flag_within, interfaces_once}
 use Rattle.bind_carry.proofs.FirstCopies.{copied_behind}
 use Rattle.bind_carry.proofs.FirstMatched.{names}
 use Rattle.bind_carry.proofs.Ranges.{is_in_range}
 use Rattle.bind_carry.proofs.WorldsCopied.{world_copy}
+use Rattle.base_lemmas.proofs.Lists.{within_there}
 
 pub first_worlds_are_copied : FirstWorldsAreCopied
 first_worlds_are_copied own other merged m c numbers valid_own valid_other p n set = (

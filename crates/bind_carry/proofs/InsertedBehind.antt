@@ -9,10 +9,10 @@ use Rattle.wit_model.specs.Valid.{key_eq}
 use Rattle.wit_model.specs.declared.model.WorldItem.{WorldItem}
 use Rattle.wit_model.specs.declared.model.WorldKey.{WorldKey}
 use Rattle.wit_model.specs.declared.model.WorldKey.TheVariants as key
-use Rattle.wit_model.proofs.Elements.{both}
-use Rattle.wit_model.proofs.Lists.{first_true, second_true}
 use Rattle.bind_copy.specs.Copies.{become_one, is_key_under, is_new_under, number_under, IsEntryUnder, IsKeyUnder}
 use Rattle.bind_union.proofs.Lists.{no_true}
+use Rattle.base_lemmas.proofs.Bools.{left_of as first_true, right_of as second_true}
+use Rattle.std.proofs.lemmas.Bool.{and_from as both}
 
 -- what a filter leaves passes
 pub filter_passes : {X : Type 0} (p : X → Bool) (xs : List X) → list_all p (filter p xs) ≡ true

@@ -4,9 +4,9 @@ use Rattle.std.specs.List.{list_all, AllByRecursion, IsDistinct}
 use Rattle.wit_model.specs.Valid.{key_eq}
 use Rattle.wit_model.specs.declared.model.WorldKey.{WorldKey}
 use Rattle.wit_model.specs.declared.model.WorldKey.TheVariants as key
-use Rattle.wit_model.proofs.Elements.{equal, same-number}
-use Rattle.wit_model.proofs.Lists.{first_true, second_true}
 use Rattle.bind_copy.specs.Copies.{become_one, number_under}
+use Rattle.base_lemmas.proofs.Bools.{left_of as first_true, right_of as second_true}
+use Rattle.base_lemmas.proofs.Numbers.{equal, same-number}
 
 abbrev pub is_key_carried : (ℕ → Bool) → WorldKey → Bool
 is_key_carried carried (key.Name name) = true

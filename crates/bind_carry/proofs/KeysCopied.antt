@@ -1,6 +1,5 @@
 -- Keys that are put into a set one behind the other, under new numbers.
 use Rattle.std.proofs.Common.{◌≡◌, refl, sym, ap, subst, ◌∙◌, ℕ, false, ◌||◌, List, [], ◌∷◌, ◌++◌, append-nil, append_assoc, if◌then◌else◌}
-use Rattle.std.specs.Prelude.{Err, IfOk, Ok, Result}
 use Rattle.std.specs.List.{list_any, AllZip, IsDistinct}
 use Rattle.std.specs.Map.{keys_of}
 use Rattle.std.proofs.lemmas.List.Elements.{AllZip-push}
@@ -49,6 +48,3 @@ module _ (interfaces : List ℕ) where
       subst (λ l. AllZip (IsKeyUnder interfaces) l done) all so.2
 
 -- what follows of an answer, where there is one
-pub if_ok : {A E : Type 0} (P Q : A → Type 0) → ((a : A) → P a → Q a) → (r : Result A E) → IfOk r P → IfOk r Q
-if_ok P Q f (Ok a) h = f a h
-if_ok P Q f (Err e) h = h

@@ -15,7 +15,6 @@ use Rattle.wit_model.specs.declared.model.WorldKey.{WorldKey}
 use Rattle.wit_model.specs.declared.model.WorldKey.TheVariants as key
 use Rattle.wit_model.specs.Lookup.{interface_at, world_at}
 use Rattle.wit_model.specs.Valid.{IsValid, key_eq}
-use Rattle.wit_model.proofs.Elements.{both, contains-later}
 use Rattle.bind_add.specs.declared.added.Added.{Added}
 use Rattle.bind_copy.specs.Copies.{become_one, is_new_under, number_under}
 use Rattle.bind_match.specs.declared.matches.Matches.{Matches}
@@ -38,11 +37,11 @@ use Rattle.bind_carry.proofs.Ranges.{is_in_range, shown_below}
 use Rattle.bind_carry.proofs.Ready.{interface_count}
 use Rattle.bind_carry.proofs.SecondMarks.{gained_inline_alone, gained_long}
 use Rattle.bind_carry.proofs.WorldEntries.{export_keyed, import_keyed}
+use Rattle.base_lemmas.proofs.Elements.{contains-later}
+use Rattle.base_lemmas.proofs.Options.{nameless as none_of}
+use Rattle.std.proofs.lemmas.Bool.{and_from as both}
 
 -- an interface with a name isn't inline
-none_of : {X : Type 0} (o : Option X) → is_some o ≡ true → is_none o ≡ false
-none_of None h = no_true h
-none_of (Some x) h = refl
 
 -- keys of a list whose interfaces pass
 keys_pass : (p : ℕ → Bool) (es : List (WorldKey × WorldItem)) → ((e : WorldKey × WorldItem) → Contains es e → (id : InterfaceId) → e.0 ≡ key.Interface id → p id.0 ≡ true) → list_all (is_key_carried p) (keys_of es) ≡ true

@@ -13,22 +13,16 @@ use Rattle.wit_model.specs.declared.model.WorldKey.{WorldKey}
 use Rattle.wit_model.specs.Lookup.{interface_at}
 use Rattle.wit_model.specs.Rules.{is_id}
 use Rattle.wit_model.specs.Uses.{item_interface}
-use Rattle.wit_model.proofs.Elements.{equal, same-number}
 use Rattle.bind_carry.specs.First.{flag_under}
 use Rattle.bind_carry.specs.Listed.{given_interface}
 use Rattle.bind_carry.specs.Marked.{is_inline_at, is_shown_in, is_shown_of, mark_item, mark_items, mark_worlds, AreChosen}
 use Rattle.bind_carry.specs.Shown.{AreShownBelow, IsShownBelow}
 use Rattle.bind_carry.specs.Which.{new_interfaces}
+use Rattle.base_lemmas.proofs.Bools.{or_false, or_true}
+use Rattle.base_lemmas.proofs.Numbers.{differ, equal}
+use Rattle.base_lemmas.proofs.Options.{none_not_some as none_is}
 
 -- ---- tests
-
-or_true : (a : Bool) → (a || true) ≡ true
-or_true true = refl
-or_true false = refl
-
-or_false : (a : Bool) → (a || false) ≡ a
-or_false true = refl
-or_false false = refl
 
 pub no_more : (a b : Bool) → a ≡ (a || (b && false))
 no_more true b = refl
@@ -57,9 +51,6 @@ flag_there (b ∷ bs) (suc k) (suc n) h = flag_there bs k n (λ e. h (ap suc e))
 
 no_false : {A : Type 0} → true ≡ false → A
 no_false e = let wrong : ⊥ = cc in absurd wrong
-
-differ : (k n : ℕ) → (k == n) ≡ false → k ≡ n → ⊥
-differ k n f e = no_false (sym (same-number k) ∙ (ap (λ (m : ℕ). k == m) e ∙ f))
 
 set_long : (marks : List Bool) (k : ℕ) → length (slice_set marks k true) ≡ length marks
 set_long [] k = refl
@@ -137,10 +128,6 @@ module _ (r : Resolve) where
       ∙ joins (flag_under marks n) inline (imports || exports) (is_shown_of bs ws n))
 
 -- ---- which interfaces are copied
-
-none_is : {X : Type 0} (o : Option X) → is_none o ≡ not (is_some o)
-none_is None = refl
-none_is (Some x) = refl
 
 new_at : (ms : List (Option InterfaceId)) (is : List Interface) → length ms ≡ length is → (n : ℕ) (i : Interface) → slice_get is n ≡ Some i
     → flag_under (new_interfaces ms is) n ≡ (not (is_some (given_interface (slice_get ms n))) && not (is_none i.name))

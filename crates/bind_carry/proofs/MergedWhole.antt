@@ -12,8 +12,6 @@ use Rattle.wit_model.specs.declared.model.World.{World}
 use Rattle.wit_model.specs.declared.model.WorldId.{WorldId}
 use Rattle.wit_model.specs.Lookup.{interface_at}
 use Rattle.wit_model.specs.Rules.{package_number}
-use Rattle.wit_model.proofs.Elements.{equal}
-use Rattle.wit_model.proofs.Lists.{second_true}
 use Rattle.bind_copy.specs.Copies.{number_under}
 use Rattle.bind_match.specs.Matching.{is_root_world}
 use Rattle.bind_union.specs.Carried.{IsInterface, IsSameName}
@@ -29,7 +27,7 @@ use Rattle.bind_carry.specs.Whole.{IsInterfaceCarried}
 use Rattle.bind_carry.proofs.CopiesPlaced.{some_same}
 use Rattle.bind_carry.proofs.FirstCopies.{copied_behind, first_is_copied}
 use Rattle.bind_carry.proofs.FirstInterfaces.{home_number}
-use Rattle.bind_carry.proofs.FirstPackages.{front_at, grown_name}
+use Rattle.bind_carry.proofs.FirstPackages.{grown_name}
 use Rattle.bind_carry.proofs.FirstWorldsCopied.{first_worlds_are_copied}
 use Rattle.bind_carry.proofs.KeptPlaced.{kept_placed}
 use Rattle.bind_carry.proofs.NothingElse.{interface_from, type_from, world_from}
@@ -38,6 +36,9 @@ use Rattle.bind_carry.proofs.SecondBound.{bound_stands}
 use Rattle.bind_carry.proofs.SecondCarried.{second_is_copied}
 use Rattle.bind_carry.proofs.SecondInterfaces.{carried_number, copied_carries, copied_there, inline_at, inline_place, path_low}
 use Rattle.bind_carry.proofs.SecondKnown.{copied_long, long}
+use Rattle.base_lemmas.proofs.Bools.{right_of as second_true}
+use Rattle.base_lemmas.proofs.Lists.{front_at}
+use Rattle.base_lemmas.proofs.Numbers.{equal}
 
 -- a world that is copied isn't left out
 not_root : (r : Resolve) (ms : List (Option WorldId)) (ws : List World) (n : ℕ) → flag_under (new_worlds r ms ws) n ≡ true → option_map_or (is_root_world r) (slice_get ws n) false ≡ false

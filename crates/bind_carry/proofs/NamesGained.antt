@@ -19,8 +19,6 @@ use Rattle.wit_model.specs.Rules.{interface_belongs, is_id, names_itself, passes
 use Rattle.wit_model.specs.Text.{Text, text_eq, text_of}
 use Rattle.wit_model.specs.Valid.{IsValid, names_in_packages, places}
 use Rattle.wit_model.proofs.Distinct.{text_eq_flip}
-use Rattle.wit_model.proofs.Elements.{all-contained, both, contains-later, equal}
-use Rattle.wit_model.proofs.Lists.{first_true, second_true}
 use Rattle.wit_model.proofs.OnePath.{found-in, package-passes}
 use Rattle.wit_model.proofs.VersionLaws.{text_same}
 use Rattle.bind_copy.specs.Copies.{number_under}
@@ -38,8 +36,15 @@ use Rattle.bind_carry.specs.Which.{new_worlds, IsNumbered}
 use Rattle.bind_carry.specs.declared.plan.Carried.{Carried}
 use Rattle.bind_carry.proofs.CopiesPlaced.{some_same}
 use Rattle.bind_carry.proofs.FirstMatched.{uncopied_under}
-use Rattle.bind_carry.proofs.FirstPackages.{found_number, mapped_at, unflagged_found, within_list}
+use Rattle.bind_carry.proofs.FirstPackages.{found_number, unflagged_found}
 use Rattle.bind_carry.proofs.Ranges.{is_in_range}
+use Rattle.base_lemmas.proofs.Bools.{left_of as first_true, right_of as second_true}
+use Rattle.base_lemmas.proofs.Elements.{all-contained, contains-later}
+use Rattle.base_lemmas.proofs.Lists.{mapped_get as mapped_at}
+use Rattle.base_lemmas.proofs.Numbers.{equal}
+use Rattle.base_lemmas.proofs.Options.{none_not_some}
+use Rattle.std.proofs.lemmas.Bool.{and_from as both}
+use Rattle.std.proofs.lemmas.Option.{slice_get_within as within_list}
 
 -- ---- lists
 
@@ -146,7 +151,7 @@ pub record IsWorldOf (r : Resolve) (n : ℕ) (e : String Global × WorldId) : Ty
   pub in_package : def.«package» ≡ Some home
   pub here : home.0 ≡ n
 
-home_is : (n : ℕ) (o : Option PackageId) → is_id n (package_number o) ≡ true → (home : PackageId) × (o ≡ Some home) × (home.0 ≡ n)
+pub home_is : (n : ℕ) (o : Option PackageId) → is_id n (package_number o) ≡ true → (home : PackageId) × (o ≡ Some home) × (home.0 ≡ n)
 home_is n None h = no_true h
 home_is n (Some id) h = (id, refl, equal id.0 n h)
 
@@ -236,10 +241,6 @@ new_world_flag r [] ws n o w a b = let wrong : ⊥ = cc in absurd wrong
 new_world_flag r (m ∷ ms) [] n o w a b = let wrong : ⊥ = cc in absurd wrong
 new_world_flag r (m ∷ ms) (x ∷ xs) zero o w a b = let p = some_same m o a in let q = some_same x w b in λ i. is_none (p i) && not (is_root_world r (q i))
 new_world_flag r (m ∷ ms) (x ∷ xs) (suc n) o w a b = new_world_flag r ms xs n o w a b
-
-pub none_not_some : {X : Type 0} (o : Option X) → is_none o ≡ not (is_some o)
-none_not_some None = refl
-none_not_some (Some x) = refl
 
 module _ (own other : Resolve) (valid_other : IsValid other) (m : Matches) (c : Carried) (by_name : AreMatchedByName own other m) (numbered : IsNumbered own other m c) (chosen : AreChosen other m.interfaces.items c.copied_worlds.items c.copied_interfaces.items) where
   long : length c.new_packages.items ≡ length (map number_of_package m.packages.items)

@@ -14,13 +14,14 @@ use Rattle.wit_model.specs.Rules.{is_id, package_number, text_is}
 use Rattle.wit_model.specs.Text.{Text, optional_text, text_eq, text_of}
 use Rattle.wit_model.specs.Valid.{IsValid}
 use Rattle.wit_model.proofs.AnyOrder.{text-same}
-use Rattle.wit_model.proofs.Elements.{all-contained, equal}
-use Rattle.wit_model.proofs.Lists.{first_true, second_true}
 use Rattle.bind_union.specs.Merged.{interface_names, world_names}
 use Rattle.bind_union.proofs.Carrying.{path_by, path_parts}
 use Rattle.bind_union.proofs.KeptPackages.{found_option, interfaces_stand, is_interface_of, is_world_of, worlds_stand}
 use Rattle.bind_union.proofs.Lists.{no_true}
 use Rattle.bind_union.proofs.UnitedWorlds.{world_path}
+use Rattle.base_lemmas.proofs.Bools.{left_of as first_true, right_of as second_true}
+use Rattle.base_lemmas.proofs.Elements.{all-contained}
+use Rattle.base_lemmas.proofs.Numbers.{equal}
 
 text_given : (o : Option (String Global)) (t : Text) → text_is o t ≡ true → (s : String Global) × (o ≡ Some s) × (text_of s ≡ t)
 text_given None t h = no_true h

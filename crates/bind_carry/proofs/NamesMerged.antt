@@ -20,9 +20,9 @@ use Rattle.wit_model.specs.Lookup.{identity_of, package_at}
 use Rattle.wit_model.specs.Rules.{same_package_name}
 use Rattle.wit_model.specs.Text.{Text, text_cmp, text_eq, text_of}
 use Rattle.wit_model.specs.Valid.{IsValid}
-use Rattle.wit_model.proofs.Elements.{contains-get, contains-later}
+use Rattle.wit_model.proofs.Elements.{contains-get}
 use Rattle.wit_model.proofs.OnePath.{package-name, package-once, IsPackageName}
-use Rattle.wit_model.proofs.VersionLaws.{same_text, text_same}
+use Rattle.wit_model.proofs.VersionLaws.{same_text}
 use Rattle.bind_add.specs.Growth.{GainsNone, HasGained, HaveGained}
 use Rattle.bind_add.specs.declared.added.Names.{Names}
 use Rattle.bind_copy.specs.Copies.{number_under}
@@ -30,7 +30,7 @@ use Rattle.bind_match.specs.Matching.{given, interface_in, is_root_name, is_root
 use Rattle.bind_match.specs.declared.matches.Matches.{Matches}
 use Rattle.bind_meaning.specs.Binding.{package_text}
 use Rattle.bind_union.proofs.Carrying.{same_identity}
-use Rattle.bind_union.proofs.Lists.{any_of_map, no_true}
+use Rattle.bind_union.proofs.Lists.{no_true}
 use Rattle.bind_carry.specs.AddedApart.{AreMatchedByName}
 use Rattle.bind_carry.specs.AddedNames.{NamesAreMerged}
 use Rattle.bind_carry.specs.First.{flag_under}
@@ -43,11 +43,15 @@ use Rattle.bind_carry.specs.Whole.{kept}
 use Rattle.bind_carry.specs.declared.plan.Carried.{Carried}
 use Rattle.bind_carry.proofs.CopiesPlaced.{some_same}
 use Rattle.bind_carry.proofs.FirstCarried.{chosen_so}
-use Rattle.bind_carry.proofs.FirstPackages.{found_own, mapped_at, some_gains, IsFound}
+use Rattle.bind_carry.proofs.FirstPackages.{found_own, some_gains, IsFound}
 use Rattle.bind_carry.proofs.NamesGained.{copied_interface, copied_world, grown_of, home_of, interface_of, new_world_flag, world_of, IsGrownOf, IsHome, IsInterfaceOf, IsWorldOf, KeepsNames}
 use Rattle.bind_carry.proofs.PackageTexts.{name_tie, root_text, same_of_texts, text_of_package, texts_of_same}
 use Rattle.bind_carry.proofs.Ranges.{is_in_range}
-use Rattle.bind_carry.proofs.UnionApart.{interfaces_behind, matched_all, worlds_behind, zip_at}
+use Rattle.bind_carry.proofs.UnionApart.{interfaces_behind, matched_all, worlds_behind}
+use Rattle.base_lemmas.proofs.Bools.{and_flip}
+use Rattle.base_lemmas.proofs.Elements.{any_of_map, contains-later, zip_at as zip_there, zip_at_right as zip_at}
+use Rattle.base_lemmas.proofs.Lists.{map_of_map as map_twice, mapped_get as mapped_at}
+use Rattle.bind_meaning.proofs.Maps.{by_tie as tie_is}
 
 -- what a package's names become, by what is found for it
 abbrev joined : PackageNames → Option PackageNames → PackageNames
@@ -59,10 +63,6 @@ grown_is others p None e = rw e refl
 grown_is others p (Some q) e = rw e refl
 
 -- ---- lists
-
-map_twice : {A B C : Type 0} (f : B → C) (g : A → B) (xs : List A) → map f (map g xs) ≡ map (λ x. f (g x)) xs
-map_twice f g [] = refl
-map_twice f g (x ∷ xs) = ap (λ l. f (g x) ∷ l) (map_twice f g xs)
 
 pointwise : {X Y Z : Type 0} (f : X → Z) (g : Y → Z) (xs : List X) (ys : List Y) → length xs ≡ length ys → ((n : ℕ) (x : X) (y : Y) → slice_get xs n ≡ Some x → slice_get ys n ≡ Some y → f x ≡ g y) → map f xs ≡ map g ys
 pointwise f g [] [] long each = refl
@@ -77,18 +77,6 @@ kept_filter p (x ∷ xs) = go (p x) (kept_filter p xs)
     go : (b : Bool) → kept (map p xs) xs ≡ filter p xs → kept (b ∷ map p xs) (x ∷ xs) ≡ cond b (x ∷ filter p xs) (filter p xs)
     go true rest = ap (λ l. x ∷ l) rest
     go false rest = rest
-
-zip_there : {A B : Type 0} (R : A → B → Type 0) (xs : List A) (ys : List B) → AllZip R xs ys → (i : ℕ) (x : A) → slice_get xs i ≡ Some x → (y : B) × (slice_get ys i ≡ Some y) × R x y
-zip_there R [] ys h i x at = let wrong : ⊥ = cc in absurd wrong
-zip_there R (z ∷ zs) [] h i x at = absurd h
-zip_there R (z ∷ zs) (y ∷ ys) h zero x at = (y, refl, subst (λ q. R q y) (some_same z x at) h.0)
-zip_there R (z ∷ zs) (y ∷ ys) h (suc i) x at = zip_there R zs ys h.1 i x at
-
-and_flip : (a b : Bool) → (a && b) ≡ (b && a)
-and_flip true true = refl
-and_flip true false = refl
-and_flip false true = refl
-and_flip false false = refl
 
 -- ---- names of entries
 
@@ -137,9 +125,6 @@ all_passed p [] each = refl
 all_passed p (e ∷ es) each = ap (λ b. entry_names (cond b (e ∷ filter p es) (filter p es))) (each e (0, omega arith, refl)) ∙ ap (λ l. text_of e.0 ∷ l) (all_passed p es (λ x held. each x (contains-later e es x held)))
 
 -- ---- what is found by a text
-
-tie_is : (s t : Text) → eq_by_cmp text_cmp s t ≡ true → s ≡ t
-tie_is s t e = text_same s t (texts_ties s t ∙ e)
 
 ties : (s t : Text) → s ≡ t → eq_by_cmp text_cmp s t ≡ true
 ties s t e = sym (texts_ties s t) ∙ same_text s t e

@@ -14,8 +14,6 @@ use Rattle.wit_model.specs.declared.model.WorldId.{WorldId}
 use Rattle.wit_model.specs.Lookup.{package_at}
 use Rattle.wit_model.specs.Text.{Text, text_of}
 use Rattle.wit_model.specs.Valid.{IsValid}
-use Rattle.wit_model.proofs.Elements.{contains-map, get-contains}
-use Rattle.wit_model.proofs.Lists.{first_true, second_true}
 use Rattle.bind_copy.specs.Copies.{number_under}
 use Rattle.bind_match.specs.Matching.{interface_in, is_root_world, own_interface_of, own_world_of, world_in}
 use Rattle.bind_match.specs.declared.matches.Matches.{Matches}
@@ -35,11 +33,14 @@ use Rattle.bind_carry.specs.declared.plan.Carried.{Carried}
 use Rattle.bind_carry.proofs.CopiesPlaced.{nothing_there, some_same}
 use Rattle.bind_carry.proofs.FirstCarried.{chosen_so}
 use Rattle.bind_carry.proofs.FirstMatched.{matched_under, uncopied_under}
-use Rattle.bind_carry.proofs.FirstPackages.{mapped_at}
 use Rattle.bind_carry.proofs.JoinedNamed.{names_join, AreNamesReady}
 use Rattle.bind_carry.proofs.NamesBehind.{none_named}
 use Rattle.bind_carry.proofs.NamesListed.{listed_interface, listed_world}
 use Rattle.bind_carry.proofs.Ranges.{is_in_range}
+use Rattle.base_lemmas.proofs.Bools.{left_of as first_true, right_of as second_true}
+use Rattle.base_lemmas.proofs.Elements.{contains-map, get-contains}
+use Rattle.base_lemmas.proofs.Lists.{mapped_get as mapped_at}
+use Rattle.std.proofs.lemmas.Bool.{not-false as root_left, not-true as not_set}
 
 -- ---- worlds by their flags
 
@@ -55,14 +56,6 @@ world_under : (ms : List (Option WorldId)) (n : ℕ) (id : WorldId) → slice_ge
 world_under [] n id h = nothing_there (Some id) h
 world_under (m ∷ ms) zero id h = ap world_number (some_same m (Some id) h)
 world_under (m ∷ ms) (suc n) id h = world_under ms n id h
-
-not_set : (b : Bool) → not b ≡ true → b ≡ false
-not_set true h = no_true h
-not_set false h = refl
-
-root_left : (b : Bool) → not b ≡ false → b ≡ true
-root_left true h = refl
-root_left false h = no_true (sym h)
 
 module _ (own other merged : Resolve) (valid_other : IsValid other) (m : Matches) (c : Carried) (numbers : List ℕ) (pass : IsFirstPass own other merged m c numbers) (interfaces_by : m.interfaces.items ≡ map (own_interface_of own m.packages.items) other.interfaces.items)
     (worlds_by : m.worlds.items ≡ map (own_world_of own m.packages.items) other.worlds.items) (n : ℕ) (p : Package) (at : package_at other n ≡ Some p) where

@@ -1,6 +1,5 @@
 -- Nothing else is added: each type, interface and world behind own ones is a copy of one of the passes.
-use Rattle.std.proofs.Common.{◌≡◌, ◌⊎◌, inl, inr, refl, sym, ap, ◌∙◌, ℕ, zero, suc, ◌+◌, ◌<◌, ◌≤◌, arith, Bool, true, false, nat_lt, ltb-true, ltb-false, List, [], ◌∷◌, length, map}
-use Rattle.std.specs.List.{AllZip}
+use Rattle.std.proofs.Common.{◌≡◌, ◌⊎◌, inl, inr, refl, sym, ap, ◌∙◌, ℕ, zero, suc, ◌+◌, ◌<◌, ◌≤◌, arith, Bool, true, false, List, [], ◌∷◌, length, map}
 use Rattle.std.proofs.lemmas.List.{length-append, length-map}
 use Rattle.wit_model.specs.declared.model.Resolve.{Resolve}
 use Rattle.wit_model.specs.declared.model.TypeDef.{TypeDef}
@@ -22,18 +21,9 @@ use Rattle.bind_carry.proofs.CopiesPlaced.{copied_from}
 use Rattle.bind_carry.proofs.SecondAgreed.{before_fates, fates, first, second}
 use Rattle.bind_carry.proofs.SecondInterfaces.{carried_number, copied_carries}
 use Rattle.bind_carry.proofs.SecondKnown.{copied_long, long}
-
-pub zip_long : {A B : Type 0} (R : A → B → Type 0) (xs : List A) (ys : List B) → AllZip R xs ys → length ys ≡ length xs
-zip_long R [] [] h = refl
-zip_long R [] (y ∷ ys) h = absurd h
-zip_long R (x ∷ xs) [] h = absurd h
-zip_long R (x ∷ xs) (y ∷ ys) h = ap suc (zip_long R xs ys h.1)
-
-equal_or_past : (a b : ℕ) → a ≤ b → (a ≡ b) ⊎ (a + 1 ≤ b)
-equal_or_past zero zero l = inl refl
-equal_or_past zero (suc b) l = inr (omega arith)
-equal_or_past (suc a) zero l = absurd (omega (arith, l))
-equal_or_past (suc a) (suc b) l = elim (equal_or_past a b (omega (arith, l))) [ inl e ↦ inl (ap suc e) | inr r ↦ inr (omega (arith, r)) ]
+use Rattle.base_lemmas.proofs.Numbers.{equal_or_past}
+use Rattle.std.proofs.lemmas.Bool.{cases_lt as in_two}
+use Rattle.std.proofs.lemmas.Slice.Zip.{AllZip-long as zip_long}
 
 -- each number from the first on, as far as those go whose flags are set, is one's
 pub kept_from : {X : Type 0} (start : ℕ) (flags : List Bool) (others : List ℕ) (xs : List X) (n : ℕ) → length flags ≡ length others → start ≤ n → n < start + length (kept flags xs)
@@ -48,13 +38,6 @@ kept_from start (true ∷ bs) (o ∷ os) (x ∷ xs) n long low high = go (equal_
         → (m : ℕ) × (flag_under (true ∷ bs) m ≡ true) × (number_under (numbers_of start (true ∷ bs) (o ∷ os)) m ≡ n)
     go (inl e) rest = (zero, refl, e)
     go (inr l) rest = let r = rest l in (suc r.0, r.1, r.2)
-
-pub in_two : (n k : ℕ) → (n < k) ⊎ (k ≤ n)
-in_two n k = go (nat_lt n k) refl
-  where
-    go : (b : Bool) → nat_lt n k ≡ b → (n < k) ⊎ (k ≤ n)
-    go true e = inl (ltb-true n k e)
-    go false e = inr (ltb-false n k e)
 
 module _ (own other merged : Resolve) (valid_own : IsValid own) (valid_other : IsValid other) (world other_world : ℕ) (w v : World) (m : Matches) (c : Carried) (first_numbers : List ℕ) (p : IsFirstPass own other merged m c first_numbers) (copied : List Bool) (interfaces types : List ℕ)
     (s : IsSecondPass own other merged world other_world w v m c first_numbers p copied interfaces types) where

@@ -11,14 +11,14 @@ use Rattle.wit_model.specs.Lookup.{identity_of, optional_version_text}
 use Rattle.wit_model.specs.Names.{at_version, is_identity, is_label, is_optional_version, PackageIdentity}
 use Rattle.wit_model.specs.Rules.{same_package_name}
 use Rattle.wit_model.specs.Text.{Text, text_cmp, text_eq, text_of}
-use Rattle.wit_model.proofs.Distinct.{either_way}
-use Rattle.wit_model.proofs.Elements.{both, same-number}
-use Rattle.wit_model.proofs.Lists.{first_true, second_true}
 use Rattle.wit_model.proofs.NameLaws.{label_lacks}
 use Rattle.wit_model.proofs.OnePath.{IsPackageName}
 use Rattle.wit_model.proofs.VersionLaws.{same_name, same_text, text_same}
 use Rattle.bind_meaning.specs.Binding.{package_text}
 use Rattle.bind_match.specs.Matching.{is_root_name}
+use Rattle.base_lemmas.proofs.Bools.{both_ways as either_way, left_of as first_true, right_of as second_true}
+use Rattle.base_lemmas.proofs.Numbers.{same-number}
+use Rattle.std.proofs.lemmas.Bool.{and_from as both}
 
 -- ---- texts up to a byte that they lack
 

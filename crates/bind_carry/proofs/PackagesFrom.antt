@@ -1,5 +1,5 @@
 -- Each package that is merged is an own one to which nothing comes, or one of the other stands in it.
-use Rattle.std.proofs.Common.{◌≡◌, ◌⊎◌, inl, inr, refl, sym, ap, subst, ◌∙◌, ℕ, zero, suc, ◌+◌, ◌<◌, arith, Bool, true, false, List, [], ◌∷◌, length, map, is_none, Some, slice_get}
+use Rattle.std.proofs.Common.{◌≡◌, ◌⊎◌, inl, inr, refl, sym, ap, ◌∙◌, ℕ, zero, suc, ◌+◌, ◌<◌, arith, Bool, true, false, List, [], ◌∷◌, length, map, is_none, Some, slice_get}
 use Rattle.std.specs.List.{AllZip}
 use Rattle.std.proofs.lemmas.List.{length-append, length-map}
 use Rattle.wit_model.specs.declared.model.Package.{Package}
@@ -18,9 +18,13 @@ use Rattle.bind_carry.specs.Renumbered.{first_of}
 use Rattle.bind_carry.specs.Whole.{kept}
 use Rattle.bind_carry.specs.declared.plan.Carried.{Carried}
 use Rattle.bind_carry.proofs.CopiesPlaced.{some_same}
-use Rattle.bind_carry.proofs.FirstCarried.{flag_within, within_there}
-use Rattle.bind_carry.proofs.FirstPackages.{front_at, some_gains}
-use Rattle.bind_carry.proofs.NothingElse.{in_two, kept_from, zip_long}
+use Rattle.bind_carry.proofs.FirstCarried.{flag_within}
+use Rattle.bind_carry.proofs.FirstPackages.{some_gains}
+use Rattle.bind_carry.proofs.NothingElse.{kept_from}
+use Rattle.base_lemmas.proofs.Elements.{zip_at_right as zip_at}
+use Rattle.base_lemmas.proofs.Lists.{front_at, within_there}
+use Rattle.std.proofs.lemmas.Bool.{cases_lt as in_two}
+use Rattle.std.proofs.lemmas.Slice.Zip.{AllZip-long as zip_long}
 
 -- what a gain is of is a package of the other, under its number
 grown_member : (flags : List Bool) (ns : List ℕ) (ps : List Package) (i : ℕ) (e : ℕ × Package) → slice_get (grown_packages flags ns ps) i ≡ Some e → (k : ℕ) × (slice_get ps k ≡ Some e.1) × (number_under ns k ≡ e.0)
@@ -30,13 +34,6 @@ grown_member (b ∷ bs) (n ∷ ns) [] i e at = let wrong : ⊥ = cc in absurd wr
 grown_member (true ∷ bs) (n ∷ ns) (p ∷ ps) i e at = let r = grown_member bs ns ps i e at in (suc r.0, r.1, r.2)
 grown_member (false ∷ bs) (n ∷ ns) (p ∷ ps) zero e at = let same : (n, p) ≡ e = some_same (n, p) e at in (zero, ap (λ (x : ℕ × Package). Some x.1) same, ap (λ (x : ℕ × Package). x.0) same)
 grown_member (false ∷ bs) (n ∷ ns) (p ∷ ps) (suc i) e at = let r = grown_member bs ns ps i e at in (suc r.0, r.1, r.2)
-
-zip_at : {A B : Type 0} (R : A → B → Type 0) (xs : List A) (ys : List B) → AllZip R xs ys → (i : ℕ) (y : B) → slice_get ys i ≡ Some y → (x : A) × (slice_get xs i ≡ Some x) × R x y
-zip_at R [] [] h i y at = let wrong : ⊥ = cc in absurd wrong
-zip_at R [] (z ∷ zs) h i y at = absurd h
-zip_at R (x ∷ xs) [] h i y at = absurd h
-zip_at R (x ∷ xs) (z ∷ zs) h zero y at = (x, refl, subst (λ q. R x q) (some_same z y at) h.0)
-zip_at R (x ∷ xs) (z ∷ zs) h (suc i) y at = zip_at R xs zs h.1 i y at
 
 -- Gains are those of the other's packages that have an own one of their name.
 pub package_from : (own other merged : Resolve) (m : Matches) (c : Carried) (numbers : List ℕ) (p : IsFirstPass own other merged m c numbers) → AllZip (IsGained c) (grown_packages c.new_packages.items c.packages.items other.packages.items) p.gains

@@ -43,11 +43,12 @@ use Rattle.bind_carry.specs.declared.plan.Carried.{Carried}
 use Rattle.bind_carry.proofs.CopiesPlaced.{nothing_there, some_same}
 use Rattle.bind_carry.proofs.FirstCopies.{copied_behind}
 use Rattle.bind_carry.proofs.FirstMatched.{uncopied_under}
-use Rattle.bind_carry.proofs.FirstPackages.{found_number, found_own, front_at, mapped_at, new_package, IsFound}
+use Rattle.bind_carry.proofs.FirstPackages.{found_number, found_own, new_package, IsFound}
 use Rattle.bind_carry.proofs.KeptPlaced.{IsKeptAt}
 use Rattle.bind_carry.proofs.NamesBehind.{name_entry, names_behind}
 use Rattle.bind_carry.proofs.NamesListed.{listed_interface, listed_world}
 use Rattle.bind_carry.proofs.NamesReady.{interfaces_join, interfaces_ready, worlds_join, worlds_ready}
+use Rattle.base_lemmas.proofs.Lists.{front_at, mapped_get as mapped_at}
 
 -- ---- packages by name
 

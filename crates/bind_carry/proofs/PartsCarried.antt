@@ -4,7 +4,7 @@ use Rattle.std.specs.Prelude.{String}
 use Rattle.std.specs.declared.alloc.Global.{Global}
 use Rattle.std.specs.List.{list_all}
 use Rattle.std.specs.Option.{option_map_or}
-use Rattle.std.proofs.lemmas.Bool.{lt-ltb}
+use Rattle.std.proofs.lemmas.Bool.{lt-ltb, and_from as both}
 use Rattle.std.proofs.lemmas.List.Folds.{list_all-append, list_all-map}
 use Rattle.std.proofs.lemmas.Option.{slice_get_within}
 use Rattle.indexmap.specs.IndexMap.{values}
@@ -26,20 +26,20 @@ use Rattle.wit_model.specs.Text.{text_eq, text_of}
 use Rattle.wit_model.specs.Uses.{alias_target, direct_deps, owner_interface}
 use Rattle.wit_model.specs.Rules.{entries_in_range, function_in_range, function_stays, in_list, is_listed, is_member, is_named_kind, is_named_number, is_name_key, is_use, item_in_range, key_in_range, owner_in_range, package_number, passes}
 use Rattle.wit_model.specs.Checks.{references}
-use Rattle.wit_model.specs.Valid.{IsValid, Keeps, Rule, as_interface, as_world, function_names, functions_of_interface, functions_of_world, is_place, item_function, named_kinds, numbers_in_range, order_of_types, owners}
+use Rattle.wit_model.specs.Valid.{IsValid, Keeps, as_interface, as_world, function_names, functions_of_interface, functions_of_world, is_place, item_function, named_kinds, numbers_in_range, order_of_types, owners}
 use Rattle.wit_model.proofs.Checks.{below_at}
 use Rattle.wit_model.proofs.Functions.{all_flat}
-use Rattle.wit_model.proofs.Lists.{first_true, second_true}
 use Rattle.wit_model.proofs.Owners.{function_home, named_met, owned_stays, unnamed_met}
-use Rattle.wit_model.proofs.Elements.{both}
-use Rattle.wit_model.proofs.Entries.{lists_pass}
 use Rattle.wit_model.proofs.OnePath.{found-in, interface-passes}
 use Rattle.bind_union.proofs.Carrying.{references_of}
 use Rattle.bind_union.proofs.Homes.{owner_equal}
-use Rattle.bind_union.proofs.Lists.{all_two, each_at, no_true}
+use Rattle.bind_union.proofs.Lists.{no_true}
 use Rattle.bind_union.proofs.TypeRules.{type_passes}
 use Rattle.bind_union.proofs.WorldRules.{by_entries}
 use Rattle.bind_carry.specs.CarriedParts.{AreCarriedByOwner, PartsAreCarried, is_function_carried}
+use Rattle.base_lemmas.proofs.Bools.{left_of as first_true, right_of as second_true}
+use Rattle.base_lemmas.proofs.Elements.{all_three, all_two, all_weaker}
+use Rattle.bind_meaning.proofs.WorldPaths.{world-passes as world_passes}
 
 -- ---- lists
 
@@ -51,20 +51,7 @@ all_below_pass p q n (m ∷ ns) make low h =
     (make m (ltb-true m n (first_true (nat_lt m n) (list_all (λ k. nat_lt k n) ns) low)) (first_true (p m) (list_all p ns) h))
     (all_below_pass p q n ns make (second_true (nat_lt m n) (list_all (λ k. nat_lt k n) ns) low) (second_true (p m) (list_all p ns) h))
 
-all_three : {A : Type 0} (p q s t : A → Bool) → ((x : A) → p x ≡ true → q x ≡ true → s x ≡ true → t x ≡ true) → (xs : List A) → list_all p xs ≡ true → list_all q xs ≡ true → list_all s xs ≡ true → list_all t xs ≡ true
-all_three p q s t make [] f g h = refl
-all_three p q s t make (x ∷ xs) f g h =
-    both (t x) (list_all t xs)
-    (make x (first_true (p x) (list_all p xs) f) (first_true (q x) (list_all q xs) g) (first_true (s x) (list_all s xs) h))
-    (all_three p q s t make xs (second_true (p x) (list_all p xs) f) (second_true (q x) (list_all q xs) g) (second_true (s x) (list_all s xs) h))
-
 -- what passes one test passes another
-all_weaker : {A : Type 0} (p q : A → Bool) → ((x : A) → p x ≡ true → q x ≡ true) → (xs : List A) → list_all p xs ≡ true → list_all q xs ≡ true
-all_weaker p q make [] h = refl
-all_weaker p q make (x ∷ xs) h = both (q x) (list_all q xs) (make x (first_true (p x) (list_all p xs) h)) (all_weaker p q make xs (second_true (p x) (list_all p xs) h))
-
-world_passes : (rule : Rule) (r : Resolve) → Keeps rule r → (n : ℕ) (w : World) → world_at r n ≡ Some w → rule.world_ r n w ≡ true
-world_passes rule r h n w is = each_at (rule.world_ r) r.worlds.items n w (lists_pass rule r h).2 is
 
 -- ---- aliases
 

@@ -1,5 +1,5 @@
 -- Types that a pass copies: each stands under its new number, and all its parts are carried. Both passes are so.
-use Rattle.std.proofs.Common.{◌≡◌, inl, refl, sym, ap, ◌∙◌, ℕ, zero, suc, ◌<◌, arith, Bool, true, false, ◌&&◌, nat_lt, List, [], ◌∷◌, ◌++◌, length, Option, Some, None, is_none, is_some, slice_get}
+use Rattle.std.proofs.Common.{◌≡◌, inl, refl, sym, ap, ◌∙◌, ℕ, zero, suc, ◌<◌, arith, Bool, true, false, ◌&&◌, nat_lt, List, [], ◌∷◌, ◌++◌, length, Some, is_some, slice_get}
 use Rattle.std.specs.List.{list_all}
 use Rattle.std.specs.Option.{option_map_or}
 use Rattle.wit_model.specs.declared.model.Resolve.{Resolve}
@@ -24,14 +24,7 @@ use Rattle.bind_carry.proofs.CopiesPlaced.{copy_placed, IsPlaced}
 use Rattle.bind_carry.proofs.FirstTypes.{copied_carried}
 use Rattle.bind_carry.proofs.PartsCarried.{no_home, parts_are_carried}
 use Rattle.bind_carry.proofs.SettledParts.{copied_still, settled_all, stands_still, unnamed_carried, unnamed_parts}
-
-none_some : {X : Type 0} (o : Option X) → is_some o ≡ false → is_none o ≡ true
-none_some None h = refl
-none_some (Some x) h = let wrong : ⊥ = cc in absurd wrong
-
-some_none : {X : Type 0} (o : Option X) → is_some o ≡ true → is_none o ≡ false
-some_none None h = no_true h
-some_none (Some x) h = refl
+use Rattle.base_lemmas.proofs.Options.{nameless as some_none, none_some}
 
 pub fate_there : (fs : List Fate) (n : ℕ) → n < length fs → (g : Fate) × (slice_get fs n ≡ Some g)
 fate_there [] n l = absurd (omega (arith, l))

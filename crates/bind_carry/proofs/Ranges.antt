@@ -1,5 +1,5 @@
 -- A valid `Resolve` is in range.
-use Rattle.std.proofs.Common.{◌≡◌, refl, sym, ap, ◌∙◌, ℕ, zero, suc, ◌<◌, ◌≤◌, arith, Bool, true, false, ◌&&◌, nat_lt, ltb-true, List, [], ◌∷◌, ◌++◌, length, map, filter_map, Option, Some, None, option_to_list, slice_get}
+use Rattle.std.proofs.Common.{◌≡◌, refl, sym, ap, ◌∙◌, ℕ, ◌≤◌, Bool, true, false, ◌&&◌, nat_lt, ltb-true, List, [], ◌∷◌, ◌++◌, length, map, filter_map, Option, Some, None, option_to_list, slice_get}
 use Rattle.std.specs.Prelude.{String}
 use Rattle.std.specs.declared.alloc.Global.{Global}
 use Rattle.std.specs.List.{list_all}
@@ -29,7 +29,6 @@ use Rattle.wit_model.specs.Rules.{entries_in_range, function_in_range, in_list, 
 use Rattle.wit_model.specs.Types.{number_of}
 use Rattle.wit_model.specs.Valid.{is_place, numbers_in_range, IsValid, Keeps}
 use Rattle.wit_model.proofs.Entries.{lists_pass}
-use Rattle.wit_model.proofs.Lists.{first_true, second_true}
 use Rattle.wit_model.proofs.OnePath.{interface-passes, package-passes}
 use Rattle.bind_copy.specs.Copies.{all_below, are_names_below, are_params_below, call_numbers, key_numbers, AreEntriesBelow, AreFunctionsBelow, IsFunctionBelow, IsItemBelow}
 use Rattle.bind_union.specs.Views.{type_numbers}
@@ -42,6 +41,8 @@ use Rattle.bind_carry.specs.Listed.{are_interfaces_below, are_worlds_below, IsHo
 use Rattle.bind_carry.specs.BoundGains.{are_types_below}
 use Rattle.bind_carry.specs.Shown.{are_keys_below, type_in, AreNewShownBelow, AreShownBelow, IsShownBelow}
 use Rattle.std.specs.Option.{option_map_or}
+use Rattle.base_lemmas.proofs.Bools.{left_of as first_true, right_of as second_true}
+use Rattle.base_lemmas.proofs.Lists.{within_there as there}
 
 -- ---- functions
 
@@ -138,11 +139,6 @@ module _ (r : Resolve) where
   owner_below owner.None h = tt
 
 -- ---- lengths
-
-there : {X : Type 0} (xs : List X) (n : ℕ) → n < length xs → (x : X) × (slice_get xs n ≡ Some x)
-there [] n l = absurd (omega (arith, l))
-there (x ∷ xs) zero l = (x, refl)
-there (x ∷ xs) (suc n) l = there xs n (omega (arith, l))
 
 -- a list whose elements all have a place isn't too long
 few_of : {X : Type 0} (xs : List X) → ((n : ℕ) (x : X) → slice_get xs n ≡ Some x → is_place n ≡ true) → length xs ≤ 4294967295

@@ -18,7 +18,6 @@ use Rattle.wit_model.specs.Rules.{item_type, passes}
 use Rattle.wit_model.specs.Text.{Text, optional_text}
 use Rattle.wit_model.specs.Uses.{alias_target}
 use Rattle.wit_model.specs.Valid.{IsValid, as_interface, as_world, key_eq}
-use Rattle.wit_model.proofs.Elements.{get-contains, same-number}
 use Rattle.bind_copy.specs.Copies.{number_under}
 use Rattle.bind_match.specs.declared.matches.Matches.{Matches}
 use Rattle.bind_union.specs.Carried.{carries_owner, owner_under, IsCarried, IsType, Renumbering}
@@ -28,7 +27,7 @@ use Rattle.bind_union.specs.Merged.{BeginsWith}
 use Rattle.bind_union.proofs.Itself.{get_begin}
 use Rattle.bind_union.proofs.Lists.{no_true}
 use Rattle.bind_union.proofs.Namesakes.{listed_type, target_named, IsTarget}
-use Rattle.bind_union.proofs.WorldNamesakes.{lookup_stands, met_imports_stand, target_home, world_type, IsWorldType}
+use Rattle.bind_union.proofs.WorldNamesakes.{met_imports_stand, target_home, world_type, IsWorldType}
 use Rattle.bind_carry.specs.BoundGains.{gains_any, unified}
 use Rattle.bind_carry.specs.Fates.{copies, is_carried, settled_from}
 use Rattle.bind_carry.specs.First.{beside_first, first_fates, flag_under, is_named_at, second_from, second_in}
@@ -40,7 +39,7 @@ use Rattle.bind_carry.specs.declared.fate.Fate.{Fate}
 use Rattle.bind_carry.specs.declared.fate.Fate.TheVariants as fate
 use Rattle.bind_carry.specs.declared.plan.Carried.{Carried}
 use Rattle.bind_carry.proofs.CopiesPlaced.{some_same}
-use Rattle.bind_carry.proofs.FirstCarried.{first_is_carried, within_there}
+use Rattle.bind_carry.proofs.FirstCarried.{first_is_carried}
 use Rattle.bind_carry.proofs.FirstMatched.{are_matched, named_of_path, there_of_path}
 use Rattle.bind_carry.proofs.PassedTypes.{carried_if, copy_holds}
 use Rattle.bind_carry.proofs.Ready.{bound_long}
@@ -52,6 +51,9 @@ use Rattle.bind_carry.proofs.SecondMet.{types_agree}
 use Rattle.bind_carry.proofs.SecondStands.{falls, known, named_carried_there, path_stands, second_named, second_same, starts, stood_how, StandsByPath}
 use Rattle.bind_carry.proofs.SecondTypes.{unified_at, IsUnified}
 use Rattle.bind_carry.proofs.SettledParts.{copied_still}
+use Rattle.base_lemmas.proofs.Elements.{get-contains, lookup_stands}
+use Rattle.base_lemmas.proofs.Lists.{within_there}
+use Rattle.base_lemmas.proofs.Numbers.{same-number}
 
 named_text : (o : Option (String Global)) (t : Text) → optional_text o ≡ Some t → is_some o ≡ true
 named_text None t h = let wrong : ⊥ = cc in absurd wrong

@@ -7,7 +7,6 @@ use Rattle.wit_model.specs.declared.model.World.{World}
 use Rattle.wit_model.specs.declared.model.WorldItem.{WorldItem}
 use Rattle.wit_model.specs.declared.model.WorldKey.{WorldKey}
 use Rattle.wit_model.specs.Valid.{IsValid}
-use Rattle.wit_model.proofs.Elements.{same-number}
 use Rattle.bind_copy.specs.Copies.{become_one, is_new_under}
 use Rattle.bind_match.specs.declared.matches.Matches.{Matches}
 use Rattle.bind_union.specs.Joined.{IsJoined}
@@ -16,6 +15,7 @@ use Rattle.bind_carry.specs.SecondPass.{second_pass_of, IsSecondPass}
 use Rattle.bind_carry.specs.declared.plan.Carried.{Carried}
 use Rattle.bind_carry.proofs.InsertedBehind.{all_behind, filter_passes}
 use Rattle.bind_carry.proofs.SecondJoined.{exports_apart, exports_join, imports_apart, imports_join}
+use Rattle.base_lemmas.proofs.Numbers.{same-number}
 
 module _ (own other merged : Resolve) (valid_own : IsValid own) (valid_other : IsValid other) (world other_world : ℕ) (w v : World) (m : Matches) (c : Carried) (first_numbers : List ℕ) (p : IsFirstPass own other merged m c first_numbers) (copied : List Bool) (interfaces types : List ℕ)
     (s : IsSecondPass own other merged world other_world w v m c first_numbers p copied interfaces types) where

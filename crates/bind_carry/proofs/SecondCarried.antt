@@ -13,8 +13,6 @@ use Rattle.wit_model.specs.Lookup.{interface_at, type_at, world_at}
 use Rattle.wit_model.specs.Rules.{is_id}
 use Rattle.wit_model.specs.Uses.{has, item_interface, items_of}
 use Rattle.wit_model.specs.Valid.{IsValid}
-use Rattle.wit_model.proofs.Elements.{equal, same-number}
-use Rattle.wit_model.proofs.Lists.{second_true}
 use Rattle.bind_copy.specs.Copies.{is_new_under, number_under}
 use Rattle.bind_match.specs.declared.matches.Matches.{Matches}
 use Rattle.bind_union.specs.Carried.{IsCarried, Renumbering, Rises}
@@ -40,6 +38,8 @@ use Rattle.bind_carry.proofs.SecondInterfaces.{carried_number, copied_carries, i
 use Rattle.bind_carry.proofs.SecondKnown.{chosen, copied_long, exports_shown, imports_shown, long}
 use Rattle.bind_carry.proofs.SecondMarks.{gained_flag, is_gained, is_shown_new}
 use Rattle.bind_carry.proofs.SecondStands.{stood_how}
+use Rattle.base_lemmas.proofs.Bools.{right_of as second_true}
+use Rattle.base_lemmas.proofs.Numbers.{equal, same-number}
 
 -- what is shown under a new key is shown
 shown_in : (r : Resolve) (interfaces : List ℕ) (here es : List (WorldKey × WorldItem)) (n : ℕ) → is_shown_new r interfaces here es n ≡ true → is_shown_in es n ≡ true

@@ -14,7 +14,6 @@ use Rattle.wit_model.specs.declared.model.WorldKey.{WorldKey}
 use Rattle.wit_model.specs.Lookup.{interface_at, type_at}
 use Rattle.wit_model.specs.Parts.{same_owner}
 use Rattle.wit_model.specs.Valid.{IsValid, as_interface}
-use Rattle.wit_model.proofs.Elements.{equal}
 use Rattle.bind_copy.specs.Copies.{number_under}
 use Rattle.bind_union.specs.Carried.{carries_owner, copies_owner, owner_under, Renumbering}
 use Rattle.bind_union.proofs.Lists.{no_true}
@@ -29,6 +28,7 @@ use Rattle.bind_carry.specs.declared.plan.Carried.{Carried}
 use Rattle.bind_carry.proofs.PartsCarried.{has_home, no_home}
 use Rattle.bind_carry.proofs.PassedTypes.{fate_there, type_within}
 use Rattle.bind_carry.proofs.SecondTypes.{second_at, second_long, unified_at, unified_long, IsUnified}
+use Rattle.base_lemmas.proofs.Numbers.{equal}
 
 number_there : (ns : List ℕ) (n : ℕ) → n < length ns → (m : ℕ) × (slice_get ns n ≡ Some m)
 number_there [] n l = absurd (omega (arith, l))

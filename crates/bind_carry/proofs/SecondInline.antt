@@ -21,8 +21,7 @@ use Rattle.wit_model.specs.Rules.{is_id, item_in_range, key_in_range, times_show
 use Rattle.wit_model.specs.Text.{text_of}
 use Rattle.wit_model.specs.Uses.{item_interface}
 use Rattle.wit_model.specs.Valid.{IsValid, key_eq}
-use Rattle.wit_model.proofs.Elements.{contains-get, equal, same-number}
-use Rattle.wit_model.proofs.Lists.{first_true, second_true}
+use Rattle.wit_model.proofs.Elements.{contains-get}
 use Rattle.wit_model.proofs.OnePath.{found-in, named-path}
 use Rattle.bind_copy.specs.Copies.{is_new_under, number_under}
 use Rattle.bind_match.specs.declared.matches.Matches.{Matches}
@@ -37,10 +36,13 @@ use Rattle.bind_carry.specs.declared.plan.Carried.{Carried}
 use Rattle.bind_carry.proofs.CopiesPlaced.{some_same}
 use Rattle.bind_carry.proofs.FirstCopies.{count, count_front, inline_once, shown_count, sum_two}
 use Rattle.bind_carry.proofs.LabelsFound.{label_held}
-use Rattle.bind_carry.proofs.SecondKnown.{any_at, exports_shown, imports_shown}
+use Rattle.bind_carry.proofs.SecondKnown.{exports_shown, imports_shown}
 use Rattle.bind_carry.proofs.SecondMarks.{gained_flag, is_gained, is_shown_new}
 use Rattle.bind_carry.proofs.SecondStands.{second}
 use Rattle.bind_carry.proofs.WorldEntries.{any_place, import_keyed, import_range, label_new}
+use Rattle.base_lemmas.proofs.Bools.{left_of as first_true, right_of as second_true}
+use Rattle.base_lemmas.proofs.Numbers.{equal, same-number}
+use Rattle.std.proofs.lemmas.Map.Keys.{any_passes_from_place as any_at}
 
 -- ---- lists
 

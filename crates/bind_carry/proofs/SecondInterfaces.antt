@@ -3,7 +3,7 @@ use Rattle.std.proofs.Common.{◌≡◌, refl, sym, ap, subst, ◌∙◌, ℕ, �
 use Rattle.std.specs.List.{list_all}
 use Rattle.std.specs.Option.{option_map_or}
 use Rattle.std.specs.String.{string_eq}
-use Rattle.std.proofs.lemmas.Bool.{or_left}
+use Rattle.std.proofs.lemmas.Bool.{or_left, and_from as both}
 use Rattle.std.proofs.lemmas.List.{length-append, length-map}
 use Rattle.std.proofs.lemmas.List.Folds.{list_all-map}
 use Rattle.std.proofs.lemmas.Option.{slice_get_within}
@@ -17,14 +17,11 @@ use Rattle.wit_model.specs.Lookup.{interface_at, type_at}
 use Rattle.wit_model.specs.Rules.{interface_type_numbers}
 use Rattle.wit_model.specs.Uses.{has}
 use Rattle.wit_model.specs.Valid.{IsValid, as_interface}
-use Rattle.wit_model.proofs.Elements.{both, equal, same-number}
-use Rattle.wit_model.proofs.Lists.{first_true, second_true}
 use Rattle.bind_copy.specs.Copies.{number_under, IsInterfaceUnder}
 use Rattle.bind_match.specs.declared.matches.Matches.{Matches}
 use Rattle.bind_union.specs.Carried.{carries_owner, IsInterface, Renumbering, Rises}
 use Rattle.bind_union.proofs.Lists.{no_true}
 use Rattle.bind_union.proofs.MatchedStand.{numbers_rise}
-use Rattle.bind_union.proofs.UsedInterfaces.{passes_at}
 use Rattle.bind_carry.specs.CarriedParts.{is_function_carried}
 use Rattle.bind_carry.specs.Fates.{is_carried}
 use Rattle.bind_carry.specs.First.{flag_under, is_named_at}
@@ -36,7 +33,7 @@ use Rattle.bind_carry.specs.SecondPass.{IsSecondPass}
 use Rattle.bind_carry.specs.Whole.{IsInterfaceCarried}
 use Rattle.bind_carry.specs.declared.fate.Fate.{Fate}
 use Rattle.bind_carry.specs.declared.plan.Carried.{Carried}
-use Rattle.bind_carry.proofs.FirstCarried.{flag_within, has_map, within_there}
+use Rattle.bind_carry.proofs.FirstCarried.{flag_within, has_map}
 use Rattle.bind_carry.proofs.FirstInterfaces.{interface_copy, type_numbers_under}
 use Rattle.bind_carry.proofs.FirstMatched.{interface_is, types_are}
 use Rattle.bind_carry.proofs.KeptPlaced.{kept_placed, IsKeptAt}
@@ -46,6 +43,10 @@ use Rattle.bind_carry.proofs.SecondAgreed.{adds, before_fates, by_path, fates, f
 use Rattle.bind_carry.proofs.SecondKnown.{chosen, copied_long, exports_shown, imports_shown, long, range}
 use Rattle.bind_carry.proofs.SecondMarks.{gained_inline_alone}
 use Rattle.bind_carry.proofs.SecondStands.{is_named_there, known, second_named, starts}
+use Rattle.base_lemmas.proofs.Bools.{left_of as first_true, right_of as second_true}
+use Rattle.base_lemmas.proofs.Lists.{within_there}
+use Rattle.base_lemmas.proofs.Numbers.{equal, same-number}
+use Rattle.wit_model.proofs.Chains.{all_has as passes_at}
 
 module _ (own other merged : Resolve) (valid_own : IsValid own) (valid_other : IsValid other) (world other_world : ℕ) (w v : World) (m : Matches) (c : Carried) (first_numbers : List ℕ) (p : IsFirstPass own other merged m c first_numbers) (copied : List Bool) (interfaces types : List ℕ)
     (s : IsSecondPass own other merged world other_world w v m c first_numbers p copied interfaces types) where

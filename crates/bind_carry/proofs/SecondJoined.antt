@@ -5,7 +5,7 @@ use Rattle.std.specs.declared.alloc.Global.{Global}
 use Rattle.std.specs.List.{list_all, Contains, IsDistinct}
 use Rattle.std.specs.Map.{keys_of, lookup}
 use Rattle.std.specs.Option.{option_map_or}
-use Rattle.std.proofs.lemmas.Bool.{or_left, or_right}
+use Rattle.std.proofs.lemmas.Bool.{or_left, or_right, and_from as both}
 use Rattle.wit_model.specs.declared.model.Function.{Function}
 use Rattle.wit_model.specs.declared.model.Interface.{Interface}
 use Rattle.wit_model.specs.declared.model.InterfaceId.{InterfaceId}
@@ -22,8 +22,7 @@ use Rattle.wit_model.specs.Lookup.{interface_at}
 use Rattle.wit_model.specs.Rules.{export_stands, is_id, item_in_range, item_type, key_in_range}
 use Rattle.wit_model.specs.Uses.{item_interface}
 use Rattle.wit_model.specs.Valid.{IsValid, item_function, key_eq}
-use Rattle.wit_model.proofs.Elements.{all-contained, both, contains-get, contains-later, get-contains, same-number}
-use Rattle.wit_model.proofs.Lists.{first_true, second_true}
+use Rattle.wit_model.proofs.Elements.{contains-get}
 use Rattle.wit_model.proofs.OnePath.{found-in}
 use Rattle.bind_copy.specs.Copies.{become_one, is_new_under, number_under}
 use Rattle.bind_match.specs.declared.matches.Matches.{Matches}
@@ -53,7 +52,7 @@ use Rattle.bind_carry.proofs.PassedTypes.{parts_hold}
 use Rattle.bind_carry.proofs.SecondAgreed.{adds, before, before_fates, fates, import_stands_for, initial, named_is_carried, second}
 use Rattle.bind_carry.proofs.SecondInitial.{before_at, IsBefore}
 use Rattle.bind_carry.proofs.SecondInterfaces.{carried_number, copied_carries}
-use Rattle.bind_carry.proofs.SecondKnown.{any_at, chosen, export_same, exports_shown, import_same, imports_shown, long, named_number, type_number}
+use Rattle.bind_carry.proofs.SecondKnown.{chosen, export_same, exports_shown, import_same, imports_shown, long, named_number, type_number}
 use Rattle.bind_carry.proofs.SecondKnown.{long_fates as fates_count, long_numbers as numbers_are_many}
 use Rattle.bind_carry.proofs.SecondMarks.{gained_flag, is_shown_new}
 use Rattle.bind_carry.proofs.SecondMet.{one_label, typed, under_label}
@@ -62,6 +61,10 @@ use Rattle.bind_carry.proofs.SecondStands.{falls, named_carried_there, starts}
 use Rattle.bind_carry.proofs.SecondTypes.{unified_at, IsUnified}
 use Rattle.bind_carry.proofs.SettledParts.{copied_still}
 use Rattle.bind_carry.proofs.WorldEntries.{export_keyed, export_range, export_so, import_keyed, import_range, label_new, new_under_same}
+use Rattle.base_lemmas.proofs.Bools.{left_of as first_true, right_of as second_true}
+use Rattle.base_lemmas.proofs.Elements.{all-contained, contains-later, get-contains}
+use Rattle.base_lemmas.proofs.Numbers.{same-number}
+use Rattle.std.proofs.lemmas.Map.Keys.{any_passes_from_place as any_at}
 
 not_some : {X : Type 0} (o : Option X) → not (is_some o) ≡ true → o ≡ None
 not_some None h = refl

@@ -1,11 +1,11 @@
 -- What the second pass begins with is known: from validity, from the first pass, and since the two worlds don't clash.
-use Rattle.std.proofs.Common.{◌≡◌, refl, sym, ap, ◌∙◌, ℕ, zero, suc, ◌+◌, ◌<◌, arith, Bool, true, false, not, ◌||◌, List, [], ◌∷◌, length, Option, Some, None, is_some, is_none, option_and_then, slice_get}
+use Rattle.std.proofs.Common.{◌≡◌, refl, sym, ap, ◌∙◌, ℕ, ◌+◌, ◌<◌, arith, Bool, true, false, not, ◌||◌, List, [], length, Option, Some, None, is_some, is_none, option_and_then, slice_get}
 use Rattle.std.specs.Prelude.{String}
 use Rattle.std.specs.declared.alloc.Global.{Global}
-use Rattle.std.specs.List.{list_any, Contains}
+use Rattle.std.specs.List.{Contains}
 use Rattle.std.specs.Map.{lookup}
 use Rattle.std.specs.Option.{option_map_or}
-use Rattle.std.proofs.lemmas.Bool.{or_left, or_right}
+use Rattle.std.proofs.lemmas.Bool.{or_left}
 use Rattle.std.proofs.lemmas.Option.{slice_get_within}
 use Rattle.wit_model.specs.declared.model.Interface.{Interface}
 use Rattle.wit_model.specs.declared.model.InterfaceId.{InterfaceId}
@@ -26,12 +26,12 @@ use Rattle.wit_model.specs.Rules.{item_type}
 use Rattle.wit_model.specs.Text.{text_of}
 use Rattle.wit_model.specs.Valid.{IsValid, as_interface, as_world, key_eq}
 use Rattle.wit_model.proofs.AnyOrder.{text-same}
-use Rattle.wit_model.proofs.Elements.{contains-get, get-contains}
+use Rattle.wit_model.proofs.Elements.{contains-get}
 use Rattle.bind_copy.specs.Copies.{is_new_under, number_under}
 use Rattle.bind_match.specs.declared.matches.Matches.{Matches}
 use Rattle.bind_union.specs.Carried.{carries_owner, Renumbering}
 use Rattle.bind_union.proofs.Lists.{no_true}
-use Rattle.bind_union.proofs.WorldNamesakes.{is_declared, lookup_stands, not_declared, type_imported, world_type, IsImported, IsWorldType}
+use Rattle.bind_union.proofs.WorldNamesakes.{is_declared, not_declared, type_imported, world_type, IsImported, IsWorldType}
 use Rattle.bind_carry.specs.BoundGains.{gains_any, type_under_key, unified}
 use Rattle.bind_carry.specs.Fates.{carries, is_carried, settled_from}
 use Rattle.bind_carry.specs.First.{first_fates, flag_under, second_from}
@@ -55,6 +55,8 @@ use Rattle.bind_carry.proofs.SecondInitial.{IsKnown}
 use Rattle.bind_carry.proofs.SecondMarks.{gained_adds, gained_inline_alone, gained_long}
 use Rattle.bind_carry.proofs.SecondTypes.{second_long, unified_set, IsUnified}
 use Rattle.bind_carry.proofs.WorldEntries.{any_new_same, export_keyed, import_keyed, label_new, IsNumberedSame}
+use Rattle.base_lemmas.proofs.Elements.{get-contains, lookup_stands}
+use Rattle.std.proofs.lemmas.Map.Keys.{any_passes_from_place as any_at}
 
 -- ---- items that are types
 
@@ -82,11 +84,6 @@ type_declared r (item.Function g) id e = let wrong : ⊥ = cc in absurd wrong
 pub same_label : (r : Resolve) (label : String Global) (k : WorldKey) → key_eq (key.Name label) k ≡ true → key_text r k ≡ text_of label
 same_label r label (key.Name s) h = sym (text-same (text_of label) (text_of s) h)
 same_label r label (key.Interface id) h = no_true h
-
-pub any_at : {A : Type 0} (p : A → Bool) (xs : List A) (n : ℕ) (x : A) → slice_get xs n ≡ Some x → p x ≡ true → list_any p xs ≡ true
-any_at p [] n x e h = let wrong : ⊥ = cc in absurd wrong
-any_at p (y ∷ ys) zero x e h = or_left (p y) (list_any p ys) (ap p (some_same y x e) ∙ h)
-any_at p (y ∷ ys) (suc n) x e h = or_right (p y) (list_any p ys) (any_at p ys n x e h)
 
 -- ---- the two worlds
 

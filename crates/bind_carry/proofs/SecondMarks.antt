@@ -8,7 +8,6 @@ use Rattle.wit_model.specs.declared.model.WorldItem.{WorldItem}
 use Rattle.wit_model.specs.declared.model.WorldKey.{WorldKey}
 use Rattle.wit_model.specs.Rules.{is_id}
 use Rattle.wit_model.specs.Uses.{item_interface}
-use Rattle.wit_model.proofs.Lists.{first_true, second_true}
 use Rattle.bind_copy.specs.Copies.{is_new_under}
 use Rattle.bind_union.proofs.Lists.{no_true}
 use Rattle.bind_carry.specs.BoundGains.{gained_inline, gains_any}
@@ -16,6 +15,7 @@ use Rattle.bind_carry.specs.First.{flag_under}
 use Rattle.bind_carry.specs.Marked.{is_inline_at, mark_item, mark_new_items}
 use Rattle.bind_carry.specs.Shown.{any_new, AreShownBelow}
 use Rattle.bind_carry.proofs.Marking.{joins, mark_item_long, mark_one, no_more}
+use Rattle.base_lemmas.proofs.Bools.{left_of as first_true, right_of as second_true}
 
 unset_flag : (count n : ℕ) → flag_under (replicate count false) n ≡ false
 unset_flag zero n = refl

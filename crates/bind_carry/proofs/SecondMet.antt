@@ -14,7 +14,7 @@ use Rattle.wit_model.specs.Lookup.{key_text}
 use Rattle.wit_model.specs.Rules.{item_type}
 use Rattle.wit_model.specs.Text.{text_of}
 use Rattle.wit_model.specs.Valid.{IsValid, key_eq}
-use Rattle.wit_model.proofs.Elements.{contains-get, get-contains}
+use Rattle.wit_model.proofs.Elements.{contains-get}
 use Rattle.bind_match.specs.declared.matches.Matches.{Matches}
 use Rattle.bind_union.proofs.WorldNamesakes.{world_type, IsWorldType}
 use Rattle.bind_carry.specs.BoundGains.{type_under_key}
@@ -33,6 +33,7 @@ use Rattle.bind_carry.proofs.SettledParts.{stands_still}
 use Rattle.bind_carry.specs.First.{first_fates}
 use Rattle.bind_carry.specs.Shown.{type_in}
 use Rattle.bind_copy.specs.Copies.{number_under}
+use Rattle.base_lemmas.proofs.Elements.{get-contains}
 
 module _ (own other merged : Resolve) (valid_own : IsValid own) (valid_other : IsValid other) (world other_world : ℕ) (w v : World) (m : Matches) (c : Carried) (first_numbers : List ℕ) (p : IsFirstPass own other merged m c first_numbers) (copied : List Bool) (interfaces types : List ℕ)
     (s : IsSecondPass own other merged world other_world w v m c first_numbers p copied interfaces types) where

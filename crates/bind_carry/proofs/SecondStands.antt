@@ -1,5 +1,5 @@
 -- Types that stand in what the bound world gains: those by path for what they stand for by path.
-use Rattle.std.proofs.Common.{◌≡◌, ◌⊎◌, inl, inr, refl, sym, ap, ◌∙◌, ℕ, ◌+◌, Bool, true, false, ◌&&◌, ◌||◌, ◌==◌, List, [], length, Option, Some, None, is_some, is_none, option_map, slice_get, unwrap_or, if◌then◌else◌}
+use Rattle.std.proofs.Common.{◌≡◌, ◌⊎◌, inl, inr, refl, sym, ap, ◌∙◌, ℕ, ◌+◌, Bool, true, false, ◌&&◌, ◌||◌, ◌==◌, List, [], length, Option, Some, None, is_some, option_map, slice_get, unwrap_or, if◌then◌else◌}
 use Rattle.std.specs.List.{list_all}
 use Rattle.std.specs.Option.{option_map_or}
 use Rattle.std.proofs.lemmas.Bool.{or_right}
@@ -45,10 +45,7 @@ use Rattle.bind_carry.proofs.SecondKnown.{is_known, named_number, named_stays, r
 use Rattle.bind_carry.proofs.SecondKnown.{long_fates as fates_count, long_numbers as numbers_are_many}
 use Rattle.bind_carry.proofs.SecondTypes.{unified_at, IsUnified}
 use Rattle.bind_carry.proofs.SettledParts.{copied_still, settled_all, stands_still, unnamed_parts}
-
-none_of : {X : Type 0} (o : Option X) → is_some o ≡ true → is_none o ≡ false
-none_of None h = no_true h
-none_of (Some x) h = refl
+use Rattle.base_lemmas.proofs.Options.{nameless as none_of}
 
 beside_left : (g : Fate) (k : ℕ) → carries g ≡ false → beside_first g k ≡ fate.Left
 beside_left g k h = ap (λ b. if b then fate.Stands k else fate.Left) h

@@ -5,13 +5,13 @@ use Rattle.wit_model.specs.declared.model.TypeDef.{TypeDef}
 use Rattle.wit_model.specs.declared.model.TypeId.{TypeId}
 use Rattle.wit_model.specs.declared.model.WorldItem.{WorldItem}
 use Rattle.wit_model.specs.declared.model.WorldKey.{WorldKey}
-use Rattle.wit_model.proofs.Elements.{equal, same-number}
 use Rattle.bind_carry.specs.BoundGains.{type_under_key, unified, unify_one}
 use Rattle.bind_carry.specs.First.{beside_first, second_from, second_in}
 use Rattle.bind_carry.specs.Shown.{type_in}
 use Rattle.bind_carry.specs.declared.fate.Fate.{Fate}
 use Rattle.bind_carry.specs.declared.fate.Fate.TheVariants as fate
 use Rattle.bind_carry.proofs.PassedTypes.{fate_there}
+use Rattle.base_lemmas.proofs.Numbers.{differ, equal}
 
 -- ---- by owners
 
@@ -55,9 +55,6 @@ set_there (f ∷ fs) (suc k) (suc n) g h = set_there fs k n g (λ e. h (ap suc e
 
 no_false : {A : Type 0} → true ≡ false → A
 no_false e = let wrong : ⊥ = cc in absurd wrong
-
-differ : (k n : ℕ) → (k == n) ≡ false → k ≡ n → ⊥
-differ k n f e = no_false (sym (same-number k) ∙ (ap (λ (m : ℕ). k == m) e ∙ f))
 
 module _ (here : List (WorldKey × WorldItem)) where
   -- A type stands for the own one under its key.

@@ -4,13 +4,13 @@ use Rattle.std.specs.Option.{option_map_or}
 use Rattle.std.proofs.lemmas.Bool.{ltb-true}
 use Rattle.wit_model.specs.declared.model.TypeDef.{TypeDef}
 use Rattle.wit_model.specs.declared.model.TypeOwner.{TypeOwner}
-use Rattle.wit_model.proofs.Lists.{first_true, second_true}
 use Rattle.bind_copy.specs.Copies.{all_below}
 use Rattle.bind_union.specs.Views.{kind_view, view_numbers}
 use Rattle.bind_union.proofs.Lists.{no_true}
 use Rattle.bind_carry.specs.Fates.{are_carried, carries, is_carried, settled, settled_from, FallBelow}
 use Rattle.bind_carry.specs.declared.fate.Fate.{Fate}
 use Rattle.bind_carry.specs.declared.fate.Fate.TheVariants as fate
+use Rattle.base_lemmas.proofs.Bools.{left_of as first_true, right_of as second_true}
 
 abbrev parts : TypeDef → List ℕ
 parts t = view_numbers (kind_view t.kind)

@@ -1,7 +1,6 @@
 -- Types that meet their fates one by one.
 use Rattle.std.proofs.Common.{◌≡◌, refl, sym, ap, subst, ◌∙◌, ℕ, ◌+◌, ◌<◌, true, arith, List, [], ◌∷◌, ◌++◌, length, map, nat_lt, Option, Some, None, option_map, zero, suc, append_assoc, append-nil}
 use Rattle.std.specs.List.{flat_map, AllZip}
-use Rattle.wit_model.proofs.Lists.{first_true, second_true}
 use Rattle.std.proofs.lemmas.Bool.{ltb-true}
 use Rattle.wit_model.specs.Text.{Text}
 use Rattle.wit_model.specs.declared.model.TypeDef.{TypeDef}
@@ -14,6 +13,7 @@ use Rattle.bind_union.specs.Views.{kind_view, optional_numbers, renamed, renamed
 use Rattle.bind_carry.specs.declared.fate.Fate.{Fate}
 use Rattle.bind_carry.specs.declared.fate.Fate.TheVariants as fate
 use Rattle.bind_carry.specs.Fates.{copied_types, numbers_by, AreCopied, AreCopiedSoFar, IsCopiedType, MeetsFate}
+use Rattle.base_lemmas.proofs.Bools.{left_of as first_true, right_of as second_true}
 
 -- ---- numbers that agree below a bound
 

@@ -1,5 +1,5 @@
 -- What a union adds stands under keys that weren't there.
-use Rattle.std.proofs.Common.{◌≡◌, refl, sym, ap, subst, ◌∙◌, ℕ, zero, suc, Bool, not, List, [], ◌∷◌, ◌++◌, length, Some, slice_get, string_eq}
+use Rattle.std.proofs.Common.{◌≡◌, sym, ap, subst, ◌∙◌, ℕ, Bool, not, List, ◌++◌, length, Some, slice_get, string_eq}
 use Rattle.std.specs.Prelude.{String}
 use Rattle.std.specs.declared.alloc.Global.{Global}
 use Rattle.std.specs.List.{filter, AllZip}
@@ -13,7 +13,6 @@ use Rattle.wit_model.specs.declared.model.World.{World}
 use Rattle.wit_model.specs.declared.model.WorldId.{WorldId}
 use Rattle.wit_model.specs.Lookup.{package_at}
 use Rattle.wit_model.specs.Valid.{IsValid, key_eq}
-use Rattle.wit_model.proofs.Lists.{first_true}
 use Rattle.bind_add.specs.declared.added.Names.{Names}
 use Rattle.bind_match.specs.Matching.{is_root_world, own_interface_of, own_package_of, own_world_of}
 use Rattle.bind_match.specs.declared.matches.Matches.{Matches}
@@ -25,13 +24,8 @@ use Rattle.bind_carry.specs.declared.plan.Carried.{Carried}
 use Rattle.bind_carry.proofs.CopiesPlaced.{some_same}
 use Rattle.bind_carry.proofs.KeysGained.{chosen, exports_behind, imports_behind}
 use Rattle.bind_carry.proofs.NamesGained.{copied_interface, copied_world, distinct_along, fresh_along, fresh_behind, grown_of, home_of, is_fresh, passes_of_filter, world_of, IsGrownOf, IsHome}
-
-pub zip_at : {A B : Type 0} (R : A → B → Type 0) (xs : List A) (ys : List B) → AllZip R xs ys → (i : ℕ) (y : B) → slice_get ys i ≡ Some y → (x : A) × (slice_get xs i ≡ Some x) × R x y
-zip_at R [] [] h i y at = let wrong : ⊥ = cc in absurd wrong
-zip_at R [] (z ∷ zs) h i y at = absurd h
-zip_at R (x ∷ xs) [] h i y at = absurd h
-zip_at R (x ∷ xs) (z ∷ zs) h zero y at = (x, refl, subst (λ q. R x q) (some_same z y at) h.0)
-zip_at R (x ∷ xs) (z ∷ zs) h (suc i) y at = zip_at R xs zs h.1 i y at
+use Rattle.base_lemmas.proofs.Bools.{left_of as first_true}
+use Rattle.base_lemmas.proofs.Elements.{zip_at_right as zip_at}
 
 -- the tables are as long as what they are of
 pub matched_all : (own other : Resolve) (m : Matches) → AreMatchedByName own other m → AreMatchedAll other m

@@ -1,5 +1,5 @@
 -- No map of what was merged has a key twice: what is inserted keeps keys apart, and copies have the names of what they are of.
-use Rattle.std.proofs.Common.{◌≡◌, ◌⊎◌, inl, inr, refl, sym, ap, subst, ◌∙◌, ℕ, zero, suc, arith, Bool, true, false, ◌==◌, List, [], ◌∷◌, ◌++◌, map, Option, Some, slice_get, slice_set, string_eq, if◌then◌else◌}
+use Rattle.std.proofs.Common.{◌≡◌, ◌⊎◌, inl, inr, refl, sym, ap, subst, ◌∙◌, ℕ, zero, suc, arith, Bool, true, false, List, [], ◌∷◌, ◌++◌, map, Option, Some, slice_get, slice_set, string_eq, if◌then◌else◌}
 use Rattle.std.specs.Prelude.{String}
 use Rattle.std.specs.declared.alloc.Global.{Global}
 use Rattle.std.specs.List.{filter, AllByRecursion, AllZip, IsDistinct}
@@ -20,14 +20,12 @@ use Rattle.wit_model.specs.Lookup.{interface_at, package_at, world_at}
 use Rattle.wit_model.specs.Text.{Text, text_eq, text_of}
 use Rattle.wit_model.specs.Valid.{key_eq, IsValid}
 use Rattle.wit_model.proofs.Distinct.{text_eq_flip}
-use Rattle.wit_model.proofs.Elements.{equal, same-number}
 use Rattle.bind_add.specs.Growth.{GainsNone, HasGained, HasGainedItems, IsAdded}
 use Rattle.bind_add.specs.declared.added.Added.{Added}
 use Rattle.bind_add.specs.declared.added.Names.{Names}
 use Rattle.bind_copy.specs.Copies.{become_one, is_new_under, names_in, type_names, type_names_under, AreNewCopied, IsEntryUnder, IsFunctionEntry, IsInterfaceUnder, IsKeyUnder}
 use Rattle.bind_copy.proofs.Gained.{same_images}
 use Rattle.bind_match.specs.declared.matches.Matches.{Matches}
-use Rattle.bind_union.proofs.Lists.{no_true}
 use Rattle.bind_carry.specs.AddedDistinct.{UnionsHaveDistinctKeys}
 use Rattle.bind_carry.specs.MatchedSame.{AreMatchedAt, NoneOfPath}
 use Rattle.bind_carry.specs.Packaged.{is_copied_interface, is_copied_world, IsInterfaceName, IsPackageCarried, IsWorldName}
@@ -36,21 +34,14 @@ use Rattle.bind_carry.specs.Which.{AreMatchedAll}
 use Rattle.bind_carry.specs.Whole.{home_under, kept, IsInterfaceCarried, IsWorldCarried}
 use Rattle.bind_carry.specs.declared.plan.Carried.{Carried}
 use Rattle.bind_carry.proofs.CopiesPlaced.{some_same}
-use Rattle.bind_carry.proofs.FirstCarried.{within_there}
 use Rattle.bind_carry.proofs.FirstPackages.{some_gains}
 use Rattle.bind_carry.proofs.KeysGained.{by_path_apart}
 use Rattle.bind_carry.proofs.NamesGained.{distinct_along}
-use Rattle.bind_carry.proofs.UnionApart.{zip_at}
+use Rattle.base_lemmas.proofs.Elements.{zip_at_right as zip_at}
+use Rattle.base_lemmas.proofs.Lists.{within_there}
+use Rattle.base_lemmas.proofs.Numbers.{turned as number_flip}
 
 -- ---- keys the other way round
-
-number_flip : (m n : ℕ) → (m == n) ≡ (n == m)
-number_flip m n = go (m == n) refl (n == m) refl
-  where
-    go : (a : Bool) → (m == n) ≡ a → (b : Bool) → (n == m) ≡ b → (m == n) ≡ (n == m)
-    go true e b d = e ∙ sym (subst (λ (k : ℕ). (n == k) ≡ true) (sym (equal m n e)) (same-number n))
-    go false e false d = e ∙ sym d
-    go false e true d = no_true (sym e ∙ subst (λ (k : ℕ). (m == k) ≡ true) (sym (equal n m d)) (same-number m))
 
 pub key_flip : (a b : WorldKey) → key_eq a b ≡ key_eq b a
 key_flip (key.Name a) (key.Name b) = text_eq_flip (text_of a) (text_of b)

@@ -1,5 +1,5 @@
 -- All exports of the other's bound world are added, under the keys that are answered.
-use Rattle.std.proofs.Common.{◌≡◌, refl, sym, ap, ap₂, subst, ◌∙◌, ℕ, zero, suc, ◌++◌, slice_get, slice_set, ◌+◌, arith, Bool, true, false, not, ◌||◌, cond, List, [], ◌∷◌, length, map, Option, Some, None, option_map, option_and_then, unwrap_or, is_some}
+use Rattle.std.proofs.Common.{◌≡◌, refl, sym, ap, ap₂, subst, ◌∙◌, ℕ, zero, suc, ◌++◌, slice_get, slice_set, ◌+◌, arith, Bool, true, false, ◌||◌, cond, List, [], ◌∷◌, length, map, Option, Some, None, option_map, option_and_then, unwrap_or, is_some}
 use Rattle.std.specs.Prelude.{String}
 use Rattle.std.specs.declared.alloc.Global.{Global}
 use Rattle.std.specs.List.{filter, list_any, AllZip, Contains}
@@ -21,7 +21,6 @@ use Rattle.wit_model.specs.Names.{path_in}
 use Rattle.wit_model.specs.Rules.{package_number}
 use Rattle.wit_model.specs.Text.{optional_text, text_of, Text}
 use Rattle.wit_model.specs.Valid.{key_eq, IsValid}
-use Rattle.wit_model.proofs.Elements.{contains-later, equal, get-contains}
 use Rattle.wit_model.proofs.VersionLaws.{text_same}
 use Rattle.bind_add.specs.Growth.{HasGainedItems}
 use Rattle.bind_add.specs.declared.added.Added.{Added}
@@ -40,23 +39,23 @@ use Rattle.bind_carry.specs.Union.{IsUnionOf}
 use Rattle.bind_carry.specs.Which.{AreMatchedAll}
 use Rattle.bind_carry.specs.declared.plan.Carried.{Carried}
 use Rattle.bind_carry.proofs.CopiesPlaced.{some_same}
-use Rattle.bind_carry.proofs.FirstCarried.{first_is_carried, within_there}
+use Rattle.bind_carry.proofs.FirstCarried.{first_is_carried}
 use Rattle.bind_carry.proofs.FirstCopies.{copied_behind}
 use Rattle.bind_carry.proofs.FirstMatched.{interface_is}
 use Rattle.bind_carry.proofs.FirstOfUnion.{unions_have_the_first}
 use Rattle.bind_carry.proofs.KeysGained.{by_path_apart, chosen, export_named, exports_apart, exports_behind, named_carried, named_number}
 use Rattle.bind_carry.proofs.Ranges.{is_in_range}
 use Rattle.bind_carry.proofs.WorldEntries.{any_place, export_keyed, IsNumberedSame, IsPlacedIn}
+use Rattle.base_lemmas.proofs.Elements.{contains-later, get-contains}
+use Rattle.base_lemmas.proofs.Lists.{within_there}
+use Rattle.base_lemmas.proofs.Numbers.{equal}
+use Rattle.std.proofs.lemmas.Bool.{not-false as not_not}
 
 -- ---- lists
 
 filter_whole : {A : Type 0} (p : A → Bool) (xs : List A) → ((x : A) → Contains xs x → p x ≡ true) → filter p xs ≡ xs
 filter_whole p [] each = refl
 filter_whole p (x ∷ xs) each = ap (λ b. cond b (x ∷ filter p xs) (filter p xs)) (each x (0, omega arith, refl)) ∙ ap (λ l. x ∷ l) (filter_whole p xs (λ y held. each y (contains-later x xs y held)))
-
-not_not : (b : Bool) → not b ≡ false → b ≡ true
-not_not true h = refl
-not_not false h = no_true (sym h)
 
 -- ---- copies of one key
 

@@ -14,15 +14,15 @@ use Rattle.wit_model.specs.declared.model.WorldKey.TheVariants as key
 use Rattle.wit_model.specs.Lookup.{interface_at, world_at}
 use Rattle.wit_model.specs.Rules.{entries_in_range, export_stands, import_stands, in_list, is_id, is_interface_key, item_in_range, key_in_range, package_number, passes}
 use Rattle.wit_model.specs.Uses.{item_interface}
-use Rattle.wit_model.specs.Valid.{IsValid, Keeps, Rule, is_place, key_eq, numbers_in_range, world_items}
-use Rattle.wit_model.proofs.Elements.{all-contained, contains-later}
-use Rattle.wit_model.proofs.Lists.{first_true, second_true}
+use Rattle.wit_model.specs.Valid.{IsValid, is_place, key_eq, numbers_in_range, world_items}
 use Rattle.wit_model.proofs.OnePath.{found-in}
-use Rattle.wit_model.proofs.Entries.{lists_pass}
-use Rattle.bind_union.proofs.Lists.{each_at, no_true}
+use Rattle.bind_union.proofs.Lists.{no_true}
 use Rattle.bind_copy.specs.Copies.{is_key_under, is_new_under, number_under}
 use Rattle.bind_union.proofs.WorldNamesakes.{some_id}
 use Rattle.bind_carry.specs.Shown.{any_new}
+use Rattle.base_lemmas.proofs.Bools.{left_of as first_true, right_of as second_true}
+use Rattle.base_lemmas.proofs.Elements.{all-contained, contains-later}
+use Rattle.bind_meaning.proofs.WorldPaths.{world-passes}
 
 -- ---- lists
 
@@ -42,9 +42,6 @@ any_place test (x ∷ xs) h = go (test x) refl h (any_place test xs)
     go false e k rest = let r = rest k in record { place = suc r.place; thing = r.thing; there = r.there; passes_it = r.passes_it }
 
 -- ---- keys of a valid world
-
-world-passes : (rule : Rule) (r : Resolve) → Keeps rule r → (n : ℕ) (w : World) → world_at r n ≡ Some w → rule.world_ r n w ≡ true
-world-passes rule r h n w is = each_at (rule.world_ r) r.worlds.items n w (lists_pass rule r h).2 is
 
 module _ (r : Resolve) (valid : IsValid r) (n : ℕ) (w : World) (at : world_at r n ≡ Some w) where
   -- An interface that is a key has a name, and the item is it.

@@ -18,7 +18,6 @@ use Rattle.wit_model.specs.Lookup.{type_at, world_at}
 use Rattle.wit_model.specs.Rules.{package_number}
 use Rattle.wit_model.specs.Text.{text_of}
 use Rattle.wit_model.specs.Valid.{IsValid, as_interface}
-use Rattle.wit_model.proofs.Elements.{both}
 use Rattle.bind_copy.specs.Copies.{become_one, number_under}
 use Rattle.bind_union.specs.Carried.{Renumbering}
 use Rattle.bind_union.specs.Merged.{IsWorldCopy}
@@ -35,6 +34,7 @@ use Rattle.bind_carry.proofs.FirstWorlds.{export_ready, import_ready}
 use Rattle.bind_carry.proofs.JoinedItems.{items_join}
 use Rattle.bind_carry.proofs.KeptPlaced.{kept_placed, IsKeptAt}
 use Rattle.bind_carry.proofs.KeysApart.{is_key_carried, keys_apart}
+use Rattle.std.proofs.lemmas.Bool.{and_from as both}
 
 never_false : {A : Type 0} → true ≡ false → A
 never_false e = let wrong : ⊥ = cc in absurd wrong

@@ -1,10 +1,10 @@
 -- Faults by numbers are faults of the bindings.
-use Rattle.std.proofs.Common.{◌≡◌, ◌≢◌, ◌↔◌, ◌⊎◌, inl, inr, refl, sym, ap, subst, ◌∙◌, arith, ℕ, zero, suc, ◌<◌, Bool, true, false, cond, List, [], ◌∷◌, map, slice_get, Option, Some, None, option_map, option_and_then, is_some, String, Contains}
+use Rattle.std.proofs.Common.{◌≡◌, ◌≢◌, ◌↔◌, inl, inr, refl, sym, ap, subst, ◌∙◌, arith, ℕ, zero, suc, ◌<◌, Bool, true, false, cond, List, [], ◌∷◌, slice_get, Option, Some, None, option_map, option_and_then, is_some, String}
 use Rattle.std.specs.Option.{option_map_or}
 use Rattle.std.specs.FinMap.{find, get}
 use Rattle.std.specs.Ordering.{eq_by_cmp}
 use Rattle.std.specs.declared.alloc.Global.{Global}
-use Rattle.std.proofs.lemmas.Option.{slice_get_within}
+use Rattle.std.proofs.lemmas.Option.{slice_get_within, same_Some as same-some}
 use Rattle.wit_model.specs.declared.model.Interface.{Interface}
 use Rattle.wit_model.specs.declared.model.InterfaceId.{InterfaceId}
 use Rattle.wit_model.specs.declared.model.Resolve.{Resolve}
@@ -16,10 +16,7 @@ use Rattle.wit_model.specs.Text.{Text, text_cmp, text_of}
 use Rattle.wit_model.specs.Lookup.{interface_at, interface_path, key_text, path_of_interface, path_of_world, world_at}
 use Rattle.wit_model.specs.Meaning.{Entry, InterfaceMeaning, InterfaceSense, WorldMeaning, WorldSense, entry_sense, interface_sense, world_sense}
 use Rattle.wit_model.specs.Meant.{entries_meaning, entry_meaning, interface_meaning, interface_meaning_at, no_interface, no_world, world_meaning, world_meaning_at}
-use Rattle.wit_model.specs.Valid.{IsValid}
-use Rattle.wit_model.proofs.Elements.{contains-get, contains-map, get-contains, same-some}
-use Rattle.wit_model.proofs.OnePath.{some-of}
-use Rattle.wit_compat.specs.declared.place.Place.{Place}
+use Rattle.wit_model.proofs.Elements.{contains-get}
 use Rattle.wit_compat.specs.declared.place.Place.TheVariants as place
 use Rattle.wit_compat.specs.Senses.{Sense, of_import, of_interface, of_world, sense_of}
 use Rattle.bind_meaning.specs.Binding.{Binding, Stand}
@@ -33,14 +30,17 @@ use Rattle.bind_meaning.proofs.WorldBindings.{export-key, exports-distinct, impo
 use Rattle.bind_meaning.proofs.WorldPaths.{path_at}
 use Rattle.bind_match.specs.declared.matches.Matches.{Matches}
 use Rattle.bind_match.specs.Matching.{interface_in, is_root_world, own_interface_of, own_world_of, world_in}
-use Rattle.bind_clash.specs.Faults.{CrossingAt, ExportStands, ImportFaults, InterfaceDiffers, InterfaceFaultAt, InterfaceFaultIn, IsFirstFault, OtherSense, WorldDiffers, WorldFaultAt, WorldFaultIn, is_own_world_of, own_place_in}
-use Rattle.bind_clash.specs.Laws.{AreWorlds, FaultsAre, FaultsAreOfBindings, IsFirstIn}
+use Rattle.bind_clash.specs.Faults.{ExportStands, ImportFaults, InterfaceDiffers, InterfaceFaultIn, IsFirstFault, OtherSense, WorldDiffers, WorldFaultIn, is_own_world_of, own_place_in}
+use Rattle.bind_clash.specs.Laws.{AreWorlds, FaultsAreOfBindings, IsFirstIn}
 use Rattle.bind_clash.proofs.KeysMatched.{found-distinct, no-own-entry, own-entry}
 use Rattle.bind_clash.proofs.PathsMatched.{IsPathOf, crossed-world-has, crossed-world-there, has-root, interface-in-has, interface-in-there, own-interface-has, own-interface-there, root-has, untrue, world-in-has, world-in-there, world-path-of}
+use Rattle.base_lemmas.proofs.Elements.{contains-map, get-contains}
+use Rattle.base_lemmas.proofs.Options.{there as some-of}
+use Rattle.bind_meaning.proofs.Searches.{second-there as second-differs, stands-second as second-stands}
 
 -- ---- what is there on both sides
 
-both-stand : {X Y : Type 0} (o : Option X) (p : Option Y) (x : X) (y : Y) → o ≡ Some x → p ≡ Some y → Stand o p
+pub both-stand : {X Y : Type 0} (o : Option X) (p : Option Y) (x : X) (y : Y) → o ≡ Some x → p ≡ Some y → Stand o p
 both-stand {X} {Y} o p x y e f = subst (λ (z : Option Y). Stand {X = X} {Y = Y} o z) (sym f) (subst (λ (z : Option X). Stand {X = X} {Y = Y} z (Some y)) (sym e) tt)
 
 first-stands : {X Y : Type 0} (o : Option X) (p : Option Y) → Stand o p → (x : X) × (o ≡ Some x)
@@ -48,20 +48,10 @@ first-stands (Some x) (Some y) h = (x, refl)
 first-stands (Some x) None h = absurd h
 first-stands None p h = absurd h
 
-second-stands : {X Y : Type 0} (o : Option X) (p : Option Y) → Stand o p → (y : Y) × (p ≡ Some y)
-second-stands (Some x) (Some y) h = (y, refl)
-second-stands (Some x) None h = absurd h
-second-stands None p h = absurd h
-
 first-differs : {X S : Type 0} (sense : X → S) (o p : Option X) → Differ sense o p → (x : X) × (o ≡ Some x)
 first-differs sense (Some x) (Some y) h = (x, refl)
 first-differs sense (Some x) None h = absurd h
 first-differs sense None p h = absurd h
-
-second-differs : {X S : Type 0} (sense : X → S) (o p : Option X) → Differ sense o p → (y : X) × (p ≡ Some y)
-second-differs sense (Some x) (Some y) h = (y, refl)
-second-differs sense (Some x) None h = absurd h
-second-differs sense None p h = absurd h
 
 -- two that are known differ where their senses do
 known : {X S : Type 0} (sense : X → S) (o p : Option X) (x y : X) → o ≡ Some x → p ≡ Some y → Differ sense o p ↔ (sense x ≢ sense y)

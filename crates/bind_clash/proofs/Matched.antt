@@ -3,7 +3,7 @@ use Rattle.std.proofs.Common.{arith, ◌≡◌, ◌↔◌, ◌⊎◌, refl, sym,
 use Rattle.std.specs.List.{list_all}
 use Rattle.std.specs.Map.{lookup}
 use Rattle.std.proofs.Math.ListN.{length-map}
-use Rattle.std.proofs.lemmas.Option.{slice_get_read, slice_get-map}
+use Rattle.std.proofs.lemmas.Option.{slice_get_read, slice_get-map, same_Some as same-some}
 use Rattle.wit_model.specs.declared.model.Interface.{Interface}
 use Rattle.wit_model.specs.declared.model.InterfaceId.{InterfaceId}
 use Rattle.wit_model.specs.declared.model.PackageId.{PackageId}
@@ -15,12 +15,9 @@ use Rattle.wit_model.specs.Rules.{entries_in_range, in_list, package_number, pas
 use Rattle.std.specs.declared.alloc.Global.{Global}
 use Rattle.std.proofs.lemmas.Bool.{cases_order}
 use Rattle.wit_model.specs.declared.error.Error.{Error}
-use Rattle.wit_compat.proofs.Members.{in_ok}
 use Rattle.wit_model.specs.Text.{Text, optional_text, text_eq, text_of}
 use Rattle.wit_model.specs.Valid.{IsValid, is_place, numbers_in_range}
-use Rattle.wit_model.proofs.Elements.{same-some}
 use Rattle.wit_model.proofs.Entries.{each_from_at, lists_pass}
-use Rattle.wit_model.proofs.Lists.{first_true, second_true}
 use Rattle.wit_model.proofs.OnePath.{found-in, package-passes}
 use Rattle.wit_compat.specs.declared.place.Place.{Place}
 use Rattle.wit_compat.specs.declared.place.Place.TheVariants as place
@@ -30,6 +27,9 @@ use Rattle.bind_match.specs.declared.matches.Matches.{Matches}
 use Rattle.bind_match.specs.Matching.{home_in, interface_in, is_root_world, own_interface_of, own_world_of, world_in}
 use Rattle.bind_clash.specs.Faults.{is_own_world_of, CrossingAt, CrossingOf, InterfaceDiffers, InterfaceFaultAt, IsLeastFault, IsMatched, OtherSense, WorldDiffers, WorldFaultAt}
 use Rattle.bind_clash.proofs.LeastFaults.{one_fault, same_faults}
+use Rattle.base_lemmas.proofs.Bools.{left_of as first_true, right_of as second_true}
+use Rattle.base_lemmas.proofs.Numbers.{false_true}
+use Rattle.base_lemmas.proofs.Options.{if_ok as in_ok}
 
 -- ---- small words
 
@@ -102,9 +102,6 @@ module _ (own other : Resolve) (v : IsValid own) (m : Matches) (h : IsMatched ow
       world_sensed own id (world_in_range own v m.packages.items x.0.«package» (text_of x.0.name) id found)
 
 -- ---- what a comparison says
-
-pub false_true : false ≡ true → ⊥
-false_true e = let q : ⊥ = cc in q
 
 not_same : (P : Type 0) (y : Bool) → (IsTrue y ↔ P) → IsTrue (not y) ↔ (P → ⊥)
 not_same P true h = ((λ t p. false_true t), λ none. absurd (none (h.0 refl)))

@@ -1,9 +1,9 @@
 -- What is matched by names stands under the path of the other's, and what stands under that path is matched.
-use Rattle.std.proofs.Common.{◌≡◌, refl, sym, ap, subst, ◌∙◌, arith, ℕ, zero, suc, ◌+◌, Bool, true, false, ◌&&◌, cond, List, [], ◌∷◌, map, slice_get, Option, Some, None, option_map, option_and_then, String, is_none}
+use Rattle.std.proofs.Common.{◌≡◌, refl, sym, ap, ◌∙◌, arith, ℕ, zero, suc, ◌+◌, Bool, true, false, ◌&&◌, cond, List, [], ◌∷◌, map, slice_get, Option, Some, None, option_map, option_and_then, String, is_none}
 use Rattle.std.specs.Option.{option_map_or}
 use Rattle.std.specs.HashMap.{get_by_text}
 use Rattle.std.specs.declared.alloc.Global.{Global}
-use Rattle.std.proofs.lemmas.Option.{slice_get-map}
+use Rattle.std.proofs.lemmas.Option.{slice_get-map, same_Some as same-some}
 use Rattle.std.proofs.lemmas.Slice.Eq.{bytes_eq-Decides}
 use Rattle.semver.specs.declared.Version.{Version}
 use Rattle.wit_model.specs.declared.model.Interface.{Interface}
@@ -20,8 +20,6 @@ use Rattle.wit_model.specs.Lookup.{identity_of, interface_at, interface_path, op
 use Rattle.wit_model.specs.Rules.{interface_is_listed, is_id, package_number, same_package_name, text_is, world_is_listed}
 use Rattle.wit_model.specs.Valid.{IsValid}
 use Rattle.wit_model.proofs.AnyOrder.{text-same}
-use Rattle.wit_model.proofs.Elements.{all-contained, both, equal, same-some}
-use Rattle.wit_model.proofs.Lists.{first_true, second_true}
 use Rattle.wit_model.proofs.NameLaws.{one_path}
 use Rattle.wit_model.proofs.OnePath.{has-path, package-name, package-once, path-label, path-listed}
 use Rattle.wit_model.proofs.VersionLaws.{same_name}
@@ -35,7 +33,11 @@ use Rattle.bind_union.proofs.Namesakes.{some_id, under_contains}
 use Rattle.bind_union.proofs.PackageNames.{interfaces_by_name, worlds_by_name}
 use Rattle.bind_union.proofs.United.{some_name}
 use Rattle.bind_union.proofs.UnitedWorlds.{world_path}
-use Rattle.bind_match.specs.Matching.{given, home_in, interface_in, is_root_name, is_root_world, own_interface_of, own_package_of, own_world_of, package_from, world_in}
+use Rattle.bind_match.specs.Matching.{given, home_in, interface_in, is_root_name, is_root_world, own_interface_of, own_package_of, package_from, world_in}
+use Rattle.base_lemmas.proofs.Bools.{left_of as first_true, right_of as second_true}
+use Rattle.base_lemmas.proofs.Elements.{all-contained}
+use Rattle.base_lemmas.proofs.Numbers.{equal}
+use Rattle.std.proofs.lemmas.Bool.{and_from as both}
 
 pub untrue : {A : Type 0} → false ≡ true → A
 untrue e = let no : ⊥ = cc in absurd no

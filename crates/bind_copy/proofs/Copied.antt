@@ -1,5 +1,5 @@
 -- Entries that are copied into a map one behind the other, those that a test passes, where no key stands twice.
-use Rattle.std.proofs.Common.{◌≡◌, refl, sym, ap, subst, ◌∙◌, ℕ, Bool, true, false, List, [], ◌∷◌, ◌++◌, cond, append-nil}
+use Rattle.std.proofs.Common.{◌≡◌, refl, sym, ap, subst, ◌∙◌, Bool, true, false, List, [], ◌∷◌, ◌++◌, cond, append-nil}
 use Rattle.std.specs.List.{filter, AllByRecursion, AllZip, IsDistinct}
 use Rattle.std.specs.Map.{keys_of}
 use Rattle.std.proofs.lemmas.List.{append_assoc}
@@ -61,7 +61,3 @@ module _ {K V : Type 0} (eq apart : K → K → Bool) (R : K × V → K × V →
   -- nothing is left
   pub all_copied : (whole done : List (K × V)) → CopiedSoFar R p whole [] done → AllZip R (filter p whole) done
   all_copied whole done h = subst (λ l. AllZip R (filter p l) done) (sym (append-nil h.0) ∙ h.1) h.2
-
-pub all_pass : {X : Type 0} (xs : List X) → filter (λ x. true) xs ≡ xs
-all_pass [] = refl
-all_pass (x ∷ xs) = ap (λ l. x ∷ l) (all_pass xs)

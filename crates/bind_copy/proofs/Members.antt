@@ -1,5 +1,5 @@
 -- Functions that are copied into a map one behind the other.
-use Rattle.std.proofs.Common.{◌≡◌, refl, sym, ap, subst, ◌∙◌, ℕ, Bool, true, List, [], ◌∷◌}
+use Rattle.std.proofs.Common.{◌≡◌, refl, ap, subst, ◌∙◌, ℕ, true, List, [], ◌∷◌}
 use Rattle.std.specs.List.{AllZip}
 use Rattle.std.specs.Prelude.{String}
 use Rattle.std.specs.String.{string_eq}
@@ -11,7 +11,8 @@ use Rattle.wit_model.proofs.Distinct.{text_eq_flip}
 use Rattle.wit_model.specs.Text.{text_eq, text_of}
 use Rattle.wit_model.specs.declared.model.Function.{Function}
 use Rattle.bind_copy.specs.Copies.{CopiedSoFar, IsFunctionEntry, IsFunctionUnder}
-use Rattle.bind_copy.proofs.Copied.{all_copied, all_pass, one_copied}
+use Rattle.bind_copy.proofs.Copied.{all_copied, one_copied}
+use Rattle.base_lemmas.proofs.Lists.{filter_all as all_pass}
 
 module _ (types : List ℕ) where
   same_keys : (x y u v : String Global × Function) → IsFunctionEntry types x u → IsFunctionEntry types y v → string_eq v.0 u.0 ≡ string_eq x.0 y.0

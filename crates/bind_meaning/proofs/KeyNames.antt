@@ -1,11 +1,11 @@
 -- Texts without a byte, and the names of functions, which lack those that paths and keys are cut by.
-use Rattle.std.proofs.Common.{◌≡◌, refl, sym, ap, subst, ◌∙◌, arith, ℕ, ◌+◌, Bool, true, false, ◌&&◌, ◌||◌, ◌==◌, not, cond, [], ◌∷◌, ◌++◌, codes, drop, Option, Some, None, option_and_then, String, T, eqb→eq, eq-eqb}
+use Rattle.std.proofs.Common.{◌≡◌, refl, sym, ap, subst, ◌∙◌, arith, ℕ, ◌+◌, Bool, true, false, ◌&&◌, ◌||◌, ◌==◌, not, cond, [], ◌∷◌, ◌++◌, codes, drop, Option, Some, None, option_and_then, String, eq-eqb}
 use Rattle.std.specs.List.{list_all, Contains}
 use Rattle.std.specs.Option.{option_map_or}
 use Rattle.std.specs.declared.alloc.Global.{Global}
 use Rattle.std.proofs.lemmas.Bool.{and_from, not-true}
 use Rattle.std.proofs.lemmas.List.Folds.{list_all-append}
-use Rattle.std.proofs.lemmas.Option.{some_pair_parts}
+use Rattle.std.proofs.lemmas.Option.{some_pair_parts, same_Some as same-some}
 use Rattle.wit_model.specs.declared.model.Resolve.{Resolve}
 use Rattle.wit_model.specs.declared.model.Interface.{Interface}
 use Rattle.wit_model.specs.declared.model.Function.{Function}
@@ -24,12 +24,13 @@ use Rattle.wit_model.specs.Parts.{same_owner}
 use Rattle.wit_model.specs.Rules.{after_prefix, entries_labels, function_labels, is_freestanding, is_member, is_member_name, is_member_of, is_name_key, is_resource_itself, is_stability, item_labels, key_label, passes, resource_name}
 use Rattle.wit_model.specs.Valid.{IsValid, as_interface, as_world, function_names, functions_of_interface, item_function, labels}
 use Rattle.wit_model.proofs.AnyOrder.{text-same}
-use Rattle.wit_model.proofs.Elements.{all-contained, contains-map, same-some}
 use Rattle.wit_model.proofs.Entries.{each_from_at, lists_pass}
-use Rattle.wit_model.proofs.Lists.{first_true, second_true}
 use Rattle.wit_model.proofs.NameLaws.{label_lacks}
 use Rattle.wit_model.proofs.OnePath.{interface-passes}
 use Rattle.bind_meaning.proofs.WorldPaths.{world-passes}
+use Rattle.base_lemmas.proofs.Bools.{left_of as first_true, right_of as second_true}
+use Rattle.base_lemmas.proofs.Elements.{all-contained, contains-map}
+use Rattle.wit_model.proofs.Prefixes.{after_sound as after-front}
 
 -- ---- texts
 
@@ -68,15 +69,6 @@ last_cut c (z ∷ a) b [] y h k same = absurd (goes-on c a b (subst (Lacks c) (s
 last_cut c (z ∷ a) b (w ∷ x) y h k same = last_cut c a b x y h k (ap (drop 1) same)
 
 -- ---- names of functions
-
-after-front : (front text rest : Text) → after_prefix front text ≡ Some rest → text ≡ front ++ rest
-after-front [] text rest h = same-some text rest h
-after-front (p ∷ front) [] rest h = absurd (let z : ⊥ = cc in z)
-after-front (p ∷ front) (b ∷ text) rest h = go (after-front front text rest) (p == b) refl h
-  where
-    go : (after_prefix front text ≡ Some rest → text ≡ front ++ rest) → (v : Bool) → (p == b) ≡ v → cond v (after_prefix front text) None ≡ Some rest → b ∷ text ≡ (p ∷ front) ++ rest
-    go again true e k = let head : p ≡ b = eqb→eq p b (subst T (sym e) tt) in let tail : text ≡ front ++ rest = again k in cc
-    go again false e k = absurd (let z : ⊥ = cc in z)
 
 -- a function of an interface stands under its name
 pub own_name : (r : Resolve) → IsValid r → (n : ℕ) (owner : Interface) → interface_at r n ≡ Some owner → (name : String Global) (f : Function) → Contains owner.functions.entries (name, f) → text_of name ≡ text_of f.name

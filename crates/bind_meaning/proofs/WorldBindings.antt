@@ -26,14 +26,17 @@ use Rattle.wit_model.specs.Rules.{are_distinct, entries_in_range, export_stands,
 use Rattle.wit_model.specs.Uses.{item_interface}
 use Rattle.wit_model.specs.Valid.{IsValid, is_place, key_eq, numbers_in_range, places, world_items}
 use Rattle.wit_model.proofs.AnyOrder.{text-same}
-use Rattle.wit_model.proofs.Elements.{all-contained, contains-filter_map, contains-get, contains-later, contains-one, get-contains, same-number}
-use Rattle.wit_model.proofs.Lists.{first_true, second_true}
-use Rattle.wit_model.proofs.OnePath.{found-in, has-path, named-path, path-once, some-of}
+use Rattle.wit_model.proofs.Elements.{contains-filter_map, contains-get}
+use Rattle.wit_model.proofs.OnePath.{found-in, has-path, named-path, path-once}
 use Rattle.bind_meaning.specs.Binding.{Stand}
 use Rattle.bind_meaning.specs.ByNumbers.{WorldsAreBindings, interfaces_by_path, worlds_by_path}
 use Rattle.bind_meaning.proofs.KeyNames.{Lacks, colon, goes-on, key_lacks}
-use Rattle.bind_meaning.proofs.Listed.{contains-find, find-contains, first-contained, from-given, given, mapped}
+use Rattle.bind_meaning.proofs.Listed.{contains-find, find-contains, from-given, given, mapped}
 use Rattle.bind_meaning.proofs.WorldPaths.{path-apart, path_at, world-once, world-passes}
+use Rattle.base_lemmas.proofs.Bools.{left_of as first_true, right_of as second_true}
+use Rattle.base_lemmas.proofs.Elements.{all-contained, contains-later, contains-one, first-contained, get-contains}
+use Rattle.base_lemmas.proofs.Numbers.{same-number}
+use Rattle.base_lemmas.proofs.Options.{there as some-of}
 
 -- ---- what stands under a path
 

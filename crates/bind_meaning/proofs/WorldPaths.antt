@@ -17,11 +17,12 @@ use Rattle.wit_model.specs.Lookup.{identity_of, interface_path, package_at, path
 use Rattle.wit_model.specs.Rules.{interface_is_listed, is_id, is_world_name, package_number, world_is_listed}
 use Rattle.wit_model.specs.Valid.{IsValid, Keeps, Rule, labels, places}
 use Rattle.wit_model.proofs.Entries.{each_from_at, lists_pass}
-use Rattle.wit_model.proofs.Lists.{first_true, second_true}
 use Rattle.wit_model.proofs.NameLaws.{one_path}
-use Rattle.wit_model.proofs.OnePath.{HasPath, given-test, has-path, interface-passes, one-number, package-name, package-once, path-label, some-same}
+use Rattle.wit_model.proofs.OnePath.{HasPath, given-test, has-path, interface-passes, one-number, package-name, package-once, path-label}
 use Rattle.wit_model.proofs.VersionLaws.{same_name}
 use Rattle.bind_meaning.proofs.Listed.{given, mapped}
+use Rattle.base_lemmas.proofs.Bools.{left_of as first_true, not-false as not-both, right_of as second_true}
+use Rattle.std.proofs.lemmas.Option.{same_Some as some-same}
 
 pub world-passes : (rule : Rule) (r : Resolve) → Keeps rule r → (n : ℕ) (w : World) → world_at r n ≡ Some w → rule.world_ r n w ≡ true
 world-passes rule r k n w at = let here : 0 + n ≡ n = omega arith in subst (λ (m : ℕ). rule.world_ r m w ≡ true) here (each_from_at (rule.world_ r) 0 r.worlds.items n w (lists_pass rule r k).2 at)
@@ -57,10 +58,6 @@ found-name t (e ∷ es) n h = by (text_eq t (text_of e.0)) h (found-name t es n)
         → (b || list_any (λ other. text_eq t (text_of other)) (keys_of es)) ≡ true
     by true h later = refl
     by false h later = later h
-
-not-both : (b : Bool) → not b ≡ true → b ≡ true → ⊥
-not-both true h k = let no : ⊥ = cc in no
-not-both false h k = let no : ⊥ = cc in no
 
 module _ (r : Resolve) (v : IsValid r) where
   pub world-label : (n : ℕ) (path : Text) (h : HasWorldPath r n path) → is_label (text_of h.def.name) ≡ true

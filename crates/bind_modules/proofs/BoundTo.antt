@@ -1,5 +1,5 @@
 -- What is known of bindings behind each section of a module.
-use Rattle.std.proofs.Common.{◌≡◌, ◌∙◌, refl, sym, ap, subst, ℕ, ◌+◌, ◌-◌, ◌≤◌, ◌<◌, suc, List, [], ◌∷◌, ◌++◌, append-nil, length, Option, Some, None, arith}
+use Rattle.std.proofs.Common.{◌≡◌, ◌∙◌, refl, sym, ap, subst, ℕ, ◌+◌, ◌-◌, ◌≤◌, ◌<◌, suc, List, [], ◌++◌, append-nil, length, Option, Some, None, arith}
 use Rattle.std.specs.Prelude.{◌≢◌, slice_get}
 use Rattle.std.specs.Borrow.{Bor}
 use Rattle.std.proofs.lemmas.List.{length-append}
@@ -23,6 +23,7 @@ use Rattle.bind_sections.proofs.DecodeSteps.{section-merged}
 use Rattle.bind_sections.proofs.Steps.{left_overs_end, others_are_passed, reading_begins, reading_ends}
 use Rattle.bind_modules.specs.BoundTo.{BeginsWithRoot, IsBoundTo}
 use Rattle.bind_modules.specs.Reached.{IsReached}
+use Rattle.base_lemmas.proofs.Lists.{is-nothing as no-bytes}
 
 -- ---- the first package
 
@@ -102,10 +103,6 @@ begins-at input rest b h =
     (ap length h.read.parts ∙ (length-append module_preamble (h.read.front ++ rest) ∙ ap (λ (n : ℕ). length module_preamble + n) (length-append h.read.front rest)))
 
 -- ---- the end
-
-no-bytes : (text : List ℕ) → length text ≡ 0 → text ≡ []
-no-bytes [] e = refl
-no-bytes (b ∷ text) e = let no : ⊥ = omega (arith, e) in absurd no
 
 pub ends : (input rest : List ℕ) (b : Bindgen) → IsBoundTo input b rest → length rest ≡ 0 → IsBound input (binding_of b)
 ends input rest b h none = reading_ends input (binding_of b) (subst (IsReadTo input (binding_of b)) (no-bytes rest none) h.read)

@@ -1,20 +1,13 @@
 -- Why the data of a section is refused.
-use Rattle.std.proofs.Common.{◌≡◌, ◌∙◌, refl, sym, ap, subst, ℕ, List, [], ◌∷◌, length, Result, Ok, Err, IfErr, arith}
-use Rattle.std.specs.Prelude.{IsErrAnd}
+use Rattle.std.proofs.Common.{◌≡◌, ◌∙◌, refl, sym, ap, ℕ, List, [], ◌∷◌, length, arith}
 use Rattle.wit_model.specs.declared.error.Error.{Error}
 use Rattle.wit_model.specs.declared.error.Error.TheVariants as errors
 use Rattle.comp_read.specs.DecodedWorlds.{RefusesWorldBytes}
 use Rattle.bind_sections.specs.SectionBindings.{RefusesSection}
 
 -- an error that is handed on
-pub passed_on : {X : Type 0} (P : Error → Type 0) (e : Error) (given : Result X Error) → P e → IsErrAnd given (λ d. d ≡ e) → IfErr given P
-passed_on P e (Ok x) h same = tt
-passed_on P e (Err d) h same = subst P (sym same) h
 
 -- what has no length is nothing, and what has a first byte is something
-pub is-nothing : (bytes : List ℕ) → length bytes ≡ 0 → bytes ≡ []
-is-nothing [] none = refl
-is-nothing (b ∷ bytes) none = let no : ⊥ = omega (arith, none) in absurd no
 
 pub is-something : (bytes : List ℕ) (first : ℕ) (behind : List ℕ) → bytes ≡ first ∷ behind → bytes ≡ [] → ⊥
 is-something bytes first behind begins none = let wrong = ap length (sym begins ∙ none) in omega (arith, wrong)

@@ -14,6 +14,7 @@ use Rattle.bind_union.specs.Carried.{IsSameName}
 use Rattle.bind_match.specs.Matching.{package_from}
 use Rattle.bind_match.proofs.SameNames.{find_last, from_last, name_same, number, or_last}
 use Rattle.bind_names.specs.Named.{AreNamed, GainsName, Table, found_by, or_else}
+use Rattle.base_lemmas.proofs.Bools.{both_same as both}
 
 -- ---- copies
 
@@ -28,9 +29,6 @@ by_parts None None = refl
 by_parts None (Some b) = refl
 by_parts (Some a) None = refl
 by_parts (Some a) (Some b) = refl
-
-both : (a b c d : Bool) → a ≡ c → b ≡ d → (a && b) ≡ (c && d)
-both a b c d e f = ap (λ x. x && b) e ∙ ap (λ x. c && x) f
 
 -- all that is said of a name is said of its copy
 pub copy_behind : (x old new : PackageName) → IsSameName old new → same_package_name x new ≡ same_package_name x old

@@ -19,9 +19,6 @@ use Rattle.wit_model.specs.Meaning.{WorldPackage}
 use Rattle.wit_model.specs.Meant.{world_package}
 use Rattle.wit_model.specs.Rules.{entries_labels, export_stands, import_stands, is_stability, item_labels, key_label}
 use Rattle.wit_model.specs.Valid.{IsValid, labels, world_items}
-use Rattle.wit_model.proofs.Elements.{all-contained}
-use Rattle.wit_model.proofs.Lists.{first_true, second_true}
-use Rattle.wit_model.proofs.OnePath.{some-same}
 use Rattle.plan_meaning.specs.NothingElse.{HoldsWorldAlone}
 use Rattle.bind_meaning.proofs.WorldPaths.{world-passes}
 use Rattle.bind_meaning.specs.ByMeaning.{binding_of_world, world_path}
@@ -35,6 +32,9 @@ use Rattle.bind_sections.proofs.BoundLaws.{ok-same}
 use Rattle.bind_sections.proofs.DecodedKeys.{Stands, same-encodings}
 use Rattle.bind_sections.proofs.DecodedPackages.{one-world, same-packages}
 use Rattle.bind_sections.proofs.DecodedWorlds.{same-interfaces}
+use Rattle.base_lemmas.proofs.Bools.{left_of as first_true, right_of as second_true}
+use Rattle.base_lemmas.proofs.Elements.{all-contained}
+use Rattle.std.proofs.lemmas.Option.{same_Some as some-same}
 
 -- ---- what stands where
 

@@ -1,5 +1,5 @@
 -- The keys of the functions of a world, by what it means.
-use Rattle.std.proofs.Common.{◌≡◌, ◌∙◌, refl, sym, ap, subst, ℕ, ◌==◌, Bool, true, false, not, List, [], ◌∷◌, map, filter_map, option_map, option_and_then, unwrap_or, Option, Some, None, Ok, Err, Contains, String}
+use Rattle.std.proofs.Common.{◌≡◌, ◌∙◌, refl, sym, ap, subst, ℕ, ◌==◌, true, false, not, List, [], ◌∷◌, map, filter_map, option_map, option_and_then, unwrap_or, Option, Some, None, Ok, Err, Contains, String}
 use Rattle.std.specs.Prelude.{Result, is_some}
 use Rattle.std.specs.List.{list_all}
 use Rattle.std.specs.Option.{option_map_or}
@@ -29,8 +29,7 @@ use Rattle.wit_model.specs.Meant.{entries_meaning, entry_meaning, function_meani
 use Rattle.wit_model.specs.Rules.{is_id, is_interface_key, passes}
 use Rattle.wit_model.specs.Uses.{has, item_interface, items_of}
 use Rattle.wit_model.specs.Valid.{IsValid}
-use Rattle.wit_model.proofs.Elements.{contains-flat, contains-map, contains-one, equal, none-in, one-contained, same-some}
-use Rattle.wit_model.proofs.Lists.{first_true, second_true}
+use Rattle.wit_model.proofs.Elements.{contains-flat, none-in}
 use Rattle.wit_model.proofs.NameLaws.{label_lacks, spelled_path_reads}
 use Rattle.wit_model.proofs.VersionLaws.{valid_parts}
 use Rattle.semver.specs.declared.Version.{Version}
@@ -38,7 +37,7 @@ use Rattle.semver.specs.declared.error.Error.{Error as VersionError}
 use Rattle.semver.specs.Identifiers.{parts_of, version_text}
 use Rattle.semver.specs.Parse.{Parts}
 use Rattle.semver.proofs.Grammar.{version_parts-complete}
-use Rattle.wit_model.proofs.OnePath.{HasPath, has-path, named-path, package-name, path-label, some-of}
+use Rattle.wit_model.proofs.OnePath.{HasPath, has-path, named-path, package-name, path-label}
 use Rattle.bind_meaning.specs.ByMeaning.{entry_keys, functions_by_name, keys_of_entry}
 use Rattle.bind_meaning.specs.Encodings.{Encodings, all_encoded}
 use Rattle.bind_meaning.specs.Keys.{canonical_identity, canonical_part, scope_under, text_under}
@@ -48,12 +47,14 @@ use Rattle.wit_bind.specs.Keys.{function_key, scope_of}
 use Rattle.wit_bind.proofs.ValidKeys.{canonical-by-name}
 use Rattle.bind_sections.proofs.DecodedWorlds.{meaning-at, shown-at, shown_map}
 use Rattle.bind_meaning.proofs.Listed.{contains-find, find-contains, from-flat, from-map}
+use Rattle.base_lemmas.proofs.Bools.{left_of as first_true, right_of as second_true}
+use Rattle.base_lemmas.proofs.Elements.{contains-map, contains-one, last_of as one-contained}
+use Rattle.base_lemmas.proofs.Numbers.{equal}
+use Rattle.base_lemmas.proofs.Options.{there as some-of}
+use Rattle.std.proofs.lemmas.Bool.{not-true as isnt}
+use Rattle.std.proofs.lemmas.Option.{same_Some as same-some}
 
 -- ---- labels have no version
-
-isnt : (b : Bool) → not b ≡ true → b ≡ false
-isnt true n = let no : ⊥ = cc in absurd no
-isnt false n = refl
 
 uncut : (c : ℕ) (t : Text) → list_all (λ b. not (b == c)) t ≡ true → cut c t ≡ None
 unfolding cut

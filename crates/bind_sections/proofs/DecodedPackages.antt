@@ -19,21 +19,22 @@ use Rattle.wit_model.specs.Meant.{world_meaning}
 use Rattle.wit_model.specs.Rules.{has_items, in_list, interface_belongs, is_id, package_number, passes, text_is}
 use Rattle.wit_model.specs.Uses.{has, item_interface, items_of}
 use Rattle.wit_model.specs.Valid.{IsValid, is_place, names_in_packages, numbers_in_range, places}
-use Rattle.wit_model.proofs.Elements.{all-contained, contains-flat, contains-get, contains-later, contains-map, contains-one, equal, get-contains, one-contained}
-use Rattle.wit_model.proofs.Lists.{first_true, second_true}
+use Rattle.wit_model.proofs.Elements.{contains-flat, contains-get}
 use Rattle.wit_model.proofs.NameLaws.{spelled_path_reads}
-use Rattle.wit_model.proofs.OnePath.{HasPath, found-in, has-path, package-name, package-passes, path-label, some-same}
+use Rattle.wit_model.proofs.OnePath.{HasPath, found-in, has-path, package-name, package-passes, path-label}
 use Rattle.bind_meaning.specs.Binding.{package_text}
 use Rattle.bind_meaning.specs.ByMeaning.{package_of_path}
 use Rattle.plan_meaning.specs.NothingElse.{PackagesAreUsed}
 use Rattle.bind_meaning.specs.ByNumbers.{package_texts, worlds_by_path}
 use Rattle.bind_sections.proofs.DecodedWorlds.{path-of, path-shown, shown_map}
-use Rattle.bind_meaning.proofs.Listed.{first-contained, from-flat, from-map, same-texts}
+use Rattle.bind_meaning.proofs.Listed.{from-flat, from-map, same-texts}
+use Rattle.base_lemmas.proofs.Bools.{left_of as first_true, right_of as second_true}
+use Rattle.base_lemmas.proofs.Elements.{all-contained, contains-later, contains-map, contains-one, first-contained, get-contains, last_of as one-contained}
+use Rattle.base_lemmas.proofs.Numbers.{equal}
+use Rattle.std.proofs.lemmas.Option.{same_Some as some-same}
+use Rattle.bind_carry.proofs.NamesGained.{home_is as id-is}
 
 -- a number that an option has
-id-is : (n : ℕ) (o : Option PackageId) → is_id n (package_number o) ≡ true → (id : PackageId) × (o ≡ Some id) × (id.0 ≡ n)
-id-is n None e = let no : ⊥ = cc in absurd no
-id-is n (Some id) e = (id, refl, equal id.0 n e)
 
 named-by : (t : Text) (o : Option (String Global)) → text_is o t ≡ true → (name : String Global) × (o ≡ Some name)
 named-by t None e = let no : ⊥ = cc in absurd no

@@ -15,11 +15,13 @@ use Rattle.wit_model.specs.Meaning.{InterfaceMeaning}
 use Rattle.wit_model.specs.Meant.{by_path, interface_meaning, interface_meaning_at, no_interface}
 use Rattle.wit_model.specs.Uses.{has, item_interface, items_of, shown_by}
 use Rattle.wit_model.specs.Valid.{IsValid}
-use Rattle.wit_model.proofs.Elements.{contains-filter_map, contains-get, contains-map, contains-one, get-contains, has-contains}
-use Rattle.wit_model.proofs.OnePath.{path-once, some-of}
+use Rattle.wit_model.proofs.Elements.{contains-filter_map, contains-get, has-contains}
+use Rattle.wit_model.proofs.OnePath.{path-once}
 use Rattle.bind_meaning.proofs.Maps.{by_tie}
 use Rattle.bind_meaning.specs.ByNumbers.{interfaces_by_path}
-use Rattle.bind_meaning.proofs.Listed.{contains-filter, contains-find, find-contains, from-filter, from-given, from-map, given, mapped, same-entries}
+use Rattle.bind_meaning.proofs.Listed.{contains-find, find-contains, from-given, from-map, given, mapped, same-entries}
+use Rattle.base_lemmas.proofs.Elements.{contains-map, contains-one, filter_keeps as contains-filter, filter_kept as from-filter, get-contains}
+use Rattle.base_lemmas.proofs.Options.{there as some-of}
 
 -- ---- interfaces
 

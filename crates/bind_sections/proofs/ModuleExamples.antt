@@ -21,9 +21,9 @@ use Rattle.wit_metadata.specs.Carried.{contents_under, last_of}
 use Rattle.wit_metadata.specs.Encodings.{section_name}
 use Rattle.wit_metadata.specs.Modules.{Framed, IsFrontless, module_preamble}
 use Rattle.wit_metadata.specs.Said.{said_by}
-use Rattle.bind_sections.proofs.Steps.{none-some}
 use Rattle.bind_sections.specs.SectionBindings.{RefusesSection}
 use Rattle.bind_sections.specs.Bound.{CarryData, IsBound, IsRefused}
+use Rattle.std.proofs.lemmas.Option.{none-some}
 
 -- how many bytes there are
 abbrev count : List ℕ → ℕ

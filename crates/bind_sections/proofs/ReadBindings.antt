@@ -10,8 +10,6 @@ use Rattle.wit_model.specs.Names.{PackageIdentity, path_in}
 use Rattle.wit_model.specs.Meaning.{WorldMeaning, WorldPackage}
 use Rattle.wit_model.specs.Rules.{are_distinct}
 use Rattle.wit_model.proofs.Distinct.{text_eq_flip}
-use Rattle.wit_model.proofs.Lists.{first_true, second_true}
-use Rattle.wit_model.proofs.OnePath.{some-same}
 use Rattle.comp_bytes.specs.Reading.{◌>>=◌}
 use Rattle.comp_bytes.proofs.Readers.{bind_some, when_some}
 use Rattle.comp_meaning.specs.Follow.{Scope, Seen, each}
@@ -28,6 +26,10 @@ use Rattle.bind_meaning.proofs.Maps.{by_tie, found_keys, has_key, itself_ties}
 use Rattle.bind_meaning.proofs.UnionLaws.{union_is_binding}
 use Rattle.bind_sections.specs.Bound.{Binds}
 use Rattle.bind_sections.specs.BoundLaws.{BoundAreBindings, SectionsAreBindings}
+use Rattle.base_lemmas.proofs.Bools.{left_of as first_true, right_of as second_true}
+use Rattle.std.proofs.lemmas.Bool.{not-true as is_false}
+use Rattle.std.proofs.lemmas.Option.{same_Some as some-same}
+use Rattle.plan_meaning.proofs.KeptTypes.{distinct_same as same_test}
 
 -- ---- the world that was read
 
@@ -71,10 +73,6 @@ world_read d m read =
 
 -- ---- its binding
 
-same_test : (ts : List Text) → are_distinct ts ≡ distinct ts
-same_test [] = refl
-same_test (t ∷ ts) = ap (λ b. not (list_any (text_eq t) ts) && b) (same_test ts)
-
 same_keys : (xs : List Seen) → map (λ e. e.0) (map entry xs) ≡ map (λ s. s.key) xs
 same_keys [] = refl
 same_keys (x ∷ xs) = ap (λ ts. x.key ∷ ts) (same_keys xs)
@@ -93,10 +91,6 @@ none_found es k h = by (find text_cmp k es) refl
     by : (o : Option _) → find text_cmp k es ≡ o → o ≡ None
     by None e = refl
     by (Some x) e = let wrong : true ≡ false = sym (ap is_some e) ∙ (found_keys k es ∙ h) in let no : ⊥ = cc in absurd no
-
-is_false : (b : Bool) → not b ≡ true → b ≡ false
-is_false true h = let no : ⊥ = cc in absurd no
-is_false false h = refl
 
 -- the path of the world alone leads to a world
 apart_at : {X Y : Type 0} (is : Bool) (o : Option X) (w : Y) → (is ≡ true → o ≡ None) → Stand o (cond is (Some w) None) → ⊥

@@ -5,8 +5,6 @@ use Rattle.wit_model.specs.declared.error.Error.{Error}
 use Rattle.wit_model.specs.declared.error.Error.TheVariants as errors
 use Rattle.wit_model.specs.declared.model.StringEncoding.{StringEncoding}
 use Rattle.wit_model.specs.declared.model.StringEncoding.TheVariants as encodings
-use Rattle.wit_model.proofs.Elements.{equal}
-use Rattle.wit_model.proofs.OnePath.{some-same}
 use Rattle.bind_meaning.specs.ByMeaning.{binding_of_world}
 use Rattle.bind_meaning.specs.Roots.{root_binding}
 use Rattle.bind_meaning.specs.Union.{union}
@@ -16,6 +14,8 @@ use Rattle.wit_metadata.specs.Encodings.{code_of, contents_of, encoding_at, sect
 use Rattle.wit_metadata.specs.Said.{said_by, said_by_code}
 use Rattle.bind_sections.proofs.BoundLaws.{ok-same}
 use Rattle.bind_sections.specs.BoundLaws.{BoundSectionsMean, OneSectionBinds}
+use Rattle.base_lemmas.proofs.Numbers.{equal}
+use Rattle.std.proofs.lemmas.Option.{same_Some as some-same}
 
 -- ---- what is said
 

@@ -8,8 +8,6 @@ use Rattle.std.proofs.lemmas.List.{length-append}
 use Rattle.wit_model.specs.declared.error.Error.{Error}
 use Rattle.wit_model.specs.declared.model.StringEncoding.{StringEncoding}
 use Rattle.wit_model.specs.Meaning.{WorldPackage}
-use Rattle.wit_model.proofs.Elements.{equal, same-number}
-use Rattle.wit_model.proofs.OnePath.{some-same}
 use Rattle.comp_bytes.specs.Form.{Sequence}
 use Rattle.comp_bytes.specs.Frames.{IsCustom, IsFrame}
 use Rattle.comp_bytes.specs.Reading.{frame_at, name_at}
@@ -25,11 +23,10 @@ use Rattle.wit_metadata.proofs.ModuleLaws.{named-end, one-custom, sequence-end}
 use Rattle.bind_sections.specs.SectionBindings.{RefusesSection}
 use Rattle.bind_sections.specs.Bound.{Binds, CarryData, HasSections, IsClashError, IsLeftOver, IsRefused, Refuses, SectionMeans}
 use Rattle.bind_sections.specs.Steps.{IsDataInFront, IsReadTo, LeftOversEnd, OthersArePassed, ReadingBegins, ReadingEnds, RefusalsEnd, WorldsAreBound}
+use Rattle.base_lemmas.proofs.Numbers.{equal, same-number}
+use Rattle.std.proofs.lemmas.Option.{none-some, same_Some as some-same}
 
 -- ---- the section in front
-
-pub none-some : {A : Type 0} (x : A) → None ≡ Some x → ⊥
-none-some x e = let no : ⊥ = cc in no
 
 no-name : (f : Framed) → f.0 ≡ 0 → name_at f.1 ≡ None → IsNamed f → ⊥
 no-name f custom none named =

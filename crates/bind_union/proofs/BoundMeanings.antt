@@ -1,5 +1,5 @@
 -- The bound world means what it meant, followed by what is new in the other's bound world.
-use Rattle.std.proofs.Common.{◌≡◌, refl, sym, ap, subst, ◌∙◌, ℕ, zero, suc, arith, Bool, true, false, cond, List, [], ◌∷◌, ◌++◌, map, filter, Option, Some, None, is_none, is_some}
+use Rattle.std.proofs.Common.{◌≡◌, refl, sym, ap, subst, ◌∙◌, ℕ, arith, Bool, true, false, cond, List, [], ◌∷◌, ◌++◌, map, filter, Option, Some, None, is_none, is_some}
 use Rattle.std.specs.List.{Contains, AllByRecursion, IsDistinct}
 use Rattle.std.specs.FinMap.{find}
 use Rattle.wit_model.specs.declared.model.Resolve.{Resolve}
@@ -14,7 +14,6 @@ use Rattle.wit_model.specs.Valid.{Keeps, KeepsRules}
 use Rattle.wit_model.specs.Checks.{references}
 use Rattle.wit_model.specs.Rules.{entries_in_range}
 use Rattle.wit_model.proofs.Distinct.{text_eq_flip}
-use Rattle.wit_model.proofs.Elements.{none-in, contains-later, contains-map}
 use Rattle.wit_model.proofs.Maps.{there_some}
 use Rattle.bind_meaning.specs.Union.{followed_by}
 use Rattle.std.proofs.lemmas.List.{map-append}
@@ -26,18 +25,11 @@ use Rattle.bind_union.proofs.Namesakes.{entry_under, find_is}
 use Rattle.bind_union.proofs.Itself.{itself, carried_itself, joined_itself, world_range}
 use Rattle.bind_union.proofs.Kept.{below}
 use Rattle.bind_union.proofs.Meanings.{has_path, key_means, item_means, entries_mean}
+use Rattle.base_lemmas.proofs.Elements.{all_at, contains-later, contains-map}
+use Rattle.std.proofs.lemmas.List.Elements.{Contains-append_right as behind}
 
 abbrev texts : Resolve → List (WorldKey × WorldItem) → List Text
 texts r es = map (λ (e : WorldKey × WorldItem). key_text r e.0) es
-
-all_at : {A : Type 0} (P : A → Type 0) (xs : List A) → AllByRecursion P xs → (x : A) → Contains xs x → P x
-all_at P [] h x c = none-in x c
-all_at P (y ∷ xs) h x (zero, l, e) = subst P e h.0
-all_at P (y ∷ xs) h x (suc k, l, e) = all_at P xs h.1 x (k, omega (arith, l), e)
-
-behind : {A : Type 0} (xs ys : List A) (y : A) → Contains ys y → Contains (xs ++ ys) y
-behind [] ys y c = c
-behind (x ∷ xs) ys y c = contains-later x (xs ++ ys) y (behind xs ys y c)
 
 -- no text before is this one
 before_apart : (xs ys : List Text) → IsDistinct text_eq (xs ++ ys) → (q : Text) → Contains ys q → AllByRecursion (λ k. text_eq k q ≡ false) xs

@@ -4,7 +4,7 @@ use Rattle.std.specs.Prelude.{String}
 use Rattle.std.specs.declared.alloc.Global.{Global}
 use Rattle.std.specs.List.{list_all, flat_map}
 use Rattle.std.specs.Option.{option_map_or}
-use Rattle.std.proofs.lemmas.Bool.{or_right}
+use Rattle.std.proofs.lemmas.Bool.{or_right, and_from as both}
 use Rattle.std.proofs.lemmas.List.Folds.{list_all-append}
 use Rattle.semver.specs.declared.Version.{Version}
 use Rattle.semver.specs.Identifiers.{parts_of, parts_text}
@@ -27,7 +27,6 @@ use Rattle.wit_model.specs.Uses.{has}
 use Rattle.wit_model.specs.Rules.{passes, in_list, package_number}
 use Rattle.wit_model.specs.Valid.{Keeps, KeepsRules, numbers_in_range}
 use Rattle.wit_model.specs.Checks.{references}
-use Rattle.wit_model.proofs.Lists.{first_true, second_true}
 use Rattle.wit_model.proofs.Entries.{each_from_all, lists_pass, types_keep}
 use Rattle.wit_model.proofs.TreeTable.{kept_numbers}
 use Rattle.wit_model.proofs.Checks.{below_at}
@@ -37,10 +36,13 @@ use Rattle.wit_model.proofs.OnePath.{found-in}
 use Rattle.bind_union.specs.Views.{renamed_type}
 use Rattle.bind_union.specs.Images.{HasImageKind, AreCarried, RefersBelow}
 use Rattle.bind_union.specs.Carried.{Renumbering, owner_under, carries_owner, IsSameName, IsNamesake, IsType, IsInterface, IsCarried}
-use Rattle.wit_model.proofs.Elements.{all-contained, has-contains, same-number, both}
+use Rattle.wit_model.proofs.Elements.{has-contains}
 use Rattle.bind_union.proofs.Lists.{each_at, no_true}
 use Rattle.bind_union.proofs.Images.{same_trees, numbers_of_view}
 use Rattle.bind_union.proofs.ViewTests.{numbers_same}
+use Rattle.base_lemmas.proofs.Bools.{left_of as first_true, right_of as second_true}
+use Rattle.base_lemmas.proofs.Elements.{all-contained}
+use Rattle.base_lemmas.proofs.Numbers.{same-number}
 
 -- ---- rules of a valid one
 

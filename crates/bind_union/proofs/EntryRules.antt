@@ -4,7 +4,7 @@ use Rattle.std.specs.Prelude.{String}
 use Rattle.std.specs.declared.alloc.Global.{Global}
 use Rattle.std.specs.List.{list_all}
 use Rattle.std.specs.Option.{option_map_or}
-use Rattle.std.proofs.lemmas.Bool.{lt-ltb}
+use Rattle.std.proofs.lemmas.Bool.{lt-ltb, and_from as both}
 use Rattle.std.proofs.lemmas.Option.{slice_get_within}
 use Rattle.wit_model.specs.declared.model.Resolve.{Resolve}
 use Rattle.wit_model.specs.declared.model.Function.{Function}
@@ -20,14 +20,14 @@ use Rattle.wit_model.specs.Uses.{item_interface}
 use Rattle.wit_model.specs.Rules.{passes, in_list, is_id, text_is, key_in_range, item_in_range, key_label, item_labels, is_freestanding, is_name_key, is_interface_key, is_own_type, import_stands, export_stands, is_member}
 use Rattle.wit_model.specs.Valid.{Keeps, KeepsRules, as_world, item_function}
 use Rattle.wit_model.specs.Checks.{references}
-use Rattle.wit_model.proofs.Lists.{first_true, second_true}
-use Rattle.wit_model.proofs.Elements.{equal, same-number, both}
 use Rattle.bind_union.specs.Carried.{Renumbering, owner_under, KeyBecomes, ItemBecomes, EntryBecomes, IsFunctionCopy, IsInterface, IsCarried}
 use Rattle.bind_union.specs.Joined.{Joined, none, met, added}
 use Rattle.bind_union.proofs.Lists.{no_true}
 use Rattle.bind_union.proofs.Homes.{owner_equal, owner_itself}
 use Rattle.bind_union.proofs.TypeRules.{named_alike, stability_alike}
 use Rattle.bind_union.proofs.FunctionRules.{freestanding_under, function_range_passes, function_labels_pass, member_passes}
+use Rattle.base_lemmas.proofs.Bools.{left_of as first_true, right_of as second_true}
+use Rattle.base_lemmas.proofs.Numbers.{equal, same-number}
 
 -- what each entry passes, what is added passes
 pub added_pass : (f : Renumbering) (own : List (WorldKey × WorldItem)) (p q : WorldKey × WorldItem → Bool) → ((a b : WorldKey × WorldItem) → EntryBecomes f a b → p a ≡ true → q b ≡ true)

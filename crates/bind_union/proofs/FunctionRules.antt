@@ -4,7 +4,7 @@ use Rattle.std.specs.Prelude.{String, codes, if◌then◌else◌}
 use Rattle.std.specs.declared.alloc.Global.{Global}
 use Rattle.std.specs.List.{list_all, flat_map}
 use Rattle.std.specs.Option.{option_map_or}
-use Rattle.std.proofs.lemmas.Bool.{or_left, or_right, lt-ltb}
+use Rattle.std.proofs.lemmas.Bool.{or_left, or_right, lt-ltb, and_from as both}
 use Rattle.std.proofs.lemmas.List.Folds.{list_all-append, list_all-map}
 use Rattle.std.proofs.lemmas.Option.{slice_get_within, slice_get-map}
 use Rattle.wit_model.specs.declared.model.Resolve.{Resolve}
@@ -26,18 +26,20 @@ use Rattle.wit_model.specs.Parts.{member_types, function_types, function_numbers
 use Rattle.wit_model.specs.Rules.{passes, in_list, is_id, is_freestanding, are_member_labels, function_labels, is_shallow, function_stays, function_in_range, is_resource_itself, resource_name, is_own_of, is_borrow_of, type_is, is_result_of_own, constructs, takes_self, after_prefix, is_member_name, is_member_of, is_member}
 use Rattle.wit_model.specs.Valid.{Keeps, KeepsRules}
 use Rattle.wit_model.specs.Checks.{references}
-use Rattle.wit_model.proofs.Lists.{first_true, second_true, list_all_filter_map}
-use Rattle.wit_model.proofs.Elements.{equal, same-number, both}
+use Rattle.wit_model.proofs.Lists.{list_all_filter_map}
 use Rattle.std.proofs.lemmas.Simd.{map-map}
 use Rattle.std.proofs.lemmas.List.{map-append}
 use Rattle.bind_union.specs.Views.{kind_view, renamed_type}
 use Rattle.bind_union.specs.Images.{HasImageKind}
 use Rattle.bind_union.specs.Carried.{Renumbering, owner_under, call_under, IsType, IsFunctionCopy, IsCarried}
-use Rattle.bind_union.proofs.Lists.{no_true, all_two}
+use Rattle.bind_union.proofs.Lists.{no_true}
 use Rattle.bind_union.proofs.ViewTests.{view_ok, view_own, view_borrow, ok_by_view, ok_under, own_by_view, own_under, borrow_by_view, borrow_under, numbers_under, number_under, one_given}
 use Rattle.bind_union.proofs.Carrying.{kind_carried, image_kind, used_same}
 use Rattle.bind_union.proofs.Homes.{owner_equal, owner_itself, alias_there, members_of_all}
 use Rattle.bind_union.proofs.TypeRules.{stability_alike, values_pass, no_resource_passes, shallow_passes, all_owned}
+use Rattle.base_lemmas.proofs.Bools.{left_of as first_true, right_of as second_true}
+use Rattle.base_lemmas.proofs.Elements.{all_two}
+use Rattle.base_lemmas.proofs.Numbers.{equal, same-number}
 
 -- ---- kinds of functions
 

@@ -16,9 +16,7 @@ use Rattle.wit_model.specs.Uses.{alias_target}
 use Rattle.wit_model.specs.Rules.{passes, is_resource_itself}
 use Rattle.wit_model.specs.Valid.{Keeps, KeepsRules}
 use Rattle.wit_model.specs.Checks.{references}
-use Rattle.wit_model.proofs.Lists.{first_true, second_true}
 use Rattle.wit_model.proofs.Checks.{below_at}
-use Rattle.wit_model.proofs.Elements.{equal, same-number}
 use Rattle.wit_model.proofs.Resources.{resource_step}
 use Rattle.bind_union.specs.Views.{renamed_type}
 use Rattle.bind_union.specs.Images.{HasImageKind}
@@ -26,6 +24,8 @@ use Rattle.bind_union.specs.Carried.{Renumbering, Rises, owner_under, carries_ow
 use Rattle.bind_union.proofs.Lists.{no_true}
 use Rattle.bind_union.proofs.ViewTests.{alias_same, resource_same, number_under}
 use Rattle.bind_union.proofs.Carrying.{references_of, kind_carried}
+use Rattle.base_lemmas.proofs.Bools.{left_of as first_true, right_of as second_true}
+use Rattle.base_lemmas.proofs.Numbers.{equal, same-number}
 
 -- ---- kinds
 

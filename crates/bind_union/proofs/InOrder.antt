@@ -2,17 +2,19 @@
 use Rattle.std.proofs.Common.{◌≡◌, refl, sym, ap, subst, ◌∙◌, ℕ, ◌+◌, Bool, true, false, ◌||◌, cond, not, ◌==◌, List, [], ◌∷◌, ◌++◌, map}
 use Rattle.std.specs.Prelude.{count_by}
 use Rattle.std.specs.List.{AllZip, list_all}
-use Rattle.std.proofs.lemmas.Bool.{or_right}
+use Rattle.std.proofs.lemmas.Bool.{or_right, and_from as both}
 use Rattle.std.proofs.lemmas.List.Sums.{sum_by-cons}
 use Rattle.wit_model.specs.Uses.{has}
 use Rattle.wit_model.specs.Rules.{each_after}
-use Rattle.wit_model.proofs.Lists.{first_true, second_true}
-use Rattle.wit_model.proofs.Elements.{equal, same-number, contains-has, has-contains, contains-map, both}
+use Rattle.wit_model.proofs.Elements.{contains-has, has-contains}
 use Rattle.bind_meaning.proofs.Listed.{from-map}
 use Rattle.bind_union.specs.Carried.{Rises}
 use Rattle.bind_union.proofs.Lists.{no_true, after_of_map}
 use Rattle.bind_union.proofs.Homes.{apart}
-use Rattle.bind_union.proofs.UsedInterfaces.{passes_at}
+use Rattle.base_lemmas.proofs.Bools.{left_of as first_true, right_of as second_true}
+use Rattle.base_lemmas.proofs.Elements.{contains-map}
+use Rattle.base_lemmas.proofs.Numbers.{equal, same-number}
+use Rattle.wit_model.proofs.Chains.{all_has as passes_at}
 
 -- what passes on the one side passes on the other
 pub zip_all : {A B : Type 0} (R : A → B → Type 0) (p : A → Bool) (q : B → Bool) → ((a : A) (b : B) → R a b → p a ≡ true → q b ≡ true) → (xs : List A) (ys : List B) → AllZip R xs ys → list_all p xs ≡ true → list_all q ys ≡ true
@@ -22,11 +24,6 @@ zip_all R p q one (x ∷ xs) [] z h = absurd z
 zip_all R p q one (x ∷ xs) (y ∷ ys) z h = both _ _ (one x y z.0 (first_true _ _ h)) (zip_all R p q one xs ys z.1 (second_true (p x) _ h))
 
 -- what the relation makes equal is one list
-pub zip_map : {A B X : Type 0} (R : A → B → Type 0) (g : A → X) (h : B → X) → ((a : A) (b : B) → R a b → h b ≡ g a) → (xs : List A) (ys : List B) → AllZip R xs ys → map h ys ≡ map g xs
-zip_map R g h one [] [] z = refl
-zip_map R g h one [] (y ∷ ys) z = absurd z
-zip_map R g h one (x ∷ xs) [] z = absurd z
-zip_map R g h one (x ∷ xs) (y ∷ ys) z = λ i. one x y z.0 i ∷ zip_map R g h one xs ys z.1 i
 
 pub has_map : (f : ℕ → ℕ) (ns : List ℕ) (n : ℕ) → has ns n ≡ true → has (map f ns) (f n) ≡ true
 has_map f ns n h = contains-has (map f ns) (f n) (contains-map f ns n (has-contains ns n h))

@@ -4,7 +4,7 @@ use Rattle.std.specs.Prelude.{String}
 use Rattle.std.specs.declared.alloc.Global.{Global}
 use Rattle.std.specs.List.{list_all, list_any}
 use Rattle.std.specs.Option.{option_map_or}
-use Rattle.std.proofs.lemmas.Bool.{lt-ltb}
+use Rattle.std.proofs.lemmas.Bool.{lt-ltb, and_from as both}
 use Rattle.std.proofs.lemmas.List.Folds.{list_all-map}
 use Rattle.indexmap.specs.IndexMap.{keys, values}
 use Rattle.wit_model.specs.declared.model.Resolve.{Resolve}
@@ -19,17 +19,16 @@ use Rattle.wit_model.specs.Uses.{direct_deps}
 use Rattle.wit_model.specs.Rules.{passes, is_stability, function_labels, interface_type_numbers, is_named_of, used_by_number, are_in_order, function_stays, is_shallow, is_member}
 use Rattle.wit_model.specs.Valid.{Keeps, KeepsRules, as_interface, functions_of_interface, labels, order_of_types, owners, handles, depths, function_names}
 use Rattle.wit_model.specs.Checks.{references}
-use Rattle.wit_model.proofs.Lists.{first_true, second_true, list_any_mapped}
-use Rattle.wit_model.proofs.Elements.{both}
 use Rattle.std.proofs.lemmas.Simd.{map-map}
 use Rattle.wit_model.proofs.OnePath.{interface-passes}
 use Rattle.bind_union.specs.Carried.{Renumbering, owner_under, IsFunctionEntry, IsInterface, IsInterfaceCopy, IsCarried}
-use Rattle.bind_union.proofs.Lists.{all_two}
 use Rattle.bind_union.proofs.Homes.{owner_equal, owner_itself}
 use Rattle.bind_union.proofs.TypeRules.{named_alike, label_alike, stability_alike, used, used_there}
 use Rattle.bind_union.proofs.FunctionRules.{function_labels_pass, function_stays_passes, function_handles_pass, function_depths_pass, member_passes}
 use Rattle.bind_union.proofs.UsedInterfaces.{deps_there}
-use Rattle.bind_union.proofs.InOrder.{zip_all, zip_map, order_there}
+use Rattle.bind_union.proofs.InOrder.{zip_all, order_there}
+use Rattle.base_lemmas.proofs.Bools.{left_of as first_true, right_of as second_true}
+use Rattle.base_lemmas.proofs.Elements.{all_two, any_of_map as list_any_mapped, zip_map}
 
 module _ (r s : Resolve) (f : Renumbering) (valid : KeepsRules r) (is : IsCarried r s f) (below_s : Keeps references s) where
   -- a named type of an owner is one of the new owner

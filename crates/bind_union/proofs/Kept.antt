@@ -13,10 +13,9 @@ use Rattle.wit_model.specs.Parts.{function_types, is_resource_type}
 use Rattle.wit_model.specs.Rules.{passes, each_from, each_after, is_stability, entries_labels, is_name_key, is_shallow, is_member, function_stays, import_stands, export_stands, uses_stand_before}
 use Rattle.wit_model.specs.Valid.{Rule, Keeps, KeepsRules, as_world, item_function, functions_of_world, labels, owners, shapes, named_kinds, handles, depths, function_names, world_items, order_of_items}
 use Rattle.wit_model.specs.Checks.{references}
-use Rattle.wit_model.proofs.Lists.{first_true, second_true}
 use Rattle.wit_model.proofs.Entries.{free_passes}
-use Rattle.wit_model.proofs.Elements.{none-in, both}
-use Rattle.std.proofs.lemmas.Bool.{lt-ltb}
+use Rattle.wit_model.proofs.Elements.{none-in}
+use Rattle.std.proofs.lemmas.Bool.{lt-ltb, and_from as both}
 use Rattle.std.proofs.lemmas.Option.{slice_get_within}
 use Rattle.bind_meaning.proofs.WorldPaths.{world-passes}
 use Rattle.bind_union.specs.Carried.{Renumbering, EntryBecomes, IsFunctionCopy}
@@ -25,10 +24,12 @@ use Rattle.bind_union.proofs.TypeRules.{shape_passes, named_passes, handle_passe
 use Rattle.bind_union.proofs.InterfaceRules.{interface_labels_pass, interface_owners_pass, interface_handles_pass, interface_depths_pass, interface_members_pass}
 use Rattle.bind_union.proofs.FunctionRules.{function_stays_passes, function_handles_pass, function_depths_pass}
 use Rattle.bind_union.proofs.EntryRules.{added_pass, entry_function, entry_member, entry_import_stands, entry_export_stands}
-use Rattle.bind_union.proofs.WorldOrder.{items, walk, item_stands, after_append, holds_itself, covers_none, Holds}
+use Rattle.bind_union.proofs.WorldOrder.{items, walk, item_stands, holds_itself, covers_none, Holds}
 use Rattle.bind_union.proofs.WorldRules.{by_entries, world_labels_pass, world_owners_pass, world_handles_pass, world_depths_pass, world_members_pass, world_items_pass, world_order_passes}
 use Rattle.bind_union.proofs.Itself.{itself, joined_itself, world_range}
 use Rattle.bind_union.proofs.Sources.{Source, own_source, below_there, each_type, each_interface, each_world, each_joined}
+use Rattle.base_lemmas.proofs.Bools.{left_of as first_true, right_of as second_true}
+use Rattle.wit_model.proofs.Shown.{after_append}
 
 pub kept : (rule : Rule) (s : Resolve) → each_from (rule.package_ s) 0 s.packages.items ≡ true → each_from (rule.interface_ s) 0 s.interfaces.items ≡ true → each_from (rule.world_ s) 0 s.worlds.items ≡ true → each_from (rule.type_ s) 0 s.types.items ≡ true → Keeps rule s
 kept rule s ps is ws ts = both _ _ ps (both _ _ is (both _ _ ws ts))

@@ -1,8 +1,8 @@
 -- In what was merged every number is in range.
 use Rattle.std.proofs.Common.{◌≡◌, refl, sym, ap, subst, ◌∙◌, ℕ, ◌<◌, ◌≤◌, arith, Bool, true, false, ◌&&◌, ◌==◌, not, List, [], length, map, Option, Some, None, option_map}
 use Rattle.std.specs.List.{list_all}
-use Rattle.std.proofs.lemmas.Bool.{lt-ltb}
-use Rattle.std.proofs.lemmas.Option.{slice_get_within}
+use Rattle.std.proofs.lemmas.Bool.{lt-ltb, and_from as both}
+use Rattle.std.proofs.lemmas.Option.{slice_get_within, same_Some as same-some}
 use Rattle.std.proofs.lemmas.List.Folds.{list_all-map}
 use Rattle.indexmap.specs.IndexMap.{values}
 use Rattle.wit_model.specs.declared.model.Resolve.{Resolve}
@@ -16,13 +16,11 @@ use Rattle.wit_model.specs.Parts.{kind_numbers}
 use Rattle.wit_model.specs.Rules.{passes, in_list, package_number, owner_in_range, function_in_range, entries_in_range, interface_type_numbers, key_in_range, item_in_range}
 use Rattle.wit_model.specs.Checks.{references}
 use Rattle.wit_model.specs.Valid.{Keeps, KeepsRules, is_place, functions_of_interface, numbers_in_range}
-use Rattle.wit_model.proofs.Lists.{first_true, second_true}
-use Rattle.wit_model.proofs.Elements.{equal, same-some, both}
 use Rattle.wit_model.proofs.OnePath.{found-in, interface-passes}
 use Rattle.bind_meaning.proofs.WorldPaths.{world-passes}
 use Rattle.bind_union.specs.Carried.{Renumbering, owner_under, carries_owner}
 use Rattle.bind_union.specs.Merged.{IsMerged}
-use Rattle.bind_union.proofs.Lists.{all_two, each_by_number}
+use Rattle.bind_union.proofs.Lists.{each_by_number}
 use Rattle.bind_union.proofs.ViewTests.{numbers_same}
 use Rattle.bind_union.proofs.Images.{numbers_of_view}
 use Rattle.bind_union.proofs.FunctionRules.{function_range_passes}
@@ -34,6 +32,9 @@ use Rattle.bind_union.proofs.Sources.{Source, own_joined, each_world, each_inter
 use Rattle.bind_union.proofs.Kept.{kept, own_imports_pass, own_exports_pass}
 use Rattle.bind_union.proofs.KeptTypes.{ours, once, twice, below_s, each_of_three}
 use Rattle.bind_union.proofs.KeptPackages.{all_stand, ranges_hold}
+use Rattle.base_lemmas.proofs.Bools.{left_of as first_true, right_of as second_true}
+use Rattle.base_lemmas.proofs.Elements.{all_two}
+use Rattle.base_lemmas.proofs.Numbers.{equal}
 
 place_below : (n k : ℕ) → n < k → k ≤ 4294967295 → is_place n ≡ true
 place_below n k low few = go (n == 4294967295) refl

@@ -1,8 +1,8 @@
 -- In what was merged no two packages have one name.
 use Rattle.std.proofs.Common.{◌≡◌, ◌⊎◌, inl, inr, refl, sym, ap, subst, ◌∙◌, ℕ, Bool, true, false, ◌&&◌, ◌||◌, ◌==◌, not, List, Option, Some, None, option_map}
 use Rattle.std.specs.Option.{option_eq}
-use Rattle.std.proofs.lemmas.Bool.{or_left, or_right}
-use Rattle.std.proofs.lemmas.Option.{slice_get_within}
+use Rattle.std.proofs.lemmas.Bool.{or_left, or_right, and_from as both}
+use Rattle.std.proofs.lemmas.Option.{slice_get_within, same_Some as same-some}
 use Rattle.semver.specs.declared.Version.{Version}
 use Rattle.semver.specs.Identifiers.{parts_of}
 use Rattle.wit_model.specs.declared.model.Resolve.{Resolve}
@@ -13,16 +13,16 @@ use Rattle.wit_model.specs.Names.{is_label, is_version}
 use Rattle.wit_model.specs.Lookup.{package_at}
 use Rattle.wit_model.specs.Rules.{passes, each_from, same_version, same_package_name}
 use Rattle.wit_model.specs.Valid.{Keeps, KeepsRules, package_names}
-use Rattle.wit_model.proofs.Lists.{first_true, second_true}
 use Rattle.wit_model.proofs.Entries.{free_passes}
 use Rattle.wit_model.proofs.Distinct.{text_eq_flip}
-use Rattle.wit_model.proofs.Elements.{same-some, equal, same-number, both}
 use Rattle.wit_model.proofs.OnePath.{package-passes}
 use Rattle.bind_union.specs.Carried.{Renumbering, IsSameName}
 use Rattle.bind_union.specs.Merged.{PackageStands, grown, brought, IsKeptPackage, IsPackageOf, IsMerged}
-use Rattle.bind_union.proofs.Lists.{no_true, each_at, each_by_number}
+use Rattle.bind_union.proofs.Lists.{each_at, each_by_number}
 use Rattle.bind_union.proofs.TypeRules.{version_alike, are_parts}
 use Rattle.bind_union.proofs.Kept.{kept}
+use Rattle.base_lemmas.proofs.Bools.{left_of as first_true, right_of as second_true}
+use Rattle.base_lemmas.proofs.Numbers.{equal, same-number, turned as number_flip}
 
 -- ---- names by their texts
 
@@ -38,14 +38,6 @@ versions_by_parts (Some a) (Some b) = refl
 same_name : (a b c d : PackageName) → IsSameName a b → IsSameName c d → same_package_name b d ≡ same_package_name a c
 same_name a b c d x y = λ i. text_eq (x.namespace i) (y.namespace i) && (text_eq (x.name i) (y.name i)
     && (versions_by_parts b.version d.version ∙ ((λ j. option_eq same_parts (x.version j) (y.version j)) ∙ sym (versions_by_parts a.version c.version))) i)
-
-number_flip : (m n : ℕ) → (m == n) ≡ (n == m)
-number_flip m n = go (m == n) refl (n == m) refl
-  where
-    go : (a : Bool) → (m == n) ≡ a → (b : Bool) → (n == m) ≡ b → (m == n) ≡ (n == m)
-    go true e b d = e ∙ sym (subst (λ (k : ℕ). (n == k) ≡ true) (sym (equal m n e)) (same-number n))
-    go false e false d = e ∙ sym d
-    go false e true d = no_true (sym e ∙ subst (λ (k : ℕ). (m == k) ≡ true) (sym (equal n m d)) (same-number m))
 
 version_flip : (a b : Option Version) → option_eq same_version a b ≡ option_eq same_version b a
 version_flip None None = refl

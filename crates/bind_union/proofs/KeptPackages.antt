@@ -4,8 +4,8 @@ use Rattle.std.specs.Prelude.{String}
 use Rattle.std.specs.declared.alloc.Global.{Global}
 use Rattle.std.specs.List.{list_all}
 use Rattle.std.specs.Option.{option_map_or}
-use Rattle.std.proofs.lemmas.Bool.{lt-ltb, or_right}
-use Rattle.std.proofs.lemmas.Option.{slice_get_within}
+use Rattle.std.proofs.lemmas.Bool.{lt-ltb, or_right, and_from as both}
+use Rattle.std.proofs.lemmas.Option.{slice_get_within, same_Some as same-some}
 use Rattle.std.proofs.lemmas.List.Folds.{list_all-append, list_all-map}
 use Rattle.indexmap.specs.IndexMap.{values}
 use Rattle.wit_model.specs.declared.model.Resolve.{Resolve}
@@ -17,18 +17,19 @@ use Rattle.wit_model.specs.Text.{Text, text_of, text_eq}
 use Rattle.wit_model.specs.Lookup.{package_at, interface_at, world_at}
 use Rattle.wit_model.specs.Rules.{passes, in_list, is_id, text_is, package_number, interface_belongs, world_belongs, names_itself, is_world_name}
 use Rattle.wit_model.specs.Valid.{Keeps, KeepsRules, is_place, numbers_in_range, places, names_in_packages}
-use Rattle.wit_model.proofs.Lists.{first_true, second_true}
 use Rattle.wit_model.proofs.Entries.{free_passes}
-use Rattle.wit_model.proofs.Elements.{same-some, equal, both}
 use Rattle.wit_model.proofs.OnePath.{found-in, package-passes}
 use Rattle.bind_union.specs.Carried.{Renumbering}
 use Rattle.bind_union.specs.Merged.{interface_names, world_names, IsJoinedPackage, PackageStands, grown, brought, IsKeptPackage, IsPackageOf, IsMerged}
-use Rattle.bind_union.proofs.Lists.{no_true, all_two, each_by_number}
+use Rattle.bind_union.proofs.Lists.{no_true, each_by_number}
 use Rattle.bind_union.proofs.EntryRules.{text_alike}
 use Rattle.bind_union.proofs.FunctionRules.{id_under}
 use Rattle.bind_union.proofs.Itself.{get_begin}
 use Rattle.bind_union.proofs.Kept.{kept}
 use Rattle.bind_union.proofs.PackageNames.{names_pass}
+use Rattle.base_lemmas.proofs.Bools.{left_of as first_true, right_of as second_true}
+use Rattle.base_lemmas.proofs.Elements.{all_two}
+use Rattle.base_lemmas.proofs.Numbers.{equal}
 
 -- the interface is there, and has this name and this package
 abbrev pub is_interface_of : Resolve → ℕ → Text × ℕ → Bool

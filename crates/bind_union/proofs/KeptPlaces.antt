@@ -1,11 +1,11 @@
 -- In what was merged interfaces and worlds stand in their packages, and each inline interface in one world.
-use Rattle.std.proofs.Common.{◌≡◌, ◌⊎◌, inl, inr, refl, sym, ap, subst, ◌∙◌, ℕ, zero, suc, ◌<◌, ◌≤◌, ◌+◌, arith, Bool, true, false, ◌&&◌, ◌||◌, ◌==◌, not, List, [], ◌∷◌, ◌++◌, append-nil, length, filter_map, Option, Some, None, option_map, option_and_then, is_some, slice_get}
+use Rattle.std.proofs.Common.{◌≡◌, ◌⊎◌, inl, inr, refl, sym, ap, subst, ◌∙◌, ℕ, zero, suc, ◌<◌, ◌≤◌, ◌+◌, arith, Bool, true, false, ◌&&◌, ◌||◌, ◌==◌, not, List, [], ◌∷◌, ◌++◌, append-nil, length, filter_map, Option, Some, None, option_map, option_and_then, is_some}
 use Rattle.std.specs.Prelude.{String, sum_by}
 use Rattle.std.specs.declared.alloc.Global.{Global}
 use Rattle.std.specs.List.{list_all, Contains}
 use Rattle.std.specs.Option.{option_map_or, option_eq}
-use Rattle.std.proofs.lemmas.Bool.{lt-ltb, or_left, or_right}
-use Rattle.std.proofs.lemmas.Option.{slice_get_within}
+use Rattle.std.proofs.lemmas.Bool.{lt-ltb, or_left, or_right, and_from as both, cases_lt as low_or_high}
+use Rattle.std.proofs.lemmas.Option.{slice_get_within, same_Some as same-some}
 use Rattle.wit_model.specs.declared.model.Resolve.{Resolve}
 use Rattle.wit_model.specs.declared.model.Package.{Package}
 use Rattle.wit_model.specs.declared.model.PackageId.{PackageId}
@@ -18,9 +18,8 @@ use Rattle.wit_model.specs.Lookup.{package_at, interface_at, world_at}
 use Rattle.wit_model.specs.Uses.{has, item_interface, items_of}
 use Rattle.wit_model.specs.Rules.{passes, each_from, in_list, is_id, package_number, interface_is_listed, world_is_listed, is_world_name, times_shown}
 use Rattle.wit_model.specs.Valid.{Keeps, KeepsRules, places}
-use Rattle.wit_model.proofs.Lists.{first_true, second_true}
 use Rattle.wit_model.proofs.Entries.{free_passes}
-use Rattle.wit_model.proofs.Elements.{same-some, equal, same-number, all-contained, get-contains, none-in, both}
+use Rattle.wit_model.proofs.Elements.{none-in}
 use Rattle.wit_model.proofs.VersionLaws.{same_text}
 use Rattle.wit_model.proofs.OnePath.{found-in, interface-passes}
 use Rattle.bind_meaning.proofs.WorldPaths.{world-passes}
@@ -32,12 +31,15 @@ use Rattle.bind_union.specs.Merged.{interface_names, world_names, is_name, IsJoi
 use Rattle.bind_union.proofs.Lists.{no_true, each_by_number}
 use Rattle.bind_union.proofs.WorldOrder.{items, numbers_append}
 use Rattle.bind_union.proofs.Itself.{get_begin, world_range}
-use Rattle.bind_union.proofs.Sources.{low_or_high, each_interface_of_three, each_world}
+use Rattle.bind_union.proofs.Sources.{each_interface_of_three, each_world}
 use Rattle.bind_union.proofs.Kept.{kept}
 use Rattle.bind_union.proofs.KeptPackages.{is_interface_of, is_world_of, interfaces_stand, worlds_stand, all_stand, places_hold, found_option}
 use Rattle.bind_union.proofs.KeptNumbers.{interface_package, world_package}
 use Rattle.bind_union.proofs.PackageNames.{added_from, name_append, interfaces_by_name, worlds_by_name, world_name_listed, found_name, still_found, copy_found, found_behind}
 use Rattle.bind_union.proofs.Shown.{one_sums, one_of_sum, shown, times_are, shown_append, not_shown, past_not_shown, shown_from, same_times}
+use Rattle.base_lemmas.proofs.Bools.{left_of as first_true, right_of as second_true}
+use Rattle.base_lemmas.proofs.Elements.{all-contained, all_by_number as all_by_get, get-contains}
+use Rattle.base_lemmas.proofs.Numbers.{equal, same-number}
 
 types_free : (s : Resolve) → each_from (places.type_ s) 0 s.types.items ≡ true
 unfolding places
@@ -76,10 +78,6 @@ world_place r n w = λ j. some w.«package» j && option_map_or (world_is_listed
     some : (p : Option PackageId) → is_some p ≡ is_some (package_number p)
     some None = refl
     some (Some p) = refl
-
-all_by_get : {A : Type 0} (test : A → Bool) (xs : List A) → ((k : ℕ) (x : A) → slice_get xs k ≡ Some x → test x ≡ true) → list_all test xs ≡ true
-all_by_get test [] h = refl
-all_by_get test (x ∷ xs) h = both _ _ (h 0 x refl) (all_by_get test xs (λ k y e. h (suc k) y e))
 
 option_itself : (p : Option ℕ) → option_eq ◌==◌ p p ≡ true
 option_itself None = refl

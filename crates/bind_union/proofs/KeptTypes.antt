@@ -5,8 +5,8 @@ use Rattle.std.specs.Map.{lookup}
 use Rattle.std.specs.declared.alloc.Global.{Global}
 use Rattle.std.specs.List.{list_all}
 use Rattle.std.specs.Option.{option_map_or}
-use Rattle.std.proofs.lemmas.Bool.{lt-ltb}
-use Rattle.std.proofs.lemmas.Option.{slice_get_within}
+use Rattle.std.proofs.lemmas.Bool.{lt-ltb, and_from as both, cases_lt as low_or_high}
+use Rattle.std.proofs.lemmas.Option.{slice_get_within, same_Some as same-some}
 use Rattle.wit_model.specs.declared.model.Resolve.{Resolve}
 use Rattle.wit_model.specs.declared.model.World.{World}
 use Rattle.wit_model.specs.declared.model.TypeDef.{TypeDef}
@@ -22,16 +22,14 @@ use Rattle.wit_model.specs.Uses.{has}
 use Rattle.wit_model.specs.Rules.{passes, is_id, is_name_key, in_list, each_from, each_after, entries_in_range, key_in_range, item_in_range, item_type, world_type_numbers, is_named_of, is_listed, is_listed_in_interface, is_listed_in_world, used_by_number, are_in_order}
 use Rattle.wit_model.specs.Valid.{Keeps, KeepsRules, as_world, order_of_types}
 use Rattle.wit_model.specs.Checks.{references}
-use Rattle.wit_model.proofs.Lists.{first_true, second_true}
 use Rattle.wit_model.proofs.Entries.{free_passes}
-use Rattle.wit_model.proofs.Elements.{same-some, equal, both}
 use Rattle.std.proofs.lemmas.List.{map-append}
 use Rattle.wit_model.proofs.OnePath.{found-in}
 use Rattle.bind_meaning.proofs.WorldPaths.{world-passes}
 use Rattle.bind_union.specs.Carried.{Renumbering, owner_under, copies_owner, ItemBecomes, IsType}
 use Rattle.bind_union.specs.Joined.{Joined, none, met, added}
 use Rattle.bind_union.specs.Merged.{IsMerged, IsCopyUnder}
-use Rattle.bind_union.proofs.Lists.{no_true, all_two, each_by_number}
+use Rattle.bind_union.proofs.Lists.{no_true, each_by_number}
 use Rattle.bind_union.proofs.TypeRules.{type_passes}
 use Rattle.bind_union.proofs.InterfaceRules.{interface_order_passes, all_named_of, number_uses}
 use Rattle.bind_union.proofs.InOrder.{after_weaker}
@@ -39,8 +37,11 @@ use Rattle.bind_union.proofs.WorldOrder.{items, numbers_append}
 use Rattle.bind_union.proofs.WorldRules.{world_types_pass}
 use Rattle.bind_union.proofs.Listed.{listed_in_interface, listed_in_world, stays_listed}
 use Rattle.bind_union.proofs.Itself.{map_same, world_range}
-use Rattle.bind_union.proofs.Sources.{Source, own_source, first_source, second_source, copy_refers, low_or_high, each_interface, each_joined}
+use Rattle.bind_union.proofs.Sources.{Source, own_source, first_source, second_source, copy_refers, each_interface, each_joined}
 use Rattle.bind_union.proofs.Kept.{kept, below}
+use Rattle.base_lemmas.proofs.Bools.{left_of as first_true, right_of as second_true}
+use Rattle.base_lemmas.proofs.Elements.{all_two}
+use Rattle.base_lemmas.proofs.Numbers.{equal}
 
 -- numbers that are copied aren't those that were there
 fresh_added : (f : Renumbering) (own : List (WorldKey × WorldItem)) (k : ℕ) → ((m : ℕ) → f.copies_type m ≡ true → k ≤ f.types m) → (n : ℕ) → n < k → (olds news : List (WorldKey × WorldItem)) → Joined f own olds news → has (filter_map item_type (items news)) n ≡ false

@@ -19,14 +19,13 @@ use Rattle.wit_model.specs.Uses.{has}
 use Rattle.wit_model.specs.Rules.{is_id, is_name_key, item_type, interface_type_numbers, is_listed_in_interface, is_listed_in_world}
 use Rattle.wit_model.specs.Valid.{Keeps, KeepsRules}
 use Rattle.wit_model.specs.Checks.{references}
-use Rattle.wit_model.proofs.Lists.{first_true, second_true}
-use Rattle.wit_model.proofs.Elements.{equal, same-number, contains-has, contains-filter_map, contains-map, both}
+use Rattle.wit_model.proofs.Elements.{contains-has, contains-filter_map}
 use Rattle.wit_model.proofs.AnyOrder.{text-same}
 use Rattle.wit_model.proofs.Distinct.{text_eq_flip}
 use Rattle.std.proofs.lemmas.List.{map-append}
 use Rattle.bind_union.specs.Carried.{Renumbering, KeyBecomes, ItemBecomes, IsInterface, IsCarried}
 use Rattle.bind_union.specs.Joined.{is_new, same_key, ItemStandsFor, Joined, none, met, added, IsJoined}
-use Rattle.bind_union.proofs.Lists.{no_true, lookup_of_map}
+use Rattle.bind_union.proofs.Lists.{no_true}
 use Rattle.bind_union.proofs.Homes.{apart}
 use Rattle.bind_union.proofs.InOrder.{count_same}
 use Rattle.bind_union.proofs.InterfaceRules as interface_rules
@@ -34,6 +33,11 @@ use Rattle.bind_union.proofs.InterfaceRules.{copies_carried, type_numbers}
 use Rattle.bind_union.proofs.FunctionRules.{id_under}
 use Rattle.bind_union.proofs.UsedInterfaces.{given_contains}
 use Rattle.bind_union.proofs.WorldOrder.{items, type_becomes, type_stands_for}
+use Rattle.base_lemmas.proofs.Bools.{left_of as first_true, right_of as second_true}
+use Rattle.base_lemmas.proofs.Elements.{contains-map}
+use Rattle.base_lemmas.proofs.Maps.{lookup_of_map}
+use Rattle.base_lemmas.proofs.Numbers.{equal, same-number}
+use Rattle.std.proofs.lemmas.Bool.{and_from as both}
 
 -- ---- interfaces
 

@@ -1,24 +1,12 @@
 -- Lists and options that are made entry by entry of others.
-use Rattle.std.proofs.Common.{◌≡◌, refl, sym, ap, ◌∙◌, ℕ, zero, suc, ◌+◌, Bool, true, false, ◌&&◌, ◌||◌, ◌==◌, cond, List, [], ◌∷◌, ◌++◌, map, filter, filter_map, option_map, Option, Some, None, slice_get, subst, arith}
-use Rattle.std.specs.List.{Contains, list_all, list_any, cons_option}
+use Rattle.std.proofs.Common.{◌≡◌, refl, sym, ap, ◌∙◌, ℕ, ◌+◌, Bool, true, false, ◌&&◌, ◌||◌, ◌==◌, cond, List, [], ◌∷◌, ◌++◌, map, filter, Some, slice_get, subst, arith}
 use Rattle.std.proofs.lemmas.Bool.{eqb-true, or_right}
 use Rattle.wit_model.specs.Uses.{has}
-use Rattle.std.specs.Map.{lookup}
 use Rattle.wit_model.specs.Rules.{each_from, each_after}
-use Rattle.wit_model.proofs.Lists.{first_true, second_true}
 use Rattle.wit_model.proofs.Entries.{each_from_at, each_from_all}
-use Rattle.wit_model.proofs.Elements.{both}
 use Rattle.std.proofs.lemmas.List.{map-append}
 
 -- ---- lists
-
-pub filter_of_map : {A B C : Type 0} (f : B → Option C) (g : A → B) (xs : List A) → filter_map f (map g xs) ≡ filter_map (λ x. f (g x)) xs
-filter_of_map f g [] = refl
-filter_of_map f g (x ∷ xs) = ap (λ ys. cons_option (f (g x)) ys) (filter_of_map f g xs)
-
-pub any_of_map : {A B : Type 0} (test : B → Bool) (g : A → B) (xs : List A) → list_any test (map g xs) ≡ list_any (λ x. test (g x)) xs
-any_of_map test g [] = refl
-any_of_map test g (x ∷ xs) = ap (λ b. test (g x) || b) (any_of_map test g xs)
 
 pub after_of_map : {A B : Type 0} (test : List B → B → Bool) (g : A → B) (before xs : List A) → each_after test (map g before) (map g xs) ≡ each_after (λ ys x. test (map g ys) (g x)) before xs
 after_of_map test g before [] = refl
@@ -26,24 +14,10 @@ after_of_map test g before (x ∷ xs) =
     ap (λ ys. test (map g before) (g x) && each_after test ys (map g xs)) (sym (map-append g before (x ∷ [])))
     ∙ ap (λ b. test (map g before) (g x) && b) (after_of_map test g (before ++ x ∷ []) xs)
 
-pub lookup_of_map : {A B K X : Type 0} (test : K → Bool) (g : A → K) (h : B → X) (es : List (A × B)) → lookup test (map (λ e. (g e.0, h e.1)) es) ≡ option_map h (lookup (λ a. test (g a)) es)
-lookup_of_map test g h [] = refl
-lookup_of_map test g h (e ∷ es) = go (test (g e.0)) (lookup_of_map test g h es)
-  where
-    go : (b : Bool) → lookup test (map (λ x. (g x.0, h x.1)) es) ≡ option_map h (lookup (λ a. test (g a)) es)
-        → cond b (Some (h e.1)) (lookup test (map (λ x. (g x.0, h x.1)) es)) ≡ option_map h (cond b (Some e.1) (lookup (λ a. test (g a)) es))
-    go true rest = refl
-    go false rest = rest
-
 pub no_true : {A : Type 0} → false ≡ true → A
 no_true e = let wrong : ⊥ = cc in absurd wrong
 
 -- ---- two tests that make a third
-
-pub all_two : {A : Type 0} (p q s : A → Bool) → ((x : A) → p x ≡ true → q x ≡ true → s x ≡ true) → (xs : List A) → list_all p xs ≡ true → list_all q xs ≡ true → list_all s xs ≡ true
-all_two p q s make [] h k = refl
-all_two p q s make (x ∷ xs) h k =
-    both (s x) (list_all s xs) (make x (first_true (p x) (list_all p xs) h) (first_true (q x) (list_all q xs) k)) (all_two p q s make xs (second_true (p x) (list_all p xs) h) (second_true (q x) (list_all q xs) k))
 
 -- ---- each, by its number
 
@@ -79,12 +53,3 @@ filter_has p (x ∷ ns) n h = go (p x) refl h (filter_has p ns n)
     go : (c : Bool) → p x ≡ c → has (cond c (x ∷ filter p ns) (filter p ns)) n ≡ true → (has (filter p ns) n ≡ true → (has ns n ≡ true) × (p n ≡ true)) → (has (x ∷ ns) n ≡ true) × (p n ≡ true)
     go true f h rest = front f (x == n) refl h rest
     go false f h rest = let more = rest h in (later more, more.1)
-
-pub filter_map_from : {A B : Type 0} (h : A → Option B) (xs : List A) (y : B) → Contains (filter_map h xs) y → (n : ℕ) × (x : A) × (slice_get xs n ≡ Some x) × (h x ≡ Some y)
-filter_map_from h [] y (i, l, e) = absurd (omega (arith, l))
-filter_map_from h (x ∷ xs) y c = go (h x) refl c (filter_map_from h xs y)
-  where
-    go : (o : Option _) → h x ≡ o → Contains (cons_option o (filter_map h xs)) y → (Contains (filter_map h xs) y → (n : ℕ) × (z : _) × (slice_get xs n ≡ Some z) × (h z ≡ Some y)) → (n : ℕ) × (z : _) × (slice_get (x ∷ xs) n ≡ Some z) × (h z ≡ Some y)
-    go None e c rest = let more = rest c in (suc more.0, more.1, more.2, more.3)
-    go (Some z) e (zero, l, f) rest = (0, x, refl, e ∙ ap Some f)
-    go (Some z) e (suc i, l, f) rest = let more = rest (i, omega (arith, l), f) in (suc more.0, more.1, more.2, more.3)

@@ -1,5 +1,5 @@
 -- Matched interfaces and their types stand in what begins with own lists, and numbers given in order rise.
-use Rattle.std.proofs.Common.{◌≡◌, ◌⊎◌, inl, inr, refl, sym, ap, ◌∙◌, ℕ, zero, suc, ◌<◌, ◌≤◌, ◌+◌, arith, Bool, true, false, List, [], ◌∷◌, length, Option, Some, None, is_some, slice_get, unwrap_or}
+use Rattle.std.proofs.Common.{◌≡◌, ◌⊎◌, inl, inr, refl, sym, ap, ◌∙◌, ℕ, zero, suc, ◌<◌, ◌≤◌, ◌+◌, arith, Bool, true, false, List, [], ◌∷◌, length, Option, Some, None, slice_get, unwrap_or}
 use Rattle.wit_model.specs.Text.{text_of}
 use Rattle.wit_model.specs.Lookup.{interface_path}
 use Rattle.wit_model.specs.Uses.{has, alias_target}
@@ -9,14 +9,11 @@ use Rattle.bind_union.specs.Carried.{owner_under, carries_owner, IsType, IsInter
 use Rattle.bind_union.specs.Matching.{type_names, AreNamesakes, MatchedStand, numbers_of, NumbersRise}
 use Rattle.bind_union.proofs.Lists.{no_true}
 use Rattle.bind_union.proofs.Itself.{get_begin}
-use Rattle.bind_union.proofs.UsedInterfaces.{passes_at}
 use Rattle.bind_union.proofs.Namesakes.{under_contains, number_listed, numbers_are, home_listed, target_named, target_home, matches_are_namesakes, matches_are_onto}
+use Rattle.base_lemmas.proofs.Options.{there as some_of}
+use Rattle.wit_model.proofs.Chains.{all_has as passes_at}
 
 -- ---- matched interfaces
-
-some_of : {X : Type 0} (o : Option X) → is_some o ≡ true → (x : X) × (o ≡ Some x)
-some_of None h = no_true h
-some_of (Some x) h = (x, refl)
 
 pub matched_stand : MatchedStand
 matched_stand own other merged f valid_own valid_other types interfaces matched named_carried types_carried n is no_copy name in_package = (the_interface, the_type)

@@ -27,10 +27,10 @@ use Rattle.wit_model.specs.Meaning.{TypeMeaning, FunctionMeaning, Item, interfac
 use Rattle.wit_model.specs.Meant.{signature_of, function_meaning, type_meaning, type_meaning_at, no_type, interface_meaning, interface_meaning_at, no_interface, interface_item, entry_meaning, entries_meaning, world_meaning, world_meaning_at, no_world}
 use Rattle.wit_model.specs.Valid.{Keeps, KeepsRules, IsValid}
 use Rattle.wit_model.specs.Checks.{references}
-use Rattle.wit_model.proofs.Lists.{first_true, second_true, list_all_filter_map}
-use Rattle.wit_model.proofs.Elements.{equal, none-in, both}
+use Rattle.wit_model.proofs.Lists.{list_all_filter_map}
+use Rattle.wit_model.proofs.Elements.{none-in}
 use Rattle.wit_model.proofs.OnePath.{named-path}
-use Rattle.std.proofs.lemmas.Bool.{lt-ltb}
+use Rattle.std.proofs.lemmas.Bool.{lt-ltb, and_from as both}
 use Rattle.std.proofs.lemmas.Option.{slice_get_within}
 use Rattle.std.proofs.lemmas.Simd.{map-map}
 use Rattle.bind_union.specs.Views.{renamed_type}
@@ -40,10 +40,12 @@ use Rattle.bind_union.specs.Meanings.{OwnMeansTheSame, CopiesMeanTheSame, Merged
 use Rattle.bind_union.proofs.Lists.{no_true}
 use Rattle.bind_union.proofs.Images.{same_declarations}
 use Rattle.bind_union.proofs.Carrying.{references_of, refers_below, carried_types, type_tree_same, path_same}
-use Rattle.bind_union.proofs.InOrder.{zip_map}
 use Rattle.bind_union.proofs.Itself.{itself, carried_itself}
 use Rattle.bind_union.proofs.Sources.{Source, own_source, own_joined}
 use Rattle.bind_union.proofs.Kept.{below}
+use Rattle.base_lemmas.proofs.Bools.{left_of as first_true, right_of as second_true}
+use Rattle.base_lemmas.proofs.Elements.{zip_map}
+use Rattle.base_lemmas.proofs.Numbers.{equal}
 
 async_under : (f : Renumbering) (k : FunctionKind) → is_async (call_under f k) ≡ is_async k
 async_under f call.Freestanding = refl

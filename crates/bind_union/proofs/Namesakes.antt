@@ -2,7 +2,7 @@
 use Rattle.std.proofs.Common.{◌≡◌, ◌⊎◌, inl, inr, refl, sym, ap, subst, ◌∙◌, ℕ, zero, suc, ◌+◌, arith, Bool, true, false, ◌&&◌, ◌||◌, ◌==◌, not, cond, List, [], ◌∷◌, map, nat_lt, Option, Some, None, option_map, is_some, unwrap_or}
 use Rattle.std.specs.Prelude.{String, bytes_eq, count_by}
 use Rattle.std.specs.declared.alloc.Global.{Global}
-use Rattle.std.specs.List.{list_all, list_any, flat_map, Contains}
+use Rattle.std.specs.List.{list_all, Contains}
 use Rattle.std.specs.Option.{option_map_or}
 use Rattle.std.specs.Map.{lookup}
 use Rattle.std.specs.HashMap.{get_by_text}
@@ -31,9 +31,8 @@ use Rattle.wit_model.specs.Meaning.{TypeMeaning, InterfaceSense}
 use Rattle.wit_model.specs.Meant.{interface_meaning, type_meaning, type_meaning_at, no_type}
 use Rattle.wit_model.specs.Rules.{passes, in_list, is_id, package_number, function_in_range, interface_type_numbers, is_listed, is_listed_in_interface, is_named_of, is_named_number, are_in_order, is_use, is_resource_itself, is_named_kind, owner_in_range}
 use Rattle.wit_model.specs.Valid.{IsValid, is_place, as_interface, numbers_in_range, order_of_types, owners, named_kinds}
-use Rattle.wit_model.proofs.Lists.{first_true, second_true}
 use Rattle.wit_model.proofs.AnyOrder.{same-text, text-same}
-use Rattle.wit_model.proofs.Elements.{equal, same-number, same-some, none-in, contains-later, contains-has, has-contains, contains-map}
+use Rattle.wit_model.proofs.Elements.{none-in, contains-has, has-contains}
 use Rattle.wit_model.proofs.Functions.{all_flat}
 use Rattle.wit_model.proofs.OnePath.{path-once, named-path, found-in, interface-passes}
 use Rattle.wit_model.proofs.Owners.{met_step, owned_stays}
@@ -41,12 +40,17 @@ use Rattle.wit_model.proofs.TreeTable.{kept_trees_at}
 use Rattle.std.proofs.lemmas.Simd.{map-map}
 use Rattle.bind_meaning.proofs.Listed.{from-map}
 use Rattle.bind_union.specs.Matching.{type_names, IsMatch, AreMatched, AreNamesakes, MatchesAreNamesakes, MatchesAreOnto}
-use Rattle.bind_union.proofs.Lists.{no_true, lookup_of_map}
+use Rattle.bind_union.proofs.Lists.{no_true}
 use Rattle.bind_union.proofs.Carrying.{references_of}
 use Rattle.bind_union.proofs.Homes.{owner_equal, alias_of_all}
 use Rattle.bind_union.proofs.TypeRules.{type_passes}
 use Rattle.bind_union.proofs.Listed.{under_text, found_by_text}
-use Rattle.bind_union.proofs.UsedInterfaces.{passes_at}
+use Rattle.base_lemmas.proofs.Bools.{left_of as first_true, right_of as second_true}
+use Rattle.base_lemmas.proofs.Elements.{contains-later, contains-map}
+use Rattle.base_lemmas.proofs.Maps.{lookup_of_map}
+use Rattle.base_lemmas.proofs.Numbers.{equal, same-number}
+use Rattle.std.proofs.lemmas.Option.{same_Some as same-some}
+use Rattle.wit_model.proofs.Chains.{all_has as passes_at}
 
 -- ---- kinds
 

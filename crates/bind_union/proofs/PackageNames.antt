@@ -4,19 +4,21 @@ use Rattle.std.specs.Prelude.{bytes_eq}
 use Rattle.std.specs.List.{list_all, list_any, Contains}
 use Rattle.std.specs.Map.{keys_of}
 use Rattle.std.specs.HashMap.{get_by_text}
-use Rattle.std.proofs.lemmas.Bool.{or_left, or_right}
+use Rattle.std.proofs.lemmas.Bool.{or_left, or_right, and_from as both}
 use Rattle.wit_model.specs.declared.model.Package.{Package}
 use Rattle.wit_model.specs.declared.model.InterfaceId.{InterfaceId}
 use Rattle.wit_model.specs.declared.model.WorldId.{WorldId}
 use Rattle.wit_model.specs.Text.{Text, text_of, text_eq}
 use Rattle.wit_model.specs.Rules.{is_id, is_world_name}
-use Rattle.wit_model.proofs.Lists.{first_true, second_true}
-use Rattle.wit_model.proofs.Elements.{equal, contains-later, both}
 use Rattle.wit_model.proofs.AnyOrder.{text-same}
 use Rattle.bind_union.specs.Merged.{interface_names, world_names, is_name, JoinedNames, none, met, left, added}
-use Rattle.bind_union.proofs.Lists.{no_true, lookup_of_map, any_of_map}
+use Rattle.bind_union.proofs.Lists.{no_true}
 use Rattle.bind_union.proofs.FunctionRules.{id_under}
 use Rattle.bind_union.proofs.Listed.{under_text, lookup_append, lookup_first}
+use Rattle.base_lemmas.proofs.Bools.{left_of as first_true, right_of as second_true}
+use Rattle.base_lemmas.proofs.Elements.{any_of_map, contains-later}
+use Rattle.base_lemmas.proofs.Maps.{lookup_of_map}
+use Rattle.base_lemmas.proofs.Numbers.{equal}
 
 -- what each name passes, what is added passes
 pub names_pass : (number : ℕ → ℕ) (copies left_out : ℕ → Bool) (own : List (Text × ℕ)) (p q : Text × ℕ → Bool) → ((name : Text) (old : ℕ) → copies old ≡ true → p (name, old) ≡ true → q (name, number old) ≡ true)

@@ -11,14 +11,15 @@ use Rattle.wit_model.specs.declared.model.WorldItem.{WorldItem}
 use Rattle.wit_model.specs.declared.model.WorldItem.TheVariants as item
 use Rattle.wit_model.specs.Uses.{has, item_interface}
 use Rattle.wit_model.specs.Rules.{is_id, times_shown, key_in_range, item_in_range, entries_in_range}
-use Rattle.wit_model.proofs.Lists.{first_true, second_true}
-use Rattle.wit_model.proofs.Elements.{equal, same-number, same-some}
 use Rattle.std.proofs.lemmas.List.{map-append}
 use Rattle.bind_union.specs.Carried.{Renumbering, Rises, ItemBecomes}
 use Rattle.bind_union.specs.Joined.{Joined, none, met, added}
 use Rattle.bind_union.proofs.Lists.{no_true}
 use Rattle.bind_union.proofs.Homes.{apart}
 use Rattle.bind_union.proofs.WorldOrder.{items, interface_becomes, interface_stands_for, numbers_append, number_in}
+use Rattle.base_lemmas.proofs.Bools.{left_of as first_true, right_of as second_true}
+use Rattle.base_lemmas.proofs.Numbers.{equal, same-number}
+use Rattle.std.proofs.lemmas.Option.{same_Some as same-some}
 
 -- ---- sums of which one is one
 

@@ -1,8 +1,8 @@
 -- Each type, interface and world of what was merged is a copy: of an own one, or of one of the other's, once or twice.
-use Rattle.std.proofs.Common.{◌≡◌, ◌⊎◌, inl, inr, refl, sym, ap, subst, ◌∙◌, ℕ, ◌<◌, ◌≤◌, arith, Bool, true, false, ◌==◌, nat_lt, ltb-true, [], length, Some}
+use Rattle.std.proofs.Common.{◌≡◌, inl, inr, refl, sym, ap, subst, ◌∙◌, ℕ, ◌<◌, Bool, true, false, ◌==◌, nat_lt, ltb-true, [], length, Some}
 use Rattle.std.specs.List.{list_all}
-use Rattle.std.proofs.lemmas.Bool.{lt-ltb}
-use Rattle.std.proofs.lemmas.Option.{slice_get_within}
+use Rattle.std.proofs.lemmas.Bool.{lt-ltb, cases_lt as low_or_high}
+use Rattle.std.proofs.lemmas.Option.{slice_get_within, same_Some as same-some}
 use Rattle.std.proofs.lemmas.List.Folds.{list_all-map}
 use Rattle.wit_model.specs.declared.model.Resolve.{Resolve}
 use Rattle.wit_model.specs.declared.model.Interface.{Interface}
@@ -15,16 +15,17 @@ use Rattle.wit_model.specs.Valid.{Keeps, KeepsRules}
 use Rattle.wit_model.specs.Checks.{references}
 use Rattle.wit_model.proofs.Checks.{below_at}
 use Rattle.wit_model.proofs.Entries.{types_keep}
-use Rattle.wit_model.proofs.Elements.{same-some, equal}
 use Rattle.wit_model.proofs.OnePath.{found-in}
 use Rattle.bind_union.specs.Carried.{Renumbering, IsCarried}
 use Rattle.bind_union.specs.Joined.{IsJoined}
 use Rattle.bind_union.specs.Merged.{IsCopyUnder, IsMerged}
-use Rattle.bind_union.proofs.Lists.{all_two, each_by_number}
+use Rattle.bind_union.proofs.Lists.{each_by_number}
 use Rattle.bind_union.proofs.Images.{numbers_of_view}
 use Rattle.bind_union.proofs.ViewTests.{numbers_same}
 use Rattle.bind_union.proofs.Carrying.{references_of}
 use Rattle.bind_union.proofs.Itself.{get_begin, itself, carried_itself, joined_itself, world_range}
+use Rattle.base_lemmas.proofs.Elements.{all_two}
+use Rattle.base_lemmas.proofs.Numbers.{equal}
 
 -- a `Resolve` of which something is carried into this one
 pub record Source (s : Resolve) : Type 0 where
@@ -43,13 +44,6 @@ copy_refers s c n copy =
     ∙ all_two c.under.carries_type (λ m. nat_lt m n) (λ m. nat_lt (c.under.types m) (c.under.types n)) (λ m d h. lt-ltb (c.under.types m) (c.under.types n) (c.carried.types_rise m n d copy (inl (ltb-true m n h)))) (kind_numbers t.def.kind)
     (ap (list_all c.under.carries_type) (sym (numbers_of_view t.def.kind)) ∙ k.parts)
     (below_at c.from (references_of c.from c.valid) n t.def t.found))
-
-pub low_or_high : (n k : ℕ) → (n < k) ⊎ (k ≤ n)
-low_or_high n k = go (nat_lt n k) refl
-  where
-    go : (b : Bool) → nat_lt n k ≡ b → (n < k) ⊎ (k ≤ n)
-    go true e = inl (ltb-true n k e)
-    go false e = inr (grind (arith, e))
 
 module _ (own other merged : Resolve) (bound other_bound : ℕ) (first second : Renumbering) (left_out : ℕ → Bool) (valid_own : KeepsRules own) (valid_other : KeepsRules other) (is : IsMerged own other merged bound other_bound first second left_out) where
   abbrev pub own_source : Source merged

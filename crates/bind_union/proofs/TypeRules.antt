@@ -4,7 +4,7 @@ use Rattle.std.specs.Prelude.{String, ◌^◌}
 use Rattle.std.specs.declared.alloc.Global.{Global}
 use Rattle.std.specs.List.{list_all, flat_map}
 use Rattle.std.specs.Option.{option_map_or}
-use Rattle.std.proofs.lemmas.Bool.{or_left, or_right, lt-ltb}
+use Rattle.std.proofs.lemmas.Bool.{or_left, or_right, lt-ltb, and_from as both}
 use Rattle.std.proofs.lemmas.List.Folds.{list_all-map}
 use Rattle.semver.specs.declared.Version.{Version}
 use Rattle.semver.specs.Identifiers.{parts_of}
@@ -26,17 +26,18 @@ use Rattle.wit_model.specs.Uses.{alias_target, owner_interface}
 use Rattle.wit_model.specs.Rules.{passes, is_stability, are_member_labels, is_named_kind, is_named_number, is_shallow, is_use}
 use Rattle.wit_model.specs.Valid.{Rule, Keeps, KeepsRules, labels, owners, shapes, named_kinds, handles, depths}
 use Rattle.wit_model.specs.Checks.{references}
-use Rattle.wit_model.proofs.Lists.{first_true, second_true, list_all_filter_map}
+use Rattle.wit_model.proofs.Lists.{list_all_filter_map}
 use Rattle.wit_model.proofs.Entries.{lists_pass}
 use Rattle.wit_model.proofs.Checks.{below_at}
-use Rattle.wit_model.proofs.Elements.{both}
 use Rattle.bind_union.specs.Views.{renamed_type}
 use Rattle.bind_union.specs.Carried.{Renumbering, StabilityView, unknown, stable, unstable, stability_view, owner_under, carries_owner, copies_owner, IsType, IsTypeCopy, IsCarried}
-use Rattle.bind_union.proofs.Lists.{each_at, no_true, all_two}
+use Rattle.bind_union.proofs.Lists.{each_at, no_true}
 use Rattle.bind_union.proofs.ViewTests.{types_same, handled_same, alias_same, labels_same, shape_same, named_same, numbers_same}
 use Rattle.bind_union.proofs.Carrying.{references_of, kind_carried, type_tree_same, used_same}
 use Rattle.bind_union.proofs.Homes as homes
 use Rattle.bind_union.proofs.Homes.{alias_of_all, handled_of_all, members_of_all, resource_same_at, resource_type_same, owner_stays, owner_apart}
+use Rattle.base_lemmas.proofs.Bools.{left_of as first_true, right_of as second_true}
+use Rattle.base_lemmas.proofs.Elements.{all_two}
 
 -- ---- texts
 

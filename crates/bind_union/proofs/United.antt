@@ -3,8 +3,8 @@ use Rattle.std.proofs.Common.{◌≡◌, ◌⊎◌, inl, inr, sym, ap, subst, �
 use Rattle.std.specs.Prelude.{String}
 use Rattle.std.specs.declared.alloc.Global.{Global}
 use Rattle.std.specs.List.{Contains}
-use Rattle.std.proofs.lemmas.Bool.{lt-ltb}
-use Rattle.std.proofs.lemmas.Option.{slice_get_within}
+use Rattle.std.proofs.lemmas.Bool.{lt-ltb, cases_lt as low_or_high}
+use Rattle.std.proofs.lemmas.Option.{slice_get_within, same_Some as same-some}
 use Rattle.wit_model.specs.declared.model.Resolve.{Resolve}
 use Rattle.wit_model.specs.declared.model.Interface.{Interface}
 use Rattle.wit_model.specs.Text.{Text, text_of, optional_text}
@@ -15,16 +15,14 @@ use Rattle.wit_model.specs.Meant.{interface_meaning_at}
 use Rattle.wit_model.specs.Rules.{is_id, text_is, package_number}
 use Rattle.wit_model.specs.Valid.{Keeps, IsValid, HasDistinctKeys}
 use Rattle.wit_model.specs.Checks.{references}
-use Rattle.wit_model.proofs.Lists.{first_true, second_true}
 use Rattle.wit_model.proofs.AnyOrder.{text-same}
-use Rattle.wit_model.proofs.Elements.{same-some, none-in, all-contained}
+use Rattle.wit_model.proofs.Elements.{none-in}
 use Rattle.wit_model.proofs.OnePath.{HasPath, has-path, path-listed, path-once, found-in}
 use Rattle.bind_union.specs.Carried.{Renumbering}
 use Rattle.bind_union.specs.Merged.{interface_names, JoinedNames, none, met, left, added, PackageStands, grown, brought, IsCopyUnder, IsMerged}
 use Rattle.bind_union.specs.Meanings.{OwnMeansTheSame, CopiesMeanTheSame, Shows, ShowsNone, InterfacesAreUnited}
 use Rattle.bind_union.proofs.Lists.{no_true}
 use Rattle.bind_union.proofs.Carrying.{path_parts, path_by, same_identity, path_same}
-use Rattle.bind_union.proofs.Sources.{low_or_high}
 use Rattle.bind_union.proofs.Kept.{below}
 use Rattle.bind_union.proofs.KeptPackages.{is_interface_of, interfaces_stand, found_option}
 use Rattle.bind_union.proofs.PackageNames.{interfaces_by_name}
@@ -32,6 +30,8 @@ use Rattle.bind_union.proofs.Listed.{under_text}
 use Rattle.bind_union.proofs.Namesakes.{some_id, under_contains}
 use Rattle.bind_union.proofs.Meanings.{merged_means}
 use Rattle.bind_union.proofs.Valid.{merged_is_valid}
+use Rattle.base_lemmas.proofs.Bools.{left_of as first_true, right_of as second_true}
+use Rattle.base_lemmas.proofs.Elements.{all-contained}
 
 pub some_name : (o : Option (String Global)) (t : Text) → text_is o t ≡ true → optional_text o ≡ Some t
 some_name None t h = no_true h

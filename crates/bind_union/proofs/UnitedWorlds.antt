@@ -14,11 +14,10 @@ use Rattle.wit_model.specs.Meant.{world_meaning, no_world}
 use Rattle.wit_model.specs.Rules.{passes, in_list, is_id, package_number, same_package_name}
 use Rattle.wit_model.specs.Valid.{Keeps, IsValid}
 use Rattle.wit_model.specs.Checks.{references}
-use Rattle.wit_model.proofs.Lists.{first_true, second_true}
 use Rattle.wit_model.proofs.AnyOrder.{text-same}
 use Rattle.wit_model.proofs.NameLaws.{one_path}
 use Rattle.wit_model.proofs.VersionLaws.{same_name}
-use Rattle.wit_model.proofs.Elements.{same-some, equal, same-number, none-in, all-contained}
+use Rattle.wit_model.proofs.Elements.{none-in}
 use Rattle.wit_model.proofs.OnePath.{package-name, package-once, found-in}
 use Rattle.bind_meaning.proofs.WorldPaths.{HasWorldPath, has-world-path, world-label, world-listed}
 use Rattle.bind_union.specs.Carried.{Renumbering}
@@ -34,6 +33,10 @@ use Rattle.bind_union.proofs.PackageNames.{worlds_by_name, found_name, copy_foun
 use Rattle.bind_union.proofs.Listed.{under_text}
 use Rattle.bind_union.proofs.Namesakes.{some_id, under_contains}
 use Rattle.bind_union.proofs.Meanings.{merged_means}
+use Rattle.base_lemmas.proofs.Bools.{left_of as first_true, right_of as second_true}
+use Rattle.base_lemmas.proofs.Elements.{all-contained}
+use Rattle.base_lemmas.proofs.Numbers.{equal, same-number}
+use Rattle.std.proofs.lemmas.Option.{same_Some as same-some}
 
 -- the path of a world by its name and its package
 pub world_path : (r : Resolve) (w : World) → path_of_world r w ≡ path_by r (Some (text_of w.name)) (package_number w.«package»)

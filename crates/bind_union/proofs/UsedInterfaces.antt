@@ -13,20 +13,22 @@ use Rattle.wit_model.specs.Uses.{has, once, alias_target, owner_interface, used_
 use Rattle.wit_model.specs.Rules.{passes, interface_type_numbers}
 use Rattle.wit_model.specs.Valid.{Keeps, KeepsRules}
 use Rattle.wit_model.specs.Checks.{references}
-use Rattle.wit_model.proofs.Elements.{equal, same-number, same-some, all-contained, has-contains, contains-has, contains-filter_map, contains-later, get-contains, contains-one, contains-map, both}
+use Rattle.wit_model.proofs.Elements.{has-contains, contains-has, contains-filter_map}
 use Rattle.wit_model.proofs.Chains.{has_once}
 use Rattle.bind_meaning.proofs.Listed.{from-map}
 use Rattle.bind_union.specs.Carried.{Renumbering, owner_under, carries_owner, IsType, IsInterface, IsCarried}
-use Rattle.bind_union.proofs.Lists.{no_true, has_filter, filter_has, filter_map_from}
+use Rattle.bind_union.proofs.Lists.{no_true, has_filter, filter_has}
 use Rattle.bind_union.proofs.Homes.{alias_there}
+use Rattle.base_lemmas.proofs.Elements.{contains-later, contains-map, contains-one, filter_map_from, get-contains}
+use Rattle.base_lemmas.proofs.Numbers.{equal, same-number}
+use Rattle.std.proofs.lemmas.Bool.{and_from as both}
+use Rattle.std.proofs.lemmas.Option.{same_Some as same-some}
+use Rattle.wit_model.proofs.Chains.{all_has as passes_at}
 
 -- what each number of a list passes, all pass
 pub all_from_has : (p : ℕ → Bool) (ns : List ℕ) → ((n : ℕ) → has ns n ≡ true → p n ≡ true) → list_all p ns ≡ true
 all_from_has p [] h = refl
 all_from_has p (n ∷ ns) h = both _ _ (h n (ap (λ b. b || has ns n) (same-number n))) (all_from_has p ns (λ m c. h m (contains-has (n ∷ ns) m (contains-later n ns m (has-contains ns m c)))))
-
-pub passes_at : (p : ℕ → Bool) (ns : List ℕ) (n : ℕ) → list_all p ns ≡ true → has ns n ≡ true → p n ≡ true
-passes_at p ns n h c = all-contained p ns n h (has-contains ns n c)
 
 pub given_contains : {X : Type 0} (o : Option X) (x : X) → o ≡ Some x → Contains (option_to_list o) x
 given_contains o x e = subst (λ (p : Option _). Contains (option_to_list p) x) (sym e) (contains-one x)

@@ -17,7 +17,7 @@ use Rattle.wit_model.specs.Rules.{is_id, has_items, is_map_key, has_shape, is_na
 use Rattle.std.proofs.lemmas.Simd.{map-map}
 use Rattle.std.proofs.lemmas.List.{map-append}
 use Rattle.bind_union.specs.Views.{KindView, record_view, variant_view, flags_view, enum_view, tuple_view, resource_view, own_view, borrow_view, option_view, result_view, list_view, map_view, fixed_list_view, future_view, stream_view, alias_view, kind_view, renamed_type, renamed}
-use Rattle.bind_union.proofs.Lists.{filter_of_map}
+use Rattle.base_lemmas.proofs.Lists.{filter_of_map}
 
 -- ---- lists
 

@@ -1,5 +1,5 @@
 -- Imports of one key and one sense stand for each other.
-use Rattle.std.proofs.Common.{◌≡◌, ◌⊎◌, inl, inr, refl, sym, ap, ◌∙◌, ℕ, arith, Bool, true, false, ◌&&◌, ◌||◌, ◌==◌, not, cond, nat_lt, List, [], ◌∷◌, Option, Some, None, option_map, option_and_then, is_some}
+use Rattle.std.proofs.Common.{◌≡◌, ◌⊎◌, inl, inr, refl, sym, ap, ◌∙◌, ℕ, Bool, true, false, ◌&&◌, ◌||◌, ◌==◌, not, nat_lt, [], ◌∷◌, Option, Some, None, option_map, option_and_then, is_some}
 use Rattle.std.specs.Prelude.{String, count_by}
 use Rattle.std.specs.declared.alloc.Global.{Global}
 use Rattle.std.specs.List.{list_all, Contains}
@@ -25,9 +25,7 @@ use Rattle.wit_model.specs.Meaning.{Item, interface, inline, function, declares,
 use Rattle.wit_model.specs.Meant.{type_meaning, type_meaning_at, no_type, interface_item, interface_meaning_at, item_meaning}
 use Rattle.wit_model.specs.Rules.{passes, is_id, text_is, is_name_key, item_type, key_in_range, item_in_range, world_type_numbers, is_listed, is_listed_in_world, import_stands, export_stands, is_use}
 use Rattle.wit_model.specs.Valid.{IsValid, as_interface, as_world, order_of_types, owners, world_items}
-use Rattle.wit_model.proofs.Lists.{first_true, second_true}
 use Rattle.wit_model.proofs.AnyOrder.{text-same}
-use Rattle.wit_model.proofs.Elements.{equal, same-some, contains-later, all-contained}
 use Rattle.wit_model.proofs.Functions.{all_flat}
 use Rattle.wit_model.proofs.OnePath.{path-once, named-path, found-in}
 use Rattle.wit_model.proofs.Owners.{met_step, owned_stays}
@@ -41,16 +39,12 @@ use Rattle.bind_union.proofs.Homes.{owner_equal, alias_of_all}
 use Rattle.bind_union.proofs.TypeRules.{type_passes}
 use Rattle.bind_union.proofs.Itself.{world_range}
 use Rattle.bind_union.proofs.Namesakes.{alias_declares, name_is_alias, resource_declares, declares_resource, is_here, place_in, name_in, named_tree, target_named, IsTarget, same_by_path}
+use Rattle.base_lemmas.proofs.Bools.{left_of as first_true, right_of as second_true}
+use Rattle.base_lemmas.proofs.Elements.{all-contained, lookup_stands}
+use Rattle.base_lemmas.proofs.Numbers.{equal}
+use Rattle.std.proofs.lemmas.Option.{same_Some as same-some}
 
 -- ---- look-ups
-
-pub lookup_stands : {K X : Type 0} (test : K → Bool) (es : List (K × X)) (v : X) → lookup test es ≡ Some v → (k : K) × Contains es (k, v) × (test k ≡ true)
-lookup_stands test [] v h = let wrong : ⊥ = cc in absurd wrong
-lookup_stands {K = K} {X = X} test (e ∷ es) v h = go (lookup_stands {K = K} {X = X} test es v) (test e.0) refl h
-  where
-    go : (lookup test es ≡ Some v → (k : K) × Contains es (k, v) × (test k ≡ true)) → (b : Bool) → test e.0 ≡ b → cond b (Some e.1) (lookup test es) ≡ Some v → (k : K) × Contains (e ∷ es) (k, v) × (test k ≡ true)
-    go rest true t h = (e.0, (0, omega arith, λ i. (e.0, same-some e.1 v h i)), t)
-    go rest false t h = let r = rest h in (r.0, contains-later e es (r.0, v) r.1, r.2)
 
 pub some_id : (n : ℕ) (o : Option ℕ) → is_id n o ≡ true → o ≡ Some n
 some_id n None h = no_true h

@@ -1,7 +1,7 @@
 -- What an item of a world uses stands before it where its copy stands, too.
-use Rattle.std.proofs.Common.{◌≡◌, refl, sym, ap, subst, ◌∙◌, ℕ, Bool, true, false, ◌&&◌, ◌||◌, not, ◌==◌, List, [], ◌∷◌, ◌++◌, append-nil, append_assoc, map, filter, Option, Some, None, option_map, option_to_list, filter_map}
+use Rattle.std.proofs.Common.{◌≡◌, refl, sym, ap, subst, ◌∙◌, ℕ, Bool, true, false, ◌||◌, not, ◌==◌, List, [], ◌∷◌, ◌++◌, append-nil, append_assoc, map, filter, Option, Some, None, option_map, option_to_list, filter_map}
 use Rattle.std.specs.List.{list_all, Contains, cons_option}
-use Rattle.std.proofs.lemmas.Bool.{or_left, or_right}
+use Rattle.std.proofs.lemmas.Bool.{or_left, or_right, and_from as both}
 use Rattle.std.proofs.lemmas.List.Folds.{list_all-map}
 use Rattle.std.proofs.lemmas.List.Elements.{filter_map-append}
 use Rattle.wit_model.specs.declared.model.Resolve.{Resolve}
@@ -13,31 +13,23 @@ use Rattle.wit_model.specs.Uses.{has, item_interface, direct_deps, interface_use
 use Rattle.wit_model.specs.Rules.{is_id, each_after, item_type, used_by_number, used_interfaces, used_types, uses_stand_before}
 use Rattle.wit_model.specs.Valid.{Keeps, KeepsRules, as_world}
 use Rattle.wit_model.specs.Checks.{references}
-use Rattle.wit_model.proofs.Lists.{first_true, second_true}
-use Rattle.wit_model.proofs.Elements.{equal, same-number, contains-has, contains-filter_map, contains-map, both}
+use Rattle.wit_model.proofs.Elements.{contains-has, contains-filter_map}
 use Rattle.wit_model.proofs.Owners.{all_filter}
 use Rattle.bind_union.specs.Carried.{Renumbering, ItemBecomes, EntryBecomes, IsCarried}
 use Rattle.bind_union.specs.Joined.{ItemStandsFor, Joined, none, met, added}
-use Rattle.bind_union.proofs.Lists.{no_true, all_two}
+use Rattle.bind_union.proofs.Lists.{no_true}
 use Rattle.bind_union.proofs.Homes.{owner_back}
 use Rattle.bind_union.proofs.FunctionRules.{function_uses}
 use Rattle.bind_union.proofs.UsedInterfaces.{deps_there, interface_used_there, given_contains}
 use Rattle.bind_union.proofs.InterfaceRules.{number_uses}
+use Rattle.base_lemmas.proofs.Bools.{left_of as first_true, right_of as second_true}
+use Rattle.base_lemmas.proofs.Elements.{all_two, contains-map}
+use Rattle.base_lemmas.proofs.Numbers.{equal, same-number}
 
 abbrev pub items : List (WorldKey × WorldItem) → List WorldItem
 items es = map (λ (e : WorldKey × WorldItem). e.1) es
 
 -- ---- lists in order
-
-pub after_append : {A : Type 0} (t : List A → A → Bool) (before xs ys : List A) → each_after t before (xs ++ ys) ≡ (each_after t before xs && each_after t (before ++ xs) ys)
-after_append t before [] ys = ap (λ b. each_after t b ys) (sym (append-nil before))
-after_append t before (x ∷ xs) ys =
-    ap (λ b. t before x && b) (after_append t (before ++ x ∷ []) xs ys ∙ ap (λ b. each_after t (before ++ x ∷ []) xs && each_after t b ys) (append_assoc before (x ∷ []) xs))
-    ∙ three (t before x) (each_after t (before ++ x ∷ []) xs) (each_after t (before ++ x ∷ xs) ys)
-  where
-    three : (a b c : Bool) → (a && (b && c)) ≡ ((a && b) && c)
-    three true b c = refl
-    three false b c = refl
 
 -- the numbers that items have
 pub numbers_append : (h : WorldItem → Option ℕ) (xs ys : List WorldItem) (m : ℕ) → has (filter_map h (xs ++ ys)) m ≡ (has (filter_map h xs) m || has (filter_map h ys) m)

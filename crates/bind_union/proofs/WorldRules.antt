@@ -4,7 +4,7 @@ use Rattle.std.specs.Prelude.{String}
 use Rattle.std.specs.declared.alloc.Global.{Global}
 use Rattle.std.specs.List.{list_all, cons_option}
 use Rattle.std.specs.Option.{option_map_or}
-use Rattle.std.proofs.lemmas.Bool.{or_right}
+use Rattle.std.proofs.lemmas.Bool.{or_right, and_from as both}
 use Rattle.std.proofs.lemmas.List.Folds.{list_all-append, list_all-map}
 use Rattle.std.proofs.lemmas.List.Elements.{filter_map-append}
 use Rattle.indexmap.specs.IndexMap.{values}
@@ -24,21 +24,23 @@ use Rattle.wit_model.specs.Uses.{has, items_of, item_interface}
 use Rattle.wit_model.specs.Rules.{passes, each_after, key_in_range, item_in_range, entries_in_range, key_label, item_labels, entries_labels, is_stability, is_name_key, item_type, world_type_numbers, is_named_of, is_listed, is_listed_in_world, used_by_number, are_in_order, function_stays, is_shallow, is_member, import_stands, export_stands, uses_stand_before}
 use Rattle.wit_model.specs.Valid.{Keeps, KeepsRules, as_world, item_function, functions_of_world, labels, order_of_types, owners, handles, depths, function_names, world_items, order_of_items}
 use Rattle.wit_model.specs.Checks.{references}
-use Rattle.wit_model.proofs.Lists.{first_true, second_true, list_all_filter_map}
+use Rattle.wit_model.proofs.Lists.{list_all_filter_map}
 use Rattle.wit_model.proofs.InOrder.{found_stands}
-use Rattle.wit_model.proofs.Elements.{both}
 use Rattle.std.proofs.lemmas.List.{map-append}
 use Rattle.bind_meaning.proofs.WorldPaths.{world-passes}
 use Rattle.bind_union.specs.Carried.{Renumbering, EntryBecomes, IsCarried}
 use Rattle.bind_union.specs.Joined.{IsJoined}
-use Rattle.bind_union.proofs.Lists.{no_true, all_two}
+use Rattle.bind_union.proofs.Lists.{no_true}
 use Rattle.bind_union.proofs.Homes.{owner_equal, owner_back}
 use Rattle.bind_union.proofs.TypeRules.{type_passes}
 use Rattle.bind_union.proofs.FunctionRules.{function_stays_passes, function_handles_pass, function_depths_pass}
-use Rattle.bind_union.proofs.UsedInterfaces.{passes_at}
 use Rattle.bind_union.proofs.InterfaceRules.{named_of_there, number_uses}
 use Rattle.bind_union.proofs.EntryRules.{added_pass, entry_range, entry_labels, entry_function, entry_member, entry_import_stands, entry_export_stands}
-use Rattle.bind_union.proofs.WorldOrder.{items, after_append, numbers_right, Covers, Holds, holds_itself, covers_none, covers_more, walk, item_stands, stands_still, numbers_left}
+use Rattle.bind_union.proofs.WorldOrder.{items, numbers_right, Covers, Holds, holds_itself, covers_none, covers_more, walk, item_stands, stands_still, numbers_left}
+use Rattle.base_lemmas.proofs.Bools.{left_of as first_true, right_of as second_true}
+use Rattle.base_lemmas.proofs.Elements.{all_two}
+use Rattle.wit_model.proofs.Chains.{all_has as passes_at}
+use Rattle.wit_model.proofs.Shown.{after_append}
 
 pub all_true : {A : Type 0} (xs : List A) → list_all (λ x. true) xs ≡ true
 all_true [] = refl

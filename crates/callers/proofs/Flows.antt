@@ -1,7 +1,7 @@
 -- What a call says, said of what is made of its answer.
-use Rattle.std.proofs.Common.{◌≡◌, ◌<◌, ℕ, List, length, ap, sym, subst, Result, Ok, Err, IfErr, IfOk, MatchResult, slice_get}
+use Rattle.std.proofs.Common.{◌≡◌, ◌<◌, ℕ, List, length, ap, subst, Result, Ok, Err, MatchResult, slice_get}
 use Rattle.std.proofs.lemmas.Option.{slice_get_within}
-use Rattle.std.specs.Prelude.{IsErrAnd, OnOk}
+use Rattle.std.specs.Prelude.{OnOk}
 use Rattle.wit_model.specs.declared.model.Package.{Package}
 use Rattle.wit_model.specs.declared.model.Resolve.{Resolve}
 use Rattle.wit_model.specs.declared.model.WorldId.{WorldId}
@@ -15,22 +15,12 @@ use Rattle.wit_component.specs.Valid.{IsValid}
 use Rattle.callers.specs.Carried.{MeansTheSame}
 
 -- what is true of the refusal is true of the answer that passes it on
-pub passed : {X E : Type 0} (P : E → Type 0) (r : Result X E) (e : E) → IsErrAnd r (λ d. d ≡ e) → P e → IfErr r P
-passed P (Ok x) e same p = tt
-passed P (Err d) e same p = subst P (sym same) p
 
 -- what is true of each value is true of an answer
-pub if-ok : {X E : Type 0} (P Q : X → Type 0) → ((x : X) → P x → Q x) → (r : Result X E) → IfOk r P → IfOk r Q
-if-ok P Q f (Ok x) h = f x h
-if-ok P Q f (Err e) h = tt
 
 pub on-ok : {X E : Type 0} (A B : Type 0) (F : E → Type 0) → (A → B) → (r : Result X E) → MatchResult r (λ x. A) F → OnOk r B
 on-ok A B F f (Ok x) h = f h
 on-ok A B F f (Err e) h = tt
-
-pub on-ok-of : {X E : Type 0} (A B : Type 0) → (A → B) → (r : Result X E) → OnOk r A → OnOk r B
-on-ok-of A B f (Ok x) h = f h
-on-ok-of A B f (Err e) h = tt
 
 -- The first package is still there.
 pub some-left : (old new : Resolve) (k : ℕ) → BeginsWithRoot old → Extends old new k → 0 < length new.packages.items

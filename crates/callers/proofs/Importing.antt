@@ -10,7 +10,6 @@ use Rattle.wit_model.specs.declared.model.TypeOwner.{TypeOwner}
 use Rattle.wit_model.specs.declared.model.TypeOwner.TheVariants as owner
 use Rattle.wit_model.specs.declared.model.«Type».TheVariants as ty
 use Rattle.wit_model.specs.Types.{number_of}
-use Rattle.wit_model.proofs.Elements.{one-contained}
 use Rattle.wit_component.specs.Fits.{CanEncode}
 use Rattle.wit_component.specs.InterfaceEncoders.{DefinitionsLeaveInterfaces, InterfaceEncoder, InterfaceScope, LeavesInterfaces, interface_encoder_view, packages_of, standing_in, world_of}
 use Rattle.wit_component.specs.Leaves.{Leaves}
@@ -22,6 +21,7 @@ use Rattle.wit_component.specs.Plan.Reaches.{itself, through}
 use Rattle.wit_component.specs.Scope.{Scope}
 use Rattle.wit_component.specs.Valid.{IsValid}
 use Rattle.callers.specs.Encoded.{IsEncoderOf}
+use Rattle.base_lemmas.proofs.Elements.{last_of as one-contained}
 
 -- ---- what is met of a type of another interface
 

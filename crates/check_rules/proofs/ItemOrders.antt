@@ -1,5 +1,5 @@
 -- The order of a world's items, by what is shown and by how far its functions reach.
-use Rattle.std.proofs.Common.{◌≡◌, refl, sym, ap, subst, ◌∙◌, ℕ, suc, ◌+◌, Bool, true, false, ◌&&◌, ◌||◌, not, ◌==◌, nat_le, List, [], ◌∷◌, ◌++◌, take, length, map, filter, filter_map, option_to_list, position, slice_get, Some, None, Option, append_assoc, append-nil, length-append, is_some, arith, String}
+use Rattle.std.proofs.Common.{◌≡◌, refl, sym, ap, subst, ◌∙◌, ℕ, ◌+◌, Bool, true, false, ◌&&◌, ◌||◌, not, ◌==◌, nat_le, List, [], ◌∷◌, ◌++◌, take, length, map, filter, filter_map, option_to_list, position, slice_get, Some, None, Option, append_assoc, append-nil, length-append, is_some, arith, String}
 use Rattle.std.specs.declared.alloc.Global.{Global}
 use Rattle.std.specs.List.{list_all, cons_option}
 use Rattle.std.specs.Option.{option_map_or}
@@ -24,17 +24,18 @@ use Rattle.wit_model.specs.Rules.{is_id, passes, each_from, each_after, is_name_
 use Rattle.wit_model.specs.Valid.{Keeps, as_world, item_function, functions_of_world, function_names, order_of_items, order_of_types, owners}
 use Rattle.wit_model.specs.Checks.{KeepsIn, references, listings, list_orders, rank_of, rank_in, reach_of}
 use Rattle.wit_model.specs.ItemOrders.{uses_are_shown, reaches_within}
-use Rattle.wit_model.proofs.Lists.{first_true, second_true, list_all_filter_map}
+use Rattle.wit_model.proofs.Lists.{list_all_filter_map}
 use Rattle.wit_model.proofs.Entries.{each_from_at, free_passes, lists_pass}
 use Rattle.wit_model.proofs.Checks.{keeps_lists, keeps_three, references_kept}
 use Rattle.wit_model.proofs.Listed.{misfit}
-use Rattle.wit_model.proofs.Listings.{all_imply}
 use Rattle.wit_model.proofs.Owners.{all_filter, function_home}
 use Rattle.check_rules.proofs.Ordered.{highest_flat}
 use Rattle.wit_model.proofs.InOrder.{found, fitting, found_stands, highest_within}
 use Rattle.check_rules.proofs.OwnerOrder.{owned_named, owned_place, owner_same, all_same}
 use Rattle.check_rules.proofs.ListOrders.{before_seam}
 use Rattle.wit_model.proofs.Shown.{after_both, after_append, interfaces_before}
+use Rattle.base_lemmas.proofs.Bools.{left_of as first_true, right_of as second_true}
+use Rattle.base_lemmas.proofs.Elements.{all_by_number as all_at, all_weaker as all_imply}
 
 -- ---- the parts of the rule on the order of types
 
@@ -92,10 +93,6 @@ after_at q before (x ∷ xs) v ys h =
 all_there : {V : Type 0} (p : V → Bool) (xs : List V) (v : V) (ys : List V) → list_all p (xs ++ v ∷ ys) ≡ true → p v ≡ true
 all_there p [] v ys h = first_true _ _ h
 all_there p (x ∷ xs) v ys h = all_there p xs v ys (second_true (p x) _ h)
-
-all_at : {V : Type 0} (p : V → Bool) (xs : List V) → ((q : ℕ) (x : V) → slice_get xs q ≡ Some x → p x ≡ true) → list_all p xs ≡ true
-all_at p [] all = refl
-all_at p (x ∷ xs) all = λ i. all 0 x refl i && all_at p xs (λ q y e. all (suc q) y e) i
 
 all_yes : (p : ℕ → Bool) → ((m : ℕ) → p m ≡ true) → (ns : List ℕ) → list_all p ns ≡ true
 all_yes p all [] = refl

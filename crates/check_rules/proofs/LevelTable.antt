@@ -1,5 +1,5 @@
 -- The unnamed levels of a type may be computed along the list of types, where each refers to smaller numbers alone.
-use Rattle.std.proofs.Common.{◌≡◌, refl, sym, ap, subst, ◌∙◌, ℕ, ◌+◌, ◌<◌, ◌≤◌, min, max, Bool, true, false, ◌&&◌, nat_lt, nat_le, T, ltb→lt, List, [], ◌∷◌, ◌++◌, length, map, filter_map, option_map, option_to_list, Some, None, Option, unwrap_or, append-nil, arith}
+use Rattle.std.proofs.Common.{◌≡◌, refl, sym, ap, subst, ◌∙◌, ℕ, ◌+◌, ◌<◌, ◌≤◌, min, max, true, nat_lt, nat_le, T, ltb→lt, List, [], ◌∷◌, ◌++◌, length, map, filter_map, option_map, option_to_list, Some, None, Option, unwrap_or, append-nil, arith}
 use Rattle.std.specs.List.{list_all, cons_option}
 use Rattle.std.specs.Option.{option_map_or}
 use Rattle.std.proofs.lemmas.Option.{slice_get_past}
@@ -22,19 +22,17 @@ use Rattle.wit_model.specs.Parts.{kind_numbers, function_types}
 use Rattle.wit_model.specs.Rules.{is_shallow}
 use Rattle.wit_model.specs.Valid.{Keeps}
 use Rattle.wit_model.specs.Checks.{references, highest, levels_above, capped_levels, all_values}
-use Rattle.wit_model.proofs.Lists.{first_true, second_true}
 use Rattle.wit_model.proofs.Tables.{grow_keeps}
 use Rattle.wit_model.proofs.TreeTable.{trees_at}
 use Rattle.wit_model.proofs.Checks.{below_at}
 use Rattle.wit_model.proofs.Functions.{types_test, functions_test}
+use Rattle.base_lemmas.proofs.Bools.{and-true, left_of as first_true, right_of as second_true}
+use Rattle.base_lemmas.proofs.Numbers.{max-none}
 
 -- ---- the levels of what a kind declares
 
 max-zero : (n : ℕ) → max 0 n ≡ n
 max-zero n = omega arith
-
-max-none : (n : ℕ) → max n 0 ≡ n
-max-none n = omega arith
 
 module _ (trees : List Tree) where
   abbrev of_number : ℕ → ℕ
@@ -181,10 +179,6 @@ module _ (r : Resolve) where
       ap (λ o. min 101 (levels (unwrap_or o no_tree))) (slice_get_past (trees_of r) n long)
 
 -- ---- the tests, by any levels that agree
-
-and-true : (b : Bool) → (b && true) ≡ b
-and-true true = refl
-and-true false = refl
 
 cap_shallow : (n : ℕ) → nat_le (min 101 n) 100 ≡ nat_le n 100
 cap_shallow n = grind arith

@@ -1,5 +1,5 @@
 -- The third part of the rule on the order of types, by places, for interfaces and worlds.
-use Rattle.std.proofs.Common.{◌≡◌, refl, sym, ap, subst, ◌∙◌, ℕ, zero, suc, ◌+◌, Bool, true, false, ◌&&◌, ◌||◌, not, ◌==◌, T, eqb→eq, eq-eqb, lit≤, List, [], ◌∷◌, ◌++◌, take, length, map, filter_map, option_map, position, string_bytes, Some, None, Option, unwrap_or, arith, String}
+use Rattle.std.proofs.Common.{◌≡◌, refl, sym, ap, subst, ◌∙◌, ℕ, zero, suc, ◌+◌, Bool, true, false, ◌&&◌, ◌||◌, not, ◌==◌, eq-eqb, lit≤, List, [], ◌∷◌, ◌++◌, take, length, map, filter_map, option_map, position, string_bytes, Some, None, Option, unwrap_or, arith, String}
 use Rattle.std.specs.declared.alloc.Global.{Global}
 use Rattle.std.specs.List.{list_all, cons_option}
 use Rattle.std.specs.Option.{option_map_or}
@@ -24,30 +24,21 @@ use Rattle.wit_model.specs.Rules.{passes, is_id, is_name_key, item_type, each_fr
 use Rattle.wit_model.specs.declared.error.EntryList.TheVariants as lists
 use Rattle.wit_model.specs.Valid.{Keeps, Breaks, entry_keeps, owners, order_of_types, as_interface, as_world}
 use Rattle.wit_model.specs.Checks.{references, list_orders, listings, names_fit, has_name, key_fits, rank_in, rank_of, reach_of, stands_in_order}
-use Rattle.wit_model.proofs.Lists.{first_true, second_true}
 use Rattle.wit_model.proofs.Entries.{each_from_at, lists_pass}
 use Rattle.wit_model.proofs.Checks.{keeps_three}
-use Rattle.wit_model.proofs.Listings.{given_all, given_found, all_imply, entry_fits, item_entry_fits}
+use Rattle.wit_model.proofs.Listings.{given_all, given_found, entry_fits, item_entry_fits}
 use Rattle.wit_model.proofs.InOrder.{found, fitting}
 use Rattle.check_rules.proofs.OwnerOrder.{walk, entry_stands}
+use Rattle.base_lemmas.proofs.Bools.{left_of as first_true, or_true, right_of as second_true}
+use Rattle.base_lemmas.proofs.Elements.{all_weaker as all_imply}
+use Rattle.std.proofs.lemmas.Bool.{and_right as second_false}
+use Rattle.wit_model.proofs.Chains.{all_has}
 
 take_map : {X Y : Type 0} (f : X → Y) (n : ℕ) (xs : List X) → map f (take n xs) ≡ take n (map f xs)
 take_map f zero [] = refl
 take_map f (suc n) [] = refl
 take_map f zero (x ∷ xs) = refl
 take_map f (suc n) (x ∷ xs) = ap (λ ys. f x ∷ ys) (take_map f n xs)
-
-pub all_has : (p : ℕ → Bool) (ns : List ℕ) (n : ℕ) → list_all p ns ≡ true → has ns n ≡ true → p n ≡ true
-all_has p [] n h e = let wrong : ⊥ = cc in absurd wrong
-all_has p (m ∷ ns) n h e = go (all_has p ns n (second_true _ _ h)) (m == n) refl e
-  where
-    go : (has ns n ≡ true → p n ≡ true) → (b : Bool) → (m == n) ≡ b → (b || has ns n) ≡ true → p n ≡ true
-    go rest true f g = subst (λ k. p k ≡ true) (eqb→eq m n (subst T (sym f) tt)) (first_true _ _ h)
-    go rest false f g = rest g
-
-or_true : (b : Bool) → (b || true) ≡ true
-or_true true = refl
-or_true false = refl
 
 -- an element of a list stands in it
 stands_there : {V : Type 0} (num : V → Option ℕ) (done : List V) (v : V) (rest : List V) (n : ℕ) → num v ≡ Some n → has (filter_map num (done ++ v ∷ rest)) n ≡ true
@@ -131,10 +122,6 @@ module _ (r : Resolve) (refs : Keeps references r) (kept : Keeps listings r) (fi
         ∙ ap (are_in_order r) (given_all (values i.types))
 
 -- ---- what breaks
-
-second_false : (a b : Bool) → b ≡ false → (a && b) ≡ false
-second_false true b e = e
-second_false false b e = refl
 
 pub interface_order_breaks : (r : Resolve) (n : ℕ) → entry_keeps list_orders r lists.Interfaces n ≡ Some false → Breaks r 5 lists.Interfaces n
 unfolding list_orders order_of_types

@@ -10,9 +10,7 @@ use Rattle.wit_model.specs.Parts.{kind_numbers, met_by, met_of, used_by_type}
 use Rattle.wit_model.specs.Valid.{Keeps}
 use Rattle.wit_model.specs.Checks.{references, highest, rank_in, rank_of, reach_of}
 use Rattle.wit_model.proofs.Owners.{met_step}
-
-max-none : (n : ℕ) → max n 0 ≡ n
-max-none n = omega arith
+use Rattle.base_lemmas.proofs.Numbers.{max-none}
 
 highest_both : (f : ℕ → ℕ) (xs ys : List ℕ) → highest f (xs ++ ys) ≡ max (highest f xs) (highest f ys)
 highest_both f [] ys = omega arith

@@ -18,11 +18,12 @@ use Rattle.wit_model.specs.Parts.{kind_numbers, used_by_type, same_owner, has_ow
 use Rattle.wit_model.specs.Rules.{passes, each_from, each_after, is_use, type_stays, is_listed, is_named_of, used_by_number}
 use Rattle.wit_model.specs.Valid.{Keeps, owners}
 use Rattle.wit_model.specs.Checks.{highest, references, listings, rank_of, reach_of, stands_in_order}
-use Rattle.wit_model.proofs.Lists.{first_true, second_true}
 use Rattle.wit_model.proofs.Entries.{each_from_at, lists_pass}
 use Rattle.wit_model.proofs.Owners.{met_step, owned_stays}
 use Rattle.check_rules.proofs.Ordered.{highest_flat}
 use Rattle.wit_model.proofs.InOrder.{found, fitting, used_place, highest_within}
+use Rattle.base_lemmas.proofs.Bools.{left_of as first_true, right_of as second_true}
+use Rattle.std.proofs.lemmas.Bool.{not-true as not_true}
 
 -- ---- a walk over the list with places is a walk with what stands before
 
@@ -82,10 +83,6 @@ owned_named r kept m def is real = go def.name (subst (λ k. listings.type_ r k 
     go : (o : Option (String Global)) → option_map_or (λ name. is_listed r m (text_of name) def.owner) o (same_owner def.owner owner.None) ≡ true → is_some o ≡ true
     go None h = let wrong : true ≡ false = sym h ∙ real in cc
     go (Some name) h = refl
-
-not_true : (b : Bool) → not b ≡ true → b ≡ false
-not_true true h = sym h
-not_true false h = refl
 
 -- an owner that is an interface is real
 foreign_real : (r : Resolve) (a : TypeOwner) → option_map_or (λ i. option_map_or (λ other. is_some other.name) (interface_at r i) false) (owner_interface a) false ≡ true → same_owner a owner.None ≡ false

@@ -1,7 +1,7 @@
 -- The rule on packages' names from its two parts.
-use Rattle.std.proofs.Common.{◌≡◌, refl, sym, ap, subst, ◌∙◌, ℕ, zero, suc, ◌+◌, ◌<◌, Bool, true, false, ◌&&◌, ◌||◌, not, ◌==◌, List, [], ◌∷◌, map, take, Option, Some, None, option_map, unwrap_or, slice_get, inl, inr, arith, lit≤, eq-eqb, eqb→eq, T}
+use Rattle.std.proofs.Common.{◌≡◌, refl, sym, ap, subst, ◌∙◌, ℕ, zero, suc, ◌+◌, ◌<◌, Bool, true, false, ◌&&◌, ◌||◌, not, ◌==◌, List, [], ◌∷◌, map, take, Option, Some, None, option_map, slice_get, inl, inr, arith, lit≤, eq-eqb}
 use Rattle.std.specs.List.{list_any}
-use Rattle.std.proofs.lemmas.Bool.{cases_order, eqb-true, or_right}
+use Rattle.std.proofs.lemmas.Bool.{cases_order, or_right, and_from as both_true, and_left as fails_first, and_right as fails_second, or_parts as either_fails}
 use Rattle.std.specs.Option.{option_eq}
 use Rattle.semver.specs.declared.Version.{Version}
 use Rattle.semver.specs.Identifiers.{pre_text, build_text}
@@ -15,36 +15,14 @@ use Rattle.wit_model.specs.Rules.{each_from, same_package_name, same_version}
 use Rattle.wit_model.specs.Valid.{Breaks, Keeps, entry_keeps, package_names}
 use Rattle.wit_model.specs.Checks.{KeepsIn}
 use Rattle.check_rules.specs.PackageNames.{distinct_names, is_package_name, well_named}
-use Rattle.wit_model.proofs.Lists.{first_true, second_true}
 use Rattle.wit_model.proofs.Entries.{each_from_all, packages_keep}
-use Rattle.wit_model.proofs.Distinct.{adds_new, adds_apart, are_apart, either_way, not_is, text_eq_flip}
-
-some_same : {A : Type 0} (x y : A) → Some x ≡ Some y → x ≡ y
-some_same x y e = ap (λ o. unwrap_or o x) e
+use Rattle.wit_model.proofs.Distinct.{adds_new, adds_apart, are_apart, not_is, text_eq_flip}
+use Rattle.base_lemmas.proofs.Bools.{both_same, left_of as first_true, right_of as second_true}
+use Rattle.base_lemmas.proofs.Numbers.{unequal as differ, turned as number_flip}
+use Rattle.std.proofs.lemmas.Option.{same_Some as some_same}
 
 no_some : {A B : Type 0} (x : A) → None ≡ Some x → B
 no_some x e = let wrong : ⊥ = cc in absurd wrong
-
-both_true : (a b : Bool) → a ≡ true → b ≡ true → (a && b) ≡ true
-both_true a b p q = rw p q
-
-either_fails : (a b : Bool) → (a || b) ≡ false → (a ≡ false) × (b ≡ false)
-either_fails true b e = cc
-either_fails false b e = (refl, e)
-
-fails_first : (a b : Bool) → a ≡ false → (a && b) ≡ false
-fails_first a b e = ap (λ x. x && b) e
-
-fails_second : (a b : Bool) → b ≡ false → (a && b) ≡ false
-fails_second true b e = e
-fails_second false b e = refl
-
-differ : (m n : ℕ) → (m ≡ n → ⊥) → (m == n) ≡ false
-differ m n h = go (m == n) refl
-  where
-    go : (b : Bool) → (m == n) ≡ b → (m == n) ≡ false
-    go true e = absurd (h (eqb→eq m n (subst T (sym e) tt)))
-    go false e = e
 
 -- ---- lists
 
@@ -88,12 +66,6 @@ module _ {A K : Type 0} (f : A → K) where
   pair_apart same (x ∷ xs) (suc n) (suc m) a b h below at also = pair_apart same xs n m a b (second_true _ _ h) (omega (arith, below)) at also
 
 -- ---- packages
-
-both_same : (a b c d : Bool) → a ≡ c → b ≡ d → (a && b) ≡ (c && d)
-both_same a b c d e f = ap (λ x. x && b) e ∙ ap (λ x. c && x) f
-
-number_flip : (m n : ℕ) → (m == n) ≡ (n == m)
-number_flip m n = either_way (m == n) (n == m) (λ h. eq-eqb n m (sym (eqb-true m n h))) (λ h. eq-eqb m n (sym (eqb-true n m h)))
 
 version_flip : (a b : Version) → same_version a b ≡ same_version b a
 version_flip a b =

@@ -11,9 +11,11 @@ use Rattle.wit_model.specs.declared.model.Interface.{Interface}
 use Rattle.wit_model.specs.Lookup.{interface_at}
 use Rattle.wit_model.specs.Uses.{has, interface_used_by, direct_deps}
 use Rattle.wit_model.specs.ItemOrders.{holds, is_other_use, entry_holds, entry_passes, IsUsesTable}
-use Rattle.wit_model.proofs.Checks.{below_or_past, get_before, get_last}
-use Rattle.check_rules.proofs.ListOrders.{all_has}
+use Rattle.wit_model.proofs.Checks.{below_or_past, get_before}
 use Rattle.wit_model.proofs.Shown.{deps_pass}
+use Rattle.base_lemmas.proofs.Elements.{not_all}
+use Rattle.base_lemmas.proofs.Lists.{at_last as get_last}
+use Rattle.wit_model.proofs.Chains.{all_has}
 
 -- ---- lists with the same numbers
 
@@ -79,14 +81,6 @@ uses_all r table k made past right n q =
     n
 
 -- ---- what an interface uses
-
-not_all : {X : Type 0} (p : X → Bool) (xs : List X) → list_any p xs ≡ not (list_all (λ x. not (p x)) xs)
-not_all p [] = refl
-not_all p (x ∷ xs) = go (not_all p xs) (p x)
-  where
-    go : list_any p xs ≡ not (list_all (λ x. not (p x)) xs) → (b : Bool) → (b || list_any p xs) ≡ not (not b && list_all (λ x. not (p x)) xs)
-    go rest true = refl
-    go rest false = rest
 
 other_use : (o : Option ℕ) (own q : ℕ) → not (option_map_or (λ m. (m == q) && not (m == own)) o false) ≡ list_all (λ m. (m == own) || not (m == q)) (option_to_list o)
 other_use None own q = refl

@@ -2,10 +2,9 @@
 use Rattle.std.proofs.Common.{◌≡◌, ℕ, ◌+◌, ◌^◌, ◌≤◌, Bool, false, List, [], ◌∷◌, ◌++◌, length, map, Result, Ok, Err, IsErrAnd, refl, sym, ap, subst, ◌∙◌, arith, length-append}
 use Rattle.std.specs.Prelude.{nat_lt}
 use Rattle.std.specs.List.{flat_map}
-use Rattle.std.proofs.lemmas.Bool.{le-ltb, lt-ltb, cases_lt, false≢true}
+use Rattle.std.proofs.lemmas.Bool.{le-ltb, ltb-false as not_below}
 use Rattle.std.proofs.lemmas.List.{append-nil}
 use Rattle.std.proofs.lemmas.List.Concat.{flat_map-append}
-use Rattle.std.proofs.Common.{inl, inr}
 use Rattle.wit_model.specs.declared.error.Error.{Error}
 use Rattle.wit_model.specs.declared.error.Error.TheVariants as errors
 use Rattle.comp_bytes.specs.Raw.{DefinedType, TopType, TopExport, Section}
@@ -26,12 +25,6 @@ size_passed {X} {Y} (Err given) e h is =
     ap wrap same
 
 -- a number that is not below
-not_below : (n m : ℕ) → nat_lt n m ≡ false → m ≤ n
-not_below n m e =
-    elim (cases_lt n m) [
-      | inl lt ↦ absurd (false≢true (sym e ∙ lt-ltb n m lt))
-      | inr le ↦ le
-    ]
 
 -- a component that is too long doesn't fit
 too_long : (ps : List Part) → 2 ^ 32 ≤ length (component_bytes (sections_of_parts ps)) → fits_component ps ≡ false
@@ -76,10 +69,10 @@ items_filled bytes_of filled [] = omega arith
 items_filled bytes_of filled (x ∷ xs) = omega (arith, filled x, items_filled bytes_of filled xs, length-append (bytes_of x) (flat_map bytes_of xs))
 
 -- a section is longer than its contents
-framed_longer : (id : ℕ) (contents : List ℕ) → length contents ≤ length (framed id contents)
+pub framed_longer : (id : ℕ) (contents : List ℕ) → length contents ≤ length (framed id contents)
 framed_longer id contents = omega (arith, length-append (u32_bytes (length contents)) contents)
 
-vector_longer : {A : Type 0} (bytes_of : A → List ℕ) (xs : List A) → length (flat_map bytes_of xs) ≤ length (vector_bytes bytes_of xs)
+pub vector_longer : {A : Type 0} (bytes_of : A → List ℕ) (xs : List A) → length (flat_map bytes_of xs) ≤ length (vector_bytes bytes_of xs)
 vector_longer bytes_of xs = omega (arith, length-append (u32_bytes (length xs)) (flat_map bytes_of xs))
 
 slots-types : (ts : List TopType) → top_slots (map Part.top_type ts) ≡ length ts

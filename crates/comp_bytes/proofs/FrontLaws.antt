@@ -2,10 +2,11 @@
 use Rattle.std.proofs.Common.{◌≡◌, refl, sym, ap, ◌∙◌, ℕ, Bool, true, false, ◌&&◌, cond, eqb, List, [], ◌∷◌, drop, Option, Some, None}
 use Rattle.std.specs.Prelude.{nat_eq}
 use Rattle.std.specs.List.{starts_with}
-use Rattle.std.proofs.lemmas.Bool.{eqb-true, eq-eqb, ne_eqb, and_parts}
+use Rattle.std.proofs.lemmas.Bool.{eqb-true, and_parts}
 use Rattle.comp_bytes.specs.Raw.{ExternName}
 use Rattle.comp_bytes.specs.Reading.{Reader, ◌>>=◌, or_else, as_at, pair_at, choose, tagged_at, tag_at, u32_at, sequence_at, vector_at, declaration_at}
 use Rattle.comp_bytes.specs.Levels.{Entry, plain, holds, PartType, wraps, shows, held_at, entry_at, world_export_at, wrapper_at, part_behind_at, EntriesByFront, PartTypesByFront}
+use Rattle.base_lemmas.proofs.Numbers.{nat_eq_flip as either_side}
 
 -- the byte of a component type, or of an instance type, begins no other type
 no_component : (bytes : List ℕ) → declaration_at (1 ∷ 0x41 ∷ bytes) ≡ None
@@ -15,13 +16,6 @@ no_component bytes = refl
 no_instance : (bytes : List ℕ) → declaration_at (1 ∷ 0x42 ∷ bytes) ≡ None
 unfolding declaration_at tagged_at choose
 no_instance bytes = refl
-
-either_side : (a b : ℕ) → eqb a b ≡ eqb b a
-either_side a b = by (eqb a b) refl
-  where
-    by : (c : Bool) → eqb a b ≡ c → c ≡ eqb b a
-    by true e = sym (eq-eqb b a (sym (eqb-true a b e)))
-    by false e = sym (ne_eqb b a (λ same. let wrong : true ≡ false = sym (eq-eqb a b (sym same)) ∙ e in cc))
 
 -- two bytes in front of a form
 tagged_twice : {A : Type 0} (tag : ℕ) (reader : Reader A) (bytes : List ℕ) → tag_at 1 (tag_at tag reader) bytes ≡ cond (starts_with nat_eq bytes (1 ∷ tag ∷ [])) (reader (drop 2 bytes)) None

@@ -76,7 +76,7 @@ spells (suc (suc room)) n h =
     behind [] s = absurd s.number
     behind (c ∷ cs) s = record { number = (omega arith, (n / 128, omega arith, s.number)); positive = s.positive }
 
-length_within : (room n : ℕ) → length (positive_bytes room n) ≤ room
+pub length_within : (room n : ℕ) → length (positive_bytes room n) ≤ room
 length_within zero n = omega arith
 length_within (suc room) n =
     elim (cases_lt n 64) [

@@ -12,11 +12,12 @@ use Rattle.comp_bytes.specs.Reading.{Reader, ◌>>=◌, name_at, vector_at, decl
 use Rattle.comp_bytes.specs.Laws.{IsReadBy}
 use Rattle.comp_bytes.specs.Levels.{Entry, plain, holds, PartType, wraps, shows, IsEntry, IsPartType, Piece, custom, types, exports, raw_part, raw_piece, entry_at, part_type_at, piece_of, pieces_of, pieces_in, levels_of, LevelsAreSections, PiecesByFrames, TakesBytes}
 use Rattle.comp_bytes.proofs.Readers.{bind_some, when_some}
-use Rattle.comp_bytes.proofs.PartLaws.{some_is, vector_law}
+use Rattle.comp_bytes.proofs.PartLaws.{vector_law}
 use Rattle.comp_bytes.proofs.ComponentLaws.{type_law, frame_law, whole_takes, whole_again}
 use Rattle.comp_bytes.proofs.DeclarationLaws.{declaration_law}
 use Rattle.comp_bytes.proofs.NestedLaws.{declaration_filled}
 use Rattle.comp_bytes.proofs.LevelLaws.{part_into, part_out, entry_law, part_type_law}
+use Rattle.base_lemmas.proofs.Options.{some_is}
 
 -- ---- types at the top
 

@@ -1,15 +1,15 @@
 -- One item behind the items that a loop has appended.
-use Rattle.std.proofs.Common.{◌≡◌, ℕ, suc, ◌+◌, ◌<◌, Bool, false, ◌&&◌, List, [], ◌∷◌, ◌++◌, length, get_or, take, drop, map, Result, Ok, Err, refl, sym, ap, subst, ◌∙◌, arith, append_assoc, add-one}
+use Rattle.std.proofs.Common.{◌≡◌, ℕ, ◌+◌, ◌<◌, Bool, false, List, [], ◌∷◌, ◌++◌, length, get_or, take, map, Result, Ok, Err, refl, sym, ap, subst, ◌∙◌, arith, append_assoc, add-one}
 use Rattle.std.specs.List.{flat_map, list_all}
-use Rattle.std.proofs.Math.Seq.{take-suc, drop-cons}
+use Rattle.std.proofs.Math.Seq.{take-suc}
 use Rattle.std.proofs.Math.ListN.{get_or-map}
-use Rattle.std.proofs.lemmas.List.{append-nil, length-map, take-append-drop}
-use Rattle.std.proofs.lemmas.List.Folds.{list_all-append}
+use Rattle.std.proofs.lemmas.List.{append-nil, length-map}
+use Rattle.std.proofs.lemmas.List.Folds.{list_all_at as list_all-fails}
 use Rattle.wit_model.specs.declared.error.Error.{Error}
 use Rattle.comp_bytes.specs.Form.{Spellings, Sequence}
 use Rattle.comp_bytes.specs.Appending.{Appended, Stopped, Appends}
 use Rattle.comp_bytes.proofs.HeldLaws.{sequence_push}
-use Rattle.comp_bytes.proofs.Appends.{first_fails, second_fails, stopped_after, refused, done}
+use Rattle.comp_bytes.proofs.Appends.{stopped_after, refused, done}
 
 flat_map-push : {A : Type 0} (f : A → List ℕ) (xs : List A) (y : A) → flat_map f (xs ++ y ∷ []) ≡ flat_map f xs ++ f y
 flat_map-push f [] y = append-nil (f y)
@@ -41,12 +41,6 @@ module _ {A : Type 0} (form : A → Spellings) (bytes : A → List ℕ) where
       next (map view xs) i (view d) old now new within a (subst (λ (y : A). Appended (form y) (bytes y) now new) (sym e) b)
 
 -- a test on all fails where it fails at one
-list_all-fails : {A : Type 0} (test : A → Bool) (xs : List A) (i : ℕ) (d : A) → i < length xs → test (get_or xs i d) ≡ false → list_all test xs ≡ false
-list_all-fails test xs i d lt e =
-    let parts : take i xs ++ (get_or xs i d ∷ drop (suc i) xs) ≡ xs = ap (λ l. take i xs ++ l) (sym (drop-cons xs i d lt)) ∙ take-append-drop i xs in
-    let split : list_all test xs ≡ (list_all test (take i xs) && (test (get_or xs i d) && list_all test (drop (suc i) xs))) =
-    ap (list_all test) (sym parts) ∙ list_all-append test (take i xs) (get_or xs i d ∷ drop (suc i) xs) in
-    split ∙ second_fails (list_all test (take i xs)) _ (first_fails (test (get_or xs i d)) _ e)
 
 pub stopped_at : {S A : Type 0} (form : A → Spellings) (bytes : A → List ℕ) (test : A → Bool) (view : S → A) (xs : List S) (i : ℕ) (d : S) (old now new : List ℕ) (e : Error) → i < length xs
     → Appended (Sequence form (take i (map view xs))) (flat_map bytes (take i (map view xs))) old now → Stopped (test (view (get_or xs i d))) now new e → Stopped (list_all test (map view xs)) old new e

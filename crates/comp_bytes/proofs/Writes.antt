@@ -71,7 +71,7 @@ spells (suc (suc room)) n h =
     behind [] s = absurd s
     behind (c ∷ cs) s = (omega arith, (n / 128, omega arith, s))
 
-length_within : (room n : ℕ) → length (unsigned_bytes room n) ≤ room
+pub length_within : (room n : ℕ) → length (unsigned_bytes room n) ≤ room
 length_within zero n = omega arith
 length_within (suc room) n =
     elim (cases_lt n 128) [

@@ -7,14 +7,14 @@ use Rattle.std.proofs.lemmas.List.Elements.{Contains-append_left, Contains-appen
 use Rattle.std.proofs.lemmas.Bool.{and_from}
 use Rattle.wit_model.specs.Text.{Text, text_eq}
 use Rattle.wit_model.specs.Tree.{Place}
-use Rattle.wit_model.proofs.Lists.{first_true, second_true}
 use Rattle.wit_model.proofs.VersionLaws.{same_text, text_same}
-use Rattle.wit_model.proofs.Distinct.{either_way}
 use Rattle.comp_meaning.specs.Rules.{distinct, is_interface}
 use Rattle.comp_meaning.specs.Reads.{Sight, same_functions, agree, all_agree, are_interfaces}
 use Rattle.comp_meaning.specs.Agreement.{first_of, first_whole, same_types, agrees_with_first, agree_with_first, FirstAgrees}
 use Rattle.comp_meaning.proofs.SameLaws.{shown_types_decide}
 use Rattle.comp_meaning.proofs.FunctionLists.{functions_make_one_map}
+use Rattle.base_lemmas.proofs.Bools.{both_ways as either_way, left_of as first_true, right_of as second_true}
+use Rattle.base_lemmas.proofs.Elements.{last_of}
 
 -- ---- one view and another
 
@@ -72,10 +72,6 @@ found_contains p (y ∷ ys) x e = by (p y) refl (found_contains p ys x) e
     by : (b : Bool) → p y ≡ b → (find p ys ≡ Some x → (p x ≡ true) × Contains ys x) → cond b (Some y) (find p ys) ≡ Some x → (p x ≡ true) × Contains (y ∷ ys) x
     by true t more h = let same : y ≡ x = cc in (sym (ap p same) ∙ t, (0, omega arith, same))
     by false t more h = let rest = more h in (rest.0, (suc rest.1.0, (let low = rest.1.1 in omega (arith, low)), rest.1.2))
-
-pub last_of : {X : Type 0} (x y : X) → Contains (x ∷ []) y → x ≡ y
-last_of x y (zero, low, h) = h
-last_of x y (suc i, low, h) = absurd (omega (arith, low))
 
 -- ---- agreement with each is agreement with the first
 

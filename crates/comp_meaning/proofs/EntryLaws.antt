@@ -12,11 +12,11 @@ use Rattle.comp_bytes.specs.Raw.{Alias, ExternName, Declaration, Declarations, f
 use Rattle.comp_bytes.specs.Reading.{◌>>=◌}
 use Rattle.comp_bytes.specs.Levels.{Entry, plain, holds, declarations_of}
 use Rattle.comp_bytes.proofs.Readers.{bind_some, when_some}
-use Rattle.comp_bytes.proofs.PartLaws.{some_is}
 use Rattle.comp_meaning.specs.Follow.{Slot, Scope, View, Seen, Shown, Direction, import_, export_, provided, when, new_scope, in_scope, see, key_of, key_text, place_of, interface_of, used_view, see_instance, see_function, see_type, see_described, named_type, is_simple, function_in, definition, function_signature, exported_slot, component_step, component_steps, component_scope, flat, instance_types}
 use Rattle.comp_meaning.specs.Reads.{steps}
 use Rattle.comp_meaning.specs.ByLevels.{entry_step, entry_scope, all_used}
 use Rattle.comp_meaning.proofs.Marks.{marks, all_taken, Counted, one_mark_more, one_number_more, exact}
+use Rattle.base_lemmas.proofs.Options.{some_is}
 
 -- two ways to go on that agree
 pub bind_same : {A B : Type 0} (o : Option A) (f g : A → Option B) → ((x : A) → f x ≡ g x) → (o >>= f) ≡ (o >>= g)

@@ -2,10 +2,10 @@
 use Rattle.std.proofs.Common.{◌≡◌, refl, sym, ap, subst, ◌∙◌, ℕ, zero, suc, ◌+◌, ◌<◌, ◌≤◌, arith, Bool, true, false, ◌&&◌, ◌||◌, cond, eqb, List, [], ◌∷◌, ◌++◌, length, map, Some, length-append}
 use Rattle.std.specs.Prelude.{slice_get}
 use Rattle.std.specs.List.{list_any}
-use Rattle.std.proofs.lemmas.Bool.{eqb-true, eq-eqb, ne_eqb}
+use Rattle.std.proofs.lemmas.Bool.{eqb-true, eq-eqb, ne_eqb, false_from_ne_true as absent}
 use Rattle.std.proofs.lemmas.List.Folds.{list_any-append}
 use Rattle.std.proofs.lemmas.Option.{slice_get_within}
-use Rattle.wit_model.proofs.Lists.{first_true, second_true}
+use Rattle.base_lemmas.proofs.Bools.{left_of as first_true, or_false as or_none, right_of as second_true}
 
 -- how many marks there are
 abbrev pub marks : List Bool → ℕ
@@ -23,19 +23,11 @@ pub all_marked : {A : Type 0} (xs : List A) → marks (map (λ _. true) xs) ≡ 
 all_marked [] = refl
 all_marked (x ∷ xs) = ap suc (all_marked xs)
 
-or_none : (b : Bool) → (b || false) ≡ b
-or_none true = refl
-or_none false = refl
-
 or_flip : (a b : Bool) → (a || b) ≡ (b || a)
 or_flip true true = refl
 or_flip true false = refl
 or_flip false true = refl
 or_flip false false = refl
-
-absent : (b : Bool) → (b ≡ true → ⊥) → b ≡ false
-absent true h = absurd (h refl)
-absent false h = refl
 
 same_number : (a b : ℕ) → eqb (suc a) (suc b) ≡ eqb a b
 same_number a b = by (eqb a b) refl

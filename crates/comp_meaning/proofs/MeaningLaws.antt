@@ -5,8 +5,8 @@ use Rattle.comp_bytes.specs.Reading.{component_of, ◌>>=◌}
 use Rattle.comp_meaning.specs.Reads.{package_meaning, world_package}
 use Rattle.comp_meaning.specs.Meanings.{OneMeaning, OneWorld, MeaningIsRead, WorldIsRead}
 use Rattle.comp_bytes.proofs.Readers.{bind_some}
-use Rattle.comp_bytes.proofs.PartLaws.{some_is}
 use Rattle.comp_bytes.proofs.ComponentLaws.{component_takes, component_again}
+use Rattle.base_lemmas.proofs.Options.{some_is}
 
 pub meaning_is_read : MeaningIsRead
 meaning_is_read bytes m = (

@@ -9,10 +9,10 @@ use Rattle.std.proofs.lemmas.Bool.Decides.{Decides-and, Decides-eqb}
 use Rattle.std.proofs.lemmas.Slice.Eq.{bytes_eq-Decides, slice_eq-Decides}
 use Rattle.wit_model.specs.Text.{Text, text_eq}
 use Rattle.wit_model.specs.Tree.{Primitive, Place, Form, Tree, Trees, Declaration}
-use Rattle.wit_model.proofs.Lists.{first_true, second_true}
 use Rattle.comp_meaning.specs.Same.{same_option, same_bool, primitive_number, same_place, same_form, same_tree, same_trees, same_declaration, same_type, same_signature, same_function, same_identity}
 use Rattle.comp_meaning.specs.Reads.{same_shown}
 use Rattle.comp_meaning.specs.SameLaws.{DecidesEquality, SameTypesAreEqual, named_meaning}
+use Rattle.base_lemmas.proofs.Bools.{left_of as first_true, right_of as second_true}
 
 -- ---- parts
 
@@ -92,7 +92,7 @@ form_is (Form.future_of a) (Form.future_of b) e = ap Form.future_of ((bools_deci
 form_is (Form.stream_of a) (Form.stream_of b) e = ap Form.stream_of ((bools_decide a b).0 e)
 form_is _ _ e = absurd cc
 
-form_itself : (f : Form) → same_form f f ≡ true
+pub form_itself : (f : Form) → same_form f f ≡ true
 form_itself (Form.record_of xs) = (labels_decide xs xs).1 refl
 form_itself (Form.variant_of xs) = (cases_decide xs xs).1 refl
 form_itself Form.list_of = refl
@@ -128,12 +128,12 @@ mutual
   trees_are _ _ e = absurd cc
 
 mutual
-  tree_itself : (t : Tree) → same_tree t t ≡ true
+  pub tree_itself : (t : Tree) → same_tree t t ≡ true
   tree_itself (Tree.primitive p) = (primitives_decide p p).1 refl
   tree_itself (Tree.named p x) = (Decides-and (same_place p p) (text_eq x x) (places_decide p p) (texts_decide x x)).1 (refl, refl)
   tree_itself (Tree.node f ts) = and_from (same_form f f) (same_trees ts ts) (form_itself f) (trees_themselves ts)
 
-  trees_themselves : (ts : Trees) → same_trees ts ts ≡ true
+  pub trees_themselves : (ts : Trees) → same_trees ts ts ≡ true
   trees_themselves Trees.no_children = refl
   trees_themselves (Trees.child t ts) = and_from (same_tree t t) (same_trees ts ts) (tree_itself t) (trees_themselves ts)
 

@@ -1,5 +1,5 @@
 -- What is built of the plan of a package.
-use Rattle.std.proofs.Common.{◌≡◌, ◌⊎◌, inl, inr, refl, sym, ap, subst, ◌∙◌, ℕ, zero, suc, ◌+◌, ◌<◌, ◌≤◌, arith, Bool, true, false, List, [], ◌∷◌, map, length, slice_get, Option, Some, None, is_some, option_map}
+use Rattle.std.proofs.Common.{◌≡◌, inl, inr, refl, sym, ap, subst, ◌∙◌, ℕ, zero, suc, ◌+◌, ◌<◌, ◌≤◌, arith, Bool, true, List, [], ◌∷◌, map, length, slice_get, Option, Some, None, option_map}
 use Rattle.std.proofs.lemmas.List.{length-map}
 use Rattle.wit_model.specs.declared.model.Package.{Package}
 use Rattle.wit_model.specs.declared.model.Resolve.{Resolve}
@@ -13,15 +13,12 @@ use Rattle.plan_meaning.specs.Plan.{Plan, PlannedPackage, package_in}
 use Rattle.plan_meaning.specs.PlanMeaning.{package_meaning, plan_meaning}
 use Rattle.plan_meaning.specs.PlanRules.{IsPlan}
 use Rattle.plan_meaning.specs.Shapes.{Shape}
-use Rattle.plan_meaning.proofs.GatheredPlan.{all_at}
-use Rattle.plan_meaning.proofs.Lists.{get_back}
 use Rattle.plan_meaning.proofs.NothingElse.{package_holds_alone}
 use Rattle.plan_build.specs.Buildable.{IsBuildable}
 use Rattle.plan_build.specs.MeansPlan.{MeansPlan}
 use Rattle.plan_build.proofs.BuildableLaws.{plans_are_buildable}
 use Rattle.plan_parts.specs.Kept.{AreMarked}
 use Rattle.plan_parts.specs.Marks.{is_marked, IsUsed, PartsFall, marked, part}
-use Rattle.plan_type_laws.proofs.KeptKinds.{zip_length}
 use Rattle.plan_type_laws.proofs.ShownForms.{mark_there}
 use Rattle.read_exports.specs.declared.members.Member.{Member}
 use Rattle.plan_types.specs.PlannedTypes.{PlansType}
@@ -33,12 +30,14 @@ use Rattle.comp_read.specs.Decoded.{HoldsFound}
 use Rattle.comp_read.specs.Order.{OthersRise}
 use Rattle.comp_read.proofs.WorldOrder.{others_rise, plan_others_rise}
 use Rattle.comp_read.specs.Planned.{IsBuiltOf, MeansFound, PlansMean}
+use Rattle.base_lemmas.proofs.Elements.{all_at}
+use Rattle.base_lemmas.proofs.Lists.{get_back}
+use Rattle.base_lemmas.proofs.Options.{there}
+use Rattle.std.proofs.lemmas.Bool.{cases_lt as below_or}
+use Rattle.std.proofs.lemmas.Slice.Zip.{AllZip-long as zip_length}
+use Rattle.plan_laws.proofs.Inside.{within as mark_within}
 
 -- ---- what it holds
-
-pub there : {A : Type 0} (o : Option A) → is_some o ≡ true → (x : A) × (o ≡ Some x)
-there None e = let wrong : false ≡ true = e in absurd cc
-there (Some x) e = (x, refl)
 
 means_some : (p : Plan) (k : PlannedPackage) → package_in p p.main ≡ Some k → plan_meaning p ≡ Some (package_meaning p k)
 unfolding plan_meaning
@@ -72,12 +71,6 @@ module _ (p : Plan) (r : Resolve) (found : Option PackageMeaning) (is : MeansFou
 
 -- ---- how many types there are
 
-mark_within : (xs : List Bool) (n : ℕ) → is_marked xs n ≡ true → n < length xs
-mark_within [] zero e = let wrong : false ≡ true = e in absurd cc
-mark_within [] (suc n) e = let wrong : false ≡ true = e in absurd cc
-mark_within (x ∷ xs) zero e = omega arith
-mark_within (x ∷ xs) (suc n) e = let later = mark_within xs n e in omega (arith, later)
-
 -- a type that is used is one of the table
 used_within : (parts : List (List ℕ)) → PartsFall parts → (roots : List Bool) → length roots ≡ length parts → (n : ℕ) → IsUsed parts roots n → n < length parts
 used_within parts fall roots many n (marked m e) = let within = mark_within roots n e in omega (arith, within, many)
@@ -94,14 +87,6 @@ earlier (z ∷ xs) (suc j) x e = earlier xs j x e
 last_of : {A : Type 0} (x : A) (xs : List A) → (y : A) × (slice_get (x ∷ xs) (length xs) ≡ Some y)
 last_of x [] = (x, refl)
 last_of x (z ∷ xs) = last_of z xs
-
-below_or : (k n : ℕ) → (k < n) ⊎ (n ≤ k)
-below_or k zero = inr (omega arith)
-below_or zero (suc n) = inl (omega arith)
-below_or (suc k) (suc n) = elim (below_or k n) [
-  | inl low ↦ inl (omega (arith, low))
-  | inr high ↦ inr (omega (arith, high))
-]
 
 module _ (marks : List Bool) (kept : List ℕ) (are : AreMarked marks kept) where
   rises : (j m n : ℕ) → slice_get kept j ≡ Some m → slice_get kept (suc j) ≡ Some n → m < n

@@ -21,7 +21,7 @@ use Rattle.comp_read.specs.declared.wanted.Wanted.{Wanted}
 use Rattle.comp_read.specs.declared.wanted.Wanted.TheVariants as wanted
 use Rattle.comp_read.specs.SomeFollowed.{IsSomeFollowed}
 use Rattle.comp_read.specs.WantedFound.{MeansNone}
-use Rattle.comp_read.proofs.BuildLaws.{there}
+use Rattle.base_lemmas.proofs.Options.{there}
 
 -- each path is one
 pub are_paths : (x : Followed) → IsSomeFollowed x → ArePaths x.places

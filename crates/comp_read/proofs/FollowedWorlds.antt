@@ -1,23 +1,19 @@
 -- Instances of worlds stand under their keys, imports are counted, and what interfaces import is bare.
 use Rattle.std.proofs.Common.{◌≡◌, ap, ◌∙◌, refl, sym, subst, ℕ, arith, true, false, not, ◌&&◌, List, [], ◌∷◌, map, Some, None, is_none, slice_get}
 use Rattle.std.specs.List.{AllByRecursion, AllZip, Contains, flat_map}
-use Rattle.std.proofs.lemmas.Option.{slice_get_within}
+use Rattle.std.proofs.lemmas.Option.{slice_get_within, same_Some as same-some}
 use Rattle.wit_model.specs.Text.{Text}
-use Rattle.wit_model.proofs.Elements.{contains-map, get-contains, same-some}
-use Rattle.wit_model.proofs.Lists.{second_true}
 use Rattle.comp_bytes.specs.Levels.{PartType, Piece, shows, wraps}
 use Rattle.comp_bytes.specs.Reading.{◌>>=◌}
 use Rattle.comp_bytes.proofs.Readers.{bind_some, when_some}
 use Rattle.comp_meaning.specs.ByLevels.{entry_scope}
 use Rattle.comp_meaning.specs.Follow as follow
-use Rattle.comp_meaning.specs.Follow.{each, is_filled, provided}
+use Rattle.comp_meaning.specs.Follow.{is_filled}
 use Rattle.comp_meaning.specs.Reads as reads
 use Rattle.plan_meaning.specs.NumberedMembers.{Homes, NumberedMember, imported_view}
 use Rattle.plan_meaning.specs.NumberedViews.{NumberedView, Tables}
 use Rattle.plan_meaning.specs.NumberedWorlds as worlds
-use Rattle.plan_meaning.specs.NumberedWorlds.{NumberedScope, NumberedSeen, NumberedShown, Shows, are_once, are_reached, seen_of, shown_of}
-use Rattle.plan_meaning.proofs.ShapeLaws.{slice_there}
-use Rattle.plan_meaning.proofs.UsedInterfaces.{zip_at, zip_there}
+use Rattle.plan_meaning.specs.NumberedWorlds.{NumberedScope, NumberedSeen, NumberedShown, Shows, seen_of, shown_of}
 use Rattle.read_follow.specs.declared.instance_keys.InstanceKey.TheVariants as keys
 use Rattle.read_follow.specs.declared.scopes.Seen.{Seen as FollowedSeen}
 use Rattle.read_follow.specs.declared.scopes.Shown.{Shown as FollowedShown}
@@ -60,6 +56,9 @@ use Rattle.comp_read.proofs.Lists.{all_beside}
 use Rattle.comp_read.proofs.KeyLabels.{HasLabel, HaveLabels, entry_labels}
 use Rattle.comp_read.proofs.Members.{IsBoth, IsWorldRead, both_at, both_there, part_viewed, placed, scope_in, world_read, world_scope}
 use Rattle.comp_read.proofs.Places.{world_at}
+use Rattle.base_lemmas.proofs.Bools.{right_of as second_true}
+use Rattle.base_lemmas.proofs.Elements.{contains-map, get-contains, zip_at as zip_there, zip_at_right as zip_at}
+use Rattle.base_lemmas.proofs.Lists.{within_there as slice_there}
 
 -- ---- keys
 

@@ -1,26 +1,22 @@
 -- What was followed is the input of the laws of whole plans.
-use Rattle.std.proofs.Common.{◌≡◌, refl, sym, ap, subst, ◌∙◌, ℕ, arith, Bool, true, false, ◌&&◌, List, [], ◌∷◌, ◌++◌, map, Option, Some, slice_get}
+use Rattle.std.proofs.Common.{◌≡◌, refl, sym, ap, subst, ◌∙◌, ℕ, arith, true, false, List, [], ◌∷◌, ◌++◌, map, Option, Some, slice_get}
 use Rattle.std.specs.Borrow.{Bor}
 use Rattle.std.specs.List.{AllByRecursion, Contains, list_all}
 use Rattle.std.proofs.lemmas.List.Elements.{Contains-append_left, Contains-append_right}
 use Rattle.std.proofs.lemmas.Option.{slice_get_within}
-use Rattle.wit_model.proofs.Elements.{contains-get, contains-map, contains-one, get-contains}
+use Rattle.wit_model.proofs.Elements.{contains-get}
 use Rattle.comp_bytes.specs.Levels.{Piece}
 use Rattle.comp_meaning.specs.Follow as follow
 use Rattle.comp_meaning.specs.Reads as reads
 use Rattle.comp_meaning.specs.Rules as rules
 use Rattle.comp_meaning.specs.Rules.{distinct}
 use Rattle.read_shown.specs.Scopes as scopes
-use Rattle.read_shown.proofs.Lists.{recursion_weaker}
 use Rattle.plan_meaning.specs.FollowedNumbers.{IsOneOf, IsPartIn, IsScopeIn, IsSeenIn, IsViewIn}
 use Rattle.plan_meaning.specs.NumberedMembers.{Homes, NumberedMember}
 use Rattle.plan_meaning.specs.NumberedRules.{Fact}
 use Rattle.plan_meaning.specs.NumberedViews.{NumberedSight, NumberedView, Tables}
 use Rattle.plan_meaning.specs.NumberedWorlds as worlds
 use Rattle.plan_meaning.specs.NumberedWorlds.{HasPath, NumberedInstance, NumberedScope, NumberedSeen, NumberedShown, place_of_key, seen_of, shown_of}
-use Rattle.plan_meaning.proofs.GatheredPlan.{all_at}
-use Rattle.plan_meaning.proofs.Lists.{map_of_map}
-use Rattle.plan_meaning.proofs.ShapeLaws.{slice_there}
 use Rattle.read_parts.specs.declared.following.Followed.{Followed}
 use Rattle.read_parts.specs.Members.{scope_of}
 use Rattle.read_numbers.specs.ImportParts.{IsSeenNamed}
@@ -46,20 +42,18 @@ use Rattle.read_rules.specs.declared.scopes.Shown.TheVariants as shown
 use Rattle.read_rules.specs.declared.views.View.{View}
 use Rattle.plan_package.specs.Views.{types_alone, views_of_part}
 use Rattle.plan_laws.specs.ShownNames.{DeclaresName, IsInput, PartDeclaresNames}
-use Rattle.plan_laws.proofs.PartNames.{from_map}
 use Rattle.plan_laws.proofs.Showings.{all_given}
 use Rattle.plan_laws.proofs.ShownRules.{all_of}
 use Rattle.comp_read.specs.InputLaws.{ReadIsInput, ReadMembersAreIn, ReadMembersAreNamed, ReadMembersStand}
 use Rattle.comp_read.specs.ReadInput.{IsReadInput, ViewsObey}
 use Rattle.comp_read.proofs.Members.{IsBoth, IsWorldRead, both_at, instance_shown, interface_path, members_stand, instance_of_view, scope_at, scope_in, scope_placed, tables, world_read, world_scope}
 use Rattle.comp_read.proofs.Views.{all_met, function_in, instance_in}
+use Rattle.base_lemmas.proofs.Bools.{third_of}
+use Rattle.base_lemmas.proofs.Elements.{all_at, contains-map, contains-one, get-contains, map_from as from_map}
+use Rattle.base_lemmas.proofs.Lists.{map_of_map, within_there as slice_there}
+use Rattle.std.proofs.ByRecursion.{All-weaker as recursion_weaker}
 
 -- the third of five tests that hold
-third_of : (a b c d e : Bool) → (a && b && c && d && e) ≡ true → c ≡ true
-third_of true true true d e h = refl
-third_of true true false d e h = h
-third_of true false c d e h = let wrong : false ≡ true = h in absurd cc
-third_of false b c d e h = let wrong : false ≡ true = h in absurd cc
 
 module _ (pieces : List Piece) (x : Followed) (h : Homes) (ms : List Member) (members : List reads.Member) (input : IsReadInput pieces x h ms members) where
   abbrev t : Tables

@@ -5,8 +5,6 @@ use Rattle.wit_model.specs.Names.{is_label}
 use Rattle.wit_model.specs.Text.{Text}
 use Rattle.wit_model.specs.Tree.{Place, Declaration}
 use Rattle.wit_model.specs.Meaning.{Signature}
-use Rattle.wit_model.proofs.Elements.{same-some}
-use Rattle.wit_model.proofs.Lists.{first_true}
 use Rattle.comp_bytes.specs.declared.forms.ComponentTypeRef.{ComponentTypeRef}
 use Rattle.comp_bytes.specs.declared.forms.ComponentTypeRef.TheVariants as refs
 use Rattle.comp_bytes.specs.Levels.{Entry, holds, plain}
@@ -18,7 +16,9 @@ use Rattle.comp_meaning.specs.ByLevels.{all_used, entry_scope, entry_step}
 use Rattle.comp_meaning.specs.Follow.{Slot, View, Instance, Seen, Shown, Key, Scope, Direction, import_, export_, complete_path, component_step, definition, exported_slot, function_in, function_signature, in_scope, interface_of, is_simple, key_of, key_text, named_type, new_scope, place_of, plain_key, provided, see, see_described, see_function, see_instance, see_type, used_view, when}
 use Rattle.comp_meaning.specs.Reads.{steps}
 use Rattle.comp_meaning.proofs.EntryLaws.{steps_keep}
-use Rattle.read_follow.proofs.WholeLaws.{all_end}
+use Rattle.base_lemmas.proofs.Bools.{left_of as first_true}
+use Rattle.base_lemmas.proofs.Elements.{all_end}
+use Rattle.std.proofs.lemmas.Option.{same_Some as same-some}
 
 -- ---- keys
 

@@ -3,8 +3,6 @@ use Rattle.std.proofs.Common.{◌≡◌, refl, sym, ap, subst, ◌∙◌, ℕ, B
 use Rattle.std.specs.List.{AllByRecursion, AllZip, list_any}
 use Rattle.wit_model.specs.Names.{is_label}
 use Rattle.wit_model.specs.Text.{Text}
-use Rattle.wit_model.proofs.Elements.{same-some}
-use Rattle.wit_model.proofs.Lists.{first_true, second_true}
 use Rattle.comp_bytes.specs.Levels as levels
 use Rattle.comp_bytes.specs.Levels.{PartType, Piece}
 use Rattle.comp_bytes.specs.Raw.{TopExport}
@@ -25,16 +23,15 @@ use Rattle.read_exports.specs.declared.members.Member.{Member}
 use Rattle.comp_read.specs.InputLaws.{ReadLabelsStand}
 use Rattle.comp_read.proofs.ByScopes.{scopes_found}
 use Rattle.comp_read.proofs.InterfaceViews.{each_beside}
+use Rattle.base_lemmas.proofs.Bools.{left_of as first_true, right_of as second_true}
+use Rattle.base_lemmas.proofs.Elements.{all_end as one_more}
+use Rattle.std.proofs.lemmas.Option.{same_Some as same-some}
 
 -- ---- the exports at the top
 
 -- each export is under a label
 abbrev AreLabelled : Top → Type 0
 AreLabelled top = AllByRecursion (λ (y : Text × ℕ). is_label y.0 ≡ true) top.exported
-
-one_more : {A : Type 0} (P : A → Type 0) (xs : List A) (y : A) → AllByRecursion P xs → P y → AllByRecursion P (xs ++ y ∷ [])
-one_more P [] y all is = (is, tt)
-one_more P (x ∷ xs) y all is = (all.0, one_more P xs y all.1 is)
 
 part_keeps : (top next : Top) (p : PartType) → top_part top p ≡ Some next → AreLabelled top → AreLabelled next
 part_keeps top next p e is = subst AreLabelled (same-some (record { types = top.types ++ p ∷ []; slots = top.slots ++ length top.types ∷ []; exported = top.exported }) next e) is

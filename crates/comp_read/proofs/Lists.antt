@@ -1,15 +1,17 @@
 -- Lists that are looked through, and numbers that stand once.
-use Rattle.std.proofs.Common.{◌≡◌, refl, sym, ap, subst, ◌∙◌, ℕ, zero, suc, ◌+◌, ◌<◌, ◌⊎◌, inl, inr, arith, Bool, true, false, not, filter, if◌then◌else◌, List, [], ◌∷◌, ◌++◌, length, length-append, map, Some, None, slice_get}
+use Rattle.std.proofs.Common.{◌≡◌, refl, sym, ap, subst, ◌∙◌, ℕ, zero, suc, ◌+◌, ◌<◌, ◌⊎◌, inl, inr, arith, Bool, true, false, not, filter, List, [], ◌∷◌, ◌++◌, length, length-append, map, Some, None, slice_get}
 use Rattle.std.specs.List.{AllByRecursion, AllZip, Contains, flat_map}
 use Rattle.std.proofs.lemmas.List.Elements.{Contains-append_cases, Contains-append_left, Contains-append_right, filter-append}
 use Rattle.wit_model.specs.Uses.{has}
-use Rattle.wit_model.proofs.Elements.{both, contains-get, contains-later, get-contains, has-contains, none-in, same-some}
+use Rattle.wit_model.proofs.Elements.{contains-get, has-contains, none-in}
 use Rattle.plan_meaning.specs.NumberedWorlds.{are_once}
 use Rattle.plan_laws.proofs.OwnPlaces.{AreDifferent, all_taken}
+use Rattle.base_lemmas.proofs.Elements.{contains-later, get-contains}
+use Rattle.base_lemmas.proofs.Lists.{split_at as append_at}
+use Rattle.std.proofs.lemmas.Bool.{and_from as both}
+use Rattle.std.proofs.lemmas.Option.{same_Some as same-some}
 
 -- one item stands at a number
-pub one_item : {X : Type 0} (xs : List X) (n : ℕ) (x y : X) → slice_get xs n ≡ Some x → slice_get xs n ≡ Some y → x ≡ y
-one_item xs n x y e f = same-some x y (sym e ∙ f)
 
 -- ---- the first that passes
 
@@ -34,15 +36,6 @@ first_passing {X = X} test (y ∷ xs) (suc n) x e h = by (test y) refl (first_pa
     by false fails found = record { number = suc found.number; one = found.one; at = found.at; passes = found.passes; before = not_before fails found }
 
 -- ---- where an item lies among those of all
-
-append_at : {A : Type 0} (xs ys : List A) (i : ℕ) (y : A) → slice_get (xs ++ ys) i ≡ Some y → (slice_get xs i ≡ Some y) ⊎ ((j : ℕ) × (i ≡ length xs + j) × (slice_get ys j ≡ Some y))
-append_at [] ys i y e = inr (i, omega arith, e)
-append_at (x ∷ xs) ys zero y e = inl e
-append_at {A = A} (x ∷ xs) ys (suc i) y e = by (append_at xs ys i y e)
-  where
-    by : (slice_get xs i ≡ Some y) ⊎ ((j : ℕ) × (i ≡ length xs + j) × (slice_get ys j ≡ Some y)) → (slice_get xs i ≡ Some y) ⊎ ((j : ℕ) × (suc i ≡ suc (length xs) + j) × (slice_get ys j ≡ Some y))
-    by (inl here) = inl here
-    by (inr (j, is, later)) = inr (j, omega (arith, is), later)
 
 -- how many items come before those of this number
 abbrev pub before_of : {A B : Type 0} → (A → List B) → List A → ℕ → ℕ
@@ -156,18 +149,6 @@ all_different {A = A} (c ∷ cs) xs apart among many = by (λ rest each as_many.
         (put_between p.front p.back c (deeper (p.front ++ p.back) (others p) (fewer p)) (λ d. apart.0 (all_taken cs (p.front ++ p.back) apart.1 (others p) (fewer p) c d)))
 
 -- ---- what a test lets through
-
-pub filter_from : {A : Type 0} (test : A → Bool) (xs : List A) (x : A) → Contains (filter test xs) x → Contains xs x × (test x ≡ true)
-filter_from test [] x c = none-in x c
-filter_from {A = A} test (y ∷ xs) x c = by (test y) refl (λ d. filter_from test xs x d) c
-  where
-    later : Contains xs x × (test x ≡ true) → Contains (y ∷ xs) x × (test x ≡ true)
-    later (there, passes) = (contains-later y xs x there, passes)
-
-    by : (b : Bool) → test y ≡ b → (Contains (filter test xs) x → Contains xs x × (test x ≡ true)) → Contains (if b then y ∷ filter test xs else filter test xs) x → Contains (y ∷ xs) x × (test x ≡ true)
-    by true e deeper (zero, low, same) = ((0, omega arith, same), ap test (sym same) ∙ e)
-    by true e deeper (suc i, low, same) = later (deeper (i, omega (arith, low), same))
-    by false e deeper d = later (deeper d)
 
 pub filter_flat : {A : Type 0} (test : ℕ → Bool) (f : A → List ℕ) (xs : List A) → filter test (flat_map f xs) ≡ flat_map (λ (x : A). filter test (f x)) xs
 filter_flat test f [] = refl

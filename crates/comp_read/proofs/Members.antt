@@ -1,7 +1,7 @@
 -- The members of an input, beside what was followed and what the rules of reading make of it.
 use Rattle.std.proofs.Common.{◌≡◌, ap, subst, ◌∙◌, ℕ, true, List, map, Some, slice_get}
 use Rattle.std.specs.List.{AllByRecursion, Contains}
-use Rattle.wit_model.proofs.Elements.{contains-flat, contains-get, contains-map, get-contains}
+use Rattle.wit_model.proofs.Elements.{contains-flat, contains-get}
 use Rattle.comp_bytes.specs.Levels.{Piece}
 use Rattle.comp_meaning.specs.Follow as follow
 use Rattle.comp_meaning.specs.Follow.{each}
@@ -11,8 +11,6 @@ use Rattle.read_shown.proofs.ByLevels.{members_by_levels_stand}
 use Rattle.plan_meaning.specs.NumberedMembers.{Homes, IsMember, NumberedMember, ShowsPart, interface, world}
 use Rattle.plan_meaning.specs.NumberedViews.{AreTables, NumberedSight, NumberedView, Tables}
 use Rattle.plan_meaning.specs.NumberedWorlds.{HasPath, NumberedInstance, NumberedScope, Shows}
-use Rattle.plan_meaning.proofs.GatheredPlan.{all_at}
-use Rattle.plan_meaning.proofs.UsedInterfaces.{zip_at, zip_there}
 use Rattle.read_parts.specs.declared.following.Followed.{Followed}
 use Rattle.read_parts.specs.declared.members.FollowedPart.{FollowedPart}
 use Rattle.read_parts.specs.declared.members.FollowedPart.TheVariants as followed
@@ -25,7 +23,6 @@ use Rattle.read_numbers.specs.NumberedParts.{numbered_scope as followed_scope}
 use Rattle.read_numbers.specs.PlacedNumbers.{ArePlacedScopes, IsInstanceAt, IsPlacedScope, scopes_in as numbered_scopes}
 use Rattle.read_numbers.proofs.InputNumbers.{input_in_numbers}
 use Rattle.read_numbers.proofs.PlacedMembers.{places_are_kept}
-use Rattle.read_numbers.proofs.TableNumbers.{at_mapped}
 use Rattle.read_exports.specs.Members.{numbered_member, numbered_members, numbered_part}
 use Rattle.read_exports.specs.declared.members.Member.{Member}
 use Rattle.read_exports.specs.declared.members.Part.{Part}
@@ -35,12 +32,12 @@ use Rattle.read_rules.specs.Reached.{numbered_import}
 use Rattle.read_rules.specs.Scopes.{numbered_scope}
 use Rattle.read_rules.specs.Views.{numbered_view}
 use Rattle.plan_package.specs.Views.{views_of_members, views_of_part, whole_view}
-use Rattle.read_follow.proofs.AddLaws.{mapped_get}
-use Rattle.plan_laws.proofs.PartNames.{from_map}
 use Rattle.plan_laws.proofs.ShownNames.{beside}
 use Rattle.comp_read.specs.ReadInput.{IsReadInput}
 use Rattle.comp_read.proofs.InterfaceViews.{IsViewed, instance_viewed, of_views, seen_viewed}
 use Rattle.comp_read.proofs.Scopes.{IsSeen, either_seen}
+use Rattle.base_lemmas.proofs.Elements.{all_at, contains-map, get-contains, map_from as from_map, zip_at as zip_there, zip_at_right as zip_at}
+use Rattle.base_lemmas.proofs.Lists.{get_back as at_mapped, mapped_get}
 
 -- the instance of which a view is
 abbrev pub instance_shown : NumberedSight → NumberedInstance

@@ -3,26 +3,29 @@ use Rattle.std.proofs.Common.{◌≡◌, refl, sym, ap, subst, ◌∙◌, ℕ, z
 use Rattle.std.specs.Borrow.{Bor}
 use Rattle.std.specs.List.{AllByRecursion, Contains, find, flat_map, list_any}
 use Rattle.std.specs.Option.{option_map_or}
-use Rattle.std.proofs.lemmas.Bool.{eq-eqb, eqb-true}
+use Rattle.std.proofs.lemmas.Bool.{eq-eqb, eqb-true, and_from as both}
 use Rattle.std.proofs.lemmas.List.Elements.{Contains-append_cases, Contains-append_left, Contains-append_right}
 use Rattle.wit_model.specs.Names.{PackageIdentity}
 use Rattle.wit_model.specs.Text.{Text}
 use Rattle.wit_model.specs.Uses.{has}
-use Rattle.wit_model.proofs.Elements.{contains-get, contains-has, contains-one, has-contains, none-in, one-contained, same-number}
-use Rattle.wit_model.proofs.Distinct.{either_way}
-use Rattle.wit_model.proofs.Lists.{first_true, second_true}
-use Rattle.read_shown.proofs.Lists.{recursion_weaker}
+use Rattle.wit_model.proofs.Elements.{contains-get, contains-has, has-contains, none-in}
 use Rattle.plan_meaning.specs.NumberedMembers.{Homes, NumberedMember, NumberedPart, home_at, interface, is_interface_of, is_of_package, world}
 use Rattle.plan_meaning.specs.NumberedViews.{NumberedSight, Tables, first_at}
 use Rattle.plan_meaning.specs.NumberedWorlds.{NumberedScope, are_once, sights_of_scope}
-use Rattle.plan_meaning.proofs.Lists.{append_of_map, both, get_any, no_true}
-use Rattle.plan_meaning.proofs.ReadOrder.{all_both}
+use Rattle.plan_meaning.proofs.Lists.{no_true}
 use Rattle.read_exports.specs.Members.{homes_alone, homes_in, numbered_member, numbered_members}
 use Rattle.read_exports.specs.declared.members.Member.{Member}
 use Rattle.plan_laws.specs.OneWorld.{AreOwnInterfaces, IsOwnInterface, place_of_part}
 use Rattle.plan_laws.proofs.Inside.{flat_cases}
 use Rattle.comp_read.specs.OwnMembers.{AddsInterface, AddsView, AreOwnAmong, IsOfView, IsOwnAmong, StandAsShown, another, known, new, own, own_places}
 use Rattle.comp_read.proofs.OwnOrder.{filter_known, filter_new, filter_other}
+use Rattle.base_lemmas.proofs.Bools.{left_of as first_true, right_of as second_true}
+use Rattle.base_lemmas.proofs.Elements.{all_both, contains-one, last_of as one-contained}
+use Rattle.base_lemmas.proofs.Lists.{append_of_map}
+use Rattle.base_lemmas.proofs.Numbers.{same-number}
+use Rattle.std.proofs.ByRecursion.{All-weaker as recursion_weaker}
+use Rattle.std.proofs.lemmas.Map.Keys.{any_passes_from_place as get_any}
+use Rattle.read_rules.proofs.PlaceLaws.{any_flip}
 
 -- ---- lists
 
@@ -96,9 +99,6 @@ first_behind q (u ∷ done) s rest none same = by (q == u.place) refl (first_beh
     by false e deeper = deeper
 
 -- ---- one view
-
-any_flip : (p : ℕ) (ks : List ℕ) → list_any (λ k. p == k) ks ≡ has ks p
-any_flip p ks = ap (λ (f : ℕ → Bool). list_any f ks) (λ i k. either_way (p == k) (k == p) (λ e. eq-eqb k p (sym (eqb-true p k e))) (λ e. eq-eqb p k (sym (eqb-true k p e))) i)
 
 module _ (n : ℕ) (label : Text) (s : NumberedSight) (places later : List ℕ) (added : Bool) (is_added : added ≡ not (list_any (λ k. s.place == k) places))
     (inserts : later ≡ (if list_any (λ k. s.place == k) places then places else places ++ s.place ∷ [])) where

@@ -1,13 +1,12 @@
 -- What is built of a plan stands in the order of what was followed.
 use Rattle.std.proofs.Common.{◌≡◌, refl, sym, ap, subst, ◌∙◌, ℕ, zero, suc, true, List, [], ◌∷◌, ◌++◌, map, Option, Some, None, slice_get, option_map, append-nil}
-use Rattle.std.proofs.lemmas.Option.{slice_get-map}
+use Rattle.std.proofs.lemmas.Option.{slice_get-map, same_Some as same-some}
 use Rattle.std.specs.List.{AllByRecursion, AllZip, Contains, filter, flat_map}
 use Rattle.wit_model.specs.declared.model.Interface.{Interface}
 use Rattle.wit_model.specs.declared.model.Resolve.{Resolve}
 use Rattle.wit_model.specs.Lookup.{interface_at, path_of_interface}
 use Rattle.wit_model.specs.Text.{Text, text_of}
 use Rattle.wit_model.specs.Uses.{once}
-use Rattle.wit_model.proofs.Elements.{get-contains, same-some}
 use Rattle.comp_meaning.specs.Reads as reads
 use Rattle.plan_meaning.specs.Built.{IsBuilt, planned_function, planned_interface, planned_world}
 use Rattle.plan_meaning.specs.GatheredPlan.{functions_seen}
@@ -16,7 +15,6 @@ use Rattle.plan_meaning.specs.NumberedRules.{Fact}
 use Rattle.plan_meaning.specs.NumberedViews.{NumberedSight, Tables, path_at, sight_of}
 use Rattle.plan_meaning.specs.NumberedWorlds.{HasPath, NumberedInstance, are_once, sights_of_scope}
 use Rattle.plan_meaning.specs.Plan.{Plan, PlannedInterface, PlannedWorld, path_of_planned}
-use Rattle.plan_meaning.proofs.Lists.{map_of_map}
 use Rattle.plan_meaning.proofs.NumberedMembers.{all_sights}
 use Rattle.plan_meaning.proofs.NumberedWorlds.{path_is}
 use Rattle.plan_meaning.proofs.Words.{path_of_planned_is, plan_of}
@@ -43,15 +41,12 @@ use Rattle.plan_type_laws.specs.ShownMarks.{has_no_path}
 use Rattle.comp_read.specs.Order.{FollowsParts, function_names, once_by_path, shown_under, worlds_shown}
 use Rattle.comp_read.proofs.ShownOrder.{members_paths, names_alike, paths_once, scope_paths}
 use Rattle.comp_read.proofs.WorldOrder.{joined_behind}
+use Rattle.base_lemmas.proofs.Elements.{get-contains, zip_each, zip_map as zip_names}
+use Rattle.base_lemmas.proofs.Lists.{append_of_map as map_append, map_of_map, same_map as map_each}
 
 -- ---- lists
 
 -- what holds of the elements of each number
-zip_each : {A B : Type 0} (R P : A → B → Type 0) (xs : List A) (ys : List B) → AllZip R xs ys → ((k : ℕ) (x : A) (y : B) → slice_get xs k ≡ Some x → slice_get ys k ≡ Some y → P x y) → AllZip P xs ys
-zip_each R P [] [] zip each = tt
-zip_each R P [] (y ∷ ys) zip each = absurd zip
-zip_each R P (x ∷ xs) [] zip each = absurd zip
-zip_each R P (x ∷ xs) (y ∷ ys) zip each = (each 0 x y refl refl, zip_each R P xs ys zip.1 (λ k a c e f. each (suc k) a c e f))
 
 -- what stands beside the element of this number
 zip_back : {A B : Type 0} (R : A → B → Type 0) (xs : List A) (ys : List B) → AllZip R xs ys → (k : ℕ) (y : B) → slice_get ys k ≡ Some y → (x : A) × (slice_get xs k ≡ Some x)
@@ -59,16 +54,6 @@ zip_back R xs [] zip k y e = let wrong : None ≡ Some y = e in absurd cc
 zip_back R [] (z ∷ ys) zip k y e = absurd zip
 zip_back R (x ∷ xs) (z ∷ ys) zip zero y e = (x, refl)
 zip_back R (x ∷ xs) (z ∷ ys) zip (suc k) y e = zip_back R xs ys zip.1 k y e
-
-zip_names : {A B C : Type 0} (R : A → B → Type 0) (f : A → C) (g : B → C) → ((x : A) (y : B) → R x y → g y ≡ f x) → (xs : List A) (ys : List B) → AllZip R xs ys → map g ys ≡ map f xs
-zip_names R f g same [] [] zip = refl
-zip_names R f g same [] (y ∷ ys) zip = absurd zip
-zip_names R f g same (x ∷ xs) [] zip = absurd zip
-zip_names R f g same (x ∷ xs) (y ∷ ys) zip = λ i. same x y zip.0 i ∷ zip_names R f g same xs ys zip.1 i
-
-map_each : {A B : Type 0} (f g : A → B) → ((x : A) → f x ≡ g x) → (xs : List A) → map f xs ≡ map g xs
-map_each f g same [] = refl
-map_each f g same (x ∷ xs) = λ i. same x i ∷ map_each f g same xs i
 
 -- ---- what is shown, in numbers
 
@@ -152,10 +137,6 @@ part_worlds t h m x under label same (parts.World w) (reads.Part.world scope) is
 part_worlds t h m x under label same (parts.Interface p v imports) (reads.Part.interface view views) is = refl
 part_worlds t h m x under label same (parts.World w) (reads.Part.interface view views) is = absurd is
 part_worlds t h m x under label same (parts.Interface p v imports) (reads.Part.world scope) is = absurd is
-
-map_append : {A B : Type 0} (f : A → B) (xs ys : List A) → map f (xs ++ ys) ≡ map f xs ++ map f ys
-map_append f [] ys = refl
-map_append f (x ∷ xs) ys = ap (λ zs. f x ∷ zs) (map_append f xs ys)
 
 pub worlds_meant : (t : Tables) (h : Homes) (ms : List Member) (members : List reads.Member) → AllZip (IsMember t h) (numbered_members ms) members → map (λ w. w.0) (worlds_in ms) ≡ worlds_shown members
 worlds_meant t h [] [] zip = refl

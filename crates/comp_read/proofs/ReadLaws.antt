@@ -10,7 +10,6 @@ use Rattle.plan_meaning.specs.NumberedMembers.{Homes, HomesStand, NumberedMember
 use Rattle.plan_meaning.specs.NumberedRules.{Fact}
 use Rattle.plan_meaning.specs.NumberedViews.{Tables}
 use Rattle.read_homes.specs.Homes.{ArePackages, HaveReasons, IsHomeOf, given_home}
-use Rattle.plan_meaning.proofs.Lists.{map_of_map}
 use Rattle.read_parts.specs.declared.following.Followed.{Followed}
 use Rattle.read_parts.specs.declared.members.Member.{Member as FollowedMember}
 use Rattle.read_parts.specs.Input.{IsFollowed}
@@ -30,6 +29,7 @@ use Rattle.comp_read.specs.ReadPackages.{IsReadPackage}
 use Rattle.comp_read.proofs.ReadPackages.{read_may_be_planned, read_packages_have_sources, read_plans_are_meant}
 use Rattle.comp_read.specs.MembersRead.{AreReadOf, IsMain}
 use Rattle.comp_read.specs.Planned.{CanBeBuilt, PlansMean}
+use Rattle.base_lemmas.proofs.Lists.{map_of_map}
 
 -- ---- the package of the first member
 

@@ -1,7 +1,6 @@
 -- A package that was followed and read: what was followed is whole, and so is the plan of it, which means what the input does.
 use Rattle.std.proofs.Common.{◌≡◌, refl, sym, ap, subst, ◌∙◌, ℕ, arith, inl, inr, true, false, List, [], ◌∷◌, map, Option, Some, None, slice_get}
 use Rattle.std.specs.List.{AllZip, Contains}
-use Rattle.wit_model.proofs.Elements.{get-contains, same-some}
 use Rattle.comp_bytes.specs.Levels.{Piece}
 use Rattle.comp_bytes.specs.Reading.{◌>>=◌}
 use Rattle.comp_bytes.proofs.Readers.{bind_some}
@@ -13,8 +12,6 @@ use Rattle.plan_meaning.specs.NumberedRules.{Fact}
 use Rattle.plan_meaning.specs.NumberedViews.{Tables}
 use Rattle.plan_meaning.specs.Plan.{Plan}
 use Rattle.plan_meaning.specs.ReadPlans.{FitsInput}
-use Rattle.plan_meaning.proofs.Lists.{map_of_map}
-use Rattle.plan_meaning.proofs.UsedInterfaces.{zip_at, zip_there}
 use Rattle.read_exports.specs.Members.{numbered_member, numbered_members}
 use Rattle.read_exports.specs.declared.members.Member.{Member}
 use Rattle.read_rules.specs.declared.tables.Fact.{Fact as KeptFact}
@@ -25,7 +22,6 @@ use Rattle.read_parts.specs.Input.{IsFollowed}
 use Rattle.read_numbers.specs.FactLaws.{known_by}
 use Rattle.read_numbers.specs.KnownScopes.{AreKnown}
 use Rattle.read_numbers.specs.NumberedInput.{tables_of}
-use Rattle.read_numbers.proofs.TableNumbers.{at_mapped}
 use Rattle.read_members.specs.ReadMembers.{AreMeant, AreRead, IsOfOne, lent_member}
 use Rattle.read_members.proofs.DecidedLaws.{by_members}
 use Rattle.read_members.proofs.LentLaws.{lent_members_are_members}
@@ -43,6 +39,9 @@ use Rattle.comp_read.proofs.InterfaceViews.{each_beside}
 use Rattle.comp_read.proofs.Labels.{read_labels_stand}
 use Rattle.comp_read.proofs.Ordered.{firsts_rise}
 use Rattle.comp_read.proofs.Whole.{package_input, package_views_obey, read_parts_are_reached}
+use Rattle.base_lemmas.proofs.Elements.{get-contains, zip_at as zip_there, zip_at_right as zip_at}
+use Rattle.base_lemmas.proofs.Lists.{get_back as at_mapped, map_of_map}
+use Rattle.std.proofs.lemmas.Option.{same_Some as same-some}
 
 -- ---- members that were read
 

@@ -1,9 +1,9 @@
 -- The instances of a scope are its imports and its exports that are instances.
 use Rattle.std.proofs.Common.{◌≡◌, ◌⊎◌, inl, inr}
 use Rattle.std.specs.List.{Contains}
-use Rattle.wit_model.proofs.Elements.{get-contains}
 use Rattle.plan_meaning.specs.NumberedWorlds.{NumberedInstance, NumberedKey, NumberedScope, NumberedSeen, instance, place_of_key}
 use Rattle.read_numbers.specs.PlacedNumbers as placed
+use Rattle.base_lemmas.proofs.Elements.{get-contains}
 
 -- an import or an export is the instance
 pub record IsSeenAs (i : NumberedInstance) (s : NumberedSeen) : Type 0 where

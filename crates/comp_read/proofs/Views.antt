@@ -1,13 +1,11 @@
 -- The names of each view stand in the table in the view's order, each behind what it is declared as, where views of one place agree.
-use Rattle.std.proofs.Common.{◌≡◌, refl, sym, ap, subst, ◌∙◌, ℕ, ◌+◌, ◌<◌, Bool, true, false, not, ◌&&◌, ◌||◌, ◌==◌, List, [], ◌∷◌, ◌++◌, length, map, Option, Some, None, slice_get}
+use Rattle.std.proofs.Common.{◌≡◌, refl, sym, ap, subst, ◌∙◌, ℕ, ◌+◌, ◌<◌, Bool, true, ◌&&◌, ◌==◌, List, [], ◌∷◌, ◌++◌, length, map, Option, Some, None, slice_get}
 use Rattle.std.specs.List.{AllByRecursion, AllZip, Contains, list_all, list_any}
 use Rattle.std.proofs.lemmas.Bool.{eq-eqb, eqb-true}
 use Rattle.wit_model.specs.Meaning.{FunctionMeaning}
 use Rattle.wit_model.specs.Names.{is_label}
-use Rattle.wit_model.specs.Text.{Text, text_eq}
+use Rattle.wit_model.specs.Text.{Text}
 use Rattle.wit_model.specs.Tree.{Place}
-use Rattle.wit_model.proofs.Elements.{all-contained, both, contains-map, get-contains, same-number}
-use Rattle.wit_model.proofs.Lists.{first_true, second_true}
 use Rattle.comp_bytes.specs.Levels.{Piece}
 use Rattle.comp_meaning.specs.Follow as follow
 use Rattle.comp_meaning.specs.Reads as reads
@@ -20,8 +18,7 @@ use Rattle.plan_meaning.specs.NumberedViews.{AllOf, AreTables, FunctionPasses, N
 use Rattle.plan_meaning.specs.NumberedWorlds.{HasPath, NumberedInstance, NumberedScope, instance_of}
 use Rattle.plan_meaning.specs.PlanRules.{are_rising}
 use Rattle.plan_meaning.specs.Shapes.{named_shape}
-use Rattle.plan_meaning.proofs.Lists.{any_get, get_any, map_of_map}
-use Rattle.read_shown.proofs.Lists.{recursion_weaker}
+use Rattle.plan_meaning.proofs.Lists.{any_get}
 use Rattle.read_parts.specs.declared.following.Followed.{Followed}
 use Rattle.read_numbers.specs.NumberedInput.{tables_of}
 use Rattle.read_numbers.specs.PlacedNumbers.{part_of, IsFirstSeen, IsInstanceAt, IsMetPart, IsNumbered, IsPlacedView, IsRisingView, scopes_in}
@@ -39,26 +36,20 @@ use Rattle.plan_laws.proofs.FirstViews.{one_told, sight_there}
 use Rattle.plan_laws.proofs.ShownRules.{instances_obey}
 use Rattle.comp_read.specs.ReadInput.{IsReadInput, ViewsObey}
 use Rattle.comp_read.proofs.InterfaceViews.{IsViewed}
-use Rattle.comp_read.proofs.Lists.{IsFirstPassing, first_passing, one_item}
+use Rattle.comp_read.proofs.Lists.{IsFirstPassing, first_passing}
 use Rattle.comp_read.proofs.Members.{IsBoth, both_there, interface_path, part_viewed, placed, scope_in, tables, view_among, world_read, world_scope}
+use Rattle.base_lemmas.proofs.Bools.{right_of as second_true}
+use Rattle.base_lemmas.proofs.Elements.{all-contained, contains-map, get-contains}
+use Rattle.base_lemmas.proofs.Lists.{map_of_map, one_item}
+use Rattle.base_lemmas.proofs.Numbers.{same-number}
+use Rattle.std.proofs.ByRecursion.{All-weaker as recursion_weaker}
+use Rattle.std.proofs.lemmas.Map.Keys.{any_passes_from_place as get_any}
+use Rattle.read_shown.proofs.Agreement.{distinct_front}
 
 -- ---- names of types
 
 abbrev pub names_of : List NumberedType → List Text
 names_of xs = map (λ (x : NumberedType). x.name) xs
-
-distinct_front : (xs ys : List Text) → distinct (xs ++ ys) ≡ true → distinct xs ≡ true
-distinct_front [] ys h = refl
-distinct_front (x ∷ xs) ys h =
-    both (not (list_any (text_eq x) xs)) (distinct xs) (fewer xs (first_true (not (list_any (text_eq x) (xs ++ ys))) (distinct (xs ++ ys)) h)) (distinct_front xs ys (second_true (not (list_any (text_eq x) (xs ++ ys))) (distinct (xs ++ ys)) h))
-  where
-    fewer : (zs : List Text) → not (list_any (text_eq x) (zs ++ ys)) ≡ true → not (list_any (text_eq x) zs) ≡ true
-    fewer [] g = refl
-    fewer (z ∷ zs) g = by (text_eq x z) g (fewer zs)
-      where
-        by : (b : Bool) → not (b || list_any (text_eq x) (zs ++ ys)) ≡ true → (not (list_any (text_eq x) (zs ++ ys)) ≡ true → not (list_any (text_eq x) zs) ≡ true) → not (b || list_any (text_eq x) zs) ≡ true
-        by true k deeper = k
-        by false k deeper = deeper k
 
 -- what an interface may have has names that differ: as it is seen from a place
 tree_names : (t : Tables) (place : Place) (v : NumberedView) → rules.is_interface place (view_of t v) ≡ true → distinct (names_of v.types) ≡ true

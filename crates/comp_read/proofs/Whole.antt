@@ -5,7 +5,6 @@ use Rattle.std.specs.List.{AllByRecursion, AllZip, list_all}
 use Rattle.std.proofs.lemmas.Bool.{eqb-true, ltb-true}
 use Rattle.wit_model.specs.Names.{PackageIdentity}
 use Rattle.wit_model.specs.Text.{Text}
-use Rattle.wit_model.proofs.Lists.{first_true, second_true}
 use Rattle.comp_bytes.specs.Levels.{Piece}
 use Rattle.comp_meaning.specs.Follow.{provided}
 use Rattle.comp_meaning.specs.Reads as reads
@@ -43,6 +42,7 @@ use Rattle.comp_read.proofs.Lists.{all_beside}
 use Rattle.comp_read.proofs.Members.{members_stand, tables}
 use Rattle.comp_read.proofs.Ordered.{parts_known, sights_known}
 use Rattle.comp_read.proofs.Places.{are_placed}
+use Rattle.base_lemmas.proofs.Bools.{left_of as first_true, right_of as second_true}
 
 -- ---- lengths
 

@@ -7,7 +7,6 @@ use Rattle.std.proofs.lemmas.List.Elements.{Contains-append_left}
 use Rattle.wit_model.specs.Meaning.{WorldPackage}
 use Rattle.wit_model.specs.Names.{PackageIdentity}
 use Rattle.wit_model.specs.Text.{Text}
-use Rattle.wit_model.proofs.Elements.{contains-map}
 use Rattle.comp_bytes.specs.Levels.{Piece}
 use Rattle.comp_bytes.specs.Reading.{◌>>=◌}
 use Rattle.comp_meaning.specs.ByLevels.{world_of_pieces}
@@ -24,7 +23,6 @@ use Rattle.plan_meaning.specs.NumberedRules.{Fact}
 use Rattle.plan_meaning.specs.NumberedViews.{NumberedSight, NumberedView, Tables, agree_in_numbers}
 use Rattle.plan_meaning.specs.NumberedMembers.{are_interfaces}
 use Rattle.plan_meaning.specs.NumberedWorlds.{NumberedInstance, NumberedScope, Shows, are_once, sights_of_scope}
-use Rattle.plan_meaning.proofs.GatheredPlan.{all_at}
 use Rattle.read_parts.specs.declared.following.Followed.{Followed}
 use Rattle.read_numbers.specs.FactLaws.{known_by}
 use Rattle.read_numbers.specs.NumberedInput.{tables_of}
@@ -53,6 +51,7 @@ use Rattle.comp_read.specs.ReadWorlds.{AreBeside, IsReadWorld}
 use Rattle.comp_read.proofs.OwnTrees.{own_members, own_tree, world_members_stand, world_names_have_kinds}
 use Rattle.comp_read.proofs.OwnViews.{own_at, sight_among}
 use Rattle.comp_read.proofs.WorldPackage.{agree, interfaces, obeys_package}
+use Rattle.base_lemmas.proofs.Elements.{all_at, contains-map}
 
 -- ---- interfaces without imports
 

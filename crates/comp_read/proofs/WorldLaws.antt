@@ -14,7 +14,6 @@ use Rattle.plan_meaning.specs.NumberedViews.{Tables}
 use Rattle.plan_meaning.specs.Plan.{Plan, PlannedWorld}
 use Rattle.plan_meaning.specs.PlanMeaning.{plan_world_meaning}
 use Rattle.plan_meaning.specs.PlanRules.{IsPlan}
-use Rattle.plan_meaning.proofs.Lists.{get_back}
 use Rattle.plan_meaning.proofs.NothingElse.{world_holds_alone}
 use Rattle.plan_build.specs.Buildable.{IsBuildable}
 use Rattle.plan_build.specs.MeansPlan.{MeansPlan}
@@ -28,6 +27,7 @@ use Rattle.comp_read.specs.Planned.{IsBuiltOf, MeansWorldFound, WorldPlansMean}
 use Rattle.comp_read.specs.Order.{PackagesRise}
 use Rattle.comp_read.proofs.BuildLaws.{few_built}
 use Rattle.comp_read.proofs.WorldOrder.{built_rise}
+use Rattle.base_lemmas.proofs.Lists.{get_back}
 
 id_is : (n : ℕ) (o : Option ℕ) → is_id n o ≡ true → o ≡ Some n
 id_is n None e = let wrong : false ≡ true = e in absurd cc

@@ -1,6 +1,6 @@
 -- The order of the interfaces of a world's package, in its plan and in what is built of it.
 use Rattle.std.proofs.Common.{◌≡◌, refl, sym, ap, subst, ◌∙◌, ℕ, zero, suc, Bool, true, false, not, ◌&&◌, ◌||◌, ◌==◌, cond, List, [], ◌∷◌, ◌++◌, map, Option, Some, None, slice_get, unwrap_or, option_map}
-use Rattle.std.proofs.lemmas.Bool.{eqb-true}
+use Rattle.std.proofs.lemmas.Bool.{eqb-true, and_from as both}
 use Rattle.std.proofs.lemmas.Option.{slice_get-map}
 use Rattle.std.specs.List.{AllByRecursion, AllZip, filter, flat_map, list_all}
 use Rattle.std.specs.Option.{option_map_or}
@@ -12,13 +12,11 @@ use Rattle.wit_model.specs.Names.{PackageIdentity}
 use Rattle.wit_model.specs.Text.{Text, text_of}
 use Rattle.wit_model.specs.Uses.{has, once}
 use Rattle.wit_model.proofs.Chains.{has_once}
-use Rattle.wit_model.proofs.Elements.{same-number}
 use Rattle.plan_meaning.specs.Built.{IsBuilt, planned_package}
 use Rattle.plan_meaning.specs.NumberedMembers.{Homes, NumberedMember, NumberedPart, home_at, is_of_package}
 use Rattle.plan_meaning.specs.NumberedViews.{NumberedSight, Tables, path_at}
 use Rattle.plan_meaning.specs.NumberedWorlds.{NumberedInstance, sights_of_instance}
 use Rattle.plan_meaning.specs.Plan.{Plan}
-use Rattle.plan_meaning.proofs.Lists.{both, map_of_map}
 use Rattle.plan_types.specs.Orders.{joined, joined_all, places_of_part}
 use Rattle.plan_types.proofs.OrderLaws.{joined_both}
 use Rattle.plan_package.specs.PlanWhole.{places_in, PlansWhole}
@@ -38,6 +36,8 @@ use Rattle.comp_read.specs.OwnMembers.{StandAsShown, places_of}
 use Rattle.comp_read.specs.ReadInput.{AreHomesOf}
 use Rattle.comp_read.proofs.OwnOrder.{once_more}
 use Rattle.comp_read.proofs.Rising.{listed_rise, numbers, other_rises}
+use Rattle.base_lemmas.proofs.Lists.{map_of_map}
+use Rattle.base_lemmas.proofs.Numbers.{same-number}
 
 -- ---- numbers that pass a test, each once
 

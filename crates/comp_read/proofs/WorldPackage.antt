@@ -1,25 +1,22 @@
 -- A world by itself and the interfaces of its package that it shows obey the rules on a package.
-use Rattle.std.proofs.Common.{◌≡◌, refl, sym, ap, ◌∙◌, ℕ, arith, suc, Bool, true, false, not, ◌&&◌, ◌||◌, ◌==◌, List, [], ◌∷◌, ◌++◌, Option}
+use Rattle.std.proofs.Common.{◌≡◌, refl, sym, ap, ◌∙◌, ℕ, Bool, true, false, not, ◌&&◌, ◌||◌, ◌==◌, List, [], ◌∷◌, ◌++◌, Option}
 use Rattle.std.specs.List.{Contains, find, list_all, list_any}
 use Rattle.std.specs.Option.{option_map_or, option_or}
 use Rattle.std.proofs.lemmas.List.Folds.{find-append}
 use Rattle.wit_model.specs.Text.{Text}
-use Rattle.wit_model.proofs.Elements.{all-contained, same-number}
-use Rattle.wit_model.proofs.Lists.{first_true, second_true}
 use Rattle.plan_meaning.specs.NumberedMembers.{Homes, NumberedMember, are_interfaces, are_package, is_interface_of, is_named_in, is_of_package, is_one_world, sights_of_members, stands_at_top, world}
 use Rattle.plan_meaning.specs.NumberedRules.{Fact, is_interface}
 use Rattle.plan_meaning.specs.NumberedViews.{NumberedSight, Tables, agree_in_numbers, agree_with_first_in_numbers, agrees_with_first, first_at, first_whole_at, same_types, same_whole}
 use Rattle.plan_meaning.specs.NumberedWorlds.{NumberedScope, sights_of_scope}
-use Rattle.plan_meaning.proofs.Lists.{both}
 use Rattle.plan_parts.proofs.FirstAgreement.{agree_by_first}
 use Rattle.plan_parts.proofs.SightLaws.{all_alike}
 use Rattle.plan_laws.specs.OneWorld.{AreOwnInterfaces}
 use Rattle.plan_laws.proofs.Planned.{found_there}
 use Rattle.comp_read.proofs.OwnViews.{own_at, scope_sight, sight_among}
-
-pub all_pass : {A : Type 0} (p : A → Bool) (xs : List A) → ((x : A) → Contains xs x → p x ≡ true) → list_all p xs ≡ true
-all_pass p [] each = refl
-all_pass p (x ∷ xs) each = both (p x) (list_all p xs) (each x (0, omega arith, refl)) (all_pass p xs (λ y at. each y (suc at.0, (let low = at.1 in omega (arith, low)), at.2)))
+use Rattle.base_lemmas.proofs.Bools.{left_of as first_true, right_of as second_true}
+use Rattle.base_lemmas.proofs.Elements.{all-contained, all_pass}
+use Rattle.base_lemmas.proofs.Numbers.{same-number}
+use Rattle.std.proofs.lemmas.Bool.{and_from as both}
 
 -- what is found in the front is found in the whole
 found_first : {A : Type 0} (p : A → Bool) (xs ys : List A) (x : A) → Contains xs x → p x ≡ true → find p (xs ++ ys) ≡ find p xs

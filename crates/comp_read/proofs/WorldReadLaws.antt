@@ -8,7 +8,6 @@ use Rattle.plan_meaning.specs.NumberedMembers as members
 use Rattle.plan_meaning.specs.NumberedMembers.{Homes, HomesStand, NumberedMember, NumberedPart, home_at, world_shown}
 use Rattle.plan_meaning.specs.NumberedRules.{Fact}
 use Rattle.plan_meaning.specs.NumberedViews.{Tables}
-use Rattle.plan_meaning.proofs.Lists.{map_of_map}
 use Rattle.read_parts.specs.declared.following.Followed.{Followed}
 use Rattle.read_parts.specs.Input.{IsFollowed}
 use Rattle.read_exports.specs.Members.{numbered_members}
@@ -33,6 +32,7 @@ use Rattle.comp_read.proofs.WorldWhole.{read_world_is_whole, read_world_plans_ar
 use Rattle.comp_read.specs.MembersRead.{AreReadOf}
 use Rattle.comp_read.specs.Planned.{CanBeBuilt, WorldPlansMean}
 use Rattle.comp_read.specs.WorldsRead.{IsAlone, IsWorldReadOf, are_one_world, is_alone}
+use Rattle.base_lemmas.proofs.Lists.{map_of_map}
 
 -- ---- the one member
 

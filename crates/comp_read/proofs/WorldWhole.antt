@@ -5,14 +5,13 @@ use Rattle.std.specs.List.{AllByRecursion, Contains, flat_map}
 use Rattle.std.proofs.lemmas.List.Elements.{Contains-append_cases, Contains-append_left}
 use Rattle.wit_model.specs.Names.{is_label}
 use Rattle.wit_model.specs.Text.{Text}
-use Rattle.wit_model.proofs.Elements.{contains-later, contains-map, contains-one, none-in, one-contained}
+use Rattle.wit_model.proofs.Elements.{none-in}
 use Rattle.comp_bytes.specs.Levels.{Piece}
 use Rattle.comp_meaning.specs.Rules.{distinct}
 use Rattle.plan_meaning.specs.NumberedMembers.{Homes, NumberedMember, NumberedPart, interface, world}
 use Rattle.plan_meaning.specs.NumberedRules.{Fact}
 use Rattle.plan_meaning.specs.NumberedViews.{AreTables, NumberedSight, NumberedView, Tables}
 use Rattle.plan_meaning.specs.NumberedWorlds.{HasPath, NumberedScope}
-use Rattle.plan_meaning.proofs.Lists.{map_of_map}
 use Rattle.read_parts.specs.declared.following.Followed.{Followed}
 use Rattle.read_numbers.specs.FactLaws.{known_by}
 use Rattle.read_numbers.specs.NumberedInput.{tables_of}
@@ -49,6 +48,8 @@ use Rattle.comp_read.specs.ReadWorlds.{AreBeside, IsReadWorld, IsWholeWorld, Rea
 use Rattle.comp_read.proofs.OwnViews.{own_at, view_among}
 use Rattle.comp_read.proofs.WorldInput.{all_trees, input, one_world, packaged, read_members, tree, views_obey, world_found, world_means}
 use Rattle.comp_read.proofs.WorldLabels.{labels_differ, own_label}
+use Rattle.base_lemmas.proofs.Elements.{contains-later, contains-map, contains-one, last_of as one-contained}
+use Rattle.base_lemmas.proofs.Lists.{map_of_map}
 
 -- an interface without imports is no world
 no_worlds : (label : Text) (a : Part) (p : ℕ) (v : NumberedView) → numbered_part a ≡ interface p v [] → world_in_part label a ≡ []

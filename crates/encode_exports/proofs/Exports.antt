@@ -1,11 +1,9 @@
 -- What the sections of a component export that was given component types, each with its export.
 use Rattle.std.proofs.Common.{◌≡◌, ℕ, suc, ◌+◌, ◌<◌, ◌≤◌, ◌==◌, Bool, true, false, ◌&&◌, ◌||◌, List, [], ◌∷◌, ◌++◌, map, length, Some, Option, slice_get, refl, sym, ap, ◌∙◌, subst, append_assoc, append-nil, arith}
-use Rattle.std.proofs.lemmas.Bool.Decides.{nat_tests}
 use borrow.Author.Tests.{eq-eqb}
 use Rattle.std.specs.List.{list_all, list_any}
 use Rattle.wit_model.specs.Text.{Text}
 use Rattle.wit_model.specs.Names.{is_label}
-use Rattle.wit_model.proofs.Lists.{first_true, second_true}
 use Rattle.comp_bytes.specs.Raw.{Declarations, TopType, TopExport, Section}
 use Rattle.comp_bytes.specs.Reading.{◌>>=◌}
 use Rattle.comp_bytes.specs.Parts.{Part, sections_of_parts, with_part, plain_export, top_slots}
@@ -14,6 +12,10 @@ use Rattle.comp_meaning.specs.Reads.{Top, steps, top_section, exported_types}
 use Rattle.comp_meaning.specs.Rules.{distinct}
 use Rattle.encode_exports.specs.ExportedParts.{exporting, exporting_from, one_exported}
 use Rattle.encode_exports.specs.ExportLaws.{TypesAreExported}
+use Rattle.base_lemmas.proofs.Bools.{left_of as first_true, right_of as second_true}
+use Rattle.base_lemmas.proofs.Lists.{middle_get as last_found}
+use Rattle.base_lemmas.proofs.Numbers.{apart}
+use Rattle.std.proofs.lemmas.Bool.{and_from as both_true}
 
 -- ---- the sections
 
@@ -31,10 +33,6 @@ sections_are : (slots : ℕ) (xs : List (Text × Declarations)) → sections_of_
 sections_are slots [] = refl
 sections_are slots (x ∷ xs) = rw (sections_are (suc (suc slots)) xs) (sections_apart x.1 (plain_export x.0 slots) (suc (suc slots)) xs)
 
-both_true : (a b : Bool) → a ≡ true → b ≡ true → (a && b) ≡ true
-both_true true b e f = f
-both_true false b e f = e
-
 -- ---- the types that they export
 
 abbrev numbers_from : ℕ → List (Text × Declarations) → List (Text × ℕ)
@@ -44,9 +42,6 @@ numbers_from n (x ∷ xs) = (x.0, n) ∷ numbers_from (suc n) xs
 -- nothing is exported with this number or a larger one
 abbrev IsFresh : ℕ → List (Text × ℕ) → Type 0
 IsFresh n es = (m : ℕ) → n ≤ m → list_any (λ x. x.1 == m) es ≡ false
-
-apart : (n m : ℕ) → n < m → (n == m) ≡ false
-apart n m h = grind (arith, nat_tests)
 
 any_end : (m : ℕ) (es : List (Text × ℕ)) (name : Text) (n : ℕ) → list_any (λ x. x.1 == m) es ≡ false → (n == m) ≡ false → list_any (λ x. x.1 == m) (es ++ (name, n) ∷ []) ≡ false
 any_end m [] name n none h = rw h refl
@@ -61,10 +56,6 @@ fresh_next n es name h m above =
     let low : n ≤ m = omega arith in
     let less : n < m = omega arith in
     any_end m es name n (h m low) (apart n m less)
-
-last_found : {A : Type 0} (xs : List A) (x : A) (rest : List A) → slice_get (xs ++ x ∷ rest) (length xs) ≡ Some x
-last_found [] x rest = refl
-last_found (y ∷ ys) x rest = last_found ys x rest
 
 one_longer : {A : Type 0} (xs : List A) (x : A) → length (xs ++ x ∷ []) ≡ suc (length xs)
 one_longer [] x = refl

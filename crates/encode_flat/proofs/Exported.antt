@@ -1,16 +1,16 @@
 -- Which declaration a name exports.
-use Rattle.std.proofs.Common.{◌≡◌, sym, ◌∙◌, refl, ap, ℕ, zero, suc, ◌<◌, Bool, true, false, cond, List, [], ◌∷◌, arith, Option, Some, None, find}
+use Rattle.std.proofs.Common.{◌≡◌, sym, ◌∙◌, refl, ap, zero, suc, Bool, true, false, cond, List, [], ◌∷◌, arith, Option, Some, None, find}
 use Rattle.std.specs.List.{Contains}
 use Rattle.std.specs.Option.{option_eq}
 use Rattle.std.proofs.lemmas.Cmp.{nat_list_eq_equiv}
 use Rattle.wit_model.specs.Text.{Text, text_eq}
 use Rattle.wit_model.specs.Meaning.{TypeMeaning}
-use Rattle.wit_model.proofs.Lists.{first_true, second_true}
 use Rattle.comp_bytes.specs.Raw.{ExternName}
 use Rattle.encode_types.specs.KeyLaws.{text_same}
 use Rattle.encode_types.specs.Scope.{exported_name}
-use Rattle.encode_types.proofs.Lists.{both}
 use Rattle.encode_flat.specs.Flat.{is_name_of}
+use Rattle.base_lemmas.proofs.Bools.{left_of as first_true, right_of as second_true}
+use Rattle.std.proofs.lemmas.Bool.{and_from as both}
 
 text-alike : (t : Text) → text_eq t t ≡ true
 text-alike t = nat_list_eq_equiv.refl t

@@ -23,6 +23,8 @@ use Rattle.encode_flat.specs.declared.marks.Mark.TheVariants as mark
 use Rattle.encode_flat.specs.Marked.{import_slot, slot_count}
 use Rattle.encode_flat.specs.Flat.{FlatReads, ReadsAs, exports_more, flat_definitions, flat-in_range, is_name_of}
 use Rattle.encode_flat.proofs.Exported.{found-in, name-passes, name-same}
+use Rattle.base_lemmas.proofs.Numbers.{no-slot}
+use Rattle.std.proofs.lemmas.Option.{none-some as not-none, same_Some as some-is}
 
 -- one form more, the latest first
 reversed : (old new : List Form) (x : Form) → new ≡ old ++ x ∷ [] → reverse new ≡ x ∷ reverse old
@@ -68,9 +70,6 @@ function-added (Err e) declarations ks ks' old new def h = h
 
 -- ---- names
 
-no-slot : (n : ℕ) → n + 0 ≡ n
-no-slot n = omega arith
-
 -- a slot that stands gets one more name
 pub name-added : (r : Resolve) (place : Place) (ks ks' : List Mark) (old new : List Form) (i : ℕ) (name : ComponentExternName) (m : Standing) → FlatReads r place ks (reverse old) i m → ks' ≡ mark.Name i ∷ ks → new ≡ old ++ form.Export i name ∷ []
     → NameAdded (FlatReads r place ks (reverse old)) (FlatReads r place ks' (reverse new)) (slot_count ks) (slot_count ks') i (named place (raw_name name).text) None
@@ -112,12 +111,6 @@ resource-exported (Ok i) scope ks ks' old new name d c e h = rw h.1 (rw (reverse
 resource-exported (Err y) scope ks ks' old new name d c e h = h
 
 -- ---- types of other interfaces
-
-not-none : {T : Type 0} (x : T) → None ≡ Some x → ⊥
-not-none x e = let wrong : ⊥ = cc in wrong
-
-some-is : {T : Type 0} (x y : T) → Some x ≡ Some y → x ≡ y
-some-is x y e = cc
 
 pub import-reads : (r : Resolve) (place : Place) (ks : List Mark) (xs : List Form) (n i : ℕ) → import_slot ks n ≡ Some i → FlatReads r place ks xs i (tree (number_tree r n))
 import-reads r place [] xs n i e = absurd (not-none i e)

@@ -10,16 +10,15 @@ use Rattle.wit_model.specs.Uses.{item_interface}
 use Rattle.wit_model.specs.Valid.{IsValid}
 use Rattle.wit_model.specs.declared.model.Resolve.{Resolve}
 use Rattle.wit_model.specs.declared.model.WorldItem.TheVariants as item
-use Rattle.wit_model.proofs.Elements.{contains-later, contains-one}
 use Rattle.comp_bytes.specs.Reading.{◌>>=◌}
 use Rattle.comp_meaning.specs.Follow.{Seen, exported_slot, in_scope, instance_types, provided}
 use Rattle.encode_shown.specs.Views.{ShowsItem, home_of, instances_of, name_slot}
 use Rattle.encode_shown.proofs.Items.{entry-home, instance-home}
-use Rattle.encode_shown.proofs.Zips.{zip-append}
 use Rattle.encode_names.specs.WorldSteps.{AliasesAreNames, Entry, InstancesStand, IsEntryOf, StandsAs, interfaces_among}
 use Rattle.encode_names.proofs.TypesFound.{types_are_found}
 use Rattle.encode_names.proofs.WorldSteps.{entry-of, slots_leave_entries}
 use Rattle.std.proofs.lemmas.List.Elements.{Contains-append_left}
+use Rattle.base_lemmas.proofs.Elements.{contains-later, contains-one, zip-append}
 
 module _ (r : Resolve) (v : IsValid r) where
   stands-one : (e : Entry) (s : Seen) → IsEntryOf r e → ShowsItem r e s → AllZip (StandsAs r) (option_to_list (item_interface e.1)) (instances_of s.shown)

@@ -7,7 +7,7 @@ use Rattle.std.specs.List.{Contains}
 use Rattle.std.proofs.lemmas.List.Elements.{Contains-append_cases}
 use Rattle.wit_model.specs.Text.{Text, text_of}
 use Rattle.wit_model.specs.Names.{is_label}
-use Rattle.wit_model.specs.Lookup.{interface_at, interface_path, path_of_interface, world_at}
+use Rattle.wit_model.specs.Lookup.{interface_at, interface_path, path_of_interface}
 use Rattle.wit_model.specs.Meant.{item_external_id}
 use Rattle.wit_model.specs.Rules.{is_id, is_member, is_name_key}
 use Rattle.wit_model.specs.Uses.{item_interface}
@@ -19,9 +19,7 @@ use Rattle.wit_model.specs.declared.model.WorldItem.{WorldItem}
 use Rattle.wit_model.specs.declared.model.WorldItem.TheVariants as item
 use Rattle.wit_model.specs.declared.model.Interface.{Interface}
 use Rattle.wit_model.specs.declared.model.InterfaceId.{InterfaceId}
-use Rattle.wit_model.proofs.Lists.{first_true}
-use Rattle.wit_model.proofs.Elements.{equal}
-use Rattle.wit_model.proofs.OnePath.{found-in, named-path, some-of}
+use Rattle.wit_model.proofs.OnePath.{found-in, named-path}
 use Rattle.comp_bytes.specs.Raw.{ExternName}
 use Rattle.comp_bytes.specs.Reading.{◌>>=◌}
 use Rattle.comp_meaning.specs.Follow.{Key, complete_path, key_of, provided}
@@ -30,9 +28,12 @@ use Rattle.encode_shown.proofs.Entries.{IsEntry, import-entry, export-entry, int
 use Rattle.encode_names.specs.WorldNames.{name_of_item, written_path, written_suffix}
 use Rattle.encode_names.specs.NameLaws.{NamesAreRead, ReadsAs, Says}
 use Rattle.encode_names.proofs.PathsRead.{path-key, written-path}
+use Rattle.base_lemmas.proofs.Bools.{left_of as first_true}
+use Rattle.base_lemmas.proofs.Numbers.{equal}
+use Rattle.base_lemmas.proofs.Options.{there as some-of}
 
 -- nothing completes a name without a path
-no-suffix : (r : Resolve) (canonical : Bool) → written_suffix r canonical None ≡ None
+pub no-suffix : (r : Resolve) (canonical : Bool) → written_suffix r canonical None ≡ None
 no-suffix r true = refl
 no-suffix r false = refl
 

@@ -4,10 +4,11 @@ use Rattle.std.specs.List.{AllByRecursion, Contains, IsDistinct}
 use Rattle.std.proofs.lemmas.List.Elements.{Contains-append_cases, Contains-append_left, Contains-append_right}
 use Rattle.wit_model.specs.Text.{Text, text_eq}
 use Rattle.wit_model.proofs.VersionLaws.{same_text}
-use Rattle.wit_model.proofs.Elements.{contains-one, none-in, one-contained}
+use Rattle.wit_model.proofs.Elements.{none-in}
 use Rattle.encode_names.proofs.Lists.{head-of, tail-of}
 use Rattle.encode_names.specs.Clashes.{canonical_names_of, AreDifferent, IsClash, IsFirstRepeat}
 use Rattle.encode_names.specs.ClashLaws.{NoClashWithout, OneClash}
+use Rattle.base_lemmas.proofs.Elements.{contains-one, last_of as one-contained}
 
 -- ---- different texts
 

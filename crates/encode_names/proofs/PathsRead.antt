@@ -18,7 +18,6 @@ use Rattle.wit_model.specs.declared.model.Resolve.{Resolve}
 use Rattle.wit_model.specs.declared.model.Interface.{Interface}
 use Rattle.wit_model.specs.declared.model.Package.{Package}
 use Rattle.wit_model.specs.declared.model.PackageName.{PackageName}
-use Rattle.wit_model.proofs.Elements.{same-some}
 use Rattle.wit_model.proofs.NameLaws.{label_lacks, spelled_path_reads}
 use Rattle.wit_model.proofs.OnePath.{HasPath, has-path, package-name, path-label}
 use Rattle.wit_model.proofs.PathParts.{canonical_found, canonical_paths_join, suffix_found}
@@ -26,6 +25,8 @@ use Rattle.wit_model.proofs.VersionLaws.{valid_parts}
 use Rattle.comp_bytes.specs.Reading.{◌>>=◌}
 use Rattle.comp_meaning.specs.Follow.{Key, complete_path, is_begun_version, is_filled, plain_key, provided}
 use Rattle.encode_names.specs.WorldNames.{written_path, written_suffix}
+use Rattle.base_lemmas.proofs.Bools.{no-and}
+use Rattle.std.proofs.lemmas.Option.{same_Some as same-some}
 
 -- ---- texts
 
@@ -80,10 +81,6 @@ canonical-filled p h = go (nat_lt 0 (length p.3)) (nat_lt 0 p.0) (nat_lt 0 p.1)
     go false true c = long-filled (decimal p.0) (decimal_nonempty p.0 h.0)
     go false false true = filled-behind (decimal 0) _ refl
     go false false false = filled-behind (decimal 0) _ refl
-
-no-and : (a : Bool) → (a && false) ≡ false
-no-and true = refl
-no-and false = refl
 
 -- a path is no label
 path-no-label : (p : PackageIdentity) (name : Text) → is_label (path_in p name) ≡ false

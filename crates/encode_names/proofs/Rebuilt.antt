@@ -1,10 +1,10 @@
 -- The imports of a world are known from its types and from the others, each with how many types stand before it.
 use Rattle.std.proofs.Common.{◌≡◌, refl, sym, ap, ◌∙◌, ℕ, ◌+◌, ◌≤◌, Bool, true, false, cond, List, [], ◌∷◌, ◌++◌, arith}
 use Rattle.std.specs.List.{list_all}
-use Rattle.wit_model.proofs.Lists.{first_true, second_true}
 use Rattle.comp_meaning.specs.Follow.{Seen}
 use Rattle.encode_names.specs.Rebuilt.{ImportsAreKnown, TypesComeLast, is_type_shown, others_seen, types_seen}
 use Rattle.encode_names.proofs.Lists.{head-of, tail-of}
+use Rattle.base_lemmas.proofs.Bools.{left_of as first_true, right_of as second_true}
 
 -- no fewer types stand before one of the others than before all
 first-at-least : (m : ℕ) (xs : List Seen) (n : ℕ) (y : Seen) (rest : List (ℕ × Seen)) → others_seen m xs ≡ (n, y) ∷ rest → m ≤ n

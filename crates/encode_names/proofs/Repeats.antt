@@ -8,7 +8,7 @@ use Rattle.std.proofs.lemmas.Map.Keys.{IsDistinct-push}
 use Rattle.std.proofs.lemmas.Map.Views.{Contains-from_any}
 use Rattle.wit_model.specs.Text.{Text, text_eq, text_of}
 use Rattle.wit_model.proofs.AnyOrder.{text-same}
-use Rattle.wit_model.proofs.Lists.{list_any_mapped}
+use Rattle.base_lemmas.proofs.Elements.{any_of_map as list_any_mapped}
 
 abbrev pub Strings : Type 0
 Strings = List (String Global)

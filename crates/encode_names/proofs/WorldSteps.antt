@@ -3,8 +3,8 @@ use Rattle.std.proofs.Common.{◌≡◌, ◌⊎◌, inl, inr, refl, sym, subst, 
 use Rattle.std.specs.Prelude.{is_some}
 use Rattle.std.specs.List.{AllZip, Contains, flat_map, list_all, list_any}
 use Rattle.std.proofs.Math.Seq.{take-append_seam}
-use Rattle.std.proofs.lemmas.Bool.{ltb-true, lt-ltb}
-use Rattle.std.proofs.lemmas.Option.{some_pair_parts}
+use Rattle.std.proofs.lemmas.Bool.{ltb-true, lt-ltb, and_from as both}
+use Rattle.std.proofs.lemmas.Option.{some_pair_parts, same_Some as same-some}
 use Rattle.std.proofs.lemmas.List.Elements.{Contains-append_cases}
 use Rattle.std.proofs.lemmas.List.Folds.{list_all-append}
 use Rattle.wit_model.specs.Text.{Text, text_of}
@@ -21,14 +21,13 @@ use Rattle.wit_model.specs.declared.model.WorldKey.{WorldKey}
 use Rattle.wit_model.specs.declared.model.WorldKey.TheVariants as key
 use Rattle.wit_model.specs.declared.model.WorldItem.{WorldItem}
 use Rattle.wit_model.specs.declared.model.WorldItem.TheVariants as item
-use Rattle.wit_model.proofs.Lists.{first_true, second_true}
-use Rattle.wit_model.proofs.Elements.{both, equal, same-number, same-some, zip-push}
+use Rattle.wit_model.proofs.Elements.{zip-push}
 use Rattle.comp_bytes.specs.Raw.{Declaration, ExternName}
 use Rattle.comp_bytes.specs.Reading.{◌>>=◌}
 use Rattle.comp_bytes.specs.declared.forms.ComponentTypeRef.{ComponentTypeRef}
 use Rattle.comp_bytes.specs.declared.forms.ComponentTypeRef.TheVariants as refs
 use Rattle.comp_meaning.specs.Follow as follow
-use Rattle.comp_meaning.specs.Follow.{Direction, import_, export_, Instance, Key, Scope, Seen, Shown, Slot, View, component_scope, component_step, component_steps, declared_by, function_in, in_scope, instance_types, instance_view, interface_of, is_simple, key_of, named_like, named_type, new_scope, provided, see, used_view, when}
+use Rattle.comp_meaning.specs.Follow.{Direction, import_, export_, Instance, Key, Scope, Seen, Shown, Slot, View, component_step, declared_by, function_in, in_scope, instance_types, instance_view, interface_of, is_simple, key_of, named_like, named_type, provided, see, used_view, when}
 use Rattle.encode_shown.specs.Views.{IsViewOf, ShowsInterface, ShowsItem, home_of, instance_key, instances_of, shown_item}
 use Rattle.encode_shown.proofs.Entries.{IsEntry, import-entry, export-entry}
 use Rattle.encode_shown.proofs.Items.{entry-home, has_home, instance-home, path-home}
@@ -36,6 +35,8 @@ use Rattle.encode_names.specs.WorldNames.{name_of_item}
 use Rattle.encode_names.specs.NameLaws.{IsKeyAlone, ReadsAs, Says}
 use Rattle.encode_names.specs.WorldSteps.{Entries, Entry, FunctionsAreShown, InterfacesAreShown, IsEntryOf, IsTurnOf, NothingIsShown, ShowsEntries, SlotsLeaveEntries, TypesAreShown, WorldsAreShown, declared_towards, seen_function, seen_instance, seen_type, with_entry, with_instance}
 use Rattle.encode_names.proofs.NamesRead.{names_are_read}
+use Rattle.base_lemmas.proofs.Bools.{left_of as first_true, right_of as second_true}
+use Rattle.base_lemmas.proofs.Numbers.{apart, equal, same-number}
 
 -- ---- slots
 
@@ -54,13 +55,6 @@ below-more n m [] l h = refl
 below-more n m (k ∷ ks) l h =
     let less : k < n = ltb-true k n (first_true (nat_lt k n) _ h) in
     both (nat_lt k m) _ (lt-ltb k m (omega (arith, less, l))) (below-more n m ks l (second_true (nat_lt k n) _ h))
-
-apart : (m n : ℕ) → m < n → (m == n) ≡ false
-apart m n l = go (m == n) refl
-  where
-    go : (b : Bool) → (m == n) ≡ b → b ≡ false
-    go false e = refl
-    go true e = let same : m ≡ n = equal m n e in absurd (omega (arith, l, same))
 
 -- an index beyond all that have been used
 pub unused : (n : ℕ) (used : List ℕ) → AreBelow n used → list_any (λ m. m == n) used ≡ false

@@ -9,10 +9,11 @@ use Rattle.wit_model.specs.declared.model.Resolve.{Resolve}
 use Rattle.wit_model.specs.Uses.{has, direct_deps}
 use Rattle.wit_model.specs.Valid.{IsValid}
 use Rattle.wit_model.proofs.Chains.{uses_fall}
-use Rattle.wit_model.proofs.Elements.{contains-one, has-contains, contains-has}
+use Rattle.wit_model.proofs.Elements.{has-contains, contains-has}
 use Rattle.encode_shown.specs.Views.{AreReached, AreUsed, UseEarlier}
 use Rattle.encode_reach.specs.Reach.{add, listed_with, reached_in_order}
 use Rattle.encode_reach.proofs.Fuel.{not-among-uses}
+use Rattle.base_lemmas.proofs.Elements.{contains-one}
 
 -- ---- numbers that differ
 

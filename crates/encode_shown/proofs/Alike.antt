@@ -4,13 +4,13 @@ use Rattle.std.specs.Cmp.Lexicographic.{pointwise}
 use Rattle.std.proofs.lemmas.Cmp.{nat_list_eq_equiv}
 use Rattle.wit_model.specs.Text.{Text, text_eq}
 use Rattle.wit_model.specs.Names.{PackageIdentity}
-use Rattle.wit_model.specs.Tree.{Form, Tree, Trees, Declaration}
+use Rattle.wit_model.specs.Tree.{Declaration}
 use Rattle.wit_model.specs.Meaning.{Signature, FunctionMeaning}
-use Rattle.wit_model.proofs.Elements.{both, same-number}
 use Rattle.comp_meaning.specs.Follow.{ShownType}
-use Rattle.comp_meaning.specs.Same.{same_option, same_bool, primitive_number, same_form, same_tree, same_trees, same_declaration, same_signature, same_function, same_identity}
+use Rattle.comp_meaning.specs.Same.{same_option, same_bool, same_tree, same_declaration, same_signature, same_function, same_identity}
 use Rattle.comp_meaning.specs.Reads.{same_shown}
-use Rattle.encode_shown.proofs.Parts.{place-alike}
+use Rattle.std.proofs.lemmas.Bool.{and_from as both}
+use Rattle.comp_meaning.proofs.SameLaws.{tree_itself as tree-alike}
 
 pub text-alike : (t : Text) → text_eq t t ≡ true
 text-alike t = nat_list_eq_equiv.refl t
@@ -27,31 +27,7 @@ pub list-alike : {A : Type 0} (same : A → A → Bool) → ((x : A) → same x 
 list-alike same h [] = refl
 list-alike same h (x ∷ xs) = both _ _ (h x) (list-alike same h xs)
 
-form-alike : (f : Form) → same_form f f ≡ true
-form-alike (Form.record_of xs) = list-alike text_eq text-alike xs
-form-alike (Form.variant_of xs) = list-alike (λ x y. text_eq x.0 y.0 && same_bool x.1 y.1) (λ x. both _ _ (text-alike x.0) (bool-alike x.1)) xs
-form-alike Form.list_of = refl
-form-alike (Form.fixed_list_of n) = same-number n
-form-alike Form.option_of = refl
-form-alike Form.own_of = refl
-form-alike Form.borrow_of = refl
-form-alike Form.map_of = refl
-form-alike Form.tuple_of = refl
-form-alike (Form.flags_of xs) = list-alike text_eq text-alike xs
-form-alike (Form.enum_of xs) = list-alike text_eq text-alike xs
-form-alike (Form.result_of a b) = both _ _ (bool-alike a) (bool-alike b)
-form-alike (Form.future_of a) = bool-alike a
-form-alike (Form.stream_of a) = bool-alike a
-
 mutual
-  pub tree-alike : (t : Tree) → same_tree t t ≡ true
-  tree-alike (Tree.primitive p) = same-number (primitive_number p)
-  tree-alike (Tree.named p x) = both _ _ (place-alike p) (text-alike x)
-  tree-alike (Tree.node f ts) = both _ _ (form-alike f) (trees-alike ts)
-
-  trees-alike : (ts : Trees) → same_trees ts ts ≡ true
-  trees-alike Trees.no_children = refl
-  trees-alike (Trees.child t ts) = both _ _ (tree-alike t) (trees-alike ts)
 
 declaration-alike : (d : Declaration) → same_declaration d d ≡ true
 declaration-alike (Declaration.type_ t) = tree-alike t

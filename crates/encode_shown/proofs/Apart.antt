@@ -6,10 +6,10 @@ use Rattle.std.proofs.lemmas.Map.Keys.{IsDistinct-IsPermutation}
 use Rattle.std.proofs.lemmas.List.Folds.{list_any-append}
 use Rattle.std.proofs.lemmas.Cmp.{nat_list_eq_equiv}
 use Rattle.wit_model.specs.Text.{Text, text_eq}
-use Rattle.wit_model.proofs.Lists.{first_true, second_true}
-use Rattle.wit_model.proofs.Elements.{both, contains-later}
 use Rattle.comp_meaning.specs.Rules.{distinct}
-use Rattle.encode_shown.proofs.Basics.{no-longer}
+use Rattle.base_lemmas.proofs.Bools.{left_of as first_true, right_of as second_true}
+use Rattle.base_lemmas.proofs.Elements.{contains-later}
+use Rattle.std.proofs.lemmas.Bool.{and_from as both, not-true as no-longer}
 
 none-any : (t : Text) (ts : List Text) → AllByRecursion (λ y. text_eq t y ≡ false) ts → list_any (text_eq t) ts ≡ false
 none-any t [] h = refl

@@ -1,6 +1,5 @@
 -- What a rule that is kept says of an entry, and owners.
-use Rattle.std.proofs.Common.{◌≡◌, refl, sym, subst, ap, ℕ, ◌+◌, Bool, true, false, not, ◌||◌, T, eqb→eq, Some, List, [], ◌∷◌, arith}
-use Rattle.std.specs.List.{Contains, list_all}
+use Rattle.std.proofs.Common.{◌≡◌, refl, sym, subst, ap, ℕ, ◌+◌, Bool, true, false, ◌||◌, T, eqb→eq, Some, arith}
 use Rattle.wit_model.specs.Lookup.{type_at, world_at}
 use Rattle.wit_model.specs.Parts.{same_owner}
 use Rattle.wit_model.specs.Checks.{references}
@@ -12,7 +11,6 @@ use Rattle.wit_model.specs.declared.model.TypeOwner.{TypeOwner}
 use Rattle.wit_model.specs.declared.model.TypeOwner.TheVariants as owner
 use Rattle.wit_model.proofs.Entries.{each_from_at, each_from_all, lists_pass, types_keep}
 use Rattle.wit_model.proofs.TreeTable.{kept_numbers}
-use Rattle.wit_model.proofs.Elements.{both, contains-later}
 
 -- an entry passes the tests of a rule that is kept
 pub type-passes : (rule : Rule) (r : Resolve) → Keeps rule r → (n : ℕ) (def : TypeDef) → type_at r n ≡ Some def → rule.type_ r n def ≡ true
@@ -39,27 +37,8 @@ same-owner (owner.Interface a) owner.None e = let wrong : ⊥ = cc in absurd wro
 same-owner owner.None (owner.World b) e = let wrong : ⊥ = cc in absurd wrong
 same-owner owner.None (owner.Interface b) e = let wrong : ⊥ = cc in absurd wrong
 
-pub or-first : (a b : Bool) → a ≡ true → (a || b) ≡ true
-or-first true b e = refl
-or-first false b e = let wrong : ⊥ = cc in absurd wrong
-
-pub or-second : (a b : Bool) → b ≡ true → (a || b) ≡ true
-or-second true b e = refl
-or-second false b e = e
-
 pub or-cases : {P : Type 0} (a b : Bool) → (a || b) ≡ true → (a ≡ true → P) → (b ≡ true → P) → P
 or-cases true b h p q = p refl
 or-cases false b h p q = q h
 
-pub given-not : (a b : Bool) → a ≡ true → (not a || b) ≡ true → b ≡ true
-given-not true b e h = h
-given-not false b e h = let wrong : ⊥ = cc in absurd wrong
-
-pub no-longer : (a : Bool) → not a ≡ true → a ≡ false
-no-longer true h = sym h
-no-longer false h = refl
-
 -- a test that every element passes
-pub all-from : {A : Type 0} (p : A → Bool) (xs : List A) → ((x : A) → Contains xs x → p x ≡ true) → list_all p xs ≡ true
-all-from p [] h = refl
-all-from p (x ∷ xs) h = both (p x) (list_all p xs) (h x (0, omega arith, refl)) (all-from p xs (λ y c. h y (contains-later x xs y c)))

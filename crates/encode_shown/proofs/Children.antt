@@ -13,9 +13,9 @@ use Rattle.wit_model.specs.declared.model.TypeDefKind.{TypeDefKind}
 use Rattle.wit_model.specs.declared.model.TypeDefKind.TheVariants as kind
 use Rattle.wit_model.specs.declared.model.Handle.TheVariants as handle
 use Rattle.wit_model.specs.declared.model.«Type».{«Type» as ValueType}
-use Rattle.wit_model.proofs.Elements.{both}
-use Rattle.wit_model.proofs.Lists.{first_true, second_true}
 use Rattle.comp_meaning.specs.Rules.{is_part, are_parts, is_declared, is_named_form, form_labels, are_labels}
+use Rattle.base_lemmas.proofs.Bools.{left_of as first_true, right_of as second_true}
+use Rattle.std.proofs.lemmas.Bool.{and_from as both}
 
 abbrev pub child_trees : Declaration → List Tree
 child_trees (type_ (node form ts)) = child_list ts
@@ -34,7 +34,7 @@ abbrev pub is_alias : TypeDefKind → Bool
 is_alias (kind.Type_ t) = true
 is_alias _ = false
 
-listed : (ts : List Tree) → child_list (children ts) ≡ ts
+pub listed : (ts : List Tree) → child_list (children ts) ≡ ts
 listed [] = refl
 listed (t ∷ ts) = ap (λ us. t ∷ us) (listed ts)
 

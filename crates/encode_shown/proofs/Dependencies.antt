@@ -10,7 +10,7 @@ use Rattle.std.proofs.lemmas.Map.Views.{list_any-from_Contains}
 use Rattle.indexmap.specs.IndexMap.{values}
 use Rattle.wit_model.specs.Text.{Text, text_of, text_eq}
 use Rattle.wit_model.specs.Tree.{type_, named}
-use Rattle.wit_model.specs.Names.{PackageIdentity, is_label, path_in, read_path}
+use Rattle.wit_model.specs.Names.{PackageIdentity, is_label, path_in}
 use Rattle.wit_model.specs.Types.{declared_by, trees_of}
 use Rattle.wit_model.specs.Lookup.{package_at, world_at, type_at, interface_at, interface_path, place_of, place_of_path, identity_of}
 use Rattle.wit_model.specs.Meant.{type_meaning_at}
@@ -30,11 +30,10 @@ use Rattle.wit_model.specs.declared.model.TypeId.{TypeId}
 use Rattle.wit_model.specs.declared.model.TypeOwner.{TypeOwner}
 use Rattle.wit_model.specs.declared.model.TypeOwner.TheVariants as owner
 use Rattle.wit_model.specs.declared.model.«Type».TheVariants as ty
-use Rattle.wit_model.proofs.Lists.{first_true, second_true}
 use Rattle.wit_model.proofs.AnyOrder.{text-same}
 use Rattle.wit_model.proofs.NameLaws.{spelled_path_reads}
-use Rattle.wit_model.proofs.Elements.{both, contains-one, contains-map, contains-flat, contains-later, one-contained, none-in, same-some, same-number}
-use Rattle.wit_model.proofs.OnePath.{path-once, some-of}
+use Rattle.wit_model.proofs.Elements.{contains-flat, none-in}
+use Rattle.wit_model.proofs.OnePath.{path-once}
 use Rattle.comp_bytes.specs.Raw.{Declarations}
 use Rattle.comp_bytes.specs.Reading.{◌>>=◌}
 use Rattle.comp_meaning.specs.Follow.{View, ShownType, Seen, Shown, Key, Scope, each, provided, is_filled, component_scope}
@@ -46,12 +45,17 @@ use Rattle.encode_shown.proofs.Basics.{type-passes}
 use Rattle.encode_shown.proofs.Alike.{text-alike}
 use Rattle.encode_shown.proofs.Parts.{named-tree}
 use Rattle.encode_shown.proofs.Members.{meaning-there}
-use Rattle.encode_shown.proofs.Interfaces.{contains-mapped}
 use Rattle.encode_shown.proofs.Reach.{once_from}
 use Rattle.encode_shown.proofs.Owning.{identity, own-interface, own-path, own-world}
 use Rattle.encode_shown.proofs.Worlds.{world-obeys}
 use Rattle.encode_shown.proofs.WorldMeans.{world-label}
-use Rattle.encode_shown.proofs.Zips.{zip-right, filter-contains, given-contains}
+use Rattle.encode_shown.proofs.Zips.{zip-right, given-contains}
+use Rattle.base_lemmas.proofs.Bools.{left_of as first_true, right_of as second_true}
+use Rattle.base_lemmas.proofs.Elements.{contains-later, contains-map, contains-one, filter_kept as filter-contains, last_of as one-contained, map_from as contains-mapped}
+use Rattle.base_lemmas.proofs.Numbers.{same-number}
+use Rattle.base_lemmas.proofs.Options.{there as some-of}
+use Rattle.std.proofs.lemmas.Bool.{and_from as both}
+use Rattle.std.proofs.lemmas.Option.{same_Some as same-some}
 
 -- ---- numbers that differ
 

@@ -1,14 +1,14 @@
 -- A function of an owner obeys the rules in the owner's place.
 use Rattle.std.proofs.Common.{◌≡◌, refl, sym, ap, ◌∙◌, ℕ, Bool, true, false, not, ◌&&◌, ◌||◌, ◌==◌, cond, nat_eq, List, [], ◌∷◌, map, length, drop, slice_get, Option, Some, None, String, option_map, option_to_list}
 use Rattle.std.specs.declared.alloc.Global.{Global}
-use Rattle.std.specs.Prelude.{is_some, is_none, filter_map, flat_map, codes}
+use Rattle.std.specs.Prelude.{is_some, is_none, filter_map, codes}
 use Rattle.std.specs.List.{Contains, list_all, list_any, starts_with}
 use Rattle.std.specs.Option.{option_map_or}
 use Rattle.std.proofs.lemmas.List.Folds.{list_all-append, list_all-map}
 use Rattle.std.proofs.lemmas.Cmp.{nat_list_eq_equiv}
 use Rattle.wit_model.specs.Text.{Text, text_of, text_eq, optional_text}
 use Rattle.wit_model.specs.Names.{is_label, constructor_name, method_name, static_name}
-use Rattle.wit_model.specs.Tree.{Tree, Place, named, node, child, no_children, levels, own_tree, borrow_tree, result_tree}
+use Rattle.wit_model.specs.Tree.{Tree, Place, named, own_tree, borrow_tree, result_tree}
 use Rattle.wit_model.specs.Types.{type_tree, number_tree, number_of, declared_by, trees_of, tree_of_declaration}
 use Rattle.wit_model.specs.Lookup.{type_at, place_of, resource_of, is_async}
 use Rattle.wit_model.specs.Parts.{same_owner, function_types}
@@ -28,13 +28,15 @@ use Rattle.wit_model.specs.declared.model.TypeOwner.{TypeOwner}
 use Rattle.wit_model.specs.declared.model.TypeId.{TypeId}
 use Rattle.wit_model.specs.declared.model.«Type».{«Type» as ValueType}
 use Rattle.wit_model.specs.declared.model.«Type».TheVariants as ty
-use Rattle.wit_model.proofs.Lists.{first_true, second_true}
-use Rattle.wit_model.proofs.Elements.{both, same-some, equal}
 use Rattle.comp_meaning.specs.Same.{same_tree}
 use Rattle.comp_meaning.specs.Rules.{is_part, are_labels, is_parameter_type, is_result_type, is_signature, own_name, borrow_name, is_label_behind, begins_with_self, is_function_of, is_function}
 use Rattle.comp_meaning.specs.Rules as shown
-use Rattle.encode_shown.proofs.Basics.{same-owner, or-cases, or-first, or-second, given-not}
+use Rattle.encode_shown.proofs.Basics.{same-owner, or-cases}
 use Rattle.encode_shown.proofs.Parts.{place-alike, labels-from, named-tree, unnamed-tree, values-part}
+use Rattle.base_lemmas.proofs.Bools.{given-not, left_of as first_true, right_of as second_true}
+use Rattle.base_lemmas.proofs.Numbers.{equal}
+use Rattle.std.proofs.lemmas.Bool.{and_from as both, or_left as or-first, or_right as or-second}
+use Rattle.std.proofs.lemmas.Option.{same_Some as same-some}
 
 -- ---- prefixes
 

@@ -17,7 +17,7 @@ use Rattle.wit_model.specs.Lookup.{interface_at, place_of, type_at}
 use Rattle.wit_model.specs.Parts.{same_owner, function_types}
 use Rattle.wit_model.specs.Meaning.{FunctionMeaning, InterfaceMeaning}
 use Rattle.wit_model.specs.Meant as meant
-use Rattle.wit_model.specs.Meant.{type_meaning, type_meaning_at, function_meaning, signature_of, interface_meaning_at, no_interface}
+use Rattle.wit_model.specs.Meant.{type_meaning_at, function_meaning, signature_of, interface_meaning_at, no_interface}
 use Rattle.wit_model.specs.Rules.{passes, in_list, function_in_range, function_labels, function_stays, is_shallow, is_member, is_resource_itself, is_stability, package_number}
 use Rattle.wit_model.specs.Valid.{IsValid, as_interface, is_place, functions_of_interface, labels, owners, depths, function_names, numbers_in_range}
 use Rattle.wit_model.specs.declared.model.Resolve.{Resolve}
@@ -28,25 +28,21 @@ use Rattle.wit_model.specs.declared.model.TypeDefKind.{TypeDefKind}
 use Rattle.wit_model.specs.declared.model.TypeDefKind.TheVariants as kind
 use Rattle.wit_model.specs.declared.model.TypeId.{TypeId}
 use Rattle.wit_model.specs.declared.model.TypeOwner.TheVariants as owner
-use Rattle.wit_model.proofs.Lists.{first_true, second_true}
 use Rattle.wit_model.proofs.AnyOrder.{text-same, distinct-texts, same-map}
-use Rattle.wit_model.proofs.Elements.{both, all-contained, contains-map, contains-later}
 use Rattle.wit_model.proofs.OnePath.{interface-passes}
 use Rattle.comp_meaning.specs.Follow.{View, ShownType}
 use Rattle.comp_meaning.specs.Rules.{distinct, is_interface, is_declared, is_function, resources_of, is_resource}
 use Rattle.comp_meaning.specs.Reads.{interface_meaning}
 use Rattle.encode_shown.specs.Views.{shown_type, home_of, types_of, functions_of, ShowsTypes, ShowsInterface}
-use Rattle.encode_shown.proofs.Basics.{all-from, no-longer}
 use Rattle.encode_shown.proofs.Apart.{distinct-from, distinct-both}
 use Rattle.encode_shown.proofs.Parts.{number-declared}
 use Rattle.encode_shown.proofs.Functions.{IsResourceOf, function-shown}
 use Rattle.encode_shown.proofs.Members.{entry-type, entry-of, meaning-there, name-label}
+use Rattle.base_lemmas.proofs.Bools.{left_of as first_true, right_of as second_true}
+use Rattle.base_lemmas.proofs.Elements.{all-contained, all_pass as all-from, contains-later, contains-map, map_from as contains-mapped}
+use Rattle.std.proofs.lemmas.Bool.{and_from as both, not-true as no-longer}
 
 -- an element of a list that is mapped is that of one that it is from
-pub contains-mapped : {A B : Type 0} (f : A → B) (xs : List A) (y : B) → Contains (map f xs) y → (x : A) × Contains xs x × (f x ≡ y)
-contains-mapped f [] y c = absurd (let l = c.1 in omega (arith, l))
-contains-mapped f (x ∷ xs) y (Prim.Native.Nat.zero, l, e) = (x, (0, omega arith, refl), e)
-contains-mapped f (x ∷ xs) y (Prim.Native.Nat.suc k, l, e) = let rest = contains-mapped f xs y (k, omega (arith, l), e) in (rest.0, contains-later x xs rest.0 rest.1, rest.2)
 
 -- a resource of the list is one of its resources
 pub resource-listed : (ts : List ShownType) (t : ShownType) → Contains ts t → is_resource t.meaning.declaration ≡ true → Contains (resources_of ts) t.name

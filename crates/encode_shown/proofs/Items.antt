@@ -25,10 +25,9 @@ use Rattle.wit_model.specs.declared.model.WorldKey.TheVariants as key
 use Rattle.wit_model.specs.declared.model.WorldItem.{WorldItem}
 use Rattle.wit_model.specs.declared.model.WorldItem.TheVariants as item
 use Rattle.wit_model.specs.declared.model.Function.{Function}
-use Rattle.wit_model.proofs.Lists.{first_true, second_true}
 use Rattle.wit_model.proofs.Owners.{met_step}
 use Rattle.wit_model.proofs.AnyOrder.{text-same}
-use Rattle.wit_model.proofs.Elements.{both, all-contained, contains-one, contains-flat, contains-later, none-in, equal, has-contains, same-some}
+use Rattle.wit_model.proofs.Elements.{contains-flat, none-in, has-contains}
 use Rattle.wit_model.proofs.OnePath.{found-in}
 use Rattle.comp_meaning.specs.Follow.{View, Seen, Shown, interface_of}
 use Rattle.comp_meaning.specs.Follow as follow
@@ -41,7 +40,12 @@ use Rattle.encode_shown.proofs.Members.{IsNamedType, meaning-there, name-label}
 use Rattle.encode_shown.proofs.Interfaces.{interface-obeys, resource-declared}
 use Rattle.encode_shown.proofs.Entries.{IsEntry, interface-key-path}
 use Rattle.encode_shown.proofs.Keys.{named-key}
-use Rattle.encode_shown.proofs.Zips.{zip-right, contains-filter, given-contains}
+use Rattle.encode_shown.proofs.Zips.{zip-right, given-contains}
+use Rattle.base_lemmas.proofs.Bools.{left_of as first_true, right_of as second_true}
+use Rattle.base_lemmas.proofs.Elements.{all-contained, contains-later, contains-one, filter_keeps as contains-filter}
+use Rattle.base_lemmas.proofs.Numbers.{equal}
+use Rattle.std.proofs.lemmas.Bool.{and_from as both}
+use Rattle.std.proofs.lemmas.Option.{same_Some as same-some}
 
 -- ---- places
 

@@ -1,10 +1,10 @@
 -- What is seen in the members of a package: of each interface that the package reaches, and of no other.
-use Rattle.std.proofs.Common.{◌≡◌, ◌⊎◌, inl, inr, refl, sym, subst, ap, ◌∙◌, ℕ, zero, suc, ◌<◌, Bool, true, false, not, ◌&&◌, ◌||◌, ◌==◌, List, [], ◌∷◌, ◌++◌, map, filter, length, Option, Some, None, String, unwrap_or, arith}
+use Rattle.std.proofs.Common.{◌≡◌, ◌⊎◌, inl, inr, refl, sym, subst, ap, ◌∙◌, ℕ, zero, suc, ◌<◌, Bool, true, false, ◌&&◌, List, [], ◌∷◌, ◌++◌, map, length, Option, Some, None, String, arith}
 use Rattle.std.specs.declared.alloc.Global.{Global}
 use Rattle.std.specs.Prelude.{is_some, option_to_list, filter_map, flat_map, option_and_then}
 use Rattle.std.specs.List.{Contains, list_all}
-use Rattle.std.proofs.lemmas.Bool.{ltb-true}
-use Rattle.std.proofs.lemmas.Option.{slice_get_within}
+use Rattle.std.proofs.lemmas.Bool.{ltb-true, and_from as both}
+use Rattle.std.proofs.lemmas.Option.{slice_get_within, same_Some as same-some}
 use Rattle.std.proofs.lemmas.List.Folds.{list_any_at}
 use Rattle.std.proofs.lemmas.List.Elements.{Contains-append_left, Contains-append_right, Contains-append_cases}
 use Rattle.indexmap.specs.IndexMap.{values}
@@ -22,23 +22,23 @@ use Rattle.wit_model.specs.declared.model.World.{World}
 use Rattle.wit_model.specs.declared.model.WorldId.{WorldId}
 use Rattle.wit_model.specs.declared.model.WorldItem.{WorldItem}
 use Rattle.wit_model.specs.declared.model.WorldItem.TheVariants as item
-use Rattle.wit_model.proofs.Lists.{first_true, second_true}
 use Rattle.wit_model.proofs.AnyOrder.{text-same}
 use Rattle.wit_model.proofs.NameLaws.{spelled_path_reads}
-use Rattle.wit_model.proofs.Elements.{both, all-contained, contains-map, contains-one, contains-flat, contains-filter_map, one-contained, none-in, has-contains, contains-has, same-some}
+use Rattle.wit_model.proofs.Elements.{contains-flat, contains-filter_map, none-in, has-contains, contains-has}
 use Rattle.wit_model.proofs.OnePath.{path-once}
 use Rattle.comp_meaning.specs.Follow.{View}
 use Rattle.comp_meaning.specs.Reads.{Sight, Member, sights, is_of}
 use Rattle.encode_shown.specs.Views.{ShowsInterface, ShowsImport, ShowsReached, ShowsPackage, ShowsInterfaceMember, ShowsWorldMember}
 use Rattle.encode_shown.proofs.Basics.{world-passes}
 use Rattle.encode_shown.proofs.Alike.{text-alike, identity-alike}
-use Rattle.encode_shown.proofs.Interfaces.{contains-mapped}
 use Rattle.encode_shown.proofs.Used.{contains-flat-from}
 use Rattle.encode_shown.proofs.Owning.{identity, own-interface, own-path}
 use Rattle.encode_shown.proofs.Reach.{Chain, chain-reached, holds-reached, used-chain, earlier-used}
 use Rattle.encode_shown.proofs.WorldMeans.{IsWhole, seen-whole}
 use Rattle.encode_shown.proofs.Sights.{IsSight, is_seen_whole}
-use Rattle.encode_shown.proofs.Zips.{any-contains, zip-left, zip-right, contains-filter, filter-contains, given-contains}
+use Rattle.encode_shown.proofs.Zips.{zip-left, zip-right, given-contains}
+use Rattle.base_lemmas.proofs.Bools.{left_of as first_true, right_of as second_true}
+use Rattle.base_lemmas.proofs.Elements.{all-contained, any-contains, contains-map, contains-one, filter_keeps as contains-filter, filter_kept as filter-contains, last_of as one-contained, map_from as contains-mapped}
 
 -- what stands behind others passes the test behind some of them
 after-item : {A : Type 0} (q : List A → A → Bool) (before xs : List A) (x : A) → each_after q before xs ≡ true → Contains xs x → (front : List A) × (q front x ≡ true) × ((y : A) → Contains front y → Contains (before ++ xs) y)
@@ -60,7 +60,7 @@ item-from r (item.Interface id stability docs external_id) m c = inl (ap Some (o
 item-from r (item.Function f) m c = none-in m c
 item-from r (item.Type_ id) m c = inr c
 
-interface-uses : (r : Resolve) (i : WorldItem) (m k : ℕ) → item_interface i ≡ Some m → Contains (direct_deps r m) k → Contains (used_interfaces r i) k
+pub interface-uses : (r : Resolve) (i : WorldItem) (m k : ℕ) → item_interface i ≡ Some m → Contains (direct_deps r m) k → Contains (used_interfaces r i) k
 interface-uses r (item.Interface id stability docs external_id) m k e c = subst (λ (j : ℕ). Contains (direct_deps r j) k) (sym (same-some id.0 m e)) c
 interface-uses r (item.Function f) m k e c = let wrong : ⊥ = cc in absurd wrong
 interface-uses r (item.Type_ id) m k e c = let wrong : ⊥ = cc in absurd wrong

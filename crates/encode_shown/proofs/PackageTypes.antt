@@ -1,5 +1,5 @@
 -- The sections of a component that exports the component types of a package, or of one world, mean it.
-use Rattle.std.proofs.Common.{◌≡◌, ◌↔◌, ◌⊎◌, inl, inr, map, option_map, refl, sym, subst, ap, ◌∙◌, ℕ, Bool, true, false, List, [], ◌∷◌, ◌++◌, Option, Some, None, String, arith}
+use Rattle.std.proofs.Common.{◌≡◌, ◌↔◌, ◌⊎◌, inl, inr, map, option_map, refl, sym, subst, ap, ◌∙◌, ℕ, true, List, [], ◌∷◌, ◌++◌, Option, Some, None, String, arith}
 use Rattle.std.specs.declared.alloc.Global.{Global}
 use Rattle.std.specs.Prelude.{option_and_then}
 use Rattle.std.specs.List.{AllZip, Contains}
@@ -15,7 +15,6 @@ use Rattle.wit_model.specs.Meant as meant
 use Rattle.wit_model.specs.Meant.{Meant, MeantWorld, package_of_world}
 use Rattle.wit_model.specs.Meaning.{PackageMeaning, WorldPackage}
 use Rattle.wit_model.specs.Rules.{is_world_name}
-use Rattle.wit_model.proofs.Lists.{list_any_mapped}
 use Rattle.wit_model.proofs.AnyOrder.{distinct-texts}
 use Rattle.wit_model.specs.Valid.{IsValid}
 use Rattle.wit_model.specs.declared.model.Resolve.{Resolve}
@@ -24,7 +23,6 @@ use Rattle.wit_model.specs.declared.model.PackageId.{PackageId}
 use Rattle.wit_model.specs.declared.model.InterfaceId.{InterfaceId}
 use Rattle.wit_model.specs.declared.model.WorldId.{WorldId}
 use Rattle.wit_model.specs.declared.model.World.{World}
-use Rattle.wit_model.proofs.Elements.{contains-later, same-some}
 use Rattle.comp_bytes.specs.Raw.{Declarations, Section}
 use Rattle.comp_bytes.specs.Spelling.{IsComponent}
 use Rattle.comp_bytes.specs.Reading.{◌>>=◌}
@@ -33,16 +31,16 @@ use Rattle.comp_meaning.specs.Reads.{Member, Part, part_of, member, interface_pa
 use Rattle.comp_meaning.specs.Rules.{distinct}
 use Rattle.comp_meaning.proofs.MeaningLaws.{one_meaning, one_world}
 use Rattle.comp_meaning.specs.Reads as reads
-use Rattle.encode_shown.specs.Views.{ShowsInterfaceMember, ShowsWorldMember, ShowsPackage}
+use Rattle.encode_shown.specs.Views.{ShowsInterfaceMember, ShowsWorldMember}
 use Rattle.encode_shown.specs.PackageTypes.{IsInterfaceType, IsWorldType, IsListedWorldType, ArePackageTypes}
 use Rattle.encode_shown.proofs.Dependencies.{own-label, interface-part-read, world-read}
 use Rattle.encode_shown.proofs.Apart.{distinct-from, distinct-both}
-use Rattle.encode_shown.proofs.Basics.{all-from}
-use Rattle.encode_shown.proofs.Interfaces.{contains-mapped}
-use Rattle.encode_shown.proofs.Zips.{zip-left, zip-same}
+use Rattle.encode_shown.proofs.Zips.{zip-left}
 use Rattle.encode_shown.proofs.Owning.{own-world, no-world-name}
 use Rattle.encode_shown.proofs.Packages.{members-mean}
 use Rattle.encode_shown.proofs.WorldMeans.{world-label, world-package-means}
+use Rattle.base_lemmas.proofs.Elements.{all_pass as all-from, any_of_map as list_any_mapped, contains-later, map_from as contains-mapped, zip_map as zip-same}
+use Rattle.std.proofs.lemmas.Option.{same_Some as same-some}
 
 each-append : {A B : Type 0} (f : A → Option B) (xs ys : List A) (us vs : List B) → each f xs ≡ Some us → each f ys ≡ Some vs → each f (xs ++ ys) ≡ Some (us ++ vs)
 each-append f [] ys us vs e h = h ∙ ap (λ (o : Option (List _)). Some (Rattle.std.proofs.Common.unwrap_or o [] ++ vs)) e

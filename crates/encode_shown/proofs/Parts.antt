@@ -4,7 +4,7 @@ use Rattle.std.specs.declared.alloc.Global.{Global}
 use Rattle.std.specs.Prelude.{is_some, filter_map, flat_map}
 use Rattle.std.specs.List.{Contains, list_all}
 use Rattle.std.specs.Option.{option_map_or}
-use Rattle.std.proofs.lemmas.Bool.{ltb-true, lt-ltb}
+use Rattle.std.proofs.lemmas.Bool.{ltb-true, lt-ltb, and_from as both}
 use Rattle.std.proofs.lemmas.Option.{slice_get_within}
 use Rattle.std.proofs.lemmas.List.Folds.{list_all-append, list_all-map}
 use Rattle.std.proofs.lemmas.List.Elements.{Contains-append_left, Contains-append_right}
@@ -15,7 +15,7 @@ use Rattle.wit_model.specs.Types.{declared_by, tree_of, tree_at, tree_of_declara
 use Rattle.wit_model.specs.Lookup.{type_at, place_of}
 use Rattle.wit_model.specs.Parts.{member_types, handled, kind_numbers, met_by, met_of, used_by_type, same_owner, has_owner, is_resource, is_resource_kind, is_resource_type}
 use Rattle.wit_model.specs.Uses.{alias_target}
-use Rattle.wit_model.specs.Rules.{is_named_kind, is_named_number, passes, is_shallow, in_list, is_use, type_stays, kind_labels, are_member_labels}
+use Rattle.wit_model.specs.Rules.{is_named_kind, is_named_number, passes, in_list, is_use, kind_labels, are_member_labels}
 use Rattle.wit_model.specs.Rules as rules
 use Rattle.wit_model.specs.Valid.{IsValid, labels, named_kinds, owners, handles, depths}
 use Rattle.wit_model.specs.declared.model.Resolve.{Resolve}
@@ -28,17 +28,19 @@ use Rattle.wit_model.specs.declared.model.TypeOwner.TheVariants as owner
 use Rattle.wit_model.specs.declared.model.TypeId.{TypeId}
 use Rattle.wit_model.specs.declared.model.«Type».{«Type» as ValueType}
 use Rattle.wit_model.specs.declared.model.«Type».TheVariants as ty
-use Rattle.wit_model.proofs.Lists.{first_true, second_true}
 use Rattle.wit_model.proofs.TreeTable.{kept_numbers, kept_trees_at}
 use Rattle.wit_model.proofs.Resources.{resource_step}
 use Rattle.wit_model.proofs.Functions.{all_flat}
 use Rattle.wit_model.proofs.Owners.{named_met, unnamed_met}
-use Rattle.wit_model.proofs.Elements.{both, all-contained, contains-filter_map, contains-one}
-use Rattle.wit_model.proofs.OnePath.{found-in, some-of}
+use Rattle.wit_model.proofs.Elements.{contains-filter_map}
+use Rattle.wit_model.proofs.OnePath.{found-in}
 use Rattle.comp_meaning.specs.Same.{same_place}
 use Rattle.comp_meaning.specs.Rules.{is_part, is_declared, are_labels, distinct}
-use Rattle.encode_shown.proofs.Basics.{type-passes, valid-references, same-owner, all-from, given-not, or-cases}
+use Rattle.encode_shown.proofs.Basics.{type-passes, valid-references, same-owner, or-cases}
 use Rattle.encode_shown.proofs.Children.{child_trees, has_named_form, is_alias, children-are, labels-are, form-unnamed, parts-from, declared-from}
+use Rattle.base_lemmas.proofs.Bools.{given-not, left_of as first_true, right_of as second_true}
+use Rattle.base_lemmas.proofs.Elements.{all-contained, all_pass as all-from, contains-one}
+use Rattle.base_lemmas.proofs.Options.{there as some-of}
 
 pub place-alike : (a : Place) → same_place a a ≡ true
 place-alike (of_interface p) = nat_list_eq_equiv.refl p

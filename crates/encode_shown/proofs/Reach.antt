@@ -2,13 +2,11 @@
 use Rattle.std.proofs.Common.{◌≡◌, ◌⊎◌, inl, inr, refl, sym, subst, ap, ◌∙◌, ℕ, zero, suc, ◌<◌, ◌≤◌, arith, Bool, true, false, ◌||◌, not, nat_lt, List, [], ◌∷◌, ◌++◌, length, filter, nat_eq, Option, Some, None}
 use Rattle.std.specs.Prelude.{flat_map}
 use Rattle.std.specs.List.{Contains, list_all}
-use Rattle.std.proofs.lemmas.Bool.{eqb-true, eq-eqb, ltb-true}
+use Rattle.std.proofs.lemmas.Bool.{eqb-true, ltb-true, or_left as or-first, or_right as or-second}
 use Rattle.std.proofs.lemmas.List.Folds.{list_any-append}
 use Rattle.std.proofs.lemmas.List.Elements.{Contains-append_cases}
 use Rattle.std.proofs.lemmas.Map.Views.{any-filter_same}
-use Rattle.wit_model.proofs.Distinct.{either_way}
-use Rattle.wit_model.proofs.Lists.{second_true}
-use Rattle.wit_model.proofs.Elements.{all-contained, contains-later, none-in, one-contained, has-contains, contains-has}
+use Rattle.wit_model.proofs.Elements.{none-in, has-contains, contains-has}
 use Rattle.wit_model.proofs.OnePath.{interface-passes}
 use Rattle.wit_model.specs.declared.model.Resolve.{Resolve}
 use Rattle.wit_model.specs.declared.model.Interface.{Interface}
@@ -17,9 +15,11 @@ use Rattle.wit_model.specs.Rules.{function_stays}
 use Rattle.wit_model.specs.Valid.{IsValid, as_interface, functions_of_interface, owners}
 use Rattle.wit_model.specs.Uses.{has, once, direct_deps, reached_in, reached}
 use Rattle.encode_shown.specs.Views.{AreUsed, UseEarlier}
-use Rattle.encode_shown.proofs.Basics.{or-first, or-second}
 use Rattle.encode_shown.proofs.Used.{contains-flat-from}
-use Rattle.encode_shown.proofs.Zips.{filter-contains}
+use Rattle.base_lemmas.proofs.Bools.{right_of as second_true}
+use Rattle.base_lemmas.proofs.Elements.{all-contained, contains-later, filter_kept as filter-contains, last_of as one-contained}
+use Rattle.base_lemmas.proofs.Numbers.{nat_eq_flip}
+use Rattle.wit_model.proofs.Chains.{has_flat}
 
 -- a chain of so many uses from n to m
 abbrev pub Chain : Resolve → ℕ → ℕ → ℕ → Type 0
@@ -29,9 +29,6 @@ Chain r (suc k) n m = (o : ℕ) × (has (direct_deps r n) o ≡ true) × Chain r
 pub further : (r : Resolve) (k n m j : ℕ) → Chain r k n m → has (direct_deps r m) j ≡ true → Chain r (suc k) n j
 further r zero n m j c h = (j, ap (λ i. has (direct_deps r i) j) c ∙ h, refl)
 further r (suc k) n m j c h = (c.0, c.1, further r k c.0 m j c.2 h)
-
-nat_eq_flip : (a b : ℕ) → nat_eq a b ≡ nat_eq b a
-nat_eq_flip a b = either_way (nat_eq a b) (nat_eq b a) (λ e. eq-eqb b a (sym (eqb-true a b e))) (λ e. eq-eqb a b (sym (eqb-true b a e)))
 
 -- what is among them is among them once
 filtered : (x n : ℕ) (ns : List ℕ) → nat_eq x n ≡ false → has ns n ≡ true → has (filter (λ m. not (nat_eq m x)) ns) n ≡ true
@@ -52,14 +49,6 @@ pub once_from : (n : ℕ) (ns : List ℕ) → Contains (once ns) n → Contains 
 once_from n [] c = c
 once_from n (x ∷ ns) (zero, l, e) = (0, omega arith, e)
 once_from n (x ∷ ns) (suc k, l, e) = contains-later x ns n (once_from n ns (filter-contains (λ m. not (nat_eq m x)) (once ns) n (k, omega (arith, l), e)).0)
-
-has_flat : (f : ℕ → List ℕ) (n m : ℕ) (ns : List ℕ) → has ns n ≡ true → has (f n) m ≡ true → has (flat_map f ns) m ≡ true
-has_flat f n m [] h g = let wrong : ⊥ = cc in absurd wrong
-has_flat f n m (x ∷ ns) h g = list_any-append (λ k. nat_eq k m) (f x) (flat_map f ns) ∙ by (λ k. has_flat f n m ns k g) (nat_eq x n) refl
-  where
-    by : (has ns n ≡ true → has (flat_map f ns) m ≡ true) → (b : Bool) → nat_eq x n ≡ b → (has (f x) m || has (flat_map f ns) m) ≡ true
-    by rest true e = or-first (has (f x) m) _ (ap (λ k. has (f k) m) (eqb-true x n e) ∙ g)
-    by rest false e = or-second (has (f x) m) _ (rest (sym (ap (λ b. b || has ns n) e) ∙ h))
 
 module _ (r : Resolve) where
   stays_in : (ns : List ℕ) (n : ℕ) → has ns n ≡ true → has (once (ns ++ flat_map (direct_deps r) ns)) n ≡ true

@@ -4,7 +4,7 @@ use Rattle.std.specs.Prelude.{IsPermutation, if◌then◌else◌}
 use Rattle.std.specs.Option.{option_map_or}
 use Rattle.std.specs.Cmp.Lexicographic.{pointwise}
 use Rattle.std.specs.List.{AllZip, Contains, list_any}
-use Rattle.std.proofs.lemmas.Bool.{eq-eqb}
+use Rattle.std.proofs.lemmas.Bool.{eq-eqb, and_from as both}
 use Rattle.std.proofs.lemmas.List.Folds.{list_any_at}
 use Rattle.std.proofs.lemmas.List.Sorted.{IsPermutation-sym, Contains-permutation, length_permutation}
 use Rattle.wit_model.specs.Text.{Text, text_eq}
@@ -15,8 +15,6 @@ use Rattle.wit_model.specs.Meant.{interface_meaning_at, types_alone}
 use Rattle.wit_model.specs.Valid.{IsValid}
 use Rattle.wit_model.specs.declared.model.Resolve.{Resolve}
 use Rattle.wit_model.proofs.AnyOrder.{text-same}
-use Rattle.wit_model.proofs.Lists.{first_true, second_true}
-use Rattle.wit_model.proofs.Elements.{both}
 use Rattle.wit_model.proofs.OnePath.{path-once}
 use Rattle.comp_meaning.specs.Follow.{View}
 use Rattle.comp_meaning.specs.Rules.{is_interface}
@@ -24,10 +22,11 @@ use Rattle.comp_meaning.specs.Same.{same_function, stand_in}
 use Rattle.comp_meaning.specs.Reads.{Sight, same_shown, same_functions, agree, all_agree, are_interfaces, functions_of, interface_meaning, seen_meaning}
 use Rattle.encode_shown.specs.Views.{home_of, ShowsTypes, ShowsInterface}
 use Rattle.encode_shown.specs.Views as views
-use Rattle.encode_shown.proofs.Basics.{all-from}
 use Rattle.encode_shown.proofs.Alike.{list-alike, shown-alike, function-alike, text-alike}
 use Rattle.encode_shown.proofs.Interfaces.{interface-obeys, interface-means, types-obey, types-mean}
 use Rattle.encode_shown.proofs.Zips.{zip-left}
+use Rattle.base_lemmas.proofs.Bools.{left_of as first_true, right_of as second_true}
+use Rattle.base_lemmas.proofs.Elements.{all_pass as all-from}
 
 -- a sight shows the interface whole, or its types alone
 abbrev pub ShowsAs : Resolve → ℕ → Bool → View → Type 0

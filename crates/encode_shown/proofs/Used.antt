@@ -1,5 +1,5 @@
 -- The paths that a declaration uses are those of the interfaces that it uses.
-use Rattle.std.proofs.Common.{◌≡◌, ◌⊎◌, inl, inr, refl, sym, subst, ap, ◌∙◌, ℕ, suc, zero, Bool, true, false, not, ◌&&◌, ◌||◌, ◌==◌, cond, nat_lt, List, [], ◌∷◌, map, Option, Some, None, String, slice_get, arith}
+use Rattle.std.proofs.Common.{◌≡◌, ◌⊎◌, inl, inr, refl, sym, subst, ap, ◌∙◌, ℕ, suc, zero, Bool, true, false, not, ◌&&◌, ◌||◌, ◌==◌, cond, nat_lt, List, [], ◌∷◌, Option, Some, None, String, arith}
 use Rattle.std.specs.declared.alloc.Global.{Global}
 use Rattle.std.specs.Prelude.{is_some, option_and_then, option_to_list, flat_map}
 use Rattle.std.specs.List.{Contains, list_all}
@@ -28,19 +28,21 @@ use Rattle.wit_model.specs.declared.model.TypeOwner.{TypeOwner}
 use Rattle.wit_model.specs.declared.model.TypeOwner.TheVariants as owner
 use Rattle.wit_model.specs.declared.model.«Type».{«Type» as ValueType}
 use Rattle.wit_model.specs.declared.model.«Type».TheVariants as ty
-use Rattle.wit_model.proofs.Lists.{first_true, second_true}
 use Rattle.wit_model.proofs.Shown.{deps_pass}
 use Rattle.wit_model.proofs.TreeTable.{kept_numbers}
-use Rattle.wit_model.proofs.Elements.{all-contained, contains-one, contains-map, contains-later, one-contained, none-in, equal, has-contains, contains-has}
-use Rattle.wit_model.proofs.OnePath.{found-in, some-of}
+use Rattle.wit_model.proofs.Elements.{none-in, has-contains, contains-has}
+use Rattle.wit_model.proofs.OnePath.{found-in}
 use Rattle.comp_meaning.specs.Follow.{View, ShownType}
 use Rattle.comp_meaning.specs.Rules.{used_by, used_by_view, others_than}
 use Rattle.encode_shown.specs.Views.{shown_type, home_of, types_of}
-use Rattle.encode_shown.proofs.Basics.{type-passes, all-from}
+use Rattle.encode_shown.proofs.Basics.{type-passes}
 use Rattle.encode_shown.proofs.Children.{is_alias}
 use Rattle.encode_shown.proofs.Parts.{named-tree}
-use Rattle.encode_shown.proofs.Interfaces.{contains-mapped}
 use Rattle.encode_shown.proofs.Members.{meaning-there}
+use Rattle.base_lemmas.proofs.Bools.{left_of as first_true, right_of as second_true}
+use Rattle.base_lemmas.proofs.Elements.{all-contained, all_pass as all-from, contains-later, contains-map, contains-one, last_of as one-contained, map_from as contains-mapped}
+use Rattle.base_lemmas.proofs.Numbers.{equal}
+use Rattle.base_lemmas.proofs.Options.{there as some-of}
 
 -- the interface of this path, that a declaration uses
 pub record UsesPath (r : Resolve) (used : Option ℕ) (path : Text) : Type 0 where

@@ -1,5 +1,5 @@
 -- What shows a world of a valid `Resolve` means the world, with the interfaces that it shows.
-use Rattle.std.proofs.Common.{◌≡◌, refl, sym, subst, ap, ◌∙◌, ℕ, Bool, true, false, not, ◌&&◌, ◌||◌, ◌==◌, cond, List, [], ◌∷◌, ◌++◌, map, filter, option_map, Option, Some, None, String, arith, unwrap_or}
+use Rattle.std.proofs.Common.{◌≡◌, refl, sym, subst, ap, ◌∙◌, ℕ, Bool, true, false, not, ◌&&◌, ◌||◌, cond, List, [], ◌∷◌, ◌++◌, map, filter, option_map, Option, Some, None, String, arith, unwrap_or}
 use Rattle.std.specs.declared.alloc.Global.{Global}
 use Rattle.std.specs.Prelude.{is_some, filter_map, flat_map, option_and_then}
 use Rattle.std.specs.Option.{option_map_or}
@@ -16,7 +16,7 @@ use Rattle.wit_model.specs.Lookup.{package_at, world_at, interface_path, key_tex
 use Rattle.wit_model.specs.Uses.{item_interface, shown_by}
 use Rattle.wit_model.specs.Meaning.{InterfaceMeaning, Item}
 use Rattle.wit_model.specs.Meant as meant
-use Rattle.wit_model.specs.Meant.{interface_meaning_at, item_meaning, item_external_id, entry_meaning, entries_meaning, by_path, package_of_world}
+use Rattle.wit_model.specs.Meant.{interface_meaning_at, item_meaning, item_external_id, entry_meaning, entries_meaning, package_of_world}
 use Rattle.wit_model.specs.Rules.{is_id, package_number, interface_is_listed, world_is_listed, is_world_name}
 use Rattle.wit_model.specs.Valid.{IsValid, labels, places}
 use Rattle.wit_model.specs.declared.model.Resolve.{Resolve}
@@ -28,23 +28,26 @@ use Rattle.wit_model.specs.declared.model.WorldKey.{WorldKey}
 use Rattle.wit_model.specs.declared.model.WorldKey.TheVariants as key
 use Rattle.wit_model.specs.declared.model.WorldItem.{WorldItem}
 use Rattle.wit_model.specs.declared.model.WorldItem.TheVariants as item
-use Rattle.wit_model.proofs.Lists.{first_true, second_true, lookup_any}
+use Rattle.wit_model.proofs.Lists.{lookup_any}
 use Rattle.wit_model.proofs.AnyOrder.{text-same}
 use Rattle.wit_model.proofs.NameLaws.{one_path}
 use Rattle.wit_model.proofs.VersionLaws.{same_name}
-use Rattle.wit_model.proofs.Elements.{both, contains-later}
-use Rattle.wit_model.proofs.OnePath.{HasPath, has-path, path-label, package-name, package-once, given-test, interface-passes, some-same}
+use Rattle.wit_model.proofs.OnePath.{HasPath, has-path, path-label, package-name, package-once, given-test, interface-passes}
 use Rattle.comp_meaning.specs.Follow.{View, Seen, Shown, Instance, Scope, interface_of}
 use Rattle.comp_meaning.specs.Reads.{Sight, of_instance, item_of, entry, world_meaning, seen_meaning, world_with, interface_meaning}
 use Rattle.comp_meaning.specs.Follow.{provided}
 use Rattle.encode_shown.specs.Views.{instance_key, shown_item, instances_of, IsViewOf, ShowsItem, ShowsInterface, ShowsWorld}
-use Rattle.encode_shown.proofs.Basics.{world-passes, no-longer}
+use Rattle.encode_shown.proofs.Basics.{world-passes}
 use Rattle.encode_shown.proofs.Alike.{text-alike}
 use Rattle.encode_shown.proofs.Interfaces.{interface-means}
 use Rattle.encode_shown.proofs.Entries.{IsEntry}
 use Rattle.encode_shown.proofs.Items.{has_home, instance-home, entry-home}
 use Rattle.encode_shown.proofs.Worlds.{imports-are, exports-are, all-shown, all-entries}
 use Rattle.encode_shown.proofs.Sights.{IsSight, all-sights-agree, all-sights-obey, is_seen_whole, sight-means}
+use Rattle.base_lemmas.proofs.Bools.{left_of as first_true, right_of as second_true}
+use Rattle.base_lemmas.proofs.Elements.{contains-later}
+use Rattle.std.proofs.lemmas.Bool.{and_from as both, not-true as no-longer}
+use Rattle.std.proofs.lemmas.Option.{same_Some as some-same}
 
 module _ (r : Resolve) (v : IsValid r) (n : ℕ) where
   -- ---- entries

@@ -13,27 +13,28 @@ use Rattle.wit_model.specs.Lookup.{world_at, interface_path, key_text, resource_
 use Rattle.wit_model.specs.Uses.{has, item_interface, direct_deps}
 use Rattle.wit_model.specs.Meant.{type_meaning_at}
 use Rattle.wit_model.specs.Rules.{passes, each_after, is_freestanding, used_interfaces, uses_stand_before}
-use Rattle.wit_model.specs.Valid.{IsValid, as_world, item_function, order_of_items}
+use Rattle.wit_model.specs.Valid.{IsValid, item_function, order_of_items}
 use Rattle.wit_model.specs.declared.model.Resolve.{Resolve}
 use Rattle.wit_model.specs.declared.model.World.{World}
 use Rattle.wit_model.specs.declared.model.WorldKey.{WorldKey}
 use Rattle.wit_model.specs.declared.model.WorldItem.{WorldItem}
 use Rattle.wit_model.specs.declared.model.WorldItem.TheVariants as item
 use Rattle.wit_model.specs.declared.model.Function.{Function}
-use Rattle.wit_model.proofs.Lists.{first_true, second_true}
 use Rattle.wit_model.proofs.Shown.{after_append}
-use Rattle.wit_model.proofs.Elements.{both, all-contained, contains-one, contains-later, one-contained, none-in, has-contains, same-some}
+use Rattle.wit_model.proofs.Elements.{none-in, has-contains}
 use Rattle.comp_meaning.specs.Follow.{View, Seen, Shown, Scope, interface_of}
 use Rattle.comp_meaning.specs.Rules.{distinct, is_item, are_imports, stand_earlier, path_seen, resources_seen, used_by, used_by_view, uses, others_than, is_world}
 use Rattle.encode_shown.specs.Views.{instance_key, shown_item, IsViewOf, ShowsItem, ShowsWorld}
-use Rattle.encode_shown.proofs.Basics.{all-from}
 use Rattle.encode_shown.proofs.Apart.{distinct-from}
-use Rattle.encode_shown.proofs.Interfaces.{contains-mapped}
 use Rattle.encode_shown.proofs.Used.{number-used, view-used, others-used}
 use Rattle.encode_shown.proofs.Entries.{IsEntry, import-entry, export-entry, export-freestanding}
 use Rattle.encode_shown.proofs.Keys.{IsKey, entry-key, keys-distinct}
 use Rattle.encode_shown.proofs.Items.{HasHome, instance-home, entry-home, seen-obeys, import-home}
-use Rattle.encode_shown.proofs.Zips.{zip-left, zip-append, zip-same, given-contains}
+use Rattle.encode_shown.proofs.Zips.{zip-left, given-contains}
+use Rattle.base_lemmas.proofs.Bools.{left_of as first_true, right_of as second_true}
+use Rattle.base_lemmas.proofs.Elements.{all-contained, all_pass as all-from, contains-later, contains-one, last_of as one-contained, map_from as contains-mapped, zip-append, zip_map as zip-same}
+use Rattle.std.proofs.lemmas.Bool.{and_from as both}
+use Rattle.std.proofs.lemmas.Option.{same_Some as same-some}
 
 -- the key of what shows an item
 pub key-seen : (r : Resolve) (e : WorldKey × WorldItem) (s : Seen) → ShowsItem r e s → s.key ≡ key_text r e.0

@@ -2,7 +2,6 @@
 use Rattle.std.proofs.Common.{◌≡◌, sym, subst, ap, ◌∙◌, ℕ, List, [], ◌∷◌, ◌++◌, Option, Some, inl, inr}
 use Rattle.std.specs.List.{Contains}
 use Rattle.std.proofs.lemmas.List.Elements.{Contains-append_cases}
-use Rattle.wit_model.proofs.Elements.{contains-one, one-contained}
 use Rattle.wit_model.specs.Lookup.{type_at}
 use Rattle.wit_model.specs.declared.model.Resolve.{Resolve}
 use Rattle.wit_model.specs.declared.model.TypeId.{TypeId}
@@ -19,6 +18,7 @@ use Rattle.encode_types.proofs.Around.{with-both, are-both}
 use Rattle.encode_types.proofs.Encoding.{meets-reaches}
 use Rattle.encode_types.proofs.Lists.{none-in}
 use Rattle.encode_types.proofs.Rooms.{reaches-then}
+use Rattle.base_lemmas.proofs.Elements.{contains-one, last_of as one-contained}
 
 -- none have been made
 pub met-none : {r : Resolve} {own : Option InterfaceId} {ts : List ValueType} {a a' : Around} → a' ≡ a → AliasesMet r own ts a a'

@@ -36,7 +36,8 @@ use Rattle.encode_types.proofs.Around.{around-trans}
 use Rattle.encode_types.specs.View.{View, Agrees, Grows}
 use Rattle.encode_types.specs.Leaves.{Leaves}
 use Rattle.encode_types.proofs.Written.{written-stands}
-use Rattle.wit_model.proofs.Elements.{zip-along, one-contained}
+use Rattle.wit_model.proofs.Elements.{zip-along}
+use Rattle.base_lemmas.proofs.Elements.{last_of as one-contained, zip-kept}
 
 -- ---- more pairs
 
@@ -49,12 +50,6 @@ optional-more S S' k None None h = tt
 optional-more S S' k None (Some t) h = h
 optional-more S S' k (Some x) None h = h
 optional-more S S' k (Some x) (Some t) h = stands-more S S' k x t h
-
-pub zip-kept : {A B : Type 0} (R Q : A → B → Type 0) → ((a : A) (b : B) → R a b → Q a b) → (xs : List A) (ys : List B) → AllZip R xs ys → AllZip Q xs ys
-zip-kept R Q k [] [] h = tt
-zip-kept R Q k [] (b ∷ ys) h = h
-zip-kept R Q k (a ∷ xs) [] h = h
-zip-kept R Q k (a ∷ xs) (b ∷ ys) h = (k a b h.0, zip-kept R Q k xs ys h.1)
 
 pub follows-more : (S S' : Pairs) → Keeps S S' → (d : ComponentDefinedType) (t : Tree) → Follows S d t → Follows S' d t
 follows-more S S' k (form.Primitive p) t h = h

@@ -3,10 +3,9 @@ use Rattle.std.proofs.Common.{◌≡◌, refl, sym, subst, ap, ◌∙◌, ℕ, s
 use Rattle.std.specs.List.{Contains}
 use Rattle.std.specs.Option.{option_eq}
 use Rattle.std.specs.Cmp.Lexicographic.{pointwise}
-use Rattle.std.proofs.lemmas.Bool.{eqb-true, eq-eqb}
+use Rattle.std.proofs.lemmas.Bool.{eqb-true, eq-eqb, and_from as both}
 use Rattle.std.proofs.lemmas.List.{get_or_past}
 use mathlib.Core.Bool.{beq, true≢false}
-use Rattle.wit_model.proofs.Lists.{first_true, second_true}
 use Rattle.wit_model.specs.Text.{Text, text_of, text_eq}
 use Rattle.wit_model.specs.Rules.{is_named_kind}
 use Rattle.wit_model.specs.declared.model.Param.{Param}
@@ -22,7 +21,7 @@ use Rattle.encode_types.specs.Maps.{same_kind}
 use Rattle.encode_types.specs.Codes.{type_code, optional_code, kind_code, Names, IsTable, AreListed, async_code, IsKeyList}
 use Rattle.encode_types.specs.CodeLaws.{EqualKinds, EqualKeys}
 use Rattle.encode_types.proofs.KindLaws.{same_types, optional_same, types_same}
-use Rattle.encode_types.proofs.Lists.{both}
+use Rattle.base_lemmas.proofs.Bools.{left_of as first_true, right_of as second_true}
 
 -- ---- types
 
@@ -261,7 +260,7 @@ async-back false false e = refl
 async-back true false e = absurd (let z : ⊥ = cc in z)
 async-back false true e = absurd (let z : ⊥ = cc in z)
 
-async-same : (a b : Bool) → beq a b ≡ true → async_code a ≡ async_code b
+pub async-same : (a b : Bool) → beq a b ≡ true → async_code a ≡ async_code b
 async-same true true e = refl
 async-same false false e = refl
 async-same true false e = absurd (let z : ⊥ = cc in z)

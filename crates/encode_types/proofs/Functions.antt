@@ -1,5 +1,5 @@
 -- Types of functions by their keys.
-use Rattle.std.proofs.Common.{◌≡◌, refl, sym, subst, ap, ◌∙◌, ℕ, List, [], ◌∷◌, ◌++◌, inl, inr, map, Result, Ok, Err, IfOk, option_map, Vec, Bool, Option}
+use Rattle.std.proofs.Common.{◌≡◌, refl, sym, subst, ap, ◌∙◌, ℕ, List, [], ◌∷◌, ◌++◌, inl, inr, map, option_map, Vec, Bool, Option}
 use Rattle.std.specs.Prelude.{IsPermutation}
 use Rattle.std.specs.Borrow.{Bor}
 use Rattle.std.specs.declared.alloc.Global.{Global}
@@ -27,10 +27,6 @@ use Rattle.wit_model.specs.declared.model.Param.{Param}
 use Rattle.encode_types.specs.Counts.{SameKeys, Definitions, one_function_more, AddsTypes, AddsFunction}
 use Rattle.encode_types.proofs.Defining.{shows-none, shows-trans}
 use Rattle.encode_types.proofs.Marking.{slots-none, slots-then}
-
-pub ok-map : {A E : Type 0} (x : Result A E) (P Q : A → Type 0) → ((a : A) → P a → Q a) → IfOk x P → IfOk x Q
-ok-map (Ok a) P Q f p = f a p
-ok-map (Err e) P Q f p = p
 
 pub key-signature : (r : Resolve) (key : FunctionKey) (f : Function) → IsKeyOf key f → key_signature r key ≡ signature_of r f
 key-signature r key f k = λ i. record {

@@ -1,5 +1,5 @@
 -- Kinds that are the same declare the same tree.
-use Rattle.std.proofs.Common.{◌≡◌, refl, sym, ap, Bool, true, false, ◌&&◌, rules, List, [], ◌∷◌, map, Option, Some, None, option_map, nat_eq}
+use Rattle.std.proofs.Common.{◌≡◌, refl, sym, ap, true, false, ◌&&◌, rules, List, [], ◌∷◌, map, Option, Some, None, option_map, nat_eq}
 use Rattle.wit_model.specs.declared.model.TypeDefKind.{TypeDefKind}
 use Rattle.wit_model.specs.declared.model.TypeDefKind.TheVariants as kind
 use Rattle.wit_model.specs.declared.model.«Type».{«Type» as ValueType}
@@ -8,7 +8,6 @@ use Rattle.wit_model.specs.Tree.{Tree, type_, tuple_tree, result_tree, map_tree,
 use Rattle.wit_model.specs.Types.{declared_by, tree_of}
 use Rattle.std.specs.Option.{option_eq}
 use Rattle.std.specs.Cmp.Lexicographic.{pointwise}
-use Rattle.wit_model.proofs.Lists.{first_true, second_true}
 use Rattle.std.proofs.lemmas.Bool.{eqb-true}
 use Rattle.encode_types.specs.Maps.{same_kind}
 use Rattle.encode_types.specs.declared.key.FunctionKey.{FunctionKey}
@@ -19,6 +18,7 @@ use Rattle.wit_model.specs.Text.{Text, text_of, text_eq}
 use Rattle.wit_model.specs.Types.{trees_of}
 use Rattle.wit_model.specs.declared.model.Param.{Param}
 use Rattle.wit_model.specs.declared.model.Resolve.{Resolve}
+use Rattle.base_lemmas.proofs.Bools.{beq_same as beq-same, left_of as first_true, right_of as second_true}
 
 pub same_types : (a b : ValueType) → same_type a b ≡ true → a ≡ b
 same_types a b e = search rules
@@ -68,12 +68,6 @@ same_tree ts (kind.Stream a) other n e = absurd (true≢false (sym e))
 same_tree ts a b n e = absurd (true≢false n)
 
 -- ---- keys of functions
-
-beq-same : (a b : Bool) → beq a b ≡ true → a ≡ b
-beq-same true true h = refl
-beq-same true false h = absurd (true≢false (sym h))
-beq-same false true h = absurd (true≢false (sym h))
-beq-same false false h = refl
 
 params-same : (trees : List Tree) (xs ys : List Param) → pointwise same_param xs ys ≡ true → map {B = Text × Tree} (λ p. (text_of p.name, tree_of trees p.ty)) xs ≡ map {B = Text × Tree} (λ p. (text_of p.name, tree_of trees p.ty)) ys
 params-same trees [] [] h = refl

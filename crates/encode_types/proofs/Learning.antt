@@ -26,10 +26,10 @@ use Rattle.encode_types.specs.Scope.{Scope}
 use Rattle.encode_types.specs.Counts.{Definitions, SameKeys, AddsTypes}
 use Rattle.encode_types.specs.MetKinds.{IsKnownKind, IsKnownList, IsReadyKey, KeepsNames, IsHeld, key_types, Learns, LearnsMet, LearnsKindOf}
 use Rattle.encode_types.proofs.Agree.{known-grow}
-use Rattle.wit_model.proofs.OnePath.{some-same}
 use Rattle.encode_types.proofs.Lists.{none-in}
 use Rattle.encode_types.proofs.Encoding.{learns-nothing, learns-both, learns-same}
-use Rattle.wit_model.proofs.Elements.{one-contained}
+use Rattle.base_lemmas.proofs.Elements.{last_of as one-contained}
+use Rattle.std.proofs.lemmas.Option.{same_Some as some-same}
 
 pub ready-grow : (m m' : TypeEncodingMaps) (ts : List ValueType) → MapsGrow m m' → AllReady m ts → AllReady m' ts
 ready-grow m m' ts g a t c id e = known-grow m m' id.0 g (a t c id e)

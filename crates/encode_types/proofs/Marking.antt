@@ -15,7 +15,7 @@ use Rattle.encode_types.specs.Maps.{LearnsNumber, LearnsList}
 use Rattle.encode_types.specs.Scope.{Scope}
 use Rattle.encode_types.specs.Counts.{Definitions, Marked, slots_of, named_slots, other_slots, kind_slots, key_slots, names_defined, is_defined_by_name, type_more_if, IsTarget, AddsSlots}
 use Rattle.encode_types.proofs.Lists.{none-in}
-use Rattle.wit_model.proofs.Elements.{one-contained}
+use Rattle.base_lemmas.proofs.Elements.{last_of as one-contained}
 
 -- ---- marked slots
 

@@ -39,8 +39,9 @@ use Rattle.encode_types.specs.declared.plan.Order.{Order}
 use Rattle.encode_types.specs.Kinds.{parts_of}
 use Rattle.encode_types.specs.Maps.{IsKnown}
 use Rattle.encode_types.specs.Plan.{foreign_owner, Meets, at_once, further, IsLayered, PartsStand, IsOrdered, AreMet, Stands, IsPlanned, IsOrderOf, rank}
-use Rattle.encode_types.proofs.Lists.{contains-one}
-use Rattle.wit_model.proofs.Elements.{contains-filter_map, one-contained, all-contained}
+use Rattle.wit_model.proofs.Elements.{contains-filter_map}
+use Rattle.base_lemmas.proofs.Elements.{all-contained, contains-one, last_of as one-contained}
+use Rattle.base_lemmas.proofs.Numbers.{none-twice}
 
 none-of : {A : Type 0} (o : Option A) → is_some o ≡ false → o ≡ None
 none-of None e = refl
@@ -137,10 +138,6 @@ met-more order after n met is many adds q = by (is_at (nat_cmp n) q) refl
 
 pub lacks-now : (b : Bool) (xs : List ℕ) (n : ℕ) → Decides b (Contains xs n) → b ≡ false → Contains xs n → ⊥
 lacks-now b xs n d e c = let t : b ≡ true = d.1 c in let z : ⊥ = cc in z
-
-none-twice : IsDistinct nat_eq []
-unfolding IsDistinct
-none-twice = tt
 
 -- ---- the order
 

@@ -1,5 +1,5 @@
 -- How much an encoder holds, and what it has no room for, call after call.
-use Rattle.std.proofs.Common.{◌≡◌, refl, sym, subst, ap, ◌∙◌, ℕ, zero, suc, ◌+◌, ◌*◌, ◌<◌, ◌≤◌, ◌&&◌, ◌||◌, ◌⊎◌, inl, inr, Bool, true, false, cond, List, [], ◌∷◌, ◌++◌, map, length, length-append, append-nil, take, Option, Some, None, arith, nat_eq, Result, Ok, Err, OnOk}
+use Rattle.std.proofs.Common.{◌≡◌, refl, sym, subst, ap, ◌∙◌, ℕ, zero, suc, ◌+◌, ◌*◌, ◌<◌, ◌≤◌, ◌&&◌, ◌⊎◌, inl, inr, Bool, true, false, cond, List, [], ◌∷◌, ◌++◌, map, length, length-append, append-nil, take, Option, Some, None, arith, nat_eq, Result, Ok, Err, OnOk}
 use Rattle.std.specs.Prelude.{flat_map, is_none, option_and_then, String, IsPermutation}
 use Rattle.std.specs.declared.alloc.Global.{Global}
 use Rattle.std.specs.List.{Contains, AllPairs, All}
@@ -7,7 +7,7 @@ use Rattle.std.proofs.lemmas.List.Kept.{AllPairs-cons}
 use Rattle.std.proofs.lemmas.List.Sorted.{IsPermutation-sym, Contains-permutation, length_permutation}
 use Rattle.std.proofs.lemmas.List.Elements.{Contains-append_left, Contains-append_right, Contains-append_cases, Contains-get_or}
 use Rattle.std.proofs.lemmas.List.Sums.{sum_by-cons, sum_by-append}
-use Rattle.std.proofs.lemmas.Bool.{eqb-true}
+use Rattle.std.proofs.lemmas.Bool.{eqb-true, or_from as neither}
 use Rattle.wit_model.specs.Lookup.{type_at}
 use Rattle.wit_model.specs.Rules.{is_named_kind}
 use Rattle.wit_model.specs.declared.model.Resolve.{Resolve}
@@ -26,11 +26,12 @@ use Rattle.encode_types.specs.Distinct.{has_own_definition}
 use Rattle.encode_types.specs.Room.{Request, Refusals, number_count, numbers_count, unnamed_kind, are_one_kind, share_declarations, IsNewKind, AreNew, HoldsFor, LacksPart, LacksOne, a_type, a_request, FindsNoRoom}
 use Rattle.encode_types.proofs.Agree.{known-grow}
 use Rattle.encode_types.proofs.EqualLists.{lists-of-kinds}
-use Rattle.encode_types.proofs.Lists.{contains-one, none-in}
+use Rattle.encode_types.proofs.Lists.{none-in}
 use Rattle.encode_types.proofs.Encoding.{meets-reaches}
 use Rattle.encode_types.proofs.Pairs.{pairs-head, pairs-tail}
-use Rattle.wit_model.proofs.Elements.{one-contained}
-use Rattle.wit_model.proofs.OnePath.{some-same}
+use Rattle.base_lemmas.proofs.Bools.{first_false as first-false}
+use Rattle.base_lemmas.proofs.Elements.{contains-one, last_of as one-contained}
+use Rattle.std.proofs.lemmas.Option.{same_Some as some-same}
 
 -- ---- lists without repeats
 
@@ -48,14 +49,6 @@ pairs-both {X} R (x ∷ xs) ys a b h = AllPairs-cons R x (xs ++ ys) each (pairs-
     ]
 
 -- ---- type numbers that are new
-
-neither : (a b : Bool) → a ≡ false → b ≡ false → (a || b) ≡ false
-neither false b p q = q
-neither true b p q = absurd (let z : ⊥ = cc in z)
-
-first-false : (a b : Bool) → (a || b) ≡ false → a ≡ false
-first-false false b h = refl
-first-false true b h = h
 
 -- numbers that have declarations of their own are different
 pub are-different : (r : Resolve) (own : Option InterfaceId) (xs : List ℕ) → AllPairs (λ x y. share_declarations r own x y ≡ false) xs → AllPairs (λ x y. nat_eq x y ≡ false) xs
@@ -249,14 +242,6 @@ holds-few {r} {own} j l p = let x = p.held in let y = p.few in let z = counts-fe
 pub on-pair : {A E : Type 0} (x : Result A E) (P Q : Type 0) → OnOk x P → OnOk x Q → OnOk x (P × Q)
 on-pair (Ok x) P Q p q = (p, q)
 on-pair (Err e) P Q p q = p
-
-pub on-held : {A E : Type 0} (x : Result A E) (P : Type 0) → P → OnOk x P
-on-held (Ok x) P p = p
-on-held (Err e) P p = tt
-
-pub on-both : {A E : Type 0} (x : Result A E) (P Q R : Type 0) → (P → Q → R) → OnOk x P → OnOk x Q → OnOk x R
-on-both (Ok x) P Q R f p q = f p q
-on-both (Err e) P Q R f p q = p
 
 -- ---- what is reached
 

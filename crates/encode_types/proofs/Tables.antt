@@ -24,7 +24,7 @@ use Rattle.encode_types.proofs.EqualLists.{lists-of-keys, key-shrink}
 use Rattle.encode_types.specs.Maps.{AreNumbered, NamesGrow, AddsNames, IsOnce, LacksKey, LacksList}
 use Rattle.encode_types.specs.declared.maps.TypeEncodingMaps.{TypeEncodingMaps}
 use Rattle.encode_types.proofs.Lists.{none-in, element-at}
-use Rattle.wit_model.proofs.Elements.{contains-map}
+use Rattle.base_lemmas.proofs.Elements.{contains-map, map_from as contains-unmap}
 
 pub equal-is : (o : Ordering) → is_eq o ≡ true → o ≡ Equal
 equal-is Less h = absurd (let z : ⊥ = cc in z)
@@ -144,11 +144,6 @@ some-or (Some v) f = refl
 none-or : {X : Type 0} (o : Option X) → ((v : X) → o ≡ Some v → ⊥) → o ≡ None
 none-or None f = refl
 none-or (Some v) f = absurd (f v refl)
-
-pub contains-unmap : {X Y : Type 0} (f : X → Y) (xs : List X) (y : Y) → Contains (map f xs) y → (x : X) × Contains xs x × (f x ≡ y)
-contains-unmap f [] y c = none-in y c
-contains-unmap f (x ∷ xs) y (zero, l, e) = (x, (0, omega arith, refl), e)
-contains-unmap f (x ∷ xs) y (suc i, l, e) = let r = contains-unmap f xs y (i, omega (arith, l), e) in (r.0, (suc r.1.0, (let k = r.1.1 in omega (arith, k)), r.1.2), r.2)
 
 -- ---- orders
 

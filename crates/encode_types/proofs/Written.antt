@@ -25,8 +25,8 @@ use Rattle.encode_types.specs.declared.maps.TypeEncodingMaps.{TypeEncodingMaps}
 use Rattle.encode_types.specs.Slots.{StandsFor, StandsForOptional, texts}
 use Rattle.encode_types.specs.Maps.{Says, by_number, IsWritten, IsReady, AllReady}
 use Rattle.encode_types.specs.Definition.{IsWrittenOptional, IsWrittenField, IsWrittenCase, FollowsKind}
-use Rattle.encode_types.proofs.Lists.{contains-at, contains-one}
-use Rattle.wit_model.proofs.Elements.{contains-map, contains-filter_map, zip-along}
+use Rattle.wit_model.proofs.Elements.{contains-filter_map, zip-along}
+use Rattle.base_lemmas.proofs.Elements.{contains-at, contains-map, contains-one}
 
 pub written-stands : (r : Resolve) (m : TypeEncodingMaps) (x : ComponentValType) (t : ValueType) → IsWritten m x t → StandsFor (Says r m) x (tree_of (trees_of r) t)
 written-stands r m x (ty.Id id) w = subst (λ (y : ComponentValType). StandsFor (Says r m) y (number_tree r id.0)) (sym w.1) (by_number id.0, w.2, refl)

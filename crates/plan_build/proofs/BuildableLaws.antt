@@ -1,30 +1,21 @@
 -- A plan that was read can be built.
-use Rattle.std.proofs.Common.{◌≡◌, refl, sym, ap, ◌∙◌, Bool, true, false, ◌&&◌, ◌||◌, not, List, [], ◌∷◌, ◌++◌}
-use Rattle.std.specs.List.{list_any}
-use Rattle.std.proofs.lemmas.List.Folds.{list_any-append}
-use Rattle.wit_model.specs.Text.{Text, text_eq}
+use Rattle.std.proofs.Common.{◌≡◌, refl, Bool, true, false, ◌&&◌, ◌||◌, not, List, [], ◌++◌}
+use Rattle.wit_model.specs.Text.{Text}
 use Rattle.wit_model.specs.Names.{is_label, is_identity, is_optional_version}
 use Rattle.wit_model.specs.Rules.{passes, are_distinct}
-use Rattle.wit_model.proofs.Lists.{first_true, second_true}
 use Rattle.plan_meaning.specs.Plan.{PlannedPackage, PlannedInterface}
 use Rattle.plan_meaning.specs.PlanRules.{names_of, members_differ, interface_labels}
-use Rattle.plan_meaning.proofs.Lists.{all_weaker, both, no_true}
+use Rattle.plan_meaning.proofs.Lists.{no_true}
 use Rattle.plan_build.specs.Buildable.{PlansAreBuildable, has_version, package_differs, interface_differs}
+use Rattle.base_lemmas.proofs.Bools.{right_of as second_true}
+use Rattle.base_lemmas.proofs.Elements.{all_weaker}
+use Rattle.std.proofs.lemmas.Bool.{and_from as both}
+use Rattle.plan_meaning.proofs.DistinctKeys.{back_distinct}
+use Rattle.plan_meaning.proofs.ListedTypes.{distinct_front as front_distinct}
 
 first_missed : (a b : Bool) → not (a || b) ≡ true → not a ≡ true
 first_missed false b h = refl
 first_missed true b h = no_true h
-
-front_distinct : (xs ys : List Text) → are_distinct (xs ++ ys) ≡ true → are_distinct xs ≡ true
-front_distinct [] ys h = refl
-front_distinct (x ∷ xs) ys h =
-    both (not (list_any (text_eq x) xs)) (are_distinct xs)
-    (first_missed (list_any (text_eq x) xs) (list_any (text_eq x) ys) (ap not (sym (list_any-append (text_eq x) xs ys)) ∙ first_true (not (list_any (text_eq x) (xs ++ ys))) (are_distinct (xs ++ ys)) h))
-    (front_distinct xs ys (second_true (not (list_any (text_eq x) (xs ++ ys))) (are_distinct (xs ++ ys)) h))
-
-back_distinct : (xs ys : List Text) → are_distinct (xs ++ ys) ≡ true → are_distinct ys ≡ true
-back_distinct [] ys h = h
-back_distinct (x ∷ xs) ys h = back_distinct xs ys (second_true (not (list_any (text_eq x) (xs ++ ys))) (are_distinct (xs ++ ys)) h)
 
 parts_distinct : (xs ys : List Text) → are_distinct (xs ++ ys) ≡ true → (are_distinct xs && are_distinct ys) ≡ true
 parts_distinct xs ys h = both (are_distinct xs) (are_distinct ys) (front_distinct xs ys h) (back_distinct xs ys h)

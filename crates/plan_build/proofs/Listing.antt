@@ -3,8 +3,9 @@ use Rattle.std.proofs.Common.{◌≡◌, refl, sym, ap, ◌∙◌, ℕ, ◌+◌,
 use Rattle.std.specs.List.{list_all}
 use Rattle.std.proofs.lemmas.List.{take_more, map-append}
 use Rattle.std.proofs.lemmas.List.Folds.{list_all-append}
-use Rattle.std.proofs.lemmas.Option.{slice_get-get_or}
-use Rattle.plan_meaning.proofs.Lists.{all_get, both, get_of_map}
+use Rattle.std.proofs.lemmas.Option.{slice_get-get_or, slice_get-map as get_of_map}
+use Rattle.base_lemmas.proofs.Elements.{all_get}
+use Rattle.std.proofs.lemmas.Bool.{and_from as both}
 
 -- an entry more that passes
 pub all_more : {B : Type 0} (test : B → Bool) (out new : List B) (y : B) → list_all test out ≡ true → test y ≡ true → new ≡ out ++ y ∷ [] → list_all test new ≡ true

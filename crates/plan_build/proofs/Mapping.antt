@@ -1,26 +1,15 @@
 -- Maps that are built of lists whose keys differ.
-use Rattle.std.proofs.Common.{◌≡◌, refl, sym, ap, ◌∙◌, ℕ, zero, suc, ◌+◌, ◌<◌, Bool, true, false, ◌&&◌, ◌||◌, not, List, [], ◌∷◌, ◌++◌, map, take, length, get_or, option_map, Some, slice_get}
+use Rattle.std.proofs.Common.{◌≡◌, refl, sym, ap, ◌∙◌, ℕ, zero, suc, ◌+◌, ◌<◌, Bool, true, false, ◌&&◌, not, List, [], ◌∷◌, ◌++◌, map, take, length, get_or, option_map, Some, slice_get}
 use Rattle.std.specs.List.{list_any, AllByRecursion}
 use Rattle.std.specs.Map.{keys_of, values_of}
 use Rattle.std.proofs.lemmas.List.{map-append, take-map}
-use Rattle.std.proofs.lemmas.Option.{slice_get-get_or}
+use Rattle.std.proofs.lemmas.Option.{slice_get-get_or, slice_get-map as get_of_map}
 use Rattle.indexmap.specs.IndexMap.{insert_entry}
 use Rattle.indexmap.proofs.MapLemmas.{insert_entry-absent}
-use Rattle.wit_model.proofs.Lists.{first_true, second_true}
-use Rattle.plan_meaning.proofs.Lists.{get_of_map, map_of_map, no_true}
 use Rattle.plan_build.proofs.Listing.{one_more}
-
-none_of : (a b : Bool) → (a || b) ≡ false → (a ≡ false) × (b ≡ false)
-none_of true b h = no_true (sym h)
-none_of false b h = (refl, h)
-
-none_or : (a b : Bool) → a ≡ false → b ≡ false → (a || b) ≡ false
-none_or false b p q = q
-none_or true b p q = no_true (sym p)
-
-not_true : (a : Bool) → not a ≡ true → a ≡ false
-not_true false h = refl
-not_true true h = no_true h
+use Rattle.base_lemmas.proofs.Bools.{left_of as first_true, right_of as second_true}
+use Rattle.base_lemmas.proofs.Lists.{map_of_map}
+use Rattle.std.proofs.lemmas.Bool.{not-true as not_true, or_from as none_or, or_parts as none_of}
 
 -- the values, where an entry comes last
 pub values_more : {K V : Type 0} (es new : List (K × V)) (k : K) (v : V) → new ≡ es ++ (k, v) ∷ [] → values_of new ≡ values_of es ++ v ∷ []

@@ -1,23 +1,24 @@
 -- Maps whose keys are names, and those whose keys are of imports and exports.
-use Rattle.std.proofs.Common.{◌≡◌, refl, sym, subst, ap, ◌∙◌, ℕ, Bool, true, ◌&&◌, ◌==◌, not, List, [], ◌∷◌, map, String, eq-eqb}
+use Rattle.std.proofs.Common.{◌≡◌, refl, sym, subst, ap, ◌∙◌, ℕ, Bool, true, ◌&&◌, not, List, [], ◌∷◌, map, String}
 use Rattle.std.specs.Borrow.{Bor}
 use Rattle.std.specs.declared.alloc.Global.{Global}
 use Rattle.std.specs.List.{list_any}
-use Rattle.std.proofs.lemmas.Bool.{eqb-true}
 use Rattle.wit_model.specs.contracts.model.WorldKeyPartialEq.TheImpl as world_key
 use Rattle.wit_model.specs.declared.model.WorldKey.{WorldKey}
 use Rattle.wit_model.specs.declared.model.WorldKey.TheVariants as key
 use Rattle.wit_model.specs.Text.{Text, text_of, text_eq}
 use Rattle.wit_model.specs.Rules.{are_distinct}
-use Rattle.wit_model.proofs.Distinct.{either_way, text_eq_flip}
+use Rattle.wit_model.proofs.Distinct.{text_eq_flip}
 use Rattle.plan_meaning.specs.Plan.{PlannedKey, PlannedItem, label, path_of}
 use Rattle.plan_meaning.specs.PlanRules.{names_of, same_key, keys_differ}
 use Rattle.plan_meaning.specs.Built.{planned_key}
-use Rattle.plan_meaning.proofs.Lists.{any_of_map, map_of_map}
 use Rattle.plan_build.specs.PlanOf.{stated_entry, stated_number, built_number}
 use Rattle.plan_build.specs.declared.plan.PlannedKey.{PlannedKey as GivenKey}
 use Rattle.plan_build.specs.declared.plan.PlannedItem.{PlannedItem as GivenItem}
 use Rattle.plan_build.proofs.Mapping.{differ}
+use Rattle.base_lemmas.proofs.Elements.{any_of_map}
+use Rattle.base_lemmas.proofs.Lists.{map_of_map}
+use Rattle.base_lemmas.proofs.Numbers.{turned as number_flip}
 
 -- ---- lists whose names, or keys, differ
 
@@ -34,9 +35,6 @@ keys_apart (e ∷ es) = (λ j. not (any_of_map (same_key e.0) (λ (x : PlannedKe
 
 pub entries_apart : (es : List (GivenKey × GivenItem)) → keys_differ (map stated_entry es) ≡ true → differ same_key (map (λ e. (stated_entry e).0) es) ≡ true
 entries_apart es h = ap (differ same_key) (sym (map_of_map (λ (e : PlannedKey × PlannedItem). e.0) stated_entry es)) ∙ (keys_apart (map stated_entry es) ∙ h)
-
-number_flip : (a b : ℕ) → (a == b) ≡ (b == a)
-number_flip a b = either_way (a == b) (b == a) (λ h. eq-eqb b a (sym (eqb-true a b h))) (λ h. eq-eqb a b (sym (eqb-true b a h)))
 
 pub same_key_flip : (a b : PlannedKey) → same_key a b ≡ same_key b a
 same_key_flip (label a) (label b) = text_eq_flip a b

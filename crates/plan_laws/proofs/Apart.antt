@@ -3,19 +3,17 @@ use Rattle.std.proofs.Common.{◌≡◌, refl, sym, ap, subst, ◌∙◌, ℕ, z
 use Rattle.std.specs.List.{Contains, flat_map}
 use Rattle.std.proofs.lemmas.Bool.{eq-eqb, eqb-true}
 use Rattle.std.proofs.lemmas.List.Elements.{Contains-append_cases, Contains-append_left, Contains-append_right, filter-append}
-use Rattle.std.proofs.lemmas.Option.{slice_get_within}
+use Rattle.std.proofs.lemmas.Option.{slice_get_within, same_Some as same-some}
 use Rattle.wit_model.specs.Text.{Text}
 use Rattle.wit_model.specs.Uses.{has}
-use Rattle.wit_model.proofs.Elements.{contains-flat, contains-get, contains-has, contains-later, contains-map, get-contains, has-contains, none-in, one-contained, same-some}
+use Rattle.wit_model.proofs.Elements.{contains-flat, contains-get, contains-has, has-contains, none-in}
 use Rattle.comp_meaning.specs.Reads as reads
-use Rattle.read_shown.proofs.Lists.{at_front, mapped_get}
 use Rattle.plan_meaning.specs.FollowedNumbers.{IsPartIn, IsViewIn}
 use Rattle.plan_meaning.specs.NumberedMembers.{Homes, NumberedMember}
 use Rattle.plan_meaning.specs.NumberedRules.{Fact}
 use Rattle.plan_meaning.specs.NumberedViews.{NumberedSight, NumberedView, Tables, path_at}
 use Rattle.plan_meaning.specs.NumberedWorlds.{HasPath, NumberedInstance, are_once}
-use Rattle.plan_meaning.proofs.GatheredPlan.{all_at}
-use Rattle.plan_meaning.proofs.Lists.{append_of_map, filter_has, has_filter, map_of_map, no_true}
+use Rattle.plan_meaning.proofs.Lists.{filter_has, has_filter, no_true}
 use Rattle.read_exports.specs.Members.{numbered_member, numbered_members, numbered_part}
 use Rattle.read_exports.specs.declared.members.Member.{Member}
 use Rattle.read_exports.specs.declared.members.Part.{Part}
@@ -35,14 +33,16 @@ use Rattle.plan_laws.specs.Whole.{IsPackageInput}
 use Rattle.plan_laws.specs.WorldItems.{WorldsAreApart}
 use Rattle.plan_laws.proofs.Inside.{flat_cases}
 use Rattle.plan_laws.proofs.Origins.{view_among}
-use Rattle.plan_laws.proofs.PartNames.{from_map}
 use Rattle.plan_laws.proofs.PlaceNumbers.{IsOnce, from_joined}
-use Rattle.plan_laws.proofs.Planned.{home_alone, places_of_views}
+use Rattle.plan_laws.proofs.Planned.{home_alone}
 use Rattle.plan_laws.proofs.ShownFrom.{IsWorldOf, world_of}
 use Rattle.plan_laws.proofs.WholePlacesInstances.{as_many, one_of}
 use Rattle.plan_laws.proofs.WholePlacesLists.{no_longer}
 use Rattle.plan_laws.proofs.WholeTypes.{packages_are_ruled}
 use Rattle.plan_laws.proofs.WorldItems.{world_member}
+use Rattle.base_lemmas.proofs.Elements.{all_at, contains-later, contains-map, get-contains, last_of as one-contained, map_from as from_map}
+use Rattle.base_lemmas.proofs.Lists.{append_of_map, front_at as at_front, map_of_map, mapped_get}
+use Rattle.plan_package.proofs.PlacedLaws.{part_placed as places_of_views}
 
 -- ---- as many numbers as others, of which none stands twice
 

@@ -2,16 +2,15 @@
 use Rattle.std.proofs.Common.{◌≡◌, sym, ap, subst, ◌∙◌, ℕ, ◌+◌, arith, Bool, true, false, List, map, Option, Some, None, slice_get}
 use Rattle.std.specs.List.{Contains}
 use Rattle.wit_model.specs.Text.{Text}
-use Rattle.wit_model.proofs.Elements.{contains-get, contains-map, same-some}
+use Rattle.wit_model.proofs.Elements.{contains-get}
 use Rattle.comp_meaning.specs.Reads as reads
 use Rattle.comp_meaning.specs.Rules.{distinct}
-use Rattle.read_shown.proofs.Lists.{mapped_get, one_place}
+use Rattle.read_shown.proofs.Lists.{one_place}
 use Rattle.plan_meaning.specs.FollowedNumbers.{IsShownIn}
 use Rattle.plan_meaning.specs.NumberedMembers.{Homes, sights_of_members}
 use Rattle.plan_meaning.specs.NumberedViews.{NumberedSight, NumberedType, Tables, agree_in_numbers, path_at}
 use Rattle.plan_meaning.specs.NumberedWorlds.{are_once}
 use Rattle.plan_meaning.specs.Shapes.{Shape, first_label, named_shape}
-use Rattle.plan_meaning.proofs.GatheredPlan.{all_at}
 use Rattle.plan_parts.specs.Interfaces.{slot_part}
 use Rattle.read_exports.specs.Members.{numbered_members}
 use Rattle.read_exports.specs.declared.members.Member.{Member}
@@ -22,10 +21,12 @@ use Rattle.plan_package.specs.Views.{views_of_members}
 use Rattle.plan_type_laws.specs.ShownMarks.{own_places}
 use Rattle.plan_laws.specs.ShownNames.{DeclaresName, IsInput}
 use Rattle.plan_laws.proofs.OwnPlaces.{Owned, a_view, a_world, frames, one_owned}
-use Rattle.plan_laws.proofs.PartNames.{from_map}
 use Rattle.plan_laws.proofs.ShownFrom.{IsFrom, home_frame, of_import, of_view, shown_from, view_frame, world_of}
 use Rattle.plan_laws.proofs.Showings.{slot_is}
 use Rattle.plan_laws.proofs.ViewsAgree.{told, views_tell}
+use Rattle.base_lemmas.proofs.Elements.{all_at, contains-map, map_from as from_map}
+use Rattle.base_lemmas.proofs.Lists.{mapped_get}
+use Rattle.std.proofs.lemmas.Option.{same_Some as same-some}
 
 abbrev is_world_owned : Owned → Bool
 is_world_owned (a_world w) = true

@@ -3,15 +3,15 @@ use Rattle.std.proofs.Common.{◌≡◌, refl, sym, ap, ◌∙◌, ℕ, zero, su
 use Rattle.std.specs.List.{Contains, find}
 use Rattle.std.proofs.lemmas.Bool.{eq-eqb, eqb-true}
 use Rattle.std.proofs.lemmas.List.{append-nil, append_assoc}
-use Rattle.std.proofs.lemmas.Option.{slice_get_within}
+use Rattle.std.proofs.lemmas.Option.{slice_get_within, same_Some as same-some}
 use Rattle.wit_model.specs.Uses.{has}
-use Rattle.wit_model.proofs.Elements.{contains-get, has-contains, none-in, same-some}
-use Rattle.read_shown.proofs.Lists.{at_front, middle_get}
+use Rattle.wit_model.proofs.Elements.{contains-get, has-contains, none-in}
 use Rattle.plan_meaning.specs.NumberedViews.{NumberedSight, first_at}
 use Rattle.plan_types.specs.Orders.{joined, joined_all}
 use Rattle.plan_types.specs.PlannedTypes.{number_in}
 use Rattle.plan_types.proofs.OrderLaws.{joined_both}
 use Rattle.plan_laws.proofs.PlaceNumbers.{all_joined, all_once, from_joined, none_twice, number_there}
+use Rattle.base_lemmas.proofs.Lists.{front_at as at_front, middle_get}
 
 -- ---- lists that are split
 

@@ -2,18 +2,16 @@
 use Rattle.std.proofs.Common.{◌≡◌, refl, sym, ap, subst, ◌∙◌, ℕ, ◌+◌, arith, Bool, true, List, [], ◌∷◌, map, Option, Some, None, slice_get}
 use Rattle.std.specs.List.{AllByRecursion, Contains}
 use Rattle.wit_model.specs.Text.{Text}
-use Rattle.wit_model.proofs.Elements.{contains-get, same-some}
+use Rattle.wit_model.proofs.Elements.{contains-get}
 use Rattle.comp_meaning.specs.Reads as reads
 use Rattle.comp_meaning.specs.Rules.{distinct}
 use Rattle.comp_meaning.specs.Follow.{ShownType}
 use Rattle.read_shown.proofs.Agreement as agreement
-use Rattle.read_shown.proofs.Lists.{mapped_get, one_place, unmapped_get}
+use Rattle.read_shown.proofs.Lists.{one_place}
 use Rattle.plan_meaning.specs.FollowedNumbers.{IsPartIn, IsShownIn, IsViewIn}
 use Rattle.plan_meaning.specs.NumberedMembers.{Homes, NumberedMember, sights_of_members}
 use Rattle.plan_meaning.specs.NumberedViews.{NumberedSight, NumberedType, Tables, agree_in_numbers, first_at, path_at, place_at, shown_type, view_of}
 use Rattle.plan_meaning.specs.Shapes.{Shape, named_shape}
-use Rattle.plan_meaning.proofs.GatheredPlan.{all_at}
-use Rattle.plan_meaning.proofs.Lists.{map_of_map}
 use Rattle.read_exports.specs.Members.{numbered_members}
 use Rattle.read_exports.specs.declared.members.Member.{Member}
 use Rattle.read_exports.specs.declared.members.Part.TheVariants as parts
@@ -31,10 +29,13 @@ use Rattle.plan_laws.specs.ShownNames.{IsInput, PartDeclaresNames, DeclaresName}
 use Rattle.plan_laws.proofs.FirstViews.{first_is, one_told, sight_there}
 use Rattle.plan_laws.proofs.Inside.{flat_cases}
 use Rattle.plan_laws.proofs.Origins as origins
-use Rattle.plan_laws.proofs.Origins.{imported_showing, origin, view_among}
+use Rattle.plan_laws.proofs.Origins.{origin, view_among}
 use Rattle.plan_laws.proofs.PartNames.{views_are_good}
 use Rattle.plan_laws.proofs.Planned.{home_met}
 use Rattle.plan_laws.proofs.Showings.{slot_is}
+use Rattle.base_lemmas.proofs.Elements.{all_at}
+use Rattle.base_lemmas.proofs.Lists.{get_back as unmapped_get, map_of_map, mapped_get}
+use Rattle.std.proofs.lemmas.Option.{same_Some as same-some}
 
 module _ (t : Tables) (h : Homes) (ms : List Member) (members : List reads.Member) (input : IsInput t h ms members) (agreed : agree_in_numbers (sights_of_members t (numbered_members ms)) ≡ true) (ordered : ViewsAreOrdered t ms) where
   abbrev pub views : List NumberedSight

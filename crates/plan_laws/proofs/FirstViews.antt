@@ -3,25 +3,24 @@ use Rattle.std.proofs.Common.{◌≡◌, refl, sym, ap, subst, ◌∙◌, ℕ, z
 use Rattle.std.specs.List.{Contains, find, flat_map, list_all}
 use Rattle.std.specs.Option.{option_map_or}
 use Rattle.std.specs.Cmp.Lexicographic.{pointwise}
-use Rattle.std.proofs.lemmas.Bool.{eq-eqb, eqb-true}
+use Rattle.std.proofs.lemmas.Bool.{eq-eqb, eqb-true, and_from as both}
 use Rattle.std.proofs.lemmas.Slice.Eq.{bytes_eq-Decides}
 use Rattle.wit_model.specs.Text.{Text, text_eq}
-use Rattle.wit_model.proofs.Elements.{all-contained, contains-flat, contains-one, none-in, same-number, same-some}
-use Rattle.wit_model.proofs.Lists.{first_true, second_true}
+use Rattle.wit_model.proofs.Elements.{contains-flat, none-in}
 use Rattle.comp_meaning.specs.Same.{same_option}
 use Rattle.plan_meaning.specs.NumberedMembers.{NumberedMember, NumberedPart, interface, sights_of_members, sights_of_part, world}
 use Rattle.plan_meaning.specs.NumberedViews.{NumberedSight, NumberedType, Tables, agree, agree_in_numbers, first_at, same_functions, same_id, same_number, same_shown}
 use Rattle.plan_meaning.specs.NumberedWorlds.{HasPath, NumberedInstance, sights_of_instance}
-use Rattle.plan_meaning.proofs.Lists.{both}
 use Rattle.plan_package.specs.Views.{views_of_part, whole_view}
 use Rattle.plan_laws.specs.FirstViews.{told}
 use Rattle.plan_laws.proofs.Inside.{flat_cases}
-use Rattle.plan_laws.proofs.PartNames.{from_map}
+use Rattle.base_lemmas.proofs.Bools.{left_of as first_true, right_of as second_true}
+use Rattle.base_lemmas.proofs.Elements.{all-contained, contains-one, map_from as from_map}
+use Rattle.base_lemmas.proofs.Numbers.{same-number}
+use Rattle.std.proofs.lemmas.Option.{same_Some as same-some}
+use Rattle.wit_model.proofs.AnyOrder.{text-same as text_same}
 
 -- ---- what is told of a type
-
-pub text_same : (a b : Text) → text_eq a b ≡ true → a ≡ b
-text_same a b h = (bytes_eq-Decides a b).0 h
 
 pub option_same : {A : Type 0} (eq : A → A → Bool) → ((a b : A) → eq a b ≡ true → a ≡ b) → (a b : Option A) → same_option eq a b ≡ true → a ≡ b
 option_same eq decides None None h = refl

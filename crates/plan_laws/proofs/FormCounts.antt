@@ -5,7 +5,6 @@ use Rattle.std.proofs.lemmas.Bool.{ltb-false, ltb-true}
 use Rattle.std.specs.List.{AllByRecursion, list_all}
 use Rattle.wit_model.specs.Text.{Text}
 use Rattle.wit_model.specs.Tree.{Form}
-use Rattle.wit_model.proofs.Lists.{first_true, second_true}
 use Rattle.comp_meaning.specs.Follow.{is_filled}
 use Rattle.comp_meaning.specs.Reads as reads
 use Rattle.read_shown.specs.Trees.{begins_with_key, count_true, is_formed}
@@ -15,7 +14,7 @@ use Rattle.plan_meaning.specs.NumberedRules.{name_in}
 use Rattle.plan_meaning.specs.NumberedViews.{Tables, tree_at}
 use Rattle.plan_meaning.specs.PlanRules.{is_handle_form}
 use Rattle.plan_meaning.specs.Shapes.{Shape, form_code, node_shape}
-use Rattle.plan_meaning.proofs.Lists.{length_of_map, no_true}
+use Rattle.plan_meaning.proofs.Lists.{no_true}
 use Rattle.plan_meaning.proofs.ShapeLaws.{form_back}
 use Rattle.plan_parts.specs.Kept.{IsKeptPart}
 use Rattle.plan_parts.specs.Kinds.{IsFormOver, given_count, has_count, shape_form}
@@ -26,6 +25,8 @@ use Rattle.plan_type_laws.specs.ShownMarks.{MarksStand}
 use Rattle.plan_type_laws.proofs.FormsObeyed.{forms_hold}
 use Rattle.plan_type_laws.proofs.UsedWalk.{form_there}
 use Rattle.plan_laws.specs.ShownNames.{IsInput}
+use Rattle.base_lemmas.proofs.Bools.{left_of as first_true, right_of as second_true}
+use Rattle.base_lemmas.proofs.Lists.{length_of_map}
 
 abbrev pub HasCount : Form → List ℕ → Type 0
 HasCount form parts = has_count form (length parts) ≡ true

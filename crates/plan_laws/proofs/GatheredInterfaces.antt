@@ -1,5 +1,5 @@
 -- The interfaces of a plan become what each view of their places tells, with the functions of the first that shows some.
-use Rattle.std.proofs.Common.{◌≡◌, refl, sym, ap, subst, ◌∙◌, ℕ, suc, arith, Bool, true, false, not, ◌==◌, cond, List, [], ◌∷◌, ◌++◌, map, Option, Some, None, option_map, slice_get}
+use Rattle.std.proofs.Common.{◌≡◌, refl, sym, ap, subst, ◌∙◌, ℕ, arith, Bool, true, false, not, ◌==◌, cond, List, [], ◌∷◌, ◌++◌, map, Option, Some, None, option_map, slice_get}
 use Rattle.std.specs.Prelude.{option_and_then}
 use Rattle.std.specs.List.{AllZip, Contains}
 use Rattle.std.specs.Option.{option_map_or}
@@ -7,7 +7,6 @@ use Rattle.std.proofs.lemmas.List.Elements.{Contains-append_right}
 use Rattle.wit_model.specs.Rules.{is_id}
 use Rattle.wit_model.specs.Text.{Text}
 use Rattle.wit_model.specs.Valid.{as_interface}
-use Rattle.wit_model.proofs.Elements.{contains-later, contains-map, contains-one, get-contains, same-some}
 use Rattle.comp_meaning.specs.Reads as reads
 use Rattle.plan_meaning.specs.FollowedNumbers.{IsPartIn}
 use Rattle.plan_meaning.specs.GatheredPlan.{InterfaceAt, InterfaceBecomes, InterfacesListed, TypeBecomes, TypeListed, foreign_interface, functions_seen, interfaces_listed, under_path}
@@ -18,7 +17,6 @@ use Rattle.plan_meaning.specs.NumberedWorlds.{HasPath}
 use Rattle.plan_meaning.specs.Plan.{Plan, PlannedInterface, interface_in, path_of_planned}
 use Rattle.plan_meaning.specs.Plan as plan
 use Rattle.plan_meaning.specs.ReadFunctions.{Beside}
-use Rattle.plan_meaning.proofs.GatheredPlan.{all_at}
 use Rattle.plan_meaning.proofs.Lists.{no_true}
 use Rattle.plan_meaning.proofs.NumberedMembers.{only_sights}
 use Rattle.plan_meaning.proofs.NumberedWorlds.{path_is}
@@ -50,13 +48,10 @@ use Rattle.plan_laws.proofs.ShownWhole.{sight_viewed}
 use Rattle.plan_laws.proofs.Viewed.{planned_interfaces_are_viewed}
 use Rattle.plan_laws.proofs.WholePlacesTop.{sight_of_place}
 use Rattle.plan_laws.proofs.WholeTypes.{packages_are_ruled, path_planned}
+use Rattle.base_lemmas.proofs.Elements.{all_at, contains-later, contains-map, contains-one, get-contains, zip_each}
+use Rattle.std.proofs.lemmas.Option.{same_Some as same-some}
 
 -- what holds of the elements of each number
-zip_each : {A B : Type 0} (R P : A → B → Type 0) (xs : List A) (ys : List B) → AllZip R xs ys → ((k : ℕ) (x : A) (y : B) → slice_get xs k ≡ Some x → slice_get ys k ≡ Some y → P x y) → AllZip P xs ys
-zip_each R P [] [] zip each = tt
-zip_each R P [] (y ∷ ys) zip each = absurd zip
-zip_each R P (x ∷ xs) [] zip each = absurd zip
-zip_each R P (x ∷ xs) (y ∷ ys) zip each = (each 0 x y refl refl, zip_each R P xs ys zip.1 (λ k a c e f. each (suc k) a c e f))
 
 -- what is told of types alone says what they become
 told_listed : (t : Tables) (kept : List ℕ) (p : Plan) (xs ys : List NumberedType) (es : List (Text × ℕ)) → map told xs ≡ map told ys → AllZip (TypeListed t kept p) xs es → AllZip (TypeListed t kept p) ys es

@@ -2,11 +2,12 @@
 use Rattle.std.proofs.Common.{◌≡◌, sym, ap, subst, ◌∙◌, refl, ℕ, zero, suc, arith, Bool, true, List, [], ◌∷◌, filter_map, Option, Some, None}
 use Rattle.std.specs.List.{AllZip, Contains, cons_option}
 use Rattle.wit_model.specs.Text.{Text}
-use Rattle.wit_model.proofs.Elements.{contains-later, none-in}
+use Rattle.wit_model.proofs.Elements.{none-in}
 use Rattle.plan_meaning.specs.GatheredPlan.{AreChosen, SightBecomes}
 use Rattle.plan_meaning.specs.NumberedViews.{NumberedSight, Tables}
 use Rattle.plan_meaning.specs.NumberedWorlds.{HasPath}
 use Rattle.plan_meaning.specs.Plan.{Plan, PlannedInterface}
+use Rattle.base_lemmas.proofs.Elements.{contains-later}
 
 module _ (t : Tables) (kept : List ℕ) (p : Plan) (seen : List NumberedSight) (wanted : ℕ → Bool) (pick : PlannedInterface → Option (Text × PlannedInterface)) where
   -- An interface whose place has a path and is wanted is gathered from a view of its place; any other isn't.

@@ -3,21 +3,19 @@ use Rattle.std.proofs.Common.{◌≡◌, refl, sym, ap, subst, ◌∙◌, ℕ, s
 use Rattle.std.specs.List.{AllZip, Contains, flat_map}
 use Rattle.wit_model.specs.Text.{Text}
 use Rattle.wit_model.specs.declared.model.TypeId.{TypeId}
-use Rattle.wit_model.proofs.Elements.{contains-later, contains-map, get-contains}
 use Rattle.comp_meaning.specs.Reads as reads
 use Rattle.read_shown.specs.Scopes as scopes
-use Rattle.read_shown.proofs.Lists.{mapped_get, one_place}
+use Rattle.read_shown.proofs.Lists.{one_place}
 use Rattle.plan_meaning.specs.FollowedNumbers.{IsOneOf, IsSeenIn}
 use Rattle.plan_meaning.specs.GatheredPlan.{InterfaceAt, SeenBecomes, WorldAt, WorldBecomes, WorldsListed, functions_seen, worlds_listed}
 use Rattle.plan_meaning.specs.NumberedMembers.{Homes, home_at}
 use Rattle.plan_meaning.specs.NumberedRules.{Fact}
 use Rattle.plan_meaning.specs.NumberedViews.{NumberedSight, Tables, path_at, path_text}
 use Rattle.plan_meaning.specs.NumberedWorlds as worlds
-use Rattle.plan_meaning.specs.NumberedWorlds.{HasPath, KeyStands, NumberedInstance, NumberedScope, NumberedSeen, NumberedShown, place_of_key, shown_of}
+use Rattle.plan_meaning.specs.NumberedWorlds.{HasPath, KeyStands, NumberedScope, NumberedSeen, place_of_key, shown_of}
 use Rattle.plan_meaning.specs.Plan as plan
-use Rattle.plan_meaning.specs.Plan.{Plan, PlannedItem, PlannedKey, PlannedWorld, world_in}
+use Rattle.plan_meaning.specs.Plan.{Plan, PlannedItem, PlannedKey, PlannedWorld}
 use Rattle.plan_meaning.specs.ReadFunctions.{Beside}
-use Rattle.plan_meaning.proofs.GatheredPlan.{all_at}
 use Rattle.plan_meaning.proofs.Lists.{no_true}
 use Rattle.plan_meaning.proofs.NumberedWorlds.{path_is}
 use Rattle.plan_parts.specs.Interfaces.{AreResources}
@@ -49,7 +47,6 @@ use Rattle.plan_laws.specs.WorldItems.{KeysAreApart, TypesAreRead, WorldsAreApar
 use Rattle.plan_laws.proofs.GatheredInterfaces.{interface_at, path_same}
 use Rattle.plan_laws.proofs.OwnPlaces.{a_view, frames, one_owned}
 use Rattle.plan_laws.proofs.Origins.{view_among}
-use Rattle.plan_laws.proofs.Planned.{zip_at}
 use Rattle.plan_laws.proofs.ShownAlike.{view_owned}
 use Rattle.plan_laws.proofs.ShownRules.{no_types}
 use Rattle.plan_laws.proofs.ShownFrom.{IsWorldOf, view_frame, world_of}
@@ -59,6 +56,8 @@ use Rattle.plan_laws.proofs.WholeReasonsFunctions.{first_whole}
 use Rattle.plan_laws.proofs.WholeTypes.{packages_are_ruled}
 use Rattle.plan_laws.proofs.WorldItems.{planned_worlds_stand, world_member}
 use Rattle.plan_laws.proofs.WorldKeys.{keys_apart}
+use Rattle.base_lemmas.proofs.Elements.{all_at, contains-later, contains-map, get-contains, zip_at}
+use Rattle.base_lemmas.proofs.Lists.{mapped_get}
 
 zip_mapped : {A B C : Type 0} (P : A → B → Type 0) (Q : C → B → Type 0) (f : A → C) (xs : List A) → ((x : A) → Contains xs x → (y : B) → P x y → Q (f x) y) → (ys : List B) → AllZip P xs ys → AllZip Q (map f xs) ys
 zip_mapped P Q f [] each [] zip = tt

@@ -3,13 +3,14 @@ use Rattle.std.proofs.Common.{◌≡◌, refl, sym, ap, subst, ◌∙◌, ℕ, z
 use Rattle.std.specs.List.{Contains, flat_map}
 use Rattle.std.proofs.lemmas.List.Elements.{Contains-append_cases}
 use Rattle.wit_model.specs.Text.{Text}
-use Rattle.wit_model.proofs.Elements.{has-contains, none-in, same-some}
-use Rattle.read_shown.proofs.Lists.{unmapped_get}
+use Rattle.wit_model.proofs.Elements.{has-contains, none-in}
 use Rattle.plan_meaning.specs.NumberedViews.{HasNameIn, Tables}
 use Rattle.plan_meaning.specs.NumberedViews as views
 use Rattle.plan_meaning.specs.Shapes.{IsShape, IsTable, Shape, a_name, a_node, named_shape}
 use Rattle.plan_parts.specs.Marks.{is_marked, IsUsed, marked, part}
 use Rattle.plan_types.specs.Used.{AreUsed}
+use Rattle.base_lemmas.proofs.Lists.{get_back as unmapped_get}
+use Rattle.std.proofs.lemmas.Option.{same_Some as same-some}
 
 -- the type of this number is the part, or one of those inside it
 pub data IsIn (shapes : List Shape) : ℕ → ℕ → Type 0 where

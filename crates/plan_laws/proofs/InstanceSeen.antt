@@ -3,7 +3,7 @@ use Rattle.std.proofs.Common.{◌≡◌, refl, sym, ap, subst, ◌∙◌, ℕ, z
 use Rattle.std.specs.List.{AllByRecursion, Contains}
 use Rattle.std.proofs.lemmas.List.Elements.{Contains-append_cases}
 use Rattle.wit_model.specs.Text.{Text}
-use Rattle.wit_model.proofs.Elements.{contains-later, contains-map, none-in, one-contained}
+use Rattle.wit_model.proofs.Elements.{none-in}
 use Rattle.comp_meaning.specs.Follow as follow
 use Rattle.comp_meaning.specs.Follow.{Direction, Instance, export_, import_, interface_of}
 use Rattle.comp_meaning.specs.Reads as reads
@@ -15,7 +15,6 @@ use Rattle.plan_meaning.specs.NumberedViews.{AreTables, Tables, path_at}
 use Rattle.plan_meaning.specs.NumberedWorlds as worlds
 use Rattle.plan_meaning.specs.NumberedWorlds.{HasPath, KeyStands, NumberedInstance, NumberedKey, NumberedSeen, NumberedShown, are_once, instance_of, key_of, place_of_key, seen_of, shown_of}
 use Rattle.plan_meaning.specs.ReadWholes.{place_shown}
-use Rattle.plan_meaning.proofs.GatheredPlan.{all_at}
 use Rattle.plan_meaning.proofs.NumberedWorlds.{path_is}
 use Rattle.read_exports.specs.Members.{numbered_members}
 use Rattle.read_exports.specs.declared.members.Member.{Member}
@@ -26,8 +25,8 @@ use Rattle.plan_type_laws.specs.ShownMarks.{own_places}
 use Rattle.plan_laws.specs.ShownNames.{IsInput}
 use Rattle.plan_laws.proofs.Inside.{flat_cases}
 use Rattle.plan_laws.proofs.OwnPlaces.{inline_of, inline_seen, inlines}
-use Rattle.plan_laws.proofs.PartNames.{from_map}
 use Rattle.plan_laws.proofs.ShownFrom.{IsWorldOf}
+use Rattle.base_lemmas.proofs.Elements.{all_at, contains-later, contains-map, last_of as one-contained, map_from as from_map}
 
 -- one of these goes one of the two ways
 either_way : (seen : List (Direction × Instance)) (x : Instance) → Contains (map (λ (y : Direction × Instance). y.1) seen) x → Contains (going import_ seen) x ⊎ Contains (going export_ seen) x

@@ -4,7 +4,7 @@ use Rattle.std.specs.List.{Contains, list_any}
 use Rattle.std.proofs.lemmas.Slice.Eq.{bytes_eq-Decides}
 use Rattle.wit_model.specs.declared.model.TypeId.{TypeId}
 use Rattle.wit_model.specs.Text.{Text, text_eq}
-use Rattle.wit_model.proofs.Elements.{contains-get, contains-later, contains-map, get-contains}
+use Rattle.wit_model.proofs.Elements.{contains-get}
 use Rattle.comp_meaning.specs.Reads as reads
 use Rattle.comp_meaning.specs.Rules as rules
 use Rattle.comp_meaning.specs.Rules.{distinct}
@@ -17,7 +17,6 @@ use Rattle.plan_meaning.specs.NumberedViews.{NumberedFunction, NumberedSight, Nu
 use Rattle.plan_meaning.specs.Plan.{Plan, PlannedFunction}
 use Rattle.plan_meaning.specs.ReadFunctions.{Beside, IsReadFunction}
 use Rattle.plan_meaning.specs.Shapes.{named_shape}
-use Rattle.plan_meaning.proofs.GatheredPlan.{all_at}
 use Rattle.plan_parts.specs.Interfaces.{AreResources, IsPlannedFunction, slot_part}
 use Rattle.read_exports.specs.Members.{numbered_members}
 use Rattle.read_exports.specs.declared.members.Member.{Member}
@@ -29,12 +28,12 @@ use Rattle.plan_laws.specs.Owners.{owners_of}
 use Rattle.plan_laws.specs.WholeTypes.{IsRuledInput}
 use Rattle.plan_laws.specs.ShownRules.{ViewObeys}
 use Rattle.plan_laws.proofs.FirstDeclared.{shown_alike}
-use Rattle.plan_laws.proofs.PartNames.{from_map}
 use Rattle.plan_laws.proofs.ReadFunction.{function_becomes, read_function, resource_at, told as told_of}
 use Rattle.plan_laws.proofs.ShownRules.{function_obeys}
 use Rattle.plan_laws.proofs.Showings.{slot_is}
 use Rattle.plan_laws.proofs.ViewsAgree.{told, views_tell}
 use Rattle.plan_laws.proofs.WholeFunctions.{kept_number, nothing_declared}
+use Rattle.base_lemmas.proofs.Elements.{all_at, contains-later, contains-map, get-contains, map_from as from_map}
 
 -- a name of a resource is that of a type which is declared as one
 resource_listed : (t : Tables) (xs : List NumberedType) (r : Text) → list_any (text_eq r) (rules.resources_of (map (shown_type t) xs)) ≡ true → (x : NumberedType) × Contains xs x × (x.declared ≡ None) × (r ≡ x.name)

@@ -5,8 +5,7 @@ use Rattle.std.specs.Option.{option_map_or}
 use Rattle.std.proofs.lemmas.Bool.{eqb-true}
 use Rattle.wit_model.specs.Text.{Text}
 use Rattle.wit_model.specs.declared.model.TypeOwner.{TypeOwner}
-use Rattle.wit_model.proofs.Elements.{contains-later, none-in, same-some}
-use Rattle.wit_model.proofs.Lists.{first_true, second_true}
+use Rattle.wit_model.proofs.Elements.{none-in}
 use Rattle.comp_meaning.specs.Reads as reads
 use Rattle.plan_meaning.specs.GatheredPlan.{FunctionBecomes, FunctionListed, functions_seen}
 use Rattle.plan_meaning.specs.NumberedMembers.{Homes, NumberedMember, NumberedPart, home_at, interface, sights_of_members, sights_of_part, world}
@@ -15,7 +14,6 @@ use Rattle.plan_meaning.specs.NumberedViews.{NumberedFunction, NumberedSight, Ta
 use Rattle.plan_meaning.specs.NumberedWorlds.{HasPath, NumberedInstance, sights_of_instance}
 use Rattle.plan_meaning.specs.Plan.{Plan, PlannedFunction, PlannedInterface, interface_in}
 use Rattle.plan_meaning.specs.ReadFunctions.{Beside}
-use Rattle.plan_meaning.proofs.GatheredPlan.{all_at}
 use Rattle.plan_parts.specs.Interfaces.{IsPlannedFunction}
 use Rattle.read_exports.specs.Members.{numbered_members}
 use Rattle.read_exports.specs.declared.members.Member.{Member}
@@ -32,6 +30,9 @@ use Rattle.plan_laws.proofs.Planned.{first_there, interface_there}
 use Rattle.plan_laws.proofs.ShownAlike.{types_once, view_good}
 use Rattle.plan_laws.proofs.Viewed.{zip_within}
 use Rattle.plan_laws.proofs.WholeTypes.{packages_are_ruled}
+use Rattle.base_lemmas.proofs.Bools.{left_of as first_true, right_of as second_true}
+use Rattle.base_lemmas.proofs.Elements.{all_at, contains-later}
+use Rattle.std.proofs.lemmas.Option.{same_Some as same-some}
 
 -- ---- the view that shows a function
 

@@ -3,15 +3,17 @@ use Rattle.std.proofs.Common.{◌≡◌, sym, ap, subst, ◌∙◌, ℕ, zero, s
 use Rattle.std.specs.List.{AllByRecursion, Contains}
 use Rattle.wit_model.specs.Text.{Text}
 use Rattle.wit_model.specs.Tree as tree
-use Rattle.wit_model.specs.Tree.{Form, Place, Primitive, Tree, Trees, children}
+use Rattle.wit_model.specs.Tree.{Form, Place, Tree, Trees, children}
 use Rattle.std.proofs.lemmas.List.Elements.{Contains-append_cases}
-use Rattle.wit_model.proofs.Elements.{none-in, one-contained, same-some}
+use Rattle.wit_model.proofs.Elements.{none-in}
 use Rattle.read_shown.specs.Trees.{DeclarationStands, HandleStands, PartsStand, SignatureStands, TreeStands, is_handle}
 use Rattle.plan_meaning.specs.NumberedViews.{AllOf, AreTables, FunctionShape, IsPart, PartsOf, Tables, declaration_of, place_at, signature_over, tree_at}
 use Rattle.plan_meaning.specs.Shapes.{Shape, form_code, named_shape, node_shape}
 use Rattle.plan_meaning.proofs.ShapeLaws.{PartView, is_name, is_node, is_primitive, viewed}
 use Rattle.plan_types.specs.Used.{signature_parts}
 use Rattle.plan_laws.proofs.Inside.{IsIn, inside, itself, name_alone}
+use Rattle.base_lemmas.proofs.Elements.{last_of as one-contained}
+use Rattle.std.proofs.lemmas.Option.{same_Some as same-some}
 
 no_sort : (f : Form) → (form_code f).sort ≡ 0 → ⊥
 no_sort (Form.record_of names) e = cc

@@ -2,13 +2,12 @@
 use Rattle.std.proofs.Common.{◌≡◌, refl, sym, ap, subst, ◌∙◌, ℕ, zero, suc, ◌⊎◌, inl, inr, arith, Bool, true, false, ◌==◌, ◌&&◌, cond, List, [], ◌∷◌, ◌++◌}
 use Rattle.std.specs.List.{AllByRecursion, AllZip, Contains}
 use Rattle.std.proofs.lemmas.List.Elements.{Contains-append_cases, Contains-append_left}
-use Rattle.wit_model.proofs.Elements.{both, none-in, one-contained, same-number}
+use Rattle.wit_model.proofs.Elements.{none-in}
 use Rattle.plan_meaning.specs.GatheredPlan.{functions_seen}
 use Rattle.plan_meaning.specs.NumberedMembers.{Homes, NumberedMember, home_at, interface, sights_of_members, sights_of_part}
 use Rattle.plan_meaning.specs.NumberedViews.{NumberedSight, Tables}
 use Rattle.plan_meaning.specs.NumberedWorlds.{HasPath, NumberedInstance, NumberedScope, sights_of_instance, sights_of_scope}
 use Rattle.plan_meaning.specs.Plan.{Plan, PlannedWorld}
-use Rattle.plan_meaning.proofs.GatheredPlan.{all_at}
 use Rattle.plan_meaning.proofs.Lists.{no_true}
 use Rattle.read_exports.specs.Members.{numbered_members, numbered_part}
 use Rattle.read_exports.specs.declared.members.Member.{Member}
@@ -24,6 +23,9 @@ use Rattle.plan_laws.proofs.FirstViews.{first_is}
 use Rattle.plan_laws.proofs.Inside.{flat_cases}
 use Rattle.plan_laws.proofs.ShownWhole.{view_given}
 use Rattle.plan_laws.proofs.WholePlacesTop.{sight_of_place}
+use Rattle.base_lemmas.proofs.Elements.{all_at, last_of as one-contained}
+use Rattle.base_lemmas.proofs.Numbers.{same-number}
+use Rattle.std.proofs.lemmas.Bool.{and_from as both}
 
 -- ---- views
 

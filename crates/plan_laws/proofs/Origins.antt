@@ -3,7 +3,7 @@ use Rattle.std.proofs.Common.{◌≡◌, refl, ℕ, ◌⊎◌, inl, inr, true, f
 use Rattle.std.specs.List.{Contains, flat_map}
 use Rattle.std.proofs.lemmas.List.Elements.{Contains-append_cases, Contains-append_left, Contains-append_right}
 use Rattle.wit_model.specs.Text.{Text}
-use Rattle.wit_model.proofs.Elements.{contains-flat, contains-map, contains-one, none-in, one-contained}
+use Rattle.wit_model.proofs.Elements.{contains-flat, none-in}
 use Rattle.comp_meaning.specs.Reads as reads
 use Rattle.read_shown.specs.Parts.{PartStands}
 use Rattle.plan_meaning.specs.FollowedNumbers.{IsOneOf, IsPartIn}
@@ -11,7 +11,6 @@ use Rattle.plan_meaning.specs.NumberedMembers.{Homes, IsMember, NumberedMember}
 use Rattle.plan_meaning.specs.NumberedViews.{AreTables, NumberedSight, NumberedType, Tables}
 use Rattle.plan_meaning.specs.NumberedWorlds.{NumberedInstance, NumberedSeen, place_of_key}
 use Rattle.plan_meaning.specs.ReadWorlds.{is_type_seen}
-use Rattle.plan_meaning.proofs.GatheredPlan.{all_at}
 use Rattle.read_rules.specs.declared.scopes.InstanceKey.{InstanceKey}
 use Rattle.read_rules.specs.declared.scopes.Scope.{Scope}
 use Rattle.read_rules.specs.declared.scopes.Seen.{Seen}
@@ -30,9 +29,9 @@ use Rattle.plan_types.specs.Showings.{NumberedShowing, showing_of, showings_of_i
 use Rattle.plan_package.specs.Views.{types_alone, views_of_members, views_of_part, whole_view}
 use Rattle.plan_laws.specs.ShownNames.{IsInput}
 use Rattle.plan_laws.proofs.Inside.{flat_cases}
-use Rattle.plan_laws.proofs.PartNames.{from_map}
 use Rattle.plan_laws.proofs.Showings.{ExportsNoType, exports_no_type}
 use Rattle.plan_laws.proofs.ShownNames.{beside}
+use Rattle.base_lemmas.proofs.Elements.{all_at, contains-map, contains-one, last_of as one-contained, map_from as from_map}
 
 -- what an import of a type shows
 abbrev pub imported_showing : ℕ → Option ℕ → Option Text → NumberedShowing

@@ -1,13 +1,12 @@
 -- Each place without a path is of one world, or of one inline interface with one view.
 use Rattle.std.proofs.Common.{◌≡◌, refl, sym, ap, subst, ◌∙◌, ℕ, zero, suc, ◌+◌, ◌⊎◌, inl, inr, arith, Bool, true, false, not, filter, if◌then◌else◌, List, [], ◌∷◌, ◌++◌, length, length-append, map, Option, None, is_none}
 use Rattle.std.specs.List.{AllByRecursion, Contains, flat_map}
-use Rattle.std.proofs.lemmas.Bool.{not-true}
+use Rattle.std.proofs.lemmas.Bool.{not-true, and_from as both}
 use Rattle.std.proofs.lemmas.List.Elements.{Contains-append_cases, Contains-append_left, filter-append}
 use Rattle.wit_model.specs.Uses.{has}
-use Rattle.wit_model.proofs.Elements.{contains-has, contains-later, both, contains-map, has-contains, none-in, one-contained}
-use Rattle.wit_model.proofs.Lists.{first_true, second_true}
+use Rattle.wit_model.proofs.Elements.{contains-has, has-contains, none-in}
 use Rattle.comp_meaning.specs.Follow as follow
-use Rattle.comp_meaning.specs.Follow.{Direction, Instance, export_, import_, interface_of}
+use Rattle.comp_meaning.specs.Follow.{Direction, Instance, export_, import_}
 use Rattle.read_shown.specs.Instances as shown_instances
 use Rattle.read_shown.specs.Instances.{InstancesAreSeen, going, instances_in}
 use Rattle.wit_model.specs.Text.{Text}
@@ -15,10 +14,11 @@ use Rattle.plan_meaning.specs.FollowedNumbers.{IsOneOf, IsScopeIn, IsSeenIn}
 use Rattle.plan_meaning.specs.NumberedMembers.{NumberedMember, NumberedPart, interface, world}
 use Rattle.plan_meaning.specs.NumberedViews.{NumberedView, Tables, path_at}
 use Rattle.plan_meaning.specs.NumberedWorlds.{HasPath, NumberedInstance, NumberedScope, NumberedSeen, NumberedShown, Shows, are_once, declares, function, implementing, instance, instance_of, label, path, place_of_key, seen_of, shown_of}
-use Rattle.plan_meaning.proofs.GatheredPlan.{all_at}
-use Rattle.plan_meaning.proofs.Lists.{append_of_map}
 use Rattle.plan_type_laws.specs.ShownMarks.{has_no_path, own_places, places_of_part, places_of_seen, places_of_shown}
 use Rattle.plan_laws.proofs.Inside.{flat_cases}
+use Rattle.base_lemmas.proofs.Bools.{left_of as first_true, right_of as second_true}
+use Rattle.base_lemmas.proofs.Elements.{all_at, contains-later, contains-map, filter_keeps as in_filter, last_of as one-contained}
+use Rattle.base_lemmas.proofs.Lists.{append_of_map}
 
 -- ---- what stands at a number that stands once
 
@@ -245,16 +245,6 @@ once_inside test f (y ∷ xs) once x (suc i, low, e) = once_inside test f xs (on
 different : {A : Type 0} (f : A → ℕ) (xs : List A) → are_once (map f xs) ≡ true → AreDifferent xs
 different f [] once = tt
 different f (x ∷ xs) once = ((λ c. not_among (f x) (map f xs) once (contains-map f xs x c)), different f xs (once_behind (f x) (map f xs) once))
-
-pub in_filter : {A : Type 0} (test : A → Bool) (xs : List A) (x : A) → Contains xs x → test x ≡ true → Contains (filter test xs) x
-in_filter test [] x c h = none-in x c
-in_filter test (y ∷ xs) x c h = by (test y) refl c (λ later. in_filter test xs x later h)
-  where
-    by : (b : Bool) → test y ≡ b → Contains (y ∷ xs) x → (Contains xs x → Contains (filter test xs) x) → Contains (if b then y ∷ filter test xs else filter test xs) x
-    by true e (zero, low, same) later = (zero, omega arith, same)
-    by true e (suc i, low, same) later = contains-later y (filter test xs) x (later (i, omega (arith, low), same))
-    by false e (zero, low, same) later = let wrong : false ≡ true = sym e ∙ (ap test same ∙ h) in absurd cc
-    by false e (suc i, low, same) later = later (i, omega (arith, low), same)
 
 module _ (t : Tables) (w : NumberedScope) (good : IsScopeIn t w) where
   abbrev Keyed : NumberedSeen → Type 0

@@ -2,12 +2,11 @@
 use Rattle.std.proofs.Common.{◌≡◌, refl, sym, ap, subst, ◌∙◌, ℕ, ◌+◌, ◌<◌, ◌⊎◌, inl, inr, arith, true, List, length, Option, Some, None, slice_get}
 use Rattle.std.specs.List.{Contains}
 use Rattle.std.specs.Option.{option_map_or}
-use Rattle.std.proofs.lemmas.Option.{slice_get_within}
+use Rattle.std.proofs.lemmas.Option.{slice_get_within, same_Some as same-some}
 use Rattle.wit_model.specs.Text.{Text}
 use Rattle.wit_model.specs.Valid.{as_interface, as_world}
 use Rattle.wit_model.specs.Parts.{same_owner}
 use Rattle.wit_model.specs.Uses.{owner_interface}
-use Rattle.wit_model.proofs.Elements.{get-contains, same-some}
 use Rattle.comp_meaning.specs.Reads as reads
 use Rattle.plan_meaning.specs.FollowedNumbers.{IsMetFrom, IsNameOf}
 use Rattle.plan_meaning.specs.GatheredPlan.{DeclaresKind}
@@ -26,7 +25,7 @@ use Rattle.plan_parts.proofs.DeclaredKinds.{kinds_declared}
 use Rattle.plan_package.specs.Views.{views_of_members}
 use Rattle.plan_package.specs.WholeInterfaces.{PlansPlace}
 use Rattle.plan_type_laws.proofs.FirstFound.{firsts_found}
-use Rattle.plan_type_laws.proofs.KeptKinds.{kinds_tell, zip_get, zip_length}
+use Rattle.plan_type_laws.proofs.KeptKinds.{kinds_tell}
 use Rattle.plan_package.specs.PlanWhole.{PlansWhole, places_in, shown_first}
 use Rattle.plan_laws.specs.Owners.{PlannedTypesAreOwned, homes_in, owners_of}
 use Rattle.plan_laws.specs.ShownNames.{IsInput}
@@ -34,6 +33,8 @@ use Rattle.plan_laws.proofs.PlaceNumbers.{number_given, number_there, owner_met,
 use Rattle.plan_laws.proofs.Planned.{home_alone, name_met, named_there}
 use Rattle.plan_laws.proofs.Showings.{showings_named}
 use Rattle.plan_laws.proofs.ViewNames.{same_place}
+use Rattle.base_lemmas.proofs.Elements.{get-contains, zip_at_right as zip_get}
+use Rattle.std.proofs.lemmas.Slice.Zip.{AllZip-long as zip_length}
 
 module _ (t : Tables) (h : Homes) (ms : List Member) (members : List reads.Member) (input : IsInput t h ms members) (main : ℕ) (p : Plan) (planned : PlansWhole t h.packages (home_at h) main ms p) where
   abbrev places : List ℕ

@@ -6,7 +6,7 @@ use Rattle.std.proofs.lemmas.List.Elements.{Contains-append_cases, Contains-appe
 use Rattle.wit_model.specs.Text.{Text}
 use Rattle.wit_model.specs.Names.{path_in}
 use Rattle.wit_model.specs.Tree.{Declaration, Place}
-use Rattle.wit_model.proofs.Elements.{contains-get, contains-map, contains-one, get-contains, none-in, one-contained, same-some}
+use Rattle.wit_model.proofs.Elements.{contains-get, none-in}
 use Rattle.wit_model.proofs.NameLaws.{read_path_is_spelled}
 use Rattle.comp_meaning.specs.Follow as follow
 use Rattle.comp_meaning.specs.Follow.{Instance, place_of}
@@ -17,14 +17,11 @@ use Rattle.read_shown.specs.Scopes as scopes
 use Rattle.read_shown.specs.Scopes.{IsDeclared, IsImported, IsMetInScope, IsShownBefore, ScopeStands, a_resource, a_value, name_of_instance, own_name}
 use Rattle.read_shown.specs.Trees.{SignatureStands}
 use Rattle.read_shown.specs.Views.{ViewStands}
-use Rattle.read_shown.proofs.Lists.{mapped_get, unmapped_get}
 use Rattle.plan_meaning.specs.FollowedNumbers.{IsCalledIn, IsMetFrom, IsNameOf, IsOneOf, IsPartIn, IsScopeIn, IsSeenIn, IsViewIn}
 use Rattle.plan_meaning.specs.NumberedMembers.{Homes, HomesStand, IsMember, NumberedMember, NumberedPart, ShowsInterface, ShowsPart, interface, world}
 use Rattle.plan_meaning.specs.NumberedViews.{AllOf, AreTables, IsPart, NumberedFunction, NumberedSight, NumberedView, Tables, function_at, path_at, path_text, place_at, signature_at, view_of}
 use Rattle.plan_meaning.specs.NumberedWorlds.{HasPath, NumberedInstance, NumberedSeen, Shows, place_of_key, seen_of, shown_of}
 use Rattle.plan_meaning.specs.Shapes.{Shape, named_shape}
-use Rattle.plan_meaning.proofs.GatheredPlan.{all_at}
-use Rattle.plan_meaning.proofs.Lists.{append_of_map, map_of_map}
 use Rattle.plan_meaning.proofs.NumberedWorlds.{path_is}
 use Rattle.read_rules.specs.declared.scopes.InstanceKey.{InstanceKey}
 use Rattle.read_rules.specs.declared.scopes.Scope.{Scope}
@@ -46,23 +43,17 @@ use Rattle.plan_package.specs.Views.{types_alone, views_of_members, views_of_par
 use Rattle.plan_laws.specs.ShownNames.{DeclaresName, ImportsNumber, ShowsNumber}
 use Rattle.plan_laws.proofs.Inside.{IsIn, flat_cases, name_alone, name_in}
 use Rattle.plan_laws.proofs.MetNames.{in_declared, in_signature}
-use Rattle.plan_laws.proofs.ViewNames.{declared_inside, function_shows, instance_tree, outside_shows, part_of_function, part_shows, parts_weaker}
+use Rattle.plan_laws.proofs.ViewNames.{declared_inside, function_shows, instance_tree, outside_shows, part_of_function, part_shows}
+use Rattle.base_lemmas.proofs.Elements.{all_at, all_both, contains-map, contains-one, get-contains, last_of as one-contained, map_from as from_map}
+use Rattle.base_lemmas.proofs.Lists.{append_of_map, get_back as unmapped_get, map_of_map, mapped_get}
+use Rattle.std.proofs.lemmas.Option.{same_Some as same-some}
+use Rattle.plan_type_laws.proofs.PartPlaces.{parts_weaker}
 
 -- ---- lists
-
-all_both : {A : Type 0} (P : A → Type 0) (xs ys : List A) → AllByRecursion P xs → AllByRecursion P ys → AllByRecursion P (xs ++ ys)
-all_both P [] ys a b = b
-all_both P (x ∷ xs) ys a b = (a.0, all_both P xs ys a.1 b)
 
 pub all_along : {A B : Type 0} (P : A → Type 0) (Q : B → Type 0) (f : A → B) → ((x : A) → P x → Q (f x)) → (xs : List A) → AllByRecursion P xs → AllByRecursion Q (map f xs)
 all_along P Q f each [] all = tt
 all_along P Q f each (x ∷ xs) all = (each x all.0, all_along P Q f each xs all.1)
-
-pub from_map : {A B : Type 0} (f : A → B) (xs : List A) (y : B) → Contains (map f xs) y → (x : A) × Contains xs x × (f x ≡ y)
-from_map f xs y c =
-    let there = contains-get (map f xs) y c in
-    let from = unmapped_get f xs there.0 y there.1 in
-    (from.0, get-contains xs there.0 from.0 from.1, from.2)
 
 -- ---- the instances of a part, as trees
 

@@ -5,13 +5,13 @@ use Rattle.std.specs.Option.{option_map_or}
 use Rattle.std.proofs.lemmas.Bool.{eqb-true, ltb-false, ltb-true}
 use Rattle.std.proofs.lemmas.List.Elements.{Contains-append_cases, Contains-append_left, Contains-append_right}
 use Rattle.std.proofs.lemmas.List.Sums.{fails_before_first, passes_at_first}
-use Rattle.std.proofs.lemmas.Option.{slice_get-get_or, slice_get_within}
+use Rattle.std.proofs.lemmas.Option.{slice_get-get_or, slice_get_within, same_Some as same-some}
 use Rattle.wit_model.specs.declared.model.TypeOwner.{TypeOwner}
 use Rattle.wit_model.specs.declared.model.TypeOwner.TheVariants as owner
 use Rattle.wit_model.specs.Parts.{same_owner}
 use Rattle.wit_model.specs.Uses.{has}
 use Rattle.wit_model.specs.Valid.{as_interface, as_world}
-use Rattle.wit_model.proofs.Elements.{contains-has, contains-one, get-contains, has-contains, none-in, one-contained, same-number, same-some}
+use Rattle.wit_model.proofs.Elements.{contains-has, has-contains, none-in}
 use Rattle.read_shown.proofs.Lists.{at_end}
 use Rattle.plan_meaning.specs.NumberedMembers.{NumberedMember}
 use Rattle.plan_meaning.specs.ReadFunctions.{Beside}
@@ -22,6 +22,8 @@ use Rattle.plan_types.specs.Orders.{joined, joined_all, places_of_part}
 use Rattle.plan_types.specs.PlannedTypes.{number_in, owner_in}
 use Rattle.plan_package.specs.PlanWhole.{places_in}
 use Rattle.plan_laws.specs.Owners.{homes_in, owner_of, owners_of}
+use Rattle.base_lemmas.proofs.Elements.{contains-one, get-contains, last_of as one-contained}
+use Rattle.base_lemmas.proofs.Numbers.{same-number}
 
 -- ---- numbers
 

@@ -1,9 +1,9 @@
 -- What is known of a plan that was made of what was followed: where names are shown, and the interface of each place.
-use Rattle.std.proofs.Common.{◌≡◌, refl, sym, ap, subst, ◌∙◌, ℕ, zero, suc, ◌⊎◌, inl, inr, arith, Bool, true, false, ◌==◌, cond, List, [], ◌∷◌, ◌++◌, map, Some, None, option_map, is_some, slice_get}
-use Rattle.std.specs.List.{AllZip, Contains, find, flat_map}
+use Rattle.std.proofs.Common.{◌≡◌, refl, sym, ap, subst, ◌∙◌, ℕ, zero, suc, ◌⊎◌, inl, inr, arith, Bool, true, false, ◌==◌, cond, List, [], ◌∷◌, Some, None, option_map, is_some, slice_get}
+use Rattle.std.specs.List.{Contains, find, flat_map}
 use Rattle.std.specs.Option.{option_map_or}
 use Rattle.wit_model.specs.Text.{Text}
-use Rattle.wit_model.proofs.Elements.{contains-flat, contains-map, get-contains, none-in, one-contained, same-number, same-some}
+use Rattle.wit_model.proofs.Elements.{contains-flat, none-in}
 use Rattle.comp_meaning.specs.Reads as reads
 use Rattle.plan_meaning.specs.FollowedNumbers.{IsPartIn}
 use Rattle.plan_meaning.specs.NumberedMembers.{Homes, NumberedMember, NumberedPart, home_at, interface, world}
@@ -12,13 +12,11 @@ use Rattle.plan_meaning.specs.NumberedWorlds.{HasPath}
 use Rattle.plan_meaning.specs.Plan.{Plan, PlannedInterface, interface_in}
 use Rattle.plan_meaning.specs.PlanRules.{has_name}
 use Rattle.plan_meaning.specs.Shapes.{named_shape}
-use Rattle.plan_meaning.proofs.GatheredPlan.{all_at}
-use Rattle.plan_meaning.proofs.Lists.{append_of_map, map_of_map}
 use Rattle.read_exports.specs.Members.{numbered_member, numbered_members, numbered_part}
 use Rattle.read_exports.specs.declared.members.Member.{Member}
 use Rattle.read_exports.specs.declared.members.Part.TheVariants as parts
 use Rattle.plan_types.specs.Orders.{home_of_part, places_of_part}
-use Rattle.plan_package.specs.Views.{types_alone, views_of_members, views_of_part, whole_view}
+use Rattle.plan_package.specs.Views.{views_of_members, views_of_part}
 use Rattle.plan_package.specs.WholeInterfaces.{PlansPlace}
 use Rattle.read_rules.specs.declared.scopes.Scope.{Scope}
 use Rattle.plan_type_laws.proofs.ShownForms.{mark_there}
@@ -26,17 +24,13 @@ use Rattle.plan_package.specs.PlanWhole.{PlansWhole, places_in}
 use Rattle.plan_laws.specs.Owners.{homes_in}
 use Rattle.plan_laws.specs.ShownNames.{IsInput, IsShownByPart, by_import, by_view}
 use Rattle.plan_laws.proofs.Inside.{flat_cases}
-use Rattle.plan_laws.proofs.PartNames.{from_map}
 use Rattle.plan_laws.proofs.PlaceNumbers.{all_joined, from_joined}
 use Rattle.plan_laws.proofs.ShownNames.{names_are_shown}
+use Rattle.base_lemmas.proofs.Elements.{all_at, contains-map, get-contains, last_of as one-contained, map_from as from_map, zip_at}
+use Rattle.base_lemmas.proofs.Numbers.{same-number}
+use Rattle.plan_package.proofs.PlacedLaws.{part_placed as places_of_views}
 
 -- ---- lists
-
-pub zip_at : {A B : Type 0} (P : A → B → Type 0) (xs : List A) (ys : List B) → AllZip P xs ys → (j : ℕ) (x : A) → slice_get xs j ≡ Some x → (y : B) × (slice_get ys j ≡ Some y) × P x y
-zip_at P [] ys all j x e = let wrong : None ≡ Some x = e in absurd cc
-zip_at P (z ∷ xs) [] all j x e = absurd all
-zip_at P (z ∷ xs) (y ∷ ys) all zero x e = (y, refl, subst (λ a. P a y) (same-some z x e) all.0)
-zip_at P (z ∷ xs) (y ∷ ys) all (suc j) x e = zip_at P xs ys all.1 j x e
 
 pub found_there : {A : Type 0} (test : A → Bool) (xs : List A) (x : A) → Contains xs x → test x ≡ true → (y : A) × (find test xs ≡ Some y)
 found_there test [] x c h = none-in x c
@@ -48,12 +42,6 @@ found_there {A = A} test (z ∷ xs) x c h = by (test z) refl (λ later. found_th
     by false e later (suc i, low, same) = let found = later (i, omega (arith, low), same) in (found.0, ap (λ v. cond v (Some z) (find test xs)) e ∙ found.1)
 
 -- ---- places of views
-
-pub places_of_views : (a : NumberedPart) → map (λ (s : NumberedSight). s.place) (views_of_part a) ≡ places_of_part a
-places_of_views (world w) = map_of_map (λ (s : NumberedSight). s.place) whole_view w.instances
-places_of_views (interface p v imports) =
-    append_of_map (λ (s : NumberedSight). s.place) (map types_alone imports) (record { place = p; view = v; whole = true } ∷ [])
-    ∙ ap (λ ps. ps ++ p ∷ []) (map_of_map (λ (s : NumberedSight). s.place) types_alone imports)
 
 module _ (ms : List Member) where
   abbrev numbered : List NumberedMember

@@ -5,7 +5,7 @@ use Rattle.std.proofs.lemmas.Bool.{eqb-true}
 use Rattle.std.proofs.lemmas.List.Elements.{Contains-append_cases, Contains-append_left, Contains-append_right}
 use Rattle.wit_model.specs.Text.{Text}
 use Rattle.wit_model.specs.Valid.{as_interface, as_world}
-use Rattle.wit_model.proofs.Elements.{contains-flat, contains-get, contains-later, contains-map, get-contains, none-in, one-contained, same-some}
+use Rattle.wit_model.proofs.Elements.{contains-flat, contains-get, none-in}
 use Rattle.comp_meaning.specs.Follow.{ShownType}
 use Rattle.comp_meaning.specs.Reads as reads
 use Rattle.comp_meaning.specs.Rules.{distinct}
@@ -20,10 +20,7 @@ use Rattle.plan_meaning.specs.Plan.{Plan, PlannedFunction, PlannedInterface, Pla
 use Rattle.plan_meaning.specs.PlanRules.{functions_of, world_functions}
 use Rattle.plan_meaning.specs.ReadFunctions.{Beside, IsReadFunction}
 use Rattle.plan_meaning.specs.ReadWholes.{place_shown}
-use Rattle.plan_meaning.proofs.GatheredPlan.{all_at}
-use Rattle.plan_meaning.proofs.Lists.{map_of_map}
 use Rattle.plan_parts.specs.Interfaces.{IsPlannedFunction}
-use Rattle.plan_type_laws.proofs.KeptKinds.{zip_get}
 use Rattle.read_exports.specs.Members.{numbered_member, numbered_members, numbered_part}
 use Rattle.read_exports.specs.declared.members.Member.{Member}
 use Rattle.read_exports.specs.declared.members.Part.{Part}
@@ -54,13 +51,15 @@ use Rattle.plan_laws.proofs.FirstViews.{first_is}
 use Rattle.plan_laws.proofs.Inside.{flat_cases}
 use Rattle.plan_laws.proofs.InstanceSeen.{instance_seen}
 use Rattle.plan_laws.proofs.InterfaceFunctions.{view_function}
-use Rattle.plan_laws.proofs.PartNames.{from_map}
 use Rattle.plan_laws.proofs.PlaceNumbers.{owner_numbered, place_number}
 use Rattle.plan_laws.proofs.Planned.{first_there}
 use Rattle.plan_laws.proofs.ShownFrom.{IsWorldOf, world_of}
 use Rattle.plan_laws.proofs.ShownRules.{all_of}
 use Rattle.plan_laws.proofs.WholeFunctions.{world_functions_are_read}
 use Rattle.plan_laws.proofs.WorldItems.{planned_worlds_stand}
+use Rattle.base_lemmas.proofs.Elements.{all_at, contains-later, contains-map, get-contains, last_of as one-contained, map_from as from_map, zip_at_right as zip_get}
+use Rattle.base_lemmas.proofs.Lists.{map_of_map}
+use Rattle.std.proofs.lemmas.Option.{same_Some as same-some}
 
 -- ---- where a function of a place is shown
 

@@ -1,5 +1,5 @@
 -- A function of a plan is one that was read, where its resources are types of the plan.
-use Rattle.std.proofs.Common.{◌≡◌, refl, sym, ap, ◌∙◌, ℕ, ◌<◌, arith, min, Bool, true, false, ◌&&◌, List, [], ◌∷◌, length, Option, Some, None, slice_get}
+use Rattle.std.proofs.Common.{◌≡◌, refl, sym, ap, ◌∙◌, ℕ, ◌<◌, arith, min, Bool, true, false, List, [], ◌∷◌, length, Option, Some, None, slice_get}
 use Rattle.std.specs.List.{list_any}
 use Rattle.std.proofs.lemmas.Option.{slice_get_within}
 use Rattle.wit_model.specs.declared.model.FunctionKind.{FunctionKind}
@@ -22,25 +22,22 @@ use Rattle.plan_meaning.specs.Plan.{Plan, PlannedFunction, PlannedKind}
 use Rattle.plan_meaning.specs.ReadFunctions.{Beside, IsReadFunction}
 use Rattle.plan_meaning.specs.Shapes.{named_shape}
 use Rattle.plan_meaning.proofs.NumberedRules.{function_same}
-use Rattle.plan_meaning.proofs.ShapeLaws.{slice_there}
 use Rattle.plan_parts.specs.Interfaces.{IsPlannedFunction}
 use Rattle.plan_parts.proofs.FunctionLaws.{functions_become, kinds_are_named}
 use Rattle.read_exports.specs.declared.members.Member.{Member}
 use Rattle.plan_types.specs.Showings.{NumberedShowing}
 use Rattle.plan_types.specs.PlannedTypes.{PlansType}
 use Rattle.plan_package.specs.PlanWhole.{PlansWhole, owners_in, places_in, shown_first}
-use Rattle.plan_type_laws.proofs.KeptKinds.{zip_length}
 use Rattle.plan_laws.specs.Owners.{homes_in, owners_of}
 use Rattle.plan_laws.specs.ShownNames.{IsInput}
 use Rattle.plan_laws.proofs.Owned.{planned_name, seen_from}
 use Rattle.plan_laws.proofs.PlaceNumbers.{owner_met}
 use Rattle.plan_laws.proofs.Planned.{name_met}
 use Rattle.plan_laws.proofs.ShownRules.{signature_of}
-use Rattle.plan_laws.proofs.ViewNames.{parts_weaker}
-
-and_true : (b : Bool) → (b && true) ≡ b
-and_true true = refl
-and_true false = refl
+use Rattle.base_lemmas.proofs.Bools.{and-true as and_true}
+use Rattle.base_lemmas.proofs.Lists.{within_there as slice_there}
+use Rattle.std.proofs.lemmas.Slice.Zip.{AllZip-long as zip_length}
+use Rattle.plan_type_laws.proofs.PartPlaces.{parts_weaker}
 
 -- ---- what is told of a part by its tree
 

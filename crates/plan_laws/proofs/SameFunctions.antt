@@ -2,17 +2,19 @@
 use Rattle.std.proofs.Common.{◌≡◌, refl, sym, ap, subst, ◌∙◌, zero, suc, arith, true, not, ◌&&◌, ◌||◌, ◌==◌, List, [], ◌∷◌, length, map}
 use Rattle.std.specs.Bool.{Decides}
 use Rattle.std.specs.List.{Contains, list_all, list_any}
-use Rattle.std.proofs.lemmas.Bool.{and_from, eq-eqb, eqb-true}
+use Rattle.std.proofs.lemmas.Bool.{and_from, eq-eqb, eqb-true, and_from as both}
 use Rattle.std.proofs.lemmas.Slice.Eq.{bytes_eq-Decides}
 use Rattle.wit_model.specs.Text.{Text, text_eq}
-use Rattle.wit_model.proofs.Elements.{all-contained, get-contains, none-in}
-use Rattle.wit_model.proofs.Lists.{first_true, second_true}
+use Rattle.wit_model.proofs.Elements.{none-in}
 use Rattle.comp_meaning.specs.Rules.{distinct}
 use Rattle.comp_meaning.specs.Same.{stand_in}
 use Rattle.comp_meaning.proofs.FunctionLists.{both_ways}
 use Rattle.plan_meaning.specs.NumberedViews.{NumberedFunction, NumberedSight, agree, agree_in_numbers, same_function, same_functions, same_id, same_types, same_whole}
-use Rattle.plan_meaning.proofs.Lists.{any_get, both}
-use Rattle.plan_laws.proofs.FirstViews.{option_same, same_of_option, text_same}
+use Rattle.plan_meaning.proofs.Lists.{any_get}
+use Rattle.plan_laws.proofs.FirstViews.{option_same, same_of_option}
+use Rattle.base_lemmas.proofs.Bools.{left_of as first_true, right_of as second_true}
+use Rattle.base_lemmas.proofs.Elements.{all-contained, get-contains}
+use Rattle.wit_model.proofs.AnyOrder.{text-same as text_same}
 
 same_decides : (a b : NumberedFunction) → Decides (same_function a b) (a ≡ b)
 same_decides a b = (into, back)

@@ -4,18 +4,16 @@ use Rattle.std.specs.Borrow.{Bor}
 use Rattle.std.specs.List.{AllByRecursion, Contains, flat_map}
 use Rattle.std.proofs.lemmas.List.Elements.{Contains-append_cases}
 use Rattle.wit_model.specs.Text.{Text}
-use Rattle.wit_model.proofs.Elements.{contains-map, none-in, one-contained}
+use Rattle.wit_model.proofs.Elements.{none-in}
 use Rattle.plan_meaning.specs.FollowedNumbers.{IsNameOf, IsPartIn, IsSeenIn, IsShownIn, IsSlotOf, IsViewIn}
 use Rattle.comp_meaning.specs.Reads as reads
 use Rattle.read_shown.specs.Parts.{PartStands}
 use Rattle.read_shown.specs.Scopes as scopes
-use Rattle.read_shown.proofs.Lists.{mapped_get}
 use Rattle.plan_meaning.specs.NumberedMembers.{Homes, IsMember, NumberedMember, ShowsPart}
 use Rattle.plan_meaning.specs.ReadWorlds.{is_type_seen}
 use Rattle.plan_meaning.specs.NumberedViews.{AreTables, NumberedSlot, NumberedView, Tables, resource, value}
 use Rattle.plan_meaning.specs.NumberedWorlds.{HasPath, NumberedSeen, place_of_key, seen_of, shown_of}
 use Rattle.plan_meaning.specs.Shapes.{named_shape}
-use Rattle.plan_meaning.proofs.GatheredPlan.{all_at}
 use Rattle.plan_parts.specs.Interfaces.{slot_part}
 use Rattle.read_rules.specs.declared.scopes.Seen.{Seen}
 use Rattle.read_rules.specs.declared.scopes.Shown.{Shown}
@@ -31,8 +29,9 @@ use Rattle.read_exports.specs.declared.members.Part.TheVariants as parts
 use Rattle.plan_types.specs.Showings.{NumberedShowing, showing_of, showings_of_import, showings_of_members, showings_of_part, showings_of_seen, showings_of_shown, showings_of_view}
 use Rattle.plan_laws.specs.ShownNames.{DeclaresName, IsInput, PartDeclaresNames}
 use Rattle.plan_laws.proofs.Inside.{flat_cases}
-use Rattle.plan_laws.proofs.PartNames.{from_map}
 use Rattle.plan_laws.proofs.ShownNames.{beside}
+use Rattle.base_lemmas.proofs.Elements.{all_at, contains-map, last_of as one-contained, map_from as from_map}
+use Rattle.base_lemmas.proofs.Lists.{mapped_get}
 
 pub all_given : {A : Type 0} (P : A → Type 0) (xs : List A) → ((n : ℕ) (x : A) → slice_get xs n ≡ Some x → P x) → AllByRecursion P xs
 all_given P [] each = tt

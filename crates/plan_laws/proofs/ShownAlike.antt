@@ -2,8 +2,6 @@
 use Rattle.std.proofs.Common.{◌≡◌, refl, sym, ap, subst, ◌∙◌, ℕ, arith, true, ◌&&◌, ◌==◌, List, ◌++◌, map, Option, Some, None, slice_get}
 use Rattle.std.specs.List.{Contains, list_all}
 use Rattle.wit_model.specs.Text.{Text}
-use Rattle.wit_model.proofs.Elements.{all-contained, contains-map, same-some}
-use Rattle.wit_model.proofs.Lists.{second_true}
 use Rattle.comp_meaning.specs.Follow.{ShownType}
 use Rattle.comp_meaning.specs.Reads as reads
 use Rattle.comp_meaning.specs.Rules.{distinct}
@@ -15,8 +13,6 @@ use Rattle.plan_meaning.specs.NumberedViews.{NumberedFunction, NumberedSight, Nu
 use Rattle.plan_meaning.specs.NumberedWorlds as worlds
 use Rattle.plan_meaning.specs.NumberedWorlds.{NumberedScope, NumberedSeen}
 use Rattle.plan_meaning.specs.Shapes.{Shape, first_label, named_shape}
-use Rattle.plan_meaning.proofs.GatheredPlan.{all_at}
-use Rattle.plan_meaning.proofs.Lists.{map_of_map}
 use Rattle.plan_parts.specs.Interfaces.{slot_part}
 use Rattle.read_exports.specs.Members.{numbered_members}
 use Rattle.read_exports.specs.declared.members.Member.{Member}
@@ -44,6 +40,10 @@ use Rattle.plan_laws.proofs.ViewsAgree.{sight_there}
 use Rattle.plan_laws.proofs.WholeTypes.{packages_are_ruled}
 use Rattle.plan_laws.proofs.WorldKeys.{declared_in, keys_apart, one_key, one_world}
 use Rattle.comp_meaning.proofs.AgreementLaws.{distinct_behind}
+use Rattle.base_lemmas.proofs.Bools.{right_of as second_true}
+use Rattle.base_lemmas.proofs.Elements.{all-contained, all_at, contains-map}
+use Rattle.base_lemmas.proofs.Lists.{map_of_map}
+use Rattle.std.proofs.lemmas.Option.{same_Some as same-some}
 
 abbrev pub view_owned : NumberedView → Owned → NumberedView
 view_owned default (a_view v) = v

@@ -3,7 +3,7 @@ use Rattle.std.proofs.Common.{◌≡◌, refl, sym, ap, subst, ◌∙◌, ℕ, z
 use Rattle.std.specs.List.{AllByRecursion, Contains, flat_map}
 use Rattle.std.proofs.lemmas.List.Elements.{Contains-append_cases, Contains-append_left, Contains-append_right}
 use Rattle.wit_model.specs.Text.{Text}
-use Rattle.wit_model.proofs.Elements.{contains-flat, contains-later, contains-map, contains-one, none-in, one-contained}
+use Rattle.wit_model.proofs.Elements.{contains-flat, none-in}
 use Rattle.comp_meaning.specs.Follow as follow
 use Rattle.comp_meaning.specs.Reads as reads
 use Rattle.read_shown.specs.Parts.{PartStands, WorldStands}
@@ -12,8 +12,7 @@ use Rattle.plan_meaning.specs.FollowedNumbers.{IsOneOf, IsPartIn, IsScopeIn, IsS
 use Rattle.plan_meaning.specs.NumberedMembers.{Homes, IsMember, NumberedMember, ShowsPart, world}
 use Rattle.plan_meaning.specs.NumberedViews.{NumberedSight, NumberedType, NumberedView, Tables, path_at}
 use Rattle.plan_meaning.specs.NumberedWorlds as worlds
-use Rattle.plan_meaning.specs.NumberedWorlds.{HasPath, NumberedInstance, NumberedScope, NumberedSeen, NumberedShown, Shows, are_once, place_of_key, seen_of, shown_of}
-use Rattle.plan_meaning.proofs.GatheredPlan.{all_at}
+use Rattle.plan_meaning.specs.NumberedWorlds.{HasPath, NumberedInstance, NumberedSeen, NumberedShown, Shows, are_once, place_of_key, shown_of}
 use Rattle.read_exports.specs.Members.{numbered_member, numbered_members, numbered_part}
 use Rattle.read_exports.specs.declared.members.Member.{Member}
 use Rattle.read_exports.specs.declared.members.Part.{Part}
@@ -32,9 +31,9 @@ use Rattle.plan_type_laws.specs.ShownMarks.{has_no_path, own_places, places_of_p
 use Rattle.plan_laws.specs.ShownNames.{DeclaresName, IsInput, PartDeclaresNames}
 use Rattle.plan_laws.proofs.Inside.{flat_cases}
 use Rattle.plan_laws.proofs.OwnPlaces.{Frame, a_view, a_world, frames, frames_of_part, frames_of_seen, frames_of_shown, inline_of, inline_seen, inlines, once_inside}
-use Rattle.plan_laws.proofs.PartNames.{from_map}
 use Rattle.plan_laws.proofs.ShownNames.{beside}
 use Rattle.plan_laws.proofs.ShownRules.{no_types}
+use Rattle.base_lemmas.proofs.Elements.{all_at, contains-later, contains-map, contains-one, last_of as one-contained, map_from as from_map}
 
 module _ (t : Tables) (h : Homes) (ms : List Member) (members : List reads.Member) (input : IsInput t h ms members) (apart : are_once (own_places t (numbered_members ms)) ≡ true) where
   abbrev numbered : List NumberedMember

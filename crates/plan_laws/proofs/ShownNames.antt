@@ -3,19 +3,17 @@ use Rattle.std.proofs.Common.{◌≡◌, refl, sym, subst, ℕ, zero, suc, ◌�
 use Rattle.std.specs.List.{AllByRecursion, AllZip, Contains, flat_map}
 use Rattle.std.proofs.lemmas.List.Elements.{Contains-append_cases}
 use Rattle.wit_model.specs.Text.{Text}
-use Rattle.wit_model.proofs.Elements.{contains-flat, contains-map, none-in}
+use Rattle.wit_model.proofs.Elements.{contains-flat, none-in}
 use Rattle.comp_meaning.specs.Follow.{Instance}
 use Rattle.comp_meaning.specs.Reads as reads
 use Rattle.comp_meaning.specs.Reads.{Part as MeantPart}
 use Rattle.read_shown.specs.Parts.{PartStands}
 use Rattle.read_shown.specs.Scopes.{IsShownBefore}
 use Rattle.read_shown.specs.Views.{ViewStands}
-use Rattle.read_shown.proofs.Lists.{mapped_get, recursion_weaker}
 use Rattle.plan_meaning.specs.FollowedNumbers.{IsPartIn, IsViewIn}
 use Rattle.plan_meaning.specs.NumberedMembers.{Homes, IsMember, NumberedMember, ShowsPart}
 use Rattle.plan_meaning.specs.NumberedViews.{NumberedSight, Tables, place_at, view_of}
 use Rattle.plan_meaning.specs.Shapes.{named_shape}
-use Rattle.plan_meaning.proofs.GatheredPlan.{all_at}
 use Rattle.read_exports.specs.Members.{numbered_member, numbered_members, numbered_part}
 use Rattle.read_exports.specs.declared.members.Member.{Member}
 use Rattle.read_exports.specs.declared.members.Part.{Part}
@@ -27,8 +25,11 @@ use Rattle.plan_types.specs.Used.{function_parts, showing_parts, used_parts}
 use Rattle.plan_package.specs.Views.{views_of_members, views_of_part}
 use Rattle.plan_laws.specs.ShownNames.{ImportsNumber, IsInput, IsShownByPart, PartDeclaresNames, ShowsNumber, UsedNamesAreShown, by_import, by_view}
 use Rattle.plan_laws.proofs.Inside.{IsIn, flat_cases, used_inside}
-use Rattle.plan_laws.proofs.PartNames.{from_map, interface_showing, interface_signature, trees_of_all, views_are_good, world_showing, world_signature}
+use Rattle.plan_laws.proofs.PartNames.{interface_showing, interface_signature, trees_of_all, views_are_good, world_showing, world_signature}
 use Rattle.plan_laws.proofs.ViewNames.{instance_tree}
+use Rattle.base_lemmas.proofs.Elements.{all_at, contains-map, map_from as from_map}
+use Rattle.base_lemmas.proofs.Lists.{mapped_get}
+use Rattle.std.proofs.ByRecursion.{All-weaker as recursion_weaker}
 
 -- what stands beside an element
 pub beside : {A B C : Type 0} (R : B → C → Type 0) (f : A → B) (xs : List A) (ys : List C) → AllZip R (map f xs) ys → (x : A) → Contains xs x → (y : C) × Contains ys y × R (f x) y

@@ -7,8 +7,7 @@ use Rattle.wit_model.specs.Names.{is_label}
 use Rattle.wit_model.specs.Meaning.{FunctionMeaning, Signature}
 use Rattle.wit_model.specs.Text.{Text}
 use Rattle.wit_model.specs.Tree.{Place}
-use Rattle.wit_model.proofs.Elements.{all-contained, contains-flat, contains-later, contains-map, contains-one, get-contains, none-in, one-contained}
-use Rattle.wit_model.proofs.Lists.{first_true, second_true}
+use Rattle.wit_model.proofs.Elements.{contains-flat, none-in}
 use Rattle.comp_meaning.specs.Follow as follow
 use Rattle.comp_meaning.specs.Follow.{Direction, Instance, export_, import_, interface_of, place_of}
 use Rattle.comp_meaning.specs.Reads as reads
@@ -24,7 +23,6 @@ use Rattle.plan_meaning.specs.NumberedRules.{Fact, is_interface}
 use Rattle.plan_meaning.specs.NumberedViews.{AreTables, IsPart, NumberedFunction, NumberedSight, NumberedType, NumberedView, Tables, declaration_of, function_at, place_at, shown_function, shown_type, signature_at, view_of}
 use Rattle.plan_meaning.specs.NumberedWorlds.{HasPath, KeyStands, NumberedKey, NumberedSeen, Shows, implementing, instance, instance_of, key_of, label, path, place_of_key, seen_of, shown_of}
 use Rattle.plan_meaning.specs.Shapes.{named_shape}
-use Rattle.plan_meaning.proofs.GatheredPlan.{all_at}
 use Rattle.plan_meaning.proofs.NumberedRules.{interface_same}
 use Rattle.read_rules.specs.declared.reached.ImportedView.{ImportedView}
 use Rattle.read_rules.specs.declared.scopes.Scope.{Scope}
@@ -47,10 +45,11 @@ use Rattle.plan_type_laws.specs.UsedParts.{SignatureObeys}
 use Rattle.plan_laws.specs.ShownNames.{DeclaresName, IsInput, PartDeclaresNames}
 use Rattle.plan_laws.specs.ShownRules.{PartObeys, RulesAreObeyed, ShownObeysRules, TypeObeys, ViewObeys}
 use Rattle.plan_laws.proofs.Inside.{flat_cases}
-use Rattle.plan_laws.proofs.PartNames.{from_map}
 use Rattle.plan_laws.proofs.ShownNames.{beside}
 use Rattle.plan_laws.proofs.Showings.{all_given, slot_is}
-use Rattle.plan_laws.proofs.ViewNames.{parts_weaker}
+use Rattle.base_lemmas.proofs.Bools.{left_of as first_true, right_of as second_true}
+use Rattle.base_lemmas.proofs.Elements.{all-contained, all_at, contains-later, contains-map, contains-one, get-contains, last_of as one-contained, map_from as from_map}
+use Rattle.plan_type_laws.proofs.PartPlaces.{parts_weaker}
 
 pub all_of : {A : Type 0} (P : A → Type 0) (xs : List A) → ((x : A) → Contains xs x → P x) → AllByRecursion P xs
 all_of P xs each = all_given P xs (λ n x e. each x (get-contains xs n x e))

@@ -8,9 +8,8 @@ use Rattle.wit_model.specs.Text.{Text}
 use Rattle.wit_model.specs.declared.model.TypeId.{TypeId}
 use Rattle.wit_model.specs.declared.model.TypeOwner.{TypeOwner}
 use Rattle.wit_model.specs.Valid.{as_interface, as_world}
-use Rattle.wit_model.proofs.Elements.{contains-flat, contains-get, contains-map, get-contains, none-in, one-contained, same-number, same-some}
+use Rattle.wit_model.proofs.Elements.{contains-flat, contains-get, none-in}
 use Rattle.comp_meaning.specs.Reads as reads
-use Rattle.read_shown.proofs.Lists.{unmapped_get}
 use Rattle.plan_meaning.specs.NumberedMembers.{Homes, NumberedMember, NumberedPart, home_at, interface, sights_of_members, sights_of_part, world}
 use Rattle.plan_meaning.specs.NumberedRules.{Fact}
 use Rattle.plan_meaning.specs.NumberedViews.{NumberedSight, Tables, path_at, same_shown}
@@ -21,7 +20,6 @@ use Rattle.plan_meaning.specs.ReadFunctions.{Beside}
 use Rattle.plan_meaning.specs.ReadPlans.{IsReadPlan}
 use Rattle.plan_meaning.specs.ReadWholes.{IsShownByWorld, place_shown}
 use Rattle.plan_meaning.specs.ReadWorlds.{IsReadItem, IsReadWorld, ReadItem, a_function, a_type, by_label, by_path, implementing_path}
-use Rattle.plan_meaning.proofs.GatheredPlan.{all_at}
 use Rattle.read_exports.specs.Members.{numbered_members}
 use Rattle.read_exports.specs.declared.members.Member.{Member}
 use Rattle.read_exports.specs.declared.members.Part.TheVariants as parts
@@ -32,7 +30,7 @@ use Rattle.plan_types.specs.PlannedTypes.{number_in}
 use Rattle.plan_package.specs.PlanWhole.{PlansWhole, places_in}
 use Rattle.plan_package.specs.Views.{views_of_members, views_of_part, whole_view}
 use Rattle.plan_package.specs.WholeWorlds as items
-use Rattle.plan_package.specs.WholeWorlds.{PlansItem, PlansWorld, planned_key, worlds_in}
+use Rattle.plan_package.specs.WholeWorlds.{PlansItem, PlansWorld, worlds_in}
 use Rattle.plan_laws.specs.FirstViews.{ViewsAreOrdered}
 use Rattle.plan_laws.specs.Owners.{owners_of}
 use Rattle.plan_laws.specs.ShownWhole.{WholeIsShown}
@@ -44,10 +42,14 @@ use Rattle.plan_laws.proofs.FirstViews.{first_is, told_types}
 use Rattle.plan_laws.proofs.Inside.{flat_cases}
 use Rattle.plan_laws.proofs.InstanceSeen.{instance_seen}
 use Rattle.plan_laws.proofs.PlaceNumbers.{one_owner, owner_numbered}
-use Rattle.plan_laws.proofs.Planned.{found_there, zip_at}
+use Rattle.plan_laws.proofs.Planned.{found_there}
 use Rattle.plan_laws.proofs.ShownFrom.{world_of}
 use Rattle.plan_laws.proofs.WholePlacesLabels.{world_among}
 use Rattle.plan_laws.proofs.WholeTypes.{packages_are_ruled}
+use Rattle.base_lemmas.proofs.Elements.{all_at, contains-map, get-contains, last_of as one-contained, zip_at}
+use Rattle.base_lemmas.proofs.Lists.{get_back as unmapped_get}
+use Rattle.base_lemmas.proofs.Numbers.{same-number}
+use Rattle.std.proofs.lemmas.Option.{same_Some as same-some}
 
 -- the view that an instance gives, if its place has a path
 pub view_given : (t : Tables) (i : NumberedInstance) (s : NumberedSight) → Contains (sights_of_instance t i) s → whole_view i ≡ s

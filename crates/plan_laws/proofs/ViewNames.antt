@@ -6,25 +6,27 @@ use Rattle.std.proofs.lemmas.Bool.{le-ltb, lt-ltb}
 use Rattle.std.proofs.lemmas.List.Elements.{Contains-append_cases}
 use Rattle.wit_model.specs.Text.{Text}
 use Rattle.wit_model.specs.Tree.{Place}
-use Rattle.wit_model.proofs.Elements.{contains-get, get-contains, none-in, one-contained, same-some}
+use Rattle.wit_model.proofs.Elements.{contains-get, none-in}
 use Rattle.comp_meaning.specs.Follow.{Instance, ShownType, place_of}
 use Rattle.read_shown.specs.Scopes.{IsShownBefore}
 use Rattle.read_shown.specs.Trees.{DeclarationStands}
 use Rattle.read_shown.specs.Views.{IsMetInView, ShowsName, ViewStands, inside as met_inside, outside as met_outside}
-use Rattle.read_shown.proofs.Lists.{mapped_get, unmapped_get}
 use Rattle.plan_meaning.specs.FollowedNumbers.{IsCalledIn, IsMetFrom, IsNameOf, IsShownIn, IsSlotOf, IsViewIn}
 use Rattle.plan_meaning.specs.NumberedRules.{is_form}
 use Rattle.plan_meaning.specs.NumberedViews.{AllOf, AreTables, FunctionShape, IsPart, NumberedFunction, NumberedSight, NumberedSlot, NumberedType, PartsOf, Tables, declaration_of, function_at, path_at, place_at, resource, shown_function, shown_type, value, view_of}
 use Rattle.plan_meaning.specs.NumberedWorlds.{HasPath}
 use Rattle.plan_meaning.specs.Plan.{part_number}
 use Rattle.plan_meaning.specs.Shapes.{Shape, named_shape}
-use Rattle.plan_meaning.proofs.GatheredPlan.{all_at}
 use Rattle.plan_meaning.proofs.ShapeLaws.{split_part}
 use Rattle.plan_parts.specs.Interfaces.{slot_part}
 use Rattle.plan_types.specs.Used.{declared_parts, form_parts, signature_parts}
 use Rattle.plan_laws.specs.ShownNames.{ShowsNumber}
 use Rattle.plan_laws.proofs.Inside.{IsIn, inside, name_alone, name_in}
 use Rattle.plan_laws.proofs.MetNames.{in_declared, in_signature}
+use Rattle.base_lemmas.proofs.Elements.{all_at, get-contains, last_of as one-contained}
+use Rattle.base_lemmas.proofs.Lists.{get_back as unmapped_get, mapped_get}
+use Rattle.std.proofs.lemmas.Option.{same_Some as same-some}
+use Rattle.plan_type_laws.proofs.PartPlaces.{parts_weaker}
 
 -- ---- parts
 
@@ -44,17 +46,6 @@ part_of_function P f all k c = by (Contains-append_cases (map (λ (x : Text × �
     by : Contains (map (λ (x : Text × ℕ). x.1) f.params) k ⊎ Contains (option_to_list f.result) k → P k
     by (inl among) = params f.params all.0 among
     by (inr among) = given f.result all.1 among
-
-pub parts_weaker : (P Q : ℕ → Type 0) → ((k : ℕ) → P k → Q k) → (f : FunctionShape) → PartsOf P f → PartsOf Q f
-parts_weaker P Q weaker f all = (params f.params all.0, given f.result all.1)
-  where
-    params : (ps : List (Text × ℕ)) → AllByRecursion (λ (p : Text × ℕ). P p.1) ps → AllByRecursion (λ (p : Text × ℕ). Q p.1) ps
-    params [] every = tt
-    params (p ∷ ps) every = (weaker p.1 every.0, params ps every.1)
-
-    given : (r : Option ℕ) → AllOf P r → AllOf Q r
-    given None every = tt
-    given (Some k) every = weaker k every
 
 -- what is declared where one of its parts is used
 pub declared_inside : (t : Tables) (n : ℕ) (d : Option ℕ) (k : ℕ) → Contains (declared_parts t d) k → IsIn t.shapes k n → (j : ℕ) × (d ≡ Some j) × IsIn t.shapes j n

@@ -7,7 +7,6 @@ use Rattle.wit_model.specs.Text.{Text}
 use Rattle.wit_model.specs.Tree.{Place}
 use Rattle.wit_model.specs.Meaning.{FunctionMeaning}
 use Rattle.wit_model.specs.Names.{is_label}
-use Rattle.wit_model.proofs.Lists.{first_true}
 use Rattle.comp_meaning.specs.Follow.{ShownType}
 use Rattle.comp_meaning.specs.Rules as rules
 use Rattle.comp_meaning.specs.Rules.{distinct, is_declared, is_function, is_resource, resources_of}
@@ -15,6 +14,7 @@ use Rattle.read_shown.proofs.Agreement as agreement
 use Rattle.plan_meaning.specs.GatheredPlan.{functions_seen}
 use Rattle.plan_meaning.specs.NumberedViews.{NumberedFunction, NumberedSight, NumberedType, Tables, declaration_of, place_at, shown_function, shown_type, view_of}
 use Rattle.plan_laws.specs.FirstViews.{told}
+use Rattle.base_lemmas.proofs.Bools.{left_of as first_true}
 
 -- ---- the rules look at what is told alone
 

@@ -9,13 +9,11 @@ use Rattle.wit_model.specs.Names.{is_label}
 use Rattle.wit_model.specs.Rules.{passes}
 use Rattle.wit_model.specs.declared.model.TypeOwner.{TypeOwner}
 use Rattle.wit_model.specs.Valid.{as_interface}
-use Rattle.wit_model.proofs.Elements.{contains-map, get-contains, zip-weaker}
 use Rattle.wit_model.proofs.NameLaws.{read_path_is_spelled}
 use Rattle.comp_meaning.specs.Reads as reads
 use Rattle.comp_meaning.specs.Rules as rules
 use Rattle.comp_meaning.specs.Follow.{Instance}
 use Rattle.read_shown.specs.Scopes.{IsInstanceBefore}
-use Rattle.read_shown.proofs.Lists.{front_get, mapped_get, middle_get, recursion_weaker, unmapped_get}
 use Rattle.read_shown.proofs.Uses.{use_stands_before}
 use Rattle.plan_meaning.specs.FollowedNumbers.{IsMetFrom, IsShownIn}
 use Rattle.plan_meaning.specs.GatheredPlan.{DeclaresKind, TypeListed, functions_seen}
@@ -28,10 +26,7 @@ use Rattle.plan_meaning.specs.ReadInterfaces.{HasName, IsKeptAs, IsNamed, IsNumb
 use Rattle.plan_meaning.specs.ReadOrder.{InterfacesAreViewed, IsUsedPlace, IsViewedInterface, itself, smaller}
 use Rattle.plan_meaning.specs.Renumbering.{IsPart as NewPart, a_primitive, a_shape}
 use Rattle.plan_meaning.specs.Shapes.{named_shape}
-use Rattle.plan_meaning.proofs.GatheredPlan.{all_at}
-use Rattle.plan_meaning.proofs.Lists.{append_of_map}
 use Rattle.plan_meaning.proofs.NumberedWorlds.{path_is, view_paths, view_uses}
-use Rattle.plan_meaning.proofs.ShapeLaws.{slice_there}
 use Rattle.plan_parts.specs.Interfaces.{IsPlannedFunction, slot_part}
 use Rattle.read_exports.specs.Members.{numbered_members}
 use Rattle.read_exports.specs.declared.members.Member.{Member}
@@ -41,7 +36,6 @@ use Rattle.plan_package.specs.PlanWhole.{PlansWhole, owners_in, places_in, shown
 use Rattle.plan_package.specs.Views.{views_of_members, views_of_part}
 use Rattle.plan_package.specs.WholeInterfaces.{ListsNumber, PlansInterface, PlansPlace}
 use Rattle.plan_type_laws.specs.MembersStand.{all_instances}
-use Rattle.plan_type_laws.proofs.KeptKinds.{zip_get, zip_length}
 use Rattle.plan_laws.specs.FirstViews.{IsRisingView, ViewsAreOrdered}
 use Rattle.plan_laws.specs.Owners.{owners_of}
 use Rattle.plan_laws.specs.ShownNames.{IsInput}
@@ -50,12 +44,17 @@ use Rattle.plan_laws.proofs.FirstPlaces.{first_split, number_before}
 use Rattle.plan_laws.proofs.FirstTypes.{first_told, view_good, views_told}
 use Rattle.plan_laws.proofs.FirstViews.{first_is}
 use Rattle.plan_laws.proofs.Owned.{planned_name}
-use Rattle.plan_laws.proofs.PartNames.{from_map, trees_of_all}
+use Rattle.plan_laws.proofs.PartNames.{trees_of_all}
 use Rattle.plan_laws.proofs.PlaceNumbers.{all_joined, number_given, number_there, owner_numbered, place_number}
-use Rattle.plan_laws.proofs.Planned.{first_there, places_of_views}
+use Rattle.plan_laws.proofs.Planned.{first_there}
 use Rattle.plan_laws.proofs.Showings.{slot_is}
 use Rattle.plan_laws.proofs.ViewNames.{instance_tree}
 use Rattle.plan_laws.proofs.ViewRules.{seen_obeys}
+use Rattle.base_lemmas.proofs.Elements.{all_at, contains-map, get-contains, map_from as from_map, zip-kept as zip-weaker, zip_at_right as zip_get}
+use Rattle.base_lemmas.proofs.Lists.{append_of_map, get_back as unmapped_get, mapped_get, middle_get, slice_front as front_get, within_there as slice_there}
+use Rattle.std.proofs.ByRecursion.{All-weaker as recursion_weaker}
+use Rattle.std.proofs.lemmas.Slice.Zip.{AllZip-long as zip_length}
+use Rattle.plan_package.proofs.PlacedLaws.{part_placed as places_of_views}
 
 -- what stands beside the same elements
 zip_beside : {A B C : Type 0} (P : A → B → Type 0) (Q : A → C → Type 0) (R : B → C → Type 0) (xs : List A) → ((x : A) → Contains xs x → (b : B) (c : C) → P x b → Q x c → R b c) → (bs : List B) (cs : List C) → AllZip P xs bs → AllZip Q xs cs → AllZip R bs cs

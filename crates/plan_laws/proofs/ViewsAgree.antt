@@ -3,11 +3,10 @@ use Rattle.std.proofs.Common.{◌≡◌, refl, sym, ap, subst, ◌∙◌, ℕ, z
 use Rattle.std.specs.List.{Contains, list_all}
 use Rattle.std.specs.Cmp.Lexicographic.{pointwise}
 use Rattle.std.specs.Option.{option_map_or}
-use Rattle.std.proofs.lemmas.Bool.{eq-eqb, eqb-true}
+use Rattle.std.proofs.lemmas.Bool.{eq-eqb}
 use Rattle.std.proofs.lemmas.Slice.Eq.{bytes_eq-Decides}
 use Rattle.wit_model.specs.Text.{Text, text_eq}
-use Rattle.wit_model.proofs.Elements.{all-contained, contains-flat, contains-one, none-in}
-use Rattle.wit_model.proofs.Lists.{first_true, second_true}
+use Rattle.wit_model.proofs.Elements.{contains-flat, none-in}
 use Rattle.comp_meaning.specs.Reads as reads
 use Rattle.plan_meaning.specs.NumberedMembers.{Homes, NumberedMember, NumberedPart, interface, sights_of_members, sights_of_part, world}
 use Rattle.plan_meaning.specs.NumberedViews.{NumberedSight, NumberedType, NumberedView, Tables, agree, agree_in_numbers, path_at, same_id, same_number, same_shown, same_types, same_whole}
@@ -19,18 +18,14 @@ use Rattle.plan_type_laws.specs.ShownMarks.{own_places}
 use Rattle.plan_laws.specs.ShownNames.{IsInput}
 use Rattle.plan_laws.proofs.Inside.{flat_cases}
 use Rattle.plan_laws.proofs.OwnPlaces.{Frame, Owned, a_view, a_world, frames, one_owned}
-use Rattle.plan_laws.proofs.PartNames.{from_map}
 use Rattle.plan_laws.proofs.ShownFrom.{view_frame}
+use Rattle.base_lemmas.proofs.Bools.{left_of as first_true, right_of as second_true}
+use Rattle.base_lemmas.proofs.Elements.{all-contained, contains-one, map_from as from_map}
+use Rattle.plan_meaning.proofs.ReadOrder.{same_declared}
 
 -- the name of a type that is shown, and what it is declared as
 abbrev pub told : NumberedType → Text × Option ℕ
 told x = (x.name, x.declared)
-
-same_declared : (a b : Option ℕ) → same_number a b ≡ true → a ≡ b
-same_declared None None h = refl
-same_declared None (Some n) h = absurd cc
-same_declared (Some m) None h = absurd cc
-same_declared (Some m) (Some n) h = ap Some (eqb-true m n h)
 
 pub same_told : (xs ys : List NumberedType) → pointwise same_shown xs ys ≡ true → map told xs ≡ map told ys
 same_told [] [] h = refl

@@ -5,11 +5,10 @@ use Rattle.std.specs.List.{AllByRecursion, Contains, flat_map}
 use Rattle.std.specs.Option.{option_map_or}
 use Rattle.std.proofs.lemmas.Bool.{eq-eqb, ltb-false, ltb-true}
 use Rattle.std.proofs.lemmas.List.Elements.{Contains-append_cases, Contains-append_left, Contains-append_right}
-use Rattle.std.proofs.lemmas.Option.{slice_get_within}
+use Rattle.std.proofs.lemmas.Option.{slice_get_within, same_Some as same-some}
 use Rattle.wit_model.specs.Text.{Text}
-use Rattle.wit_model.proofs.Elements.{contains-flat, contains-get, contains-has, contains-map, contains-one, none-in, one-contained, same-some}
+use Rattle.wit_model.proofs.Elements.{contains-flat, contains-get, contains-has, none-in}
 use Rattle.comp_meaning.specs.Reads as reads
-use Rattle.read_shown.proofs.Lists.{mapped_get, recursion_weaker, unmapped_get}
 use Rattle.plan_meaning.specs.FollowedNumbers.{IsMetFrom, IsOneOf, IsScopeIn, IsShownIn}
 use Rattle.plan_meaning.specs.KeptResources.{FormIsMarked}
 use Rattle.plan_meaning.specs.NumberedMembers.{Homes, NumberedMember}
@@ -19,10 +18,8 @@ use Rattle.plan_meaning.specs.NumberedWorlds.{NumberedInstance, NumberedSeen, pl
 use Rattle.plan_meaning.specs.Renumbering.{a_primitive, a_shape}
 use Rattle.plan_meaning.specs.ReadWholes.{place_shown}
 use Rattle.plan_meaning.specs.Shapes as shapes
-use Rattle.plan_meaning.specs.Shapes.{IsShape, Shape, first_label, named_shape}
-use Rattle.plan_meaning.proofs.GatheredPlan.{all_at}
+use Rattle.plan_meaning.specs.Shapes.{IsShape, Shape, named_shape}
 use Rattle.plan_meaning.proofs.Lists.{no_true}
-use Rattle.plan_meaning.proofs.ShapeLaws.{slice_there}
 use Rattle.plan_parts.specs.Interfaces.{IsFunctionOver, IsKeptSlot, slot_part}
 use Rattle.plan_parts.specs.Kept.{IsKeptPart}
 use Rattle.plan_parts.specs.Kinds.{MayBeDeclared, a_part, nothing, over_parts}
@@ -64,7 +61,6 @@ use Rattle.plan_laws.proofs.FormCounts.{HasCount, form_over, forms_count}
 use Rattle.plan_laws.proofs.Inside.{flat_cases, within}
 use Rattle.plan_laws.proofs.InstanceSeen.{instance_seen}
 use Rattle.plan_laws.proofs.Origins.{view_among}
-use Rattle.plan_laws.proofs.PartNames.{from_map}
 use Rattle.plan_laws.proofs.Planned.{found_there, view_met}
 use Rattle.plan_laws.proofs.ShownAlike.{functions_alike, view_good}
 use Rattle.plan_laws.proofs.ShownFrom.{world_of}
@@ -75,6 +71,9 @@ use Rattle.plan_laws.proofs.ViewsAgree.{told, views_tell}
 use Rattle.plan_laws.proofs.WholeReasons.{there_marked}
 use Rattle.plan_laws.proofs.WholeTypes.{packages_are_ruled}
 use Rattle.plan_laws.proofs.WorldItems.{world_member}
+use Rattle.base_lemmas.proofs.Elements.{all_at, contains-map, contains-one, last_of as one-contained, map_from as from_map}
+use Rattle.base_lemmas.proofs.Lists.{get_back as unmapped_get, mapped_get, within_there as slice_there}
+use Rattle.std.proofs.ByRecursion.{All-weaker as recursion_weaker}
 
 -- ---- parts of functions
 

@@ -5,15 +5,13 @@ use Rattle.std.proofs.lemmas.List.Elements.{Contains-append_cases, Contains-appe
 use Rattle.std.proofs.lemmas.Slice.Eq.{bytes_eq-Decides}
 use Rattle.wit_model.specs.declared.model.TypeId.{TypeId}
 use Rattle.wit_model.specs.Text.{Text, text_eq}
-use Rattle.wit_model.proofs.Elements.{all-contained, contains-flat, contains-get, contains-later, contains-map, contains-one, get-contains, none-in, one-contained, same-some}
+use Rattle.wit_model.proofs.Elements.{contains-flat, contains-get, none-in}
 use Rattle.wit_model.specs.declared.model.TypeOwner.{TypeOwner}
 use Rattle.wit_model.specs.Tree.{Declaration}
-use Rattle.wit_model.proofs.Lists.{first_true, second_true}
 use Rattle.comp_meaning.specs.Follow as follow
 use Rattle.comp_meaning.specs.Follow.{place_of}
 use Rattle.comp_meaning.specs.Reads as reads
 use Rattle.comp_meaning.specs.Rules as rules
-use Rattle.comp_meaning.specs.Rules.{distinct}
 use Rattle.plan_meaning.specs.FollowedNumbers.{IsCalledIn, IsSeenIn, IsShownIn}
 use Rattle.plan_meaning.specs.GatheredPlan.{FunctionBecomes}
 use Rattle.plan_meaning.specs.KeptFunctions.{IsResource}
@@ -21,13 +19,12 @@ use Rattle.plan_meaning.specs.NumberedMembers.{Homes, NumberedMember, home_at}
 use Rattle.plan_meaning.specs.NumberedRules.{Fact, is_no_part}
 use Rattle.plan_meaning.specs.NumberedViews.{NumberedType, PartsOf, Tables, value, function_at, path_at, place_at, signature_at}
 use Rattle.plan_meaning.specs.NumberedWorlds as worlds
-use Rattle.plan_meaning.specs.NumberedWorlds.{NumberedScope, NumberedSeen, NumberedShown, seen_of, shown_of}
+use Rattle.plan_meaning.specs.NumberedWorlds.{NumberedScope, NumberedSeen, seen_of, shown_of}
 use Rattle.plan_meaning.specs.Plan.{Plan, PlannedFunction, PlannedItem, PlannedKey, PlannedWorld, item_function, items_of}
 use Rattle.plan_meaning.specs.PlanRules.{world_functions}
 use Rattle.plan_meaning.specs.ReadFunctions.{Beside, IsReadFunction}
 use Rattle.plan_meaning.specs.Renumbering.{IsPart, a_primitive, a_shape}
 use Rattle.plan_meaning.specs.Shapes.{Shape, first_label, named_shape}
-use Rattle.plan_meaning.proofs.GatheredPlan.{all_at}
 use Rattle.plan_parts.specs.Interfaces.{AreResources, IsPlannedFunction, slot_part}
 use Rattle.read_exports.specs.Members.{numbered_members}
 use Rattle.read_exports.specs.declared.members.Member.{Member}
@@ -43,7 +40,6 @@ use Rattle.plan_types.specs.Showings.{NumberedShowing, showings_of_members, sign
 use Rattle.plan_package.specs.PlanWhole.{PlansWhole, places_in, shown_first}
 use Rattle.plan_package.specs.WholeWorlds.{PlansItem, a_function, a_type, an_instance, types_seen, types_shown, world_in_part, worlds_in}
 use Rattle.plan_type_laws.proofs.FirstFound.{firsts_found}
-use Rattle.plan_type_laws.proofs.KeptKinds.{zip_get}
 use Rattle.plan_laws.specs.Owners.{owners_of}
 use Rattle.plan_laws.specs.ShownNames.{DeclaresName, IsInput}
 use Rattle.plan_laws.specs.ShownRules.{PartObeys}
@@ -51,11 +47,13 @@ use Rattle.plan_laws.specs.WholeFunctions.{WorldFunctionsAreRead, beside_tables}
 use Rattle.plan_laws.specs.WholeTypes.{IsRuledInput, TypesAreWhole}
 use Rattle.plan_laws.proofs.Inside.{flat_cases}
 use Rattle.plan_laws.proofs.OwnPlaces.{Owned, a_view, a_world, frames, one_owned}
-use Rattle.plan_laws.proofs.PartNames.{from_map}
 use Rattle.plan_laws.proofs.ReadFunction.{function_becomes, read_function, resource_at, told}
 use Rattle.plan_laws.proofs.Showings.{slot_is}
 use Rattle.plan_laws.proofs.ShownFrom.{IsFrom, IsWorldOf, home_frame, of_import, of_view, shown_from, view_frame, world_of}
 use Rattle.plan_laws.proofs.WorldKeys.{declared_in, is_world_owned, keys_apart, one_key, one_world}
+use Rattle.base_lemmas.proofs.Bools.{left_of as first_true, right_of as second_true}
+use Rattle.base_lemmas.proofs.Elements.{all-contained, all_at, contains-later, contains-map, contains-one, get-contains, last_of as one-contained, map_from as from_map, zip_at_right as zip_get}
+use Rattle.std.proofs.lemmas.Option.{same_Some as same-some}
 
 -- ---- lists
 

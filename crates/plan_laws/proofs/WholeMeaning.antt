@@ -1,9 +1,8 @@
 -- A plan that was made of what was followed means what that means.
 use Rattle.std.proofs.Common.{◌≡◌, sym, ap, subst, ◌∙◌, ℕ, ◌<◌, arith, refl, List, length, Some, slice_get}
 use Rattle.std.specs.List.{AllZip}
-use Rattle.std.proofs.lemmas.Option.{slice_get_within}
+use Rattle.std.proofs.lemmas.Option.{slice_get_within, same_Some as same-some}
 use Rattle.wit_model.specs.Names.{PackageIdentity}
-use Rattle.wit_model.proofs.Elements.{same-some}
 use Rattle.comp_meaning.specs.Reads as reads
 use Rattle.plan_meaning.specs.GatheredPlan.{IsGathered, WorldsListed, worlds_listed}
 use Rattle.plan_meaning.specs.NumberedMembers.{Homes, home_at}
@@ -15,7 +14,6 @@ use Rattle.plan_meaning.specs.ReadFunctions.{Beside}
 use Rattle.plan_meaning.proofs.GatheredPlan.{gathered_package_is_meant}
 use Rattle.plan_meaning.proofs.KeptTypes.{kept_types_pass}
 use Rattle.plan_meaning.proofs.ReadWholes.{read_package_plan_stands}
-use Rattle.plan_meaning.proofs.ShapeLaws.{slice_there}
 use Rattle.read_exports.specs.Members.{numbered_members}
 use Rattle.read_exports.specs.declared.members.Member.{Member}
 use Rattle.plan_package.specs.PlanWhole.{PlansWhole, places_in}
@@ -32,6 +30,7 @@ use Rattle.plan_laws.proofs.GatheredInterfaces.{foreign_gathered, top_listed}
 use Rattle.plan_laws.proofs.GatheredWorlds.{worlds_are_listed}
 use Rattle.plan_laws.proofs.WholePlan.{plan_read}
 use Rattle.plan_laws.proofs.WholeTypes.{packages_are_ruled, planned_types_are_whole}
+use Rattle.base_lemmas.proofs.Lists.{within_there as slice_there}
 
 module _ (t : Tables) (h : Homes) (known : ℕ → Fact) (n : ℕ) (ms : List Member) (members : List reads.Member) (given : IsPackageInput t h known n ms members) (input : IsWholeInput t h n ms) (p : Plan)
     (planned : PlansWhole t h.packages (home_at h) n ms p) (whole : TypesAreWhole t planned.kept ms p) where

@@ -5,9 +5,8 @@ use Rattle.std.specs.Option.{option_map_or}
 use Rattle.wit_model.specs.declared.model.TypeOwner.{TypeOwner}
 use Rattle.wit_model.specs.Text.{Text}
 use Rattle.wit_model.specs.Valid.{as_interface, as_world}
-use Rattle.wit_model.proofs.Elements.{contains-flat, contains-get, contains-map, get-contains, same-some}
+use Rattle.wit_model.proofs.Elements.{contains-flat, contains-get}
 use Rattle.comp_meaning.specs.Reads as reads
-use Rattle.read_shown.proofs.Lists.{unmapped_get}
 use Rattle.plan_meaning.specs.NumberedMembers.{Homes, NumberedMember, home_at}
 use Rattle.plan_meaning.specs.NumberedRules.{Fact}
 use Rattle.plan_meaning.specs.NumberedViews.{NumberedSight, NumberedType, NumberedView, Tables}
@@ -19,7 +18,6 @@ use Rattle.plan_meaning.specs.ReadInterfaces.{IsNumberOf}
 use Rattle.plan_meaning.specs.ReadOrder.{InterfacesAreViewed, IsShownThere, in_interface, in_world}
 use Rattle.plan_meaning.specs.ReadWorlds.{IsReadItem, ReadItem, a_function, a_type, by_label, by_path, implementing_path, is_type_seen}
 use Rattle.plan_meaning.specs.Shapes.{named_shape}
-use Rattle.plan_meaning.proofs.GatheredPlan.{all_at}
 use Rattle.read_exports.specs.Members.{numbered_member, numbered_members, numbered_part}
 use Rattle.read_exports.specs.declared.members.Member.{Member}
 use Rattle.read_exports.specs.declared.members.Part.TheVariants as parts
@@ -38,13 +36,15 @@ use Rattle.plan_laws.specs.WholeTypes.{IsRuledInput}
 use Rattle.plan_laws.specs.WholeWorlds.{WorldsAreReadAs}
 use Rattle.plan_laws.proofs.FirstTypes.{views_told}
 use Rattle.plan_laws.proofs.FirstViews.{first_is}
-use Rattle.plan_laws.proofs.PartNames.{from_map}
 use Rattle.plan_laws.proofs.PlaceNumbers.{number_given, number_there, one_owner, owner_numbered}
-use Rattle.plan_laws.proofs.Planned.{first_there, interface_there, name_shown, view_met, zip_at}
+use Rattle.plan_laws.proofs.Planned.{first_there, interface_there, name_shown, view_met}
 use Rattle.plan_laws.proofs.Viewed.{planned_interfaces_are_viewed}
 use Rattle.plan_laws.proofs.WholePlacesLabels.{world_among}
 use Rattle.plan_laws.proofs.WholeTypes.{packages_are_ruled}
 use Rattle.plan_laws.proofs.WholeWorlds.{planned_worlds_are_read}
+use Rattle.base_lemmas.proofs.Elements.{all_at, contains-map, get-contains, map_from as from_map, zip_at}
+use Rattle.base_lemmas.proofs.Lists.{get_back as unmapped_get}
+use Rattle.std.proofs.lemmas.Option.{same_Some as same-some}
 
 module _ (t : Tables) (h : Homes) (known : ℕ → Fact) (n : ℕ) (ms : List Member) (members : List reads.Member) (given : IsPackageInput t h known n ms members) (ordered : ViewsAreOrdered t ms) (p : Plan) (planned : PlansWhole t h.packages (home_at h) n ms p)
     (b : Beside) (beside_owners : b.owners ≡ owners_of ms) (interfaces : InterfacesAreViewed t planned.kept p b (views_read ms)) (read : WorldsAreReadAs t ms planned.kept p b (views_read ms)) where

@@ -1,17 +1,16 @@
 -- The packages, the interfaces and the worlds of a plan that was made of what was followed.
-use Rattle.std.proofs.Common.{◌≡◌, refl, sym, ap, subst, ◌∙◌, ℕ, zero, suc, ◌<◌, arith, Bool, true, false, not, ◌||◌, ◌==◌, cond, List, [], ◌∷◌, ◌++◌, filter, filter_map, length, map, Option, Some, None, option_map, slice_get}
+use Rattle.std.proofs.Common.{◌≡◌, refl, sym, ap, subst, ◌∙◌, ℕ, arith, Bool, true, false, not, ◌||◌, ◌==◌, cond, List, [], ◌∷◌, ◌++◌, filter, filter_map, map, Option, Some, None, option_map, slice_get}
 use Rattle.std.specs.Prelude.{is_none, is_some}
 use Rattle.std.specs.List.{AllByRecursion, AllZip, Contains, list_any}
 use Rattle.std.specs.Option.{option_map_or}
-use Rattle.std.proofs.lemmas.Bool.{eqb-true}
-use Rattle.std.proofs.lemmas.Option.{slice_get_within}
+use Rattle.std.proofs.lemmas.Bool.{eqb-true, and_from as both, not-true as not_true}
+use Rattle.std.proofs.lemmas.Option.{slice_get_within, same_Some as same-some}
 use Rattle.std.proofs.lemmas.Slice.Eq.{bytes_eq-Decides}
 use Rattle.wit_model.specs.declared.model.TypeOwner.{TypeOwner}
 use Rattle.wit_model.specs.Names.{PackageIdentity, is_label}
 use Rattle.wit_model.specs.Text.{Text, text_eq}
 use Rattle.wit_model.specs.Uses.{has}
-use Rattle.wit_model.proofs.Elements.{contains-get, contains-map, get-contains, same-some}
-use Rattle.wit_model.proofs.Lists.{first_true, second_true}
+use Rattle.wit_model.proofs.Elements.{contains-get}
 use Rattle.comp_meaning.specs.Reads as reads
 use Rattle.comp_meaning.specs.Rules.{distinct}
 use Rattle.read_homes.specs.Homes.{ArePackages}
@@ -22,12 +21,9 @@ use Rattle.plan_meaning.specs.NumberedWorlds.{HasPath, are_once}
 use Rattle.plan_meaning.specs.Plan.{Plan, PlannedInterface, PlannedPackage, PlannedWorld, interface_in, item_interface, items_of, numbers_of, package_in, world_in}
 use Rattle.plan_meaning.specs.PlanRules.{has_name, names_of}
 use Rattle.plan_meaning.specs.ReadPlaces.{IsListedInterface, IsListedWorld, IsPlacedInterface, IsPlacedWorld, IsReadPackage, PlacesAreRead, inline, under_path}
-use Rattle.plan_meaning.proofs.GatheredPlan.{all_at}
-use Rattle.plan_meaning.proofs.KeptTypes.{all_by_number}
-use Rattle.plan_meaning.proofs.Lists.{both, no_true}
-use Rattle.plan_meaning.proofs.ReadLists.{never, not_true}
+use Rattle.plan_meaning.proofs.Lists.{no_true}
+use Rattle.plan_meaning.proofs.ReadLists.{never}
 use Rattle.plan_type_laws.specs.ShownMarks.{has_no_path, places_of_part, places_of_seen}
-use Rattle.plan_type_laws.proofs.KeptKinds.{zip_get}
 use Rattle.read_exports.specs.Members.{numbered_member, numbered_members, numbered_part}
 use Rattle.read_exports.specs.declared.members.Member.{Member}
 use Rattle.read_rules.specs.declared.scopes.Scope.{Scope}
@@ -44,18 +40,16 @@ use Rattle.plan_laws.specs.Owners.{homes_in, owners_of}
 use Rattle.plan_laws.specs.Whole.{IsPackageInput}
 use Rattle.plan_laws.specs.WholePlaces.{LabelsStand}
 use Rattle.plan_laws.proofs.PlaceNumbers.{number_there, owner_numbered, owners_apart, place_number}
-use Rattle.plan_laws.proofs.Planned.{first_there, interface_there, named_there, zip_at}
+use Rattle.plan_laws.proofs.Planned.{first_there, interface_there, named_there}
 use Rattle.plan_laws.proofs.Showings.{all_given}
 use Rattle.plan_laws.proofs.WholePlacesInstances.{own_shown}
 use Rattle.plan_laws.proofs.WholePlacesItems as items
 use Rattle.plan_laws.proofs.WholePlacesLabels.{interface_among, interface_of, interfaces_differ, no_world, world_among, world_of, worlds_differ}
 use Rattle.plan_laws.proofs.WholePlacesLists.{once_within}
 use Rattle.plan_laws.proofs.WholePlacesTop.{IsOwnInstance, at_top, interface_home, main_identity, own_instance, world_followed}
-
-there_at : {A : Type 0} (xs : List A) (i : ℕ) → i < length xs → (x : A) × (slice_get xs i ≡ Some x)
-there_at [] i low = absurd (omega (arith, low))
-there_at (x ∷ xs) zero low = (x, refl)
-there_at (x ∷ xs) (suc i) low = there_at xs i (omega (arith, low))
+use Rattle.base_lemmas.proofs.Bools.{left_of as first_true, right_of as second_true}
+use Rattle.base_lemmas.proofs.Elements.{all_at, all_by_number, contains-map, get-contains, zip_at, zip_at_right as zip_get}
+use Rattle.base_lemmas.proofs.Lists.{within_there as there_at}
 
 -- the places of what a world imports and exports
 abbrev shown_of : Scope → List ℕ

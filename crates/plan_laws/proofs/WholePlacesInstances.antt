@@ -4,18 +4,18 @@ use Rattle.std.specs.Prelude.{is_none}
 use Rattle.std.specs.List.{AllByRecursion, Contains}
 use Rattle.std.proofs.Math.ListN.{length-append}
 use Rattle.std.proofs.lemmas.List.Elements.{Contains-append_cases, filter-append}
-use Rattle.wit_model.proofs.Elements.{contains-has, contains-map, has-contains, none-in, one-contained}
+use Rattle.wit_model.proofs.Elements.{contains-has, has-contains, none-in}
 use Rattle.comp_meaning.specs.Follow.{Direction, Instance, Scope, export_, import_, interface_of}
 use Rattle.read_shown.specs.Instances.{InstancesAreSeen, going, instances_in}
 use Rattle.read_shown.specs.Instances as tree
 use Rattle.plan_meaning.specs.FollowedNumbers.{IsOneOf, IsScopeIn, IsSeenIn}
 use Rattle.plan_meaning.specs.NumberedViews.{Tables, path_at}
 use Rattle.plan_meaning.specs.NumberedWorlds.{KeyStands, NumberedInstance, NumberedKey, NumberedScope, NumberedSeen, NumberedShown, Shows, are_once, declares, function, implementing, instance, instance_of, key_of, label, path, place_of_key, seen_of, shown_of}
-use Rattle.plan_meaning.proofs.GatheredPlan.{all_at}
 use Rattle.plan_meaning.proofs.Lists.{filter_has, has_filter}
 use Rattle.plan_type_laws.specs.ShownMarks.{has_no_path, places_of_seen, places_of_shown}
 use Rattle.plan_laws.proofs.Inside.{flat_cases}
 use Rattle.plan_laws.proofs.WholePlacesLists.{all_there}
+use Rattle.base_lemmas.proofs.Elements.{all_at, contains-map, last_of as one-contained}
 
 abbrev is_own : Instance → Bool
 is_own x = is_none x.interface

@@ -1,21 +1,19 @@
 -- The interfaces that worlds import and export, by the numbers of their places: no inline one is an item twice.
 use Rattle.std.proofs.Common.{◌≡◌, refl, sym, ap, subst, ◌∙◌, ℕ, ◌||◌, ◌==◌, Bool, true, false, not, cond, List, [], ◌∷◌, ◌++◌, filter, filter_map, map, Option, Some}
 use Rattle.std.specs.List.{AllZip, cons_option, flat_map}
-use Rattle.std.proofs.lemmas.Bool.{eq-eqb, eqb-true}
+use Rattle.std.proofs.lemmas.Bool.{eq-eqb, eqb-true, and_from as both, not-true as not_true}
 use Rattle.std.proofs.lemmas.List.Elements.{filter-append, filter_map-append}
 use Rattle.wit_model.specs.declared.model.TypeId.{TypeId}
 use Rattle.wit_model.specs.Text.{Text}
 use Rattle.wit_model.specs.Uses.{has}
-use Rattle.wit_model.proofs.Elements.{same-some}
-use Rattle.wit_model.proofs.Lists.{first_true, second_true}
 use Rattle.plan_meaning.specs.NumberedMembers.{NumberedMember}
 use Rattle.plan_meaning.specs.NumberedViews.{Tables}
 use Rattle.plan_meaning.specs.NumberedWorlds.{are_once, place_of_key}
 use Rattle.plan_meaning.specs.Plan.{Plan, PlannedItem, PlannedKey, PlannedWorld, item_interface, items_of}
 use Rattle.plan_meaning.specs.PlanRules.{has_name}
 use Rattle.plan_meaning.specs.ReadPlaces.{inline_shown}
-use Rattle.plan_meaning.proofs.Lists.{both, no_true}
-use Rattle.plan_meaning.proofs.ReadLists.{never, not_true}
+use Rattle.plan_meaning.proofs.Lists.{no_true}
+use Rattle.plan_meaning.proofs.ReadLists.{never}
 use Rattle.plan_type_laws.specs.ShownMarks.{has_no_path, places_of_part, places_of_seen, places_of_shown}
 use Rattle.read_exports.specs.Members.{numbered_members, numbered_part}
 use Rattle.read_exports.specs.declared.members.Member.{Member}
@@ -27,12 +25,9 @@ use Rattle.read_rules.specs.Scopes.{numbered_key, numbered_seen, numbered_shown}
 use Rattle.plan_types.specs.PlannedTypes.{number_in}
 use Rattle.plan_package.specs.WholeWorlds.{PlansItem, PlansWorld, a_function, a_type, an_instance, world_in_part, worlds_in}
 use Rattle.plan_laws.proofs.PlaceNumbers.{number_there}
-
-zip_both : {A B : Type 0} (R : A → B → Type 0) (xs : List A) (ys : List B) (zs : List A) (ws : List B) → AllZip R xs ys → AllZip R zs ws → AllZip R (xs ++ zs) (ys ++ ws)
-zip_both R [] [] zs ws a b = b
-zip_both R [] (y ∷ ys) zs ws a b = absurd a
-zip_both R (x ∷ xs) [] zs ws a b = absurd a
-zip_both R (x ∷ xs) (y ∷ ys) zs ws a b = (a.0, zip_both R xs ys zs ws a.1 b)
+use Rattle.base_lemmas.proofs.Bools.{left_of as first_true, right_of as second_true}
+use Rattle.base_lemmas.proofs.Elements.{zip-append as zip_both}
+use Rattle.std.proofs.lemmas.Option.{same_Some as same-some}
 
 module _ (places : List ℕ) where
   -- the place has the number

@@ -4,11 +4,11 @@ use Rattle.std.specs.Borrow.{Bor}
 use Rattle.std.specs.List.{Contains, list_any}
 use Rattle.std.proofs.lemmas.Slice.Eq.{bytes_eq-Decides}
 use Rattle.wit_model.specs.Text.{Text, text_eq}
-use Rattle.wit_model.proofs.Elements.{contains-flat, contains-get, contains-one, get-contains, none-in, one-contained, same-some}
+use Rattle.wit_model.proofs.Elements.{contains-flat, contains-get, none-in}
 use Rattle.comp_meaning.specs.Rules.{distinct}
-use Rattle.read_shown.proofs.Lists.{mapped_get, one_place}
+use Rattle.read_shown.proofs.Lists.{one_place}
 use Rattle.plan_meaning.specs.PlanRules.{names_of}
-use Rattle.plan_meaning.proofs.Lists.{any_get, get_back}
+use Rattle.plan_meaning.proofs.Lists.{any_get}
 use Rattle.read_rules.specs.declared.reached.ImportedView.{ImportedView}
 use Rattle.read_rules.specs.declared.scopes.Scope.{Scope}
 use Rattle.read_rules.specs.declared.views.View.{View}
@@ -19,6 +19,9 @@ use Rattle.plan_package.specs.WholePackages.{interface_in_part, interfaces_in}
 use Rattle.plan_package.specs.WholeWorlds.{world_in_part, worlds_in}
 use Rattle.plan_laws.proofs.Inside.{flat_cases}
 use Rattle.plan_laws.proofs.WholePlacesLists.{AreSome, left_out, none, some_differ, taken}
+use Rattle.base_lemmas.proofs.Elements.{contains-one, get-contains, last_of as one-contained}
+use Rattle.base_lemmas.proofs.Lists.{get_back, mapped_get}
+use Rattle.std.proofs.lemmas.Option.{same_Some as same-some}
 
 abbrev pub labels_of : List Member → List Text
 labels_of ms = map (λ (m : Member). m.label.now) ms

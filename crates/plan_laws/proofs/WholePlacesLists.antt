@@ -1,24 +1,16 @@
 -- Texts and numbers of which none stands twice.
 use Rattle.std.proofs.Common.{◌≡◌, refl, sym, ap, subst, ◌∙◌, ℕ, zero, suc, ◌<◌, ◌≤◌, arith, Bool, true, false, not, ◌||◌, ◌==◌, cond, List, [], ◌∷◌, ◌++◌, filter, length}
 use Rattle.std.specs.List.{Contains, flat_map, list_any}
-use Rattle.std.proofs.lemmas.Bool.{eq-eqb, eqb-true}
+use Rattle.std.proofs.lemmas.Bool.{eq-eqb, eqb-true, and_from as both, not-true as not_true}
 use Rattle.std.proofs.lemmas.List.Elements.{filter-append}
 use Rattle.wit_model.specs.Text.{Text, text_eq}
 use Rattle.wit_model.specs.Uses.{has}
 use Rattle.wit_model.proofs.Elements.{none-in}
-use Rattle.wit_model.proofs.Lists.{first_true, second_true}
 use Rattle.comp_meaning.specs.Rules.{distinct}
 use Rattle.plan_meaning.specs.NumberedWorlds.{are_once}
-use Rattle.plan_meaning.proofs.Lists.{both, has_filter, no_true}
-use Rattle.plan_meaning.proofs.ReadLists.{never, not_true}
-
-later_false : (a b : Bool) → (a || b) ≡ false → b ≡ false
-later_false true b e = no_true (sym e)
-later_false false b e = e
-
-first_false : (a b : Bool) → (a || b) ≡ false → a ≡ false
-first_false true b e = no_true (sym e)
-first_false false b e = refl
+use Rattle.plan_meaning.proofs.Lists.{has_filter, no_true}
+use Rattle.plan_meaning.proofs.ReadLists.{never}
+use Rattle.base_lemmas.proofs.Bools.{first_false, left_of as first_true, right_of as second_true, second_false as later_false}
 
 -- ---- texts
 

@@ -7,8 +7,7 @@ use Rattle.std.proofs.lemmas.Bool.{eq-eqb, eqb-true}
 use Rattle.std.proofs.lemmas.List.Elements.{Contains-append_cases}
 use Rattle.wit_model.specs.Names.{PackageIdentity}
 use Rattle.wit_model.specs.Text.{Text}
-use Rattle.wit_model.proofs.Elements.{all-contained, contains-flat, contains-map, contains-one, get-contains, none-in, one-contained}
-use Rattle.wit_model.proofs.Lists.{first_true, second_true}
+use Rattle.wit_model.proofs.Elements.{contains-flat, none-in}
 use Rattle.comp_meaning.specs.Reads as reads
 use Rattle.comp_meaning.specs.Follow.{Scope as MeantScope}
 use Rattle.read_shown.specs.Parts.{PartStands, WorldStands}
@@ -17,8 +16,7 @@ use Rattle.plan_meaning.specs.NumberedMembers.{Homes, IsMember, NumberedMember, 
 use Rattle.plan_meaning.specs.NumberedRules.{Fact}
 use Rattle.plan_meaning.specs.NumberedViews.{NumberedSight, NumberedView, Tables, agree_in_numbers, path_at}
 use Rattle.plan_meaning.specs.NumberedWorlds.{HasPath, NumberedInstance, Shows, sights_of_instance}
-use Rattle.plan_meaning.proofs.GatheredPlan.{all_at}
-use Rattle.plan_meaning.proofs.Lists.{any_get, get_back, no_true}
+use Rattle.plan_meaning.proofs.Lists.{any_get, no_true}
 use Rattle.read_exports.specs.Members.{numbered_member, numbered_members, numbered_part}
 use Rattle.read_exports.specs.declared.members.Member.{Member}
 use Rattle.read_exports.specs.declared.members.Part.{Part}
@@ -33,10 +31,12 @@ use Rattle.plan_package.specs.PlanWhole.{places_in}
 use Rattle.plan_package.specs.Views.{views_of_part, whole_view}
 use Rattle.plan_laws.specs.Whole.{IsPackageInput}
 use Rattle.plan_laws.proofs.Inside.{flat_cases}
-use Rattle.plan_laws.proofs.PartNames.{from_map}
 use Rattle.plan_laws.proofs.PlaceNumbers.{from_joined}
 use Rattle.plan_laws.proofs.Planned.{place_seen}
 use Rattle.plan_laws.proofs.ShownNames.{beside}
+use Rattle.base_lemmas.proofs.Bools.{left_of as first_true, right_of as second_true}
+use Rattle.base_lemmas.proofs.Elements.{all-contained, all_at, contains-map, contains-one, get-contains, last_of as one-contained, map_from as from_map}
+use Rattle.base_lemmas.proofs.Lists.{get_back}
 
 -- ---- views of places that have a path
 

@@ -6,7 +6,6 @@ use Rattle.std.proofs.lemmas.Option.{slice_get_within}
 use Rattle.wit_model.specs.Rules.{is_id}
 use Rattle.wit_model.specs.Text.{Text}
 use Rattle.wit_model.specs.Valid.{as_interface}
-use Rattle.wit_model.proofs.Lists.{first_true}
 use Rattle.comp_meaning.specs.Reads as reads
 use Rattle.read_homes.specs.Homes.{HasPlace}
 use Rattle.plan_meaning.specs.GatheredPlan.{FunctionListed, functions_seen}
@@ -20,14 +19,12 @@ use Rattle.plan_meaning.specs.ReadFunctions.{Beside, FunctionsAreRead}
 use Rattle.plan_meaning.specs.ReadPlans.{FitsInput, IsReadPlan}
 use Rattle.plan_meaning.specs.ReadWholes.{IsReadPackagePlan}
 use Rattle.plan_meaning.proofs.Lists.{no_true}
-use Rattle.plan_meaning.proofs.ShapeLaws.{slice_there}
 use Rattle.read_exports.specs.Members.{numbered_members}
 use Rattle.read_exports.specs.declared.members.Member.{Member}
 use Rattle.plan_package.specs.PlanWhole.{PlansWhole, places_in}
 use Rattle.plan_package.specs.Views.{views_of_members}
 use Rattle.plan_package.specs.WholeInterfaces.{PlansPlace}
 use Rattle.plan_package.specs.WholeWorlds.{PlansWorld, worlds_in}
-use Rattle.plan_type_laws.proofs.KeptKinds.{zip_get}
 use Rattle.plan_laws.specs.FirstViews.{ViewsAreOrdered}
 use Rattle.plan_laws.specs.ViewedInterfaces.{views_read}
 use Rattle.plan_laws.specs.Whole.{IsPackageInput}
@@ -51,6 +48,9 @@ use Rattle.plan_laws.proofs.WholePlacesTop.{one_package}
 use Rattle.plan_laws.proofs.WholeReasons.{kept_for_reasons}
 use Rattle.plan_laws.proofs.WholeReasonsForeign.{foreign_reasons}
 use Rattle.plan_laws.proofs.WholeTypes.{packages_are_ruled}
+use Rattle.base_lemmas.proofs.Bools.{left_of as first_true}
+use Rattle.base_lemmas.proofs.Elements.{zip_at_right as zip_get}
+use Rattle.base_lemmas.proofs.Lists.{within_there as slice_there}
 
 -- a place that has a home has a path
 home_path : (t : Tables) (h : Homes) → ((q : ℕ) → path_at t q ≡ None → home_at h q ≡ None) → (q : ℕ) → is_some (home_at h q) ≡ true → HasPath t q

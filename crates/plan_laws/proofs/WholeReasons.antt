@@ -4,15 +4,14 @@ use Rattle.std.specs.Prelude.{is_some, unwrap_or}
 use Rattle.std.specs.List.{Contains, flat_map}
 use Rattle.std.specs.Option.{option_map_or}
 use Rattle.std.proofs.lemmas.List.Elements.{Contains-append_cases, Contains-append_left}
-use Rattle.std.proofs.lemmas.Option.{slice_get_within}
+use Rattle.std.proofs.lemmas.Option.{slice_get_within, same_Some as same-some}
 use Rattle.wit_model.specs.declared.model.TypeOwner.{TypeOwner}
 use Rattle.wit_model.specs.Text.{Text}
 use Rattle.wit_model.specs.Uses.{has}
 use Rattle.wit_model.specs.Valid.{as_interface, as_world}
-use Rattle.wit_model.proofs.Elements.{contains-flat, contains-has, has-contains, none-in, one-contained, same-some}
+use Rattle.wit_model.proofs.Elements.{contains-flat, contains-has, has-contains, none-in}
 use Rattle.comp_meaning.specs.Reads as reads
 use Rattle.read_homes.specs.Homes.{HasPlace}
-use Rattle.read_shown.proofs.Lists.{unmapped_get}
 use Rattle.plan_meaning.specs.GatheredPlan.{DeclaresKind, a_form, a_name, a_resource}
 use Rattle.plan_meaning.specs.NumberedMembers.{Homes, home_at}
 use Rattle.plan_meaning.specs.NumberedRules.{Fact, is_form, name_in, shape_at}
@@ -29,7 +28,6 @@ use Rattle.plan_parts.specs.Kinds.{shape_form}
 use Rattle.plan_parts.specs.Marks.{IsUsed, is_marked, marked, part}
 use Rattle.plan_parts.proofs.DeclaredKinds.{parts_become}
 use Rattle.plan_type_laws.proofs.FirstFound.{firsts_found}
-use Rattle.plan_type_laws.proofs.KeptKinds.{zip_get, zip_length}
 use Rattle.plan_type_laws.proofs.ShownForms.{mark_there}
 use Rattle.read_exports.specs.declared.members.Member.{Member}
 use Rattle.plan_types.specs.PlannedTypes.{PlansType, named, number_in, unnamed}
@@ -42,9 +40,12 @@ use Rattle.plan_laws.specs.WholeReasons.{AreShownAlike, HavePlaces}
 use Rattle.plan_laws.proofs.Inside.{flat_cases}
 use Rattle.plan_laws.proofs.Owned.{planned_name}
 use Rattle.plan_laws.proofs.PlaceNumbers.{number_given, number_there}
-use Rattle.plan_laws.proofs.Planned.{interface_there, zip_at}
+use Rattle.plan_laws.proofs.Planned.{interface_there}
 use Rattle.plan_laws.proofs.Showings.{IsNamed, showings_named}
 use Rattle.plan_laws.proofs.WholeReasonsFunctions.{by_function}
+use Rattle.base_lemmas.proofs.Elements.{last_of as one-contained, zip_at, zip_at_right as zip_get}
+use Rattle.base_lemmas.proofs.Lists.{get_back as unmapped_get}
+use Rattle.std.proofs.lemmas.Slice.Zip.{AllZip-long as zip_length}
 
 pub there_marked : (marks : List Bool) (n : ℕ) → is_marked marks n ≡ true → slice_get marks n ≡ Some true
 there_marked [] n e = no_true e

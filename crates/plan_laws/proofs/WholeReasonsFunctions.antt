@@ -6,7 +6,7 @@ use Rattle.std.proofs.lemmas.List.Elements.{Contains-append_cases, Contains-appe
 use Rattle.wit_model.specs.declared.model.TypeId.{TypeId}
 use Rattle.wit_model.specs.Text.{Text}
 use Rattle.wit_model.specs.Valid.{as_interface, as_world}
-use Rattle.wit_model.proofs.Elements.{contains-filter_map, contains-flat, contains-get, contains-later, contains-map, contains-one, get-contains, none-in, one-contained, same-number}
+use Rattle.wit_model.proofs.Elements.{contains-filter_map, contains-flat, contains-get, none-in}
 use Rattle.comp_meaning.specs.Reads as reads
 use Rattle.plan_meaning.specs.FollowedNumbers.{IsOneOf, IsPartIn, IsScopeIn}
 use Rattle.plan_meaning.specs.GatheredPlan.{BecomesIfGiven, FunctionBecomes, ParamBecomes, functions_seen}
@@ -18,10 +18,9 @@ use Rattle.plan_meaning.specs.Plan.{Plan, PlannedFunction, PlannedInterface, Pla
 use Rattle.plan_meaning.specs.PlanRules.{functions_of, world_functions}
 use Rattle.plan_meaning.specs.ReadFunctions.{Beside, FunctionsAreRead, IsReadFunction}
 use Rattle.plan_meaning.specs.ReadWholes.{IsPartOfFunction, IsPartOfKept, a_parameter, a_result, of_interface, of_world}
-use Rattle.plan_meaning.proofs.GatheredPlan.{all_at}
 use Rattle.plan_parts.specs.Functions.{KeptIfGiven, KeptParam, TakesAndGives}
 use Rattle.plan_parts.specs.Interfaces.{IsPlannedFunction}
-use Rattle.plan_type_laws.proofs.KeptKinds.{one_old, zip_get}
+use Rattle.plan_type_laws.proofs.KeptKinds.{one_old}
 use Rattle.read_exports.specs.Members.{numbered_member, numbered_members, numbered_part}
 use Rattle.read_exports.specs.declared.members.Member.{Member}
 use Rattle.read_exports.specs.declared.members.Part.{Part}
@@ -43,10 +42,11 @@ use Rattle.plan_package.specs.WholeWorlds.{PlansItem, PlansWorld, a_function, a_
 use Rattle.plan_laws.specs.Whole.{IsPackageInput}
 use Rattle.plan_laws.specs.WholeReasons.{AreShownAlike}
 use Rattle.plan_laws.proofs.Inside.{flat_cases}
-use Rattle.plan_laws.proofs.PartNames.{from_map}
 use Rattle.plan_laws.proofs.PlaceNumbers.{number_given, number_there}
-use Rattle.plan_laws.proofs.Planned.{first_there, interface_there, view_met, zip_at}
+use Rattle.plan_laws.proofs.Planned.{first_there, interface_there, view_met}
 use Rattle.plan_laws.proofs.WholePlacesLabels.{world_among}
+use Rattle.base_lemmas.proofs.Elements.{all_at, contains-later, contains-map, contains-one, get-contains, last_of as one-contained, map_from as from_map, zip_at, zip_at_right as zip_get}
+use Rattle.base_lemmas.proofs.Numbers.{same-number}
 
 -- ---- parts of functions
 

@@ -3,17 +3,17 @@ use Rattle.std.proofs.Common.{◌≡◌, refl, sym, ap, subst, ◌∙◌, ℕ, �
 use Rattle.std.specs.List.{AllByRecursion, Contains, list_all}
 use Rattle.std.proofs.Math.ListN.{length-map}
 use Rattle.std.proofs.lemmas.List.Elements.{Contains-append_left, Contains-append_right}
-use Rattle.std.proofs.lemmas.Option.{slice_get_within}
+use Rattle.std.proofs.lemmas.Option.{slice_get_within, same_Some as same-some}
 use Rattle.wit_model.specs.declared.model.TypeId.{TypeId}
 use Rattle.wit_model.specs.Lookup.{resource_of}
 use Rattle.wit_model.specs.Names.{is_label}
 use Rattle.wit_model.specs.Text.{Text}
 use Rattle.wit_model.specs.Valid.{as_world}
-use Rattle.wit_model.proofs.Elements.{contains-filter_map, contains-map, contains-one, get-contains, same-some}
+use Rattle.wit_model.proofs.Elements.{contains-filter_map}
 use Rattle.comp_meaning.specs.Reads as reads
 use Rattle.comp_meaning.specs.Rules.{distinct}
 use Rattle.read_shown.specs.Scopes as scopes
-use Rattle.read_shown.proofs.Lists.{mapped_get, one_place, unmapped_get}
+use Rattle.read_shown.proofs.Lists.{one_place}
 use Rattle.plan_meaning.specs.FollowedNumbers.{IsCalledIn, IsMetFrom, IsSeenIn}
 use Rattle.plan_meaning.specs.KeptFunctions.{IsKindOf, IsResource, a_constructor, a_method, a_static, an_async_method, an_async_static, of_none}
 use Rattle.plan_meaning.specs.NumberedMembers.{Homes, NumberedMember, home_at}
@@ -28,14 +28,10 @@ use Rattle.plan_meaning.specs.ReadFunctions.{Beside, FunctionsAreRead, IsReadFun
 use Rattle.plan_meaning.specs.ReadWorlds.{IsInterfaceOf, IsReadItem, IsReadUnder, IsReadWorld, ReadItem, by_label, by_path, implementing_path, is_type_seen, types_follow}
 use Rattle.plan_meaning.specs.ReadWorlds as read
 use Rattle.plan_meaning.specs.Shapes.{named_shape}
-use Rattle.plan_meaning.proofs.GatheredPlan.{all_at}
-use Rattle.plan_meaning.proofs.KeptTypes.{all_by_number}
 use Rattle.plan_meaning.proofs.Lists.{no_true}
 use Rattle.plan_meaning.proofs.NumberedWorlds.{worlds_in_numbers}
-use Rattle.plan_meaning.proofs.ShapeLaws.{slice_there}
 use Rattle.plan_parts.specs.Functions.{TakesAndGives}
 use Rattle.plan_parts.proofs.FunctionLaws.{IsNamedAfter, constructor_after, method_after, resource_among, static_after}
-use Rattle.plan_type_laws.proofs.KeptKinds.{zip_get, zip_length}
 use Rattle.read_exports.specs.Members.{numbered_member, numbered_members, numbered_part}
 use Rattle.read_exports.specs.declared.members.Member.{Member}
 use Rattle.read_exports.specs.declared.members.Part.TheVariants as parts
@@ -63,9 +59,12 @@ use Rattle.plan_laws.proofs.PlaceNumbers.{one_owner}
 use Rattle.plan_laws.proofs.ShownFrom.{IsWorldOf, world_of}
 use Rattle.plan_laws.proofs.ShownRules.{no_types}
 use Rattle.plan_laws.proofs.Showings.{all_given}
-use Rattle.plan_laws.proofs.ViewNames.{parts_weaker}
 use Rattle.plan_laws.proofs.WholeTypes.{packages_are_ruled}
 use Rattle.plan_laws.proofs.WorldItems.{planned_worlds_stand, world_member}
+use Rattle.base_lemmas.proofs.Elements.{all_at, all_by_number, contains-map, contains-one, get-contains, zip_at_right as zip_get}
+use Rattle.base_lemmas.proofs.Lists.{get_back as unmapped_get, mapped_get, within_there as slice_there}
+use Rattle.std.proofs.lemmas.Slice.Zip.{AllZip-long as zip_length}
+use Rattle.plan_type_laws.proofs.PartPlaces.{parts_weaker}
 
 -- the first and the third of five tests
 first_and_third : (a b c d e : Bool) → (a && b && c && d && e) ≡ true → (a ≡ true) × (c ≡ true)

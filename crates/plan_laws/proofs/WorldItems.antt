@@ -4,14 +4,13 @@ use Rattle.std.specs.Cmp.Lexicographic.{pointwise}
 use Rattle.std.specs.List.{AllByRecursion, Contains, flat_map}
 use Rattle.std.specs.Option.{option_map_or}
 use Rattle.std.proofs.lemmas.List.{append-nil, append_assoc}
-use Rattle.std.proofs.lemmas.Option.{slice_get_within}
+use Rattle.std.proofs.lemmas.Option.{slice_get_within, same_Some as same-some}
 use Rattle.wit_model.specs.declared.model.TypeOwner.{TypeOwner}
 use Rattle.wit_model.specs.Text.{Text}
 use Rattle.wit_model.specs.Uses.{has}
 use Rattle.wit_model.specs.Valid.{as_interface, as_world}
-use Rattle.wit_model.proofs.Elements.{contains-flat, contains-get, contains-map, contains-one, get-contains, has-contains, none-in, one-contained, same-some}
+use Rattle.wit_model.proofs.Elements.{contains-flat, contains-get, has-contains, none-in}
 use Rattle.comp_meaning.specs.Reads as reads
-use Rattle.read_shown.proofs.Lists.{at_front, mapped_get, middle_get, unmapped_get}
 use Rattle.plan_meaning.specs.FollowedNumbers.{IsOneOf, IsPartIn, IsShownIn}
 use Rattle.plan_meaning.specs.GatheredPlan.{DeclaresKind, TypeBecomes}
 use Rattle.plan_meaning.specs.NumberedMembers.{Homes, NumberedMember, home_at, sights_of_members}
@@ -21,8 +20,6 @@ use Rattle.plan_meaning.specs.Plan.{Plan}
 use Rattle.plan_meaning.specs.ReadFunctions.{Beside}
 use Rattle.plan_meaning.specs.Renumbering.{IsPart, a_primitive, a_shape}
 use Rattle.plan_meaning.specs.Shapes.{Shape, first_label, named_shape}
-use Rattle.plan_meaning.proofs.GatheredPlan.{all_at}
-use Rattle.plan_meaning.proofs.ShapeLaws.{slice_there}
 use Rattle.read_exports.specs.Members.{numbered_member, numbered_members, numbered_part}
 use Rattle.read_exports.specs.declared.members.Member.{Member}
 use Rattle.read_exports.specs.declared.members.Part.{Part}
@@ -43,7 +40,6 @@ use Rattle.plan_package.specs.PlanWhole.{PlansWhole, owners_in, places_in, shown
 use Rattle.plan_package.specs.Views.{views_of_members, views_of_part, whole_view}
 use Rattle.plan_package.specs.WholeWorlds.{world_in_part, worlds_in}
 use Rattle.plan_type_laws.proofs.FirstFound.{firsts_found}
-use Rattle.plan_type_laws.proofs.KeptKinds.{zip_length}
 use Rattle.plan_laws.specs.FirstViews.{ViewsAreOrdered}
 use Rattle.plan_laws.specs.Owners.{homes_in, owners_of}
 use Rattle.plan_laws.specs.ShownNames.{DeclaresName, IsInput, PartDeclaresNames}
@@ -52,11 +48,14 @@ use Rattle.plan_laws.proofs.FirstTypes.{view_good, views_told}
 use Rattle.plan_laws.proofs.FirstViews.{first_is, told_types}
 use Rattle.plan_laws.proofs.Inside.{flat_cases}
 use Rattle.plan_laws.proofs.Origins as origins
-use Rattle.plan_laws.proofs.Origins.{imported_showing, origin, view_among}
+use Rattle.plan_laws.proofs.Origins.{origin, view_among}
 use Rattle.plan_laws.proofs.Owned.{planned_name}
 use Rattle.plan_laws.proofs.PlaceNumbers.{IsOnce, number_given, number_there}
 use Rattle.plan_laws.proofs.Planned.{first_there, interface_there, place_seen}
 use Rattle.plan_laws.proofs.Showings.{slot_is}
+use Rattle.base_lemmas.proofs.Elements.{all_at, contains-map, contains-one, get-contains, last_of as one-contained}
+use Rattle.base_lemmas.proofs.Lists.{front_at as at_front, get_back as unmapped_get, mapped_get, middle_get, within_there as slice_there}
+use Rattle.std.proofs.lemmas.Slice.Zip.{AllZip-long as zip_length}
 
 declared_of : Shown → Option ℕ
 declared_of (shown.Declares g o) = o

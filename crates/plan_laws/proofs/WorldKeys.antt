@@ -1,17 +1,16 @@
 -- The imports of a world stand under keys that differ, and a world has a place of its own.
-use Rattle.std.proofs.Common.{◌≡◌, refl, sym, ap, subst, ◌∙◌, ℕ, Bool, true, false, ◌&&◌, List, [], ◌++◌, map, Option, Some, slice_get}
+use Rattle.std.proofs.Common.{◌≡◌, sym, ap, subst, ◌∙◌, ℕ, Bool, true, false, List, [], ◌++◌, map, Option, Some, slice_get}
 use Rattle.std.specs.List.{Contains, list_all}
-use Rattle.wit_model.proofs.Elements.{contains-get, same-some}
+use Rattle.wit_model.proofs.Elements.{contains-get}
 use Rattle.comp_meaning.specs.Follow as follow
 use Rattle.comp_meaning.specs.Reads as reads
 use Rattle.comp_meaning.specs.Rules as rules
 use Rattle.comp_meaning.specs.Rules.{distinct}
-use Rattle.read_shown.proofs.Lists.{mapped_get, one_place}
+use Rattle.read_shown.proofs.Lists.{one_place}
 use Rattle.plan_meaning.specs.NumberedMembers.{Homes}
 use Rattle.plan_meaning.specs.NumberedViews.{Tables}
 use Rattle.plan_meaning.specs.NumberedWorlds as worlds
 use Rattle.plan_meaning.specs.NumberedWorlds.{NumberedScope, NumberedSeen, NumberedShown, are_once, seen_of}
-use Rattle.plan_meaning.proofs.Lists.{map_of_map}
 use Rattle.read_exports.specs.Members.{numbered_members}
 use Rattle.read_exports.specs.declared.members.Member.{Member}
 use Rattle.read_exports.specs.declared.members.Part.TheVariants as parts
@@ -21,12 +20,9 @@ use Rattle.plan_type_laws.specs.ShownMarks.{own_places}
 use Rattle.plan_laws.specs.ShownNames.{IsInput}
 use Rattle.plan_laws.proofs.OwnPlaces.{Owned, a_view, a_world, frames, one_owned}
 use Rattle.plan_laws.proofs.ShownFrom.{IsWorldOf, home_frame, world_of}
-
-third_of : (a b c d e : Bool) → (a && b && c && d && e) ≡ true → c ≡ true
-third_of true true true d e h = refl
-third_of true true false d e h = absurd cc
-third_of true false c d e h = absurd cc
-third_of false b c d e h = absurd cc
+use Rattle.base_lemmas.proofs.Bools.{third_of}
+use Rattle.base_lemmas.proofs.Lists.{map_of_map, mapped_get}
+use Rattle.std.proofs.lemmas.Option.{same_Some as same-some}
 
 -- the import of a key is one
 pub one_key : (ss : List NumberedSeen) → distinct (map (λ (s : NumberedSeen). s.key) ss) ≡ true → (a b : NumberedSeen) → Contains ss a → Contains ss b → a.key ≡ b.key → a ≡ b

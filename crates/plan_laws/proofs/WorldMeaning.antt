@@ -2,7 +2,6 @@
 use Rattle.std.proofs.Common.{◌≡◌, refl, sym, ap, subst, ◌∙◌, ℕ, true, false, List, ◌∷◌, Some, slice_get}
 use Rattle.std.specs.List.{AllByRecursion}
 use Rattle.wit_model.specs.Names.{PackageIdentity, path_in, read_path}
-use Rattle.wit_model.proofs.Elements.{same-some}
 use Rattle.wit_model.proofs.NameLaws.{read_path_is_spelled, spelled_path_reads}
 use Rattle.comp_meaning.specs.Follow as follow
 use Rattle.comp_meaning.specs.Reads as reads
@@ -39,6 +38,7 @@ use Rattle.plan_laws.proofs.OneWorld.{functions_shown, one_world, place_shown, p
 use Rattle.plan_laws.proofs.WholeMeaning.{main}
 use Rattle.plan_laws.proofs.WholeTypes.{packages_are_ruled, planned_types_are_whole}
 use Rattle.plan_laws.proofs.WorldPlan.{world_plan_read}
+use Rattle.std.proofs.lemmas.Option.{same_Some as same-some}
 
 module _ (t : Tables) (h : Homes) (known : ℕ → Fact) (n : ℕ) (m : Member) (own : List Member) (members : List reads.Member) (given : IsPackageInput t h known n (m ∷ own) members) (input : IsWholeInput t h n (m ∷ own))
     (scope : follow.Scope) (world : IsWorldInput t h known n m own scope) (p : Plan) (planned : PlansWhole t h.packages (home_at h) n (m ∷ own) p) (whole : TypesAreWhole t planned.kept (m ∷ own) p) where

@@ -18,13 +18,16 @@ use Rattle.wit_model.specs.Names.{is_label}
 use Rattle.wit_model.specs.Lookup.{package_at, interface_at, world_at}
 use Rattle.wit_model.specs.Rules.{passes, are_distinct}
 use Rattle.wit_model.specs.Valid.{HasDistinctKeys, key_eq}
-use Rattle.wit_model.proofs.Lists.{first_true, second_true}
 use Rattle.plan_meaning.specs.PlanRules as planned
 use Rattle.plan_meaning.specs.PlanRules.{IsPlan, names_of, members_differ, same_key, keys_differ}
 use Rattle.plan_meaning.specs.Built.{planned_function, planned_package, planned_interface, planned_world, planned_key, planned_entries}
-use Rattle.plan_meaning.proofs.Lists.{get_of_map, all_get, both, no_true}
+use Rattle.plan_meaning.proofs.Lists.{no_true}
 use Rattle.plan_meaning.proofs.Words.{plan_of}
 use Rattle.plan_meaning.proofs.Labels.{names_are}
+use Rattle.base_lemmas.proofs.Bools.{left_of as first_true, right_of as second_true}
+use Rattle.base_lemmas.proofs.Elements.{all_get}
+use Rattle.std.proofs.lemmas.Bool.{and_from as both}
+use Rattle.std.proofs.lemmas.Option.{slice_get-map as get_of_map}
 
 -- ---- parts of a list whose names differ
 
@@ -37,7 +40,7 @@ front_distinct [] ys h = refl
 front_distinct (x ∷ xs) ys h =
     both _ _ (first_missed (list_any (text_eq x) xs) (list_any (text_eq x) ys) (ap not (sym (list_any-append (text_eq x) xs ys)) ∙ first_true _ _ h)) (front_distinct xs ys (second_true (not (list_any (text_eq x) (xs ++ ys))) _ h))
 
-back_distinct : (xs ys : List Text) → are_distinct (xs ++ ys) ≡ true → are_distinct ys ≡ true
+pub back_distinct : (xs ys : List Text) → are_distinct (xs ++ ys) ≡ true → are_distinct ys ≡ true
 back_distinct [] ys h = h
 back_distinct (x ∷ xs) ys h = back_distinct xs ys (second_true (not (list_any (text_eq x) (xs ++ ys))) _ h)
 

@@ -30,16 +30,19 @@ use Rattle.wit_model.specs.Parts.{same_owner}
 use Rattle.wit_model.specs.Rules as rules
 use Rattle.wit_model.specs.Rules.{passes, is_id, is_name_key}
 use Rattle.wit_model.specs.Valid.{Keeps, function_names, as_interface, as_world, functions_of_interface, functions_of_world, item_function}
-use Rattle.wit_model.proofs.Lists.{first_true, second_true}
 use Rattle.wit_model.proofs.Checks.{keeps_two}
 use Rattle.plan_meaning.specs.Plan as plan
-use Rattle.plan_meaning.specs.Plan.{PlannedType, PlannedFunction, part_number, type_in}
+use Rattle.plan_meaning.specs.Plan.{PlannedType, PlannedFunction, type_in}
 use Rattle.plan_meaning.specs.PlanRules as planned
 use Rattle.plan_meaning.specs.PlanRules.{IsPlan}
 use Rattle.plan_meaning.specs.Built.{part_of, given_parts, planned_kind, planned_type, planned_function, planned_interface, planned_world, planned_key, planned_item}
-use Rattle.plan_meaning.proofs.Lists.{get_of_map, then_of_map, or_of_map, same_then, same_or, all_built, each_built, each_from_built, all_two, each_two, both, no_true}
+use Rattle.plan_meaning.proofs.Lists.{then_of_map, or_of_map, same_then, same_or, all_built, each_built, each_from_built, each_two, no_true}
 use Rattle.plan_meaning.proofs.Words.{plan_of, behind, number_part}
 use Rattle.plan_meaning.proofs.FunctionRules.{interfaces_pass, worlds_pass, entries_pass}
+use Rattle.base_lemmas.proofs.Bools.{left_of as first_true, right_of as second_true}
+use Rattle.base_lemmas.proofs.Elements.{all_two}
+use Rattle.std.proofs.lemmas.Bool.{and_from as both}
+use Rattle.std.proofs.lemmas.Option.{slice_get-map as get_of_map}
 
 unnamed : (o : Option (String Global)) → is_none (optional_text o) ≡ is_none o
 unnamed None = refl

@@ -18,14 +18,16 @@ use Rattle.wit_model.specs.Parts.{member_types}
 use Rattle.wit_model.specs.Uses.{items_of}
 use Rattle.std.proofs.lemmas.List.Folds.{list_all-append, list_all-map}
 use Rattle.wit_model.specs.Rules.{each_from, passes}
-use Rattle.wit_model.proofs.Lists.{first_true, second_true, list_all_filter_map}
+use Rattle.wit_model.proofs.Lists.{list_all_filter_map}
 use Rattle.wit_model.specs.Valid.{as_interface, as_world, functions_of_interface, functions_of_world, item_function}
 use Rattle.plan_meaning.specs.Plan as plan
-use Rattle.plan_meaning.specs.Plan.{PlannedKind, PlannedKey, PlannedItem, PlannedFunction, resource, alias, formed}
+use Rattle.plan_meaning.specs.Plan.{PlannedKind, PlannedFunction, resource, alias, formed}
 use Rattle.plan_meaning.specs.PlanRules.{FunctionsPass, functions_of, world_functions}
 use Rattle.plan_meaning.specs.Built.{part_of, given_parts, planned_kind, planned_function, planned_interface, planned_item, planned_entries, planned_world}
-use Rattle.plan_meaning.proofs.Lists.{map_of_map, append_of_map, all_built, each_built, same_all}
+use Rattle.plan_meaning.proofs.Lists.{all_built, each_built, same_all}
 use Rattle.plan_meaning.proofs.Words.{plan_of, given_all}
+use Rattle.base_lemmas.proofs.Bools.{left_of as first_true, right_of as second_true}
+use Rattle.base_lemmas.proofs.Lists.{append_of_map, map_of_map}
 
 -- ---- functions and items
 

@@ -1,5 +1,5 @@
 -- A plan that is gathered from views in numbers means what they mean.
-use Rattle.std.proofs.Common.{◌≡◌, refl, sym, ap, subst, ◌∙◌, ℕ, zero, suc, ◌+◌, arith, Bool, true, false, not, ◌&&◌, ◌==◌, cond, List, [], ◌∷◌, ◌++◌, map, filter_map, Option, Some, None, option_map, unwrap_or, slice_get}
+use Rattle.std.proofs.Common.{◌≡◌, refl, sym, ap, subst, ◌∙◌, ℕ, ◌+◌, arith, Bool, true, false, not, ◌&&◌, ◌==◌, cond, List, [], ◌∷◌, ◌++◌, map, filter_map, Option, Some, None, option_map, unwrap_or, slice_get}
 use Rattle.std.specs.Prelude.{option_and_then}
 use Rattle.std.specs.List.{AllByRecursion, AllZip, Contains, cons_option, filter, flat_map, list_all, list_any}
 use Rattle.std.specs.Option.{option_map_or}
@@ -11,15 +11,14 @@ use Rattle.wit_model.specs.Types.{no_tree}
 use Rattle.wit_model.specs.Rules.{is_id}
 use Rattle.wit_model.specs.Meaning.{FunctionMeaning, TypeMeaning, InterfaceMeaning, WorldMeaning, Item}
 use Rattle.wit_model.specs.Meant.{no_type, no_interface, no_world}
-use Rattle.wit_model.proofs.Elements.{contains-flat, contains-later, contains-map, contains-one}
-use Rattle.wit_model.proofs.Lists.{first_true, second_true}
+use Rattle.wit_model.proofs.Elements.{contains-flat}
 use Rattle.comp_meaning.specs.Follow.{Scope, View, provided}
 use Rattle.comp_meaning.specs.SameLaws.{named_meaning}
 use Rattle.comp_meaning.specs.Reads as reads
-use Rattle.comp_meaning.specs.Reads.{Part, Member, Sight, seen_meaning, is_of, package_with, world_with}
+use Rattle.comp_meaning.specs.Reads.{Part, Member, Sight, seen_meaning, is_of, package_with}
 use Rattle.plan_meaning.specs.Shapes.{node_shape, part_tree, shape_trees}
 use Rattle.plan_meaning.specs.Plan as plan
-use Rattle.plan_meaning.specs.Plan.{Plan, PlannedKind, PlannedType, PlannedFunction, PlannedInterface, PlannedKey, PlannedItem, PlannedWorld, path_of_planned, declared_as, trees_in}
+use Rattle.plan_meaning.specs.Plan.{Plan, PlannedKind, PlannedFunction, PlannedInterface, PlannedKey, PlannedItem, PlannedWorld, path_of_planned, declared_as, trees_in}
 use Rattle.plan_meaning.specs.PlanMeaning as planned
 use Rattle.plan_meaning.specs.PlanMeaning.{type_meaning_in, function_meaning, interface_meaning_in, world_meaning_in, foreign_entry, shown_entry, plan_meaning, plan_world_meaning}
 use Rattle.plan_meaning.specs.Gathering.{AreEnough}
@@ -29,38 +28,14 @@ use Rattle.plan_meaning.specs.NumberedWorlds.{path, label, implementing, Numbere
 use Rattle.plan_meaning.specs.NumberedMembers.{Homes, HomesStand, is_of_package, NumberedPart, world, interface, NumberedMember, sights_of_members, sights_of_part, ShowsPart, IsMember, stands_at_top, are_interfaces, are_package, is_named_in, package_shown, world_shown, IsKnownSight}
 use Rattle.plan_meaning.specs.GatheredPlan.{functions_seen, interfaces_listed, worlds_listed, Becomes, BecomesIfGiven, DeclaresKind, a_resource, a_name, a_form, TypeBecomes, TypeListed, ParamBecomes, FunctionBecomes, FunctionListed, InterfaceBecomes, InterfaceAt, ItemBecomes, SeenBecomes, WorldBecomes, SightBecomes, Keeps, InterfacesListed, WorldsListed, under_path, foreign_interface, AreChosen, is_foreign, IsGathered, GatheredPackageIsMeant, GatheredWorldIsMeant}
 use Rattle.plan_meaning.proofs.Gathering.{functions_mean_one, one_view_is_enough}
-use Rattle.plan_meaning.proofs.Lists.{map_from}
 use Rattle.plan_meaning.proofs.NumberedMembers.{only_sights, of_package, all_sights, agree_same, interfaces_same, packages_in_numbers, one_world_in_numbers}
 use Rattle.plan_meaning.proofs.NumberedWorlds.{path_number, sights_in_numbers}
 use Rattle.plan_meaning.proofs.Renumbering.{trees_are_kept}
 use Rattle.plan_meaning.proofs.ShapeLaws.{node_tree, part_behind, tree_at_number}
+use Rattle.base_lemmas.proofs.Bools.{left_of as first_true, right_of as second_true}
+use Rattle.base_lemmas.proofs.Elements.{all_at, contains-later, contains-map, contains-one, filter_keeps, filter_kept, map_from}
 
 -- ---- lists
-
-pub all_at : {X : Type 0} (P : X → Type 0) (xs : List X) → AllByRecursion P xs → (x : X) → Contains xs x → P x
-all_at P [] all x (i, low, e) = absurd (omega (arith, low))
-all_at P (y ∷ xs) all x (zero, low, e) = subst P e all.0
-all_at P (y ∷ xs) all x (suc i, low, e) = all_at P xs all.1 x (i, omega (arith, low), e)
-
-filter_keeps : {X : Type 0} (test : X → Bool) (xs : List X) (x : X) → Contains xs x → test x ≡ true → Contains (filter test xs) x
-filter_keeps test [] x (i, low, e) h = absurd (omega (arith, low))
-filter_keeps test (y ∷ xs) x (zero, low, e) h =
-    let passes : test y ≡ true = ap test e ∙ h in
-    subst (λ b. Contains (cond b (y ∷ filter test xs) (filter test xs)) x) (sym passes) (0, omega arith, e)
-filter_keeps test (y ∷ xs) x (suc i, low, e) h = by (test y) (filter_keeps test xs x (i, omega (arith, low), e) h)
-  where
-    by : (b : Bool) → Contains (filter test xs) x → Contains (cond b (y ∷ filter test xs) (filter test xs)) x
-    by true more = contains-later y (filter test xs) x more
-    by false more = more
-
-filter_kept : {X : Type 0} (test : X → Bool) (xs : List X) (x : X) → Contains (filter test xs) x → Contains xs x × (test x ≡ true)
-filter_kept test [] x (i, low, e) = absurd (omega (arith, low))
-filter_kept test (y ∷ xs) x c = by (test y) refl c (filter_kept test xs x)
-  where
-    by : (b : Bool) → test y ≡ b → Contains (cond b (y ∷ filter test xs) (filter test xs)) x → (Contains (filter test xs) x → Contains xs x × (test x ≡ true)) → Contains (y ∷ xs) x × (test x ≡ true)
-    by true h (zero, low, e) more = ((0, omega arith, e), sym (ap test e) ∙ h)
-    by true h (suc i, low, e) more = let rest = more (i, omega (arith, low), e) in (contains-later y xs x rest.0, rest.1)
-    by false h d more = let rest = more d in (contains-later y xs x rest.0, rest.1)
 
 filter_mapped : {X Y Z : Type 0} (g : X → Option Z) (h : X → Option Y) (f : Y → Z) → ((x : X) → g x ≡ option_map f (h x)) → (xs : List X) → filter_map g xs ≡ map f (filter_map h xs)
 filter_mapped g h f same [] = refl

@@ -1,6 +1,6 @@
 -- One view of each path is enough.
 use Rattle.std.proofs.Common.{◌≡◌, refl, sym, ap, subst, ◌∙◌, zero, suc, Bool, true, false, ◌&&◌, ◌||◌, not, cond, List, [], ◌∷◌, ◌++◌, map, arith}
-use Rattle.std.specs.List.{Contains, list_all, list_any}
+use Rattle.std.specs.List.{Contains, list_all}
 use Rattle.std.specs.Cmp.Lexicographic.{pointwise}
 use Rattle.std.specs.FinMap.{from_entries}
 use Rattle.std.proofs.lemmas.Bool.{and_from}
@@ -8,8 +8,6 @@ use Rattle.std.proofs.lemmas.Slice.Eq.{bytes_eq-Decides}
 use Rattle.wit_model.specs.Text.{Text, TextMap, text_eq}
 use Rattle.wit_model.specs.Meaning.{FunctionMeaning, TypeMeaning, InterfaceMeaning}
 use Rattle.wit_model.specs.Tree.{Place}
-use Rattle.wit_model.proofs.Lists.{first_true, second_true}
-use Rattle.wit_model.proofs.Elements.{all-contained, contains-map}
 use Rattle.wit_model.proofs.Maps.{one_map}
 use Rattle.comp_meaning.specs.Follow.{ShownType}
 use Rattle.comp_meaning.specs.Rules.{distinct, is_interface}
@@ -18,8 +16,9 @@ use Rattle.comp_meaning.specs.Reads.{Sight, same_shown, same_functions, agree, a
 use Rattle.comp_meaning.proofs.FunctionLists.{functions_make_one_map}
 use Rattle.comp_meaning.proofs.SameLaws.{shown_types_decide}
 use Rattle.plan_meaning.specs.Gathering.{ViewsMeanOne, OneViewIsEnough}
-use Rattle.plan_meaning.proofs.Lists.{map_from}
 use Rattle.comp_meaning.proofs.AgreementLaws.{distinct_behind}
+use Rattle.base_lemmas.proofs.Bools.{left_of as first_true, right_of as second_true}
+use Rattle.base_lemmas.proofs.Elements.{all-contained, contains-map, map_from}
 
 -- what a view shows of types
 abbrev types_of : Sight → List (Text × TypeMeaning)

@@ -8,7 +8,7 @@ use Rattle.wit_model.specs.declared.model.WorldItem.{WorldItem}
 use Rattle.wit_model.specs.declared.model.WorldItem.TheVariants as item
 use Rattle.wit_model.specs.Lookup.{type_at}
 use Rattle.wit_model.specs.Parts as parts
-use Rattle.wit_model.specs.Parts.{used_by_type, used_by_function, met_by, met_of}
+use Rattle.wit_model.specs.Parts.{used_by_type}
 use Rattle.wit_model.specs.Uses as uses
 use Rattle.wit_model.specs.Uses.{has, items_of}
 use Rattle.wit_model.specs.Rules as rules
@@ -16,15 +16,17 @@ use Rattle.wit_model.specs.Rules.{each_after, used_by_number}
 use Rattle.wit_model.specs.Valid.{Keeps, order_of_items, as_world}
 use Rattle.wit_model.proofs.Entries.{worlds_keep}
 use Rattle.plan_meaning.specs.Plan as plan
-use Rattle.plan_meaning.specs.Plan.{kind_numbers, function_numbers, used_by_numbers, type_in}
+use Rattle.plan_meaning.specs.Plan.{kind_numbers, used_by_numbers, type_in}
 use Rattle.plan_meaning.specs.PlanRules as planned
 use Rattle.plan_meaning.specs.PlanRules.{IsPlan}
 use Rattle.plan_meaning.specs.Built.{planned_kind, planned_type, planned_world, planned_item}
-use Rattle.plan_meaning.proofs.Lists.{filter_of_map, get_of_map, or_of_map, same_or, after_of_map, each_built}
+use Rattle.plan_meaning.proofs.Lists.{or_of_map, same_or, after_of_map, each_built}
 use Rattle.plan_meaning.proofs.Words.{plan_of, function_numbers_are, has_owner_is, used_are, used_by_kind_is, interface_used_is, direct_uses_are}
 use Rattle.plan_meaning.proofs.FunctionRules.{items_are}
 use Rattle.plan_meaning.proofs.WorldItems.{item_interface_is}
 use Rattle.plan_meaning.proofs.TypeOrder.{item_types_are}
+use Rattle.base_lemmas.proofs.Lists.{filter_of_map}
+use Rattle.std.proofs.lemmas.Option.{slice_get-map as get_of_map}
 
 pub item_interfaces_are : (xs : List WorldItem) → filter_map plan.item_interface (map planned_item xs) ≡ filter_map uses.item_interface xs
 item_interfaces_are xs = filter_of_map plan.item_interface planned_item xs ∙ ap (λ (h : WorldItem → Option ℕ). filter_map h xs) (λ i x. item_interface_is x i)

@@ -3,8 +3,8 @@ use Rattle.std.proofs.Common.{◌≡◌, inl, inr, refl, sym, ap, subst, ◌∙�
 use Rattle.std.specs.Prelude.{nat_le, nat_eq, option_and_then}
 use Rattle.std.specs.List.{AllZip, cons_option, list_all, starts_with}
 use Rattle.std.specs.Option.{option_map_or}
-use Rattle.std.proofs.lemmas.Bool.{eqb-true, eq-eqb, lt-ltb, or_right}
-use Rattle.std.proofs.lemmas.Option.{slice_get_within}
+use Rattle.std.proofs.lemmas.Bool.{eqb-true, eq-eqb, lt-ltb, or_right, and_from as both}
+use Rattle.std.proofs.lemmas.Option.{slice_get_within, same_Some as same-some}
 use Rattle.wit_model.specs.declared.model.TypeOwner.{TypeOwner}
 use Rattle.wit_model.specs.declared.model.TypeOwner.TheVariants as owner
 use Rattle.wit_model.specs.declared.model.FunctionKind.{FunctionKind}
@@ -15,15 +15,13 @@ use Rattle.wit_model.specs.Tree.{Place, Form, Tree, levels}
 use Rattle.wit_model.specs.Lookup.{resource_of}
 use Rattle.wit_model.specs.Parts.{same_owner}
 use Rattle.wit_model.specs.Rules.{after_prefix, are_member_labels, in_list, is_freestanding, is_id, passes}
-use Rattle.wit_model.proofs.Elements.{same-some, same-number}
-use Rattle.wit_model.proofs.Lists.{first_true, second_true}
 use Rattle.wit_model.proofs.VersionLaws.{same_text, text_same}
 use Rattle.comp_meaning.specs.Rules as rules
 use Rattle.comp_meaning.specs.Rules.{are_labels, is_label_behind, most_levels}
 use Rattle.plan_meaning.specs.Shapes.{Shape, first_label, form_code, named_shape, node_shape, IsShape, a_name, a_node}
 use Rattle.plan_meaning.specs.Plan.{Plan, PlannedType, PlannedFunction, formed, function_parts, part_number, type_in}
 use Rattle.plan_meaning.specs.PlanRules as plan
-use Rattle.plan_meaning.specs.PlanRules.{function_in_range, function_labels, function_is_shallow, is_borrow_of, is_member, is_member_of, is_member_name, is_own_of, is_result_of_own, is_shallow, names_of, part_is, resource_name, takes_self}
+use Rattle.plan_meaning.specs.PlanRules.{is_borrow_of, is_member, is_member_of, is_member_name, is_own_of, is_result_of_own, is_shallow, names_of, part_is, resource_name, takes_self}
 use Rattle.plan_meaning.specs.Renumbering.{IsPart, a_primitive, a_shape}
 use Rattle.plan_meaning.specs.NumberedViews.{FunctionShape, Tables, tree_at, AreTables}
 use Rattle.plan_meaning.specs.NumberedRules.{Fact, shape_at, name_in, only_of, held_in, own_sort, borrow_sort, ok_in, begins_with_self, constructs, is_handle, is_name}
@@ -32,10 +30,13 @@ use Rattle.plan_meaning.specs.KeptTypes.{IsKeptType, unnamed, declared, TypesAre
 use Rattle.plan_meaning.specs.KeptFunctions.{IsResource, IsKindOf, of_none, a_constructor, a_method, an_async_method, a_static, an_async_static, IsKeptFunction, FunctionPasses, KeptFunctionsPass}
 use Rattle.plan_meaning.proofs.GatheredPlan.{part_kept}
 use Rattle.plan_meaning.proofs.KeptTypes.{keeps, member_labels}
-use Rattle.plan_meaning.proofs.Lists.{both, map_of_map, no_true}
+use Rattle.plan_meaning.proofs.Lists.{no_true}
 use Rattle.plan_meaning.proofs.NumberedRules.{no_name, no_shape, shape_there}
-use Rattle.plan_meaning.proofs.ShapeLaws.{slice_there, split_part}
+use Rattle.plan_meaning.proofs.ShapeLaws.{split_part}
 use Rattle.plan_meaning.proofs.Words.{behind}
+use Rattle.base_lemmas.proofs.Bools.{left_of as first_true, right_of as second_true}
+use Rattle.base_lemmas.proofs.Lists.{map_of_map, within_there as slice_there}
+use Rattle.base_lemmas.proofs.Numbers.{same-number}
 
 -- ---- names
 

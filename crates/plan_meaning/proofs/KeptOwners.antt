@@ -3,7 +3,7 @@ use Rattle.std.proofs.Common.{◌≡◌, inl, inr, refl, sym, ap, subst, ◌∙�
 use Rattle.std.specs.Prelude.{nat_le}
 use Rattle.std.specs.List.{AllZip, AllByRecursion, Contains, cons_option, flat_map, list_all}
 use Rattle.std.specs.Option.{option_map_or}
-use Rattle.std.proofs.lemmas.Bool.{eqb-true, eq-eqb, lt-ltb, or_right}
+use Rattle.std.proofs.lemmas.Bool.{eqb-true, eq-eqb, lt-ltb, or_right, and_from as both}
 use Rattle.std.proofs.lemmas.List.Folds.{list_all-append}
 use Rattle.wit_model.specs.declared.model.TypeOwner.{TypeOwner}
 use Rattle.wit_model.specs.declared.model.TypeOwner.TheVariants as owner
@@ -12,14 +12,12 @@ use Rattle.wit_model.specs.Tree.{Place, Form, Tree, children, deepest}
 use Rattle.wit_model.specs.Types.{no_tree}
 use Rattle.wit_model.specs.Parts.{met_by, numbered_from, same_owner}
 use Rattle.wit_model.specs.Uses.{owner_interface}
-use Rattle.wit_model.proofs.Elements.{contains-later, get-contains, same-some}
-use Rattle.wit_model.proofs.Lists.{first_true, second_true}
 use Rattle.wit_model.proofs.Tables.{grow_at}
 use Rattle.comp_meaning.specs.Rules as rules
 use Rattle.comp_meaning.specs.Rules.{are_labels, are_parts, form_labels, is_named_form, most_levels}
 use Rattle.comp_meaning.proofs.SameLaws.{places_decide}
 use Rattle.plan_meaning.specs.Shapes.{Shape, node_shape, named_shape, shape_trees}
-use Rattle.plan_meaning.specs.Plan.{Plan, PlannedKind, PlannedType, PlannedFunction, formed, kind_numbers, part_number, alias_number, met_at, met_in, has_owner, type_in}
+use Rattle.plan_meaning.specs.Plan.{Plan, PlannedType, PlannedFunction, kind_numbers, part_number, alias_number, met_at, met_in, has_owner, type_in}
 use Rattle.plan_meaning.specs.Plan as plan
 use Rattle.plan_meaning.specs.PlanRules.{function_stays, has_name, is_use, type_stays}
 use Rattle.plan_meaning.specs.Renumbering.{IsPart, a_primitive, a_shape}
@@ -29,18 +27,18 @@ use Rattle.plan_meaning.specs.GatheredPlan as gathered
 use Rattle.plan_meaning.specs.GatheredPlan.{Becomes, BecomesIfGiven, DeclaresKind, a_resource, a_form, FunctionBecomes, ParamBecomes}
 use Rattle.plan_meaning.specs.KeptTypes.{IsKeptType, unnamed, declared, TypesAreKept}
 use Rattle.plan_meaning.specs.KeptOwners.{IsNamedInterface, AreOwned, OwnersStand, KeptOwnersStand, of_name}
-use Rattle.plan_meaning.proofs.GatheredPlan.{all_at, form_tree}
+use Rattle.plan_meaning.proofs.GatheredPlan.{form_tree}
 use Rattle.plan_meaning.proofs.KeptFunctions.{owner_itself}
-use Rattle.plan_meaning.proofs.KeptTypes.{all_by_number, form_obeys, keeps, parts_before}
-use Rattle.plan_meaning.proofs.Lists.{both, no_true}
+use Rattle.plan_meaning.proofs.KeptTypes.{form_obeys, keeps, parts_before}
+use Rattle.plan_meaning.proofs.Lists.{no_true}
 use Rattle.plan_meaning.proofs.NumberedRules.{no_name, shape_there}
-use Rattle.plan_meaning.proofs.ShapeLaws.{name_tree, part_behind, slice_take, slice_there, tree_at_number}
+use Rattle.plan_meaning.proofs.ShapeLaws.{name_tree, part_behind, tree_at_number}
 use Rattle.plan_meaning.proofs.Words.{behind}
-
-pub numbered_there : {A : Type 0} (k : ℕ) (xs : List A) (n : ℕ) (x : A) → slice_get xs n ≡ Some x → slice_get (numbered_from k xs) n ≡ Some (k + n, x)
-numbered_there k [] n x e = absurd cc
-numbered_there k (y ∷ ys) zero x e = let same : y ≡ x = same-some y x e in let here : k ≡ k + 0 = omega arith in λ i. Some (here i, same i)
-numbered_there k (y ∷ ys) (suc n) x e = let next : (k + 1) + n ≡ k + suc n = omega arith in numbered_there (k + 1) ys n x e ∙ ap (λ m. Some (m, x)) next
+use Rattle.base_lemmas.proofs.Bools.{left_of as first_true, right_of as second_true}
+use Rattle.base_lemmas.proofs.Elements.{all_at, all_by_number, contains-later, get-contains}
+use Rattle.base_lemmas.proofs.Lists.{slice_take, within_there as slice_there}
+use Rattle.std.proofs.lemmas.Option.{same_Some as same-some}
+use Rattle.wit_model.proofs.Owners.{numbered_at as numbered_there}
 
 -- what is met at a type, by what is met at smaller numbers
 pub met_there : (p : Plan) (j : ℕ) (x : PlannedType) → slice_get p.types j ≡ Some x → met_by (met_in p) j ≡ met_at (take j (met_in p)) (j, x)

@@ -2,11 +2,9 @@
 use Rattle.std.proofs.Common.{◌≡◌, refl, sym, ap, subst, ◌∙◌, ℕ, zero, suc, ◌+◌, ◌-◌, ◌<◌, arith, Bool, true, false, not, cond, List, [], ◌∷◌, ◌++◌, length, map, take, filter_map, Option, Some, None, option_to_list, slice_get, unwrap_or}
 use Rattle.std.specs.List.{AllZip, AllByRecursion, cons_option, list_all}
 use Rattle.std.specs.Option.{option_map_or}
-use Rattle.std.proofs.lemmas.Bool.{lt-ltb}
+use Rattle.std.proofs.lemmas.Bool.{lt-ltb, and_from as both}
 use Rattle.wit_model.specs.Text.{Text}
 use Rattle.wit_model.specs.Tree.{Form}
-use Rattle.wit_model.proofs.Elements.{same-some}
-use Rattle.wit_model.proofs.Lists.{first_true, second_true}
 use Rattle.wit_model.proofs.Tables.{grow_at}
 use Rattle.plan_meaning.specs.Plan.{Plan, PlannedKind, resource, alias, formed, PlannedType, part_number, marked_at, resource_marks, is_resource}
 use Rattle.plan_meaning.specs.PlanRules.{handles_resources, is_handle_form}
@@ -14,13 +12,15 @@ use Rattle.plan_meaning.specs.Renumbering.{IsPart, a_primitive, a_shape}
 use Rattle.plan_meaning.specs.Shapes.{named_shape}
 use Rattle.plan_meaning.specs.NumberedViews.{Tables, AreTables, AllOf}
 use Rattle.plan_meaning.specs.GatheredPlan as gathered
-use Rattle.plan_meaning.specs.GatheredPlan.{Becomes, BecomesIfGiven, DeclaresKind, a_resource, a_form, FunctionBecomes, ParamBecomes}
-use Rattle.plan_meaning.specs.KeptTypes.{IsKeptForm, alone, of_name, IsKeptType, unnamed, declared, TypesAreKept}
+use Rattle.plan_meaning.specs.GatheredPlan.{Becomes, BecomesIfGiven, DeclaresKind, a_resource, a_form, ParamBecomes}
+use Rattle.plan_meaning.specs.KeptTypes.{alone, IsKeptType, unnamed, declared, TypesAreKept}
 use Rattle.plan_meaning.specs.KeptResources.{MarkedBy, FormIsMarked, AreMarked, ResourcesStand, KeptResourcesStand}
-use Rattle.plan_meaning.proofs.KeptTypes.{all_by_number, form_of_name}
-use Rattle.plan_meaning.proofs.Lists.{both}
-use Rattle.plan_meaning.proofs.ShapeLaws.{slice_take, slice_there}
+use Rattle.plan_meaning.proofs.KeptTypes.{form_of_name}
 use Rattle.plan_meaning.proofs.Words.{behind}
+use Rattle.base_lemmas.proofs.Bools.{left_of as first_true, right_of as second_true}
+use Rattle.base_lemmas.proofs.Elements.{all_by_number}
+use Rattle.base_lemmas.proofs.Lists.{slice_take, within_there as slice_there}
+use Rattle.std.proofs.lemmas.Option.{same_Some as same-some}
 
 module _ (t : Tables) (tables : AreTables t) (kept : List ℕ) (p : Plan) (are : TypesAreKept t kept p) (marks : ℕ → Bool) (marked : AreMarked t kept p marks) where
   abbrev all_marks : List Bool

@@ -1,16 +1,14 @@
 -- Types of a plan that are those of kept shapes pass the tests on types.
-use Rattle.std.proofs.Common.{◌≡◌, refl, sym, ap, subst, ◌∙◌, ℕ, zero, suc, ◌+◌, ◌-◌, ◌<◌, ◌≤◌, arith, Bool, true, false, not, ◌&&◌, ◌||◌, ◌==◌, cond, List, [], ◌∷◌, length, map, filter_map, Option, Some, None, is_some, slice_get}
+use Rattle.std.proofs.Common.{◌≡◌, refl, sym, ap, subst, ◌∙◌, ℕ, ◌+◌, ◌-◌, ◌<◌, ◌≤◌, arith, Bool, true, false, not, ◌&&◌, ◌||◌, ◌==◌, cond, List, [], ◌∷◌, length, map, filter_map, Option, Some, None, is_some, slice_get}
 use Rattle.std.specs.Prelude.{nat_le, nat_lt}
 use Rattle.std.specs.List.{AllByRecursion, AllZip, cons_option, list_all, list_any}
 use Rattle.std.specs.Option.{option_map_or}
-use Rattle.std.proofs.lemmas.Bool.{eq-eqb, lt-ltb, le-leb, leb-true}
+use Rattle.std.proofs.lemmas.Bool.{eq-eqb, lt-ltb, le-leb, leb-true, and_from as both}
 use Rattle.std.proofs.lemmas.List.Folds.{list_all-map}
 use Rattle.wit_model.specs.Text.{Text, text_eq}
 use Rattle.wit_model.specs.Names.{is_label}
 use Rattle.wit_model.specs.Tree.{Place, Form, Tree, Declaration, children, deepest, levels}
 use Rattle.wit_model.specs.Rules.{each_from, are_distinct, are_member_labels, has_items, passes}
-use Rattle.wit_model.proofs.Elements.{same-some, zip-weaker}
-use Rattle.wit_model.proofs.Lists.{first_true, second_true}
 use Rattle.comp_meaning.specs.Rules as rules
 use Rattle.comp_meaning.specs.Rules.{are_labels, are_parts, distinct, form_labels, is_named_form, most_levels}
 use Rattle.comp_meaning.specs.Follow.{is_key_primitive}
@@ -23,17 +21,16 @@ use Rattle.plan_meaning.specs.NumberedRules as numbered
 use Rattle.plan_meaning.specs.GatheredPlan as gathered
 use Rattle.plan_meaning.specs.GatheredPlan.{Becomes, DeclaresKind, a_resource, a_form, Keeps}
 use Rattle.plan_meaning.specs.KeptTypes.{IsKeptForm, alone, of_name, IsKeptType, unnamed, declared, TypesAreKept, TypesPass, KeptTypesPass}
-use Rattle.plan_meaning.proofs.Lists.{both, each_by_number, no_true}
+use Rattle.plan_meaning.proofs.Lists.{each_by_number, no_true}
 use Rattle.plan_meaning.proofs.GatheredPlan.{parts_kept, form_tree}
 use Rattle.plan_meaning.proofs.NumberedRules.{no_name, shape_there}
-use Rattle.plan_meaning.proofs.ShapeLaws.{slice_there}
 use Rattle.plan_meaning.proofs.Words.{behind}
+use Rattle.base_lemmas.proofs.Bools.{left_of as first_true, right_of as second_true}
+use Rattle.base_lemmas.proofs.Elements.{all_by_number, zip-kept as zip-weaker}
+use Rattle.base_lemmas.proofs.Lists.{within_there as slice_there}
+use Rattle.std.proofs.lemmas.Option.{same_Some as same-some, slice_get_past as slice_past}
 
 -- ---- lists
-
-pub all_by_number : {A : Type 0} (test : A → Bool) (xs : List A) → ((n : ℕ) (x : A) → slice_get xs n ≡ Some x → test x ≡ true) → list_all test xs ≡ true
-all_by_number test [] h = refl
-all_by_number test (x ∷ xs) h = both (test x) (list_all test xs) (h 0 x refl) (all_by_number test xs (λ n y e. h (suc n) y e))
 
 pub distinct_same : (ts : List Text) → are_distinct ts ≡ distinct ts
 distinct_same [] = refl
@@ -56,11 +53,6 @@ no_labels (Form.variant_of cases) h = no_true h
 no_labels (Form.flags_of names) h = no_true h
 no_labels (Form.enum_of names) h = no_true h
 no_labels _ h = refl
-
-slice_past : {X : Type 0} (xs : List X) (n : ℕ) → length xs ≤ n → slice_get xs n ≡ None
-slice_past [] n h = refl
-slice_past (x ∷ xs) zero h = absurd (omega (arith, h))
-slice_past (x ∷ xs) (suc n) h = slice_past xs n (omega (arith, h))
 
 -- a number of the table is no key
 no_key : (k n : ℕ) → k ≡ 14 + n → is_key_part k ≡ false

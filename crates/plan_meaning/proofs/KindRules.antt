@@ -2,7 +2,7 @@
 use Rattle.std.proofs.Common.{◌≡◌, refl, sym, ap, ◌∙◌, ℕ, ◌+◌, ◌≤◌, true, false, ◌&&◌, ◌||◌, not, List, [], ◌∷◌, map, Option, Some, None, option_map, is_some, String, arith}
 use Rattle.std.specs.declared.alloc.Global.{Global}
 use Rattle.std.specs.Option.{option_map_or}
-use Rattle.std.proofs.lemmas.Option.{slice_get_past}
+use Rattle.std.proofs.lemmas.Option.{slice_get_past, slice_get-map as get_of_map}
 use Rattle.wit_model.specs.declared.model.Resolve.{Resolve}
 use Rattle.wit_model.specs.declared.model.TypeDef.{TypeDef}
 use Rattle.wit_model.specs.declared.model.TypeDefKind.{TypeDefKind}
@@ -16,7 +16,6 @@ use Rattle.wit_model.specs.Uses.{alias_target}
 use Rattle.wit_model.specs.Rules as rules
 use Rattle.wit_model.specs.Rules.{has_items, passes}
 use Rattle.wit_model.specs.Valid.{Keeps, shapes, named_kinds}
-use Rattle.wit_model.proofs.Lists.{first_true, second_true}
 use Rattle.wit_model.proofs.Entries.{types_keep}
 use Rattle.comp_meaning.specs.Follow.{is_key_primitive}
 use Rattle.plan_meaning.specs.Shapes.{primitives}
@@ -24,10 +23,12 @@ use Rattle.plan_meaning.specs.Plan.{alias_number}
 use Rattle.plan_meaning.specs.PlanRules as planned
 use Rattle.plan_meaning.specs.PlanRules.{IsPlan, is_key_part}
 use Rattle.plan_meaning.specs.Built.{part_of, planned_kind, planned_type}
-use Rattle.plan_meaning.proofs.Lists.{get_of_map, each_from_built, both, no_true}
+use Rattle.plan_meaning.proofs.Lists.{each_from_built, no_true}
 use Rattle.plan_meaning.proofs.Words.{plan_of, alias_is}
+use Rattle.base_lemmas.proofs.Bools.{left_of as first_true, right_of as second_true}
+use Rattle.std.proofs.lemmas.Bool.{and_from as both}
 
-items_of_map : {A B : Type 0} (g : A → B) (xs : List A) → has_items (map g xs) ≡ has_items xs
+pub items_of_map : {A B : Type 0} (g : A → B) (xs : List A) → has_items (map g xs) ≡ has_items xs
 items_of_map g [] = refl
 items_of_map g (x ∷ xs) = refl
 

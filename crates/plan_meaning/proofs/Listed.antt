@@ -5,7 +5,7 @@ use Rattle.std.specs.List.{list_all}
 use Rattle.std.specs.Option.{option_map_or}
 use Rattle.std.proofs.lemmas.Bool.Decides.{nat_tests}
 use Rattle.std.proofs.lemmas.List.Folds.{list_all-map}
-use Rattle.std.proofs.lemmas.Option.{slice_get_within}
+use Rattle.std.proofs.lemmas.Option.{slice_get_within, slice_get-map as get_of_map}
 use Rattle.wit_model.specs.declared.model.Resolve.{Resolve}
 use Rattle.wit_model.specs.declared.model.Package.{Package}
 use Rattle.wit_model.specs.declared.model.PackageName.{PackageName}
@@ -17,15 +17,16 @@ use Rattle.wit_model.specs.Names.{is_label, is_version, is_identity}
 use Rattle.wit_model.specs.Lookup.{interface_at, world_at, package_at, identity_of}
 use Rattle.wit_model.specs.Rules.{in_list, passes, each_from, is_id, package_number, text_is, same_package_name}
 use Rattle.wit_model.specs.Valid.{Keeps, package_names, names_in_packages}
-use Rattle.wit_model.proofs.Lists.{first_true, second_true}
 use Rattle.wit_model.proofs.Entries.{packages_keep, each_from_at, each_from_all}
 use Rattle.wit_model.proofs.VersionLaws.{same_name}
 use Rattle.comp_meaning.specs.Same.{same_identity}
 use Rattle.comp_meaning.proofs.SameLaws.{identities_decide}
 use Rattle.plan_meaning.specs.PlanRules.{IsPlan, bears, lists_interface, lists_world, lists_members, is_alone}
 use Rattle.plan_meaning.specs.Built.{planned_interface, planned_world, planned_package}
-use Rattle.plan_meaning.proofs.Lists.{get_of_map, each_of_map, all_built, each_built, both, no_true}
+use Rattle.plan_meaning.proofs.Lists.{each_of_map, all_built, each_built, no_true}
 use Rattle.plan_meaning.proofs.Words.{plan_of}
+use Rattle.base_lemmas.proofs.Bools.{left_of as first_true, right_of as second_true}
+use Rattle.std.proofs.lemmas.Bool.{and_from as both}
 
 -- ---- a name that stands there
 

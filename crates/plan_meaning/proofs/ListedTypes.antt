@@ -3,7 +3,7 @@ use Rattle.std.proofs.Common.{◌≡◌, refl, sym, ap, subst, ◌∙◌, ℕ, z
 use Rattle.std.specs.List.{AllZip, Contains, list_any}
 use Rattle.std.specs.Option.{option_map_or}
 use Rattle.std.specs.Map.{lookup}
-use Rattle.std.proofs.lemmas.Bool.{or_right}
+use Rattle.std.proofs.lemmas.Bool.{or_right, and_from as both, not-true as not_true}
 use Rattle.std.proofs.lemmas.List.Folds.{list_any-append}
 use Rattle.wit_model.specs.declared.model.TypeOwner.TheVariants as owner
 use Rattle.wit_model.specs.Text.{Text, text_eq}
@@ -11,8 +11,6 @@ use Rattle.wit_model.specs.Parts.{same_owner}
 use Rattle.wit_model.specs.Rules.{are_distinct, each_from, is_id, passes}
 use Rattle.wit_model.specs.Names.{is_label}
 use Rattle.wit_model.specs.Valid.{as_interface, as_world}
-use Rattle.wit_model.proofs.Elements.{contains-map, contains-later, same-number, same-some}
-use Rattle.wit_model.proofs.Lists.{first_true, second_true}
 use Rattle.wit_model.proofs.VersionLaws.{same_text}
 use Rattle.plan_meaning.specs.Shapes.{Shape, first_label, named_shape}
 use Rattle.plan_meaning.specs.Plan as plan
@@ -25,11 +23,14 @@ use Rattle.plan_meaning.specs.ReadFunctions.{Beside}
 use Rattle.plan_meaning.specs.ReadInterfaces.{IsNumberOf, IsKeptAs, HasName}
 use Rattle.plan_meaning.specs.ReadWorlds.{ReadItem, is_type_seen, IsReadItem, by_path, by_label, implementing_path, a_function, a_type}
 use Rattle.plan_meaning.specs.ReadOrder.{IsShownThere, in_interface, in_world, OrderIsRead}
-use Rattle.plan_meaning.proofs.GatheredPlan.{all_at}
-use Rattle.plan_meaning.proofs.Lists.{both, each_by_number, no_true}
+use Rattle.plan_meaning.proofs.Lists.{each_by_number, no_true}
 use Rattle.plan_meaning.proofs.ReadInterfaces.{has_labels}
-use Rattle.plan_meaning.proofs.ReadLists.{never, none_first, not_true, number_there}
+use Rattle.plan_meaning.proofs.ReadLists.{never, number_there}
 use Rattle.plan_meaning.proofs.ReadWorlds.{import_keys_differ}
+use Rattle.base_lemmas.proofs.Bools.{first_false as none_first, left_of as first_true, right_of as second_true}
+use Rattle.base_lemmas.proofs.Elements.{all_at, contains-later, contains-map}
+use Rattle.base_lemmas.proofs.Numbers.{same-number}
+use Rattle.std.proofs.lemmas.Option.{same_Some as same-some}
 
 -- ---- lists
 

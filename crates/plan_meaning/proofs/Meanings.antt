@@ -27,8 +27,10 @@ use Rattle.plan_meaning.specs.Shapes.{part_tree}
 use Rattle.plan_meaning.specs.Plan.{PlannedFunction, PlannedKey, PlannedItem, trees_in, declared_as}
 use Rattle.plan_meaning.specs.PlanMeaning as planned
 use Rattle.plan_meaning.specs.Built.{part_of, planned_kind, planned_type, planned_function, planned_interface, planned_world, planned_key, planned_item, planned_entries}
-use Rattle.plan_meaning.proofs.Lists.{map_of_map, same_map, get_of_map, or_of_map, same_or}
+use Rattle.plan_meaning.proofs.Lists.{or_of_map, same_or}
 use Rattle.plan_meaning.proofs.Words.{plan_of, part_tree_is, trees_are, declared_is, path_is}
+use Rattle.base_lemmas.proofs.Lists.{map_of_map, same_map}
+use Rattle.std.proofs.lemmas.Option.{slice_get-map as get_of_map}
 
 module _ (r : Resolve) (m : ℕ) where
   part_is : (t : ValueType) → part_tree (trees_in (plan_of r m)) (part_of t) ≡ type_tree r t

@@ -1,5 +1,5 @@
 -- The named types that numbers of a plan use are under no larger numbers.
-use Rattle.std.proofs.Common.{◌≡◌, ◌⊎◌, inl, inr, refl, sym, ap, subst, ◌∙◌, ◌<◌, ℕ, zero, suc, arith, true, List, [], ◌∷◌, length, take, flat_map, Option, Some, None, unwrap_or, T, ltb→lt}
+use Rattle.std.proofs.Common.{◌≡◌, ◌⊎◌, inl, inr, refl, ap, ◌∙◌, ◌<◌, ℕ, zero, suc, arith, true, List, [], ◌∷◌, length, take, flat_map, Option, Some, None, unwrap_or}
 use Rattle.std.specs.Prelude.{nat_le, nat_lt}
 use Rattle.std.specs.List.{Contains, list_all}
 use Rattle.std.specs.Option.{option_map_or}
@@ -8,12 +8,14 @@ use Rattle.std.proofs.lemmas.List.Elements.{Contains-append_cases}
 use Rattle.wit_model.specs.Text.{Text}
 use Rattle.wit_model.specs.Parts.{met_by}
 use Rattle.wit_model.specs.Rules.{each_from}
-use Rattle.wit_model.proofs.Elements.{all-contained, contains-later, none-in}
+use Rattle.wit_model.proofs.Elements.{none-in}
 use Rattle.wit_model.proofs.Functions.{all_flat}
 use Rattle.plan_meaning.specs.Plan.{Plan, PlannedType, kind_numbers, met_at, met_in, used_by_numbers}
 use Rattle.plan_meaning.proofs.KeptOwners.{met_there}
-use Rattle.plan_meaning.proofs.Lists.{all_weaker, both, each_at}
-use Rattle.plan_meaning.proofs.ShapeLaws.{slice_take, slice_there}
+use Rattle.plan_meaning.proofs.Lists.{each_at}
+use Rattle.base_lemmas.proofs.Elements.{all-contained, all_weaker, contains-later}
+use Rattle.base_lemmas.proofs.Lists.{slice_take, within_there as slice_there}
+use Rattle.std.proofs.lemmas.Bool.{and_from as both, ltb-true as less_than}
 
 pub flat_among : {A B : Type 0} (f : A → List B) (xs : List A) (y : B) → Contains (flat_map f xs) y → (x : A) × Contains xs x × Contains (f x) y
 flat_among f [] y c = none-in y c
@@ -22,9 +24,6 @@ flat_among f (x ∷ xs) y c = by (Contains-append_cases (f x) (flat_map f xs) y 
     by : Contains (f x) y ⊎ Contains (flat_map f xs) y → (Contains (flat_map f xs) y → (z : _) × Contains xs z × Contains (f z) y) → (z : _) × Contains (x ∷ xs) z × Contains (f z) y
     by (inl here) more = (x, (0, omega arith, refl), here)
     by (inr later) more = let found = more later in (found.0, contains-later x xs found.0 found.1, found.2)
-
-less_than : (n k : ℕ) → nat_lt n k ≡ true → n < k
-less_than n k h = ltb→lt n k (subst T (sym h) tt)
 
 module _ (p : Plan) (fall : each_from (λ n x. list_all (λ m. nat_lt m n) (kind_numbers x.kind)) 0 p.types ≡ true) where
   abbrev IsLow : ℕ → List ℕ → Type 0

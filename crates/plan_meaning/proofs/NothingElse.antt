@@ -16,20 +16,23 @@ use Rattle.wit_model.specs.Uses as uses
 use Rattle.wit_model.specs.Uses.{has, items_of}
 use Rattle.wit_model.specs.Rules.{is_id, in_list, has_items}
 use Rattle.wit_model.specs.Valid.{IsValid, functions_of_interface, functions_of_world}
-use Rattle.wit_model.proofs.Lists.{first_true, second_true}
 use Rattle.plan_meaning.specs.Plan as plan
-use Rattle.plan_meaning.specs.Plan.{Plan, PlannedFunction, PlannedWorld, number_under, package_in}
+use Rattle.plan_meaning.specs.Plan.{Plan, PlannedWorld, number_under, package_in}
 use Rattle.plan_meaning.specs.PlanRules as planned
-use Rattle.plan_meaning.specs.PlanRules.{IsPlan, HoldsNoMore, IsPackagePlan, IsWorldPlan}
+use Rattle.plan_meaning.specs.PlanRules.{HoldsNoMore, IsPackagePlan, IsWorldPlan}
 use Rattle.plan_meaning.specs.Built.{IsBuilt, planned_kind, planned_type, planned_function, planned_interface, planned_world, planned_package}
 use Rattle.plan_meaning.specs.NothingElse.{is_part_of, TypesAreUsed, PackagesAreUsed, HoldsPackageAlone, HoldsWorldAlone}
-use Rattle.plan_meaning.proofs.Lists.{any_of_map, get_of_map, get_back, any_get, each_of_map, each_at}
+use Rattle.plan_meaning.proofs.Lists.{any_get, each_of_map, each_at}
 use Rattle.plan_meaning.proofs.Words.{plan_of, kind_numbers_are, function_numbers_are}
 use Rattle.plan_meaning.proofs.KindRules.{has_text}
 use Rattle.plan_meaning.proofs.FunctionRules.{functions_are, world_functions_are}
 use Rattle.plan_meaning.proofs.PackageMeans.{no_functions}
 use Rattle.plan_meaning.proofs.Reaching.{shown_somewhere, shows_is, world_among, all_reached}
 use Rattle.plan_meaning.proofs.Valid.{plan_is, built_is_valid}
+use Rattle.base_lemmas.proofs.Bools.{left_of as first_true, right_of as second_true}
+use Rattle.base_lemmas.proofs.Elements.{any_of_map}
+use Rattle.base_lemmas.proofs.Lists.{get_back}
+use Rattle.std.proofs.lemmas.Option.{slice_get-map as get_of_map}
 
 lacks_text : (o : Option (String Global)) → is_none (optional_text o) ≡ is_none o
 lacks_text None = refl

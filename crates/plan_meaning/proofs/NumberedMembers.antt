@@ -2,13 +2,10 @@
 use Rattle.std.proofs.Common.{◌≡◌, refl, sym, ap, ◌∙◌, ℕ, Bool, true, false, not, ◌&&◌, ◌||◌, ◌==◌, List, [], ◌∷◌, ◌++◌, map, Option, Some, None, option_map, is_none, slice_get}
 use Rattle.std.specs.List.{AllByRecursion, AllZip, flat_map, list_all, list_any}
 use Rattle.std.specs.Option.{option_map_or}
-use Rattle.std.proofs.lemmas.Bool.{eqb-true, eq-eqb}
+use Rattle.std.proofs.lemmas.Bool.{eqb-true, eq-eqb, and_from as both}
 use Rattle.wit_model.specs.Text.{Text, text_eq}
 use Rattle.wit_model.specs.Names.{PackageIdentity, path_in, read_path}
 use Rattle.wit_model.specs.Tree.{Place}
-use Rattle.wit_model.proofs.Distinct.{either_way}
-use Rattle.wit_model.proofs.Elements.{same-some}
-use Rattle.wit_model.proofs.Lists.{first_true, second_true}
 use Rattle.wit_model.proofs.NameLaws.{read_path_is_spelled}
 use Rattle.wit_model.proofs.VersionLaws.{same_text, text_same}
 use Rattle.comp_meaning.specs.Follow.{View, each, is_filled, provided, place_of}
@@ -22,10 +19,12 @@ use Rattle.plan_meaning.specs.NumberedViews.{Tables, path_text, place_at, AreTab
 use Rattle.plan_meaning.specs.NumberedRules.{Fact}
 use Rattle.plan_meaning.specs.NumberedWorlds.{path, label, implementing, NumberedShown, instance, function, declares, NumberedSeen, shown_of, seen_of, sights_of_scope, HasPath}
 use Rattle.plan_meaning.specs.NumberedMembers.{Homes, IsHomeOf, HomesStand, is_of_package, is_named_in, NumberedPart, world, interface, NumberedMember, sights_of_part, sights_of_members, ShowsInterface, ShowsPart, IsMember, shown_view, imported_view, exported_view, are_interfaces, is_interface_of, stands_at_top, package_shown, world_shown, IsKnownSight, ImportsInNumbers, ExportInNumbers, PackagesInNumbers, OneWorldInNumbers}
-use Rattle.plan_meaning.proofs.Lists.{both, map_of_map, append_of_map}
 use Rattle.plan_meaning.proofs.NumberedRules.{interface_same}
 use Rattle.plan_meaning.proofs.NumberedViews.{all_agree_in_numbers}
 use Rattle.plan_meaning.proofs.NumberedWorlds.{path_is, path_number, sights_in_numbers}
+use Rattle.base_lemmas.proofs.Bools.{both_ways as either_way, left_of as first_true, right_of as second_true}
+use Rattle.base_lemmas.proofs.Lists.{append_of_map, map_of_map}
+use Rattle.std.proofs.lemmas.Option.{same_Some as same-some}
 
 pub only_sights : (t : Tables) (known : ℕ → Fact) (seen : List NumberedSight) → AllByRecursion (IsKnownSight t known) seen → AllByRecursion (IsSight t) seen
 only_sights t known [] all = tt
@@ -182,7 +181,7 @@ module _ (t : Tables) (tables : AreTables t) (h : Homes) (stand : HomesStand t h
 
 -- ---- the component type of an interface
 
-filled_same : {A B : Type 0} (f : A → B) (xs : List A) → is_filled (map f xs) ≡ is_filled xs
+pub filled_same : {A B : Type 0} (f : A → B) (xs : List A) → is_filled (map f xs) ≡ is_filled xs
 filled_same f [] = refl
 filled_same f (x ∷ xs) = refl
 

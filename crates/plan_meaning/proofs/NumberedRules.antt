@@ -7,8 +7,6 @@ use Rattle.std.proofs.lemmas.Bool.{eqb-true, eq-eqb, lt-ltb, le-leb, leb-true}
 use Rattle.wit_model.specs.Text.{Text, text_eq}
 use Rattle.wit_model.specs.Names.{is_label, constructor_name, method_name, static_name}
 use Rattle.wit_model.specs.Tree.{Place, Form, Tree, Trees, Declaration, children, deepest, levels}
-use Rattle.wit_model.proofs.Distinct.{either_way}
-use Rattle.wit_model.proofs.Elements.{get-contains}
 use Rattle.wit_model.specs.Meaning.{FunctionMeaning}
 use Rattle.comp_meaning.specs.Follow.{ShownType}
 use Rattle.comp_meaning.specs.Same.{same_place, same_tree, same_trees, same_form}
@@ -18,19 +16,13 @@ use Rattle.comp_meaning.proofs.SameLaws.{places_decide}
 use Rattle.plan_meaning.specs.Shapes.{Shape, form_code, first_label, named_shape, node_shape, IsTable}
 use Rattle.plan_meaning.specs.NumberedViews.{FunctionShape, Tables, place_at, tree_at, function_at, signature_over, IsPart, AllOf, PartsOf, itself, inside, NumberedType, NumberedFunction, NumberedView, view_of, declaration_of, shown_type, shown_function, TypePasses, FunctionPasses, ViewPasses}
 use Rattle.plan_meaning.specs.NumberedRules.{Fact, most_counted, shape_at, name_in, only_of, held_in, own_sort, borrow_sort, ok_in, is_parameter_type, is_declared_form, is_declared, is_result_type, is_signature, is_name, is_handle, begins_with_self, constructs, is_function_of, is_function, is_type, is_no_part, resources_of, is_interface, IsSeenFrom, IsKnown, EachRuleInNumbers}
-use Rattle.plan_meaning.proofs.Lists.{map_of_map}
 use Rattle.plan_meaning.proofs.ShapeLaws.{PartView, is_primitive, is_name as is_named, is_node, viewed}
 use Rattle.plan_meaning.proofs.Words.{behind}
+use Rattle.base_lemmas.proofs.Bools.{and-true as and_true, both_ways as either_way, no-and as and_false}
+use Rattle.base_lemmas.proofs.Elements.{get-contains}
+use Rattle.base_lemmas.proofs.Lists.{map_of_map}
 
 -- ---- tests
-
-and_true : (b : Bool) → (b && true) ≡ b
-and_true true = refl
-and_true false = refl
-
-and_false : (b : Bool) → (b && false) ≡ false
-and_false true = refl
-and_false false = refl
 
 most_levels_counted : (n : ℕ) → nat_le (min most_counted n) most_levels ≡ nat_le n most_levels
 most_levels_counted n =

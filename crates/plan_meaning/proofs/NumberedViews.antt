@@ -7,10 +7,9 @@ use Rattle.std.proofs.lemmas.Bool.{eqb-true, eq-eqb}
 use Rattle.wit_model.specs.Text.{Text, text_eq}
 use Rattle.wit_model.specs.Tree.{Place, Tree}
 use Rattle.wit_model.specs.Meaning.{Signature}
-use Rattle.wit_model.proofs.Distinct.{either_way}
 use Rattle.wit_model.proofs.VersionLaws.{same_text, text_same}
 use Rattle.comp_meaning.specs.Follow.{place_of}
-use Rattle.comp_meaning.specs.Same.{same_option, same_tree, same_declaration, same_type, same_signature, stand_in}
+use Rattle.comp_meaning.specs.Same.{same_option, same_tree, same_declaration, same_signature, stand_in}
 use Rattle.comp_meaning.specs.Same as same
 use Rattle.comp_meaning.specs.Reads.{Sight, all_agree}
 use Rattle.comp_meaning.specs.Reads as reads
@@ -18,8 +17,9 @@ use Rattle.comp_meaning.specs.Agreement.{first_of, first_whole, agree_with_first
 use Rattle.comp_meaning.specs.Agreement as agreement
 use Rattle.comp_meaning.proofs.SameLaws.{trees_decide, signatures_decide}
 use Rattle.plan_meaning.specs.NumberedViews.{FunctionShape, Tables, path_at, path_text, place_at, tree_at, signature_over, function_at, no_function, signature_at, IsPart, AllOf, PartsOf, AreTables, AreApart, IsOutside, NumberedType, NumberedFunction, declaration_of, shown_type, shown_function, NumberedSight, sight_of, same_number, same_shown, same_function, same_functions, same_types, same_whole, agree, agree_in_numbers, first_at, first_whole_at, agrees_with_first, agree_with_first_in_numbers, TypePasses, FunctionPasses, IsOutsidePart, IsSight, NumbersTell, EachNumberTells, ViewsAgreeInNumbers, FirstViewsAgreeInNumbers}
-use Rattle.plan_meaning.proofs.Lists.{length_of_map, append_of_map}
-use Rattle.plan_meaning.proofs.ShapeLaws.{one_number_apart, slice_there}
+use Rattle.plan_meaning.proofs.ShapeLaws.{one_number_apart}
+use Rattle.base_lemmas.proofs.Bools.{both_ways as either_way}
+use Rattle.base_lemmas.proofs.Lists.{append_of_map, length_of_map, within_there as slice_there}
 
 path_is : (o p : Option Text) (x y : Text) → o ≡ Some x → p ≡ Some y → place_of o ≡ place_of p → o ≡ p
 path_is o p x y eo ep h =

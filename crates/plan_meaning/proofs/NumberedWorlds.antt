@@ -8,7 +8,6 @@ use Rattle.wit_model.specs.Text.{Text, text_eq}
 use Rattle.wit_model.specs.Names.{is_label}
 use Rattle.wit_model.specs.Tree.{Place, Tree, Declaration}
 use Rattle.wit_model.specs.Uses.{has}
-use Rattle.wit_model.proofs.Distinct.{either_way}
 use Rattle.wit_model.proofs.VersionLaws.{same_text, text_same}
 use Rattle.comp_meaning.specs.Follow.{View, Seen, interface_of, place_of}
 use Rattle.comp_meaning.specs.Rules as rules
@@ -18,13 +17,11 @@ use Rattle.plan_meaning.specs.Shapes.{form_code, first_label, named_shape, node_
 use Rattle.plan_meaning.specs.NumberedViews.{Tables, path_at, path_text, place_at, tree_at, signature_at, function_at, IsPart, AllOf, AreTables, NumberedType, NumberedView, view_of, declaration_of, shown_type, sight_of}
 use Rattle.plan_meaning.specs.NumberedRules.{Fact, name_in, name_at, IsKnown}
 use Rattle.plan_meaning.specs.NumberedWorlds.{NumberedKey, path, label, implementing, place_of_key, key_of, NumberedShown, instance, function, declares, NumberedSeen, shown_of, seen_of, NumberedInstance, instance_of, sights_of_instance, if_outside, used_by, used_by_view, others_than, uses_of, path_seen, stand_earlier, are_reached, are_once, resources_seen, is_resource_seen, is_item, are_imports, HasPath, KeyStands, ItemStands, DeclaresParts, UsesInNumbers, ReachedInNumbers, PathsInNumbers, WorldsInNumbers, SightsInNumbers}
-use Rattle.plan_meaning.proofs.Lists.{map_of_map, append_of_map}
 use Rattle.plan_meaning.proofs.ShapeLaws.{PartView, is_primitive, is_name, is_node, viewed}
 use Rattle.plan_meaning.proofs.NumberedRules.{no_shape, shape_there, no_name, declared_same, function_same, interface_same}
-
-all_in_both : {X : Type 0} (P : X → Type 0) (xs ys : List X) → AllByRecursion P xs → AllByRecursion P ys → AllByRecursion P (xs ++ ys)
-all_in_both P [] ys h k = k
-all_in_both P (x ∷ xs) ys h k = (h.0, all_in_both P xs ys h.1 k)
+use Rattle.base_lemmas.proofs.Bools.{both_ways as either_way}
+use Rattle.base_lemmas.proofs.Elements.{all_both as all_in_both}
+use Rattle.base_lemmas.proofs.Lists.{append_of_map, map_of_map}
 
 pub path_is : (t : Tables) (p : ℕ) (h : HasPath t p) → path_text t p ≡ h.0
 path_is t p h = ap (λ o. unwrap_or o []) h.1

@@ -4,7 +4,7 @@ use Rattle.std.specs.declared.alloc.Global.{Global}
 use Rattle.std.specs.List.{list_all}
 use Rattle.std.specs.Option.{option_map_or}
 use Rattle.std.specs.Map.{lookup}
-use Rattle.std.proofs.lemmas.Bool.{eqb-true}
+use Rattle.std.proofs.lemmas.Bool.{eqb-true, and_from as both}
 use Rattle.std.proofs.lemmas.Bool.Decides.{nat_tests}
 use Rattle.std.proofs.lemmas.List.Folds.{list_all-map}
 use Rattle.std.proofs.lemmas.Option.{slice_get_within}
@@ -26,18 +26,20 @@ use Rattle.wit_model.specs.Parts.{same_owner}
 use Rattle.wit_model.specs.Rules as rules
 use Rattle.wit_model.specs.Rules.{in_list, passes, each_from, is_id, package_number, key_in_range, item_in_range, entries_in_range, owner_in_range}
 use Rattle.wit_model.specs.Valid.{Keeps, numbers_in_range, is_place, as_interface, as_world, functions_of_interface, functions_of_world, item_function}
-use Rattle.wit_model.proofs.Lists.{first_true, second_true}
 use Rattle.wit_model.proofs.Entries.{each_from_all, each_from_at}
 use Rattle.wit_model.proofs.Checks.{keeps_lists}
 use Rattle.plan_meaning.specs.Plan as plan
-use Rattle.plan_meaning.specs.Plan.{PlannedPackage, PlannedInterface, PlannedWorld, package_in, interface_in, world_in, type_in}
+use Rattle.plan_meaning.specs.Plan.{PlannedPackage, package_in}
 use Rattle.plan_meaning.specs.PlanRules as planned
 use Rattle.plan_meaning.specs.PlanRules.{IsPlan, fits, bears}
 use Rattle.plan_meaning.specs.Built.{planned_kind, planned_type, planned_function, planned_interface, planned_world, planned_package, planned_key, planned_item}
-use Rattle.plan_meaning.proofs.Lists.{length_of_map, all_weaker, all_built, each_of_map, each_built, each_from_built, all_two, each_two, both, no_true}
+use Rattle.plan_meaning.proofs.Lists.{all_built, each_of_map, each_built, each_from_built, each_two, no_true}
 use Rattle.plan_meaning.proofs.Words.{plan_of, kind_numbers_are, function_numbers_are}
 use Rattle.plan_meaning.proofs.FunctionRules.{interfaces_pass, worlds_pass, entries_pass}
 use Rattle.plan_meaning.proofs.Listed.{in_range, interface_listed, world_listed, members_pass}
+use Rattle.base_lemmas.proofs.Bools.{left_of as first_true, right_of as second_true}
+use Rattle.base_lemmas.proofs.Elements.{all_two, all_weaker}
+use Rattle.base_lemmas.proofs.Lists.{given-some as some_given, length_of_map}
 
 -- ---- lists that fit
 
@@ -51,10 +53,6 @@ places_fit g xs h =
     place_fits (0 + n) (length xs) less (ap (λ l. nat_le l 4294967295) (sym (length_of_map g xs)) ∙ h))
 
 -- ---- what has to stand there
-
-some_given : {A : Type 0} (test : A → Bool) (o : Option A) → option_map_or test o false ≡ true → is_some o ≡ true
-some_given test None h = no_true h
-some_given test (Some x) h = refl
 
 mapped_range : {A B : Type 0} (g : A → B) (xs : List A) (n : ℕ) → in_list (map g xs) n ≡ true → in_list xs n ≡ true
 mapped_range g xs n h = ap (nat_lt n) (sym (length_of_map g xs)) ∙ h

@@ -12,25 +12,26 @@ use Rattle.wit_model.specs.declared.model.Function.{Function}
 use Rattle.wit_model.specs.Text.{optional_text}
 use Rattle.wit_model.specs.Lookup.{interface_at, type_at}
 use Rattle.wit_model.specs.Parts as parts
-use Rattle.wit_model.specs.Parts.{same_owner, used_by_type, met_by, met_of}
+use Rattle.wit_model.specs.Parts.{same_owner}
 use Rattle.wit_model.specs.Types.{number_of}
 use Rattle.wit_model.specs.Uses as uses
 use Rattle.wit_model.specs.Uses.{owner_interface, alias_target, direct_deps}
 use Rattle.wit_model.specs.Rules as rules
-use Rattle.wit_model.specs.Rules.{each_from}
 use Rattle.wit_model.specs.Valid.{Keeps, owners, as_interface, functions_of_interface}
 use Rattle.wit_model.proofs.Lists.{list_all_filter_map}
 use Rattle.wit_model.proofs.Owners.{used_within}
 use Rattle.wit_model.proofs.Checks.{keeps_three}
 use Rattle.plan_meaning.specs.Plan as plan
-use Rattle.plan_meaning.specs.Plan.{part_number, function_parts, type_in, interface_in}
+use Rattle.plan_meaning.specs.Plan.{type_in}
 use Rattle.plan_meaning.specs.PlanRules as planned
 use Rattle.plan_meaning.specs.PlanRules.{IsPlan}
 use Rattle.plan_meaning.specs.Built.{planned_type, planned_function, planned_interface}
-use Rattle.plan_meaning.proofs.Lists.{get_of_map, or_of_map, same_or, each_two, each_from_built, each_of_map, each_at, each_by_number, both}
+use Rattle.plan_meaning.proofs.Lists.{or_of_map, same_or, each_two, each_from_built, each_of_map, each_at, each_by_number}
 use Rattle.plan_meaning.proofs.Words.{plan_of, alias_is, value_numbers_are, has_owner_is, used_are, used_by_kind_is, interfaces_used_are}
 use Rattle.plan_meaning.proofs.KindRules.{has_text}
 use Rattle.plan_meaning.proofs.FunctionRules.{interfaces_pass, worlds_pass}
+use Rattle.std.proofs.lemmas.Bool.{and_from as both}
+use Rattle.std.proofs.lemmas.Option.{slice_get-map as get_of_map}
 
 module _ (r : Resolve) (m : ℕ) where
   has_name_is : (n : ℕ) → planned.has_name (plan_of r m) n ≡ option_map_or (λ other. is_some other.name) (interface_at r n) false

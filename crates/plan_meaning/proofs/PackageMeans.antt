@@ -1,5 +1,5 @@
 -- A package that is built from a plan of it means what the plan means.
-use Rattle.std.proofs.Common.{◌≡◌, refl, sym, ap, ◌∙◌, ℕ, Bool, true, false, ◌&&◌, not, ◌==◌, List, [], ◌∷◌, map, filter_map, option_map, option_and_then, option_to_list, Option, Some, None, unwrap_or, is_some, subst, String}
+use Rattle.std.proofs.Common.{◌≡◌, refl, sym, ap, ◌∙◌, ℕ, Bool, true, false, ◌&&◌, not, ◌==◌, List, [], map, filter_map, option_map, option_and_then, option_to_list, Option, Some, None, unwrap_or, is_some, subst, String}
 use Rattle.std.specs.Prelude.{if◌then◌else◌, ◌↔◌}
 use Rattle.std.specs.List.{Contains, list_any}
 use Rattle.std.specs.Option.{option_map_or}
@@ -19,21 +19,26 @@ use Rattle.wit_model.specs.Meant as meant
 use Rattle.wit_model.specs.Meant.{Meant, interface_meaning_at, types_alone, is_foreign, foreign_of, foreign_meaning, no_interface}
 use Rattle.wit_model.specs.Rules.{is_id, package_number}
 use Rattle.wit_model.specs.Valid.{IsValid}
-use Rattle.wit_model.proofs.Lists.{first_true, second_true}
-use Rattle.wit_model.proofs.Elements.{contains-map, contains-filter_map, contains-one, has-contains, contains-has, get-contains, same-some}
+use Rattle.wit_model.proofs.Elements.{contains-filter_map, has-contains, contains-has}
 use Rattle.wit_model.proofs.Maps.{one_map}
-use Rattle.wit_model.proofs.OnePath.{has-path, path-once, some-of}
+use Rattle.wit_model.proofs.OnePath.{has-path, path-once}
 use Rattle.plan_meaning.specs.Plan.{Plan, path_of_planned}
 use Rattle.plan_meaning.specs.PlanRules as rules
-use Rattle.plan_meaning.specs.PlanRules.{IsPlan, IsPackagePlan}
+use Rattle.plan_meaning.specs.PlanRules.{IsPackagePlan}
 use Rattle.plan_meaning.specs.PlanMeaning as planned
 use Rattle.plan_meaning.specs.PlanMeaning.{plan_meaning, foreign_entry}
 use Rattle.plan_meaning.specs.Built.{IsBuilt, planned_function, planned_interface, planned_world, planned_package}
-use Rattle.plan_meaning.proofs.Lists.{map_of_map, same_map, get_of_map, any_get, has_filter, filter_has, filter_map_from, map_from, get_back, both, no_true}
+use Rattle.plan_meaning.proofs.Lists.{any_get, has_filter, filter_has, no_true}
 use Rattle.plan_meaning.proofs.Words.{plan_of, path_of_planned_is}
 use Rattle.plan_meaning.proofs.Meanings.{planned_function_entry, meant_function_entry, interface_is, interface_at_is, world_at_is, functions_are}
 use Rattle.plan_meaning.proofs.Reaching.{shown_in, all_reached}
 use Rattle.plan_meaning.proofs.Valid.{plan_is, built_is_valid}
+use Rattle.base_lemmas.proofs.Bools.{left_of as first_true, right_of as second_true}
+use Rattle.base_lemmas.proofs.Elements.{contains-map, contains-one, filter_map_from, get-contains, map_from}
+use Rattle.base_lemmas.proofs.Lists.{get_back, map_of_map, nothing-mapped as none_mapped, same_map}
+use Rattle.base_lemmas.proofs.Options.{there as some-of}
+use Rattle.std.proofs.lemmas.Bool.{and_from as both}
+use Rattle.std.proofs.lemmas.Option.{same_Some as same-some, slice_get-map as get_of_map}
 
 -- ---- the path of an interface that stands there
 
@@ -92,10 +97,6 @@ module _ (r : Resolve) (m : ℕ) where
   same_test : (o : Option PackageId) → option_map_or (λ id. id.0 == m) o false ≡ is_id m (package_number o)
   same_test None = refl
   same_test (Some id) = refl
-
-none_mapped : {A B : Type 0} (g : A → B) (xs : List A) → map g xs ≡ [] → xs ≡ []
-none_mapped g [] e = refl
-none_mapped g (x ∷ xs) e = absurd (let wrong : ⊥ = cc in wrong)
 
 module _ (r : Resolve) (m : ℕ) (is : IsPackagePlan (plan_of r m)) (v : IsValid r) (p : Package) (at : package_at r m ≡ Some p) where
   -- without a world that shows it, an interface of another package has no functions

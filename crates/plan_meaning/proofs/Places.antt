@@ -5,7 +5,7 @@ use Rattle.std.specs.declared.alloc.Global.{Global}
 use Rattle.std.specs.List.{list_all, list_any}
 use Rattle.std.specs.Option.{option_map_or, option_eq}
 use Rattle.std.specs.HashMap.{get_by_text}
-use Rattle.std.proofs.lemmas.List.Folds.{list_all-map}
+use Rattle.std.proofs.lemmas.List.Folds.{list_all-map, fold-map as fold_of_map}
 use Rattle.std.proofs.lemmas.Slice.Eq.{bytes_eq-Decides}
 use Rattle.indexmap.specs.IndexMap.{keys}
 use Rattle.wit_model.specs.declared.model.Resolve.{Resolve}
@@ -21,20 +21,24 @@ use Rattle.wit_model.specs.Uses.{items_of}
 use Rattle.wit_model.specs.Rules as rules
 use Rattle.wit_model.specs.Rules.{each_from, passes, is_id, package_number, text_is, are_distinct, interface_belongs, world_belongs, interface_is_listed, world_is_listed, names_itself, is_world_name}
 use Rattle.wit_model.specs.Valid.{Keeps, places}
-use Rattle.wit_model.proofs.Lists.{first_true, second_true}
 use Rattle.wit_model.proofs.Entries.{free_passes}
 use Rattle.wit_model.proofs.Checks.{keeps_lists}
 use Rattle.plan_meaning.specs.Plan as plan
-use Rattle.plan_meaning.specs.Plan.{PlannedPackage, PlannedWorld, number_under, package_in}
+use Rattle.plan_meaning.specs.Plan.{number_under, package_in}
 use Rattle.plan_meaning.specs.PlanRules as planned
 use Rattle.plan_meaning.specs.PlanRules.{IsPlan, names_of, members_differ}
 use Rattle.plan_meaning.specs.Built.{planned_interface, planned_world, planned_package, planned_item}
-use Rattle.plan_meaning.proofs.Lists.{get_of_map, any_of_map, fold_of_map, lookup_of_map, all_of_map, all_get, all_two, each_two, each_built, each_from_built, both, no_true}
+use Rattle.plan_meaning.proofs.Lists.{all_of_map, each_two, each_built, each_from_built, no_true}
 use Rattle.plan_meaning.proofs.Words.{plan_of}
 use Rattle.plan_meaning.proofs.FunctionRules.{items_are}
 use Rattle.plan_meaning.proofs.Listed.{interface_listed, world_listed, members_pass}
 use Rattle.plan_meaning.proofs.Labels.{apart, names_are, keys_apart}
 use Rattle.plan_meaning.proofs.WorldItems.{item_interface_is}
+use Rattle.base_lemmas.proofs.Bools.{left_of as first_true, right_of as second_true}
+use Rattle.base_lemmas.proofs.Elements.{all_get, all_two, any_of_map}
+use Rattle.base_lemmas.proofs.Maps.{lookup_of_map}
+use Rattle.std.proofs.lemmas.Bool.{and_from as both, or_left as or_first}
+use Rattle.std.proofs.lemmas.Option.{slice_get-map as get_of_map}
 
 -- ---- what stands under a name
 
@@ -79,9 +83,6 @@ all_times_are n ws = fold_of_map (λ a w. a + planned.times_shown n w) planned_w
 passes_both : {A : Type 0} (p q s : A → Bool) → ((x : A) → p x ≡ true → q x ≡ true → s x ≡ true) → (o : Option A) → passes p o ≡ true → passes q o ≡ true → passes s o ≡ true
 passes_both p q s make None h k = refl
 passes_both p q s make (Some x) h k = make x h k
-
-or_first : (a b : Bool) → a ≡ true → (a || b) ≡ true
-or_first a b e = ap (λ c. c || b) e
 
 module _ (r : Resolve) (m : ℕ) (is : IsPlan (plan_of r m)) where
   -- ---- packages

@@ -1,13 +1,13 @@
 -- Each interface of a plan of a package is reached from the package.
-use Rattle.std.proofs.Common.{◌≡◌, ◌⊎◌, inl, inr, refl, sym, ap, ◌∙◌, ℕ, zero, suc, ◌+◌, ◌≤◌, Bool, true, false, ◌&&◌, ◌||◌, ◌==◌, not, cond, List, [], ◌∷◌, ◌++◌, length, map, filter, filter_map, flat_map, count_by, option_map, option_and_then, option_to_list, Option, Some, None, slice_get, is_some, String, subst, arith}
+use Rattle.std.proofs.Common.{◌≡◌, ◌⊎◌, inl, inr, refl, sym, ap, ◌∙◌, ℕ, zero, suc, ◌+◌, ◌≤◌, Bool, true, false, ◌&&◌, ◌||◌, ◌==◌, not, cond, List, [], ◌∷◌, ◌++◌, length, map, filter_map, flat_map, count_by, option_map, option_and_then, option_to_list, Option, Some, None, slice_get, is_some, String, subst, arith}
 use Rattle.std.specs.Prelude.{sum_by}
 use Rattle.std.specs.declared.alloc.Global.{Global}
 use Rattle.std.specs.List.{Contains, list_all, list_any, cons_option}
 use Rattle.std.specs.Option.{option_map_or, option_eq}
-use Rattle.std.proofs.lemmas.Bool.{eqb-true, or_left, or_right}
+use Rattle.std.proofs.lemmas.Bool.{eqb-true, or_left, or_right, or_parts as neither}
 use Rattle.std.proofs.lemmas.List.Folds.{list_any-append}
 use Rattle.std.proofs.lemmas.List.Sums.{sum_by-cons}
-use Rattle.std.proofs.lemmas.Option.{slice_get_within}
+use Rattle.std.proofs.lemmas.Option.{slice_get_within, slice_get-map as get_of_map}
 use Rattle.indexmap.specs.IndexMap.{values}
 use Rattle.wit_model.specs.declared.model.Resolve.{Resolve}
 use Rattle.wit_model.specs.declared.model.Package.{Package}
@@ -21,23 +21,26 @@ use Rattle.wit_model.specs.declared.model.WorldItem.TheVariants as item
 use Rattle.wit_model.specs.Text.{Text, text_of, optional_text}
 use Rattle.wit_model.specs.Lookup.{package_at, interface_at, world_at, interface_path}
 use Rattle.wit_model.specs.Uses as uses
-use Rattle.wit_model.specs.Uses.{has, once, items_of, direct_deps, interfaces_used_by, interfaces_of_item, interfaces_of_world, worlds_of, reached, reached_by_package, shown_by, is_shown_in}
+use Rattle.wit_model.specs.Uses.{has, once, items_of, direct_deps, interfaces_of_item, interfaces_of_world, worlds_of, reached, reached_by_package, shown_by, is_shown_in}
 use Rattle.wit_model.specs.Rules.{is_id, in_list}
 use Rattle.wit_model.specs.Valid.{IsValid}
 use Rattle.wit_model.specs.Chains.{Chain}
-use Rattle.wit_model.proofs.Lists.{first_true, second_true}
-use Rattle.wit_model.proofs.Elements.{contains-filter_map, contains-one, contains-flat, has-contains, contains-has, contains-get}
+use Rattle.wit_model.proofs.Elements.{contains-filter_map, contains-flat, has-contains, contains-has, contains-get}
 use Rattle.wit_model.proofs.Chains.{uses_fall, chains_reach, user_stands}
 use Rattle.plan_meaning.specs.Plan as plan
-use Rattle.plan_meaning.specs.Plan.{PlannedInterface, PlannedWorld, PlannedItem, PlannedPackage, number_under, numbers_of, package_in}
+use Rattle.plan_meaning.specs.Plan.{PlannedInterface, PlannedWorld, PlannedItem, PlannedPackage, number_under, package_in}
 use Rattle.plan_meaning.specs.PlanRules as planned
 use Rattle.plan_meaning.specs.PlanRules.{IsPlan, IsWanted, shown, used}
 use Rattle.plan_meaning.specs.Built.{planned_interface, planned_world, planned_package}
-use Rattle.plan_meaning.proofs.Lists.{map_of_map, get_of_map, each_of_map, each_at, all_get, any_get, get_any, get_back, map_from, has_filter, no_true}
+use Rattle.plan_meaning.proofs.Lists.{each_of_map, each_at, any_get, has_filter, no_true}
 use Rattle.plan_meaning.proofs.Words.{plan_of, direct_uses_are}
 use Rattle.plan_meaning.proofs.FunctionRules.{items_are}
 use Rattle.plan_meaning.proofs.TypeOrder.{under_has}
 use Rattle.plan_meaning.proofs.ItemOrder.{item_interfaces_are}
+use Rattle.base_lemmas.proofs.Bools.{left_of as first_true, right_of as second_true}
+use Rattle.base_lemmas.proofs.Elements.{all_get, contains-one, map_from}
+use Rattle.base_lemmas.proofs.Lists.{get_back, map_of_map}
+use Rattle.std.proofs.lemmas.Map.Keys.{any_passes_from_place as get_any}
 
 -- ---- chains
 
@@ -48,10 +51,6 @@ further r (suc k) n m j c h = (c.0, c.1, further r k c.0 m j c.2 h)
 -- only an interface that stands there uses any
 
 -- ---- what is shown once is shown somewhere
-
-neither : (a b : Bool) → (a || b) ≡ false → (a ≡ false) × (b ≡ false)
-neither false b h = (refl, h)
-neither true b h = no_true (sym h)
 
 times_more : (n : ℕ) (o : Option ℕ) (ns : List ℕ) (t : ℕ) → (has ns n ≡ false → t ≡ 0) → has (cons_option o ns) n ≡ false → cond (is_id n o) 1 0 + t ≡ 0
 times_more n None ns t rest h = let none = rest h in omega (arith, none)

@@ -3,15 +3,13 @@ use Rattle.std.proofs.Common.{◌≡◌, refl, sym, ap, subst, ◌∙◌, ℕ, �
 use Rattle.std.specs.Prelude.{nat_lt}
 use Rattle.std.specs.List.{AllZip, list_all}
 use Rattle.std.specs.Option.{option_map_or}
-use Rattle.std.proofs.lemmas.Bool.{eq-eqb, lt-ltb}
+use Rattle.std.proofs.lemmas.Bool.{eq-eqb, lt-ltb, and_from as both}
 use Rattle.wit_model.specs.Text.{Text, text_eq}
 use Rattle.wit_model.specs.Names.{is_label}
 use Rattle.wit_model.specs.Meaning.{FunctionMeaning}
 use Rattle.wit_model.specs.Parts.{same_owner}
 use Rattle.wit_model.specs.Rules.{are_distinct, passes}
 use Rattle.wit_model.specs.Valid.{as_interface}
-use Rattle.wit_model.proofs.Elements.{same-some}
-use Rattle.wit_model.proofs.Lists.{first_true, second_true}
 use Rattle.wit_model.proofs.VersionLaws.{same_text}
 use Rattle.comp_meaning.specs.Follow.{ShownType}
 use Rattle.comp_meaning.specs.Rules as rules
@@ -25,10 +23,13 @@ use Rattle.plan_meaning.specs.KeptOwners.{AreOwned}
 use Rattle.plan_meaning.specs.ReadFunctions.{Beside}
 use Rattle.plan_meaning.specs.ReadInterfaces.{IsNumberOf, IsKeptAs, HasName, IsNamed, IsReadInterface, ReadInterfacesPass}
 use Rattle.plan_meaning.proofs.KeptFunctions.{owner_itself}
-use Rattle.plan_meaning.proofs.KeptTypes.{all_by_number, distinct_same}
-use Rattle.plan_meaning.proofs.Lists.{both, each_by_number, map_of_map, no_true}
+use Rattle.plan_meaning.proofs.KeptTypes.{distinct_same}
+use Rattle.plan_meaning.proofs.Lists.{each_by_number, no_true}
 use Rattle.plan_meaning.proofs.NumberedRules.{no_name}
-use Rattle.plan_meaning.proofs.ShapeLaws.{slice_there}
+use Rattle.base_lemmas.proofs.Bools.{left_of as first_true, right_of as second_true}
+use Rattle.base_lemmas.proofs.Elements.{all_by_number}
+use Rattle.base_lemmas.proofs.Lists.{map_of_map, within_there as slice_there}
+use Rattle.std.proofs.lemmas.Option.{same_Some as same-some}
 
 -- ---- names
 

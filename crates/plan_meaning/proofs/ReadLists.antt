@@ -1,27 +1,23 @@
 -- Lists in which no number or no name stands twice.
 use Rattle.std.proofs.Common.{◌≡◌, refl, sym, ap, ◌∙◌, ℕ, zero, suc, ◌+◌, arith, Bool, true, false, not, ◌||◌, ◌==◌, cond, List, [], ◌∷◌, ◌++◌, filter, filter_map, count_by, Option, Some, None, option_map}
 use Rattle.std.specs.List.{Contains, cons_option, list_all, list_any}
-use Rattle.std.proofs.lemmas.Bool.{eqb-true}
+use Rattle.std.proofs.lemmas.Bool.{eqb-true, and_from as both, not-true as not_true, or_from as neither}
 use Rattle.std.proofs.lemmas.List.Folds.{list_any-append}
 use Rattle.std.proofs.lemmas.List.Sums.{sum_by-append, sum_by-cons}
 use Rattle.std.proofs.lemmas.Slice.Eq.{bytes_eq-Decides}
 use Rattle.wit_model.specs.Text.{Text, text_eq}
 use Rattle.wit_model.specs.Uses.{has}
 use Rattle.wit_model.specs.Rules.{are_distinct, is_id}
-use Rattle.wit_model.proofs.Elements.{contains-get, same-number}
-use Rattle.wit_model.proofs.Lists.{first_true, second_true}
+use Rattle.wit_model.proofs.Elements.{contains-get}
 use Rattle.wit_model.proofs.VersionLaws.{same_text}
 use Rattle.plan_meaning.specs.Plan.{number_under}
 use Rattle.plan_meaning.specs.PlanRules.{names_of}
 use Rattle.plan_meaning.specs.NumberedWorlds.{are_once}
-use Rattle.plan_meaning.proofs.Lists.{both, get_any, get_of_map, no_true}
-
-pub not_true : (b : Bool) → not b ≡ true → b ≡ false
-not_true false h = refl
-not_true true h = no_true h
-
-pub false_not : (b : Bool) → b ≡ false → not b ≡ true
-false_not b h = ap not h
+use Rattle.plan_meaning.proofs.Lists.{no_true}
+use Rattle.base_lemmas.proofs.Bools.{left_of as first_true, right_of as second_true}
+use Rattle.base_lemmas.proofs.Numbers.{nothing_more, same-number}
+use Rattle.std.proofs.lemmas.Map.Keys.{any_passes_from_place as get_any}
+use Rattle.std.proofs.lemmas.Option.{slice_get-map as get_of_map}
 
 pub never : {A : Type 0} (b : Bool) → b ≡ true → b ≡ false → A
 never b h k = no_true (sym k ∙ h)
@@ -33,9 +29,6 @@ times n ns = count_by (λ m. m == n) ns
 
 pub one_more : (n k : ℕ) (ns : List ℕ) → times n (k ∷ ns) ≡ cond (k == n) 1 0 + times n ns
 one_more n k ns = sum_by-cons (λ m. cond (m == n) 1 0) k ns
-
-nothing_more : (n : ℕ) → 0 + n ≡ n
-nothing_more n = omega arith
 
 pub times_absent : (n : ℕ) (ns : List ℕ) → has ns n ≡ false → times n ns ≡ 0
 times_absent n [] h = refl
@@ -102,10 +95,6 @@ number_there name n (x ∷ es) d (suc i, low, e) =
     go true f absent rest there = let same : name ≡ x.0 = (bytes_eq-Decides name x.0).0 f in never (list_any (text_eq x.0) (names_of es)) (ap (λ y. list_any (text_eq y) (names_of es)) (sym same) ∙ there) absent
     go false f absent rest there = rest
 
-pub neither : (a b : Bool) → a ≡ false → b ≡ false → (a || b) ≡ false
-neither false b p q = q
-neither true b p q = never true refl p
-
 pub distinct_both : (xs ys : List Text) → are_distinct xs ≡ true → are_distinct ys ≡ true → list_all (λ x. not (list_any (text_eq x) ys)) xs ≡ true → are_distinct (xs ++ ys) ≡ true
 distinct_both [] ys d e apart = e
 distinct_both (x ∷ xs) ys d e apart =
@@ -114,14 +103,6 @@ distinct_both (x ∷ xs) ys d e apart =
     ∙ neither (list_any (text_eq x) xs) (list_any (text_eq x) ys) (not_true (list_any (text_eq x) xs) (first_true (not (list_any (text_eq x) xs)) (are_distinct xs) d))
     (not_true (list_any (text_eq x) ys) (first_true (not (list_any (text_eq x) ys)) (list_all (λ y. not (list_any (text_eq y) ys)) xs) apart))))
     (distinct_both xs ys (second_true (not (list_any (text_eq x) xs)) (are_distinct xs) d) e (second_true (not (list_any (text_eq x) ys)) (list_all (λ y. not (list_any (text_eq y) ys)) xs) apart))
-
-pub none_first : (a b : Bool) → (a || b) ≡ false → a ≡ false
-none_first false b h = refl
-none_first true b h = never true refl h
-
-pub none_second : (a b : Bool) → (a || b) ≡ false → b ≡ false
-none_second false b h = h
-none_second true b h = never true refl h
 
 pub or_nothing : (a : Bool) → (a || false) ≡ true → a ≡ true
 or_nothing true h = refl

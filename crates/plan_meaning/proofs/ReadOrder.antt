@@ -5,9 +5,9 @@ use Rattle.std.specs.List.{AllByRecursion, AllZip, Contains, list_all}
 use Rattle.std.specs.Cmp.Lexicographic.{pointwise}
 use Rattle.std.specs.Option.{option_map_or}
 use Rattle.std.specs.Map.{lookup}
-use Rattle.std.proofs.lemmas.Bool.{eqb-true, eq-eqb, leb-true, lt-ltb, ltb-false, or_right}
+use Rattle.std.proofs.lemmas.Bool.{eqb-true, eq-eqb, leb-true, lt-ltb, ltb-false, or_right, and_from as both, not-true as not_true}
 use Rattle.std.proofs.lemmas.Bool.Decides.{nat_tests}
-use Rattle.std.proofs.lemmas.Option.{slice_get_within}
+use Rattle.std.proofs.lemmas.Option.{slice_get_within, same_Some as same-some}
 use Rattle.std.proofs.lemmas.List.Elements.{Contains-append_cases, Contains-append_left, filter_map-append}
 use Rattle.std.proofs.lemmas.List.Folds.{list_all-append, list_all-map, list_any-append}
 use Rattle.wit_model.specs.declared.model.TypeOwner.TheVariants as owner
@@ -18,11 +18,10 @@ use Rattle.wit_model.specs.Uses.{has, once, owner_interface}
 use Rattle.wit_model.specs.Rules.{each_after, each_from, in_list, is_id}
 use Rattle.wit_model.specs.Valid.{as_interface, as_world}
 use Rattle.wit_model.proofs.Chains.{has_once}
-use Rattle.wit_model.proofs.Elements.{all-contained, contains-has, contains-later, get-contains, has-contains, none-in, one-contained, same-some}
-use Rattle.wit_model.proofs.Lists.{first_true, second_true}
+use Rattle.wit_model.proofs.Elements.{contains-has, has-contains, none-in}
 use Rattle.plan_meaning.specs.Shapes.{named_shape}
 use Rattle.plan_meaning.specs.Plan as plan
-use Rattle.plan_meaning.specs.Plan.{Plan, PlannedKey, PlannedItem, PlannedType, PlannedFunction, PlannedInterface, PlannedWorld, interface_in, world_in, type_in, has_owner, kind_numbers, function_numbers, function_parts, part_number, used_by_numbers, interface_used_by, interfaces_used_by, item_interface, item_type, items_of}
+use Rattle.plan_meaning.specs.Plan.{Plan, PlannedKey, PlannedItem, PlannedType, PlannedFunction, PlannedWorld, interface_in, world_in, has_owner, kind_numbers, function_numbers, function_parts, part_number, used_by_numbers, interface_used_by, interfaces_used_by, item_interface, item_type, items_of}
 use Rattle.plan_meaning.specs.PlanRules.{direct_uses, is_listed, is_listed_in, is_under_label, uses_stand_before, used_types}
 use Rattle.plan_meaning.specs.Renumbering.{IsPart, a_primitive, a_shape}
 use Rattle.plan_meaning.specs.NumberedViews.{Tables, AllOf, AreTables, NumberedType, NumberedView, same_number, same_shown, same_id}
@@ -36,16 +35,17 @@ use Rattle.plan_meaning.specs.ReadWorlds.{ReadItem, is_type_seen, types_follow, 
 use Rattle.plan_meaning.specs.ReadOrder.{IsViewedInterface, OrderIsRead, ReadOrderPasses}
 use Rattle.plan_meaning.proofs.KeptFunctions.{owner_itself, kept_functions_pass}
 use Rattle.plan_meaning.proofs.KeptTypes.{kept_types_pass}
-use Rattle.plan_meaning.proofs.Lists.{all_weaker, append_of_map, both, each_at, each_by_number, filter_has, filter_map_from, get_back, no_true}
+use Rattle.plan_meaning.proofs.Lists.{each_at, each_by_number, filter_has, no_true}
 use Rattle.plan_meaning.proofs.ListedTypes.{listed, types_are_listed}
 use Rattle.plan_meaning.proofs.MetTypes.{used_among}
-use Rattle.plan_meaning.proofs.ReadLists.{never, not_true, or_nothing}
+use Rattle.plan_meaning.proofs.ReadLists.{never, or_nothing}
 use Rattle.plan_meaning.proofs.ReadPlaces.{one_interface}
 use Rattle.plan_meaning.proofs.ReadWorlds.{order_obeys}
-use Rattle.plan_meaning.proofs.UsedInterfaces.{UsedBy, nothing, own, other, all_among, interface_uses, owned_by, type_uses, uses_are_low, zip_at}
-use Rattle.plan_meaning.proofs.GatheredPlan.{all_at}
-use Rattle.plan_meaning.proofs.ShapeLaws.{slice_there}
+use Rattle.plan_meaning.proofs.UsedInterfaces.{UsedBy, nothing, own, other, interface_uses, owned_by, type_uses, uses_are_low}
 use Rattle.plan_meaning.proofs.Words.{behind}
+use Rattle.base_lemmas.proofs.Bools.{left_of as first_true, right_of as second_true}
+use Rattle.base_lemmas.proofs.Elements.{all-contained, all_at, all_both, all_pass as all_among, all_weaker, contains-later, filter_map_from, get-contains, last_of as one-contained, zip_at_right as zip_at}
+use Rattle.base_lemmas.proofs.Lists.{append_of_map, get_back, within_there as slice_there}
 
 -- ---- places
 
@@ -59,7 +59,7 @@ others_have q r (x ∷ ps) apart h = go (x == q) refl (x == r) refl (others_have
     go false e true f rest = ap (λ v. v || has (others_than q ps) r) f
     go false e false f rest = or_right (x == r) (has (others_than q ps) r) (rest (sym (ap (λ v. v || has ps r) f) ∙ h))
 
-same_declared : (a c : Option ℕ) → same_number a c ≡ true → a ≡ c
+pub same_declared : (a c : Option ℕ) → same_number a c ≡ true → a ≡ c
 same_declared None None h = refl
 same_declared (Some x) (Some y) h = ap Some (eqb-true x y h)
 same_declared None (Some y) h = no_true h
@@ -74,15 +74,11 @@ same_uses t (x ∷ xs) (y ∷ ys) h =
     let one : x.declared ≡ y.declared = same_declared x.declared y.declared (first_true (same_number x.declared y.declared) (same_id x.external_id y.external_id) (second_true _ (same_number x.declared y.declared && same_id x.external_id y.external_id) front)) in
     λ i. used_by t (one i) ++ same_uses t xs ys (second_true (same_shown x y) (pointwise same_shown xs ys) h) i
 
-has_front : (xs ys : List ℕ) (n : ℕ) → has xs n ≡ true → has (xs ++ ys) n ≡ true
+pub has_front : (xs ys : List ℕ) (n : ℕ) → has xs n ≡ true → has (xs ++ ys) n ≡ true
 has_front xs ys n h = list_any-append (λ m. m == n) xs ys ∙ ap (λ v. v || has ys n) h
 
-has_end : (xs ys : List ℕ) (n : ℕ) → has ys n ≡ true → has (xs ++ ys) n ≡ true
+pub has_end : (xs ys : List ℕ) (n : ℕ) → has ys n ≡ true → has (xs ++ ys) n ≡ true
 has_end xs ys n h = list_any-append (λ m. m == n) xs ys ∙ or_right (has xs n) (has ys n) h
-
-pub all_both : {A : Type 0} (P : A → Type 0) (xs ys : List A) → AllByRecursion P xs → AllByRecursion P ys → AllByRecursion P (xs ++ ys)
-all_both P [] ys a c = c
-all_both P (x ∷ xs) ys a c = (a.0, all_both P xs ys a.1 c)
 
 module _ (t : Tables) (tables : AreTables t) (kept : List ℕ) (p : Plan) (are : TypesAreKept t kept p) (b : Beside) (owned : AreOwned t kept p b.owners) (views : ℕ → NumberedView) (read : OrderIsRead t kept p b views) where
   -- ---- numbers that are kept

@@ -3,7 +3,7 @@ use Rattle.std.proofs.Common.{◌≡◌, refl, sym, ap, ◌∙◌, ℕ, ◌+◌,
 use Rattle.std.specs.Prelude.{sum_by}
 use Rattle.std.specs.List.{AllByRecursion, list_all, list_any}
 use Rattle.std.specs.Option.{option_map_or, option_eq}
-use Rattle.std.proofs.lemmas.Bool.{eq-eqb}
+use Rattle.std.proofs.lemmas.Bool.{eq-eqb, and_from as both, not-true as not_true}
 use Rattle.std.proofs.lemmas.List.Folds.{list_all-map}
 use Rattle.std.proofs.lemmas.List.Sums.{sum_by-cons}
 use Rattle.std.proofs.lemmas.Slice.Eq.{bytes_eq-Decides}
@@ -14,8 +14,7 @@ use Rattle.wit_model.specs.Parts.{same_owner}
 use Rattle.wit_model.specs.Uses.{has, owner_interface}
 use Rattle.wit_model.specs.Rules.{are_distinct, in_list, is_id}
 use Rattle.wit_model.specs.Valid.{as_interface}
-use Rattle.wit_model.proofs.Elements.{contains-flat, contains-has, get-contains, has-contains, same-number, same-some}
-use Rattle.wit_model.proofs.Lists.{first_true, second_true}
+use Rattle.wit_model.proofs.Elements.{contains-flat, contains-has, has-contains}
 use Rattle.wit_model.proofs.NameLaws.{read_path_is_spelled}
 use Rattle.wit_model.proofs.VersionLaws.{same_text}
 use Rattle.comp_meaning.specs.Same.{same_identity}
@@ -27,10 +26,14 @@ use Rattle.plan_meaning.specs.NumberedWorlds.{HasPath, are_once}
 use Rattle.plan_meaning.specs.NumberedMembers.{Homes, HomesStand, home_at}
 use Rattle.plan_meaning.specs.ReadPlaces.{inline_shown, IsPlacedInterface, under_path, inline, IsListedInterface, IsListedWorld, PlacesAreRead, PlaceTests, ReadPlacesPass}
 use Rattle.plan_meaning.proofs.KeptFunctions.{owner_itself}
-use Rattle.plan_meaning.proofs.KeptTypes.{all_by_number, distinct_same}
+use Rattle.plan_meaning.proofs.KeptTypes.{distinct_same}
 use Rattle.plan_meaning.proofs.Listed.{in_range}
-use Rattle.plan_meaning.proofs.Lists.{both, each_by_number, has_filter, no_true}
-use Rattle.plan_meaning.proofs.ReadLists.{distinct_both, never, not_true, number_there, times, times_absent, times_both, times_filter, times_of, times_once}
+use Rattle.plan_meaning.proofs.Lists.{each_by_number, has_filter, no_true}
+use Rattle.plan_meaning.proofs.ReadLists.{distinct_both, never, number_there, times, times_absent, times_both, times_filter, times_of, times_once}
+use Rattle.base_lemmas.proofs.Bools.{left_of as first_true, right_of as second_true}
+use Rattle.base_lemmas.proofs.Elements.{all_by_number, get-contains}
+use Rattle.base_lemmas.proofs.Numbers.{same-number}
+use Rattle.std.proofs.lemmas.Option.{same_Some as same-some}
 
 pub one_interface : (m n : ℕ) → as_interface m ≡ as_interface n → m ≡ n
 one_interface m n e = same-some m n (ap owner_interface e)

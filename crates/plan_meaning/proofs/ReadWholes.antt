@@ -2,7 +2,7 @@
 use Rattle.std.proofs.Common.{◌≡◌, ◌⊎◌, inl, inr, refl, sym, ap, subst, ◌∙◌, ℕ, zero, suc, ◌+◌, arith, Bool, true, false, not, ◌&&◌, ◌||◌, ◌==◌, cond, List, [], ◌∷◌, ◌++◌, map, filter_map, flat_map, Option, Some, None, option_to_list, is_some, is_none, slice_get}
 use Rattle.std.specs.List.{AllZip, Contains, list_any}
 use Rattle.std.specs.Option.{option_map_or}
-use Rattle.std.proofs.lemmas.Bool.{eqb-true, eq-eqb, or_right}
+use Rattle.std.proofs.lemmas.Bool.{eqb-true, eq-eqb, or_right, not-true as not_true}
 use Rattle.std.proofs.lemmas.List.Elements.{Contains-append_cases, Contains-append_left, Contains-append_right}
 use Rattle.wit_model.specs.declared.model.TypeOwner.{TypeOwner}
 use Rattle.wit_model.specs.Text.{Text}
@@ -12,8 +12,7 @@ use Rattle.wit_model.specs.Uses.{has, once}
 use Rattle.wit_model.specs.Rules.{has_items, is_id}
 use Rattle.wit_model.specs.Valid.{as_interface, as_world}
 use Rattle.wit_model.proofs.Chains.{has_once}
-use Rattle.wit_model.proofs.Elements.{contains-filter_map, contains-get, contains-has, contains-later, contains-map, get-contains, has-contains, none-in, one-contained, same-number, same-some}
-use Rattle.wit_model.proofs.Lists.{first_true, second_true}
+use Rattle.wit_model.proofs.Elements.{contains-filter_map, contains-get, contains-has, has-contains, none-in}
 use Rattle.plan_meaning.specs.Plan.{Plan, PlannedKey, PlannedItem, PlannedType, PlannedFunction, PlannedInterface, PlannedPackage, package_in, interface_in, kind_numbers, part_number, function_numbers, function_parts, interfaces_used_by, item_interface, items_of}
 use Rattle.plan_meaning.specs.PlanRules.{HoldsNoMore, IsWanted, shown, used, direct_uses, functions_of, is_foreign, is_part, is_shown_in, world_functions}
 use Rattle.plan_meaning.specs.Renumbering.{IsPart, a_primitive, a_shape}
@@ -26,20 +25,20 @@ use Rattle.plan_meaning.specs.ReadPlaces.{IsPlacedInterface, under_path, inline}
 use Rattle.plan_meaning.specs.ReadWorlds.{ReadItem, IsReadItem, by_path, by_label, implementing_path, a_function, a_type}
 use Rattle.plan_meaning.specs.ReadPlans.{IsReadPlan}
 use Rattle.plan_meaning.specs.ReadWholes.{IsPartOfFunction, a_parameter, a_result, IsPartOfKept, of_type, of_interface, of_world, HasHomes, IsKeptForReasons, place_shown, IsShownByWorld, IsViewOf, IsSeenFor, in_world, in_member, ForeignIsRead, IsReadWorldPlan, ReadPackagePlanStands, ReadWorldPlanStands}
-use Rattle.plan_meaning.proofs.GatheredPlan.{all_at}
 use Rattle.plan_meaning.proofs.KeptFunctions.{owner_itself}
-use Rattle.plan_meaning.proofs.KeptTypes.{all_by_number}
-use Rattle.plan_meaning.proofs.Lists.{append_of_map, each_by_number, get_any, has_filter, no_true}
+use Rattle.plan_meaning.proofs.Lists.{each_by_number, has_filter, no_true}
 use Rattle.plan_meaning.proofs.MetTypes.{flat_among}
-use Rattle.plan_meaning.proofs.ReadLists.{never, none_first, none_second, not_true}
-use Rattle.plan_meaning.proofs.ReadOrder.{all_both, same_uses}
+use Rattle.plan_meaning.proofs.ReadLists.{never}
+use Rattle.plan_meaning.proofs.ReadOrder.{same_uses}
 use Rattle.plan_meaning.proofs.ReadPlaces.{one_interface}
 use Rattle.plan_meaning.proofs.ReadPlans.{read_plan_stands}
-use Rattle.plan_meaning.proofs.UsedInterfaces.{interface_uses_back, zip_there}
+use Rattle.plan_meaning.proofs.UsedInterfaces.{interface_uses_back}
 use Rattle.plan_meaning.proofs.Words.{behind}
-
-contains_any : {A : Type 0} (test : A → Bool) (xs : List A) (x : A) → Contains xs x → test x ≡ true → list_any test xs ≡ true
-contains_any test xs x c h = let at = contains-get xs x c in get_any test xs at.0 x at.1 h
+use Rattle.base_lemmas.proofs.Bools.{first_false as none_first, left_of as first_true, right_of as second_true, second_false as none_second}
+use Rattle.base_lemmas.proofs.Elements.{all_at, all_both, all_by_number, any-at as contains_any, contains-later, contains-map, get-contains, last_of as one-contained, zip_at as zip_there}
+use Rattle.base_lemmas.proofs.Lists.{append_of_map}
+use Rattle.base_lemmas.proofs.Numbers.{same-number}
+use Rattle.std.proofs.lemmas.Option.{same_Some as same-some}
 
 module _ (t : Tables) (tables : AreTables t) (h : Homes) (homes : HomesStand t h) (kept : List ℕ) (p : Plan) (b : Beside) (views : ℕ → NumberedView) (read : IsReadPlan t h kept p b views) where
   one_place : (a c n : ℕ) → b.owners a ≡ as_interface n → b.owners c ≡ as_interface n → a ≡ c

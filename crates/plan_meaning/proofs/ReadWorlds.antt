@@ -3,7 +3,7 @@ use Rattle.std.proofs.Common.{◌≡◌, refl, sym, ap, subst, ◌∙◌, ◌<�
 use Rattle.std.specs.Prelude.{codes, nat_eq, nat_lt}
 use Rattle.std.specs.List.{AllByRecursion, cons_option, list_all, list_any, starts_with}
 use Rattle.std.specs.Option.{option_map_or}
-use Rattle.std.proofs.lemmas.Bool.{eqb-true, eq-eqb, lt-ltb}
+use Rattle.std.proofs.lemmas.Bool.{eqb-true, eq-eqb, lt-ltb, and_from as both, not-true as not_true, or_from as neither}
 use Rattle.wit_model.specs.declared.model.TypeOwner.{TypeOwner}
 use Rattle.wit_model.specs.declared.model.FunctionKind.{FunctionKind}
 use Rattle.wit_model.specs.Text.{Text, text_eq}
@@ -13,13 +13,11 @@ use Rattle.wit_model.specs.Parts.{same_owner}
 use Rattle.wit_model.specs.Rules.{in_list, is_freestanding}
 use Rattle.wit_model.specs.Uses.{owner_interface}
 use Rattle.wit_model.specs.Valid.{as_interface, as_world}
-use Rattle.wit_model.proofs.Elements.{same-number, same-some}
-use Rattle.wit_model.proofs.Lists.{first_true, second_true}
 use Rattle.wit_model.proofs.VersionLaws.{same_text}
 use Rattle.comp_meaning.specs.Rules.{distinct, is_label_behind}
 use Rattle.plan_meaning.specs.Shapes.{Shape, first_label, form_code, named_shape, node_shape}
 use Rattle.plan_meaning.specs.Plan as plan
-use Rattle.plan_meaning.specs.Plan.{Plan, PlannedKey, PlannedItem, PlannedType, PlannedFunction, PlannedInterface, PlannedWorld, interface_in, world_in, item_type, world_types}
+use Rattle.plan_meaning.specs.Plan.{Plan, PlannedKey, PlannedItem, PlannedType, PlannedFunction, PlannedInterface, PlannedWorld, interface_in, item_type, world_types}
 use Rattle.plan_meaning.specs.PlanRules.{are_rising, bears, has_name, import_stands, export_stands, is_function_key, is_type_of, keys_differ, same_key}
 use Rattle.plan_meaning.specs.NumberedViews.{Tables, path_text, AreTables, NumberedView, FunctionShape, function_at}
 use Rattle.plan_meaning.specs.NumberedRules.{Fact, is_signature}
@@ -30,12 +28,15 @@ use Rattle.plan_meaning.specs.KeptOwners.{AreOwned, of_interface}
 use Rattle.plan_meaning.specs.ReadFunctions.{Beside}
 use Rattle.plan_meaning.specs.ReadWorlds.{ReadItem, is_type_seen, types_follow, IsInterfaceOf, IsReadUnder, IsTypeUnder, IsReadItem, by_path, by_label, implementing_path, a_function, a_type, IsReadWorld, ReadWorldsPass}
 use Rattle.plan_meaning.proofs.KeptFunctions.{owner_itself, kept_functions_pass}
-use Rattle.plan_meaning.proofs.KeptTypes.{all_by_number}
 use Rattle.plan_meaning.proofs.Listed.{in_range}
-use Rattle.plan_meaning.proofs.Lists.{both, each_by_number, no_true}
+use Rattle.plan_meaning.proofs.Lists.{each_by_number, no_true}
 use Rattle.plan_meaning.proofs.NumberedRules.{no_name}
 use Rattle.plan_meaning.proofs.ReadInterfaces.{bears_name}
-use Rattle.plan_meaning.proofs.ReadLists.{neither, never, none_first, none_second, not_true, or_nothing}
+use Rattle.plan_meaning.proofs.ReadLists.{never, or_nothing}
+use Rattle.base_lemmas.proofs.Bools.{first_false as none_first, left_of as first_true, right_of as second_true, second_false as none_second}
+use Rattle.base_lemmas.proofs.Elements.{all_by_number}
+use Rattle.base_lemmas.proofs.Numbers.{same-number}
+use Rattle.std.proofs.lemmas.Option.{same_Some as same-some}
 
 -- ---- a function whose name is a label
 

@@ -2,7 +2,7 @@
 use Rattle.std.proofs.Common.{◌≡◌, refl, sym, ap, subst, ◌∙◌, ℕ, zero, suc, ◌+◌, ◌<◌, ◌≤◌, Bool, true, false, ◌&&◌, not, nat_lt, T, ltb→lt, List, [], ◌∷◌, length, map, take, filter_map, option_map, option_to_list, Option, Some, None, slice_get, unwrap_or, arith}
 use Rattle.std.specs.List.{list_all, cons_option}
 use Rattle.std.specs.Option.{option_map_or}
-use Rattle.std.proofs.lemmas.Option.{slice_get_past}
+use Rattle.std.proofs.lemmas.Option.{slice_get_past, slice_get-map as get_of_map}
 use Rattle.wit_model.specs.declared.model.Resolve.{Resolve}
 use Rattle.wit_model.specs.declared.model.TypeDef.{TypeDef}
 use Rattle.wit_model.specs.declared.model.TypeDefKind.{TypeDefKind}
@@ -18,19 +18,21 @@ use Rattle.wit_model.specs.Parts.{member_types, handled, function_types, is_reso
 use Rattle.wit_model.specs.Rules.{passes}
 use Rattle.wit_model.specs.Valid.{Keeps, handles}
 use Rattle.wit_model.specs.Checks.{references}
-use Rattle.wit_model.proofs.Lists.{first_true, second_true, list_all_filter_map}
+use Rattle.wit_model.proofs.Lists.{list_all_filter_map}
 use Rattle.wit_model.proofs.Tables.{grow_at, grow_keeps}
 use Rattle.wit_model.proofs.Checks.{below_at, references_kept, keeps_three}
 use Rattle.wit_model.proofs.Resources.{resource_step, no_resource}
 use Rattle.plan_meaning.specs.Plan as plan
-use Rattle.plan_meaning.specs.Plan.{PlannedType, PlannedKind, part_number, marked_at, resource_marks}
+use Rattle.plan_meaning.specs.Plan.{PlannedType, part_number, marked_at, resource_marks}
 use Rattle.plan_meaning.specs.PlanRules as planned
 use Rattle.plan_meaning.specs.PlanRules.{IsPlan}
 use Rattle.plan_meaning.specs.Built.{part_of, planned_kind, planned_type, planned_function}
-use Rattle.plan_meaning.proofs.Lists.{get_of_map, length_of_map, each_built, each_from_built, both}
-use Rattle.plan_meaning.proofs.ShapeLaws.{slice_take}
+use Rattle.plan_meaning.proofs.Lists.{each_built, each_from_built}
 use Rattle.plan_meaning.proofs.Words.{plan_of, behind, number_part, kind_numbers_are, value_numbers_are}
 use Rattle.plan_meaning.proofs.FunctionRules.{interfaces_pass, worlds_pass, formed_pass, members_pass}
+use Rattle.base_lemmas.proofs.Bools.{left_of as first_true, right_of as second_true}
+use Rattle.base_lemmas.proofs.Lists.{length_of_map, slice_take}
+use Rattle.std.proofs.lemmas.Bool.{and_from as both}
 
 pub nothing : {A : Type 0} (xs : List A) (k : ℕ) → slice_get xs k ≡ None → length xs ≤ k
 nothing [] k e = omega arith

@@ -1,10 +1,10 @@
 -- Lists of rising numbers: none stands twice, and what a number uses, being smaller, stands before it.
-use Rattle.std.proofs.Common.{◌≡◌, refl, sym, ap, ◌∙◌, ℕ, zero, suc, ◌+◌, ◌<◌, Bool, true, false, ◌||◌, ◌==◌, not, cond, nat_lt, nat_le, List, [], ◌∷◌, ◌++◌, flat_map, count_by, Option, Some, None, T, ltb→lt, subst, String, arith}
+use Rattle.std.proofs.Common.{◌≡◌, refl, sym, ap, ◌∙◌, ℕ, zero, suc, ◌+◌, ◌<◌, Bool, true, false, ◌||◌, ◌==◌, not, cond, nat_lt, nat_le, List, [], ◌∷◌, ◌++◌, flat_map, count_by, Option, Some, None, String, arith}
 use Rattle.std.specs.declared.alloc.Global.{Global}
 use Rattle.std.specs.List.{list_all}
 use Rattle.std.specs.Option.{option_map_or}
 use Rattle.std.proofs.lemmas.Bool.Decides.{nat_tests}
-use Rattle.std.proofs.lemmas.Bool.{eqb-true}
+use Rattle.std.proofs.lemmas.Bool.{eqb-true, and_from as both, ltb-true as less_than}
 use Rattle.std.proofs.lemmas.List.Folds.{list_any-append}
 use Rattle.std.proofs.lemmas.List.Sums.{sum_by-cons}
 use Rattle.wit_model.specs.declared.model.Resolve.{Resolve}
@@ -15,13 +15,14 @@ use Rattle.wit_model.specs.Uses.{has}
 use Rattle.wit_model.specs.Rules.{each_after, used_by_number}
 use Rattle.wit_model.specs.Valid.{Keeps}
 use Rattle.wit_model.specs.Checks.{references}
-use Rattle.wit_model.proofs.Lists.{first_true, second_true}
 use Rattle.wit_model.proofs.Checks.{below_at}
 use Rattle.wit_model.proofs.Functions.{all_flat}
 use Rattle.wit_model.proofs.Owners.{met_step, nothing_past}
 use Rattle.plan_meaning.specs.PlanRules.{are_rising}
-use Rattle.plan_meaning.proofs.Lists.{all_weaker, both, no_true}
+use Rattle.plan_meaning.proofs.Lists.{no_true}
 use Rattle.plan_meaning.proofs.ResourceMarks.{nothing}
+use Rattle.base_lemmas.proofs.Bools.{left_of as first_true, right_of as second_true}
+use Rattle.base_lemmas.proofs.Elements.{all_weaker}
 
 -- ---- none stands twice
 
@@ -33,9 +34,6 @@ one_more n k ns = sum_by-cons (λ m. cond (m == n) 1 0) k ns
 
 no_more : (n k : ℕ) (ns : List ℕ) → n < k → times n (k ∷ ns) ≡ times n ns
 no_more n k ns less = let other : (k == n) ≡ false = grind (arith, nat_tests, less) in one_more n k ns ∙ (ap (λ b. cond b 1 0 + times n ns) other ∙ omega arith)
-
-less_than : (n k : ℕ) → nat_lt n k ≡ true → n < k
-less_than n k h = ltb→lt n k (subst T (sym h) tt)
 
 none_above : (n : ℕ) (ns : List ℕ) → list_all (nat_lt n) ns ≡ true → times n ns ≡ 0
 none_above n [] h = refl

@@ -1,15 +1,17 @@
 -- In a table of shapes each number has a tree, and no tree has two numbers.
-use Rattle.std.proofs.Common.{◌≡◌, ◌⊎◌, inl, inr, refl, sym, ap, ◌∙◌, ℕ, zero, suc, ◌+◌, ◌-◌, ◌<◌, ◌≤◌, arith, Bool, true, false, List, [], ◌∷◌, ◌++◌, map, take, length, Some, slice_get, unwrap_or, option_map}
+use Rattle.std.proofs.Common.{◌≡◌, ◌⊎◌, inl, inr, refl, sym, ap, ◌∙◌, ℕ, zero, suc, ◌+◌, ◌-◌, ◌<◌, arith, Bool, true, false, List, [], ◌∷◌, ◌++◌, map, take, length, Some, slice_get, unwrap_or, option_map}
 use Rattle.std.specs.List.{AllByRecursion, Contains}
 use Rattle.wit_model.specs.Text.{Text}
 use Rattle.wit_model.specs.Tree.{Primitive, Place, Form, Tree, Trees, children}
 use Rattle.wit_model.specs.Types.{grow, no_tree}
-use Rattle.wit_model.proofs.Elements.{contains-later, get-contains}
 use Rattle.wit_model.proofs.Tables.{grow_at}
 use Rattle.comp_meaning.specs.Same.{primitive_number}
 use Rattle.plan_meaning.specs.Shapes.{Shape, form_code, form_of, marked, node_shape, named_shape, primitives, part_tree, shape_tree, shape_trees, IsShape, a_name, a_node, IsTable, OneNumber}
 use Rattle.plan_meaning.specs.NumberedViews.{itself, inside, AreApart}
-use Rattle.plan_meaning.proofs.Lists.{get_of_map}
+use Rattle.base_lemmas.proofs.Elements.{contains-later, get-contains}
+use Rattle.base_lemmas.proofs.Lists.{slice_front, slice_take, within_there as slice_there}
+use Rattle.std.proofs.lemmas.Bool.{cases_lt as below_or}
+use Rattle.std.proofs.lemmas.Option.{slice_get-map as get_of_map}
 
 -- ---- forms by their codes
 
@@ -66,21 +68,9 @@ name_tree place T p name = refl
 
 -- ---- parts
 
-pub slice_front : {X : Type 0} (xs ys : List X) (n : ℕ) → n < length xs → slice_get (xs ++ ys) n ≡ slice_get xs n
-slice_front [] ys n h = absurd (omega (arith, h))
-slice_front (x ∷ xs) ys zero h = refl
-slice_front (x ∷ xs) ys (suc n) h = slice_front xs ys n (omega (arith, h))
-
 slice_behind : {X : Type 0} (xs ys : List X) (n : ℕ) → slice_get (xs ++ ys) (length xs + n) ≡ slice_get ys n
 slice_behind [] ys n = ap (slice_get ys) (omega arith)
 slice_behind (x ∷ xs) ys n = let one : length (x ∷ xs) + n ≡ suc (length xs + n) = omega arith in ap (slice_get (x ∷ (xs ++ ys))) one ∙ slice_behind xs ys n
-
-pub slice_take : {X : Type 0} (xs : List X) (n m : ℕ) → m < n → slice_get (take n xs) m ≡ slice_get xs m
-slice_take [] zero m h = refl
-slice_take [] (suc n) m h = refl
-slice_take (x ∷ xs) zero m h = absurd (omega (arith, h))
-slice_take (x ∷ xs) (suc n) zero h = refl
-slice_take (x ∷ xs) (suc n) (suc m) h = slice_take xs n m (omega (arith, h))
 
 pub part_behind : (T : List Tree) (n : ℕ) → part_tree T (14 + n) ≡ unwrap_or (slice_get T n) no_tree
 unfolding part_tree
@@ -89,11 +79,6 @@ part_behind T n = ap (λ o. unwrap_or o no_tree) (slice_behind (map Tree.primiti
 pub part_front : (T : List Tree) (k : ℕ) → k < 14 → part_tree T k ≡ unwrap_or (slice_get (map Tree.primitive primitives) k) no_tree
 unfolding part_tree
 part_front T k h = ap (λ o. unwrap_or o no_tree) (slice_front (map Tree.primitive primitives) T k h)
-
-below_or : (k n : ℕ) → (k < n) ⊎ (n ≤ k)
-below_or k zero = inr (omega arith)
-below_or zero (suc n) = inl (omega arith)
-below_or (suc k) (suc n) = elim (below_or k n) [ inl h ↦ inl (omega (arith, h)) | inr h ↦ inr (omega (arith, h)) ]
 
 -- a primitive, or a number of the table
 pub split_part : (k : ℕ) → (k < 14) ⊎ ((n : ℕ) × (k ≡ 14 + n))
@@ -142,11 +127,6 @@ pub tree_at_number : (place : ℕ → Place) (ss : List Shape) → IsTable ss �
 unfolding shape_trees
 tree_at_number place ss table n s e =
     grow_at (shape_tree place) ss n s e ∙ ap Some (shape_same (grow (shape_tree place) [] ss) n place s (table.each n s e))
-
-pub slice_there : {X : Type 0} (xs : List X) (n : ℕ) → n < length xs → (x : X) × (slice_get xs n ≡ Some x)
-slice_there [] n h = absurd (omega (arith, h))
-slice_there (x ∷ xs) zero h = (x, refl)
-slice_there (x ∷ xs) (suc n) h = slice_there xs n (omega (arith, h))
 
 -- ---- no tree has two numbers
 

@@ -5,7 +5,7 @@ use Rattle.std.specs.List.{list_all}
 use Rattle.std.specs.Option.{option_map_or}
 use Rattle.std.specs.Map.{lookup}
 use Rattle.std.specs.HashMap.{get_by}
-use Rattle.std.proofs.lemmas.Bool.{or_left, or_right}
+use Rattle.std.proofs.lemmas.Bool.{or_left, or_right, and_from as both}
 use Rattle.std.proofs.lemmas.List.Folds.{list_all-map}
 use Rattle.indexmap.specs.IndexMap.{values}
 use Rattle.wit_model.specs.declared.model.Resolve.{Resolve}
@@ -26,21 +26,26 @@ use Rattle.wit_model.specs.Uses.{has}
 use Rattle.wit_model.specs.Rules as rules
 use Rattle.wit_model.specs.Rules.{passes, is_id, text_is, is_name_key, is_named_of, are_in_order, interface_type_numbers, world_type_numbers, is_listed_in_interface, is_listed_in_world, used_by_number}
 use Rattle.wit_model.specs.Valid.{Keeps, order_of_types, as_interface, as_world}
-use Rattle.wit_model.proofs.Lists.{first_true, second_true, list_all_filter_map}
+use Rattle.wit_model.proofs.Lists.{list_all_filter_map}
 use Rattle.wit_model.proofs.Checks.{keeps_three}
 use Rattle.wit_model.proofs.InOrder.{found_stands}
 use Rattle.plan_meaning.specs.Plan as plan
-use Rattle.plan_meaning.specs.Plan.{PlannedInterface, PlannedWorld, number_under, numbers_of}
+use Rattle.plan_meaning.specs.Plan.{number_under, numbers_of}
 use Rattle.plan_meaning.specs.PlanRules as planned
 use Rattle.plan_meaning.specs.PlanRules.{IsPlan, are_rising, is_under_label}
 use Rattle.plan_meaning.specs.Built.{planned_type, planned_interface, planned_world, planned_key, planned_item}
-use Rattle.plan_meaning.proofs.Lists.{map_of_map, filter_of_map, get_of_map, then_of_map, same_then, lookup_of_map, all_get, all_built, each_two, each_built, each_from_built, both, no_true}
+use Rattle.plan_meaning.proofs.Lists.{then_of_map, same_then, all_built, each_two, each_built, each_from_built, no_true}
 use Rattle.plan_meaning.proofs.Words.{plan_of, kind_numbers_are}
 use Rattle.plan_meaning.proofs.FunctionRules.{values_are}
 use Rattle.plan_meaning.proofs.Listed.{passes_weaker}
 use Rattle.plan_meaning.proofs.WorldItems.{own_type}
 use Rattle.plan_meaning.proofs.ResourceMarks.{references_hold}
 use Rattle.plan_meaning.proofs.Rising.{stands_once, in_order, used_low}
+use Rattle.base_lemmas.proofs.Bools.{left_of as first_true, right_of as second_true}
+use Rattle.base_lemmas.proofs.Elements.{all_get}
+use Rattle.base_lemmas.proofs.Lists.{filter_of_map, map_of_map}
+use Rattle.base_lemmas.proofs.Maps.{lookup_of_map}
+use Rattle.std.proofs.lemmas.Option.{slice_get-map as get_of_map}
 
 -- ---- the lists of types
 

@@ -1,7 +1,7 @@
 -- The interfaces that types of a plan use are those of the places that what was read uses.
-use Rattle.std.proofs.Common.{◌≡◌, ◌⊎◌, inl, inr, refl, sym, ap, subst, ◌∙◌, ℕ, zero, suc, ◌+◌, ◌-◌, arith, Bool, true, false, not, ◌==◌, cond, List, [], ◌∷◌, Option, Some, None, option_and_then, option_to_list, is_some, slice_get}
+use Rattle.std.proofs.Common.{◌≡◌, ◌⊎◌, inl, inr, refl, sym, ap, subst, ◌∙◌, ℕ, ◌+◌, ◌-◌, arith, true, false, not, ◌==◌, cond, List, [], ◌∷◌, Option, Some, None, option_and_then, option_to_list, is_some, slice_get}
 use Rattle.std.specs.Prelude.{nat_le}
-use Rattle.std.specs.List.{AllZip, Contains, list_all}
+use Rattle.std.specs.List.{Contains, list_all}
 use Rattle.std.specs.Option.{option_map_or}
 use Rattle.std.proofs.lemmas.Bool.{le-leb, lt-ltb}
 use Rattle.wit_model.specs.declared.model.TypeOwner.{TypeOwner}
@@ -10,10 +10,10 @@ use Rattle.wit_model.specs.Text.{Text}
 use Rattle.wit_model.specs.Uses.{owner_interface}
 use Rattle.wit_model.specs.Rules.{each_from}
 use Rattle.wit_model.specs.Valid.{as_interface}
-use Rattle.wit_model.proofs.Elements.{contains-filter_map, contains-flat, contains-get, contains-later, contains-map, get-contains, none-in, one-contained, same-some}
+use Rattle.wit_model.proofs.Elements.{contains-filter_map, contains-flat, contains-get, none-in}
 use Rattle.plan_meaning.specs.Shapes.{Shape, first_label, named_shape, node_shape}
 use Rattle.plan_meaning.specs.Plan as plan
-use Rattle.plan_meaning.specs.Plan.{Plan, PlannedKind, PlannedType, PlannedInterface, interface_in, type_in, alias_number, part_number, interface_used_by, interfaces_used_by, numbers_of}
+use Rattle.plan_meaning.specs.Plan.{Plan, PlannedKind, PlannedType, PlannedInterface, type_in, alias_number, part_number, interface_used_by, interfaces_used_by, numbers_of}
 use Rattle.plan_meaning.specs.Renumbering.{IsPart, a_primitive, a_shape}
 use Rattle.plan_meaning.specs.NumberedViews.{Tables, path_at, AreTables, NumberedType, NumberedView}
 use Rattle.plan_meaning.specs.NumberedRules as numbered
@@ -27,31 +27,15 @@ use Rattle.plan_meaning.specs.ReadFunctions.{Beside}
 use Rattle.plan_meaning.specs.ReadInterfaces.{IsNumberOf, IsKeptAs}
 use Rattle.plan_meaning.specs.ReadOrder.{IsUsedPlace, itself, smaller, IsViewedInterface, InterfacesAreViewed}
 use Rattle.plan_meaning.proofs.MetTypes.{flat_among}
-use Rattle.plan_meaning.proofs.Lists.{both, each_by_number, filter_map_from, get_back, no_true}
+use Rattle.plan_meaning.proofs.Lists.{each_by_number, no_true}
 use Rattle.plan_meaning.proofs.NumberedRules.{no_name, no_shape, shape_there}
 use Rattle.plan_meaning.proofs.ReadPlaces.{one_interface}
-use Rattle.plan_meaning.proofs.ShapeLaws.{slice_there}
 use Rattle.plan_meaning.proofs.Words.{behind}
+use Rattle.base_lemmas.proofs.Elements.{all_pass as all_among, contains-map, filter_map_from, get-contains, last_of as one-contained, zip_at as zip_there, zip_at_right as zip_at}
+use Rattle.base_lemmas.proofs.Lists.{get_back, within_there as slice_there}
+use Rattle.std.proofs.lemmas.Option.{same_Some as same-some}
 
 -- ---- lists
-
-pub all_among : {A : Type 0} (test : A → Bool) (xs : List A) → ((x : A) → Contains xs x → test x ≡ true) → list_all test xs ≡ true
-all_among test [] each = refl
-all_among test (x ∷ xs) each = both (test x) (list_all test xs) (each x (0, omega arith, refl)) (all_among test xs (λ y c. each y (contains-later x xs y c)))
-
-pub zip_at : {A B : Type 0} (R : A → B → Type 0) (xs : List A) (ys : List B) → AllZip R xs ys → (n : ℕ) (y : B) → slice_get ys n ≡ Some y → (x : A) × (slice_get xs n ≡ Some x) × R x y
-zip_at R [] [] z n y e = absurd cc
-zip_at R [] (y ∷ ys) z n w e = absurd z
-zip_at R (x ∷ xs) [] z n w e = absurd z
-zip_at R (x ∷ xs) (y ∷ ys) z zero w e = (x, refl, subst (R x) (same-some y w e) z.0)
-zip_at R (x ∷ xs) (y ∷ ys) z (suc n) w e = zip_at R xs ys z.1 n w e
-
-pub zip_there : {A B : Type 0} (R : A → B → Type 0) (xs : List A) (ys : List B) → AllZip R xs ys → (n : ℕ) (x : A) → slice_get xs n ≡ Some x → (y : B) × (slice_get ys n ≡ Some y) × R x y
-zip_there R [] [] z n x e = absurd cc
-zip_there R [] (y ∷ ys) z n w e = absurd z
-zip_there R (x ∷ xs) [] z n w e = absurd z
-zip_there R (x ∷ xs) (y ∷ ys) z zero w e = (y, refl, subst (λ a. R a y) (same-some x w e) z.0)
-zip_there R (x ∷ xs) (y ∷ ys) z (suc n) w e = zip_there R xs ys z.1 n w e
 
 -- an owner that is an interface
 pub owned_by : (o : TypeOwner) (u : ℕ) → owner_interface o ≡ Some u → o ≡ as_interface u

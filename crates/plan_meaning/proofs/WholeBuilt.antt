@@ -4,7 +4,6 @@ use Rattle.std.specs.declared.alloc.Global.{Global}
 use Rattle.std.specs.declared.hash.FoldHasher.{FoldHasher}
 use Rattle.std.specs.declared.hash.BuildHasherDefault.{BuildHasherDefault}
 use denote.RawPtr.{null_ptr}
-use lib.Utf8.{encode}
 use Rattle.std.specs.Str.{IsUtf8}
 use Rattle.std.specs.Prelude.{◌↔◌}
 use Rattle.indexmap.specs.IndexMap.{IndexMap}
@@ -37,6 +36,7 @@ use Rattle.plan_meaning.specs.Built.{IsBuilt}
 use Rattle.plan_meaning.proofs.Valid.{built_is_valid}
 use Rattle.plan_meaning.proofs.PackageMeans.{package_means}
 use Rattle.plan_meaning.proofs.WholePlan.{whole_plan, is_plan, is_package_plan}
+use Rattle.base_lemmas.proofs.Numbers.{utf8-a, utf8-b, utf8-constructor, utf8-f, utf8-h, utf8-i, utf8-j, utf8-k, utf8-method, utf8-p, utf8-pkg, utf8-r, utf8-s, utf8-self, utf8-t, utf8-w, utf8-x}
 
 abbrev vec_of : {X : Type 0} → Global → (xs : List X) → length xs < 2 ^ 63 → Vec X Global
 vec_of alloc xs h = record { ptr = null_ptr; len = length xs; cap = length xs; alloc = alloc; items = xs; ok = (refl, omega arith); small = h }
@@ -44,74 +44,6 @@ vec_of alloc xs h = record { ptr = null_ptr; len = length xs; cap = length xs; a
 -- an ASCII text is the UTF-8 of its own bytes
 abbrev string_of : Global → (bs : List ℕ) → length bs < 2 ^ 63 → IsUtf8 bs → String Global
 string_of alloc bs h u = record { bytes = vec_of alloc bs h; ok = ∣ u ∣₁ }
-
-utf8-a : IsUtf8 (codes "a")
-unfolding encode
-utf8-a = (codes "a", (refl, refl))
-
-utf8-b : IsUtf8 (codes "b")
-unfolding encode
-utf8-b = (codes "b", (refl, refl))
-
-utf8-s : IsUtf8 (codes "s")
-unfolding encode
-utf8-s = (codes "s", (refl, refl))
-
-utf8-r : IsUtf8 (codes "r")
-unfolding encode
-utf8-r = (codes "r", (refl, refl))
-
-utf8-i : IsUtf8 (codes "i")
-unfolding encode
-utf8-i = (codes "i", (refl, refl))
-
-utf8-j : IsUtf8 (codes "j")
-unfolding encode
-utf8-j = (codes "j", (refl, refl))
-
-utf8-k : IsUtf8 (codes "k")
-unfolding encode
-utf8-k = (codes "k", (refl, refl))
-
-utf8-t : IsUtf8 (codes "t")
-unfolding encode
-utf8-t = (codes "t", (refl, refl))
-
-utf8-f : IsUtf8 (codes "f")
-unfolding encode
-utf8-f = (codes "f", (refl, refl))
-
-utf8-x : IsUtf8 (codes "x")
-unfolding encode
-utf8-x = (codes "x", (refl, refl))
-
-utf8-h : IsUtf8 (codes "h")
-unfolding encode
-utf8-h = (codes "h", (refl, refl))
-
-utf8-w : IsUtf8 (codes "w")
-unfolding encode
-utf8-w = (codes "w", (refl, refl))
-
-utf8-p : IsUtf8 (codes "p")
-unfolding encode
-utf8-p = (codes "p", (refl, refl))
-
-utf8-pkg : IsUtf8 (codes "pkg")
-unfolding encode
-utf8-pkg = (codes "pkg", (refl, refl))
-
-utf8-self : IsUtf8 (codes "self")
-unfolding encode
-utf8-self = (codes "self", (refl, refl))
-
-utf8-constructor : IsUtf8 (codes "[constructor]r")
-unfolding encode
-utf8-constructor = (codes "[constructor]r", (refl, refl))
-
-utf8-method : IsUtf8 (codes "[method]r.m")
-unfolding encode
-utf8-method = (codes "[method]r.m", (refl, refl))
 
 module _ (alloc : Global) (hasher : BuildHasherDefault FoldHasher) where
   abbrev map_of : {K X : Type 0} → List (K × X) → IndexMap K X (BuildHasherDefault FoldHasher)

@@ -8,18 +8,18 @@ use Rattle.wit_model.specs.Names.{cut as cut_at}
 use Rattle.wit_model.specs.Tree.{Form}
 use Rattle.wit_model.specs.Uses.{owner_interface}
 use Rattle.wit_model.specs.Valid.{as_interface, as_world}
-use Rattle.wit_model.proofs.Elements.{none-in, one-contained, same-some}
+use Rattle.wit_model.proofs.Elements.{none-in}
 use Rattle.comp_meaning.proofs.Computing.{computes}
 use Rattle.plan_meaning.specs.Shapes.{Shape, form_of, named_shape, part_tree, shape_tree, shape_trees}
 use Rattle.plan_meaning.specs.Plan as plan
-use Rattle.plan_meaning.specs.Plan.{Plan, PlannedKey, PlannedItem, PlannedType, PlannedFunction, PlannedInterface, PlannedWorld, PlannedPackage, interface_in, world_in}
+use Rattle.plan_meaning.specs.Plan.{PlannedKey, PlannedItem, PlannedType, PlannedInterface, PlannedWorld, PlannedPackage, interface_in, world_in}
 use Rattle.plan_meaning.specs.PlanRules.{functions_of, is_foreign, world_functions, IsPackagePlan}
 use Rattle.plan_meaning.specs.Renumbering.{a_primitive, a_shape}
 use Rattle.plan_meaning.specs.NumberedViews.{place_at, NumberedView, NumberedType, NumberedFunction, NumberedSight, value, resource}
 use Rattle.plan_meaning.specs.NumberedRules.{Fact, nowhere, in_place}
 use Rattle.plan_meaning.specs.NumberedWorlds.{HasPath, NumberedScope, NumberedSeen, NumberedShown, instance, function, declares, path, label, implementing}
 use Rattle.plan_meaning.specs.GatheredPlan as gathered
-use Rattle.plan_meaning.specs.GatheredPlan.{Becomes, DeclaresKind, a_resource, a_form, TypeBecomes, FunctionBecomes, FunctionListed, functions_seen}
+use Rattle.plan_meaning.specs.GatheredPlan.{a_resource, a_form, FunctionBecomes, FunctionListed, functions_seen}
 use Rattle.plan_meaning.specs.KeptFunctions.{IsResource, of_none, a_constructor, an_async_method}
 use Rattle.plan_meaning.specs.ReadFunctions.{Beside, IsReadFunction, FunctionsAreRead}
 use Rattle.plan_meaning.specs.ReadPlaces.{IsPlacedInterface, under_path, inline, IsPlacedWorld, IsListedInterface, IsReadPackage, PlacesAreRead}
@@ -29,12 +29,13 @@ use Rattle.plan_meaning.specs.ReadPlans.{FitsInput, IsReadPlan}
 use Rattle.plan_meaning.specs.ReadWholes.{a_parameter, a_result, IsPartOfKept, of_type, of_interface, HasHomes, IsShownByWorld, IsSeenFor, in_member, IsReadPackagePlan}
 use Rattle.plan_meaning.specs.ReadWholes as wholes
 use Rattle.plan_meaning.specs.NumberedMembers.{home_at, is_of_package}
-use Rattle.plan_meaning.proofs.GatheredPlan.{all_at}
 use Rattle.plan_meaning.proofs.ReadPlaces.{one_interface}
 use Rattle.plan_meaning.proofs.ReadWholes.{read_package_plan_stands}
 use Rattle.plan_meaning.proofs.Lists.{no_true}
 use Rattle.plan_meaning.proofs.WholePlan.{plain, planned_interfaces, planned_types, planned_world, taking, unnamed_type, whole_plan}
 use Rattle.plan_meaning.proofs.WholeRead.{by_number, tables, are_tables, shapes, kept, marks, are_marked, owners, are_owned, homes, homes_stand, types_are_kept, place_is, no_named, nothing_there, seen_outside, seen_name, signature}
+use Rattle.base_lemmas.proofs.Elements.{all_at, last_of as one-contained}
+use Rattle.std.proofs.lemmas.Option.{same_Some as same-some}
 
 -- ---- what is kept beside the tables
 

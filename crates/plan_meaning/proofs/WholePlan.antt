@@ -12,13 +12,13 @@ use Rattle.wit_model.specs.Text.{Text}
 use Rattle.wit_model.specs.Tree as tree
 use Rattle.wit_model.specs.Tree.{Tree, Primitive, Place, Form, list_tree, own_tree, borrow_tree, result_tree}
 use Rattle.wit_model.specs.Meaning.{FunctionMeaning, TypeMeaning, Item}
-use Rattle.wit_model.proofs.Elements.{same-some}
 use Rattle.plan_meaning.specs.Shapes.{part_tree}
 use Rattle.plan_meaning.specs.Plan.{Plan, PlannedKind, resource, alias, formed, PlannedType, PlannedFunction, PlannedInterface, interface, function, declares, label, path_of, PlannedWorld, met_in, resource_marks, trees_in, interface_in}
 use Rattle.plan_meaning.specs.PlanMeaning.{plan_meaning}
 use Rattle.plan_meaning.specs.PlanRules as rules
-use Rattle.plan_meaning.specs.PlanRules.{IsPlan, HoldsNoMore, IsPackagePlan, IsWanted, shown, used}
+use Rattle.plan_meaning.specs.PlanRules.{IsPlan, IsPackagePlan, IsWanted, shown, used}
 use Rattle.plan_meaning.proofs.Lists.{no_true}
+use Rattle.std.proofs.lemmas.Option.{same_Some as same-some}
 
 -- ---- types: those of s:r/j, s:r/k, a:b/i and a:b/s, the world's and the inline interface's, with unnamed ones between them
 

@@ -3,7 +3,7 @@ use Rattle.std.proofs.Common.{◌≡◌, ◌⊎◌, inr, refl, sym, ap, subst, �
 use Rattle.std.specs.Prelude.{codes, nat_lt, if◌then◌else◌}
 use Rattle.std.specs.List.{list_all}
 use Rattle.std.specs.Option.{option_map_or}
-use Rattle.std.proofs.lemmas.Bool.{eqb-true, ltb-false, lt-ltb}
+use Rattle.std.proofs.lemmas.Bool.{eqb-true, ltb-false, lt-ltb, not-true as not_true}
 use Rattle.std.proofs.lemmas.Bool.Decides.{nat_tests}
 use Rattle.wit_model.specs.declared.model.TypeOwner.{TypeOwner}
 use Rattle.wit_model.specs.Text.{Text, text_eq}
@@ -11,17 +11,15 @@ use Rattle.wit_model.specs.Names.{PackageIdentity, cut as cut_at}
 use Rattle.wit_model.specs.Tree.{Form, Place}
 use Rattle.wit_model.specs.Parts.{same_owner}
 use Rattle.wit_model.specs.Valid.{as_interface, as_world}
-use Rattle.wit_model.proofs.Elements.{same-some}
-use Rattle.wit_model.proofs.Lists.{first_true, second_true}
 use Rattle.comp_meaning.specs.Follow.{place_of}
 use Rattle.comp_meaning.proofs.Computing.{computes}
 use Rattle.plan_meaning.specs.Shapes.{Shape, code, first_label, form_code, form_of, node_shape, named_shape, IsShape, a_name, a_node, part_tree, shape_tree, shape_trees}
 use Rattle.plan_meaning.specs.Plan as plan
-use Rattle.plan_meaning.specs.Plan.{Plan, PlannedKind, PlannedType, formed, part_number}
+use Rattle.plan_meaning.specs.Plan.{PlannedKind, PlannedType, part_number}
 use Rattle.plan_meaning.specs.PlanRules as rules
 use Rattle.plan_meaning.specs.PlanRules.{are_rising, is_handle_form}
 use Rattle.plan_meaning.specs.Renumbering.{IsPart, a_primitive, a_shape}
-use Rattle.plan_meaning.specs.NumberedViews.{FunctionShape, Tables, path_at, place_at, AreTables, HasNameIn, itself, inside, AllOf, PartsOf, NumberedView, NumberedType, NumberedFunction, NumberedSight, value, resource}
+use Rattle.plan_meaning.specs.NumberedViews.{FunctionShape, Tables, path_at, place_at, AreTables, HasNameIn, itself, inside, AllOf, PartsOf}
 use Rattle.plan_meaning.specs.NumberedViews as numbered
 use Rattle.plan_meaning.specs.NumberedRules.{IsSeenFrom}
 use Rattle.plan_meaning.specs.NumberedWorlds.{HasPath}
@@ -31,12 +29,15 @@ use Rattle.plan_meaning.specs.GatheredPlan.{Becomes, DeclaresKind, a_resource, a
 use Rattle.plan_meaning.specs.KeptTypes.{IsKeptType, unnamed, declared, TypesAreKept}
 use Rattle.plan_meaning.specs.KeptResources.{MarkedBy, AreMarked}
 use Rattle.plan_meaning.specs.KeptOwners.{IsNamedInterface, AreOwned}
-use Rattle.plan_meaning.proofs.Lists.{all_get, each_at, no_true}
+use Rattle.plan_meaning.proofs.Lists.{each_at, no_true}
 use Rattle.plan_meaning.proofs.NumberedRules.{no_name}
-use Rattle.plan_meaning.proofs.ReadLists.{never, not_true}
+use Rattle.plan_meaning.proofs.ReadLists.{never}
 use Rattle.plan_meaning.proofs.ShapeLaws.{form_back}
 use Rattle.plan_meaning.proofs.WholePlan.{planned_types, whole_plan}
 use Rattle.plan_meaning.proofs.Words.{behind}
+use Rattle.base_lemmas.proofs.Bools.{left_of as first_true, right_of as second_true}
+use Rattle.base_lemmas.proofs.Elements.{all_get}
+use Rattle.std.proofs.lemmas.Option.{same_Some as same-some}
 
 -- ---- by number
 

@@ -21,10 +21,10 @@ use Rattle.wit_model.specs.Text.{Text, text_of, optional_text}
 use Rattle.wit_model.specs.Names.{path_in}
 use Rattle.wit_model.specs.Tree.{Form, Tree, Place, Declaration, type_, node, children, child, given, named, is_given}
 use Rattle.wit_model.specs.Types as types
-use Rattle.wit_model.specs.Types.{number_of, no_tree, tree_of, declared_by, tree_of_declaration, tree_of_definition, trees_of}
+use Rattle.wit_model.specs.Types.{number_of, tree_of, declared_by, tree_of_declaration, tree_of_definition, trees_of}
 use Rattle.wit_model.specs.Lookup.{package_at, interface_at, type_at, path_in_package, path_of_interface, interface_path, place_of_path, place_of, resource_of}
 use Rattle.wit_model.specs.Parts as parts
-use Rattle.wit_model.specs.Parts.{member_types, handled, met_by, met_of, met_inside, numbered_from, same_owner, function_types}
+use Rattle.wit_model.specs.Parts.{met_by, met_of, met_inside, numbered_from, same_owner, function_types}
 use Rattle.wit_model.specs.Uses as uses
 use Rattle.wit_model.specs.Uses.{alias_target, owner_interface, used_interface, direct_deps, once}
 use Rattle.plan_meaning.specs.Shapes.{part_tree}
@@ -32,7 +32,9 @@ use Rattle.plan_meaning.specs.Plan.{Plan, path_of_planned, path_at, place_in, pa
 use Rattle.plan_meaning.specs.PlanRules.{direct_uses}
 use Rattle.plan_meaning.specs.Built.{part_of, given_parts, planned_kind, planned_type, planned_function, planned_interface, planned_world, planned_package}
 use Rattle.plan_meaning.proofs.ShapeLaws.{part_behind}
-use Rattle.plan_meaning.proofs.Lists.{map_of_map, same_map, filter_of_map, get_of_map, grow_of_map, same_grow, numbered_of_map, then_of_map, option_of_map, or_of_map, same_then, same_or}
+use Rattle.plan_meaning.proofs.Lists.{grow_of_map, same_grow, numbered_of_map, then_of_map, option_of_map, or_of_map, same_then, same_or}
+use Rattle.base_lemmas.proofs.Lists.{filter_of_map, map_of_map, same_map}
+use Rattle.std.proofs.lemmas.Option.{slice_get-map as get_of_map}
 
 -- the plan that a `Resolve` is built from
 abbrev pub plan_of : Resolve → ℕ → Plan

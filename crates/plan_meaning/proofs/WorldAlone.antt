@@ -18,21 +18,25 @@ use Rattle.wit_model.specs.Meant as meant
 use Rattle.wit_model.specs.Meant.{MeantWorld, interface_meaning_at, package_of_world}
 use Rattle.wit_model.specs.Rules.{is_id}
 use Rattle.wit_model.specs.Valid.{IsValid}
-use Rattle.wit_model.proofs.Elements.{contains-map, contains-filter_map, contains-one, has-contains, contains-has, get-contains, same-some}
+use Rattle.wit_model.proofs.Elements.{contains-filter_map, has-contains, contains-has}
 use Rattle.wit_model.proofs.Maps.{one_map}
-use Rattle.wit_model.proofs.OnePath.{has-path, path-once, some-of}
+use Rattle.wit_model.proofs.OnePath.{has-path, path-once}
 use Rattle.plan_meaning.specs.Plan.{Plan, PlannedWorld, path_of_planned, package_in}
 use Rattle.plan_meaning.specs.PlanRules as rules
 use Rattle.plan_meaning.specs.PlanRules.{IsWorldPlan}
 use Rattle.plan_meaning.specs.PlanMeaning as planned
 use Rattle.plan_meaning.specs.PlanMeaning.{plan_world_meaning, shown_entry}
 use Rattle.plan_meaning.specs.Built.{IsBuilt, planned_interface, planned_world, planned_package}
-use Rattle.plan_meaning.proofs.Lists.{get_of_map, has_filter, filter_has, filter_map_from, map_from, get_back, no_true}
+use Rattle.plan_meaning.proofs.Lists.{has_filter, filter_has, no_true}
 use Rattle.plan_meaning.proofs.Words.{plan_of, path_of_planned_is}
 use Rattle.plan_meaning.proofs.Meanings.{interface_is, world_is}
 use Rattle.plan_meaning.proofs.Reaching.{shows_is}
 use Rattle.plan_meaning.proofs.PackageMeans.{under, path_there, meaning_there, some_path, named}
 use Rattle.plan_meaning.proofs.Valid.{plan_is, built_is_valid}
+use Rattle.base_lemmas.proofs.Elements.{contains-map, contains-one, filter_map_from, get-contains, map_from}
+use Rattle.base_lemmas.proofs.Lists.{get_back}
+use Rattle.base_lemmas.proofs.Options.{there as some-of}
+use Rattle.std.proofs.lemmas.Option.{same_Some as same-some, slice_get-map as get_of_map}
 
 module _ (r : Resolve) (m : ℕ) where
   -- an entry of the plan, and what it is

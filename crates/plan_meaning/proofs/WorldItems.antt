@@ -13,18 +13,20 @@ use Rattle.wit_model.specs.Lookup.{interface_at, type_at}
 use Rattle.wit_model.specs.Parts.{same_owner}
 use Rattle.wit_model.specs.Uses as uses
 use Rattle.wit_model.specs.Rules as rules
-use Rattle.wit_model.specs.Rules.{passes, is_id, text_is, is_freestanding}
+use Rattle.wit_model.specs.Rules.{passes, is_id, text_is}
 use Rattle.wit_model.specs.Valid.{Keeps, world_items, as_world}
-use Rattle.wit_model.proofs.Lists.{first_true, second_true}
 use Rattle.wit_model.proofs.Entries.{worlds_keep}
 use Rattle.plan_meaning.specs.Plan as plan
 use Rattle.plan_meaning.specs.PlanRules as planned
 use Rattle.plan_meaning.specs.PlanRules.{IsPlan, bears}
 use Rattle.plan_meaning.specs.Built.{planned_type, planned_function, planned_interface, planned_world, planned_key, planned_item}
-use Rattle.plan_meaning.proofs.Lists.{get_of_map, all_built, each_built, each_from_built, each_two, both, no_true}
+use Rattle.plan_meaning.proofs.Lists.{all_built, each_built, each_from_built, each_two, no_true}
 use Rattle.plan_meaning.proofs.Words.{plan_of}
 use Rattle.plan_meaning.proofs.KindRules.{has_text}
 use Rattle.plan_meaning.proofs.Listed.{there, passes_weaker, bears_is}
+use Rattle.base_lemmas.proofs.Bools.{left_of as first_true, right_of as second_true}
+use Rattle.std.proofs.lemmas.Bool.{and_from as both}
+use Rattle.std.proofs.lemmas.Option.{slice_get-map as get_of_map}
 
 pub item_interface_is : (x : WorldItem) → plan.item_interface (planned_item x) ≡ uses.item_interface x
 item_interface_is (item.Interface id stability docs external_id) = refl

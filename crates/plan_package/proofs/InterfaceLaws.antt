@@ -1,11 +1,10 @@
 -- The interfaces of a plan.
 use Rattle.std.proofs.Common.{◌≡◌, refl, sym, ap, subst, ◌∙◌, ℕ, ◌+◌, ◌<◌, Bool, true, false, ◌&&◌, ◌==◌, cond, if◌then◌else◌, List, [], ◌∷◌, ◌++◌, map, take, length, get_or, Bor, Option, Some, None, Result, Ok, Err, IfOk, is_some}
-use Rattle.std.proofs.lemmas.Bool.{eqb-true, eq-eqb}
+use Rattle.std.proofs.lemmas.Bool.{eqb-true}
 use Rattle.std.proofs.lemmas.List.{map-append, take_more}
 use Rattle.std.specs.List.{AllByRecursion, AllZip}
 use Rattle.std.specs.Option.{option_map_or}
-use Rattle.wit_model.proofs.Distinct.{either_way}
-use Rattle.wit_model.proofs.Elements.{same-some, zip-push}
+use Rattle.wit_model.proofs.Elements.{zip-push}
 use Rattle.wit_model.specs.declared.model.TypeId.{TypeId}
 use Rattle.wit_model.specs.Text.{Text}
 use Rattle.plan_build.specs.declared.plan.PlannedInterface.{PlannedInterface as CodeInterface}
@@ -16,6 +15,8 @@ use Rattle.read_rules.specs.Sights.{numbered_sight}
 use Rattle.plan_meaning.specs.GatheredPlan.{functions_seen}
 use Rattle.plan_meaning.specs.NumberedViews.{NumberedFunction, NumberedSight, NumberedType, NumberedView, Tables, first_at, first_whole_at}
 use Rattle.plan_package.specs.WholeInterfaces.{AreSeen, Home, ListsNumber, PlansInterface, PlansPlace}
+use Rattle.base_lemmas.proofs.Numbers.{turned as flip}
+use Rattle.std.proofs.lemmas.Option.{same_Some as same-some}
 
 pub numbers_listed : (kept : List ℕ) (xs : List NumberedType) (es : List (Bor Text × TypeId)) → AllZip (ListsType kept) xs (map stated_number es) → AllZip (ListsNumber kept) xs (map (λ (e : Bor Text × TypeId). (e.0.now, e.1.0)) es)
 numbers_listed kept [] [] all = tt
@@ -24,9 +25,6 @@ numbers_listed kept (x ∷ xs) [] all = absurd all
 numbers_listed kept (x ∷ xs) (e ∷ es) all = ((all.0.0, all.0.1), numbers_listed kept xs es all.1)
 
 -- ---- the first views of a place
-
-pub flip : (a b : ℕ) → (a == b) ≡ (b == a)
-flip a b = either_way (a == b) (b == a) (λ e. eq-eqb b a (sym (eqb-true a b e))) (λ e. eq-eqb a b (sym (eqb-true b a e)))
 
 functions_of_first : (p : ℕ) (seen : List NumberedSight) → option_map_or (λ (s : NumberedSight). s.view.functions) (first_whole_at p seen) [] ≡ functions_seen p seen
 functions_of_first p [] = refl

@@ -1,33 +1,18 @@
 -- What is listed in a package.
-use Rattle.std.proofs.Common.{◌≡◌, refl, ap, subst, ◌∙◌, ℕ, zero, suc, ◌+◌, ◌<◌, arith, Bool, true, false, not, ◌&&◌, ◌||◌, ◌==◌, cond, List, [], ◌∷◌, ◌++◌, length, map, Option, Some, None, slice_get}
+use Rattle.std.proofs.Common.{◌≡◌, refl, ap, subst, ◌∙◌, ℕ, zero, suc, ◌+◌, ◌<◌, arith, Bool, true, false, not, ◌&&◌, ◌||◌, ◌==◌, cond, List, [], ◌∷◌, ◌++◌, map, Option, Some, None, slice_get}
 use Rattle.std.proofs.lemmas.Bool.{eqb-true, eq-eqb}
 use Rattle.std.specs.List.{AllByRecursion}
 use Rattle.wit_model.specs.Text.{Text}
 use Rattle.wit_model.specs.Uses.{has}
-use Rattle.wit_model.proofs.Elements.{same-some}
 use Rattle.read_rules.specs.declared.scopes.Scope.{Scope}
 use Rattle.plan_meaning.specs.NumberedWorlds.{are_once}
 use Rattle.plan_package.specs.Listed.{HomesAreListed, IsHomeAt, IsWorldAt, WorldsAreListed}
 use Rattle.plan_package.specs.WholeInterfaces.{Home}
 use Rattle.plan_package.specs.WholePackages.{entries_from, entry_of, numbered_labels}
-
-pub none_there : {X : Type 0} (n : ℕ) (x : X) → slice_get [] n ≡ Some x → ⊥
-none_there zero x e = cc
-none_there (suc n) x e = cc
-
-pub below : {X : Type 0} (xs : List X) (n : ℕ) (x : X) → slice_get xs n ≡ Some x → n < length xs
-below [] n x e = absurd (none_there n x e)
-below (y ∷ xs) zero x e = omega arith
-below (y ∷ xs) (suc n) x e = let later = below xs n x e in omega (arith, later)
-
-pub all_through : {X : Type 0} (P Q : X → Type 0) → ((x : X) → P x → Q x) → (xs : List X) → AllByRecursion P xs → AllByRecursion Q xs
-all_through P Q f [] all = tt
-all_through P Q f (x ∷ xs) all = (f x all.0, all_through P Q f xs all.1)
-
-all_at : {X : Type 0} (P : X → Type 0) (xs : List X) → AllByRecursion P xs → (n : ℕ) (x : X) → slice_get xs n ≡ Some x → P x
-all_at P [] all n x at = absurd (none_there n x at)
-all_at P (y ∷ xs) all zero x at = subst P (same-some y x at) all.0
-all_at P (y ∷ xs) all (suc n) x at = all_at P xs all.1 n x at
+use Rattle.base_lemmas.proofs.Elements.{all_at_too as all_at}
+use Rattle.base_lemmas.proofs.Lists.{none_there}
+use Rattle.std.proofs.ByRecursion.{All-weaker as all_through}
+use Rattle.std.proofs.lemmas.Option.{same_Some as same-some}
 
 -- ---- entries whose numbers rise
 

@@ -12,15 +12,12 @@ use Rattle.plan_build.specs.declared.plan.PlannedPackage.{PlannedPackage as Code
 use Rattle.plan_build.specs.PlanOf.{stated_package}
 use Rattle.plan_meaning.specs.Plan.{PlannedPackage}
 use Rattle.wit_model.specs.Names.{PackageIdentity}
-use Rattle.plan_package.proofs.ListedLaws.{below, none_there}
 use Rattle.plan_package.specs.WholePackages.{entries_from, entry_of, listed_at, numbered_interface, numbered_labels, AreListed, ArePlanned, Entries, IsMainPackage, ListsEntry, PlansPackage, PlansPackages, the_main}
+use Rattle.base_lemmas.proofs.Lists.{append_none, front_or_end, none_there}
+use Rattle.std.proofs.lemmas.Option.{slice_get_within as below}
 
 below_none : (k : ℕ) → k < 0 → ⊥
 below_none k h = omega (arith, h)
-
-append_none : {A : Type 0} (xs : List A) → xs ++ [] ≡ xs
-append_none [] = refl
-append_none (x ∷ xs) = ap (λ l. x ∷ l) (append_none xs)
 
 -- what stands in a list is there
 pub in_list : {A B : Type 0} (f : A → B) (o : Option A) (xs : List B) (n : ℕ) → option_map f o ≡ slice_get xs n → n < length xs → o ≡ None → ⊥
@@ -96,24 +93,10 @@ module _ (homes : ℕ → Option Home) (places : List ℕ) (i : ℕ) (old : List
 
 -- ---- all packages
 
-pub if_ok : {A E : Type 0} (r : Result A E) (P Q : A → Type 0) → ((x : A) → P x → Q x) → IfOk r P → IfOk r Q
-if_ok (Ok x) P Q f h = f x h
-if_ok (Err e) P Q f h = tt
-
 pub main_planned : (packages : List PackageIdentity) (main : ℕ) (places : List ℕ) (ms : List Member) (es : List (Text × ℕ)) (n : ℕ) {E : Type 0} (r : Result CodePackage E) (identity : PackageIdentity) → n ≡ main → slice_get packages n ≡ Some identity
     → IfOk r (λ k. IsMainPackage identity places ms (stated_package k)) → IfOk r (λ k. PlansPackage packages main places ms es n (stated_package k))
 main_planned packages main places ms es n (Ok k) identity own at is = the_main identity own at is
 main_planned packages main places ms es n (Err e) identity own at is = tt
-
-front_or_end : {X : Type 0} (xs : List X) (y : X) (n : ℕ) (x : X) → slice_get (xs ++ y ∷ []) n ≡ Some x → (slice_get xs n ≡ Some x) ⊎ ((n ≡ length xs) × (y ≡ x))
-front_or_end [] y zero x e = inr (refl, (let same : y ≡ x = cc in same))
-front_or_end [] y (suc n) x e = absurd (none_there n x e)
-front_or_end (z ∷ xs) y zero x e = inl e
-front_or_end (z ∷ xs) y (suc n) x e = by (front_or_end xs y n x e)
-  where
-    by : (slice_get xs n ≡ Some x) ⊎ ((n ≡ length xs) × (y ≡ x)) → (slice_get xs n ≡ Some x) ⊎ ((suc n ≡ suc (length xs)) × (y ≡ x))
-    by (inl a) = inl a
-    by (inr b) = inr (ap suc b.0, b.1)
 
 module _ (packages : List PackageIdentity) (main : ℕ) (places : List ℕ) (ms : List Member) (listed : ℕ → List (Text × ℕ)) where
   pub none_planned : (old : List CodePackage) → old ≡ [] → ArePlanned packages main places ms listed 0 (map stated_package old)

@@ -14,11 +14,13 @@ use Rattle.plan_types.specs.Orders.{joined, joined_all, places_of_part}
 use Rattle.plan_types.specs.PlannedTypes.{number_in}
 use Rattle.plan_meaning.specs.NumberedMembers.{NumberedMember, NumberedPart, interface, world}
 use Rattle.plan_meaning.specs.NumberedViews.{NumberedSight, NumberedView, first_at}
-use Rattle.plan_package.proofs.InterfaceLaws.{flip}
 use Rattle.plan_package.specs.PlanWhole.{places_in}
 use Rattle.plan_package.specs.Views.{types_alone, views_of_members, views_of_part, whole_view}
 use Rattle.plan_package.specs.WholeInterfaces.{AreSeen}
 use Rattle.plan_package.specs.WholePackages.{interface_in_part, interfaces_in, IsPlaced}
+use Rattle.base_lemmas.proofs.Lists.{map_of_map as map_twice}
+use Rattle.base_lemmas.proofs.Numbers.{turned as flip}
+use Rattle.plan_meaning.proofs.ReadOrder.{has_end as has_right, has_front as has_left}
 
 -- ---- numbers
 
@@ -36,22 +38,6 @@ has_number places p h =
     ap (λ b. is_some (cond b (Some n) None)) (lt-ltb n (length places) (low p places h))
 
 -- ---- places that are met
-
-or_right : (a : Bool) → (a || true) ≡ true
-or_right true = refl
-or_right false = refl
-
-has_left : (xs ys : List ℕ) (p : ℕ) → has xs p ≡ true → has (xs ++ ys) p ≡ true
-has_left [] ys p h = let wrong : false ≡ true = h in absurd cc
-has_left (x ∷ xs) ys p h = by (x == p) h (has_left xs ys p)
-  where
-    by : (b : Bool) → (b || has xs p) ≡ true → (has xs p ≡ true → has (xs ++ ys) p ≡ true) → (b || has (xs ++ ys) p) ≡ true
-    by true h later = refl
-    by false h later = later h
-
-has_right : (xs ys : List ℕ) (p : ℕ) → has ys p ≡ true → has (xs ++ ys) p ≡ true
-has_right [] ys p h = h
-has_right (x ∷ xs) ys p h = ap (λ b. (x == p) || b) (has_right xs ys p h) ∙ or_right (x == p)
 
 has_own : (ps : List ℕ) (p : ℕ) → has (p ∷ ps) p ≡ true
 has_own ps p = ap (λ b. b || has ps p) (eq-eqb p p refl)
@@ -113,11 +99,7 @@ module _ (P : ℕ → Type 0) where
       by true = old
       by false = all_behind met p old new.0
 
-map_twice : {A B C : Type 0} (g : B → C) (f : A → B) (xs : List A) → map g (map f xs) ≡ map (λ x. g (f x)) xs
-map_twice g f [] = refl
-map_twice g f (x ∷ xs) = ap (λ l. g (f x) ∷ l) (map_twice g f xs)
-
-part_placed : (x : NumberedPart) → map (λ (s : NumberedSight). s.place) (views_of_part x) ≡ places_of_part x
+pub part_placed : (x : NumberedPart) → map (λ (s : NumberedSight). s.place) (views_of_part x) ≡ places_of_part x
 part_placed (world w) = map_twice (λ (s : NumberedSight). s.place) whole_view w.instances
 part_placed (interface p v imports) =
     map-append (λ (s : NumberedSight). s.place) (map types_alone imports) (record { place = p; view = v; whole = true } ∷ [])

@@ -1,14 +1,12 @@
 -- The packages of a plan of what is exported, as they are read.
-use Rattle.std.proofs.Common.{◌≡◌, refl, sym, ap, subst, ◌∙◌, ℕ, zero, suc, ◌+◌, ◌<◌, arith, Bool, true, false, not, ◌&&◌, ◌||◌, ◌==◌, nat_lt, cond, List, [], ◌∷◌, length, map, Some, None, slice_get}
-use Rattle.std.proofs.lemmas.Bool.{eqb-true, eq-eqb, ltb-true}
+use Rattle.std.proofs.Common.{◌≡◌, refl, sym, ap, subst, ◌∙◌, ℕ, suc, ◌+◌, ◌<◌, arith, Bool, true, false, not, ◌&&◌, ◌||◌, ◌==◌, nat_lt, cond, List, [], ◌∷◌, length, map, Some, None, slice_get}
+use Rattle.std.proofs.lemmas.Bool.{eqb-true, eq-eqb, ltb-true, not-true as is_absent}
 use Rattle.std.specs.List.{AllByRecursion, AllZip, list_all, list_any, prefix_len}
 use Rattle.wit_model.specs.declared.model.TypeOwner.{TypeOwner}
 use Rattle.wit_model.specs.Names.{PackageIdentity}
 use Rattle.wit_model.specs.Text.{Text, text_eq}
 use Rattle.wit_model.specs.Uses.{has}
 use Rattle.wit_model.specs.Valid.{as_interface}
-use Rattle.wit_model.proofs.Elements.{same-some}
-use Rattle.wit_model.proofs.Lists.{first_true, second_true}
 use Rattle.comp_meaning.specs.Rules.{distinct}
 use Rattle.read_homes.specs.Homes.{ArePackages}
 use Rattle.read_exports.specs.declared.members.Member.{Member}
@@ -25,14 +23,11 @@ use Rattle.plan_package.specs.PlanWhole.{places_in}
 use Rattle.plan_package.specs.ReadPackages.{world_labels, AreExported, PackagesAreRead}
 use Rattle.plan_package.specs.WholePackages.{entries_from, interfaces_in, numbered_labels, IsForeignPackage, IsMainPackage, ListsPlace, PlansPackage, another, the_main}
 use Rattle.plan_package.specs.WholeWorlds.{worlds_in, PlansWorld}
-use Rattle.plan_package.proofs.ListedLaws.{all_through, homes_are_listed, none_there, worlds_are_listed}
-
-zip_on : {A B : Type 0} (R : A → B → Type 0) (xs : List A) (ys : List B) → AllZip R xs ys → (n : ℕ) (x : A) → slice_get xs n ≡ Some x → (y : B) × (slice_get ys n ≡ Some y) × R x y
-zip_on R [] [] all n x e = absurd (none_there n x e)
-zip_on R [] (y ∷ ys) all n x e = absurd all
-zip_on R (z ∷ xs) [] all n x e = absurd all
-zip_on {A = A} R (z ∷ xs) (y ∷ ys) all zero x e = (y, refl, subst (λ (a : A). R a y) (same-some z x e) all.0)
-zip_on R (z ∷ xs) (y ∷ ys) all (suc n) x e = zip_on R xs ys all.1 n x e
+use Rattle.plan_package.proofs.ListedLaws.{homes_are_listed, worlds_are_listed}
+use Rattle.base_lemmas.proofs.Bools.{left_of as first_true, right_of as second_true, second_false as or_none}
+use Rattle.base_lemmas.proofs.Elements.{zip_at as zip_on}
+use Rattle.std.proofs.ByRecursion.{All-weaker as all_through}
+use Rattle.std.proofs.lemmas.Option.{same_Some as same-some}
 
 -- ---- numbers among places
 
@@ -56,14 +51,6 @@ number_at places p n is = by (nat_lt (prefix_len (λ q. not (p == q)) places) (l
     by false e is = let wrong : None ≡ Some n = is in absurd cc
 
 -- ---- lists that go together
-
-or_none : (a b : Bool) → (a || b) ≡ false → b ≡ false
-or_none true b h = let wrong : true ≡ false = h in absurd cc
-or_none false b h = h
-
-is_absent : (b : Bool) → not b ≡ true → b ≡ false
-is_absent true h = sym h
-is_absent false h = refl
 
 module _ (places : List ℕ) where
   not_listed : (x k : ℕ) → number_in places x ≡ Some k → (xs es : List (Text × ℕ)) → AllZip (ListsPlace places) xs es → has (map (λ (y : Text × ℕ). y.1) xs) x ≡ false → has (numbers_of es) k ≡ false

@@ -18,7 +18,7 @@ use Rattle.plan_package.specs.Views.{views_of_members}
 use Rattle.plan_package.specs.WholeInterfaces.{Home, PlansPlace}
 use Rattle.plan_package.specs.WholePackages.{PlansPackages}
 use Rattle.plan_package.specs.WholeWorlds.{worlds_in, PlansWorld}
-use Rattle.plan_package.proofs.ListedLaws.{below}
+use Rattle.std.proofs.lemmas.Option.{slice_get_within as below}
 
 -- a table that tells what each type is shown as first
 module _ (t : Tables) (kept : List ℕ) (showings : List NumberedShowing) (table : List (Option Showing)) (many : length table ≡ length t.shapes) (told : TellsFirst showings table) where

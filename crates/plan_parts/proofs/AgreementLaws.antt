@@ -9,14 +9,15 @@ use Rattle.std.specs.Cmp.Lexicographic.{pointwise}
 use Rattle.std.specs.List.{list_all, list_any}
 use Rattle.std.specs.Option.{option_eq}
 use Rattle.wit_model.specs.Text.{Text, text_eq}
-use Rattle.wit_model.proofs.Lists.{first_true, second_true}
 use Rattle.comp_meaning.specs.Same.{stand_in}
 use Rattle.plan_meaning.specs.NumberedViews.{NumberedFunction, same_function, same_functions, same_id}
-use Rattle.plan_meaning.proofs.Lists.{length_of_map}
 use Rattle.read_rules.specs.Tables.{given_text}
 use Rattle.plan_parts.specs.contracts.agreement.ToldFunctionPartialEq.TheImpl as told_eq
 use Rattle.plan_parts.specs.declared.agreement.ToldFunction.{ToldFunction}
 use Rattle.plan_parts.specs.Agreement.{are_told, is_told, tells_same, told_function, AreTold}
+use Rattle.base_lemmas.proofs.Bools.{absorbed, left_of as first_true, or_false, or_line, right_of as second_true}
+use Rattle.base_lemmas.proofs.Lists.{length_of_map}
+use Rattle.std.proofs.lemmas.Bool.{or_left as either_true, or_right as second_of}
 
 -- ---- pair by pair
 
@@ -67,23 +68,6 @@ told_same a b h =
     let signature = eqb-true a.signature b.signature (first_true (a.signature == b.signature) (option_eq (λ x y. text_eq x.now y.now) a.external_id b.external_id) rest) in
     let id = given_same a.external_id b.external_id (second_true (a.signature == b.signature) (option_eq (λ x y. text_eq x.now y.now) a.external_id b.external_id) rest) in
     λ i. (name i, record { signature = signature i; external_id = id i })
-
-absorbed : (a b : Bool) → (b ≡ true → a ≡ true) → a ≡ (a || b)
-absorbed true b h = refl
-absorbed false true h = h refl
-absorbed false false h = refl
-
-or_false : (a : Bool) → (a || false) ≡ a
-or_false true = refl
-or_false false = refl
-
-or_line : (a b c : Bool) → ((a || b) || c) ≡ (a || (b || c))
-or_line true b c = refl
-or_line false b c = refl
-
-second_of : (a b : Bool) → b ≡ true → (a || b) ≡ true
-second_of true b q = refl
-second_of false b q = q
 
 -- what passes is found where it stands
 stands : (test : Text × NumberedFunction → Bool) (a : ToldFunction) (ks : List ToldFunction) → list_any (same_told a) ks ≡ true → test (told_function a) ≡ true → list_any test (map told_function ks) ≡ true
@@ -137,10 +121,6 @@ pub same_told_functions : (told fs gs : List (Text × NumberedFunction)) → Are
 same_told_functions told fs gs alike many = by_told told gs alike fs ∙ sym (ap (λ b. b && stand_in same_function fs gs) many)
 
 -- ---- the same functions in the same order
-
-either_true : (a b : Bool) → a ≡ true → (a || b) ≡ true
-either_true true b h = refl
-either_true false b h = absurd cc
 
 -- each stands among those of the other, whatever stands in front of these
 paired : (fs gs hs : List (Text × NumberedFunction)) → ((test : Text × NumberedFunction → Bool) → list_any test gs ≡ true → list_any test hs ≡ true) → pointwise tells_same fs gs ≡ true → list_all (λ f. list_any (λ g. text_eq f.0 g.0 && same_function f.1 g.1) hs) fs ≡ true

@@ -10,8 +10,6 @@ use Rattle.std.proofs.lemmas.Bool.{and_from, eqb-true, eq-eqb}
 use Rattle.wit_model.specs.Text.{Text, text_eq}
 use Rattle.wit_model.specs.Tree.{Form, Tree, Trees, Declaration}
 use Rattle.wit_model.specs.Meaning.{FunctionMeaning}
-use Rattle.wit_model.proofs.Lists.{first_true, second_true}
-use Rattle.wit_model.proofs.Distinct.{either_way}
 use Rattle.comp_meaning.specs.Follow.{ShownType, Slot}
 use Rattle.comp_meaning.specs.Rules.{distinct}
 use Rattle.comp_meaning.specs.Same as same
@@ -22,14 +20,12 @@ use Rattle.comp_meaning.proofs.FunctionLists.{functions_make_one_map}
 use Rattle.plan_meaning.specs.NumberedMembers.{are_interfaces}
 use Rattle.plan_meaning.specs.NumberedRules.{Fact, is_interface}
 use Rattle.plan_meaning.specs.NumberedViews.{NumberedFunction, NumberedSight, NumberedType, Tables, agree, agree_in_numbers, agree_with_first_in_numbers, agrees_with_first, first_at, first_whole_at, same_function, same_functions, same_number, same_shown, same_types, same_whole}
-use Rattle.plan_meaning.proofs.Lists.{length_of_map}
-use Rattle.comp_meaning.proofs.AgreementLaws.{found_contains, last_of, distinct_behind}
+use Rattle.comp_meaning.proofs.AgreementLaws.{found_contains, distinct_behind}
+use Rattle.base_lemmas.proofs.Bools.{and-true as and_true, both_ways as either_way, left_of as first_true, right_of as second_true}
+use Rattle.base_lemmas.proofs.Elements.{last_of}
+use Rattle.base_lemmas.proofs.Lists.{length_of_map}
 
 -- ---- numbers as trees of their own
-
-and_true : (a : Bool) → (a && true) ≡ a
-and_true true = refl
-and_true false = refl
 
 abbrev tree_of : ℕ → Tree
 tree_of n = Tree.node (Form.fixed_list_of n) Trees.no_children

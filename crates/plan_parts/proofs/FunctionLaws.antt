@@ -15,7 +15,6 @@ use Rattle.wit_model.specs.Names.{constructor_name, is_label, method_name, stati
 use Rattle.wit_model.specs.Rules.{after_prefix}
 use Rattle.wit_model.specs.Text.{Text, text_eq}
 use Rattle.wit_model.proofs.Elements.{zip-push}
-use Rattle.wit_model.proofs.Lists.{second_true}
 use Rattle.wit_model.proofs.NameLaws.{label_lacks}
 use Rattle.comp_meaning.specs.Rules.{is_label_behind}
 use Rattle.plan_meaning.specs.Built.{part_of}
@@ -26,11 +25,15 @@ use Rattle.plan_meaning.specs.NumberedRules.{Fact, begins_with_self, constructs,
 use Rattle.plan_meaning.specs.NumberedViews.{FunctionShape, Tables}
 use Rattle.plan_meaning.specs.Plan.{Plan}
 use Rattle.plan_meaning.specs.Renumbering.{IsPart, a_primitive, a_shape}
-use Rattle.plan_meaning.proofs.Lists.{any_get, get_any}
+use Rattle.plan_meaning.proofs.Lists.{any_get}
 use Rattle.plan_build.specs.PlanOf.{stated_params}
 use Rattle.read_rules.specs.Tables.{param_of}
-use Rattle.read_rules.proofs.MemberNames.{behind, label_no_dot, prefix_back, unique_last}
+use Rattle.read_rules.proofs.MemberNames.{behind, label_no_dot, unique_last}
 use Rattle.plan_parts.specs.Functions.{free_kind, is_behind, is_constructor_named, method_kind, method_mark, static_kind, static_mark, KeptIfGiven, KeptParam, NamesKind, a_constructor, a_method, a_static, of_none, KindsAreNamed, FunctionsBecome}
+use Rattle.base_lemmas.proofs.Bools.{right_of as second_true}
+use Rattle.std.proofs.lemmas.Bool.{or_cases as either_true}
+use Rattle.std.proofs.lemmas.Map.Keys.{any_passes_from_place as get_any}
+use Rattle.wit_model.proofs.Prefixes.{after_sound as prefix_back}
 
 -- ---- names of members
 
@@ -128,10 +131,6 @@ module _ (t : Tables) (known : ℕ → Fact) (q : ℕ) (name : Text) (f : Functi
       by true false c false e false a1 a2 a3 a4 a5 a6 h = absurd cc
       by false b c true false false a1 a2 a3 a4 a5 a6 h = absurd cc
       by false b c false e false a1 a2 a3 a4 a5 a6 h = absurd cc
-
-either_true : (a b : Bool) → (a || b) ≡ true → (a ≡ true) ⊎ (b ≡ true)
-either_true true b h = inl refl
-either_true false b h = inr h
 
 -- the name is that of the resource's constructor, or of a member of it
 pub data IsNamedAfter (name r : Text) : Type 0 where

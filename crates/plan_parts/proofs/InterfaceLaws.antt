@@ -1,18 +1,19 @@
 -- The types and the functions of an interface, one after the other.
-use Rattle.std.proofs.Common.{◌≡◌, refl, sym, ap, subst, ◌∙◌, ℕ, zero, suc, ◌+◌, ◌<◌, arith, Bool, true, false, ◌&&◌, ◌⊎◌, inl, inr, cond, List, [], ◌∷◌, ◌++◌, length, map, take, get_or, Option, Some, None, is_some, slice_get}
+use Rattle.std.proofs.Common.{◌≡◌, refl, sym, ap, subst, ◌∙◌, ℕ, zero, suc, ◌+◌, ◌<◌, arith, Bool, true, false, ◌&&◌, inl, inr, cond, List, [], ◌∷◌, ◌++◌, length, map, take, get_or, Option, Some, None, is_some, slice_get}
 use Rattle.std.specs.List.{AllByRecursion, AllZip}
 use Rattle.std.proofs.lemmas.List.{take_more, map-append}
 use Rattle.std.proofs.lemmas.Slice.Eq.{bytes_eq-Decides}
 use Rattle.wit_model.specs.declared.model.TypeId.{TypeId}
 use Rattle.wit_model.specs.Text.{Text, text_eq}
 use Rattle.wit_model.proofs.Elements.{zip-push}
-use Rattle.wit_model.proofs.Lists.{first_true, second_true}
 use Rattle.plan_meaning.specs.NumberedRules.{is_no_part}
 use Rattle.plan_meaning.specs.NumberedViews.{FunctionShape, NumberedFunction, NumberedType, Tables, function_at}
 use Rattle.plan_meaning.specs.Plan.{PlannedFunction}
 use Rattle.plan_meaning.specs.Renumbering.{IsPart}
 use Rattle.plan_parts.specs.Functions.{NamesKind, TakesAndGives}
 use Rattle.plan_parts.specs.Interfaces.{noted, slot_part, AreResources, IsPlannedFunction}
+use Rattle.base_lemmas.proofs.Bools.{left_of as first_true, right_of as second_true}
+use Rattle.base_lemmas.proofs.Lists.{at_last as last_is, front_more as front_still, front_or_last, none_there}
 
 -- what holds of each, of one of them
 pub mapped_at : {A B : Type 0} (P : B → Type 0) (g : A → B) (xs : List A) (i : ℕ) (d : A) → i < length xs → AllByRecursion P (map g xs) → P (g (get_or xs i d))
@@ -35,30 +36,11 @@ pub noted_now : (d : Option ℕ) (name r : Text) (id : TypeId) (new old : Option
 noted_now None name r id new old none e = e
 noted_now (Some k) name r id new old none e = absurd cc
 
-none_there : {X : Type 0} (n : ℕ) (x : X) → slice_get [] n ≡ Some x → ⊥
-none_there zero x e = cc
-none_there (suc n) x e = cc
-
 pub no_resources : (kept : List ℕ) (find : Text → Option TypeId) → ((r : Text) → find r ≡ None) → AreResources kept [] find
 no_resources kept find none = record {
   found = λ n x e h. absurd (none_there n x e);
   among = λ r id e. let wrong : None ≡ Some id = sym (none r) ∙ e in absurd (let w : ⊥ = cc in w);
 }
-
-front_still : {X : Type 0} (xs : List X) (y : X) (n : ℕ) (x : X) → slice_get xs n ≡ Some x → slice_get (xs ++ y ∷ []) n ≡ Some x
-front_still [] y n x e = absurd (none_there n x e)
-front_still (z ∷ xs) y zero x e = e
-front_still (z ∷ xs) y (suc n) x e = front_still xs y n x e
-
-last_is : {X : Type 0} (xs : List X) (y : X) → slice_get (xs ++ y ∷ []) (length xs) ≡ Some y
-last_is [] y = refl
-last_is (z ∷ xs) y = last_is xs y
-
-front_or_last : {X : Type 0} (xs : List X) (y : X) (n : ℕ) (x : X) → slice_get (xs ++ y ∷ []) n ≡ Some x → (slice_get xs n ≡ Some x) ⊎ (y ≡ x)
-front_or_last [] y zero x e = inr (let same : y ≡ x = cc in same)
-front_or_last [] y (suc n) x e = absurd (none_there n x e)
-front_or_last (z ∷ xs) y zero x e = inl e
-front_or_last (z ∷ xs) y (suc n) x e = front_or_last xs y n x e
 
 module _ (kept : List ℕ) (xs : List NumberedType) (find after : Text → Option TypeId) (have : AreResources kept xs find) (x : NumberedType) (id : TypeId) (is : IsPart kept (slot_part x.slot) (14 + id.0))
     (adds : (r : Text) → after r ≡ noted x id r (find r)) where

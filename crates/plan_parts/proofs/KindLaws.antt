@@ -1,9 +1,9 @@
 -- Forms over the new numbers of their parts.
-use Rattle.std.proofs.Common.{◌≡◌, ◌≢◌, refl, sym, ap, subst, ◌∙◌, ℕ, suc, ◌+◌, ◌<◌, ◌≤◌, arith, Bool, true, false, ◌||◌, ◌==◌, List, [], ◌∷◌, ◌++◌, map, take, drop, length, get_or, Option, Some, None, is_some, Bor, Result, Ok, Err, IfOk}
+use Rattle.std.proofs.Common.{◌≡◌, ◌≢◌, refl, sym, ap, subst, ◌∙◌, ℕ, ◌+◌, ◌<◌, ◌≤◌, arith, Bool, true, false, ◌||◌, ◌==◌, List, [], ◌∷◌, ◌++◌, map, take, drop, length, get_or, Option, Some, None, is_some, Bor, Result, Ok, Err, IfOk}
 use Rattle.std.proofs.lemmas.Bool.{eqb-true, eq-eqb}
 use Rattle.std.proofs.lemmas.List.{map-append, take_more, drop_more}
 use Rattle.std.specs.List.{AllByRecursion, AllZip}
-use Rattle.wit_model.proofs.Elements.{same-some, zip-push}
+use Rattle.wit_model.proofs.Elements.{zip-push}
 use Rattle.wit_model.specs.declared.model.«Type».{«Type» as ValueType}
 use Rattle.wit_model.specs.Text.{Text}
 use Rattle.wit_model.specs.Tree.{Form}
@@ -19,6 +19,8 @@ use Rattle.plan_build.specs.PlanOf.{stated_case, stated_kind}
 use Rattle.read_rules.specs.Tables.{label_of}
 use Rattle.plan_parts.specs.Kept.{IsKeptPart}
 use Rattle.plan_parts.specs.Kinds.{given_count, has_count, shape_form, IsFormed, IsFormOver, IsLabelledSort, a_record, a_variant, an_enum, flags, IsKindFor, MayBeDeclared, a_form, a_part, nothing, over_parts}
+use Rattle.base_lemmas.proofs.Lists.{map_of_map as map_twice}
+use Rattle.std.proofs.lemmas.Option.{same_Some as same-some}
 
 -- ---- forms by their numbers
 
@@ -116,10 +118,6 @@ pub name_next : {A X : Type 0} (g : A → Text) (h : X → Text) (xs : List A) (
 name_next g h xs i d old new y within added is before =
     ap (map h) added ∙ (map-append h old (y ∷ []) ∙ ((λ j. before j ++ is j ∷ []) ∙ (sym (map-append g (take i xs) (get_or xs i d ∷ [])) ∙ ap (map g) (sym (take_more xs i d within)))))
 
-map_twice : {A B C : Type 0} (f : B → C) (g : A → B) (xs : List A) → map f (map g xs) ≡ map (λ x. f (g x)) xs
-map_twice f g [] = refl
-map_twice f g (x ∷ xs) = ap (λ l. f (g x) ∷ l) (map_twice f g xs)
-
 -- one label more, where each label is looked at by its text alone
 pub label_next : {X : Type 0} (h : X → Text) (xs : List (Bor Text × Bool)) (i : ℕ) (d : Bor Text × Bool) (old new : List X) (y : X) → i < length xs → new ≡ old ++ y ∷ [] → h y ≡ (get_or xs i d).0.now
     → map h old ≡ map (λ l. l.0) (map label_of (take i xs)) → map h new ≡ map (λ l. l.0) (map label_of (take (i + 1) xs))
@@ -201,10 +199,6 @@ module _ (kept : List ℕ) (s : Shape) (over : IsFormOver kept s) where
   -- a form without parts
   pub empty_part : (f : Form) → shape_form s ≡ f → ((n : ℕ) → has_count f n ≡ (n == 0)) → length s.parts ≡ 0
   empty_part f e none = eqb-true (length s.parts) 0 (sym (none (length s.parts)) ∙ counted kept s over f e)
-
-pub length_mapped : {A B : Type 0} (f : A → B) (xs : List A) → length (map f xs) ≡ length xs
-length_mapped f [] = refl
-length_mapped f (x ∷ xs) = ap suc (length_mapped f xs)
 
 pub last_labelled : (n : ℕ) → IsLabelledSort n → n ≢ 1 → n ≢ 2 → n ≢ 10 → n ≡ 11
 last_labelled n (a_record e) a b c = absurd (a e)

@@ -5,7 +5,6 @@ use Rattle.std.proofs.lemmas.Slice.Eq.{bytes_eq-Decides}
 use Rattle.wit_model.specs.declared.model.TypeId.{TypeId}
 use Rattle.wit_model.specs.declared.model.TypeOwner.{TypeOwner}
 use Rattle.wit_model.specs.Text.{Text, text_eq}
-use Rattle.wit_model.proofs.Lists.{first_true, second_true}
 use Rattle.comp_meaning.specs.Rules.{distinct}
 use Rattle.plan_meaning.specs.GatheredPlan.{FunctionListed}
 use Rattle.plan_meaning.specs.KeptFunctions.{IsKindOf, IsResource}
@@ -15,6 +14,7 @@ use Rattle.plan_meaning.specs.Plan.{Plan, PlannedFunction}
 use Rattle.plan_meaning.specs.Renumbering.{IsPart}
 use Rattle.plan_parts.specs.Interfaces.{slot_part, AreResources, IsPlannedFunction, FunctionsAreListed}
 use Rattle.plan_parts.proofs.FunctionLaws.{functions_become, kinds_are_named}
+use Rattle.base_lemmas.proofs.Bools.{left_of as first_true, right_of as second_true}
 
 -- a resource by its name among the types
 record IsListed (xs : List NumberedType) (r : Text) : Type 0 where

@@ -1,29 +1,17 @@
 -- Types that are used: each is marked once the types behind it have been looked at.
-use Rattle.std.proofs.Common.{◌≡◌, refl, sym, ap, ◌∙◌, subst, inl, inr, ℕ, zero, suc, ◌+◌, ◌-◌, ◌<◌, ◌≤◌, arith, Bool, true, false, ◌||◌, ◌==◌, ◌⊎◌, List, [], ◌∷◌, length, get_or, Some, slice_get}
+use Rattle.std.proofs.Common.{◌≡◌, refl, sym, ap, ◌∙◌, subst, inl, inr, ℕ, zero, suc, ◌+◌, ◌-◌, ◌<◌, ◌≤◌, arith, Bool, true, false, ◌||◌, ◌==◌, List, [], ◌∷◌, length, get_or, Some, slice_get}
 use Rattle.std.specs.Borrow.{Bor}
 use Rattle.std.specs.List.{AllByRecursion, Contains}
 use Rattle.std.proofs.Math.ListN.{length-map}
-use Rattle.std.proofs.lemmas.Bool.{eqb-true}
+use Rattle.std.proofs.lemmas.Bool.{eqb-true, or_cases as either, or_left as left_true, or_right as right_true}
 use Rattle.std.proofs.lemmas.Bool.Decides.{nat_tests}
 use Rattle.std.proofs.lemmas.Option.{slice_get_within}
 use Rattle.wit_model.specs.Uses.{has}
 use Rattle.wit_model.proofs.Elements.{has-contains, contains-has}
-use Rattle.plan_meaning.proofs.GatheredPlan.{all_at}
 use Rattle.plan_parts.specs.Marks.{is_marked, parts_of, PartsFall, IsUsed, marked, part}
+use Rattle.base_lemmas.proofs.Elements.{all_at}
 
 -- ---- the types in turn, from the last on
-
-either : (a b : Bool) → (a || b) ≡ true → (a ≡ true) ⊎ (b ≡ true)
-either true b e = inl refl
-either false b e = inr e
-
-left_true : (a b : Bool) → a ≡ true → (a || b) ≡ true
-left_true true b e = refl
-left_true false b e = absurd cc
-
-right_true : (a b : Bool) → b ≡ true → (a || b) ≡ true
-right_true true b e = refl
-right_true false b e = e
 
 -- The marks as far as the types from this number on have been looked at: each mark has its reason, what was marked stays so, and so are the
 -- parts of the types that were looked at and are marked.

@@ -12,6 +12,7 @@ use Rattle.read_rules.specs.declared.sights.Sight.{Sight}
 use Rattle.read_rules.specs.Sights.{numbered_sight}
 use Rattle.plan_parts.specs.declared.views.Sighted.{Sighted}
 use Rattle.plan_parts.specs.Views.{in_numbers, sighted}
+use Rattle.std.proofs.lemmas.Bool.{and_from as both}
 
 pub each_at : {A : Type 0} (P : A → Type 0) (xs : List A) (i : ℕ) (d : A) → i < length xs → AllByRecursion P xs → P (get_or xs i d)
 each_at P [] i d h all = absurd (omega (arith, h))
@@ -30,7 +31,7 @@ sighted_more xs i d old new y within added is before =
 
 -- ---- what is the same as itself
 
-text_self : (t : Text) → text_eq t t ≡ true
+pub text_self : (t : Text) → text_eq t t ≡ true
 text_self t = (bytes_eq-Decides t t).1 refl
 
 id_self : (o : Option Text) → same_id o o ≡ true
@@ -40,10 +41,6 @@ id_self (Some t) = text_self t
 number_self : (o : Option ℕ) → same_number o o ≡ true
 number_self None = refl
 number_self (Some n) = eq-eqb n n refl
-
-both : (a b : Bool) → a ≡ true → b ≡ true → (a && b) ≡ true
-both true b p q = q
-both false b p q = p
 
 type_self : (x : NumberedType) → same_shown x x ≡ true
 type_self x = both (text_eq x.name x.name) (same_number x.declared x.declared && same_id x.external_id x.external_id) (text_self x.name) (both (same_number x.declared x.declared) (same_id x.external_id x.external_id) (number_self x.declared) (id_self x.external_id))

@@ -44,11 +44,6 @@ pub counts_no : (wholes whole : Bool) → whole ≡ false → wholes ≡ true �
 counts_no wholes true e f = absurd cc
 counts_no wholes false e f = ap not f
 
-pub same_default : {X : Type 0} (xs : List X) (i : ℕ) (d e : X) → i < length xs → get_or xs i d ≡ get_or xs i e
-same_default [] i d e h = absurd (omega (arith, h))
-same_default (x ∷ xs) zero d e h = refl
-same_default (x ∷ xs) (suc i) d e h = same_default xs i d e (omega (arith, h))
-
 pub place_fits : (places : ℕ) (xs : List Sighted) (i : ℕ) (d : Sighted) → i < length xs → AllByRecursion (λ (s : Sighted). s.place < places) xs → (get_or xs i d).place < places
 place_fits places [] i d h all = absurd (omega (arith, h))
 place_fits places (x ∷ xs) zero d h all = all.0

@@ -4,11 +4,12 @@ use Rattle.std.specs.Prelude.{nat_lt}
 use Rattle.std.specs.List.{Contains, find}
 use Rattle.std.proofs.lemmas.Bool.{eqb-true, ltb-false, ltb-true}
 use Rattle.std.proofs.lemmas.List.{get_or_past}
-use Rattle.wit_model.proofs.Elements.{contains-later, get-contains, same-some}
 use Rattle.plan_types.specs.declared.showings.Showing.{Showing}
 use Rattle.plan_types.specs.FirstShown.{TellsFirst, first_showing, showing_at}
 use Rattle.plan_types.specs.Showings.{NumberedShowing, numbered_showing}
 use Rattle.plan_type_laws.specs.ShownForms.{FindsShown, FirstsAreFound}
+use Rattle.base_lemmas.proofs.Elements.{contains-later, get-contains}
+use Rattle.std.proofs.lemmas.Option.{same_Some as same-some}
 
 first_found : {A : Type 0} (test : A → Bool) (xs : List A) (x : A) → find test xs ≡ Some x → Contains xs x × (test x ≡ true)
 first_found test [] x e = let wrong : None ≡ Some x = e in absurd cc

@@ -1,7 +1,7 @@
 -- Forms of what was followed are as definitions have them.
 use Rattle.std.proofs.Common.{◌≡◌, refl, sym, ap, subst, ◌∙◌, ℕ, Bool, true, false, ◌&&◌, ◌==◌, List, [], ◌∷◌, map, length, Option, Some, None, option_map, slice_get, unwrap_or}
 use Rattle.std.specs.Prelude.{nat_le, nat_lt}
-use Rattle.std.proofs.lemmas.Bool.{lt-ltb}
+use Rattle.std.proofs.lemmas.Bool.{lt-ltb, and_from as both}
 use Rattle.std.specs.List.{AllByRecursion, AllZip, Contains, flat_map}
 use Rattle.std.proofs.lemmas.List.Elements.{Contains-append_left, Contains-append_right}
 use Rattle.std.specs.Option.{option_map_or}
@@ -11,8 +11,7 @@ use Rattle.wit_model.specs.Meaning.{FunctionMeaning}
 use Rattle.wit_model.specs.Names.{PackageIdentity, path_in}
 use Rattle.wit_model.specs.Rules.{has_items}
 use Rattle.wit_model.specs.Types.{no_tree}
-use Rattle.wit_model.proofs.Elements.{contains-get, contains-one, get-contains}
-use Rattle.wit_model.proofs.Lists.{first_true}
+use Rattle.wit_model.proofs.Elements.{contains-get}
 use Rattle.comp_meaning.specs.Follow.{Instance, Scope, Seen, interface_of, is_filled, is_key, is_key_primitive, place_of}
 use Rattle.comp_meaning.specs.Reads as reads
 use Rattle.read_shown.specs.Parts.{PartStands, instances_of, named_instance}
@@ -20,10 +19,8 @@ use Rattle.read_shown.specs.Scopes.{IsMetInScope, IsShownBefore, ShownStands}
 use Rattle.read_shown.specs.Scopes as scopes
 use Rattle.read_shown.specs.Trees.{AllAt, DeclarationStands, SignatureStands, TreeStands, count_true, is_formed}
 use Rattle.read_shown.specs.Views.{IsMetInView, TypeStands, ViewStands}
-use Rattle.read_shown.proofs.Lists.{recursion_weaker}
-use Rattle.plan_meaning.proofs.Lists.{both, get_of_map, map_of_map, no_true}
-use Rattle.plan_meaning.proofs.ReadOrder.{all_both}
-use Rattle.plan_meaning.proofs.ShapeLaws.{PartView, is_name, is_node, is_primitive, part_front, slice_there}
+use Rattle.plan_meaning.proofs.Lists.{no_true}
+use Rattle.plan_meaning.proofs.ShapeLaws.{PartView, is_name, is_node, is_primitive, part_front}
 use Rattle.plan_meaning.specs.NumberedMembers.{Homes, IsMember, ShowsPart}
 use Rattle.plan_meaning.specs.NumberedViews.{AllOf, AreTables, IsPart, NumberedFunction, NumberedView, PartsOf, Tables, declaration_of, function_at, path_text, place_at, shown_function, shown_type, signature_at, tree_at, view_of}
 use Rattle.plan_meaning.specs.NumberedWorlds.{key_of, seen_of, shown_of}
@@ -43,10 +40,15 @@ use Rattle.read_exports.specs.declared.members.Part.TheVariants as parts
 use Rattle.read_exports.specs.Members.{numbered_member, numbered_members, numbered_part}
 use Rattle.plan_types.specs.Showings.{NumberedShowing, showing_of, showings_of_import, showings_of_members, showings_of_part, showings_of_seen, showings_of_shown, showings_of_view, signatures_of_members, signatures_of_part, signatures_of_seen, signatures_of_shown, signatures_of_view}
 use Rattle.plan_type_laws.proofs.InnerForms.{child_list_back, form_range, inner_stands, signature_parts_hold, view_part}
-use Rattle.plan_type_laws.proofs.Walks.{all_any, all_flat, all_mapped, at_each}
+use Rattle.plan_type_laws.proofs.Walks.{all_any, all_flat, at_each}
 use Rattle.plan_type_laws.specs.FormsObeyed.{FormsAreObeyed, LengthsFit}
 use Rattle.plan_type_laws.specs.MembersStand.{MembersStand, all_instances}
 use Rattle.plan_type_laws.specs.ShownForms.{EachForm, FormsHold}
+use Rattle.base_lemmas.proofs.Bools.{left_of as first_true}
+use Rattle.base_lemmas.proofs.Elements.{all_both, contains-one, get-contains}
+use Rattle.base_lemmas.proofs.Lists.{map_of_map, within_there as slice_there}
+use Rattle.std.proofs.ByRecursion.{All-map as all_mapped, All-weaker as recursion_weaker}
+use Rattle.std.proofs.lemmas.Option.{slice_get-map as get_of_map}
 
 module _ (t : Tables) (tables : AreTables t) (fit : LengthsFit t) where
   -- ---- forms

@@ -1,31 +1,18 @@
 -- What a type of a plan declares: its kind tells that.
-use Rattle.std.proofs.Common.{◌≡◌, refl, sym, ap, ◌∙◌, ℕ, ◌+◌, zero, suc, arith, List, [], ◌∷◌, length, Option, Some, None, slice_get}
+use Rattle.std.proofs.Common.{◌≡◌, refl, sym, ap, ◌∙◌, ℕ, ◌+◌, arith, List, [], ◌∷◌, Option, Some, None, slice_get}
 use Rattle.std.proofs.Common.{subst}
 use Rattle.std.specs.List.{AllZip}
 use Rattle.wit_model.specs.Tree.{Form}
-use Rattle.wit_model.proofs.Elements.{same-some}
 use Rattle.plan_meaning.specs.GatheredPlan.{Becomes, DeclaresKind, a_form, a_name, a_resource}
 use Rattle.plan_meaning.specs.NumberedViews.{AreTables, Tables}
 use Rattle.plan_meaning.specs.Plan as plan
 use Rattle.plan_meaning.specs.Plan.{Plan, PlannedKind}
 use Rattle.plan_meaning.specs.Renumbering.{IsPart, a_primitive, a_shape}
 use Rattle.plan_meaning.specs.Shapes.{node_shape}
+use Rattle.std.proofs.lemmas.Option.{same_Some as same-some}
 
 no_some : {A B : Type 0} (x : A) → None ≡ Some x → B
 no_some x e = let wrong : ⊥ = cc in absurd wrong
-
-pub zip_length : {A B : Type 0} (P : A → B → Type 0) (xs : List A) (ys : List B) → AllZip P xs ys → length ys ≡ length xs
-zip_length P [] [] all = refl
-zip_length P [] (y ∷ ys) all = absurd all
-zip_length P (x ∷ xs) [] all = absurd all
-zip_length P (x ∷ xs) (y ∷ ys) all = ap suc (zip_length P xs ys all.1)
-
-pub zip_get : {A B : Type 0} (P : A → B → Type 0) (xs : List A) (ys : List B) → AllZip P xs ys → (j : ℕ) (y : B) → slice_get ys j ≡ Some y → (x : A) × (slice_get xs j ≡ Some x) × P x y
-zip_get P [] [] all j y e = let wrong : None ≡ Some y = e in absurd cc
-zip_get P [] (z ∷ ys) all j y e = absurd all
-zip_get P (x ∷ xs) [] all j y e = absurd all
-zip_get P (x ∷ xs) (z ∷ ys) all zero y e = (x, refl, subst (P x) (same-some z y e) all.0)
-zip_get P (x ∷ xs) (z ∷ ys) all (suc j) y e = zip_get P xs ys all.1 j y e
 
 -- ---- numbers
 

@@ -1,5 +1,5 @@
 -- Parts that are well-formed each alone are so together.
-use Rattle.std.proofs.Common.{◌≡◌, sym, subst, ℕ, zero, suc, ◌+◌, ◌⊎◌, inl, inr, arith, Bool, List, [], ◌∷◌, ◌++◌, length, Some, slice_get}
+use Rattle.std.proofs.Common.{◌≡◌, sym, subst, ℕ, suc, ◌+◌, ◌⊎◌, inl, inr, arith, Bool, List, [], ◌∷◌, ◌++◌, length, Some, slice_get}
 use Rattle.std.specs.List.{AllByRecursion}
 use Rattle.wit_model.specs.Text.{Text}
 use Rattle.wit_model.specs.Tree.{Place}
@@ -9,18 +9,13 @@ use Rattle.read_shown.specs.Parts.{MemberStands, PartStands, instances_of}
 use Rattle.read_shown.specs.Scopes.{IsShownBefore}
 use Rattle.read_shown.specs.Trees.{AllAt}
 use Rattle.read_shown.specs.Views.{ViewStands}
-use Rattle.read_shown.proofs.Lists.{at_front, recursion_weaker}
 use Rattle.read_shown.proofs.Views.{view_wider}
 use Rattle.plan_type_laws.specs.MembersStand.{MembersStandTogether, all_instances}
+use Rattle.base_lemmas.proofs.Lists.{front_at as at_front, split_at}
+use Rattle.base_lemmas.proofs.Numbers.{nothing_more as from_start}
+use Rattle.std.proofs.ByRecursion.{All-weaker as recursion_weaker}
 
 -- an item of two lists is one of the first, or one behind them
-pub split_at : {A : Type 0} (xs ys : List A) (n : ℕ) (x : A) → slice_get (xs ++ ys) n ≡ Some x → (slice_get xs n ≡ Some x) ⊎ ((k : ℕ) × (n ≡ length xs + k) × (slice_get ys k ≡ Some x))
-split_at [] ys n x e = inr (n, omega arith, e)
-split_at (z ∷ xs) ys zero x e = inl e
-split_at (z ∷ xs) ys (suc n) x e = elim (split_at xs ys n x e) [
-  | inl here ↦ inl here
-  | inr later ↦ inr (later.0, (let is = later.1 in omega (arith, is)), later.2)
-]
 
 behind_at : {A : Type 0} (xs ys : List A) (n : ℕ) (x : A) → slice_get ys n ≡ Some x → (k : ℕ) × (k ≡ length xs + n) × (slice_get (xs ++ ys) k ≡ Some x)
 behind_at [] ys n x e = (n, omega arith, e)
@@ -65,9 +60,6 @@ module _ (all : List Instance) where
           let is = behind.1 in
           let same : count + length (instances_of m) + behind.0 ≡ count + n = omega (arith, is) in
           subst (λ i. ViewStands (IsShownBefore all i) (place_of x.interface) x.view) same (rest behind.0 x behind.2)
-
-from_start : (n : ℕ) → 0 + n ≡ n
-from_start n = omega arith
 
 pub members_stand_together : MembersStandTogether
 members_stand_together members each = record {

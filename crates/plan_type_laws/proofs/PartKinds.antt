@@ -11,8 +11,6 @@ use Rattle.read_shown.specs.Parts.{PartStands, named_instance}
 use Rattle.read_shown.specs.Scopes as scopes
 use Rattle.read_shown.specs.Scopes.{ShownStands}
 use Rattle.read_shown.specs.Trees.{AllAt, DeclarationStands, SignatureStands}
-use Rattle.read_shown.proofs.Lists.{at_front, middle_get}
-use Rattle.plan_meaning.proofs.Lists.{map_of_map}
 use Rattle.plan_meaning.specs.FollowedNumbers.{AreMembersIn, IsCalledIn, IsMetFrom, IsPartIn, IsScopeIn, IsSeenIn, IsShownIn, IsViewIn}
 use Rattle.plan_meaning.specs.NumberedMembers.{Homes, HomesStand, IsMember, ShowsPart}
 use Rattle.plan_meaning.specs.NumberedRules.{name_at}
@@ -35,6 +33,7 @@ use Rattle.plan_type_laws.proofs.InnerForms.{name_there}
 use Rattle.plan_type_laws.proofs.PartPlaces.{exported_place, key_place, no_names, path_place}
 use Rattle.plan_type_laws.proofs.Walks.{all_two, all_unmapped, at_each}
 use Rattle.plan_type_laws.specs.ShownMarks.{NamesSeen, NamesShown, PartNames}
+use Rattle.base_lemmas.proofs.Lists.{front_at as at_front, map_of_map, middle_get}
 
 module _ (t : Tables) (kinds : Text → Text → Bool) where
   -- ---- the kinds of what is shown

@@ -3,13 +3,10 @@ use Rattle.std.proofs.Common.{◌≡◌, sym, ap, subst, ◌∙◌, ℕ, true, f
 use Rattle.std.specs.List.{AllByRecursion}
 use Rattle.wit_model.specs.Names.{PackageIdentity, path_in}
 use Rattle.wit_model.specs.Text.{Text}
-use Rattle.wit_model.proofs.Elements.{same-some}
 use Rattle.wit_model.proofs.NameLaws.{read_path_is_spelled}
 use Rattle.comp_meaning.specs.Follow.{Seen, interface_of, place_of}
 use Rattle.read_shown.specs.Scopes as scopes
 use Rattle.read_shown.specs.Trees.{AllAt}
-use Rattle.read_shown.proofs.Lists.{recursion_weaker}
-use Rattle.plan_meaning.proofs.Lists.{map_of_map}
 use Rattle.plan_meaning.specs.NumberedMembers.{Homes, HomesStand, home_at}
 use Rattle.plan_meaning.specs.NumberedViews.{AllOf, FunctionShape, PartsOf, Tables, path_text, place_at}
 use Rattle.plan_meaning.specs.NumberedWorlds.{HasPath, KeyStands, NumberedKey, implementing, key_of, label, path, place_of_key, seen_of, shown_of}
@@ -20,6 +17,9 @@ use Rattle.read_rules.specs.Scopes.{numbered_seen, numbered_shown}
 use Rattle.read_exports.specs.declared.members.Member.{Member}
 use Rattle.plan_type_laws.proofs.Walks.{all_any, at_each}
 use Rattle.plan_type_laws.specs.ShownMarks.{NamesSeen, NamesShown}
+use Rattle.base_lemmas.proofs.Lists.{map_of_map}
+use Rattle.std.proofs.ByRecursion.{All-weaker as recursion_weaker}
+use Rattle.std.proofs.lemmas.Option.{same_Some as same-some}
 
 -- what holds of each part that a function has
 pub parts_weaker : (P Q : ℕ → Type 0) → ((k : ℕ) → P k → Q k) → (f : FunctionShape) → PartsOf P f → PartsOf Q f

@@ -3,7 +3,6 @@ use Rattle.std.proofs.Common.{◌≡◌, sym, ap, subst, ◌∙◌, ℕ, Bool, t
 use Rattle.std.specs.List.{AllByRecursion, AllZip}
 use Rattle.wit_model.specs.declared.model.TypeOwner.{TypeOwner}
 use Rattle.wit_model.specs.Text.{Text}
-use Rattle.wit_model.proofs.Elements.{same-some}
 use Rattle.plan_meaning.proofs.ShapeLaws.{form_back}
 use Rattle.plan_meaning.specs.GatheredPlan.{Becomes}
 use Rattle.plan_meaning.specs.KeptTypes.{IsKeptType, declared, unnamed as kept_unnamed}
@@ -19,13 +18,15 @@ use Rattle.plan_types.specs.PlannedTypes.{PlansType, named, unnamed}
 use Rattle.plan_types.specs.Showings.{NumberedShowing}
 use Rattle.plan_types.specs.Used.{used_parts, AreUsed}
 use Rattle.plan_meaning.specs.PlanRules.{is_form}
-use Rattle.read_shown.proofs.Lists.{recursion_weaker}
-use Rattle.plan_type_laws.proofs.KeptKinds.{zip_get, zip_length}
 use Rattle.plan_type_laws.proofs.ShownForms.{kept_forms, mark_there}
 use Rattle.plan_type_laws.proofs.UsedWalk.{unnamed_node}
 use Rattle.plan_type_laws.specs.PlanTypes.{NamesObey, PlannedTypesAreKept}
 use Rattle.plan_type_laws.specs.UsedParts.{ShowingObeys, SignatureObeys}
 use Rattle.plan_type_laws.proofs.UsedParts.{used_are_fine}
+use Rattle.base_lemmas.proofs.Elements.{zip_at_right as zip_get}
+use Rattle.std.proofs.ByRecursion.{All-weaker as recursion_weaker}
+use Rattle.std.proofs.lemmas.Option.{same_Some as same-some}
+use Rattle.std.proofs.lemmas.Slice.Zip.{AllZip-long as zip_length}
 
 no_some : {A : Type 0} {B : Type 0} (x : A) → None ≡ Some x → B
 no_some x e = let wrong : ⊥ = cc in absurd wrong

@@ -8,8 +8,7 @@ use Rattle.wit_model.specs.declared.model.TypeOwner.{TypeOwner}
 use Rattle.wit_model.specs.Text.{Text}
 use Rattle.wit_model.specs.Tree.{Form}
 use Rattle.wit_model.specs.Uses.{has}
-use Rattle.wit_model.proofs.Elements.{has-contains, same-some}
-use Rattle.plan_meaning.proofs.GatheredPlan.{all_at}
+use Rattle.wit_model.proofs.Elements.{has-contains}
 use Rattle.plan_meaning.proofs.NumberedRules.{shape_there}
 use Rattle.plan_meaning.specs.GatheredPlan.{DeclaresKind}
 use Rattle.plan_meaning.specs.KeptTypes.{IsKeptForm, alone, of_name}
@@ -23,9 +22,12 @@ use Rattle.plan_parts.specs.Marks.{is_marked}
 use Rattle.plan_types.specs.PlannedTypes.{PlansType, named, unnamed}
 use Rattle.plan_types.specs.Showings.{NumberedShowing}
 use Rattle.plan_types.specs.Used.{declared_parts, form_parts, function_parts, showing_parts, signature_parts, used_parts, AreUsed}
-use Rattle.plan_type_laws.proofs.KeptKinds.{kinds_tell, zip_get, zip_length}
+use Rattle.plan_type_laws.proofs.KeptKinds.{kinds_tell}
 use Rattle.plan_type_laws.proofs.UsedWalk.{form_there, in_both, in_flat, one_there, unnamed_node, used_fine}
 use Rattle.plan_type_laws.specs.ShownForms.{EachForm, FindsShown, FormsHold, itself, inside}
+use Rattle.base_lemmas.proofs.Elements.{all_at, zip_at_right as zip_get}
+use Rattle.std.proofs.lemmas.Option.{same_Some as same-some}
+use Rattle.std.proofs.lemmas.Slice.Zip.{AllZip-long as zip_length}
 
 -- ---- marks
 

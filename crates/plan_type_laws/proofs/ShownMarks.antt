@@ -4,11 +4,6 @@ use Rattle.std.proofs.lemmas.Bool.{eqb-true, not-true}
 use Rattle.std.specs.List.{AllByRecursion, flat_map}
 use Rattle.wit_model.specs.Text.{Text}
 use Rattle.wit_model.specs.Uses.{has}
-use Rattle.wit_model.proofs.Elements.{same-number}
-use Rattle.plan_meaning.proofs.Lists.{append_of_map}
-use Rattle.wit_model.proofs.Lists.{first_true, second_true}
-use Rattle.read_shown.proofs.Lists.{recursion_weaker}
-use Rattle.plan_meaning.proofs.ReadOrder.{all_both}
 use Rattle.plan_meaning.specs.KeptResources.{FormIsMarked}
 use Rattle.plan_meaning.specs.NumberedMembers.{NumberedMember}
 use Rattle.plan_meaning.specs.NumberedViews.{AllOf, AreTables, PartsOf, Tables, function_at, path_at}
@@ -28,9 +23,14 @@ use Rattle.plan_types.specs.Showings.{NumberedShowing, showings_of_import, showi
 use Rattle.plan_type_laws.proofs.PartKinds.{PartKinds, SeenKinds, ShownKinds, ViewKinds, member_kinds}
 use Rattle.plan_type_laws.proofs.PartPlaces.{parts_weaker}
 use Rattle.plan_type_laws.proofs.ViewMarks.{AreShown, Called, HasOwn, IsValue, Shown, call_marked, mark_of_form, mark_of_primitive, marks, name_marked, own_by_path, own_by_place, view_marked}
-use Rattle.plan_type_laws.proofs.Walks.{all_split, all_two, apart_back, first_false, second_false}
+use Rattle.plan_type_laws.proofs.Walks.{all_split, all_two}
 use Rattle.plan_type_laws.specs.ShownForms.{EachForm}
 use Rattle.plan_type_laws.specs.ShownMarks.{NamesAreMarked, ShowingIsMarked, has_no_path, places_of_part, places_of_seen, places_of_shown}
+use Rattle.base_lemmas.proofs.Bools.{first_false, left_of as first_true, right_of as second_true, second_false}
+use Rattle.base_lemmas.proofs.Elements.{all_both}
+use Rattle.base_lemmas.proofs.Lists.{append_of_map}
+use Rattle.base_lemmas.proofs.Numbers.{apart_back, same-number}
+use Rattle.std.proofs.ByRecursion.{All-weaker as recursion_weaker}
 
 -- ---- places and the kinds of their names
 

@@ -1,14 +1,12 @@
 -- What is shown of what was read obeys the rules.
 use Rattle.std.proofs.Common.{◌≡◌, sym, ap, subst, ◌∙◌, ℕ, ◌+◌, ◌<◌, arith, Bool, true, false, ◌&&◌, ◌||◌, List, [], ◌∷◌, ◌++◌, map, Option, Some, None, slice_get}
 use Rattle.std.proofs.lemmas.List.Folds.{list_all-append}
-use Rattle.std.proofs.lemmas.Option.{slice_get_within}
+use Rattle.std.proofs.lemmas.Option.{slice_get_within, same_Some as same-some}
 use Rattle.std.specs.List.{AllByRecursion, AllZip, flat_map, list_all, list_any}
 use Rattle.wit_model.specs.Meaning.{FunctionMeaning, Signature}
 use Rattle.wit_model.specs.Names.{PackageIdentity, is_label, path_in}
 use Rattle.wit_model.specs.Text.{Text}
 use Rattle.wit_model.specs.Tree.{Place}
-use Rattle.wit_model.proofs.Elements.{same-some}
-use Rattle.wit_model.proofs.Lists.{first_true, second_true}
 use Rattle.comp_meaning.specs.Follow.{Scope, Seen, ShownType, View, interface_of, place_of}
 use Rattle.comp_meaning.specs.Reads as reads
 use Rattle.comp_meaning.specs.Reads.{Sight}
@@ -17,9 +15,6 @@ use Rattle.comp_meaning.specs.Rules.{distinct}
 use Rattle.read_shown.specs.Parts.{PartStands}
 use Rattle.read_shown.specs.Scopes as scopes
 use Rattle.read_shown.specs.Trees.{AllAt}
-use Rattle.read_shown.proofs.Lists.{recursion_weaker}
-use Rattle.plan_meaning.proofs.GatheredPlan.{all_at}
-use Rattle.plan_meaning.proofs.ReadOrder.{all_both}
 use Rattle.plan_meaning.specs.FollowedNumbers.{AreMembersIn, IsCalledIn, IsMetFrom, IsPartIn, IsScopeIn, IsSeenIn, IsShownIn, IsSlotOf, IsViewIn}
 use Rattle.plan_meaning.specs.NumberedMembers.{Homes, HomesStand, IsMember, ShowsPart}
 use Rattle.plan_meaning.specs.NumberedViews.{AllOf, AreTables, IsPart, NumberedFunction, NumberedSlot, NumberedType, NumberedView, Tables, declaration_of, function_at, path_at, path_text, place_at, resource, shown_function, shown_type, signature_at, value, view_of}
@@ -45,6 +40,9 @@ use Rattle.plan_type_laws.proofs.PartPlaces.{exported_place, key_place, no_names
 use Rattle.plan_type_laws.specs.ShownMarks.{NamesSeen, NamesShown, PartNames}
 use Rattle.plan_type_laws.specs.ShownRules.{NamesObeyRules, ShowingIsName, ShownObeysRules}
 use Rattle.plan_type_laws.specs.UsedParts.{ShowingObeys, SignatureObeys}
+use Rattle.base_lemmas.proofs.Bools.{left_of as first_true, right_of as second_true}
+use Rattle.base_lemmas.proofs.Elements.{all_at, all_both}
+use Rattle.std.proofs.ByRecursion.{All-weaker as recursion_weaker}
 
 module _ (t : Tables) (tables : AreTables t) where
   abbrev Hold : List NumberedShowing → List ℕ → Type 0

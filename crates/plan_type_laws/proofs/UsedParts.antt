@@ -1,18 +1,15 @@
 -- Types that are used, where what is shown obeys the rules.
 use Rattle.std.proofs.Common.{◌≡◌, refl, sym, ap, subst, ◌∙◌, ℕ, ◌+◌, ◌-◌, ◌<◌, ◌≤◌, arith, Bool, true, false, not, ◌&&◌, ◌||◌, ◌==◌, nat_le, if◌then◌else◌, List, [], ◌∷◌, map, Option, Some, None, option_and_then, option_map, option_to_list, slice_get}
-use Rattle.std.proofs.lemmas.Bool.{eqb-true, le-leb, le-ltb, leb-true, lt-ltb}
-use Rattle.std.proofs.lemmas.Option.{slice_get_within}
+use Rattle.std.proofs.lemmas.Bool.{eqb-true, le-leb, leb-true, lt-ltb}
+use Rattle.std.proofs.lemmas.Option.{slice_get_within, same_Some as same-some}
 use Rattle.std.specs.List.{AllByRecursion, flat_map, list_all}
 use Rattle.std.specs.Option.{option_map_or}
 use Rattle.wit_model.specs.Text.{Text}
 use Rattle.wit_model.specs.Tree.{Declaration, Form, Place, Tree, children, deepest, levels}
 use Rattle.wit_model.specs.Uses.{has}
-use Rattle.wit_model.proofs.Elements.{same-some}
-use Rattle.wit_model.proofs.Lists.{first_true, second_true}
 use Rattle.comp_meaning.specs.Rules as rules
 use Rattle.comp_meaning.specs.Rules.{are_labels, are_parts, form_labels, is_named_form, most_levels}
 use Rattle.plan_meaning.proofs.ShapeLaws.{PartView, is_name, is_node, is_primitive, viewed}
-use Rattle.plan_meaning.specs.Plan.{part_number}
 use Rattle.plan_meaning.specs.NumberedRules.{is_form, name_at, name_in, shape_at}
 use Rattle.plan_meaning.specs.NumberedViews.{AllOf, AreTables, IsPart, Tables, declaration_of, function_at, place_at, signature_at, tree_at}
 use Rattle.plan_meaning.specs.Shapes.{Shape, first_label, named_shape, node_shape, part_tree, shape_trees}
@@ -20,11 +17,10 @@ use Rattle.plan_types.specs.Showings.{NumberedShowing}
 use Rattle.plan_types.specs.Used.{declared_parts, form_parts, function_parts, showing_parts}
 use Rattle.plan_type_laws.proofs.UsedWalk.{in_both, in_flat, one_there, used_fine}
 use Rattle.plan_type_laws.specs.UsedParts.{IsFinePart, ShowingObeys, SignatureObeys, UsedPartsAreFine}
+use Rattle.base_lemmas.proofs.Bools.{left_of as first_true, right_of as second_true}
+use Rattle.plan_meaning.proofs.Words.{behind as part_number_of}
 
 -- ---- numbers and shapes
-
-part_number_of : (n : ℕ) → part_number (14 + n) ≡ Some n
-part_number_of n = ap (λ b. if b then None else Some ((14 + n) - 14)) (le-ltb (14 + n) 14 (omega arith)) ∙ ap Some (omega arith)
 
 shape_here : (t : Tables) (n : ℕ) (s : Shape) → slice_get t.shapes n ≡ Some s → shape_at t (14 + n) ≡ Some s
 shape_here t n s at = ap (option_and_then (slice_get t.shapes)) (part_number_of n) ∙ at

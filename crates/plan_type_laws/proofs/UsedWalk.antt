@@ -1,14 +1,13 @@
 -- What holds of each unnamed type that is used: what holds of those that are shown, and of the parts of each of which it holds.
-use Rattle.std.proofs.Common.{◌≡◌, refl, sym, ap, ◌∙◌, ℕ, ◌+◌, ◌⊎◌, inl, inr, Bool, true, false, ◌||◌, ◌==◌, List, [], ◌∷◌, ◌++◌, map, Option, Some, None, option_map, slice_get}
-use Rattle.std.proofs.lemmas.Bool.{eqb-true}
-use Rattle.std.proofs.lemmas.Option.{slice_get_within}
+use Rattle.std.proofs.Common.{◌≡◌, refl, sym, ap, ◌∙◌, ℕ, ◌+◌, inl, inr, Bool, true, false, ◌||◌, ◌==◌, List, [], ◌∷◌, ◌++◌, map, Option, Some, None, option_map, slice_get}
+use Rattle.std.proofs.lemmas.Bool.{eqb-true, or_cases}
+use Rattle.std.proofs.lemmas.Option.{slice_get_within, same_Some as same-some, slice_get-map as get_of_map}
 use Rattle.std.proofs.lemmas.List.Folds.{list_any-append}
 use Rattle.std.specs.List.{AllByRecursion, Contains, flat_map}
 use Rattle.wit_model.specs.Text.{Text}
 use Rattle.wit_model.specs.Tree.{Form}
 use Rattle.wit_model.specs.Uses.{has}
-use Rattle.wit_model.proofs.Elements.{contains-has, same-some}
-use Rattle.plan_meaning.proofs.Lists.{get_of_map}
+use Rattle.wit_model.proofs.Elements.{contains-has}
 use Rattle.plan_meaning.specs.NumberedRules.{name_in}
 use Rattle.plan_meaning.specs.NumberedViews.{AreTables, Tables}
 use Rattle.plan_meaning.specs.Shapes.{Shape, IsShape, a_name, a_node, node_shape}
@@ -17,10 +16,6 @@ use Rattle.plan_types.specs.Showings.{NumberedShowing}
 use Rattle.plan_types.specs.Used.{function_parts, showing_parts, used_parts, AreUsed}
 
 -- ---- lists
-
-pub or_cases : (a b : Bool) → (a || b) ≡ true → (a ≡ true) ⊎ (b ≡ true)
-or_cases true b h = inl refl
-or_cases false b h = inr h
 
 pub one_there : (k j : ℕ) → has (k ∷ []) j ≡ true → k ≡ j
 one_there k j there = by (k == j) refl there

@@ -4,11 +4,10 @@ use Rattle.std.specs.List.{AllByRecursion, Contains, list_all}
 use Rattle.std.specs.Option.{option_map_or}
 use Rattle.wit_model.specs.Text.{Text}
 use Rattle.wit_model.specs.Tree.{Declaration, Form, Place, Tree, children}
-use Rattle.wit_model.proofs.Elements.{contains-later, get-contains}
 use Rattle.comp_meaning.specs.Follow.{place_of}
 use Rattle.read_shown.specs.Kinds.{OfKind, kind_at}
 use Rattle.read_shown.specs.Trees.{DeclarationStands, PartsStand, SignatureStands, TreeStands, is_handle}
-use Rattle.plan_meaning.proofs.Lists.{both, no_true}
+use Rattle.plan_meaning.proofs.Lists.{no_true}
 use Rattle.plan_meaning.proofs.NumberedRules.{no_shape, shape_there}
 use Rattle.plan_meaning.proofs.ShapeLaws.{PartView, is_name, is_node, is_primitive}
 use Rattle.plan_meaning.specs.FollowedNumbers.{IsCalledIn, IsMetFrom, IsShownIn, IsSlotOf}
@@ -23,11 +22,12 @@ use Rattle.plan_types.specs.Showings.{NumberedShowing, showing_of, showings_of_v
 use Rattle.plan_type_laws.proofs.InnerForms.{form_range, handle_held, inner_names, inner_stands, name_alone, name_there, signature_parts_hold, view_part}
 use Rattle.plan_type_laws.proofs.PartKinds.{NameKinds, ViewKinds}
 use Rattle.plan_type_laws.proofs.UsedWalk.{unnamed_node}
-use Rattle.plan_type_laws.proofs.Walks.{all_mapped}
 use Rattle.plan_type_laws.specs.ShownForms as forms
 use Rattle.plan_type_laws.specs.ShownForms.{EachForm, HasNumberIn}
 use Rattle.plan_type_laws.specs.ShownMarks.{IsMarkedAs, ShowingIsMarked}
-use Rattle.read_shown.proofs.Lists.{recursion_weaker}
+use Rattle.base_lemmas.proofs.Elements.{contains-later, get-contains}
+use Rattle.std.proofs.ByRecursion.{All-map as all_mapped, All-weaker as recursion_weaker}
+use Rattle.std.proofs.lemmas.Bool.{and_from as both}
 
 same_handle : (form : Form) → is_handle_form form ≡ is_handle form
 same_handle (Form.record_of names) = refl

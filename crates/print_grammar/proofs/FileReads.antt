@@ -19,7 +19,6 @@ use Rattle.print_grammar.specs.Reading.{IsReading, IsOnlyReading}
 use Rattle.print_grammar.proofs.GrammarUnique.{reading-unique}
 use Rattle.print_grammar.specs.WellNamed.{is_well_gates, is_well_item, is_well_head, is_well_package, is_well_file}
 use Rattle.print_output.specs.declared.type_kind.TypeKind.TheVariants as kind
-use Rattle.print_grammar.proofs.ByteTests.{left_of, right_of}
 use Rattle.print_grammar.proofs.TokenFacts.{id_token, id_is}
 use Rattle.print_grammar.proofs.TextOf.{text_of, rendered}
 use Rattle.print_grammar.proofs.Printing.{Follows, Printed, EndsWord, relist, word_call, id_call, line_begins, indents, semicolon_call}
@@ -29,6 +28,7 @@ use Rattle.print_grammar.proofs.PrefixReads.{docs_read, gates_read}
 use Rattle.print_grammar.proofs.PathReads.{EndsVersion, colon_id_call, version_reads, version_ends_word}
 use Rattle.print_grammar.proofs.DeclaredReads.{start_call, members_repeat}
 use Rattle.print_grammar.proofs.MemberReads.{empty_line, members_read, world_members_read}
+use Rattle.base_lemmas.proofs.Bools.{left_of, right_of}
 
 five_lists : (a b c d e : List OutputCall) → (((a ++ b) ++ c) ++ d) ++ e ≡ a ++ (b ++ (c ++ (d ++ e)))
 five_lists a b c d e = simp append_assoc

@@ -18,7 +18,6 @@ use Rattle.print_grammar.specs.Grammar.{ReadsPrefix, ReadsUse, ReadsDeclared, Re
 use Rattle.print_grammar.specs.Grammar.Repeated.{closed, again}
 use Rattle.print_grammar.specs.WellNamed.{is_well_prefix, is_well_use, is_well_declared, is_well_member, is_well_extern, is_well_world_member}
 use Rattle.print_output.specs.declared.type_kind.TypeKind.TheVariants as kind
-use Rattle.print_grammar.proofs.ByteTests.{left_of, right_of}
 use Rattle.print_grammar.proofs.TokenFacts.{id_token, id_is}
 use Rattle.print_grammar.proofs.Printing.{Follows, Printed, relist, word_call, id_call, line_begins, semicolon_call, line_feed}
 use Rattle.print_grammar.proofs.Printing.Prints.{by_keyword, by_type}
@@ -26,6 +25,7 @@ use Rattle.print_grammar.proofs.SignatureReads.{colon_call, space_before, signat
 use Rattle.print_grammar.proofs.PrefixReads.{prefix_reads}
 use Rattle.print_grammar.proofs.PathReads.{path_reads, use_reads}
 use Rattle.print_grammar.proofs.DeclaredReads.{start_call, end_call, function_reads, declared_reads}
+use Rattle.base_lemmas.proofs.Bools.{left_of, right_of}
 
 -- an empty line
 pub empty_line : {more : List OutputCall} {ts : List Token} → Follows true more ts → Follows true (Newline ∷ more) ts

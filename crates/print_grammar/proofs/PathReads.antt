@@ -15,13 +15,14 @@ use Rattle.print_grammar.specs.Grammar.{Listed, ReadsPath, ReadsVersion, ReadsUs
 use Rattle.print_grammar.specs.WellNamed.{is_well_optional, is_well_path, is_well_used, is_well_use, are_well_some}
 use Rattle.print_output.specs.declared.type_kind.TypeKind.{TypeKind}
 use Rattle.print_output.specs.declared.type_kind.TypeKind.TheVariants as kind
-use Rattle.print_grammar.proofs.ByteTests.{left_of, right_of}
 use Rattle.print_grammar.proofs.TokenFacts.{id_at, slash_at, id_token, id_is}
 use Rattle.print_grammar.proofs.VersionFacts.{version_at, ends_version}
 use Rattle.print_grammar.proofs.TextOf.{text_of}
 use Rattle.print_grammar.proofs.Printing.{Follows, Printed, EndsWord, Ended, relist, two_lists, word_call, id_call, colon, dot, semi, line_feed, at_sign, open_brace, close_brace}
 use Rattle.print_grammar.proofs.Printing.Prints.{by_keyword, by_type}
 use Rattle.print_grammar.proofs.SignatureReads.{listed_reads, space_before}
+use Rattle.base_lemmas.proofs.Bools.{left_of, right_of}
+use Rattle.base_lemmas.proofs.Lists.{identity}
 
 -- no version goes on into the text of the calls
 abbrev pub EndsVersion : List OutputCall → Type 0
@@ -72,10 +73,6 @@ used_reads used h more ts e = go used.own (right_of (is_label used.other) _ h)
           (space_before (word_call (Key As) by_keyword refl refl (λ level. refl) (space_before (id_call own by_type g e.word e.follows)))),
       ReadsUsedName.other_name (id_is used.other) (id_is own),
     )
-
-identity : {X : Type 0} (xs : List X) → map (λ x. x) xs ≡ xs
-identity [] = refl
-identity (x ∷ xs) = ap (λ ys. x ∷ ys) (identity xs)
 
 -- the names of a use, and its end
 names_read : (names : List UsedName) → are_well_some is_well_used names ≡ true → {more : List OutputCall} {ts : List Token} → Follows true more ts

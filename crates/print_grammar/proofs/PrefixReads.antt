@@ -20,12 +20,12 @@ use Rattle.print_grammar.specs.WellNamed.{is_well_optional, is_well_gates, is_we
 use Rattle.print_grammar.specs.AsRead.{type_as_read, bare_prefix}
 use Rattle.print_grammar.proofs.StringReads.{body, quoted_at}
 use Rattle.print_output.specs.declared.type_kind.TypeKind.TheVariants as kind
-use Rattle.print_grammar.proofs.ByteTests.{left_of, right_of}
 use Rattle.print_grammar.proofs.TokenFacts.{word_at, id_is}
 use Rattle.print_grammar.proofs.VersionFacts.{version_at}
 use Rattle.print_grammar.proofs.TextOf.{text_of}
 use Rattle.print_grammar.proofs.Printing.{Follows, Printed, EndsWord, relist, id_call, line_begins, space, open_paren, close_paren, equals, at_sign, line_feed}
 use Rattle.print_grammar.proofs.Printing.Prints.{by_str}
+use Rattle.base_lemmas.proofs.Bools.{left_of, right_of}
 
 -- ---- documentation
 

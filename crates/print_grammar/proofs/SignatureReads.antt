@@ -15,12 +15,12 @@ use Rattle.print_grammar.specs.AsRead.{type_as_read, bare_param, bare_signature}
 use Rattle.print_grammar.specs.Grammar.{ReadsParam, ReadsParams, ReadsResult, ReadsSignature, Listed}
 use Rattle.print_grammar.specs.Grammar.Listed.{last, next}
 use Rattle.print_grammar.specs.WellNamed.{is_well_type, is_well_optional, is_well_param, is_well_signature}
-use Rattle.print_grammar.proofs.ByteTests.{left_of, right_of}
 use Rattle.print_grammar.proofs.TokenFacts.{id_token, id_is}
 use Rattle.print_grammar.proofs.TextOf.{text_of}
 use Rattle.print_grammar.proofs.Printing.{Follows, Printed, EndsWord, Ended, relist, word_call, id_call, comma_call, paren_call, colon, space, open_paren, close_paren, arrow}
 use Rattle.print_grammar.proofs.Printing.Prints.{by_keyword, by_param}
 use Rattle.print_grammar.proofs.TypeReads.{type_reads}
+use Rattle.base_lemmas.proofs.Bools.{left_of, right_of}
 
 -- a colon and a space
 pub colon_call : {more : List OutputCall} {ts : List Token} → Follows false more ts → Follows false (Str (codes ": ") ∷ more) (Punctuation Colon ∷ ts)

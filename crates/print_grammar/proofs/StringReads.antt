@@ -5,7 +5,7 @@ use Rattle.std.specs.Option.{option_map}
 use Rattle.std.specs.Char.{is_ascii_digit}
 use Rattle.std.specs.Fmt.{digits, digits_onto, digit_glyph}
 use lib.Utf8.{scalar}
-use Rattle.std.proofs.lemmas.Bool.{cases_Bool, cases_lt, eqb-true, eq-eqb, lt-ltb, le-ltb}
+use Rattle.std.proofs.lemmas.Bool.{cases_Bool, cases_lt, eqb-true, eq-eqb, lt-ltb, le-ltb, false_from_ne_true as refuted}
 use Rattle.std.proofs.Math.Nat.{pow-suc}
 use Rattle.std.proofs.Math.Utf8.{scalar_fits}
 use Rattle.std.proofs.lemmas.Bool.Decides.{nat_tests}
@@ -14,8 +14,8 @@ use Rattle.print_grammar.specs.Token.{Token, Tokens, spelled, StringState, strin
 use Rattle.print_grammar.specs.Token.StringState.{Between, AfterBrace, InCode}
 use Rattle.print_grammar.specs.Token.StringStep.{Goes, Reads}
 use Rattle.print_grammar.specs.Token.Token.{Quoted}
-use Rattle.print_grammar.proofs.ByteTests.{left_of, right_of, refuted}
 use Rattle.print_grammar.proofs.TokenFacts.{EndsToken, ends_by, token_at}
+use Rattle.base_lemmas.proofs.Bools.{left_of, right_of}
 
 reads_step : (state : StringState) (c : ℕ) (cs : List ℕ) (x : ℕ) → string_step state c ≡ Reads x → string_characters state (c ∷ cs) ≡ option_map (λ xs. x ∷ xs) (string_characters Between cs)
 reads_step state c cs x e = rw (e, string_characters) refl

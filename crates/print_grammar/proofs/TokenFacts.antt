@@ -11,7 +11,10 @@ use Rattle.print_grammar.specs.Token.{Token, Tokens, spelled, longest, found, fr
 use Rattle.print_grammar.specs.Token.Mark.{Slash}
 use Rattle.print_grammar.specs.Token.Front.{Found}
 use Rattle.print_grammar.specs.Token.Tokens.{skip, token}
-use Rattle.print_grammar.proofs.ByteTests.{left_of, right_of, refuted, weaker_all, all_but_one, parts_pass}
+use Rattle.print_grammar.proofs.ByteTests.{all_but_one, parts_pass}
+use Rattle.base_lemmas.proofs.Bools.{left_of, right_of}
+use Rattle.base_lemmas.proofs.Elements.{all_weaker as weaker_all}
+use Rattle.std.proofs.lemmas.Bool.{false_from_ne_true as refuted, not-true as not_true}
 
 -- no token begins with this text
 abbrev pub NoToken : List ℕ → Type 0
@@ -110,10 +113,6 @@ letter_no_slash c h = grind (arith, nat_tests)
 
 no_comment : (c : ℕ) (cs : List ℕ) → (c == 47) ≡ false → begins_comment (c ∷ cs) ≡ false
 no_comment c cs h = rw h refl
-
-not_true : (b : Bool) → not b ≡ true → b ≡ false
-not_true true h = cc
-not_true false h = refl
 
 word_ends : (c : ℕ) (cs rest : List ℕ) → is_ascii_alphabetic c ≡ true → ends_word rest ≡ true → EndsToken (c ∷ cs) rest
 word_ends c cs [] letter ends = tt

@@ -18,13 +18,13 @@ use Rattle.print_grammar.specs.Grammar.{ReadsType, ReadsTypes, IsId}
 use Rattle.print_grammar.specs.Grammar.ReadsTypes.{last_type, next_type}
 use Rattle.print_grammar.specs.WellNamed.{is_well_type, are_well_types}
 use Rattle.print_output.specs.declared.type_kind.TypeKind.TheVariants as kind
-use Rattle.print_grammar.proofs.ByteTests.{left_of, right_of}
 use Rattle.print_grammar.proofs.TokenFacts.{word_at, mark_at, id_token, id_is}
 use Rattle.std.specs.Fmt.{decimal}
 use Rattle.print_grammar.proofs.VersionFacts.{number_at, ends_version}
 use Rattle.print_grammar.proofs.TextOf.{text_of}
 use Rattle.print_grammar.proofs.Printing.{Follows, Printed, Prints, Ended, relist, two_lists, word_call, id_call, call_is, less_call, greater_call, comma_call, no_word, printed_text, comma, less, space}
 use Rattle.print_grammar.proofs.Printing.Prints.{by_type, by_push, by_start, by_end}
+use Rattle.base_lemmas.proofs.Bools.{left_of, right_of}
 
 primitive_spelled : (p : Primitive) → spelled (primitive_text p) ≡ Some (Key (Keyword.PrimitiveWord p))
 primitive_spelled Bool_ = refl

@@ -6,7 +6,7 @@ use Rattle.std.specs.Char.{is_ascii_alphabetic, is_ascii_digit, digit_value}
 use Rattle.std.specs.Fmt.{decimal}
 use Rattle.std.specs.List.{list_all, onto_first, All}
 use Rattle.std.specs.Str.Parse.{AllDigits}
-use Rattle.std.proofs.lemmas.Bool.{cases_Bool, eqb-true, lt-ltb}
+use Rattle.std.proofs.lemmas.Bool.{cases_Bool, eqb-true, lt-ltb, and_from as both, and_right as and_false, false_from_ne_true as refuted, not-true as not_true, or_left}
 use Rattle.std.proofs.lemmas.Bool.Decides.{nat_tests}
 use Rattle.std.proofs.lemmas.Fmt.{decimal_is_IsNumeral, decimal_nonempty, first_decimal, decimal_digit}
 use Rattle.std.proofs.lemmas.List.Folds.{list_all-append}
@@ -20,14 +20,12 @@ use Rattle.semver.specs.declared.error.Error.{Error}
 use Rattle.semver.proofs.Grammar.{version_parts-sound}
 use Rattle.wit_model.specs.Names.{cut, is_version_text}
 use Rattle.print_grammar.specs.Token.{Token, Tokens, spelled, is_blank, begins_comment, is_numeral, are_three_numerals, is_version_core, is_given, is_version_number, is_semantic_version, number_token}
-use Rattle.print_grammar.proofs.ByteTests.{both, left_of, right_of, or_left, refuted, weaker_all, all_but_one, parts_pass}
+use Rattle.print_grammar.proofs.ByteTests.{all_but_one, parts_pass}
 use Rattle.print_grammar.proofs.TokenFacts.{NoToken, EndsToken, ends_by, ends_by_two, token_at}
+use Rattle.base_lemmas.proofs.Bools.{left_of, right_of}
+use Rattle.base_lemmas.proofs.Elements.{all_weaker as weaker_all}
 
 -- ---- what stands before and after a byte
-
-not_true : (b : Bool) → not b ≡ true → b ≡ false
-not_true true h = cc
-not_true false h = refl
 
 cut-none : (c : ℕ) (xs : List ℕ) → list_all (λ b. not (b == c)) xs ≡ true → cut c xs ≡ None
 unfolding cut
@@ -313,10 +311,6 @@ cut_dot c (x ∷ xs) e = elim (cases_Bool (x == c)) [
   | inl here ↦ rw here refl
   | inr other ↦ rw other (ap (option_map (λ (p : List ℕ × List ℕ). (x ∷ p.0, p.1))) (cut_dot c xs e) ∙ moved_in x (cut c xs))
 ]
-
-and_false : (a b : Bool) → b ≡ false → (a && b) ≡ false
-and_false true b e = e
-and_false false b e = refl
 
 number_no_dot : (text : List ℕ) → is_version_number (text ++ 46 ∷ []) ≡ false
 unfolding with_dot

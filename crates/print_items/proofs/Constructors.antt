@@ -21,7 +21,7 @@ use Rattle.print_grammar.specs.Calls.{prefix_calls, resource_body_calls, resourc
 use Rattle.print_output.specs.OutputCall.OutputCall.{IndentEnd, IndentStart}
 use Rattle.print_items.specs.DeclaredCalls.{bare_member_calls}
 use Rattle.print_grammar.specs.WellNamed.{is_well_optional, is_well_param, is_well_prefix, is_well_resource_member, is_well_signature, is_well_type}
-use Rattle.print_grammar.proofs.ByteTests.{left_of, right_of}
+use Rattle.base_lemmas.proofs.Bools.{left_of, right_of}
 
 module _ (r : Resolve) (id : TypeId) where
   owned : (o : Option ValueType) → option_map_or (type_is r (is_own_of id.0)) o false ≡ true → constructor_result r id o ≡ None

@@ -30,10 +30,10 @@ use Rattle.print_items.specs.DeclaredCalls.{alias_calls, carrier_calls, is_word}
 use Rattle.print_items.specs.TypeParts.{handles_label, is_labelled, kind_calls, may_be_unnamed}
 use Rattle.print_grammar.specs.WellNamed.{are_well_some, is_well_optional, is_well_type}
 use Rattle.print_output.specs.declared.type_kind.TypeKind.TheVariants as kind
-use Rattle.print_grammar.proofs.ByteTests.{right_of}
-use Rattle.print_items.proofs.ByPlace.{one_there}
 use Rattle.print_items.proofs.TypesWell.{type_rule}
 use Rattle.print_items.proofs.TypeParts.{handles_at, shown_at, type_stays, well_in_range}
+use Rattle.base_lemmas.proofs.Bools.{right_of}
+use Rattle.base_lemmas.proofs.Lists.{within_there as one_there}
 
 -- what is in a block passes the test, as it is shown
 pub block_members : {X Y : Type 0} (well : Y → Bool) (show : X → Y) (label : Bool) (xs : List X) → (label && are_well_some well (map show xs)) ≡ true → list_all (λ x. well (show x)) xs ≡ true

@@ -10,7 +10,8 @@ use Rattle.print_items.specs.declared.driver.Driver.{Driver}
 use Rattle.print_items.specs.Drives.{Runs, Drives}
 use Rattle.print_items.specs.Drives.Runs.{all_made, one_refused, none_made}
 use Rattle.print_items.proofs.Runs.{flat_map-take_next}
-use Rattle.print_items.proofs.Moves.{Moves-append, Begins-append, Begins-more, one_moved, Counts-line, on_ok, on_err}
+use Rattle.print_items.proofs.Moves.{Moves-append, Begins-append, Begins-more, one_moved, Counts-line}
+use Rattle.std.proofs.lemmas.Result.{on_err_weaker as on_err, on_ok_weaker as on_ok}
 
 module _ {Kept : Type 0} {keeps : View Kept → OutputCall → Kept} where
   runs_append : {a b c : Bool} {u v w : View Kept} {calls more : List OutputCall} → Runs keeps a u calls b v → Runs keeps b v more c w → Runs keeps a u (calls ++ more) c w

@@ -1,7 +1,7 @@
 -- What text may stand in front of a line.
 use Rattle.std.proofs.Common.{◌≡◌, ◌&&◌, Bool, true, false, IsTrue, List, ℕ, refl, sym, subst}
-use Rattle.wit_model.proofs.Lists.{second_true}
 use Rattle.print_output.specs.OutputCall.{is_one_line, has_no_space_first, may_begin}
+use Rattle.base_lemmas.proofs.Bools.{right_of as second_true}
 
 -- text that equals what a call may print may stand there
 pub front_of : (begun : Bool) (text other : List ℕ) → IsTrue (is_one_line text && may_begin begun text) → other ≡ text → IsTrue (may_begin begun other)

@@ -1,10 +1,11 @@
 -- How calls in turn move a view: one call and then the others, some calls and then some more.
-use Rattle.std.proofs.Common.{◌≡◌, List, [], ◌∷◌, ◌++◌, refl, sym, inl, inr, ◌∙◌, ap, subst, Result, Ok, Err, OnErr, OnOk, append-nil, append_assoc}
+use Rattle.std.proofs.Common.{◌≡◌, List, [], ◌∷◌, ◌++◌, refl, sym, inl, inr, ◌∙◌, ap, subst, Result, Ok, Err, OnOk, append-nil, append_assoc}
 use Rattle.std.specs.List.{flat_map}
-use Rattle.print_output.specs.OutputCall.{OutputCall, View, after, after_all, body_calls, line_begun_after, Counts, Reaches, Moves, Begins}
+use Rattle.print_output.specs.OutputCall.{OutputCall, View, after, after_all, body_calls, line_begun_after, Counts, Moves, Begins}
 use Rattle.print_output.specs.OutputCall.Moves.{nothing_moved, then_moved}
 use Rattle.print_output.specs.OutputCall.Begins.{nothing_begun, begun_in, then_begun}
 use Rattle.print_output.specs.OutputCall.OutputCall.{PushStr, IndentIfNeeded, IndentStart, IndentEnd, Newline, IndentAndPrint, Keyword, Ty, Param, Case, GenericArgsStart, GenericArgsEnd, Doc, Semicolon, Str}
+use Rattle.base_lemmas.proofs.Options.{at_err}
 
 module _ {Kept : Type 0} (keeps : View Kept → OutputCall → Kept) where
   -- some calls and then more
@@ -46,22 +47,11 @@ module _ {Kept : Type 0} (keeps : View Kept → OutputCall → Kept) where
   Counts-line u call v h = elim h [ inl e ↦ ap (λ x. x.line_begun) e | inr e ↦ ap (λ x. x.line_begun) e ∙ line_after_body call u ]
 
 -- a fact of an error, whichever result it is
-pub at_err : {T E P : Type 0} (r : Result T E) → P → OnErr r P
-at_err (Ok v) p = tt
-at_err (Err e) p = p
 
 -- a fact of a value, whichever result it is
 pub at_ok : {T E P : Type 0} (r : Result T E) → P → OnOk r P
 at_ok (Ok v) p = p
 at_ok (Err e) p = tt
-
-pub on_ok : {T E P Q : Type 0} (r : Result T E) → (P → Q) → OnOk r P → OnOk r Q
-on_ok (Ok x) f p = f p
-on_ok (Err e) f p = tt
-
-pub on_err : {T E P Q : Type 0} (r : Result T E) → (P → Q) → OnErr r P → OnErr r Q
-on_err (Ok x) f p = tt
-on_err (Err e) f p = f p
 
 module _ {Kept : Type 0} {keeps : View Kept → OutputCall → Kept} where
   -- one call, as a list

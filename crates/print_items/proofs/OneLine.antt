@@ -1,5 +1,5 @@
 -- Labels and versions have no line end in them, and begin with no space.
-use Rattle.std.proofs.Common.{◌≡◌, refl, sym, ap, subst, ◌∙◌, inl, inr, ◌⊎◌, ℕ, Bool, true, false, IsTrue, ◌&&◌, ◌||◌, not, ◌==◌, List, [], ◌∷◌, ◌++◌, T, eqb→eq, if◌then◌else◌, arith, zero, suc, ◌/◌, ◌%◌, Result, Ok, Err}
+use Rattle.std.proofs.Common.{◌≡◌, refl, sym, ap, subst, ◌∙◌, inl, inr, ℕ, Bool, true, false, IsTrue, ◌&&◌, not, ◌==◌, List, [], ◌∷◌, ◌++◌, T, eqb→eq, if◌then◌else◌, arith, zero, suc, ◌/◌, ◌%◌, Result, Ok, Err}
 use Rattle.std.proofs.lemmas.Bool.Decides.{nat_tests}
 use Rattle.std.specs.Prelude.{is_ok}
 use Rattle.std.specs.List.{list_all, slice_split, join_with_byte}
@@ -12,18 +12,12 @@ use Rattle.semver.specs.declared.error.Error.{Error}
 use Rattle.semver.proofs.Grammar.{version_parts-sound}
 use Rattle.semver.specs.Order.{parts}
 use Rattle.semver.specs.Grammar.{is_identifier_byte, is_build_identifier, is_pre_identifier, is_pre_release, is_build, IsValid as IsValidVersion}
-use Rattle.wit_model.proofs.Lists.{first_true, second_true}
 use Rattle.wit_model.specs.Text.{Text}
 use Rattle.wit_model.specs.Names.{is_lower_byte, is_upper_byte, is_fragment, begins_with_letter, is_label, is_version_text}
 use Rattle.print_grammar.specs.Keyword.{escaped, is_keyword}
 use Rattle.print_output.specs.OutputCall.{is_one_line, has_no_space_first, may_begin}
-
-either_true : (a b : Bool) → (a || b) ≡ true → (a ≡ true) ⊎ (b ≡ true)
-either_true true b e = inl refl
-either_true false b e = inr e
-
-both_true : (a b : Bool) → a ≡ true → b ≡ true → (a && b) ≡ true
-both_true a b p q = rw p q
+use Rattle.base_lemmas.proofs.Bools.{left_of as first_true, right_of as second_true}
+use Rattle.std.proofs.lemmas.Bool.{and_from as both_true, or_cases as either_true}
 
 -- what passes a test that n fails is not n
 other_than : (n : ℕ) (p : ℕ → Bool) → p n ≡ false → (b : ℕ) → p b ≡ true → not (b == n) ≡ true

@@ -18,12 +18,12 @@ use Rattle.semver.specs.Identifiers.{parts_of, version_text, pre_text, build_tex
 use Rattle.semver.specs.Grammar.{IsValid as IsValidVersion, is_pre_release, is_build}
 use Rattle.semver.proofs.Grammar.{version_parts-complete}
 use Rattle.wit_model.specs.Lookup.{optional_version_text}
-use Rattle.std.proofs.lemmas.Bool.{ltb-true}
+use Rattle.std.proofs.lemmas.Bool.{ltb-true, and_from as both}
 use Rattle.print_output.specs.OutputCall.{is_one_line}
 use Rattle.print_items.specs.Shown.{present_name, shown_docs, shown_gates, shown_external_id, shown_prefix}
 use Rattle.print_grammar.specs.WellNamed.{is_well_optional, is_well_gates, is_well_prefix}
-use Rattle.print_grammar.proofs.ByteTests.{both, left_of, right_of}
 use Rattle.print_items.proofs.DocLines.{line_one_line}
+use Rattle.base_lemmas.proofs.Bools.{left_of, right_of}
 
 -- ---- versions
 

@@ -4,7 +4,7 @@ use Rattle.std.specs.Prelude.{option_map, option_to_list, String}
 use Rattle.std.specs.Option.{option_map_or}
 use Rattle.std.specs.List.{list_all}
 use Rattle.std.specs.declared.alloc.Global.{Global}
-use Rattle.std.proofs.lemmas.Bool.{ltb-true, ltb-false, lt-ltb}
+use Rattle.std.proofs.lemmas.Bool.{ltb-true, ltb-false, lt-ltb, and_from as both}
 use Rattle.std.proofs.lemmas.Option.{same_Some, slice_get_past, slice_get_within}
 use Rattle.wit_model.specs.declared.model.Resolve.{Resolve}
 use Rattle.wit_model.specs.declared.model.TypeDef.{TypeDef}
@@ -32,11 +32,11 @@ use Rattle.print_grammar.specs.Keyword.{escaped}
 use Rattle.print_output.specs.declared.type_kind.TypeKind.TheVariants.{Other}
 use Rattle.print_grammar.specs.Calls.{type_calls, types_calls, more_types_calls}
 use Rattle.print_items.specs.TypeParts.{kind_start, kind_end, result_start, result_end, carrier_end, types_from, comma_calls, handles_label, may_be_unnamed, kind_calls}
-use Rattle.print_grammar.proofs.ByteTests.{both, left_of, right_of}
-use Rattle.print_items.proofs.ByPlace.{all_get}
 use Rattle.print_grammar.specs.WellNamed.{is_well_type}
 use Rattle.print_items.proofs.TypesWell.{is_below, below_of_numbers, IsShownType, type_is_shown, trees_count}
-use Rattle.wit_model.proofs.TreeTable.{slice_get-take}
+use Rattle.base_lemmas.proofs.Bools.{left_of, right_of, unnamed_kind}
+use Rattle.base_lemmas.proofs.Elements.{all_get}
+use Rattle.base_lemmas.proofs.Lists.{slice_take as slice_get-take}
 
 -- ---- the trees of the type numbers
 
@@ -249,10 +249,6 @@ rank_below n value.ErrorContext h = omega arith
 below_more : (n m : ℕ) → n < m → (o : Option ℕ) → passes (λ k. nat_lt k n) o ≡ true → passes (λ k. nat_lt k m) o ≡ true
 below_more n m less None h = refl
 below_more n m less (Some k) h = lt-ltb k m (let l : k < n = ltb-true k n h in omega arith)
-
-unnamed_kind : (b : Bool) → (not b || false) ≡ true → b ≡ false
-unnamed_kind true e = absurd cc
-unnamed_kind false e = refl
 
 module _ (r : Resolve) (valid : IsValid r) (id : TypeId) (def : TypeDef) (at : type_at r id.0 ≡ Some def) where
   known : IsShownType r id.0 def

@@ -4,7 +4,7 @@ use Rattle.std.specs.Prelude.{option_map, option_to_list, is_some, String}
 use Rattle.std.specs.Option.{option_map_or}
 use Rattle.std.specs.List.{list_all}
 use Rattle.std.specs.declared.alloc.Global.{Global}
-use Rattle.std.proofs.lemmas.Bool.{ltb-true, lt-ltb}
+use Rattle.std.proofs.lemmas.Bool.{ltb-true, lt-ltb, and_from as both}
 use Rattle.std.proofs.lemmas.List.Folds.{list_all-append}
 use Rattle.wit_model.specs.declared.model.Resolve.{Resolve}
 use Rattle.wit_model.specs.declared.model.TypeDef.{TypeDef}
@@ -25,9 +25,10 @@ use Rattle.print_grammar.specs.Tree.{TypeTree}
 use Rattle.print_grammar.specs.Tree.TypeTree.{Name}
 use Rattle.print_items.specs.Shown.{present_name, shown_type, type_name, used_type, used_types, future_tree, stream_tree, result_tree, kind_tree, def_tree, trees_from, type_trees}
 use Rattle.print_grammar.specs.WellNamed.{is_well_type, are_well_types, are_well_more}
-use Rattle.print_grammar.proofs.ByteTests.{both, left_of, right_of}
-use Rattle.print_items.proofs.ByPlace.{all_get, one_there}
 use Rattle.print_items.proofs.ShownWell.{given_label}
+use Rattle.base_lemmas.proofs.Bools.{left_of, right_of}
+use Rattle.base_lemmas.proofs.Elements.{all_get}
+use Rattle.base_lemmas.proofs.Lists.{within_there as one_there}
 
 -- a length that fits 32 bits fits 64
 short_length : (n : ℕ) → (nat_le 1 n && nat_lt n 4294967296) ≡ true → nat_lt n (2 ^ 64) ≡ true

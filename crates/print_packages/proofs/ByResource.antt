@@ -14,8 +14,9 @@ use Rattle.print_grammar.specs.Tree.MemberTree.{TypeMember}
 use Rattle.print_items.specs.Shown.{DeclaredWith, Listed, belongs_to, declared_of, present_name, shown_prefix, shown_resource_member, used_of}
 use Rattle.print_packages.specs.GivenTypes.{Functions, functions_under, given_declarations}
 use Rattle.print_uses.specs.UseGroups.{declared_members, listed_declaration}
-use Rattle.print_grammar.proofs.ByteTests.{both, left_of, right_of}
 use Rattle.print_uses.proofs.ListedTypes.{next_declarations}
+use Rattle.base_lemmas.proofs.Bools.{left_of, right_of}
+use Rattle.std.proofs.lemmas.Bool.{and_from as both}
 
 module _ {X : Type 0} (test : X → Bool) where
   twice_by : (b : Bool) (x : X) (xs : List X) → test x ≡ b → filter test xs ≡ xs → filter test (cond b (x ∷ xs) xs) ≡ cond b (x ∷ xs) xs

@@ -20,9 +20,9 @@ use Rattle.print_items.specs.ItemCalls.{named_calls}
 use Rattle.print_uses.specs.Printable.{is_printable_function, line_between, shown_functions}
 use Rattle.print_grammar.specs.WellNamed.{is_well_member}
 use Rattle.print_output.specs.declared.type_kind.TypeKind.TheVariants.{FunctionFreestanding}
-use Rattle.print_grammar.proofs.ByteTests.{weaker_all}
 use Rattle.print_uses.proofs.ValidDeclared.{is_known_function}
 use Rattle.print_uses.proofs.ValidInterfaces.{function_well, interface_functions}
+use Rattle.base_lemmas.proofs.Elements.{all_weaker as weaker_all}
 
 -- one function in its block
 pub function_alone : (emits printed : Bool) (r : Resolve) (f : Function)

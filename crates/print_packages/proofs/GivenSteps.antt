@@ -17,9 +17,9 @@ use Rattle.print_items.specs.Shown.{Listed}
 use Rattle.print_grammar.specs.Calls.{members_calls, printed_after}
 use Rattle.print_packages.specs.GivenTypes.{Functions, are_functions_of, behind, functions_under, given_declarations}
 use Rattle.print_uses.specs.UseGroups.{is_listed_function, listed_declaration, listed_of}
-use Rattle.print_grammar.proofs.ByteTests.{left_of, right_of}
 use Rattle.print_uses.proofs.Declarations.{members_append, printed_append}
 use Rattle.print_items.proofs.Moves.{Going, made_on, refused_in}
+use Rattle.base_lemmas.proofs.Bools.{left_of, right_of}
 
 under_test : (r : Resolve) (o : TypeOwner) (fs : Vec (Bor Function) Global) (found : Option (Vec (Bor Function) Global)) (b : Bool)
     → list_all (is_listed_function r o) (behind fs) ≡ true → list_all (is_listed_function r o) (option_map_or behind found []) ≡ true

@@ -17,20 +17,19 @@ use Rattle.wit_model.specs.Text.{Text, text_of}
 use Rattle.wit_model.specs.Names.{is_label}
 use Rattle.wit_model.specs.Lookup.{package_at, world_at, interface_at}
 use Rattle.wit_model.specs.Rules.{has_items, in_list, is_id, package_number, passes}
-use Rattle.wit_model.proofs.Lists.{first_true, second_true}
 use Rattle.print_output.specs.OutputCall.{OutputCall, is_one_line}
 use Rattle.print_grammar.specs.Tree.{ItemTree, WorldMember}
 use Rattle.print_grammar.specs.Tree.WorldMember.{WorldType, WorldUse}
 use Rattle.print_grammar.specs.Tree.MemberTree.{TypeMember, UseMember}
 use Rattle.print_uses.specs.UseGroups.{declared_members, is_listed_type, use_members}
 use Rattle.print_uses.proofs.Declarations.{after_printed, members_append, printed_append}
-use Rattle.print_uses.proofs.UseGroups.{or_false, or_true}
 use Rattle.print_uses.specs.Printable.{imports_interfaces, is_printable_entry, is_printable_import, printed_imports, is_printable_interface, is_printable_world, IsPrintableWorld, entry_calls, interface_entry_calls, line_between, world_body_calls, world_calls, is_printable_listed, listed_calls, listed_interface_calls, listed_package_calls, next_package_calls}
 use Rattle.print_items.specs.Shown.{DeclaredWith, Entry, Used, listed_imports, shown_declarations, shown_path, shown_uses, is_interface_item, is_freestanding_item, imported_functions, shown_import, shown_export, shown_interface, shown_world, shown_world_in, shown_world_item, shown_interface_item, shown_docs, shown_gates, shown_head, shown_package, shown_package_of}
 use Rattle.print_grammar.specs.Keyword.{escaped}
 use Rattle.print_grammar.specs.Calls.{declared_calls, item_calls, members_calls, prefix_calls, printed_after, space, use_calls, world_members_calls, package_item_calls, block_calls, doc_calls, gates_calls, more_nested_calls, nested_calls, package_outer_calls, package_start_calls, package_end_calls, package_calls}
 use Rattle.print_output.specs.declared.type_kind.TypeKind.TheVariants.{WorldDeclaration}
 use Rattle.print_grammar.specs.WellNamed.{is_well_gates, is_well_item}
+use Rattle.base_lemmas.proofs.Bools.{left_of as first_true, or_false, or_true, right_of as second_true}
 
 -- ---- the calls for what a world without types has
 

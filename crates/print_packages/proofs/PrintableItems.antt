@@ -23,7 +23,7 @@ use Rattle.print_items.specs.ItemCalls.{labelled_tree}
 use Rattle.print_uses.specs.Printable.{entry_calls, is_printable_entry, is_printable_import, is_shown_item}
 use Rattle.print_items.specs.Shown.{extern_docs, extern_prefix, function_prefix, shown_docs, shown_external_id, shown_gates, shown_import, shown_interface, shown_path, shown_prefix, shown_signature}
 use Rattle.print_grammar.specs.WellNamed.{is_well_extern, is_well_path, is_well_prefix, is_well_world_member}
-use Rattle.print_grammar.proofs.ByteTests.{left_of, right_of}
+use Rattle.base_lemmas.proofs.Bools.{left_of, right_of}
 
 module _ (r : Resolve) (here : PackageId) where
   -- what is shown as an import can be printed as one

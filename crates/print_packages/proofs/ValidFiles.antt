@@ -4,7 +4,7 @@ use Rattle.std.specs.Prelude.{String, option_map}
 use Rattle.std.specs.Option.{option_map_or}
 use Rattle.std.specs.List.{list_all}
 use Rattle.std.specs.declared.alloc.Global.{Global}
-use Rattle.std.proofs.lemmas.Bool.{ltb-true}
+use Rattle.std.proofs.lemmas.Bool.{ltb-true, and_from as both}
 use Rattle.wit_model.specs.declared.model.Resolve.{Resolve}
 use Rattle.wit_model.specs.declared.model.Package.{Package}
 use Rattle.wit_model.specs.declared.model.PackageId.{PackageId}
@@ -27,15 +27,16 @@ use Rattle.print_grammar.specs.Reading.{IsOnlyReading}
 use Rattle.print_grammar.specs.Tree.ItemTree.{InterfaceItem, WorldItem}
 use Rattle.print_items.specs.Shown.{shown_docs, shown_gates, shown_interface, shown_interface_item, shown_world, shown_world_item, shown_package_of, no_package, shown_package, shown_file}
 use Rattle.print_grammar.specs.WellNamed.{is_well_gates, is_well_item, is_well_package, is_well_file}
-use Rattle.print_grammar.proofs.ByteTests.{both, left_of, right_of}
-use Rattle.print_items.proofs.ByPlace.{one_there}
-use Rattle.print_uses.proofs.WellLists.{each_well, given_well, joined_well}
+use Rattle.print_uses.proofs.WellLists.{each_well, given_well}
 use Rattle.print_output.proofs.RenderLaws.{Moves-writes}
 use Rattle.print_grammar.proofs.FileReads.{file_reads_only}
 use Rattle.print_items.proofs.ShownWell.{docs_well, gates_well, optional_version}
 use Rattle.print_uses.proofs.ValidOwners.{world_rule}
 use Rattle.print_uses.proofs.ValidInterfaces.{interface_well}
 use Rattle.print_packages.proofs.ValidWorlds.{world_well}
+use Rattle.base_lemmas.proofs.Bools.{left_of, right_of}
+use Rattle.base_lemmas.proofs.Elements.{joined_well}
+use Rattle.base_lemmas.proofs.Lists.{within_there as one_there}
 
 module _ (r : Resolve) (valid : IsValid r) where
   -- a name under which something with this label stands

@@ -1,11 +1,11 @@
 -- What validity says of a `Resolve`: its worlds and interfaces can be printed.
-use Rattle.std.proofs.Common.{◌≡◌, refl, sym, subst, ◌∙◌, ℕ, zero, suc, ◌<◌, ◌+◌, Bool, true, false, ◌&&◌, ◌||◌, not, List, [], ◌∷◌, length, Option, Some, slice_get, arith}
+use Rattle.std.proofs.Common.{◌≡◌, refl, sym, subst, ◌∙◌, ℕ, ◌+◌, Bool, true, false, ◌&&◌, ◌||◌, not, List, [], ◌∷◌, length, Option, Some, arith}
 use Rattle.std.specs.Prelude.{String}
 use Rattle.std.specs.List.{list_all}
 use Rattle.std.specs.Option.{option_map_or}
 use Rattle.std.specs.Cmp.Lexicographic.{same_text}
 use Rattle.std.specs.declared.alloc.Global.{Global}
-use Rattle.std.proofs.lemmas.Bool.{ltb-true}
+use Rattle.std.proofs.lemmas.Bool.{ltb-true, and_from as both_true}
 use Rattle.std.proofs.lemmas.List.Folds.{list_all-map}
 use Rattle.indexmap.specs.IndexMap.{values}
 use Rattle.wit_model.specs.declared.model.Resolve.{Resolve}
@@ -23,35 +23,23 @@ use Rattle.wit_model.specs.Lookup.{interface_at, package_at, world_at, optional_
 use Rattle.wit_model.specs.declared.model.TypeOwner.TheVariants as owner
 use Rattle.wit_model.specs.Rules.{in_list, passes, key_in_range, item_in_range, key_label, item_labels, entries_labels, is_stability, interface_belongs, world_belongs, is_id, package_number, is_export_item, text_is}
 use Rattle.wit_model.specs.Valid.{IsValid, names_in_packages, numbers_in_range, package_names, places, labels, is_place}
-use Rattle.wit_model.proofs.Lists.{first_true, second_true}
 use Rattle.wit_model.proofs.Entries.{each_from_at, lists_pass}
 use Rattle.print_uses.specs.Printable.{is_printable_import, is_shown_item, is_printable_interface, is_printable_entry, is_printable_world, is_printable_listed}
 use Rattle.print_grammar.specs.WellNamed.{is_well_optional}
 use Rattle.print_grammar.specs.WellNamed.{is_well_item}
 use Rattle.print_items.specs.Shown.{Listed, function_of_item, imported_functions, listed_imports, shown_interface_item, type_of_entry}
 use Rattle.wit_model.proofs.OnePath.{package-passes}
-use Rattle.print_grammar.proofs.ByteTests.{weaker_all}
 use Rattle.print_uses.proofs.WellLists.{all_both, given_well}
 use Rattle.print_uses.specs.UseGroups.{is_listed_function, is_listed_type}
 use Rattle.print_packages.proofs.ValidWorlds.{is_known_entry, entry_function_known, extern_well, world_is_shown}
 use Rattle.print_uses.proofs.ValidOwners.{is_known_listed}
 use Rattle.print_packages.proofs.ValidFiles.{interface_item_well}
 use Rattle.print_items.proofs.ShownWell.{gates_well, optional_version}
-
-both_true : (a b : Bool) → a ≡ true → b ≡ true → (a && b) ≡ true
-both_true a b p q = rw p q
+use Rattle.base_lemmas.proofs.Bools.{left_of as first_true, right_of as second_true}
+use Rattle.base_lemmas.proofs.Elements.{all_weaker as weaker_all}
+use Rattle.base_lemmas.proofs.Lists.{within_there as found}
 
 -- ---- lists
-
-found : {X : Type 0} (xs : List X) (n : ℕ) → n < length xs → (x : X) × (slice_get xs n ≡ Some x)
-found [] n h = absurd (omega arith)
-found (x ∷ xs) zero h = (x, refl)
-found (x ∷ xs) (suc n) h = found xs n (omega arith)
-
-at_index : {X : Type 0} (test : X → Bool) (xs : List X) (n : ℕ) (x : X) → list_all test xs ≡ true → slice_get xs n ≡ Some x → test x ≡ true
-at_index test [] n x h e = absurd cc
-at_index test (y ∷ ys) zero x h e = let same : y ≡ x = cc in subst (λ z. test z ≡ true) same (first_true _ _ h)
-at_index test (y ∷ ys) (suc n) x h e = at_index test ys n x (second_true (test y) _ h) e
 
 -- ---- items
 

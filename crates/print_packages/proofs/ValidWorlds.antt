@@ -5,7 +5,7 @@ use Rattle.std.specs.Option.{option_map_or}
 use Rattle.std.specs.List.{list_all, cons_option}
 use Rattle.std.specs.Map.{values_of}
 use Rattle.std.specs.declared.alloc.Global.{Global}
-use Rattle.std.proofs.lemmas.Bool.{ltb-true}
+use Rattle.std.proofs.lemmas.Bool.{ltb-true, and_from as both}
 use Rattle.std.proofs.lemmas.List.Folds.{list_all-append}
 use Rattle.wit_model.specs.declared.model.Function.{Function}
 use Rattle.wit_model.specs.declared.model.TypeId.{TypeId}
@@ -34,15 +34,16 @@ use Rattle.print_grammar.specs.Tree.{WorldMember}
 use Rattle.print_grammar.specs.Tree.WorldMember.{WorldUse, WorldType}
 use Rattle.print_items.specs.Shown.{Entry, Used, shown_docs, shown_gates, shown_path, shown_uses, shown_declarations, shown_interface, function_prefix, extern_docs, extern_prefix, shown_extern, shown_import, shown_export, is_interface_item, is_freestanding_item, function_of_item, type_of_entry, listed_imports, imported_functions, shown_world_in, shown_world}
 use Rattle.print_grammar.specs.WellNamed.{is_well_gates, is_well_prefix, is_well_path, is_well_member, is_well_extern, is_well_world_member}
-use Rattle.print_grammar.proofs.ByteTests.{both, left_of, right_of, weaker_all}
-use Rattle.print_items.proofs.ByPlace.{one_there}
-use Rattle.print_uses.proofs.WellLists.{all_both, each_well, kept_well, given_well, joined_well}
+use Rattle.print_uses.proofs.WellLists.{all_both, each_well, kept_well, given_well}
 use Rattle.print_items.proofs.ShownWell.{docs_well, gates_well, external_id_well}
 use Rattle.print_uses.proofs.FunctionsWell.{signature_well, function_prefix_well}
 use Rattle.print_uses.proofs.ValidDeclared.{is_known_function}
 use Rattle.print_uses.proofs.ValidOwners.{is_named_interface, is_known_listed, world_rule}
 use Rattle.print_uses.proofs.ValidUses.{is_known_use, is_well_declared_with, path_well, uses_known, declarations_well}
 use Rattle.print_uses.proofs.ValidInterfaces.{freestanding_label, interface_well}
+use Rattle.base_lemmas.proofs.Bools.{left_of, right_of}
+use Rattle.base_lemmas.proofs.Elements.{all_weaker as weaker_all, joined_well}
+use Rattle.base_lemmas.proofs.Lists.{within_there as one_there}
 
 -- what stands under an interface is that interface
 abbrev stands_under : Resolve → WorldKey → Item → Bool

@@ -26,10 +26,10 @@ use Rattle.print_uses.specs.Printable.{declaration_of, is_printable_type, line_b
 use Rattle.print_uses.specs.UseGroups.{declared_members, is_listed_type, type_members}
 use Rattle.print_grammar.specs.WellNamed.{is_well_declared, is_well_prefix}
 use Rattle.print_output.specs.declared.type_kind.TypeKind.TheVariants.{FunctionFreestanding}
-use Rattle.print_grammar.proofs.ByteTests.{right_of}
 use Rattle.print_uses.proofs.ValidInterfaces.{in_package, interface_range, interface_types}
 use Rattle.print_uses.proofs.ValidOwners.{is_known_listed}
 use Rattle.print_uses.proofs.WellLists.{all_both}
+use Rattle.base_lemmas.proofs.Bools.{right_of}
 
 -- ---- calls
 

@@ -15,10 +15,11 @@ use Rattle.wit_model.specs.Rules.{function_in_range, function_labels, is_freesta
 use Rattle.wit_model.specs.Valid.{IsValid}
 use Rattle.print_items.specs.Shown.{shown_type, shown_param, shown_params, shown_signature, function_prefix, is_method}
 use Rattle.print_grammar.specs.WellNamed.{is_well_type, is_well_optional, is_well_param, is_well_signature, is_well_prefix}
-use Rattle.print_grammar.proofs.ByteTests.{both, left_of, right_of}
 use Rattle.print_uses.proofs.WellLists.{written_well}
 use Rattle.print_items.proofs.ShownWell.{shown_prefix_well}
 use Rattle.print_items.proofs.TypesWell.{is_below, below_of_numbers, shown_type_well}
+use Rattle.base_lemmas.proofs.Bools.{left_of, right_of}
+use Rattle.std.proofs.lemmas.Bool.{and_from as both}
 
 module _ (r : Resolve) (valid : IsValid r) where
   -- a parameter with a label and a type in range

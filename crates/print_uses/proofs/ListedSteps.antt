@@ -14,10 +14,10 @@ use Rattle.print_output.specs.OutputCall.{OutputCall, View, Moves, Begins}
 use Rattle.print_grammar.specs.Tree.{PathTree}
 use Rattle.print_items.specs.Shown.{Listed, Used}
 use Rattle.print_uses.specs.UseGroups.{is_listed_type, listed_of, listed_use, listed_use_calls, use_after, uses_calls}
-use Rattle.print_items.proofs.ByPlace.{one_there}
-use Rattle.print_grammar.proofs.ByteTests.{left_of, right_of}
 use Rattle.print_uses.proofs.ListedTypes.{next_listed_some, next_listed_use}
 use Rattle.print_items.proofs.Moves.{Going, made_on, refused_in}
+use Rattle.base_lemmas.proofs.Bools.{left_of, right_of}
+use Rattle.base_lemmas.proofs.Lists.{within_there as one_there}
 
 -- a type under its name
 abbrev entry : Bor Text × TypeId → Listed

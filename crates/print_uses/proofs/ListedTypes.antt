@@ -3,7 +3,7 @@ use Rattle.std.proofs.Common.{◌≡◌, refl, sym, ap, subst, ◌∙◌, ℕ, B
 use Rattle.std.specs.Prelude.{is_some, option_map}
 use Rattle.std.specs.Option.{option_map_or}
 use Rattle.std.specs.List.{list_all, cons_option}
-use Rattle.std.proofs.lemmas.Bool.{lt-ltb}
+use Rattle.std.proofs.lemmas.Bool.{lt-ltb, and_from as both}
 use Rattle.std.proofs.lemmas.Option.{slice_get_within}
 use Rattle.wit_model.specs.declared.model.Resolve.{Resolve}
 use Rattle.wit_model.specs.declared.model.Interface.{Interface}
@@ -29,7 +29,6 @@ use Rattle.print_uses.specs.Printable.{declaration_of, is_printable_type}
 use Rattle.print_uses.specs.UseGroups.{declared_members, is_listed_type, is_printable_use, listed_declaration, listed_use, listed_use_calls, shown_use, use_after, use_members, uses_calls}
 use Rattle.print_uses.specs.declared.use_group.Use.{Use}
 use Rattle.print_grammar.specs.WellNamed.{are_well_some, is_well_declared, is_well_gates, is_well_prefix, is_well_used}
-use Rattle.print_grammar.proofs.ByteTests.{both, left_of, right_of}
 use Rattle.print_uses.proofs.Declarations.{declaration_at}
 use Rattle.print_items.proofs.ShownWell.{shown_prefix_well}
 use Rattle.print_items.proofs.TypesWell.{name_well, type_rule}
@@ -37,6 +36,7 @@ use Rattle.print_uses.proofs.UseGroups.{listed_plain, next_some, next_use, uses_
 use Rattle.print_uses.proofs.ValidDeclared.{declared_well, is_known_function}
 use Rattle.print_uses.proofs.ValidOwners.{is_named_interface}
 use Rattle.print_uses.proofs.ValidUses.{is_known_use, path_well, use_known}
+use Rattle.base_lemmas.proofs.Bools.{left_of, right_of}
 
 module _ (r : Resolve) where
   -- ---- a use that can be printed

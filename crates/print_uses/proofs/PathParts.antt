@@ -17,7 +17,7 @@ use Rattle.print_items.specs.Shown.{full_path, path_from, present_name, shown_pa
 use Rattle.print_grammar.specs.WellNamed.{is_well_path}
 use Rattle.print_grammar.specs.Tree.{PathTree}
 use Rattle.print_grammar.specs.Tree.PathTree.{Local}
-use Rattle.print_grammar.proofs.ByteTests.{left_of, right_of}
+use Rattle.base_lemmas.proofs.Bools.{left_of, right_of}
 
 module _ (r : Resolve) (here : PackageId) (i : Interface) where
   pub free_path : i.«package» ≡ None → path_from r here i ≡ Local (present_name i.name)

@@ -7,7 +7,7 @@ use Rattle.std.proofs.Math.Utf8.{encodes}
 use Rattle.std.proofs.lemmas.Str.{encodes-chars, IsUtf8-string_bytes}
 use Rattle.std.specs.List.{list_all, cons_option, flat_map}
 use Rattle.std.proofs.lemmas.Grind.{flat_map-append}
-use Rattle.std.proofs.lemmas.Bool.{eqb-true}
+use Rattle.std.proofs.lemmas.Bool.{eqb-true, and_from as both}
 use Rattle.std.proofs.lemmas.List.Folds.{flat_map-map}
 use Rattle.wit_model.specs.declared.model.Resolve.{Resolve}
 use Rattle.wit_model.specs.declared.model.InterfaceId.{InterfaceId}
@@ -34,8 +34,7 @@ use Rattle.print_grammar.specs.Calls.{doc_calls, external_id_calls, gates_calls,
 use Rattle.print_uses.specs.UseGroups.{group_end_calls, is_printable_use, joins, listed_use, listed_use_calls, more_names_calls, names_calls, new_group_calls, open_end_calls, use_after, use_from, use_run_calls, uses_calls}
 use Rattle.print_grammar.specs.WellNamed.{is_well_gates, is_well_path}
 use Rattle.print_uses.specs.declared.use_group.Use.{Use}
-use Rattle.print_grammar.proofs.ByteTests.{both, left_of, right_of}
-use Rattle.print_uses.proofs.SameVersions.{both_ways}
+use Rattle.base_lemmas.proofs.Bools.{both_ways, left_of, or_false, or_true, right_of}
 
 -- ---- a use alone
 
@@ -75,14 +74,6 @@ module _ (here : TypeOwner) (own : Text) (def : TypeDef) where
       by_number : (t : Option ℕ) → passes is_plain_use (option_and_then (λ n. option_and_then (use_from here own def) (type_at r n)) t) ≡ true
       by_number None = refl
       by_number (Some n) = at (type_at r n)
-
-pub or_false : (b : Bool) → (b || false) ≡ b
-or_false true = refl
-or_false false = refl
-
-pub or_true : (b : Bool) → (b || true) ≡ true
-or_true true = refl
-or_true false = refl
 
 -- ---- groups
 

@@ -31,12 +31,13 @@ use Rattle.wit_model.proofs.Lists.{list_all_filter_map}
 use Rattle.print_output.specs.OutputCall.{is_one_line}
 use Rattle.print_items.specs.Shown.{present_name, shown_docs, shown_type, type_name, type_trees, kind_tree, shown_field, shown_case, shown_flag, shown_enum_case, shown_params, function_prefix, shown_signature, constructor_result, shown_resource_member, belongs_to, shown_declared}
 use Rattle.print_grammar.specs.WellNamed.{is_well_type, is_well_optional, is_well_field, is_well_case, is_well_label, is_well_param, is_well_signature, is_well_prefix, is_well_resource_member, is_well_declared}
-use Rattle.print_grammar.proofs.ByteTests.{both, left_of, right_of}
 use Rattle.print_uses.proofs.WellLists.{kept_well, some_well}
 use Rattle.print_items.proofs.ShownWell.{docs_well}
 use Rattle.print_items.proofs.TypesWell.{is_below, below_of_numbers, type_rule, shape_of, handled_label, shown_type_well, shown_kind_well}
 use Rattle.print_uses.proofs.FunctionsWell.{signature_well, function_prefix_well, optional_type_well}
 use Rattle.print_uses.proofs.ValidNames.{item_name_well}
+use Rattle.base_lemmas.proofs.Bools.{left_of, right_of}
+use Rattle.std.proofs.lemmas.Bool.{and_from as both}
 
 flags_well : (fs : List Flag) → list_all is_label (map (λ f. text_of f.name) fs) ≡ true → list_all is_well_label (map shown_flag fs) ≡ true
 flags_well [] h = refl

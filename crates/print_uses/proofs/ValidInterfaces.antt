@@ -21,12 +21,14 @@ use Rattle.wit_model.proofs.OnePath.{interface-passes}
 use Rattle.print_grammar.specs.Tree.MemberTree.{UseMember, TypeMember}
 use Rattle.print_items.specs.Shown.{Used, DeclaredWith, shown_uses, shown_declarations, path_from_owner, listed_types, listed_functions, function_prefix, shown_function, shown_interface}
 use Rattle.print_grammar.specs.WellNamed.{is_well_prefix, is_well_path, is_well_member}
-use Rattle.print_grammar.proofs.ByteTests.{both, left_of, right_of}
-use Rattle.print_uses.proofs.WellLists.{implied, each_well, kept_well, joined_well}
+use Rattle.print_uses.proofs.WellLists.{each_well, kept_well}
 use Rattle.print_uses.proofs.FunctionsWell.{signature_well, function_prefix_well}
 use Rattle.print_uses.proofs.ValidDeclared.{is_known_function}
 use Rattle.print_uses.proofs.ValidOwners.{is_named_interface, is_known_listed, own_names, listed_known}
 use Rattle.print_uses.proofs.ValidUses.{is_known_use, is_well_declared_with, owner_path_well, uses_known, declarations_well}
+use Rattle.base_lemmas.proofs.Bools.{given-not as implied, left_of, right_of}
+use Rattle.base_lemmas.proofs.Elements.{joined_well}
+use Rattle.std.proofs.lemmas.Bool.{and_from as both}
 
 module _ (r : Resolve) (valid : IsValid r) where
   -- ---- functions

@@ -1,11 +1,10 @@
 -- The own names of a valid `Resolve`'s functions are labels.
-use Rattle.std.proofs.Common.{◌≡◌, refl, sym, ap, ◌∙◌, subst, ℕ, ◌+◌, Bool, true, false, ◌&&◌, ◌||◌, ◌==◌, not, cond, T, eqb→eq, [], ◌∷◌, ◌++◌, append_assoc, length, drop, Option, Some, None, option_and_then, arith}
+use Rattle.std.proofs.Common.{◌≡◌, refl, sym, ap, ◌∙◌, subst, ℕ, ◌+◌, Bool, true, false, ◌&&◌, ◌||◌, ◌==◌, not, cond, [], ◌∷◌, ◌++◌, append_assoc, length, drop, Option, Some, None, option_and_then, arith}
 use Rattle.std.specs.Prelude.{codes, String, if◌then◌else◌}
 use Rattle.std.specs.List.{list_all, position_or_len}
 use Rattle.std.specs.Option.{option_map_or}
 use Rattle.std.specs.declared.alloc.Global.{Global}
 use Rattle.std.proofs.lemmas.List.{drop_at, length_push}
-use Rattle.std.proofs.lemmas.Option.{same_Some}
 use Rattle.wit_model.specs.declared.model.Resolve.{Resolve}
 use Rattle.wit_model.specs.declared.model.TypeDef.{TypeDef}
 use Rattle.wit_model.specs.declared.model.TypeOwner.{TypeOwner}
@@ -20,9 +19,10 @@ use Rattle.wit_model.specs.Parts.{same_owner}
 use Rattle.wit_model.specs.Rules.{passes, after_prefix, is_freestanding, function_labels, is_resource_itself, resource_name, takes_self, is_member_name, is_member_of, is_member}
 use Rattle.wit_model.specs.Valid.{IsValid}
 use Rattle.wit_model.proofs.NameLaws.{label_lacks}
-use Rattle.print_grammar.proofs.ByteTests.{left_of, right_of}
-use Rattle.print_uses.proofs.WellLists.{joined_well}
 use Rattle.print_items.proofs.TypesWell.{label_of}
+use Rattle.base_lemmas.proofs.Bools.{left_of, right_of}
+use Rattle.base_lemmas.proofs.Elements.{joined_well}
+use Rattle.wit_model.proofs.Prefixes.{after_sound}
 
 -- ---- what follows a dot
 
@@ -42,14 +42,6 @@ after_first_dot xs ys h =
     ∙ (ap (drop (length xs + 1)) (sym (append_assoc xs (46 ∷ []) ys)) ∙ drop_at (xs ++ (46 ∷ [])) ys (length xs + 1) (length_push xs 46))
 
 -- the prefix stands before what follows it
-after_sound : (ps bs rest : Text) → after_prefix ps bs ≡ Some rest → bs ≡ ps ++ rest
-after_sound [] bs rest h = same_Some bs rest h
-after_sound (p ∷ ps) [] rest h = absurd cc
-after_sound (p ∷ ps) (b ∷ bs) rest h = go (after_sound ps bs rest) (p == b) refl h
-  where
-    go : (after_prefix ps bs ≡ Some rest → bs ≡ ps ++ rest) → (v : Bool) → (p == b) ≡ v → cond v (after_prefix ps bs) None ≡ Some rest → b ∷ bs ≡ (p ∷ ps) ++ rest
-    go again true e k = let head : p ≡ b = eqb→eq p b (subst T (sym e) tt) in let tail : bs ≡ ps ++ rest = again k in cc
-    go again false e k = absurd cc
 
 -- what follows a front, a label and a dot
 member_label : (front name : Text) (f : Function) → list_all is_no_dot front ≡ true → is_label name ≡ true → is_member_name (front ++ (name ++ (46 ∷ []))) f ≡ true → is_label (after_dot (text_of f.name)) ≡ true

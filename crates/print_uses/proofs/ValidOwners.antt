@@ -5,7 +5,7 @@ use Rattle.std.specs.Option.{option_map_or}
 use Rattle.std.specs.List.{list_all, find}
 use Rattle.std.specs.Map.{values_of}
 use Rattle.std.specs.declared.alloc.Global.{Global}
-use Rattle.std.proofs.lemmas.Bool.{ltb-true}
+use Rattle.std.proofs.lemmas.Bool.{ltb-true, and_from as both, false_from_ne_true as refuted}
 use Rattle.std.proofs.lemmas.List.Folds.{list_all-append}
 use Rattle.wit_model.specs.declared.error.EntryList.TheVariants as lists
 use Rattle.wit_model.specs.declared.model.Resolve.{Resolve}
@@ -31,12 +31,13 @@ use Rattle.wit_model.proofs.Checks.{references_kept}
 use Rattle.wit_model.proofs.TreeTable.{kept_numbers}
 use Rattle.wit_model.proofs.Owners.{named_met, owned_stays}
 use Rattle.wit_model.proofs.Listings.{interface_fits, misnamed_in_interface_breaks}
-use Rattle.wit_model.proofs.OnePath.{interface-passes, equal-numbers, given-test}
+use Rattle.wit_model.proofs.OnePath.{interface-passes, given-test}
 use Rattle.wit_model.proofs.VersionLaws.{text_same}
 use Rattle.print_items.specs.Shown.{Listed}
-use Rattle.print_grammar.proofs.ByteTests.{both, left_of, right_of, refuted}
-use Rattle.print_items.proofs.ByPlace.{one_there}
 use Rattle.print_items.proofs.TypesWell.{type_rule, label_of}
+use Rattle.base_lemmas.proofs.Bools.{left_of, right_of}
+use Rattle.base_lemmas.proofs.Lists.{within_there as one_there}
+use Rattle.base_lemmas.proofs.Numbers.{equal as equal-numbers}
 
 -- ---- owners
 

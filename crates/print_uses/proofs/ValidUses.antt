@@ -3,7 +3,7 @@ use Rattle.std.proofs.Common.{◌≡◌, refl, ap, subst, ℕ, Bool, true, false
 use Rattle.std.specs.Prelude.{is_some, if◌then◌else◌}
 use Rattle.std.specs.Option.{option_map_or}
 use Rattle.std.specs.List.{list_all}
-use Rattle.std.proofs.lemmas.Bool.{cases_Bool}
+use Rattle.std.proofs.lemmas.Bool.{cases_Bool, and_from as both}
 use Rattle.wit_model.specs.declared.model.Resolve.{Resolve}
 use Rattle.wit_model.specs.declared.model.Package.{Package}
 use Rattle.wit_model.specs.declared.model.PackageId.{PackageId}
@@ -29,12 +29,12 @@ use Rattle.wit_model.proofs.OnePath.{package-passes, interface-passes}
 use Rattle.print_grammar.specs.Tree.PathTree.{Local}
 use Rattle.print_items.specs.Shown.{present_name, shown_prefix, full_path, path_from, shown_path, Used, own_name, used_of, same_group, grouped_with, grouped, Listed, shown_uses, DeclaredWith, shown_declared, declared_with, shown_declarations, path_from_owner}
 use Rattle.print_grammar.specs.WellNamed.{is_well_optional, is_well_prefix, is_well_path, is_well_used, are_well_some, is_well_declared}
-use Rattle.print_grammar.proofs.ByteTests.{both, left_of, right_of}
 use Rattle.print_uses.proofs.WellLists.{given_well, joined_some}
 use Rattle.print_items.proofs.ShownWell.{given_label, optional_version, shown_prefix_well}
 use Rattle.print_items.proofs.TypesWell.{type_rule, name_well}
 use Rattle.print_uses.proofs.ValidDeclared.{is_known_function, declared_well}
 use Rattle.print_uses.proofs.ValidOwners.{is_named_interface, is_known_listed, target_interface_named}
+use Rattle.base_lemmas.proofs.Bools.{left_of, right_of}
 
 -- a use of a named interface, whose names are labels
 abbrev pub is_known_use : Resolve → Used → Bool

@@ -1,17 +1,14 @@
 -- Lists whose elements pass a test.
-use Rattle.std.proofs.Common.{◌≡◌, refl, ◌∙◌, Bool, true, false, ◌&&◌, ◌||◌, not, nat_lt, List, [], ◌∷◌, ◌++◌, length, map, filter, filter_map, Option, Some, None, drop, arith, inl, inr}
+use Rattle.std.proofs.Common.{◌≡◌, refl, Bool, true, false, ◌&&◌, nat_lt, List, [], ◌∷◌, ◌++◌, length, map, filter, filter_map, Option, Some, None, drop, arith, inl, inr}
 use Rattle.std.specs.Prelude.{if◌then◌else◌}
 use Rattle.std.specs.List.{list_all, cons_option}
-use Rattle.std.proofs.lemmas.Bool.{cases_Bool, lt-ltb}
-use Rattle.std.proofs.lemmas.List.Folds.{list_all-append}
+use Rattle.std.proofs.lemmas.Bool.{cases_Bool, lt-ltb, and_from as both}
 use Rattle.wit_model.specs.Rules.{passes, has_items}
 use Rattle.print_grammar.specs.WellNamed.{are_well_some}
-use Rattle.print_grammar.proofs.ByteTests.{both, left_of, right_of}
+use Rattle.base_lemmas.proofs.Bools.{left_of, right_of}
+use Rattle.base_lemmas.proofs.Elements.{joined_well}
 
 -- what a test asks where another passes
-pub implied : (a b : Bool) → a ≡ true → (not a || b) ≡ true → b ≡ true
-implied true b e h = h
-implied false b e h = absurd cc
 
 -- what is made of each element
 pub each_well : {X Y : Type 0} (known : X → Bool) (shown : X → Y) (well : Y → Bool) → ((x : X) → known x ≡ true → well (shown x) ≡ true) → (xs : List X) → list_all known xs ≡ true → list_all well (map shown xs) ≡ true
@@ -44,8 +41,6 @@ all_both p q (x ∷ xs) h g =
     both (p x && q x) _ (both (p x) (q x) first second) (all_both p q xs (right_of (p x) _ h) (right_of (q x) _ g))
 
 -- one list behind another
-pub joined_well : {X : Type 0} (p : X → Bool) (xs ys : List X) → list_all p xs ≡ true → list_all p ys ≡ true → list_all p (xs ++ ys) ≡ true
-joined_well p xs ys h g = list_all-append p xs ys ∙ both (list_all p xs) _ h g
 
 -- a list with an element, each of which passes
 pub some_well : {X Y : Type 0} (well : Y → Bool) (shown : X → Y) (xs : List X) → has_items xs ≡ true → list_all well (map shown xs) ≡ true → are_well_some well (map shown xs) ≡ true

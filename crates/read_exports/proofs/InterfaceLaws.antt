@@ -3,26 +3,26 @@ use Rattle.std.proofs.Common.{◌≡◌, refl, sym, ap, subst, ◌∙◌, ℕ, B
 use Rattle.std.specs.List.{AllByRecursion}
 use Rattle.wit_model.specs.Names.{PackageIdentity}
 use Rattle.wit_model.specs.Text.{Text, text_eq}
-use Rattle.wit_model.proofs.Elements.{same-some}
 use Rattle.wit_model.proofs.VersionLaws.{same_text, text_same}
 use Rattle.comp_bytes.specs.Reading.{◌>>=◌}
 use Rattle.comp_meaning.specs.Follow.{View, each, is_filled, provided}
 use Rattle.comp_meaning.specs.Rules.{distinct}
 use Rattle.comp_meaning.specs.Reads as reads
-use Rattle.comp_meaning.specs.Reads.{Part, interface_part, labelled_path}
+use Rattle.comp_meaning.specs.Reads.{Part, labelled_path}
 use Rattle.plan_meaning.specs.NumberedMembers.{Homes, IsHomeOf, HomesStand, exported_view, imported_view, shown_view}
 use Rattle.plan_meaning.specs.NumberedRules.{Fact, IsKnown}
 use Rattle.plan_meaning.specs.NumberedViews.{AllOf, AreTables, IsPart, NumberedType, Tables, path_text, view_of}
 use Rattle.plan_meaning.specs.NumberedWorlds.{DeclaresParts, HasPath, ItemStands, NumberedScope, NumberedSeen, NumberedShown, ScopeStands, are_once, are_reached, declares, function, implementing, instance, label, path}
-use Rattle.plan_meaning.proofs.Lists.{map_of_map}
 use Rattle.plan_meaning.proofs.NumberedMembers.{export_in_numbers, imports_in_numbers}
 use Rattle.plan_meaning.proofs.NumberedWorlds.{path_is, paths_in_numbers, reached_in_numbers}
 use Rattle.read_exports.specs.Interfaces.{IsInterfacePart, IsPartOf, InterfacesInNumbers, Placed, InterfaceScopesInNumbers, at_home, elsewhere, interface_of_scope, shown_interface}
+use Rattle.base_lemmas.proofs.Lists.{map_of_map}
+use Rattle.std.proofs.lemmas.Option.{same_Some as same-some}
 
 no_some : {A B : Type 0} (x : A) → None ≡ Some x → B
 no_some x e = let wrong : ⊥ = cc in absurd wrong
 
-provided_is : {A : Type 0} (b : Bool) (x y : A) → provided b x ≡ Some y → x ≡ y
+pub provided_is : {A : Type 0} (b : Bool) (x y : A) → provided b x ≡ Some y → x ≡ y
 provided_is true x y e = same-some x y e
 provided_is false x y e = no_some y e
 

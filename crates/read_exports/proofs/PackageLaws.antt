@@ -1,5 +1,5 @@
 -- The rules on a package and on one world, put together.
-use Rattle.std.proofs.Common.{◌≡◌, refl, sym, ap, ◌∙◌, ℕ, Bool, true, false, not, ◌&&◌, ◌||◌, ◌==◌, List, [], ◌∷◌}
+use Rattle.std.proofs.Common.{◌≡◌, refl, sym, ap, ◌∙◌, ℕ, Bool, not, ◌&&◌, ◌||◌, ◌==◌, List, [], ◌∷◌}
 use Rattle.std.specs.List.{list_all, list_any}
 use Rattle.wit_model.specs.Text.{Text}
 use Rattle.plan_meaning.specs.NumberedMembers.{Homes, NumberedMember, are_interfaces, are_package, is_named_in, is_of_package, is_one_world, sights_of_members, stands_at_top}
@@ -8,10 +8,7 @@ use Rattle.plan_meaning.specs.NumberedViews.{NumberedSight, Tables, agree_in_num
 use Rattle.plan_meaning.specs.NumberedWorlds.{NumberedScope, sights_of_scope}
 use Rattle.plan_parts.proofs.FirstAgreement.{agree_by_first}
 use Rattle.read_exports.specs.Members.{stands_among, ArePlaces}
-
-and_line : (a b c : Bool) → ((a && b) && c) ≡ (a && (b && c))
-and_line true b c = refl
-and_line false b c = refl
+use Rattle.base_lemmas.proofs.Bools.{and_line}
 
 module _ (h : Homes) (n : ℕ) (ms : List NumberedMember) (places : List ℕ) (are : ArePlaces ms places) where
   one_at_top : (s : NumberedSight) → stands_among h n places s ≡ stands_at_top h n ms s

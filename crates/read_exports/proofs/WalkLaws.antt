@@ -1,25 +1,16 @@
 -- Walks along lists, step by step.
-use Rattle.std.proofs.Common.{◌≡◌, ◌≢◌, refl, sym, ap, ◌∙◌, ℕ, zero, suc, ◌+◌, ◌<◌, ◌≤◌, Bool, false, ◌||◌, List, [], ◌∷◌, ◌++◌, map, drop, length, get_or, Option, Some, None, option_map}
+use Rattle.std.proofs.Common.{◌≡◌, ◌≢◌, refl, sym, ap, ◌∙◌, ℕ, ◌+◌, ◌<◌, ◌≤◌, false, List, [], ◌∷◌, ◌++◌, map, drop, length, get_or, Option, Some, None, option_map}
 use Rattle.std.proofs.Math.ListN.{drop_of_length-le}
-use Rattle.std.proofs.lemmas.List.{drop_more, map-append}
-use Rattle.std.specs.List.{list_any}
+use Rattle.std.proofs.lemmas.List.{drop_more, map-append, drop-map as drop_mapped}
 use Rattle.comp_bytes.specs.Reading.{◌>>=◌}
 use Rattle.comp_meaning.specs.Follow.{each}
 use Rattle.plan_meaning.specs.NumberedViews.{NumberedSight, NumberedView}
 use Rattle.read_rules.proofs.SightLaws.{append_line}
+use Rattle.base_lemmas.proofs.Lists.{append_none}
 
 -- the view of an import, which shows types alone
 abbrev pub imported_sight : ℕ × NumberedView → NumberedSight
 imported_sight i = record { place = i.0; view = i.1; whole = false }
-
-append_none : {A : Type 0} (xs : List A) → xs ++ [] ≡ xs
-append_none [] = refl
-append_none (x ∷ xs) = ap (λ l. x ∷ l) (append_none xs)
-
-pub drop_mapped : {A B : Type 0} (f : A → B) (i : ℕ) (xs : List A) → drop i (map f xs) ≡ map f (drop i xs)
-drop_mapped f zero xs = refl
-drop_mapped f (suc i) [] = refl
-drop_mapped f (suc i) (x ∷ xs) = drop_mapped f i xs
 
 -- A walk that adds behind what is there one for each item.
 module _ {A B C : Type 0} (f : A → B) (g : B → C) (xs : List A) (i : ℕ) (front : List C) {v : List C} (kept : front ++ map g (drop i (map f xs)) ≡ v) where
@@ -33,10 +24,6 @@ module _ {A B C : Type 0} (f : A → B) (g : B → C) (xs : List A) (i : ℕ) (f
 
   pub all_mapped : length xs ≤ i → front ≡ v
   all_mapped past = sym (append_none front) ∙ (ap (λ l. front ++ map g l) (sym (drop_mapped f i xs ∙ ap (map f) (drop_of_length-le xs past))) ∙ kept)
-
-pub any_mapped : {A B : Type 0} (test : B → Bool) (f : A → B) (xs : List A) → list_any test (map f xs) ≡ list_any (λ x. test (f x)) xs
-any_mapped test f [] = refl
-any_mapped test f (x ∷ xs) = ap (λ b. test (f x) || b) (any_mapped test f xs)
 
 -- ---- what each item gives, if all give something
 

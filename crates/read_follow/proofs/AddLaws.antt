@@ -6,11 +6,6 @@ use Rattle.read_follow.specs.declared.keys.Key.{Key}
 use Rattle.plan_meaning.specs.Shapes.{Adds, stays, comes}
 use Rattle.read_follow.specs.KeyShapes.{shape_of}
 
-pub mapped_get : {A B : Type 0} (f : A → B) (xs : List A) (n : ℕ) (x : A) → slice_get xs n ≡ Some x → slice_get (map f xs) n ≡ Some (f x)
-mapped_get f [] n x e = absurd cc
-mapped_get f (y ∷ ys) zero x e = let same : y ≡ x = cc in ap (λ z. Some (f z)) same
-mapped_get f (y ∷ ys) (suc n) x e = mapped_get f ys n x e
-
 module _ (eq : Key → Key → Bool) (again : (a b : Key) → shape_of a ≡ shape_of b → eq a b ≡ true) where
   either_true : (a b : Bool) → b ≡ true → (a || b) ≡ true
   either_true true b e = refl

@@ -1,9 +1,9 @@
 -- Which slots are names of interfaces with a path.
-use Rattle.std.proofs.Common.{◌≡◌, refl, sym, ap, ◌∙◌, subst, ℕ, ◌+◌, ◌-◌, ◌<◌, arith, inl, inr, Bool, true, false, ◌==◌, cond, List, length, Option, Some, None, slice_get, unwrap_or}
+use Rattle.std.proofs.Common.{◌≡◌, refl, sym, ap, ◌∙◌, subst, ℕ, ◌+◌, ◌-◌, ◌<◌, arith, inl, inr, Bool, true, false, cond, List, length, Option, Some, None, slice_get, unwrap_or}
 use Rattle.std.proofs.lemmas.Bool.{lt-ltb, le-ltb, false≢true}
 use Rattle.wit_model.specs.Meaning.{Signature}
 use Rattle.wit_model.specs.Text.{Text}
-use Rattle.wit_model.specs.Tree.{Form, Place, Tree}
+use Rattle.wit_model.specs.Tree.{Place, Tree}
 use Rattle.wit_model.specs.Types.{no_tree}
 use Rattle.comp_meaning.specs.Follow as follow
 use Rattle.comp_meaning.specs.Follow.{is_foreign_name}
@@ -16,27 +16,12 @@ use Rattle.read_follow.specs.InstanceScopes.{foreign_part, foreign_slot, is_mark
 use Rattle.read_follow.specs.Placed.{apart, MayMeet, SlotOver, TreeOver}
 use Rattle.read_follow.specs.Slots.{resource_slot, slot_in}
 use Rattle.plan_meaning.specs.Shapes.{Shape, form_code, named_shape, part_tree, primitives, shape_tree, shape_trees, IsShape, a_name, a_node, IsTable}
-use Rattle.plan_meaning.proofs.ShapeLaws.{name_tree, node_tree, part_behind, part_front, slice_there, split_part, tree_at_number}
-use Rattle.read_follow.proofs.AddLaws.{mapped_get}
+use Rattle.plan_meaning.proofs.ShapeLaws.{name_tree, node_tree, part_behind, part_front, split_part, tree_at_number}
 use Rattle.read_follow.proofs.DefiningLaws.{all_at}
 use Rattle.read_follow.proofs.FollowingLaws.{name_part}
 use Rattle.read_follow.proofs.OverLaws.{name_over}
-
-no_sort : (f : Form) → ((form_code f).sort == 0) ≡ false
-no_sort (Form.record_of names) = refl
-no_sort (Form.variant_of cases) = refl
-no_sort Form.list_of = refl
-no_sort (Form.fixed_list_of n) = refl
-no_sort Form.option_of = refl
-no_sort Form.own_of = refl
-no_sort Form.borrow_of = refl
-no_sort Form.map_of = refl
-no_sort Form.tuple_of = refl
-no_sort (Form.flags_of names) = refl
-no_sort (Form.enum_of names) = refl
-no_sort (Form.result_of ok err) = refl
-no_sort (Form.future_of some) = refl
-no_sort (Form.stream_of some) = refl
+use Rattle.base_lemmas.proofs.Lists.{mapped_get, within_there as slice_there}
+use Rattle.plan_meaning.proofs.NumberedRules.{no_name as no_sort}
 
 -- the place of a primitive, and of a number of the table
 place_front : (shapes : List Shape) (k : ℕ) → k < 14 → place_in shapes k ≡ None

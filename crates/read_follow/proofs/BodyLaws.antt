@@ -7,12 +7,10 @@ use Rattle.comp_bytes.specs.Reading.{Reader, sequence_at}
 use Rattle.comp_bytes.proofs.PartLaws.{sequence_takes, sequence_again}
 use Rattle.read_follow.specs.declared.bodies.Body.{Body}
 use Rattle.read_follow.specs.Bodies.{behind, items_of, items_in, IsBody}
+use Rattle.std.proofs.lemmas.Option.{same_Some as some_is}
 
 abbrev followed_by : {A : Type 0} → A → List ℕ → Option (A × List ℕ)
 followed_by x rest = Some (x, rest)
-
-some_is : {A : Type 0} (x y : A) → Some x ≡ Some y → x ≡ y
-some_is x y e = cc
 
 -- what was found where these bytes are behind it
 pub found_before : {A : Type 0} (found : Option (A × List ℕ)) (rest : List ℕ) → behind found ≡ Some rest → (x : A) × (found ≡ Some (x, rest))

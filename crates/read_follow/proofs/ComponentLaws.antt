@@ -11,7 +11,7 @@ use Rattle.comp_bytes.specs.Raw.{Alias, Declaration, DefinedType, FunctionType}
 use Rattle.comp_bytes.specs.Reading.{◌>>=◌, Reader, sequence_at}
 use Rattle.comp_meaning.specs.ByLevels.{all_used, entry_scope, entry_step}
 use Rattle.comp_meaning.specs.Follow as follow
-use Rattle.comp_meaning.specs.Follow.{Scope as MeantScope, Slot as Meant, component_step, definition, exported_slot, find_type, function_signature, in_scope, new_scope, provided}
+use Rattle.comp_meaning.specs.Follow.{Scope as MeantScope, component_step, definition, exported_slot, find_type, function_signature, in_scope, new_scope, provided}
 use Rattle.comp_meaning.specs.Reads.{steps}
 use Rattle.read_follow.specs.declared.bodies.Body.{Body}
 use Rattle.read_follow.specs.declared.refusal.Refusal.{Refusal}
@@ -29,8 +29,6 @@ use Rattle.read_follow.specs.Places.{has_path, ArePlacesOf}
 use Rattle.read_follow.specs.Scopes.{are_settled, find_slot, instance_in, meant_at, path_of, slot_of_instance, start_of, taken_from, waiting, weight, weights, world_signatures, world_trees, Goes, IsFollowedTo, IsInstanceIn, IsPlacedWorld, IsScopeOf, IsWorld, Stops, World}
 use Rattle.read_follow.specs.Slots.{no_signature, resource_slot, slot_in, slots_in, AreNames, IsName}
 use Rattle.plan_meaning.specs.Shapes.{Shape, named_shape, node_shape, part_tree, shape_trees, IsTable}
-use Rattle.plan_meaning.proofs.ShapeLaws.{slice_front}
-use Rattle.read_follow.proofs.AddLaws.{mapped_get}
 use Rattle.read_follow.proofs.DefiningLaws.{all_at, longer, no_shapes, same_list}
 use Rattle.read_follow.proofs.FollowingLaws.{functions_wider, joins_all, joins_grow, names_of, ranges_of}
 use Rattle.read_follow.proofs.OverLaws.{definition_over, signature_over}
@@ -40,8 +38,10 @@ use Rattle.read_follow.proofs.PlacedScopes.{extended_placed, found_over, none_pa
 use Rattle.read_follow.proofs.Refusing.{refused}
 use Rattle.read_follow.proofs.ScopeLaws.{all_before, extended_world, goes_on, plus_slot, waiting_push, waits}
 use Rattle.read_follow.proofs.SlotLaws.{mapped_none}
-use Rattle.read_follow.proofs.StepLaws.{after_first, grow_on, guarded, headed, less, none_left, none_less, peeled, sequence_more, some_same, unread}
-use Rattle.read_follow.proofs.TableGrowth.{found_below}
+use Rattle.read_follow.proofs.StepLaws.{after_first, grow_on, guarded, headed, none_left, none_less, peeled, sequence_more, unread}
+use Rattle.base_lemmas.proofs.Lists.{mapped_get, slice_front}
+use Rattle.base_lemmas.proofs.Numbers.{less}
+use Rattle.std.proofs.lemmas.Option.{same_Some as some_same, slice_get_within as found_below}
 
 -- ---- the same step in other words
 

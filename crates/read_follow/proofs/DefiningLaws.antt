@@ -2,7 +2,7 @@
 use Rattle.std.proofs.Common.{◌≡◌, ◌⊎◌, refl, sym, ap, ◌∙◌, subst, ℕ, zero, suc, ◌+◌, ◌<◌, ◌≤◌, arith, inl, inr, true, false, List, [], ◌∷◌, ◌++◌, map, length, Option, Some, None, option_map, IfSome, slice_get, unwrap_or, append_assoc, append-nil, length-append}
 use Rattle.std.specs.List.{AllByRecursion}
 use Rattle.std.proofs.lemmas.Bool.{cases_lt}
-use Rattle.std.proofs.lemmas.Option.{slice_get_past}
+use Rattle.std.proofs.lemmas.Option.{slice_get_past, slice_get_within as found_below}
 use Rattle.wit_model.specs.Meaning.{Signature}
 use Rattle.wit_model.specs.Text.{Text}
 use Rattle.wit_model.specs.Tree.{Form, Place, Tree, children}
@@ -19,9 +19,10 @@ use Rattle.read_follow.specs.Functions.{functions_in, param_tree, signature_in, 
 use Rattle.read_follow.specs.Slots.{slots_in, AreInRange, AreNames}
 use Rattle.plan_meaning.specs.PlanRules.{is_form}
 use Rattle.plan_meaning.specs.Shapes.{Shape, code, form_code, form_of, named_shape, node_shape, part_tree, shape_tree, shape_trees, Adds, stays, comes, IsShape, a_name, a_node, IsTable}
-use Rattle.plan_meaning.proofs.ShapeLaws.{form_back, name_tree, node_tree, one_number, part_behind, slice_there, tree_at_number}
-use Rattle.read_follow.proofs.WholeLaws.{all_end}
-use Rattle.read_follow.proofs.TableGrowth.{found_below, last_or, part_kept, trees_length, trees_more}
+use Rattle.plan_meaning.proofs.ShapeLaws.{form_back, name_tree, node_tree, one_number, part_behind, tree_at_number}
+use Rattle.read_follow.proofs.TableGrowth.{part_kept, trees_length, trees_more}
+use Rattle.base_lemmas.proofs.Elements.{all_end}
+use Rattle.base_lemmas.proofs.Lists.{get_back as mapped_back, last_or, within_there as slice_there}
 
 -- ---- lists that grow
 
@@ -220,11 +221,6 @@ pub undefined : (ss : List Shape) (old : List Slot) (d : DefinedType) (e : Refus
 undefined ss old d e table r place F named = r (shape_trees place ss) F named (no_keys place ss table)
 
 -- ---- equal signatures
-
-mapped_back : {A B : Type 0} (f : A → B) (xs : List A) (n : ℕ) (y : B) → slice_get (map f xs) n ≡ Some y → (x : A) × (slice_get xs n ≡ Some x) × (f x ≡ y)
-mapped_back f [] n y e = absurd cc
-mapped_back f (x ∷ xs) zero y e = (x, refl, cc)
-mapped_back f (x ∷ xs) (suc n) y e = mapped_back f xs n y e
 
 pub all_at : {A : Type 0} (P : A → Type 0) (xs : List A) (n : ℕ) (x : A) → AllByRecursion P xs → slice_get xs n ≡ Some x → P x
 all_at P [] n x all e = absurd cc

@@ -25,9 +25,9 @@ use Rattle.plan_meaning.specs.Shapes.{node_shape, part_tree, primitives, one_mar
 use Rattle.read_follow.specs.KeyShapes.{shape_of}
 use Rattle.read_follow.specs.Slots.{slots_in, AreInRange, AreNames}
 use Rattle.read_follow.specs.DefinitionKeys.{key_marks, HasNoKeys, IsForm, IsKeyOf}
-use Rattle.read_follow.proofs.AddLaws.{mapped_get}
 use Rattle.read_follow.proofs.Refusing.{refused}
-use Rattle.plan_meaning.proofs.ShapeLaws.{part_front, slice_there, split_part}
+use Rattle.plan_meaning.proofs.ShapeLaws.{part_front, split_part}
+use Rattle.base_lemmas.proofs.Lists.{mapped_get, within_there as slice_there}
 
 or_none : {A B : Type 0} (o : Option A) (f : A → Option B) → ((x : A) → f x ≡ None) → (o >>= f) ≡ None
 or_none None f e = refl

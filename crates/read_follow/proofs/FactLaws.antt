@@ -17,8 +17,10 @@ use Rattle.read_follow.specs.declared.facts.Summary.{Summary}
 use Rattle.plan_meaning.specs.Shapes.{Shape, form_code, primitives, part_tree, shape_tree, IsShape, a_name, a_node}
 use Rattle.read_follow.specs.KeyShapes.{label_of}
 use Rattle.read_follow.specs.Facts.{places, places_in, is_plain, are_plain, below, labels_of, cap, joined, with_fact, primitive_fact, name_fact, node_fact, fact_at, is_named_sort, AreOf, Tells, FactsHold, Sums}
-use Rattle.read_follow.proofs.AddLaws.{mapped_get}
-use Rattle.plan_meaning.proofs.ShapeLaws.{name_tree, node_tree, part_front, split_part, slice_there, first_marked}
+use Rattle.plan_meaning.proofs.ShapeLaws.{name_tree, node_tree, part_front, split_part, first_marked}
+use Rattle.base_lemmas.proofs.Bools.{and-true as and_true, and_assoc, and_flip}
+use Rattle.base_lemmas.proofs.Elements.{contains-one as of_one}
+use Rattle.base_lemmas.proofs.Lists.{mapped_get, within_there as slice_there}
 
 -- ---- places
 
@@ -28,9 +30,6 @@ contains_at x y (suc k) small e = absurd (omega (arith, small))
 
 contains_one : {X : Type 0} (x y : X) → Contains (x ∷ []) y → y ≡ x
 contains_one x y c = contains_at x y c.0 c.1 c.2
-
-of_one : {X : Type 0} (x : X) → Contains (x ∷ []) x
-of_one x = (0, lit< tt, refl)
 
 along : (n : Names) (met other : (ℕ → Place) → List Place) → ((place : ℕ → Place) → met place ≡ other place) → AreOf n met → AreOf n other
 along names.Nowhere met other e h = λ place. sym (e place) ∙ h place
@@ -71,20 +70,6 @@ deepest_more (u ∷ ts) t = ap (max (tree.levels u)) (deepest_more ts t) ∙ ome
 places_more : (ts : List Tree) (t : Tree) → places_in (children (ts ++ t ∷ [])) ≡ places_in (children ts) ++ places t
 places_more [] t = append-nil (places t)
 places_more (u ∷ ts) t = ap (λ ps. places u ++ ps) (places_more ts t) ∙ sym (append_assoc (places u) (places_in (children ts)) (places t))
-
-and_true : (a : Bool) → (a && true) ≡ a
-and_true true = refl
-and_true false = refl
-
-and_assoc : (a b c : Bool) → (a && (b && c)) ≡ ((a && b) && c)
-and_assoc true b c = refl
-and_assoc false b c = refl
-
-and_flip : (a b : Bool) → (a && b) ≡ (b && a)
-and_flip true true = refl
-and_flip true false = refl
-and_flip false true = refl
-and_flip false false = refl
 
 plain_more : (ts : List Tree) (t : Tree) → are_plain (children (ts ++ t ∷ [])) ≡ (are_plain (children ts) && is_plain t)
 plain_more [] t = and_true (is_plain t)

@@ -25,14 +25,15 @@ use Rattle.read_follow.specs.Functions.{functions_in, signature_in, AreFunctions
 use Rattle.read_follow.specs.Placed.{apart, MayMeet, SignatureOver, SlotOver, ViewOver}
 use Rattle.read_follow.specs.Slots.{no_signature, resource_slot, slot_in, slots_in, AreInRange, AreNames, IsName}
 use Rattle.plan_meaning.specs.Shapes.{Shape, named_shape, part_tree, shape_trees, IsTable}
-use Rattle.plan_meaning.proofs.ShapeLaws.{name_tree, part_behind, slice_front, tree_at_number}
-use Rattle.read_follow.proofs.AddLaws.{mapped_get}
+use Rattle.plan_meaning.proofs.ShapeLaws.{name_tree, part_behind, tree_at_number}
 use Rattle.read_follow.proofs.DefiningLaws.{functions_grown, longer, no_shapes, one_longer, part_grown, same_list}
 use Rattle.read_follow.proofs.OverLaws.{definition_over, signature_over}
 use Rattle.read_follow.proofs.PlacedLaws.{same_types}
 use Rattle.read_follow.proofs.Refusing.{refused}
-use Rattle.read_follow.proofs.TableGrowth.{found_below, no_types}
-use Rattle.read_follow.proofs.WholeLaws.{all_end}
+use Rattle.read_follow.proofs.TableGrowth.{no_types}
+use Rattle.base_lemmas.proofs.Elements.{all_end}
+use Rattle.base_lemmas.proofs.Lists.{mapped_get, slice_front}
+use Rattle.std.proofs.lemmas.Option.{slice_get_within as found_below}
 
 -- ---- slots of well-formed tables
 

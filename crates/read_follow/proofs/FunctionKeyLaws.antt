@@ -5,13 +5,12 @@ use Rattle.std.specs.Borrow.{Bor}
 use Rattle.std.specs.Cmp.Lexicographic.{pointwise}
 use Rattle.std.specs.List.{AllByRecursion}
 use Rattle.std.specs.Option.{option_eq}
-use Rattle.std.proofs.lemmas.Bool.{eqb-true, eq-eqb}
+use Rattle.std.proofs.lemmas.Bool.{eqb-true, eq-eqb, and_from as both}
 use Rattle.std.proofs.lemmas.List.{map-append}
 use Rattle.std.proofs.lemmas.Slice.Eq.{bytes_eq-Decides}
 use Rattle.wit_model.specs.Meaning.{Signature}
 use Rattle.wit_model.specs.Text.{Text, text_eq}
 use Rattle.wit_model.specs.Tree.{Tree}
-use Rattle.wit_model.proofs.Lists.{first_true, second_true}
 use Rattle.comp_bytes.specs.declared.forms.ComponentValType.{ComponentValType}
 use Rattle.comp_bytes.specs.Raw.{FunctionType}
 use Rattle.comp_bytes.specs.RawOf.{labeled}
@@ -26,9 +25,11 @@ use Rattle.read_follow.specs.Functions.{function_shape, param_of, param_tree, si
 use Rattle.read_follow.specs.Rows.{behind_rows}
 use Rattle.read_follow.specs.Slots.{slots_in, AreInRange}
 use Rattle.plan_meaning.specs.Shapes.{part_tree}
-use Rattle.read_follow.proofs.KeyLaws.{both, beq_same, beq_again, text_same}
+use Rattle.read_follow.proofs.KeyLaws.{beq_again}
 use Rattle.read_follow.proofs.Refusing.{refused}
 use Rattle.read_follow.proofs.RowLaws.{behind_more, behind_none, none_dropped, raw_at, raw_end}
+use Rattle.base_lemmas.proofs.Bools.{beq_same, left_of as first_true, right_of as second_true}
+use Rattle.wit_model.proofs.AnyOrder.{text-same as text_same}
 
 -- ---- sameness
 

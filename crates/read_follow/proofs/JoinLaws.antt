@@ -3,7 +3,7 @@ use Rattle.std.proofs.Common.{◌≡◌, inl, inr, refl, sym, ap, ◌∙◌, sub
 use Rattle.std.specs.List.{list_any}
 use Rattle.std.proofs.lemmas.List.{map-append}
 use Rattle.read_follow.specs.Functions.{AreApart, Joins, stays, comes}
-use Rattle.read_follow.proofs.TableGrowth.{last_or}
+use Rattle.base_lemmas.proofs.Lists.{last_or, none_there as nothing_at}
 
 module _ {X : Type 0} (old : List X) (x : X) (apart : AreApart old) where
   apart_more : ((n : ℕ) → slice_get old n ≡ Some x → ⊥) → AreApart (old ++ x ∷ [])
@@ -22,10 +22,6 @@ module _ {X : Type 0} (old : List X) (x : X) (apart : AreApart old) where
   pub joined_apart : (new : List X) → Joins old x new → AreApart new
   joined_apart new stays = apart
   joined_apart new (comes fresh) = apart_more fresh
-
-nothing_at : {X : Type 0} (n : ℕ) (x : X) → slice_get [] n ≡ Some x → ⊥
-nothing_at zero x e = cc
-nothing_at (suc n) x e = cc
 
 pub none_apart : {X : Type 0} → AreApart {X = X} []
 none_apart n m x en em = absurd (nothing_at n x en)

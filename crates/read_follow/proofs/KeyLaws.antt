@@ -3,14 +3,15 @@ use Rattle.std.proofs.Common.{◌≡◌, refl, sym, ap, ◌∙◌, ℕ, Bool, tr
 use mathlib.Core.Bool.{beq, true≢false}
 use Rattle.std.specs.Borrow.{Bor}
 use Rattle.std.specs.Cmp.Lexicographic.{pointwise}
-use Rattle.std.proofs.lemmas.Bool.{eqb-true, eq-eqb}
+use Rattle.std.proofs.lemmas.Bool.{eqb-true, eq-eqb, and_from as both}
 use Rattle.std.proofs.lemmas.Slice.Eq.{bytes_eq-Decides}
 use Rattle.wit_model.specs.Text.{Text, text_eq}
-use Rattle.wit_model.proofs.Lists.{first_true, second_true}
 use Rattle.read_follow.specs.contracts.keys.KeyPartialEq.TheImpl as key_eq
 use Rattle.read_follow.specs.declared.keys.Key.{Key}
 use Rattle.plan_meaning.specs.Shapes.{Shape}
 use Rattle.read_follow.specs.KeyShapes.{shape_of, label_of}
+use Rattle.base_lemmas.proofs.Bools.{beq_same, left_of as first_true, right_of as second_true}
+use Rattle.wit_model.proofs.AnyOrder.{text-same as text_same}
 
 abbrev pub same_key : Key → Key → Bool
 same_key = key_eq.ghosts.eq
@@ -21,23 +22,9 @@ same_label a b = text_eq a.0.now b.0.now && beq a.1 b.1
 same_by : (a b : Key) → same_key a b ≡ ((a.sort == b.sort) && ((a.number == b.number) && (pointwise same_label a.labels.items b.labels.items && pointwise nat_eq a.parts.items b.parts.items)))
 same_by a b = refl
 
-pub beq_same : (a b : Bool) → beq a b ≡ true → a ≡ b
-beq_same true true e = refl
-beq_same true false e = absurd (true≢false (sym e))
-beq_same false true e = absurd (true≢false (sym e))
-beq_same false false e = refl
-
 pub beq_again : (a : Bool) → beq a a ≡ true
 beq_again true = refl
 beq_again false = refl
-
-pub both : (a b : Bool) → a ≡ true → b ≡ true → (a && b) ≡ true
-both true true p q = refl
-both true false p q = absurd (true≢false (sym q))
-both false b p q = absurd (true≢false (sym p))
-
-pub text_same : (a b : Text) → text_eq a b ≡ true → a ≡ b
-text_same a b h = (bytes_eq-Decides a b).0 h
 
 labels_same : (xs ys : List (Bor (List ℕ) × Bool)) → pointwise same_label xs ys ≡ true → map label_of xs ≡ map label_of ys
 labels_same [] [] e = refl

@@ -12,15 +12,13 @@ use Rattle.comp_bytes.specs.declared.forms.ComponentTypeRef.{ComponentTypeRef}
 use Rattle.comp_bytes.specs.declared.forms.ComponentTypeRef.TheVariants as refs
 use Rattle.comp_bytes.specs.Raw.{Labeled, DefinedType, FunctionType}
 use Rattle.comp_bytes.specs.Reading.{◌>>=◌}
-use Rattle.comp_bytes.proofs.PartLaws.{some_is}
 use Rattle.comp_bytes.proofs.Readers.{bind_some, when_some}
 use Rattle.comp_meaning.specs.Follow.{Slot as Meant, value, resource, function, instance, each, given, provided, is_filled, is_key, primitive_of_type, value_in, resource_in, value_type, field_type, case_type, declared_by, definition, function_signature, named_like, named_type}
 use Rattle.read_follow.specs.Facts.{places, places_in}
 use Rattle.read_follow.specs.Placed.{DeclarationOver, SignatureOver, SlotOver, TreeOver}
 use Rattle.read_follow.proofs.DefiningLaws.{all_at}
-
-none_in : {X : Type 0} (x : X) → Contains [] x → ⊥
-none_in x c = let none = c.1 in absurd (omega (arith, none))
+use Rattle.base_lemmas.proofs.Elements.{none_in, seconds}
+use Rattle.base_lemmas.proofs.Options.{some_is}
 
 -- ---- what is found for each
 
@@ -36,10 +34,6 @@ given_over f Q found None p e = subst (λ q. IfSome q Q) (some_is None p e) tt
 given_over f Q found (Some x) p e =
     let one = bind_some (f x) (λ y. Some (Some y)) p e in
     subst (λ q. IfSome q Q) (some_is (Some one.0) p one.2) (found x one.0 one.1)
-
-seconds : {A X : Type 0} (Q : X → Type 0) (xs : List (A × X)) → AllByRecursion (λ x. Q x.1) xs → AllByRecursion Q (map (λ x. x.1) xs)
-seconds Q [] all = tt
-seconds Q (x ∷ xs) all = (all.0, seconds Q xs all.1)
 
 module _ (P : Place → Type 0) where
   -- ---- names

@@ -1,12 +1,11 @@
 -- Places that are put into a table, each once.
 use Rattle.std.proofs.Common.{◌≡◌, inl, inr, refl, sym, ap, ◌∙◌, subst, ℕ, zero, suc, ◌+◌, ◌<◌, ◌≤◌, arith, Bool, true, false, ◌&&◌, ◌==◌, cond, List, [], ◌∷◌, ◌++◌, map, length, Option, Some, None, is_some, slice_get, unwrap_or, IfOk, Result, Ok, Err}
 use Rattle.std.proofs.Math.ListN.{length-map}
-use Rattle.std.proofs.lemmas.Bool.{eqb-true, eq-eqb}
+use Rattle.std.proofs.lemmas.Bool.{eqb-true, eq-eqb, and_from as both}
 use Rattle.std.proofs.lemmas.List.{append-nil, map-append}
 use Rattle.std.proofs.lemmas.Slice.Eq.{bytes_eq-Decides}
 use Rattle.wit_model.specs.Names.{read_path}
 use Rattle.wit_model.specs.Text.{Text, text_eq, text_of}
-use Rattle.wit_model.proofs.Lists.{first_true, second_true}
 use Rattle.comp_bytes.specs.Reading.{◌>>=◌}
 use Rattle.comp_meaning.specs.Follow.{complete_path, completed, provided}
 use Rattle.read_follow.specs.declared.refusal.Refusal.{Refusal}
@@ -16,10 +15,11 @@ use Rattle.read_follow.specs.Defining.{Grows}
 use Rattle.read_follow.specs.Functions.{Joins, stays, comes}
 use Rattle.read_follow.specs.Places.{path_in, place_shape, has_path, ArePathsApart, ArePlaces, IsOnlyNew, IsReadIfGiven}
 use Rattle.read_follow.proofs.JoinLaws.{joined_apart}
-use Rattle.read_follow.proofs.KeyLaws.{both, text_same}
-use Rattle.read_follow.proofs.AddLaws.{mapped_get}
 use Rattle.read_follow.proofs.SlotLaws.{mapped_none}
-use Rattle.read_follow.proofs.TableGrowth.{found_below, last_or}
+use Rattle.base_lemmas.proofs.Bools.{left_of as first_true, right_of as second_true}
+use Rattle.base_lemmas.proofs.Lists.{last_or, mapped_get}
+use Rattle.std.proofs.lemmas.Option.{slice_get_within as found_below}
+use Rattle.wit_model.proofs.AnyOrder.{text-same as text_same}
 
 -- ---- equal keys
 

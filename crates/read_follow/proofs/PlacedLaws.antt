@@ -12,10 +12,10 @@ use Rattle.read_follow.specs.Following.{slots_at, view_at, IsPlacedState, State}
 use Rattle.read_follow.specs.Placed.{apart, slot_part, ComesBehind, FunctionOver, HasNoNames, IsNameAs, IsRepeated, IsShownAmong, IsTypeNamed, MayMeet, Rise, SlotOver, TypeOver, ViewOver}
 use Rattle.plan_meaning.specs.PlanRules.{is_form}
 use Rattle.plan_meaning.specs.Shapes.{Shape, first_label, named_shape, node_shape, Adds, IsTable}
-use Rattle.plan_meaning.proofs.ShapeLaws.{slice_front}
 use Rattle.read_follow.proofs.DefiningLaws.{adds_cases, adds_name, same_list}
-use Rattle.read_follow.proofs.TableGrowth.{found_below, last_or}
-use Rattle.read_follow.proofs.WholeLaws.{all_end}
+use Rattle.base_lemmas.proofs.Elements.{all_end}
+use Rattle.base_lemmas.proofs.Lists.{at_last, last_or, slice_front}
+use Rattle.std.proofs.lemmas.Option.{slice_get_within as found_below}
 
 -- ---- lists that grow
 
@@ -25,10 +25,6 @@ module _ {X : Type 0} (old new : List X) (g : Grows old new) where
 
   pub stood : (n : ℕ) (x : X) → n < length old → slice_get new n ≡ Some x → slice_get old n ≡ Some x
   stood n x below e = sym (slice_front old g.more n below) ∙ (sym (ap (λ xs. slice_get xs n) g.is) ∙ e)
-
-pub at_last : {X : Type 0} (xs : List X) (x : X) → slice_get (xs ++ x ∷ []) (length xs) ≡ Some x
-at_last [] x = refl
-at_last (y ∷ xs) x = at_last xs x
 
 -- ---- names in tables that grow
 

@@ -26,13 +26,14 @@ use Rattle.read_follow.specs.Scopes.{find_slot, meant_at, seen_in, view_in, IsCo
 use Rattle.read_follow.specs.Slots.{resource_slot, slot_in, slots_in}
 use Rattle.plan_meaning.specs.PlanRules.{is_form}
 use Rattle.plan_meaning.specs.Shapes.{Shape, named_shape, node_shape, shape_trees, IsTable}
-use Rattle.plan_meaning.proofs.ShapeLaws.{slice_there}
 use Rattle.read_follow.proofs.DefiningLaws.{all_at, longer}
 use Rattle.read_follow.proofs.FollowingLaws.{name_part}
 use Rattle.read_follow.proofs.OverLaws.{name_over}
-use Rattle.read_follow.proofs.PlacedLaws.{at_last, name_wider, stands_on, stood, types_named_wider}
-use Rattle.read_follow.proofs.ScopeLaws.{all_both, exported, extended, extended_meant, imported, view_stays, F, G, T, U}
-use Rattle.read_follow.proofs.TableGrowth.{found_below, last_or}
+use Rattle.read_follow.proofs.PlacedLaws.{name_wider, stands_on, stood, types_named_wider}
+use Rattle.read_follow.proofs.ScopeLaws.{exported, extended, extended_meant, imported, view_stays, F, G, T, U}
+use Rattle.base_lemmas.proofs.Elements.{all_both}
+use Rattle.base_lemmas.proofs.Lists.{at_last, last_or, within_there as slice_there}
+use Rattle.std.proofs.lemmas.Option.{slice_get_within as found_below}
 
 -- ---- what is over fewer places is over more
 

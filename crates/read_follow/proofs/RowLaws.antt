@@ -15,7 +15,6 @@ use Rattle.comp_bytes.specs.declared.forms.ComponentValType.{ComponentValType}
 use Rattle.comp_bytes.specs.Raw.{DefinedType, Labeled}
 use Rattle.comp_bytes.specs.RawOf.{labeled}
 use Rattle.comp_bytes.specs.Reading.{◌>>=◌}
-use Rattle.comp_bytes.proofs.PartLaws.{some_is}
 use Rattle.comp_bytes.proofs.Readers.{bind_some}
 use Rattle.comp_meaning.specs.Follow.{given as payload}
 use Rattle.comp_meaning.specs.Follow.{case_type, definition, each, field_type, is_filled, provided, value_type}
@@ -27,7 +26,9 @@ use Rattle.plan_meaning.specs.Shapes.{marked, part_tree}
 use Rattle.read_follow.specs.Slots.{slots_in, AreInRange}
 use Rattle.read_follow.specs.DefinitionKeys.{IsNodeOf}
 use Rattle.read_follow.proofs.Refusing.{refused}
-use Rattle.read_follow.proofs.WholeLaws.{all_end}
+use Rattle.base_lemmas.proofs.Elements.{all_end}
+use Rattle.base_lemmas.proofs.Options.{some_is}
+use Rattle.plan_meaning.proofs.KindRules.{items_of_map as mapped_items}
 
 pub behind_none : {Y : Type 0} (found : Option (List Y)) → behind_rows [] found ≡ found
 behind_none None = refl
@@ -99,10 +100,6 @@ rows_filled f (x ∷ xs) ys e h =
 flat_items : {X Y : Type 0} (f : X → Y) (xs : List X) → is_filled xs ≡ true → has_items (flat_map (λ x. f x ∷ []) xs) ≡ true
 flat_items f [] h = h
 flat_items f (x ∷ xs) h = refl
-
-mapped_items : {X Y : Type 0} (f : X → Y) (xs : List X) → has_items (map f xs) ≡ has_items xs
-mapped_items f [] = refl
-mapped_items f (x ∷ xs) = refl
 
 module _ (ss : List Slot) (ks : List ℕ) (ranges : (n : ℕ) → AreInRange n ss → AllByRecursion (λ k. k < 14 + n) ks) where
   pub record_is : (fields : List (Labeled ComponentValType)) (labels : List (Text × Bool)) → is_filled fields ≡ true

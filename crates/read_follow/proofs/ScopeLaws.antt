@@ -23,11 +23,12 @@ use Rattle.read_follow.specs.Places.{key_at, ArePlacesOf, IsKeyIn}
 use Rattle.read_follow.specs.Scopes.{direction, instance_in, meant_at, seen_in, shown_in, view_in, viewed, waiting, ArePathsMet, AreSeenIn, Goes, IsInstanceIn, IsPlaceMet, IsPlacedWorld, IsShownAs, IsWorld, World}
 use Rattle.read_follow.specs.Slots.{no_signature, slot_in, slots_in}
 use Rattle.plan_meaning.specs.Shapes.{Shape, shape_trees}
-use Rattle.plan_meaning.proofs.ShapeLaws.{slice_front}
 use Rattle.read_follow.proofs.DefiningLaws.{all_at, longer}
 use Rattle.read_follow.proofs.FollowingLaws.{declared_stays, functions_stay, signature_stays, slots_stay, types_stay, wider_declared, wider_functions, wider_number, wider_part, wider_slots, wider_types}
 use Rattle.read_follow.proofs.PlacedLaws.{stands_on, stood}
-use Rattle.read_follow.proofs.TableGrowth.{found_below}
+use Rattle.base_lemmas.proofs.Elements.{all_both}
+use Rattle.base_lemmas.proofs.Lists.{slice_front}
+use Rattle.std.proofs.lemmas.Option.{slice_get_within as found_below}
 
 -- ---- what is well-formed stays so
 
@@ -41,10 +42,6 @@ key_wider paths more g k h = by k h
     by (keys.Path p) h = (h.0, stays p (Some h.0) h.1)
     by (keys.Label l p) h = stays p None h
     by (keys.Implementing l p) h = (h.0, stays p (Some h.0) h.1)
-
-pub all_both : {A : Type 0} (P : A → Type 0) (xs ys : List A) → AllByRecursion P xs → AllByRecursion P ys → AllByRecursion P (xs ++ ys)
-all_both P [] ys h g = g
-all_both P (x ∷ xs) ys h g = (h.0, all_both P xs ys h.1 g)
 
 -- what a scope stands for, with these more
 abbrev pub plus : MeantScope → List Meant → List MeantInstance → List MeantSeen → List MeantSeen → List ℕ → MeantScope

@@ -1,6 +1,6 @@
 -- Sections in front of bytes, and those behind them.
-use Rattle.std.proofs.Common.{◌≡◌, refl, sym, ap, ◌∙◌, ℕ, ◌<◌, ◌≤◌, ◌^◌, arith, Bool, true, false, ◌&&◌, cond, ◌==◌, ltb, nat_eq, List, [], ◌∷◌, ◌++◌, length, map, take, drop, Option, Some, None, append_assoc, append-nil}
-use Rattle.std.proofs.lemmas.Bool.{ne_eqb, eq-eqb, eqb-true, false≢true, lt-ltb, ltb-true, false_from_ne_true}
+use Rattle.std.proofs.Common.{◌≡◌, refl, sym, ap, ◌∙◌, ℕ, ◌<◌, ◌≤◌, ◌^◌, arith, Bool, true, false, ◌&&◌, cond, ltb, nat_eq, List, [], ◌∷◌, ◌++◌, length, map, take, drop, Option, Some, None, append_assoc, append-nil}
+use Rattle.std.proofs.lemmas.Bool.{ne_eqb, eq-eqb, lt-ltb, ltb-true, false_from_ne_true}
 use Rattle.std.proofs.lemmas.List.{map-append}
 use Rattle.std.proofs.lemmas.Cmp.{nat_list_eq_equiv}
 use Rattle.std.specs.List.{starts_with}
@@ -82,12 +82,6 @@ no_pieces bytes e = pieces_by_frames bytes ∙ ap (λ b. cond b (Some []) (frame
 further : (front : List Piece) (p : Piece) (found : Option (List Piece)) → with_pieces front (with_pieces (p ∷ []) found) ≡ with_pieces (front ++ p ∷ []) found
 further front p None = refl
 further front p (Some ps) = ap Some (sym (append_assoc front (p ∷ []) ps))
-
-pub some_left : (rest : List ℕ) → false ≡ (length rest == 0) → length rest ≡ 0 → ⊥
-some_left rest e none = false≢true (e ∙ eq-eqb (length rest) 0 none)
-
-pub none_left : (rest : List ℕ) → true ≡ (length rest == 0) → length rest ≡ 0
-none_left rest e = eqb-true (length rest) 0 (sym e)
 
 -- one more section has been read
 pub piece_read : {X : Type 0} (raw : X → Piece) (items new : List X) (x : X) (bytes rest after : List ℕ) → (length rest ≡ 0 → ⊥) → with_pieces (map raw items) (pieces_in rest) ≡ pieces_in bytes

@@ -11,7 +11,7 @@ use Rattle.wit_model.specs.Tree.{Place, Tree}
 use Rattle.comp_bytes.specs.declared.forms.ComponentTypeRef.{ComponentTypeRef}
 use Rattle.comp_bytes.specs.Reading.{◌>>=◌}
 use Rattle.comp_meaning.specs.Follow as follow
-use Rattle.comp_meaning.specs.Follow.{Scope as MeantScope, Seen as MeantSeen, Instance as MeantInstance, Key, Slot as Meant, View as MeantView, function_in, in_scope, interface_of, is_simple, key_text, named_type, provided, see, see_function, see_instance, see_type, used_view, when}
+use Rattle.comp_meaning.specs.Follow.{Scope as MeantScope, Seen as MeantSeen, Instance as MeantInstance, Slot as Meant, function_in, in_scope, is_simple, named_type, provided, see, see_function, see_type}
 use Rattle.read_follow.specs.declared.names.ExternName.{ExternName}
 use Rattle.read_follow.specs.declared.refusal.Refusal.{Refusal}
 use Rattle.read_follow.specs.declared.scopes.Instance.{Instance}
@@ -34,13 +34,14 @@ use Rattle.plan_meaning.specs.Shapes.{Shape, first_label, named_shape, node_shap
 use Rattle.read_follow.proofs.DefiningLaws.{adds_cases, adds_grow, adds_name, adds_one, adds_placed, all_at, longer, same_list}
 use Rattle.read_follow.proofs.FollowingLaws.{declared_stays, functions_wider, names_of}
 use Rattle.read_follow.proofs.OverLaws.{named_over}
-use Rattle.read_follow.proofs.PlacedLaws.{at_last, stands_on, stood}
+use Rattle.read_follow.proofs.PlacedLaws.{stands_on, stood}
 use Rattle.read_follow.proofs.PlacedScopes.{both_pass, counts_below, extended_placed, import_passes, imported_many, none_past, one_counted, seen_passes}
 use Rattle.read_follow.proofs.Refusing.{refused}
 use Rattle.read_follow.proofs.ScopeLaws.{all_before, exported, extended, extended_world, goes_on, imported, plus, plus_seen, plus_type, waiting_push, waits}
 use Rattle.read_follow.proofs.ShowLaws.{declared_range, name_in, name_stands, old_range, own_over}
 use Rattle.read_follow.proofs.SlotLaws.{at_slot}
-use Rattle.read_follow.proofs.TableGrowth.{found_below, last_or}
+use Rattle.base_lemmas.proofs.Lists.{at_last, last_or}
+use Rattle.std.proofs.lemmas.Option.{slice_get_within as found_below}
 
 -- ---- results
 

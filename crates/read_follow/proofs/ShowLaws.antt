@@ -33,8 +33,8 @@ use Rattle.read_follow.proofs.OverLaws.{name_over, named_over}
 use Rattle.read_follow.proofs.PlacedLaws.{function_over_more, own_met, same_types, type_more, type_over_more}
 use Rattle.read_follow.proofs.Refusing.{refused}
 use Rattle.read_follow.proofs.SlotLaws.{at_slot, name_at, no_slot}
-use Rattle.read_follow.proofs.TableGrowth.{found_below}
-use Rattle.read_follow.proofs.WholeLaws.{all_end}
+use Rattle.base_lemmas.proofs.Elements.{all_end}
+use Rattle.std.proofs.lemmas.Option.{slice_get_within as found_below}
 
 -- ---- what an export of a type declares
 

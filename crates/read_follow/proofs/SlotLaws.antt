@@ -10,7 +10,7 @@ use Rattle.read_follow.specs.declared.slots.Slot.{Slot}
 use Rattle.read_follow.specs.declared.slots.Slot.TheVariants as slots
 use Rattle.plan_meaning.specs.Shapes.{part_tree}
 use Rattle.read_follow.specs.Slots.{slot_in, slots_in, resource_slot, primitive_index, AreInRange, IsName, AreNames}
-use Rattle.read_follow.proofs.AddLaws.{mapped_get}
+use Rattle.base_lemmas.proofs.Lists.{mapped_get}
 
 pub primitive_part : (T : List Tree) (p : PrimitiveValType) → Tree.primitive (primitive_of_type p) ≡ part_tree T (primitive_index p)
 unfolding part_tree

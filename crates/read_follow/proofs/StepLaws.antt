@@ -28,12 +28,10 @@ use Rattle.read_follow.proofs.DefiningLaws.{all_at, no_shapes, same_list}
 use Rattle.read_follow.proofs.FollowingLaws.{pushed_placed, pushed_scope, pushed_state, slots_stay, wider_slots}
 use Rattle.read_follow.proofs.Refusing.{refused}
 use Rattle.read_follow.proofs.SlotLaws.{at_slot, no_slot}
-use Rattle.read_follow.proofs.TableGrowth.{found_below}
+use Rattle.base_lemmas.proofs.Numbers.{less}
+use Rattle.std.proofs.lemmas.Option.{none-some as not_some, same_Some as some_same, slice_get_within as found_below}
 
 -- ---- aliases
-
-pub some_same : {X : Type 0} (x y : X) → Some x ≡ Some y → x ≡ y
-some_same x y e = cc
 
 pub guarded : {A B : Type 0} (b : Bool) (x : A) (g : A → B) → provided b (g x) ≡ (provided b x >>= λ y. Some (g y))
 guarded true x g = refl
@@ -139,17 +137,11 @@ pub peeled : {A : Type 0} (reader : Reader A) (k : ℕ) (bytes : List ℕ) (xs :
     → (x : A) (behind : List ℕ) → reader bytes ≡ Some (x, behind) → (ys : List A) × (sequence_at reader k behind ≡ Some (ys, [])) × (xs ≡ x ∷ ys)
 peeled reader k bytes xs all x behind at = headed_is xs x (sequence_at reader k behind) (ap (after_first reader k) (sym at) ∙ (sym (sequence_more reader k bytes) ∙ all))
 
-not_some : {X : Type 0} (x : X) → None ≡ Some x → ⊥
-not_some x e = cc
-
 pub unread : {A : Type 0} (reader : Reader A) (k : ℕ) (bytes : List ℕ) (xs : List A) → sequence_at reader (suc k) bytes ≡ Some (xs, []) → reader bytes ≡ None → ⊥
 unread reader k bytes xs all none = not_some (xs, []) (ap (after_first reader k) (sym none) ∙ (sym (sequence_more reader k bytes) ∙ all))
 
 pub none_less : (n : ℕ) → n - 0 ≡ n
 none_less n = omega arith
-
-pub less : (n i : ℕ) → i < n → n - i ≡ suc (n - (i + 1))
-less n i h = omega (arith, h)
 
 pub ended : {A : Type 0} (reader : Reader A) (rest : List ℕ) (ds : List A) → sequence_at reader 0 rest ≡ Some (ds, []) → (ds ≡ []) × (rest ≡ [])
 unfolding sequence_at

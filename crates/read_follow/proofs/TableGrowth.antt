@@ -1,5 +1,5 @@
 -- A table with one type more.
-use Rattle.std.proofs.Common.{◌≡◌, ◌⊎◌, inl, inr, refl, sym, ap, ◌∙◌, subst, ℕ, zero, suc, ◌+◌, ◌<◌, arith, List, [], ◌∷◌, ◌++◌, length, Some, slice_get, unwrap_or, length-append}
+use Rattle.std.proofs.Common.{◌≡◌, inl, inr, refl, sym, ap, ◌∙◌, subst, ℕ, zero, suc, ◌+◌, ◌<◌, arith, List, [], ◌∷◌, ◌++◌, length, Some, slice_get, unwrap_or, length-append}
 use Rattle.wit_model.specs.Tree.{Place, Tree}
 use Rattle.wit_model.specs.Types.{grow, no_tree}
 use Rattle.wit_model.proofs.Tables.{grow_keeps}
@@ -7,19 +7,10 @@ use Rattle.plan_meaning.specs.Shapes.{Shape, part_tree, shape_tree, shape_trees,
 use Rattle.read_follow.specs.declared.facts.Fact.{Fact}
 use Rattle.read_follow.specs.Facts.{IsKept, Tells}
 use Rattle.read_follow.proofs.FactLaws.{tells_along}
-use Rattle.plan_meaning.proofs.ShapeLaws.{part_behind, part_front, split_part, slice_front}
+use Rattle.plan_meaning.proofs.ShapeLaws.{part_behind, part_front, split_part}
+use Rattle.base_lemmas.proofs.Lists.{last_or, slice_front}
 
 -- where a number of the longer list stands
-pub last_or : {X : Type 0} (xs : List X) (y : X) (n : ℕ) (x : X) → slice_get (xs ++ y ∷ []) n ≡ Some x → ((n < length xs) × (slice_get xs n ≡ Some x)) ⊎ ((n ≡ length xs) × (y ≡ x))
-last_or [] y zero x e = inr (refl, (let same : y ≡ x = cc in same))
-last_or [] y (suc n) x e = absurd cc
-last_or (z ∷ xs) y zero x e = inl (omega arith, e)
-last_or (z ∷ xs) y (suc n) x e = elim (last_or xs y n x e) [ inl h ↦ inl (omega (arith, h.0), h.1) | inr h ↦ inr (omega (arith, h.0), h.1) ]
-
-pub found_below : {X : Type 0} (xs : List X) (n : ℕ) (x : X) → slice_get xs n ≡ Some x → n < length xs
-found_below [] n x e = absurd cc
-found_below (y ∷ xs) zero x e = omega arith
-found_below (y ∷ xs) (suc n) x e = omega (arith, found_below xs n x e)
 
 table_more : (ss : List Shape) (s : Shape) → IsTable ss → IsShape (length ss) s → ((n : ℕ) → slice_get ss n ≡ Some s → ⊥) → IsTable (ss ++ s ∷ [])
 table_more ss s table shape fresh = record {

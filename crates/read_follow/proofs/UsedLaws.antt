@@ -9,7 +9,7 @@ use Rattle.wit_model.specs.Text.{Text}
 use Rattle.wit_model.specs.Tree.{Place, Tree}
 use Rattle.comp_bytes.specs.Reading.{◌>>=◌}
 use Rattle.comp_meaning.specs.Follow as follow
-use Rattle.comp_meaning.specs.Follow.{Scope as MeantScope, Seen as MeantSeen, Instance as MeantInstance, Key, Slot as Meant, View as MeantView, function_in, in_scope, interface_of, is_simple, key_text, named_type, provided, see, see_function, see_instance, see_type, used_view, when}
+use Rattle.comp_meaning.specs.Follow.{Scope as MeantScope, Seen as MeantSeen, Key, Slot as Meant, View as MeantView, interface_of, key_text, see, see_instance, used_view, when}
 use Rattle.read_follow.specs.declared.bodies.Body.{Body}
 use Rattle.read_follow.specs.declared.instance_keys.InstanceKey.{InstanceKey}
 use Rattle.read_follow.specs.declared.instance_keys.InstanceKey.TheVariants as keys
@@ -33,14 +33,16 @@ use Rattle.read_follow.specs.Scopes.{direction, instance_in, meant_at, path_of, 
 use Rattle.read_follow.specs.Slots.{resource_slot, slot_in}
 use Rattle.plan_meaning.specs.Shapes.{Shape, named_shape, shape_trees, IsTable}
 use Rattle.read_follow.proofs.DefiningLaws.{all_at, longer}
-use Rattle.read_follow.proofs.PlacedLaws.{at_last, stands_on, stood}
+use Rattle.read_follow.proofs.PlacedLaws.{stands_on, stood}
 use Rattle.read_follow.proofs.PlacedScopes.{added_seen, both_pass, extended_placed, import_passes, imported_many, one_counted, only_last, seen_passes}
 use Rattle.read_follow.proofs.Refusing.{refused}
 use Rattle.read_follow.proofs.ScopeLaws.{exported, extended, extended_world, goes_on, imported, plus, plus_instance, waiting_used}
 use Rattle.read_follow.proofs.SlotLaws.{at_slot, no_slot}
-use Rattle.read_follow.proofs.TableGrowth.{found_below}
 use Rattle.read_follow.proofs.SeeLaws.{added_exports, added_imports, all_exported, all_imported, exports_are, imports_are, seen_plus}
 use Rattle.read_follow.proofs.FollowingLaws.{name_part}
+use Rattle.base_lemmas.proofs.Lists.{at_last}
+use Rattle.base_lemmas.proofs.Numbers.{nothing_more as none_before}
+use Rattle.std.proofs.lemmas.Option.{slice_get_within as found_below}
 
 -- ---- the view of an instance type
 
@@ -117,9 +119,6 @@ module _ (marks : List Bool) (here : ℕ) (start : State) (ss : List Slot) (used
 
 -- ---- an instance under its key
 
-none_before : (n : ℕ) → 0 + n ≡ n
-none_before n = omega arith
-
 marked_paths : (paths : List (Option Text)) (place : ℕ → Place) → ArePlacesOf paths place → AreMarked (map has_path paths) place
 marked_paths paths place of n b e = by paths n e (of n)
   where
@@ -153,10 +152,6 @@ key_below : (paths : List (Option Text)) (key : InstanceKey) → IsKeyIn paths k
 key_below paths (keys.Path p) h = found_below paths p (Some h.0) h.1
 key_below paths (keys.Label l p) h = found_below paths p None h
 key_below paths (keys.Implementing l p) h = found_below paths p (Some h.0) h.1
-
-last_one : {X : Type 0} (xs : List X) (x : X) → slice_get (xs ++ x ∷ []) (length xs) ≡ Some x
-last_one [] x = refl
-last_one (y ∷ xs) x = last_one xs x
 
 module _ (old : World) (st : IsWorld old) (b : Bool) (name : ExternName) (n : ℕ) (paths : List (Option Text)) (key : InstanceKey) (is_key : IsKeyOf (follow.key_of (raw_name name)) paths key) where
   abbrev under_key : MeantScope → Key → Option MeantView → Option MeantScope

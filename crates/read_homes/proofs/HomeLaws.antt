@@ -11,14 +11,10 @@ use Rattle.plan_meaning.specs.NumberedViews.{Tables}
 use Rattle.plan_meaning.specs.NumberedMembers.{HomesStand}
 use Rattle.plan_meaning.specs.NumberedMembers as members
 use Rattle.read_homes.specs.Homes.{given_home, given_text, package_read, ArePackages, ArePaths, Grows, HaveReasons, IsHomeOf, IsReadAs, IsReason, Joins, stays, comes, Takes}
-use Rattle.read_homes.proofs.PackageLaws.{homes_on, last_or}
+use Rattle.read_homes.proofs.PackageLaws.{homes_on}
+use Rattle.base_lemmas.proofs.Lists.{at_last as last_there, front_more, last_or, within_there as at_number}
 
 -- ---- why a package is there
-
-at_number : {X : Type 0} (xs : List X) (n : ℕ) → n < length xs → (x : X) × (slice_get xs n ≡ Some x)
-at_number [] n below = absurd (omega (arith, below))
-at_number (x ∷ xs) zero below = (x, refl)
-at_number (x ∷ xs) (suc n) below = at_number xs n (omega (arith, below))
 
 joined_reason : (old new : List PackageIdentity) (x : PackageIdentity) → Joins old x new → ArePackages new → (home : ℕ × Text) → slice_get new home.0 ≡ Some x → IsReason old new (Some home)
 joined_reason old new x stays packages home e = λ n below. inl below
@@ -41,15 +37,6 @@ home_reason old new packages path (Ok x) reads takes = reason_of old new package
 home_reason old new packages path (Err e) reads takes = tt
 
 -- ---- one place more
-
-pub front_more : {X : Type 0} (xs : List X) (y : X) (n : ℕ) (x : X) → slice_get xs n ≡ Some x → slice_get (xs ++ y ∷ []) n ≡ Some x
-front_more [] y n x e = absurd cc
-front_more (z ∷ xs) y zero x e = e
-front_more (z ∷ xs) y (suc n) x e = front_more xs y n x e
-
-pub last_there : {X : Type 0} (xs : List X) (y : X) → slice_get (xs ++ y ∷ []) (length xs) ≡ Some y
-last_there [] y = refl
-last_there (z ∷ xs) y = last_there xs y
 
 reasons_more : (first old new : List PackageIdentity) (homes : List (Option (ℕ × Text))) (home : Option (ℕ × Text)) → HaveReasons first old homes → IsReason old new home → HaveReasons first new (homes ++ home ∷ [])
 reasons_more first old new homes home have reason n below = elim (reason n below) [

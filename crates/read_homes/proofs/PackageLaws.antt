@@ -1,5 +1,5 @@
 -- Packages that each stand once, and what stands of places where there are more of them.
-use Rattle.std.proofs.Common.{◌≡◌, ◌⊎◌, inl, inr, refl, sym, ap, ◌∙◌, subst, ℕ, zero, suc, ◌<◌, arith, Bool, true, false, ◌&&◌, ◌||◌, cond, List, [], ◌∷◌, ◌++◌, map, length, append_assoc, Option, Some, None, option_map, slice_get, OnOk, OnErr, Result, Ok, Err}
+use Rattle.std.proofs.Common.{◌≡◌, inl, inr, refl, sym, ap, ◌∙◌, subst, ℕ, zero, suc, Bool, true, false, ◌&&◌, ◌||◌, cond, List, [], ◌∷◌, ◌++◌, map, append_assoc, Option, Some, None, option_map, slice_get, OnOk, OnErr, Result, Ok, Err}
 use Rattle.std.specs.Borrow.{Bor}
 use Rattle.std.specs.declared.alloc.AllocError.{AllocError}
 use Rattle.std.specs.List.{AllZip, list_any}
@@ -8,21 +8,17 @@ use Rattle.std.proofs.lemmas.List.{append-nil, map-append}
 use Rattle.std.proofs.lemmas.Slice.Eq.{bytes_eq-Decides}
 use Rattle.wit_model.specs.Text.{Text, text_eq}
 use Rattle.wit_model.specs.Names.{PackageIdentity}
-use Rattle.wit_model.proofs.Lists.{first_true, second_true}
 use Rattle.comp_bytes.specs.RawOf.{text_of}
-use Rattle.plan_meaning.proofs.ShapeLaws.{slice_front}
 use Rattle.read_homes.specs.contracts.packages.PackageTextsPartialEq.TheImpl as texts_eq
 use Rattle.read_homes.specs.declared.packages.PackageTexts.{PackageTexts}
 use Rattle.read_homes.specs.Homes.{identity_of, AreApart, ArePackages, Grows, IsHomeOf, IsRead, Joins, stays, comes, KeepsHomes}
+use Rattle.base_lemmas.proofs.Bools.{left_of as first_true, right_of as second_true}
+use Rattle.base_lemmas.proofs.Lists.{last_or, none_there as nothing_at, slice_front}
+use Rattle.std.proofs.lemmas.Bool.{and_from as both, or_right as either_true}
+use Rattle.std.proofs.lemmas.Option.{slice_get_within as found_below}
+use Rattle.wit_model.proofs.AnyOrder.{text-same as same_text}
 
 -- ---- equal texts
-
-pub both : (a b : Bool) → a ≡ true → b ≡ true → (a && b) ≡ true
-both true b p q = q
-both false b p q = p
-
-same_text : (a b : Text) → text_eq a b ≡ true → a ≡ b
-same_text a b h = (bytes_eq-Decides a b).0 h
 
 abbrev pub same_texts : PackageTexts → PackageTexts → Bool
 same_texts = texts_eq.ghosts.eq
@@ -58,26 +54,6 @@ texts_again a b e =
     (versions_again a.version b.version (ap (λ (x : PackageIdentity). x.version) e)))
 
 -- ---- one package more
-
-pub mapped_get : {A B : Type 0} (f : A → B) (xs : List A) (n : ℕ) (x : A) → slice_get xs n ≡ Some x → slice_get (map f xs) n ≡ Some (f x)
-mapped_get f [] n x e = absurd cc
-mapped_get f (y ∷ ys) zero x e = let same : y ≡ x = cc in ap (λ z. Some (f z)) same
-mapped_get f (y ∷ ys) (suc n) x e = mapped_get f ys n x e
-
-pub last_or : {X : Type 0} (xs : List X) (y : X) (n : ℕ) (x : X) → slice_get (xs ++ y ∷ []) n ≡ Some x → ((n < length xs) × (slice_get xs n ≡ Some x)) ⊎ ((n ≡ length xs) × (y ≡ x))
-last_or [] y zero x e = inr (refl, (let same : y ≡ x = cc in same))
-last_or [] y (suc n) x e = absurd cc
-last_or (z ∷ xs) y zero x e = inl (omega arith, e)
-last_or (z ∷ xs) y (suc n) x e = elim (last_or xs y n x e) [ inl h ↦ inl (omega (arith, h.0), h.1) | inr h ↦ inr (omega (arith, h.0), h.1) ]
-
-found_below : {X : Type 0} (xs : List X) (n : ℕ) (x : X) → slice_get xs n ≡ Some x → n < length xs
-found_below [] n x e = absurd cc
-found_below (y ∷ xs) zero x e = omega arith
-found_below (y ∷ xs) (suc n) x e = omega (arith, found_below xs n x e)
-
-either_true : (a b : Bool) → b ≡ true → (a || b) ≡ true
-either_true true b e = refl
-either_true false b e = e
 
 seen : (ks : List PackageTexts) (k : PackageTexts) (n : ℕ) → slice_get (map identity_of ks) n ≡ Some (identity_of k) → list_any (same_texts k) ks ≡ true
 seen [] k n e = absurd cc
@@ -115,10 +91,6 @@ module _ (old : List PackageIdentity) (x : PackageIdentity) (packages : ArePacka
 pub joined_grows : (old new : List PackageIdentity) (x : PackageIdentity) → Joins old x new → Grows old new
 joined_grows old new x stays = record { more = []; is = sym (append-nil old) }
 joined_grows old new x (comes fresh) = record { more = x ∷ []; is = refl }
-
-nothing_at : {X : Type 0} (n : ℕ) (x : X) → slice_get [] n ≡ Some x → ⊥
-nothing_at zero x e = cc
-nothing_at (suc n) x e = cc
 
 pub no_packages : ArePackages []
 no_packages = record { apart = λ m n x em en. absurd (nothing_at m x em); read = λ n x e. absurd (nothing_at n x e) }

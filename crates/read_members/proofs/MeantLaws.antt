@@ -3,7 +3,6 @@ use Rattle.std.proofs.Common.{◌≡◌, inl, inr, refl, sym, ap, subst, ◌∙�
 use Rattle.std.specs.List.{AllByRecursion, AllZip}
 use Rattle.wit_model.specs.Names.{PackageIdentity}
 use Rattle.wit_model.specs.Text.{Text, text_of}
-use Rattle.wit_model.proofs.Elements.{same-some}
 use Rattle.comp_bytes.specs.Reading.{◌>>=◌}
 use Rattle.comp_meaning.specs.Follow.{Scope as MeantScope, each, provided}
 use Rattle.comp_meaning.specs.Reads as reads
@@ -29,6 +28,7 @@ use Rattle.read_exports.specs.Interfaces.{IsInterfacePart, IsPartOf, Placed, at_
 use Rattle.read_exports.proofs.InterfaceLaws.{export_stands, scopes_are_parts}
 use Rattle.read_members.proofs.SightLaws.{placed_views}
 use Rattle.read_members.specs.ReadMembers.{IsElsewhere, IsMemberRead, IsNoMember, IsNoPart, IsPartRead, NoMembersAreMeant, ReadMembersAreMeant}
+use Rattle.std.proofs.lemmas.Option.{same_Some as same-some}
 
 -- ---- one part
 

@@ -2,11 +2,9 @@
 use Rattle.std.proofs.Common.{◌≡◌, refl, sym, ap, subst, ℕ, zero, suc, Bool, true, false, not, ◌&&◌, List, [], ◌∷◌, map, slice_get, Option, Some, None, is_none}
 use Rattle.std.specs.List.{AllByRecursion}
 use Rattle.wit_model.specs.Text.{Text}
-use Rattle.wit_model.proofs.Elements.{same-some}
 use Rattle.comp_bytes.specs.Levels.{Piece}
 use Rattle.comp_bytes.specs.Reading.{◌>>=◌}
 use Rattle.comp_meaning.specs.Follow.{each, is_filled, provided}
-use Rattle.read_follow.proofs.ScopeLaws.{all_both}
 use Rattle.plan_meaning.specs.NumberedMembers.{Homes, IsKnownSight, NumberedMember, NumberedPart, exported_view, imported_view, interface, sights_of_members, sights_of_part, world}
 use Rattle.plan_meaning.specs.NumberedRules.{Fact}
 use Rattle.plan_meaning.specs.NumberedViews.{NumberedSight, Tables}
@@ -28,6 +26,9 @@ use Rattle.read_numbers.proofs.KnownScopes.{scopes_are_known, views_are_known}
 use Rattle.read_numbers.proofs.PlacedMembers.{places_are_kept}
 use Rattle.read_members.specs.Decided.{MembersAreKnown}
 use Rattle.read_members.specs.ReadMembers.{AreRead, IsPartRead}
+use Rattle.base_lemmas.proofs.Elements.{all_both}
+use Rattle.std.proofs.lemmas.Option.{same_Some as same-some}
+use Rattle.read_exports.proofs.InterfaceLaws.{provided_is}
 
 -- ---- what is shown as an interface
 
@@ -46,10 +47,6 @@ placed_views t w e is shown = by (exported_view w.exports) (each imported_view w
         passed : (b : Bool) → provided {A = Placed × List Placed} b (x, xs) ≡ Some (e, is) → (Some x ≡ Some e) × (Some xs ≡ Some is)
         passed false f = absurd cc
         passed true f = let same = same-some (x, xs) (e, is) f in (ap (λ (y : Placed × List Placed). Some y.0) same, ap (λ (y : Placed × List Placed). Some y.1) same)
-
-provided_is : {A : Type 0} (b : Bool) (x y : A) → provided b x ≡ Some y → x ≡ y
-provided_is true x y e = same-some x y e
-provided_is false x y e = absurd cc
 
 -- ---- views in their places
 

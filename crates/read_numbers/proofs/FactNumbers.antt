@@ -7,8 +7,8 @@ use Rattle.plan_meaning.specs.Shapes.{part_tree}
 use Rattle.read_rules.specs.declared.tables.Fact.{Fact}
 use Rattle.read_follow.specs.declared.facts.Fact.{Fact as FollowedFact}
 use Rattle.read_follow.specs.Facts.{FactsHold, Tells}
-use Rattle.read_follow.proofs.TableGrowth.{last_or}
 use Rattle.read_numbers.specs.Facts.{followed_fact}
+use Rattle.base_lemmas.proofs.Lists.{last_or}
 
 module _ (facts new : List Fact) (x : Fact) (last : new ≡ facts ++ x ∷ []) where
   pub one_more : (n : ℕ) → length facts ≡ n → length new ≡ n + 1

@@ -1,10 +1,10 @@
 -- The order in which imports came into the table.
-use Rattle.std.proofs.Common.{◌≡◌, inl, inr, ap, ◌∙◌, subst, ℕ, List, map, Option, Some, slice_get}
+use Rattle.std.proofs.Common.{inl, inr, ap, ◌∙◌, subst, List, map, Some}
 use Rattle.wit_model.specs.Text.{Text}
-use Rattle.plan_meaning.specs.NumberedWorlds.{declares, NumberedSeen, NumberedShown}
-use Rattle.read_follow.proofs.AddLaws.{mapped_get}
+use Rattle.plan_meaning.specs.NumberedWorlds.{NumberedSeen, NumberedShown}
 use Rattle.read_numbers.specs.PlacedNumbers.{ImportsComeLast, IsCountedItem}
 use Rattle.read_numbers.proofs.PlacedViews.{not_twice}
+use Rattle.base_lemmas.proofs.Lists.{mapped_get}
 
 pub imports_come_last : ImportsComeLast
 imports_come_last t w h apart j c s d at here is =

@@ -1,15 +1,13 @@
 -- What is known of a part, as it is seen from a place.
-use Rattle.std.proofs.Common.{◌≡◌, ◌≢◌, refl, sym, ap, ◌∙◌, subst, ℕ, zero, suc, ◌+◌, ◌-◌, ◌<◌, Bool, true, false, not, ◌&&◌, ◌==◌, cond, List, [], ◌∷◌, ◌++◌, map, length, get_or, arith, Option, slice_get, unwrap_or}
+use Rattle.std.proofs.Common.{◌≡◌, ◌≢◌, refl, sym, ap, ◌∙◌, subst, ℕ, zero, suc, ◌+◌, ◌-◌, ◌<◌, Bool, true, false, not, ◌&&◌, ◌==◌, cond, List, [], ◌∷◌, map, length, get_or, arith, Option, slice_get, unwrap_or}
 use Rattle.std.specs.Prelude.{nat_lt}
 use Rattle.std.specs.List.{Contains, list_all}
 use Rattle.std.proofs.Math.ListN.{length-map}
 use Rattle.std.proofs.lemmas.Bool.{eq-eqb, eqb-true, false≢true}
-use Rattle.std.proofs.lemmas.List.Elements.{Contains-append_left, Contains-append_right}
 use Rattle.wit_model.specs.Text.{Text}
 use Rattle.wit_model.specs.Tree.{Place, Tree, Trees}
-use Rattle.wit_model.proofs.Lists.{first_true, second_true}
 use Rattle.comp_meaning.specs.Rules as rules
-use Rattle.comp_meaning.specs.Rules.{are_labels, form_labels, is_named_form}
+use Rattle.comp_meaning.specs.Rules.{are_labels, is_named_form}
 use Rattle.comp_meaning.specs.Same.{same_place}
 use Rattle.comp_meaning.proofs.SameLaws.{places_decide}
 use Rattle.plan_meaning.specs.NumberedRules as numbered
@@ -21,7 +19,7 @@ use Rattle.read_rules.specs.declared.tables.Names.{Names}
 use Rattle.read_rules.specs.declared.tables.Names.TheVariants as names
 use Rattle.read_rules.specs.Tables.{numbered_fact, primitive_fact, standing}
 use Rattle.read_follow.specs.Facts as followed
-use Rattle.read_follow.specs.Facts.{are_plain, below, is_plain, labels_of, places, places_in, AreOf, FactsHold, Tells}
+use Rattle.read_follow.specs.Facts.{are_plain, below, is_plain, labels_of, places, places_in, AreOf, Tells}
 use Rattle.read_follow.specs.Functions.{FunctionShape}
 use Rattle.read_follow.specs.declared.facts.Fact.{Fact as FollowedFact}
 use Rattle.read_follow.proofs.FactLaws.{tells_part}
@@ -29,26 +27,11 @@ use Rattle.read_numbers.specs.FactLaws.{fact_of, FactsInNumbers}
 use Rattle.read_numbers.specs.Facts.{followed_fact, followed_names}
 use Rattle.read_numbers.specs.NumberedParts.{tables_in}
 use Rattle.read_numbers.proofs.NameNumbers.{apart, number_inside}
+use Rattle.base_lemmas.proofs.Bools.{and_assoc as under, exchange, left_of as first_true, right_of as second_true}
+use Rattle.base_lemmas.proofs.Elements.{all_pass}
+use Rattle.std.proofs.lemmas.List.Folds.{list_all-append as all_both}
 
 -- ---- a part of a type: plain, with names of one place
-
-all_both : {X : Type 0} (test : X → Bool) (xs ys : List X) → list_all test (xs ++ ys) ≡ (list_all test xs && list_all test ys)
-all_both test [] ys = refl
-all_both test (x ∷ xs) ys = ap (λ b. test x && b) (all_both test xs ys) ∙ group (test x) (list_all test xs) (list_all test ys)
-  where
-    group : (a b c : Bool) → (a && (b && c)) ≡ ((a && b) && c)
-    group true b c = refl
-    group false b c = refl
-
-exchange : (a b c d : Bool) → ((a && b) && (c && d)) ≡ ((a && c) && (b && d))
-exchange true true c d = refl
-exchange true false true d = refl
-exchange true false false d = refl
-exchange false b c d = refl
-
-under : (a b c : Bool) → (a && (b && c)) ≡ ((a && b) && c)
-under true b c = refl
-under false b c = refl
 
 mutual
   part_split : (p : Place) (t : Tree) → rules.is_part p t ≡ (is_plain t && list_all (same_place p) (places t))
@@ -69,10 +52,6 @@ mutual
       ∙ ap (λ b. (is_plain t && are_plain ts) && b) (sym (all_both (same_place p) (places t) (places_in ts))))
 
 -- ---- tests of all
-
-all_pass : {X : Type 0} (test : X → Bool) (xs : List X) → ((x : X) → Contains xs x → test x ≡ true) → list_all test xs ≡ true
-all_pass test [] f = refl
-all_pass test (x ∷ xs) f = (λ i. f x (Contains-append_left (x ∷ []) xs x (0, omega arith, refl)) i && all_pass test xs (λ y c. f y (Contains-append_right (x ∷ []) xs y c)) i)
 
 one_fails : {X : Type 0} (test : X → Bool) (xs : List X) (x : X) → Contains xs x → test x ≡ false → list_all test xs ≡ false
 one_fails {X = X} test xs x c none = by (list_all test xs) refl

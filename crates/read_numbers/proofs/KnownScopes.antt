@@ -11,7 +11,6 @@ use Rattle.plan_meaning.specs.Shapes.{Shape, shape_trees, IsTable}
 use Rattle.read_rules.specs.declared.tables.Fact.{Fact}
 use Rattle.read_follow.specs.Facts.{FactsHold}
 use Rattle.read_follow.specs.Functions.{FunctionShape}
-use Rattle.read_follow.proofs.ScopeLaws.{all_both}
 use Rattle.read_numbers.specs.FactLaws.{known_by}
 use Rattle.read_numbers.specs.Facts.{followed_fact}
 use Rattle.read_numbers.specs.KnownScopes.{ScopesAreKnown, ViewsAreKnown}
@@ -21,6 +20,7 @@ use Rattle.read_numbers.proofs.KnownNumbers.{facts_in_numbers}
 use Rattle.read_numbers.proofs.MetNumbers.{met_parts_are_seen}
 use Rattle.read_numbers.proofs.PlacedMembers.{places_are_kept}
 use Rattle.read_numbers.proofs.TableNumbers.{tables_in_numbers}
+use Rattle.base_lemmas.proofs.Elements.{all_both}
 
 -- ---- parts that pass more
 

@@ -1,30 +1,21 @@
 -- The names in a part, by the numbers of their places.
-use Rattle.std.proofs.Common.{◌≡◌, inl, inr, refl, ap, ◌∙◌, subst, ℕ, zero, suc, ◌+◌, ◌<◌, ◌≤◌, arith, lit<, List, [], ◌∷◌, map, length, get_or, Some, slice_get, unwrap_or}
+use Rattle.std.proofs.Common.{◌≡◌, inl, inr, refl, ap, ◌∙◌, subst, ℕ, zero, suc, ◌+◌, ◌<◌, ◌≤◌, arith, lit<, List, [], ◌∷◌, map, length, Some, slice_get, unwrap_or}
 use Rattle.std.specs.List.{AllByRecursion, Contains}
 use Rattle.std.proofs.lemmas.List.Elements.{Contains-append_left, Contains-append_right, Contains-append_cases}
 use Rattle.wit_model.specs.Tree.{Place, Tree, children}
 use Rattle.wit_model.specs.Types.{no_tree}
 use Rattle.plan_meaning.specs.NumberedViews.{HasNameIn, itself, inside}
 use Rattle.plan_meaning.specs.Shapes.{Shape, part_tree, primitives, shape_tree, shape_trees, IsShape, a_name, a_node, IsTable}
-use Rattle.plan_meaning.proofs.ShapeLaws.{name_tree, node_tree, part_behind, part_front, slice_there, split_part, tree_at_number}
+use Rattle.plan_meaning.proofs.ShapeLaws.{name_tree, node_tree, part_behind, part_front, split_part, tree_at_number}
 use Rattle.read_follow.specs.Facts.{places, places_in}
-use Rattle.read_follow.proofs.AddLaws.{mapped_get}
+use Rattle.base_lemmas.proofs.Elements.{last_of as only_one, none_in as nothing_in}
+use Rattle.base_lemmas.proofs.Lists.{mapped_get, within_there as slice_there}
 
 -- in the part stands a name whose place is this
 pub record IsNamed (ss : List Shape) (place : ℕ → Place) (k : ℕ) (x : Place) : Type 0 where
   pub number : ℕ
   pub has : HasNameIn ss k number
   pub is : place number ≡ x
-
-nothing_in : {X : Type 0} (x : X) → Contains [] x → ⊥
-nothing_in x c = let none = c.1 in absurd (omega (arith, none))
-
-only_one : {X : Type 0} (x y : X) → Contains (x ∷ []) y → x ≡ y
-only_one x y c = by c.0 c.1 c.2
-  where
-    by : (k : ℕ) → k < 1 → get_or (x ∷ []) k y ≡ y → x ≡ y
-    by zero small e = e
-    by (suc k) small e = absurd (omega (arith, small))
 
 first_in : (k : ℕ) (ks : List ℕ) → Contains (k ∷ ks) k
 first_in k ks = Contains-append_left (k ∷ []) ks k (0, lit< tt, refl)

@@ -5,7 +5,6 @@ use Rattle.std.proofs.Math.ListN.{length-map}
 use Rattle.std.proofs.lemmas.Bool.{cases_lt}
 use Rattle.wit_model.specs.Text.{Text}
 use Rattle.wit_model.specs.Tree.{Place, Tree}
-use Rattle.wit_model.proofs.Elements.{get-contains}
 use Rattle.comp_meaning.specs.Follow.{Seen as MeantSeen}
 use Rattle.comp_meaning.specs.Rules.{distinct}
 use Rattle.plan_meaning.specs.FollowedNumbers.{IsOneOf}
@@ -14,7 +13,6 @@ use Rattle.plan_meaning.specs.NumberedViews.{function_at, path_at, NumberedType,
 use Rattle.plan_meaning.specs.NumberedWorlds as worlds
 use Rattle.plan_meaning.specs.NumberedWorlds.{place_of_key, NumberedInstance, NumberedScope, NumberedSeen}
 use Rattle.plan_meaning.specs.Shapes.{Shape, named_shape, shape_trees}
-use Rattle.plan_meaning.proofs.ShapeLaws.{slice_there}
 use Rattle.read_follow.specs.declared.instance_keys.InstanceKey.{InstanceKey}
 use Rattle.read_follow.specs.declared.instance_keys.InstanceKey.TheVariants as keys
 use Rattle.read_follow.specs.declared.scopes.Instance.{Instance}
@@ -28,7 +26,6 @@ use Rattle.read_follow.specs.Placed.{apart, HasNoNames, MayMeet, Rise}
 use Rattle.read_follow.specs.Places.{has_path, place_number}
 use Rattle.read_follow.specs.Scopes as scopes
 use Rattle.read_follow.specs.Scopes.{seen_in, world_of, AreSeenIn, IsCountedAs, IsImportNamed, IsInlinePlace, IsInstanceIn, IsInstanceSeen, IsKeyPlaced, IsPlacedAmong, IsShownAs, IsShownBy, IsWorld, ShownOver}
-use Rattle.read_follow.proofs.AddLaws.{mapped_get}
 use Rattle.read_follow.proofs.DefiningLaws.{all_at}
 use Rattle.read_parts.specs.declared.members.Member.{Member}
 use Rattle.read_parts.specs.Members.{scope_of, AreFormed, AreMembersPlaced, AreNamesShown, ArePlacesMet, MembersStand, StandsIn}
@@ -36,18 +33,14 @@ use Rattle.read_numbers.specs.NumberedParts.{instance_view, name_in, no_view, nu
 use Rattle.read_numbers.specs.PlacedNumbers.{ArePlacedScopes, IsCounted, IsCountedItem, IsFirstSeen, IsInstanceAt, IsLastType, IsPlacedItem, IsPlacedScope, IsPlacedView, IsRisingView, IsSeenAs, as_export, as_import, PlacesAreKept, ShowsName, by_instance, by_import}
 use Rattle.read_numbers.proofs.PlacedViews.{all_of, declared_met, function_met, placed_view, rising_view, slot_number}
 use Rattle.read_numbers.proofs.ScopeNumbers.{keys_in_numbers}
-use Rattle.read_numbers.proofs.TableNumbers.{at_mapped, path_there}
+use Rattle.read_numbers.proofs.TableNumbers.{path_there}
+use Rattle.base_lemmas.proofs.Elements.{get-contains}
+use Rattle.base_lemmas.proofs.Lists.{get_back as at_mapped, mapped_get, one_item, within_there as slice_there}
 
 key_place : (key : InstanceKey) → place_of_key (numbered_key key) ≡ place_number key
 key_place (keys.Path p) = refl
 key_place (keys.Label l p) = refl
 key_place (keys.Implementing l p) = refl
-
-one_item : {X : Type 0} (xs : List X) (n : ℕ) (x y : X) → slice_get xs n ≡ Some x → slice_get xs n ≡ Some y → x ≡ y
-one_item xs n x y e f = same (sym e ∙ f)
-  where
-    same : Some x ≡ Some y → x ≡ y
-    same h = cc
 
 module _ (shapes : List Shape) (fs : List FunctionShape) (paths : List (Option Text)) (tables : AreTables (length paths) shapes fs) where
   abbrev t : Tables

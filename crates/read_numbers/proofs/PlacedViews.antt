@@ -7,7 +7,6 @@ use Rattle.std.proofs.lemmas.Bool.{lt-ltb, not-true, false≢true}
 use Rattle.wit_model.specs.Meaning.{Signature}
 use Rattle.wit_model.specs.Text.{Text, text_eq}
 use Rattle.wit_model.specs.Tree.{Place, Tree}
-use Rattle.wit_model.proofs.Lists.{first_true, second_true}
 use Rattle.wit_model.proofs.VersionLaws.{same_text}
 use Rattle.comp_meaning.specs.Rules.{distinct}
 use Rattle.plan_meaning.specs.NumberedViews as views
@@ -25,12 +24,12 @@ use Rattle.read_follow.specs.Placed.{apart, slot_part, ComesBehind, DeclarationO
 use Rattle.read_follow.specs.Places.{has_path}
 use Rattle.read_follow.specs.Scopes.{view_in}
 use Rattle.read_follow.specs.Slots.{no_signature}
-use Rattle.plan_meaning.proofs.ShapeLaws.{slice_there}
-use Rattle.read_follow.proofs.AddLaws.{mapped_get}
 use Rattle.read_follow.proofs.DefiningLaws.{all_at}
 use Rattle.read_numbers.specs.NumberedParts.{numbered_function, numbered_shown_function, numbered_slot, numbered_type, numbered_view, tables_in}
 use Rattle.read_numbers.specs.PlacedNumbers.{part_of, IsMetPart, IsNumbered, IsPlacedView, IsRisingView}
 use Rattle.read_numbers.proofs.MetNumbers.{met_from}
+use Rattle.base_lemmas.proofs.Bools.{left_of as first_true, right_of as second_true}
+use Rattle.base_lemmas.proofs.Lists.{mapped_get, within_there as slice_there}
 
 -- ---- the numbers of names
 

@@ -6,9 +6,9 @@ use Rattle.wit_model.specs.Meaning.{Signature}
 use Rattle.wit_model.specs.Tree.{Tree}
 use Rattle.comp_bytes.specs.RawOf.{text_of}
 use Rattle.comp_meaning.specs.Follow as follow
-use Rattle.comp_meaning.specs.Follow.{place_of, Key, View as MeantView, ShownType as MeantType, Shown as MeantShown, Seen as MeantSeen}
+use Rattle.comp_meaning.specs.Follow.{place_of, Key, Shown as MeantShown}
 use Rattle.plan_meaning.specs.NumberedViews as views
-use Rattle.plan_meaning.specs.NumberedViews.{declaration_of, path_at, place_at, signature_at, slot_of, view_of, Tables}
+use Rattle.plan_meaning.specs.NumberedViews.{declaration_of, path_at, place_at, slot_of, view_of, Tables}
 use Rattle.plan_meaning.specs.NumberedWorlds.{key_of, instance_of, seen_of, shown_of}
 use Rattle.plan_meaning.specs.Shapes.{Shape, part_tree, shape_trees}
 use Rattle.read_follow.specs.declared.instance_keys.InstanceKey.{InstanceKey}
@@ -27,11 +27,11 @@ use Rattle.read_follow.specs.Functions.{functions_in, signature_in, FunctionShap
 use Rattle.read_follow.specs.Places.{key_at, path_text}
 use Rattle.read_follow.specs.Scopes.{instance_in, path_of, seen_in, shown_in, shown_text, view_in, viewed, IsInstanceIn}
 use Rattle.read_follow.specs.Slots.{no_signature, resource_slot, slot_in}
-use Rattle.read_follow.proofs.AddLaws.{mapped_get}
 use Rattle.read_follow.proofs.DefiningLaws.{all_at}
 use Rattle.read_follow.proofs.SlotLaws.{mapped_none}
 use Rattle.read_numbers.specs.NumberedParts.{numbered_function, numbered_instance, numbered_key, numbered_seen, numbered_shown, numbered_shown_function, numbered_slot, numbered_type, numbered_view, instance_view, name_in, no_view, tables_in, text_in}
 use Rattle.read_numbers.specs.NumberLaws.{KeysInNumbers, ScopesInNumbers}
+use Rattle.base_lemmas.proofs.Lists.{mapped_get}
 
 -- ---- places
 

@@ -1,20 +1,17 @@
 -- Tables and places in numbers.
-use Rattle.std.proofs.Common.{◌≡◌, refl, sym, ap, ◌∙◌, subst, ℕ, zero, suc, ◌+◌, ◌<◌, List, [], ◌∷◌, map, length, Option, Some, None, IfSome, slice_get, unwrap_or}
+use Rattle.std.proofs.Common.{◌≡◌, sym, ap, ◌∙◌, subst, ℕ, zero, suc, ◌+◌, ◌<◌, List, [], ◌∷◌, map, length, Option, Some, None, IfSome, slice_get, unwrap_or}
 use Rattle.wit_model.specs.Text.{Text}
 use Rattle.comp_meaning.specs.Follow.{place_of}
 use Rattle.plan_meaning.specs.NumberedViews as views
-use Rattle.plan_meaning.specs.NumberedViews.{path_at, place_at, AllOf, IsPart, PartsOf, Tables}
+use Rattle.plan_meaning.specs.NumberedViews.{AllOf, IsPart, PartsOf, Tables}
 use Rattle.plan_meaning.specs.Shapes.{Shape}
 use Rattle.read_follow.specs.Functions.{AreApart, AreFunctionsIn, FunctionShape, IsFunctionIn}
 use Rattle.read_follow.proofs.DefiningLaws.{all_at}
 use Rattle.read_numbers.specs.NumberedParts.{numbered_function, tables_in}
 use Rattle.read_numbers.specs.NumberLaws.{PlacesInNumbers, TablesInNumbers}
+use Rattle.base_lemmas.proofs.Lists.{get_back as at_mapped}
 
 -- what stands in a mapped list was made of what stands there
-pub at_mapped : {A B : Type 0} (f : A → B) (xs : List A) (n : ℕ) (y : B) → slice_get (map f xs) n ≡ Some y → (x : A) × (slice_get xs n ≡ Some x) × (f x ≡ y)
-at_mapped f [] n y e = absurd cc
-at_mapped f (x ∷ xs) zero y e = (x, refl, (let same : f x ≡ y = cc in same))
-at_mapped f (x ∷ xs) (suc n) y e = at_mapped f xs n y e
 
 -- a type of a function from its numbers
 abbrev function_back : views.FunctionShape → FunctionShape

@@ -21,8 +21,8 @@ use Rattle.read_parts.specs.Counts.{types_weight, pieces_weight, PartsFit}
 use Rattle.read_parts.specs.Exported.{part_under}
 use Rattle.read_parts.specs.Members.{part_weight, parts_weight}
 use Rattle.read_parts.specs.Tops.{empty_top}
-use Rattle.read_follow.proofs.StepLaws.{some_same}
 use Rattle.read_follow.proofs.ScopeLaws.{any_more, fewer}
+use Rattle.std.proofs.lemmas.Option.{same_Some as some_same}
 
 -- ---- bytes
 

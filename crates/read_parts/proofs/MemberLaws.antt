@@ -18,13 +18,10 @@ use Rattle.read_follow.specs.Scopes.{meant_at, world_of, IsInstanceIn, IsPlacedA
 use Rattle.plan_meaning.specs.Shapes.{Shape, named_shape, node_shape}
 use Rattle.read_follow.proofs.ComponentLaws.{place_in, places_are}
 use Rattle.read_follow.proofs.DefiningLaws.{all_at, longer}
-use Rattle.read_follow.proofs.PlacedLaws.{at_last, stands_on, stood}
+use Rattle.read_follow.proofs.PlacedLaws.{stands_on, stood}
 use Rattle.read_follow.proofs.PlacedScopes.{extended_placed, none_past}
 use Rattle.read_follow.proofs.Refusing.{refused}
 use Rattle.read_follow.proofs.ScopeLaws.{extended, extended_meant, extended_world, plus}
-use Rattle.read_follow.proofs.TableGrowth.{found_below, last_or}
-use Rattle.read_follow.proofs.WholeLaws.{all_end}
-use Rattle.plan_meaning.proofs.ShapeLaws.{slice_front}
 use Rattle.read_parts.specs.declared.exported.ExportedPart.{ExportedPart}
 use Rattle.read_parts.specs.declared.members.FollowedPart.{FollowedPart}
 use Rattle.read_parts.specs.declared.members.FollowedPart.TheVariants as followed
@@ -33,6 +30,9 @@ use Rattle.read_parts.specs.Exported.{raw_exported}
 use Rattle.read_parts.specs.Followed.{PartScope, world, interface, labelled_scope, part_scope}
 use Rattle.read_parts.specs.Members.{member_meant, part_meant, parts_weight, scope_of, with_front, AreFollowedTo, AreMembersPlaced, ArePlacesBelow, IsMetBySome, IsPartFollowed, IsPlacedMember, IsShownBySome, MembersStand, StandsIn}
 use Rattle.read_parts.proofs.ExportLaws.{each_more, each_none}
+use Rattle.base_lemmas.proofs.Elements.{all_end}
+use Rattle.base_lemmas.proofs.Lists.{at_last, last_or, slice_front}
+use Rattle.std.proofs.lemmas.Option.{slice_get_within as found_below}
 
 abbrev Paths : Type 0
 Paths = List (Option Text)

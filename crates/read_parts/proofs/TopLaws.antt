@@ -18,7 +18,6 @@ use Rattle.read_follow.specs.ExternNames.{raw_name}
 use Rattle.read_follow.specs.Found.{Refuses}
 use Rattle.read_follow.specs.PartTypes.{raw_part_type, IsWholePart}
 use Rattle.read_follow.specs.Pieces.{raw_export}
-use Rattle.read_follow.proofs.AddLaws.{mapped_get}
 use Rattle.read_follow.proofs.Refusing.{refused}
 use Rattle.read_follow.proofs.SlotLaws.{mapped_none}
 use Rattle.read_parts.specs.declared.tops.Exported.{Exported}
@@ -26,6 +25,7 @@ use Rattle.read_parts.specs.declared.tops.TopType.{TopType}
 use Rattle.read_parts.specs.declared.tops.Tops.{Tops}
 use Rattle.read_parts.specs.Exported.{distinct_parts, part_under}
 use Rattle.read_parts.specs.Tops.{label_and_number, may_export, number_found, top_of, AreTops, IsExportAdded}
+use Rattle.base_lemmas.proofs.Lists.{mapped_get}
 
 abbrev raw_type : TopType → PartType
 raw_type x = raw_part_type x.part

@@ -13,6 +13,7 @@ use Rattle.read_rules.specs.FunctionNames.{constructs_one, is_member_of_one, is_
 use Rattle.read_rules.specs.Tables.{known_in, numbered_tables}
 use Rattle.read_rules.proofs.MemberNames.{is_joined}
 use Rattle.read_rules.proofs.TextLaws.{any_either, any_none, any_same}
+use Rattle.base_lemmas.proofs.Bools.{and_line as regroup, or_line as line_up}
 
 -- ---- tests
 
@@ -21,23 +22,12 @@ all_three true true m p q = refl
 all_three true false m p q = absurd (cc)
 all_three false n m p q = absurd (cc)
 
-pub first_no : (a b : Bool) → a ≡ false → (a && b) ≡ false
-first_no a b p = ap (λ v. v && b) p
-
 pub second_no : (a n m : Bool) → n ≡ false → (a && (n && m)) ≡ false
 second_no true n m p = ap (λ v. v && m) p
 second_no false n m p = refl
 
 pub first_yes : (a b : Bool) → a ≡ true → (a && b) ≡ b
 first_yes a b p = ap (λ v. v && b) p
-
-regroup : (a b c : Bool) → ((a && b) && c) ≡ (a && (b && c))
-regroup true b c = refl
-regroup false b c = refl
-
-line_up : (a b c : Bool) → ((a || b) || c) ≡ (a || (b || c))
-line_up true b c = refl
-line_up false b c = refl
 
 module _ (t : Tables) (p : ℕ) (rs : List Text) (name : Text) (f : FunctionShape) where
   abbrev makes : Text → Bool

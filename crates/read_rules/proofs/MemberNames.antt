@@ -1,5 +1,5 @@
 -- The names of functions of resources, cut at their last dot: a label has none.
-use Rattle.std.proofs.Common.{◌≡◌, refl, sym, ap, subst, ◌∙◌, ℕ, arith, Bool, true, false, not, ◌&&◌, ◌==◌, cond, [], ◌∷◌, ◌++◌, length, take, drop, Option, Some, None, option_and_then, append_assoc, eq-eqb, eqb-true}
+use Rattle.std.proofs.Common.{◌≡◌, refl, sym, ap, subst, ◌∙◌, Bool, true, false, not, ◌&&◌, ◌==◌, cond, [], ◌∷◌, ◌++◌, length, take, drop, Option, Some, None, option_and_then, append_assoc}
 use Rattle.std.specs.List.{list_all}
 use Rattle.std.specs.Option.{option_map_or}
 use Rattle.std.specs.Cmp.Lexicographic.{pointwise}
@@ -8,10 +8,13 @@ use Rattle.std.proofs.lemmas.Slice.Eq.{bytes_eq-Decides}
 use Rattle.wit_model.specs.Text.{Text, text_eq}
 use Rattle.wit_model.specs.Names.{is_label}
 use Rattle.wit_model.specs.Rules.{after_prefix}
-use Rattle.wit_model.proofs.Distinct.{either_way}
-use Rattle.wit_model.proofs.Lists.{first_true, second_true}
 use Rattle.wit_model.proofs.NameLaws.{label_lacks}
 use Rattle.comp_meaning.specs.Rules.{is_label_behind}
+use Rattle.base_lemmas.proofs.Bools.{both_ways as either_way, left_of as first_true, right_of as second_true}
+use Rattle.base_lemmas.proofs.Numbers.{turned}
+use Rattle.std.proofs.lemmas.Bool.{and_from as both_true}
+use Rattle.wit_model.proofs.PathParts.{after-itself as prefix_on}
+use Rattle.wit_model.proofs.Prefixes.{after_sound as prefix_back}
 
 -- ---- what stands after a prefix
 
@@ -25,9 +28,6 @@ after_both (p ∷ ps) qs (b ∷ bs) = go (after_both ps qs bs) (p == b)
     go again true = again
     go again false = refl
 
-turned : (a c : ℕ) → (a == c) ≡ (c == a)
-turned a c = grind arith
-
 -- a text is a prefix and a rest where what follows the prefix is the rest
 pub is_joined : (ps qs bs : Text) → text_eq bs (ps ++ qs) ≡ option_map_or (λ rest. text_eq rest qs) (after_prefix ps bs) false
 is_joined [] qs bs = refl
@@ -37,24 +37,6 @@ is_joined (p ∷ ps) qs (b ∷ bs) = ap (λ v. v && text_eq bs (ps ++ qs)) (turn
     go : text_eq bs (ps ++ qs) ≡ option_map_or (λ rest. text_eq rest qs) (after_prefix ps bs) false → (v : Bool) → (v && text_eq bs (ps ++ qs)) ≡ option_map_or (λ rest. text_eq rest qs) (cond v (after_prefix ps bs) None) false
     go again true = again
     go again false = refl
-
-pub prefix_back : (ps bs q : Text) → after_prefix ps bs ≡ Some q → bs ≡ ps ++ q
-prefix_back [] bs q e = cc
-prefix_back (p ∷ ps) [] q e = absurd (cc)
-prefix_back (p ∷ ps) (b ∷ bs) q e = go (prefix_back ps bs q) (p == b) refl
-  where
-    go : (after_prefix ps bs ≡ Some q → bs ≡ ps ++ q) → (v : Bool) → (p == b) ≡ v → b ∷ bs ≡ p ∷ (ps ++ q)
-    go again true h =
-        let same : p ≡ b = eqb-true p b h in
-        let rest : bs ≡ ps ++ q = again (sym (ap (λ v. cond v (after_prefix ps bs) None) h) ∙ e) in
-        cc
-    go again false h =
-        let wrong : None ≡ Some q = sym (ap (λ v. cond v (after_prefix ps bs) None) h) ∙ e in
-        absurd (cc)
-
-prefix_on : (ps q : Text) → after_prefix ps (ps ++ q) ≡ Some q
-prefix_on [] q = refl
-prefix_on (p ∷ ps) q = ap (λ v. cond v (after_prefix ps (ps ++ q)) None) (eq-eqb p p refl) ∙ prefix_on ps q
 
 one_byte : (fits labelled : Bool) (o : Option Text) → (fits && labelled) ≡ option_map_or is_label o false → (v : Bool) → ((v && fits) && labelled) ≡ option_map_or is_label (cond v o None) false
 one_byte fits labelled o again true = again
@@ -91,9 +73,6 @@ unique_last (x ∷ a) (y ∷ b) f g e lf lg =
     let tail : a ++ (46 ∷ f) ≡ b ++ (46 ∷ g) = cc in
     let both = unique_last a b f g tail lf lg in
     (ap (λ z. z ∷ a) head ∙ ap (λ t. y ∷ t) both.0, both.1)
-
-both_true : (a b : Bool) → a ≡ true → b ≡ true → (a && b) ≡ true
-both_true a b p q = rw p q
 
 -- what follows a resource and a dot is a label where the last dot stands behind the resource, with a label behind it
 forward : (R rest : Text) (o : Option Text) → after_prefix (R ++ (46 ∷ [])) rest ≡ o → (s : Text × Text) → rest ≡ s.0 ++ (46 ∷ s.1) → Lacks s.1 → option_map_or is_label o false ≡ true → (text_eq s.0 R && is_label s.1) ≡ true
@@ -139,7 +118,3 @@ module _ (mark name : Text) (r : Text) where
 pub and_true : (a b : Bool) → b ≡ true → (a && b) ≡ a
 and_true true b e = e
 and_true false b e = refl
-
-pub and_false : (a b : Bool) → b ≡ false → (a && b) ≡ false
-and_false true b e = e
-and_false false b e = refl

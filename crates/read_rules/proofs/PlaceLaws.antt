@@ -1,18 +1,16 @@
 -- Numbers, none of which stands twice.
-use Rattle.std.proofs.Common.{◌≡◌, refl, sym, ap, ◌∙◌, ℕ, zero, suc, ◌+◌, ◌<◌, ◌≤◌, arith, Bool, true, false, not, ◌&&◌, ◌||◌, ◌==◌, cond, List, [], ◌∷◌, ◌++◌, map, drop, length, get_or}
+use Rattle.std.proofs.Common.{◌≡◌, refl, sym, ap, ◌∙◌, ℕ, ◌+◌, ◌<◌, ◌≤◌, Bool, true, false, not, ◌&&◌, ◌||◌, ◌==◌, cond, List, [], ◌∷◌, ◌++◌, map, drop, length, get_or}
 use Rattle.std.proofs.lemmas.List.Folds.{list_any-append}
 use Rattle.std.specs.List.{list_all, list_any}
-use Rattle.std.proofs.lemmas.Bool.{eqb-true, eq-eqb}
 use Rattle.wit_model.specs.Uses.{has}
-use Rattle.wit_model.proofs.Distinct.{adds_new, adds_apart, are_apart, either_way, new_turn, old_turn, last_turn}
+use Rattle.wit_model.proofs.Distinct.{adds_new, adds_apart, are_apart, new_turn, old_turn, last_turn}
 use Rattle.plan_meaning.specs.NumberedViews.{Tables}
 use Rattle.plan_meaning.specs.NumberedWorlds.{NumberedSeen, are_once, path_seen, stand_earlier, uses_of}
 use Rattle.read_rules.specs.Places.{places_of}
+use Rattle.base_lemmas.proofs.Numbers.{turned as same_flip}
+use Rattle.std.proofs.lemmas.List.{get_or_default as same_default}
 
-same_flip : (a b : ℕ) → (a == b) ≡ (b == a)
-same_flip a b = either_way (a == b) (b == a) (λ h. eq-eqb b a (sym (eqb-true a b h))) (λ h. eq-eqb a b (sym (eqb-true b a h)))
-
-any_flip : (n : ℕ) (ns : List ℕ) → list_any (λ m. n == m) ns ≡ has ns n
+pub any_flip : (n : ℕ) (ns : List ℕ) → list_any (λ m. n == m) ns ≡ has ns n
 any_flip n ns = ap (λ (f : ℕ → Bool). list_any f ns) (λ i m. same_flip n m i)
 
 apart_once : (ns : List ℕ) → are_apart ◌==◌ ns ≡ are_once ns
@@ -21,11 +19,6 @@ apart_once (n ∷ ns) = λ i. not (any_flip n ns i) && apart_once ns i
 
 pub adds_once : (ns : List ℕ) → adds_new ◌==◌ [] ns ≡ are_once ns
 adds_once ns = adds_apart ◌==◌ same_flip ns ∙ apart_once ns
-
-pub same_default : {X : Type 0} (xs : List X) (i : ℕ) (d e : X) → i < length xs → get_or xs i d ≡ get_or xs i e
-same_default [] i d e h = absurd (omega (arith, h))
-same_default (x ∷ xs) zero d e h = refl
-same_default (x ∷ xs) (suc i) d e h = same_default xs i d e (omega (arith, h))
 
 abbrev pub itself : ℕ → ℕ
 itself n = n

@@ -11,17 +11,10 @@ use Rattle.read_rules.specs.declared.reached.ImportedView.{ImportedView}
 use Rattle.read_rules.specs.declared.views.ViewType.{ViewType}
 use Rattle.read_rules.specs.Reached.{numbered_import, used_by_types}
 use Rattle.read_rules.specs.Views.{numbered_type}
+use Rattle.base_lemmas.proofs.Bools.{or_false, or_line}
 
 has_append : (xs ys : List ℕ) (n : ℕ) → has (xs ++ ys) n ≡ (has xs n || has ys n)
 has_append xs ys n = list_any-append (λ m. m == n) xs ys
-
-or_line : (a b c : Bool) → ((a || b) || c) ≡ (a || (b || c))
-or_line true b c = refl
-or_line false b c = refl
-
-or_false : (a : Bool) → (a || false) ≡ a
-or_false true = refl
-or_false false = refl
 
 or_turn : (a b c : Bool) → ((a || b) || c) ≡ ((c || a) || b)
 or_turn true b true = refl

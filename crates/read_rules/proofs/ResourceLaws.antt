@@ -10,28 +10,13 @@ use Rattle.plan_meaning.specs.NumberedRules.{is_no_part, resources_of}
 use Rattle.read_rules.specs.declared.views.ViewType.{ViewType}
 use Rattle.read_rules.specs.Tables.{now_of}
 use Rattle.read_rules.specs.Views.{numbered_type}
-use Rattle.read_rules.proofs.TextLaws.{same_text}
+use Rattle.base_lemmas.proofs.Bools.{absorbed, or_false, or_line}
+use Rattle.std.proofs.lemmas.Bool.{or_right as second_of}
+use Rattle.wit_model.proofs.AnyOrder.{text-same as same_text}
 
 or_no : (a b : Bool) → b ≡ false → a ≡ (a || b)
 or_no true b e = refl
 or_no false b e = sym e
-
-absorbed : (a b : Bool) → (b ≡ true → a ≡ true) → a ≡ (a || b)
-absorbed true b h = refl
-absorbed false true h = h refl
-absorbed false false h = refl
-
-or_line : (a b c : Bool) → ((a || b) || c) ≡ (a || (b || c))
-or_line true b c = refl
-or_line false b c = refl
-
-or_false : (a : Bool) → (a || false) ≡ a
-or_false true = refl
-or_false false = refl
-
-second_of : (a b : Bool) → b ≡ true → (a || b) ≡ true
-second_of true b q = refl
-second_of false b q = q
 
 -- what passes is found where it stands
 stands : (test : Text → Bool) (a : Text) (ks : List (Bor (List ℕ))) → list_any (λ o. text_eq a o.now) ks ≡ true → test a ≡ true → list_any test (map now_of ks) ≡ true

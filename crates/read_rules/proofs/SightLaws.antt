@@ -1,16 +1,13 @@
 -- Views that are added one by one.
-use Rattle.std.proofs.Common.{◌≡◌, refl, sym, ap, ◌∙◌, ℕ, ◌+◌, ◌<◌, ◌≤◌, List, [], ◌∷◌, ◌++◌, map, drop, length, get_or}
+use Rattle.std.proofs.Common.{◌≡◌, refl, sym, ap, ◌∙◌, ℕ, ◌+◌, ◌<◌, ◌≤◌, List, [], ◌∷◌, ◌++◌, drop, length, get_or}
 use Rattle.std.proofs.Math.ListN.{drop_of_length-le}
 use Rattle.std.proofs.lemmas.List.{drop_more}
 use Rattle.std.specs.List.{flat_map}
+use Rattle.base_lemmas.proofs.Lists.{append_none}
 
 pub append_line : {A : Type 0} (xs ys zs : List A) → (xs ++ ys) ++ zs ≡ xs ++ (ys ++ zs)
 append_line [] ys zs = refl
 append_line (x ∷ xs) ys zs = ap (λ l. x ∷ l) (append_line xs ys zs)
-
-append_none : {A : Type 0} (xs : List A) → xs ++ [] ≡ xs
-append_none [] = refl
-append_none (x ∷ xs) = ap (λ l. x ∷ l) (append_none xs)
 
 -- A walk that adds behind what is there what each item gives.
 module _ {A B : Type 0} (f : A → List B) (xs : List A) (i : ℕ) (front : List B) {v : List B} (kept : front ++ flat_map f (drop i xs) ≡ v) where
@@ -22,7 +19,3 @@ module _ {A B : Type 0} (f : A → List B) (xs : List A) (i : ℕ) (front : List
 
   pub all_added : length xs ≤ i → front ≡ v
   all_added past = sym (append_none front) ∙ (ap (λ l. front ++ flat_map f l) (sym (drop_of_length-le xs past)) ∙ kept)
-
-pub along_map : {A B C : Type 0} (f : B → List C) (g : A → B) (xs : List A) → flat_map (λ x. f (g x)) xs ≡ flat_map f (map g xs)
-along_map f g [] = refl
-along_map f g (x ∷ xs) = ap (λ l. f (g x) ++ l) (along_map f g xs)

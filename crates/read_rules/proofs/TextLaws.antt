@@ -2,15 +2,12 @@
 use Rattle.std.proofs.Common.{◌≡◌, refl, sym, ap, ◌∙◌, ℕ, Bool, true, false, ◌&&◌, ◌||◌, List, [], ◌∷◌, map, Result, Ok, Err, IfOk}
 use Rattle.std.specs.Borrow.{Bor}
 use Rattle.std.specs.List.{list_any}
-use Rattle.std.proofs.lemmas.Slice.Eq.{bytes_eq-Decides}
 use Rattle.wit_model.specs.Text.{Text, text_eq}
 use Rattle.comp_meaning.specs.Rules.{are_labels}
 use Rattle.read_rules.specs.Tables.{now_of, param_of}
+use Rattle.wit_model.proofs.AnyOrder.{text-same as same_text}
 
 -- ---- one text among several
-
-pub same_text : (a b : Text) → text_eq a b ≡ true → a ≡ b
-same_text a b h = (bytes_eq-Decides a b).0 h
 
 one_or : (h q v : Bool) → v ≡ (h && q) → (q || v) ≡ q
 one_or true true v e = refl

@@ -12,7 +12,7 @@ use Rattle.comp_meaning.specs.Rules.{distinct}
 use Rattle.wit_model.specs.Names.{is_label}
 use Rattle.plan_meaning.specs.NumberedRules.{is_declared, is_function, is_interface}
 use Rattle.plan_meaning.specs.NumberedViews as views
-use Rattle.plan_meaning.specs.NumberedViews.{NumberedView, function_at}
+use Rattle.plan_meaning.specs.NumberedViews.{function_at}
 use Rattle.plan_meaning.specs.NumberedWorlds.{NumberedSeen, NumberedShown, instance, function, declares, are_imports, is_item, is_resource_seen, others_than, path_seen, place_of_key, resources_seen, stand_earlier, used_by, uses_of}
 use Rattle.read_rules.specs.declared.scopes.Seen.{Seen}
 use Rattle.read_rules.specs.declared.tables.Tables.{Tables}
@@ -32,16 +32,9 @@ use Rattle.read_rules.specs.Worlds.{IsAdded, may_be_exported, may_be_imported}
 use Rattle.read_rules.proofs.InterfaceLaws.{same_function}
 use Rattle.read_rules.proofs.PlaceLaws.{same_before, stands_earlier}
 use Rattle.read_rules.proofs.ResourceLaws.{one_or_none}
+use Rattle.base_lemmas.proofs.Bools.{and-true as and_true, or_false, or_line}
 
 -- ---- resources that were seen
-
-or_false : (a : Bool) → (a || false) ≡ a
-or_false true = refl
-or_false false = refl
-
-or_line : (a b c : Bool) → ((a || b) || c) ≡ (a || (b || c))
-or_line true b c = refl
-or_line false b c = refl
 
 seen_behind : (test : Text → Bool) (before : List NumberedSeen) (s : NumberedSeen) → list_any test (resources_seen (before ++ s ∷ [])) ≡ (list_any test (resources_seen before) || (is_resource_seen s.shown && test s.key))
 seen_behind test [] s = one_or_none test s.key [] (is_resource_seen s.shown) ∙ or_false (is_resource_seen s.shown && test s.key)
@@ -160,10 +153,6 @@ module _ (t : views.Tables) (xs : List Seen) (i : ℕ) (ks : List ℕ) (rest : L
 pub place_added : {X E : Type 0} (old new : List ℕ) (s : NumberedSeen) (p : Option ℕ) → option_to_list p ≡ path_seen s.shown → (r : Result X E) → IfOk r (λ _. (n : ℕ) → has new n ≡ has (old ++ option_to_list p) n) → IfOk r (λ _. IsPlaceAdded old s new)
 place_added old new s p is (Ok x) h = λ n. h n ∙ ap (λ ps. has (old ++ ps) n) is
 place_added old new s p is (Err e) h = tt
-
-and_true : (b : Bool) → (b && true) ≡ b
-and_true true = refl
-and_true false = refl
 
 -- imports, and then exports
 module _ (t : views.Tables) (before between after : List ℕ) (none : before ≡ []) (imports exports : List NumberedSeen) where

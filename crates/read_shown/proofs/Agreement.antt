@@ -7,17 +7,19 @@ use Rattle.wit_model.specs.Text.{Text, text_eq}
 use Rattle.wit_model.specs.Names.{PackageIdentity, path_in, is_label}
 use Rattle.wit_model.specs.Meaning.{FunctionMeaning, TypeMeaning}
 use Rattle.wit_model.specs.Tree.{Place}
-use Rattle.wit_model.proofs.Elements.{all-contained, contains-flat, contains-get, contains-map, contains-one, get-contains}
-use Rattle.wit_model.proofs.Lists.{first_true, second_true}
+use Rattle.wit_model.proofs.Elements.{contains-flat, contains-get}
 use Rattle.wit_model.proofs.VersionLaws.{same_text}
-use Rattle.comp_bytes.proofs.PartLaws.{some_is}
 use Rattle.comp_meaning.specs.Follow.{View, ShownType, Instance}
 use Rattle.comp_meaning.specs.Rules.{distinct, is_declared, is_function, is_interface, resources_of}
 use Rattle.comp_meaning.specs.Reads.{Part, Member, Sight, agree, all_agree, are_interfaces, of_instance, same_functions, same_shown, sights}
 use Rattle.comp_meaning.specs.SameLaws.{named_meaning}
 use Rattle.comp_meaning.proofs.SameLaws.{shown_types_decide}
 use Rattle.read_shown.specs.Parts.{named_instance, instances_of}
-use Rattle.read_shown.proofs.Lists.{at_end, mapped_get, one_place, unmapped_get}
+use Rattle.read_shown.proofs.Lists.{at_end, one_place}
+use Rattle.base_lemmas.proofs.Bools.{left_of as first_true, right_of as second_true}
+use Rattle.base_lemmas.proofs.Elements.{all-contained, contains-map, contains-one, get-contains}
+use Rattle.base_lemmas.proofs.Lists.{get_back as unmapped_get, mapped_get}
+use Rattle.base_lemmas.proofs.Options.{some_is}
 
 -- ---- two views
 
@@ -47,7 +49,7 @@ any_front test (x ∷ xs) ys e = by (test x) e (any_front test xs ys)
     by true h rest = h
     by false h rest = rest h
 
-distinct_front : (xs ys : List Text) → distinct (xs ++ ys) ≡ true → distinct xs ≡ true
+pub distinct_front : (xs ys : List Text) → distinct (xs ++ ys) ≡ true → distinct xs ≡ true
 distinct_front [] ys e = refl
 distinct_front (x ∷ xs) ys e = by (list_any (text_eq x) (xs ++ ys)) refl e (distinct_front xs ys)
   where

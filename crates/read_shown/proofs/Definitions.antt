@@ -2,21 +2,21 @@
 use Rattle.std.proofs.Common.{◌≡◌, refl, sym, ap, subst, ◌∙◌, ℕ, suc, Bool, true, false, ◌==◌, nat_le, List, [], ◌∷◌, map, length, Option, Some, None, slice_get, IfSome}
 use Rattle.std.specs.List.{AllByRecursion}
 use Rattle.std.proofs.Math.ListN.{length-map}
-use Rattle.std.proofs.lemmas.Bool.{eq-eqb}
+use Rattle.std.proofs.lemmas.Bool.{and_from as both}
 use Rattle.wit_model.specs.Text.{Text}
 use Rattle.wit_model.specs.Tree as tree
 use Rattle.wit_model.specs.Tree.{Place, Form, Tree, Trees, child_list, children, is_given}
 use Rattle.wit_model.specs.Meaning.{Signature}
-use Rattle.wit_model.proofs.Elements.{both}
 use Rattle.comp_bytes.specs.declared.forms.ComponentValType.{ComponentValType}
 use Rattle.comp_bytes.specs.declared.forms.ComponentValType.TheVariants as values
 use Rattle.comp_bytes.specs.Raw.{Labeled, DefinedType, FunctionType}
 use Rattle.comp_bytes.specs.Reading.{◌>>=◌}
-use Rattle.comp_bytes.proofs.PartLaws.{some_is}
 use Rattle.comp_bytes.proofs.Readers.{bind_some, when_some}
 use Rattle.comp_meaning.specs.Follow.{Slot, each, given, provided, is_filled, is_key, primitive_of_type, value_in, resource_in, function_in, value_type, field_type, case_type, definition, function_signature}
 use Rattle.read_shown.specs.Trees.{AllAt, count_true, is_formed, HandleStands, TreeStands, PartsStand, SignatureStands, SlotStands}
 use Rattle.read_shown.proofs.Lists.{each_found, each_filled, given_found}
+use Rattle.base_lemmas.proofs.Numbers.{same_count}
+use Rattle.base_lemmas.proofs.Options.{some_is}
 
 -- ---- counts
 
@@ -27,9 +27,6 @@ listed (t ∷ ts) = ap (λ us. t ∷ us) (listed ts)
 filled_map : {A B : Type 0} (f : A → B) (xs : List A) → is_filled xs ≡ true → is_filled (map f xs) ≡ true
 filled_map f [] h = h
 filled_map f (x ∷ xs) h = refl
-
-same_count : (m n : ℕ) → m ≡ n → (m == n) ≡ true
-same_count m n e = eq-eqb m n e
 
 -- as many parts of a record as it has labels
 fields_counted : (fs : List (Text × Tree)) → length (child_list (children (map (λ f. f.1) fs))) ≡ length (map (λ f. f.0) fs)

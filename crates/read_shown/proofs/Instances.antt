@@ -10,11 +10,11 @@ use Rattle.comp_bytes.specs.declared.forms.ComponentTypeRef.TheVariants as refs
 use Rattle.comp_bytes.specs.Raw as raw
 use Rattle.comp_bytes.specs.Raw.{Alias, ExternName, Declarations}
 use Rattle.comp_bytes.specs.Reading.{◌>>=◌}
-use Rattle.comp_bytes.proofs.PartLaws.{some_is}
 use Rattle.comp_bytes.proofs.Readers.{bind_some, when_some}
 use Rattle.comp_meaning.specs.Follow.{Slot, View, Instance, Seen, Shown, Key, Scope, Direction, import_, export_, component_scope, component_step, definition, exported_slot, function_in, function_signature, in_scope, interface_of, is_simple, key_of, key_text, named_type, new_scope, place_of, provided, see, see_described, see_function, see_instance, see_type, used_view, when}
 use Rattle.read_shown.specs.Instances.{instance_of, instances_in, going, InstancesAreSeen}
 use Rattle.read_shown.proofs.Scopes.{scope_keeps}
+use Rattle.base_lemmas.proofs.Options.{some_is}
 
 -- those that go one way, and one more
 going_more : (way : Direction) (xs : List (Direction × Instance)) (last : Direction × Instance) → going way (xs ++ last ∷ []) ≡ going way xs ++ going way (last ∷ [])

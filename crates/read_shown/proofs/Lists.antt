@@ -1,23 +1,21 @@
 -- Lists by the numbers of their items, and what is found in each.
-use Rattle.std.proofs.Common.{◌≡◌, ◌⊎◌, inl, inr, refl, sym, ap, subst, ◌∙◌, ℕ, zero, suc, ◌<◌, ◌≤◌, arith, take, length-append, Bool, true, false, not, ◌||◌, List, [], ◌∷◌, ◌++◌, map, length, option_map, Option, Some, None, slice_get, IfSome}
+use Rattle.std.proofs.Common.{◌≡◌, ◌⊎◌, inl, inr, refl, sym, ap, subst, ◌∙◌, ℕ, zero, suc, ◌<◌, ◌≤◌, arith, take, length-append, true, not, List, [], ◌∷◌, ◌++◌, length, Option, Some, None, slice_get, IfSome}
 use Rattle.std.specs.List.{AllByRecursion, list_any}
 use Rattle.std.proofs.lemmas.Bool.{not-true}
-use Rattle.std.proofs.lemmas.Option.{slice_get_within, slice_get-map}
+use Rattle.std.proofs.lemmas.Option.{slice_get_within}
 use Rattle.wit_model.specs.Text.{Text, text_eq}
-use Rattle.wit_model.proofs.Lists.{first_true, second_true}
 use Rattle.wit_model.proofs.VersionLaws.{same_text}
 use Rattle.comp_bytes.specs.Reading.{◌>>=◌}
-use Rattle.comp_bytes.proofs.PartLaws.{some_is}
 use Rattle.comp_bytes.proofs.Readers.{bind_some}
 use Rattle.comp_meaning.specs.Follow.{each, given, is_filled}
 use Rattle.comp_meaning.specs.Rules.{distinct}
 use Rattle.read_shown.specs.Trees.{AllAt}
+use Rattle.base_lemmas.proofs.Bools.{left_of as first_true, right_of as second_true}
+use Rattle.base_lemmas.proofs.Lists.{front_at as at_front}
+use Rattle.base_lemmas.proofs.Options.{some_is}
+use Rattle.std.proofs.lemmas.Map.Keys.{any_passes_from_place as any_at}
 
 -- an item of the front
-pub at_front : {A : Type 0} (xs ys : List A) (n : ℕ) (x : A) → slice_get xs n ≡ Some x → slice_get (xs ++ ys) n ≡ Some x
-at_front [] ys n x e = absurd cc
-at_front (z ∷ xs) ys zero x e = e
-at_front (z ∷ xs) ys (suc n) x e = at_front xs ys n x e
 
 -- an item of the front, or the last
 pub at_end : {A : Type 0} (xs : List A) (x y : A) (n : ℕ) → slice_get (xs ++ x ∷ []) n ≡ Some y → (slice_get xs n ≡ Some y) ⊎ ((n ≡ length xs) × (x ≡ y))
@@ -56,10 +54,6 @@ all_more P xs x all here n y e = elim (at_end xs x y n e) [
 pub all_weaker : {A : Type 0} (P Q : ℕ → A → Type 0) (xs : List A) → ((n : ℕ) (x : A) → n < length xs → P n x → Q n x) → AllAt P xs → AllAt Q xs
 all_weaker P Q xs weaker all n x e = weaker n x (slice_get_within xs n x e) (all n x e)
 
-pub recursion_weaker : {A : Type 0} (P Q : A → Type 0) → ((x : A) → P x → Q x) → (xs : List A) → AllByRecursion P xs → AllByRecursion Q xs
-recursion_weaker P Q weaker [] all = tt
-recursion_weaker P Q weaker (x ∷ xs) all = (weaker x all.0, recursion_weaker P Q weaker xs all.1)
-
 pub some_weaker : {A : Type 0} (P Q : A → Type 0) → ((x : A) → P x → Q x) → (o : Option A) → IfSome o P → IfSome o Q
 some_weaker P Q weaker None h = tt
 some_weaker P Q weaker (Some x) h = weaker x h
@@ -89,15 +83,6 @@ module _ {A B : Type 0} (f : A → Option B) where
 
 -- ---- lists in two parts
 
-pub front_get : {A : Type 0} (xs ys : List A) (n : ℕ) → n < length xs → slice_get (xs ++ ys) n ≡ slice_get xs n
-front_get [] ys n h = absurd (omega (arith, h))
-front_get (x ∷ xs) ys zero h = refl
-front_get (x ∷ xs) ys (suc n) h = front_get xs ys n (omega (arith, h))
-
-pub middle_get : {A : Type 0} (xs : List A) (x : A) (ys : List A) → slice_get (xs ++ x ∷ ys) (length xs) ≡ Some x
-middle_get [] x ys = refl
-middle_get (z ∷ xs) x ys = middle_get xs x ys
-
 -- a list that isn't empty has a last item
 pub last_of : {A : Type 0} (x : A) (xs : List A) → (front : List A) × (last : A) × (x ∷ xs ≡ front ++ last ∷ [])
 last_of x [] = ([], x, refl)
@@ -105,23 +90,7 @@ last_of x (y ∷ xs) = let more = last_of y xs in (x ∷ more.0, more.1, ap (λ 
 
 -- ---- what stands in a list
 
-pub mapped_get : {A B : Type 0} (f : A → B) (xs : List A) (n : ℕ) (x : A) → slice_get xs n ≡ Some x → slice_get (map f xs) n ≡ Some (f x)
-mapped_get f xs n x e = slice_get-map f xs n ∙ ap (option_map f) e
-
 -- an item of the mapped list is the image of one
-pub unmapped_get : {A B : Type 0} (f : A → B) (xs : List A) (n : ℕ) (y : B) → slice_get (map f xs) n ≡ Some y → (x : A) × (slice_get xs n ≡ Some x) × (f x ≡ y)
-unmapped_get f [] n y e = absurd cc
-unmapped_get f (x ∷ xs) zero y e = (x, refl, some_is (f x) y e)
-unmapped_get f (x ∷ xs) (suc n) y e = unmapped_get f xs n y e
-
-pub any_at : {A : Type 0} (test : A → Bool) (xs : List A) (n : ℕ) (x : A) → slice_get xs n ≡ Some x → test x ≡ true → list_any test xs ≡ true
-any_at test [] n x e h = absurd cc
-any_at test (y ∷ xs) zero x e h = ap (λ b. b || list_any test xs) (ap test (some_is y x e) ∙ h)
-any_at test (y ∷ xs) (suc n) x e h = ap (λ b. test y || b) (any_at test xs n x e h) ∙ or_true (test y)
-  where
-    or_true : (b : Bool) → (b || true) ≡ true
-    or_true true = refl
-    or_true false = refl
 
 -- no text stands twice
 pub twice : (xs : List Text) → distinct xs ≡ true → (i j : ℕ) (x : Text) → i < j → slice_get xs i ≡ Some x → slice_get xs j ≡ Some x → ⊥

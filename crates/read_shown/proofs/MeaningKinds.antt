@@ -5,13 +5,13 @@ use Rattle.std.proofs.lemmas.List.{append-nil}
 use Rattle.wit_model.specs.Text.{Text, text_eq}
 use Rattle.wit_model.specs.Names.{PackageIdentity, path_in}
 use Rattle.wit_model.specs.Meaning.{PackageMeaning, WorldPackage}
-use Rattle.wit_model.proofs.Lists.{first_true, second_true}
 use Rattle.comp_bytes.proofs.Readers.{when_some}
 use Rattle.comp_meaning.specs.Same.{same_identity}
 use Rattle.comp_meaning.specs.Reads.{Part, Member, Sight, all_agree, are_interfaces, of_instance, package_of_members, sights, stands_at_top, world_of_members}
 use Rattle.read_shown.specs.Parts.{MemberStands}
 use Rattle.read_shown.specs.Kinds.{NamesHaveKinds}
 use Rattle.read_shown.proofs.MemberKinds.{have_kinds}
+use Rattle.base_lemmas.proofs.Bools.{left_of as first_true, right_of as second_true}
 
 pub packages_have_kinds : (members : List Member) (m : PackageMeaning) → AllByRecursion MemberStands members → package_of_members members ≡ Some m → NamesHaveKinds members
 packages_have_kinds [] m stand e = absurd cc

@@ -4,9 +4,7 @@ use Rattle.std.specs.List.{AllByRecursion, Contains, list_all}
 use Rattle.wit_model.specs.Text.{Text}
 use Rattle.wit_model.specs.Names.{PackageIdentity, path_in}
 use Rattle.wit_model.specs.Tree.{Place}
-use Rattle.wit_model.proofs.Elements.{contains-later, none-in, one-contained}
-use Rattle.wit_model.proofs.Lists.{first_true, second_true}
-use Rattle.comp_bytes.proofs.PartLaws.{some_is}
+use Rattle.wit_model.proofs.Elements.{none-in}
 use Rattle.comp_meaning.specs.Follow.{each, Instance, Seen, Shown, Scope, Direction, import_, export_, interface_of, place_of}
 use Rattle.comp_meaning.specs.Rules.{are_imports, distinct, is_interface, is_item, is_world, resources_seen, stand_earlier}
 use Rattle.comp_meaning.specs.Reads.{Part, Member, all_agree, are_interfaces, sights}
@@ -18,10 +16,15 @@ use Rattle.read_shown.specs.Parts.{named_instance, instances_of, WorldStands, Pa
 use Rattle.read_shown.specs.Kinds.{PartHasKinds, MemberHasKinds, NamesHaveKinds}
 use Rattle.read_shown.proofs.Agreement.{names_differ, paths_alike, paths_differ, seen_in_all, seen_in_member, Alike, IsSeenIn, NamesDiffer}
 use Rattle.read_shown.proofs.FoundKinds.{kinds, kinds_are, view_kinds}
-use Rattle.read_shown.proofs.Lists.{at_end, mapped_get, unmapped_get}
+use Rattle.read_shown.proofs.Lists.{at_end}
 use Rattle.read_shown.proofs.OneKind.{before_somewhere, AllStand, IsOfPath}
-use Rattle.read_shown.proofs.Uses.{in_either, path_once}
+use Rattle.read_shown.proofs.Uses.{path_once}
 use Rattle.read_shown.proofs.WorldKinds.{export_is, import_is, met_is, own_kind}
+use Rattle.base_lemmas.proofs.Bools.{left_of as first_true, right_of as second_true}
+use Rattle.base_lemmas.proofs.Elements.{contains-later, last_of as one-contained}
+use Rattle.base_lemmas.proofs.Lists.{get_back as unmapped_get, mapped_get}
+use Rattle.base_lemmas.proofs.Options.{some_is}
+use Rattle.std.proofs.lemmas.List.Elements.{Contains-append_cases as in_either}
 
 -- ---- the views of a world obey the rules on interfaces
 

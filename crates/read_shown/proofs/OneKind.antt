@@ -3,7 +3,6 @@ use Rattle.std.proofs.Common.{◌≡◌, refl, sym, ap, subst, ◌∙◌, ℕ, z
 use Rattle.std.proofs.lemmas.Option.{slice_get_within}
 use Rattle.wit_model.specs.Text.{Text}
 use Rattle.wit_model.specs.Tree.{Place, Tree, Declaration}
-use Rattle.comp_bytes.proofs.PartLaws.{some_is}
 use Rattle.comp_meaning.specs.Follow.{Slot, ShownType, Instance, place_of}
 use Rattle.read_shown.specs.Trees.{AllAt, DeclarationStands}
 use Rattle.read_shown.specs.Views.{named_slot, ShowsName, IsMetInView, inside, outside, ViewStands}
@@ -12,6 +11,7 @@ use Rattle.read_shown.proofs.Agreement.{alike_at, one_number, Alike, NamesDiffer
 use Rattle.read_shown.proofs.Uses.{path_once}
 use Rattle.read_shown.proofs.Views.{shows_wider}
 use Rattle.read_shown.proofs.Lists.{front_same}
+use Rattle.base_lemmas.proofs.Options.{some_is}
 
 abbrev pub slot_kind : Slot → Bool
 slot_kind (Slot.resource place name) = true

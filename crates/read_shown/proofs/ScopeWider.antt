@@ -9,6 +9,7 @@ use Rattle.read_shown.specs.Scopes.{IsShownBefore, IsImported, IsDeclared, a_res
 use Rattle.read_shown.proofs.Lists.{all_weaker, Front}
 use Rattle.read_shown.proofs.Views.{view_wider}
 use Rattle.read_shown.proofs.Wider.{declaration_wider, signature_wider, slot_wider}
+use Rattle.base_lemmas.proofs.Numbers.{same_number}
 
 pub shown_wider : (instances more : List Instance) → Front instances more → (k m : ℕ) → k ≤ m → (place : Place) (name : Text) (b : Bool) → IsShownBefore instances k place name b → IsShownBefore more m place name b
 shown_wider instances more front k m le place name b s = record {
@@ -31,9 +32,6 @@ imported_wider imports more front k m le name d i = record {
   key = i.key;
   shown = i.shown;
 }
-
-same_number : (n : ℕ) → n ≤ n
-same_number n = omega arith
 
 module _ (instances more_instances : List Instance) (imports more_imports : List Seen) (fi : Front instances more_instances) (fm : Front imports more_imports) where
   pub declared_wider : {count : ℕ} {name : Text} {b : Bool} (more : ℕ) → count ≤ more → IsDeclared instances imports count name b → IsDeclared more_instances more_imports more name b

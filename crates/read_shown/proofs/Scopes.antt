@@ -5,13 +5,11 @@ use Rattle.std.proofs.lemmas.Option.{slice_get_within}
 use Rattle.wit_model.specs.Text.{Text, text_eq}
 use Rattle.wit_model.specs.Tree.{Place, Tree, Declaration}
 use Rattle.wit_model.specs.Meaning.{Signature}
-use Rattle.wit_model.proofs.Checks.{get_last}
 use Rattle.comp_bytes.specs.declared.forms.ComponentTypeRef.{ComponentTypeRef}
 use Rattle.comp_bytes.specs.declared.forms.ComponentTypeRef.TheVariants as refs
 use Rattle.comp_bytes.specs.Raw as raw
 use Rattle.comp_bytes.specs.Raw.{Alias, ExternName, Declarations}
 use Rattle.comp_bytes.specs.Reading.{◌>>=◌}
-use Rattle.comp_bytes.proofs.PartLaws.{some_is}
 use Rattle.comp_bytes.proofs.Readers.{bind_some, when_some}
 use Rattle.comp_meaning.specs.Follow.{Slot, View, ShownType, Instance, Seen, Shown, Key, Scope, Direction, import_, export_, component_scope, component_step, component_steps, definition, exported_slot, find_type, flat, function_in, function_signature, in_scope, instance_types, interface_of, is_foreign_name, is_simple, key_of, key_text, named_type, new_scope, place_of, provided, see, see_described, see_function, see_instance, see_type, used_view, when}
 use Rattle.read_shown.specs.Trees.{DeclarationStands, SlotStands}
@@ -22,6 +20,8 @@ use Rattle.read_shown.proofs.Lists.{all_more, in_front, none_at, front_more, fro
 use Rattle.read_shown.proofs.ScopeWider.{exports_wider, imports_wider, instances_wider, met_wider, shown_stands_wider, shown_wider, slots_wider}
 use Rattle.read_shown.proofs.Views.{named_stands, named_type_stands, view_stands, view_wider}
 use Rattle.read_shown.proofs.Wider.{declaration_wider}
+use Rattle.base_lemmas.proofs.Lists.{at_last as get_last}
+use Rattle.base_lemmas.proofs.Options.{some_is}
 
 -- what is met in a scope so far
 abbrev pub Met : Scope → Place → Text → Bool → Type 0

@@ -1,22 +1,19 @@
 -- Each interface that a well-formed view uses was seen before it.
-use Rattle.std.proofs.Common.{◌≡◌, ◌⊎◌, inl, inr, refl, sym, ap, subst, ◌∙◌, ℕ, zero, suc, arith, Bool, true, false, ◌||◌, List, [], ◌∷◌, ◌++◌, flat_map, Option, Some, None, slice_get}
+use Rattle.std.proofs.Common.{◌≡◌, ◌⊎◌, inl, inr, refl, sym, ap, subst, ◌∙◌, ℕ, zero, suc, arith, Bool, true, false, ◌||◌, List, [], ◌∷◌, flat_map, Option, Some, None, slice_get}
 use Rattle.std.specs.List.{Contains, list_any}
 use Rattle.wit_model.specs.Text.{Text, text_eq}
 use Rattle.wit_model.specs.Tree.{Place, Tree, Declaration}
-use Rattle.wit_model.proofs.Elements.{contains-later, none-in, one-contained}
+use Rattle.wit_model.proofs.Elements.{none-in}
 use Rattle.wit_model.proofs.VersionLaws.{text_same}
 use Rattle.comp_meaning.specs.Follow.{ShownType, Instance, place_of}
 use Rattle.comp_meaning.specs.Rules.{used_by, used_by_view}
 use Rattle.read_shown.specs.Trees.{DeclarationStands}
 use Rattle.read_shown.specs.Views.{IsMetInView, inside, outside, ViewStands}
 use Rattle.read_shown.specs.Scopes.{IsInstanceBefore, IsShownBefore}
+use Rattle.base_lemmas.proofs.Elements.{contains-later, last_of as one-contained}
+use Rattle.std.proofs.lemmas.List.Elements.{Contains-append_cases as in_either}
 
 -- ---- what stands in lists
-
-pub in_either : {A : Type 0} (xs ys : List A) (x : A) → Contains (xs ++ ys) x → Contains xs x ⊎ Contains ys x
-in_either [] ys x c = inr c
-in_either (y ∷ xs) ys x (zero, l, e) = inl (0, omega arith, e)
-in_either (y ∷ xs) ys x (suc k, l, e) = elim (in_either xs ys x (k, omega (arith, l), e)) [ inl h ↦ inl (contains-later y xs x h) | inr h ↦ inr h ]
 
 -- what is of one of the lists
 in_flat : {A B : Type 0} (f : A → List B) (xs : List A) (y : B) → Contains (flat_map f xs) y → (n : ℕ) × (x : A) × (slice_get xs n ≡ Some x) × Contains (f x) y

@@ -4,13 +4,10 @@ use Rattle.wit_model.specs.Text.{Text}
 use Rattle.wit_model.specs.Tree as tree
 use Rattle.wit_model.specs.Tree.{Place, Tree}
 use Rattle.wit_model.specs.Meaning.{Signature, FunctionMeaning}
-use Rattle.wit_model.proofs.Checks.{get_last}
-use Rattle.wit_model.proofs.Lists.{second_true}
 use Rattle.comp_bytes.specs.declared.forms.ComponentTypeRef.{ComponentTypeRef}
 use Rattle.comp_bytes.specs.declared.forms.ComponentTypeRef.TheVariants as refs
 use Rattle.comp_bytes.specs.Raw.{Alias, ExternName, Declaration}
 use Rattle.comp_bytes.specs.Reading.{◌>>=◌}
-use Rattle.comp_bytes.proofs.PartLaws.{some_is}
 use Rattle.comp_bytes.proofs.Readers.{bind_some, when_some}
 use Rattle.comp_meaning.specs.Follow.{Slot, View, ShownType, InstanceScope, declared_by, definition, function_in, function_signature, in_instance, instance_step, instance_steps, instance_view, is_foreign_name, is_simple, named_like, named_type, new_instance, provided, show, show_function, show_type}
 use Rattle.read_shown.specs.Trees.{AllAt, DeclarationStands, SignatureStands, SlotStands}
@@ -18,6 +15,9 @@ use Rattle.read_shown.specs.Views.{named_slot, ShowsName, IsMetInView, inside, o
 use Rattle.read_shown.proofs.Definitions.{definition_stands, function_stands, signature_stands}
 use Rattle.read_shown.proofs.Lists.{all_more, all_weaker, none_at, Front, front_more, front_same}
 use Rattle.read_shown.proofs.Wider.{declaration_wider, signature_wider, slot_wider}
+use Rattle.base_lemmas.proofs.Bools.{right_of as second_true}
+use Rattle.base_lemmas.proofs.Lists.{at_last as get_last}
+use Rattle.base_lemmas.proofs.Options.{some_is}
 
 -- ---- named types
 

@@ -4,15 +4,16 @@ use Rattle.std.proofs.lemmas.Option.{slice_get_within}
 use Rattle.wit_model.specs.Text.{Text, text_eq}
 use Rattle.wit_model.specs.Tree.{Place, Tree, Declaration}
 use Rattle.wit_model.proofs.VersionLaws.{same_text, text_same}
-use Rattle.comp_bytes.proofs.PartLaws.{some_is}
 use Rattle.comp_meaning.specs.Follow.{Instance, Seen, Shown}
 use Rattle.comp_meaning.specs.Rules.{distinct}
 use Rattle.read_shown.specs.Trees.{AllAt, DeclarationStands}
 use Rattle.read_shown.specs.Scopes.{is_name, is_type, IsShownBefore, IsImported, IsDeclared, a_resource, a_value, own_name, name_of_instance, IsMetInScope, by_import, by_instance, ShownStands}
 use Rattle.read_shown.specs.Kinds.{kind_at, OfKind, ShownHasKind}
-use Rattle.read_shown.proofs.Lists.{mapped_get, one_place}
+use Rattle.read_shown.proofs.Lists.{one_place}
 use Rattle.read_shown.proofs.Scopes.{declared_last}
 use Rattle.read_shown.proofs.Wider.{declaration_wider, signature_wider}
+use Rattle.base_lemmas.proofs.Lists.{mapped_get}
+use Rattle.base_lemmas.proofs.Options.{some_is}
 
 declared_is : (d e : Declaration) → Shown.declares d ≡ Shown.declares e → d ≡ e
 declared_is d e h = cc

@@ -1,33 +1,26 @@
 -- Where no type has a name, each can be encoded by an encoder of interfaces that hasn't been used.
-use Rattle.std.proofs.Common.{◌≡◌, refl, subst, ap, ◌∙◌, ℕ, zero, suc, ◌<◌, Bool, true, List, [], ◌∷◌, length, slice_get, Option, None, Some, unwrap_or, is_some}
+use Rattle.std.proofs.Common.{◌≡◌, refl, subst, ap, ◌∙◌, ℕ, ◌<◌, true, [], ◌∷◌, length, Option, None, Some, unwrap_or, is_some}
 use Rattle.std.specs.List.{list_all}
 use Rattle.std.specs.Prelude.{is_none}
 use Rattle.wit_model.specs.Types.{number_of}
-use Rattle.wit_model.specs.Lookup.{type_at}
 use Rattle.wit_model.specs.Valid.{IsValid}
 use Rattle.wit_model.specs.declared.model.Resolve.{Resolve}
 use Rattle.wit_model.specs.declared.model.TypeDef.{TypeDef}
 use Rattle.wit_model.specs.declared.model.TypeId.{TypeId}
 use Rattle.wit_model.specs.declared.model.TypeOwner.TheVariants as owner
 use Rattle.wit_model.specs.declared.model.«Type».TheVariants as ty
-use Rattle.wit_model.proofs.Elements.{one-contained}
-use Rattle.wit_model.proofs.Lists.{first_true, second_true}
 use Rattle.encode_types.specs.Plan.{AllInRange}
-use Rattle.encode_types.specs.Scope.{Scope}
 use Rattle.encode_types.specs.View.{Agrees}
 use Rattle.wit_encode.specs.OwnerScope.{IsScopeOf, NamesStand}
 use Rattle.wit_encode.proofs.OwnerScope.{names_encode, table_is_scope}
 use Rattle.wit_interfaces.specs.InterfaceEncoders.{InterfaceEncoder, interface_encoder_view}
 use Rattle.refused_growths.specs.Asked.{CanBeAsked}
+use Rattle.base_lemmas.proofs.Elements.{all_get as at-index, last_of as one-contained}
 
 abbrev AreUnnamed : Resolve → Type 0
 AreUnnamed r = list_all (λ (def : TypeDef). is_none def.name) r.types.items ≡ true
 
 -- what each of a list does, the one at an index does
-at-index : {X : Type 0} (p : X → Bool) (xs : List X) (n : ℕ) (x : X) → list_all p xs ≡ true → slice_get xs n ≡ Some x → p x ≡ true
-at-index p [] n x h e = let wrong : ⊥ = cc in absurd wrong
-at-index p (y ∷ ys) zero x h e = let same : y ≡ x = cc in subst (λ z. p z ≡ true) same (first_true (p y) (list_all p ys) h)
-at-index p (y ∷ ys) (suc n) x h e = at-index p ys n x (second_true (p y) (list_all p ys) h) e
 
 -- what has a name isn't without one
 no-name : {X : Type 0} (o : Option X) → is_none o ≡ true → is_some o ≡ true → ⊥

@@ -1,13 +1,12 @@
 -- Where there is no documentation and no known stability on either side, there is none in what is merged.
-use Rattle.std.proofs.Common.{◌≡◌, refl, sym, ap, ◌∙◌, ◌⊎◌, inl, inr, arith, ℕ, zero, suc, ◌<◌, ◌≤◌, Bool, true, false, ◌&&◌, List, [], ◌∷◌, ◌++◌, length, map, Option, Some, None, is_none, slice_get, slice_set, String, Contains}
+use Rattle.std.proofs.Common.{◌≡◌, refl, sym, ap, ◌∙◌, inl, inr, arith, ℕ, zero, suc, ◌≤◌, Bool, true, false, ◌&&◌, List, [], ◌∷◌, ◌++◌, length, map, Option, Some, None, is_none, slice_get, slice_set, String, Contains}
 use Rattle.std.specs.List.{filter, list_all, AllZip, IsDistinct}
 use Rattle.std.specs.Map.{keys_of}
 use Rattle.std.specs.String.{string_eq}
 use Rattle.std.specs.declared.alloc.Global.{Global}
-use Rattle.std.proofs.lemmas.Bool.{cases_order}
+use Rattle.std.proofs.lemmas.Bool.{and_from as both, cases_lt as either}
 use Rattle.std.proofs.lemmas.List.{map-append}
-use Rattle.std.proofs.lemmas.List.Folds.{list_all-append}
-use Rattle.std.proofs.lemmas.Option.{slice_get_within}
+use Rattle.std.proofs.lemmas.Option.{slice_get_within, same_Some as same-some}
 use Rattle.indexmap.specs.IndexMap.{values, IsUnique}
 use Rattle.wit_model.specs.declared.model.Docs.{Docs}
 use Rattle.wit_model.specs.declared.model.Function.{Function}
@@ -27,15 +26,13 @@ use Rattle.wit_model.specs.declared.model.WorldKey.{WorldKey}
 use Rattle.wit_model.specs.Lookup.{type_at, world_at}
 use Rattle.wit_model.specs.Text.{Text, optional_text}
 use Rattle.wit_model.specs.Valid.{key_eq, IsValid}
-use Rattle.wit_model.proofs.Elements.{all-contained, both, contains-get, contains-later, contains-map, get-contains, same-some}
-use Rattle.wit_model.proofs.Lists.{first_true, second_true}
+use Rattle.wit_model.proofs.Elements.{contains-get}
 use Rattle.plan_meaning.specs.Built.{is_bare, is_bare_function, is_bare_interface, is_bare_item, is_bare_kind, is_bare_type, is_bare_world, is_undocumented, is_unknown, IsBare}
 use Rattle.bind_add.specs.Growth.{HasGainedItems, IsAdded}
 use Rattle.bind_add.specs.declared.added.Added.{Added}
 use Rattle.bind_copy.specs.Copies.{become_one, is_new_under, member_docs, IsEntryUnder, IsFunctionUnder, IsInterfaceUnder, IsItemUnder}
 use Rattle.bind_copy.specs.Copies.{IsFunctionEntry as IsFunctionEntryUnder}
 use Rattle.bind_match.specs.declared.matches.Matches.{Matches}
-use Rattle.bind_meaning.proofs.Listed.{from-filter}
 use Rattle.bind_union.specs.Carried.{stability_view}
 use Rattle.bind_union.proofs.Lists.{no_true}
 use Rattle.bind_carry.specs.MatchedSame.{AreMatchedAt, NoneOfPath}
@@ -44,11 +41,12 @@ use Rattle.bind_carry.specs.TooLong.{CarriedThings}
 use Rattle.bind_carry.specs.Union.{IsUnionOf}
 use Rattle.bind_carry.specs.Which.{AreMatchedAll}
 use Rattle.bind_carry.specs.Whole.{kept, IsInterfaceCarried, IsWorldCarried}
-use Rattle.bind_carry.proofs.FirstPackages.{front_at}
 use Rattle.bind_carry.proofs.KeysGained.{by_path_apart, exports_apart, exports_behind, imports_apart, imports_behind}
 use Rattle.wit_bind.specs.Brings.{type_notes, Notes}
 use Rattle.wit_bind.specs.Extends.{Extends}
-use Rattle.wit_bind.proofs.Refusals.{element_at}
+use Rattle.base_lemmas.proofs.Bools.{left_of as first_true, right_of as second_true}
+use Rattle.base_lemmas.proofs.Elements.{all-contained, all_by_number as all_by, all_get as at_all, contains-later, contains-map, filter_kept as from-filter, joined_well as joined_all}
+use Rattle.base_lemmas.proofs.Lists.{front_at, within_there as element_at}
 
 -- ---- documentation and stability
 
@@ -75,34 +73,10 @@ zip_all R q [] (y ∷ ys) f zip = absurd zip
 zip_all R q (x ∷ xs) [] f zip = refl
 zip_all R q (x ∷ xs) (y ∷ ys) f zip = both (q y) (list_all q ys) (f x y (0, omega arith, refl) zip.0) (zip_all R q xs ys (λ a b c r. f a b (contains-later x xs a c) r) zip.1)
 
-joined_all : {X : Type 0} (p : X → Bool) (xs ys : List X) → list_all p xs ≡ true → list_all p ys ≡ true → list_all p (xs ++ ys) ≡ true
-joined_all p xs ys h k = list_all-append p xs ys ∙ both (list_all p xs) (list_all p ys) h k
-
 set_all : {X : Type 0} (p : X → Bool) (xs : List X) (n : ℕ) (x : X) → list_all p xs ≡ true → p x ≡ true → list_all p (slice_set xs n x) ≡ true
 set_all p [] n x h k = refl
 set_all p (y ∷ ys) zero x h k = both (p x) (list_all p ys) k (second_true (p y) (list_all p ys) h)
 set_all p (y ∷ ys) (suc n) x h k = both (p y) (list_all p (slice_set ys n x)) (first_true (p y) (list_all p ys) h) (set_all p ys n x (second_true (p y) (list_all p ys) h) k)
-
-all_by : {X : Type 0} (p : X → Bool) (xs : List X) → ((n : ℕ) (x : X) → slice_get xs n ≡ Some x → p x ≡ true) → list_all p xs ≡ true
-all_by p [] f = refl
-all_by p (x ∷ xs) f = both (p x) (list_all p xs) (f zero x refl) (all_by p xs (λ n y at. f (suc n) y at))
-
-either : (n k : ℕ) → (n < k) ⊎ (k ≤ n)
-either n k = elim (cases_order n k) [
-  | inl same ↦ inr (omega (arith, same))
-  | inr other ↦ elim other [
-    | inl less ↦ inl less
-    | inr more ↦ inr (omega (arith, more))
-  ]
-]
-
-at_front : {X : Type 0} (xs ys : List X) (n : ℕ) (x : X) → slice_get xs n ≡ Some x → slice_get (xs ++ ys) n ≡ Some x
-at_front [] ys n x e = let wrong : ⊥ = cc in absurd wrong
-at_front (z ∷ zs) ys zero x e = e
-at_front (z ∷ zs) ys (suc n) x e = at_front zs ys n x e
-
-at_all : {X : Type 0} (p : X → Bool) (xs : List X) (n : ℕ) (x : X) → list_all p xs ≡ true → slice_get xs n ≡ Some x → p x ≡ true
-at_all p xs n x h e = all-contained p xs x h (get-contains xs n x e)
 
 kept_from : {X : Type 0} (flags : List Bool) (xs : List X) (x : X) → Contains (kept flags xs) x → Contains xs x
 kept_from [] xs x h = let k = contains-get [] x h in let wrong : ⊥ = cc in absurd wrong

@@ -15,7 +15,6 @@ use Rattle.wit_model.specs.Lookup.{identity_of, interface_at, package_at, path_o
 use Rattle.wit_model.specs.Meant.{interface_meaning, world_meaning}
 use Rattle.wit_model.specs.Text.{Text, text_eq, text_of}
 use Rattle.wit_model.specs.Valid.{IsValid}
-use Rattle.wit_model.proofs.Lists.{first_true, second_true}
 use Rattle.wit_model.proofs.OnePath.{package-name}
 use Rattle.wit_model.proofs.VersionLaws.{same_name, same_text}
 use Rattle.bind_clash.specs.Faults.{IsMatched}
@@ -35,10 +34,12 @@ use Rattle.bind_carry.specs.TooLong.{CarriedThings}
 use Rattle.bind_carry.specs.Which.{AreMatchedAll, IsNumbered}
 use Rattle.bind_carry.proofs.CountedCopies.{world_flag}
 use Rattle.bind_carry.proofs.FirstCarried.{chosen_so}
-use Rattle.bind_carry.proofs.FirstPackages.{found_own, mapped_at}
+use Rattle.bind_carry.proofs.FirstPackages.{found_own}
 use Rattle.bind_carry.proofs.Ranges.{is_in_range}
-use Rattle.bind_carry.proofs.SecondKnown.{any_at}
 use Rattle.wit_bind.specs.Merges.{is_new_interface, is_new_package, is_new_world, is_one_of}
+use Rattle.base_lemmas.proofs.Bools.{left_of as first_true, right_of as second_true}
+use Rattle.base_lemmas.proofs.Lists.{mapped_get as mapped_at}
+use Rattle.std.proofs.lemmas.Map.Keys.{any_passes_from_place as any_at}
 
 -- ---- what stands under a path
 

@@ -7,7 +7,7 @@ use Rattle.std.specs.Option.{option_map_or}
 use Rattle.std.proofs.lemmas.List.{length-map}
 use Rattle.std.proofs.lemmas.List.Elements.{Contains-append_right}
 use Rattle.std.proofs.lemmas.Map.Made.{IsDistinct-keys_filter}
-use Rattle.std.proofs.lemmas.Option.{slice_get-map, slice_get_within}
+use Rattle.std.proofs.lemmas.Option.{slice_get-map, slice_get_within, same_Some as same-some}
 use Rattle.wit_model.specs.declared.model.Interface.{Interface}
 use Rattle.wit_model.specs.declared.model.InterfaceId.{InterfaceId}
 use Rattle.wit_model.specs.declared.model.Package.{Package}
@@ -23,8 +23,8 @@ use Rattle.wit_model.specs.Lookup.{identity_of, interface_at, interface_path, ke
 use Rattle.wit_model.specs.Names.{path_in}
 use Rattle.wit_model.specs.Text.{Text, optional_text, text_eq, text_of}
 use Rattle.wit_model.specs.Valid.{IsValid}
-use Rattle.wit_model.proofs.Elements.{contains-get, get-contains, same-some}
-use Rattle.wit_model.proofs.OnePath.{named-path, some-of}
+use Rattle.wit_model.proofs.Elements.{contains-get}
+use Rattle.wit_model.proofs.OnePath.{named-path}
 use Rattle.wit_model.proofs.VersionLaws.{same_text}
 use Rattle.bind_clash.proofs.PathsMatched.{world-path-of, IsPathOf}
 use Rattle.bind_copy.specs.Copies.{become_one, is_new_under, number_under, IsEntryUnder, IsInterfaceUnder, IsTypeUnder}
@@ -52,12 +52,14 @@ use Rattle.bind_carry.proofs.NothingElse.{type_from}
 use Rattle.bind_carry.proofs.SecondCarried.{second_is_copied}
 use Rattle.bind_carry.proofs.SecondInterfaces.{carried_number, inline_at, inline_place}
 use Rattle.bind_carry.proofs.SecondJoined as second_joined
-use Rattle.bind_carry.proofs.SecondKnown.{any_at}
 use Rattle.bind_carry.proofs.UnionKeys.{carried_path}
 use Rattle.bind_carry.proofs.WorldEntries.{export_keyed, import_keyed}
 use Rattle.wit_bind.specs.Brings.{entry_notes, interface_notes, key_texts, type_notes, type_notes_at, world_notes, BringsEntries}
 use Rattle.wit_bind.specs.Merges.{is_one_of}
 use Rattle.wit_bind.proofs.Notes.{entries_noted, interface_noted, met_or_noted, IsMetOrNoted}
+use Rattle.base_lemmas.proofs.Elements.{get-contains}
+use Rattle.base_lemmas.proofs.Options.{there as some-of}
+use Rattle.std.proofs.lemmas.Map.Keys.{any_passes_from_place as any_at}
 
 type_noted : (numbers : List ℕ) (home : TypeOwner) (old new : TypeDef) → IsTypeUnder numbers home old new → type_notes new ≡ type_notes old
 type_noted numbers home old new is = λ i. record { docs = is.docs i; stability = is.stability i; external_id = is.external_id i; of_members = is.of_members i }

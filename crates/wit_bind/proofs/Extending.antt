@@ -1,5 +1,5 @@
 -- What is added under new keys comes behind what was there.
-use Rattle.std.proofs.Common.{◌≡◌, refl, sym, ap, ◌∙◌, ◌⊎◌, inl, inr, arith, ℕ, zero, suc, ◌<◌, length, List, [], ◌∷◌, ◌++◌, Some, slice_get, slice_set}
+use Rattle.std.proofs.Common.{◌≡◌, refl, sym, ap, ◌∙◌, ◌⊎◌, inl, inr, arith, ℕ, zero, suc, ◌<◌, List, [], ◌∷◌, Some, slice_get, slice_set}
 use Rattle.std.specs.Prelude.{◌≢◌}
 use Rattle.std.proofs.lemmas.Bool.{cases_order}
 use Rattle.std.proofs.lemmas.List.{append-nil}
@@ -7,7 +7,6 @@ use Rattle.wit_model.specs.declared.model.Package.{Package}
 use Rattle.wit_model.specs.declared.model.Resolve.{Resolve}
 use Rattle.wit_model.specs.declared.model.World.{World}
 use Rattle.wit_model.specs.Lookup.{package_at, world_at}
-use Rattle.wit_model.proofs.Elements.{same-some}
 use Rattle.bind_add.specs.Growth as growth
 use Rattle.bind_add.specs.declared.added.Added.{Added}
 use Rattle.bind_add.specs.declared.added.Names.{Names}
@@ -15,28 +14,17 @@ use Rattle.wit_bind.specs.declared.bindgen.Bindgen.{Bindgen}
 use Rattle.wit_bind.specs.declared.metadata.ModuleMetadata.{ModuleMetadata}
 use Rattle.bind_carry.specs.Apart.{IsApart}
 use Rattle.wit_bind.specs.Apart.{GrownExtend}
-use Rattle.wit_bind.specs.Extends.{Extends, IsGrownPackage, IsGrownWorld}
+use Rattle.wit_bind.specs.Extends.{IsGrownPackage, IsGrownWorld}
 use Rattle.wit_bind.specs.Merges.{IsGrownBy}
-use Rattle.wit_bind.proofs.Refusals.{element_at}
+use Rattle.base_lemmas.proofs.Lists.{front_at as front, set_there as put-elsewhere, within_there as element_at}
+use Rattle.std.proofs.lemmas.Option.{same_Some as same-some}
 
 -- ---- lists
-
-front : {X : Type 0} (xs ys : List X) (n : ℕ) (x : X) → slice_get xs n ≡ Some x → slice_get (xs ++ ys) n ≡ Some x
-front [] ys n x e = let wrong : ⊥ = cc in absurd wrong
-front (z ∷ xs) ys zero x e = e
-front (z ∷ xs) ys (suc n) x e = front xs ys n x e
 
 put-there : {X : Type 0} (xs : List X) (n : ℕ) (w x : X) → slice_get xs n ≡ Some w → slice_get (slice_set xs n x) n ≡ Some x
 put-there [] n w x e = let wrong : ⊥ = cc in absurd wrong
 put-there (z ∷ xs) zero w x e = refl
 put-there (z ∷ xs) (suc n) w x e = put-there xs n w x e
-
-put-elsewhere : {X : Type 0} (xs : List X) (k n : ℕ) (x : X) → n ≢ k → slice_get (slice_set xs k x) n ≡ slice_get xs n
-put-elsewhere [] k n x ne = refl
-put-elsewhere (z ∷ xs) zero zero x ne = absurd (ne refl)
-put-elsewhere (z ∷ xs) zero (suc n) x ne = refl
-put-elsewhere (z ∷ xs) (suc k) zero x ne = refl
-put-elsewhere (z ∷ xs) (suc k) (suc n) x ne = put-elsewhere xs k n x (λ same. ne (ap suc same))
 
 -- ---- packages
 

@@ -13,7 +13,7 @@ use Rattle.wit_model.specs.declared.model.WorldKey.TheVariants as key
 use Rattle.wit_model.specs.Text.{Text, text_cmp, text_of}
 use Rattle.wit_model.specs.Lookup.{interface_at}
 use Rattle.wit_model.specs.Uses.{item_interface}
-use Rattle.wit_model.proofs.Elements.{contains-one, one-contained, same-some, none-in, contains-flat, contains-filter_map}
+use Rattle.wit_model.proofs.Elements.{none-in, contains-flat, contains-filter_map}
 use Rattle.wit_bind.specs.Keys.{text_under, function_key}
 use Rattle.wit_bind.specs.Encodings.{Encodings, encoding_at}
 use Rattle.bind_meaning.proofs.Listed.{from-flat, from-given}
@@ -22,6 +22,8 @@ use Rattle.wit_bind.specs.KeyLists.{Choice, Entry, entries_of_item, entries_of_i
 use Rattle.wit_bind.specs.OldKeys.{IsFunctionOf, itself, member, CarriesOver}
 use Rattle.wit_bind.specs.Keys.{unversioned_key}
 use Rattle.wit_bind.proofs.Putting.{comes, holds}
+use Rattle.base_lemmas.proofs.Elements.{contains-one, last_of as one-contained}
+use Rattle.std.proofs.lemmas.Option.{same_Some as same-some}
 
 -- ---- the entries of functions
 

@@ -13,7 +13,7 @@ use Rattle.wit_model.specs.contracts.model.WorldKeyPartialEq.TheImpl as world_ke
 use Rattle.wit_bind.specs.declared.bindgen.Bindgen.{Bindgen}
 use Rattle.wit_bind.specs.Bindings.{IsBindgen}
 use Rattle.wit_bind.specs.Merges.{IsPlanOf}
-use Rattle.wit_bind.proofs.Refusals.{element_at}
+use Rattle.base_lemmas.proofs.Lists.{within_there as element_at}
 
 pub plan_addable : (own other : Bindgen) → IsBindgen own → IsBindgen other → (added : Added) (keys : List WorldKey) → IsPlanOf own other added keys → IsAddable own.resolve own.world.0 added
 plan_addable own other o t added keys p =
@@ -40,10 +40,6 @@ addable_with_room world added old between same h = record {
 pub on_err : {A E P : Type 0} → P → (r : Result A E) → OnErr r P
 on_err p (Ok x) = tt
 on_err p (Err e) = p
-
-pub on_ok : {A E P : Type 0} → P → (r : Result A E) → OnOk r P
-on_ok p (Ok x) = p
-on_ok p (Err e) = tt
 
 -- what follows of an answer at `Ok`, whatever it is
 pub so_ok : {X E : Type 0} (P : X → Type 0) (Q : Type 0) → ((x : X) → P x → Q) → (r : Result X E) → IfOk r P → OnOk r Q

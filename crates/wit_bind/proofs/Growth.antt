@@ -19,8 +19,8 @@ use Rattle.bind_carry.proofs.Ready.{bound_long, fates_long, numbers_count}
 use Rattle.wit_bind.specs.declared.bindgen.Bindgen.{Bindgen}
 use Rattle.wit_bind.specs.Bindings.{IsBindgen}
 use Rattle.wit_bind.specs.Merges.{inline_of, interfaces_to_come, packages_to_come, types_to_come, worlds_to_come, GrowsWithin, IsGrownBy, IsPlanOf}
-use Rattle.wit_bind.proofs.Refusals.{element_at}
 use Rattle.wit_bind.proofs.TooMany.{carried-few, gained-types-few, inline-few, packages-few, types-few, worlds-few}
+use Rattle.base_lemmas.proofs.Lists.{within_there as element_at}
 
 -- a list with more behind it, or with its elements changed and more behind it, is longer by that
 longer : {X : Type 0} (old between more new : List X) (n : ℕ) → length between ≡ length old → new ≡ between ++ more → length more ≤ n → length new ≤ length old + n

@@ -1,5 +1,5 @@
 -- Where nothing clashes, what is matched has one path and one sense.
-use Rattle.std.proofs.Common.{◌≡◌, refl, sym, ap, subst, ◌∙◌, arith, ℕ, ◌<◌, length, Bool, true, false, zero, suc, List, [], ◌∷◌, map, unwrap_or, Option, Some, None, is_none, option_and_then, option_map, slice_get, String}
+use Rattle.std.proofs.Common.{◌≡◌, refl, sym, ap, ◌∙◌, ℕ, length, Bool, true, false, List, map, unwrap_or, Option, Some, None, is_none, option_and_then, option_map, slice_get, String}
 use mathlib.Core.Bool.{true≢false}
 use Rattle.std.specs.Prelude.{is_some}
 use Rattle.std.specs.Option.{option_map_or}
@@ -14,14 +14,12 @@ use Rattle.wit_model.specs.declared.model.PackageId.{PackageId}
 use Rattle.wit_model.specs.declared.model.Resolve.{Resolve}
 use Rattle.wit_model.specs.Text.{Text, optional_text, text_of}
 use Rattle.wit_model.specs.Lookup.{identity_of, interface_at, interface_path, package_at, path_of_interface}
-use Rattle.wit_model.specs.Meaning.{InterfaceMeaning, interface_sense}
+use Rattle.wit_model.specs.Meaning.{interface_sense}
 use Rattle.wit_model.specs.Meant.{interface_meaning, interface_meaning_at, no_interface}
-use Rattle.wit_model.specs.Names.{PackageIdentity}
 use Rattle.wit_model.specs.Rules.{same_package_name}
 use Rattle.wit_model.specs.Rules as rules
-use Rattle.wit_model.proofs.Elements.{same-some}
 use Rattle.wit_model.proofs.NameLaws.{one_path}
-use Rattle.wit_model.proofs.OnePath.{has-path, named-path, package-name, package-once, path-label, some-of}
+use Rattle.wit_model.proofs.OnePath.{has-path, named-path, package-name, package-once, path-label}
 use Rattle.wit_model.proofs.VersionLaws.{same_name}
 use Rattle.bind_match.specs.declared.matches.Matches.{Matches}
 use Rattle.bind_match.specs.Matching.{given, home_in, interface_in, own_interface_of, own_package_of, own_world_of}
@@ -33,8 +31,8 @@ use Rattle.bind_clash.proofs.PathsMatched.{own-interface-has, own-interface-ther
 use Rattle.bind_copy.specs.Copies.{number_under}
 use Rattle.bind_carry.specs.First.{flag_under}
 use Rattle.bind_carry.specs.Listed.{given_interface}
-use Rattle.bind_carry.specs.MatchedSame.{AreMatchedAt, IsMatchedAt, NoneOfPath}
-use Rattle.bind_carry.specs.Numbers.{numbers_of, package_number}
+use Rattle.bind_carry.specs.MatchedSame.{AreMatchedAt, NoneOfPath}
+use Rattle.bind_carry.specs.Numbers.{package_number}
 use Rattle.bind_carry.specs.Renumbered.{is_matched}
 use Rattle.bind_add.specs.declared.added.Added.{Added}
 use Rattle.bind_carry.specs.Union.{IsUnionOf}
@@ -42,10 +40,13 @@ use Rattle.bind_carry.specs.Which.{AreMatchedAll}
 use Rattle.wit_model.specs.declared.model.World.{World}
 use Rattle.wit_model.specs.declared.model.WorldKey.{WorldKey}
 use Rattle.bind_carry.proofs.FirstMatched.{uncopied_under}
-use Rattle.bind_carry.proofs.FirstPackages.{found_number, found_own, mapped_at, within_list}
+use Rattle.bind_carry.proofs.FirstPackages.{found_number, found_own}
 use Rattle.wit_bind.specs.declared.bindgen.Bindgen.{Bindgen}
 use Rattle.wit_bind.specs.Bindings.{binding_of, IsBindgen}
 use Rattle.wit_bind.specs.MergedLaws.{MatchesHavePaths}
+use Rattle.base_lemmas.proofs.Lists.{get_back as unmapped, mapped_get as mapped_at}
+use Rattle.base_lemmas.proofs.Options.{there as some-of}
+use Rattle.std.proofs.lemmas.Option.{same_Some as same-some}
 
 -- where both are known, they agree
 pub agreed : {X S : Type 0} (sense : X → S) (o p : Option X) (x y : X) → Agree sense o p → o ≡ Some x → p ≡ Some y → sense x ≡ sense y
@@ -54,10 +55,6 @@ agreed sense (Some a) None x y h e f = let wrong : ⊥ = cc in absurd wrong
 agreed sense (Some a) (Some b) x y h e f = ap sense (sym (same-some a x e)) ∙ (h ∙ ap sense (same-some b y f))
 
 -- what a map gives under a number comes of what stood there
-unmapped : {X Y : Type 0} (f : X → Y) (xs : List X) (n : ℕ) (y : Y) → slice_get (map f xs) n ≡ Some y → (x : X) × (slice_get xs n ≡ Some x) × (f x ≡ y)
-unmapped f [] n y e = let wrong : ⊥ = cc in absurd wrong
-unmapped f (x ∷ xs) zero y e = (x, refl, same-some (f x) y e)
-unmapped f (x ∷ xs) (suc n) y e = unmapped f xs n y e
 
 given-there : {X : Type 0} (o : Option (Option X)) (x : X) (g : Option (Option X) → Option X) → ((z : Option X) → g (Some z) ≡ z) → g None ≡ None → g o ≡ Some x → o ≡ Some (Some x)
 given-there None x g at none e = let no : None ≡ Some x = sym none ∙ e in let wrong : ⊥ = cc in absurd wrong

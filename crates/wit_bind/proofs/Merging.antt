@@ -13,7 +13,7 @@ use Rattle.wit_model.specs.declared.model.WorldKey.{WorldKey}
 use Rattle.wit_model.specs.Lookup.{identity_of, interface_path, key_text, path_in_package, path_of_interface, world_at}
 use Rattle.wit_model.specs.Names.{path_in}
 use Rattle.wit_model.specs.Text.{Text, text_of}
-use Rattle.wit_model.proofs.Elements.{contains-get, same-some}
+use Rattle.wit_model.proofs.Elements.{contains-get}
 use Rattle.wit_model.proofs.OnePath.{has-path}
 use Rattle.plan_meaning.specs.Built.{IsBare}
 use Rattle.bind_add.specs.declared.added.Added.{Added}
@@ -27,7 +27,6 @@ use Rattle.bind_carry.specs.Renumbered.{first_of}
 use Rattle.bind_carry.specs.SecondPass.{is_left_out, second_pass_of, IsSecondPass}
 use Rattle.bind_carry.specs.Union.{IsUnionOf}
 use Rattle.bind_carry.specs.Which.{AreMatchedAll}
-use Rattle.bind_carry.proofs.FirstPackages.{front_at}
 use Rattle.bind_carry.proofs.FirstOfUnion.{unions_have_the_second}
 use Rattle.bind_carry.proofs.KeysGained.{by_path_apart}
 use Rattle.bind_carry.proofs.NamesMerged.{names_are_merged}
@@ -52,8 +51,9 @@ use Rattle.wit_bind.proofs.Brought.{bound_brought, interface_brought, package_br
 use Rattle.wit_bind.proofs.Extending.{grown_extend}
 use Rattle.wit_bind.proofs.MatchedPaths.{matches_have_paths}
 use Rattle.wit_bind.proofs.NumbersAgree.{united_agree_by_numbers}
-use Rattle.wit_bind.proofs.Refusals.{element_at}
 use Rattle.wit_bind.proofs.UnionBound.{united_are_the_union}
+use Rattle.base_lemmas.proofs.Lists.{front_at, within_there as element_at}
+use Rattle.std.proofs.lemmas.Option.{same_Some as same-some}
 
 module _ (own other new : Bindgen) (o : IsBindgen own) (t : IsBindgen other) (can : CanUnite (binding_of own) (binding_of other)) (added : Added) (keys : List WorldKey) (p : IsPlanOf own other added keys) (g : IsGrownBy added other.metadata own new) where
   abbrev r : Resolve

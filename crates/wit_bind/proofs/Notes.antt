@@ -16,8 +16,7 @@ use Rattle.wit_model.specs.declared.model.WorldKey.TheVariants as key
 use Rattle.wit_model.specs.Lookup.{interface_at, interface_path, key_text}
 use Rattle.wit_model.specs.Text.{Text, optional_text, text_of}
 use Rattle.wit_model.specs.Valid.{IsValid}
-use Rattle.wit_model.proofs.Elements.{both, contains-get, contains-later, same-number, same-some}
-use Rattle.wit_model.proofs.Lists.{first_true, second_true}
+use Rattle.wit_model.proofs.Elements.{contains-get}
 use Rattle.wit_model.proofs.VersionLaws.{same_text}
 use Rattle.bind_copy.specs.Copies.{is_new_under, number_under, IsEntryUnder, IsFunctionUnder, IsInterfaceUnder, IsItemUnder}
 use Rattle.bind_copy.specs.Copies.{IsFunctionEntry as IsFunctionEntryUnder}
@@ -25,16 +24,16 @@ use Rattle.bind_union.specs.Carried.{EntryBecomes, IsCarried, IsInterface, IsInt
 use Rattle.bind_union.specs.Joined.{same_key, none, met, added, Joined}
 use Rattle.bind_carry.specs.ReadyItems.{IsKeyReady}
 use Rattle.bind_carry.proofs.JoinedItems.{new_same}
-use Rattle.bind_carry.proofs.SecondKnown.{any_at}
 use Rattle.bind_carry.proofs.UnionKeys.{carried_path}
 use Rattle.wit_bind.specs.Brings.{entry_notes, function_notes, inline_notes, interface_notes, item_notes, type_notes_at, InterfaceNotes, Notes}
+use Rattle.base_lemmas.proofs.Bools.{left_of as first_true, right_of as second_true}
+use Rattle.base_lemmas.proofs.Elements.{contains-later, zip_map}
+use Rattle.base_lemmas.proofs.Numbers.{same-number}
+use Rattle.std.proofs.lemmas.Bool.{and_from as both}
+use Rattle.std.proofs.lemmas.Map.Keys.{any_passes_from_place as any_at}
+use Rattle.std.proofs.lemmas.Option.{same_Some as same-some}
 
 -- what is the same of each two at one place is the same of the lists
-zip_map : {A B X : Type 0} (R : A → B → Type 0) (g : A → X) (h : B → X) → ((a : A) (b : B) → R a b → h b ≡ g a) → (xs : List A) (ys : List B) → AllZip R xs ys → map h ys ≡ map g xs
-zip_map R g h same [] [] zip = refl
-zip_map R g h same [] (y ∷ ys) zip = absurd zip
-zip_map R g h same (x ∷ xs) [] zip = absurd zip
-zip_map R g h same (x ∷ xs) (y ∷ ys) zip = λ i. same x y zip.0 i ∷ zip_map R g h same xs ys zip.1 i
 
 -- ---- functions
 

@@ -1,5 +1,5 @@
 -- Bindings that unite, by the entries and the numbers of their `Resolve`s.
-use Rattle.std.proofs.Common.{◌≡◌, ◌≢◌, refl, sym, ap, subst, ◌∙◌, ℕ, Bool, true, false, cond, List, map, Option, Some, None, option_and_then, Contains}
+use Rattle.std.proofs.Common.{◌≡◌, ◌≢◌, refl, sym, ap, ◌∙◌, ℕ, Bool, true, false, cond, List, map, Option, Some, None, option_and_then, Contains}
 use mathlib.Core.Bool.{true≢false}
 use Rattle.std.specs.FinMap.{get}
 use Rattle.std.specs.Ordering.{eq_by_cmp}
@@ -14,10 +14,8 @@ use Rattle.wit_model.specs.Lookup.{interface_at, key_text, path_of_interface, pa
 use Rattle.wit_model.specs.Meaning.{Entry, InterfaceMeaning, WorldMeaning, entry_sense}
 use Rattle.wit_model.specs.Meant.{entries_meaning, entry_meaning, interface_meaning_at, no_world, world_meaning, world_meaning_at}
 use Rattle.wit_model.specs.Rules.{are_distinct}
-use Rattle.wit_model.proofs.Elements.{contains-map}
 use Rattle.bind_match.specs.Matching.{is_root_world}
-use Rattle.bind_meaning.specs.Binding.{Stand}
-use Rattle.bind_meaning.specs.Clash.{Agree, CanUnite, carried_worlds, entry_under}
+use Rattle.bind_meaning.specs.Clash.{CanUnite, carried_worlds, entry_under}
 use Rattle.bind_meaning.specs.Roots.{root_path}
 use Rattle.bind_meaning.proofs.Maps.{by_tie, get-without}
 use Rattle.bind_meaning.proofs.WorldBindings.{exports-distinct, imports-distinct, interface-found, world-found}
@@ -25,12 +23,12 @@ use Rattle.bind_clash.proofs.KeysMatched.{found-distinct}
 use Rattle.bind_clash.proofs.PathsMatched.{has-root, world-path-of}
 use Rattle.wit_bind.specs.declared.bindgen.Bindgen.{Bindgen}
 use Rattle.wit_bind.specs.Bindings.{binding_of, IsBindgen}
-use Rattle.wit_bind.specs.MergedLaws.{AgreeByNumbers, UnitedAgreeByNumbers}
+use Rattle.wit_bind.specs.MergedLaws.{UnitedAgreeByNumbers}
 use Rattle.wit_bind.proofs.MatchedPaths.{agreed}
+use Rattle.base_lemmas.proofs.Elements.{contains-map}
+use Rattle.bind_clash.proofs.FaultsMeant.{both-stand as known}
 
 -- both are known
-known : {X Y : Type 0} (o : Option X) (p : Option Y) (x : X) (y : Y) → o ≡ Some x → p ≡ Some y → Stand o p
-known {X} {Y} o p x y e f = subst (λ (z : Option Y). Stand {X = X} {Y = Y} o z) (sym f) (subst (λ (z : Option X). Stand {X = X} {Y = Y} z (Some y)) (sym e) tt)
 
 -- an entry is found under its key
 entry-found : (r : Resolve) (es : List (WorldKey × WorldItem)) (x : WorldKey × WorldItem) → are_distinct (map (λ (e : Text × Entry InterfaceMeaning). e.0) (entries_meaning r es)) ≡ true → Contains es x

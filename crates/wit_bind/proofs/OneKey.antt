@@ -22,8 +22,7 @@ use Rattle.wit_model.specs.Paths.{full_name}
 use Rattle.wit_model.specs.Names.{at_version, is_label, path_in}
 use Rattle.wit_model.specs.Rules.{passes}
 use Rattle.wit_model.specs.Valid.{IsValid, labels}
-use Rattle.wit_model.proofs.Elements.{none-in, same-some}
-use Rattle.wit_model.proofs.Lists.{first_true, second_true}
+use Rattle.wit_model.proofs.Elements.{none-in}
 use Rattle.wit_model.proofs.NameLaws.{label_lacks}
 use Rattle.wit_model.proofs.OnePath.{interface-passes, package-name}
 use Rattle.wit_bind.specs.Keys.{function_key, text_under, unversioned, unversioned_key}
@@ -35,6 +34,8 @@ use Rattle.wit_bind.specs.declared.encodings.Side.TheVariants as sides
 use Rattle.wit_bind.specs.OldKeys.{IsFunctionOf, itself, member, items_of, items_on, CarriesEach, CarriesOver, HadEncoding, OneOldKey}
 use Rattle.bind_meaning.proofs.KeyNames.{Lacks, colon, goes-on, key_lacks, last_cut, lacks-both, listed_lacks, same_cut, slash}
 use Rattle.wit_bind.proofs.ValidKeys.{canonical-by-name}
+use Rattle.base_lemmas.proofs.Bools.{left_of as first_true, right_of as second_true}
+use Rattle.std.proofs.lemmas.Option.{same_Some as same-some}
 
 -- ---- paths
 

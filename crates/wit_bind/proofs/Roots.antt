@@ -10,8 +10,8 @@ use Rattle.wit_model.specs.Lookup.{world_at}
 use Rattle.wit_model.specs.Meaning.{WorldPackage}
 use Rattle.wit_model.specs.Meant.{MeantWorld, package_of_world, world_package}
 use Rattle.wit_model.specs.Valid.{HasDistinctKeys, IsValid, Keeps, key_eq, numbers_in_range, package_names, places, labels, order_of_types, owners, shapes, named_kinds, handles, depths, function_names, world_items, order_of_items, names_in_packages}
-use Rattle.wit_model.proofs.OnePath.{some-same}
 use Rattle.wit_bind.specs.Roots.{IsRootResolve, root_meaning}
+use Rattle.std.proofs.lemmas.Option.{same_Some as some-same}
 
 -- the one entry of a list
 only : {A : Type 0} (xs : List A) (x y : A) (n : ℕ) → xs ≡ x ∷ [] → slice_get xs n ≡ Some y → y ≡ x

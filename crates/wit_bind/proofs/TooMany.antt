@@ -18,14 +18,12 @@ use Rattle.wit_model.specs.declared.model.World.{World}
 use Rattle.wit_model.specs.declared.model.WorldId.{WorldId}
 use Rattle.wit_model.specs.Lookup.{identity_of, interface_at, interface_path, package_at, path_in_package, path_of_interface, path_of_world, world_at}
 use Rattle.wit_model.specs.Meant.{interface_meaning, world_meaning}
-use Rattle.wit_model.specs.Names.{PackageIdentity, at_version, is_identity, is_label}
+use Rattle.wit_model.specs.Names.{at_version, is_identity}
 use Rattle.wit_model.specs.Rules.{same_package_name}
 use Rattle.wit_model.specs.Text.{Text, text_eq, text_of}
 use Rattle.wit_model.specs.Uses.{owner_interface}
 use Rattle.wit_model.specs.Valid.{IsValid}
 use Rattle.wit_model.proofs.AnyOrder.{text-same}
-use Rattle.wit_model.proofs.Elements.{same-number, same-some}
-use Rattle.wit_model.proofs.Lists.{first_true, second_true}
 use Rattle.wit_model.proofs.NameLaws.{identity_namespace, label_lacks}
 use Rattle.wit_model.proofs.OnePath.{package-name}
 use Rattle.wit_model.proofs.VersionLaws.{same_name}
@@ -48,14 +46,18 @@ use Rattle.bind_carry.specs.Shown.{AreShownBelow}
 use Rattle.bind_carry.specs.TooLong.{carried_interfaces, carried_packages, carried_worlds, copies_of, gained_fates, IsTooLong, CarriedThings, TypeFates}
 use Rattle.bind_carry.specs.Which.{AreMatchedAll, IsNumbered}
 use Rattle.bind_carry.proofs.CountedCopies.{first_few, flags_few, gained_few, interfaces_flagged, second_few, world_flag, worlds_flagged, IsHomeCopied}
-use Rattle.bind_carry.proofs.FirstCarried.{chosen_so, within_there}
-use Rattle.bind_carry.proofs.FirstPackages.{mapped_at}
+use Rattle.bind_carry.proofs.FirstCarried.{chosen_so}
 use Rattle.bind_carry.proofs.Marking.{are_chosen}
 use Rattle.bind_carry.proofs.PartsCarried.{no_home}
 use Rattle.bind_carry.proofs.Ranges.{is_in_range, shown_below}
 use Rattle.bind_carry.proofs.SecondMarks.{gained_inline_alone}
 use Rattle.wit_bind.specs.Merges.{comes_twice, inline_of, is_new_interface, is_new_package, is_new_type, is_new_world, is_one_of, AreTooMany}
 use Rattle.wit_bind.proofs.MatchedPaths.{all-matched}
+use Rattle.base_lemmas.proofs.Bools.{left_of as first_true, right_of as second_true}
+use Rattle.base_lemmas.proofs.Lists.{mapped_get as mapped_at, within_there}
+use Rattle.base_lemmas.proofs.Numbers.{same-number}
+use Rattle.std.proofs.lemmas.Option.{same_Some as same-some}
+use Rattle.wit_model.proofs.NameLaws.{identity_name as label-of}
 
 untrue : {A : Type 0} → false ≡ true → A
 untrue e = let no : ⊥ = cc in absurd no
@@ -100,9 +102,6 @@ at-versions a b None None h k e = (sym (append-nil a) ∙ (e ∙ append-nil b), 
 at-versions a b (Some v) (Some w) h k e = let parts = around 64 a b v w h k e in (parts.0, ap Some parts.1)
 at-versions a b None (Some w) h k e = no-middle 64 a b w h (sym (append-nil a) ∙ e)
 at-versions a b (Some v) None h k e = no-middle 64 b a v k (sym (append-nil b) ∙ sym e)
-
-label-of : (p : PackageIdentity) → is_identity p ≡ true → is_label p.name ≡ true
-label-of p h = first_true (is_label p.name) _ (second_true (is_label p.namespace) _ h)
 
 one-text : (a b : PackageName) → is_identity (identity_of a) ≡ true → is_identity (identity_of b) ≡ true → package_text (identity_of a) ≡ package_text (identity_of b) → identity_of a ≡ identity_of b
 one-text a b h k e =

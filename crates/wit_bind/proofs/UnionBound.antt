@@ -1,18 +1,16 @@
 -- What is merged of two bindings stands for their union.
-use Rattle.std.proofs.Common.{◌≡◌, refl, sym, ap, subst, ◌∙◌, ◌⊎◌, inl, inr, ℕ, ◌<◌, length, Bool, true, false, not, ◌&&◌, ◌||◌, cond, List, [], ◌∷◌, ◌++◌, map, Option, Some, None, option_and_then, option_map, unwrap_or, slice_get, String, Contains}
+use Rattle.std.proofs.Common.{◌≡◌, refl, sym, ap, subst, ◌∙◌, ◌⊎◌, inl, inr, ℕ, ◌<◌, length, Bool, true, false, not, ◌||◌, cond, List, [], ◌∷◌, ◌++◌, map, Option, Some, None, option_and_then, unwrap_or, Contains}
 use mathlib.Core.Bool.{true≢false}
 use Rattle.std.specs.List.{AllByRecursion, IsDistinct, list_any}
-use Rattle.std.specs.Map.{keys_of}
 use Rattle.std.specs.Ordering.{eq_by_cmp}
 use Rattle.std.specs.Option.{option_map_or}
 use Rattle.std.specs.Cmp.Lexicographic.{nat_list_cmp_total}
-use Rattle.std.specs.FinMap.{from_entries, get, same_map, nat_cmp-IsAntisymmetric, slice_cmp-IsAntisymmetric}
+use Rattle.std.specs.FinMap.{get, same_map, nat_cmp-IsAntisymmetric, slice_cmp-IsAntisymmetric}
 use Rattle.std.specs.FinSet as set
 use Rattle.std.proofs.lemmas.List.Folds.{list_any-append}
 use Rattle.std.proofs.lemmas.List.Elements.{Contains-append_cases, Contains-append_left, Contains-append_right}
-use Rattle.std.proofs.lemmas.Option.{slice_get_within}
+use Rattle.std.proofs.lemmas.Option.{slice_get_within, same_Some as same-some}
 use Rattle.wit_model.specs.declared.model.Package.{Package}
-use Rattle.wit_model.specs.declared.model.PackageName.{PackageName}
 use Rattle.wit_model.specs.declared.model.Resolve.{Resolve}
 use Rattle.wit_model.specs.declared.model.StringEncoding.{StringEncoding}
 use Rattle.wit_model.specs.declared.model.World.{World}
@@ -20,17 +18,15 @@ use Rattle.wit_model.specs.declared.model.WorldId.{WorldId}
 use Rattle.wit_model.specs.declared.model.WorldItem.{WorldItem}
 use Rattle.wit_model.specs.declared.model.WorldKey.{WorldKey}
 use Rattle.wit_model.specs.Text.{Text, TextMap, text_cmp, text_eq}
-use Rattle.wit_model.specs.Lookup.{identity_of, interface_path, key_text, package_at, path_of_world, world_at}
+use Rattle.wit_model.specs.Lookup.{identity_of, key_text, package_at, path_of_world, world_at}
 use Rattle.wit_model.specs.Meaning.{Entry, InterfaceMeaning, WorldMeaning}
 use Rattle.wit_model.specs.Meant.{entries_meaning, interface_meaning_at, no_world, world_meaning, world_meaning_at}
-use Rattle.wit_model.specs.Names.{PackageIdentity}
 use Rattle.wit_model.specs.Rules.{are_distinct}
 use Rattle.wit_model.specs.Valid.{IsValid}
-use Rattle.wit_model.proofs.Elements.{contains-get, contains-map, get-contains, same-some}
-use Rattle.wit_model.proofs.Lists.{first_true, second_true}
+use Rattle.wit_model.proofs.Elements.{contains-get}
 use Rattle.bind_match.specs.Matching.{is_root_world}
 use Rattle.bind_meaning.specs.Binding.{Binding, package_text}
-use Rattle.bind_meaning.specs.ByNumbers.{interfaces_by_path, package_texts, world_path_at, worlds_by_path}
+use Rattle.bind_meaning.specs.ByNumbers.{package_texts, world_path_at}
 use Rattle.bind_meaning.specs.Clash.{Agree, CanUnite, carried_worlds, itself}
 use Rattle.bind_meaning.specs.Encodings.{Encodings}
 use Rattle.bind_meaning.specs.Roots.{root_path}
@@ -50,6 +46,8 @@ use Rattle.wit_bind.specs.declared.bindgen.Bindgen.{Bindgen}
 use Rattle.wit_bind.specs.Bindings.{binding_of, IsBindgen}
 use Rattle.wit_bind.specs.MergedLaws.{IsUnited, UnitedAreTheUnion}
 use Rattle.wit_bind.specs.Unions.{Gains, or_else}
+use Rattle.base_lemmas.proofs.Bools.{left_of as first_true, right_of as second_true}
+use Rattle.base_lemmas.proofs.Elements.{contains-map, get-contains}
 
 -- ---- maps and sets
 

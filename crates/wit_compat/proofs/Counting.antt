@@ -10,7 +10,7 @@ use Rattle.wit_model.specs.declared.model.World.{World}
 use Rattle.wit_compat.specs.Walk.{Pair, AreDifferent, IsCounted, pairs_of_worlds}
 use Rattle.wit_compat.specs.Table.{AreAmong, AreReached, IsLayered, IsSettled}
 use Rattle.wit_compat.proofs.Alike.{closed}
-use Rattle.wit_compat.proofs.Including.{contains_one}
+use Rattle.base_lemmas.proofs.Elements.{last_of as contains_one}
 
 abbrev pub same_numbers : Pair → Pair → Bool
 same_numbers p q = nat_eq p.0 q.0 && nat_eq p.1 q.1

@@ -1,5 +1,5 @@
 -- What the kinds of two `Resolve`s' types declare.
-use Rattle.std.proofs.Common.{arith, ◌≡◌, ◌↔◌, refl, sym, ap, subst, ◌∙◌, ◌⊎◌, inl, inr, ℕ, Bool, true, false, List, [], ◌∷◌, map, length, Option, Some, None, is_some, unwrap_or, IsTrue, Vec, Result, Ok, Err, IfOk}
+use Rattle.std.proofs.Common.{arith, ◌≡◌, ◌↔◌, refl, sym, ap, subst, ◌∙◌, ◌⊎◌, inl, inr, ℕ, Bool, true, false, List, [], ◌∷◌, map, length, Some, None, is_some, unwrap_or, IsTrue, Vec, Result, Ok, Err, IfOk}
 use Rattle.std.specs.declared.alloc.Global.{Global}
 use Rattle.std.specs.declared.alloc.AllocError.{AllocError}
 use Rattle.std.specs.List.{Contains}
@@ -22,9 +22,7 @@ use Rattle.wit_model.specs.Tree.{Tree, Form, Declaration, type_, resource, primi
 use Rattle.wit_model.specs.Types.{number_of, type_tree, tree_of, trees_of, no_tree, declared_by, tree_of_declaration}
 use Rattle.wit_model.specs.Uses.{alias_target}
 use Rattle.wit_model.specs.Valid.{IsValid, named_kinds}
-use Rattle.wit_model.proofs.Elements.{one-contained}
 use Rattle.wit_model.proofs.Entries.{each_from_at, lists_pass}
-use Rattle.wit_model.proofs.Lists.{second_true}
 use Rattle.wit_model.proofs.TreeTable.{kept_numbers}
 use Rattle.wit_compat.specs.declared.look.Look.{Look}
 use Rattle.wit_compat.specs.declared.look.Look.TheVariants as look
@@ -33,8 +31,11 @@ use Rattle.wit_compat.specs.Table.{AllInRange, InRange}
 use Rattle.wit_compat.specs.TwoSides.{aliased, is_resource_itself, IsKindOf, SameDeclared, TellsDeclared}
 use Rattle.wit_compat.proofs.Alike.{below_number, children_back, is_below, node_children, node_form}
 use Rattle.wit_compat.proofs.OpenedTable.{opened_built}
-use Rattle.wit_compat.proofs.Reflexive.{found_at}
-use Rattle.wit_compat.proofs.Sided.{below_length, named_is, never, number_case, places_in_range}
+use Rattle.wit_compat.proofs.Sided.{named_is, never, number_case, places_in_range}
+use Rattle.base_lemmas.proofs.Bools.{right_of as second_true}
+use Rattle.base_lemmas.proofs.Elements.{last_of as one-contained}
+use Rattle.base_lemmas.proofs.Lists.{within_there as found_at}
+use Rattle.std.proofs.lemmas.Option.{slice_get_within as below_length}
 
 true_false : {P : Type 0} → true ≡ false → P
 true_false e = let wrong : ⊥ = cc in absurd wrong

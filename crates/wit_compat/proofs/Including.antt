@@ -12,6 +12,7 @@ use Rattle.wit_compat.specs.Parts.{named_thing, thing_of}
 use Rattle.wit_compat.specs.Walk.{Pair, pairs_of_entry, pairs_shared, Reached, root}
 use Rattle.wit_compat.specs.Table.{AreAmong, AreReached}
 use Rattle.wit_compat.proofs.Settling.{reached_through}
+use Rattle.base_lemmas.proofs.Elements.{last_of as contains_one, map_from as contains_map}
 
 -- ---- look-ups
 
@@ -42,21 +43,6 @@ shown_entry r e = ((named_thing e).0, shown r (thing_of e.part))
 shown_all : (r : Resolve) (es : List Entry) → all_shown r (map named_thing es) ≡ map (shown_entry r) es
 shown_all r [] = refl
 shown_all r (e ∷ es) = ap (λ xs. shown_entry r e ∷ xs) (shown_all r es)
-
-pub contains_one : {X : Type 0} (x y : X) → Contains (x ∷ []) y → x ≡ y
-contains_one x y c = by (Contains-push_cases [] x y c)
-  where
-    by : Contains [] y ⊎ (x ≡ y) → x ≡ y
-    by (inl e) = absurd (let z = e.1 in omega (arith, z))
-    by (inr e) = e
-
-pub contains_map : {X Y : Type 0} (f : X → Y) (xs : List X) (y : Y) → Contains (map f xs) y → (x : X) × Contains xs x × (f x ≡ y)
-contains_map f [] y c = absurd (let z = c.1 in omega (arith, z))
-contains_map {X = X} f (x ∷ xs) y c = by (Contains-append_cases (f x ∷ []) (map f xs) y c) (contains_map f xs y)
-  where
-    by : Contains (f x ∷ []) y ⊎ Contains (map f xs) y → (Contains (map f xs) y → (z : X) × Contains xs z × (f z ≡ y)) → (z : X) × Contains (x ∷ xs) z × (f z ≡ y)
-    by (inl h) later = (x, Contains-append_left (x ∷ []) xs x (Contains-push [] x), contains_one (f x) y h)
-    by (inr h) later = let w = later h in (w.0, Contains-append_right (x ∷ []) xs w.0 w.1, w.2)
 
 -- each entry stands in the large list, and the pairs of the two stand in the table
 abbrev pub Stands : Resolve → Bool → List (Name × Thing) → List Pair → Entry → Type 0

@@ -8,12 +8,12 @@ use Rattle.std.proofs.lemmas.List.{take_more, map-append}
 use Rattle.std.proofs.lemmas.List.Elements.{Contains-append_left, Contains-append_right, Contains-push, Contains-push_cases}
 use Rattle.std.proofs.lemmas.Slice.Eq.{bytes_eq-Decides}
 use Rattle.wit_model.specs.Text.{text_eq}
-use Rattle.wit_model.proofs.Lists.{first_true, second_true}
 use Rattle.wit_compat.specs.declared.part.Entry.{Entry}
 use Rattle.wit_compat.specs.Flat.{Name, Thing, find_named, same_name}
 use Rattle.wit_compat.specs.Parts.{thing_of, named_thing}
 use Rattle.wit_compat.specs.Index.{NumberedName, indexed, AllToldFrom, ComeFrom, Indexes, IsToldFrom}
 use Rattle.wit_compat.specs.Numbered.{AllNumbersTell}
+use Rattle.base_lemmas.proofs.Bools.{left_of as first_true, right_of as second_true}
 
 abbrev thing_in : Entry → Thing
 thing_in e = thing_of e.part

@@ -15,8 +15,7 @@ use Rattle.wit_compat.specs.declared.part.Entry.{Entry}
 use Rattle.wit_compat.specs.Flat.{Name, Thing, interface, of_type, of_function, function_member, item_things, members, type_member}
 use Rattle.wit_compat.specs.Numbered.{BorrowedTexts, number_in, AreNumbered, KeepsNumbers}
 use Rattle.wit_compat.specs.Parts.{named_thing, numbered_thing, with_number}
-use Rattle.wit_compat.proofs.Including.{contains_map, contains_one}
-use Rattle.wit_compat.proofs.Validity.{contains_mapped}
+use Rattle.base_lemmas.proofs.Elements.{contains-map as contains_mapped, last_of as contains_one, map_from as contains_map}
 
 member_key : (k : Text) (i : Interface) (x : Name × Thing) → Contains (members k i) x → x.0.0 ≡ k
 member_key k i x c = by (Contains-append_cases (map (type_member k) i.types.entries) (map (function_member k) i.functions.entries) x c)

@@ -11,12 +11,9 @@ use Rattle.wit_compat.specs.Parts.{named_thing, EntriesInRange, FoundInRange, Th
 use Rattle.wit_compat.specs.Walk.{pairs_between, pairs_shared}
 use Rattle.wit_compat.proofs.Including.{found_shown}
 use Rattle.wit_compat.proofs.Transitive.{found_stands}
-use Rattle.wit_compat.proofs.Validity.{contains_mapped}
+use Rattle.base_lemmas.proofs.Elements.{contains-map as contains_mapped}
 
 -- what follows from a result
-pub ok_then : {X E P Q : Type 0} (x : Result X E) → (P → Q) → OnOk x P → OnOk x Q
-ok_then (Ok v) f p = f p
-ok_then (Err e) f p = tt
 
 pub err_then : {X E : Type 0} {P Q : E → Type 0} (x : Result X E) → ((e : E) → P e → Q e) → IfErr x P → IfErr x Q
 err_then (Ok v) f p = tt

@@ -1,5 +1,5 @@
 -- What is found under a name, and what two interfaces have by name.
-use Rattle.std.proofs.Common.{◌≡◌, ◌↔◌, sym, ap, ◌∙◌, ℕ, Bool, false, List, Option, Some, None, option_map, IsTrue, IfOk, Result, Ok, Err}
+use Rattle.std.proofs.Common.{◌≡◌, ◌↔◌, sym, ap, ◌∙◌, ℕ, Bool, false, List, Option, Some, None, option_map, IsTrue}
 use Rattle.std.specs.List.{Contains, IsAmong}
 use Rattle.std.specs.Option.{option_map_or}
 use Rattle.wit_model.specs.declared.model.Resolve.{Resolve}
@@ -7,17 +7,14 @@ use Rattle.wit_model.specs.declared.model.Interface.{Interface}
 use Rattle.wit_model.specs.Lookup.{interface_at}
 use Rattle.wit_model.specs.Meaning.{InterfaceSense, interface_sense}
 use Rattle.wit_model.specs.Meant.{interface_meaning, interface_meaning_at, no_interface}
-use Rattle.wit_model.proofs.Elements.{same-some}
 use Rattle.wit_compat.specs.TwoSides.{functions_sense, types_sense}
 use Rattle.wit_compat.proofs.Sided.{never}
+use Rattle.std.proofs.lemmas.Option.{same_Some as same-some}
 
 pub among_contains : {X : Type 0} (xs : List X) (x : X) → IsAmong xs x → Contains xs x
 among_contains xs x (i, h) = (i, h.0, sym h.1)
 
 -- what an answer says, said otherwise
-pub in_ok : {A E : Type 0} (P Q : A → Type 0) → ((x : A) → P x → Q x) → (r : Result A E) → IfOk r P → IfOk r Q
-in_ok P Q f (Ok x) h = f x h
-in_ok P Q f (Err e) h = tt
 
 -- ---- what is found under a name
 

@@ -8,6 +8,7 @@ use Rattle.wit_model.specs.Text.{Text, text_eq}
 use Rattle.wit_model.proofs.VersionLaws.{same_text, text_same}
 use Rattle.wit_compat.specs.declared.part.Entry.{Entry}
 use Rattle.wit_compat.specs.Numbered.{BorrowedTexts, number_in, KeepsNumbers, AreNumbered, AllNumbersTell}
+use Rattle.base_lemmas.proofs.Options.{some_same}
 
 abbrev is_text : Text → Bor (List ℕ) → Bool
 is_text t k = text_eq t k.now
@@ -15,9 +16,6 @@ is_text t k = text_eq t k.now
 some_suc : (o : Option ℕ) (n : ℕ) → option_map suc o ≡ Some n → (m : ℕ) × (o ≡ Some m) × (suc m ≡ n)
 some_suc None n h = absurd (let z : ⊥ = cc in z)
 some_suc (Some m) n h = (m, refl, (let w : suc m ≡ n = cc in w))
-
-some_same : (n m : ℕ) → Some n ≡ Some m → n ≡ m
-some_same n m h = cc
 
 -- ---- a text more
 

@@ -5,7 +5,6 @@ use Rattle.std.specs.Cmp.Lexicographic.{pointwise}
 use Rattle.std.specs.declared.alloc.Global.{Global}
 use Rattle.std.proofs.lemmas.Slice.Eq.{bytes_eq-Decides}
 use Rattle.std.proofs.Math.ListN.{length-map, get_or-map}
-use Rattle.wit_model.proofs.Lists.{first_true, second_true}
 use Rattle.wit_model.specs.declared.model.Variant.{Variant}
 use Rattle.wit_model.specs.declared.model.Resolve.{Resolve}
 use Rattle.wit_model.specs.declared.model.Interface.{Interface}
@@ -17,7 +16,8 @@ use Rattle.wit_compat.specs.declared.kinds.Sort.{Sort}
 use Rattle.wit_compat.specs.declared.kinds.Sort.TheVariants as sort
 use Rattle.wit_compat.specs.Numbered.{BorrowedTexts, number_in}
 use Rattle.wit_compat.specs.Outline.{sort_of, labels_of, given_of, count_of, names_from, interface_names}
-use Rattle.wit_compat.proofs.OpenedTable.{map_twice}
+use Rattle.base_lemmas.proofs.Bools.{left_of as first_true, right_of as second_true}
+use Rattle.base_lemmas.proofs.Lists.{map_of_map as map_twice}
 
 pub variant_given : (v : Variant) → given_of (form_of (kind.Variant v)) ≡ map (λ c. is_there c.ty) v.cases.items
 variant_given v = let snd : Text × Bool → Bool = λ p. p.1 in map_twice snd (λ c. (text_of c.name, is_there c.ty)) v.cases.items

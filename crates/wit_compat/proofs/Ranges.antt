@@ -9,12 +9,14 @@ use Rattle.wit_model.specs.declared.model.WorldItem.{WorldItem}
 use Rattle.wit_model.specs.Lookup.{interface_at, world_at}
 use Rattle.wit_model.specs.Rules.{function_in_range, in_list, item_in_range, key_in_range}
 use Rattle.wit_model.specs.Valid.{IsValid}
-use Rattle.wit_model.proofs.Elements.{get-contains, same-some}
-use Rattle.wit_model.proofs.Lists.{second_true}
 use Rattle.wit_compat.specs.Compatible.{HasItemsInRange}
 use Rattle.wit_compat.specs.Senses.{import_at}
 use Rattle.wit_compat.specs.TwoSides.{HasTypesInRange}
-use Rattle.wit_compat.proofs.Validity.{all_contained, function_types_in_range, interface_numbers, is_below, world_numbers}
+use Rattle.wit_compat.proofs.Validity.{function_types_in_range, interface_numbers, world_numbers}
+use Rattle.base_lemmas.proofs.Bools.{right_of as second_true}
+use Rattle.base_lemmas.proofs.Elements.{all-contained as all_contained, get-contains}
+use Rattle.std.proofs.lemmas.Bool.{ltb-true as is_below}
+use Rattle.std.proofs.lemmas.Option.{same_Some as same-some}
 
 module _ (r : Resolve) (v : IsValid r) where
   pub has_types : (n : ℕ) (i : Interface) → interface_at r n ≡ Some i → HasTypesInRange r i

@@ -1,5 +1,5 @@
 -- A world whose keys stand once shows nothing twice, so it may take its own place.
-use Rattle.std.proofs.Common.{arith, ◌≡◌, refl, sym, ap, subst, ◌∙◌, ◌⊎◌, inl, inr, ℕ, ◌+◌, ◌<◌, ◌≤◌, length, get_or, slice_get, Bool, true, false, ◌&&◌, ◌||◌, not, cond, List, [], ◌∷◌, ◌++◌, map, Option, Some, None, String, option_map}
+use Rattle.std.proofs.Common.{arith, ◌≡◌, refl, sym, ap, subst, ◌∙◌, ◌⊎◌, inl, inr, ℕ, ◌+◌, length, Bool, true, false, ◌&&◌, ◌||◌, not, cond, List, [], ◌∷◌, ◌++◌, map, Option, Some, None, String, option_map}
 use Rattle.std.specs.declared.alloc.Global.{Global}
 use Rattle.std.specs.List.{AllByRecursion, Contains, IsDistinct, find, list_all, list_any}
 use Rattle.std.specs.Option.{option_map_or}
@@ -7,7 +7,6 @@ use Rattle.std.specs.Prelude.{string_eq}
 use Rattle.std.proofs.lemmas.List.Elements.{Contains-append_left, Contains-append_right, Contains-append_cases, Contains-push}
 use Rattle.std.proofs.lemmas.Cmp.{nat_list_eq_equiv}
 use Rattle.std.proofs.lemmas.Slice.Eq.{bytes_eq-Decides}
-use Rattle.std.proofs.lemmas.Option.{slice_get_cases}
 use Rattle.indexmap.specs.IndexMap.{keys, values}
 use Rattle.wit_model.specs.declared.error.EntryList.TheVariants as lists
 use Rattle.wit_model.specs.declared.model.Resolve.{Resolve}
@@ -31,14 +30,17 @@ use Rattle.wit_model.specs.Checks.{KeepsIn, has_name, listings}
 use Rattle.wit_model.specs.Valid.{IsValid, as_interface, functions_of_interface, function_names, labels, order_of_types}
 use Rattle.wit_model.proofs.Entries.{each_from_all, each_from_at, lists_pass, none_breaks}
 use Rattle.wit_model.proofs.Listings.{interface_fits, misnamed_in_interface_breaks}
-use Rattle.wit_model.proofs.Lists.{first_true, second_true}
 use Rattle.wit_compat.specs.Compatible.{Accepts, HasKeysOnce, IsIncluded, bare_keys}
 use Rattle.wit_compat.specs.Flat.{Name, Shown, Thing, interface, of_type, of_function, entry_things, find_named, flat, function_member, item_things, members, same_name, shown, things_of, type_member}
 use Rattle.wit_compat.specs.Opened.{bare_key}
-use Rattle.wit_compat.proofs.Including.{contains_map, contains_one, found_shown}
+use Rattle.wit_compat.proofs.Including.{found_shown}
 use Rattle.wit_compat.proofs.Indexing.{same_name_is}
 use Rattle.wit_compat.proofs.Keyed.{item_key}
-use Rattle.wit_compat.proofs.Validity.{all_contained, contains_mapped, interface_numbers, is_below}
+use Rattle.wit_compat.proofs.Validity.{interface_numbers}
+use Rattle.base_lemmas.proofs.Bools.{left_of as first_true, right_of as second_true}
+use Rattle.base_lemmas.proofs.Elements.{all-contained as all_contained, any-at as any_contained, contains-map as contains_mapped, last_of as contains_one, map_from as contains_map, none_in as none_contained}
+use Rattle.base_lemmas.proofs.Lists.{within_there as found_at}
+use Rattle.std.proofs.lemmas.Bool.{ltb-true as is_below}
 
 -- ---- names that are all different
 
@@ -72,9 +74,6 @@ apart_two {X} (x ∷ xs) ys h k other = (first, apart_two xs ys h.1 k (λ a b c 
         by : Contains xs y ⊎ Contains ys y → ⊥
         by (inl d) = h.0 y d e
         by (inr d) = other x y (Contains-append_left (x ∷ []) xs x (Contains-push [] x)) d e
-
-none_contained : {X : Type 0} (x : X) → Contains [] x → ⊥
-none_contained x c = let z = c.1 in omega (arith, z)
 
 -- ---- entries under their keys
 
@@ -146,25 +145,6 @@ function_not_empty r o f (kind.Static id) m l e = found_member r id.0 f (kind.St
 function_not_empty r o f (kind.AsyncStatic id) m l e = found_member r id.0 f (kind.AsyncStatic id) (resource_name r o id.0) refl m e
 
 -- ---- lists
-
-or_true : (b : Bool) → (b || true) ≡ true
-or_true true = refl
-or_true false = refl
-
-any_contained : {X : Type 0} (p : X → Bool) (xs : List X) (x : X) → Contains xs x → p x ≡ true → list_any p xs ≡ true
-any_contained p [] x c h = absurd (none_contained x c)
-any_contained p (y ∷ ys) x c h = by (λ d. any_contained p ys x d h) (Contains-append_cases (y ∷ []) ys x c)
-  where
-    by : (Contains ys x → list_any p ys ≡ true) → Contains (y ∷ []) x ⊎ Contains ys x → (p y || list_any p ys) ≡ true
-    by later (inl d) = ap (λ b. b || list_any p ys) (ap p (contains_one y x d) ∙ h)
-    by later (inr d) = ap (λ b. p y || b) (later d) ∙ or_true (p y)
-
-pub found_at : {X : Type 0} (xs : List X) (n : ℕ) → n < length xs → (x : X) × (slice_get xs n ≡ Some x)
-found_at {X} xs n lt = by (slice_get_cases xs n).1
-  where
-    by : ((x : X) × (n < length xs) × (slice_get xs n ≡ Some x) × (get_or xs n x ≡ x)) ⊎ ((length xs ≤ n) × (slice_get xs n ≡ None)) → (x : X) × (slice_get xs n ≡ Some x)
-    by (inl (x, within, at, is)) = (x, at)
-    by (inr (le, none)) = absurd (omega (arith, lt, le))
 
 module _ (r : Resolve) (v : IsValid r) where
   -- ---- what an interface shows

@@ -8,9 +8,9 @@ use Rattle.wit_model.specs.declared.model.Resolve.{Resolve}
 use Rattle.wit_model.specs.declared.model.World.{World}
 use Rattle.wit_model.specs.Text.{Text, text_eq}
 use Rattle.wit_model.proofs.Distinct.{text_eq_flip}
-use Rattle.wit_model.proofs.Lists.{list_any_mapped}
 use Rattle.wit_compat.specs.Compatible.{bare_keys, keys_of_world, HasKeysOnce, IsFirstRepeat, IsRepeatedIn}
-use Rattle.wit_compat.proofs.Including.{contains_one}
+use Rattle.base_lemmas.proofs.Elements.{any_of_map as list_any_mapped, last_of as contains_one}
+use Rattle.std.proofs.lemmas.Bool.{or_parts as neither}
 
 abbrev pub now : List (Bor (List ℕ)) → List Text
 now = map (λ s. s.now)
@@ -27,10 +27,6 @@ any_there t (x ∷ xs) e = by (any_there t xs) (text_eq t x) refl e
     by : (list_any (text_eq t) xs ≡ true → Contains xs t) → (b : Bool) → text_eq t x ≡ b → (b || list_any (text_eq t) xs) ≡ true → Contains (x ∷ xs) t
     by later true same f = subst (Contains (x ∷ xs)) (sym ((bytes_eq-Decides t x).0 same)) (Contains-append_left (x ∷ []) xs x (Contains-push [] x))
     by later false other f = Contains-append_right (x ∷ []) xs t (later f)
-
-neither : (a b : Bool) → (a || b) ≡ false → (a ≡ false) × (b ≡ false)
-neither true b e = absurd (let z : ⊥ = cc in z)
-neither false b e = (refl, e)
 
 apart_push : (x : Text) (xs : List Text) (t : Text) → AllByRecursion (λ y. text_eq x y ≡ false) xs → text_eq t x ≡ false → AllByRecursion (λ y. text_eq x y ≡ false) (xs ++ t ∷ [])
 apart_push x [] t h e = (text_eq_flip x t ∙ e, tt)

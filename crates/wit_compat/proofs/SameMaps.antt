@@ -9,8 +9,8 @@ use Rattle.std.proofs.lemmas.Map.Keys.{IsDistinct-cons}
 use Rattle.std.proofs.lemmas.Map.Steps.{length-le_from_keys}
 use Rattle.wit_model.specs.Text.{Text, TextMap, text_cmp, text_eq}
 use Rattle.wit_model.proofs.AnyOrder.{same-text, text-same, there-found}
-use Rattle.wit_model.proofs.Elements.{contains-later, contains-map}
 use Rattle.wit_model.proofs.Lists.{lookup_any}
+use Rattle.base_lemmas.proofs.Elements.{contains-later, contains-map}
 
 true_false : {P : Type 0} → true ≡ false → P
 true_false e = let wrong : ⊥ = cc in absurd wrong

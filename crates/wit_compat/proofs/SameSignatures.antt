@@ -11,12 +11,7 @@ use Rattle.wit_model.specs.Text.{Text, text_of, optional_text}
 use Rattle.wit_model.specs.Tree.{Tree}
 use Rattle.wit_model.specs.Types.{type_tree}
 use Rattle.wit_compat.specs.Walk.{SameShapes}
-
-heads_equal : {A : Type 0} (x y : A) (xs ys : List A) → x ∷ xs ≡ y ∷ ys → x ≡ y
-heads_equal x y xs ys e = cc
-
-tails_equal : {A : Type 0} (x y : A) (xs ys : List A) → x ∷ xs ≡ y ∷ ys → xs ≡ ys
-tails_equal x y xs ys e = cc
+use Rattle.base_lemmas.proofs.Lists.{heads_equal, tails_equal}
 
 module _ (a b : Resolve) where
   abbrev left : ValueType → Tree

@@ -1,13 +1,13 @@
 -- Types of two `Resolve`s, and the paths of their interfaces.
-use Rattle.std.proofs.Common.{arith, ◌≡◌, ◌↔◌, refl, sym, ap, subst, ◌∙◌, ◌⊎◌, inl, inr, ℕ, zero, suc, ◌+◌, ◌<◌, ◌≤◌, Bool, true, false, not, ◌||◌, cond, List, [], ◌∷◌, ◌++◌, take, map, length, get_or, slice_get, Option, Some, None, option_map, option_and_then, unwrap_or, is_some, IsTrue, String, Vec, Result, Ok, Err, IfOk}
+use Rattle.std.proofs.Common.{arith, ◌≡◌, ◌↔◌, refl, sym, ap, subst, ◌∙◌, ◌⊎◌, inl, inr, ℕ, ◌+◌, ◌<◌, ◌≤◌, Bool, true, false, not, ◌||◌, cond, List, [], ◌∷◌, ◌++◌, take, map, length, get_or, slice_get, Option, Some, None, option_map, option_and_then, unwrap_or, is_some, IsTrue, String, Vec, Result, Ok, Err, IfOk}
 use Rattle.std.specs.declared.alloc.Global.{Global}
 use Rattle.std.specs.declared.alloc.AllocError.{AllocError}
 use Rattle.std.specs.List.{Contains}
 use Rattle.std.specs.Option.{option_map_or}
 use Rattle.std.proofs.Math.ListN.{length-map}
 use Rattle.std.proofs.lemmas.List.{map-append, take_all}
-use Rattle.std.proofs.lemmas.List.Elements.{Contains-append_left, Contains-append_right, Contains-push, Contains-push_cases}
-use Rattle.std.proofs.lemmas.Option.{slice_get-get_or, slice_get-map}
+use Rattle.std.proofs.lemmas.List.Elements.{Contains-push_cases}
+use Rattle.std.proofs.lemmas.Option.{slice_get-get_or, slice_get-map, same_Some as some-same, slice_get_within as below_length}
 use Rattle.wit_model.specs.declared.model.Resolve.{Resolve}
 use Rattle.wit_model.specs.declared.model.TypeDef.{TypeDef}
 use Rattle.wit_model.specs.declared.model.TypeId.{TypeId}
@@ -27,9 +27,8 @@ use Rattle.wit_model.specs.Types.{number_of, number_tree, type_tree, tree_of, tr
 use Rattle.wit_model.specs.Uses.{alias_target}
 use Rattle.wit_model.specs.Valid.{IsValid, named_kinds}
 use Rattle.wit_model.proofs.Entries.{each_from_at, lists_pass}
-use Rattle.wit_model.proofs.Lists.{first_true}
 use Rattle.wit_model.proofs.NameLaws.{one_path}
-use Rattle.wit_model.proofs.OnePath.{HasPath, has-path, package-name, path-label, some-same}
+use Rattle.wit_model.proofs.OnePath.{HasPath, has-path, package-name, path-label}
 use Rattle.wit_model.proofs.PathParts.{path_made}
 use Rattle.wit_model.proofs.VersionLaws.{same_name}
 use Rattle.wit_model.proofs.TreeTable.{kept_numbers, kept_trees_at}
@@ -42,8 +41,9 @@ use Rattle.wit_compat.specs.TwoSides.{path_text, IsKnown, name_leaf, rank, AllSa
 use Rattle.wit_compat.specs.Walk.{Pair}
 use Rattle.wit_compat.proofs.Alike.{below_number, children_back, is_below, node_children, node_form, places_below, primitive_back, primitive_in, tree_of_number}
 use Rattle.wit_compat.proofs.OpenedTable.{built, opened_built}
-use Rattle.wit_compat.proofs.Reflexive.{found_at}
-use Rattle.wit_compat.proofs.Validity.{all_contained}
+use Rattle.base_lemmas.proofs.Bools.{left_of as first_true, not_or}
+use Rattle.base_lemmas.proofs.Elements.{all-contained as all_contained, get-contains as contains_at}
+use Rattle.base_lemmas.proofs.Lists.{take_found as take_more_at, within_there as found_at}
 
 -- ---- paths
 
@@ -97,11 +97,6 @@ no_rank : (t : ValueType) → number_of t ≡ None → rank t ≡ 0
 no_rank (ty.Id id) e = no_some id.0 (sym e)
 no_rank _ e = refl
 
-pub below_length : {X : Type 0} (xs : List X) (n : ℕ) (x : X) → slice_get xs n ≡ Some x → n < length xs
-below_length [] n x e = no_some x e
-below_length (y ∷ ys) zero x e = omega arith
-below_length (y ∷ ys) (suc n) x e = let h = below_length ys n x e in omega (arith, h)
-
 -- an unnamed kind has a form
 form_there : (k : TypeDefKind) → is_named_kind k ≡ false → (f : Form) × (form_of k ≡ Some f) × ((leaf : Tree) (trees : List Tree) → tree_of_declaration (declared_by trees k) ≡ opened_kind leaf trees k) × (is_alias k ≡ false)
 form_there (kind.Record x) h = absurd (let z : ⊥ = cc in z)
@@ -120,10 +115,6 @@ form_there (kind.Future t) h = (future_of (is_there t), refl, λ leaf trees. ref
 form_there (kind.Stream t) h = (stream_of (is_there t), refl, λ leaf trees. refl, refl)
 form_there (kind.Handle (handle.Own id)) h = (own_of, refl, λ leaf trees. refl, refl)
 form_there (kind.Handle (handle.Borrow id)) h = (borrow_of, refl, λ leaf trees. refl, refl)
-
-not_or : (a b : Bool) → (not a || b) ≡ true → b ≡ false → a ≡ false
-not_or false b h e = refl
-not_or true b h e = absurd (let z : true ≡ false = sym h ∙ e in let w : ⊥ = cc in w)
 
 module _ (r : Resolve) (v : IsValid r) (n : ℕ) (def : TypeDef) (at : type_at r n ≡ Some def) where
   tree_is : number_tree r n ≡ tree_of_definition r (trees_of r) def
@@ -276,18 +267,6 @@ pub never : (P : Type 0) → (P → ⊥) → IsTrue false ↔ P
 never P h = (λ t. absurd (let z : ⊥ = cc in z), λ p. absurd (h p))
 
 -- ---- place by place
-
-take_more_at : {X : Type 0} (xs : List X) (i : ℕ) (x : X) → slice_get xs i ≡ Some x → take (i + 1) xs ≡ take i xs ++ x ∷ []
-take_more_at [] i x e = no_some x e
-take_more_at (y ∷ ys) zero x e = let same : y ≡ x = ap (λ o. unwrap_or o y) e in ap (λ z. z ∷ []) same
-take_more_at (y ∷ ys) (suc i) x e =
-    let next : suc i + 1 ≡ suc (i + 1) = omega arith in
-    ap (λ k. take k (y ∷ ys)) next ∙ ap (λ zs. y ∷ zs) (take_more_at ys i x e)
-
-pub contains_at : {X : Type 0} (xs : List X) (i : ℕ) (x : X) → slice_get xs i ≡ Some x → Contains xs x
-contains_at [] i x e = no_some x e
-contains_at (y ∷ ys) zero x e = let same : y ≡ x = ap (λ o. unwrap_or o y) e in subst (λ z. Contains (y ∷ ys) z) same (Contains-append_left (y ∷ []) ys y (Contains-push [] y))
-contains_at (y ∷ ys) (suc i) x e = Contains-append_right (y ∷ []) ys x (contains_at ys i x e)
 
 pub place_at : (xs ys : List ValueType) (i : ℕ) → ys ≡ xs → i < length ys → (d : ValueType) → slice_get xs i ≡ Some (get_or ys i d)
 place_at xs ys i e lt d = ap (λ zs. slice_get zs i) (sym e) ∙ slice_get-get_or ys i d lt

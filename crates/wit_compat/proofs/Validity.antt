@@ -1,8 +1,8 @@
 -- What a valid `Resolve` gives for comparing.
-use Rattle.std.proofs.Common.{arith, slice_get, get_or, ◌≤◌, ◌≡◌, refl, sym, ap, subst, ◌∙◌, ℕ, ◌+◌, ◌<◌, Bool, true, false, ◌&&◌, nat_lt, ltb→lt, T, ◌⊎◌, inl, inr, List, [], ◌∷◌, map, filter_map, length, Option, Some, None, option_to_list, unwrap_or}
+use Rattle.std.proofs.Common.{arith, slice_get, get_or, ◌≤◌, ◌≡◌, refl, sym, ap, subst, ◌∙◌, ℕ, ◌+◌, ◌<◌, true, ◌&&◌, ◌⊎◌, inl, inr, List, [], ◌∷◌, map, filter_map, length, Option, Some, None, option_to_list, unwrap_or}
 use Rattle.std.specs.List.{Contains, list_all}
 use Rattle.std.specs.Option.{option_map_or}
-use Rattle.std.proofs.lemmas.List.Elements.{Contains-append_left, Contains-append_right, Contains-append_cases, Contains-push}
+use Rattle.std.proofs.lemmas.List.Elements.{Contains-append_cases}
 use Rattle.indexmap.specs.IndexMap.{values}
 use Rattle.wit_model.specs.declared.model.Resolve.{Resolve}
 use Rattle.wit_model.specs.declared.model.Interface.{Interface}
@@ -22,7 +22,7 @@ use Rattle.wit_model.specs.Parts.{function_types, kind_numbers}
 use Rattle.wit_model.specs.Rules.{entries_in_range, function_in_range, in_list, item_in_range, key_in_range, owner_in_range, package_number, passes}
 use Rattle.wit_model.specs.Valid.{IsValid, is_place, numbers_in_range}
 use Rattle.wit_model.proofs.Entries.{each_from_at, lists_pass}
-use Rattle.wit_model.proofs.Lists.{first_true, second_true, list_all_filter_map}
+use Rattle.wit_model.proofs.Lists.{list_all_filter_map}
 use Rattle.wit_model.proofs.TreeTable.{kept_numbers}
 use Rattle.std.proofs.lemmas.List.Folds.{list_all-append}
 use Rattle.std.proofs.lemmas.Option.{slice_get_cases}
@@ -31,33 +31,14 @@ use Rattle.wit_compat.specs.Flat.{Name, Thing, interface, entry_things, function
 use Rattle.wit_compat.specs.Opened.{bare_key}
 use Rattle.wit_compat.specs.Parts.{ThingInRange}
 use Rattle.wit_compat.specs.Table.{AllInRange, IsLayered}
-use Rattle.wit_compat.proofs.Including.{contains_map, contains_one}
+use Rattle.base_lemmas.proofs.Bools.{left_of as first_true, right_of as second_true}
+use Rattle.base_lemmas.proofs.Elements.{all-contained as all_contained, contains-map as contains_mapped, last_of as contains_one, map_from as contains_map}
+use Rattle.base_lemmas.proofs.Numbers.{false_true}
+use Rattle.std.proofs.lemmas.Bool.{ltb-true as is_below}
 
 -- ---- lists
 
-pub all_contained : {X : Type 0} (p : X → Bool) (xs : List X) (x : X) → list_all p xs ≡ true → Contains xs x → p x ≡ true
-all_contained p [] x h c = absurd (let z = c.1 in omega (arith, z))
-all_contained p (y ∷ ys) x h c = by (Contains-append_cases (y ∷ []) ys x c) (all_contained p ys x (second_true (p y) (list_all p ys) h))
-  where
-    by : Contains (y ∷ []) x ⊎ Contains ys x → (Contains ys x → p x ≡ true) → p x ≡ true
-    by (inl d) later = ap p (sym (contains_one y x d)) ∙ first_true (p y) (list_all p ys) h
-    by (inr d) later = later d
-
-pub contains_mapped : {X Y : Type 0} (f : X → Y) (xs : List X) (x : X) → Contains xs x → Contains (map f xs) (f x)
-contains_mapped f [] x c = absurd (let z = c.1 in omega (arith, z))
-contains_mapped f (y ∷ ys) x c = by (Contains-append_cases (y ∷ []) ys x c) (contains_mapped f ys x)
-  where
-    by : Contains (y ∷ []) x ⊎ Contains ys x → (Contains ys x → Contains (map f ys) (f x)) → Contains (map f (y ∷ ys)) (f x)
-    by (inl d) later = subst (λ z. Contains (map f (y ∷ ys)) (f z)) (contains_one y x d) (Contains-append_left (f y ∷ []) (map f ys) (f y) (Contains-push [] (f y)))
-    by (inr d) later = Contains-append_right (f y ∷ []) (map f ys) (f x) (later d)
-
-pub is_below : (m n : ℕ) → nat_lt m n ≡ true → m < n
-is_below m n h = ltb→lt m n (subst T (sym h) tt)
-
 -- ---- ranges
-
-false_true : false ≡ true → ⊥
-false_true e = cc
 
 not_past : {X : Type 0} (xs : List X) (n : ℕ) → ((x : X) → slice_get xs n ≡ Some x → ⊥) → length xs ≤ n
 not_past {X = X} xs n h = by (slice_get_cases xs n).1

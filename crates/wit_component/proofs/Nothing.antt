@@ -1,5 +1,5 @@
 -- Bytes that mean a package show an interface or a world.
-use Rattle.std.proofs.Common.{◌≡◌, ◌<◌, ◌^◌, ◌||◌, refl, sym, ap, subst, ◌∙◌, ℕ, Bool, true, false, List, [], ◌∷◌, length, map, Some, option_map, arith}
+use Rattle.std.proofs.Common.{◌≡◌, ◌<◌, ◌^◌, ◌||◌, refl, sym, ap, subst, ◌∙◌, ℕ, true, List, [], ◌∷◌, length, Some, option_map, arith}
 use Rattle.std.specs.List.{flat_map}
 use Rattle.wit_model.specs.Lookup.{package_at}
 use Rattle.wit_model.specs.Meaning.{PackageMeaning}
@@ -7,11 +7,13 @@ use Rattle.wit_model.specs.Meant.{package_meaning as meaning_of, Meant}
 use Rattle.comp_bytes.specs.Reading.{◌>>=◌}
 use Rattle.comp_bytes.specs.Spelling.{IsComponent, preamble}
 use Rattle.comp_bytes.proofs.ComponentLaws.{one_component}
-use Rattle.comp_bytes.proofs.PartLaws.{some_is}
 use Rattle.comp_bytes.proofs.Readers.{bind_some, when_some}
 use Rattle.comp_meaning.specs.Follow.{each, is_filled}
 use Rattle.comp_meaning.specs.Reads.{exported_types, interface, interfaces_of, member, package_meaning, package_of_members, world, worlds_of, Member, Part, Reads}
 use Rattle.wit_component.specs.ReadBack.{DecodedHaveMembers}
+use Rattle.base_lemmas.proofs.Bools.{or_true as either_true}
+use Rattle.base_lemmas.proofs.Options.{some_is}
+use Rattle.plan_meaning.proofs.NumberedMembers.{filled_same as mapped}
 
 -- ---- the preamble alone
 
@@ -24,10 +26,6 @@ preamble_means_nothing m read =
     absurd (let z : ⊥ = cc in z)
 
 -- ---- what is shown
-
-either_true : (a : Bool) → (a || true) ≡ true
-either_true true = refl
-either_true false = refl
 
 -- a part is an interface or a world
 shown : (m : Member) (ms : List Member) → (is_filled (flat_map interfaces_of (m ∷ ms)) || is_filled (flat_map worlds_of (m ∷ ms))) ≡ true
@@ -50,10 +48,6 @@ read_show bytes m read =
     members_show members.0 m members.2
 
 -- ---- the package that means it
-
-mapped : {A B : Type 0} (f : A → B) (xs : List A) → is_filled (map f xs) ≡ is_filled xs
-mapped f [] = refl
-mapped f (x ∷ xs) = refl
 
 pub have_members : DecodedHaveMembers
 unfolding Meant

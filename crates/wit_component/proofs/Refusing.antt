@@ -1,7 +1,7 @@
 -- What a package is refused for where it is encoded without canonical names and decoded.
-use Rattle.std.proofs.Common.{◌≡◌, ◌<◌, ◌||◌, refl, sym, ap, subst, ◌∙◌, ℕ, zero, suc, Bool, true, false, List, [], ◌∷◌, length, Some, arith, Result, Ok, Err, IfErr}
+use Rattle.std.proofs.Common.{◌≡◌, ◌<◌, ◌||◌, refl, sym, ap, subst, ◌∙◌, ℕ, Bool, true, false, List, [], ◌∷◌, length, Some, Result, Ok, Err, IfErr}
 use Rattle.std.specs.Prelude.{IsErrAnd}
-use Rattle.std.specs.List.{Contains, slice_get}
+use Rattle.std.specs.List.{Contains}
 use Rattle.std.proofs.lemmas.Bool.{true≢false}
 use Rattle.std.proofs.lemmas.List.Elements.{Contains-append_left, Contains-append_right}
 use Rattle.wit_model.specs.declared.error.Error.{Error}
@@ -12,7 +12,6 @@ use Rattle.wit_model.specs.declared.model.World.{World}
 use Rattle.wit_model.specs.Lookup.{package_at}
 use Rattle.wit_model.specs.Meant.{package_meaning}
 use Rattle.wit_model.specs.Valid.{IsValid}
-use Rattle.wit_model.proofs.Elements.{contains-one}
 use Rattle.comp_bytes.specs.Refusal.{IsMemoryOrSize}
 use Rattle.comp_bytes.specs.Spelling.{preamble}
 use Rattle.comp_meaning.specs.Follow.{is_filled}
@@ -26,6 +25,8 @@ use Rattle.wit_encode.proofs.WholePackages.{are-worlds}
 use Rattle.wit_component.specs.ReadBack.{IsReadBack, RefusesReadBack}
 use Rattle.wit_component.proofs.Nothing.{preamble_means_nothing}
 use Rattle.wit_component.proofs.ReadBackLaws.{gives_that_meaning, has_meaning}
+use Rattle.base_lemmas.proofs.Elements.{contains-one}
+use Rattle.base_lemmas.proofs.Lists.{within_there as stands}
 
 -- ---- encoding
 
@@ -42,11 +43,6 @@ of_world r w e (RefusesWorld.of_names (RefusesNames.memory is)) = of_memory e is
 of_world r w e (RefusesWorld.of_names (RefusesNames.clash asked name first is)) = absurd (true≢false (sym asked))
 of_world r w e (RefusesWorld.of_room differ h) = h
 
-pub stands : {A : Type 0} (xs : List A) (k : ℕ) → k < length xs → (x : A) × (slice_get xs k ≡ Some x)
-stands [] k below = absurd (omega (arith, below))
-stands (x ∷ xs) zero below = (x, refl)
-stands (x ∷ xs) (suc k) below = stands xs k (omega (arith, below))
-
 of_world_at : (r : Resolve) (n : ℕ) (e : Error) → n < length r.worlds.items → RefusesWorldAt r n false e → IsMemoryOrSize e
 of_world_at r n e below h = let w = stands r.worlds.items n below in of_world r w.0 e (h w.0 w.1)
 
@@ -59,9 +55,6 @@ memory_or_size r v n p at e (RefusesPackage.of_worlds differ h) =
 memory_or_size r v n p at e (RefusesPackage.of_room differ h) = h
 
 -- an error that is handed on
-pub passed_on : {X : Type 0} (P : Error → Type 0) (e : Error) (given : Result X Error) → P e → IsErrAnd given (λ d. d ≡ e) → IfErr given P
-passed_on P e (Ok x) h same = tt
-passed_on P e (Err d) h same = subst P (sym same) h
 
 pub handed_on : {X Y : Type 0} (e : Error) (given : Result X Error) → IsErrAnd given (λ d. d ≡ e) → given ≡ Err errors.Size → ◌≡◌ {A = Result Y Error} (Err e) (Err errors.Size)
 handed_on e (Ok x) same refused = absurd (let z : ⊥ = cc in z)

@@ -33,7 +33,6 @@ use Rattle.encode_types.specs.Maps.{IsOnce, LearnsOnly}
 use Rattle.encode_types.specs.MetKinds.{ReachedFrom, referred}
 use Rattle.encode_types.proofs.Lists.{none-in}
 use Rattle.encode_types.proofs.Pairs.{pairs-map}
-use Rattle.wit_model.proofs.OnePath.{some-same}
 use Rattle.wit_encode.specs.declared.interface.OpenInterface.{OpenInterface}
 use Rattle.wit_encode.specs.Encoders.{declared_after}
 use Rattle.wit_encode.specs.Instance.{declared_extent, extent_in, placed_function}
@@ -49,7 +48,9 @@ use Rattle.wit_encode.proofs.ImportLoop.{numbers-next}
 use Rattle.wit_encode.proofs.Extents.{bytes-few}
 use Rattle.wit_encode.proofs.ExtentWeighing.{dependencies-light, instances-light}
 use Rattle.wit_encode.proofs.Lengths.{u32-short}
-use Rattle.wit_encode.proofs.Opening.{Placed, map-twice}
+use Rattle.wit_encode.proofs.Opening.{Placed}
+use Rattle.base_lemmas.proofs.Lists.{map_of_map as map-twice}
+use Rattle.std.proofs.lemmas.Option.{same_Some as some-same}
 
 -- ---- answers
 

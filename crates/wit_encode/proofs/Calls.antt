@@ -1,5 +1,5 @@
 -- What the calls of an encoder of interfaces do to what it holds.
-use Rattle.std.proofs.Common.{◌≡◌, refl, sym, subst, ap, ◌∙◌, ℕ, ◌+◌, Bool, true, false, not, cond, List, [], ◌∷◌, ◌++◌, append-nil, map, option_to_list, Result, Ok, Err, IfOk, OnOk, OnErr, Option, Some, None, slice_get, length, arith}
+use Rattle.std.proofs.Common.{◌≡◌, refl, sym, subst, ap, ◌∙◌, ℕ, ◌+◌, true, not, cond, List, [], ◌∷◌, ◌++◌, append-nil, map, option_to_list, Result, Ok, Err, IfOk, OnOk, OnErr, Option, Some, None, slice_get, length, arith}
 use Rattle.std.specs.List.{list_all}
 use Rattle.std.specs.Option.{option_map_or, is_some}
 use Rattle.std.proofs.lemmas.List.{map-append}
@@ -9,7 +9,6 @@ use Rattle.wit_model.specs.Tree.{Place, Tree, named}
 use Rattle.wit_model.specs.Meaning.{Signature, TypeMeaning}
 use Rattle.wit_model.specs.declared.model.Resolve.{Resolve}
 use Rattle.wit_model.specs.declared.model.InterfaceId.{InterfaceId}
-use Rattle.wit_model.proofs.Lists.{first_true, second_true}
 use Rattle.comp_bytes.specs.declared.forms.ComponentDefinedType.{ComponentDefinedType}
 use Rattle.comp_bytes.specs.declared.forms.ComponentFuncType.{ComponentFuncType}
 use Rattle.comp_bytes.specs.declared.forms.ComponentTypeRef.{ComponentTypeRef}
@@ -33,6 +32,8 @@ use Rattle.wit_encode.proofs.Strict.{bind, definition-strict, function-strict, f
 use Rattle.wit_encode.proofs.Contents.{IsOf, Grew, grew-adds, grew-grows, same-grows, grew-scope}
 use Rattle.wit_encode.proofs.Declaring.{DeclaredAs, declared-slot, declared-resource}
 use Rattle.wit_encode.proofs.Steps as steps
+use Rattle.base_lemmas.proofs.Bools.{left_of as first_true, right_of as second_true}
+use Rattle.base_lemmas.proofs.Options.{there as some-of}
 
 -- what a call that adds a slot ensures
 pub record Calls {E : Type 0} (res : Result ℕ E) (s s' : Scope) (c c' : Contents) (P : Standing → Type 0) (counts : Type 0) : Type 0 where
@@ -58,10 +59,6 @@ calls-from (Err q) r interface around c c' P counts x sound o is h e = record {
 }
 
 -- ---- what is there
-
-pub some-of : {A : Type 0} (o : Option A) → is_some o ≡ true → (x : A) × (o ≡ Some x)
-some-of None e = absurd (let z : ⊥ = cc in z)
-some-of (Some x) e = (x, refl)
 
 pub record InnerAt (place : Place) (outer : Declarations) (ds : List Declaration) : Type 0 where
   pub scope : InstanceScope
@@ -133,10 +130,6 @@ function-of slots f s h = record { gives = gives; only = λ m e. subst (DefinesF
 
     same : (m : Standing) → Some (function s) ≡ Some m → function s ≡ m
     same m e = cc
-
-not-true : (b : Bool) → b ≡ false → not b ≡ true
-not-true true e = sym e
-not-true false e = refl
 
 -- what is well formed is no name of a resource
 pub formed-value : (resources : Names) (t : Tree) → is_formed resources t ≡ true → not (is_resource_tree resources t) ≡ true

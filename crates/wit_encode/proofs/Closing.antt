@@ -23,7 +23,8 @@ use Rattle.wit_encode.specs.Order.{functions_in_order}
 use Rattle.wit_encode.specs.Instance.{stands_inside, around_at, keyed, placed_function, meaning_of, EncodesInterface, EncodesDependency, EncodesPart, IsInstance}
 use Rattle.wit_encode.proofs.Counting.{count-keys, permuted-keys}
 use Rattle.wit_encode.proofs.Referring.{permuted-aliases, permuted-types}
-use Rattle.wit_encode.proofs.Opening.{Placed, map-twice, values-permuted}
+use Rattle.wit_encode.proofs.Opening.{Placed, values-permuted}
+use Rattle.base_lemmas.proofs.Lists.{map_of_map as map-twice}
 
 -- the instance type takes its slot
 pub closes : {E : Type 0} (res : Result ℕ E) (r : Resolve) (a : Around) (outer outer' : Declarations) (foreign foreign' : Foreign) (i : InterfaceId) (def : Interface) (types : List TypeId) (declared : List Declaration) (fs : List Placed) → types ≡ values def.types

@@ -20,7 +20,6 @@ use Rattle.wit_model.specs.declared.model.WorldItem.TheVariants as item
 use Rattle.wit_model.specs.declared.model.Interface.{Interface}
 use Rattle.wit_model.specs.declared.model.Function.{Function}
 use Rattle.wit_model.specs.declared.model.TypeOwner.TheVariants as owner
-use Rattle.wit_model.proofs.Lists.{first_true}
 use Rattle.encode_types.specs.KeyLaws.{text_same}
 use Rattle.encode_names.specs.WorldNames.{written_path, written_suffix, name_of_interface}
 use Rattle.wit_encode.specs.WorldRoom.{entries_in, functions_among, type_ids_among}
@@ -30,7 +29,9 @@ use Rattle.wit_encode.proofs.Extents.{functions-light, given-texts}
 use Rattle.wit_encode.proofs.ExtentWeighing.{each-below, number-light}
 use Rattle.wit_encode.proofs.Weighing.{sum-among}
 use Rattle.wit_encode.proofs.WorldWeighing as world
-use Rattle.wit_encode.proofs.WorldWeighing.{long, no-suffix-written, written-both}
+use Rattle.wit_encode.proofs.WorldWeighing.{long, written-both}
+use Rattle.base_lemmas.proofs.Bools.{left_of as first_true}
+use Rattle.encode_names.proofs.NamesRead.{no-suffix as no-suffix-written}
 
 -- ---- paths
 

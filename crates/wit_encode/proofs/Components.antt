@@ -12,9 +12,8 @@ use Rattle.encode_types.proofs.Marking.{count-push}
 use Rattle.comp_meaning.specs.Follow.{View, Shown, Key, key_text, interface_of, place_of, used_view, Slot, Scope, Seen, Direction, import_, export_, see, when, definition, function_signature, function_in, named_type, exported_slot, key_of, see_instance, see_function, see_type, in_scope, component_step, component_steps, flat}
 use Rattle.wit_encode.specs.Instance.{count_declared}
 use Rattle.wit_encode.proofs.Steps.{unbind, unprovided}
-
-some-same : {A : Type 0} (a b : A) → Some a ≡ Some b → a ≡ b
-some-same a b e = cc
+use Rattle.std.proofs.lemmas.Option.{same_Some as some-same}
+use Rattle.comp_meaning.proofs.EntryLaws.{flat_list as flat-list}
 
 see-slots : (direction : Direction) (seen : Seen) (s : Scope) → (see direction seen s).slots ≡ s.slots
 see-slots import_ seen s = refl
@@ -100,10 +99,6 @@ steps-more s m n (Declarations.instance inner rest) d e f =
     let b = unbind (flat inner) _ m e in
     ap (λ o. o >>= λ ds. component_steps (in_scope (Slot.instance ds (length s.slots)) s) (append rest (Declarations.declares d Declarations.no_more))) b.is
     ∙ steps-more (in_scope (Slot.instance b.item (length s.slots)) s) m n rest d b.then f
-
-flat-list : (ds : List Declaration) → flat (from_list ds) ≡ Some ds
-flat-list [] = refl
-flat-list (d ∷ ds) = ap (λ o. o >>= λ es. Some (d ∷ es)) (flat-list ds)
 
 -- an instance type more
 pub steps-instance : (s m : Scope) (ds : Declarations) (es : List Declaration) → component_steps s ds ≡ Some m → component_steps s (append ds (Declarations.instance (from_list es) Declarations.no_more)) ≡ Some (in_scope (Slot.instance es (length m.slots)) m)

@@ -4,12 +4,12 @@ use Rattle.std.specs.List.{list_all}
 use Rattle.std.proofs.lemmas.List.Folds.{list_all-append}
 use Rattle.wit_model.specs.declared.model.Resolve.{Resolve}
 use Rattle.wit_model.specs.declared.model.InterfaceId.{InterfaceId}
-use Rattle.wit_model.proofs.Lists.{second_true}
 use Rattle.comp_meaning.specs.Follow.{Slot}
 use Rattle.encode_types.specs.Slots.{Standing, Adds, SlotAdded, SlotsGrow}
 use Rattle.wit_encode.specs.Instance.{standing_at, SlotsStand, is_slot_of, Contents, resources_in, standing_instances, scope_from, scope_with}
 use Rattle.encode_types.specs.Known.{Around}
-use Rattle.encode_types.proofs.Lists.{both}
+use Rattle.base_lemmas.proofs.Bools.{right_of as second_true}
+use Rattle.std.proofs.lemmas.Bool.{and_from as both}
 
 -- ---- one slot more
 

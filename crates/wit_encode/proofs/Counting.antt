@@ -1,11 +1,11 @@
 -- How much is defined for functions, and by an instance type as a whole.
-use Rattle.std.proofs.Common.{◌≡◌, refl, sym, subst, ap, ◌∙◌, ℕ, suc, ◌+◌, ◌<◌, ◌≤◌, Bool, true, false, ◌&&◌, ◌||◌, ◌⊎◌, inl, inr, List, [], ◌∷◌, ◌++◌, length, get_or, take, map, filter, cond, length-append, append_assoc, append-nil, count_by, Result, Ok, Err, OnOk, Option, Some, None, slice_get, arith, Vec}
+use Rattle.std.proofs.Common.{◌≡◌, refl, sym, subst, ap, ◌∙◌, ℕ, ◌+◌, ◌<◌, ◌≤◌, Bool, true, false, ◌&&◌, ◌||◌, ◌⊎◌, inl, inr, List, [], ◌∷◌, ◌++◌, length, get_or, take, map, filter, cond, length-append, append_assoc, append-nil, count_by, Result, Ok, Err, OnOk, Option, Some, None, slice_get, arith}
 use Rattle.std.specs.Prelude.{nat_eq, IsPermutation, String}
 use Rattle.std.specs.declared.alloc.Global.{Global}
-use Rattle.std.specs.List.{Contains, IsDistinct, list_any, filter_map, cons_option}
+use Rattle.std.specs.List.{Contains, IsDistinct, filter_map, cons_option}
 use Rattle.std.specs.Option.{option_map, option_map_or, option_and_then, is_some, is_none}
 use Rattle.std.specs.Set.{is_member, distinct_count}
-use Rattle.std.proofs.lemmas.Bool.{cases_Bool, cond-true, eqb-true, eq-eqb}
+use Rattle.std.proofs.lemmas.Bool.{cond-true, or_cases as either-one, or_left as or-first, or_right as or-second}
 use Rattle.std.proofs.lemmas.Cmp.{nat_eq_equiv}
 use Rattle.std.proofs.lemmas.List.{take_more, take_all, map-append, length-map}
 use Rattle.std.proofs.lemmas.List.Elements.{filter_passes, All-contains}
@@ -15,7 +15,6 @@ use Rattle.std.proofs.lemmas.List.Sums.{length-filter, sum_by-append}
 use Rattle.std.proofs.lemmas.List.Sorted.{list_any-IsPermutation, IsPermutation-map, sum_by-IsPermutation}
 use Rattle.std.proofs.lemmas.Map.Keys.{IsDistinct-from_apart}
 use Rattle.std.proofs.lemmas.Map.Made.{length-from_keys}
-use Rattle.wit_model.proofs.Lists.{first_true, second_true}
 use Rattle.wit_model.specs.Text.{Text, text_of}
 use Rattle.wit_model.specs.Meaning.{TypeMeaning, FunctionMeaning}
 use Rattle.wit_model.specs.Lookup.{type_at}
@@ -34,7 +33,7 @@ use Rattle.encode_types.specs.Slots.{Pairs, Standing, tree}
 use Rattle.encode_types.proofs.Marking.{slots-none, slots-then, more-then, same-keys, one-key-more}
 use Rattle.wit_encode.proofs.Calls.{inner-at}
 use Rattle.wit_encode.proofs.ValueSlots.{IsPlain, inner-values, slots-counted}
-use Rattle.wit_encode.proofs.Mapped.{contains-filter, from-filter, from-map}
+use Rattle.wit_encode.proofs.Mapped.{contains-filter, from-filter}
 use Rattle.wit_encode.proofs.DefinedTypes.{HeldKinds, defines-types}
 use Rattle.encode_types.specs.declared.key.FunctionKey.{FunctionKey}
 use Rattle.encode_types.specs.declared.maps.TypeEncodingMaps.{TypeEncodingMaps}
@@ -52,18 +51,14 @@ use Rattle.encode_types.specs.Distinct.{Key, key_of, key_view, are_same, KnowsKe
 use Rattle.wit_encode.specs.Instance.{own_of, contents_of, inner_contents, outer_slots, standing_at, SlotsStand, stands_inside, encoder_scope, definitions_with, opened, ShowsFunction}
 use Rattle.encode_types.proofs.Pairs.{pairs-map}
 use Rattle.encode_types.proofs.Tables.{kept-in, new-in, one-more-in}
-use Rattle.wit_encode.proofs.Naming.{or-second}
-use Rattle.wit_encode.proofs.HeldKeys.{both-ways, any-at, same_equiv, HasList, alike, grown, shrunk, knows-same, knows-along, knows-none, keyed, stand-for-keys, slots-many}
-use Rattle.wit_model.proofs.Elements.{contains-map}
+use Rattle.wit_encode.proofs.HeldKeys.{same_equiv, HasList, alike, grown, shrunk, knows-same, knows-along, knows-none, keyed, stand-for-keys, slots-many}
+use Rattle.base_lemmas.proofs.Bools.{both_ways as both-ways, left_of as first_true, or_false as or-none, right_of as second_true}
+use Rattle.base_lemmas.proofs.Elements.{contains-map, map_from as from-map, member-there, there-member}
 
 -- ---- keys
 
 key-is : (key : FunctionKey) (f : Function) → IsKeyOf key f → key_view key ≡ key_of f
 key-is key f h = λ i. record { is_async = h.async i; params = h.params i; result_type = h.result_ i }
-
-or-none : (a : Bool) → (a || false) ≡ a
-or-none true = refl
-or-none false = refl
 
 -- a key is that of a function alone
 only-one : (f : Function) (q : Key) → is_member are_same (map key_of (f ∷ [])) q ≡ true → are_same q (key_of f) ≡ true
@@ -75,14 +70,6 @@ one-alone f q e = or-none (are_same q (key_of f)) ∙ e
 -- the keys of functions and of others
 members-both : (fs gs : List Function) (q : Key) → is_member are_same (map key_of (fs ++ gs)) q ≡ (is_member are_same (map key_of fs) q || is_member are_same (map key_of gs) q)
 members-both fs gs q = ap (λ xs. is_member are_same xs q) (map-append key_of fs gs) ∙ list_any-append (are_same q) (map key_of fs) (map key_of gs)
-
-or-first : (a b : Bool) → a ≡ true → (a || b) ≡ true
-or-first true b e = refl
-or-first false b e = absurd (let z : ⊥ = cc in z)
-
-either-one : (a b : Bool) → (a || b) ≡ true → (a ≡ true) ⊎ (b ≡ true)
-either-one true b e = inl refl
-either-one false b e = inr e
 
 none-member : (q : Key) → is_member are_same (map key_of []) q ≡ true → ⊥
 none-member q h = let z : ⊥ = cc in z
@@ -334,17 +321,6 @@ pub functions-all : {r : Resolve} {s : Scope} {a b : TypeEncodingMaps} {d e : De
 functions-all {r} {s} {a} {b} {d} {e} view xs i l p = subst (λ ys. AddsFunctions r s a b d e (map view ys)) (take_all i xs l) p
 
 -- ---- which named types have been defined
-
-member-there : (xs : List ℕ) (q : ℕ) → is_member nat_eq xs q ≡ true → Contains xs q
-member-there [] q h = absurd (let z : ⊥ = cc in z)
-member-there (x ∷ xs) q h =
-    elim (cases_Bool (nat_eq q x)) [
-      | inl e ↦ (0, omega arith, sym (eqb-true q x e))
-      | inr e ↦ let c = member-there xs q (sym (ap (λ b. b || list_any (nat_eq q) xs) e) ∙ h) in (suc c.0, (let n = c.1 in omega arith), c.2)
-    ]
-
-there-member : (xs : List ℕ) (q : ℕ) → Contains xs q → is_member nat_eq xs q ≡ true
-there-member xs q c = any-at (nat_eq q) xs q c (eq-eqb q q refl)
 
 -- what is defined under a name is shown under it
 shown-where-defined : (r : Resolve) (scope : Scope) (n : ℕ) → is_defined_by_name r scope n ≡ true → own_name r scope n ≡ None → ⊥

@@ -1,11 +1,10 @@
 -- Which value types a scope defines, from what has been defined call by call.
-use Rattle.std.proofs.Common.{◌≡◌, refl, sym, ap, subst, ◌∙◌, ℕ, zero, suc, Bool, true, false, List, [], ◌∷◌, ◌++◌, map, Option, Some, None, arith, count_by, Vec}
+use Rattle.std.proofs.Common.{◌≡◌, refl, sym, ap, subst, ◌∙◌, ℕ, suc, Bool, true, false, List, [], ◌∷◌, ◌++◌, map, Option, Some, None, arith, count_by, Vec}
 use Rattle.std.specs.Prelude.{nat_eq, not, cond, filter, IsPermutation, String, ◌||◌}
 use Rattle.std.specs.declared.alloc.Global.{Global}
 use Rattle.std.specs.List.{Contains, AllZip}
 use Rattle.std.specs.Option.{option_map_or, is_some}
 use Rattle.std.specs.Set.{is_member, distinct_count}
-use Rattle.std.proofs.lemmas.Bool.{eqb-true, eq-eqb}
 use Rattle.std.proofs.lemmas.List.Elements.{Contains-append_right}
 use Rattle.std.proofs.lemmas.List.Sorted.{IsPermutation-refl, IsPermutation-trans, IsPermutation-sym, IsPermutation-cons, IsPermutation-middle, IsPermutation-append_left, Contains-permutation}
 use Rattle.wit_model.specs.Text.{Text, text_of}
@@ -34,12 +33,12 @@ use Rattle.encode_types.specs.MetKinds.{AreMetKinds, referred}
 use Rattle.encode_types.specs.Counts.{Definitions, Marked, slots_of, named_slots, other_slots, kind_slots, names_defined, is_defined_by_name, IsTarget, AddsSlots}
 use Rattle.encode_types.specs.Distinct.{defined_under_names, value_slots, targets_of, DefinesTypes}
 use Rattle.encode_types.proofs.Encoding.{tabled}
-use Rattle.encode_types.proofs.Lists.{none-in}
-use Rattle.wit_model.proofs.Elements.{contains-one}
-use Rattle.wit_model.proofs.Lists.{second_true}
-use Rattle.wit_encode.proofs.Validity.{type_passes, valid-unnamed, valid-layered}
+use Rattle.wit_encode.proofs.Validity.{valid-unnamed, valid-layered}
 use Rattle.wit_encode.proofs.Reached.{part-at}
 use Rattle.wit_encode.proofs.ValueSlots.{IsPlain}
+use Rattle.base_lemmas.proofs.Bools.{right_of as second_true}
+use Rattle.base_lemmas.proofs.Elements.{contains-one, member-there as slot-there, there-member as has-slot}
+use Rattle.encode_shown.proofs.Basics.{type-passes as type_passes}
 
 -- ---- lists of slots
 
@@ -50,23 +49,6 @@ split-marked ((false, i) ∷ xs) = IsPermutation-cons i (slots_of xs) (other_slo
 split-marked ((true, i) ∷ xs) = IsPermutation-trans (i ∷ slots_of xs) (i ∷ (other_slots xs ++ named_slots xs)) (other_slots xs ++ i ∷ named_slots xs)
     (IsPermutation-cons i (slots_of xs) (other_slots xs ++ named_slots xs) (split-marked xs))
     (IsPermutation-sym _ _ (IsPermutation-middle (other_slots xs) i (named_slots xs)))
-
-has-slot : (xs : List ℕ) (i : ℕ) → Contains xs i → is_member nat_eq xs i ≡ true
-has-slot [] i c = absurd (none-in i c)
-has-slot (x ∷ xs) i (zero, l, e) = ap (λ b. b || is_member nat_eq xs i) (eq-eqb i x (sym e))
-has-slot (x ∷ xs) i (suc k, l, e) = or-second (nat_eq i x) (is_member nat_eq xs i) (has-slot xs i (k, omega (arith, l), e))
-  where
-    or-second : (a b : Bool) → b ≡ true → (a || b) ≡ true
-    or-second true b h = refl
-    or-second false b h = h
-
-slot-there : (xs : List ℕ) (i : ℕ) → is_member nat_eq xs i ≡ true → Contains xs i
-slot-there [] i h = absurd (let z : ⊥ = cc in z)
-slot-there (x ∷ xs) i h = go (slot-there xs i) (nat_eq i x) refl h
-  where
-    go : (is_member nat_eq xs i ≡ true → Contains xs i) → (b : Bool) → nat_eq i x ≡ b → (b || is_member nat_eq xs i) ≡ true → Contains (x ∷ xs) i
-    go more true e h = (0, omega arith, sym (eqb-true i x e))
-    go more false e h = let c = more h in (suc c.0, (let l = c.1 in omega arith), c.2)
 
 -- where a test holds of the marked ones alone, they pass
 passes-marked : (p : ℕ → Bool) (xs : Marked) → ((i : ℕ) → Contains (named_slots xs) i → p i ≡ true) → ((i : ℕ) → Contains (other_slots xs) i → p i ≡ false) → filter p (slots_of xs) ≡ named_slots xs

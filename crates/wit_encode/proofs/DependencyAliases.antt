@@ -1,5 +1,5 @@
 -- The aliases in the component type of an interface.
-use Rattle.std.proofs.Common.{◌≡◌, refl, sym, subst, ap, ◌∙◌, ℕ, zero, suc, ◌+◌, ◌⊎◌, inl, inr, nat_cmp, nat_eq, Bool, true, false, List, [], ◌∷◌, ◌++◌, append_assoc, append-nil, map, length, Option, Some, None, slice_get, arith}
+use Rattle.std.proofs.Common.{◌≡◌, refl, sym, subst, ap, ◌∙◌, ℕ, zero, suc, ◌+◌, ◌⊎◌, inl, inr, nat_cmp, nat_eq, Bool, true, false, List, [], ◌∷◌, ◌++◌, append_assoc, append-nil, map, Option, Some, None, slice_get, arith}
 use Rattle.std.specs.BTreeMap.{insert_entry, is_at}
 use Rattle.std.specs.List.{Contains, IsDistinct}
 use Rattle.std.proofs.lemmas.Cmp.{nat_eq_equiv}
@@ -11,9 +11,8 @@ use Rattle.wit_model.specs.declared.model.Resolve.{Resolve}
 use Rattle.wit_model.specs.declared.model.Interface.{Interface}
 use Rattle.wit_model.specs.declared.model.InterfaceId.{InterfaceId}
 use Rattle.wit_model.specs.declared.model.«Type».{«Type» as ValueType}
-use Rattle.wit_model.proofs.Checks.{get_before}
-use Rattle.wit_model.proofs.Elements.{contains-get, contains-later, contains-one, none-in, one-contained}
-use Rattle.comp_bytes.specs.Raw.{Alias, Declaration, Declarations, append, from_list}
+use Rattle.wit_model.proofs.Elements.{contains-get, none-in}
+use Rattle.comp_bytes.specs.Raw.{Declaration, Declarations, append, from_list}
 use Rattle.comp_bytes.specs.Held.{type_slots_of}
 use Rattle.comp_bytes.specs.declared.forms.ComponentTypeRef.TheVariants as refs
 use Rattle.encode_names.specs.WorldNames.{name_of_interface}
@@ -23,10 +22,11 @@ use Rattle.encode_types.specs.Known.{Aliased, AreAliases, Around, IsAlias, alias
 use Rattle.encode_types.proofs.Planning.{lacks-member}
 use Rattle.wit_encode.specs.Dependencies.{HasImported, ImportsTypes, with_export}
 use Rattle.wit_encode.specs.DependencyAliases.{HasAliased, HasAliases, IsAliasAmong, IsAskedFor, IsMetAmong, IsMetByWhole, alias_in, aliases_declared, export_alias}
-use Rattle.wit_encode.specs.Instance.{EncodesInterface, whole_interface, types_alone_of}
+use Rattle.wit_encode.specs.Instance.{EncodesInterface}
 use Rattle.wit_encode.proofs.Imported.{other-slot, at-same}
 use Rattle.wit_encode.proofs.Importing.{new-slot}
-use Rattle.wit_encode.proofs.Mapped.{from-map}
+use Rattle.base_lemmas.proofs.Elements.{contains-later, contains-one, last_of as one-contained, map_from as from-map}
+use Rattle.base_lemmas.proofs.Numbers.{none-twice}
 
 -- ---- one declaration more
 
@@ -94,10 +94,6 @@ module _ (r : Resolve) (ns : List ℕ) (P : ℕ → Type 0) where
 
   pub met-aliased : {own : Option InterfaceId} {ts : List ValueType} {a b : Around} → ((i k : ℕ) → known_instance a.instances i ≡ Some k → slice_get ns k ≡ Some i) → AliasesMet r own ts a b → ((n : ℕ) → IsMetElsewhere r own ts n → P n) → HasAliased r ns P a → HasAliased r ns P b
   met-aliased {own} {ts} {a} {b} lists g f h = subst (HasAliased r ns P) (sym g.grown.is) (all-aliased a g.grown.made lists g.grown.are (λ x c. f x.number.0 (g.met x c)) h)
-
-none-twice : IsDistinct nat_eq []
-unfolding IsDistinct
-none-twice = tt
 
 -- where nothing has been declared
 pub nothing-aliased : (r : Resolve) (P : ℕ → Type 0) (a : Around) → a.declared ≡ Declarations.no_more → HasAliased r [] P a

@@ -14,11 +14,9 @@ use Rattle.comp_bytes.specs.Held.{fits_counts, type_slots_of}
 use Rattle.comp_bytes.specs.Fits.{fits_name}
 use Rattle.comp_bytes.specs.declared.forms.ComponentTypeRef.TheVariants as refs
 use Rattle.encode_reach.specs.Reach.{reached_in_order}
-use Rattle.encode_shown.proofs.Zips.{zip-append}
 use Rattle.encode_types.specs.Distinct.{is_value_type, is_function_type}
 use Rattle.encode_types.specs.Known.{Around, GrowsAround, known_instance}
 use Rattle.encode_types.specs.Room.{limit}
-use Rattle.wit_model.proofs.OnePath.{some-of}
 use Rattle.encode_names.specs.WorldNames.{name_of_interface}
 use Rattle.wit_encode.specs.Dependencies.{HasImported, ImportsTypes, with_export}
 use Rattle.wit_encode.specs.DependencyAliases.{HasImportAliases}
@@ -31,6 +29,8 @@ use Rattle.wit_encode.specs.Worlds.{brought_numbers, instances_declared}
 use Rattle.wit_encode.proofs.PlacedInstances.{grown-few, grown-listed, one-behind, placed-counted, placed-few, placed-instances}
 use Rattle.wit_encode.proofs.Refusing.{counts-refused, outer-slots-few}
 use Rattle.wit_encode.proofs.WorldHolding.{brought-some}
+use Rattle.base_lemmas.proofs.Elements.{zip-append}
+use Rattle.base_lemmas.proofs.Options.{there as some-of}
 
 -- ---- one import more
 

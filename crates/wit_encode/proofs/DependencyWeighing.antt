@@ -22,7 +22,6 @@ use Rattle.wit_model.specs.declared.model.TypeDef.{TypeDef}
 use Rattle.wit_model.specs.declared.model.TypeId.{TypeId}
 use Rattle.wit_model.specs.declared.model.TypeOwner.{TypeOwner}
 use Rattle.wit_model.specs.declared.model.TypeOwner.TheVariants as owner
-use Rattle.wit_model.proofs.Lists.{second_true}
 use Rattle.comp_bytes.specs.Fits.{fits_name}
 use Rattle.encode_shown.specs.Views.{AreReached, AreUsed}
 use Rattle.encode_shown.proofs.Reach.{Chain, chain-reached, further, used-chain}
@@ -36,14 +35,16 @@ use Rattle.wit_encode.specs.DependencyRoom.{TypesLackRoom, ImportsLackRoom, an_i
 use Rattle.wit_encode.specs.WorldRoom.{IsNamedTypeOf}
 use Rattle.wit_encode.proofs.Mapped.{from-filter}
 use Rattle.wit_encode.proofs.ImportLoop.{path-in-range}
-use Rattle.wit_encode.proofs.Numbers.{same-number}
 use Rattle.wit_encode.proofs.Reached.{IsOwner, interface-owner}
 use Rattle.wit_encode.proofs.UsedPaths.{used-path}
-use Rattle.wit_encode.proofs.Validity.{type_passes}
 use Rattle.wit_encode.proofs.Weighing.{Differ, at-least, contains-once, counted-least, counted-once, lacking-heavy, one-of, part-heavy-of, sum-among}
 use Rattle.wit_encode.proofs.WorldWeighing.{each, each-least, long, name-fits, number-least, suffix-long, written-long}
-use Rattle.wit_model.proofs.Elements.{contains-map, has-contains, contains-has}
+use Rattle.wit_model.proofs.Elements.{has-contains, contains-has}
 use Rattle.encode_shown.proofs.Dependencies.{distinct-front}
+use Rattle.base_lemmas.proofs.Bools.{right_of as second_true}
+use Rattle.base_lemmas.proofs.Elements.{contains-map}
+use Rattle.base_lemmas.proofs.Numbers.{same-number}
+use Rattle.encode_shown.proofs.Basics.{type-passes as type_passes}
 
 -- ---- what is reached
 

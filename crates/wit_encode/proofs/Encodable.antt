@@ -1,6 +1,6 @@
 -- An interface meets types of its own, and types of interfaces that it uses: where these stand around, all of it can be encoded.
-use Rattle.std.proofs.Common.{◌≡◌, refl, sym, subst, ap, ◌∙◌, ℕ, zero, suc, Bool, true, false, not, cond, ◌&&◌, ◌||◌, ◌==◌, eq-eqb, List, [], ◌∷◌, map, length, option_to_list, Option, Some, None, String, is_some, arith}
-use Rattle.std.proofs.lemmas.Bool.{lt-ltb}
+use Rattle.std.proofs.Common.{◌≡◌, refl, sym, subst, ap, ◌∙◌, ℕ, suc, Bool, true, false, not, cond, ◌&&◌, ◌||◌, ◌==◌, List, [], ◌∷◌, map, length, option_to_list, Option, Some, None, String, is_some, arith}
+use Rattle.std.proofs.lemmas.Bool.{lt-ltb, and_from as both}
 use Rattle.std.proofs.lemmas.Simd.{map-map}
 use Rattle.std.specs.declared.alloc.Global.{Global}
 use Rattle.std.specs.List.{Contains, list_all}
@@ -27,7 +27,6 @@ use Rattle.wit_encode.specs.declared.interface.Foreign.{Foreign}
 use Rattle.wit_model.specs.declared.model.TypeOwner.{TypeOwner}
 use Rattle.wit_model.specs.declared.model.TypeOwner.TheVariants as owner
 use Rattle.wit_model.specs.declared.model.«Type».TheVariants as ty
-use Rattle.wit_model.proofs.Lists.{first_true, second_true}
 use Rattle.wit_model.proofs.Shown.{deps_pass}
 use Rattle.comp_bytes.specs.Raw.{Declarations}
 use Rattle.encode_types.specs.KeyLaws.{text_same}
@@ -38,16 +37,21 @@ use Rattle.encode_types.specs.Known.{UsedStand}
 use Rattle.wit_encode.specs.Instance.{CanEncodeFunction, CanEncodeInterface, encoder_scope, opened, keyed, standing_instances, around_at}
 use Rattle.wit_model.specs.declared.model.«Type».{«Type» as ValueType}
 use Rattle.encode_types.specs.Plan.{Reaches, itself, through}
-use Rattle.encode_types.proofs.Lists.{both}
-use Rattle.wit_model.proofs.OnePath.{equal-numbers, found-in, some-of, some-same}
-use Rattle.wit_encode.proofs.Naming.{or-first, or-second, one-home, valid-listed}
+use Rattle.wit_model.proofs.OnePath.{found-in}
+use Rattle.wit_encode.proofs.Naming.{one-home, valid-listed}
 use Rattle.wit_encode.specs.OwnerScope.{IsScopeOf, IsUsedBy, UsesStand, IsTypeOf, InterfaceUses, functions_of}
 use Rattle.wit_encode.proofs.OwnerScope.{types_encode, types_use, functions_encode, functions_use}
 use Rattle.wit_encode.proofs.Naming.{names-agree}
 use Rattle.wit_encode.proofs.Opening.{opened-sound, opened-around}
-use Rattle.wit_encode.proofs.Validity.{interface_passes, valid-layered}
-use Rattle.wit_model.proofs.Elements.{contains-map, one-contained, all-contained}
-use Rattle.encode_shown.proofs.Basics.{same-owner, or-cases}
+use Rattle.wit_encode.proofs.Validity.{valid-layered}
+use Rattle.encode_shown.proofs.Basics.{same-owner}
+use Rattle.base_lemmas.proofs.Bools.{left_of as first_true, right_of as second_true}
+use Rattle.base_lemmas.proofs.Elements.{all-contained, contains-map, last_of as one-contained}
+use Rattle.base_lemmas.proofs.Numbers.{equal as equal-numbers}
+use Rattle.base_lemmas.proofs.Options.{there as some-of}
+use Rattle.std.proofs.lemmas.Option.{same_Some as some-same}
+use Rattle.wit_model.proofs.Elements.{contains-has, has-contains}
+use Rattle.wit_model.proofs.OnePath.{interface-passes as interface_passes}
 
 -- ---- look-ups
 
@@ -115,18 +119,6 @@ used-other r def i own h = at-target (alias_target def.kind) refl h
     at-target (Some t) e h = at-type t e (type_at r t) refl h
 
 -- ---- numbers in a list
-
-has-contains : (ns : List ℕ) (n : ℕ) → has ns n ≡ true → Contains ns n
-has-contains [] n h = let wrong : ⊥ = cc in absurd wrong
-has-contains (m ∷ ns) n h = or-cases (m == n) (has ns n) h (λ e. (0, omega arith, equal-numbers m n e)) (λ e. later (has-contains ns n e))
-  where
-    later : Contains ns n → Contains (m ∷ ns) n
-    later (k, l, e) = (suc k, omega (arith, l), e)
-
-contains-has : (ns : List ℕ) (n : ℕ) → Contains ns n → has ns n ≡ true
-contains-has [] n (k, l, e) = absurd (omega (arith, l))
-contains-has (m ∷ ns) n (zero, l, e) = or-first (m == n) (has ns n) (eq-eqb m n e)
-contains-has (m ∷ ns) n (suc k, l, e) = or-second (m == n) (has ns n) (contains-has ns n (k, omega (arith, l), e))
 
 all-from : (p : ℕ → Bool) (ns : List ℕ) → ((n : ℕ) → Contains ns n → p n ≡ true) → list_all p ns ≡ true
 all-from p [] h = refl

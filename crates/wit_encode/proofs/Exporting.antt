@@ -8,7 +8,7 @@ use Rattle.std.specs.Map.{keys_of}
 use Rattle.std.specs.Option.{option_map_or}
 use Rattle.std.proofs.lemmas.Cmp.{nat_list_eq_equiv, nat_eq_equiv}
 use Rattle.std.proofs.lemmas.List.Sorted.{IsPermutation-sym, Contains-permutation}
-use Rattle.std.proofs.lemmas.Option.{slice_get_within, get_or_from_slice_get}
+use Rattle.std.proofs.lemmas.Option.{slice_get_within, get_or_from_slice_get, same_Some as same-some}
 use Rattle.std.proofs.lemmas.List.{take_more, take_all, take-map, length-map}
 use Rattle.std.proofs.Math.ListN.{get_or-map}
 use Rattle.std.proofs.lemmas.List.Elements.{Contains-append_left, Contains-append_right, Contains-append_cases, Contains-push, Contains-push_cases}
@@ -32,7 +32,6 @@ use Rattle.wit_model.specs.declared.model.TypeId.{TypeId}
 use Rattle.wit_model.specs.declared.model.«Type».{«Type» as ValueType}
 use Rattle.wit_model.specs.declared.model.«Type».TheVariants as ty
 use Rattle.wit_model.specs.declared.model.TypeOwner.{TypeOwner}
-use Rattle.wit_model.proofs.Lists.{first_true, second_true}
 use Rattle.wit_model.proofs.Owners.{function_home}
 use Rattle.encode_types.specs.declared.maps.TypeEncodingMaps.{TypeEncodingMaps}
 use Rattle.encode_types.specs.Kinds.{parts_of}
@@ -42,15 +41,19 @@ use Rattle.encode_types.specs.Scope.{Scope}
 use Rattle.encode_types.specs.Counts.{Definitions, Shows, own_name, name_of_own}
 use Rattle.wit_encode.specs.Instance.{declarations_in}
 use Rattle.wit_encode.specs.Exports.{AreTypesOf, ShowsFirst, AllKnown, KnowsUsed, UsesListed}
-use Rattle.encode_types.proofs.Lists.{contains-one, none-in}
-use Rattle.wit_encode.proofs.Validity.{interface_passes}
-use Rattle.wit_encode.proofs.Numbers.{same-some, same-number, equal, once-before, gives-none, gives-one, nothing-mapped, one-mapped}
+use Rattle.encode_types.proofs.Lists.{none-in}
+use Rattle.wit_encode.proofs.Numbers.{once-before, gives-none, gives-one, one-mapped}
 use Rattle.wit_encode.proofs.ListedTypes.{IsListedType, numbers, owned-listed, listed-type, type-there, number-there, listed-once, listed-key, uses-before}
 use Rattle.wit_encode.proofs.Meeting.{AllMeetKnown, part-uses, meets-unnamed}
 use Rattle.encode_types.proofs.Pairs.{pairs-across, pairs-right}
 use Rattle.encode_types.proofs.Tables.{pairs-permuted}
-use Rattle.wit_model.proofs.Elements.{contains-map, contains-filter_map, one-contained, all-contained, contains-get, contains-later, contains-flat, has-contains}
+use Rattle.wit_model.proofs.Elements.{contains-filter_map, contains-get, contains-flat, has-contains}
 use Rattle.encode_shown.proofs.Basics.{valid-references, same-owner}
+use Rattle.base_lemmas.proofs.Bools.{left_of as first_true, right_of as second_true}
+use Rattle.base_lemmas.proofs.Elements.{all-contained, contains-map, contains-one, last_of as one-contained, map_from as contains-mapped}
+use Rattle.base_lemmas.proofs.Lists.{nothing-mapped}
+use Rattle.base_lemmas.proofs.Numbers.{equal, same-number}
+use Rattle.wit_model.proofs.OnePath.{interface-passes as interface_passes}
 
 -- ---- what is learnt
 
@@ -153,13 +156,6 @@ unique-entry {V} (x ∷ xs) h j k a b p q same = go (λ j k p q. unique-entry xs
     go rest zero (suc k) p q = absurd (apart xs k b h.0 q (ap (λ (w : String Global × V). text_of w.0) (same-some x a p) ∙ same))
     go rest (suc j) zero p q = absurd (apart xs j a h.0 p (ap (λ (w : String Global × V). text_of w.0) (same-some x b q) ∙ sym same))
     go rest (suc j) (suc k) p q = rest j k p q
-
-pub contains-mapped : {A B : Type 0} (f : A → B) (xs : List A) (y : B) → Contains (map f xs) y → (x : A) × Contains xs x × (f x ≡ y)
-contains-mapped f [] y c = none-in y c
-contains-mapped f (x ∷ xs) y (zero, l, e) = (x, (0, omega arith, refl), e)
-contains-mapped f (x ∷ xs) y (suc k, l, e) =
-    let more = contains-mapped f xs y (k, omega (arith, l), e) in
-    (more.0, contains-later x xs more.0 more.1, more.2)
 
 module _ (r : Resolve) (v : IsValid r) (scope : Scope) (id : InterfaceId) (interface : Interface) (own : scope.own_interface ≡ Some id)
     (there : interface_at r id.0 ≡ Some interface)

@@ -1,5 +1,5 @@
 -- How many bytes are written at most of a definition, of the type of a function and of a name, and that types and functions weigh no less.
-use Rattle.std.proofs.Common.{◌≡◌, refl, sym, subst, ap, ◌∙◌, ◌||◌, ℕ, zero, suc, ◌+◌, ◌*◌, ◌/◌, ◌%◌, ◌≤◌, Bool, true, false, not, nat_lt, if◌then◌else◌, arith, List, [], ◌∷◌, ◌++◌, map, length, length-append, flat_map, Option, Some, None, option_map, option_to_list, is_some, String}
+use Rattle.std.proofs.Common.{◌≡◌, refl, sym, subst, ap, ◌∙◌, ◌||◌, ℕ, ◌+◌, ◌*◌, ◌≤◌, Bool, true, not, arith, List, [], ◌∷◌, ◌++◌, map, length, length-append, flat_map, Option, Some, None, option_map, option_to_list, is_some, String}
 use Rattle.std.specs.Prelude.{sum_by}
 use Rattle.std.specs.List.{AllZip, Contains}
 use Rattle.std.specs.Option.{option_map_or}
@@ -8,7 +8,7 @@ use Rattle.std.specs.declared.alloc.Global.{Global}
 use Rattle.std.proofs.lemmas.List.Sums.{sum_by-cons, sum_by-append}
 use Rattle.std.proofs.Math.ListN.{length-map}
 use Rattle.wit_model.specs.Text.{Text, text_of, optional_text}
-use Rattle.wit_model.specs.Tree.{Tree, children, child_list, named, is_given}
+use Rattle.wit_model.specs.Tree.{Tree, children, child_list, is_given}
 use Rattle.wit_model.specs.Meaning.{Signature}
 use Rattle.wit_model.specs.Meant.{type_meaning}
 use Rattle.wit_model.specs.Lookup.{type_at, place_of}
@@ -26,7 +26,6 @@ use Rattle.wit_model.specs.declared.model.TypeDefKind.TheVariants as kind
 use Rattle.wit_model.specs.declared.model.Handle.TheVariants as handle
 use Rattle.wit_model.specs.declared.model.«Type».{«Type» as ValueType}
 use Rattle.wit_model.specs.declared.model.«Type».TheVariants as ty
-use Rattle.wit_model.proofs.Lists.{second_true}
 use Rattle.comp_bytes.specs.declared.forms.ComponentDefinedType.{ComponentDefinedType}
 use Rattle.comp_bytes.specs.declared.forms.ComponentDefinedType.TheVariants as form
 use Rattle.comp_bytes.specs.declared.forms.ComponentFuncType.{ComponentFuncType}
@@ -37,29 +36,24 @@ use Rattle.comp_bytes.specs.declared.forms.ComponentTypeRef.TheVariants as refs
 use Rattle.comp_bytes.specs.Raw.{Declaration, ExternName}
 use Rattle.comp_bytes.specs.RawOf.{raw_defined, raw_function, labeled, text_of as raw_text}
 use Rattle.comp_bytes.specs.Spelling.{attribute, attributes}
-use Rattle.comp_bytes.specs.Writing.{u32_bytes, type_index_bytes, positive_bytes, name_bytes, value_bytes, optional_bytes, field_bytes, case_bytes, vector_bytes, result_list_bytes, attribute_bytes, attributed_bytes, extern_name_bytes, description_bytes, declaration_bytes}
+use Rattle.comp_bytes.specs.Writing.{u32_bytes, type_index_bytes, name_bytes, value_bytes, optional_bytes, field_bytes, case_bytes, vector_bytes, result_list_bytes, attribute_bytes, attributed_bytes, extern_name_bytes, description_bytes, declaration_bytes}
 use Rattle.encode_types.specs.Slots.{Pairs, StandsFor, NamedStands, CaseStands, Follows, FollowsFunction, texts}
 use Rattle.encode_types.specs.Kinds.{kind_tree}
 use Rattle.encode_types.specs.Scope.{exported_name}
 use Rattle.encode_types.specs.Standing.{SlotsStand}
 use Rattle.encode_types.proofs.Encoding.{tabled}
-use Rattle.encode_types.proofs.Lists.{contains-one}
 use Rattle.wit_encode.specs.Extents.{labels_extent, tree_extent, signature_extent, given_length, name_extent, own_name_extent, BytesAreFew, TypesAreLight, FunctionsAreLight}
 use Rattle.wit_encode.proofs.Lengths.{u32-short, name-short, vector-short}
 use Rattle.wit_encode.proofs.Reached.{part-at}
-use Rattle.wit_encode.proofs.Refusing.{listed, zip-length}
-use Rattle.wit_encode.proofs.Validity.{type_passes, valid-layered}
-use Rattle.wit_encode.proofs.Opening.{map-twice}
+use Rattle.wit_encode.proofs.Validity.{valid-layered}
+use Rattle.base_lemmas.proofs.Bools.{right_of as second_true}
+use Rattle.base_lemmas.proofs.Elements.{contains-one, zip_long as zip-length}
+use Rattle.base_lemmas.proofs.Lists.{map_of_map as map-twice}
+use Rattle.comp_bytes.proofs.IndexWrites.{length_within as positive-short}
+use Rattle.encode_shown.proofs.Basics.{type-passes as type_passes}
+use Rattle.encode_shown.proofs.Children.{listed}
 
 -- ---- parts
-
-positive-short : (room n : ℕ) → length (positive_bytes room n) ≤ room
-positive-short zero n = omega arith
-positive-short (suc room) n = by-test (nat_lt n 64) (positive-short room (n / 128))
-  where
-    by-test : (b : Bool) → length (positive_bytes room (n / 128)) ≤ room → length (if b then n ∷ [] else (n % 128 + 128) ∷ positive_bytes room (n / 128)) ≤ suc room
-    by-test true h = omega arith
-    by-test false h = omega arith
 
 index-short : (n : ℕ) → length (type_index_bytes n) ≤ 5
 unfolding type_index_bytes

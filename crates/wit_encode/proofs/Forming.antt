@@ -17,15 +17,12 @@ use Rattle.wit_model.specs.declared.model.«Type».TheVariants as ty
 use Rattle.comp_meaning.specs.Follow.{is_key, is_filled}
 use Rattle.encode_types.specs.Kinds.{parts_of, has_definition, kind_tree}
 use Rattle.encode_types.specs.Resources.{Names, is_resource_tree, is_resource_declaration}
-use Rattle.encode_types.proofs.Lists.{both}
 use Rattle.encode_types.specs.Formed.{are_values, is_formed}
-use Rattle.wit_model.proofs.Lists.{first_true, second_true}
+use Rattle.base_lemmas.proofs.Bools.{left_of as first_true, right_of as second_true}
+use Rattle.std.proofs.lemmas.Bool.{and_from as both}
+use Rattle.encode_shown.proofs.Children.{listed as children-list}
 
 -- ---- children
-
-pub children-list : (ts : List Tree) → child_list (children ts) ≡ ts
-children-list [] = refl
-children-list (t ∷ ts) = ap (λ us. t ∷ us) (children-list ts)
 
 filled-map : {A B : Type 0} (f : A → B) (xs : List A) → is_filled (map f xs) ≡ has_items xs
 filled-map f [] = refl

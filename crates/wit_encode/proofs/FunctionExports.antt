@@ -18,8 +18,8 @@ use Rattle.encode_types.specs.Scope.{Scope}
 use Rattle.encode_types.specs.Counts.{Shows}
 use Rattle.wit_encode.specs.Exports.{AllKnown, KnowsUsed, UsesListed}
 use Rattle.wit_encode.specs.Instance.{keyed, own_of, contents_of, encoder_scope, definitions_with, ShowsFunction, exports_in}
-use Rattle.wit_encode.proofs.Exporting.{shows-nothing, function-unnamed, contains-mapped}
-use Rattle.wit_model.proofs.Elements.{contains-map}
+use Rattle.wit_encode.proofs.Exporting.{shows-nothing, function-unnamed}
+use Rattle.base_lemmas.proofs.Elements.{contains-map, map_from as contains-mapped}
 
 -- a function: its type, and then its export
 pub function-stays : {A E : Type 0} (res : Result A E) (r r₀ r₁ r₂ : Resolve) (o₀ o₁ o₂ : Declarations) (i₀ i₁ i₂ : Option OpenInterface) (m₀ m₁ : TypeEncodingMaps)

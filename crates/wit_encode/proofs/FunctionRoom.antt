@@ -15,7 +15,7 @@ use Rattle.wit_model.specs.declared.model.Resolve.{Resolve}
 use Rattle.wit_model.specs.declared.model.Function.{Function}
 use Rattle.wit_model.specs.declared.model.InterfaceId.{InterfaceId}
 use Rattle.wit_model.specs.declared.model.«Type».{«Type» as ValueType}
-use Rattle.wit_model.proofs.Elements.{contains-flat, contains-map, one-contained}
+use Rattle.wit_model.proofs.Elements.{contains-flat}
 use Rattle.encode_types.specs.declared.maps.TypeEncodingMaps.{TypeEncodingMaps}
 use Rattle.encode_types.specs.Maps.{IsOnce, LearnsOnly, MapsGrow}
 use Rattle.encode_types.specs.MetKinds.{ReachedFrom}
@@ -24,8 +24,8 @@ use Rattle.encode_types.specs.Room.{Request, Refusals, HoldsFor, FindsNoRoom, fu
 use Rattle.encode_types.proofs.Lists.{none-in}
 use Rattle.encode_types.proofs.Rooms.{lacks-request, room-more, room-after}
 use Rattle.wit_encode.specs.FunctionRoom.{LacksFunctions}
-use Rattle.wit_encode.proofs.HeldKeys.{any-at, any-found, same_equiv, keyed}
-use Rattle.wit_encode.proofs.Mapped.{from-map}
+use Rattle.wit_encode.proofs.HeldKeys.{same_equiv, keyed}
+use Rattle.base_lemmas.proofs.Elements.{any-at, any-contains as any-found, contains-map, last_of as one-contained, map_from as from-map}
 
 -- ---- how many keys
 

@@ -1,26 +1,24 @@
 -- The keys of functions whose lists maps hold.
-use Rattle.std.proofs.Common.{◌≡◌, refl, sym, subst, ap, ◌∙◌, ℕ, zero, suc, ◌<◌, Bool, true, false, ◌&&◌, ◌||◌, inl, inr, List, [], ◌∷◌, ◌++◌, map, length, get_or, arith, Vec}
+use Rattle.std.proofs.Common.{◌≡◌, refl, sym, subst, ap, ◌∙◌, ℕ, zero, suc, ◌<◌, Bool, true, false, ◌&&◌, List, [], ◌∷◌, ◌++◌, map, length, get_or, arith, Vec}
 use Rattle.std.specs.Prelude.{AllPairs, IsPermutation}
 use Rattle.std.specs.Borrow.{Bor}
 use Rattle.std.specs.declared.alloc.Global.{Global}
-use Rattle.std.specs.List.{Contains, IsDistinct, list_any, AllZip}
+use Rattle.std.specs.List.{Contains, IsDistinct, AllZip}
 use Rattle.std.proofs.lemmas.List.Sorted.{length_permutation}
 use Rattle.std.specs.Option.{option_eq}
 use Rattle.std.specs.Set.{is_member}
 use Rattle.std.specs.Cmp.{IsEquivalence, bool_eq_equiv}
 use Rattle.std.specs.Cmp.Lexicographic.{pointwise, options_equiv}
-use Rattle.std.proofs.lemmas.Bool.{cases_Bool}
 use Rattle.std.proofs.lemmas.Cmp.{on_equiv, and_equiv, lists_equiv}
 use Rattle.std.proofs.lemmas.Map.Keys.{IsDistinct-from_apart}
 use mathlib.Core.Bool.{beq}
-use Rattle.wit_model.proofs.Lists.{first_true, second_true}
 use Rattle.wit_model.specs.Text.{Text, text_of, text_eq}
 use Rattle.wit_model.specs.declared.model.Param.{Param}
 use Rattle.encode_types.specs.declared.key.FunctionKey.{FunctionKey}
 use Rattle.encode_types.specs.declared.maps.TypeEncodingMaps.{TypeEncodingMaps}
 use Rattle.encode_types.specs.Key.{same_type, same_param}
 use Rattle.encode_types.specs.KeyLaws.{type_equiv, param_equiv, text_same}
-use Rattle.encode_types.specs.Codes.{type_code, optional_code, Names, IsTable, AreListed, async_code, IsListed, names_of, lists_of}
+use Rattle.encode_types.specs.Codes.{type_code, optional_code, Names, IsTable, AreListed, IsListed, names_of, lists_of}
 use Rattle.encode_types.specs.Maps.{IsSomeKeyList, IsOnce, NamesGrow, MapsAgree, by_key}
 use Rattle.encode_types.specs.Counts.{key_slots}
 use Rattle.encode_types.specs.Slots.{Pairs, function}
@@ -31,29 +29,11 @@ use Rattle.encode_types.proofs.Lists.{none-in}
 use Rattle.encode_types.proofs.KindLaws.{same_types, optional_same}
 use Rattle.encode_types.proofs.EqualLists.{keys-of-lists, lists-of-keys, key-shrink}
 use Rattle.encode_types.proofs.Tables.{key-grow}
-use Rattle.wit_encode.proofs.Naming.{or-second}
+use Rattle.base_lemmas.proofs.Bools.{left_of as first_true, right_of as second_true}
+use Rattle.base_lemmas.proofs.Elements.{any-at, any-contains as any-found}
+use Rattle.encode_types.proofs.EqualLists.{async-same as async-alike}
 
 -- ---- lists and members
-
-pub both-ways : (a b : Bool) → (a ≡ true → b ≡ true) → (b ≡ true → a ≡ true) → a ≡ b
-both-ways true b f g = sym (f refl)
-both-ways false true f g = g refl
-both-ways false false f g = refl
-
-pub any-at : {X : Type 0} (p : X → Bool) (xs : List X) (x : X) → Contains xs x → p x ≡ true → list_any p xs ≡ true
-any-at p [] x (i, l, e) h = absurd (omega (arith, l))
-any-at p (y ∷ xs) x (zero, l, e) h = ap (λ b. b || list_any p xs) (ap p e ∙ h)
-any-at p (y ∷ xs) x (suc i, l, e) h = or-second (p y) (list_any p xs) (any-at p xs x (i, omega (arith, l), e) h)
-
-pub any-found : {X : Type 0} (p : X → Bool) (xs : List X) → list_any p xs ≡ true → (x : X) × Contains xs x × (p x ≡ true)
-any-found p [] h = absurd (let z : ⊥ = cc in z)
-any-found {X} p (x ∷ xs) h = elim (cases_Bool (p x)) [
-  | inl e ↦ (x, (0, omega arith, refl), e)
-  | inr e ↦ later (any-found p xs (sym (ap (λ b. b || list_any p xs) e) ∙ h))
-]
-  where
-    later : (y : X) × Contains xs y × (p y ≡ true) → (y : X) × Contains (x ∷ xs) y × (p y ≡ true)
-    later (y, (k, l, e), t) = (y, (suc k, omega (arith, l), e), t)
 
 -- ---- keys and their lists
 
@@ -80,12 +60,6 @@ grown names names' k xs g l = key-grow names names' (as_key k) xs g l
 
 pub shrunk : (names names' : Names) → IsTable names' → ((t : Text) (n : ℕ) → Contains names (t, n) → Contains names' (t, n)) → (a b : Key) (xs : List ℕ) → HasList names' a xs → HasList names b xs → HasList names a xs
 shrunk names names' t g a b xs l k = key-shrink names names' t g (as_key a) (as_key b) xs l k
-
-async-alike : (a b : Bool) → beq a b ≡ true → async_code a ≡ async_code b
-async-alike true true e = refl
-async-alike false false e = refl
-async-alike true false e = absurd (let z : ⊥ = cc in z)
-async-alike false true e = absurd (let z : ⊥ = cc in z)
 
 params-alike : (names : Names) (ps qs : List Param) (xs : List ℕ) → pointwise same_param ps qs ≡ true → AreListed names ps xs → AreListed names qs xs × (length ps ≡ length qs)
 params-alike names [] [] xs e h = (h, refl)

@@ -1,5 +1,5 @@
 -- A type of another interface whose instance stands around is reached by an alias there.
-use Rattle.std.proofs.Common.{◌≡◌, refl, sym, subst, ap, ◌∙◌, ℕ, zero, suc, ◌+◌, ◌==◌, eq-eqb, nat_cmp, Ordering, Bool, true, false, not, ◌&&◌, ◌||◌, if◌then◌else◌, List, [], ◌∷◌, length, Option, Some, None, String, slice_get, is_some, ◌++◌, Result, Ok, Err, IfOk, OnErr, OnOk, arith}
+use Rattle.std.proofs.Common.{◌≡◌, refl, sym, subst, ap, ◌∙◌, ℕ, zero, suc, ◌+◌, nat_cmp, Ordering, Bool, true, false, not, ◌&&◌, ◌||◌, if◌then◌else◌, List, [], ◌∷◌, length, Option, Some, None, String, slice_get, is_some, ◌++◌, Result, Ok, Err, IfOk, OnErr, OnOk, arith}
 use Rattle.std.specs.List.{Contains, list_all, list_any, filter}
 use Rattle.std.specs.Option.{option_map_or}
 use Rattle.std.specs.declared.alloc.Global.{Global}
@@ -7,7 +7,7 @@ use Rattle.std.specs.declared.cmp.Ordering.TheVariants.{Less, Equal, Greater}
 use Rattle.std.specs.Ordering.{is_eq, match_ordering}
 use Rattle.std.specs.Map.{remove_entry}
 use Rattle.std.specs.BTreeMap.{BTreeMap, insert_entry, is_at}
-use Rattle.std.proofs.lemmas.Bool.{cond-true, cond-false}
+use Rattle.std.proofs.lemmas.Bool.{cond-true, cond-false, and_from as both}
 use Rattle.std.proofs.lemmas.Cmp.{nat_cmp_total}
 use Rattle.std.proofs.lemmas.List.Elements.{All-contains, filter_passes}
 use Rattle.wit_model.specs.Text.{Text, text_eq, text_of}
@@ -22,7 +22,6 @@ use Rattle.wit_model.specs.declared.model.TypeId.{TypeId}
 use Rattle.wit_model.specs.declared.model.TypeDef.{TypeDef}
 use Rattle.wit_model.specs.declared.model.TypeOwner.{TypeOwner}
 use Rattle.wit_model.specs.declared.model.TypeOwner.TheVariants as owner
-use Rattle.wit_model.proofs.Lists.{first_true, second_true}
 use Rattle.comp_bytes.specs.Held.{type_slots, type_slots_of}
 use Rattle.comp_bytes.specs.Raw.{Alias, Declaration, Declarations, append}
 use Rattle.comp_meaning.specs.Same.{same_place}
@@ -35,13 +34,15 @@ use Rattle.encode_types.specs.Resources.{is_named_interface, named_resources}
 use Rattle.encode_types.specs.Known.{Around, Aliased, alias_declared, with_alias, with_aliases, IsAlias, AreAliases, IsSource, ReachesAround, as_before, aliased, known_slot, known_instance, is_name_slot, is_slot_for, is_named_of, is_instance_of, shows_type, is_standing, stands_around, are_right, below}
 use Rattle.encode_types.specs.Scope.{Scope, IsImportable}
 use Rattle.wit_encode.specs.Instance.{standing_at, SlotsStand, is_slot_of, outer_slots, outer_instances, is_owner_in, resources_in, is_sound_in, place_in, Contents, standing_instances, scope_from, scope_with, inner_contents, contents_of, around_at, encoder_scope, definitions_with}
-use Rattle.encode_types.proofs.Lists.{both}
 use Rattle.encode_types.proofs.Tables.{equal-self, at-some, number-found}
 use Rattle.wit_encode.proofs.Contents.{slots-kept}
 use Rattle.wit_encode.proofs.Calls.{Calls, alias-inside}
-use Rattle.wit_encode.proofs.Wider.{get-left, Widened, widened, contents-wider}
+use Rattle.wit_encode.proofs.Wider.{Widened, widened, contents-wider}
 use Rattle.wit_encode.proofs.Within.{CallsTo}
-use Rattle.wit_model.proofs.Elements.{all-contained}
+use Rattle.base_lemmas.proofs.Bools.{left_of as first_true, right_of as second_true}
+use Rattle.base_lemmas.proofs.Elements.{all-contained}
+use Rattle.base_lemmas.proofs.Lists.{front_more as get-left}
+use Rattle.base_lemmas.proofs.Numbers.{same-number}
 
 -- ---- lists
 
@@ -172,9 +173,6 @@ some-path (Some p) instance h = go instance.interface h
 some-slot : (r : Resolve) (n : ℕ) (o : Option Slot) → is_slot_for r n o ≡ true → (x : Slot) × (o ≡ Some x) × (is_slot_for r n (Some x) ≡ true)
 some-slot r n None h = absurd (let z : ⊥ = cc in z)
 some-slot r n (Some x) h = (x, refl, h)
-
-same-number : (n : ℕ) → (n == n) ≡ true
-same-number n = eq-eqb n n refl
 
 module _ (r : Resolve) (a : Around) (j n : ℕ) (m : IsSource r a j n) where
   is-named : is_named_of j m.def ≡ true

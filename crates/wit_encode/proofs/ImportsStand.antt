@@ -3,10 +3,10 @@ use Rattle.std.proofs.Common.{◌≡◌, refl, sym, subst, ap, ◌∙◌, ℕ, z
 use Rattle.std.specs.List.{AllZip, Contains, filter, list_all}
 use Rattle.std.specs.Option.{option_map_or}
 use Rattle.std.specs.declared.alloc.Global.{Global}
-use Rattle.std.proofs.lemmas.Bool.{ltb-true, ltb-false}
+use Rattle.std.proofs.lemmas.Bool.{ltb-true, ltb-false, and_from as both, or_right as or-second}
 use Rattle.std.proofs.lemmas.Cmp.{nat_list_eq_equiv}
 use Rattle.std.proofs.lemmas.List.Sorted.{IsPermutation-refl}
-use Rattle.std.proofs.lemmas.Option.{slice_get-map, slice_get_within}
+use Rattle.std.proofs.lemmas.Option.{slice_get-map, slice_get_within, same_Some as same-some}
 use Rattle.wit_model.specs.Text.{Text, text_of}
 use Rattle.wit_model.specs.Tree.{named, of_interface}
 use Rattle.wit_model.specs.Types.{number_tree}
@@ -19,20 +19,20 @@ use Rattle.wit_model.specs.declared.model.InterfaceId.{InterfaceId}
 use Rattle.wit_model.specs.declared.model.TypeDef.{TypeDef}
 use Rattle.wit_model.specs.declared.model.TypeOwner.{TypeOwner}
 use Rattle.wit_model.specs.declared.model.TypeOwner.TheVariants as owner
-use Rattle.wit_model.proofs.Elements.{contains-get, same-some}
-use Rattle.wit_model.proofs.Lists.{first_true, second_true}
+use Rattle.wit_model.proofs.Elements.{contains-get}
 use Rattle.comp_meaning.specs.Follow.{View, find_type}
 use Rattle.encode_shown.specs.Views.{ShowsImport, ShowsInterface, functions_of, home_of, name_slot}
 use Rattle.encode_shown.proofs.Parts.{named-tree}
-use Rattle.encode_shown.proofs.Zips.{contains-filter}
 use Rattle.encode_names.proofs.TypesFound.{types_are_found}
 use Rattle.encode_types.specs.Resources.{is_named_interface, named_resources}
 use Rattle.encode_types.specs.Known.{Around, below, is_instance_of, is_known_as, is_named_of, is_slot_for, is_standing, outer_instances, shows_type, standing_instances, stands_around}
-use Rattle.encode_types.proofs.Lists.{both}
-use Rattle.wit_model.proofs.OnePath.{some-of}
-use Rattle.wit_encode.proofs.Naming.{HaveHomes, names-agree, one-home, or-second, place-alike}
+use Rattle.wit_encode.proofs.Naming.{HaveHomes, names-agree, one-home}
 use Rattle.wit_encode.specs.Dependencies.{HasImported, ImportsStand, imported_instance}
 use Rattle.encode_shown.proofs.Basics.{same-owner}
+use Rattle.base_lemmas.proofs.Bools.{left_of as first_true, right_of as second_true}
+use Rattle.base_lemmas.proofs.Elements.{filter_keeps as contains-filter}
+use Rattle.base_lemmas.proofs.Options.{there as some-of}
+use Rattle.encode_shown.proofs.Parts.{place-alike}
 
 -- ---- lists
 

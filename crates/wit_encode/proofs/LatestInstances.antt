@@ -10,12 +10,12 @@ use Rattle.std.proofs.lemmas.Bool.{cond-true, cond-false}
 use Rattle.std.proofs.lemmas.Cmp.{nat_cmp_total}
 use Rattle.wit_model.specs.declared.model.Resolve.{Resolve}
 use Rattle.comp_meaning.specs.Follow.{Instance}
-use Rattle.encode_shown.proofs.Zips.{contains-filter, filter-contains}
 use Rattle.encode_types.specs.Known.{Around, are_right, below, is_standing, known_instance, outer_instances, outer_slots, standing_instances, stands_around}
 use Rattle.encode_types.proofs.Tables.{equal-is, equal-self}
 use Rattle.wit_encode.proofs.ImportsStand.{below-there}
-use Rattle.wit_encode.proofs.Wider.{get-left}
 use Rattle.wit_encode.proofs.WorldFunctions.{at-length}
+use Rattle.base_lemmas.proofs.Elements.{filter_keeps as contains-filter, filter_kept as filter-contains}
+use Rattle.base_lemmas.proofs.Lists.{front_more as get-left}
 
 -- ---- one entry in an ordered map, new or not
 

@@ -1,23 +1,18 @@
 -- How long the bytes of parts of a component are at most.
-use Rattle.std.proofs.Common.{◌≡◌, ℕ, zero, suc, ◌+◌, ◌/◌, ◌%◌, ◌<◌, ◌≤◌, ◌^◌, nat_lt, Bool, true, false, ◌&&◌, if◌then◌else◌, List, [], ◌∷◌, ◌++◌, length, refl, ap, arith, length-append, append-nil, subst}
+use Rattle.std.proofs.Common.{◌≡◌, ℕ, ◌+◌, ◌<◌, ◌≤◌, ◌^◌, nat_lt, Bool, true, false, ◌&&◌, List, [], ◌∷◌, ◌++◌, length, refl, ap, arith, length-append, append-nil, subst}
 use Rattle.std.specs.List.{flat_map}
 use Rattle.std.proofs.lemmas.List.Sums.{sum_by-cons, sum_by-append}
 use Rattle.std.proofs.lemmas.Bool.{lt-ltb, ltb-true, ltb-false, true≢false}
 use Rattle.comp_bytes.specs.Raw.{Section}
-use Rattle.comp_bytes.specs.Writing.{u32_bytes, unsigned_bytes, name_bytes, vector_bytes, top_type_bytes, top_export_bytes, framed, section_bytes, component_bytes}
+use Rattle.comp_bytes.specs.Writing.{u32_bytes, name_bytes, vector_bytes, top_type_bytes, top_export_bytes, framed, section_bytes, component_bytes}
 use Rattle.comp_bytes.specs.Parts.{Part, with_part, sections_of_parts, fits_component}
 use Rattle.encode_types.specs.Room.{limit}
 use Rattle.wit_encode.specs.PackageRoom.{part_extent, parts_extent}
+use Rattle.base_lemmas.proofs.Numbers.{same_number as same}
+use Rattle.comp_bytes.proofs.BuiltSizes.{framed_longer as framed-long, vector_longer as vector-long}
+use Rattle.comp_bytes.proofs.Writes.{length_within as unsigned-short}
 
 -- ---- numbers and names
-
-unsigned-short : (room n : ℕ) → length (unsigned_bytes room n) ≤ room
-unsigned-short zero n = omega arith
-unsigned-short (suc room) n = by-test (nat_lt n 128) (unsigned-short room (n / 128))
-  where
-    by-test : (b : Bool) → length (unsigned_bytes room (n / 128)) ≤ room → length (if b then n ∷ [] else (n % 128 + 128) ∷ unsigned_bytes room (n / 128)) ≤ suc room
-    by-test true h = omega arith
-    by-test false h = omega arith
 
 pub u32-short : (n : ℕ) → length (u32_bytes n) ≤ 5
 unfolding u32_bytes
@@ -31,14 +26,8 @@ name-short t = let h = u32-short (length t) in let e = length-append (u32_bytes 
 framed-short : (id : ℕ) (contents : List ℕ) → length (framed id contents) ≤ 6 + length contents
 framed-short id contents = let h = u32-short (length contents) in let e = length-append (u32_bytes (length contents)) contents in omega arith
 
-framed-long : (id : ℕ) (contents : List ℕ) → length contents ≤ length (framed id contents)
-framed-long id contents = let e = length-append (u32_bytes (length contents)) contents in omega arith
-
 pub vector-short : {A : Type 0} (bytes : A → List ℕ) (xs : List A) → length (vector_bytes bytes xs) ≤ 5 + length (flat_map bytes xs)
 vector-short bytes xs = let h = u32-short (length xs) in let e = length-append (u32_bytes (length xs)) (flat_map bytes xs) in omega arith
-
-vector-long : {A : Type 0} (bytes : A → List ℕ) (xs : List A) → length (flat_map bytes xs) ≤ length (vector_bytes bytes xs)
-vector-long bytes xs = let e = length-append (u32_bytes (length xs)) (flat_map bytes xs) in omega arith
 
 -- a section of items with one more in front
 one-more_item : {A : Type 0} (id : ℕ) (bytes : A → List ℕ) (x : A) (xs : List A) → length (framed id (vector_bytes bytes (x ∷ xs))) ≤ (11 + length (bytes x)) + length (framed id (vector_bytes bytes xs))
@@ -66,9 +55,6 @@ behind xs ys n m h k = let e = length-append xs ys in omega arith
 
 in-place : (new old rest : List ℕ) (n : ℕ) → length new ≤ n + length old → length (new ++ rest) ≤ n + length (old ++ rest)
 in-place new old rest n h = let e = length-append new rest in let f = length-append old rest in omega arith
-
-same : (n : ℕ) → n ≤ n
-same n = omega arith
 
 part-short : (p : Part) (ss : List Section) → length (flat_map section_bytes (with_part p ss)) ≤ part_extent p + length (flat_map section_bytes ss)
 part-short (Part.top_type t) [] = behind (section_bytes (Section.types (t ∷ []))) [] _ 0 (first-item 7 top_type_bytes t) (same 0)

@@ -21,7 +21,6 @@ use Rattle.wit_model.specs.declared.model.TypeId.{TypeId}
 use Rattle.wit_model.specs.declared.model.TypeOwner.{TypeOwner}
 use Rattle.wit_model.specs.declared.model.TypeOwner.TheVariants as owner
 use Rattle.wit_model.specs.declared.model.«Type».TheVariants as ty
-use Rattle.wit_model.proofs.Lists.{first_true, second_true}
 use Rattle.wit_model.proofs.Listed.{misfit}
 use Rattle.wit_model.proofs.Listings.{given_all, given_found}
 use Rattle.wit_model.proofs.InOrder.{found_stands}
@@ -29,12 +28,16 @@ use Rattle.encode_types.specs.KeyLaws.{text_same}
 use Rattle.encode_types.specs.Kinds.{parts_of}
 use Rattle.encode_types.specs.Plan.{foreign_owner}
 use Rattle.encode_types.specs.Table.{interface_of_owner}
-use Rattle.wit_encode.proofs.Owned.{alias-part, own-interface, not-false, owner-kept as kept-of-owner}
+use Rattle.wit_encode.proofs.Owned.{alias-part, own-interface, owner-kept as kept-of-owner}
 use Rattle.wit_model.proofs.OnePath.{given-test, found-in}
-use Rattle.wit_encode.proofs.Validity.{type_passes, interface_passes}
-use Rattle.wit_encode.proofs.Numbers.{same-number, after-at}
-use Rattle.wit_model.proofs.Elements.{all-contained, get-contains, has-contains}
+use Rattle.wit_encode.proofs.Numbers.{after-at}
+use Rattle.wit_model.proofs.Elements.{has-contains}
 use Rattle.encode_shown.proofs.Basics.{same-owner, or-cases}
+use Rattle.base_lemmas.proofs.Bools.{left_of as first_true, not-false, right_of as second_true}
+use Rattle.base_lemmas.proofs.Elements.{all-contained, get-contains}
+use Rattle.base_lemmas.proofs.Numbers.{same-number}
+use Rattle.encode_shown.proofs.Basics.{type-passes as type_passes}
+use Rattle.wit_model.proofs.OnePath.{interface-passes as interface_passes}
 
 -- a type of an interface's list
 pub record IsListedType (r : Resolve) (i : ℕ) (e : String Global × TypeId) : Type 0 where

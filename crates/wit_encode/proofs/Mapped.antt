@@ -1,12 +1,8 @@
 -- What stands in a list that was mapped or filtered.
-use Rattle.std.proofs.Common.{◌≡◌, refl, sym, subst, ap, ◌∙◌, zero, suc, inl, inr, Bool, true, List, [], ◌∷◌, map, filter, arith}
+use Rattle.std.proofs.Common.{◌≡◌, sym, subst, ap, ◌∙◌, zero, suc, inl, inr, Bool, true, List, [], ◌∷◌, filter, arith}
 use Rattle.std.proofs.lemmas.Bool.{cases_Bool, cond-true, cond-false}
 use Rattle.std.specs.List.{Contains}
-
-pub from-map : {X Y : Type 0} (f : X → Y) (xs : List X) (y : Y) → Contains (map f xs) y → (x : X) × Contains xs x × (f x ≡ y)
-from-map f [] y (i, l, e) = absurd (omega (arith, l))
-from-map f (x ∷ xs) y (zero, l, e) = (x, (0, omega arith, refl), e)
-from-map f (x ∷ xs) y (suc i, l, e) = let r = from-map f xs y (i, omega (arith, l), e) in (r.0, (suc r.1.0, (let n = r.1.1 in omega arith), r.1.2), r.2)
+use Rattle.base_lemmas.proofs.Elements.{contains-later as later}
 
 pub contains-filter : {X : Type 0} (p : X → Bool) (xs : List X) (x : X) → p x ≡ true → Contains xs x → Contains (filter p xs) x
 contains-filter p [] x h (i, l, e) = absurd (omega (arith, l))
@@ -17,9 +13,6 @@ contains-filter p (y ∷ xs) x h (suc i, l, e) =
       | inl b ↦ subst (λ zs. Contains zs x) (sym (cond-true _ _ _ b)) (suc there.0, (let n = there.1 in omega arith), there.2)
       | inr b ↦ subst (λ zs. Contains zs x) (sym (cond-false _ _ _ b)) there
     ]
-
-later : {X : Type 0} (y : X) (xs : List X) (x : X) → Contains xs x → Contains (y ∷ xs) x
-later y xs x (i, l, e) = (suc i, omega (arith, l), e)
 
 first-or-later : {X : Type 0} (y : X) (xs zs : List X) (x : X) → (Contains zs x → Contains xs x) → Contains (y ∷ zs) x → Contains (y ∷ xs) x
 first-or-later y xs zs x f (zero, l, e) = (0, omega arith, e)

@@ -22,9 +22,9 @@ use Rattle.encode_types.specs.Maps.{IsKnown}
 use Rattle.encode_types.specs.Plan.{foreign_owner, Meets, at_once, further}
 use Rattle.encode_types.specs.Scope.{Scope}
 use Rattle.encode_types.specs.Counts.{own_name, name_of_own}
-use Rattle.encode_types.proofs.Lists.{contains-one}
 use Rattle.encode_types.proofs.Planning.{part-number}
 use Rattle.wit_model.proofs.Elements.{contains-flat}
+use Rattle.base_lemmas.proofs.Elements.{contains-one}
 
 module _ (r : Resolve) (below : Keeps references r) where
   -- a named type meets itself

@@ -12,7 +12,6 @@ use Rattle.wit_model.specs.declared.model.Param.{Param}
 use Rattle.wit_model.specs.declared.model.TypeDefKind.{TypeDefKind}
 use Rattle.wit_model.specs.declared.model.InterfaceId.{InterfaceId}
 use Rattle.wit_model.specs.declared.model.«Type».{«Type» as ValueType}
-use Rattle.wit_model.proofs.Lists.{first_true, second_true}
 use Rattle.encode_types.specs.declared.maps.TypeEncodingMaps.{TypeEncodingMaps}
 use Rattle.encode_types.specs.Key.{same_type, same_param}
 use Rattle.encode_types.specs.Codes.{kind_code, lists_of}
@@ -24,6 +23,7 @@ use Rattle.encode_types.proofs.EqualLists.{kinds-of-lists, lists-of-kinds}
 use Rattle.encode_types.proofs.KindLaws.{same_types}
 use Rattle.wit_encode.proofs.OwnerScope.{unnamed-home}
 use Rattle.wit_encode.proofs.Validity.{valid-unnamed}
+use Rattle.base_lemmas.proofs.Bools.{left_of as first_true, right_of as second_true}
 
 -- ---- empty maps
 

@@ -18,16 +18,16 @@ use Rattle.wit_model.specs.declared.model.InterfaceId.{InterfaceId}
 use Rattle.wit_model.specs.declared.model.TypeDef.{TypeDef}
 use Rattle.wit_model.specs.declared.model.TypeOwner.{TypeOwner}
 use Rattle.wit_model.specs.declared.model.TypeOwner.TheVariants as owner
-use Rattle.wit_model.proofs.Lists.{first_true, second_true}
-use Rattle.wit_model.proofs.Distinct.{either_way}
 use Rattle.wit_model.proofs.Entries.{each_from_at, lists_pass}
 use Rattle.comp_meaning.specs.Same.{same_place}
 use Rattle.encode_types.specs.KeyLaws.{text_same}
 use Rattle.encode_types.specs.Resources.{is_named_interface, is_resource_entry, resource_names}
 use Rattle.encode_types.specs.Table.{is_met_owner, has_named_owner}
-use Rattle.encode_types.proofs.Lists.{both}
 use Rattle.wit_model.proofs.OnePath.{found-in, given-test, one-number, named-path, path-once}
 use Rattle.encode_shown.proofs.Basics.{same-owner}
+use Rattle.base_lemmas.proofs.Bools.{both_ways as either_way, left_of as first_true, right_of as second_true}
+use Rattle.std.proofs.lemmas.Bool.{and_from as both, or_left as or-first, or_right as or-second}
+use Rattle.encode_shown.proofs.Parts.{place-alike}
 
 -- ---- numbered lists
 
@@ -43,14 +43,6 @@ any-numbered p j (x ∷ xs) h = go (λ e. any-numbered p (j + 1) xs e) (p (j, x)
         let at : (j + 1) + rest.0 ≡ j + suc rest.0 = omega arith in
         (suc rest.0, rest.1, rest.2, subst (λ (m : ℕ). p (m, rest.1) ≡ true) at rest.3)
 
-pub or-first : (a b : Bool) → a ≡ true → (a || b) ≡ true
-or-first true b e = refl
-or-first false b e = let wrong : ⊥ = cc in absurd wrong
-
-pub or-second : (a b : Bool) → b ≡ true → (a || b) ≡ true
-or-second true b e = refl
-or-second false b e = e
-
 pub numbered-any : {A : Type 0} (p : ℕ × A → Bool) (j : ℕ) (xs : List A) (k : ℕ) (x : A) → slice_get xs k ≡ Some x → p (j + k, x) ≡ true → list_any p (numbered_from j xs) ≡ true
 numbered-any p j [] k x e h = let wrong : ⊥ = cc in absurd wrong
 numbered-any p j (y ∷ ys) zero x e h =
@@ -60,10 +52,6 @@ numbered-any p j (y ∷ ys) zero x e h =
 numbered-any p j (y ∷ ys) (suc k) x e h = let at : j + suc k ≡ (j + 1) + k = omega arith in or-second _ _ (numbered-any p (j + 1) ys k x e (subst (λ (m : ℕ). p (m, x) ≡ true) at h))
 
 -- ---- places
-
-pub place-alike : (a : Place) → same_place a a ≡ true
-place-alike (of_interface p) = nat_list_eq_equiv.refl p
-place-alike here = refl
 
 record HasPlace (r : Resolve) (a : TypeOwner) : Type 0 where
   pub number : InterfaceId

@@ -1,36 +1,22 @@
 -- Lists of numbers: what stands before a place, what stands once, and what is given by one element alone.
-use Rattle.std.proofs.Common.{◌≡◌, refl, sym, subst, ap, ◌∙◌, ℕ, zero, suc, ◌+◌, ◌≤◌, Bool, true, false, cond, ◌||◌, ◌==◌, T, eqb→eq, nat_eq, List, [], ◌∷◌, ◌++◌, append_assoc, append-nil, take, map, filter_map, count_by, slice_get, unwrap_or, Option, Some, None, arith}
-use Rattle.std.proofs.Math.Dec.{eqb_refl}
+use Rattle.std.proofs.Common.{◌≡◌, refl, sym, subst, ap, ◌∙◌, ℕ, zero, suc, ◌+◌, ◌≤◌, Bool, true, false, cond, ◌||◌, ◌==◌, nat_eq, List, [], ◌∷◌, ◌++◌, append_assoc, append-nil, take, map, filter_map, count_by, slice_get, Option, Some, None, arith}
 use Rattle.std.specs.Prelude.{AllPairs}
 use Rattle.std.specs.List.{Contains, cons_option}
 use Rattle.std.proofs.lemmas.List.Sums.{sum_by-cons}
 use Rattle.wit_model.specs.Uses.{has}
 use Rattle.wit_model.specs.Rules.{each_after}
-use Rattle.wit_model.proofs.Lists.{first_true, second_true}
 use Rattle.encode_types.proofs.Pairs.{pairs-head, pairs-tail}
 use Rattle.encode_types.proofs.Lists.{none-in}
-use Rattle.wit_model.proofs.Elements.{contains-later, contains-has}
-
-pub same-some : {A : Type 0} (x y : A) → Some x ≡ Some y → x ≡ y
-same-some x y e = ap (λ o. unwrap_or o x) e
-
-pub held : (b : Bool) → T b → b ≡ true
-held true h = refl
-held false h = absurd h
-
-pub same-number : (n : ℕ) → (n == n) ≡ true
-same-number n = held (n == n) (eqb_refl n)
-
-pub equal : (m n : ℕ) → (m == n) ≡ true → m ≡ n
-equal m n e = eqb→eq m n (subst T (sym e) tt)
+use Rattle.wit_model.proofs.Elements.{contains-has}
+use Rattle.base_lemmas.proofs.Bools.{left_of as first_true, right_of as second_true}
+use Rattle.base_lemmas.proofs.Elements.{contains-later}
+use Rattle.base_lemmas.proofs.Lists.{nothing-mapped}
+use Rattle.base_lemmas.proofs.Numbers.{equal, same-number}
+use Rattle.std.proofs.lemmas.Option.{same_Some as same-some}
 
 -- ---- elements
 
 -- ---- numbers by a test
-
-or-true : (b : Bool) → (b || true) ≡ true
-or-true true = refl
-or-true false = refl
 
 -- ---- what stands once
 
@@ -113,10 +99,6 @@ gives-one {X} {Y} number h n y (z ∷ zs) apart is others x c e =
         let here = equal (number z) n q in
         ap (λ o. cons_option o (filter_map h zs)) (is z here) ∙ ap (λ ys. y ∷ ys) (gives-none h zs (λ w d. others w (contains-later z zs w d) (rest-differ here w d)))
     go rest false q = ap (λ o. cons_option o (filter_map h zs)) (others z (0, omega arith, refl) (other q)) ∙ rest (later q c) e
-
-pub nothing-mapped : {A B : Type 0} (f : A → B) (xs : List A) → map f xs ≡ [] → xs ≡ []
-nothing-mapped f [] e = refl
-nothing-mapped f (x ∷ xs) e = let wrong : ⊥ = cc in absurd wrong
 
 head-or : {A : Type 0} → A → List A → A
 head-or d [] = d

@@ -21,7 +21,6 @@ use Rattle.wit_model.specs.declared.model.Resolve.{Resolve}
 use Rattle.wit_model.specs.declared.model.InterfaceId.{InterfaceId}
 use Rattle.wit_model.specs.declared.model.TypeId.{TypeId}
 use Rattle.wit_model.specs.declared.model.TypeOwner.TheVariants as owner
-use Rattle.wit_model.proofs.Lists.{first_true, second_true}
 use Rattle.comp_bytes.specs.Raw.{Declaration, Declarations, append, from_list}
 use Rattle.comp_bytes.specs.Reading.{◌>>=◌}
 use Rattle.comp_meaning.specs.Follow.{View, instance_view}
@@ -36,7 +35,6 @@ use Rattle.encode_types.specs.Known.{Around, GrowsAround, known_instance, is_sta
 use Rattle.wit_encode.proofs.Components.{steps-instance}
 use Rattle.encode_types.specs.Scope.{Scope}
 use Rattle.wit_encode.specs.Exports.{AreTypesOf}
-use Rattle.wit_model.proofs.OnePath.{some-same}
 use Rattle.indexmap.specs.IndexMap.{values}
 use Rattle.wit_encode.proofs.ShownSlots.{interface-shown}
 use Rattle.wit_encode.specs.Instance.{is_slot_of, no_view, outer_slots, inner_contents, outer_contents, stands_in, SlotsStand, own_of, around_at, around_of, standing_instances, resources_in, contents_of, encoder_scope, opened, keyed, placed_function, is_sound_in, IsInstance, Continues, definitions_with}
@@ -44,7 +42,10 @@ use Rattle.encode_types.specs.Slots.{Keeps}
 use Rattle.wit_encode.proofs.Calls.{InnerAt, inner-at}
 use Rattle.wit_encode.proofs.Outside.{instance-keeps}
 use Rattle.wit_encode.proofs.Importing.{grown-keeps, grown-stands, right-more}
-use Rattle.wit_model.proofs.Elements.{contains-map}
+use Rattle.base_lemmas.proofs.Bools.{left_of as first_true, right_of as second_true}
+use Rattle.base_lemmas.proofs.Elements.{contains-map}
+use Rattle.base_lemmas.proofs.Lists.{identity as map-itself, map_of_map as map-twice}
+use Rattle.std.proofs.lemmas.Option.{same_Some as some-same}
 
 pub opened-sound : (r : Resolve) (outer : Declarations) (i : InterfaceId) (known : Foreign) → (encoder_scope r outer (opened i known)).is_sound ≡ true
 unfolding inner_contents
@@ -120,10 +121,6 @@ closed-around r outer outer' i known inner' current m m' is c = subst (λ (o : O
 pub opened-with : (i : InterfaceId) (ds : List Declaration) (known known' : Foreign) → ds ≡ [] → known ≡ known' → ◌≡◌ {A = Option OpenInterface} (Some (record { interface = i; declared = ds; foreign = known })) (opened i known')
 opened-with i ds known known' e f = λ j. Some (record { interface = i; declared = e j; foreign = f j })
 
-pub map-twice : {A B C : Type 0} (f : B → C) (g : A → B) (xs : List A) → map f (map g xs) ≡ map (λ x. f (g x)) xs
-map-twice f g [] = refl
-map-twice f g (x ∷ xs) = ap (λ ys. f (g x) ∷ ys) (map-twice f g xs)
-
 abbrev pub Placed : Type 0
 Placed = ℕ × Bor (String Global) × Bor Function
 
@@ -134,10 +131,6 @@ values-permuted def fs p =
     (subst (λ (xs : List Function). IsPermutation (map (λ x. x.1) (map keyed def.functions.entries)) xs)
     (map-twice (λ (x : Text × Function). x.1) placed_function fs) (IsPermutation-map (λ (x : Text × Function). x.1) _ _ p))
 
-map-itself : {A : Type 0} (xs : List A) → map (λ x. x) xs ≡ xs
-map-itself [] = refl
-map-itself (x ∷ xs) = ap (λ ys. x ∷ ys) (map-itself xs)
-
 -- what stands in a list stands in those that it is a permutation of
 pub permuted-contains : {A : Type 0} (xs ys : List A) (y : A) → IsPermutation xs ys → Contains ys y → Contains xs y
 permuted-contains xs ys y p c =
@@ -145,9 +138,6 @@ permuted-contains xs ys y p c =
     subst (λ zs. Contains zs y) (map-itself xs) (All-contains (Contains (map (λ x. x) xs)) (map (λ x. x) ys) y all (contains-map (λ x. x) ys y c))
 
 -- what follows of what is answered
-pub ok-then : {A E : Type 0} (res : Result A E) (P Q : A → Type 0) → ((x : A) → P x → Q x) → IfOk res P → IfOk res Q
-ok-then (Ok x) P Q f h = f x h
-ok-then (Err e) P Q f h = h
 
 pub close-each : {E D : Type 0} (res : Result ℕ E) (is : D → Type 0) (P : D → ℕ → Type 0) (d : D) → is d → ((d : D) → is d → IfOk res (P d)) → IfOk res (λ k. (d : D) → is d → P d k)
 close-each (Ok k) is P d h all = λ d h. all d h
@@ -229,10 +219,3 @@ closed-stay (Err x) r a outer outer' foreign foreign' es g e ok err j h =
     subst (λ (z : Around). Contains (standing_instances r z) j) (λ i. around_at (sym err i) (sym e i)) (grown-stay r a (around_at outer foreign) g j h)
 
 -- what holds anyway
-pub when-err : {A E P : Type 0} (res : Result A E) → P → OnErr res P
-when-err (Ok x) p = tt
-when-err (Err e) p = p
-
-pub err-then : {A E P Q : Type 0} (res : Result A E) → (P → Q) → OnErr res P → OnErr res Q
-err-then (Ok x) f p = p
-err-then (Err e) f p = f p

@@ -7,7 +7,7 @@ use Rattle.std.specs.Option.{option_map_or, is_some}
 use Rattle.std.specs.List.{position, position_from, position_or_len}
 use Rattle.std.specs.BTreeMap.{BTreeMap, get, Updates}
 use Rattle.std.proofs.lemmas.Iterator.Adapters.{position_from-zero}
-use Rattle.std.proofs.lemmas.Bool.{eqb-true, true≢false}
+use Rattle.std.proofs.lemmas.Bool.{eqb-true, true≢false, not_from_false as opposite, not_from_true as negated}
 use Rattle.std.proofs.lemmas.List.Sums.{prefix_len-le-length}
 use Rattle.std.specs.List.Sorted.{ties, IsNonDecreasingBy, IsStableByKey}
 use Rattle.std.proofs.lemmas.Bool.{cond-true, cond-false, cases_Bool}
@@ -20,6 +20,8 @@ use Rattle.wit_model.specs.declared.model.TypeId.{TypeId}
 use Rattle.wit_model.specs.declared.model.Function.{Function}
 use Rattle.wit_encode.specs.Instance.{placed_function}
 use Rattle.wit_encode.specs.Order.{is_function_of, by_resource, place_among, ArePlaces}
+use Rattle.base_lemmas.proofs.Lists.{filter_all as filter-all}
+use Rattle.std.proofs.lemmas.List.{nil_from_length as no-more}
 
 -- ---- lists that rise
 
@@ -47,12 +49,6 @@ kept p y ys h = cond-true _ _ _ h
 
 dropped : {X : Type 0} (p : X → Bool) (y : X) (ys : List X) → p y ≡ false → filter p (y ∷ ys) ≡ filter p ys
 dropped p y ys h = cond-false _ _ _ h
-
-opposite : (b : Bool) → b ≡ false → not b ≡ true
-opposite b h = ap not h
-
-negated : (b : Bool) → b ≡ true → not b ≡ false
-negated b h = ap not h
 
 -- ---- a first class and the rest
 
@@ -131,10 +127,6 @@ module _ {X : Type 0} (key key' : X → ℕ) (p : X → Bool) (first : (x : X) �
 
 -- ---- by resource
 
-filter-all : {X : Type 0} (ys : List X) → filter (λ x. true) ys ≡ ys
-filter-all [] = refl
-filter-all (y ∷ ys) = ap (λ zs. y ∷ zs) (filter-all ys)
-
 place-first : (t : TypeId) (ts : List TypeId) (f : Text × Function) → is_function_of t f ≡ true → place_among (t ∷ ts) f.1 ≡ 0
 place-first t ts f e = cond-false _ _ _ (negated (is_function_of t f) e)
 
@@ -193,10 +185,6 @@ class-placed ts k (x ∷ xs) h =
 
 tied : (m n : ℕ) → ties (λ x y. is_lt (nat_cmp x y)) m n ≡ nat_eq m n
 tied m n = grind (arith, nat_tests)
-
-no-more : {X : Type 0} (ys : List X) → length ys ≡ 0 → ys ≡ []
-no-more [] e = refl
-no-more (y ∷ ys) e = absurd (omega (arith, e))
 
 classes : (xs ys : List Placed) → length ys ≡ length xs → IsStableByKey (λ x. x.0) nat_cmp xs ys → (k : ℕ)
     → filter (λ x. nat_eq k x.0) ys ≡ filter (λ x. nat_eq k x.0) xs

@@ -7,7 +7,6 @@ use Rattle.std.specs.Option.{option_map_or, is_some}
 use Rattle.wit_model.specs.Tree.{Tree}
 use Rattle.wit_model.specs.Meaning.{Signature}
 use Rattle.wit_model.specs.declared.model.Resolve.{Resolve}
-use Rattle.wit_model.proofs.Lists.{first_true, second_true}
 use Rattle.comp_bytes.specs.declared.forms.ComponentDefinedType.{ComponentDefinedType}
 use Rattle.comp_bytes.specs.declared.forms.ComponentFuncType.{ComponentFuncType}
 use Rattle.comp_bytes.specs.Raw.{Declaration, Declarations, append, from_list}
@@ -23,7 +22,9 @@ use Rattle.wit_encode.specs.Instance.{SlotsStand, is_slot_of, Contents, outer_sc
 use Rattle.wit_encode.proofs.Strict.{bind, definition-strict, function-strict}
 use Rattle.wit_encode.proofs.Contents.{Grew, slots-kept}
 use Rattle.wit_encode.proofs.Components.{steps-count, steps-more, steps-instance}
-use Rattle.wit_encode.proofs.Calls.{Calls, calls-from, some-of, defines-of, function-of, formed-value}
+use Rattle.wit_encode.proofs.Calls.{Calls, calls-from, defines-of, function-of, formed-value}
+use Rattle.base_lemmas.proofs.Bools.{left_of as first_true, right_of as second_true}
+use Rattle.base_lemmas.proofs.Options.{there as some-of}
 
 -- no slot stands for anything
 nothing-stands : (i : ℕ) (m : Standing) → SlotsStand [] i m → ⊥

@@ -1,5 +1,5 @@
 -- What is met from a type of an owner is of that owner, but for what its aliases of types of other interfaces name.
-use Rattle.std.proofs.Common.{◌≡◌, refl, sym, subst, ◌∙◌, ℕ, ◌+◌, Bool, true, false, not, ◌||◌, ◌==◌, cond, T, eqb→eq, Option, Some, None, is_some, nat_eq, nat_lt, String, arith}
+use Rattle.std.proofs.Common.{◌≡◌, refl, sym, subst, ◌∙◌, ℕ, ◌+◌, Bool, true, false, ◌||◌, ◌==◌, cond, T, eqb→eq, Option, Some, None, is_some, nat_eq, nat_lt, String, arith}
 use Rattle.std.specs.declared.alloc.Global.{Global}
 use Rattle.std.proofs.Math.Dec.{eqb_refl}
 use Rattle.std.specs.Prelude.{is_none}
@@ -20,7 +20,6 @@ use Rattle.wit_model.specs.declared.model.TypeOwner.TheVariants as owner
 use Rattle.wit_model.specs.declared.model.TypeId.{TypeId}
 use Rattle.wit_model.specs.declared.model.«Type».{«Type» as ValueType}
 use Rattle.wit_model.specs.declared.model.«Type».TheVariants as ty
-use Rattle.wit_model.proofs.Lists.{second_true}
 use Rattle.wit_model.proofs.Entries.{each_from_at, lists_pass}
 use Rattle.wit_model.proofs.Functions.{all_flat}
 use Rattle.wit_model.proofs.Owners.{named_met, unnamed_met, owned_stays}
@@ -29,7 +28,8 @@ use Rattle.encode_types.specs.Plan.{foreign_owner}
 use Rattle.encode_types.specs.Table.{interface_of_owner}
 use Rattle.encode_types.proofs.Planning.{part-number}
 use Rattle.encode_shown.proofs.Basics.{valid-references, same-owner, or-cases}
-use Rattle.wit_model.proofs.Elements.{one-contained, all-contained}
+use Rattle.base_lemmas.proofs.Bools.{right_of as second_true}
+use Rattle.base_lemmas.proofs.Elements.{all-contained, last_of as one-contained}
 
 -- ---- owners
 
@@ -75,10 +75,6 @@ alias-part test (kind.Stream x) id h c = let wrong : ⊥ = cc in absurd wrong
 some-of : {A B : Type 0} (f : A → B → Bool) (o : Option A) (b : B) → option_map_or (λ a. f a b) o false ≡ true → is_some o ≡ true
 some-of f None b h = let wrong : ⊥ = cc in absurd wrong
 some-of f (Some a) b h = refl
-
-pub not-false : (b : Bool) → not b ≡ true → b ≡ true → ⊥
-not-false true h e = cc
-not-false false h e = cc
 
 -- ---- what is met
 

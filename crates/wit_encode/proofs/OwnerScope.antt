@@ -1,13 +1,13 @@
 -- What is met from the types and functions of an owner is of the owner, or of an interface that it uses: where an instance of each of
 -- these stands, all of it can be encoded in the scope of the owner.
 use Rattle.std.proofs.Common.{◌≡◌, refl, sym, subst, ap, ◌∙◌, ℕ, ◌+◌, ◌<◌, ◌⊎◌, inl, inr, Bool, true, false, not, cond, ◌&&◌, ◌==◌, eq-eqb, List, [], ◌∷◌, length, option_to_list, Option, Some, None, String, unwrap_or, is_some, arith}
-use Rattle.std.proofs.lemmas.Bool.{ltb-true}
+use Rattle.std.proofs.lemmas.Bool.{ltb-true, and_from as both, not-true, or_left as or-first, or_right as or-second}
 use Rattle.std.proofs.lemmas.List.Folds.{list_all-append}
 use Rattle.std.specs.declared.alloc.Global.{Global}
 use Rattle.std.specs.List.{Contains, list_all}
 use Rattle.std.specs.Option.{option_map_or}
 use Rattle.std.specs.Prelude.{map, option_and_then, filter_map}
-use Rattle.std.proofs.lemmas.Option.{slice_get_within}
+use Rattle.std.proofs.lemmas.Option.{slice_get_within, same_Some as some-same}
 use Rattle.std.proofs.lemmas.List.Elements.{Contains-append_left}
 use Rattle.indexmap.specs.IndexMap.{values}
 use Rattle.wit_model.specs.Text.{text_of}
@@ -34,7 +34,7 @@ use Rattle.wit_model.specs.declared.model.TypeOwner.{TypeOwner}
 use Rattle.wit_model.specs.declared.model.TypeOwner.TheVariants as owner
 use Rattle.wit_model.specs.declared.model.«Type».{«Type» as ValueType}
 use Rattle.wit_model.specs.declared.model.«Type».TheVariants as ty
-use Rattle.wit_model.proofs.Lists.{first_true, second_true, list_all_filter_map}
+use Rattle.wit_model.proofs.Lists.{list_all_filter_map}
 use Rattle.wit_model.proofs.Entries.{each_from_at, lists_pass}
 use Rattle.wit_model.proofs.Owners.{named_met}
 use Rattle.wit_model.proofs.Functions.{all_flat}
@@ -45,14 +45,18 @@ use Rattle.encode_types.specs.Fits.{FitsScope, CanEncode}
 use Rattle.encode_types.specs.Scope.{Scope, IsDeclared, IsImportable}
 use Rattle.encode_types.specs.Table.{interface_of_owner, has_named_owner}
 use Rattle.wit_encode.specs.OwnerScope.{IsScopeOf, IsMet, IsOfInstance, NamesStand, InstancesStand, IsUsedBy, UsesStand, IsTypeOf, functions_of, NamesEncode, TypesEncode, FunctionsEncode, TypesUse, FunctionsUse, TableScope}
-use Rattle.encode_types.proofs.Lists.{both, contains-one}
 use Rattle.wit_encode.proofs.Forming.{Agree}
 use Rattle.wit_encode.proofs.Owned.{stays, part-met, own-interface, alias-part}
-use Rattle.wit_model.proofs.OnePath.{equal-numbers, some-of, some-same}
-use Rattle.wit_encode.proofs.Naming.{or-first, or-second, one-home, named-owner, names-agree}
-use Rattle.wit_encode.proofs.Validity.{OwnersMet, valid-layered, valid-unnamed, valid-ownerless, valid-formed, signature-formed, interface_passes, has-name, named-agree, named-parts, named-alike, foreign-interface, declared-there}
-use Rattle.wit_model.proofs.Elements.{contains-filter_map, one-contained, all-contained}
+use Rattle.wit_encode.proofs.Naming.{one-home, named-owner, names-agree}
+use Rattle.wit_encode.proofs.Validity.{OwnersMet, valid-layered, valid-unnamed, valid-ownerless, valid-formed, signature-formed, has-name, named-agree, named-parts, named-alike, foreign-interface, declared-there}
+use Rattle.wit_model.proofs.Elements.{contains-filter_map}
 use Rattle.encode_shown.proofs.Basics.{valid-references, same-owner}
+use Rattle.base_lemmas.proofs.Bools.{left_of as first_true, right_of as second_true}
+use Rattle.base_lemmas.proofs.Elements.{all-contained, contains-one, last_of as one-contained}
+use Rattle.base_lemmas.proofs.Lists.{given-some}
+use Rattle.base_lemmas.proofs.Numbers.{equal as equal-numbers}
+use Rattle.base_lemmas.proofs.Options.{there as some-of}
+use Rattle.wit_model.proofs.OnePath.{interface-passes as interface_passes}
 
 -- ---- owners
 
@@ -181,14 +185,6 @@ pub target-is : (k : TypeDefKind) (m : ℕ) (id : TypeId) → alias_target k ≡
 target-is k m id e c =
     let same : (id.0 == m) ≡ true = alias-part (λ (x : ℕ). x == m) k id (ap (λ (t : Option ℕ). option_map_or (λ (x : ℕ). x == m) t false) e ∙ eq-eqb m m refl) c in
     e ∙ ap Some (sym (equal-numbers id.0 m same))
-
-pub given-some : {A : Type 0} (test : A → Bool) (x : Option A) → option_map_or test x false ≡ true → is_some x ≡ true
-given-some test None h = let wrong : ⊥ = cc in absurd wrong
-given-some test (Some a) h = refl
-
-not-true : (b : Bool) → not b ≡ true → b ≡ false
-not-true true h = sym h
-not-true false h = refl
 
 module _ (r : Resolve) (v : IsValid r) (o : TypeOwner) where
   -- each named type that is met through unnamed ones has the owner

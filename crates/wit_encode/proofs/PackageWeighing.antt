@@ -15,7 +15,6 @@ use Rattle.wit_model.specs.declared.model.Resolve.{Resolve}
 use Rattle.wit_model.specs.declared.model.Package.{Package}
 use Rattle.wit_model.specs.declared.model.PackageId.{PackageId}
 use Rattle.wit_model.specs.declared.model.World.{World}
-use Rattle.wit_model.proofs.Elements.{contains-one}
 use Rattle.wit_model.proofs.OnePath.{found-in}
 use Rattle.comp_bytes.specs.Raw.{Declarations, TopType, declaration_count}
 use Rattle.comp_bytes.specs.Parts.{Part, fits_component, plain_export}
@@ -30,6 +29,7 @@ use Rattle.wit_encode.specs.Packages.{HoldsInterfaces, HoldsMembers, HoldsPackag
 use Rattle.wit_encode.proofs.Lengths.{long-component, name-short, u32-short}
 use Rattle.wit_encode.proofs.Weighing.{one-of}
 use Rattle.wit_encode.proofs.WholePackages.{are-worlds, no-worlds_yet}
+use Rattle.base_lemmas.proofs.Elements.{contains-one}
 
 -- ---- component types and their exports
 

@@ -9,7 +9,7 @@ use Rattle.wit_model.specs.Lookup.{interface_path, world_at}
 use Rattle.wit_model.specs.declared.model.World.{World}
 use Rattle.wit_model.specs.declared.error.Error.{Error}
 use Rattle.wit_model.specs.declared.model.Resolve.{Resolve}
-use Rattle.wit_model.proofs.Elements.{contains-one, none-in, one-contained, zip-push}
+use Rattle.wit_model.proofs.Elements.{none-in, zip-push}
 use Rattle.comp_bytes.specs.Raw.{Declarations}
 use Rattle.comp_bytes.specs.Parts.{Part}
 use Rattle.comp_bytes.specs.Refusal.{IsMemoryOrSize}
@@ -22,6 +22,7 @@ use Rattle.wit_encode.specs.Packages.{AddsInterface, AddsWorld, AddsWorlds, HasN
 use Rattle.wit_model.specs.Weight.{interface_weight}
 use Rattle.wit_encode.specs.Instance.{declared_extent}
 use Rattle.wit_encode.specs.WrittenNames.{WritesPaths}
+use Rattle.base_lemmas.proofs.Elements.{contains-one, last_of as one-contained}
 
 pub on-ok : {X E A B : Type 0} (given : Result X E) → OnOk given A → (A → B) → OnOk given B
 on-ok (Ok x) a f = f a

@@ -4,18 +4,17 @@ use Rattle.std.proofs.Common.{◌≡◌, refl, sym, subst, ap, ◌∙◌, ℕ, z
 use Rattle.std.specs.BTreeMap.{insert_entry, is_at}
 use Rattle.std.specs.List.{Contains, filter}
 use Rattle.std.specs.Option.{option_map_or}
-use Rattle.std.proofs.lemmas.Bool.{cases_Bool, cond-true, cond-false}
+use Rattle.std.proofs.lemmas.Bool.{cases_Bool, cond-true, cond-false, and_from as both}
 use Rattle.std.proofs.lemmas.Option.{slice_get_within}
 use Rattle.wit_model.specs.Lookup.{type_at}
 use Rattle.wit_model.specs.Uses.{owner_interface}
 use Rattle.wit_model.specs.declared.model.Resolve.{Resolve}
 use Rattle.wit_model.specs.declared.model.TypeDef.{TypeDef}
 use Rattle.wit_model.specs.declared.model.TypeOwner.{TypeOwner}
-use Rattle.wit_model.proofs.Lists.{first_true, second_true}
 use Rattle.comp_bytes.specs.Raw.{Declaration, Declarations, append, declaration_count}
 use Rattle.comp_bytes.specs.Held.{type_slots_of}
 use Rattle.encode_types.specs.Known.{Aliased, AreAliases, Around, GrowsAround, IsAlias, alias_declared, below, known_instance, known_slot, with_alias, with_aliases}
-use Rattle.encode_types.proofs.Lists.{both, none-in}
+use Rattle.encode_types.proofs.Lists.{none-in}
 use Rattle.wit_encode.specs.Encoders.{declared_after}
 use Rattle.wit_encode.specs.Instance.{count_declared}
 use Rattle.encode_types.specs.Distinct.{target_of, targets_of, slots_from}
@@ -29,6 +28,7 @@ use Rattle.wit_encode.proofs.LatestInstances.{found-new, found-other}
 use Rattle.wit_encode.proofs.Refusing.{one-appended}
 use Rattle.wit_encode.proofs.WorldBrought.{brought-kept, filters-more}
 use Rattle.wit_encode.proofs.WorldCounting.{counts-declared}
+use Rattle.base_lemmas.proofs.Bools.{left_of as first_true, right_of as second_true}
 
 -- ---- aliases
 

@@ -1,7 +1,7 @@
 -- What is met from the types and functions of an interface, or of a world, is counted in its weight.
-use Rattle.std.proofs.Common.{inl, inr, ◌≡◌, refl, sym, subst, ap, ◌∙◌, ℕ, zero, suc, ◌+◌, ◌<◌, Bool, true, false, not, ◌&&◌, nat_lt, if◌then◌else◌, List, [], ◌∷◌, ◌++◌, map, flat_map, take, length, slice_get, unwrap_or, Option, Some, None, is_some, String, option_and_then, arith}
+use Rattle.std.proofs.Common.{inl, inr, ◌≡◌, refl, sym, subst, ap, ◌∙◌, ℕ, zero, suc, ◌+◌, ◌<◌, Bool, true, false, not, ◌&&◌, nat_lt, if◌then◌else◌, List, [], ◌∷◌, ◌++◌, map, flat_map, take, slice_get, unwrap_or, Option, Some, None, is_some, String, option_and_then, arith}
 use Rattle.std.specs.declared.alloc.Global.{Global}
-use Rattle.std.specs.List.{Contains, list_all}
+use Rattle.std.specs.List.{Contains}
 use Rattle.std.specs.HashMap.{get_by}
 use Rattle.std.specs.Option.{option_map_or}
 use Rattle.std.proofs.lemmas.Bool.{ltb-true}
@@ -28,7 +28,6 @@ use Rattle.wit_model.specs.declared.model.TypeOwner.{TypeOwner}
 use Rattle.wit_model.specs.declared.model.TypeOwner.TheVariants as owner
 use Rattle.wit_model.specs.declared.model.«Type».{«Type» as ValueType}
 use Rattle.wit_model.specs.declared.model.«Type».TheVariants as ty
-use Rattle.wit_model.proofs.Lists.{first_true, second_true}
 use Rattle.wit_model.proofs.Tables.{grow_at}
 use Rattle.wit_model.proofs.Checks.{below_at}
 use Rattle.wit_model.proofs.InOrder.{found_stands}
@@ -40,17 +39,20 @@ use Rattle.encode_types.specs.Table.{interface_of_owner}
 use Rattle.encode_shown.proofs.Items.{typed-item}
 use Rattle.encode_shown.proofs.Zips.{given-contains}
 use Rattle.wit_encode.specs.OwnerScope.{IsTypeOf, functions_of}
-use Rattle.encode_types.proofs.Lists.{contains-one, none-in}
-use Rattle.wit_encode.proofs.Mapped.{from-map}
-use Rattle.wit_encode.proofs.Numbers.{same-some}
+use Rattle.encode_types.proofs.Lists.{none-in}
 use Rattle.encode_types.proofs.Planning.{part-number}
 use Rattle.wit_model.proofs.OnePath.{found-in}
-use Rattle.wit_encode.proofs.Owned.{stays, part-met, own-interface, alias-part, named-listed, not-false}
+use Rattle.wit_encode.proofs.Owned.{stays, part-met, own-interface, alias-part, named-listed}
 use Rattle.wit_encode.proofs.ListedTypes.{owned-listed, listed-type}
 use Rattle.wit_encode.proofs.OwnerScope.{function-ranges, function-refers, type-stays, types-stay}
 use Rattle.wit_encode.proofs.WorldUses.{own-type}
-use Rattle.wit_model.proofs.Elements.{one-contained, all-contained, contains-get, contains-flat, has-contains}
+use Rattle.wit_model.proofs.Elements.{contains-get, contains-flat, has-contains}
 use Rattle.encode_shown.proofs.Basics.{valid-references, same-owner}
+use Rattle.base_lemmas.proofs.Bools.{left_of as first_true, not-false, right_of as second_true}
+use Rattle.base_lemmas.proofs.Elements.{all-contained, contains-one, flat-same, last_of as one-contained, map_from as from-map}
+use Rattle.base_lemmas.proofs.Lists.{slice_take as get-take, within_there as there-at}
+use Rattle.std.proofs.lemmas.Option.{same_Some as same-some, slice_get_within as within}
+use Rattle.wit_model.proofs.Owners.{numbered_at as numbered-at}
 
 -- ---- lists
 
@@ -60,32 +62,6 @@ from-flat f (x ∷ xs) y c = elim (Contains-append_cases (f x) (flat_map f xs) y
   | inl a ↦ (x, (0, omega arith, refl), a)
   | inr b ↦ (let z = from-flat f xs y b in (z.0, (suc z.1.0, (let l = z.1.1 in omega (arith, l)), z.1.2), z.2))
 ]
-
-get-take : {X : Type 0} (xs : List X) (n m : ℕ) → m < n → slice_get (take n xs) m ≡ slice_get xs m
-get-take [] zero m h = refl
-get-take [] (suc n) m h = refl
-get-take (x ∷ xs) zero m h = absurd (omega (arith, h))
-get-take (x ∷ xs) (suc n) zero h = refl
-get-take (x ∷ xs) (suc n) (suc m) h = get-take xs n m (omega (arith, h))
-
-flat-same : {X : Type 0} (f g : ℕ → List X) (n : ℕ) (ns : List ℕ) → ((m : ℕ) → m < n → f m ≡ g m) → list_all (λ m. nat_lt m n) ns ≡ true → flat_map f ns ≡ flat_map g ns
-flat-same f g n [] same h = refl
-flat-same f g n (m ∷ ns) same h = λ i. same m (ltb-true m n (first_true _ _ h)) i ++ flat-same f g n ns same (second_true _ _ h) i
-
-numbered-at : {A : Type 0} (k : ℕ) (xs : List A) (n : ℕ) (x : A) → slice_get xs n ≡ Some x → slice_get (numbered_from k xs) n ≡ Some (k + n, x)
-numbered-at k [] n x e = let wrong : ⊥ = cc in absurd wrong
-numbered-at k (y ∷ ys) zero x e = let here : k + 0 ≡ k = omega arith in λ i. Some (sym here i, same-some y x e i)
-numbered-at k (y ∷ ys) (suc n) x e = let next : (k + 1) + n ≡ k + suc n = omega arith in subst (λ (m : ℕ). slice_get (numbered_from (k + 1) ys) n ≡ Some (m, x)) next (numbered-at (k + 1) ys n x e)
-
-within : {A : Type 0} (xs : List A) (n : ℕ) (x : A) → slice_get xs n ≡ Some x → n < length xs
-within [] n x e = let wrong : ⊥ = cc in absurd wrong
-within (y ∷ ys) zero x e = omega arith
-within (y ∷ ys) (suc n) x e = let l = within ys n x e in omega (arith, l)
-
-there-at : {A : Type 0} (xs : List A) (n : ℕ) → n < length xs → (x : A) × (slice_get xs n ≡ Some x)
-there-at [] n l = absurd (omega (arith, l))
-there-at (x ∷ xs) zero l = (x, refl)
-there-at (x ∷ xs) (suc n) l = there-at xs n (omega (arith, l))
 
 -- ---- what stands inside a number
 

@@ -23,7 +23,6 @@ use Rattle.wit_model.specs.declared.model.TypeId.{TypeId}
 use Rattle.wit_model.specs.declared.model.InterfaceId.{InterfaceId}
 use Rattle.wit_model.specs.declared.model.«Type».{«Type» as ValueType}
 use Rattle.wit_model.specs.declared.model.«Type».TheVariants as ty
-use Rattle.wit_model.proofs.Lists.{first_true, second_true}
 use Rattle.comp_bytes.specs.Raw.{Declarations}
 use Rattle.encode_types.specs.Slots.{Pairs}
 use Rattle.encode_types.specs.declared.key.FunctionKey.{FunctionKey}
@@ -40,14 +39,15 @@ use Rattle.encode_types.specs.MetKinds.{referred, IsMetKind, AreMetKinds, Learns
 use Rattle.encode_types.proofs.Lists.{none-in}
 use Rattle.encode_types.proofs.KindLaws.{optional_same}
 use Rattle.encode_types.proofs.Encoding.{meets-reaches, learns-nothing}
-use Rattle.wit_encode.proofs.HeldKeys.{any-at, same_equiv, alike}
+use Rattle.wit_encode.proofs.HeldKeys.{same_equiv, alike}
 use Rattle.wit_encode.proofs.Counting.{Began}
-use Rattle.wit_encode.proofs.Mapped.{from-map}
 use Rattle.wit_encode.proofs.DefinedTypes.{HeldKinds}
 use Rattle.encode_types.proofs.Learning.{learns-none, learns-then}
 use Rattle.wit_encode.proofs.MetKinds.{met-kinds, params-same}
 use Rattle.wit_encode.proofs.Opening.{permuted-contains}
-use Rattle.wit_model.proofs.Elements.{contains-map, contains-flat}
+use Rattle.wit_model.proofs.Elements.{contains-flat}
+use Rattle.base_lemmas.proofs.Bools.{left_of as first_true, right_of as second_true}
+use Rattle.base_lemmas.proofs.Elements.{any-at, contains-map, map_from as from-map}
 
 -- ---- what is learnt
 

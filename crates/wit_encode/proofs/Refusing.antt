@@ -6,7 +6,7 @@ use Rattle.std.specs.Borrow.{Bor}
 use Rattle.std.specs.declared.alloc.Global.{Global}
 use Rattle.std.proofs.lemmas.Bool.{lt-ltb, ltb-true, ltb-false}
 use Rattle.wit_model.specs.Text.{Text, optional_text, text_of as text_at}
-use Rattle.wit_model.specs.Tree.{Tree, children, child_list}
+use Rattle.wit_model.specs.Tree.{Tree}
 use Rattle.wit_model.specs.Meaning.{Signature}
 use Rattle.wit_model.specs.declared.error.Error.{Error}
 use Rattle.wit_model.specs.declared.error.Error.TheVariants as errors
@@ -37,7 +37,9 @@ use Rattle.wit_encode.specs.FunctionRoom.{LacksFunctions}
 use Rattle.wit_encode.proofs.FunctionRoom.{keys-few}
 use Rattle.wit_encode.proofs.HeldKeys.{knows-none}
 use Rattle.wit_encode.specs.Instance.{held_in, lacks_room_in, placed_function}
-use Rattle.wit_encode.proofs.Opening.{map-twice}
+use Rattle.base_lemmas.proofs.Elements.{zip_long as zip-length}
+use Rattle.base_lemmas.proofs.Lists.{map_of_map as map-twice}
+use Rattle.encode_shown.proofs.Children.{listed}
 
 pub on-size : {A : Type 0} (res : Result A Error) (P : Type 0) → OnErr res P → res ≡ Err errors.Size → P
 on-size (Ok x) P p h = absurd (let z : ⊥ = cc in z)
@@ -107,12 +109,6 @@ all-fit f g [] (y ∷ ys) h = absurd h
 all-fit f g (x ∷ xs) [] h = absurd h
 all-fit f g (x ∷ xs) (y ∷ ys) h = λ i. h.0 i && all-fit f g xs ys h.1 i
 
-pub zip-length : {A B : Type 0} (R : A → B → Type 0) (xs : List A) (ys : List B) → AllZip R xs ys → length xs ≡ length ys
-zip-length R [] [] h = refl
-zip-length R [] (y ∷ ys) h = absurd h
-zip-length R (x ∷ xs) [] h = absurd h
-zip-length R (x ∷ xs) (y ∷ ys) h = let e = zip-length R xs ys h.1 in omega arith
-
 -- labels that are the same texts
 labels-fit : {T B : Type 0} (R : Bor Text × T → B → Type 0) (label : B → Text) → ((x : Bor Text × T) (y : B) → R x y → x.0.now ≡ label y) → (xs : List (Bor Text × T)) (ys : List B) → AllZip R xs ys → fits_labels (map labeled xs) ≡ fits_names (map label ys)
 labels-fit {T} {B} R label same xs ys z =
@@ -135,10 +131,6 @@ labels-fit {T} {B} R label same xs ys z =
 
     fits-by : (ls : List (Labeled T)) → fits_labels ls ≡ fits_names (map (λ (x : Labeled T). x.label) ls)
     fits-by ls = λ i. nat_lt (count-by ls i) (2 ^ 32) && each-by ls i
-
-pub listed : (ts : List Tree) → child_list (children ts) ≡ ts
-listed [] = refl
-listed (t ∷ ts) = ap (λ xs. t ∷ xs) (listed ts)
 
 -- a definition fits exactly where the tree does
 pub tree-fits : (S : Pairs) (d : ComponentDefinedType) (t : Tree) → Follows S d t → fits_defined (raw_defined d) ≡ fits_tree t

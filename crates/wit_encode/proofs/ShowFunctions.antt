@@ -1,12 +1,11 @@
 -- A function that is exported from an instance type.
-use Rattle.std.proofs.Common.{◌≡◌, sym, subst, ap, ◌∙◌, ℕ, ◌+◌, true, List, [], ◌∷◌, ◌++◌, append-nil, Result, Ok, Err, OnOk, Option, Some, None, slice_get, arith}
+use Rattle.std.proofs.Common.{◌≡◌, sym, subst, ap, ◌∙◌, ℕ, ◌+◌, true, List, [], ◌∷◌, ◌++◌, append-nil, Result, Ok, Err, OnOk, Option, Some, None, slice_get}
 use Rattle.std.specs.List.{list_all}
 use Rattle.std.specs.Option.{option_map_or, is_some}
 use Rattle.wit_model.specs.Text.{Text}
 use Rattle.wit_model.specs.Tree.{Place}
 use Rattle.wit_model.specs.Meaning.{Signature, FunctionMeaning}
 use Rattle.wit_model.specs.declared.model.Resolve.{Resolve}
-use Rattle.wit_model.proofs.Lists.{first_true}
 use Rattle.comp_bytes.specs.declared.forms.ComponentTypeRef.TheVariants as refs
 use Rattle.comp_bytes.specs.Raw.{Declaration, Declarations, ExternName, from_list}
 use Rattle.comp_meaning.specs.Follow as follow
@@ -19,6 +18,7 @@ use Rattle.wit_encode.proofs.ValueSlots.{slots-more, targets-more}
 use Rattle.wit_encode.proofs.Strict.{bind}
 use Rattle.wit_encode.proofs.Calls.{inner-at}
 use Rattle.wit_encode.proofs.Steps as steps
+use Rattle.base_lemmas.proofs.Bools.{left_of as first_true}
 
 function-there : (slots : List Slot) (i : ℕ) (s : Signature) → SlotsStand slots i (function s) → function_in (slice_get slots i) ≡ Some s
 function-there slots i s h = go (slice_get slots i) h

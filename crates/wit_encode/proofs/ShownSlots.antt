@@ -19,7 +19,7 @@ use Rattle.wit_model.specs.declared.model.Interface.{Interface}
 use Rattle.wit_model.specs.declared.model.InterfaceId.{InterfaceId}
 use Rattle.wit_model.specs.declared.model.TypeOwner.{TypeOwner}
 use Rattle.wit_model.specs.declared.model.TypeOwner.TheVariants as owner
-use Rattle.wit_model.proofs.Elements.{none-in, one-contained, contains-one, contains-later, all-contained, contains-get}
+use Rattle.wit_model.proofs.Elements.{none-in, contains-get}
 use Rattle.comp_bytes.specs.declared.forms.ComponentTypeRef.{ComponentTypeRef}
 use Rattle.comp_bytes.specs.declared.forms.ComponentTypeRef.TheVariants as refs
 use Rattle.comp_bytes.specs.Raw.{Declaration, Alias, ExternName}
@@ -27,12 +27,14 @@ use Rattle.comp_meaning.specs.Follow.{Slot, ShownType, InstanceScope, is_simple,
 use Rattle.encode_shown.specs.Views.{name_slot, shown_type, types_of}
 use Rattle.encode_types.specs.Resources.{Names, is_met_owner, resource_names}
 use Rattle.encode_types.specs.Standing.{is_slot_of}
-use Rattle.wit_model.proofs.OnePath.{some-same}
 use Rattle.wit_encode.proofs.Steps.{unbind, unwhen, unprovided}
-use Rattle.wit_encode.proofs.Numbers.{same-number}
-use Rattle.wit_encode.proofs.Naming.{or-first, one-home, names-agree}
+use Rattle.wit_encode.proofs.Naming.{one-home, names-agree}
 use Rattle.wit_encode.proofs.ListedTypes.{listed-type, listed-key}
 use Rattle.encode_shown.proofs.Basics.{same-owner}
+use Rattle.base_lemmas.proofs.Elements.{all-contained, contains-later, contains-one, last_of as one-contained}
+use Rattle.base_lemmas.proofs.Numbers.{same-number}
+use Rattle.std.proofs.lemmas.Bool.{or_left as or-first}
+use Rattle.std.proofs.lemmas.Option.{same_Some as some-same}
 
 module _ (place : Place) where
   -- ---- slots of names

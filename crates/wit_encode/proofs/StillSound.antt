@@ -4,7 +4,6 @@ use Rattle.std.specs.List.{list_all}
 use Rattle.std.specs.Option.{option_map_or, is_some}
 use Rattle.std.proofs.lemmas.List.Folds.{list_all-append}
 use Rattle.wit_model.specs.declared.model.Resolve.{Resolve}
-use Rattle.wit_model.proofs.Lists.{first_true, second_true}
 use Rattle.comp_bytes.specs.Raw.{Declaration, Declarations, append, from_list}
 use Rattle.comp_bytes.specs.Held.{type_slots_of}
 use Rattle.comp_meaning.specs.Follow as follow
@@ -16,8 +15,9 @@ use Rattle.wit_encode.specs.declared.interface.OpenInterface.{OpenInterface}
 use Rattle.wit_encode.specs.Instance.{around_at, encoder_scope, is_slot_of, is_sound_in, outer_contents, outer_scope, outer_slots, resources_in}
 use Rattle.wit_encode.proofs.Components.{steps-instance}
 use Rattle.wit_encode.proofs.Importing.{stands, wide}
-use Rattle.encode_types.proofs.Lists.{both}
 use Rattle.wit_encode.proofs.Outside.{OuterAt, outer-at}
+use Rattle.base_lemmas.proofs.Bools.{left_of as first_true, right_of as second_true}
+use Rattle.std.proofs.lemmas.Bool.{and_from as both}
 
 -- what is sound, in parts
 abbrev pub IsSound : Resolve → Declarations → Type 0

@@ -5,7 +5,6 @@ use Rattle.std.specs.Borrow.{Bor}
 use Rattle.wit_model.specs.Text.{Text}
 use Rattle.wit_model.specs.Tree.{Tree, primitive, named, children, child_list, given, is_given, record_tree, variant_tree, flags_tree, enum_tree, tuple_tree, list_tree, fixed_list_tree, map_tree, option_tree, result_tree, own_tree, borrow_tree, future_tree, stream_tree}
 use Rattle.wit_model.specs.Meaning.{Signature}
-use Rattle.wit_model.proofs.Lists.{first_true, second_true}
 use Rattle.comp_bytes.specs.declared.forms.PrimitiveValType.{PrimitiveValType}
 use Rattle.comp_bytes.specs.declared.forms.PrimitiveValType.TheVariants as p
 use Rattle.comp_bytes.specs.declared.forms.ComponentValType.{ComponentValType}
@@ -21,7 +20,9 @@ use Rattle.encode_types.specs.Slots.{tree, primitive_of, StandsFor, StandsForOpt
 use Rattle.encode_types.specs.Resources.{Names, is_resource_tree}
 use Rattle.encode_types.specs.Formed.{are_values, is_formed}
 use Rattle.wit_encode.specs.Instance.{standing_at, SlotsStand, is_slot_of}
-use Rattle.wit_encode.proofs.Forming.{children-list}
+use Rattle.base_lemmas.proofs.Bools.{left_of as first_true, right_of as second_true}
+use Rattle.std.proofs.lemmas.Bool.{not-true as not-false}
+use Rattle.encode_shown.proofs.Children.{listed as children-list}
 
 primitive-same : (x : PrimitiveValType) → primitive_of x ≡ primitive_of_type x
 primitive-same p.Bool = refl
@@ -49,10 +50,6 @@ pub slot-at : (test : Slot → Bool) (slots : List Slot) (i : ℕ) (x : Slot) �
 slot-at test [] i x h e = absurd (let z : ⊥ = cc in z)
 slot-at test (y ∷ ys) zero x h e = let s : y ≡ x = cc in ap test (sym s) ∙ first_true (test y) (list_all test ys) h
 slot-at test (y ∷ ys) (suc i) x h e = slot-at test ys i x (second_true (test y) (list_all test ys) h) e
-
-not-false : (b : Bool) → not b ≡ true → b ≡ false
-not-false true h = sym h
-not-false false h = refl
 
 -- ---- two lists, place by place
 

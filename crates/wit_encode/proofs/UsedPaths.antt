@@ -18,16 +18,19 @@ use Rattle.wit_model.specs.declared.model.TypeDefKind.TheVariants as kind
 use Rattle.wit_model.specs.declared.model.TypeId.{TypeId}
 use Rattle.wit_model.specs.declared.model.«Type».TheVariants as ty
 use Rattle.wit_model.specs.declared.model.TypeOwner.TheVariants as owner
-use Rattle.wit_model.proofs.Elements.{all-contained, contains-flat, contains-get, contains-one, none-in, same-number}
-use Rattle.wit_model.proofs.Lists.{second_true}
+use Rattle.wit_model.proofs.Elements.{contains-flat, contains-get, none-in}
 use Rattle.encode_shown.proofs.Basics.{type-passes, valid-references, same-owner, or-cases}
-use Rattle.encode_shown.proofs.Interfaces.{contains-mapped}
 use Rattle.encode_shown.proofs.Reach.{once_from}
-use Rattle.encode_shown.proofs.Zips.{filter-contains, given-contains}
-use Rattle.wit_model.proofs.OnePath.{named-path, some-of, some-same}
+use Rattle.encode_shown.proofs.Zips.{given-contains}
+use Rattle.wit_model.proofs.OnePath.{named-path}
 use Rattle.wit_encode.proofs.ListedTypes.{listed-type}
 use Rattle.wit_encode.proofs.Meeting.{named-meets}
 use Rattle.wit_encode.proofs.Owned.{owner-kept}
+use Rattle.base_lemmas.proofs.Bools.{right_of as second_true}
+use Rattle.base_lemmas.proofs.Elements.{all-contained, contains-one, filter_kept as filter-contains, map_from as contains-mapped}
+use Rattle.base_lemmas.proofs.Numbers.{same-number}
+use Rattle.base_lemmas.proofs.Options.{there as some-of}
+use Rattle.std.proofs.lemmas.Option.{same_Some as some-same}
 
 abbrev is_named_at : Resolve → ℕ → Bool
 is_named_at r k = option_map_or (λ (other : Interface). is_some other.name) (interface_at r k) false

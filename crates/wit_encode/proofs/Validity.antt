@@ -4,7 +4,7 @@ use Rattle.std.specs.declared.alloc.Global.{Global}
 use Rattle.std.specs.Prelude.{is_some, is_none}
 use Rattle.std.specs.List.{Contains, list_all}
 use Rattle.std.specs.Option.{option_map_or}
-use Rattle.std.proofs.lemmas.Bool.{cases_eq}
+use Rattle.std.proofs.lemmas.Bool.{cases_eq, or_left as or-first, or_right as or-second}
 use Rattle.std.proofs.lemmas.List.Elements.{Contains-append_left, Contains-append_right}
 use Rattle.wit_model.specs.Text.{text_of, Text}
 use Rattle.wit_model.specs.Lookup.{type_at, place_of, interface_at, is_async}
@@ -12,7 +12,7 @@ use Rattle.wit_model.specs.Meant.{type_meaning, signature_of}
 use Rattle.wit_model.specs.Parts.{kind_numbers, same_owner, member_types, handled, function_types, is_resource, is_resource_kind, is_resource_type}
 use Rattle.wit_model.specs.Uses.{alias_target}
 use Rattle.wit_model.specs.Rules.{is_named_kind, is_named_number, is_listed, owner_in_range, passes}
-use Rattle.wit_model.specs.Valid.{IsValid, named_kinds, order_of_types, Rule, Keeps, shapes, handles, functions_of_interface}
+use Rattle.wit_model.specs.Valid.{IsValid, named_kinds, order_of_types, shapes, handles, functions_of_interface}
 use Rattle.std.proofs.lemmas.List.Folds.{list_all-append}
 use Rattle.wit_model.specs.Tree.{Tree}
 use Rattle.wit_model.specs.Types.{type_tree, number_tree, no_tree, trees_of, tree_of_definition, declaration_of}
@@ -26,7 +26,6 @@ use Rattle.wit_model.specs.declared.model.TypeOwner.{TypeOwner}
 use Rattle.wit_model.specs.declared.model.TypeId.{TypeId}
 use Rattle.wit_model.specs.declared.model.InterfaceId.{InterfaceId}
 use Rattle.wit_model.specs.declared.model.«Type».{«Type» as ValueType}
-use Rattle.wit_model.proofs.Lists.{first_true, second_true}
 use Rattle.wit_model.proofs.Entries.{each_from_at, lists_pass}
 use Rattle.wit_model.proofs.TreeTable.{kept_numbers, kept_trees_at}
 use Rattle.std.proofs.lemmas.Option.{slice_get_within}
@@ -38,10 +37,9 @@ use Rattle.encode_types.specs.Plan.{IsLayered, InRange, AllInRange, foreign_owne
 use Rattle.encode_types.specs.Scope.{IsImportable, Scope}
 use Rattle.wit_encode.specs.OwnerScope.{NamesAgree}
 use Rattle.encode_types.specs.Table.{table_scope, below, interface_of_owner, declaration_in, named_declaration, is_met_by, is_met_owner, has_named_owner}
-use Rattle.encode_types.proofs.Lists.{contains-one}
 use Rattle.encode_types.proofs.Planning.{part-smaller}
 use Rattle.wit_model.proofs.OnePath.{found-in}
-use Rattle.wit_encode.proofs.Naming.{HaveHomes, or-first, or-second, named-owner, valid-owner_in_range, one-home, names-agree}
+use Rattle.wit_encode.proofs.Naming.{HaveHomes, named-owner, valid-owner_in_range, one-home, names-agree}
 use Rattle.wit_model.proofs.Resources.{resource_step}
 use Rattle.encode_types.specs.Kinds.{parts_of, has_definition, kind_tree}
 use Rattle.encode_types.specs.Resources.{Names, is_resource_tree, is_resource_declaration, is_named_interface, resource_names}
@@ -49,8 +47,12 @@ use Rattle.encode_types.specs.Formed.{is_formed, are_values, IsFormedSignature}
 use Rattle.wit_encode.proofs.Forming.{Agree, kind-formed, kind-alike, values-of, optional-values}
 use Rattle.wit_model.specs.declared.model.TypeOwner.TheVariants as owner
 use Rattle.wit_model.specs.declared.model.«Type».TheVariants as ty
-use Rattle.wit_model.proofs.Elements.{all-contained}
 use Rattle.encode_shown.proofs.Basics.{valid-references, same-owner}
+use Rattle.base_lemmas.proofs.Bools.{left_of as first_true, not_or as unnamed-of, right_of as second_true}
+use Rattle.base_lemmas.proofs.Elements.{all-contained, all_get as all-at, contains-one}
+use Rattle.base_lemmas.proofs.Options.{nameless}
+use Rattle.encode_shown.proofs.Basics.{type-passes as type_passes}
+use Rattle.wit_model.proofs.OnePath.{interface-passes as interface_passes}
 
 abbrev signature_like : Resolve → Bool → List Param → Option ValueType → Signature
 signature_like r a ps o = record { is_async = a; params = map (λ p. (text_of p.name, type_tree r p.ty)) ps; result = option_map (type_tree r) o }
@@ -72,11 +74,6 @@ signature-formed r scope ps o sound a h agree =
 pub valid-layered : (r : Resolve) → IsValid r → IsLayered r
 valid-layered r v = record { smaller = kept_numbers r v.rules }
 
-unnamed-of : (b c : Bool) → (not b || c) ≡ true → c ≡ false → b ≡ false
-unnamed-of false c h e = refl
-unnamed-of true true h e = e
-unnamed-of true false h e = sym h
-
 -- an unnamed type is of no kind that has to be named
 pub valid-unnamed : (r : Resolve) → IsValid r → (n : ℕ) (def : TypeDef) → type_at r n ≡ Some def → def.name ≡ None → is_named_kind def.kind ≡ false
 unfolding named_kinds
@@ -88,11 +85,6 @@ valid-unnamed r v n def is none =
 -- ---- what is well formed
 
 -- an entry passes the tests of a rule that is kept
-pub type_passes : (rule : Rule) (r : Resolve) → Keeps rule r → (n : ℕ) (def : TypeDef) → type_at r n ≡ Some def → rule.type_ r n def ≡ true
-type_passes rule r k n def at = let here : 0 + n ≡ n = omega arith in subst (λ (m : ℕ). rule.type_ r m def ≡ true) here (each_from_at (rule.type_ r) 0 r.types.items n def (lists_pass rule r k).3 at)
-
-pub interface_passes : (rule : Rule) (r : Resolve) → Keeps rule r → (n : ℕ) (i : Interface) → interface_at r n ≡ Some i → rule.interface_ r n i ≡ true
-interface_passes rule r k n i at = let here : 0 + n ≡ n = omega arith in subst (λ (m : ℕ). rule.interface_ r m i ≡ true) here (each_from_at (rule.interface_ r) 0 r.interfaces.items n i (lists_pass rule r k).1 at)
 
 -- a type is a resource where its kind is one, or an alias of one
 pub valid-resource : (r : Resolve) → IsValid r → (n : ℕ) (def : TypeDef) → type_at r n ≡ Some def → is_resource r n ≡ is_resource_kind (is_resource r) def.kind
@@ -165,15 +157,6 @@ unnamed-kind r resources f (kind.Type_ t) e = let wrong : ⊥ = cc in absurd wro
 unnamed-kind r resources f (kind.Handle (handle.Own id)) e = refl
 unnamed-kind r resources f (kind.Handle (handle.Borrow id)) e = refl
 unnamed-kind r resources f _ e = refl
-
-all-at : {X : Type 0} (p : X → Bool) (xs : List X) (n : ℕ) (x : X) → list_all p xs ≡ true → slice_get xs n ≡ Some x → p x ≡ true
-all-at p [] n x h e = let wrong : ⊥ = cc in absurd wrong
-all-at p (y ∷ xs) zero x h e = subst (λ z. p z ≡ true) (ap (λ w. unwrap_or w y) e) (first_true _ _ h)
-all-at p (y ∷ xs) (suc n) x h e = all-at p xs n x (second_true _ _ h) e
-
-nameless : {A : Type 0} (x : Option A) → is_some x ≡ true → is_none x ≡ false
-nameless None e = let wrong : ⊥ = cc in absurd wrong
-nameless (Some x) e = refl
 
 or-right : (a b : Bool) → a ≡ false → (a || b) ≡ true → b ≡ true
 or-right true b e h = let wrong : ⊥ = cc in absurd wrong

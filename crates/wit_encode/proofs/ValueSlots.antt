@@ -13,8 +13,8 @@ use Rattle.wit_model.specs.Tree.{Place, Tree, primitive, named, node}
 use Rattle.std.specs.Option.{option_map_or}
 use Rattle.wit_model.specs.Text.{Text}
 use Rattle.comp_meaning.specs.Follow as follow
-use Rattle.comp_meaning.specs.Follow.{Slot, InstanceScope, provided, when, each, given, is_filled, is_key, field_type, case_type, value_type, resource_in, is_simple, definition, function_signature, function_in, named_type, show_type, show_function, instance_step, instance_steps, new_instance}
-use Rattle.comp_meaning.specs.Follow.{Scope, View, Key, Direction, Seen, import_, export_, see, in_scope, key_of, key_text, interface_of, place_of, used_view, exported_slot, see_instance, see_function, see_type, component_step, component_steps, flat}
+use Rattle.comp_meaning.specs.Follow.{Slot, InstanceScope, provided, when, each, given, is_filled, is_key, field_type, case_type, value_type, resource_in, is_simple, definition, function_signature, function_in, named_type, show_type, instance_step, instance_steps}
+use Rattle.comp_meaning.specs.Follow.{Scope, Direction, Seen, import_, export_, see, in_scope, key_of, interface_of, place_of, used_view, exported_slot, see_instance, see_function, see_type, component_step, component_steps, flat}
 use Rattle.std.specs.Prelude.{not, nat_le, ◌==◌}
 use Rattle.std.specs.List.{list_any}
 use Rattle.std.proofs.lemmas.List.Sums.{sum_by-append}
@@ -26,12 +26,13 @@ use Rattle.wit_encode.specs.Worlds.{instances_from, instances_declared}
 use Rattle.wit_encode.proofs.Steps.{unbind, unprovided, unwhen}
 use Rattle.wit_encode.proofs.Steps as steps
 use Rattle.wit_encode.proofs.Components as components
-use Rattle.wit_model.proofs.Elements.{one-contained}
+use Rattle.base_lemmas.proofs.Elements.{last_of as one-contained}
+use Rattle.base_lemmas.proofs.Numbers.{no-slot as add-nothing}
+use Rattle.std.proofs.lemmas.Option.{same_Some as some-same}
+use Rattle.comp_bytes.proofs.HeldLaws.{from_list-push as list-push}
+use Rattle.encode_names.proofs.WorldSteps.{slot-behind as get-end}
 
 -- ---- which they are
-
-add-nothing : (n : ℕ) → n + 0 ≡ n
-add-nothing n = omega arith
 
 pub slots-push : (test : Declaration → Bool) (n : ℕ) (ds : Declarations) (d : Declaration) → slots_from test n (append ds (Declarations.declares d Declarations.no_more)) ≡ slots_from test n ds ++ cond (test d) ((n + type_slots_of ds) ∷ []) []
 slots-push test n Declarations.no_more d = append-nil (cond (test d) (n ∷ []) []) ∙ ap (λ (k : ℕ). cond (test d) (k ∷ []) []) (sym (add-nothing n))
@@ -105,9 +106,6 @@ pub targets-kept : (ds : Declarations) (d : Declaration) → target_of d ≡ Non
 targets-kept ds d e = targets-push ds d ∙ ap (λ (o : Option ℕ). targets_of ds ++ option_to_list o) e ∙ append-nil (targets_of ds)
 
 -- of an instance type
-list-push : (ds : List Declaration) (d : Declaration) → from_list (ds ++ d ∷ []) ≡ append (from_list ds) (Declarations.declares d Declarations.no_more)
-list-push [] d = refl
-list-push (e ∷ ds) d = ap (λ (x : Declarations). Declarations.declares e x) (list-push ds d)
 
 list-slots : (ds : List Declaration) → 0 + type_slots_of (from_list ds) ≡ type_slots ds
 list-slots [] = refl
@@ -156,9 +154,6 @@ instances-behind ds inner = instances-append Declarations.no_more ds (Declaratio
 -- a type that is no name
 abbrev pub IsPlain : Tree → Type 0
 IsPlain t = (place : Place) (name : Text) → t ≡ named place name → ⊥
-
-some-same : {A : Type 0} (a b : A) → Some a ≡ Some b → a ≡ b
-some-same a b e = cc
 
 abbrev is_name : Tree → Bool
 is_name (primitive p) = false
@@ -214,10 +209,6 @@ get-front : (xs more : List Slot) (i : ℕ) (x : Slot) → slice_get xs i ≡ So
 get-front [] more i x e = absurd (let z : ⊥ = cc in z)
 get-front (y ∷ xs) more zero x e = e
 get-front (y ∷ xs) more (suc i) x e = get-front xs more i x e
-
-get-end : (xs : List Slot) (y : Slot) → slice_get (xs ++ y ∷ []) (length xs) ≡ Some y
-get-end [] y = refl
-get-end (x ∷ xs) y = get-end xs y
 
 holds-front : (xs ys : List Slot) (i : ℕ) → Front xs ys → HoldsPlain xs i → HoldsPlain ys i
 holds-front xs ys i f h = record { type_there = h.type_there; there = ap (λ zs. slice_get zs i) f.1 ∙ get-front xs f.0 i (Slot.value h.type_there) h.there; plain = h.plain }

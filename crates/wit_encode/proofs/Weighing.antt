@@ -4,7 +4,7 @@ use Rattle.std.specs.Prelude.{sum_by, AllPairs, if◌then◌else◌}
 use Rattle.std.specs.declared.alloc.Global.{Global}
 use Rattle.std.specs.List.{Contains, list_all}
 use Rattle.std.specs.Option.{option_map_or}
-use Rattle.std.proofs.lemmas.Bool.{lt-ltb, ltb-true, ltb-false}
+use Rattle.std.proofs.lemmas.Bool.{lt-ltb, ltb-true, ltb-false, and_from as both-true}
 use Rattle.std.proofs.lemmas.List.Sums.{sum_by-cons, sum_by-append}
 use Rattle.std.proofs.lemmas.List.Elements.{Contains-append_left, Contains-append_right, Contains-append_cases}
 use Rattle.std.proofs.Math.ListN.{length-map}
@@ -30,7 +30,6 @@ use Rattle.wit_model.specs.declared.model.TypeId.{TypeId}
 use Rattle.wit_model.specs.declared.model.InterfaceId.{InterfaceId}
 use Rattle.wit_model.specs.declared.model.«Type».{«Type» as ValueType}
 use Rattle.wit_model.specs.declared.model.«Type».TheVariants as ty
-use Rattle.wit_model.proofs.Lists.{first_true, second_true}
 use Rattle.comp_bytes.specs.Fits.{fits_length, fits_names, fits_given, fits_name}
 use Rattle.encode_types.specs.Kinds.{kind_tree}
 use Rattle.wit_encode.specs.Order.{is_function_of, by_resource, functions_in_order}
@@ -49,19 +48,22 @@ use Rattle.encode_types.specs.Plan.{foreign_owner}
 use Rattle.encode_types.specs.Table.{interface_of_owner}
 use Rattle.encode_types.specs.MetKinds.{ReachedFrom, referred}
 use Rattle.wit_encode.specs.RoomLaws.{LackingInterfacesAreHeavy}
-use Rattle.wit_encode.proofs.Validity.{type_passes, interface_passes, valid-layered}
+use Rattle.wit_encode.proofs.Validity.{valid-layered}
 use Rattle.encode_types.proofs.Encoding.{tabled}
-use Rattle.wit_encode.proofs.Mapped.{contains-filter, from-filter, from-map}
-use Rattle.encode_types.proofs.Lists.{contains-one, none-in}
-use Rattle.wit_encode.proofs.Numbers.{same-number, equal}
-use Rattle.wit_encode.proofs.Refusing.{listed}
+use Rattle.wit_encode.proofs.Mapped.{contains-filter, from-filter}
+use Rattle.encode_types.proofs.Lists.{none-in}
 use Rattle.std.proofs.lemmas.Map.Made.{distinct_count-le}
 use Rattle.encode_types.specs.Distinct.{are_same, key_of}
 use Rattle.encode_types.proofs.Rooms.{are-different, counts-few}
 use Rattle.wit_encode.proofs.Reached.{from-flat, part-at, IsOwner, IsCounted, Stays, met-counted, counted-in, named-own, all-numbers, interface-owner}
 use Rattle.encode_types.proofs.Pairs.{pairs-head, pairs-tail}
-use Rattle.wit_model.proofs.Elements.{contains-map, all-contained, contains-later}
-use Rattle.wit_encode.proofs.Opening.{map-twice}
+use Rattle.base_lemmas.proofs.Bools.{left_of as first_true, right_of as second_true}
+use Rattle.base_lemmas.proofs.Elements.{all-contained, contains-later, contains-map, contains-one, map_from as from-map}
+use Rattle.base_lemmas.proofs.Lists.{map_of_map as map-twice}
+use Rattle.base_lemmas.proofs.Numbers.{equal, same-number}
+use Rattle.encode_shown.proofs.Basics.{type-passes as type_passes}
+use Rattle.encode_shown.proofs.Children.{listed}
+use Rattle.wit_model.proofs.OnePath.{interface-passes as interface_passes}
 
 -- ---- texts that don't fit are long
 
@@ -81,10 +83,6 @@ over total fits h e = by-order (nat_lt limit total) refl
     by-order : (b : Bool) → nat_lt limit total ≡ b → limit < total
     by-order true f = ltb-true limit total f
     by-order false f = let low : total ≤ limit = ltb-false limit total f in let is = h low in let wrong : ⊥ = cc in absurd wrong
-
-pub both-true : (a b : Bool) → a ≡ true → b ≡ true → (a && b) ≡ true
-both-true true b p q = q
-both-true false b p q = p
 
 pub fits-text : {A : Type 0} (t : List A) → length t ≤ limit → fits_length t ≡ true
 fits-text t h = let less : length t < 2 ^ 32 = omega arith in lt-ltb (length t) (2 ^ 32) less

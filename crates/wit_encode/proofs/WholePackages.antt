@@ -15,8 +15,6 @@ use Rattle.wit_model.specs.declared.model.Resolve.{Resolve}
 use Rattle.wit_model.specs.declared.model.Package.{Package}
 use Rattle.wit_model.specs.declared.model.InterfaceId.{InterfaceId}
 use Rattle.wit_model.specs.declared.model.WorldId.{WorldId}
-use Rattle.wit_model.proofs.Elements.{all-contained, contains-map, contains-one}
-use Rattle.wit_model.proofs.Lists.{second_true}
 use Rattle.indexmap.specs.IndexMap.{values}
 use Rattle.comp_bytes.specs.Raw.{Declarations}
 use Rattle.comp_bytes.specs.Parts.{Part, sections_of_parts}
@@ -30,6 +28,8 @@ use Rattle.encode_shown.proofs.Owning.{own-path}
 use Rattle.encode_shown.proofs.PackageTypes as shown
 use Rattle.wit_encode.proofs.CustomSections.{exported-behind}
 use Rattle.wit_encode.specs.Packages.{AddsWorlds, AreNamed, AreWorlds, HasMembers, HasNoClashes, HasNoMembers, HaveNoEqualPaths, HoldsInterfaces, HoldsMembers, HoldsPackage, IsTypeOf, IsWrapperOf, Listed, ListedWorld, MeansPackage, PartsMean, RefusesInterfaces, RefusesPackage, RefusesPackageAt, RefusesWorlds}
+use Rattle.base_lemmas.proofs.Bools.{right_of as second_true}
+use Rattle.base_lemmas.proofs.Elements.{all-contained, contains-map, contains-one}
 
 -- ---- what stands in a package
 

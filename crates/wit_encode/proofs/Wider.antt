@@ -1,5 +1,5 @@
 -- One alias more in a component type: what it shows, and what an instance type in it reads.
-use Rattle.std.proofs.Common.{◌≡◌, refl, sym, ap, ◌∙◌, ℕ, zero, suc, ◌+◌, List, [], ◌∷◌, ◌++◌, Option, Some, None, slice_get, length, true, arith}
+use Rattle.std.proofs.Common.{◌≡◌, refl, sym, ap, ◌∙◌, ◌+◌, List, [], ◌∷◌, ◌++◌, Option, Some, None, slice_get, length, true, arith}
 use Rattle.std.specs.Option.{option_map_or, is_some}
 use Rattle.wit_model.specs.Tree.{Place}
 use Rattle.comp_bytes.specs.Raw.{Alias, Declaration}
@@ -12,16 +12,8 @@ use Rattle.wit_encode.proofs.Strict.{bind}
 use Rattle.wit_encode.proofs.Steps.{unbind}
 use Rattle.wit_encode.proofs.Components.{steps-count, steps-more}
 use Rattle.wit_encode.proofs.Calls.{inner-at}
-use Rattle.wit_model.proofs.OnePath.{some-same}
-
-pub get-left : {X : Type 0} (xs : List X) (y : X) (k : ℕ) (x : X) → slice_get xs k ≡ Some x → slice_get (xs ++ y ∷ []) k ≡ Some x
-get-left [] y k x e = absurd (let z : ⊥ = cc in z)
-get-left (w ∷ xs) y zero x e = e
-get-left (w ∷ xs) y (suc k) x e = get-left xs y k x e
-
-get-last : {X : Type 0} (xs : List X) (y : X) → slice_get (xs ++ y ∷ []) (length xs) ≡ Some y
-get-last [] y = refl
-get-last (w ∷ xs) y = get-last xs y
+use Rattle.base_lemmas.proofs.Lists.{at_last as get-last, front_more as get-left}
+use Rattle.std.proofs.lemmas.Option.{same_Some as some-same}
 
 -- ---- an instance type, with one slot more around
 

@@ -4,19 +4,18 @@ use Rattle.std.specs.List.{filter}
 use Rattle.std.specs.Option.{option_map_or}
 use Rattle.std.specs.BTreeMap.{is_at, insert_entry}
 use Rattle.std.specs.Ordering.{nat_cmp}
-use Rattle.std.proofs.lemmas.Bool.{cases_Bool, cond-true, cond-false}
+use Rattle.std.proofs.lemmas.Bool.{cases_Bool, cond-true, cond-false, and_from as both}
 use Rattle.wit_model.specs.Lookup.{type_at}
 use Rattle.wit_model.specs.declared.model.Resolve.{Resolve}
 use Rattle.wit_model.specs.declared.model.TypeId.{TypeId}
-use Rattle.wit_model.proofs.Lists.{first_true, second_true}
 use Rattle.comp_bytes.specs.Raw.{Declarations, declaration_count}
 use Rattle.comp_bytes.specs.Held.{type_slots_of}
 use Rattle.encode_types.specs.Known.{Aliased, Around, IsAlias, ReachesAround, as_before, aliased, below, known_slot, with_alias}
-use Rattle.encode_types.proofs.Lists.{both}
 use Rattle.wit_encode.specs.Worlds.{brought_numbers, held_beside, is_brought, is_of_listed}
 use Rattle.wit_encode.proofs.Imported.{at-same, other-slot}
 use Rattle.wit_encode.proofs.Importing.{new-slot}
 use Rattle.wit_encode.proofs.WorldCalls.{reached-held}
+use Rattle.base_lemmas.proofs.Bools.{left_of as first_true, right_of as second_true}
 
 -- what passes one test passes the other
 pub filters-more : {X : Type 0} (p q : X → Bool) → ((x : X) → p x ≡ true → q x ≡ true) → (xs : List X) → length (filter p xs) ≤ length (filter q xs)

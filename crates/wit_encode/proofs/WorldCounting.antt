@@ -1,10 +1,9 @@
 -- How much the component type of a world defines after each item.
-use Rattle.std.proofs.Common.{◌≡◌, refl, sym, subst, ap, ◌∙◌, ℕ, ◌+◌, inl, inr, Bool, true, false, List, [], ◌∷◌, ◌++◌, map, flat_map, length, append-nil, None, slice_get, Vec, arith}
+use Rattle.std.proofs.Common.{◌≡◌, refl, sym, subst, ap, ◌∙◌, ℕ, ◌+◌, inl, inr, Bool, true, false, List, [], ◌∷◌, ◌++◌, map, flat_map, append-nil, None, slice_get, arith}
 use Rattle.std.specs.Prelude.{nat_eq, cond}
-use Rattle.std.specs.declared.alloc.Global.{Global}
 use Rattle.std.specs.List.{AllZip, Contains}
 use Rattle.std.specs.Set.{is_member, distinct_count}
-use Rattle.std.proofs.lemmas.List.{map-append, length-map}
+use Rattle.std.proofs.lemmas.List.{map-append}
 use Rattle.std.proofs.lemmas.List.Elements.{Contains-append_left, Contains-append_right, Contains-append_cases, filter_map-append}
 use Rattle.std.proofs.lemmas.List.Concat.{flat_map-append}
 use Rattle.wit_model.specs.Parts.{function_types}
@@ -27,7 +26,6 @@ use Rattle.std.specs.Option.{option_map_or}
 use Rattle.encode_types.specs.Slots.{tree}
 use Rattle.encode_types.specs.declared.key.FunctionKey.{FunctionKey}
 use Rattle.encode_types.specs.declared.maps.TypeEncodingMaps.{TypeEncodingMaps}
-use Rattle.encode_types.specs.Codes.{lists_of}
 use Rattle.encode_types.specs.Counts.{AddsTypes, AddsFunction, names_defined}
 use Rattle.encode_types.specs.Distinct.{key_of, are_same, is_value_type, is_function_type, described_slot, target_of, targets_of, value_slots, function_slots, StandForKeys, defined_under_names, AddsFunctions}
 use Rattle.encode_types.specs.Key.{IsKeyOf}
@@ -47,10 +45,10 @@ use Rattle.wit_encode.proofs.ValueSlots.{IsPlain, slots-kept, slots-declared, ta
 use Rattle.wit_encode.proofs.DefinedTypes.{HeldKinds, defines-types}
 use Rattle.wit_encode.proofs.WorldScope.{sound-outside}
 use Rattle.wit_encode.proofs.Counting.{slots-once, adds-alike, adds-function, adds-nothing, adds-trans, adds-types, exact-names}
-use Rattle.wit_encode.proofs.Mapped.{from-map}
-use Rattle.wit_encode.proofs.HeldKeys.{Keyed, both-ways, keyed, knows-none, stand-for-keys, slots-many}
+use Rattle.wit_encode.proofs.HeldKeys.{Keyed, keyed, knows-none, stand-for-keys, slots-many}
 use Rattle.wit_encode.proofs.Referring.{from-met, from-none, from-then, interface-kinds}
-use Rattle.wit_model.proofs.Elements.{contains-map}
+use Rattle.base_lemmas.proofs.Bools.{both_ways as both-ways}
+use Rattle.base_lemmas.proofs.Elements.{contains-map, map_from as from-map}
 
 -- ---- entries
 

@@ -26,7 +26,6 @@ use Rattle.wit_model.specs.declared.model.TypeOwner.{TypeOwner}
 use Rattle.wit_model.specs.declared.model.TypeOwner.TheVariants as owner
 use Rattle.wit_model.specs.declared.model.«Type».{«Type» as ValueType}
 use Rattle.wit_model.specs.declared.model.«Type».TheVariants as ty
-use Rattle.wit_model.proofs.Lists.{first_true, second_true}
 use Rattle.comp_bytes.specs.Raw.{Declarations, ExternName, declaration_count}
 use Rattle.comp_bytes.specs.Held.{declaration_slots, fits_added, fits_counts, type_slots_of}
 use Rattle.comp_bytes.specs.Fits.{fits_declaration, fits_name}
@@ -54,10 +53,10 @@ use Rattle.wit_encode.specs.WorldHolds.{HoldsFew}
 use Rattle.wit_encode.specs.WorldItems.{IsNext, all_done}
 use Rattle.wit_encode.specs.WorldRoom.{functions_among, referred_among, IsMetAmong, IsNamedTypeOf, IsTypeAmong, AreSome, count_among, entries_in, WorldLacksRoom, a_name, a_type as a_met_type, a_function, too_many}
 use Rattle.wit_encode.specs.Worlds.{WorldEncoder, brought_numbers, held_beside, is_brought, is_of_listed, world_around}
-use Rattle.wit_encode.proofs.Mapped.{from-map}
 use Rattle.wit_encode.proofs.Refusing.{counts-refused, outer-pushed, outer-slots-few}
 use Rattle.wit_encode.proofs.WorldCounting.{referred-front, referred-behind, function-referred, type-referred}
-use Rattle.wit_model.proofs.Elements.{one-contained}
+use Rattle.base_lemmas.proofs.Bools.{left_of as first_true, right_of as second_true}
+use Rattle.base_lemmas.proofs.Elements.{last_of as one-contained, map_from as from-map}
 
 -- ---- how many entries
 

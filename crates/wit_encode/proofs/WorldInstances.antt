@@ -17,9 +17,8 @@ use Rattle.comp_bytes.specs.Held.{fits_counts, type_slots_of}
 use Rattle.comp_bytes.specs.Fits.{fits_name}
 use Rattle.comp_bytes.specs.declared.forms.ComponentTypeRef.TheVariants as refs
 use Rattle.comp_meaning.specs.Follow.{Direction, import_, export_}
-use Rattle.encode_shown.proofs.Zips.{zip-append}
 use Rattle.encode_types.specs.declared.maps.TypeEncodingMaps.{TypeEncodingMaps}
-use Rattle.encode_types.specs.Known.{Aliased, Around, GrowsAround, alias_declared, known_instance}
+use Rattle.encode_types.specs.Known.{Around, GrowsAround, known_instance}
 use Rattle.encode_types.specs.Maps.{IsOnce}
 use Rattle.encode_types.specs.MetKinds.{LearnsFrom}
 use Rattle.encode_types.specs.Room.{limit}
@@ -41,6 +40,7 @@ use Rattle.wit_encode.proofs.Refusing.{counts-refused, outer-slots-few}
 use Rattle.wit_encode.proofs.WorldCounting.{defines-behind, interfaces-more, towards-function, towards-target, towards-value}
 use Rattle.wit_encode.proofs.WorldHolding.{count-both, full, known-number, known-numbers, known-once, met-before, next-among}
 use Rattle.wit_encode.proofs.WorldInterfaces.{among-one}
+use Rattle.base_lemmas.proofs.Elements.{zip-append}
 
 -- ---- one interface among the entries
 

@@ -10,8 +10,8 @@ use Rattle.std.proofs.lemmas.List.Elements.{Contains-append_cases, Contains-appe
 use Rattle.std.proofs.lemmas.Slice.Zip.{AllZip-long}
 use Rattle.wit_model.specs.Text.{Text}
 use Rattle.wit_model.specs.Lookup.{interface_at, interface_path}
-use Rattle.wit_model.specs.Rules.{entries_in_range, item_in_range, key_in_range, used_interfaces}
-use Rattle.wit_model.specs.Uses.{direct_deps, item_interface}
+use Rattle.wit_model.specs.Rules.{entries_in_range, item_in_range, key_in_range}
+use Rattle.wit_model.specs.Uses.{item_interface}
 use Rattle.wit_model.specs.Valid.{IsValid}
 use Rattle.wit_model.specs.declared.model.Resolve.{Resolve}
 use Rattle.wit_model.specs.declared.model.World.{World}
@@ -21,7 +21,6 @@ use Rattle.wit_model.specs.declared.model.WorldItem.{WorldItem}
 use Rattle.wit_model.specs.declared.model.WorldItem.TheVariants as item
 use Rattle.wit_model.specs.declared.model.Interface.{Interface}
 use Rattle.wit_model.specs.declared.model.InterfaceId.{InterfaceId}
-use Rattle.wit_model.proofs.Lists.{first_true, second_true}
 use Rattle.comp_bytes.specs.Raw.{Declaration, Declarations, append, from_list}
 use Rattle.comp_bytes.specs.Held.{type_slots_of}
 use Rattle.comp_bytes.specs.declared.forms.ComponentTypeRef.TheVariants as refs
@@ -31,8 +30,7 @@ use Rattle.encode_shown.specs.Views.{ShowsInterface, home_of, instance_key}
 use Rattle.encode_types.specs.Known.{Around, GrowsAround, UsedStand, are_right, is_standing, outer_instances, outer_scope, outer_slots, standing_instances}
 use Rattle.encode_types.specs.Maps.{standing_of}
 use Rattle.encode_types.specs.Standing.{SlotsStand, is_slot_of}
-use Rattle.encode_types.proofs.Lists.{both}
-use Rattle.wit_model.proofs.OnePath.{found-in, some-of, some-same}
+use Rattle.wit_model.proofs.OnePath.{found-in}
 use Rattle.encode_types.proofs.Tables.{equal-self}
 use Rattle.encode_names.specs.WorldNames.{name_of_item}
 use Rattle.encode_names.specs.WorldSteps.{Entry, Entries, IsTurnOf, StandsAs, StepsTo, declared_towards, interfaces_among, seen_instance, with_entry, with_instance}
@@ -54,7 +52,12 @@ use Rattle.wit_encode.proofs.WorldAliases.{aliases-shown, with_outer}
 use Rattle.wit_encode.proofs.WorldFunctions.{done_items, next-entry, next-place, nothing-brought, see-instances, see-slots, stand-before}
 use Rattle.wit_encode.proofs.WorldScope.{SoundOutside, sound-again, sound-outside}
 use Rattle.wit_encode.proofs.WorldUses.{entries-range, interfaces-ready}
-use Rattle.wit_model.proofs.Elements.{all-contained}
+use Rattle.base_lemmas.proofs.Bools.{left_of as first_true, right_of as second_true}
+use Rattle.base_lemmas.proofs.Elements.{all-contained}
+use Rattle.base_lemmas.proofs.Options.{there as some-of}
+use Rattle.std.proofs.lemmas.Bool.{and_from as both}
+use Rattle.std.proofs.lemmas.Option.{same_Some as some-same}
+use Rattle.encode_shown.proofs.PackageSights.{interface-uses as uses-of}
 
 -- ---- the interface of an item
 
@@ -62,11 +65,6 @@ interface-range : (r : Resolve) (i : WorldItem) (n : ℕ) → item_interface i �
 interface-range r (item.Interface id stability docs external_id) n e h = subst (λ (m : ℕ). (def : Interface) × (interface_at r m ≡ Some def)) (some-same id.0 n e) (found-in r.interfaces.items id.0 h)
 interface-range r (item.Function f) n e h = absurd (let z : ⊥ = cc in z)
 interface-range r (item.Type_ id) n e h = absurd (let z : ⊥ = cc in z)
-
-uses-of : (r : Resolve) (i : WorldItem) (n j : ℕ) → item_interface i ≡ Some n → Contains (direct_deps r n) j → Contains (used_interfaces r i) j
-uses-of r (item.Interface id stability docs external_id) n j e c = subst (λ (m : ℕ). Contains (direct_deps r m) j) (sym (some-same id.0 n e)) c
-uses-of r (item.Function f) n j e c = absurd (let z : ⊥ = cc in z)
-uses-of r (item.Type_ id) n j e c = absurd (let z : ⊥ = cc in z)
 
 no-type : (x : Entry) (n : ℕ) → item_interface x.1 ≡ Some n → types_among (x ∷ []) ≡ []
 no-type (k, item.Interface id stability docs external_id) n e = refl

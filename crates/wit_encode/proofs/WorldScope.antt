@@ -6,7 +6,6 @@ use Rattle.std.specs.Option.{option_map_or, is_some}
 use Rattle.std.proofs.lemmas.List.Folds.{list_all-append}
 use Rattle.wit_model.specs.declared.model.Resolve.{Resolve}
 use Rattle.wit_model.specs.declared.model.WorldId.{WorldId}
-use Rattle.wit_model.proofs.Lists.{first_true, second_true}
 use Rattle.comp_meaning.specs.Follow as follow
 use Rattle.comp_meaning.specs.Follow.{Seen, Slot, in_scope, instance_types}
 use Rattle.encode_types.specs.declared.maps.TypeEncodingMaps.{TypeEncodingMaps}
@@ -15,15 +14,16 @@ use Rattle.encode_types.specs.Known.{Around, are_right, below, outer_instances, 
 use Rattle.encode_types.specs.Standing.{is_slot_of}
 use Rattle.encode_types.specs.View.{View, AddsSlot, Grows}
 use Rattle.encode_types.proofs.Around.{around-same}
-use Rattle.encode_types.proofs.Lists.{both}
 use Rattle.encode_names.specs.Rebuilt.{is_type_shown, others_seen}
 use Rattle.encode_names.proofs.Rebuilt.{others-before}
 use Rattle.encode_names.proofs.WorldSteps.{types-appended}
 use Rattle.wit_encode.specs.Instance.{Contents, no_view}
 use Rattle.wit_encode.specs.WrittenNames.{instance_declarations, instances_around}
 use Rattle.wit_encode.specs.Worlds.{declared_type, is_sound_outside, others_of, seen_imports, world_resources, world_scope, world_view, instances_declared}
-use Rattle.wit_encode.proofs.Calls.{some-of}
 use Rattle.wit_encode.proofs.Contents.{IsOf, Grew, grew-adds, grew-grows}
+use Rattle.base_lemmas.proofs.Bools.{left_of as first_true, right_of as second_true}
+use Rattle.base_lemmas.proofs.Options.{there as some-of}
+use Rattle.std.proofs.lemmas.Bool.{and_from as both}
 
 -- ---- one slot more
 

@@ -1,5 +1,5 @@
 -- What an encoder of a world shows after a call that defines, imports and reaches types.
-use Rattle.std.proofs.Common.{◌≡◌, refl, sym, subst, ap, ◌∙◌, append-nil, ℕ, ◌⊎◌, true, if◌then◌else◌, List, [], ◌∷◌, ◌++◌, map, filter_map, Some, None, length, arith}
+use Rattle.std.proofs.Common.{◌≡◌, refl, sym, subst, ap, ◌∙◌, append-nil, ℕ, ◌⊎◌, true, if◌then◌else◌, List, [], ◌∷◌, ◌++◌, map, filter_map, None, length, arith}
 use Rattle.std.specs.List.{AllZip, Contains}
 use Rattle.std.specs.Option.{option_map_or}
 use Rattle.std.proofs.lemmas.List.{map-append}
@@ -22,6 +22,7 @@ use Rattle.encode_names.proofs.EntriesRebuilt.{entries_are_rebuilt}
 use Rattle.wit_encode.specs.Worlds.{WorldEncoder, declared_type, is_sound_outside, seen_imports, world_around, world_definitions, world_view_of}
 use Rattle.wit_encode.specs.WorldItems.{HasShown, all_done, types_among}
 use Rattle.wit_encode.proofs.WorldScope.{SoundOutside, sound-outside}
+use Rattle.base_lemmas.proofs.Options.{some_same as one-some}
 
 -- ---- the types that have been imported are known from what has been exported
 
@@ -53,9 +54,6 @@ module _ (r : Resolve) (w : World) (e e' : WorldEncoder) (done : Entries) (h : H
 
   others-same : (world_view_of r e').scope.others ≡ (world_view_of r e).scope.others
   others-same = ap (λ (s : Scope). s.others) scope-same
-
-  one-some : (x y : ℕ) → Some x ≡ Some y → x ≡ y
-  one-some x y q = cc
 
   world-same : e'.world.0 ≡ e.world.0
   world-same = one-some e'.world.0 e.world.0 (ap (λ (o : Others). o.world) others-same)

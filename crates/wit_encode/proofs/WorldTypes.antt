@@ -1,5 +1,5 @@
 -- A type of a world, imported behind what has been: nothing else that is named in the world is learnt with it.
-use Rattle.std.proofs.Common.{◌≡◌, refl, sym, subst, ap, ◌∙◌, append-nil, ℕ, ◌⊎◌, inl, inr, Bool, true, false, ◌==◌, cond, List, [], ◌∷◌, ◌++◌, map, filter_map, slice_get, take, option_map, option_and_then, Option, Some, None, String, count_by, length, nat_eq, arith}
+use Rattle.std.proofs.Common.{◌≡◌, refl, sym, subst, ap, ◌∙◌, append-nil, ℕ, ◌⊎◌, inl, inr, Bool, true, false, ◌==◌, cond, List, [], ◌∷◌, ◌++◌, map, filter_map, slice_get, take, option_map, option_and_then, Option, Some, None, String, count_by, length, nat_eq}
 use Rattle.std.specs.Prelude.{is_none}
 use Rattle.std.specs.declared.alloc.Global.{Global}
 use Rattle.std.specs.List.{Contains}
@@ -24,7 +24,6 @@ use Rattle.wit_model.specs.declared.model.TypeOwner.{TypeOwner}
 use Rattle.wit_model.specs.declared.model.TypeOwner.TheVariants as owner
 use Rattle.wit_model.specs.declared.model.«Type».{«Type» as ValueType}
 use Rattle.wit_model.specs.declared.model.«Type».TheVariants as ty
-use Rattle.wit_model.proofs.Lists.{first_true, second_true}
 use Rattle.comp_meaning.specs.Follow.{Direction, import_, export_, Shown, View}
 use Rattle.encode_shown.proofs.Used.{contains-flat-from}
 use Rattle.encode_types.specs.Counts.{Shows, own_name, name_of_own}
@@ -34,23 +33,27 @@ use Rattle.encode_types.specs.Maps.{IsKnown, IsReady, LearnsOnly, by_number}
 use Rattle.encode_types.specs.Plan.{foreign_owner, Meets, at_once, further, MetFrom}
 use Rattle.encode_types.specs.Fits.{CanEncode}
 use Rattle.encode_types.specs.Table.{declaration_in, named_declaration}
-use Rattle.encode_types.proofs.Lists.{contains-one, none-in}
+use Rattle.encode_types.proofs.Lists.{none-in}
 use Rattle.encode_types.proofs.Pairs.{pairs-right}
 use Rattle.encode_names.specs.WorldSteps.{Entry, Entries, with_entry}
 use Rattle.wit_encode.specs.OwnerScope.{IsTypeOf}
 use Rattle.wit_encode.specs.WorldItems.{HasShown, IsNext, all_done, types_among}
 use Rattle.wit_encode.specs.Worlds.{WorldEncoder, world_definitions, world_encoder_view, world_view_of}
-use Rattle.wit_encode.proofs.Calls.{some-of}
 use Rattle.wit_encode.proofs.Exporting.{learnt-apart, learnt-one, was-or-learnt}
 use Rattle.wit_encode.proofs.Meeting.{AllMeetKnown, meets-unnamed}
-use Rattle.wit_encode.proofs.Numbers.{same-some, same-number, equal, gives-one, once-before, one-mapped}
+use Rattle.wit_encode.proofs.Numbers.{gives-one, once-before, one-mapped}
 use Rattle.wit_encode.proofs.Owned.{named-listed}
 use Rattle.wit_encode.proofs.OwnerScope.{types_encode}
 use Rattle.wit_encode.proofs.WorldFunctions.{at-length, before-next, done_items, next-entry, next-place, scope-of, second, stand-before, taken-front, types-given}
 use Rattle.wit_encode.proofs.WorldShown.{type_seen, types-shown}
 use Rattle.wit_encode.proofs.WorldUses.{items_meet_standing, no-type-exported, own-type, parts-listed, type-key}
-use Rattle.wit_model.proofs.Elements.{one-contained, contains-get}
+use Rattle.wit_model.proofs.Elements.{contains-get}
 use Rattle.encode_shown.proofs.Basics.{valid-references, same-owner}
+use Rattle.base_lemmas.proofs.Bools.{left_of as first_true, right_of as second_true}
+use Rattle.base_lemmas.proofs.Elements.{contains-one, first-contained as contains-first, last_of as one-contained}
+use Rattle.base_lemmas.proofs.Numbers.{equal, same-number}
+use Rattle.base_lemmas.proofs.Options.{there as some-of}
+use Rattle.std.proofs.lemmas.Option.{same_Some as same-some}
 
 module _ (r : Resolve) (v : IsValid r) (w : World) (e : WorldEncoder) (done : Entries) (h : HasShown r w e done) (k : WorldKey) (id : TypeId) (n : IsNext r w import_ done (k, item.Type_ id)) where
   abbrev entry : Entry
@@ -222,9 +225,6 @@ module _ (r : Resolve) (v : IsValid r) (w : World) (e : WorldEncoder) (done : En
         by-number m met false q = inl (met-no-other m met (λ same. let wrong : true ≡ false = sym (subst (λ (x : ℕ). (m == x) ≡ true) same (same-number m)) ∙ q in let z : ⊥ = cc in z))
 
 -- ---- the call, by the item and the list that it stands in
-
-contains-first : {A : Type 0} (x : A) (xs : List A) → Contains (x ∷ xs) x
-contains-first x xs = (0, omega arith, refl)
 
 -- a type is no export
 type-next : (r : Resolve) → IsValid r → (w : World) (e : WorldEncoder) (done : Entries) → HasShown r w e done → (k : WorldKey) (id : TypeId) (direction : Direction) → IsNext r w direction done (k, item.Type_ id) → direction ≡ import_

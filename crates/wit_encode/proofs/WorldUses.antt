@@ -27,7 +27,6 @@ use Rattle.wit_model.specs.declared.model.TypeOwner.{TypeOwner}
 use Rattle.wit_model.specs.declared.model.TypeOwner.TheVariants as owner
 use Rattle.wit_model.specs.declared.model.«Type».{«Type» as ValueType}
 use Rattle.wit_model.specs.declared.model.«Type».TheVariants as ty
-use Rattle.wit_model.proofs.Lists.{first_true, second_true}
 use Rattle.wit_model.proofs.Owners.{met_step}
 use Rattle.encode_shown.proofs.Items.{typed-item}
 use Rattle.encode_shown.proofs.Zips.{given-contains}
@@ -36,20 +35,24 @@ use Rattle.encode_types.specs.Resources.{is_named_interface}
 use Rattle.encode_types.specs.Plan.{foreign_owner, Reaches, itself, through}
 use Rattle.encode_types.specs.KeyLaws.{text_same}
 use Rattle.encode_types.specs.Scope.{Scope}
-use Rattle.encode_types.proofs.Lists.{contains-one, none-in}
-use Rattle.wit_model.proofs.OnePath.{found-in, some-of, some-same}
+use Rattle.encode_types.proofs.Lists.{none-in}
+use Rattle.wit_model.proofs.OnePath.{found-in}
 use Rattle.wit_encode.specs.OwnerScope.{IsScopeOf, InstancesStand, IsTypeOf, functions_of}
 use Rattle.wit_encode.specs.WorldUses.{item_types, interfaces_before, StandBefore, ItemsMeetStanding}
 use Rattle.wit_encode.proofs.Mapped.{contains-filter}
-use Rattle.wit_encode.proofs.Exporting.{contains-mapped}
 use Rattle.wit_encode.proofs.Meeting.{named-meets, unnamed-meets, part-uses}
 use Rattle.wit_encode.proofs.Naming.{named-owner}
 use Rattle.wit_encode.proofs.Numbers.{after-at}
 use Rattle.wit_encode.proofs.Owned.{part-met}
-use Rattle.wit_encode.proofs.OwnerScope.{AllStay, IsUse, Stay, function-refers, given-some, named-stays, target-is, type-stays, types-stay, use-at, use-foreign, world_passes}
+use Rattle.wit_encode.proofs.OwnerScope.{AllStay, IsUse, Stay, function-refers, named-stays, target-is, type-stays, types-stay, use-at, use-foreign, world_passes}
 use Rattle.wit_encode.proofs.Validity.{valid-ownerless}
-use Rattle.wit_model.proofs.Elements.{contains-filter_map, one-contained, all-contained, contains-get, get-contains, contains-flat, has-contains}
+use Rattle.wit_model.proofs.Elements.{contains-filter_map, contains-get, contains-flat, has-contains}
 use Rattle.encode_shown.proofs.Basics.{valid-references, same-owner}
+use Rattle.base_lemmas.proofs.Bools.{left_of as first_true, right_of as second_true}
+use Rattle.base_lemmas.proofs.Elements.{all-contained, contains-one, get-contains, last_of as one-contained, map_from as contains-mapped}
+use Rattle.base_lemmas.proofs.Lists.{given-some}
+use Rattle.base_lemmas.proofs.Options.{there as some-of}
+use Rattle.std.proofs.lemmas.Option.{same_Some as some-same}
 
 -- ---- beginnings of lists
 

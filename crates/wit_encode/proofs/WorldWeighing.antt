@@ -4,7 +4,7 @@ use Rattle.std.specs.Prelude.{sum_by, AllPairs, if◌then◌else◌, option_and_
 use Rattle.std.specs.declared.alloc.Global.{Global}
 use Rattle.std.specs.List.{Contains, filter}
 use Rattle.std.specs.Option.{option_map_or}
-use Rattle.std.proofs.lemmas.Bool.{ltb-true, ltb-false}
+use Rattle.std.proofs.lemmas.Bool.{ltb-true, ltb-false, and_from as both-true}
 use Rattle.std.proofs.lemmas.List.Elements.{Contains-append_left, Contains-append_right, Contains-append_cases, All-contains, filter_passes}
 use Rattle.std.proofs.lemmas.List.Filters.{sum_by-filter_both}
 use Rattle.std.proofs.lemmas.List.Kept.{AllPairs-filter}
@@ -35,7 +35,6 @@ use Rattle.wit_model.specs.declared.model.TypeDef.{TypeDef}
 use Rattle.wit_model.specs.declared.model.TypeId.{TypeId}
 use Rattle.wit_model.specs.declared.model.TypeOwner.{TypeOwner}
 use Rattle.wit_model.specs.declared.model.TypeOwner.TheVariants as owner
-use Rattle.wit_model.proofs.Lists.{first_true, second_true}
 use Rattle.wit_model.proofs.PathParts.{canonical_paths_join}
 use Rattle.encode_shown.proofs.Items.{typed-item}
 use Rattle.encode_shown.proofs.Zips.{given-contains}
@@ -43,20 +42,23 @@ use Rattle.comp_bytes.specs.Raw.{ExternName}
 use Rattle.comp_bytes.specs.Fits.{fits_name}
 use Rattle.encode_types.specs.KeyLaws.{text_same}
 use Rattle.encode_types.specs.Room.{limit}
-use Rattle.encode_types.proofs.Lists.{contains-one, none-in}
+use Rattle.encode_types.proofs.Lists.{none-in}
 use Rattle.wit_model.proofs.OnePath.{found-in}
 use Rattle.encode_names.specs.WorldNames.{written_path, written_suffix, name_of_item}
 use Rattle.encode_names.specs.WorldSteps.{Entry, interfaces_among}
 use Rattle.wit_encode.specs.WorldItems.{types_among}
 use Rattle.wit_encode.specs.WorldRoom.{functions_among, type_ids_among, IsMetAmong, IsTypeAmong, count_among, entries_in, WorldLacksRoom, an_interface, a_name, a_type, a_function, too_many, LackingWorldsAreHeavy}
-use Rattle.wit_encode.proofs.Mapped.{from-filter, from-map}
-use Rattle.wit_encode.proofs.Numbers.{same-number}
+use Rattle.wit_encode.proofs.Mapped.{from-filter}
 use Rattle.wit_encode.proofs.OwnerScope.{world_passes}
 use Rattle.wit_encode.proofs.Reached.{from-flat, IsOwner, interface-owner, world-owner}
-use Rattle.wit_encode.proofs.Validity.{type_passes}
-use Rattle.wit_encode.proofs.Weighing.{both-true, fits-text, given-fits, Differ, sum-among, contains-once, at-least, one-of, type-heavy, counted-once, counted-least, part-heavy-of, lacking-heavy}
+use Rattle.wit_encode.proofs.Weighing.{fits-text, given-fits, Differ, sum-among, contains-once, at-least, one-of, type-heavy, counted-once, counted-least, part-heavy-of, lacking-heavy}
 use Rattle.wit_encode.proofs.WorldUses.{no-type-exported}
-use Rattle.wit_model.proofs.Elements.{contains-map, contains-filter_map, all-contained, contains-later, has-contains, contains-has}
+use Rattle.wit_model.proofs.Elements.{contains-filter_map, has-contains, contains-has}
+use Rattle.base_lemmas.proofs.Bools.{left_of as first_true, right_of as second_true}
+use Rattle.base_lemmas.proofs.Elements.{all-contained, contains-later, contains-map, contains-one, map_from as from-map}
+use Rattle.base_lemmas.proofs.Numbers.{same-number}
+use Rattle.encode_names.proofs.NamesRead.{no-suffix as no-suffix-written}
+use Rattle.encode_shown.proofs.Basics.{type-passes as type_passes}
 
 -- ---- names that don't fit are long
 
@@ -132,10 +134,6 @@ module _ (r : Resolve) (n : ℕ) where
   pub written-both : (canonical : Bool) → length (written_path r canonical n) + long (written_suffix r canonical (Some n)) ≤ long (interface_path r n)
   written-both true = path-both
   written-both false = let path = written-long false in omega (arith, path)
-
-pub no-suffix-written : (r : Resolve) (canonical : Bool) → written_suffix r canonical None ≡ None
-no-suffix-written r true = refl
-no-suffix-written r false = refl
 
 -- an item of an interface
 interface-name : (r : Resolve) (canonical : Bool) (k : WorldKey) (i : WorldItem) (id : InterfaceId) (external : Option Text) (texts : ℕ)

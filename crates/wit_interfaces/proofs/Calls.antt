@@ -21,9 +21,10 @@ use Rattle.wit_encode.proofs.Importing.{importable-stands}
 use Rattle.wit_encode.specs.WorldItems.{DefinesInstance}
 use Rattle.wit_encode.proofs.PlacedInstances.{grown-listed}
 use Rattle.std.proofs.lemmas.Bool.{lt-ltb}
-use Rattle.wit_model.proofs.OnePath.{found-in, some-of}
+use Rattle.wit_model.proofs.OnePath.{found-in}
 use Rattle.wit_interfaces.specs.InterfaceEncoders.{CanEncodeInterfaces, Imports, InterfaceEncoder, LeavesInterfaces, component_of, has_listed, imported, interface_encoder_view}
 use Rattle.wit_interfaces.proofs.Leaving.{GoesOn, aliases-go-on, part-goes-on, whole-goes-on, whole-room, whole-stands}
+use Rattle.base_lemmas.proofs.Options.{there as some-of}
 
 -- what stands in the scope stands in the component type
 pub used-outside : (e : InterfaceEncoder) (i : ℕ) → UsedStand (interface_encoder_view e).scope.packages (interface_encoder_view e).scope.instances i → UsedStand (interface_encoder_view e).scope.packages (standing_instances (interface_encoder_view e).scope.packages (component_of e)) i

@@ -6,7 +6,7 @@ use Rattle.std.proofs.lemmas.Cmp.{nat_cmp_total}
 use Rattle.std.specs.List.{Contains, filter, list_all}
 use Rattle.std.specs.Option.{option_map_or}
 use Rattle.std.proofs.Math.Seq.{take-append_seam}
-use Rattle.std.proofs.lemmas.Bool.{lt-ltb}
+use Rattle.std.proofs.lemmas.Bool.{lt-ltb, and_from as both}
 use Rattle.std.proofs.lemmas.List.Folds.{list_all-append}
 use Rattle.wit_model.specs.Text.{Text}
 use Rattle.wit_model.specs.Lookup.{interface_path, place_of, place_of_path}
@@ -21,7 +21,7 @@ use Rattle.comp_bytes.specs.Raw.{Declaration, Declarations, ExternName, append, 
 use Rattle.comp_bytes.specs.Held.{type_slots_of}
 use Rattle.comp_bytes.specs.declared.forms.ComponentTypeRef.TheVariants as refs
 use Rattle.comp_meaning.specs.Follow as follow
-use Rattle.comp_meaning.specs.Follow.{import_, Instance, Key, Slot, View as InstanceView, component_step, in_scope, instance_types, instance_view, new_scope, see, used_view}
+use Rattle.comp_meaning.specs.Follow.{import_, Key, Slot, View as InstanceView, component_step, in_scope, instance_types, instance_view, new_scope, see, used_view}
 use Rattle.encode_shown.specs.Views.{ShowsTypes}
 use Rattle.encode_names.specs.WorldNames.{name_of_interface}
 use Rattle.encode_names.specs.WorldSteps.{declared_towards, seen_instance, with_instance}
@@ -33,9 +33,7 @@ use Rattle.encode_types.specs.Scope.{Scope}
 use Rattle.encode_types.specs.Slots.{Keeps}
 use Rattle.encode_types.specs.Standing.{SlotsStand, is_slot_of}
 use Rattle.encode_types.specs.View.{View}
-use Rattle.encode_types.proofs.Lists.{both}
 use Rattle.encode_types.proofs.Tables.{equal-self}
-use Rattle.encode_shown.proofs.Zips.{filter-contains}
 use Rattle.wit_encode.specs.Dependencies.{imported_instance, with_import}
 use Rattle.wit_encode.specs.Instance.{EncodesPart}
 use Rattle.wit_encode.specs.Worlds.{is_sound_outside, used_types, world_resources, world_scope, world_view}
@@ -49,6 +47,7 @@ use Rattle.wit_encode.proofs.LatestInstances.{found-other, stands-then}
 use Rattle.wit_encode.proofs.WorldAliases.{Leaves, aliases-leave}
 use Rattle.wit_encode.proofs.WorldScope.{SoundOutside, sound-again, sound-outside}
 use Rattle.wit_interfaces.specs.InterfaceEncoders.{CanEncodeInterfaces}
+use Rattle.base_lemmas.proofs.Elements.{filter_kept as filter-contains}
 
 -- ---- lists
 

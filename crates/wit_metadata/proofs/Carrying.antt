@@ -1,5 +1,5 @@
 -- A component with a world's wrapper behind a custom section means the world.
-use Rattle.std.proofs.Common.{◌≡◌, ◌∙◌, refl, ap, subst, ℕ, Bool, List, [], ◌∷◌, ◌++◌, Some, Result, Ok, Err, IfOk}
+use Rattle.std.proofs.Common.{◌≡◌, ◌∙◌, refl, ap, subst, ℕ, Bool, List, [], ◌∷◌, ◌++◌, Some}
 use Rattle.wit_model.specs.Text.{Text, text_of}
 use Rattle.wit_model.specs.Lookup.{identity_of, world_at}
 use Rattle.wit_model.specs.Valid.{IsValid}
@@ -46,9 +46,6 @@ module _ (r : Resolve) (v : IsValid r) (n : ℕ) (w : World) (there : world_at r
   world-carried are = record { world = w; there = there; home = home; declared = ds; wraps = wraps; are = are; spelled = spelled }
 
 -- two facts of one result
-pub both-of : {X E : Type 0} (P Q : X → Type 0) (given : Result X E) → IfOk given P → IfOk given Q → IfOk given (λ x. P x × Q x)
-both-of P Q (Ok x) p q = (p, q)
-both-of P Q (Err e) p q = p
 
 -- ---- what is built
 

@@ -1,9 +1,9 @@
 -- Sections in front of bytes, those behind them, and those that carry no world.
-use Rattle.std.proofs.Common.{◌≡◌, ◌≤◌, ◌<◌, ◌∙◌, ◌+◌, refl, sym, ap, subst, ℕ, suc, ◌==◌, nat_eq, Bool, true, false, List, [], ◌∷◌, ◌++◌, append_assoc, append-nil, length, drop, Option, Some, None, Ok, Err, arith}
+use Rattle.std.proofs.Common.{◌≡◌, ◌≤◌, ◌<◌, ◌∙◌, ◌+◌, refl, sym, ap, subst, ℕ, suc, nat_eq, Bool, true, false, List, [], ◌∷◌, ◌++◌, append_assoc, append-nil, length, drop, Option, Some, None, Ok, Err, arith}
 use Rattle.std.specs.Prelude.{◌-◌}
 use Rattle.std.specs.Borrow.{Bor}
 use Rattle.std.specs.List.{AllByRecursion, flat_map, starts_with}
-use Rattle.std.proofs.lemmas.Bool.{eq-eqb, eqb-true, true≢false}
+use Rattle.std.proofs.lemmas.Bool.{true≢false}
 use Rattle.std.proofs.lemmas.Bool.Decides.{Decides-eqb}
 use Rattle.std.proofs.lemmas.Slice.Eq.{starts_is}
 use Rattle.std.proofs.lemmas.List.{length-append}
@@ -17,8 +17,9 @@ use Rattle.comp_bytes.specs.Reading.{frame_at, name_at}
 use Rattle.comp_bytes.specs.Writing.{framed}
 use Rattle.comp_bytes.proofs.ComponentLaws.{frame_law}
 use Rattle.comp_bytes.proofs.PartLaws.{name_law}
-use Rattle.wit_model.proofs.OnePath.{some-same}
 use Rattle.wit_metadata.specs.Modules.{AreOthers, Carries, Framed, HasData, IsFrontData, IsFrontless, IsInFront, IsModule, IsNamed, IsStripped, IsUnbound, RefusesModule, TellsCarrying, carrying_name, module_bytes, module_preamble}
+use Rattle.base_lemmas.proofs.Lists.{is-nothing as no-bytes}
+use Rattle.std.proofs.lemmas.Option.{same_Some as some-same}
 
 -- ---- one section
 
@@ -144,10 +145,6 @@ module _ (bytes rest kept : List ℕ) (bound : Bool) (h : IsRead bytes rest kept
 
 -- ---- the end
 
-no-bytes : (text : List ℕ) → length text ≡ 0 → text ≡ []
-no-bytes [] e = refl
-no-bytes (b ∷ text) e = absurd (omega (arith, e))
-
 module _ (bytes rest kept : List ℕ) (empty : length rest ≡ 0) where
   all-read : (bound : Bool) (h : IsRead bytes rest kept bound) → IsModule h.sections bytes
   all-read bound h = (h.front, h.parts ∙ ap (λ (t : List ℕ). module_preamble ++ t) (ap (λ (t : List ℕ). h.front ++ t) (no-bytes rest empty) ∙ append-nil h.front), (h.spelled, h.named_))
@@ -243,12 +240,6 @@ behind-preamble bytes rest begins is = (starts_is Decides-eqb bytes module_pream
 
 pub other-preamble : (bytes : List ℕ) → starts_with nat_eq bytes module_preamble ≡ false → RefusesModule bytes errors.NotAModule
 other-preamble bytes begins rest is = true≢false (sym ((starts_is Decides-eqb bytes module_preamble _ refl).1 rest is) ∙ begins)
-
-pub some-left : (rest : List ℕ) → false ≡ (length rest == 0) → length rest ≡ 0 → ⊥
-some-left rest e none = true≢false (sym (e ∙ eq-eqb (length rest) 0 none))
-
-pub none-left : (rest : List ℕ) → true ≡ (length rest == 0) → length rest ≡ 0
-none-left rest e = eqb-true (length rest) 0 (sym e)
 
 pub refused-at : (bytes rest kept : List ℕ) (bound : Bool) → IsRead bytes rest kept bound → (length rest ≡ 0 → ⊥) → IsFrontless rest → RefusesModule bytes (errors.BadModule (length bytes - length rest))
 refused-at bytes rest kept bound h filled none = (

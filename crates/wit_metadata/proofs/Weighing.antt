@@ -1,5 +1,5 @@
 -- A component in which a world has no room: the world, carried so, is too heavy.
-use Rattle.std.proofs.Common.{◌≡◌, ◌≤◌, ◌<◌, ◌+◌, ◌&&◌, ◌⊎◌, inl, inr, ◌∙◌, ap, ℕ, Bool, true, false, List, [], ◌∷◌, length, option_map, option_to_list, Option, Some, arith, refl}
+use Rattle.std.proofs.Common.{◌≡◌, ◌≤◌, ◌<◌, ◌+◌, ◌&&◌, ◌⊎◌, inl, inr, ◌∙◌, ap, ℕ, Bool, false, List, [], ◌∷◌, length, option_map, option_to_list, Option, Some, arith, refl}
 use Rattle.std.specs.Prelude.{option_and_then}
 use Rattle.std.specs.Option.{option_map_or}
 use Rattle.std.proofs.lemmas.List.Sums.{sum_by-cons, sum_by-append}
@@ -21,6 +21,7 @@ use Rattle.wit_encode.proofs.Lengths.{long-component}
 use Rattle.wit_encode.proofs.PackageWeighing.{extent-is, one-short, type-extent, wrapper-short}
 use Rattle.wit_metadata.specs.Carried.{HasHome, encoding_part}
 use Rattle.wit_model.specs.declared.model.StringEncoding.{StringEncoding}
+use Rattle.std.proofs.lemmas.Bool.{and_cases as either-false}
 
 -- the custom section in front
 says-extent : (e : StringEncoding) → part_extent (encoding_part e) ≡ 35
@@ -33,10 +34,6 @@ says-fits e n h =
     let one = sum_by-cons part_extent (encoding_part e) [] in
     let here = says-extent e in
     absurd (omega (arith, long, one, here))
-
-either-false : (a b : Bool) → (a && b) ≡ false → (a ≡ false) ⊎ (b ≡ false)
-either-false false b h = inl refl
-either-false true b h = inr h
 
 module _ (r : Resolve) (n : ℕ) (w : World) (there : world_at r n ≡ Some w) (home : HasHome r w) where
   abbrev path : Text

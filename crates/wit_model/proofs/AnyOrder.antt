@@ -12,7 +12,7 @@ use Rattle.std.proofs.lemmas.Map.Keys.{IsDistinct-IsPermutation}
 use Rattle.std.proofs.lemmas.List.Sorted.{IsPermutation-map, IsPermutation-sym, Contains-permutation}
 use Rattle.wit_model.specs.Text.{Text, TextMap, text_of, text_eq, text_cmp}
 use Rattle.std.specs.Cmp.Lexicographic.{same_text}
-use Rattle.wit_model.proofs.Elements.{contains-map}
+use Rattle.base_lemmas.proofs.Elements.{contains-map}
 
 pub text-same : (a b : Text) → text_eq a b ≡ true → a ≡ b
 text-same a b h = same_text a b (sym h)

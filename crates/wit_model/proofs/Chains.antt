@@ -1,7 +1,7 @@
 -- Numbers fall along uses, so what a chain of uses leads to is reached.
-use Rattle.std.proofs.Common.{◌≡◌, refl, sym, ap, subst, ◌∙◌, ℕ, zero, suc, ◌+◌, ◌≤◌, arith, Bool, true, false, ◌&&◌, ◌||◌, not, ◌==◌, List, [], ◌∷◌, ◌++◌, length, filter, Option, Some, None}
+use Rattle.std.proofs.Common.{◌≡◌, refl, sym, ap, subst, ◌∙◌, ℕ, zero, suc, ◌+◌, ◌≤◌, arith, Bool, true, false, ◌||◌, not, ◌==◌, List, [], ◌∷◌, ◌++◌, length, filter, Option, Some, None}
 use Rattle.std.specs.Prelude.{flat_map, nat_lt}
-use Rattle.std.specs.List.{list_all, list_any}
+use Rattle.std.specs.List.{list_all}
 use Rattle.std.specs.Option.{option_map_or}
 use Rattle.std.proofs.lemmas.Bool.{eqb-true, eq-eqb, ltb-true, or_left, or_right}
 use Rattle.std.proofs.lemmas.List.Folds.{list_any-append}
@@ -13,24 +13,17 @@ use Rattle.wit_model.specs.Uses.{has, once, interfaces_used_by, direct_deps, rea
 use Rattle.wit_model.specs.Rules.{each_from, function_stays}
 use Rattle.wit_model.specs.Valid.{IsValid, owners, as_interface, functions_of_interface}
 use Rattle.wit_model.specs.Chains.{Chain, UsesFall, ChainsReach, ReachedByChains}
-use Rattle.wit_model.proofs.Lists.{first_true, second_true}
 use Rattle.wit_model.proofs.Entries.{each_from_at}
 use Rattle.wit_model.proofs.Owners.{all_once}
+use Rattle.base_lemmas.proofs.Bools.{left_of as first_true, right_of as second_true}
+use Rattle.base_lemmas.proofs.Elements.{not_all as any_by_all}
 
 -- ---- numbers among others
-
-any_by_all : {A : Type 0} (p : A → Bool) (xs : List A) → list_any p xs ≡ not (list_all (λ x. not (p x)) xs)
-any_by_all p [] = refl
-any_by_all p (x ∷ xs) = by (p x) (any_by_all p xs)
-  where
-    by : (b : Bool) → list_any p xs ≡ not (list_all (λ y. not (p y)) xs) → (b || list_any p xs) ≡ not (not b && list_all (λ y. not (p y)) xs)
-    by true e = refl
-    by false e = e
 
 pub has_once : (n : ℕ) (ns : List ℕ) → has (once ns) n ≡ has ns n
 has_once n ns = any_by_all (λ m. m == n) (once ns) ∙ ap not (all_once (λ m. not (m == n)) ns) ∙ sym (any_by_all (λ m. m == n) ns)
 
-has_flat : (f : ℕ → List ℕ) (n m : ℕ) (ns : List ℕ) → has ns n ≡ true → has (f n) m ≡ true → has (flat_map f ns) m ≡ true
+pub has_flat : (f : ℕ → List ℕ) (n m : ℕ) (ns : List ℕ) → has ns n ≡ true → has (f n) m ≡ true → has (flat_map f ns) m ≡ true
 has_flat f n m [] h g = absurd cc
 has_flat f n m (x ∷ ns) h g = list_any-append (λ k. k == m) (f x) (flat_map f ns) ∙ by (λ k. has_flat f n m ns k g) (x == n) refl
   where
@@ -48,7 +41,7 @@ flat_has f m (x ∷ ns) h = by (has (f x) m) refl (flat_has f m ns)
         let rest = more (sym (ap (λ b. b || has (flat_map f ns) m) e) ∙ (sym (list_any-append (λ k. k == m) (f x) (flat_map f ns)) ∙ h)) in
         (rest.0, or_right (x == rest.0) (has ns rest.0) rest.1, rest.2)
 
-all_has : (p : ℕ → Bool) (ns : List ℕ) (n : ℕ) → list_all p ns ≡ true → has ns n ≡ true → p n ≡ true
+pub all_has : (p : ℕ → Bool) (ns : List ℕ) (n : ℕ) → list_all p ns ≡ true → has ns n ≡ true → p n ≡ true
 all_has p [] n all h = absurd cc
 all_has p (x ∷ ns) n all h = by (all_has p ns n (second_true (p x) (list_all p ns) all)) (x == n) refl
   where

@@ -1,7 +1,7 @@
 -- A list keeps a rule where each number of it passes, and a rule is kept where its four lists keep it.
-use Rattle.std.proofs.Common.{◌≡◌, refl, sym, ap, subst, ◌∙◌, ℕ, zero, suc, ◌+◌, ◌<◌, ◌≤◌, Bool, true, false, ◌&&◌, List, [], ◌∷◌, ◌++◌, Some, None, Option, slice_get, unwrap_or, option_map, length, nat_lt, T, ltb→lt, lit≤, arith}
+use Rattle.std.proofs.Common.{◌≡◌, refl, sym, ap, subst, ◌∙◌, ℕ, zero, suc, ◌+◌, ◌<◌, ◌≤◌, Bool, true, false, List, [], ◌∷◌, ◌++◌, Some, None, Option, slice_get, unwrap_or, option_map, length, nat_lt, T, ltb→lt, lit≤, arith}
 use Rattle.std.specs.List.{list_all}
-use Rattle.std.proofs.lemmas.Option.{slice_get_within, slice_get_past}
+use Rattle.std.proofs.lemmas.Option.{slice_get_within, slice_get_past, same_Some as some_same}
 use Rattle.wit_model.specs.declared.error.EntryList.TheVariants as lists
 use Rattle.wit_model.specs.declared.model.Resolve.{Resolve}
 use Rattle.wit_model.specs.declared.model.TypeDef.{TypeDef}
@@ -11,12 +11,8 @@ use Rattle.wit_model.specs.Rules.{each_from}
 use Rattle.wit_model.specs.Valid.{Rule, Keeps, Breaks, free, entry_keeps, order_of_types}
 use Rattle.wit_model.specs.Checks.{KeepsIn, references, flags, entry_of}
 use Rattle.wit_model.proofs.Entries.{each_from_all, each_from_at, lists_pass, free_passes}
-
-both_true : (a b : Bool) → a ≡ true → b ≡ true → (a && b) ≡ true
-both_true a b p q = rw p q
-
-some_same : {A : Type 0} (x y : A) → Some x ≡ Some y → x ≡ y
-some_same x y e = ap (λ o. unwrap_or o x) e
+use Rattle.base_lemmas.proofs.Lists.{at_last as get_last}
+use Rattle.std.proofs.lemmas.Bool.{and_from as both_true, and_left as fails_first}
 
 -- each number of the list passes the test
 all_pass : {A : Type 0} (test : ℕ → A → Bool) (xs : List A) → ((n : ℕ) → n < length xs → option_map (test n) (slice_get xs n) ≡ Some true) → each_from test 0 xs ≡ true
@@ -60,9 +56,6 @@ below_at r h n def is =
     let here : 0 + n ≡ n = omega arith in
     subst (λ m. references.type_ r m def ≡ true) here (each_from_at (references.type_ r) 0 r.types.items n def (lists_pass references r h).3 is)
 
-fails_first : (a b : Bool) → a ≡ false → (a && b) ≡ false
-fails_first a b e = ap (λ x. x && b) e
-
 -- a type that refers to a number that isn't smaller breaks the rule on the order of types
 pub reference_breaks : (r : Resolve) (n : ℕ) → entry_keeps references r lists.Types n ≡ Some false → Breaks r 5 lists.Types n
 unfolding references order_of_types
@@ -86,10 +79,6 @@ pub get_before : {X : Type 0} (xs : List X) (x : X) (n : ℕ) → n < length xs 
 get_before [] x n h = absurd (omega (arith, h))
 get_before (y ∷ ys) x zero h = refl
 get_before (y ∷ ys) x (suc n) h = get_before ys x n (omega (arith, h))
-
-pub get_last : {X : Type 0} (xs : List X) (x : X) → slice_get (xs ++ x ∷ []) (length xs) ≡ Some x
-get_last [] x = refl
-get_last (y ∷ ys) x = get_last ys x
 
 -- One more entry of a table that holds what f says of each number. The default d stands past the end.
 pub table_more : {X : Type 0} (d : X) (f : ℕ → X) (xs : List X) (x : X) (k : ℕ) → length xs ≡ k → ((n : ℕ) → n < k → unwrap_or (slice_get xs n) d ≡ f n) → x ≡ f k → (n : ℕ) → n < k + 1 → unwrap_or (slice_get (xs ++ x ∷ []) n) d ≡ f n

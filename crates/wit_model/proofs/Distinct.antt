@@ -7,12 +7,8 @@ use Rattle.std.proofs.lemmas.List.Folds.{list_any-append}
 use Rattle.std.proofs.lemmas.Slice.Eq.{bytes_eq-Decides}
 use Rattle.wit_model.specs.Text.{Text, text_eq}
 use Rattle.wit_model.specs.Rules.{are_distinct}
-use Rattle.wit_model.proofs.Lists.{list_any_mapped}
-
-pub either_way : (x y : Bool) → (x ≡ true → y ≡ true) → (y ≡ true → x ≡ true) → x ≡ y
-either_way true y f g = sym (f refl)
-either_way false true f g = g refl
-either_way false false f g = refl
+use Rattle.base_lemmas.proofs.Bools.{both_ways as either_way}
+use Rattle.base_lemmas.proofs.Elements.{any_of_map as list_any_mapped}
 
 pub not_is : (a b : Bool) → not a ≡ b → a ≡ not b
 not_is true b e = ap not e

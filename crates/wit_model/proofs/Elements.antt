@@ -1,15 +1,15 @@
 -- Lists, element by element.
-use Rattle.std.proofs.Common.{◌≡◌, refl, sym, ap, ◌∙◌, subst, ℕ, zero, suc, ◌+◌, ◌<◌, List, [], ◌∷◌, ◌++◌, map, filter_map, option_to_list, length, get_or, take, arith, Option, Some, None, Bool, true, false, ◌&&◌, ◌||◌, ◌==◌, T, eqb→eq, flat_map, slice_get, unwrap_or}
-use Rattle.std.proofs.Math.Dec.{eqb_refl}
+use Rattle.std.proofs.Common.{◌≡◌, refl, sym, ap, ◌∙◌, subst, ℕ, zero, suc, ◌+◌, ◌<◌, List, [], ◌∷◌, ◌++◌, map, filter_map, option_to_list, length, get_or, take, arith, Option, Some, None, Bool, true, false, ◌||◌, ◌==◌, flat_map, slice_get}
 use Rattle.std.proofs.lemmas.Option.{slice_get-get_or}
-use Rattle.std.specs.List.{Contains, AllZip, cons_option, list_all}
+use Rattle.std.specs.List.{Contains, AllZip, cons_option}
 use Rattle.wit_model.specs.Uses.{has}
-use Rattle.wit_model.proofs.Lists.{first_true, second_true}
 use Rattle.std.specs.Option.{is_some}
 use Rattle.std.specs.Prelude.{IfSome}
-use Rattle.std.proofs.Math.ListN.{get_or-map, length-map}
 use Rattle.std.proofs.lemmas.List.{take_more, get_or_default}
 use Rattle.std.proofs.lemmas.List.Elements.{filter_map-append, Contains-append_left, Contains-append_right}
+use Rattle.base_lemmas.proofs.Bools.{or_true as or-true}
+use Rattle.base_lemmas.proofs.Elements.{contains-later}
+use Rattle.base_lemmas.proofs.Numbers.{equal, same-number}
 
 pub filter_map_one : {X Y : Type 0} (h : X → Option Y) (x : X) → filter_map h (x ∷ []) ≡ option_to_list (h x)
 filter_map_one h x = elim (h x) as (λ o. filter_map (λ y. o) (x ∷ []) ≡ option_to_list o) [ None ↦ refl | Some y ↦ refl ]
@@ -20,12 +20,6 @@ filter_map_more h xs i x l e =
     ∙ ap (λ ys. filter_map h (take i xs) ++ ys) (filter_map_one h (get_or xs i x) ∙ ap (λ y. option_to_list (h y)) (sym e))
 
 -- ---- elements
-
-pub contains-at : {X : Type 0} (xs : List X) (i : ℕ) (x : X) → i < length xs → x ≡ get_or xs i x → Contains xs x
-contains-at xs i x l e = (i, l, sym e)
-
-pub contains-map : {X Y : Type 0} (f : X → Y) (xs : List X) (x : X) → Contains xs x → Contains (map f xs) (f x)
-contains-map f xs x (i, l, e) = (i, subst (λ (n : ℕ). i < n) (sym (length-map xs f)) l, get_or-map f xs i x ∙ ap f e)
 
 pub given-here : {Y : Type 0} (o : Option Y) (ys : List Y) (y : Y) → Contains (option_to_list o) y → Contains (cons_option o ys) y
 given-here None ys y (i, l, e) = absurd (omega (arith, l))
@@ -60,68 +54,24 @@ zip-along R Q f k [] (b ∷ ys) h = h
 zip-along R Q f k (a ∷ xs) [] h = h
 zip-along R Q f k (a ∷ xs) (b ∷ ys) h = (k a b h.0, zip-along R Q f k xs ys h.1)
 
-pub zip-weaker : {A B : Type 0} (R Q : A → B → Type 0) → ((a : A) (b : B) → R a b → Q a b) → (xs : List A) (ys : List B) → AllZip R xs ys → AllZip Q xs ys
-zip-weaker R Q k [] [] h = tt
-zip-weaker R Q k [] (b ∷ ys) h = h
-zip-weaker R Q k (a ∷ xs) [] h = h
-zip-weaker R Q k (a ∷ xs) (b ∷ ys) h = (k a b h.0, zip-weaker R Q k xs ys h.1)
-
 -- ---- reads
 
 pub item-at : {X : Type 0} (xs ys : List X) (i : ℕ) (x d : X) → xs ≡ ys → i < length xs → x ≡ get_or xs i x → get_or ys i d ≡ x
 item-at xs ys i x d s l e = ap (λ zs. get_or zs i d) (sym s) ∙ get_or_default xs i d x l ∙ sym e
 
-pub contains-one : {X : Type 0} (x : X) → Contains (x ∷ []) x
-contains-one x = (0, omega arith, refl)
-
-pub one-contained : {X : Type 0} (x y : X) → Contains (x ∷ []) y → x ≡ y
-one-contained x y (zero, l, e) = e
-one-contained x y (suc i, l, e) = absurd (omega (arith, l))
-
-pub all-contained : {X : Type 0} (p : X → Bool) (xs : List X) (x : X) → list_all p xs ≡ true → Contains xs x → p x ≡ true
-all-contained p [] x h (i, l, e) = absurd (omega (arith, l))
-all-contained p (y ∷ xs) x h (zero, l, e) = ap p (sym e) ∙ first_true (p y) (list_all p xs) h
-all-contained p (y ∷ xs) x h (suc i, l, e) = all-contained p xs x (second_true (p y) (list_all p xs) h) (i, omega (arith, l), e)
-
 pub some-from : {X : Type 0} (P : X → Type 0) (o : Option X) → is_some o ≡ true → IfSome o P → (x : X) × P x
 some-from P None e h = absurd (let z : ⊥ = cc in z)
 some-from P (Some x) e h = (x, h)
 
-pub both : (a b : Bool) → a ≡ true → b ≡ true → (a && b) ≡ true
-both true true p q = refl
-both true false p q = q
-both false b p q = p
-
 -- ---- places
-
-pub same-some : {A : Type 0} (x y : A) → Some x ≡ Some y → x ≡ y
-same-some x y e = ap (λ o. unwrap_or o x) e
-
-pub held : (b : Bool) → T b → b ≡ true
-held true h = refl
-held false h = absurd h
-
-pub same-number : (n : ℕ) → (n == n) ≡ true
-same-number n = held (n == n) (eqb_refl n)
-
-pub equal : (m n : ℕ) → (m == n) ≡ true → m ≡ n
-equal m n e = eqb→eq m n (subst T (sym e) tt)
 
 -- ---- elements
 
 pub contains-get : {X : Type 0} (xs : List X) (x : X) → Contains xs x → (k : ℕ) × (slice_get xs k ≡ Some x)
 contains-get xs x (k, l, e) = (k, slice_get-get_or xs k x l ∙ ap Some e)
 
-pub get-contains : {X : Type 0} (xs : List X) (k : ℕ) (x : X) → slice_get xs k ≡ Some x → Contains xs x
-get-contains [] k x e = let wrong : ⊥ = cc in absurd wrong
-get-contains (y ∷ ys) zero x e = (0, omega arith, same-some y x e)
-get-contains (y ∷ ys) (suc k) x e = let c = get-contains ys k x e in (suc c.0, (let l = c.1 in omega (arith, l)), c.2)
-
 pub none-in : {X : Type 0} (x : X) {P : Type 0} → Contains [] x → P
 none-in x (k, l, e) = absurd (omega (arith, l))
-
-pub contains-later : {X : Type 0} (y : X) (xs : List X) (x : X) → Contains xs x → Contains (y ∷ xs) x
-contains-later y xs x (k, l, e) = (suc k, omega (arith, l), e)
 
 pub contains-flat : {X Y : Type 0} (f : X → List Y) (xs : List X) (x : X) (y : Y) → Contains xs x → Contains (f x) y → Contains (flat_map f xs) y
 contains-flat f [] x y c d = none-in x c
@@ -137,10 +87,6 @@ has-contains (m ∷ ns) n h = go (has-contains ns n) (m == n) refl h
     go : (has ns n ≡ true → Contains ns n) → (b : Bool) → (m == n) ≡ b → (b || has ns n) ≡ true → Contains (m ∷ ns) n
     go rest true e h = (0, omega arith, equal m n e)
     go rest false e h = contains-later m ns n (rest h)
-
-or-true : (b : Bool) → (b || true) ≡ true
-or-true true = refl
-or-true false = refl
 
 pub contains-has : (ns : List ℕ) (n : ℕ) → Contains ns n → has ns n ≡ true
 contains-has [] n c = none-in n c

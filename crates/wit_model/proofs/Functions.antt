@@ -1,5 +1,5 @@
 -- The functions of a world are those of its imports and those of its exports.
-use Rattle.std.proofs.Common.{◌≡◌, ◌∙◌, refl, ap, sym, ℕ, Bool, ◌&&◌, List, [], ◌∷◌, ◌++◌, filter_map, flat_map, option_to_list, append_assoc}
+use Rattle.std.proofs.Common.{◌≡◌, ◌∙◌, refl, ap, ℕ, Bool, ◌&&◌, List, [], ◌∷◌, ◌++◌, filter_map, flat_map, option_to_list}
 use Rattle.std.specs.List.{list_all}
 use Rattle.std.proofs.lemmas.List.Elements.{filter_map-append}
 use Rattle.std.proofs.lemmas.List.Folds.{list_all-append}
@@ -11,10 +11,7 @@ use Rattle.wit_model.specs.Parts.{function_types}
 use Rattle.wit_model.specs.Checks.{values_of, all_values}
 use Rattle.wit_model.specs.Valid.{item_function}
 use Rattle.wit_model.proofs.Lists.{list_all_filter_map}
-
-pub flat_append : {A B : Type 0} (f : A → List B) (xs ys : List A) → flat_map f (xs ++ ys) ≡ flat_map f xs ++ flat_map f ys
-flat_append f [] ys = refl
-flat_append f (x ∷ xs) ys = ap (λ zs. f x ++ zs) (flat_append f xs ys) ∙ sym (append_assoc (f x) (flat_map f xs) (flat_map f ys))
+use Rattle.std.proofs.lemmas.List.Concat.{flat_map-append as flat_append}
 
 pub of_items : (f : Function → List ℕ) (xs ys : List WorldItem) → flat_map f (filter_map item_function (xs ++ ys)) ≡ flat_map f (filter_map item_function xs) ++ flat_map f (filter_map item_function ys)
 of_items f xs ys = ap (flat_map f) (filter_map-append item_function xs ys) ∙ flat_append f (filter_map item_function xs) (filter_map item_function ys)

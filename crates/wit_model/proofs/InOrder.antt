@@ -7,7 +7,7 @@ use Rattle.std.proofs.lemmas.Bool.Decides.{nat_tests}
 use Rattle.wit_model.specs.Uses.{has}
 use Rattle.wit_model.specs.Rules.{is_id}
 use Rattle.wit_model.specs.Checks.{highest}
-use Rattle.wit_model.proofs.Lists.{first_true, second_true}
+use Rattle.base_lemmas.proofs.Bools.{left_of as first_true, right_of as second_true}
 
 zero_within : (p : ℕ) → nat_le 0 p ≡ true
 zero_within p = grind (arith, nat_tests)

@@ -1,5 +1,5 @@
 -- Owners' lists and types that name each other.
-use Rattle.std.proofs.Common.{◌≡◌, refl, sym, ap, subst, ◌∙◌, ℕ, zero, suc, ◌+◌, Bool, true, false, ◌&&◌, ◌||◌, not, ◌==◌, T, eqb→eq, List, [], ◌∷◌, map, filter_map, count_by, option_map, option_and_then, Some, None, Option, unwrap_or, slice_get, is_some, lit≤, eq-eqb, option_to_list, arith, String, string_eq, string_bytes}
+use Rattle.std.proofs.Common.{◌≡◌, refl, sym, ap, subst, ◌∙◌, ℕ, ◌+◌, Bool, true, false, ◌&&◌, ◌||◌, not, ◌==◌, T, eqb→eq, List, [], ◌∷◌, map, filter_map, count_by, option_map, option_and_then, Some, None, Option, slice_get, is_some, lit≤, eq-eqb, option_to_list, arith, String, string_eq, string_bytes}
 use Rattle.std.specs.declared.alloc.Global.{Global}
 use Rattle.std.specs.List.{list_all, find}
 use Rattle.std.specs.Option.{option_map_or}
@@ -26,28 +26,13 @@ use Rattle.wit_model.specs.Parts.{same_owner}
 use Rattle.wit_model.specs.Rules.{passes, is_id, is_name_key, item_type, is_named_of, is_listed, is_listed_in_interface, is_listed_in_world, interface_type_numbers, world_type_numbers}
 use Rattle.wit_model.specs.Valid.{Keeps, Breaks, HasDistinctKeys, key_eq, entry_keeps, as_interface, as_world, order_of_types}
 use Rattle.wit_model.specs.Checks.{KeepsIn, listings, names_fit, has_name, key_fits, is_found}
-use Rattle.wit_model.proofs.Lists.{first_true, second_true, list_all_filter_map}
+use Rattle.wit_model.proofs.Lists.{list_all_filter_map}
 use Rattle.wit_model.proofs.Entries.{each_from_at, lists_pass}
 use Rattle.wit_model.proofs.Listed.{misfit, fit_once, place_of_found, none_found}
-
-some_same : {A : Type 0} (x y : A) → Some x ≡ Some y → x ≡ y
-some_same x y e = ap (λ o. unwrap_or o x) e
-
-second_false : (a b : Bool) → b ≡ false → (a && b) ≡ false
-second_false true b e = e
-second_false false b e = refl
-
-first_false : (a b : Bool) → a ≡ false → (a && b) ≡ false
-first_false a b e = ap (λ x. x && b) e
-
-pub all_imply : {A : Type 0} (p q : A → Bool) → ((x : A) → p x ≡ true → q x ≡ true) → (xs : List A) → list_all p xs ≡ true → list_all q xs ≡ true
-all_imply p q step [] h = refl
-all_imply p q step (x ∷ xs) h = ap (λ b. b && list_all q xs) (step x (first_true _ _ h)) ∙ all_imply p q step xs (second_true _ _ h)
-
-all_at : {A : Type 0} (p : A → Bool) (xs : List A) (q : ℕ) (x : A) → list_all p xs ≡ true → slice_get xs q ≡ Some x → p x ≡ true
-all_at p [] q x h e = let wrong : ⊥ = cc in absurd wrong
-all_at p (y ∷ ys) zero x h e = ap p (sym (some_same y x e)) ∙ first_true _ _ h
-all_at p (y ∷ ys) (suc q) x h e = all_at p ys q x (second_true _ _ h) e
+use Rattle.base_lemmas.proofs.Bools.{left_of as first_true, right_of as second_true}
+use Rattle.base_lemmas.proofs.Elements.{all_get as all_at, all_weaker as all_imply}
+use Rattle.std.proofs.lemmas.Bool.{and_left as first_false, and_right as second_false, not-true as not_true}
+use Rattle.std.proofs.lemmas.Option.{same_Some as some_same}
 
 -- the list of an interface's types, as one of what each gives
 pub given_all : (ids : List TypeId) → filter_map (λ id. Some id.0) ids ≡ map (λ id. id.0) ids
@@ -169,10 +154,6 @@ world_fits r w h = go (find fails w.imports.entries) refl h
     go : (o : Option (WorldKey × WorldItem)) → find fails w.imports.entries ≡ o → option_and_then (λ e. item_type e.1) o ≡ None → list_all (λ e. passes (has_name r (key_fits e.0)) (item_type e.1)) w.imports.entries ≡ true
     go None e h = none_found fails (λ e. passes (has_name r (key_fits e.0)) (item_type e.1)) (λ x. refl) w.imports.entries e
     go (Some x) e h = absurd (typed x (place_of_found fails w.imports.entries x e).2 h)
-
-not_true : (b : Bool) → not b ≡ true → b ≡ false
-not_true true h = sym h
-not_true false h = refl
 
 module _ (r : Resolve) (n : ℕ) (i : Interface) (at : interface_at r n ≡ Some i) where
   not_in_interface : (m : ℕ) (t : Text) (o : TypeOwner) → same_owner o (as_interface n) ≡ true → is_listed_in_interface m t i ≡ false → is_listed r m t o ≡ false

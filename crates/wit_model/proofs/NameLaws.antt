@@ -8,8 +8,8 @@ use Rattle.std.proofs.lemmas.List.Folds.{list_all-append}
 use Rattle.wit_model.specs.Text.{Text}
 use Rattle.wit_model.specs.Names.{is_lower_byte, is_upper_byte, is_fragment, is_label, IsLabel, PackageIdentity, path_in, at_version, is_identity, IsPath, cut, versioned, known_path, read_path, without_version}
 use Rattle.wit_model.specs.NameLaws.{IsSpelled, SpelledPathReads, ReadPathIsSpelled, PathGrammar, OnePath, PathWithoutVersion}
-use Rattle.wit_model.proofs.Lists.{first_true, second_true}
 use Rattle.wit_model.proofs.Labels.{label_of_test}
+use Rattle.base_lemmas.proofs.Bools.{left_of as first_true, right_of as second_true}
 
 -- ---- the bytes of a label
 
@@ -111,7 +111,7 @@ versioned_joins text = go (cut 64 text) refl
 pub identity_namespace : (p : PackageIdentity) → is_identity p ≡ true → is_label p.namespace ≡ true
 identity_namespace p h = first_true (is_label p.namespace) _ h
 
-identity_name : (p : PackageIdentity) → is_identity p ≡ true → is_label p.name ≡ true
+pub identity_name : (p : PackageIdentity) → is_identity p ≡ true → is_label p.name ≡ true
 identity_name p h = first_true (is_label p.name) _ (second_true (is_label p.namespace) _ h)
 
 known : (p : PackageIdentity) (name : Text) → is_identity p ≡ true → is_label name ≡ true → known_path p name ≡ Some (p, name)

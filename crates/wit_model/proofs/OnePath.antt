@@ -1,5 +1,5 @@
 -- An interface is known by its path: in valid packages no two have the same.
-use Rattle.std.proofs.Common.{◌≡◌, refl, sym, subst, ap, ◌∙◌, ℕ, ◌+◌, ◌<◌, zero, suc, Bool, true, false, List, [], ◌∷◌, length, ◌&&◌, ◌||◌, not, ◌==◌, T, eqb→eq, slice_get, unwrap_or, Option, Some, None, String, option_map, option_and_then, arith}
+use Rattle.std.proofs.Common.{◌≡◌, refl, sym, subst, ap, ◌∙◌, ℕ, ◌+◌, ◌<◌, zero, suc, Bool, true, false, List, [], ◌∷◌, length, ◌&&◌, ◌||◌, not, ◌==◌, slice_get, Option, Some, None, String, option_map, option_and_then, arith}
 use Rattle.std.specs.declared.alloc.Global.{Global}
 use Rattle.std.specs.Prelude.{is_some, is_ok}
 use Rattle.std.specs.Option.{option_map_or}
@@ -7,7 +7,7 @@ use Rattle.std.specs.HashMap.{get_by_text}
 use Rattle.semver.specs.declared.Version.{Version}
 use Rattle.semver.specs.Identifiers.{parts_of}
 use Rattle.semver.proofs.Grammar.{version_parts-complete}
-use Rattle.std.proofs.lemmas.Bool.{ltb-true, lt-ltb}
+use Rattle.std.proofs.lemmas.Bool.{ltb-true, lt-ltb, and_from as both}
 use Rattle.wit_model.specs.Text.{Text, text_of}
 use Rattle.wit_model.specs.Names.{is_label, is_identity, is_version, is_optional_version, path_in}
 use Rattle.wit_model.specs.Lookup.{package_at, interface_at, interface_path, path_of_interface, path_in_package, identity_of, optional_version_text}
@@ -17,14 +17,13 @@ use Rattle.wit_model.specs.declared.model.Resolve.{Resolve}
 use Rattle.wit_model.specs.declared.model.Package.{Package}
 use Rattle.wit_model.specs.declared.model.PackageId.{PackageId}
 use Rattle.wit_model.specs.declared.model.Interface.{Interface}
-use Rattle.wit_model.proofs.Lists.{first_true, second_true}
 use Rattle.wit_model.proofs.Entries.{each_from_at, lists_pass}
 use Rattle.wit_model.proofs.NameLaws.{one_path}
 use Rattle.wit_model.proofs.VersionLaws.{valid_parts, same_name}
-use Rattle.wit_model.proofs.Elements.{both}
-
-pub some-same : {A : Type 0} (x y : A) → Some x ≡ Some y → x ≡ y
-some-same x y e = ap (λ o. unwrap_or o x) e
+use Rattle.base_lemmas.proofs.Bools.{left_of as first_true, right_of as second_true}
+use Rattle.base_lemmas.proofs.Numbers.{equal as equal-numbers}
+use Rattle.base_lemmas.proofs.Options.{there as some-of}
+use Rattle.std.proofs.lemmas.Option.{same_Some as some-same}
 
 pub package-passes : (rule : Rule) (r : Resolve) → Keeps rule r → (n : ℕ) (p : Package) → package_at r n ≡ Some p → rule.package_ r n p ≡ true
 package-passes rule r k n p at = let here : 0 + n ≡ n = omega arith in subst (λ (m : ℕ). rule.package_ r m p ≡ true) here (each_from_at (rule.package_ r) 0 r.packages.items n p (lists_pass rule r k).0 at)
@@ -57,9 +56,6 @@ same-or-not : (b c : Bool) → (b || not c) ≡ true → c ≡ true → b ≡ tr
 same-or-not true c h e = refl
 same-or-not false true h e = h
 same-or-not false false h e = e
-
-pub equal-numbers : (m n : ℕ) → (m == n) ≡ true → m ≡ n
-equal-numbers m n e = eqb→eq m n (subst T (sym e) tt)
 
 -- packages of the same name are one
 pub package-once : (r : Resolve) → IsValid r → (m n : ℕ) (p q : Package) → package_at r m ≡ Some p → package_at r n ≡ Some q → same_package_name p.name q.name ≡ true → n ≡ m
@@ -158,10 +154,6 @@ found-in (x ∷ xs) (suc n) h =
     let below : suc n < length (x ∷ xs) = ltb-true (suc n) (length (x ∷ xs)) h in
     let less : n < length xs = omega arith in
     found-in xs n (lt-ltb n (length xs) less)
-
-pub some-of : {A : Type 0} (o : Option A) → is_some o ≡ true → (x : A) × (o ≡ Some x)
-some-of None h = let wrong : ⊥ = cc in absurd wrong
-some-of (Some x) h = (x, refl)
 
 -- an interface with a name has a path
 pub named-path : (r : Resolve) → IsValid r → (n : ℕ) → option_map_or (λ other. is_some other.name) (interface_at r n) false ≡ true → is_some (interface_path r n) ≡ true

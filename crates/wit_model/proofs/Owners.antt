@@ -20,12 +20,16 @@ use Rattle.wit_model.specs.Text.{optional_text}
 use Rattle.wit_model.specs.Rules.{passes, function_stays, type_stays, is_use, is_member, is_member_of, is_resource_itself, resource_name}
 use Rattle.wit_model.specs.Valid.{Keeps}
 use Rattle.wit_model.specs.Checks.{references, values_of}
-use Rattle.wit_model.proofs.Lists.{first_true, second_true, list_all_filter_map}
+use Rattle.wit_model.proofs.Lists.{list_all_filter_map}
 use Rattle.wit_model.proofs.Tables.{grow_at, grow_keeps}
 use Rattle.wit_model.proofs.Checks.{below_at}
-use Rattle.wit_model.proofs.Functions.{all_flat, flat_append}
+use Rattle.wit_model.proofs.Functions.{all_flat}
+use Rattle.base_lemmas.proofs.Bools.{and-true, left_of as first_true, right_of as second_true}
+use Rattle.base_lemmas.proofs.Elements.{flat-same as flat_same}
+use Rattle.base_lemmas.proofs.Lists.{slice_take as get_take}
+use Rattle.std.proofs.lemmas.List.Concat.{flat_map-append as flat_append}
 
-numbered_at : {A : Type 0} (k : ℕ) (xs : List A) (n : ℕ) (x : A) → slice_get xs n ≡ Some x → slice_get (numbered_from k xs) n ≡ Some (k + n, x)
+pub numbered_at : {A : Type 0} (k : ℕ) (xs : List A) (n : ℕ) (x : A) → slice_get xs n ≡ Some x → slice_get (numbered_from k xs) n ≡ Some (k + n, x)
 numbered_at k [] n x e = absurd (none_some e)
   where
     none_some : None ≡ Some x → ⊥
@@ -45,17 +49,6 @@ numbered_long : {A : Type 0} (k : ℕ) (xs : List A) → length (numbered_from k
 numbered_long k [] = refl
 numbered_long k (x ∷ xs) = ap suc (numbered_long (k + 1) xs)
 
-get_take : {X : Type 0} (xs : List X) (n m : ℕ) → m < n → slice_get (take n xs) m ≡ slice_get xs m
-get_take [] zero m h = refl
-get_take [] (suc n) m h = refl
-get_take (x ∷ xs) zero m h = absurd (omega (arith, h))
-get_take (x ∷ xs) (suc n) zero h = refl
-get_take (x ∷ xs) (suc n) (suc m) h = get_take xs n m (omega (arith, h))
-
-flat_same : {X : Type 0} (f g : ℕ → List X) (n : ℕ) (ns : List ℕ) → ((m : ℕ) → m < n → f m ≡ g m) → list_all (λ m. nat_lt m n) ns ≡ true → flat_map f ns ≡ flat_map g ns
-flat_same f g n [] same h = refl
-flat_same f g n (m ∷ ns) same h = λ i. same m (ltb→lt m n (subst T (sym (first_true _ _ h)) tt)) i ++ flat_same f g n ns same (second_true _ _ h) i
-
 -- what is met at a number: itself where it has a name, and else what its type uses
 pub met_step : (r : Resolve) → Keeps references r → (n : ℕ) (def : TypeDef) → type_at r n ≡ Some def → met_by (met_of r) n ≡ option_map_or (λ name. n ∷ []) def.name (used_by_type r def)
 unfolding met_of
@@ -72,10 +65,6 @@ nothing_past r n h =
     let made = grow_keeps met_at [] (numbered_from 0 r.types.items) in
     let long : length (met_of r) ≤ n = omega (arith, h, ap length made.1, made.2, numbered_long 0 r.types.items) in
     ap (λ o. unwrap_or o []) (slice_get_past (met_of r) n long)
-
-and-true : (b : Bool) → (b && true) ≡ b
-and-true true = refl
-and-true false = refl
 
 module _ (r : Resolve) (below : Keeps references r) (n : ℕ) (def : TypeDef) (is : type_at r n ≡ Some def) (o : TypeOwner) where
   -- a named type is met alone

@@ -105,7 +105,7 @@ module _ (r : Resolve) where
 
 -- ---- the suffix of a version
 
-after-itself : (front rest : Text) → after_prefix front (front ++ rest) ≡ Some rest
+pub after-itself : (front rest : Text) → after_prefix front (front ++ rest) ≡ Some rest
 after-itself [] rest = refl
 after-itself (b ∷ bs) rest = ap (λ v. cond v (after_prefix bs (bs ++ rest)) None) (eq-eqb b b refl) ∙ after-itself bs rest
 

@@ -1,20 +1,15 @@
 -- What stands after a prefix.
-use Rattle.std.proofs.Common.{◌≡◌, refl, sym, ap, ◌∙◌, ℕ, Bool, true, false, ◌==◌, [], ◌∷◌, ◌++◌, drop, cond, Option, Some, None, MatchOption, arith}
+use Rattle.std.proofs.Common.{◌≡◌, refl, sym, ap, ◌∙◌, Bool, true, false, ◌==◌, [], ◌∷◌, ◌++◌, drop, cond, Option, Some, None, MatchOption}
 use Rattle.std.specs.Option.{option_copied}
 use Rattle.std.specs.Str.Pattern.{FindsTextPrefix, StripsPrefix}
 use Rattle.std.specs.Borrow.{Bor}
 use Rattle.std.proofs.lemmas.Option.{same_Some}
 use Rattle.wit_model.specs.Text.{Text}
 use Rattle.wit_model.specs.Rules.{after_prefix}
-
-same_byte : (p b : ℕ) → (p == b) ≡ true → p ≡ b
-same_byte p b e = grind (arith, e)
-
-byte_same : (p : ℕ) → (p == p) ≡ true
-byte_same p = grind arith
+use Rattle.base_lemmas.proofs.Numbers.{equal as same_byte, same-number as byte_same}
 
 -- the prefix stands before what follows it
-after_sound : (ps bs rest : Text) → after_prefix ps bs ≡ Some rest → bs ≡ ps ++ rest
+pub after_sound : (ps bs rest : Text) → after_prefix ps bs ≡ Some rest → bs ≡ ps ++ rest
 after_sound [] bs rest h = same_Some bs rest h
 after_sound (p ∷ ps) [] rest h = let wrong : ⊥ = cc in absurd wrong
 after_sound (p ∷ ps) (b ∷ bs) rest h = go (after_sound ps bs rest) (p == b) refl h

@@ -16,9 +16,9 @@ use Rattle.wit_model.specs.Parts.{kind_numbers, member_types, handled, function_
 use Rattle.wit_model.specs.Rules.{passes}
 use Rattle.wit_model.specs.Valid.{Keeps}
 use Rattle.wit_model.specs.Checks.{references, all_values}
-use Rattle.wit_model.proofs.Lists.{first_true}
 use Rattle.wit_model.proofs.Checks.{below_at}
 use Rattle.wit_model.proofs.Functions.{types_test, functions_test}
+use Rattle.base_lemmas.proofs.Bools.{and-true, left_of as first_true}
 
 -- whether a kind is a resource hangs on smaller numbers alone
 pub kind_same : (f g : ℕ → Bool) (n : ℕ) (k : TypeDefKind) → ((m : ℕ) → m < n → f m ≡ g m) → list_all (λ m. nat_lt m n) (kind_numbers k) ≡ true → is_resource_kind f k ≡ is_resource_kind g k
@@ -84,10 +84,6 @@ no_resource r n h = go (length r.types.items)
     go (suc s) = ap (λ o. option_map_or (λ def. is_resource_kind (ends_in_resource r s) def.kind) o false) (slice_get_past r.types.items n h)
 
 -- ---- the tests, by any marks that agree
-
-and-true : (b : Bool) → (b && true) ≡ b
-and-true true = refl
-and-true false = refl
 
 module _ (r : Resolve) (f : ℕ → Bool) (same : (n : ℕ) → f n ≡ is_resource r n) where
   unmarked : (t : ValueType) → list_all (λ n. not (f n)) (option_to_list (number_of t)) ≡ not (is_resource_type r t)

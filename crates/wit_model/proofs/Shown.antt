@@ -15,18 +15,9 @@ use Rattle.wit_model.specs.Rules.{is_id, each_after, used_interfaces}
 use Rattle.wit_model.specs.ItemOrders.{shown_with, shown_after, uses_are_shown}
 use Rattle.wit_model.proofs.Lists.{list_all_filter_map}
 use Rattle.wit_model.proofs.Owners.{all_filter, all_once}
+use Rattle.base_lemmas.proofs.Bools.{and_assoc, exchange as and_swap}
 
 -- ---- tests of each element with those before it
-
-and_assoc : (a b c : Bool) → (a && (b && c)) ≡ ((a && b) && c)
-and_assoc true b c = refl
-and_assoc false b c = refl
-
-and_swap : (a b x y : Bool) → ((a && b) && (x && y)) ≡ ((a && x) && (b && y))
-and_swap true b true y = refl
-and_swap true true false y = refl
-and_swap true false false y = refl
-and_swap false b x y = refl
 
 pub after_both : {A : Type 0} (p q : List A → A → Bool) (before xs : List A) → each_after (λ b x. p b x && q b x) before xs ≡ (each_after p before xs && each_after q before xs)
 after_both p q before [] = refl

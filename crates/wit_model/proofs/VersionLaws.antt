@@ -1,5 +1,5 @@
 -- A version is known by its text, and a package by its name in paths.
-use Rattle.std.proofs.Common.{◌≡◌, refl, sym, ap, ◌∙◌, ℕ, ◌^◌, Bool, true, ◌&&◌, ◌==◌, nat_lt, Option, Some, None, Result, Ok, eq-eqb}
+use Rattle.std.proofs.Common.{◌≡◌, refl, sym, ap, ◌∙◌, ◌^◌, Bool, true, ◌&&◌, ◌==◌, nat_lt, Option, Some, None, Result, Ok}
 use Rattle.std.proofs.lemmas.Bool.{and_parts, and_from, eqb-true, ltb-true}
 use Rattle.std.proofs.lemmas.Option.{same_Some}
 use Rattle.std.proofs.lemmas.Slice.Eq.{bytes_eq-Decides}
@@ -16,6 +16,7 @@ use Rattle.wit_model.specs.Names.{is_version}
 use Rattle.wit_model.specs.Lookup.{identity_of, optional_version_text}
 use Rattle.wit_model.specs.Rules.{passes, same_version, same_package_name}
 use Rattle.wit_model.specs.NameLaws.{OneVersion, SameName}
+use Rattle.base_lemmas.proofs.Numbers.{same_count as same_number}
 
 five_parts : (a b c d e : Bool) → (a && (b && (c && (d && e)))) ≡ true → (a ≡ true) × (b ≡ true) × (c ≡ true) × (d ≡ true) × (e ≡ true)
 five_parts a b c d e h =
@@ -40,23 +41,20 @@ one_version v w h k same = parts_by_text (parts_of v) (parts_of w) (valid_parts 
 
 -- ---- the same version, and the same name
 
-same_number : (a b : ℕ) → a ≡ b → (a == b) ≡ true
-same_number a b e = eq-eqb a b e
-
 pub same_text : (a b : Text) → a ≡ b → text_eq a b ≡ true
 same_text a b e = (bytes_eq-Decides a b).1 e
 
 pub text_same : (a b : Text) → text_eq a b ≡ true → a ≡ b
 text_same a b e = (bytes_eq-Decides a b).0 e
 
-versions_same : (a b : Version) → parts_of a ≡ parts_of b → same_version a b ≡ true
+pub versions_same : (a b : Version) → parts_of a ≡ parts_of b → same_version a b ≡ true
 versions_same a b e =
     and_from _ _ (same_number a.major b.major (ap (λ p. p.0) e))
     (and_from _ _ (same_number a.minor b.minor (ap (λ p. p.1) e))
     (and_from _ _ (same_number a.patch b.patch (ap (λ p. p.2) e))
     (and_from _ _ (same_text (pre_text a.pre) (pre_text b.pre) (ap (λ p. p.3) e)) (same_text (build_text a.build) (build_text b.build) (ap (λ p. p.4) e)))))
 
-same_versions : (a b : Version) → same_version a b ≡ true → parts_of a ≡ parts_of b
+pub same_versions : (a b : Version) → same_version a b ≡ true → parts_of a ≡ parts_of b
 same_versions a b h =
     let each = five_parts (a.major == b.major) (a.minor == b.minor) (a.patch == b.patch) (text_eq (pre_text a.pre) (pre_text b.pre)) (text_eq (build_text a.build) (build_text b.build)) h in
     let major : a.major ≡ b.major = eqb-true a.major b.major each.0 in

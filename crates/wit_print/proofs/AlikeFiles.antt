@@ -42,12 +42,9 @@ use Rattle.print_grammar.specs.Calls.{file_calls}
 use Rattle.print_items.specs.Shown.{present_name, shown_docs, shown_prefix, shown_gates, full_path, path_from, shown_path, own_name, used_of, grouped, Listed, shown_uses, DeclaredWith, shown_declared, declared_with, shown_declarations, path_from_owner, listed_types, listed_functions, shown_function, shown_interface, shown_extern, extern_prefix, Entry, shown_import, shown_export, is_interface_item, is_freestanding_item, function_of_item, type_of_entry, listed_imports, imported_functions, shown_world_in, shown_world, shown_interface_item, shown_world_item, shown_package_of, no_package, shown_package, shown_file}
 use Rattle.wit_print.proofs.AlikeTypes.{same, Both, at_both, or_alike, then_alike, map_alike, bare_map_alike, filter_alike, name_alike, external_id_alike, gates_alike, types_at, signature_alike, function_prefix_alike, declared_alike}
 use Rattle.wit_print.proofs.UndocumentedCalls.{undocumented_calls}
+use Rattle.base_lemmas.proofs.Lists.{append_of_map as map_joined}
 
 -- ---- lists
-
-map_joined : {X Y : Type 0} (f : X → Y) (xs ys : List X) → map f (xs ++ ys) ≡ map f xs ++ map f ys
-map_joined f [] ys = refl
-map_joined f (x ∷ xs) ys = ap (λ zs. f x ∷ zs) (map_joined f xs ys)
 
 joined_alike : {X Y : Type 0} (f : X → Y) (xs xs' ys ys' : List X) → map f xs ≡ map f xs' → map f ys ≡ map f ys' → map f (xs ++ ys) ≡ map f (xs' ++ ys')
 joined_alike f xs xs' ys ys' h g = map_joined f xs ys ∙ ((λ i. h i ++ g i) ∙ sym (map_joined f xs' ys'))

@@ -1,7 +1,5 @@
 -- What an interface of valid packages has can be handed in to be printed.
-use Rattle.std.proofs.Common.{◌≡◌, Bool, true, List, [], ◌∷◌, refl, arith}
-use Rattle.std.specs.List.{Contains, list_all}
-use Rattle.wit_model.proofs.Elements.{all-contained, both, contains-later}
+use Rattle.std.specs.List.{list_all}
 use Rattle.wit_model.specs.declared.model.TypeOwner.TheVariants as owner
 use Rattle.print_items.specs.Shown.{listed_functions, listed_types}
 use Rattle.print_packages.specs.GivenTypes.{behind}
@@ -9,10 +7,7 @@ use Rattle.print_uses.specs.UseGroups.{is_listed_function, is_listed_type}
 use Rattle.print_uses.proofs.Declarations.{types_listed}
 use Rattle.print_uses.proofs.ValidInterfaces.{interface_functions}
 use Rattle.wit_print.specs.Given.{FunctionsCanBeGiven, TypesCanBeGiven}
-
-all-of : {X : Type 0} (p : X → Bool) (xs : List X) → ((x : X) → Contains xs x → p x ≡ true) → list_all p xs ≡ true
-all-of p [] h = refl
-all-of p (x ∷ xs) h = both (p x) (list_all p xs) (h x (0, omega arith, refl)) (all-of p xs (λ y c. h y (contains-later x xs y c)))
+use Rattle.base_lemmas.proofs.Elements.{all-contained, all_pass as all-of}
 
 pub types_can_be_given : TypesCanBeGiven
 types_can_be_given r id i valid at given are = all-of (is_listed_type r (owner.Interface id)) given

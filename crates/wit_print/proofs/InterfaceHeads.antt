@@ -10,8 +10,8 @@ use Rattle.wit_model.specs.Rules.{is_stability, passes}
 use Rattle.wit_model.specs.Text.{Text, text_of}
 use Rattle.wit_model.specs.Valid.{IsValid, labels}
 use Rattle.wit_model.proofs.Entries.{each_from_at, lists_pass}
-use Rattle.wit_model.proofs.Lists.{first_true, second_true}
 use Rattle.print_packages.specs.Heads.{head_calls, interface_head_calls}
+use Rattle.base_lemmas.proofs.Bools.{left_of as first_true, right_of as second_true}
 
 -- its gates have labels and versions
 pub interface_gates : (r : Resolve) (n : ℕ) (i : Interface) → IsValid r → interface_at r n ≡ Some i → is_stability i.stability ≡ true

@@ -11,8 +11,8 @@ use Rattle.wit_model.specs.Lookup.{package_at}
 use Rattle.wit_model.specs.Meaning.{PackageMeaning, WorldMeaning}
 use Rattle.wit_model.specs.Meant.{Meant, package_meaning, world_meaning_at}
 use Rattle.wit_model.specs.Text.{Text, text_of}
-use Rattle.wit_model.proofs.Elements.{same-some}
 use Rattle.witc.specs.Demo.{demo, foo}
+use Rattle.std.proofs.lemmas.Option.{same_Some as same-some}
 
 -- a package that means the demo's holds a world
 pub holds-world : (r : Resolve) (p : Package) → package_at r 0 ≡ Some p → Meant r 0 demo → HasMembers p

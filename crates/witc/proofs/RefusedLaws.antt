@@ -1,17 +1,14 @@
 -- What refusals that are passed on say.
-use Rattle.std.proofs.Common.{◌≡◌, List, ℕ, sym, subst, Option, Result, Ok, Err, IfErr}
-use Rattle.std.specs.Prelude.{IsErrAnd}
+use Rattle.std.proofs.Common.{◌≡◌, List, ℕ, sym, subst, Option}
 use Rattle.wit_model.specs.declared.error.Error.{Error}
 use Rattle.wit_model.specs.declared.error.Error.TheVariants.{Memory}
 use Rattle.witc.specs.Decodes.{RefusesInput, memory, unread}
 use Rattle.witc.specs.Input.{IsUnread}
 use Rattle.witc.specs.declared.refusal.Refusal.{Refusal}
 use Rattle.witc.specs.declared.refusal.Refusal.TheVariants as refusals
+use Rattle.base_lemmas.proofs.Options.{passed}
 
 -- what is true of the refusal is true of the answer that passes it on
-pub passed : {X E : Type 0} (P : E → Type 0) (r : Result X E) (e : E) → IsErrAnd r (λ d. d ≡ e) → P e → IfErr r P
-passed P (Ok x) e same p = tt
-passed P (Err d) e same p = subst P (sym same) p
 
 module _ (left rest : Option (List ℕ)) where
   -- want of memory

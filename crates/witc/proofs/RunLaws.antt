@@ -11,9 +11,6 @@ use Rattle.witc_texts.specs.declared.comparison.Compared.{Compared}
 use Rattle.witc_texts.specs.declared.comparison.Compared.TheVariants as compared
 
 -- what is true of each value is true of an answer
-pub if-ok : {X E : Type 0} (P Q : X → Type 0) → ((x : X) → P x → Q x) → (r : Result X E) → IfOk r P → IfOk r Q
-if-ok P Q f (Ok x) h = f x h
-if-ok P Q f (Err e) h = tt
 
 module _ (left rest old new : Option (List ℕ)) where
   written-ends : (what : Asked) (text : List ℕ) (status : ℕ) → IsDone left rest what text → Answers old new text 0 status → Ends (Some what) left rest old new status

@@ -11,6 +11,7 @@ use Rattle.witc_texts.specs.Worlds.{RefusesCompared}
 use Rattle.witc_ffi.specs.Answers.{AreTexts, CompatAnswers, ModuleAnswers, PrintAnswers, StripAnswers, compat_refused, module_refused, print_refused, strip_refused}
 use Rattle.witc_ffi.specs.Outcomes.{HandsOut, IsNoLack, IsOutcome, handed, lacking}
 use Rattle.witc_ffi.specs.declared.outcome.Outcome.{Outcome}
+use Rattle.std.proofs.lemmas.Bool.{and_from as both-good}
 
 -- no bytes, where memory is wanting
 pub lacks : (outcome : Result Outcome AllocError) (text : List ℕ) → text ≡ [] → HandsOut outcome 3 text
@@ -62,12 +63,6 @@ pub refused-strip : (bytes : List ℕ) (e : Error) → RefusesBindings bytes e �
     → IfOk r (λ o. StripAnswers bytes o.status o.text.items)
 refused-strip bytes e refuses size (Ok o) is = subst (λ (n : ℕ). StripAnswers bytes n o.text.items) (sym is.0) (strip_refused o.text.items e refuses size is.1)
 refused-strip bytes e refuses size (Err lack) is = tt
-
-pub first-bad : (a b : Bool) → a ≡ false → (a && b) ≡ false
-first-bad a b is = subst (λ (x : Bool). (x && b) ≡ false) (sym is) refl
-
-both-good : (a b : Bool) → a ≡ true → b ≡ true → (a && b) ≡ true
-both-good a b one other = subst (λ (x : Bool). (x && b) ≡ true) (sym one) other
 
 -- texts that are the bytes of names which are UTF-8
 pub are-texts : (xs ys prev new : List ℕ) → (xs ≡ prev) × (is_utf8 prev ≡ true) → (ys ≡ new) × (is_utf8 new ≡ true) → AreTexts xs ys

@@ -12,18 +12,14 @@ use Rattle.wit_model.specs.declared.model.Resolve.{Resolve}
 use Rattle.wit_model.specs.Lookup.{package_at}
 use Rattle.wit_model.specs.Rules.{in_list}
 use Rattle.wit_model.specs.Valid.{IsValid, is_place, numbers_in_range}
-use Rattle.wit_model.proofs.Lists.{first_true}
 use Rattle.wit_model.proofs.OnePath.{package-passes}
 use Rattle.wit_component.specs.Bound.{RefusesBindings}
 use Rattle.wit_component.specs.BoundTo.{BeginsWithRoot}
 use Rattle.witc_texts.specs.Bindings.{other_packages_of}
+use Rattle.base_lemmas.proofs.Bools.{left_of as first_true}
+use Rattle.base_lemmas.proofs.Lists.{within_there as there}
 
 -- ---- how many packages there are
-
-there : {X : Type 0} (xs : List X) (n : ℕ) → n < length xs → (x : X) × (slice_get xs n ≡ Some x)
-there [] n l = absurd (omega (arith, l))
-there (x ∷ xs) zero l = (x, refl)
-there (x ∷ xs) (suc n) l = there xs n (omega (arith, l))
 
 no-place : is_place 4294967295 ≡ true → ⊥
 no-place h = cc

@@ -1,5 +1,5 @@
-use Rattle.check_rules.proofs.Answers.{on_ok}
 use Rattle.check_rules.proofs.check_rules.Goals as goal
+use Rattle.base_lemmas.proofs.Options.{on_ok}
 
 pub returns-clause-kept : goal.returns-clause-kept
 returns-clause-kept c =

@@ -2,8 +2,8 @@ use Rattle.std.proofs.Common.{◌∙◌, sym, subst}
 use Rattle.wit_model.specs.declared.model.World.{World}
 use Rattle.bind_carry.specs.BoundGains.{AreKeysUnder}
 use Rattle.bind_carry.proofs.CopiesPlaced.{some_same}
-use Rattle.bind_carry.proofs.KeysCopied.{if_ok}
 use Rattle.bind_carry.proofs.bound.export_keys.Goals as goal
+use Rattle.base_lemmas.proofs.Options.{if_ok}
 
 pub returns-clause-keys : goal.returns-clause-keys
 returns-clause-keys c =

@@ -6,8 +6,8 @@ use Rattle.bind_sections.proofs.DecodeSteps.{merge-refused, section-refused}
 use Rattle.bind_modules.specs.Reached.{OutgrowsLists}
 use Rattle.bind_modules.proofs.BoundTo.{merged}
 use Rattle.bind_modules.proofs.Reached.{outgrown, section-otherwise}
-use Rattle.bind_modules.proofs.SectionLaws.{passed_on}
 use Rattle.bind_modules.proofs.modules.bind_section.Goals as goal
+use Rattle.encode_names.proofs.Paths.{passed as passed_on}
 
 pub returns-in_err-other-clause-refuses : goal.returns-in_err-other-clause-refuses
 returns-in_err-other-clause-refuses c input bytes rest h x =

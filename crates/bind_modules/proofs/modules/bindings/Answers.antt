@@ -5,8 +5,8 @@ use Rattle.wit_bind.proofs.RootBindings.{roots_are_roots}
 use Rattle.bind_sections.specs.Bound.{RefusesBindings}
 use Rattle.bind_modules.specs.Reached.{OutgrowsLists}
 use Rattle.bind_modules.proofs.BoundTo.{begins, begins-at, ends, ends-reached}
-use Rattle.bind_modules.proofs.SectionLaws.{passed_on}
 use Rattle.bind_modules.proofs.modules.bindings.Goals as goal
+use Rattle.encode_names.proofs.Paths.{passed as passed_on}
 
 pub named_by_bytes-requires : goal.named_by_bytes-requires
 named_by_bytes-requires c = (roots_are_roots c.in_ok-bound.bound c.in_ok-bound.ensures.root).0

@@ -7,8 +7,8 @@ use Rattle.bind_modules.specs.Reached.{OutgrowsLists}
 use Rattle.bind_modules.proofs.Bare.{reached-bare}
 use Rattle.bind_modules.proofs.BoundTo.{strip-refused}
 use Rattle.bind_modules.proofs.Reached.{strip-otherwise}
-use Rattle.bind_modules.proofs.SectionLaws.{passed_on}
 use Rattle.bind_modules.proofs.modules.decode.Goals as goal
+use Rattle.encode_names.proofs.Paths.{passed as passed_on}
 
 pub returns-in_err-module-clause-refuses : goal.returns-in_err-module-clause-refuses
 returns-in_err-module-clause-refuses c =

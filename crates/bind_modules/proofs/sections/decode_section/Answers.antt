@@ -1,7 +1,9 @@
 use Rattle.std.proofs.Common.{◌≡◌, refl, subst, ℕ, ◌∷◌}
 use Rattle.bind_sections.specs.SectionBindings.{RefusesSection}
-use Rattle.bind_modules.proofs.SectionLaws.{is-nothing, is-something, other-begins, passed_on, unread-section}
+use Rattle.bind_modules.proofs.SectionLaws.{is-something, other-begins, unread-section}
 use Rattle.bind_modules.proofs.sections.decode_section.Goals as goal
+use Rattle.base_lemmas.proofs.Lists.{is-nothing}
+use Rattle.encode_names.proofs.Paths.{passed as passed_on}
 
 pub returns-in_default-clause-refuses : goal.returns-in_default-clause-refuses
 returns-in_default-clause-refuses c = RefusesSection.empty (is-nothing c.args.section.now c.in_default.ensures.cases) refl

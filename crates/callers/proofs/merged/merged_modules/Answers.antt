@@ -1,7 +1,8 @@
 use Rattle.wit_component.specs.Bindings.{binding_of}
 use Rattle.callers.specs.Merged.{RefusesModules}
-use Rattle.callers.proofs.Flows.{passed, some-left}
+use Rattle.callers.proofs.Flows.{some-left}
 use Rattle.callers.proofs.merged.merged_modules.Goals as goal
+use Rattle.base_lemmas.proofs.Options.{passed}
 
 pub returns-in_err-merge-clause-refused : goal.returns-in_err-merge-clause-refused
 returns-in_err-merge-clause-refused c =

@@ -4,8 +4,9 @@ use Rattle.wit_component.specs.Bindings.{binding_of}
 use Rattle.wit_component.specs.Clash.{CanUnite}
 use Rattle.wit_component.specs.Union.{union}
 use Rattle.callers.specs.Merged.{RefusesWithRoot}
-use Rattle.callers.proofs.Flows.{passed, root-left}
+use Rattle.callers.proofs.Flows.{root-left}
 use Rattle.callers.proofs.merged.merged_with_root.Goals as goal
+use Rattle.base_lemmas.proofs.Options.{passed}
 
 pub returns-in_err-merge-clause-refused : goal.returns-in_err-merge-clause-refused
 returns-in_err-merge-clause-refused c =

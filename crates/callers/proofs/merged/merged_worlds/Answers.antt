@@ -1,6 +1,6 @@
 use Rattle.callers.specs.Merged.{RefusesWorlds}
-use Rattle.callers.proofs.Flows.{passed}
 use Rattle.callers.proofs.merged.merged_worlds.Goals as goal
+use Rattle.base_lemmas.proofs.Options.{passed}
 
 pub returns-in_err-merge-clause-refused : goal.returns-in_err-merge-clause-refused
 returns-in_err-merge-clause-refused c =

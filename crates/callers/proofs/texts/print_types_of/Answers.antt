@@ -7,9 +7,9 @@ use Rattle.wit_model.specs.declared.model.TypeOwner.TheVariants as owner
 use Rattle.wit_component.specs.Printer.{GivenTypes}
 use Rattle.wit_component.specs.Shown.{listed_types}
 use Rattle.wit_component.specs.UseGroups.{is_listed_function, listed_of}
-use Rattle.callers.proofs.Flows.{on-ok-of}
 use Rattle.callers.proofs.GivenTypes.{all-printed, can-be-given}
 use Rattle.callers.proofs.texts.print_types_of.Goals as goal
+use Rattle.base_lemmas.proofs.Options.{ok_said as on-ok-of}
 
 pub print_types-requires : goal.print_types-requires
 print_types-requires c =

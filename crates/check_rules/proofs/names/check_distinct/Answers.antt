@@ -3,9 +3,9 @@ use Rattle.std.specs.List.{list_any}
 use Rattle.std.proofs.lemmas.Option.{slice_get_read, get_or_from_slice_get}
 use Rattle.wit_model.specs.Rules.{same_package_name}
 use Rattle.wit_model.proofs.Distinct.{new_turn, seen_turn, last_turn, not_is}
-use Rattle.wit_model.proofs.Lists.{list_any_mapped}
 use Rattle.check_rules.proofs.PackageNames.{distinct_kept, repeated_breaks}
 use Rattle.check_rules.proofs.names.check_distinct.Goals as goal
+use Rattle.base_lemmas.proofs.Elements.{any_of_map as list_any_mapped}
 
 pub returns-then-not-branch-clause-broken : goal.returns-then-not-branch-clause-broken
 returns-then-not-branch-clause-broken c =

@@ -1,8 +1,8 @@
 use Rattle.std.proofs.Common.{◌≤◌, arith, length}
 use Rattle.read_numbers.specs.NumberedInput.{tables_of}
-use Rattle.plan_package.proofs.PackageLaws.{if_ok}
 use Rattle.comp_read.proofs.FollowedLaws.{are_paths, few_followed}
 use Rattle.comp_read.proofs.reading.wanted_of_parts.Goals as goal
+use Rattle.std.proofs.lemmas.Result.{IfOk-weaker as if_ok}
 
 pub wanted_of_followed-requires-clause-paths : goal.wanted_of_followed-requires-clause-paths
 wanted_of_followed-requires-clause-paths c = are_paths c.args.followed.now c.requires

@@ -4,7 +4,6 @@ use Rattle.read_exports.specs.Members.{homes_in}
 use Rattle.read_exports.specs.declared.members.Member.{Member}
 use Rattle.read_rules.specs.Tables.{numbered_tables}
 use Rattle.plan_package.specs.PlanWhole.{MayBeWhole}
-use Rattle.plan_package.proofs.PackageLaws.{if_ok}
 use Rattle.plan_meaning.specs.NumberedMembers.{home_at}
 use Rattle.comp_read.specs.DecodedWorlds.{HoldsWorldFound}
 use Rattle.comp_read.specs.Order.{FollowsLevels}
@@ -14,6 +13,7 @@ use Rattle.comp_read.proofs.WorldOrder.{world_packages_rise}
 use Rattle.comp_read.proofs.WorldReadLaws.{world_can_be_built, world_may_be_whole, world_plans_mean}
 use Rattle.comp_read.proofs.ReadOrder.{world_in_order}
 use Rattle.comp_read.proofs.worlds.built_world.Goals as goal
+use Rattle.std.proofs.lemmas.Result.{IfOk-weaker as if_ok}
 
 pub built-requires-clause-whole : goal.built-requires-clause-whole
 built-requires-clause-whole c =

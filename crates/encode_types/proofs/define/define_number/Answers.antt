@@ -8,7 +8,7 @@ use Rattle.encode_types.specs.Maps.{IsKnown}
 use Rattle.encode_types.proofs.Learning.{learns-none, learns-call-foreign}
 use Rattle.encode_types.proofs.Defining.{counts-none}
 use Rattle.encode_types.specs.Room.{unnamed_kind, its_import}
-use Rattle.encode_types.proofs.Rooms.{holds-none, holds-number, on-both, lacks-number, counts-one, foreign-unkind, none-new, none-has}
+use Rattle.encode_types.proofs.Rooms.{holds-none, holds-number, lacks-number, counts-one, foreign-unkind, none-new, none-has}
 use Rattle.encode_types.proofs.Encoding.{learns-nothing, tabled, foreign-undefined, foreign-unshown}
 use Rattle.encode_types.proofs.Agree.{not-known}
 use Rattle.encode_types.proofs.define.define_number.Given.{Over}
@@ -17,6 +17,7 @@ use Rattle.encode_types.proofs.define.define_number.Goals.{After-foreign}
 use Rattle.encode_types.proofs.Writing.{writes-nothing, writes-number, foreign-extent, on-three}
 use Rattle.wit_model.proofs.Elements.{some-from}
 use Rattle.encode_types.proofs.Aliasing.{met-none, met-one}
+use Rattle.base_lemmas.proofs.Options.{on-both}
 
 there : (g : Over) (c : After-foreign g) → type_at c.args.resolve.now c.args.id.0 ≡ Some c.index-def.result.now
 there g c = slice_get_read _ _ _ _ refl c.requires.in_range c.index-def.ensures

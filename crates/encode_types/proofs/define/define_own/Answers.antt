@@ -8,7 +8,7 @@ use Rattle.encode_types.specs.Kinds.{has_definition}
 use Rattle.encode_types.specs.Scope.{IsDeclared, exported_name}
 use Rattle.encode_types.specs.Room.{export_name, unnamed_kind, its_definition, its_name}
 use Rattle.encode_types.specs.Extents.{name_extent, own_name_extent}
-use Rattle.encode_types.proofs.Rooms.{on-both, on-pair, lacks-number, counts-one, counts-named, named-unkind, none-new, none-has, own-kind, new-kind, holds-unnamed, holds-number}
+use Rattle.encode_types.proofs.Rooms.{on-pair, lacks-number, counts-one, counts-named, named-unkind, none-new, none-has, own-kind, new-kind, holds-unnamed, holds-number}
 use Rattle.encode_types.specs.Counts.{is_defined_by_name, own_name}
 use Rattle.encode_types.proofs.Learning.{learns-call-unnamed, learns-call-named}
 use Rattle.encode_types.proofs.Encoding.{named-defined, named-shown}
@@ -18,6 +18,7 @@ use Rattle.encode_types.proofs.define.define_own.Goals as goal
 use Rattle.encode_types.proofs.define.define_own.Goals.{In-Some, After-name_of-name}
 use Rattle.encode_types.proofs.Agree.{on_ok}
 use Rattle.encode_types.proofs.Writing.{written-most, own-extent, name-extent, on-three}
+use Rattle.base_lemmas.proofs.Options.{on-both}
 
 exported : (g : Over) (c : After-name_of-name g) → raw_name c.name_of-name.result ≡ exported_name ((raw_name c.name_of-name.result).text, type_meaning c.args.resolve.now c.args.def.now)
 exported g c = exported-as _ _ (type_meaning c.args.resolve.now c.args.def.now) refl c.name_of-name.ensures.implements c.name_of-name.ensures.version_suffix c.name_of-name.ensures.external_id

@@ -15,8 +15,8 @@ use Rattle.encode_types.proofs.define.define_parts.Given.{Over}
 use Rattle.encode_types.proofs.define.define_parts.Goals as goal
 use Rattle.encode_types.proofs.define.define_parts.Goals.{After-deref-n-items}
 use Rattle.encode_types.proofs.Writing.{writes-nothing, writes-then}
-use Rattle.wit_model.proofs.Elements.{one-contained}
 use Rattle.encode_types.proofs.Aliasing.{met-none, makes-number}
+use Rattle.base_lemmas.proofs.Elements.{last_of as one-contained}
 
 ordered : (g : Over) (c : After-deref-n-items g) → IsOrderOf c.args.resolve.now (g.E.ValtypeEncoder.view c.args.enc.now).scope.own_interface (g.E.ValtypeEncoder.view c.args.enc.now).maps c.args.types.now c.deref-n-items.result.now
 ordered g c = rw c.deref-n-items.ensures.value c.in_ok-order.ensures.order

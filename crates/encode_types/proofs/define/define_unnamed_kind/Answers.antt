@@ -8,7 +8,7 @@ use Rattle.encode_types.proofs.define.define_unnamed_kind.Given.{Over}
 use Rattle.encode_types.proofs.define.define_unnamed_kind.Goals as goal
 use Rattle.encode_types.proofs.define.define_unnamed_kind.Goals.{In-Some, In_default}
 use Rattle.encode_types.proofs.Writing.{written-none}
-use Rattle.encode_types.proofs.Rooms.{on-held}
+use Rattle.base_lemmas.proofs.Options.{on-held}
 
 had : (g : Over) (c : In-Some g) → HasKind (g.E.ValtypeEncoder.view c.args.enc.now).maps c.args.kind.now c.in-Some.index
 had g c = (c.requires.unnamed, subst (λ (xs : List ℕ). Contains (lists_of (g.E.ValtypeEncoder.view c.args.enc.now).maps.def_to_index) (xs, c.in-Some.index)) (c.as_slice.ensures.value ∙ c.in_ok-list.ensures) c.in-Some.ensures.some)

@@ -2,11 +2,12 @@ use Rattle.std.proofs.Common.{refl}
 use Rattle.encode_types.proofs.Learning.{met-nothing}
 use Rattle.encode_types.specs.Maps.{HasKey}
 use Rattle.encode_types.proofs.Tables.{at-some, at-none}
-use Rattle.encode_types.proofs.Functions.{key-stands, counts-known, ok-map}
+use Rattle.encode_types.proofs.Functions.{key-stands, counts-known}
 use Rattle.encode_types.proofs.func_type.encode_func_type.Goals as goal
 use Rattle.encode_types.proofs.Writing.{writes-nothing}
 use Rattle.encode_types.proofs.Rooms.{holds-none}
 use Rattle.encode_types.proofs.Aliasing.{met-none}
+use Rattle.std.proofs.lemmas.Result.{IfOk-weaker as ok-map}
 
 pub returns-in-Some-clause-ok : goal.returns-in-Some-clause-ok
 returns-in-Some-clause-ok g c = rw (c.index_of_key.ensures.same, c.list_of_key.ensures.same) (key-stands c.args.resolve.now (g.E.ValtypeEncoder.view c.args.enc.now).maps (g.E.ValtypeEncoder.view c.args.enc.now).stands c.key_of-key.result c.args.func.now c.in-Some.index c.requires.agree c.key_of-key.ensures (at-some c.index_of_key.result (HasKey (g.E.ValtypeEncoder.view c.args.enc.now).maps c.key_of-key.result) c.in-Some.index c.in-Some.is (rw c.list_of_key.ensures.same at c.index_of_key.ensures.some)))

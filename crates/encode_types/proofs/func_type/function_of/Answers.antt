@@ -5,11 +5,12 @@ use Rattle.encode_types.specs.Slots.{NamedStands}
 use Rattle.encode_types.specs.Scope.{Scope}
 use Rattle.encode_types.proofs.Learning.{met-both, ready-both}
 use Rattle.encode_types.proofs.Functions.{encode-left, encode-right}
-use Rattle.encode_types.proofs.Defining.{leaves-trans, counts-trans, zip-kept, stands-more}
+use Rattle.encode_types.proofs.Defining.{leaves-trans, counts-trans, stands-more}
 use Rattle.encode_types.proofs.func_type.function_of.Goals as goal
 use Rattle.encode_types.proofs.Writing.{writes-then}
 use Rattle.encode_types.specs.Aliases.{MakesMet}
 use Rattle.encode_types.proofs.Aliasing.{met-more, makes-then}
+use Rattle.base_lemmas.proofs.Elements.{zip-kept}
 
 pub encode_params-requires : goal.encode_params-requires
 encode_params-requires g c = λ _. ((refl, tt), (rw c.deref.ensures.value (encode-left c.args.resolve.now (g.E.ValtypeEncoder.view c.args.enc.now).scope (map (λ p. p.ty) c.args.func.now.params.items) (option_to_list c.args.func.now.result) c.requires.encodable), c.requires.agree))

@@ -11,12 +11,12 @@ use Rattle.encode_types.specs.Kinds.{parts_of}
 use Rattle.encode_types.specs.Maps.{IsKnown}
 use Rattle.encode_types.specs.Plan.{foreign_owner, rank}
 use Rattle.encode_types.proofs.Agree.{not-known}
-use Rattle.encode_types.proofs.Lists.{contains-one}
 use Rattle.encode_types.proofs.Tables.{at-some}
 use Rattle.encode_types.proofs.Planning.{planned-there, planned-foreign, planned-own, planned-step, stands-id, part-smaller, rank_below, lacks-now}
 use Rattle.encode_types.proofs.plan.+plan.Goals as goal
 use Rattle.encode_types.proofs.plan.+plan.Goals.{In-Some}
 use Rattle.wit_model.proofs.Elements.{some-from}
+use Rattle.base_lemmas.proofs.Elements.{contains-one}
 
 pub returns-then-is_some : goal.returns-then-is_some
 returns-then-is_some t c =

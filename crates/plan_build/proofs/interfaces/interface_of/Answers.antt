@@ -2,16 +2,16 @@ use Rattle.std.proofs.Common.{◌≡◌, ◌∙◌, ap, refl, true, ◌&&◌, Li
 use Rattle.std.specs.List.{list_all}
 use Rattle.indexmap.specs.IndexMap.{values}
 use Rattle.wit_model.specs.Rules.{are_distinct}
-use Rattle.wit_model.proofs.Lists.{first_true, second_true}
 use Rattle.plan_meaning.specs.PlanRules.{names_of}
 use Rattle.plan_meaning.specs.Built.{is_bare_function, is_undocumented}
-use Rattle.plan_meaning.proofs.Lists.{both}
 use Rattle.plan_build.specs.Buildable.{interface_differs}
 use Rattle.plan_build.specs.PlanOf.{named_function, stated_interface}
 use Rattle.plan_build.specs.declared.plan.PlannedFunction.{PlannedFunction}
 use Rattle.plan_build.specs.declared.plan.PlannedInterface.{PlannedInterface}
 use Rattle.plan_build.proofs.Named.{names_apart, numbers_stand}
 use Rattle.plan_build.proofs.interfaces.interface_of.Goals as goal
+use Rattle.base_lemmas.proofs.Bools.{left_of as first_true, right_of as second_true}
+use Rattle.std.proofs.lemmas.Bool.{and_from as both}
 
 type_names : (i : PlannedInterface) → interface_differs (stated_interface i) ≡ true → are_distinct (names_of (stated_interface i).types) ≡ true
 type_names i h = first_true (are_distinct (names_of (stated_interface i).types)) (are_distinct (names_of (stated_interface i).functions)) h

@@ -1,10 +1,11 @@
 use Rattle.std.proofs.Common.{ap, map, ◌++◌, ◌∙◌}
 use Rattle.std.specs.List.{flat_map}
 use Rattle.read_exports.specs.Members.{numbered_member, numbered_part}
-use Rattle.read_rules.proofs.SightLaws.{all_added, along_map, one_added}
+use Rattle.read_rules.proofs.SightLaws.{all_added, one_added}
 use Rattle.read_rules.specs.Sights.{numbered_sight}
 use Rattle.plan_package.specs.Views.{views_of_part}
 use Rattle.plan_package.proofs.views.views_of_members.Goals as goal
+use Rattle.base_lemmas.proofs.Lists.{flat_mapped as along_map}
 
 pub loop-member-init : goal.loop-member-init
 loop-member-init c =

@@ -2,8 +2,9 @@ use Rattle.std.proofs.Common.{◌≡◌, ◌∙◌, ap, sym, refl, map, []}
 use Rattle.std.proofs.lemmas.Bool.{eqb-true}
 use Rattle.wit_model.specs.Tree.{Form}
 use Rattle.read_rules.specs.Tables.{label_of, numbered_shape}
-use Rattle.plan_parts.proofs.KindLaws.{counted, empty_part, enum_form, flags_form, formed_over, last_labelled, length_mapped, no_parts, record_form, variant_form}
+use Rattle.plan_parts.proofs.KindLaws.{counted, empty_part, enum_form, flags_form, formed_over, last_labelled, no_parts, record_form, variant_form}
 use Rattle.plan_parts.proofs.kinds.labelled_kind.Goals as goal
+use Rattle.base_lemmas.proofs.Lists.{length_of_map as length_mapped}
 
 pub fields_of-requires-clause-many : goal.fields_of-requires-clause-many
 fields_of-requires-clause-many c =

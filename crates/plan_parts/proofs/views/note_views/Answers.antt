@@ -1,9 +1,10 @@
 use Rattle.std.proofs.Common.{rules, ◌≡◌, ◌<◌, ◌∙◌, ap, subst, ℕ, true, false, List, Option, Some, None, length, get_or, slice_set}
 use Rattle.plan_parts.specs.declared.views.Sighted.{Sighted}
 use Rattle.plan_parts.specs.Views.{earlier_of}
-use Rattle.plan_parts.proofs.ViewLaws.{counts, counts_any, counts_no, counts_whole, noted_now, passed_by, place_fits, same_default}
+use Rattle.plan_parts.proofs.ViewLaws.{counts, counts_any, counts_no, counts_whole, noted_now, passed_by, place_fits}
 use Rattle.plan_parts.proofs.views.note_views.Goals as goal
 use Rattle.plan_parts.proofs.views.note_views.Goals.{then-sight, then-sight-via-then-sight, then-sight-via-else-sight+then-not-wholes, else-sight+else-not-wholes}
+use Rattle.std.proofs.lemmas.List.{get_or_default as same_default}
 
 pub loop-view-preserved : goal.loop-view-preserved
 loop-view-preserved c =

@@ -2,9 +2,9 @@ use Rattle.std.proofs.Common.{[], ap, ◌∙◌}
 use Rattle.std.specs.List.{flat_map}
 use Rattle.read_exports.specs.Members.{numbered_member, numbered_part}
 use Rattle.plan_types.specs.Orders.{home_of_part, joined_all}
-use Rattle.plan_types.proofs.MarkLaws.{flat_mapped}
 use Rattle.plan_types.proofs.OrderLaws.{all_places, one_place}
 use Rattle.plan_types.proofs.orders.homes_of_members.Goals as goal
+use Rattle.base_lemmas.proofs.Lists.{flat_mapped}
 
 pub loop-member-init : goal.loop-member-init
 loop-member-init c =

@@ -2,7 +2,6 @@ use Rattle.std.proofs.Common.{◌≡◌, ap, subst, true, map, ◌∙◌, sym}
 use Rattle.std.specs.Prelude.{codes}
 use Rattle.std.specs.List.{list_all}
 use Rattle.std.proofs.lemmas.List.{nil_from_length}
-use Rattle.wit_model.proofs.Lists.{first_true, second_true}
 use Rattle.print_output.specs.OutputCall.OutputCall.{Str}
 use Rattle.print_grammar.specs.WellNamed.{is_well_param}
 use Rattle.print_items.specs.Shown.{shown_param}
@@ -10,6 +9,7 @@ use Rattle.print_grammar.specs.Calls.{param_calls, separated}
 use Rattle.print_items.proofs.Runs.{separated_first}
 use Rattle.print_items.proofs.Driven.{driven_on, driven_as, driven_none}
 use Rattle.print_items.proofs.function.write_params.Goals as goal
+use Rattle.base_lemmas.proofs.Bools.{left_of as first_true, right_of as second_true}
 
 pub write_param-requires-clause-well : goal.write_param-requires-clause-well
 write_param-requires-clause-well g c =

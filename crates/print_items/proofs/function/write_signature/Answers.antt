@@ -8,9 +8,9 @@ use Rattle.print_items.specs.Shown.{shown_param, shown_type}
 use Rattle.print_grammar.specs.Calls.{async_calls, params_calls}
 use Rattle.print_items.specs.ItemCalls.{written_params}
 use Rattle.print_grammar.specs.WellNamed.{is_well_param}
-use Rattle.print_grammar.proofs.ByteTests.{left_of}
 use Rattle.print_items.proofs.Driven.{driven, driven_on}
 use Rattle.print_items.proofs.function.write_signature.Goals as goal
+use Rattle.base_lemmas.proofs.Bools.{left_of}
 
 pub write_params_and_result-requires-clause-params : goal.write_params_and_result-requires-clause-params
 write_params_and_result-requires-clause-params g c =

@@ -1,6 +1,5 @@
 use Rattle.std.proofs.Common.{◌≡◌, ap, sym, subst, true}
 use Rattle.std.specs.List.{list_all}
-use Rattle.wit_model.proofs.Lists.{second_true}
 use Rattle.wit_model.specs.Names.{is_label}
 use Rattle.print_output.specs.OutputCall.{is_one_line}
 use Rattle.print_items.specs.Shown.{shown_docs, shown_flag}
@@ -10,6 +9,7 @@ use Rattle.print_grammar.specs.Calls.{label_calls}
 use Rattle.print_items.proofs.Driven.{driven_as, one_run}
 use Rattle.print_items.proofs.Refusals.{run_cut}
 use Rattle.print_items.proofs.labels.write_each_flag.Goals as goal
+use Rattle.base_lemmas.proofs.Bools.{right_of as second_true}
 
 pub write_label-requires : goal.write_label-requires
 write_label-requires g c =

@@ -13,11 +13,11 @@ use Rattle.print_items.specs.Shown.{shown_type, type_trees}
 use Rattle.print_grammar.specs.Calls.{type_calls}
 use Rattle.print_items.specs.TypeParts.{comma_calls, kind_end, kind_start, types_from}
 use Rattle.print_output.specs.declared.type_kind.TypeKind.TheVariants.{Other}
-use Rattle.print_items.proofs.ByPlace.{one_there}
 use Rattle.print_items.proofs.Driven.{driven, driven_as, driven_on, line_driven, driving_first, driving_next, driving_done}
 use Rattle.print_items.proofs.TypeParts.{rank, end_may_follow, handles_at, kind_at, kind_calls_at, label_at, name_calls_at, part_falls, part_in_range, types_next, types_past, unnamed_at, unnamed_calls_at}
 use Rattle.print_items.proofs.Refusals.{driven_cut, driving_cut}
 use Rattle.print_items.proofs.type_name.+types.Goals as goal
+use Rattle.base_lemmas.proofs.Lists.{within_there as one_there}
 
 -- ---- a kind
 

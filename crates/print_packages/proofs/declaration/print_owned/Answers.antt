@@ -10,10 +10,11 @@ use Rattle.print_grammar.specs.Tree.MemberTree.{TypeMember}
 use Rattle.print_grammar.specs.Calls.{members_calls}
 use Rattle.print_uses.specs.Printable.{declaration_of}
 use Rattle.print_grammar.specs.WellNamed.{is_well_declared, is_well_prefix}
-use Rattle.print_grammar.proofs.ByteTests.{left_of, right_of}
 use Rattle.print_uses.proofs.Declarations.{declaration_at, members_shown, printable_at}
-use Rattle.print_items.proofs.Moves.{at_err, on_ok, on_err}
 use Rattle.print_packages.proofs.declaration.print_owned.Goals as goal
+use Rattle.base_lemmas.proofs.Bools.{left_of, right_of}
+use Rattle.base_lemmas.proofs.Options.{at_err}
+use Rattle.std.proofs.lemmas.Result.{on_err_weaker as on_err, on_ok_weaker as on_ok}
 
 pub returns-in_err-members-clause-err : goal.returns-in_err-members-clause-err
 returns-in_err-members-clause-err g c = at_err c.from_residual.result (nothing_begun refl)

@@ -2,9 +2,9 @@ use Rattle.std.proofs.Common.{◌≡◌, map, subst, true}
 use Rattle.wit_model.specs.Names.{is_label}
 use Rattle.print_items.specs.Shown.{declared_of, shown_resource_member, shown_type}
 use Rattle.print_grammar.specs.WellNamed.{is_well_declared, is_well_type}
-use Rattle.print_grammar.proofs.ByteTests.{left_of, right_of}
 use Rattle.print_items.proofs.Declared.{alias_word, handle_labelled, in_range_at}
 use Rattle.print_packages.proofs.declaration.write_declared.Goals as goal
+use Rattle.base_lemmas.proofs.Bools.{left_of, right_of}
 
 pub write_type_alias-requires-clause-word : goal.write_type_alias-requires-clause-word
 write_type_alias-requires-clause-word g c =

@@ -7,10 +7,10 @@ use Rattle.print_output.specs.OutputCall.{Moves, Begins}
 use Rattle.print_grammar.specs.Calls.{world_extern_calls}
 use Rattle.print_items.specs.Shown.{shown_prefix}
 use Rattle.print_grammar.specs.WellNamed.{is_well_extern}
-use Rattle.print_grammar.proofs.ByteTests.{right_of}
-use Rattle.print_items.proofs.Moves.{on_ok, on_err}
 use Rattle.print_packages.proofs.PrintableItems.{inline_tree, named_tree}
 use Rattle.print_packages.proofs.extern_item.print_labelled.Goals as goal
+use Rattle.base_lemmas.proofs.Bools.{right_of}
+use Rattle.std.proofs.lemmas.Result.{on_err_weaker as on_err, on_ok_weaker as on_ok}
 
 pub print_labelled_path-requires-clause-path : goal.print_labelled_path-requires-clause-path
 print_labelled_path-requires-clause-path g c =

@@ -1,9 +1,10 @@
 use Rattle.std.proofs.Common.{◌+◌, drop, get_or, refl}
 use Rattle.std.proofs.lemmas.Bool.{ltb-true}
 use Rattle.wit_model.specs.Rules.{in_list}
-use Rattle.print_items.proofs.Moves.{underway, run_made, run_begun, at_err}
+use Rattle.print_items.proofs.Moves.{underway, run_made, run_begun}
 use Rattle.print_items.proofs.Runs.{drop_next, item_same, passes_at}
 use Rattle.print_packages.proofs.file.print_more_packages.Goals as goal
+use Rattle.base_lemmas.proofs.Options.{at_err}
 
 pub loop-id-init : goal.loop-id-init
 loop-id-init g c = underway _ _ _ refl

@@ -5,8 +5,10 @@ use Rattle.print_uses.specs.UseGroups.{listed_of, use_members}
 use Rattle.print_packages.specs.GivenTypes.{given_declarations}
 use Rattle.print_uses.proofs.Declarations.{members_append, printed_append}
 use Rattle.print_packages.proofs.GivenSteps.{under_known}
-use Rattle.print_items.proofs.Moves.{begun_first, begun_on, moved_on, on_ok, on_err, at_err}
+use Rattle.print_items.proofs.Moves.{begun_first, begun_on, moved_on}
 use Rattle.print_packages.proofs.given_types.print_given_types.Goals as goal
+use Rattle.base_lemmas.proofs.Options.{at_err}
+use Rattle.std.proofs.lemmas.Result.{on_err_weaker as on_err, on_ok_weaker as on_ok}
 
 pub returns-in_err-has_used-clause-err : goal.returns-in_err-has_used-clause-err
 returns-in_err-has_used-clause-err g c =

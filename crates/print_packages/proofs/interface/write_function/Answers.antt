@@ -7,10 +7,10 @@ use Rattle.print_items.specs.ItemCalls.{named_calls}
 use Rattle.print_uses.specs.Printable.{line_between}
 use Rattle.print_grammar.specs.WellNamed.{is_well_prefix}
 use Rattle.print_output.specs.declared.type_kind.TypeKind.TheVariants.{FunctionFreestanding}
-use Rattle.print_grammar.proofs.ByteTests.{left_of, right_of}
 use Rattle.print_packages.proofs.Functions.{function_alone}
 use Rattle.print_items.proofs.Driven.{driven, driven_on}
 use Rattle.print_packages.proofs.interface.write_function.Goals as goal
+use Rattle.base_lemmas.proofs.Bools.{left_of, right_of}
 
 pub write_prefix-requires : goal.write_prefix-requires
 write_prefix-requires g c =

@@ -2,10 +2,11 @@ use Rattle.std.proofs.Common.{◌≡◌, sym, subst, true}
 use Rattle.std.specs.List.{list_all}
 use Rattle.std.specs.Map.Iter.{deref_pair}
 use Rattle.std.proofs.lemmas.Map.Iter.{rest_more}
-use Rattle.wit_model.proofs.Lists.{first_true, second_true}
 use Rattle.print_uses.specs.Printable.{is_printable_import}
-use Rattle.print_items.proofs.Moves.{underway, run_made, run_begun, at_err}
+use Rattle.print_items.proofs.Moves.{underway, run_made, run_begun}
 use Rattle.print_packages.proofs.items.print_imported_functions.Goals as goal
+use Rattle.base_lemmas.proofs.Bools.{left_of as first_true, right_of as second_true}
+use Rattle.base_lemmas.proofs.Options.{at_err}
 
 pub loop-key-init : goal.loop-key-init
 loop-key-init g c =

@@ -3,8 +3,9 @@ use Rattle.std.specs.List.{flat_map}
 use Rattle.print_output.specs.OutputCall.{Moves, Begins}
 use Rattle.print_grammar.specs.Calls.{members_calls, printed_after}
 use Rattle.print_uses.specs.Printable.{function_entry_calls, imports_interfaces, world_type_members}
-use Rattle.print_items.proofs.Moves.{Moves-append, Begins-append, Begins-more, at_err}
+use Rattle.print_items.proofs.Moves.{Moves-append, Begins-append, Begins-more}
 use Rattle.print_packages.proofs.items.print_imports.Goals as goal
+use Rattle.base_lemmas.proofs.Options.{at_err}
 
 pub returns-in_err-print_imported_interfaces-clause-err : goal.returns-in_err-print_imported_interfaces-clause-err
 returns-in_err-print_imported_interfaces-clause-err g c =

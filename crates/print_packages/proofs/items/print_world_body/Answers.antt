@@ -4,8 +4,10 @@ use Rattle.std.specs.List.{flat_map}
 use Rattle.wit_model.specs.Rules.{has_items}
 use Rattle.print_output.specs.OutputCall.{Moves, Begins}
 use Rattle.print_uses.specs.Printable.{entry_calls, line_between, printed_imports}
-use Rattle.print_items.proofs.Moves.{Moves-append, Begins-append, Begins-more, at_err, on_ok, on_err}
+use Rattle.print_items.proofs.Moves.{Moves-append, Begins-append, Begins-more}
 use Rattle.print_packages.proofs.items.print_world_body.Goals as goal
+use Rattle.base_lemmas.proofs.Options.{at_err}
+use Rattle.std.proofs.lemmas.Result.{on_err_weaker as on_err, on_ok_weaker as on_ok}
 
 pub returns-in_err-has_imports-clause-err : goal.returns-in_err-has_imports-clause-err
 returns-in_err-has_imports-clause-err g c =

@@ -3,8 +3,10 @@ use Rattle.print_output.specs.OutputCall.OutputCall.{IndentEnd, IndentStart}
 use Rattle.print_grammar.specs.Calls.{line_after_calls, members_calls}
 use Rattle.print_packages.specs.Heads.{head_calls}
 use Rattle.print_items.specs.Shown.{shown_interface}
-use Rattle.print_items.proofs.Moves.{going, made_on, made_last, refused_in, refused_last, at_err, on_ok, on_err}
+use Rattle.print_items.proofs.Moves.{going, made_on, made_last, refused_in, refused_last}
 use Rattle.print_packages.proofs.package.print_interface.Goals as goal
+use Rattle.base_lemmas.proofs.Options.{at_err}
+use Rattle.std.proofs.lemmas.Result.{on_err_weaker as on_err, on_ok_weaker as on_ok}
 
 pub returns-in_err-print_interface_start-clause-err : goal.returns-in_err-print_interface_start-clause-err
 returns-in_err-print_interface_start-clause-err g c =

@@ -8,10 +8,10 @@ use Rattle.wit_model.specs.Text.{text_of}
 use Rattle.print_output.specs.OutputCall.{Moves, Begins}
 use Rattle.print_items.specs.Shown.{shown_gates, shown_interface_item}
 use Rattle.print_grammar.specs.WellNamed.{is_well_gates, is_well_item}
-use Rattle.print_grammar.proofs.ByteTests.{left_of, right_of}
-use Rattle.print_items.proofs.Moves.{on_ok, on_err}
 use Rattle.print_packages.proofs.PackageCalls.{interface_calls_at, listed_interface_well}
 use Rattle.print_packages.proofs.package.print_listed_interface.Goals as goal
+use Rattle.base_lemmas.proofs.Bools.{left_of, right_of}
+use Rattle.std.proofs.lemmas.Result.{on_err_weaker as on_err, on_ok_weaker as on_ok}
 
 pub print_interface-requires-clause-gates : goal.print_interface-requires-clause-gates
 print_interface-requires-clause-gates g c =

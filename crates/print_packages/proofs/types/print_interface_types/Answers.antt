@@ -7,9 +7,10 @@ use Rattle.print_grammar.specs.Calls.{members_calls, printed_after}
 use Rattle.print_items.specs.Shown.{listed_types}
 use Rattle.print_uses.specs.UseGroups.{is_listed_function, is_listed_type, listed_of, type_members}
 use Rattle.print_uses.proofs.Declarations.{types_listed}
-use Rattle.print_items.proofs.Moves.{on_ok, on_err, at_err}
 use Rattle.print_uses.proofs.ValidInterfaces.{interface_functions}
 use Rattle.print_packages.proofs.types.print_interface_types.Goals as goal
+use Rattle.base_lemmas.proofs.Options.{at_err}
+use Rattle.std.proofs.lemmas.Result.{on_err_weaker as on_err, on_ok_weaker as on_ok}
 
 pub returns-in_err-types-clause-err : goal.returns-in_err-types-clause-err
 returns-in_err-types-clause-err g c = at_err c.from_residual.result (nothing_begun refl)

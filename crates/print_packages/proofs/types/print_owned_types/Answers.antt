@@ -7,8 +7,10 @@ use Rattle.print_items.specs.Shown.{belongs_to}
 use Rattle.print_uses.specs.UseGroups.{declared_members, is_listed_function, listed_of, use_members}
 use Rattle.print_packages.proofs.ByResource.{all_of_some, declared_by_resource}
 use Rattle.print_uses.proofs.Declarations.{members_append, printed_append}
-use Rattle.print_items.proofs.Moves.{begun_first, begun_on, moved_on, on_ok, on_err, at_err}
+use Rattle.print_items.proofs.Moves.{begun_first, begun_on, moved_on}
 use Rattle.print_packages.proofs.types.print_owned_types.Goals as goal
+use Rattle.base_lemmas.proofs.Options.{at_err}
+use Rattle.std.proofs.lemmas.Result.{on_err_weaker as on_err, on_ok_weaker as on_ok}
 
 pub returns-in_err-grouped-clause-err : goal.returns-in_err-grouped-clause-err
 returns-in_err-grouped-clause-err g c = at_err c.from_residual.result (nothing_begun refl)

@@ -8,10 +8,10 @@ use Rattle.print_output.specs.OutputCall.{Moves, Begins}
 use Rattle.print_output.specs.OutputCall.Moves.{nothing_moved}
 use Rattle.print_items.specs.Shown.{shown_path}
 use Rattle.print_uses.specs.UseGroups.{listed_use_calls, shown_use, use_after}
-use Rattle.print_grammar.proofs.ByteTests.{left_of}
 use Rattle.print_uses.proofs.ListedTypes.{listed_use_at, use_printable}
-use Rattle.print_items.proofs.Moves.{at_err}
 use Rattle.print_uses.proofs.use_group.print_listed_use.Goals as goal
+use Rattle.base_lemmas.proofs.Bools.{left_of}
+use Rattle.base_lemmas.proofs.Options.{at_err}
 
 pub print_use-requires-clause-printable : goal.print_use-requires-clause-printable
 print_use-requires-clause-printable g c =

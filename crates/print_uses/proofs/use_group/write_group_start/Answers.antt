@@ -2,8 +2,8 @@ use Rattle.wit_model.specs.Rules.{in_list, is_stability}
 use Rattle.std.proofs.Common.{◌&&◌}
 use Rattle.print_items.specs.Shown.{shown_gates}
 use Rattle.print_grammar.specs.WellNamed.{is_well_gates}
-use Rattle.print_grammar.proofs.ByteTests.{left_of, right_of}
 use Rattle.print_uses.proofs.use_group.write_group_start.Goals as goal
+use Rattle.base_lemmas.proofs.Bools.{left_of, right_of}
 
 pub write_use_path-requires-clause-in_range : goal.write_use_path-requires-clause-in_range
 write_use_path-requires-clause-in_range g c =

@@ -3,10 +3,10 @@ use Rattle.std.specs.Prelude.{option_map}
 use Rattle.wit_model.specs.Rules.{passes}
 use Rattle.print_items.specs.Shown.{shown_path}
 use Rattle.print_uses.specs.UseGroups.{is_printable_use, shown_use}
-use Rattle.print_grammar.proofs.ByteTests.{left_of}
 use Rattle.print_uses.proofs.UseGroups.{run_first, run_joined, run_next, use_labels}
 use Rattle.print_items.proofs.Driven.{driven_as}
 use Rattle.print_uses.proofs.use_group.write_use.Goals as goal
+use Rattle.base_lemmas.proofs.Bools.{left_of}
 
 pub same_group-requires-clause-left : goal.same_group-requires-clause-left
 same_group-requires-clause-left g c =

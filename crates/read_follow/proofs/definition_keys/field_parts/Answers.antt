@@ -2,8 +2,8 @@ use Rattle.std.proofs.Common.{◌∙◌, ap, ◌+◌, ◌<◌, [], ◌∷◌, ma
 use Rattle.std.proofs.lemmas.List.{map-append}
 use Rattle.read_follow.specs.KeyShapes.{label_of}
 use Rattle.read_follow.proofs.RowLaws.{field_refused, field_row, field_rows}
-use Rattle.read_follow.proofs.WholeLaws.{all_end}
 use Rattle.read_follow.proofs.definition_keys.field_parts.Goals as goal
+use Rattle.base_lemmas.proofs.Elements.{all_end}
 
 pub returns-in-Err-clause-absent : goal.returns-in-Err-clause-absent
 returns-in-Err-clause-absent c =

@@ -1,7 +1,7 @@
 use Rattle.std.proofs.Common.{◌+◌, ◌<◌}
 use Rattle.read_follow.proofs.RowLaws.{value_refused, value_row, value_rows}
-use Rattle.read_follow.proofs.WholeLaws.{all_end}
 use Rattle.read_follow.proofs.definition_keys.value_parts.Goals as goal
+use Rattle.base_lemmas.proofs.Elements.{all_end}
 
 pub returns-in-Err-clause-absent : goal.returns-in-Err-clause-absent
 returns-in-Err-clause-absent c = value_refused c.args.slots.now c.args.values.now c.loop-v.v-index c.loop-v.parts.items c.loop-v.invariant.so_far _ c.loop-v-test.true c.in-Err.refusal c.in-Err.ensures.found

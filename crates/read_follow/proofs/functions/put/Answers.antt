@@ -1,9 +1,9 @@
 use Rattle.std.proofs.Common.{◌∙◌, ap, sym, refl, map, Some}
 use Rattle.read_follow.specs.Functions.{function_shape}
-use Rattle.read_follow.proofs.AddLaws.{mapped_get}
 use Rattle.read_follow.proofs.FunctionKeyLaws.{same_function, function_same, function_again}
 use Rattle.read_follow.proofs.JoinLaws.{joined_apart, joins}
 use Rattle.read_follow.proofs.functions.put.Goals as goal
+use Rattle.base_lemmas.proofs.Lists.{mapped_get}
 
 pub returns-clause-found : goal.returns-clause-found
 returns-clause-found c =

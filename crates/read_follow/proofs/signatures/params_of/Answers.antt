@@ -4,8 +4,8 @@ use Rattle.std.proofs.lemmas.List.{map-append}
 use Rattle.wit_model.specs.Text.{Text}
 use Rattle.read_follow.specs.Functions.{param_of}
 use Rattle.read_follow.proofs.FunctionKeyLaws.{none_above, param_refused, param_row, param_rows, params_start}
-use Rattle.read_follow.proofs.WholeLaws.{all_end}
 use Rattle.read_follow.proofs.signatures.params_of.Goals as goal
+use Rattle.base_lemmas.proofs.Elements.{all_end}
 
 pub loop-param-init : goal.loop-param-init
 loop-param-init c = record {

@@ -5,10 +5,11 @@ use Rattle.read_follow.specs.declared.facts.Fact.{Fact}
 use Rattle.read_follow.specs.Facts.{IsKept}
 use Rattle.plan_meaning.specs.Shapes.{Shape}
 use Rattle.read_follow.specs.KeyShapes.{shape_of}
-use Rattle.read_follow.proofs.AddLaws.{mapped_get, adds, fresh_key, grown}
+use Rattle.read_follow.proofs.AddLaws.{adds, fresh_key, grown}
 use Rattle.read_follow.proofs.KeyLaws.{same_key, key_same, key_again}
 use Rattle.read_follow.proofs.TableGrowth.{kept_more}
 use Rattle.read_follow.proofs.table.put.Goals as goal
+use Rattle.base_lemmas.proofs.Lists.{mapped_get}
 
 pub returns-then-not-is_new-clause-found : goal.returns-then-not-is_new-clause-found
 returns-then-not-is_new-clause-found c =

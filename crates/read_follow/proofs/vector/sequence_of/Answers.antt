@@ -2,8 +2,8 @@ use Rattle.std.proofs.Common.{map}
 use Rattle.comp_bytes.specs.Reading.{sequence_at}
 use Rattle.comp_bytes.proofs.SequenceSteps.{one_more, none_further, all_items}
 use Rattle.read_follow.proofs.Refusing.{refused}
-use Rattle.read_follow.proofs.WholeLaws.{all_end}
 use Rattle.read_follow.proofs.vector.sequence_of.Goals as goal
+use Rattle.base_lemmas.proofs.Elements.{all_end}
 
 pub returns-in-Err-clause-found : goal.returns-in-Err-clause-found
 returns-in-Err-clause-found g c = refused c.in-Err.refusal (g.T.Form.reader c.loop.rest.now) (sequence_at g.T.Form.reader c.args.count c.args.bytes.now)

@@ -1,7 +1,8 @@
 use Rattle.std.proofs.Common.{◌∙◌, ap, sym, refl, map, Some}
 use Rattle.read_homes.specs.Homes.{identity_of}
-use Rattle.read_homes.proofs.PackageLaws.{joined_packages, joins, mapped_get, texts_same}
+use Rattle.read_homes.proofs.PackageLaws.{joined_packages, joins, texts_same}
 use Rattle.read_homes.proofs.packages.put.Goals as goal
+use Rattle.base_lemmas.proofs.Lists.{mapped_get}
 
 pub returns-clause-found : goal.returns-clause-found
 returns-clause-found c =

@@ -1,9 +1,9 @@
 use Rattle.std.proofs.Common.{◌∙◌, ap, get_or, map, refl, sym, Some}
-use Rattle.read_homes.proofs.PackageLaws.{mapped_get}
 use Rattle.read_numbers.proofs.LoopLaws.{made_more}
 use Rattle.read_members.specs.Layers.{shown_followed, shown_of_member, shown_owned}
 use Rattle.read_members.proofs.ReadLaws.{at_index}
 use Rattle.read_members.proofs.scopes.scopes_of.Goals as goal
+use Rattle.base_lemmas.proofs.Lists.{mapped_get}
 
 pub loop-number-preserved : goal.loop-number-preserved
 loop-number-preserved c =

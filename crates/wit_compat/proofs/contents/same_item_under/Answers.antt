@@ -8,9 +8,10 @@ use Rattle.wit_model.specs.declared.model.WorldItem.{WorldItem}
 use Rattle.wit_model.specs.Meaning.{entry_sense}
 use Rattle.wit_model.specs.Meant.{entry_meaning}
 use Rattle.wit_model.specs.Text.{text_of}
-use Rattle.wit_compat.proofs.Members.{among_contains, found_exact, in_ok, missing_exact}
+use Rattle.wit_compat.proofs.Members.{among_contains, found_exact, missing_exact}
 use Rattle.wit_compat.proofs.WorldContents.{value_in_range}
 use Rattle.wit_compat.proofs.contents.same_item_under.Goals as goal
+use Rattle.base_lemmas.proofs.Options.{if_ok as in_ok}
 
 pub same_items-requires-clause-b : goal.same_items-requires-clause-b
 same_items-requires-clause-b c =

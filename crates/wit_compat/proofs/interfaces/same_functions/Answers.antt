@@ -6,10 +6,10 @@ use Rattle.indexmap.specs.IndexMap.{keys}
 use Rattle.wit_model.specs.Meant.{function_meaning}
 use Rattle.wit_model.specs.Text.{text_of}
 use Rattle.wit_model.proofs.AnyOrder.{distinct-texts}
-use Rattle.wit_model.proofs.Elements.{contains-map}
 use Rattle.wit_compat.proofs.SameMaps.{at_end, entry, from_start, lengths_differ, next_there, not_found, one_more, under_is}
 use Rattle.wit_compat.proofs.Sided.{never, not_same}
 use Rattle.wit_compat.proofs.interfaces.same_functions.Goals as goal
+use Rattle.base_lemmas.proofs.Elements.{contains-map}
 
 pub returns-then-len-clause-exact : goal.returns-then-len-clause-exact
 returns-then-len-clause-exact c =

@@ -1,8 +1,9 @@
 use Rattle.std.proofs.Common.{refl}
 use Rattle.std.proofs.lemmas.Option.{slice_get_read}
-use Rattle.wit_compat.proofs.Members.{in_ok, interfaces_exact}
+use Rattle.wit_compat.proofs.Members.{interfaces_exact}
 use Rattle.wit_compat.proofs.Ranges.{has_types}
 use Rattle.wit_compat.proofs.interfaces.same_interfaces.Goals as goal
+use Rattle.base_lemmas.proofs.Options.{if_ok as in_ok}
 
 pub same_members-requires-clause-a : goal.same_members-requires-clause-a
 same_members-requires-clause-a c = has_types c.args.left.now.resolve.now c.requires.left.valid c.args.a.0 c.index-interface.result.now (slice_get_read _ _ _ _ refl c.requires.a c.index-interface.ensures)

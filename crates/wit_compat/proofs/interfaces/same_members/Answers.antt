@@ -1,7 +1,8 @@
 use Rattle.std.proofs.Common.{rules}
-use Rattle.wit_compat.proofs.Members.{in_ok, members_exact, types_back}
+use Rattle.wit_compat.proofs.Members.{members_exact, types_back}
 use Rattle.wit_compat.proofs.Sided.{never, not_same}
 use Rattle.wit_compat.proofs.interfaces.same_members.Goals as goal
+use Rattle.base_lemmas.proofs.Options.{if_ok as in_ok}
 
 pub returns-then-not-branch-clause-exact : goal.returns-then-not-branch-clause-exact
 returns-then-not-branch-clause-exact c =

@@ -1,7 +1,7 @@
 use Rattle.std.proofs.Common.{rules}
-use Rattle.wit_compat.proofs.Members.{in_ok}
 use Rattle.wit_compat.proofs.WorldItems.{interface_entries}
 use Rattle.wit_compat.proofs.items.same_interface_entries.Goals as goal
+use Rattle.base_lemmas.proofs.Options.{if_ok as in_ok}
 
 pub returns-clause-exact : goal.returns-clause-exact
 returns-clause-exact c =

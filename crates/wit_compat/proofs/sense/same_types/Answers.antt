@@ -1,7 +1,8 @@
 use Rattle.std.proofs.Common.{rules, refl, get_or}
 use Rattle.wit_model.specs.declared.model.«Type».TheVariants as ty
-use Rattle.wit_compat.proofs.Sided.{contains_at, never, not_same, place_at, tree_at_place}
+use Rattle.wit_compat.proofs.Sided.{never, not_same, place_at, tree_at_place}
 use Rattle.wit_compat.proofs.sense.same_types.Goals as goal
+use Rattle.base_lemmas.proofs.Elements.{get-contains as contains_at}
 
 pub same_type-requires-clause-a : goal.same_type-requires-clause-a
 same_type-requires-clause-a c =

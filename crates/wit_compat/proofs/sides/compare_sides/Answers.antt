@@ -5,10 +5,11 @@ use Rattle.wit_compat.specs.Index.{indexed}
 use Rattle.wit_compat.specs.Parts.{named_thing}
 use Rattle.wit_compat.specs.Walk.{Pair, pairs_shared}
 use Rattle.wit_compat.specs.Table.{AreAmong, AreReached}
-use Rattle.wit_compat.proofs.Matching.{entries_in_range_by, err_then, fault_alike, found_in_range, included_alike, ok_then, pairs_alike}
+use Rattle.wit_compat.proofs.Matching.{entries_in_range_by, err_then, fault_alike, found_in_range, included_alike, pairs_alike}
 use Rattle.wit_compat.proofs.Signatures.{reached_none}
 use Rattle.wit_compat.proofs.Validity.{layered, things_in_range}
 use Rattle.wit_compat.proofs.sides.compare_sides.Goals as goal
+use Rattle.std.proofs.lemmas.Result.{on_ok_weaker as ok_then}
 
 pub included-requires-clause-layered : goal.included-requires-clause-layered
 included-requires-clause-layered c = layered c.args.resolve.now c.requires.valid

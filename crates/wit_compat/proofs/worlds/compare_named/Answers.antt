@@ -1,8 +1,9 @@
 use Rattle.wit_compat.specs.Compatible.{Accepts, IsRefused, memory}
-use Rattle.wit_compat.proofs.Matching.{by_result, err_then, ok_then}
+use Rattle.wit_compat.proofs.Matching.{by_result, err_then}
 use Rattle.wit_compat.proofs.Refusing.{mismatch_refused, repeated_refused}
 use Rattle.wit_compat.proofs.Validity.{types_fit}
 use Rattle.wit_compat.proofs.worlds.compare_named.Goals as goal
+use Rattle.std.proofs.lemmas.Result.{on_ok_weaker as ok_then}
 
 pub returns-in-Err-clause-accepts : goal.returns-in-Err-clause-accepts
 returns-in-Err-clause-accepts c = repeated_refused c.args.resolve.now c.args.prev.now c.args.new.now c.requires.packages c.in-Err.error c.in-Err.ensures.refuses

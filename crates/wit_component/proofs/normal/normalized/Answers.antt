@@ -3,8 +3,10 @@ use Rattle.std.proofs.lemmas.Result.{IfErr-weaker, IfOk-weaker}
 use Rattle.comp_read.specs.Decoded.{IsDecoded, RefusesBytes}
 use Rattle.wit_encode.specs.Packages.{MeansPackage}
 use Rattle.wit_component.specs.ReadBack.{IsReadBack, RefusesReadBack}
-use Rattle.wit_component.proofs.Refusing.{handed_on, memory_or_size, never_too_large, passed_on, read_back, refused_decoding, refused_encoding, stands}
+use Rattle.wit_component.proofs.Refusing.{handed_on, memory_or_size, never_too_large, read_back, refused_decoding, refused_encoding}
 use Rattle.wit_component.proofs.normal.normalized.Goals as goal
+use Rattle.base_lemmas.proofs.Lists.{within_there as stands}
+use Rattle.encode_names.proofs.Paths.{passed as passed_on}
 
 pub returns-in_err-bytes-clause-size : goal.returns-in_err-bytes-clause-size
 returns-in_err-bytes-clause-size c = λ refused. c.encode.ensures.size (c.in_err-bytes.was ∙ handed_on c.in_err-bytes.field-0.0 c.from_residual.result c.from_residual.ensures.1 refused)

@@ -1,4 +1,4 @@
-use Rattle.std.proofs.Common.{◌≡◌, Some, Result, Ok, Err, IfOk, rules}
+use Rattle.std.proofs.Common.{◌≡◌, Some, rules}
 use Rattle.std.proofs.lemmas.Result.{IfOk-weaker}
 use Rattle.wit_model.specs.Lookup.{package_at}
 use Rattle.wit_model.specs.declared.model.Package.{Package}
@@ -12,6 +12,7 @@ use Rattle.wit_encode.proofs.package.encode.Goals as goal
 use Rattle.std.proofs.Common.{length}
 use Rattle.std.proofs.lemmas.Bool.{lt-ltb}
 use Rattle.wit_model.proofs.OnePath.{found-in}
+use Rattle.base_lemmas.proofs.Options.{both-of}
 
 pub returns-clause-means : goal.returns-clause-means
 returns-clause-means c =
@@ -20,10 +21,6 @@ returns-clause-means c =
     let parts = c.in_ok-encode_component.field-0 in
     IfOk-weaker c.finish.result (λ bytes. IsComponent (sections_of_parts parts) bytes.items) (λ bytes. (p : Package) → package_at r n ≡ Some p → HasMembers p → MeansPackage r n bytes.items)
     (λ bytes spelled p is some. bytes-mean r c.requires.valid n p is c.args.canonical_names parts bytes.items (c.in_ok-encode_component.ensures.holds p is) spelled some) c.finish.ensures.spelled
-
-both-of : {X E : Type 0} (P Q : X → Type 0) (given : Result X E) → IfOk given P → IfOk given Q → IfOk given (λ x. P x × Q x)
-both-of P Q (Ok x) p q = (p, q)
-both-of P Q (Err e) p q = p
 
 pub returns-clause-holds : goal.returns-clause-holds
 returns-clause-holds c =

@@ -1,8 +1,7 @@
 use Rattle.std.proofs.Common.{◌≡◌, ◌∙◌, sym, subst, refl, Some, rules}
-use Rattle.std.proofs.lemmas.Option.{slice_get_read}
+use Rattle.std.proofs.lemmas.Option.{slice_get_read, same_Some as some-same}
 use Rattle.wit_model.specs.Lookup.{package_at}
 use Rattle.wit_model.specs.declared.model.Package.{Package}
-use Rattle.wit_model.proofs.OnePath.{some-same}
 use Rattle.wit_encode.specs.Packages.{HasNoClashes, HaveNoEqualPaths, HoldsPackage, RefusesInterfaces, RefusesWorlds}
 use Rattle.wit_encode.proofs.WholePackages.{are-named, are-worlds, interfaces-refused, package-at, package-held, parts-mean, worlds-refused}
 use Rattle.wit_encode.proofs.PackageWeighing.{interfaces-lack, worlds-lack}

@@ -1,9 +1,8 @@
 use Rattle.std.proofs.Common.{◌≡◌, ◌∙◌, sym, subst, refl, Some}
-use Rattle.std.proofs.lemmas.Option.{slice_get_read}
+use Rattle.std.proofs.lemmas.Option.{slice_get_read, same_Some as some-same}
 use Rattle.wit_model.specs.Lookup.{world_at}
 use Rattle.wit_model.specs.declared.model.World.{World}
 use Rattle.encode_names.specs.Clashes.{HasNoClash, RefusesNames}
-use Rattle.wit_model.proofs.OnePath.{some-same}
 use Rattle.wit_encode.proofs.WholeWorlds.{at-any, clash-fits, names-refused, room-refused, world-at}
 use Rattle.wit_encode.proofs.world.encode_world.Goals as goal
 use Rattle.wit_encode.proofs.world.encode_world.Goals.{After-index-def}

@@ -1,7 +1,8 @@
 use Rattle.std.proofs.Common.{refl, sym, subst, Ok}
 use Rattle.wit_metadata.specs.Modules.{TellsCarrying}
-use Rattle.wit_metadata.proofs.ModuleLaws.{carried-read, nothing-read, other-read, refused-at, behind-preamble, some-left}
+use Rattle.wit_metadata.proofs.ModuleLaws.{carried-read, nothing-read, other-read, refused-at, behind-preamble}
 use Rattle.wit_metadata.proofs.modules.stripped.Goals as goal
+use Rattle.base_lemmas.proofs.Lists.{some_left as some-left}
 
 pub loop-rest-init : goal.loop-rest-init
 loop-rest-init c =

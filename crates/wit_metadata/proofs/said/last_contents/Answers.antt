@@ -1,7 +1,7 @@
 use Rattle.std.proofs.Common.{Some, None}
-use Rattle.wit_metadata.proofs.ModuleLaws.{none-left, some-left}
 use Rattle.wit_metadata.proofs.SaidLaws.{all-read, none-framed, one-more}
 use Rattle.wit_metadata.proofs.said.last_contents.Goals as goal
+use Rattle.base_lemmas.proofs.Lists.{none_left as none-left, some_left as some-left}
 
 pub loop-rest-preserved-in-Some : goal.loop-rest-preserved-in-Some
 loop-rest-preserved-in-Some c =

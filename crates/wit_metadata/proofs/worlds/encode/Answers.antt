@@ -11,10 +11,11 @@ use Rattle.comp_bytes.specs.Writing.{component_bytes}
 use Rattle.encode_exports.specs.ExportedParts.{one_exported}
 use Rattle.wit_encode.specs.PackageRoom.{IsHeavyWorld}
 use Rattle.wit_metadata.specs.Carried.{CarriesEncoding, CarriesWorld, MeansWorld, encoding_part}
-use Rattle.wit_metadata.proofs.Carrying.{both-of, built, encoding-carried, said, world-carried, world-meant, wrapped-at}
+use Rattle.wit_metadata.proofs.Carrying.{built, encoding-carried, said, world-carried, world-meant, wrapped-at}
 use Rattle.wit_metadata.proofs.Homes.{world-home}
 use Rattle.wit_metadata.proofs.Weighing.{heavy-world, long-export, long-whole, says-fits}
 use Rattle.wit_metadata.proofs.worlds.encode.Goals as goal
+use Rattle.base_lemmas.proofs.Options.{both-of}
 
 pub returns-in_err-component-clause-size : goal.returns-in_err-component-clause-size
 returns-in_err-component-clause-size c = λ h.

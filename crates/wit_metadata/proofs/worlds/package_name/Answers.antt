@@ -1,8 +1,7 @@
 use Rattle.std.proofs.Common.{◌≡◌, ◌<◌, ◌∙◌, sym, ap, subst, refl, ℕ, Some}
-use Rattle.std.proofs.lemmas.Option.{slice_get_read}
+use Rattle.std.proofs.lemmas.Option.{slice_get_read, same_Some as some-same}
 use Rattle.wit_model.specs.Lookup.{package_at, world_at}
 use Rattle.wit_model.specs.declared.model.World.{World}
-use Rattle.wit_model.proofs.OnePath.{some-same}
 use Rattle.wit_metadata.proofs.Homes.{home-named, home-within, world-home}
 use Rattle.wit_metadata.proofs.worlds.package_name.Goals as goal
 

@@ -6,8 +6,8 @@ use Rattle.witc.specs.Bindings.{RefusesModuleInput, bindings}
 use Rattle.witc.specs.declared.refusal.Refusal.TheVariants as refusals
 use Rattle.witc.proofs.BindingsLaws.{no-reading}
 use Rattle.witc.proofs.InputLaws.{binds}
-use Rattle.witc.proofs.RefusedLaws.{passed}
 use Rattle.witc.proofs.module.module_input.Goals as goal
+use Rattle.base_lemmas.proofs.Options.{passed}
 
 pub returns-in_err-bytes-clause-refused : goal.returns-in_err-bytes-clause-refused
 returns-in_err-bytes-clause-refused g c =

@@ -5,8 +5,9 @@ use Rattle.witc.specs.Asks.{asked_by}
 use Rattle.witc.specs.DemoShown.{IsDemoDigits, IsDemoText}
 use Rattle.witc.specs.Runs.{Ends, IsDone}
 use Rattle.witc.specs.Words.{Asked, demo_text, demo_hex, print, module_text, strip}
-use Rattle.witc.proofs.RunLaws.{if-ok, names-end, text-ends}
+use Rattle.witc.proofs.RunLaws.{names-end, text-ends}
 use Rattle.witc.proofs.run.carry_out.Goals as goal
+use Rattle.base_lemmas.proofs.Options.{if_ok as if-ok}
 
 pub returns-in-DemoText : goal.returns-in-DemoText
 returns-in-DemoText g c =

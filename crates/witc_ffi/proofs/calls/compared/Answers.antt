@@ -1,8 +1,9 @@
 use Rattle.std.specs.Str.{is_utf8}
 use Rattle.witc_texts.specs.Lines.{usage}
 use Rattle.witc_ffi.specs.Answers.{CompatAnswers, no_names}
-use Rattle.witc_ffi.proofs.OutcomeLaws.{are-texts, first-bad, of-known, second-bad}
+use Rattle.witc_ffi.proofs.OutcomeLaws.{are-texts, of-known, second-bad}
 use Rattle.witc_ffi.proofs.calls.compared.Goals as goal
+use Rattle.std.proofs.lemmas.Bool.{and_left as first-bad}
 
 pub returns-in_default : goal.returns-in_default
 returns-in_default c =

@@ -1,8 +1,7 @@
-use Rattle.std.proofs.Common.{subst}
 use Rattle.std.proofs.lemmas.Option.{slice_get_within}
 use Rattle.witc_texts.specs.Worlds.{RefusesNames, compatible, no_new, no_prev, refused}
-use Rattle.witc_texts.proofs.PassedLaws.{passed}
 use Rattle.witc_texts.proofs.comparison.compare.Goals as goal
+use Rattle.base_lemmas.proofs.Options.{passed}
 
 pub returns-in_default-clause-compared : goal.returns-in_default-clause-compared
 returns-in_default-clause-compared c = no_prev c.in_default.ensures

@@ -1,7 +1,7 @@
 use Rattle.std.proofs.lemmas.Option.{slice_get_within}
 use Rattle.witc_texts.specs.Worlds.{ComparesBytes, ComparesTo, RefusesCompared, RefusesNames, names, undecoded}
-use Rattle.witc_texts.proofs.PassedLaws.{if-err, if-ok, passed}
 use Rattle.witc_texts.proofs.comparison.compat.Goals as goal
+use Rattle.base_lemmas.proofs.Options.{err_said as if-err, if_ok as if-ok, passed}
 
 pub returns-in_err-resolve-clause-refused : goal.returns-in_err-resolve-clause-refused
 returns-in_err-resolve-clause-refused c =

@@ -1,8 +1,8 @@
 use Rattle.std.specs.Prelude.{ℕ, [], Vec}
 use Rattle.std.specs.declared.alloc.Global.{Global}
 use Rattle.witc_texts.specs.Printed.{IsTextOf, PrintsBytes}
-use Rattle.witc_texts.proofs.PassedLaws.{if-ok}
 use Rattle.witc_texts.proofs.packages.print.Goals as goal
+use Rattle.base_lemmas.proofs.Options.{if_ok as if-ok}
 
 pub returns-clause-printed : goal.returns-clause-printed
 returns-clause-printed c =

@@ -1,9 +1,9 @@
 use Rattle.std.proofs.Common.{◌≡◌, map, subst, List, Option, Some, slice_get}
 use Rattle.wit_model.specs.Text.{Text, text_of}
 use Rattle.read_follow.specs.Places.{path_in, place_shape, IsOnlyNew}
-use Rattle.read_follow.proofs.AddLaws.{mapped_get}
 use Rattle.read_follow.proofs.PlaceLaws.{counted_as, only_joined, one_read, paths_apart}
 use Rattle.read_follow.proofs.places.Places.number_of.Goals as goal
+use Rattle.base_lemmas.proofs.Lists.{mapped_get}
 
 pub returns-in_err-number-clause-apart : goal.returns-in_err-number-clause-apart
 returns-in_err-number-clause-apart c = paths_apart (map place_shape c.put.new.keys.keys) c.put.new.marks.items c.put.ensures.places

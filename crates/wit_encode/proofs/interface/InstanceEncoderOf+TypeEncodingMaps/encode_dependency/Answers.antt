@@ -1,16 +1,14 @@
 use Rattle.std.proofs.Common.{◌≡◌, inl, inr, refl, sym, subst, ap, ◌∙◌, List, [], Some}
 use Rattle.std.specs.List.{Contains}
-use Rattle.std.proofs.lemmas.Option.{slice_get_read}
+use Rattle.std.proofs.lemmas.Option.{slice_get_read, same_Some as some-same}
 use Rattle.wit_model.specs.Lookup.{interface_at}
 use Rattle.wit_model.specs.declared.model.TypeId.{TypeId}
 use Rattle.wit_encode.specs.Encoders.{outside}
 use Rattle.wit_encode.specs.Instance.{CanEncodeInterface, EncodesDependency, EncodesPart}
-use Rattle.wit_model.proofs.OnePath.{some-same}
 use Rattle.indexmap.specs.IndexMap.{values}
 use Rattle.wit_model.specs.declared.model.Interface.{Interface}
 use Rattle.wit_encode.proofs.Refusing.{room-listed}
 use Rattle.wit_encode.proofs.Encodable.{valid-encodable}
-use Rattle.wit_encode.proofs.Opening.{ok-then}
 use Rattle.wit_encode.proofs.Closing.{types-alone}
 use Rattle.wit_encode.proofs.interface.InstanceEncoderOf+TypeEncodingMaps.encode_dependency.Goals as goal
 use Rattle.wit_encode.proofs.interface.InstanceEncoderOf+TypeEncodingMaps.encode_dependency.Goals.{After-index-def}
@@ -19,8 +17,9 @@ use Rattle.encode_types.proofs.Agree.{on_ok}
 use Rattle.encode_types.specs.Aliases.{AliasesMet}
 use Rattle.encode_types.specs.MetKinds.{referred}
 use Rattle.wit_encode.specs.Instance.{AliasesForTypes}
-use Rattle.wit_encode.proofs.Opening.{err-then, when-err}
 use Rattle.encode_types.proofs.Aliasing.{met-none}
+use Rattle.base_lemmas.proofs.Options.{at_err as when-err}
+use Rattle.std.proofs.lemmas.Result.{IfOk-weaker as ok-then, on_err_weaker as err-then}
 
 there : (c : After-index-def) → interface_at c.args.self.now.resolve.now c.args.interface.0 ≡ Some c.index-def.result.now
 there c = slice_get_read _ _ _ _ refl c.requires.in_range c.index-def.ensures

@@ -1,19 +1,16 @@
 use Rattle.std.proofs.Common.{rules, refl, sym, subst, arith, ℕ, String, Global, List, take, ◌∙◌, ap, ◌++◌, map}
 use Rattle.std.specs.List.{Contains}
 use Rattle.wit_model.specs.Text.{Text}
-use Rattle.wit_encode.proofs.Opening.{map-twice}
 use Rattle.std.specs.Borrow.{Bor}
 use Rattle.std.proofs.lemmas.Grind.{common_steps}
 use Rattle.wit_model.specs.declared.model.Function.{Function}
 use Rattle.wit_encode.specs.Instance.{own_of}
 use Rattle.wit_encode.proofs.Referring.{from-function, from-functions}
-use Rattle.encode_types.proofs.Lists.{contains-at}
 use Rattle.wit_encode.proofs.Counting.{adds-nothing, functions-counted, functions-all, names-after}
 use Rattle.wit_encode.proofs.Continuing.{function-continues, continues-trans}
 use Rattle.std.proofs.lemmas.List.{take_all}
 use Rattle.wit_encode.specs.Instance.{placed_function, meaning_of, contents_of, definitions_with, encoder_scope}
 use Rattle.wit_encode.proofs.FunctionExports.{used-kept}
-use Rattle.wit_model.proofs.Elements.{contains-map}
 use Rattle.std.proofs.Math.ListN.{length-map}
 use Rattle.wit_model.specs.Parts.{function_types}
 use Rattle.encode_types.proofs.Rooms.{holds-none, holds-most, holds-then, only-more, flat-taken, map-taken}
@@ -25,6 +22,8 @@ use Rattle.encode_types.specs.Extents.{function_extent}
 use Rattle.wit_encode.specs.Encoders.{encoder_view}
 use Rattle.wit_model.proofs.Elements.{contains-flat}
 use Rattle.encode_types.proofs.Aliasing.{met-none, met-more, makes-then}
+use Rattle.base_lemmas.proofs.Elements.{contains-at, contains-map}
+use Rattle.base_lemmas.proofs.Lists.{map_of_map as map-twice}
 
 pub encode_function-requires-clause-encodable : goal.encode_function-requires-clause-encodable
 encode_function-requires-clause-encodable c = function-continues _ c.loop-entry.invariant.continues (c.requires.encodable c.entry-item.result (contains-at c.args.functions.now c.loop-entry.entry-index c.entry-item.result c.loop-entry-test.true c.entry-item.is))

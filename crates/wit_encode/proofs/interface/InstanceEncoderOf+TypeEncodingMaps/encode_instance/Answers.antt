@@ -10,7 +10,7 @@ use Rattle.wit_encode.specs.Instance.{placed_function}
 use Rattle.wit_encode.proofs.Encodable.{valid-encodable}
 use Rattle.wit_encode.specs.Encoders.{outside}
 use Rattle.wit_encode.proofs.Closing.{whole}
-use Rattle.wit_encode.proofs.Opening.{ok-then, permuted-contains}
+use Rattle.wit_encode.proofs.Opening.{permuted-contains}
 use Rattle.wit_encode.specs.Exports.{UsesListed}
 use Rattle.wit_encode.proofs.Exporting.{uses-listed}
 use Rattle.wit_encode.proofs.FunctionExports.{keyed-value}
@@ -22,14 +22,16 @@ use Rattle.wit_encode.proofs.interface.InstanceEncoderOf+TypeEncodingMaps.encode
 use Rattle.wit_encode.proofs.interface.InstanceEncoderOf+TypeEncodingMaps.encode_instance.Goals.{After-index-def, After-encode_part}
 use Rattle.wit_encode.proofs.BytesWritten.{whole-few}
 use Rattle.encode_types.proofs.Agree.{on_ok}
-use Rattle.wit_model.proofs.Elements.{contains-map}
 use Rattle.encode_types.specs.Aliases.{AliasesMet}
 use Rattle.encode_types.specs.Known.{Around}
 use Rattle.encode_types.specs.MetKinds.{referred}
 use Rattle.wit_encode.specs.Instance.{AliasesFor, whole_interface}
-use Rattle.wit_encode.proofs.Opening.{err-then, values-permuted, when-err}
+use Rattle.wit_encode.proofs.Opening.{values-permuted}
 use Rattle.wit_encode.proofs.Referring.{permuted-aliases}
 use Rattle.encode_types.proofs.Aliasing.{met-none}
+use Rattle.base_lemmas.proofs.Elements.{contains-map}
+use Rattle.base_lemmas.proofs.Options.{at_err as when-err}
+use Rattle.std.proofs.lemmas.Result.{IfOk-weaker as ok-then, on_err_weaker as err-then}
 
 there : (c : After-index-def) → interface_at c.args.self.now.resolve.now c.args.interface.0 ≡ Some c.index-def.result.now
 there c = slice_get_read _ _ _ _ refl c.requires.in_range c.index-def.ensures

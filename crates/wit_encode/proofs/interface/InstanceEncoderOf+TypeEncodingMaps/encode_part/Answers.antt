@@ -2,7 +2,6 @@ use Rattle.std.proofs.Common.{◌≡◌, refl, sym, ap, ◌∙◌, inr, Some, ma
 use Rattle.wit_model.specs.Lookup.{interface_at}
 use Rattle.wit_model.specs.declared.model.Interface.{Interface}
 use Rattle.indexmap.specs.IndexMap.{values}
-use Rattle.wit_model.proofs.OnePath.{some-same}
 use Rattle.wit_encode.specs.Instance.{placed_function, EncodesPart}
 use Rattle.wit_encode.specs.Encoders.{outside}
 use Rattle.wit_encode.proofs.Closing.{closes}
@@ -11,6 +10,7 @@ use Rattle.wit_encode.proofs.Opening.{close-each, closed-keeps, closed-stay, gro
 use Rattle.wit_encode.proofs.interface.InstanceEncoderOf+TypeEncodingMaps.encode_part.Goals as goal
 use Rattle.wit_encode.proofs.BytesWritten.{taken-closed, when-ok}
 use Rattle.comp_bytes.specs.Raw.{from_list}
+use Rattle.std.proofs.lemmas.Option.{same_Some as some-same}
 
 pub returns-clause-ok : goal.returns-clause-ok
 returns-clause-ok c =

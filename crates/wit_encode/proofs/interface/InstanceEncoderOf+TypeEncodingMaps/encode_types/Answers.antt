@@ -18,8 +18,8 @@ use Rattle.wit_encode.proofs.Counting.{exact-names}
 use Rattle.wit_encode.proofs.Exporting.{exports-start, exports-next, exports-end}
 use Rattle.wit_encode.proofs.interface.InstanceEncoderOf+TypeEncodingMaps.encode_types.Goals as goal
 use Rattle.encode_types.proofs.Writing.{writes-nothing, writes-then}
-use Rattle.wit_model.proofs.Elements.{contains-map, one-contained}
 use Rattle.encode_types.proofs.Aliasing.{met-none, met-more, makes-then}
+use Rattle.base_lemmas.proofs.Elements.{contains-map, last_of as one-contained}
 
 pub loop-id-init : goal.loop-id-init
 loop-id-init c = record {

@@ -1,4 +1,4 @@
-use Rattle.std.proofs.Common.{◌≡◌, ◌∙◌, ap, sym, subst, refl, ℕ, Result, Ok, Err, OnOk, rules}
+use Rattle.std.proofs.Common.{◌≡◌, ◌∙◌, ap, sym, subst, refl, ℕ, Result, Err, rules}
 use Rattle.wit_model.specs.declared.error.Error.{Error}
 use Rattle.wit_model.specs.declared.error.Error.TheVariants as errors
 use Rattle.encode_types.specs.Scope.{Scope}
@@ -20,16 +20,13 @@ use Rattle.std.proofs.Common.{arith}
 use Rattle.wit_model.specs.Meant.{signature_of}
 use Rattle.encode_types.specs.Extents.{name_extent, signature_extent}
 use Rattle.wit_encode.specs.WrittenBytes.{AddsLearnt}
+use Rattle.std.proofs.lemmas.Result.{on_ok_weaker as on-each}
 
 pub encode_func_type-requires : goal.encode_func_type-requires
 encode_func_type-requires c =
     let next = c.requires.next in
     let can = can-encode c.args.resolve.now c.requires.valid next.world c.args.self.now next.done next.shown (towards c.args.placed.direction) (entry_of c.args.placed) next.next c.args.func.now c.requires.item in
     λ _. ((refl, tt), rw next.shown.packages_ (can.types, (can.formed, next.shown.agree)))
-
-on-each : {A E : Type 0} {P Q : Type 0} (res : Result A E) → (P → Q) → OnOk res P → OnOk res Q
-on-each (Ok x) f p = f p
-on-each (Err e) f p = p
 
 pub returns-clause-ok : goal.returns-clause-ok
 returns-clause-ok c = on-each c.declare.result (λ made w done h next.

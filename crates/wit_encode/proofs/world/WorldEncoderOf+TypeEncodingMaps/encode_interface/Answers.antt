@@ -1,4 +1,4 @@
-use Rattle.std.proofs.Common.{◌≡◌, ◌∙◌, ◌<◌, ◌⊎◌, ℕ, ap, sym, subst, length, [], ◌∷◌, Result, Ok, Err, OnOk, rules}
+use Rattle.std.proofs.Common.{◌≡◌, ◌∙◌, ◌<◌, ◌⊎◌, ℕ, ap, sym, subst, length, [], ◌∷◌, Result, Err, rules}
 use Rattle.std.proofs.lemmas.Option.{slice_get_within}
 use Rattle.wit_model.specs.declared.error.Error.{Error}
 use Rattle.wit_model.specs.declared.error.Error.TheVariants as errors
@@ -23,6 +23,7 @@ use Rattle.std.proofs.Common.{arith}
 use Rattle.wit_encode.specs.WrittenBytes.{AddsBytes, AddsLearnt, items_extent, whole_extent}
 use Rattle.encode_names.specs.WorldNames.{name_of_item}
 use Rattle.wit_model.specs.Weight.{whole_instance_weight}
+use Rattle.std.proofs.lemmas.Result.{on_ok_weaker as on-each}
 
 pub define_instance-requires-clause-in_range : goal.define_instance-requires-clause-in_range
 define_instance-requires-clause-in_range c =
@@ -42,10 +43,6 @@ list_instance-requires c =
     room c.args.resolve.now c.requires.valid next.world c.args.self.now c.define_instance.new.self next.done next.shown (towards c.args.placed.direction) c.args.placed.canonical_names (entry_of c.args.placed) next.next c.args.interface
     c.requires.item c.in_ok-slot.slot c.define_instance.ensures.rest c.in_ok-slot.ensures.ok c.declare.new.outer
     (c.in_ok-declare.ensures.ok ∙ ap (λ n. declared_after c.define_instance.new.self.outer (declared_towards (towards c.args.placed.direction) n (refs.Instance c.in_ok-slot.slot))) c.in_ok-name.ensures.ok)
-
-on-each : {A E : Type 0} {P Q : Type 0} (res : Result A E) → (P → Q) → OnOk res P → OnOk res Q
-on-each (Ok x) f p = f p
-on-each (Err e) f p = p
 
 pub returns-clause-ok : goal.returns-clause-ok
 returns-clause-ok c = on-each c.list_instance.result (λ lists w done h next.

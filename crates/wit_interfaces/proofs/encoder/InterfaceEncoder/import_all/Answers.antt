@@ -1,9 +1,10 @@
-use Rattle.std.proofs.Common.{refl, sym, subst, ℕ, List, Result, Ok, Err, OnErr, rules}
+use Rattle.std.proofs.Common.{refl, sym, subst, ℕ, List, rules}
 use Rattle.wit_model.proofs.Elements.{none-in}
 use Rattle.std.specs.List.{Contains}
 use Rattle.wit_interfaces.proofs.Calls.{stays-as-it-is}
 use Rattle.wit_interfaces.proofs.Chain.{all-imported, all-taken, all-stand, leaves-both, next-in-part, next-lacks, next-named, next-uses}
 use Rattle.wit_interfaces.proofs.encoder.InterfaceEncoder.import_all.Goals as goal
+use Rattle.base_lemmas.proofs.Options.{at_err as on-err}
 
 pub loop-interface-init : goal.loop-interface-init
 loop-interface-init c = record {
@@ -39,10 +40,6 @@ returns-in_err-import_interface-clause-leaves c = leaves-both c.args.self.now c.
 pub returns-in_err-import_interface-clause-size : goal.returns-in_err-import_interface-clause-size
 returns-in_err-import_interface-clause-size c = λ h. next-lacks c.args.self.now c.loop-interface.self c.args.interfaces.now c.loop-interface.interface-index c.loop-interface-test.true c.requires.importable c.loop-interface.invariant.leaves c.loop-interface.invariant.stand
     c.loop-interface.invariant.imports (c.import_interface.ensures.size (search rules))
-
-on-err : {A E P : Type 0} (res : Result A E) → P → OnErr res P
-on-err (Ok x) p = tt
-on-err (Err e) p = p
 
 pub returns-in_err-import_interface-clause-err : goal.returns-in_err-import_interface-clause-err
 returns-in_err-import_interface-clause-err c = on-err _

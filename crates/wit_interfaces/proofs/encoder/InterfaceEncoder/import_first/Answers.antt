@@ -6,7 +6,7 @@ use Rattle.wit_model.specs.Text.{Text}
 use Rattle.wit_model.specs.declared.error.Error.{Error}
 use Rattle.wit_model.specs.declared.error.Error.TheVariants as errors
 use Rattle.wit_model.specs.declared.model.Interface.{Interface}
-use Rattle.wit_model.proofs.OnePath.{found-in, some-of}
+use Rattle.wit_model.proofs.OnePath.{found-in}
 use Rattle.wit_encode.specs.Worlds.{world_around}
 use Rattle.wit_encode.proofs.DependencyHolding.{import-lacks, slot-lacks}
 use Rattle.wit_encode.proofs.ImportLoop.{path-in-range}
@@ -14,6 +14,7 @@ use Rattle.wit_interfaces.specs.InterfaceEncoders.{InterfaceEncoder, aliases, co
 use Rattle.wit_interfaces.proofs.Calls.{aliases-leave, first-listed, import-leaves, import-made, import-room, import-stands, part-leaves, part-left, used-outside}
 use Rattle.encode_types.proofs.Aliasing.{met-none}
 use Rattle.wit_interfaces.proofs.encoder.InterfaceEncoder.import_first.Goals as goal
+use Rattle.base_lemmas.proofs.Options.{at_err as on-err, there as some-of}
 
 there : (e : InterfaceEncoder) (i : ℕ) → is_some (interface_path (interface_encoder_view e).scope.packages i) ≡ true → (def : Interface) × (interface_at (interface_encoder_view e).scope.packages i ≡ Some def)
 there e i named = let r = (interface_encoder_view e).scope.packages in found-in r.interfaces.items i (lt-ltb i (length r.interfaces.items) (path-in-range r i named))
@@ -89,10 +90,6 @@ returns-in_err-import_instance-clause-leaves c =
     let named = path e c.args.interface.0 c.requires.named in
     part-leaves e c.requires.can c.define_dependency.new.self c.define_dependency.ensures.rest c.args.interface found.0 c.in_ok-slot.slot found.1 (c.in_ok-slot.ensures.ok found.0 found.1) named.0 named.1
     c.import_instance.new.outer (record c.define_dependency.new.self.foreign { instances = c.import_instance.new.instances }) (search rules) (search rules) refl
-
-on-err : {A E P : Type 0} (res : Result A E) → P → OnErr res P
-on-err (Ok x) p = tt
-on-err (Err x) p = p
 
 pub returns-in_err-import_instance-clause-err : goal.returns-in_err-import_instance-clause-err
 returns-in_err-import_instance-clause-err c =

@@ -1,4 +1,4 @@
-use Rattle.std.proofs.Common.{refl, sym, subst, List, Result, Ok, Err, OnErr, OnOk}
+use Rattle.std.proofs.Common.{refl, sym, subst, List}
 use Rattle.std.specs.List.{Contains}
 use Rattle.wit_model.specs.Uses.{direct_deps}
 use Rattle.wit_model.specs.declared.model.Resolve.{Resolve}
@@ -7,22 +7,12 @@ use Rattle.wit_encode.specs.Dependencies.{AreImportable}
 use Rattle.wit_encode.proofs.ImportLoop.{numbers, reached-importable, reached-used}
 use Rattle.wit_interfaces.specs.InterfaceEncoders.{ImportsSome, LacksOneImport, some, unchanged}
 use Rattle.wit_interfaces.proofs.encoder.InterfaceEncoder.import_used.Goals as goal
+use Rattle.base_lemmas.proofs.Options.{at_err as on-err}
+use Rattle.std.proofs.lemmas.Result.{on_err_weaker as each-err, on_ok_weaker as on-each}
 
 pub import_all-requires-clause-importable : goal.import_all-requires-clause-importable
 import_all-requires-clause-importable c = subst (λ (xs : List InterfaceId). AreImportable c.args.self.now.encoder.resolve.now (numbers xs)) (sym c.deref.ensures.value)
     (reached-importable c.args.self.now.encoder.resolve.now c.requires.can.valid c.args.interface.0 (numbers c.in_ok-reached.reached.items) c.in_ok-reached.ensures.reached)
-
-on-each : {A E : Type 0} {P Q : Type 0} (res : Result A E) → (P → Q) → OnOk res P → OnOk res Q
-on-each (Ok x) f p = f p
-on-each (Err e) f p = p
-
-on-err : {A E P : Type 0} (res : Result A E) → P → OnErr res P
-on-err (Ok x) p = tt
-on-err (Err e) p = p
-
-each-err : {A E : Type 0} {P Q : Type 0} (res : Result A E) → (P → Q) → OnErr res P → OnErr res Q
-each-err (Ok x) f p = p
-each-err (Err e) f p = f p
 
 pub returns-clause-uses : goal.returns-clause-uses
 returns-clause-uses c = on-each c.import_all.result (λ stand j d. stand j (subst (λ (xs : List InterfaceId). Contains (numbers xs) j) (sym c.deref.ensures.value)

@@ -2,10 +2,10 @@ use Rattle.std.proofs.Common.{◌≡◌, subst, Some, refl}
 use Rattle.std.proofs.lemmas.Option.{slice_get_read}
 use Rattle.wit_model.specs.Lookup.{interface_at}
 use Rattle.print_output.specs.OutputCall.{Moves, Begins}
-use Rattle.print_items.proofs.Moves.{on_ok, on_err}
 use Rattle.wit_print.proofs.InterfaceHeads.{interface_gates, head_at}
 use Rattle.print_items.proofs.ShownWell.{gates_well}
 use Rattle.wit_print.proofs.printer.WitPrinter.print_interface_outer.Goals as goal
+use Rattle.std.proofs.lemmas.Result.{on_err_weaker as on_err, on_ok_weaker as on_ok}
 
 pub print_head-requires-clause-gates : goal.print_head-requires-clause-gates
 print_head-requires-clause-gates g c =

@@ -1,8 +1,8 @@
 use Rattle.std.proofs.Common.{refl, subst, sym}
 use Rattle.std.specs.Iterator.{Drains}
-use Rattle.print_items.proofs.Moves.{at_err}
 use Rattle.wit_print.specs.Printer.{nothing, some}
 use Rattle.wit_print.proofs.printer.WitPrinter.print_types.Goals as goal
+use Rattle.base_lemmas.proofs.Options.{at_err}
 
 pub returns-in_err-types-clause-err : goal.returns-in_err-types-clause-err
 returns-in_err-types-clause-err g c = at_err c.from_residual.result (nothing refl)
