@@ -63,3 +63,11 @@ ok_holds p (Err e) = tt
 
 pub some_is : {A : Type 0} (x y : A) → ◌≡◌ {A = Option A} (Some x) (Some y) → x ≡ y
 some_is x y e = cc
+
+pub at_ok : {T E P : Type 0} (r : Result T E) → P → OnOk r P
+at_ok (Ok v) p = p
+at_ok (Err e) p = tt
+
+pub none_is : {A : Type 0} (v : Option A) → is_none v ≡ true → v ≡ None
+none_is None h = refl
+none_is (Some x) h = let wrong : ⊥ = cc in absurd wrong

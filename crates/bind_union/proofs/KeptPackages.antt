@@ -21,7 +21,7 @@ use Rattle.wit_model.proofs.Entries.{free_passes}
 use Rattle.wit_model.proofs.OnePath.{found-in, package-passes}
 use Rattle.bind_union.specs.Carried.{Renumbering}
 use Rattle.bind_union.specs.Merged.{interface_names, world_names, IsJoinedPackage, PackageStands, grown, brought, IsKeptPackage, IsPackageOf, IsMerged}
-use Rattle.bind_union.proofs.Lists.{no_true, each_by_number}
+use Rattle.bind_union.proofs.Lists.{no_true}
 use Rattle.bind_union.proofs.EntryRules.{text_alike}
 use Rattle.bind_union.proofs.FunctionRules.{id_under}
 use Rattle.bind_union.proofs.Itself.{get_begin}
@@ -30,6 +30,7 @@ use Rattle.bind_union.proofs.PackageNames.{names_pass}
 use Rattle.base_lemmas.proofs.Bools.{left_of as first_true, right_of as second_true}
 use Rattle.base_lemmas.proofs.Elements.{all_two}
 use Rattle.base_lemmas.proofs.Numbers.{equal}
+use Rattle.wit_model.proofs.RulesLemmas.{each_by_number}
 
 -- the interface is there, and has this name and this package
 abbrev pub is_interface_of : Resolve → ℕ → Text × ℕ → Bool

@@ -1,18 +1,9 @@
 -- Lists and options that are made entry by entry of others.
-use Rattle.std.proofs.Common.{◌≡◌, refl, sym, ap, ◌∙◌, ℕ, ◌+◌, Bool, true, false, ◌&&◌, ◌||◌, ◌==◌, cond, List, [], ◌∷◌, ◌++◌, map, filter, Some, slice_get, subst, arith}
+use Rattle.std.proofs.Common.{◌≡◌, refl, sym, ap, ◌∙◌, ℕ, Bool, true, false, ◌||◌, ◌==◌, cond, List, [], ◌∷◌, filter}
 use Rattle.std.proofs.lemmas.Bool.{eqb-true, or_right}
 use Rattle.wit_model.specs.Uses.{has}
-use Rattle.wit_model.specs.Rules.{each_from, each_after}
-use Rattle.wit_model.proofs.Entries.{each_from_at, each_from_all}
-use Rattle.std.proofs.lemmas.List.{map-append}
 
 -- ---- lists
-
-pub after_of_map : {A B : Type 0} (test : List B → B → Bool) (g : A → B) (before xs : List A) → each_after test (map g before) (map g xs) ≡ each_after (λ ys x. test (map g ys) (g x)) before xs
-after_of_map test g before [] = refl
-after_of_map test g before (x ∷ xs) =
-    ap (λ ys. test (map g before) (g x) && each_after test ys (map g xs)) (sym (map-append g before (x ∷ [])))
-    ∙ ap (λ b. test (map g before) (g x) && b) (after_of_map test g (before ++ x ∷ []) xs)
 
 pub no_true : {A : Type 0} → false ≡ true → A
 no_true e = let wrong : ⊥ = cc in absurd wrong
@@ -20,12 +11,6 @@ no_true e = let wrong : ⊥ = cc in absurd wrong
 -- ---- two tests that make a third
 
 -- ---- each, by its number
-
-pub each_at : {A : Type 0} (test : ℕ → A → Bool) (xs : List A) (n : ℕ) (x : A) → each_from test 0 xs ≡ true → slice_get xs n ≡ Some x → test n x ≡ true
-each_at test xs n x h e = let here : 0 + n ≡ n = omega arith in subst (λ (k : ℕ). test k x ≡ true) here (each_from_at test 0 xs n x h e)
-
-pub each_by_number : {A : Type 0} (test : ℕ → A → Bool) (xs : List A) → ((n : ℕ) (x : A) → slice_get xs n ≡ Some x → test n x ≡ true) → each_from test 0 xs ≡ true
-each_by_number test xs all = each_from_all test 0 xs (λ n x e. let here : n ≡ 0 + n = omega arith in subst (λ (k : ℕ). test k x ≡ true) here (all n x e))
 
 -- ---- what stands in a list that is made of another
 

@@ -4,13 +4,10 @@ use Rattle.std.specs.List.{Contains}
 use Rattle.std.specs.Ordering.{eq_by_cmp}
 use Rattle.std.specs.FinMap.{find, from_entries, get-from_entries, same_map, slice_cmp-IsAntisymmetric, nat_cmp-IsAntisymmetric}
 use Rattle.std.proofs.lemmas.Cmp.{nat_list_cmp_total, nat_list_eq_equiv}
-use Rattle.std.proofs.lemmas.Map.Text.{is_eq-slice_cmp}
 use Rattle.std.proofs.lemmas.Slice.Eq.{bytes_eq-Decides}
-use Rattle.wit_model.specs.Text.{Text, TextMap, text_eq, text_cmp}
+use Rattle.wit_model.specs.Text.{Text, TextMap, text_cmp}
 use Rattle.wit_model.specs.Maps.{HaveSameEntries}
-
-same_order : (a b : Text) → eq_by_cmp text_cmp a b ≡ text_eq a b
-same_order a b = is_eq-slice_cmp a b
+use Rattle.wit_model.proofs.AnyOrder.{same-text as same_order}
 
 module _ {X : Type 0} where
   -- what is found is an entry, and under the name of an entry something is found
