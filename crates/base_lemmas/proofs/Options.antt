@@ -34,10 +34,6 @@ pub none_not_some : {X : Type 0} (o : Option X) → is_none o ≡ not (is_some o
 none_not_some None = refl
 none_not_some (Some x) = refl
 
-pub on-held : {A E : Type 0} (x : Result A E) (P : Type 0) → P → OnOk x P
-on-held (Ok x) P p = p
-on-held (Err e) P p = tt
-
 pub err_said : {A B : Type 0} (P Q : B → Type 0) → ((e : B) → P e → Q e) → (r : Result A B) → IfErr r P → IfErr r Q
 err_said P Q f (Ok x) h = h
 err_said P Q f (Err e) h = f e h

@@ -30,7 +30,9 @@ use Rattle.wit_model.proofs.OnePath.{found-in, has-path, named-path, path-once}
 use Rattle.bind_meaning.specs.Binding.{Stand}
 use Rattle.bind_meaning.specs.ByNumbers.{WorldsAreBindings, interfaces_by_path, worlds_by_path}
 use Rattle.bind_meaning.proofs.KeyNames.{Lacks, colon, goes-on, key_lacks}
-use Rattle.bind_meaning.proofs.Listed.{contains-find, find-contains, from-given, given, mapped}
+use Rattle.bind_meaning.proofs.Listed.{from-given, given, mapped}
+use Rattle.wit_model.proofs.Maps.{there_some as contains-find}
+use Rattle.wit_model.proofs.AnyOrder.{found-there as find-contains}
 use Rattle.bind_meaning.proofs.WorldPaths.{path-apart, path_at, world-once}
 use Rattle.base_lemmas.proofs.Bools.{left_of as first_true, right_of as second_true}
 use Rattle.base_lemmas.proofs.Elements.{all-contained, contains-later, contains-one, first-contained, get-contains}

@@ -17,7 +17,8 @@ use Rattle.wit_model.proofs.Elements.{has-contains, contains-has, contains-filte
 use Rattle.wit_model.proofs.Chains.{has_once}
 use Rattle.bind_meaning.proofs.Listed.{from-map}
 use Rattle.bind_union.specs.Carried.{Renumbering, owner_under, carries_owner, IsType, IsInterface, IsCarried}
-use Rattle.bind_union.proofs.Lists.{no_true, has_filter, filter_has}
+use Rattle.bind_union.proofs.Lists.{no_true}
+use Rattle.wit_model.proofs.UsesLemmas.{has_filter, filter_has}
 use Rattle.bind_union.proofs.Homes.{alias_there}
 use Rattle.base_lemmas.proofs.Elements.{contains-map, contains-one, filter_map_from, get-contains}
 use Rattle.base_lemmas.proofs.Numbers.{equal, same-number}

@@ -20,6 +20,7 @@ use Rattle.base_lemmas.proofs.Bools.{both_same, left_of as first_true, right_of 
 use Rattle.base_lemmas.proofs.Numbers.{unequal as differ, turned as number_flip}
 use Rattle.std.proofs.lemmas.Option.{same_Some as some_same}
 use Rattle.wit_model.proofs.RulesLemmas.{version_flip as optional_flip}
+use Rattle.wit_model.proofs.RulesLemmas.{name_flip}
 
 no_some : {A B : Type 0} (x : A) → None ≡ Some x → B
 no_some x e = let wrong : ⊥ = cc in absurd wrong
@@ -73,11 +74,6 @@ version_flip a b =
     (both_same _ _ _ _ (number_flip a.minor b.minor)
     (both_same _ _ _ _ (number_flip a.patch b.patch)
     (both_same _ _ _ _ (text_eq_flip (pre_text a.pre) (pre_text b.pre)) (text_eq_flip (build_text a.build) (build_text b.build)))))
-
-name_flip : (a b : PackageName) → same_package_name a b ≡ same_package_name b a
-name_flip a b =
-    both_same _ _ _ _ (text_eq_flip (text_of a.namespace) (text_of b.namespace))
-    (both_same _ _ _ _ (text_eq_flip (text_of a.name) (text_of b.name)) (optional_flip a.version b.version))
 
 -- no other package has the name
 only_at : (r : Resolve) → are_apart same_package_name (map (λ p. p.name) r.packages.items) ≡ true → (n : ℕ) (p : Package) → slice_get r.packages.items n ≡ Some p → distinct_names.package_ r n p ≡ true

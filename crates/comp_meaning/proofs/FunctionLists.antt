@@ -10,7 +10,8 @@ use Rattle.std.proofs.lemmas.Bool.Decides.{Decides-at}
 use Rattle.std.proofs.lemmas.Cmp.{nat_list_cmp_total}
 use Rattle.wit_model.specs.Text.{Text, TextMap, text_eq, text_cmp}
 use Rattle.wit_model.proofs.VersionLaws.{same_text}
-use Rattle.wit_model.proofs.Maps.{one_map, found_there, there_some}
+use Rattle.wit_model.proofs.Maps.{one_map, there_some}
+use Rattle.wit_model.proofs.AnyOrder.{found-there as found_there}
 use Rattle.comp_meaning.specs.Rules.{distinct}
 use Rattle.comp_meaning.specs.Same.{same_function, stand_in}
 use Rattle.comp_meaning.specs.Reads.{same_functions}

@@ -28,7 +28,8 @@ use Rattle.plan_meaning.specs.PlanRules.{IsPackagePlan}
 use Rattle.plan_meaning.specs.PlanMeaning as planned
 use Rattle.plan_meaning.specs.PlanMeaning.{plan_meaning, foreign_entry}
 use Rattle.plan_meaning.specs.Built.{IsBuilt, planned_function, planned_interface, planned_world, planned_package}
-use Rattle.plan_meaning.proofs.Lists.{any_get, has_filter, filter_has, no_true}
+use Rattle.plan_meaning.proofs.Lists.{any_get, no_true}
+use Rattle.wit_model.proofs.UsesLemmas.{has_filter, filter_has}
 use Rattle.plan_meaning.proofs.Words.{plan_of, path_of_planned_is}
 use Rattle.plan_meaning.proofs.Meanings.{planned_function_entry, meant_function_entry, interface_is, interface_at_is, world_at_is, functions_are}
 use Rattle.plan_meaning.proofs.Reaching.{shown_in, all_reached}

@@ -35,7 +35,8 @@ use Rattle.plan_meaning.specs.ReadWorlds.{ReadItem, is_type_seen, types_follow, 
 use Rattle.plan_meaning.specs.ReadOrder.{IsViewedInterface, OrderIsRead, ReadOrderPasses}
 use Rattle.plan_meaning.proofs.KeptFunctions.{kept_functions_pass}
 use Rattle.plan_meaning.proofs.KeptTypes.{kept_types_pass}
-use Rattle.plan_meaning.proofs.Lists.{filter_has, no_true}
+use Rattle.plan_meaning.proofs.Lists.{no_true}
+use Rattle.wit_model.proofs.UsesLemmas.{filter_has}
 use Rattle.plan_meaning.proofs.ListedTypes.{listed, types_are_listed}
 use Rattle.plan_meaning.proofs.MetTypes.{used_among}
 use Rattle.plan_meaning.proofs.ReadLists.{never, or_nothing}

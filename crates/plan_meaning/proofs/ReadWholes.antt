@@ -25,7 +25,8 @@ use Rattle.plan_meaning.specs.ReadPlaces.{IsPlacedInterface, under_path, inline}
 use Rattle.plan_meaning.specs.ReadWorlds.{ReadItem, IsReadItem, by_path, by_label, implementing_path, a_function, a_type}
 use Rattle.plan_meaning.specs.ReadPlans.{IsReadPlan}
 use Rattle.plan_meaning.specs.ReadWholes.{IsPartOfFunction, a_parameter, a_result, IsPartOfKept, of_type, of_interface, of_world, HasHomes, IsKeptForReasons, place_shown, IsShownByWorld, IsViewOf, IsSeenFor, in_world, in_member, ForeignIsRead, IsReadWorldPlan, ReadPackagePlanStands, ReadWorldPlanStands}
-use Rattle.plan_meaning.proofs.Lists.{has_filter, no_true}
+use Rattle.plan_meaning.proofs.Lists.{no_true}
+use Rattle.wit_model.proofs.UsesLemmas.{has_filter}
 use Rattle.plan_meaning.proofs.MetTypes.{flat_among}
 use Rattle.plan_meaning.proofs.ReadLists.{never}
 use Rattle.plan_meaning.proofs.ReadOrder.{same_uses}

@@ -27,7 +27,8 @@ use Rattle.plan_meaning.specs.PlanRules.{IsWorldPlan}
 use Rattle.plan_meaning.specs.PlanMeaning as planned
 use Rattle.plan_meaning.specs.PlanMeaning.{plan_world_meaning, shown_entry}
 use Rattle.plan_meaning.specs.Built.{IsBuilt, planned_interface, planned_world, planned_package}
-use Rattle.plan_meaning.proofs.Lists.{has_filter, filter_has, no_true}
+use Rattle.plan_meaning.proofs.Lists.{no_true}
+use Rattle.wit_model.proofs.UsesLemmas.{has_filter, filter_has}
 use Rattle.plan_meaning.proofs.Words.{plan_of, path_of_planned_is}
 use Rattle.plan_meaning.proofs.Meanings.{interface_is, world_is}
 use Rattle.plan_meaning.proofs.Reaching.{shows_is}

@@ -8,8 +8,9 @@ use Rattle.std.proofs.lemmas.List.{map-append}
 use Rattle.std.specs.Option.{option_eq}
 use Rattle.wit_model.proofs.Distinct.{text_eq_flip}
 use Rattle.wit_model.proofs.Entries.{each_from_all, each_from_at}
-use Rattle.wit_model.specs.Rules.{after_prefix, each_after, each_from, has_items, is_id, same_version}
-use Rattle.wit_model.specs.Text.{Text}
+use Rattle.wit_model.specs.Rules.{after_prefix, each_after, each_from, has_items, is_id, same_package_name, same_version}
+use Rattle.wit_model.specs.Text.{Text, text_of}
+use Rattle.wit_model.specs.declared.model.PackageName.{PackageName}
 
 pub after_both : (ps qs bs : Text) → after_prefix (ps ++ qs) bs ≡ option_and_then (after_prefix qs) (after_prefix ps bs)
 after_both [] qs bs = refl
@@ -45,3 +46,6 @@ version_flip None None = refl
 version_flip None (Some b) = refl
 version_flip (Some a) None = refl
 version_flip (Some a) (Some b) = λ i. number_flip a.major b.major i && (number_flip a.minor b.minor i && (number_flip a.patch b.patch i && (text_eq_flip (parts_of a).3 (parts_of b).3 i && text_eq_flip (parts_of a).4 (parts_of b).4 i)))
+
+pub name_flip : (a b : PackageName) → same_package_name a b ≡ same_package_name b a
+name_flip a b = λ i. text_eq_flip (text_of a.namespace) (text_of b.namespace) i && (text_eq_flip (text_of a.name) (text_of b.name) i && version_flip a.version b.version i)

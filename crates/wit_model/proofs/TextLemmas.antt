@@ -51,3 +51,7 @@ text_there path (x ∷ xs) e = by (text_eq path x) refl e (text_there path xs)
     by : (b : Bool) → text_eq path x ≡ b → (b || list_any (text_eq path) xs) ≡ true → (list_any (text_eq path) xs ≡ true → Contains xs path) → Contains (x ∷ xs) path
     by true is h rest = (0, omega arith, sym (text_same path x is))
     by false is h rest = contains-later x xs path (rest h)
+
+pub named_too : (o : Option (String Global)) (t : Text) → text_is o t ≡ true → is_some o ≡ true
+named_too None t h = let wrong : ⊥ = cc in absurd wrong
+named_too (Some s) t h = refl
