@@ -31,6 +31,7 @@ is_named_form (Form.flags_of _) = true
 is_named_form (Form.enum_of _) = true
 is_named_form _ = false
 
+-- the labels in a form: names of fields, cases or flags
 abbrev pub form_labels : Form → List Text
 form_labels (Form.record_of names) = names
 form_labels (Form.variant_of cases) = map (λ c. c.0) cases
@@ -45,6 +46,7 @@ abbrev mutual
   is_part place (Tree.named q name) = same_place place q
   is_part place (Tree.node form ts) = not (is_named_form form) && are_parts place ts
 
+  -- whether types may be parts of another, each of them
   pub are_parts : Place → Trees → Bool
   are_parts place Trees.no_children = true
   are_parts place (Trees.child t ts) = is_part place t && are_parts place ts
@@ -62,21 +64,25 @@ is_declared place (Declaration.type_ (Tree.node form ts)) = are_labels (form_lab
 
 -- ---- functions
 
+-- whether a type may be a parameter's: a part of at most 100 unnamed levels
 abbrev pub is_parameter_type : Place → Tree → Bool
 is_parameter_type place t = is_part place t && nat_le (levels t) most_levels
 
+-- whether a function may have this result, or none
 abbrev pub is_result_type : Place → Option Tree → Bool
 is_result_type place None = true
 is_result_type place (Some t) = is_parameter_type place t
 
+-- whether a signature is well-formed: labels that differ, and types that may stand there
 abbrev pub is_signature : Place → Signature → Bool
 is_signature place f =
     are_labels (map (λ p. p.0) f.params) && list_all (λ p. is_parameter_type place p.1) f.params && is_result_type place f.result
 
--- the resource of the name, handed over and lent
+-- an own of the resource of this name
 abbrev pub own_name : Place → Text → Tree
 own_name place name = tree.own_tree (Tree.named place name)
 
+-- a borrow of the resource of this name
 abbrev pub borrow_name : Place → Text → Tree
 borrow_name place name = tree.borrow_tree (Tree.named place name)
 
@@ -89,7 +95,7 @@ abbrev pub begins_with_self : Tree → List (Text × Tree) → Bool
 begins_with_self self [] = false
 begins_with_self self (p ∷ ps) = text_eq p.0 (codes "self") && same_tree p.1 self
 
--- what a constructor answers: the resource, or a result whose ok is the resource
+-- what a constructor answers: an own of the resource, or a result whose ok is one
 abbrev pub constructs : Tree → Option Tree → Bool
 constructs own None = false
 constructs own (Some (Tree.node (Form.result_of true err) (Trees.child t ts))) = same_tree t own
@@ -102,16 +108,18 @@ is_function_of place name f resource =
     || (is_label_behind (method_name resource []) name && begins_with_self (borrow_name place resource) f.params)
     || is_label_behind (static_name resource []) name
 
--- A function whose resource is one of these, or that has none
+-- A function that is freestanding, or whose resource is one of these.
 abbrev pub is_function : Place → List Text → Text → Signature → Bool
 is_function place resources name f = is_signature place f && (is_label name || list_any (is_function_of place name f) resources)
 
 -- ---- interfaces
 
+-- whether a name is declared as a resource
 abbrev pub is_resource : Declaration → Bool
 is_resource Declaration.resource = true
 is_resource (Declaration.type_ t) = false
 
+-- the names of the resources among the types of an interface
 abbrev pub resources_of : List ShownType → List Text
 resources_of [] = []
 resources_of (t ∷ ts) = if is_resource t.meaning.declaration then t.name ∷ resources_of ts else resources_of ts
@@ -125,20 +133,22 @@ is_interface place view =
 
 -- ---- what uses what
 
--- the other interface of whose name the declaration is another name
+-- the path of the interface whose type a declaration aliases
 abbrev pub used_by : Declaration → List Text
 used_by (Declaration.type_ (Tree.named (Place.of_interface path) name)) = path ∷ []
 used_by _ = []
 
+-- the paths of the interfaces whose types the types of a view alias
 abbrev pub used_by_view : View → List Text
 used_by_view view = flat_map (λ t. used_by t.meaning.declaration) view.types
 
--- the interfaces that an import or an export uses, itself not counted
+-- these paths without an interface's own
 abbrev pub others_than : Option Text → List Text → List Text
 others_than None paths = paths
 others_than (Some own) [] = []
 others_than (Some own) (p ∷ ps) = if text_eq own p then others_than (Some own) ps else p ∷ others_than (Some own) ps
 
+-- the interfaces that an import or an export uses, its own not counted
 abbrev pub uses : Seen → List Text
 uses seen = uses_of seen.shown
   where
@@ -160,6 +170,7 @@ abbrev pub stand_earlier : List Text → List Seen → Bool
 stand_earlier earlier [] = true
 stand_earlier earlier (s ∷ rest) = list_all (λ p. list_any (text_eq p) earlier) (uses s) && stand_earlier (earlier ++ path_seen s.shown) rest
 
+-- the resources that a world's imports declare, by name
 abbrev pub resources_seen : List Seen → List Text
 resources_seen [] = []
 resources_seen (s ∷ rest) = if is_resource_seen s.shown then s.key ∷ resources_seen rest else resources_seen rest
@@ -168,12 +179,13 @@ resources_seen (s ∷ rest) = if is_resource_seen s.shown then s.key ∷ resourc
     is_resource_seen (Shown.declares d) = is_resource d
     is_resource_seen _ = false
 
--- an import or an export of a world, behind these imports
+-- whether an import or an export of a world is well-formed, where these resources were imported before it
 abbrev pub is_item : List Text → Text → Shown → Bool
 is_item resources key (Shown.instance k view) = is_interface (place_of (interface_of k)) view
 is_item resources key (Shown.function f) = is_function Place.here resources key f
 is_item resources key (Shown.declares d) = is_label key && is_declared Place.here d
 
+-- whether each import of a world is well-formed, behind those before it
 abbrev pub are_imports : List Seen → List Seen → Bool
 are_imports earlier [] = true
 are_imports earlier (s ∷ rest) = is_item (resources_seen earlier) s.key s.shown && are_imports (earlier ++ s ∷ []) rest

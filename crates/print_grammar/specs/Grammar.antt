@@ -122,14 +122,16 @@ pub data ReadsUsedName : List Token → UsedName → List Token → Type 0 where
 pub data ReadsUse : List Token → PathTree → List UsedName → List Token → Type 0 where
   use_names : {before between after : List Token} {path : PathTree} {names : List UsedName} → ReadsPath before path (Punctuation Dot ∷ Punctuation OpenBrace ∷ between) → Listed ReadsUsedName (Punctuation CloseBrace) between names (Punctuation Semi ∷ after) → ReadsUse (Key Keyword.Use ∷ before) path names after
 
--- a record's field, a variant's case, a flag or a case of an enum
+-- a record's field: id ":" ty
 pub data ReadsField : List Token → FieldTree → List Token → Type 0 where
   field : {t : Token} {label : List ℕ} {before after : List Token} {ty : TypeTree} → IsId t label → ReadsType before ty after → ReadsField (t ∷ Punctuation Colon ∷ before) (record { docs = []; name = label; ty = ty }) after
 
+-- a variant's case: id ["(" ty ")"]
 pub data ReadsCase : List Token → CaseTree → List Token → Type 0 where
   case_alone : {t : Token} {label : List ℕ} {after : List Token} → IsId t label → ReadsCase (t ∷ after) (record { docs = []; name = label; payload = None }) after
   case_of : {t : Token} {label : List ℕ} {before after : List Token} {ty : TypeTree} → IsId t label → ReadsType before ty (Punctuation CloseParen ∷ after) → ReadsCase (t ∷ Punctuation OpenParen ∷ before) (record { docs = []; name = label; payload = Some ty }) after
 
+-- a flag, or a case of an enum: id
 pub data ReadsLabel : List Token → LabelTree → List Token → Type 0 where
   label : {t : Token} {text : List ℕ} {after : List Token} → IsId t text → ReadsLabel (t ∷ after) (record { docs = []; name = text }) after
 

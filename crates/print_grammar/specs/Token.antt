@@ -12,9 +12,11 @@ use Rattle.print_grammar.specs.Keyword.{Keyword, keyword_of}
 use Rattle.print_grammar.specs.Keyword.Keyword.{Underscore}
 use Rattle.print_grammar.specs.Calls.{is_plain}
 
+-- The punctuation of WIT text.
 pub data Mark : Type 0 where
   OpenBrace CloseBrace OpenParen CloseParen Less Greater Colon Semi Comma Dot Equals Slash At Arrow : Mark
 
+-- A token of WIT text.
 pub data Token : Type 0 where
   -- a label that is no keyword
   Word : List ℕ → Token
@@ -38,6 +40,7 @@ abbrev pub are_three_numerals : List (List ℕ) → Bool
 are_three_numerals (major ∷ minor ∷ patch ∷ []) = is_numeral major && (is_numeral minor && is_numeral patch)
 are_three_numerals texts = false
 
+-- whether a text is a version core: three numerals with dots between
 abbrev pub is_version_core : List ℕ → Bool
 is_version_core text = are_three_numerals (parts text)
 
@@ -61,11 +64,13 @@ pub data StringState : Type 0 where
   Between AfterBackslash AfterU AfterBrace : StringState
   InCode : ℕ → StringState
 
+-- What a character of a string leads to: a refusal, the end, another place, or a character that is read.
 pub data StringStep : Type 0 where
   Refused Closed : StringStep
   Goes : StringState → StringStep
   Reads : ℕ → StringStep
 
+-- what the character after `\` leads to
 abbrev pub escape_step : ℕ → StringStep
 escape_step c =
     if c == 92 then Reads 92
@@ -79,6 +84,7 @@ escape_step c =
 abbrev pub hexadecimal : ℕ → Option ℕ
 hexadecimal c = if is_ascii_digit c then Some (c - 48) else (if nat_le 97 c && nat_le c 102 then Some (c - 87) else None)
 
+-- a code's digits so far, and one more; the code is read as a number
 abbrev pub code_step : ℕ → Option ℕ → StringStep
 code_step front (Some d) = Goes (InCode (16 * front + d))
 code_step front None = Refused
@@ -87,7 +93,7 @@ code_step front None = Refused
 abbrev pub end_step : ℕ → StringStep
 end_step front = if scalar front then Reads front else Refused
 
--- A code has one digit at least.
+-- What a character leads to, where a string is read. A code has one digit at least.
 abbrev pub string_step : StringState → ℕ → StringStep
 string_step Between c = if c == 34 then Closed else (if c == 92 then Goes AfterBackslash else (if is_plain c then Reads c else Refused))
 string_step AfterBackslash c = escape_step c
@@ -202,10 +208,12 @@ pub data Front : Type 0 where
   -- nothing that may stand there
   Unknown : Front
 
+-- what stands at the front of a text, by the longest token that begins there
 abbrev pub found : Option Taken → Front
 found None = Unknown
 found (Some taken) = Found taken.token taken.rest
 
+-- what stands at the front of a text: its end, a blank, a comment, a token, or nothing that may
 abbrev pub front_of_text : List ℕ → Front
 front_of_text [] = Ended
 front_of_text (c ∷ cs) =

@@ -34,6 +34,7 @@ pub record Compatible (r : Resolve) (prev new : World) : Type 0 where
 abbrev pub package_name : Resolve → World → Option PackageIdentity
 package_name r w = option_map (λ p. bare_identity p.name) (package_of_world r w)
 
+-- the keys of imports or exports, without version
 abbrev pub bare_keys : Resolve → List (WorldKey × WorldItem) → List Text
 bare_keys r es = map (λ e. bare_key r e.0) es
 
