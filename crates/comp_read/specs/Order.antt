@@ -58,6 +58,7 @@ shown_under m = of_part m.part
     of_part (world scope) = map (λ i. i.interface) scope.instances
     of_part (interface exported imports) = map (λ i. Some i.0) imports ++ Some (path_in m.package_ m.label) ∷ []
 
+-- whether an interface is shown under this path
 abbrev pub is_under : Text → Option Text → Bool
 is_under path o = option_map_or (text_eq path) o false
 
@@ -79,6 +80,7 @@ functions_shown members path = map (λ f. f.0) (functions_of path (flat_map sigh
 abbrev pub worlds_shown : List Member → List Text
 worlds_shown members = map (λ w. w.0) (flat_map worlds_of members)
 
+-- the names of an interface's functions, in their order
 abbrev pub function_names : Interface → List Text
 function_names i = map (λ e. text_of e.0) i.functions.entries
 

@@ -4,6 +4,7 @@ use Rattle.std.specs.Prelude.{◌≡◌, ℕ, ◌+◌, Bool, true, false, if◌t
 use Rattle.std.specs.List.{list_all}
 use Rattle.comp_meaning.specs.Follow.{Seen, Shown}
 
+-- whether an import is a type
 abbrev pub is_type_shown : Shown → Bool
 is_type_shown (Shown.instance key view) = false
 is_type_shown (Shown.function f) = false

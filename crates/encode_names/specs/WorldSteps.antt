@@ -33,6 +33,7 @@ use Rattle.encode_names.specs.Rebuilt.{others_seen, types_seen}
 
 -- ---- imports and exports so far
 
+-- an import or an export of a world, under its key
 abbrev pub Entry : Type 0
 Entry = WorldKey × WorldItem
 

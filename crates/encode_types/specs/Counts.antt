@@ -43,6 +43,7 @@ type_more_if b i d = cond b (one_type_more i d) d
 abbrev pub is_defined_under_name : Scope → TypeDef → Bool
 is_defined_under_name scope def = is_none (foreign_owner scope.own_interface def.owner) && (is_some def.name && has_definition def.kind)
 
+-- whether the type of this number is such a type
 abbrev pub is_defined_by_name : Resolve → Scope → ℕ → Bool
 is_defined_by_name r scope n = option_map_or (is_defined_under_name scope) (type_at r n) false
 
@@ -62,6 +63,7 @@ pub record ExportsOne (scope : Scope) (d d' : Definitions) (slot : Option ℕ) (
 abbrev pub name_of_own : Scope → TypeDef → Option Text
 name_of_own scope def = cond (is_none (foreign_owner scope.own_interface def.owner)) (option_map text_of def.name) None
 
+-- the name of the type of this number, where it is a named one of the place
 abbrev pub own_name : Resolve → Scope → ℕ → Option Text
 own_name r scope n = option_and_then (name_of_own scope) (type_at r n)
 
@@ -92,12 +94,15 @@ pub record AddsKey (m m' : TypeEncodingMaps) (key : FunctionKey) (i : ℕ) : Typ
 abbrev pub Marked : Type 0
 Marked = List (Bool × ℕ)
 
+-- these slots, without marks
 abbrev pub slots_of : Marked → List ℕ
 slots_of xs = map (λ x. x.1) xs
 
+-- the slots that are marked
 abbrev pub named_slots : Marked → List ℕ
 named_slots xs = slots_of (filter (λ x. x.0) xs)
 
+-- the slots that aren't marked
 abbrev pub other_slots : Marked → List ℕ
 other_slots xs = slots_of (filter (λ x. not x.0) xs)
 

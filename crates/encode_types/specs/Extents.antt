@@ -24,6 +24,7 @@ use Rattle.encode_types.specs.Scope.{exported_name}
 abbrev pub labels_extent : List Text → ℕ
 labels_extent labels = sum_by (λ label. 16 + length label) labels
 
+-- what a form takes beside its first byte and its parts: its labels
 abbrev pub form_extent : Form → List Tree → ℕ
 form_extent (record_of labels) ts = labels_extent labels
 form_extent (variant_of cases) ts = labels_extent (map (λ c. c.0) cases)
@@ -42,6 +43,7 @@ tree_extent (node form ts) = 16 + form_extent form (child_list ts)
 abbrev pub signature_extent : Signature → ℕ
 signature_extent s = 16 + labels_extent (map (λ p. p.0) s.params)
 
+-- the length of a text, and 0 where there is none
 abbrev pub given_length : Option Text → ℕ
 given_length text = option_map_or length text 0
 

@@ -25,6 +25,7 @@ same_type = type_eq.ghosts.eq
 abbrev pub same_param : Param → Param → Bool
 same_param p q = text_eq (text_of p.name) (text_of q.name) && same_type p.ty q.ty
 
+-- whether two functions have the same parameters, in order
 abbrev pub same_params : ParamSignatures → ParamSignatures → Bool
 same_params a b = pointwise same_param a.0.now b.0.now
 

@@ -18,6 +18,7 @@ use Rattle.encode_types.specs.declared.plan.Order.{Order}
 use Rattle.encode_types.specs.Kinds.{parts_of}
 use Rattle.encode_types.specs.Maps.{IsKnown}
 
+-- whether the interface of a scope, if it has one, is this one
 abbrev pub is_interface : Option InterfaceId → InterfaceId → Bool
 is_interface None i = false
 is_interface (Some j) i = nat_eq j.0 i.0
@@ -46,9 +47,11 @@ MetFrom r own m ts n = (t : ValueType) × Contains ts t × Meets r own m t n
 pub record IsLayered (r : Resolve) : Type 0 where
   pub smaller : (n : ℕ) (def : TypeDef) → type_at r n ≡ Some def → list_all (λ m. nat_lt m n) (kind_numbers def.kind) ≡ true
 
+-- a type is a primitive, or its number is in range
 abbrev pub InRange : Resolve → ValueType → Type 0
 InRange r t = (id : TypeId) → t ≡ ty.Id id → id.0 < length r.types.items
 
+-- each of these types is a primitive, or its number is in range
 abbrev pub AllInRange : Resolve → List ValueType → Type 0
 AllInRange r ts = (t : ValueType) → Contains ts t → InRange r t
 

@@ -41,6 +41,7 @@ Refusals = Request → Type 0
 
 -- ---- which requests fit: the counts and the lengths of their labels are numbers of 32 bits
 
+-- whether the counts and the labels of a form fit
 abbrev pub fits_form : Form → List Tree → Bool
 fits_form (record_of labels) ts = fits_names labels
 fits_form (variant_of cases) ts = fits_names (map (λ c. c.0) cases)
@@ -59,12 +60,14 @@ fits_tree (node form ts) = fits_form form (child_list ts)
 abbrev pub fits_type_name : Resolve → ℕ → Bool
 fits_type_name r n = option_map_or (λ def. fits_given (optional_text def.name)) (type_at r n) true
 
+-- whether the counts and the labels of what is asked for fit
 abbrev pub fits_request : Resolve → Request → Bool
 fits_request r (value_type t) = fits_tree t
 fits_request r (function_type s) = fits_names (map (λ p. p.0) s.params)
 fits_request r (export_name name) = fits_name name
 fits_request r (import_of n) = fits_type_name r n
 
+-- a request has no room because it doesn't fit itself
 abbrev pub IsUnfit : Resolve → Refusals
 IsUnfit r request = fits_request r request ≡ false
 
@@ -93,6 +96,7 @@ function_requests r f = function_type (signature_of r f.1) ∷ export_name (func
 abbrev pub number_count : Resolve → Option InterfaceId → ℕ → ℕ
 number_count r own n = cond (has_own_definition r own n) 2 1
 
+-- how many declarations these type numbers take
 abbrev pub numbers_count : Resolve → Option InterfaceId → List ℕ → ℕ
 numbers_count r own numbers = sum_by (number_count r own) numbers
 
@@ -104,6 +108,7 @@ functions_count fs = distinct_count are_same (map (λ f. key_of f.1) fs) + lengt
 abbrev pub unnamed_kind : Resolve → Option InterfaceId → ℕ → Option TypeDefKind
 unnamed_kind r own n = option_and_then (λ def. cond (is_none def.name && is_none (foreign_owner own def.owner)) (Some def.kind) None) (type_at r n)
 
+-- whether both are unnamed kinds, and the same
 abbrev pub are_one_kind : Option TypeDefKind → Option TypeDefKind → Bool
 are_one_kind (Some a) (Some b) = same_kind a b
 are_one_kind _ _ = false
@@ -112,6 +117,7 @@ are_one_kind _ _ = false
 abbrev pub share_declarations : Resolve → Option InterfaceId → ℕ → ℕ → Bool
 share_declarations r own x y = nat_eq x y || are_one_kind (unnamed_kind r own x) (unnamed_kind r own y)
 
+-- no two of these type numbers have the same declarations
 abbrev pub AreApart : Resolve → Option InterfaceId → List ℕ → Type 0
 AreApart r own numbers = AllPairs (λ x y. share_declarations r own x y ≡ false) numbers
 

@@ -160,10 +160,11 @@ AllItemsInRange r es = (e : BorrowedEntry) → Contains es e → item_in_range r
 
 -- ---- a comparison of many places
 
--- the first `Resolve` of a comparison, and the second
+-- the first `Resolve` of a comparison
 abbrev pub first_of : Senses → Resolve
 first_of s = s.left.resolve.now
 
+-- the second `Resolve` of a comparison
 abbrev pub second_of : Senses → Resolve
 second_of s = s.right.resolve.now
 

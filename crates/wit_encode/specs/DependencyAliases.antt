@@ -17,17 +17,19 @@ use Rattle.wit_encode.specs.Instance.{whole_interface, types_alone_of}
 
 -- ---- what stands there
 
--- the aliases among the declarations at the first level, in order
+-- the alias that a declaration is, if it is one
 abbrev pub alias_in : Declaration → List Alias
 alias_in (Declaration.alias_of a) = a ∷ []
 alias_in _ = []
 
+-- the aliases among declarations at the first level, in order
 abbrev pub aliases_declared : Declarations → List Alias
 aliases_declared Declarations.no_more = []
 aliases_declared (Declarations.declares d rest) = alias_in d ++ aliases_declared rest
 aliases_declared (Declarations.component inner rest) = aliases_declared rest
 aliases_declared (Declarations.instance inner rest) = aliases_declared rest
 
+-- an alias in its raw form: of an instance's export
 abbrev pub export_alias : Aliased → Alias
 export_alias a = Alias.of_export a.instance a.name
 

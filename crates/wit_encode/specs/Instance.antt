@@ -53,6 +53,7 @@ use Rattle.encode_types.specs.MetKinds.{referred}
 
 -- ---- what has been declared in a scope
 
+-- What has been declared in a scope: its slots, what it shows, whether it can be followed, and which slots define what.
 pub record Contents : Type 0 where
   pub slots : List Slot
   pub shown : View
@@ -62,6 +63,7 @@ pub record Contents : Type 0 where
   pub exported : List ℕ
   pub functions : List ℕ
 
+-- the view of nothing
 abbrev pub no_view : View
 no_view = record { types = []; functions = [] }
 
@@ -83,10 +85,11 @@ outer_contents outer = record {
   functions = function_slots outer;
 }
 
+-- the declarations of an instance type, followed in the component type around it
 abbrev pub inner_scope : Place → Declarations → List Declaration → Option InstanceScope
 inner_scope place outer ds = instance_steps place (outer_slots outer) new_instance ds
 
--- of the instance type in it
+-- what has been declared in the instance type
 unfoldable pub inner_contents : Place → Declarations → List Declaration → Contents
 inner_contents place outer ds = record {
   slots = option_map_or (λ s. s.slots) (inner_scope place outer ds) [];
@@ -238,6 +241,7 @@ keyed e = (text_of e.0, e.1)
 abbrev pub placed_function : ℕ × Bor (String Global) × Bor Function → Text × Function
 placed_function f = (text_of f.1.now, f.2.now)
 
+-- a function under its name, as what it means
 abbrev pub meaning_of : Resolve → Text × Function → Text × FunctionMeaning
 meaning_of r f = (f.0, function_meaning r f.1)
 
@@ -253,10 +257,11 @@ pub record IsInstance (r : Resolve) (outer : Declarations) (i : InterfaceId) (ds
   pub shows : view.functions ≡ functions
   pub types : view.types ≡ option_map_or (types_of r i.0) (interface_at r i.0) []
 
--- what an interface refers to: its types, and those of its functions, or its types alone
+-- what the types and the functions of an interface refer to
 abbrev pub whole_interface : Interface → List ValueType
 whole_interface def = referred (values def.types) (values def.functions)
 
+-- what the types of an interface refer to, without its functions
 abbrev pub types_alone_of : Interface → List ValueType
 types_alone_of def = referred (values def.types) []
 

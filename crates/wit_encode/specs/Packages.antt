@@ -137,6 +137,7 @@ WrapsWorldAt r canonical p n declared = (w : World) → world_at r n ≡ Some w 
 abbrev pub HasNoClashAt : Resolve → ℕ → Type 0
 HasNoClashAt r n = (w : World) → world_at r n ≡ Some w → HasNoClash r w
 
+-- none of these worlds has two imports or two exports of one canonical name
 abbrev pub HaveNoClash : Resolve → List ListedWorld → Type 0
 HaveNoClash r entries = (e : ListedWorld) → Contains entries e → HasNoClashAt r e.1.0
 
@@ -184,6 +185,7 @@ pub data RefusesPackage (r : Resolve) (p : Package) (canonical : Bool) (e : Erro
 abbrev pub HasMembers : Package → Type 0
 HasMembers p = (is_filled p.interfaces.entries || is_filled p.worlds.entries) ≡ true
 
+-- no interface and no world stands in the package
 abbrev pub HasNoMembers : Package → Type 0
 HasNoMembers p = (is_filled p.interfaces.entries || is_filled p.worlds.entries) ≡ false
 
@@ -191,6 +193,7 @@ HasNoMembers p = (is_filled p.interfaces.entries || is_filled p.worlds.entries) 
 abbrev pub MeansPackage : Resolve → ℕ → List ℕ → Type 0
 MeansPackage r n bytes = (m : PackageMeaning) → Meant r n m ↔ Reads bytes m
 
+-- whether a part of a component is a custom section
 abbrev pub is_custom : Part → Bool
 is_custom (Part.top_type t) = false
 is_custom (Part.top_export e) = false

@@ -21,6 +21,7 @@ use Rattle.wit_encode.specs.OwnerScope.{IsScopeOf}
 use Rattle.wit_encode.specs.Worlds.{WorldEncoder, world_around, world_encoder_view}
 use Rattle.wit_encode.specs.WrittenBytes.{AddsBytes, whole_extent}
 
+-- an encoder of an interface, over an encoder of a world
 abbrev pub InterfaceEncoder : Type 0
 InterfaceEncoder = InterfaceEncoderOf WorldEncoder
 
@@ -94,10 +95,11 @@ pub record LeavesInterfaces (e e' : InterfaceEncoder) : Type 0 where
 abbrev pub EncodesInterfaceAs : InterfaceEncoder → InterfaceEncoder → InterfaceId → ℕ → Type 0
 EncodesInterfaceAs e e' i k = (def : Interface) → interface_at (packages_of e) i.0 ≡ Some def → EncodesInterface (packages_of e) (component_of e) (component_of e') i def k
 
--- nothing is new but aliases of types of other interfaces that are met from an interface, or from its types alone
+-- nothing is new but aliases of types of other interfaces that are met from the interface
 abbrev pub AddsAliases : InterfaceEncoder → InterfaceEncoder → InterfaceId → Type 0
 AddsAliases e e' i = AliasesFor (packages_of e) i (component_of e) (component_of e')
 
+-- nothing is new but aliases of types of other interfaces that are met from the interface's types
 abbrev pub AddsAliasesForTypes : InterfaceEncoder → InterfaceEncoder → InterfaceId → Type 0
 AddsAliasesForTypes e e' i = AliasesForTypes (packages_of e) i (component_of e) (component_of e')
 

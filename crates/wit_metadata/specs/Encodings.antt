@@ -4,6 +4,7 @@ use Rattle.wit_model.specs.declared.model.StringEncoding.{StringEncoding}
 use Rattle.wit_model.specs.declared.model.StringEncoding.TheVariants as encodings
 use Rattle.wit_model.specs.Text.{Text}
 
+-- the byte that stands for a string encoding
 abbrev pub code_of : StringEncoding → ℕ
 code_of encodings.UTF8 = 0
 code_of encodings.UTF16 = 1
