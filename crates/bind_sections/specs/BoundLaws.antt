@@ -30,7 +30,7 @@ SectionsMeanOnce = (d : List ℕ) (m n : WorldPackage) (e f : StringEncoding) �
 abbrev pub SectionsAreBindings : Type 0
 SectionsAreBindings = (d : List ℕ) (m : WorldPackage) (e : StringEncoding) → SectionMeans d m e → IsBinding (binding_of_world m e)
 
--- So is what a module binds.
+-- What a module binds is a binding.
 abbrev pub BoundAreBindings : Type 0
 BoundAreBindings = (input : List ℕ) (c : Binding) → IsBound input c → IsBinding c
 

@@ -26,16 +26,16 @@ pub record Top : Type 0 where
   pub slots : List ℕ
   pub exported : List (Text × ℕ)
 
--- each type is a component type
+-- a type at the top, which has to be a component type
 abbrev pub top_type : Top → TopType → Option Top
 top_type top (TopType.component ds) = Some (record { types = top.types ++ ds ∷ []; slots = top.slots ++ length top.types ∷ []; exported = top.exported })
 top_type top _ = None
 
--- a name with no attribute
+-- whether a name has no attribute
 abbrev pub is_bare : ExternName → Bool
 is_bare name = is_none name.implements && (is_none name.version_suffix && is_none name.external_id)
 
--- each export has a label, and exports a type that none has exported
+-- an export at the top: it has a label, and exports a type that none before it has exported
 abbrev pub top_export : Top → TopExport → Option Top
 top_export top e =
     slice_get top.slots e.type_index >>= λ n.
@@ -90,7 +90,7 @@ exported_view (seen ∷ []) = export_of seen.shown
     export_of _ = None
 exported_view _ = None
 
--- Each import is used by a later one or by the export. Since one uses only earlier ones, the export reaches them all, and only them.
+-- Whether each import is used by a later one or by the export. Since one uses only earlier ones, the export reaches them all, and only them.
 abbrev pub are_reached : List (Text × View) → View → Bool
 are_reached [] exported = true
 are_reached (i ∷ later) exported =
@@ -168,7 +168,7 @@ same_shown a b = text_eq a.name b.name && same_type a.meaning b.meaning
 abbrev pub same_functions : List (Text × FunctionMeaning) → List (Text × FunctionMeaning) → Bool
 same_functions xs ys = length xs == length ys && stand_in same_function xs ys
 
--- Two views of one path agree: in their types, in order, and in their functions if both show them.
+-- Whether two views of one path agree: in their types, in order, and in their functions if both show them.
 abbrev pub agree : Sight → Sight → Bool
 agree a b =
     not (text_eq a.path b.path)
@@ -179,7 +179,7 @@ abbrev pub all_agree : List Sight → Bool
 all_agree [] = true
 all_agree (s ∷ rest) = list_all (agree s) rest && all_agree rest
 
--- each interface that is seen may be one
+-- whether each interface that is seen is well-formed
 abbrev pub are_interfaces : List Sight → Bool
 are_interfaces seen = list_all (λ s. is_interface (Place.of_interface s.path) s.view) seen
 
@@ -243,7 +243,7 @@ is_of package_ path = of_read (read_path path)
     of_read None = false
     of_read (Some p) = same_identity package_ p.0
 
--- an interface of the package that is seen stands at the top
+-- whether an interface that is seen stands at the top, if it is one of the package
 abbrev pub stands_at_top : PackageIdentity → List Member → Sight → Bool
 stands_at_top package_ members s =
     not (is_of package_ s.path) || list_any (λ m. is_interface_part m.part && text_eq s.path (path_in package_ m.label)) members

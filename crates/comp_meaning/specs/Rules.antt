@@ -12,18 +12,18 @@ use Rattle.comp_meaning.specs.Follow.{View, ShownType, Seen, Shown, Key, Scope, 
 
 -- ---- names
 
--- no text stands twice
+-- whether no text stands twice
 abbrev pub distinct : List Text → Bool
 distinct [] = true
 distinct (x ∷ xs) = not (list_any (text_eq x) xs) && distinct xs
 
--- labels, none twice
+-- whether these are labels, of which none stands twice
 abbrev pub are_labels : List Text → Bool
 are_labels names = list_all is_label names && distinct names
 
 -- ---- types
 
--- a form that only a named type has
+-- whether only a named type may have this form
 abbrev pub is_named_form : Form → Bool
 is_named_form (Form.record_of _) = true
 is_named_form (Form.variant_of _) = true
@@ -39,7 +39,7 @@ form_labels (Form.flags_of names) = names
 form_labels (Form.enum_of names) = names
 form_labels _ = []
 
--- A type as a part of another, or of a function: the names in it are of the place, and records, variants, flags and enums are named.
+-- Whether a type may be a part of another, or of a function: names in it are of this place, and records, variants, flags and enums are named.
 abbrev mutual
   pub is_part : Place → Tree → Bool
   is_part place (Tree.primitive p) = true
@@ -55,7 +55,7 @@ abbrev mutual
 abbrev pub most_levels : ℕ
 most_levels = 100
 
--- What a name may be declared as: a resource, a primitive, another name, also of another interface, or a form.
+-- Whether a name may be declared so: as a resource, a primitive, another name, also of another interface, or a form.
 abbrev pub is_declared : Place → Declaration → Bool
 is_declared place Declaration.resource = true
 is_declared place (Declaration.type_ (Tree.primitive p)) = true
@@ -86,29 +86,29 @@ own_name place name = tree.own_tree (Tree.named place name)
 abbrev pub borrow_name : Place → Text → Tree
 borrow_name place name = tree.borrow_tree (Tree.named place name)
 
--- a label behind the front
+-- whether a name is this prefix and then a label
 abbrev pub is_label_behind : Text → Text → Bool
 is_label_behind front name = starts_with nat_eq name front && is_label (drop (length front) name)
 
--- the first parameter of a method
+-- whether the first parameter is `self`, of this type
 abbrev pub begins_with_self : Tree → List (Text × Tree) → Bool
 begins_with_self self [] = false
 begins_with_self self (p ∷ ps) = text_eq p.0 (codes "self") && same_tree p.1 self
 
--- what a constructor answers: an own of the resource, or a result whose ok is one
+-- whether a constructor may answer this: an own of the resource, or a result whose ok is one
 abbrev pub constructs : Tree → Option Tree → Bool
 constructs own None = false
 constructs own (Some (Tree.node (Form.result_of true err) (Trees.child t ts))) = same_tree t own
 constructs own (Some t) = same_tree t own
 
--- A function of the resource: `[constructor]r`, which is not asynchronous, `[method]r.f` or `[static]r.f`, with a label f.
+-- Whether a function is one of the resource: `[constructor]r`, which is not asynchronous, `[method]r.f` or `[static]r.f`, with a label f.
 abbrev pub is_function_of : Place → Text → Signature → Text → Bool
 is_function_of place name f resource =
     (text_eq name (constructor_name resource) && not f.is_async && constructs (own_name place resource) f.result)
     || (is_label_behind (method_name resource []) name && begins_with_self (borrow_name place resource) f.params)
     || is_label_behind (static_name resource []) name
 
--- A function that is freestanding, or whose resource is one of these.
+-- Whether a function is well-formed: it is freestanding, or one of these resources has it.
 abbrev pub is_function : Place → List Text → Text → Signature → Bool
 is_function place resources name f = is_signature place f && (is_label name || list_any (is_function_of place name f) resources)
 
@@ -124,7 +124,7 @@ abbrev pub resources_of : List ShownType → List Text
 resources_of [] = []
 resources_of (t ∷ ts) = if is_resource t.meaning.declaration then t.name ∷ resources_of ts else resources_of ts
 
--- what an interface whose names stand in the place may have
+-- whether the types and the functions of a view are well-formed, and their names are of this place and differ
 abbrev pub is_interface : Place → View → Bool
 is_interface place view =
     list_all (λ t. is_label t.name && is_declared place t.meaning.declaration) view.types
@@ -165,7 +165,7 @@ path_seen (Shown.instance (Key.path p) view) = p ∷ []
 path_seen (Shown.instance (Key.implementing l p) view) = p ∷ []
 path_seen _ = []
 
--- each interface that is used stands earlier
+-- whether each interface that an import or an export uses stands earlier
 abbrev pub stand_earlier : List Text → List Seen → Bool
 stand_earlier earlier [] = true
 stand_earlier earlier (s ∷ rest) = list_all (λ p. list_any (text_eq p) earlier) (uses s) && stand_earlier (earlier ++ path_seen s.shown) rest
@@ -190,7 +190,7 @@ abbrev pub are_imports : List Seen → List Seen → Bool
 are_imports earlier [] = true
 are_imports earlier (s ∷ rest) = is_item (resources_seen earlier) s.key s.shown && are_imports (earlier ++ s ∷ []) rest
 
--- what a world may have
+-- whether the imports and the exports of a world are well-formed, and what they use stands before them
 abbrev pub is_world : Scope → Bool
 is_world scope =
     are_imports [] scope.imports

@@ -18,7 +18,7 @@ use Rattle.comp_meaning.specs.Follow.{each}
 use Rattle.comp_meaning.specs.Reads.{Member, Part, exported_types, functions_of, interface, member, sights, world, worlds_of}
 use Rattle.plan_meaning.specs.Plan.{Plan, PlannedPackage, numbers_of}
 
--- each number is smaller than those behind it
+-- whether each number is smaller than those behind it
 abbrev pub rise : List ℕ → Bool
 rise [] = true
 rise (n ∷ ns) = list_all (nat_lt n) ns && rise ns
@@ -27,11 +27,11 @@ rise (n ∷ ns) = list_all (nat_lt n) ns && rise ns
 abbrev pub numbers_in : Package → List ℕ
 numbers_in q = map (λ id. id.0) (values q.interfaces)
 
--- Each package lists its interfaces in the order of their numbers,
+-- Each package lists its interfaces in the order of their numbers.
 abbrev pub ListByNumber : Resolve → Type 0
 ListByNumber r = (k : ℕ) (q : Package) → package_at r k ≡ Some q → rise (numbers_in q) ≡ true
 
--- or each but the one of this number.
+-- Each package but the one of this number lists its interfaces in the order of their numbers.
 abbrev pub OthersListByNumber : Resolve → ℕ → Type 0
 OthersListByNumber r n = (k : ℕ) (q : Package) → (k ≡ n → ⊥) → package_at r k ≡ Some q → rise (numbers_in q) ≡ true
 

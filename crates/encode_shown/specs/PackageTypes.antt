@@ -1,4 +1,4 @@
--- The component types of a package, each under its label, that show the package where their indexes are followed.
+-- The component types of a package, each under its label, that show the package where their indexes are followed (Component Model WIT.md, "Package Format").
 use Rattle.std.specs.Prelude.{◌≡◌, ℕ, zero, List, ◌++◌, Some, None, String}
 use Rattle.std.specs.List.{AllZip}
 use Rattle.std.specs.declared.alloc.Global.{Global}

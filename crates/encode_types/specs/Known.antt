@@ -42,11 +42,11 @@ pub record Around : Type 0 where
 abbrev pub no_around : Around
 no_around = record { declared = Declarations.no_more; instances = []; known = [] }
 
--- the instance of an interface
+-- the instance of an interface, if one is listed
 abbrev pub known_instance : List (ℕ × ℕ) → ℕ → Option ℕ
 known_instance instances i = lookup (is_at (nat_cmp i)) instances
 
--- the slot of a type number
+-- the slot of a type number, if one is listed
 abbrev pub known_slot : List (ℕ × ℕ) → ℕ → Option ℕ
 known_slot known n = lookup (is_at (nat_cmp n)) known
 
@@ -70,7 +70,7 @@ is_slot_for r n slot = option_map_or (is_known_as (named_resources r) (number_tr
 abbrev pub is_named_of : ℕ → TypeDef → Bool
 is_named_of i def = same_owner (owner.Interface (record { 0 = i })) def.owner && is_some def.name
 
--- an instance of a named interface
+-- whether an instance is one of the named interface of this path
 abbrev pub is_instance_of : Option Text → Instance → Bool
 is_instance_of path instance = option_map_or (λ p. option_map_or (text_eq p) instance.interface false) path false
 
@@ -171,7 +171,7 @@ pub record IsSource (r : Resolve) (around : Around) (i n : ℕ) : Type 0 where
   pub owned : def.owner ≡ owner.Interface (record { 0 = i })
   pub stands : Contains (standing_instances r around) i
 
--- the same with one alias at most, of this type
+-- Nothing has been declared around but one alias at most, of this type, which had none.
 pub data ReachesAround (r : Resolve) (id : TypeId) (a a' : Around) : Type 0 where
   as_before : a' ≡ a → ReachesAround r id a a'
   aliased : (x : Aliased) → IsAlias r a x → x.number ≡ id → a' ≡ with_alias a x → ReachesAround r id a a'

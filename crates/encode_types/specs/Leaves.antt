@@ -43,11 +43,11 @@ LearnsParts r v v' = Learns r v.scope.own_interface v.maps v'.maps
 abbrev pub LacksRoom : Resolve → List ValueType → List Request → View → View → Type 0
 LacksRoom r ts requests v v' = FindsNoRoom r v.scope.own_interface ts requests (length requests) v.maps v.held v'.held v'.lacks_room
 
--- the same of the parts of a kind and its definition
+-- a part of a kind, or its definition, has no room, and no more is held than was and what they take
 abbrev pub KindLacksRoom : Resolve → TypeDefKind → View → View → Type 0
 KindLacksRoom r kind v v' = LacksRoom r (parts_of kind) (value_type (kind_tree r kind) ∷ []) v v'
 
--- the same of the types of a function and its own, where the maps lacked its key
+-- the types of a function, or its own type, have no room, where the maps lacked its key
 pub record FunctionLacksRoom (r : Resolve) (f : Function) (v v' : View) : Type 0 where
   pub new_key : KnowsKey v.maps (key_of f) → ⊥
   pub room : LacksRoom r (function_types f) (function_type (signature_of r f) ∷ []) v v'

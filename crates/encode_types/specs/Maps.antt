@@ -33,7 +33,7 @@ pub data Known : Type 0 where
   by_key : FunctionKey → Known
   by_unit_future by_unit_stream : Known
 
--- a kind and a key are found by their lists
+-- The maps have this index for a type number, a kind, a key, or a future or stream without elements. Kinds and keys are found by their lists.
 abbrev pub Holds : TypeEncodingMaps → Known → ℕ → Type 0
 Holds m (by_number n) i = Contains m.id_to_index.entries (n, i)
 Holds m (by_kind kind) i = (is_named_kind kind ≡ false) × Contains (lists_of m.def_to_index) (kind_code kind, i)

@@ -50,13 +50,13 @@ fits_form (flags_of names) ts = fits_names names
 fits_form (enum_of names) ts = fits_names names
 fits_form _ ts = true
 
--- a tree at its top
+-- whether the counts and the labels of a tree fit, its parts by index
 abbrev pub fits_tree : Tree → Bool
 fits_tree (primitive p) = true
 fits_tree (named place name) = true
 fits_tree (node form ts) = fits_form form (child_list ts)
 
--- the name of a type, by which an alias brings it
+-- whether the name of a type fits, by which an alias brings it
 abbrev pub fits_type_name : Resolve → ℕ → Bool
 fits_type_name r n = option_map_or (λ def. fits_given (optional_text def.name)) (type_at r n) true
 
@@ -85,13 +85,13 @@ LacksRoomBehind r held request = IsUnfit r request ⊎ (limit ≤ held)
 abbrev pub function_name : Text × Function → ExternName
 function_name f = record { text = f.0; implements = None; version_suffix = None; external_id = optional_text f.1.external_id }
 
--- a function of an interface: its type and its name
+-- what a function of an interface asks for: its type and its name
 abbrev pub function_requests : Resolve → Text × Function → List Request
 function_requests r f = function_type (signature_of r f.1) ∷ export_name (function_name f) ∷ []
 
 -- ---- how many declarations they take
 
--- A type number takes two, a definition and its export, where it has a definition of its own under its name. Else it takes one: an alias, an
+-- How many declarations a type number takes: two, a definition and its export, where it has a definition of its own under its name. Else one: an alias, an
 -- export, or the definition of its kind.
 abbrev pub number_count : Resolve → Option InterfaceId → ℕ → ℕ
 number_count r own n = cond (has_own_definition r own n) 2 1
@@ -100,11 +100,11 @@ number_count r own n = cond (has_own_definition r own n) 2 1
 abbrev pub numbers_count : Resolve → Option InterfaceId → List ℕ → ℕ
 numbers_count r own numbers = sum_by (number_count r own) numbers
 
--- functions take a type for each key, and an export each
+-- how many declarations functions take: a type for each key, and an export each
 abbrev pub functions_count : List (Text × Function) → ℕ
 functions_count fs = distinct_count are_same (map (λ f. key_of f.1) fs) + length fs
 
--- the kind of an unnamed type that is of no other interface
+-- the kind of a type, if it has no name and is of no other interface
 abbrev pub unnamed_kind : Resolve → Option InterfaceId → ℕ → Option TypeDefKind
 unnamed_kind r own n = option_and_then (λ def. cond (is_none def.name && is_none (foreign_owner own def.owner)) (Some def.kind) None) (type_at r n)
 
@@ -121,7 +121,7 @@ share_declarations r own x y = nat_eq x y || are_one_kind (unnamed_kind r own x)
 abbrev pub AreApart : Resolve → Option InterfaceId → List ℕ → Type 0
 AreApart r own numbers = AllPairs (λ x y. share_declarations r own x y ≡ false) numbers
 
--- an unnamed kind that the maps lack
+-- the kind of an unnamed type, which the maps lack
 pub record IsNewKind (m : TypeEncodingMaps) (kind : TypeDefKind) : Type 0 where
   pub unnamed : is_named_kind kind ≡ false
   pub lacks : LacksKind m kind

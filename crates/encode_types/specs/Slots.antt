@@ -22,7 +22,7 @@ pub data Standing : Type 0 where
 abbrev pub Pairs : Type 1
 Pairs = ℕ → Standing → Type 0
 
--- all that the first says the second says too
+-- what a slot stands for by the first, it stands for by the second too
 abbrev pub Keeps : Pairs → Pairs → Type 0
 Keeps S S' = (i : ℕ) (m : Standing) → S i m → S' i m
 

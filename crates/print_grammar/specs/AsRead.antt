@@ -1,4 +1,4 @@
--- What a reader finds of a tree that was written: no documentation, and an owned resource's name in place of its handle.
+-- What a reader finds of a tree that was written (WIT.md, "Comments" and "Types"): no documentation, and an owned resource's name in place of its handle.
 use Rattle.std.specs.Prelude.{[], map, option_map}
 use Rattle.print_grammar.specs.Tree.{TypeTree, TypeTrees, Prefix, ParamTree, FieldTree, CaseTree, LabelTree, SignatureTree, ResourceMember, Declared, MemberTree, ExternTree, WorldMember, ItemTree, PackageTree, FileTree}
 use Rattle.print_grammar.specs.Tree.TypeTree.{PrimitiveType, Name, Handle, Own, Borrow, TupleOf, OptionOf, ListOf, FixedListOf, MapOf, Result, ResultOk, ResultErr, ResultOf, Future, FutureOf, Stream, StreamOf}

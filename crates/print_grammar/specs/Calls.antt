@@ -1,4 +1,4 @@
--- The calls that printing makes of an output: those of a tree, with its documentation.
+-- The calls that printing makes of an output: those of a tree of WIT text, with its documentation (WIT.md, "Package declaration" to "Item: type").
 use Rattle.std.specs.Prelude.{Bool, true, false, List, [], ◌∷◌, ◌++◌, ◌==◌, ◌||◌, ◌&&◌, nat_le, not, ℕ, Option, None, Some, codes, map, if◌then◌else◌}
 use Rattle.std.specs.List.{flat_map}
 use Rattle.std.specs.Fmt.{decimal, digits}
@@ -28,7 +28,7 @@ name_calls label of_kind = Ty (escaped label) of_kind ∷ []
 abbrev pub space : OutputCall
 space = Str (codes " ")
 
--- runs of calls, with a separator between
+-- runs of calls, with a separator between them
 abbrev pub separated : OutputCall → List (List OutputCall) → List OutputCall
 separated separator [] = []
 separated separator (run ∷ runs) = run ++ flat_map (λ next. separator ∷ next) runs
@@ -61,7 +61,7 @@ abbrev pub is_plain : ℕ → Bool
 is_plain c =
     (nat_le 97 c && nat_le c 122) || (nat_le 65 c && nat_le c 90) || (nat_le 48 c && nat_le c 57) || (c == 45) || (c == 95) || (c == 46) || (c == 47) || (c == 58) || (c == 32)
 
--- a character in a string
+-- how a character is written in a string
 abbrev pub escaped_character : ℕ → Text
 escaped_character c =
     if is_plain c then c ∷ []

@@ -31,11 +31,11 @@ pub data Token : Type 0 where
 
 -- ---- versions
 
--- digits, with no zero in front of others
+-- whether a text is digits, with no zero in front of others
 abbrev pub is_numeral : List ℕ → Bool
 is_numeral text = nat_lt 0 (length text) && (is_numeric text && not (has_leading_zero text))
 
--- the version core: three numerals
+-- whether these are a version core: three numerals
 abbrev pub are_three_numerals : List (List ℕ) → Bool
 are_three_numerals (major ∷ minor ∷ patch ∷ []) = is_numeral major && (is_numeral minor && is_numeral patch)
 are_three_numerals texts = false
@@ -44,11 +44,11 @@ are_three_numerals texts = false
 abbrev pub is_version_core : List ℕ → Bool
 is_version_core text = are_three_numerals (parts text)
 
--- not empty, and passing a test
+-- whether a text isn't empty, and passes a test
 abbrev pub is_given : (List ℕ → Bool) → List ℕ → Bool
 is_given test text = nat_lt 0 (length text) && test text
 
--- a version core, and a pre-release after the first `-` where there is one
+-- whether a text is a version core, and a pre-release after its first `-` if it has one
 abbrev pub is_version_number : List ℕ → Bool
 is_version_number text = option_map_or (λ p. is_version_core p.0 && is_given is_pre_release p.1) (cut 45 text) (is_version_core text)
 
@@ -80,7 +80,7 @@ escape_step c =
     else (if c == 116 then Reads 9
     else (if c == 117 then Goes AfterU else Refused)))))
 
--- a lower-case hexadecimal digit
+-- the value of a lower-case hexadecimal digit
 abbrev pub hexadecimal : ℕ → Option ℕ
 hexadecimal c = if is_ascii_digit c then Some (c - 48) else (if nat_le 97 c && nat_le c 102 then Some (c - 87) else None)
 
@@ -89,7 +89,7 @@ abbrev pub code_step : ℕ → Option ℕ → StringStep
 code_step front (Some d) = Goes (InCode (16 * front + d))
 code_step front None = Refused
 
--- the character of a code, if it is one of a character
+-- the character of a code, if it is a code of one
 abbrev pub end_step : ℕ → StringStep
 end_step front = if scalar front then Reads front else Refused
 
@@ -101,12 +101,12 @@ string_step AfterU c = if c == 123 then Goes AfterBrace else Refused
 string_step AfterBrace c = code_step 0 (hexadecimal c)
 string_step (InCode front) c = if c == 125 then end_step front else code_step front (hexadecimal c)
 
--- nothing more
+-- no more characters, if the text ends here
 abbrev pub only_at_end : List ℕ → Option (List ℕ)
 only_at_end [] = Some []
 only_at_end (c ∷ cs) = None
 
--- the characters up to the closing quotation mark, which is the end
+-- the characters up to the closing quotation mark, with which the text ends
 abbrev pub string_characters : StringState → List ℕ → Option (List ℕ)
 string_characters state [] = None
 string_characters state (c ∷ cs) =

@@ -1,4 +1,4 @@
--- What is shown of packages: their trees, with documentation.
+-- What is shown of packages: their trees as WIT text has them, with documentation (WIT.md, "Package declaration" to "Item: type").
 use Rattle.std.specs.Prelude.{Bool, true, false, List, [], ◌∷◌, ◌++◌, ◌==◌, ◌&&◌, ℕ, Option, None, Some, map, drop, option_map, option_and_then, unwrap_or, slice_get, is_some, if◌then◌else◌, filter, String}
 use Rattle.std.specs.List.{filter_map}
 use Rattle.std.specs.Option.{option_map_or, option_eq}
@@ -60,7 +60,7 @@ use Rattle.print_grammar.specs.Tree.ItemTree.{InterfaceItem, WorldItem}
 
 -- ---- texts
 
--- a name that is there
+-- the text of a name that is there
 abbrev pub present_name : Option (String Global) → Text
 present_name name = option_map_or text_of name []
 
@@ -84,7 +84,7 @@ shown_prefix docs gates external_id = record { docs = shown_docs docs; gates = s
 
 -- ---- types
 
--- the name of a type number
+-- the name of the type of this number
 abbrev pub type_name : Resolve → TypeId → Text
 type_name resolve id = option_map_or (λ def. present_name def.name) (type_at resolve id.0) []
 
@@ -289,11 +289,11 @@ pub record Used : Type 0 where
   pub prefix : Prefix
   pub names : List UsedName
 
--- an own name, where it differs
+-- the name that a type has here, where it isn't the one that it has there
 abbrev pub own_name : Text → Text → Option Text
 own_name own other = if text_eq own other then None else Some own
 
--- A type is a use where its target is another owner's.
+-- the use that a type is, if its target is another owner's
 abbrev pub used_of : Resolve → TypeOwner → Text → TypeDef → Option Used
 used_of resolve here own def = by_kind def.kind
   where

@@ -162,6 +162,6 @@ pub data IsRefused (r : Resolve) (prev new : World) : Error → Type 0 where
   memory : IsRefused r prev new error.Memory
   refused : (e : Error) (f : Refusal) → refusal_of e ≡ Some f → Refuses r prev new f → IsRefused r prev new e
 
--- of the worlds of these two numbers
+-- this holds of the worlds of these two numbers
 abbrev pub OfWorlds : Resolve → WorldId → WorldId → (World → World → Type 0) → Type 0
 OfWorlds r prev new Holds = (p n : World) → world_at r prev.0 ≡ Some p → world_at r new.0 ≡ Some n → Holds p n

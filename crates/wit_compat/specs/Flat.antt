@@ -1,4 +1,4 @@
--- What a world imports and exports, each part under its name without version, with every type opened.
+-- What a world imports and exports, each part under its name without version, with every type opened (documentation of `semver_check`; WIT.md, "Worlds").
 use Rattle.std.specs.Prelude.{Bool, ◌&&◌, if◌then◌else◌, List, [], ◌∷◌, ◌++◌, map, flat_map, Option, Some, None, String, option_map}
 use Rattle.std.specs.Option.{option_map_or}
 use Rattle.std.specs.declared.alloc.Global.{Global}

@@ -18,7 +18,7 @@ use Rattle.wit_compat.specs.Flat.{Name, Thing, of_type, of_function, find_named,
 
 -- ---- aliases followed
 
--- a type, from a table of what earlier numbers are
+-- what a type is, from a table of what earlier numbers are
 abbrev pub in_heads : List ValueType → ValueType → ValueType
 in_heads heads (ty.Id id) = unwrap_or (slice_get heads id.0) (ty.Id id)
 in_heads heads t = t
@@ -104,7 +104,7 @@ pub data Reached (r : Resolve) (roots : List Pair) : Pair → Type 0 where
 abbrev pub Walk : Resolve → World → World → Pair → Type 0
 Walk r prev new = Reached r (pairs_of_worlds r prev new)
 
--- each stands once
+-- each of these pairs stands once
 abbrev pub AreDifferent : List Pair → Type 0
 AreDifferent [] = Unit {0}
 AreDifferent (p ∷ ps) = (Contains ps p → ⊥) × AreDifferent ps

@@ -41,13 +41,13 @@ pub record IsMetByTypes (r : Resolve) (i n : ℕ) : Type 0 where
   pub there : interface_at r i ≡ Some def
   pub met : IsMetElsewhere r (Some (record { 0 = i })) (types_alone_of def) n
 
--- from its types or its functions
+-- a type of another interface is met from the types or the functions of interface i
 pub record IsMetByWhole (r : Resolve) (i n : ℕ) : Type 0 where
   pub def : Interface
   pub there : interface_at r i ≡ Some def
   pub met : IsMetElsewhere r (Some (record { 0 = i })) (whole_interface def) n
 
--- from the types of one of these interfaces
+-- a type of another interface is met from the types of one of these
 abbrev pub IsMetAmong : Resolve → List ℕ → ℕ → Type 0
 IsMetAmong r interfaces n = (i : ℕ) × Contains interfaces i × IsMetByTypes r i n
 

@@ -67,7 +67,7 @@ pub record Contents : Type 0 where
 abbrev pub no_view : View
 no_view = record { types = []; functions = [] }
 
--- how many of the declarations at the first level are such
+-- how many of the declarations at the first level pass a test
 abbrev pub count_declared : (Declaration → Bool) → Declarations → ℕ
 count_declared test Declarations.no_more = 0
 count_declared test (Declarations.declares d rest) = count_by test (d ∷ []) + count_declared test rest
@@ -272,7 +272,7 @@ pub record AliasesFor (r : Resolve) (i : InterfaceId) (around around' : Around) 
   pub there : interface_at r i.0 ≡ Some def
   pub made : AliasesMet r (Some i) (whole_interface def) around around'
 
--- So it is, and they are met from its types alone.
+-- In the component type nothing has been declared but aliases of types that are met from the interface's types alone.
 pub record AliasesForTypes (r : Resolve) (i : InterfaceId) (around around' : Around) : Type 0 where
   pub def : Interface
   pub there : interface_at r i.0 ≡ Some def
@@ -307,7 +307,7 @@ pub record EncodesPart (r : Resolve) (around around' : Around) (i : InterfaceId)
   pub function_types : DefinesKeys r (stands_inside r i before.declared declared) functions declared
   pub value_types : DefinesTypes r (Some i) (stands_inside r i before.declared declared) (values def.types) functions (from_list declared)
 
--- So it is with the types of the interface and all its functions: what is shown is the interface.
+-- What `EncodesPart` says, of the types of the interface and all its functions: what is shown is the interface.
 pub record EncodesInterface (r : Resolve) (around around' : Around) (i : InterfaceId) (def : Interface) (k : ℕ) : Type 0 where
   pub part : EncodesPart r around around' i def (functions_in_order def) (values def.functions) k
   pub shows : ShowsInterface r i.0 part.is_instance.view
@@ -315,7 +315,7 @@ pub record EncodesInterface (r : Resolve) (around around' : Around) (i : Interfa
   -- how many types of functions are defined
   pub function_types : count_by is_function_type part.declared ≡ distinct_count are_same (map key_of (values def.functions))
 
--- So it is with the types alone.
+-- What `EncodesPart` says, of the types of the interface alone.
 pub record EncodesDependency (r : Resolve) (around around' : Around) (i : InterfaceId) (def : Interface) (k : ℕ) : Type 0 where
   pub part : EncodesPart r around around' i def [] [] k
   pub shows : ShowsTypes r i.0 part.is_instance.view

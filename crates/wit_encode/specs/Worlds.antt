@@ -1,4 +1,4 @@
--- What an encoder of a world holds: a component type, in whose scope the types of the world are imported.
+-- What an encoder of a world holds: a component type, in whose scope the types of the world are imported (Component Model WIT.md, "Package Format").
 use Rattle.std.specs.Prelude.{ℕ, ◌-◌, Bool, false, ◌&&◌, if◌then◌else◌, List, [], ◌∷◌, Option, Some, None, length, filter_map, is_some}
 use Rattle.std.specs.Option.{option_map_or}
 use Rattle.std.specs.List.{filter, list_all}
@@ -69,7 +69,7 @@ instances_declared outer = instances_from Declarations.no_more outer
 
 -- ---- the scope of the component type
 
--- which names stand for resources there
+-- which names stand for resources in the scope of a world
 abbrev pub world_resources : Resolve → WorldId → Names
 world_resources r w = resource_names r (is_met_owner r (owner.World w))
 
@@ -113,7 +113,7 @@ world_definitions outer = record {
 
 -- ---- what is held
 
--- a named type of an interface that is listed with an instance
+-- whether a type is a named one of an interface that is listed with an instance
 abbrev pub is_of_listed : List (ℕ × ℕ) → TypeDef → Bool
 is_of_listed listed def = is_some def.name && option_map_or (λ i. is_some (known_instance listed i)) (owner_interface def.owner) false
 

@@ -70,7 +70,7 @@ abbrev pub StripsModule : List ℕ → Option (Vec ℕ Global) → Type 0
 StripsModule bytes None = IsUnbound bytes
 StripsModule bytes (Some kept) = IsStripped bytes kept.items
 
--- A section stands in front of these bytes: whether it carries a world is known by its name.
+-- A section stands in front of these bytes, with a name if it is a custom one, and these bytes behind it.
 pub record IsInFront (bytes : List ℕ) (f : Framed) (rest : List ℕ) : Type 0 where
   pub front : List ℕ
   pub parts : bytes ≡ front ++ rest
