@@ -181,7 +181,7 @@ pub data ReadsItems : List Token → List ItemTree → List Token → Type 0 whe
   no_items : {after : List Token} → ReadsItems after [] after
   next_item : {before between after : List Token} {item : ItemTree} {items : List ItemTree} → ReadsItem before item between → ReadsItems between items after → ReadsItems before (item ∷ items) after
 
--- a package's name, and perhaps its version (package-decl)
+-- what follows the word `package`: a name, and perhaps a version (package-decl)
 pub data ReadsHead : List Token → PackageHead → List Token → Type 0 where
   head : {t u : Token} {namespace name : List ℕ} {version : Option (List ℕ)} {between after : List Token} → IsId t namespace → IsId u name → ReadsVersion between version after → ReadsHead (t ∷ Punctuation Colon ∷ u ∷ between) (record { docs = []; namespace = namespace; name = name; version = version }) after
 
