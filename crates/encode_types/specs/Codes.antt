@@ -116,6 +116,7 @@ pub record IsKeyStart (names : Names) (key : FunctionKey) (n : ℕ) (xs : List �
   pub before : n < length key.params.0.now
   pub lacks : LacksNumber names key.params.0.now n
 
+-- what is known of a key's list: it is whole, or it stops at a parameter whose name has no number
 abbrev pub IsListOf : Names → FunctionKey → KeyList → Type 0
 IsListOf names key (listed.Whole xs) = IsKeyList names key xs.items
 IsListOf names key (listed.Start xs n) = IsKeyStart names key n xs.items

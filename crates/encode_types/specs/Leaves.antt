@@ -56,7 +56,7 @@ pub record FunctionLacksRoom (r : Resolve) (f : Function) (v v' : View) : Type 0
 abbrev pub CountsTypes : Resolve → View → View → Type 0
 CountsTypes r v v' = AddsTypes r v.scope v.maps v'.maps v.definitions v'.definitions
 
--- the same, and behind it one value type, which this is
+-- what has been defined is what the maps have learnt, and behind it one value type, which this is
 pub record CountsOneMore (r : Resolve) (v v' : View) (x : ComponentValType) : Type 0 where
   pub slot : ℕ
   pub is : x ≡ value.Type_ slot
@@ -64,7 +64,7 @@ pub record CountsOneMore (r : Resolve) (v v' : View) (x : ComponentValType) : Ty
   pub adds : AddsTypes r v.scope v.maps v'.maps v.definitions parts
   pub one_more : v'.definitions ≡ one_type_more slot parts
 
--- the same with the type of a function, which has this key and stands at this index
+-- what has been defined is what the maps have learnt, with the type of a function, which has this key and stands at this index
 abbrev pub CountsFunction : Resolve → View → View → FunctionKey → ℕ → Type 0
 CountsFunction r v v' key i = AddsFunction r v.scope v.maps v'.maps v.definitions v'.definitions key i
 

@@ -109,7 +109,7 @@ WritesImport v v' n = (def : TypeDef) → type_at v.scope.packages n ≡ Some de
 pub record WritesLearnt (r : Resolve) (n : ℕ) (v v' : View) : Type 0 where
   pub extent : v'.extent + known_extent r v.scope.own_interface v.maps ≤ v.extent + (known_extent r v.scope.own_interface v'.maps + n)
 
--- all but the maps is the same
+-- all of an encoder but its maps is the same
 pub record SameRest (v v' : View) : Type 0 where
   pub scope_ : v'.scope ≡ v.scope
   pub around_ : v'.around ≡ v.around
