@@ -91,13 +91,13 @@ pub record FollowsParts (members : List Member) (r : Resolve) : Type 0 where
   pub functions : (k : ℕ) (i : Interface) (path : Text) → interface_at r k ≡ Some i → path_of_interface r i ≡ Some path → function_names i ≡ functions_shown members path
   pub worlds : map (λ w. text_of w.name) r.worlds.items ≡ worlds_shown members
 
--- So it is with what the bytes export,
+-- What the bytes export, the `Resolve` follows: its interfaces, functions and worlds stand in that order.
 pub record FollowsBytes (bytes : List ℕ) (r : Resolve) : Type 0 where
   pub members : List Member
   pub exported : ExportParts bytes members
   pub follows : FollowsParts members r
 
--- which is what their sections do, if there are any.
+-- What is followed by levels, the `Resolve` follows in that order.
 pub record FollowsLevels (levels : Option (List Piece)) (r : Resolve) : Type 0 where
   pub members : List Member
   pub exported : (levels >>= λ pieces. exported_parts pieces >>= each member_by_levels) ≡ Some members

@@ -31,11 +31,11 @@ InterfaceEncoder = InterfaceEncoderOf WorldEncoder
 abbrev pub encoder_in : {E : Type 0} → InterfaceEncoderOf E → E
 encoder_in e = e.encoder
 
--- with another in its place
+-- the encoder of interfaces, with another encoder of its component type
 abbrev pub with_encoder : {E : Type 0} → InterfaceEncoderOf E → E → InterfaceEncoderOf E
 with_encoder e x = record e { encoder = x }
 
--- its component type, as the scope of a world that has no types
+-- what an encoder of interfaces holds: its component type, as the scope of a world that has no types
 abbrev pub interface_encoder_view : InterfaceEncoder → View
 interface_encoder_view e = world_encoder_view e.encoder
 
@@ -55,7 +55,7 @@ numbers_of interfaces = map (λ (id : InterfaceId). id.0) interfaces
 abbrev pub world_of : InterfaceEncoder → TypeOwner
 world_of e = owner.World e.encoder.world
 
--- its component type, in which instances and aliases stand
+-- the component type of an encoder of interfaces, in which instances and aliases stand
 abbrev pub component_of : InterfaceEncoder → Around
 component_of e = world_around e.encoder
 
@@ -137,7 +137,7 @@ pub record ImportsSome (e e' : InterfaceEncoder) (interfaces : List InterfaceId)
   pub before : ImportsUpTo e between interfaces next
   pub in_part : ImportsInPart between e' next
 
--- those that an interface reaches, in the order in which it comes to them, each behind those that it uses itself
+-- the numbers that an interface reaches, in the order in which it comes to them, each behind those that it uses itself
 abbrev pub AreReachedBy : Resolve → InterfaceId → List InterfaceId → Type 0
 AreReachedBy r i interfaces = numbers_of interfaces ≡ reached_in_order r i.0
 
