@@ -5,7 +5,6 @@ ghost use Rattle.wit_model.specs.Rules.{are_distinct as are_distinct_lem, are_la
 ghost use Rattle.wit_model.specs.Text.{Text, text_of};
 
 use indexmap::IndexSet;
-use keyed_names::hash_of_members;
 use std::alloc::{AllocError, Global};
 use wit_model::is_label;
 use wit_model::named::Named;
@@ -20,7 +19,7 @@ fn are_labels<T: Named>(members: &[T]) -> bool
 fn are_distinct<T: Named>(alloc: Global, members: &[T]) -> Result<bool, AllocError>
     ensures { IfOk result (λ distinct. distinct ≡ are_distinct_lem (map T.name_of members.now)) }
 {
-    let mut seen = IndexSet::with_hasher(alloc, hash_of_members(members));
+    let mut seen = IndexSet::new(alloc);
     for member in members {
         if !seen.insert(member.name())? {
             return Ok(false);

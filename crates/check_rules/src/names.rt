@@ -9,7 +9,6 @@ ghost use Rattle.wit_model.specs.declared.error.EntryList.TheVariants as lists;
 use crate::labels::is_optional_version;
 use crate::walk::first_failing;
 use indexmap::IndexSet;
-use keyed_names::hash_of_packages;
 use std::alloc::Global;
 use wit_model::{EntryList, Fault, Package, PackageName, Resolve, is_label};
 
@@ -56,7 +55,7 @@ fn check_distinct(alloc: Global, resolve: &Resolve) -> Result<(), Fault>
     ensures kept { OnOk result (KeepsIn distinct_names resolve.now lists.Packages) }
     ensures broken { IfErr result (IsFaultOf resolve.now) }
 {
-    let mut seen = IndexSet::with_hasher(alloc, hash_of_packages(&resolve.packages));
+    let mut seen = IndexSet::new(alloc);
     for number in 0..resolve.packages.len() {
         if !seen.insert(&resolve.packages[number].name)? {
             return Err(Fault::Broken {

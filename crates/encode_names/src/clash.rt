@@ -8,8 +8,6 @@ ghost use Rattle.encode_names.specs.Clashes.{canonical_names_of, canonical_paths
 
 use crate::extern_names::written_path;
 use indexmap::IndexSet;
-use keyed_hash::KeyedHash;
-use keyed_names::{hash_of_keys, hash_of_paths};
 use std::alloc::Global;
 use wit_model::{Error, InterfaceId, Map, Resolve, World, WorldItem, WorldKey};
 
@@ -25,7 +23,7 @@ fn canonical_name(alloc: Global, resolve: &Resolve, key: &WorldKey) -> Result<St
 }
 
 // Puts a name behind those that have been seen. Refuses one of them: `CanonicalClash` with the name; and `Memory`.
-fn see(seen: &mut IndexSet<String, KeyedHash>, name: String) -> Result<(), Error>
+fn see(seen: &mut IndexSet<String>, name: String) -> Result<(), Error>
     requires once { AreDifferent (map text_of seen.old.keys) }
     ensures seen { OnOk result (map text_of seen.new.keys ≡ map text_of seen.old.keys ++ text_of name ∷ []) }
     ensures once { OnOk result (AreDifferent (map text_of seen.new.keys)) }
@@ -50,7 +48,7 @@ pub fn refuse_clash(
     ensures ok { OnOk result (AreDifferent (canonical_names_of resolve.now items.now.entries)) }
     ensures refuses { IfErr result (RefusesItems resolve.now items.now.entries) }
 {
-    let mut seen = IndexSet::with_hasher(alloc, hash_of_keys(resolve, items));
+    let mut seen: IndexSet<String> = IndexSet::new(alloc);
     for (key, _item) in items {
         let name = canonical_name(alloc, resolve, key)?;
         see(&mut seen, name)?;
@@ -63,7 +61,7 @@ fn refuse_repeat(alloc: Global, resolve: &Resolve, interfaces: &[InterfaceId]) -
     ensures ok { OnOk result (AreDifferent (canonical_paths_of resolve.now (map (λ id. id.0) interfaces.now))) }
     ensures refuses { IfErr result (RefusesPaths resolve.now (map (λ id. id.0) interfaces.now) true) }
 {
-    let mut seen = IndexSet::with_hasher(alloc, hash_of_paths(resolve, interfaces));
+    let mut seen: IndexSet<String> = IndexSet::new(alloc);
     for interface in interfaces {
         let path = written_path(alloc, resolve, *interface, true)?;
         see(&mut seen, path)?;

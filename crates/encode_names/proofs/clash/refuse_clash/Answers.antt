@@ -12,7 +12,7 @@ pub loop-key-init : goal.loop-key-init
 unfolding IsDistinct
 loop-key-init c = record {
   split = search rules;
-  once = subst (λ ks. IsDistinct text_eq (map text_of ks)) (sym c.with_hasher-seen.ensures.empty) tt;
+  once = subst (λ ks. IsDistinct text_eq (map text_of ks)) (sym c.new-seen.ensures.empty) tt;
 }
 
 pub see-requires : goal.see-requires

@@ -9,8 +9,8 @@ use Rattle.encode_names.proofs.clash.refuse_repeat.Goals as goal
 pub loop-interface-init : goal.loop-interface-init
 unfolding IsDistinct
 loop-interface-init c = record {
-  split = ap (λ ks. map text_of ks ++ canonical_paths_of c.args.resolve.now (map (λ (id : InterfaceId). id.0) c.args.interfaces.now)) (sym c.with_hasher-seen.ensures.empty);
-  once = subst (λ ks. IsDistinct text_eq (map text_of ks)) (sym c.with_hasher-seen.ensures.empty) tt;
+  split = ap (λ ks. map text_of ks ++ canonical_paths_of c.args.resolve.now (map (λ (id : InterfaceId). id.0) c.args.interfaces.now)) (sym c.new-seen.ensures.empty);
+  once = subst (λ ks. IsDistinct text_eq (map text_of ks)) (sym c.new-seen.ensures.empty) tt;
 }
 
 pub see-requires : goal.see-requires
