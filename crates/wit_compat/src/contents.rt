@@ -14,11 +14,13 @@ use crate::items::same_items;
 use crate::pairs::Pairs;
 use crate::side::{Side, key_text};
 use indexmap::IndexMap;
+use keyed_hash::KeyedHash;
+use keyed_names::hash_of_keys;
 use std::alloc::{AllocError, Global};
 use wit_model::{Map, World, WorldItem, WorldKey};
 
 /// The items of a list of imports or exports by the texts of their keys.
-type Items<'a> = IndexMap<String, &'a WorldItem>;
+type Items<'a> = IndexMap<String, &'a WorldItem, KeyedHash>;
 
 /// Puts an item under a key that has none yet.
 fn put<'a>(items: &mut Items<'a>, key: String, item: &'a WorldItem) -> Result<(), AllocError>
@@ -42,7 +44,7 @@ fn items<'a>(
     ensures sense { IfOk result (λ m. indexed_sense side.now.resolve.now m.entries ≡ entries_sense (entries_meaning side.now.resolve.now list.entry.now.entries)) }
     ensures in_range { IfOk result (λ m. AllItemsInRange side.now.resolve.now m.entries) }
 {
-    let mut items = IndexMap::new(alloc);
+    let mut items = IndexMap::with_hasher(alloc, hash_of_keys(side.resolve, list));
     for (key, item) in list {
         let text = key_text(alloc, side, key)?;
         put(&mut items, text, item)?;

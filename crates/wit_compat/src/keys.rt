@@ -4,10 +4,11 @@ ghost use Rattle.std.specs.Prelude.{◌≡◌, Some, IfOk, OnOk};
 ghost use Rattle.wit_compat.specs.Numbered.{number_in, KeepsNumbers};
 
 use indexmap::IndexSet;
+use keyed_hash::KeyedHash;
 use std::alloc::AllocError;
 
 /// The texts that have been met, each once. A text's number is its place.
-pub(crate) type Keys<'a> = IndexSet<&'a str>;
+pub(crate) type Keys<'a> = IndexSet<&'a str, KeyedHash>;
 
 /// The text of a key without version, with its number.
 #[derive(Clone, Copy)]

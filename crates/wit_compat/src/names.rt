@@ -4,11 +4,12 @@ ghost use Rattle.std.specs.Prelude.{◌≡◌, ◌↔◌, ◌<◌, ◌==◌, ℕ
 ghost use Rattle.wit_compat.specs.Numbered.{AreNumbers};
 ghost use Rattle.wit_compat.specs.Opened.{bare_key, bare_path as bare_path_lem, entries_of_world, interface_name as interface_name_lem, is_item_of, label_among, label_of_key};
 ghost use Rattle.wit_compat.specs.Outline.{interface_names as interface_names_lem, label_noted, AreNames, NotesMore};
-ghost use Rattle.wit_model.specs.Rules.{key_in_range};
+ghost use Rattle.wit_model.specs.Rules.{entries_in_range, key_in_range};
 ghost use Rattle.wit_model.specs.Text.{optional_text, text_of};
 
 use crate::keys::key_of;
 use indexmap::{IndexMap, IndexSet};
+use keyed_hash::{Digest, KeyedHash};
 use std::alloc::{AllocError, Global};
 use wit_model::lookup::full_name;
 use wit_model::{InterfaceId, Map, PackageName, Resolve, World, WorldItem, WorldKey};
@@ -134,11 +135,20 @@ fn interface_names(alloc: Global, resolve: &Resolve) -> Result<Vec<String>, Allo
     Ok(names)
 }
 
+/// The hash that is keyed by the texts.
+fn hash_of(texts: &[String]) -> KeyedHash {
+    let mut digest = Digest::new();
+    for text in texts {
+        digest.add(text.as_bytes());
+    }
+    digest.hash()
+}
+
 /// A number for each text, equal for equal texts.
 fn numbers(alloc: Global, texts: &[String]) -> Result<Vec<usize>, AllocError>
     ensures { IfOk result (AreNumbers (map text_of texts.now)) }
 {
-    let mut keys = IndexSet::new(alloc);
+    let mut keys = IndexSet::with_hasher(alloc, hash_of(texts));
     let mut numbers = Vec::new(alloc);
     for text in texts {
         let key = key_of(&mut keys, text.as_str())?;
@@ -184,5 +194,20 @@ pub(crate) fn key_text<'a>(names: &'a Names, resolve: &Resolve, key: &'a WorldKe
     match key {
         WorldKey::Name(name) => name.as_str(),
         WorldKey::Interface(id) => name_at(names, resolve, *id),
+    }
+}
+
+/// Adds the texts of the keys of a list, without versions, to a digest.
+pub(crate) fn add_keys(
+    digest: &mut Digest,
+    names: &Names,
+    resolve: &Resolve,
+    items: &Map<WorldKey, WorldItem>,
+)
+    requires names { AreNames resolve.now names.now }
+    requires in_range { entries_in_range resolve.now items.now.entries ≡ true }
+{
+    for (key, _item) in items {
+        digest.add(key_text(names, resolve, key).as_bytes());
     }
 }

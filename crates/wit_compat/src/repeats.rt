@@ -5,8 +5,9 @@ ghost use Rattle.wit_model.specs.Rules.{entries_in_range};
 ghost use Rattle.wit_compat.specs.Compatible.{bare_keys, keys_of_world, HasItemsInRange, HasKeysOnce, IsRepeatedIn, RepeatsIn, TwiceIn};
 ghost use Rattle.wit_compat.specs.Outline.{AreNames};
 
-use crate::names::{Names, key_text};
+use crate::names::{Names, add_keys, key_text};
 use indexmap::IndexSet;
+use keyed_hash::Digest;
 use std::alloc::{AllocError, Global};
 use wit_model::{Map, Resolve, World, WorldItem, WorldKey};
 
@@ -21,7 +22,9 @@ fn repeated_key<'a>(
     requires in_range { entries_in_range resolve.now items.now.entries ≡ true }
     ensures { IfOk result (RepeatsIn (bare_keys resolve.now items.entry.now.entries)) }
 {
-    let mut seen = IndexSet::new(alloc);
+    let mut digest = Digest::new();
+    add_keys(&mut digest, names, resolve, items);
+    let mut seen = IndexSet::with_hasher(alloc, digest.hash());
     for (key, _item) in items {
         let text = key_text(names, resolve, key);
         if !seen.insert(text)? {

@@ -13,12 +13,13 @@ ghost use Rattle.wit_compat.specs.Table.{AreAmong, AreReached, IsSettled};
 
 use crate::included::included;
 use crate::index::{Index, index};
-use crate::names::Names;
+use crate::names::{Names, add_keys};
 use crate::pairs::Pairs;
 use crate::part::Entry;
 use crate::steps::Steps;
 use crate::things::things;
 use indexmap::IndexSet;
+use keyed_hash::Digest;
 use std::alloc::{AllocError, Global};
 use wit_model::{Error, Map, Resolve, Type, WorldItem, WorldKey};
 
@@ -36,7 +37,10 @@ fn gathered<'a>(
     ensures large { IfOk result (λ p. Indexes p.1.entries (things_of resolve.entry.now large.entry.now.entries)) }
     ensures told { IfOk result (λ p. AllToldFrom p.0.items p.1.entries) }
 {
-    let mut keys = IndexSet::new(alloc);
+    let mut digest = Digest::new();
+    add_keys(&mut digest, names, resolve, small);
+    add_keys(&mut digest, names, resolve, large);
+    let mut keys = IndexSet::with_hasher(alloc, digest.hash());
     let entries = things(alloc, names, resolve, small, &mut keys)?;
     let others = things(alloc, names, resolve, large, &mut keys)?;
     let found = index(alloc, &others)?;

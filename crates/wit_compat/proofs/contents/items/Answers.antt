@@ -8,7 +8,7 @@ use Rattle.wit_compat.proofs.contents.items.Goals as goal
 pub loop-key-init : goal.loop-key-init
 loop-key-init c = record {
   split = nothing_made c.args.side.now.resolve.now _ _ _ (search rules) (search rules);
-  made = λ e d. absurd (let h = subst (λ es. Contains es e) c.new-items.ensures.empty d in let z = h.1 in omega (arith, z));
+  made = λ e d. absurd (let h = subst (λ es. Contains es e) c.with_hasher-items.ensures.empty d in let z = h.1 in omega (arith, z));
   left = search rules;
 }
 

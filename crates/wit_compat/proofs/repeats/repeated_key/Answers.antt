@@ -20,7 +20,7 @@ pub loop-key-init : goal.loop-key-init
 unfolding IsDistinct
 loop-key-init c = record {
   split = search rules;
-  once = subst (λ ks. IsDistinct text_eq (now ks)) (sym c.new-seen.ensures.empty) tt;
+  once = subst (λ ks. IsDistinct text_eq (now ks)) (sym c.with_hasher-seen.ensures.empty) tt;
   in_range = search rules;
 }
 
