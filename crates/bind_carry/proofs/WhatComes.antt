@@ -45,6 +45,7 @@ use Rattle.bind_carry.proofs.Ranges.{is_in_range}
 use Rattle.bind_carry.proofs.SecondKnown.{number_type, type_number, unmet_new}
 use Rattle.bind_carry.proofs.SecondTypes.{second_long, unified_at, unified_long, unified_set, IsUnified}
 use Rattle.bind_carry.proofs.SettledParts.{settled_all, settled_long}
+use Rattle.base_lemmas.proofs.Bools.{left_of, right_of}
 use Rattle.base_lemmas.proofs.Elements.{all-contained, get-contains}
 use Rattle.base_lemmas.proofs.Lists.{within_there}
 use Rattle.base_lemmas.proofs.Numbers.{equal}
@@ -83,10 +84,6 @@ carried_how fate.Left false false h = no_true h
 carried_how (fate.Stands k) none may h = inl refl
 carried_how (fate.Copied home) none may h = inl refl
 
-both_true : (a b : Bool) → (a && b) ≡ true → (a ≡ true) × (b ≡ true)
-both_true true b h = (refl, h)
-both_true false b h = no_true h
-
 module _ (adds : Bool) (types : List TypeDef) (fates : List Fate) (falls : FallBelow types) (long : length fates ≡ length types) where
   abbrev final : List Fate
   final = settled_from adds [] types fates
@@ -119,7 +116,7 @@ module _ (adds : Bool) (types : List TypeDef) (fates : List Fate) (falls : FallB
 
       by : (P f.0 ≡ true) ⊎ ((is_none t.0.name ≡ true) × (may ≡ true)) → (P f.0 ≡ true) ⊎ ((is_none t.0.name ≡ true) × (adds ≡ true) × (are_carried final (type_parts t.0) ≡ true))
       by (inl e) = inl e
-      by (inr (none, all)) = let parts = both_true adds (are_carried final (type_parts t.0)) all in inr (none, parts.0, parts.1)
+      by (inr (none, all)) = inr (none, left_of adds (are_carried final (type_parts t.0)) all, right_of adds (are_carried final (type_parts t.0)) all)
 
   module _ (Owner : TypeOwner → Type 0) (first : (n : ℕ) (t : TypeDef) (f : Fate) → slice_get types n ≡ Some t → slice_get fates n ≡ Some f → carries f ≡ true → Owner t.owner) where
     abbrev Made : ℕ → Type 0

@@ -1,5 +1,5 @@
 -- What is copied of other bindings comes by its path, or is gained by the own bound world.
-use Rattle.std.proofs.Common.{◌≡◌, ◌⊎◌, inl, inr, refl, sym, ap, subst, ◌∙◌, arith, ℕ, zero, suc, ◌+◌, ◌<◌, Bool, true, false, not, ◌&&◌, ◌||◌, ◌==◌, List, [], ◌∷◌, length, map, Option, Some, None, is_none, is_some, option_and_then, slice_get, unwrap_or, Contains}
+use Rattle.std.proofs.Common.{◌≡◌, ◌⊎◌, inl, inr, refl, sym, ap, subst, ◌∙◌, arith, ℕ, zero, suc, ◌+◌, Bool, true, false, not, ◌&&◌, ◌||◌, ◌==◌, List, [], ◌∷◌, length, map, Option, Some, None, is_none, is_some, slice_get, unwrap_or, Contains}
 use Rattle.std.specs.Prelude.{String}
 use Rattle.std.specs.declared.alloc.Global.{Global}
 use Rattle.std.specs.List.{list_any}
@@ -7,7 +7,6 @@ use Rattle.std.specs.Option.{option_map_or}
 use Rattle.std.proofs.lemmas.List.{length-map}
 use Rattle.std.proofs.lemmas.Option.{slice_get_within}
 use Rattle.wit_model.specs.declared.model.Interface.{Interface}
-use Rattle.wit_model.specs.declared.model.InterfaceId.{InterfaceId}
 use Rattle.wit_model.specs.declared.model.Resolve.{Resolve}
 use Rattle.wit_model.specs.declared.model.TypeOwner.{TypeOwner}
 use Rattle.wit_model.specs.declared.model.TypeOwner.TheVariants as owner
@@ -15,13 +14,12 @@ use Rattle.wit_model.specs.declared.model.World.{World}
 use Rattle.wit_model.specs.declared.model.WorldItem.{WorldItem}
 use Rattle.wit_model.specs.declared.model.WorldKey.{WorldKey}
 use Rattle.wit_model.specs.declared.model.WorldKey.TheVariants as key
-use Rattle.wit_model.specs.Lookup.{interface_at, interface_path, key_text, path_of_interface, world_at}
+use Rattle.wit_model.specs.Lookup.{interface_at, interface_path, key_text, world_at}
 use Rattle.wit_model.specs.Meaning.{WorldMeaning}
 use Rattle.wit_model.specs.Meant.{entries_meaning, no_world, world_meaning}
 use Rattle.wit_model.specs.Rules.{is_id}
-use Rattle.wit_model.specs.Text.{Text, text_eq, text_of}
+use Rattle.wit_model.specs.Text.{Text, text_eq}
 use Rattle.wit_model.specs.Uses.{item_interface}
-use Rattle.wit_model.specs.Valid.{key_eq}
 use Rattle.wit_model.proofs.AnyOrder.{text-same}
 use Rattle.wit_model.proofs.OnePath.{named-path}
 use Rattle.bind_meaning.specs.Clash.{entry_under, CanUnite}
@@ -52,19 +50,18 @@ use Rattle.bind_carry.proofs.Ranges.{is_in_range}
 use Rattle.bind_carry.proofs.Ready.{fates_long, interface_count}
 use Rattle.bind_carry.proofs.SecondMarks.{gained_flag, gained_long, is_gained, is_shown_new}
 use Rattle.bind_carry.proofs.WhatComes.{first_comes, marked_count, second_comes, IsNewImport}
-use Rattle.bind_carry.proofs.WorldEntries.{any_place, export_keyed, import_keyed, new_under_same, IsNumberedSame}
+use Rattle.bind_carry.proofs.WorldEntries.{any_place, export_keyed, import_keyed, new_under_same}
 use Rattle.bind_carry.proofs.CountedCopies.{interfaces_flagged, worlds_flagged}
 use Rattle.wit_bind.specs.declared.bindgen.Bindgen.{Bindgen}
 use Rattle.wit_bind.specs.Bindings.{binding_of, IsBindgen}
-use Rattle.wit_bind.specs.Comes.{bound_exports, bound_imports, ExportIsGained, ImportIsGained, InlineComes, InlineIsGained, InterfaceComes, IsGained, NamedComes, OwnerComes, OwnerIsGained, OwnerIsShown, OwnerStands, SomethingComes, SomethingIsGained, TypeComes, TypeIsGained, WorldComes}
+use Rattle.wit_bind.specs.Comes.{ExportIsGained, ImportIsGained, InlineComes, InlineIsGained, InterfaceComes, OwnerComes, OwnerIsGained, OwnerIsShown, OwnerStands, SomethingComes, SomethingIsGained, TypeComes, TypeIsGained, WorldComes}
 use Rattle.wit_bind.proofs.MatchedPaths.{all-matched, matched-with, none-of-path}
 use Rattle.wit_bind.proofs.NumbersAgree.{united_agree_by_numbers}
 use Rattle.wit_bind.proofs.TooMany.{new-interface, new-world, shown}
 use Rattle.base_lemmas.proofs.Bools.{left_of as first_true, right_of as second_true}
-use Rattle.base_lemmas.proofs.Elements.{contains-later, first-contained, get-contains}
+use Rattle.base_lemmas.proofs.Elements.{get-contains}
 use Rattle.base_lemmas.proofs.Lists.{within_there}
 use Rattle.base_lemmas.proofs.Options.{there as some-of}
-use Rattle.std.proofs.lemmas.Option.{same_Some as same-some}
 
 -- ---- lists
 

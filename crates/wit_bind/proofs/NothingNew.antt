@@ -1,9 +1,7 @@
 -- Where nothing of the other is new, nothing comes.
-use Rattle.std.proofs.Common.{◌≡◌, inl, inr, refl, sym, ap, subst, ◌∙◌, arith, ℕ, zero, suc, ◌+◌, ◌<◌, Bool, true, false, not, ◌&&◌, cond, List, [], ◌∷◌, ◌++◌, length, map, append-nil, Option, Some, None, is_some, option_and_then, slice_get, Contains}
-use Rattle.std.specs.Prelude.{count_by}
+use Rattle.std.proofs.Common.{◌≡◌, inl, inr, refl, sym, ap, subst, ◌∙◌, arith, ℕ, zero, suc, ◌+◌, Bool, true, false, not, ◌&&◌, cond, List, [], ◌∷◌, ◌++◌, length, map, append-nil, Option, Some, None, is_some, option_and_then, slice_get, Contains}
 use Rattle.std.specs.Cmp.Lexicographic.{nat_list_cmp_total}
 use Rattle.std.specs.FinMap.{get, get-from_entries}
-use Rattle.std.specs.Ordering.{eq_by_cmp}
 use Rattle.std.specs.Option.{option_map_or}
 use Rattle.wit_model.specs.declared.model.Interface.{Interface}
 use Rattle.wit_model.specs.declared.model.Resolve.{Resolve}
@@ -12,23 +10,24 @@ use Rattle.wit_model.specs.declared.model.TypeOwner.TheVariants as owner
 use Rattle.wit_model.specs.declared.model.World.{World}
 use Rattle.wit_model.specs.declared.model.WorldItem.{WorldItem}
 use Rattle.wit_model.specs.declared.model.WorldKey.{WorldKey}
-use Rattle.wit_model.specs.Lookup.{interface_at, interface_path, key_text, path_of_interface, path_of_world, world_at}
-use Rattle.wit_model.specs.Text.{Text, text_cmp, text_eq}
+use Rattle.wit_model.specs.Lookup.{interface_path, key_text, path_of_interface, path_of_world, world_at}
+use Rattle.wit_model.specs.Text.{Text, text_eq}
 use Rattle.wit_model.proofs.OnePath.{named-path}
 use Rattle.bind_meaning.specs.ByNumbers.{interfaces_by_path, worlds_by_path}
 use Rattle.bind_meaning.specs.Clash.{carried_worlds, entry_under, CanUnite}
 use Rattle.bind_meaning.specs.Roots.{root_path}
 use Rattle.bind_meaning.proofs.Maps.{eq_by_text, found_keys, get-without}
 use Rattle.bind_meaning.proofs.WorldBindings.{interface-found, world-found, world-path}
-use Rattle.bind_carry.specs.MadeOf.{Come, IsOwnedBy}
+use Rattle.bind_carry.specs.MadeOf.{Come}
 use Rattle.bind_carry.specs.Numbers.{copied_count}
+use Rattle.bind_carry.proofs.Counting.{length_both}
 use Rattle.bind_carry.proofs.WhatComes.{marked_count}
 use Rattle.bind_union.proofs.Lists.{no_true}
 use Rattle.wit_bind.specs.declared.bindgen.Bindgen.{Bindgen}
 use Rattle.wit_bind.specs.Bindings.{binding_of, IsBindgen}
 use Rattle.wit_bind.specs.Comes.{is_one_of, BringsNothing, ExportIsGained, ImportIsGained, InlineIsGained, InterfaceComes, IsGained, NamedComes, OwnerComes, OwnerIsGained, TypeComes, TypeIsGained, WorldComes}
 use Rattle.wit_bind.proofs.NumbersAgree.{other-export, other-import}
-use Rattle.base_lemmas.proofs.Bools.{left_of as first_true, right_of as second_true}
+use Rattle.base_lemmas.proofs.Bools.{left_of as first_true, not-false, right_of as second_true}
 use Rattle.base_lemmas.proofs.Options.{there as some-of}
 
 -- ---- lists
@@ -43,15 +42,7 @@ none-comes P none count c = sym c.marked ∙ (marked_count c.marks ∙ unmarked 
 
 pub no-longer : {X : Type 0} (old more new : List X) (a b : ℕ) → new ≡ old ++ more → a ≡ 0 → b ≡ 0 → length new ≡ length old + (a + b) → new ≡ old
 no-longer old [] new a b e p q long = e ∙ append-nil old
-no-longer {X} old (x ∷ xs) new a b e p q long = let all : length new ≡ length old + length (x ∷ xs) = ap length e ∙ both old (x ∷ xs) in absurd (omega (arith, all, long, p, q))
-  where
-    both : (xs ys : List X) → length (xs ++ ys) ≡ length xs + length ys
-    both [] ys = omega arith
-    both (x ∷ xs) ys = let r = both xs ys in omega (arith, r)
-
-not-both : (b : Bool) → not b ≡ true → b ≡ true → ⊥
-not-both true h k = no_true h
-not-both false h k = no_true k
+no-longer old (x ∷ xs) new a b e p q long = let all : length new ≡ length old + length (x ∷ xs) = ap length e ∙ length_both old (x ∷ xs) in absurd (omega (arith, all, long, p, q))
 
 module _ (own other : Bindgen) (o : IsBindgen own) (t : IsBindgen other) (can : CanUnite (binding_of own) (binding_of other)) (nothing : BringsNothing (binding_of own) (binding_of other))
     (w v : World) (at_w : world_at own.resolve own.world.0 ≡ Some w) (at_v : world_at other.resolve other.world.0 ≡ Some v) where
@@ -64,7 +55,7 @@ module _ (own other : Bindgen) (o : IsBindgen own) (t : IsBindgen other) (can : 
   -- ---- by path
 
   pub no-world : (n : ℕ) → WorldComes r s n → ⊥
-  no-world n c = not-both (is_one_of here path.0) (second_true (not (text_eq path.0 root_path)) (not (is_one_of here path.0)) new) known
+  no-world n c = not-false (is_one_of here path.0) (second_true (not (text_eq path.0 root_path)) (not (is_one_of here path.0)) new) known
     where
       path : (path : Text) × (option_and_then (path_of_world s) (world_at s n) ≡ Some path)
       path = world-path s t.valid n c.world c.found
@@ -92,7 +83,7 @@ module _ (own other : Bindgen) (o : IsBindgen own) (t : IsBindgen other) (can : 
       known = sym (found_keys path.0 (worlds_by_path r)) ∙ (sym (ap is_some (get-from_entries nat_list_cmp_total (worlds_by_path r) path.0)) ∙ nothing.worlds path.0 there)
 
   no-named : (n : ℕ) → NamedComes r s n → ⊥
-  no-named n c = not-both (is_one_of here path.0) new known
+  no-named n c = not-false (is_one_of here path.0) new known
     where
       path : (path : Text) × (interface_path s n ≡ Some path)
       path = some-of (interface_path s n) (named-path s t.valid n (ap (λ x. option_map_or (λ (i : Interface). is_some i.name) x false) c.found ∙ c.named))

@@ -1,27 +1,21 @@
 -- What is carried by path is new.
-use Rattle.std.proofs.Common.{◌≡◌, refl, sym, ap, subst, ◌∙◌, inl, inr, arith, ℕ, zero, suc, ◌+◌, ◌<◌, ◌≤◌, length, Bool, true, false, not, ◌&&◌, ◌==◌, cond, List, [], ◌∷◌, ◌++◌, map, unwrap_or, Option, Some, None, is_none, option_and_then, option_map, slice_get, append-nil, String}
-use Rattle.std.specs.Prelude.{◌||◌, Err, IfErr, Ok, Result, count_by, filter_map, is_some}
+use Rattle.std.proofs.Common.{◌≡◌, refl, sym, ap, ◌∙◌, ℕ, zero, suc, ◌+◌, ◌≤◌, length, Bool, true, false, not, ◌&&◌, ◌==◌, cond, List, [], ◌∷◌, ◌++◌, map, unwrap_or, Option, Some, None, is_none, option_and_then, option_map, slice_get, append-nil, String}
+use Rattle.std.specs.Prelude.{◌||◌, count_by, filter_map, is_some}
 use Rattle.std.proofs.lemmas.List.{length-map}
 use Rattle.std.specs.List.{cons_option, list_all, list_any}
 use Rattle.std.specs.Option.{option_map_or}
 use Rattle.std.specs.declared.alloc.Global.{Global}
-use Rattle.wit_model.specs.declared.error.Error.{Error}
-use Rattle.wit_model.specs.declared.error.Error.TheVariants as errors
 use Rattle.wit_model.specs.declared.model.Interface.{Interface}
 use Rattle.wit_model.specs.declared.model.Package.{Package}
 use Rattle.wit_model.specs.declared.model.PackageName.{PackageName}
 use Rattle.wit_model.specs.declared.model.Resolve.{Resolve}
-use Rattle.wit_model.specs.declared.model.TypeDef.{TypeDef}
-use Rattle.wit_model.specs.declared.model.TypeOwner.{TypeOwner}
-use Rattle.wit_model.specs.declared.model.TypeOwner.TheVariants as owner
 use Rattle.wit_model.specs.declared.model.World.{World}
 use Rattle.wit_model.specs.declared.model.WorldId.{WorldId}
-use Rattle.wit_model.specs.Lookup.{identity_of, interface_at, interface_path, package_at, path_in_package, path_of_interface, path_of_world, world_at}
+use Rattle.wit_model.specs.Lookup.{identity_of, interface_at, package_at, path_of_interface, path_of_world, world_at}
 use Rattle.wit_model.specs.Meant.{interface_meaning, world_meaning}
 use Rattle.wit_model.specs.Names.{at_version, is_identity}
 use Rattle.wit_model.specs.Rules.{same_package_name}
 use Rattle.wit_model.specs.Text.{Text, text_eq, text_of}
-use Rattle.wit_model.specs.Uses.{owner_interface}
 use Rattle.wit_model.specs.Valid.{IsValid}
 use Rattle.wit_model.proofs.AnyOrder.{text-same}
 use Rattle.wit_model.proofs.NameLaws.{identity_namespace, label_lacks}
@@ -35,26 +29,20 @@ use Rattle.bind_match.specs.declared.matches.Matches.{Matches}
 use Rattle.bind_match.specs.Matching.{interface_in, is_root_world, own_interface_of, own_package_of, own_world_of, package_from}
 use Rattle.bind_clash.specs.Faults.{IsMatched}
 use Rattle.bind_clash.proofs.PathsMatched.{has-root, own-interface-there, world-in-there, world-path-of}
-use Rattle.bind_carry.specs.Bound.{bound_interfaces}
-use Rattle.bind_carry.specs.BoundGains.{gained_inline}
-use Rattle.bind_carry.specs.First.{first_fates, flag_under}
+use Rattle.bind_carry.specs.First.{flag_under}
 use Rattle.bind_carry.specs.Listed.{given_interface}
-use Rattle.bind_carry.specs.Marked.{is_inline_at, AreChosen}
-use Rattle.bind_carry.specs.Numbers.{copied_count, IsMemoryOrSize}
+use Rattle.bind_carry.specs.Marked.{AreChosen}
+use Rattle.bind_carry.specs.Numbers.{copied_count}
 use Rattle.bind_carry.specs.Renumbered.{is_matched}
 use Rattle.bind_carry.specs.Shown.{AreShownBelow}
-use Rattle.bind_carry.specs.TooLong.{carried_interfaces, carried_packages, carried_worlds, copies_of, gained_fates, IsTooLong, CarriedThings, TypeFates}
-use Rattle.bind_carry.specs.Which.{AreMatchedAll, IsNumbered}
-use Rattle.bind_carry.proofs.CountedCopies.{first_few, flags_few, gained_few, interfaces_flagged, second_few, world_flag, worlds_flagged, IsHomeCopied}
-use Rattle.bind_carry.proofs.FirstCarried.{chosen_so}
-use Rattle.bind_carry.proofs.Marking.{are_chosen}
-use Rattle.bind_carry.proofs.PartsCarried.{no_home}
+use Rattle.bind_carry.specs.TooLong.{carried_packages, carried_worlds}
+use Rattle.bind_carry.specs.Which.{AreMatchedAll}
+use Rattle.bind_carry.proofs.CountedCopies.{flags_few, world_flag, worlds_flagged}
 use Rattle.bind_carry.proofs.Ranges.{is_in_range, shown_below}
-use Rattle.bind_carry.proofs.SecondMarks.{gained_inline_alone}
-use Rattle.wit_bind.specs.Merges.{comes_twice, inline_of, is_new_interface, is_new_package, is_new_type, is_new_world, is_one_of, AreTooMany}
+use Rattle.wit_bind.specs.Comes.{is_new_interface, is_new_package, is_new_world, is_one_of}
 use Rattle.wit_bind.proofs.MatchedPaths.{all-matched}
 use Rattle.base_lemmas.proofs.Bools.{left_of as first_true, right_of as second_true}
-use Rattle.base_lemmas.proofs.Lists.{mapped_get as mapped_at, within_there}
+use Rattle.base_lemmas.proofs.Lists.{mapped_get as mapped_at}
 use Rattle.base_lemmas.proofs.Numbers.{same-number}
 use Rattle.std.proofs.lemmas.Option.{same_Some as same-some}
 use Rattle.wit_model.proofs.NameLaws.{identity_name as label-of}

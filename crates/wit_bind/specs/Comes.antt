@@ -1,5 +1,5 @@
 -- What comes of other bindings when they are merged into own ones: their packages, interfaces, worlds and types, by their numbers there.
-use Rattle.std.specs.Prelude.{◌≡◌, ◌⊎◌, ℕ, ◌+◌, ◌<◌, Bool, true, not, ◌&&◌, is_some, List, [], map, None}
+use Rattle.std.specs.Prelude.{◌≡◌, ◌⊎◌, ℕ, ◌+◌, ◌<◌, Bool, true, not, ◌&&◌, is_some, List, [], map, None, Some}
 use Rattle.std.specs.FinMap.{get}
 use Rattle.std.specs.List.{Contains, list_any}
 use Rattle.std.specs.Option.{option_map_or}
