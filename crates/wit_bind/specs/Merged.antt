@@ -17,10 +17,6 @@ use Rattle.wit_bind.specs.Merges.{export_keys, AddsNothing, GrowsWithin}
 abbrev pub ExportsGrowBy : Bindgen → Bindgen → List WorldKey → Type 0
 ExportsGrowBy old new keys = map key_view (export_keys new.resolve new.world.0) ≡ map key_view (export_keys old.resolve old.world.0 ++ keys)
 
--- What the bound world exports is what it exported, followed by what stands under these keys.
-abbrev pub ExportsGrowBy : Bindgen → Bindgen → List WorldKey → Type 0
-ExportsGrowBy old new keys = map key_view (export_keys new.resolve new.world.0) ≡ map key_view (export_keys old.resolve old.world.0 ++ keys)
-
 -- The two unite, and the own bindings have become their union. Own numbers stay, and what is new stands behind what was there, with its own documentation and
 -- stability; no more than comes, and nothing where nothing is new.
 -- The answer is the keys of the other's exports, as they stand here.
