@@ -20,7 +20,6 @@ use Rattle.wit_model.specs.Meant.{entries_meaning, no_world, world_meaning}
 use Rattle.wit_model.specs.Rules.{is_id}
 use Rattle.wit_model.specs.Text.{Text, text_eq}
 use Rattle.wit_model.specs.Uses.{item_interface}
-use Rattle.wit_model.proofs.AnyOrder.{text-same}
 use Rattle.wit_model.proofs.OnePath.{named-path}
 use Rattle.bind_meaning.specs.Clash.{entry_under, CanUnite}
 use Rattle.bind_meaning.proofs.WorldBindings.{export-key, import-key, keys-apart, IsKey}
@@ -29,7 +28,6 @@ use Rattle.bind_clash.proofs.KeysMatched.{no-entry}
 use Rattle.bind_copy.specs.Copies.{is_key_under, is_new_under, number_under}
 use Rattle.bind_match.specs.declared.matches.Matches.{Matches}
 use Rattle.bind_union.proofs.Lists.{no_true}
-use Rattle.bind_union.proofs.WorldNamesakes.{some_id}
 use Rattle.bind_carry.specs.Bound.{bound_interfaces}
 use Rattle.bind_carry.specs.BoundGains.{bound_fates, gained_inline, gains_any}
 use Rattle.bind_carry.specs.Fates.{copies}
@@ -62,6 +60,8 @@ use Rattle.base_lemmas.proofs.Bools.{left_of as first_true, right_of as second_t
 use Rattle.base_lemmas.proofs.Elements.{get-contains}
 use Rattle.base_lemmas.proofs.Lists.{within_there}
 use Rattle.base_lemmas.proofs.Options.{there as some-of}
+use Rattle.wit_model.proofs.RulesLemmas.{is_id_some as some_id}
+use Rattle.wit_model.proofs.TextLemmas.{text_same as text-same}
 
 -- ---- lists
 

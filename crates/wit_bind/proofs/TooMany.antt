@@ -17,7 +17,6 @@ use Rattle.wit_model.specs.Names.{at_version, is_identity}
 use Rattle.wit_model.specs.Rules.{same_package_name}
 use Rattle.wit_model.specs.Text.{Text, text_eq, text_of}
 use Rattle.wit_model.specs.Valid.{IsValid}
-use Rattle.wit_model.proofs.AnyOrder.{text-same}
 use Rattle.wit_model.proofs.NameLaws.{identity_namespace, label_lacks}
 use Rattle.wit_model.proofs.OnePath.{package-name}
 use Rattle.wit_model.proofs.VersionLaws.{same_name}
@@ -37,7 +36,7 @@ use Rattle.bind_carry.specs.Renumbered.{is_matched}
 use Rattle.bind_carry.specs.Shown.{AreShownBelow}
 use Rattle.bind_carry.specs.TooLong.{carried_packages, carried_worlds}
 use Rattle.bind_carry.specs.Which.{AreMatchedAll}
-use Rattle.bind_carry.proofs.CountedCopies.{flags_few, world_flag, worlds_flagged}
+use Rattle.bind_carry.proofs.CountedCopies.{flags_few, worlds_flagged}
 use Rattle.bind_carry.proofs.Ranges.{is_in_range, shown_below}
 use Rattle.wit_bind.specs.Comes.{is_new_interface, is_new_package, is_new_world, is_one_of}
 use Rattle.wit_bind.proofs.MatchedPaths.{all-matched}
@@ -46,6 +45,8 @@ use Rattle.base_lemmas.proofs.Lists.{mapped_get as mapped_at}
 use Rattle.base_lemmas.proofs.Numbers.{same-number}
 use Rattle.std.proofs.lemmas.Option.{same_Some as same-some}
 use Rattle.wit_model.proofs.NameLaws.{identity_name as label-of}
+use Rattle.bind_carry.proofs.NamesGained.{new_world_flag as world_flag}
+use Rattle.wit_model.proofs.TextLemmas.{text_same as text-same}
 
 untrue : {A : Type 0} → false ≡ true → A
 untrue e = let no : ⊥ = cc in absurd no

@@ -26,6 +26,7 @@ use Rattle.wit_bind.specs.Bindings.{binding_of}
 
 -- ---- by name and by path
 
+-- whether a text is one of these
 abbrev pub is_one_of : List Text → Text → Bool
 is_one_of texts text = list_any (text_eq text) texts
 
@@ -63,9 +64,11 @@ pub record InlineComes (own other : Resolve) (n : ℕ) : Type 0 where
   pub held : Contains comes.world.imports.entries entry ⊎ Contains comes.world.exports.entries entry
   pub shown : item_interface entry.1 ≡ Some n
 
+-- The interface of this number comes: by its path, or with a world.
 abbrev pub InterfaceComes : Resolve → Resolve → ℕ → Type 0
 InterfaceComes own other n = NamedComes own other n ⊎ InlineComes own other n
 
+-- Some interface or world comes.
 abbrev pub SomethingComes : Resolve → Resolve → Type 0
 SomethingComes own other = (n : ℕ) × (InterfaceComes own other n ⊎ WorldComes own other n)
 
@@ -89,25 +92,29 @@ TypeComes own other n = IsOwnedBy other.types.items (OwnerComes own other) n ⊎
 
 -- ---- what the own bound world gains
 
--- what a bound world imports, and what it exports
+-- what a bound world imports
 abbrev pub bound_imports : Bindgen → List (WorldKey × WorldItem)
 bound_imports b = option_map_or (λ w. w.imports.entries) (world_at b.resolve b.world.0) []
 
+-- what a bound world exports
 abbrev pub bound_exports : Bindgen → List (WorldKey × WorldItem)
 bound_exports b = option_map_or (λ w. w.exports.entries) (world_at b.resolve b.world.0) []
 
--- An import of the other's bound world is gained, if the own one has none under its label or path; and so is an export.
+-- An import of the other's bound world is gained, if the own one has none under its label or path.
 pub record ImportIsGained (own other : Bindgen) (e : WorldKey × WorldItem) : Type 0 where
   pub held : Contains (bound_imports other) e
   pub is_new : entry_under (key_text other.resolve e.0) (binding_of own).bound.imports ≡ None
 
+-- An export of the other's bound world is gained, if the own one has none under its label or path.
 pub record ExportIsGained (own other : Bindgen) (e : WorldKey × WorldItem) : Type 0 where
   pub held : Contains (bound_exports other) e
   pub is_new : entry_under (key_text other.resolve e.0) (binding_of own).bound.exports ≡ None
 
+-- It is gained as an import, or as an export.
 abbrev pub IsGained : Bindgen → Bindgen → WorldKey × WorldItem → Type 0
 IsGained own other e = ImportIsGained own other e ⊎ ExportIsGained own other e
 
+-- Some import or export is gained.
 abbrev pub SomethingIsGained : Bindgen → Bindgen → Type 0
 SomethingIsGained own other = (e : WorldKey × WorldItem) × IsGained own other e
 
@@ -124,6 +131,7 @@ pub record TypeIsImport (own other : Bindgen) (n : ℕ) : Type 0 where
   pub gained : ImportIsGained own other entry
   pub is_type : item_type entry.1 ≡ Some n
 
+-- the owner of a type is an inline interface that is gained
 abbrev pub OwnerIsGained : Bindgen → Bindgen → TypeOwner → Type 0
 OwnerIsGained own other (owner.Interface id) = InlineIsGained own other id.0
 OwnerIsGained own other _ = ⊥
