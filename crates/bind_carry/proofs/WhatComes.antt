@@ -29,7 +29,7 @@ use Rattle.bind_union.proofs.Lists.{no_true}
 use Rattle.bind_union.proofs.WorldNamesakes.{type_imported, world_type, IsImported}
 use Rattle.bind_carry.specs.BoundGains.{bound_fates, gains_any, type_under_key, unified}
 use Rattle.bind_carry.specs.Fates.{are_carried, carries, copies, is_carried, settled, settled_from, FallBelow}
-use Rattle.bind_carry.specs.First.{adds_any, beside_first, fate_beside, fate_in, fate_named, fate_of, first_fates, flag_under, is_named_at, second_from, second_in}
+use Rattle.bind_carry.specs.First.{adds_any, beside_first, fate_in, fate_named, fate_of, first_fates, flag_under, is_named_at, second_from, second_in}
 use Rattle.bind_carry.specs.Listed.{given_interface, type_named}
 use Rattle.bind_carry.specs.MadeOf.{owned, type_parts, unnamed, IsMadeOf, IsMadeUp, IsOwnedBy}
 use Rattle.bind_carry.specs.Numbers.{copied_count}
@@ -49,6 +49,7 @@ use Rattle.base_lemmas.proofs.Bools.{left_of, right_of}
 use Rattle.base_lemmas.proofs.Elements.{all-contained, get-contains}
 use Rattle.base_lemmas.proofs.Lists.{within_there}
 use Rattle.base_lemmas.proofs.Numbers.{equal}
+use Rattle.bind_carry.proofs.FirstTypes.{beside_stands, named_no_copy}
 
 -- ---- marks
 
@@ -159,21 +160,9 @@ module _ (adds : Bool) (types : List TypeDef) (fates : List Fate) (falls : FallB
 module _ (own other : Resolve) (valid_other : IsValid other) (matched : List (Option InterfaceId)) (c : CarriedThings) (Copied Owner : TypeOwner → Type 0)
     (copied_interface : (id : InterfaceId) → flag_under c.copied_interfaces.items id.0 ≡ true → Copied (owner.Interface id)) (copied_world : (id : WorldId) → flag_under c.copied_worlds.items id.0 ≡ true → Copied (owner.World id))
     (copied_owner : (o : TypeOwner) → Copied o → Owner o) (matched_owner : (id : InterfaceId) → is_matched matched id.0 ≡ true → Owner (owner.Interface id)) where
-  beside_left : (o : Option TypeId) → copies (fate_beside o) ≡ false
-  beside_left None = refl
-  beside_left (Some id) = refl
-
-  named_left : (n : ℕ) (name : Option Text) → copies (fate_named own matched n name) ≡ false
-  named_left n None = refl
-  named_left n (Some name) = beside_left (type_named own matched n name)
-
-  beside_carried : (o : Option TypeId) → carries (fate_beside o) ≡ true → is_some o ≡ true
-  beside_carried None h = no_true h
-  beside_carried (Some id) h = refl
-
   named_matched : (n : ℕ) (name : Option Text) → carries (fate_named own matched n name) ≡ true → is_matched matched n ≡ true
   named_matched n None h = no_true h
-  named_matched n (Some name) h = by (given_interface (slice_get matched n)) refl (beside_carried (type_named own matched n name) h)
+  named_matched n (Some name) h = by (given_interface (slice_get matched n)) refl (beside_stands (type_named own matched n name) h)
     where
       by : (o : Option InterfaceId) → given_interface (slice_get matched n) ≡ o → is_some (type_named own matched n name) ≡ true → is_matched matched n ≡ true
       by None e k = no_true (sym (ap (λ (o : Option InterfaceId). is_some (option_and_then (λ id. option_and_then (λ i. get_by_text i.types name) (interface_at own id.0)) o)) e) ∙ k)
@@ -190,7 +179,7 @@ module _ (own other : Resolve) (valid_other : IsValid other) (matched : List (Op
     where
       by : (b : Bool) → flag_under c.copied_interfaces.items id.0 ≡ b → (f : Fate) → copies (if b then f else fate_named own matched id.0 name) ≡ true → Copied (owner.Interface id)
       by true e f k = copied_interface id e
-      by false e f k = no_true (sym (named_left id.0 name) ∙ k)
+      by false e f k = no_true (sym (named_no_copy own matched id.0 name) ∙ k)
 
   begins_carried : (o : TypeOwner) (name : Option Text) → carries (fate_in own matched c o name) ≡ true → Owner o
   begins_carried owner.None name h = no_true h
