@@ -1,10 +1,10 @@
-/* WIT packages and core modules as bytes and as text, for C and C++: the functions of libwitc_ffi.a.
+/* WIT packages and core modules as bytes and as text, for C and C++. Link with `pkg-config --libs witc`; witc.hpp has the same for C++17.
  *
  * Each call takes bytes as a pointer and a length, answers a status, and puts bytes of its own into an answer:
  *
  *     witc_answer answer = WITC_NO_ANSWER;
- *     uint8_t status = witc_print(bytes, length, &answer);
- *     fwrite(answer.at, 1, answer.length, stdout);
+ *     uint8_t status = witc_package_text(bytes, length, &answer);
+ *     if (answer.length > 0) fwrite(answer.at, 1, answer.length, stdout);
  *     witc_free(&answer);
  *
  * What a caller owes, of each call:
@@ -27,6 +27,9 @@
 extern "C" {
 #endif
 
+/* The number of this interface, which the name of the shared library ends in. */
+#define WITC_ABI 1
+
 /* The call is done, and the answer is what was asked for. */
 #define WITC_DONE 0
 /* The bytes, or the worlds, are refused. The answer is the refusal's text, one line. */
@@ -45,7 +48,7 @@ typedef struct witc_answer {
 
 #define WITC_NO_ANSWER { NULL, 0, NULL }
 
-/* Frees the bytes of an answer, which is WITC_NO_ANSWER from then on. One that has no bytes is left as it is. */
+/* Frees the bytes of an answer, which is WITC_NO_ANSWER from then on: to hand it in again does nothing. */
 void witc_free(witc_answer *answer);
 
 /* The functions of the library, for which no pointer is null, also not with the length 0. */
@@ -62,26 +65,26 @@ static inline const uint8_t *witc_some(const uint8_t *bytes) {
 }
 
 /* The bytes of a WIT package to its text, as `witc print` writes it: WITC_DONE, WITC_REFUSED or WITC_LACKING. */
-static inline uint8_t witc_print(const uint8_t *bytes, size_t length, witc_answer *answer) {
+static inline uint8_t witc_package_text(const uint8_t *bytes, size_t length, witc_answer *answer) {
     return witc_print_slice(witc_some(bytes), length, answer);
 }
 
 /* The bytes of a core module to the text of what its sections that carry worlds bind together, as `witc module` writes it: WITC_DONE, WITC_REFUSED or
  * WITC_LACKING. */
-static inline uint8_t witc_module(const uint8_t *bytes, size_t length, witc_answer *answer) {
+static inline uint8_t witc_module_text(const uint8_t *bytes, size_t length, witc_answer *answer) {
     return witc_module_slice(witc_some(bytes), length, answer);
 }
 
 /* The bytes of a core module to those without these sections, as `witc strip` writes them: WITC_DONE, WITC_REFUSED or WITC_LACKING. */
-static inline uint8_t witc_strip(const uint8_t *bytes, size_t length, witc_answer *answer) {
+static inline uint8_t witc_module_strip(const uint8_t *bytes, size_t length, witc_answer *answer) {
     return witc_strip_slice(witc_some(bytes), length, answer);
 }
 
 /* Whether the package's world `next` may take the place of its world `prev`, as `witc compat` answers it: WITC_DONE with the line `compatible`,
- * WITC_REFUSED, WITC_NO_WORLD or WITC_LACKING. The names are UTF-8. */
-static inline uint8_t witc_compat(const uint8_t *bytes, size_t length, const uint8_t *prev, size_t prev_length, const uint8_t *next, size_t next_length,
+ * WITC_REFUSED, WITC_NO_WORLD or WITC_LACKING. The names are UTF-8, and need no zero at their end. */
+static inline uint8_t witc_compat(const uint8_t *bytes, size_t length, const char *prev, size_t prev_length, const char *next, size_t next_length,
                                   witc_answer *answer) {
-    return witc_compat_slices(witc_some(bytes), length, witc_some(prev), prev_length, witc_some(next), next_length, answer);
+    return witc_compat_slices(witc_some(bytes), length, witc_some((const uint8_t *)prev), prev_length, witc_some((const uint8_t *)next), next_length, answer);
 }
 
 #ifdef __cplusplus

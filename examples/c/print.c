@@ -1,6 +1,6 @@
-/* Does what `witc print`, `module`, `strip` and `compat PREV NEW` do, by the library. From the top of the repository, with $KIT as examples/run finds it:
+/* Does what `witc print`, `module`, `strip` and `compat PREV NEW` do, by the library. Behind `./install PREFIX`, with PREFIX/lib/pkgconfig in PKG_CONFIG_PATH:
  *
- *     cc -Iinclude examples/c/print.c crates/witc_ffi/out/libwitc_ffi.a $KIT/c/liblibc_c.a -o print
+ *     cc examples/c/print.c $(pkg-config --cflags --libs witc) -o print
  *     ./print print < package.wasm
  */
 #include <stdio.h>
@@ -52,13 +52,13 @@ int main(int count, char **words) {
         return 1;
     }
     if (prints) {
-        status = witc_print(bytes, length, &answer);
+        status = witc_package_text(bytes, length, &answer);
     } else if (binds) {
-        status = witc_module(bytes, length, &answer);
+        status = witc_module_text(bytes, length, &answer);
     } else if (strips) {
-        status = witc_strip(bytes, length, &answer);
+        status = witc_module_strip(bytes, length, &answer);
     } else {
-        status = witc_compat(bytes, length, (const uint8_t *)words[2], strlen(words[2]), (const uint8_t *)words[3], strlen(words[3]), &answer);
+        status = witc_compat(bytes, length, words[2], strlen(words[2]), words[3], strlen(words[3]), &answer);
     }
     free(bytes);
     if (status == WITC_LACKING) fputs("want of memory\n", stderr);

@@ -1,0 +1,46 @@
+/* The calls that the tests in C make, each of one input, and the inputs as files. */
+#include <stdio.h>
+#include <stdlib.h>
+#include <string.h>
+
+#include "witc.h"
+
+typedef uint8_t plain_call(const uint8_t *bytes, size_t length, witc_answer *answer);
+
+static uint8_t compat_of_services(const uint8_t *bytes, size_t length, witc_answer *answer) {
+    return witc_compat(bytes, length, "service", 7, "service-next", 12, answer);
+}
+
+static uint8_t compat_with_nobody(const uint8_t *bytes, size_t length, witc_answer *answer) {
+    return witc_compat(bytes, length, "service", 7, "nobody", 6, answer);
+}
+
+static uint8_t compat_of_no_names(const uint8_t *bytes, size_t length, witc_answer *answer) {
+    return witc_compat(bytes, length, "\xff", 1, NULL, 0, answer);
+}
+
+static plain_call *const CALLS[] = {witc_package_text, witc_module_text, witc_module_strip, compat_of_services, compat_with_nobody, compat_of_no_names};
+enum { CALLS_COUNT = sizeof CALLS / sizeof *CALLS };
+
+typedef struct input {
+    uint8_t *at;
+    size_t length;
+} input;
+
+/* The bytes of a file, without room behind them. No bytes are a null pointer. */
+static input read_file(const char *name) {
+    input it = {NULL, 0};
+    FILE *file = fopen(name, "rb");
+    if (!file || fseek(file, 0, SEEK_END)) exit(4);
+    it.length = (size_t)ftell(file);
+    rewind(file);
+    if (it.length > 0) it.at = malloc(it.length);
+    if (it.length > 0 && (!it.at || fread(it.at, 1, it.length, file) < it.length)) exit(4);
+    fclose(file);
+    return it;
+}
+
+/* Whether two answers have the same bytes. */
+static int are_equal(const witc_answer *a, const witc_answer *b) {
+    return a->length == b->length && (a->length == 0 || !memcmp(a->at, b->at, a->length));
+}

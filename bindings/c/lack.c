@@ -1,0 +1,70 @@
+/* Want of memory at each request of each call: ./lack FILE.. Linked with -Wl,--wrap=malloc,--wrap=realloc and the static archive.
+ *
+ * The request of number N fails, with all behind it, or alone. A call has to answer WITC_LACKING and no bytes, or what it answers undisturbed; and after it
+ * nothing is left, which a count of blocks says. */
+#include "calls.h"
+
+void *__real_malloc(size_t size);
+void *__real_realloc(void *at, size_t size);
+void __real_free(void *at);
+
+static long requests, failing = -1, blocks;
+static int alone;
+
+static int fails(void) {
+    long number = requests++;
+    return failing >= 0 && (alone ? number == failing : number >= failing);
+}
+
+void *__wrap_malloc(size_t size) {
+    void *at = fails() ? NULL : __real_malloc(size);
+    if (at) blocks++;
+    return at;
+}
+
+void *__wrap_realloc(void *at, size_t size) {
+    void *new = fails() ? NULL : __real_realloc(at, size);
+    if (new && !at) blocks++;
+    return new;
+}
+
+void __wrap_free(void *at) {
+    if (at) blocks--;
+    __real_free(at);
+}
+
+/* Makes one call as often as it makes requests, and once more. The answer counts what is wrong. */
+static long tried(plain_call *call, input it, long *calls) {
+    long wrong = 0;
+    witc_answer wanted = WITC_NO_ANSWER;
+    uint8_t said = call(it.at, it.length, &wanted);
+    for (long n = 0, reached = 1; reached; n++) {
+        witc_answer answer = WITC_NO_ANSWER;
+        long before = blocks;
+        requests = 0;
+        failing = n;
+        uint8_t status = call(it.at, it.length, &answer);
+        failing = -1;
+        reached = requests > n;
+        if (status == WITC_LACKING ? !reached || answer.length || answer.at || answer.owner : status != said || !are_equal(&answer, &wanted)) wrong++;
+        witc_free(&answer);
+        witc_free(&answer);
+        if (blocks != before || answer.length || answer.at || answer.owner) wrong++;
+        ++*calls;
+    }
+    witc_free(&wanted);
+    return wrong;
+}
+
+int main(int count, char **words) {
+    long wrong = 0, calls = 0;
+    for (alone = 0; alone < 2; alone++) {
+        for (int i = 1; i < count; i++) {
+            input it = read_file(words[i]);
+            for (int n = 0; n < CALLS_COUNT; n++) wrong += tried(CALLS[n], it, &calls);
+            free(it.at);
+        }
+    }
+    printf("%ld calls with a request refused, %ld wrong\n", calls, wrong);
+    return wrong != 0;
+}

@@ -1,0 +1,70 @@
+// The samples of this repository, and bad input: ./test EXAMPLES, where EXAMPLES is the folder examples.
+#include <cstdlib>
+#include <fstream>
+#include <iostream>
+#include <iterator>
+#include <string>
+#include <type_traits>
+#include <utility>
+
+#include "witc.hpp"
+
+static_assert(!std::is_copy_constructible_v<witc::bytes> && std::is_nothrow_move_constructible_v<witc::bytes>);
+
+static std::string folder;
+
+static std::string sample(const std::string &name) {
+    std::ifstream file(folder + "/" + name, std::ios::binary);
+    return {std::istreambuf_iterator<char>(file), {}};
+}
+
+static void want(bool holds, std::string_view what) {
+    if (holds) return;
+    std::cerr << "test: " << what << '\n';
+    std::exit(1);
+}
+
+template <class Call> static std::string refusal_of(std::uint8_t status, Call call) {
+    try {
+        call();
+    } catch (const witc::refusal &r) {
+        want(r.status() == status, r.what());
+        return r.what();
+    }
+    want(false, "not refused");
+    return {};
+}
+
+static void moves() {
+    witc::bytes text = witc::package_text(sample("packages/clock.wasm"));
+    witc::bytes moved = std::move(text);
+    want(text.empty() && text.data() == nullptr && text.view().empty(), "a value that was moved from has no bytes");
+    want(moved.view() == sample("packages/clock.wit"), "a moved value has the bytes");
+    moved = witc::package_text(sample("packages/files.wasm"));
+    witc::bytes &same = moved;
+    moved = std::move(same);
+    want(moved.view() == sample("packages/files.wit"), "a value moved to itself keeps its bytes");
+}
+
+int main(int count, char **words) {
+    if (count != 2) return 2;
+    folder = words[1];
+    const std::string module = sample("modules/service.wasm"), stripped = sample("modules/service.stripped.wasm"), package = sample("packages/services.wasm");
+    const std::string empty("\0asm\1\0\0\0", 8);
+    moves();
+    want(witc::package_text(package).view() == sample("packages/services.wit"), "the text of a package");
+    want(witc::module_text(module).view() == sample("modules/service.wit"), "the text of a module");
+    want(witc::module_strip(module).view() == stripped, "a module stripped");
+    want(witc::module_strip(stripped).view() == stripped && witc::module_strip(empty).view() == empty, "a module that has nothing to strip");
+    witc::compat(package, "service", "service-next");
+    want(refusal_of(WITC_REFUSED, [&] { witc::compat(package, "service", "service-bytes"); }) == "differs: handle", "a world that differs");
+    want(refusal_of(WITC_NO_WORLD, [&] { witc::compat(package, "nobody", "service"); }) == "no such world: nobody", "a world that isn't there");
+    refusal_of(WITC_NO_WORLD, [&] { witc::compat(package, "service", "\xff"); });
+    refusal_of(WITC_NO_WORLD, [&] { witc::compat(package, "service", {}); });
+    for (std::string_view bad : {std::string_view(), std::string_view("no package"), std::string_view(empty), std::string_view(package).substr(0, 40)}) {
+        want(refusal_of(WITC_REFUSED, [&] { witc::package_text(bad); }).rfind("no reading: ", 0) == 0, "bytes that are no package");
+    }
+    refusal_of(WITC_REFUSED, [&] { witc::module_text(package); });
+    refusal_of(WITC_REFUSED, [&] { witc::module_strip({}); });
+    std::cout << "c++: passed\n";
+}

@@ -1,0 +1,103 @@
+"""The samples of this repository, and bad input. With WITC_CALLS in the environment also the calls that this file lists, one a line: the input's file, the file of what
+is answered, the status and the words, with a tab between each and the next.
+
+    WITC_LIBRARY=PREFIX/lib/libwitc.so.1 python3 bindings/python/test_witc.py
+"""
+
+import os
+import sys
+import threading
+import unittest
+
+import witc
+
+TOP = os.path.join(os.path.dirname(os.path.abspath(__file__)), "..", "..")
+EMPTY = b"\0asm\1\0\0\0"
+sys.path.insert(0, os.path.join(TOP, "examples", "python"))
+
+
+def read(path):
+    with open(path, "rb") as file:
+        return file.read()
+
+
+def sample(name):
+    return read(os.path.join(TOP, "examples", name))
+
+
+class Calls(unittest.TestCase):
+    def refused(self, status, message, call, *words):
+        with self.assertRaises(witc.Refusal) as raised:
+            call(*words)
+        self.assertEqual((raised.exception.status, str(raised.exception)), (status, message))
+
+    def test_packages(self):
+        for name in "clock", "files", "services":
+            self.assertEqual(witc.package_text(sample(f"packages/{name}.wasm")).encode(), sample(f"packages/{name}.wit"))
+
+    def test_modules(self):
+        module, stripped = sample("modules/service.wasm"), sample("modules/service.stripped.wasm")
+        self.assertEqual(witc.module_text(module).encode(), sample("modules/service.wit"))
+        for given, wanted in (module, stripped), (stripped, stripped), (EMPTY, EMPTY):
+            for kind in bytes, bytearray, memoryview:
+                self.assertEqual(witc.module_strip(kind(given)), wanted)
+
+    def test_worlds(self):
+        package = sample("packages/services.wasm")
+        self.assertIsNone(witc.compat(package, "service", b"service-next"))
+        self.refused(witc.REFUSED, "differs: handle", witc.compat, package, "service", "service-bytes")
+        for prev, new, name in ("nobody", "service", "nobody"), ("service", "caf\u00e9", "caf\u00e9"), ("", "service", ""):
+            self.refused(witc.NO_WORLD, f"no such world: {name}", witc.compat, package, prev, new)
+        with self.assertRaises(witc.Refusal) as raised:
+            witc.compat(package, b"\xff", "service")
+        self.assertEqual(raised.exception.status, witc.NO_WORLD)
+
+    def test_bad_bytes(self):
+        package = sample("packages/clock.wasm")
+        for given in b"", b"\0", EMPTY, b"no package", package[: len(package) // 2]:
+            with self.assertRaisesRegex(witc.Refusal, "^no reading: "):
+                witc.package_text(given)
+        for call in witc.module_text, witc.module_strip:
+            for given in b"", package, EMPTY + b"\1":
+                self.assertRaises(witc.Refusal, call, given)
+
+    def test_other_types(self):
+        for given in "text", 7, None, [1]:
+            for call in witc.package_text, witc.module_text, witc.module_strip:
+                self.assertRaises(TypeError, call, given)
+        self.assertRaises(TypeError, witc.compat, b"", 7, "a")
+
+    def test_damaged_bytes(self):
+        package = sample("packages/files.wasm")
+        for at in range(len(package)):
+            for given in package[:at], package[:at] + bytes([package[at] ^ 0x81]) + package[at + 1 :]:
+                for call in witc.package_text, witc.module_text, witc.module_strip:
+                    try:
+                        self.assertGreater(len(call(given)), 0)
+                    except witc.Refusal as refusal:
+                        self.assertEqual(refusal.status, witc.REFUSED)
+
+    def test_threads(self):
+        module, text, wrong = sample("modules/service.wasm"), sample("modules/service.wit"), []
+
+        def run():
+            wrong.extend(1 for _ in range(20) if witc.module_text(module).encode() != text)
+
+        threads = [threading.Thread(target=run) for _ in range(4)]
+        for thread in threads:
+            thread.start()
+        for thread in threads:
+            thread.join()
+        self.assertEqual(wrong, [])
+
+    @unittest.skipUnless("WITC_CALLS" in os.environ, "no list of calls")
+    def test_listed(self):
+        from print import told
+
+        for line in read(os.environ["WITC_CALLS"]).splitlines():
+            given, wanted, status, *words = map(os.fsdecode, line.split(b"\t"))
+            self.assertEqual(told(words, read(given)), (read(wanted), int(status)), words)
+
+
+if __name__ == "__main__":
+    unittest.main()

@@ -1,0 +1,53 @@
+//! Does what `witc print`, `module`, `strip` and `compat PREV NEW` do, by the library. Behind `./install PREFIX`, with PREFIX/lib/pkgconfig in
+//! PKG_CONFIG_PATH:
+//!
+//!     cargo run --manifest-path bindings/rust/Cargo.toml --example print -- print < package.wasm
+
+use std::env;
+use std::io::{self, Read, Write};
+use std::process::ExitCode;
+
+use witc::{Kind, Refusal};
+
+/// What a call answers, and what it is refused for as the line and the status that `witc` answers.
+fn told(answer: Result<Vec<u8>, Refusal>) -> (Vec<u8>, u8) {
+    match answer {
+        Ok(bytes) => (bytes, 0),
+        Err(Refusal {
+            kind: Kind::Refused,
+            message,
+        }) => (format!("refused: {message}\n").into_bytes(), 1),
+        Err(Refusal {
+            kind: Kind::NoWorld,
+            message,
+        }) => (format!("{message}\n").into_bytes(), 2),
+    }
+}
+
+fn main() -> ExitCode {
+    let words: Option<Vec<String>> = env::args_os()
+        .skip(1)
+        .map(|word| word.into_string().ok())
+        .collect();
+    let words = words.unwrap_or_default();
+    let words: Vec<&str> = words.iter().map(String::as_str).collect();
+    if !matches!(words[..], ["print" | "module" | "strip"] | ["compat", _, _]) {
+        eprintln!("usage: print print | module | strip | compat PREV NEW");
+        return ExitCode::from(2);
+    }
+    let mut bytes = Vec::new();
+    if io::stdin().read_to_end(&mut bytes).is_err() {
+        eprintln!("the input can't be read");
+        return ExitCode::FAILURE;
+    }
+    let (answer, status) = told(match words[..] {
+        [_, prev, next] => witc::compat(&bytes, prev, next).map(|()| b"compatible\n".to_vec()),
+        ["module"] => witc::module_text(&bytes),
+        ["strip"] => witc::module_strip(&bytes),
+        _ => witc::package_text(&bytes),
+    });
+    if io::stdout().write_all(&answer).is_err() {
+        return ExitCode::FAILURE;
+    }
+    ExitCode::from(status)
+}

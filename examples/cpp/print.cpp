@@ -1,0 +1,45 @@
+// Does what `witc print`, `module`, `strip` and `compat PREV NEW` do, by the library. Behind `./install PREFIX`, with PREFIX/lib/pkgconfig in PKG_CONFIG_PATH:
+//
+//     c++ -std=c++17 examples/cpp/print.cpp $(pkg-config --cflags --libs witc) -o print
+//     ./print print < package.wasm
+#include <iostream>
+#include <iterator>
+#include <string>
+#include <string_view>
+#include <vector>
+
+#include "witc.hpp"
+
+static void answer(const std::vector<std::string_view> &words, std::string_view bytes) {
+    if (words[0] == "print") {
+        std::cout << witc::package_text(bytes).view();
+    } else if (words[0] == "module") {
+        std::cout << witc::module_text(bytes).view();
+    } else if (words[0] == "strip") {
+        std::cout << witc::module_strip(bytes).view();
+    } else {
+        witc::compat(bytes, words[1], words[2]);
+        std::cout << "compatible\n";
+    }
+}
+
+int main(int count, char **given) {
+    std::vector<std::string_view> words(given + 1, given + count);
+    bool plain = words.size() == 1 && (words[0] == "print" || words[0] == "module" || words[0] == "strip");
+    if (!plain && !(words.size() == 3 && words[0] == "compat")) {
+        std::cerr << "usage: print print | module | strip | compat PREV NEW\n";
+        return 2;
+    }
+    std::string bytes(std::istreambuf_iterator<char>(std::cin), {});
+    int status = 0;
+    try {
+        answer(words, bytes);
+    } catch (const witc::refusal &r) {
+        std::cout << (r.status() == WITC_REFUSED ? "refused: " : "") << r.what() << '\n';
+        status = r.status();
+    } catch (const std::bad_alloc &) {
+        std::cerr << "want of memory\n";
+        status = WITC_LACKING;
+    }
+    return std::cout.flush() ? status : WITC_REFUSED;
+}
