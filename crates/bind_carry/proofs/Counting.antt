@@ -78,6 +78,14 @@ inline_long types home copied interfaces old new c =
     let few : length (kept copied interfaces) ≤ copied_count copied = kept_few copied interfaces in
     omega (arith, more, both, few)
 
+-- and as many where each has a flag
+pub inline_all : (types : List ℕ) (home : Option PackageId) (copied : List Bool) (interfaces old new : List Interface) → length copied ≡ length interfaces → AreInlineCopied types home copied interfaces old new → length new ≡ length old + copied_count copied
+inline_all types home copied interfaces old new count c =
+    let more : length (kept copied interfaces) ≡ length c.more = zip_long (IsInterfaceUnder types home) (kept copied interfaces) c.more c.copies in
+    let both : length new ≡ length old + length c.more = ap length c.behind ∙ length_both old c.more in
+    let all : length (kept copied interfaces) ≡ copied_count copied = kept_all copied interfaces count in
+    omega (arith, more, both, all)
+
 -- ---- answers
 
 -- what holds anyway holds where an answer is there

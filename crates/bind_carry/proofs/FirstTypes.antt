@@ -81,7 +81,7 @@ settled_no_copy (fate.Stands k) may h = refl
 settled_no_copy (fate.Copied home) may h = no_false h
 
 -- what is carried without a copy stands for an own type
-beside_stands : (o : Option TypeId) → carries (fate_beside o) ≡ true → is_some o ≡ true
+pub beside_stands : (o : Option TypeId) → carries (fate_beside o) ≡ true → is_some o ≡ true
 beside_stands None h = no_true h
 beside_stands (Some id) h = refl
 

@@ -63,3 +63,4 @@ pub mod UnionDistinct
 pub mod UnionKeys
 pub mod PackageTexts
 pub mod NamesMerged
+pub mod WhatComes

@@ -28,4 +28,5 @@ pub mod AddedDistinct
 pub mod AddedKeys
 pub mod ListedNames
 pub mod AddedNames
+pub mod MadeOf
 pub mod OfBound

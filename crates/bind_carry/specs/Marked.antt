@@ -19,6 +19,7 @@ use Rattle.bind_carry.specs.Whole.{kept}
 
 -- ---- flags, one after the other
 
+-- whether the interface of this number has no name
 abbrev pub is_inline_at : Resolve → ℕ → Bool
 is_inline_at r n = option_map_or (λ i. is_none i.name) (interface_at r n) false
 

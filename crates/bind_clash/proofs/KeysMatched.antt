@@ -41,7 +41,7 @@ one-text r (key.Interface a) (key.Name b) e = untrue e
 one-text r (key.Interface a) (key.Interface b) e = ap (λ (n : ℕ). unwrap_or (interface_path r n) []) (equal a.0 b.0 e)
 
 -- under a text that is no key's nothing is found
-no-entry : (r : Resolve) (t : Text) (es : List (WorldKey × WorldItem)) → ((e : WorldKey × WorldItem) → Contains es e → text_eq t (key_text r e.0) ≡ false) → find text_cmp t (entries_meaning r es) ≡ None
+pub no-entry : (r : Resolve) (t : Text) (es : List (WorldKey × WorldItem)) → ((e : WorldKey × WorldItem) → Contains es e → text_eq t (key_text r e.0) ≡ false) → find text_cmp t (entries_meaning r es) ≡ None
 no-entry r t [] none = refl
 no-entry r t (e ∷ es) none =
     ap (λ b. cond b (Some (entry_meaning r e.1)) (find text_cmp t (entries_meaning r es))) (sym (eq_by_text t (key_text r e.0)) ∙ none e (first-contained e es))

@@ -16,7 +16,7 @@ pub data IsReached (input : List ℕ) : Bindgen → List ℕ → Type 0 where
   passed : (b : Bindgen) (bytes rest : List ℕ) (f : Framed) → IsReached input b bytes → IsInFront bytes f rest → (Carries f → ⊥) → IsReached input b rest
   merged : (own other new : Bindgen) (answer : List WorldKey) (bytes d rest : List ℕ) → IsReached input own bytes → IsDataInFront bytes d rest → IsBoundBy d other → IsMerge own other new answer → IsReached input new rest
 
--- Behind some first sections stands one that carries a world, and a list of what has been reached would pass the longest with all that may come of what it binds.
+-- Behind some first sections stands one that carries a world, and a list of what has been reached would pass the longest with what comes of what it binds.
 pub record OutgrowsLists (input : List ℕ) : Type 0 where
   pub own : Bindgen
   pub bytes : List ℕ
@@ -26,4 +26,4 @@ pub record OutgrowsLists (input : List ℕ) : Type 0 where
   pub next : IsDataInFront bytes data_ rest
   pub other : Bindgen
   pub binds : IsBoundBy data_ other
-  pub too_many : AreTooMany own.resolve other.resolve other.world.0
+  pub too_many : AreTooMany own other

@@ -252,7 +252,7 @@ module _ (own other merged : Resolve) (valid_own : IsValid own) (valid_other : I
     where
       one : (n : ℕ) (y : TypeDef) → type_at merged n ≡ Some y → is_bare_type y ≡ true
       one n y at_y = elim (either n (length own.types.items)) [
-        | inl low ↦ (let t = element_at own.types.items n low in let here : y ≡ t.0 = same-some y t.0 (sym at_y ∙ (ap (λ l. slice_get l n) a.types ∙ at_front own.types.items added.types.items n t.0 t.1)) in ap is_bare_type here ∙ at_all is_bare_type own.types.items n t.0 ours.types t.1)
+        | inl low ↦ (let t = element_at own.types.items n low in let here : y ≡ t.0 = same-some y t.0 (sym at_y ∙ (ap (λ l. slice_get l n) a.types ∙ front_at own.types.items added.types.items n t.0 t.1)) in ap is_bare_type here ∙ at_all is_bare_type own.types.items n t.0 ours.types t.1)
         | inr high ↦ (let x = sourced n y high at_y in type_bare x.1 y x.3 (at_all is_bare_type other.types.items x.0 x.1 theirs.types x.2))
       ]
 

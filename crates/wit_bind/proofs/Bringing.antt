@@ -35,7 +35,7 @@ use Rattle.bind_carry.specs.Which.{AreMatchedAll, IsNumbered}
 use Rattle.bind_carry.proofs.FirstCarried.{chosen_so}
 use Rattle.bind_carry.proofs.FirstPackages.{found_own}
 use Rattle.bind_carry.proofs.Ranges.{is_in_range}
-use Rattle.wit_bind.specs.Merges.{is_new_interface, is_new_package, is_new_world, is_one_of}
+use Rattle.wit_bind.specs.Comes.{is_new_interface, is_new_package, is_new_world, is_one_of}
 use Rattle.base_lemmas.proofs.Bools.{left_of as first_true, right_of as second_true}
 use Rattle.base_lemmas.proofs.Lists.{mapped_get as mapped_at}
 use Rattle.std.proofs.lemmas.Map.Keys.{any_passes_from_place as any_at}

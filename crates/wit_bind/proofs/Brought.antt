@@ -55,7 +55,7 @@ use Rattle.bind_carry.proofs.SecondJoined as second_joined
 use Rattle.bind_carry.proofs.UnionKeys.{carried_path}
 use Rattle.bind_carry.proofs.WorldEntries.{export_keyed, import_keyed}
 use Rattle.wit_bind.specs.Brings.{entry_notes, interface_notes, key_texts, type_notes, type_notes_at, world_notes, BringsEntries}
-use Rattle.wit_bind.specs.Merges.{is_one_of}
+use Rattle.wit_bind.specs.Comes.{is_one_of}
 use Rattle.wit_bind.proofs.Notes.{entries_noted, interface_noted, met_or_noted, IsMetOrNoted}
 use Rattle.base_lemmas.proofs.Elements.{get-contains}
 use Rattle.base_lemmas.proofs.Options.{there as some-of}

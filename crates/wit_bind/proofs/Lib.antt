@@ -15,6 +15,9 @@ pub mod Unchanged
 pub mod UnionBound
 pub mod MatchedPaths
 pub mod TooMany
+pub mod Coming
+pub mod Outgrown
+pub mod NothingNew
 pub mod Growth
 pub mod NumbersAgree
 pub mod Putting

@@ -35,8 +35,9 @@ use Rattle.bind_carry.specs.MatchedSame.{AreMatchedAt, NoneOfPath}
 use Rattle.bind_carry.specs.Numbers.{package_number}
 use Rattle.bind_carry.specs.Renumbered.{is_matched}
 use Rattle.bind_add.specs.declared.added.Added.{Added}
+use Rattle.bind_carry.specs.TooLong.{CarriedThings}
 use Rattle.bind_carry.specs.Union.{IsUnionOf}
-use Rattle.bind_carry.specs.Which.{AreMatchedAll}
+use Rattle.bind_carry.specs.Which.{AreMatchedAll, IsNumbered}
 use Rattle.wit_model.specs.declared.model.World.{World}
 use Rattle.wit_model.specs.declared.model.WorldKey.{WorldKey}
 use Rattle.bind_carry.proofs.FirstMatched.{uncopied_under}
@@ -103,10 +104,8 @@ module _ (own other : Bindgen) (o : IsBindgen own) (t : IsBindgen other) (can : 
   own-there n x =
       own-interface-has r s o.valid t.valid m.packages.items matched.packages n x.old x.found x.path (sym (ap (option_and_then (path_of_interface s)) x.found) ∙ x.path_is) x.id x.own_of
 
-  pub matched-at : (world k : ℕ) (w v : World) (added : Added) (keys : List WorldKey) (u : IsUnionOf r s world k m w v added keys) → AreMatchedAt r s m.interfaces.items u.carried.packages.items
-  matched-at world k w v added keys whole n h =
-      let c = whole.carried in
-      let u = whole.numbered in
+  pub matched-with : (c : CarriedThings) → IsNumbered r s m c → AreMatchedAt r s m.interfaces.items c.packages.items
+  matched-with c u n h =
       let x = met n h in
       let here = has-path r x.id.0 x.path (own-there n x) in
       let there = has-path s n x.path x.path_is in
@@ -152,6 +151,9 @@ module _ (own other : Bindgen) (o : IsBindgen own) (t : IsBindgen other) (can : 
             (interface-found r o.valid x.id.0 x.path (own-there n x)) (interface-found s t.valid n x.path x.path_is)
             ∙ ap interface_sense other_meant);
       }
+
+  pub matched-at : (world k : ℕ) (w v : World) (added : Added) (keys : List WorldKey) (u : IsUnionOf r s world k m w v added keys) → AreMatchedAt r s m.interfaces.items u.carried.packages.items
+  matched-at world k w v added keys whole = matched-with whole.carried whole.numbered
 
   pub none-of-path : NoneOfPath r s m.interfaces.items
   none-of-path n k not has same =

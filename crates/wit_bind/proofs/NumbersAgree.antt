@@ -51,13 +51,13 @@ module _ (own other : Bindgen) (o : IsBindgen own) (t : IsBindgen other) (can : 
   own-import : (x : WorldKey × WorldItem) → Contains w.imports.entries x → entry_under (key_text r x.0) (binding_of own).bound.imports ≡ Some (entry_meaning r x.1)
   own-import x c = ap (λ (b : WorldMeaning). entry_under (key_text r x.0) b.imports) (sym ours) ∙ entry-found r w.imports.entries x (imports-distinct r o.valid own.world.0 w at_w) c
 
-  other-import : (x : WorldKey × WorldItem) → Contains v.imports.entries x → entry_under (key_text s x.0) (binding_of other).bound.imports ≡ Some (entry_meaning s x.1)
+  pub other-import : (x : WorldKey × WorldItem) → Contains v.imports.entries x → entry_under (key_text s x.0) (binding_of other).bound.imports ≡ Some (entry_meaning s x.1)
   other-import x c = ap (λ (b : WorldMeaning). entry_under (key_text s x.0) b.imports) (sym theirs) ∙ entry-found s v.imports.entries x (imports-distinct s t.valid other.world.0 v at_v) c
 
   own-export : (x : WorldKey × WorldItem) → Contains w.exports.entries x → entry_under (key_text r x.0) (binding_of own).bound.exports ≡ Some (entry_meaning r x.1)
   own-export x c = ap (λ (b : WorldMeaning). entry_under (key_text r x.0) b.exports) (sym ours) ∙ entry-found r w.exports.entries x (exports-distinct r o.valid own.world.0 w at_w) c
 
-  other-export : (x : WorldKey × WorldItem) → Contains v.exports.entries x → entry_under (key_text s x.0) (binding_of other).bound.exports ≡ Some (entry_meaning s x.1)
+  pub other-export : (x : WorldKey × WorldItem) → Contains v.exports.entries x → entry_under (key_text s x.0) (binding_of other).bound.exports ≡ Some (entry_meaning s x.1)
   other-export x c = ap (λ (b : WorldMeaning). entry_under (key_text s x.0) b.exports) (sym theirs) ∙ entry-found s v.exports.entries x (exports-distinct s t.valid other.world.0 v at_v) c
 
   imports-agree : (x e : WorldKey × WorldItem) → Contains w.imports.entries x → Contains v.imports.entries e → key_text r x.0 ≡ key_text s e.0 → entry_sense (entry_meaning r x.1) ≡ entry_sense (entry_meaning s e.1)

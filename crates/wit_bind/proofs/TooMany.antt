@@ -1,27 +1,21 @@
--- Where a union would make a list too long, so would all that may come.
-use Rattle.std.proofs.Common.{◌≡◌, refl, sym, ap, subst, ◌∙◌, inl, inr, arith, ℕ, zero, suc, ◌+◌, ◌<◌, ◌≤◌, length, Bool, true, false, not, ◌&&◌, ◌==◌, cond, List, [], ◌∷◌, ◌++◌, map, unwrap_or, Option, Some, None, is_none, option_and_then, option_map, slice_get, append-nil, String}
-use Rattle.std.specs.Prelude.{◌||◌, Err, IfErr, Ok, Result, count_by, filter_map, is_some}
+-- What is carried by path is new.
+use Rattle.std.proofs.Common.{◌≡◌, refl, sym, ap, ◌∙◌, ℕ, zero, suc, ◌+◌, ◌≤◌, length, Bool, true, false, not, ◌&&◌, ◌==◌, cond, List, [], ◌∷◌, ◌++◌, map, unwrap_or, Option, Some, None, is_none, option_and_then, option_map, slice_get, append-nil, String}
+use Rattle.std.specs.Prelude.{◌||◌, count_by, filter_map, is_some}
 use Rattle.std.proofs.lemmas.List.{length-map}
 use Rattle.std.specs.List.{cons_option, list_all, list_any}
 use Rattle.std.specs.Option.{option_map_or}
 use Rattle.std.specs.declared.alloc.Global.{Global}
-use Rattle.wit_model.specs.declared.error.Error.{Error}
-use Rattle.wit_model.specs.declared.error.Error.TheVariants as errors
 use Rattle.wit_model.specs.declared.model.Interface.{Interface}
 use Rattle.wit_model.specs.declared.model.Package.{Package}
 use Rattle.wit_model.specs.declared.model.PackageName.{PackageName}
 use Rattle.wit_model.specs.declared.model.Resolve.{Resolve}
-use Rattle.wit_model.specs.declared.model.TypeDef.{TypeDef}
-use Rattle.wit_model.specs.declared.model.TypeOwner.{TypeOwner}
-use Rattle.wit_model.specs.declared.model.TypeOwner.TheVariants as owner
 use Rattle.wit_model.specs.declared.model.World.{World}
 use Rattle.wit_model.specs.declared.model.WorldId.{WorldId}
-use Rattle.wit_model.specs.Lookup.{identity_of, interface_at, interface_path, package_at, path_in_package, path_of_interface, path_of_world, world_at}
+use Rattle.wit_model.specs.Lookup.{identity_of, interface_at, package_at, path_of_interface, path_of_world, world_at}
 use Rattle.wit_model.specs.Meant.{interface_meaning, world_meaning}
 use Rattle.wit_model.specs.Names.{at_version, is_identity}
 use Rattle.wit_model.specs.Rules.{same_package_name}
 use Rattle.wit_model.specs.Text.{Text, text_eq, text_of}
-use Rattle.wit_model.specs.Uses.{owner_interface}
 use Rattle.wit_model.specs.Valid.{IsValid}
 use Rattle.wit_model.proofs.NameLaws.{identity_namespace, label_lacks}
 use Rattle.wit_model.proofs.OnePath.{package-name}
@@ -34,26 +28,20 @@ use Rattle.bind_match.specs.declared.matches.Matches.{Matches}
 use Rattle.bind_match.specs.Matching.{interface_in, is_root_world, own_interface_of, own_package_of, own_world_of, package_from}
 use Rattle.bind_clash.specs.Faults.{IsMatched}
 use Rattle.bind_clash.proofs.PathsMatched.{has-root, own-interface-there, world-in-there, world-path-of}
-use Rattle.bind_carry.specs.Bound.{bound_interfaces}
-use Rattle.bind_carry.specs.BoundGains.{gained_inline}
-use Rattle.bind_carry.specs.First.{first_fates, flag_under}
+use Rattle.bind_carry.specs.First.{flag_under}
 use Rattle.bind_carry.specs.Listed.{given_interface}
-use Rattle.bind_carry.specs.Marked.{is_inline_at, AreChosen}
-use Rattle.bind_carry.specs.Numbers.{copied_count, IsMemoryOrSize}
+use Rattle.bind_carry.specs.Marked.{AreChosen}
+use Rattle.bind_carry.specs.Numbers.{copied_count}
 use Rattle.bind_carry.specs.Renumbered.{is_matched}
 use Rattle.bind_carry.specs.Shown.{AreShownBelow}
-use Rattle.bind_carry.specs.TooLong.{carried_interfaces, carried_packages, carried_worlds, copies_of, gained_fates, IsTooLong, CarriedThings, TypeFates}
-use Rattle.bind_carry.specs.Which.{AreMatchedAll, IsNumbered}
-use Rattle.bind_carry.proofs.CountedCopies.{first_few, flags_few, gained_few, interfaces_flagged, second_few, worlds_flagged, IsHomeCopied}
-use Rattle.bind_carry.proofs.FirstCarried.{chosen_so}
-use Rattle.bind_carry.proofs.Marking.{are_chosen}
-use Rattle.bind_carry.proofs.PartsCarried.{no_home}
+use Rattle.bind_carry.specs.TooLong.{carried_packages, carried_worlds}
+use Rattle.bind_carry.specs.Which.{AreMatchedAll}
+use Rattle.bind_carry.proofs.CountedCopies.{flags_few, worlds_flagged}
 use Rattle.bind_carry.proofs.Ranges.{is_in_range, shown_below}
-use Rattle.bind_carry.proofs.SecondMarks.{gained_inline_alone}
-use Rattle.wit_bind.specs.Merges.{comes_twice, inline_of, is_new_interface, is_new_package, is_new_type, is_new_world, is_one_of, AreTooMany}
+use Rattle.wit_bind.specs.Comes.{is_new_interface, is_new_package, is_new_world, is_one_of}
 use Rattle.wit_bind.proofs.MatchedPaths.{all-matched}
 use Rattle.base_lemmas.proofs.Bools.{left_of as first_true, right_of as second_true}
-use Rattle.base_lemmas.proofs.Lists.{mapped_get as mapped_at, within_there}
+use Rattle.base_lemmas.proofs.Lists.{mapped_get as mapped_at}
 use Rattle.base_lemmas.proofs.Numbers.{same-number}
 use Rattle.std.proofs.lemmas.Option.{same_Some as same-some}
 use Rattle.wit_model.proofs.NameLaws.{identity_name as label-of}
@@ -189,7 +177,7 @@ module _ (own other : Resolve) (v : IsValid own) (u : IsValid other) (m : Matche
 
   -- ---- worlds
 
-  new-world : (n : ℕ) (w : World) → world_at other n ≡ Some w → flag_under (carried_worlds other m) n ≡ true → is_new_world own other w ≡ true
+  pub new-world : (n : ℕ) (w : World) → world_at other n ≡ Some w → flag_under (carried_worlds other m) n ≡ true → is_new_world own other w ≡ true
   new-world n w at flag = go (path_of_world other w) refl
     where
       g : World → Option WorldId
@@ -219,7 +207,7 @@ module _ (own other : Resolve) (v : IsValid own) (u : IsValid other) (m : Matche
 
   -- ---- interfaces
 
-  new-interface : (worlds flags : List Bool) → AreChosen other m.interfaces.items worlds flags → (n : ℕ) (i : Interface) → interface_at other n ≡ Some i → flag_under flags n ≡ true → is_new_interface own other i ≡ true
+  pub new-interface : (worlds flags : List Bool) → AreChosen other m.interfaces.items worlds flags → (n : ℕ) (i : Interface) → interface_at other n ≡ Some i → flag_under flags n ≡ true → is_new_interface own other i ≡ true
   new-interface worlds flags chosen n i at flag = go (path_of_interface other i) refl
     where
       no-own : (t : Text) → path_of_interface other i ≡ Some t → (b : Bool) → is_one_of (map (λ e. e.0) (interfaces_by_path own)) t ≡ b → not b ≡ true
@@ -237,113 +225,9 @@ module _ (own other : Resolve) (v : IsValid own) (u : IsValid other) (m : Matche
       go None e = refl
       go (Some t) e = no-own t e (is_one_of (map (λ x. x.0) (interfaces_by_path own)) t) refl
 
-  shown : (k : ℕ) (w : World) → world_at other k ≡ Some w → AreShownBelow (length other.interfaces.items) w.imports.entries × AreShownBelow (length other.interfaces.items) w.exports.entries
+  pub shown : (k : ℕ) (w : World) → world_at other k ≡ Some w → AreShownBelow (length other.interfaces.items) w.imports.entries × AreShownBelow (length other.interfaces.items) w.exports.entries
   shown k w at =
       let range = is_in_range other u in (
         shown_below (length other.interfaces.items) (length other.types.items) w.imports.entries (range.imports k w at),
         shown_below (length other.interfaces.items) (length other.types.items) w.exports.entries (range.exports k w at),
       )
-
-  pub interfaces-few : copied_count (carried_interfaces other m) ≤ count_by (is_new_interface own other) other.interfaces.items
-  interfaces-few =
-      flags_few (is_new_interface own other) (carried_interfaces other m) other.interfaces.items (interfaces_flagged other m.interfaces.items (carried_worlds other m) all.interfaces)
-      (new-interface (carried_worlds other m) (carried_interfaces other m) (are_chosen other m.interfaces.items (carried_worlds other m) all.interfaces shown))
-
-  -- ---- what comes of those that are numbered
-
-  module _ (c : CarriedThings) (numbered : IsNumbered own other m c) where
-    chosen : AreChosen other m.interfaces.items c.copied_worlds.items c.copied_interfaces.items
-    chosen = chosen_so own other m c (is_in_range other u) all numbered
-
-    pub carried-few : copied_count c.copied_interfaces.items ≤ count_by (is_new_interface own other) other.interfaces.items
-    carried-few = flags_few (is_new_interface own other) c.copied_interfaces.items other.interfaces.items numbered.interface_count (new-interface c.copied_worlds.items c.copied_interfaces.items chosen)
-
-    unnamed : (n : ℕ) (t : TypeDef) → slice_get other.types.items n ≡ Some t → is_none t.name ≡ true → t.owner ≡ owner.None
-    unnamed n t at h = no_home other u n t at (by t.name h)
-      where
-        by : (o : Option (String Global)) → is_none o ≡ true → is_some o ≡ false
-        by None e = refl
-        by (Some s) e = untrue e
-
-    new-type : (o : TypeOwner) → IsHomeCopied c.copied_interfaces.items o → option_map_or (λ n. option_map_or (is_new_interface own other) (interface_at other n) true) (owner_interface o) true ≡ true
-    new-type (owner.World id) h = refl
-    new-type owner.None h = refl
-    new-type (owner.Interface id) h = by (interface_at other id.0) refl
-      where
-        by : (o : Option Interface) → interface_at other id.0 ≡ o → option_map_or (is_new_interface own other) o true ≡ true
-        by None e = refl
-        by (Some i) e = new-interface c.copied_worlds.items c.copied_interfaces.items chosen id.0 i e h
-
-    pub types-few : copies_of (first_fates own other m.interfaces.items c) ≤ count_by (is_new_type own other) other.types.items
-    types-few = first_few own other m.interfaces.items c (is_new_type own other) (λ n t at h. new-type t.owner h)
-        (λ n t at h. ap (λ o. option_map_or (λ k. option_map_or (is_new_interface own other) (interface_at other k) true) (owner_interface o) true) (unnamed n t at h))
-
-    -- ---- what the bound world gains
-
-    module _ (world other_world : ℕ) (w b : World) (at_b : world_at other other_world ≡ Some b) where
-      abbrev gained : List Bool
-      gained = gained_inline other c.interfaces.items w b
-
-      no-path : (n : ℕ) → is_inline_at other n ≡ true → is_none (interface_path other n) ≡ true
-      no-path n h = by (interface_at other n) h
-        where
-          one : (i : Interface) (name : Option (String Global)) → i.name ≡ name → is_none name ≡ true → is_none (path_of_interface other i) ≡ true
-          one i None e k = ap (λ (o : Option (String Global)). is_none (option_and_then (λ name. option_and_then (λ p. path_in_package other p.0 (text_of name)) i.«package») o)) e
-          one i (Some s) e k = untrue k
-
-          by : (o : Option Interface) → option_map_or (λ i. is_none i.name) o false ≡ true → is_none (option_and_then (path_of_interface other) o) ≡ true
-          by None e = refl
-          by (Some i) e = one i i.name refl e
-
-      pub inline-few : copied_count gained ≤ length (inline_of other b)
-      inline-few = gained_few other (λ n. is_none (interface_path other n)) no-path c.interfaces.items w b
-
-      twice : (o : TypeOwner) → IsHomeCopied gained o → option_map_or (λ n. is_none (interface_path other n)) (owner_interface o) true ≡ true
-      twice (owner.World id) h = refl
-      twice owner.None h = refl
-      twice (owner.Interface id) h = no-path id.0 (gained_inline_alone other c.interfaces.items w b (shown other_world b at_b).0 (shown other_world b at_b).1 id.0 h)
-
-      pub gained-types-few : (fates : TypeFates) (numbers : List ℕ) (before : ℕ) → copies_of (gained_fates own other world other_world w b c fates numbers before) ≤ count_by (comes_twice other) other.types.items
-      gained-types-few fates numbers before =
-          second_few other world other_world gained (bound_interfaces own before c gained) w b fates numbers (comes_twice other) (λ n t at h. twice t.owner h)
-          (λ n t at h. ap (λ o. option_map_or (λ k. is_none (interface_path other k)) (owner_interface o) true) (unnamed n t at h))
-
--- ---- too many
-
-more : (limit own some all : ℕ) → limit < own + some → some ≤ all → limit < own + all
-more limit own some all h l = omega (arith, h, l)
-
-more-first : (limit own some all rest : ℕ) → limit < own + some → some ≤ all → limit < own + (all + rest)
-more-first limit own some all rest h l = omega (arith, h, l)
-
-more-both : (limit own first second all rest : ℕ) → limit < (own + first) + second → first ≤ all → second ≤ rest → limit < own + (all + rest)
-more-both limit own first second all rest h l k = omega (arith, h, l, k)
-
-pub too-many : (own other : Resolve) (world other_world : ℕ) (m : Matches) (w b : World) → IsValid own → IsValid other → IsMatched own other m → world_at other other_world ≡ Some b → IsTooLong own other world other_world m w b → AreTooMany own other other_world
-too-many own other world other_world m w b v u matched at_b (inl (inl h)) = inl (more 4294967295 (length own.packages.items) _ _ h (packages-few own other v u m matched))
-too-many own other world other_world m w b v u matched at_b (inl (inr (inl h))) = inr (inr (inl (more 4294967295 (length own.worlds.items) _ _ h (worlds-few own other v u m matched))))
-too-many own other world other_world m w b v u matched at_b (inl (inr (inr h))) = inr (inl (more-first 4294967295 (length own.interfaces.items) _ _ _ h (interfaces-few own other v u m matched)))
-too-many own other world other_world m w b v u matched at_b (inr (c, numbered, inl h)) = inr (inr (inr (more-first 4294967295 (length own.types.items) _ _ _ h (types-few own other v u m matched c numbered))))
-too-many own other world other_world m w b v u matched at_b (inr (c, numbered, inr (inl h))) =
-    let shows : option_map_or (λ x. length (inline_of other x)) (world_at other other_world) 0 ≡ length (inline_of other b) = ap (λ o. option_map_or (λ x. length (inline_of other x)) o 0) at_b in
-    inr (inl (subst (λ k. 4294967295 < length own.interfaces.items + (count_by (is_new_interface own other) other.interfaces.items + k)) (sym shows)
-    (more-both 4294967295 (length own.interfaces.items) _ _ _ _ h (carried-few own other v u m matched c numbered) (inline-few own other v u m matched c numbered world other_world w b at_b))))
-too-many own other world other_world m w b v u matched at_b (inr (c, numbered, inr (inr h))) =
-    inr (inr (inr (more-both 4294967295 (length own.types.items) _ _ _ _ h (types-few own other v u m matched c numbered) (gained-types-few own other v u m matched c numbered world other_world w b at_b _ _ _))))
-
--- ---- the refusal of a union
-
-module _ (own other : Resolve) (world other_world : ℕ) (m : Matches) (v : IsValid own) (u : IsValid other) (matched : IsMatched own other m) (in_range : world < length own.worlds.items) (other_in_range : other_world < length other.worlds.items)
-    (P : Error → Type 0) (memory : P errors.Memory) (size : AreTooMany own other other_world → P errors.Size) where
-  refusal : (e : Error) → IsMemoryOrSize e → (e ≡ errors.Size → (w b : World) → world_at own world ≡ Some w → world_at other other_world ≡ Some b → IsTooLong own other world other_world m w b) → P e
-  refusal errors.Memory h long = memory
-  refusal errors.Size h long =
-      let w = within_there own.worlds.items world in_range in
-      let b = within_there other.worlds.items other_world other_in_range in
-      size (too-many own other world other_world m w.0 b.0 v u matched b.1 (long refl w.0 b.0 w.1 b.1))
-  refusal e h long = absurd h
-
-  -- a union is refused for want of memory, or where there would be too much
-  pub refused-so : {A : Type 0} (r : Result A Error) → IfErr r IsMemoryOrSize → IfErr r (λ e. e ≡ errors.Size → (w b : World) → world_at own world ≡ Some w → world_at other other_world ≡ Some b → IsTooLong own other world other_world m w b) → IfErr r P
-  refused-so (Ok a) h long = tt
-  refused-so (Err e) h long = refusal e h long

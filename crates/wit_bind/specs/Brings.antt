@@ -15,7 +15,7 @@ use Rattle.wit_model.specs.Text.{Text, optional_text, text_of}
 use Rattle.bind_copy.specs.Copies.{member_docs}
 use Rattle.bind_union.specs.Carried.{stability_view, StabilityView}
 use Rattle.wit_bind.specs.declared.bindgen.Bindgen.{Bindgen}
-use Rattle.wit_bind.specs.Merges.{is_new_interface, is_new_package, is_new_world, is_one_of}
+use Rattle.wit_bind.specs.Comes.{is_new_interface, is_new_package, is_new_world, is_one_of}
 
 -- ---- what is said of things beside what they mean
 

@@ -11,6 +11,8 @@ pub mod Choices
 pub mod Bindings
 pub mod Extends
 pub mod Brings
+pub mod Comes
+pub use Rattle.bind_carry.specs.MadeOf
 pub mod Merged
 pub mod Merges
 pub mod Unions

@@ -10,14 +10,15 @@ use Rattle.wit_bind.specs.declared.bindgen.Bindgen.{Bindgen}
 use Rattle.wit_bind.specs.Bindings.{IsBindgen, binding_of}
 use Rattle.wit_bind.specs.Brings.{BringsItsOwn}
 use Rattle.wit_bind.specs.Extends.{Extends, listed_names, merged_names}
-use Rattle.wit_bind.specs.Merges.{export_keys, GrowsWithin}
+use Rattle.wit_bind.specs.Comes.{BringsNothing}
+use Rattle.wit_bind.specs.Merges.{export_keys, AddsNothing, GrowsWithin}
 
 -- What the bound world exports is what it exported, followed by what stands under these keys.
 abbrev pub ExportsGrowBy : Bindgen → Bindgen → List WorldKey → Type 0
 ExportsGrowBy old new keys = map key_view (export_keys new.resolve new.world.0) ≡ map key_view (export_keys old.resolve old.world.0 ++ keys)
 
 -- The two unite, and the own bindings have become their union. Own numbers stay, and what is new stands behind what was there, with its own documentation and
--- stability, and no more of it than may come.
+-- stability; no more than comes, and nothing where nothing is new.
 -- The answer is the keys of the other's exports, as they stand here.
 pub record IsMerge (own other new : Bindgen) (answer : List WorldKey) : Type 0 where
   pub united : CanUnite (binding_of own) (binding_of other)
@@ -26,7 +27,8 @@ pub record IsMerge (own other new : Bindgen) (answer : List WorldKey) : Type 0 w
   pub extends : Extends own.resolve new.resolve own.world.0
   pub brings : BringsItsOwn own other new
   pub bare : IsBare own.resolve → IsBare other.resolve → IsBare new.resolve
-  pub grows : GrowsWithin own.resolve other.resolve other.world.0 new.resolve
+  pub grows : GrowsWithin own other new
+  pub nothing : BringsNothing (binding_of own) (binding_of other) → AddsNothing own.resolve new.resolve
   pub order : listed_names new.resolve ≡ merged_names (listed_names own.resolve) (listed_names other.resolve)
   pub added : ExportsGrowBy own new answer
   pub answer_is : map (key_text new.resolve) answer ≡ map (key_text other.resolve) (export_keys other.resolve other.world.0)

@@ -12,7 +12,8 @@ ghost use Rattle.wit_bind.specs.Bindings.{IsBindgen, binding_of};
 ghost use Rattle.wit_bind.specs.Brings.{BringsItsOwn};
 ghost use Rattle.wit_bind.specs.Extends.{Extends, IsKept, listed_names, merged_names};
 ghost use Rattle.wit_bind.specs.Merged.{ExportsGrowBy, IsMerge};
-ghost use Rattle.wit_bind.specs.Merges.{GrowsWithin, IsGrownBy, IsMergeRefusal, IsPlanOf, export_keys};
+ghost use Rattle.wit_bind.specs.Comes.{BringsNothing};
+ghost use Rattle.wit_bind.specs.Merges.{AddsNothing, GrowsWithin, IsGrownBy, IsMergeRefusal, IsPlanOf, export_keys};
 ghost use Rattle.wit_bind.specs.Roots.{IsRoot, IsRootPackage, IsRootResolve, IsRootWorld};
 
 use crate::metadata::ModuleMetadata;
@@ -156,12 +157,12 @@ impl Bindgen {
     /// Merges other bindings into these, which gain what is new, or are left as they were (wit-component README, "Merging Worlds"). The other's
     /// bound world is bound, too: what it imports and exports comes behind what is imported and exported here. What stands under one path on
     /// both sides has to mean the same, and keeps this side's documentation and stability; the other's world `root:root/root` isn't compared
-    /// and not carried over. What wasn't here keeps the other's documentation and stability. Own numbers stay, and no list gets longer than by what may come: packages, interfaces and worlds that aren't here by name or path, the
-    /// inline interfaces of the other's bound world once more, the types of these interfaces and of none, and once more those of no named interface. The answer is
-    /// the keys of the other's exports, as they stand here, in their order.
+    /// and not carried over. What wasn't here keeps the other's documentation and stability. Own numbers stay, and lists get longer by what comes alone: packages, interfaces and worlds
+    /// that aren't here by name or path, with their types and inline interfaces, and once more the inline interfaces and types of what the own bound world gains. Where nothing of the other is new,
+    /// no interface, world or type comes. The answer is the keys of the other's exports, as they stand here, in their order.
     ///
     /// Both `Resolve`s are valid, and each world is one of its own. Refuses with `Clash` where the two clash, and names the first fault; with `Memory`;
-    /// and with `Size` only where a list would pass 4,294,967,295 with all that may come. Takes time and memory linear in both, with hashed look-ups.
+    /// and with `Size` only where a list would pass 4,294,967,295 with what comes. Takes time and memory linear in both, with hashed look-ups.
     pub fn merge(&mut self, alloc: Global, other: Bindgen) -> Result<IndexSet<WorldKey>, Error>
         requires own { IsBindgen self.old }
         requires others { IsBindgen other }
@@ -170,12 +171,13 @@ impl Bindgen {
         ensures union { OnOk result (binding_of self.new ≡ union (binding_of self.old) (binding_of other)) }
         ensures valid { OnOk result (IsBindgen self.new) }
 
-        // Own numbers stay, and what is new stands behind what was there, and no more of it than may come.
+        // Own numbers stay, and what is new stands behind what was there, and no more than comes.
         ensures world { self.new.world ≡ self.old.world }
         ensures extends { OnOk result (Extends self.old.resolve self.new.resolve self.old.world.0) }
         ensures brings { OnOk result (BringsItsOwn self.old other self.new) }
         ensures bare { OnOk result (IsBare self.old.resolve → IsBare other.resolve → IsBare self.new.resolve) }
-        ensures growth { OnOk result (GrowsWithin self.old.resolve other.resolve other.world.0 self.new.resolve) }
+        ensures growth { OnOk result (GrowsWithin self.old other self.new) }
+        ensures nothing { OnOk result (BringsNothing (binding_of self.old) (binding_of other) → AddsNothing self.old.resolve self.new.resolve) }
         ensures order { OnOk result (listed_names self.new.resolve ≡ merged_names (listed_names self.old.resolve) (listed_names other.resolve)) }
         ensures added { IfOk result (λ added. ExportsGrowBy self.old self.new added.keys) }
         ensures answer { IfOk result (λ added. map (key_text self.new.resolve) added.keys ≡ map (key_text other.resolve) (export_keys other.resolve other.world.0)) }

@@ -1,6 +1,6 @@
 use Rattle.wit_bind.proofs.AsItWas.{kept_itself}
 use Rattle.wit_bind.proofs.Growing.{on_err, plan_addable}
-use Rattle.wit_bind.proofs.Growth.{merged_grows}
+use Rattle.wit_bind.proofs.Growth.{merged_grows, merged_nothing}
 use Rattle.wit_bind.proofs.Merging.{merged_answer, merged_bare, merged_brings, merged_are_the_union, merged_exports, merged_extend, merged_order}
 use Rattle.wit_bind.proofs.bindgen.merge_matched.Goals as goal
 
@@ -25,7 +25,8 @@ returns-clause-merged c =
       extends = merged_extend own other new c.requires.own c.requires.others unites added keys plan grown;
       brings = merged_brings own other new c.requires.own c.requires.others unites added keys plan grown;
       bare = merged_bare own other new c.requires.own c.requires.others unites added keys plan grown;
-      grows = merged_grows own other new c.requires.own c.requires.others added keys plan grown;
+      grows = merged_grows own other new c.requires.own c.requires.others unites added keys plan grown;
+      nothing = merged_nothing own other new c.requires.own c.requires.others unites added keys plan grown;
       order = merged_order own other new c.requires.own c.requires.others unites added keys plan grown;
       added = merged_exports own other new c.requires.own c.requires.others unites added keys plan grown;
       answer_is = merged_answer own other new c.requires.own c.requires.others unites added keys plan grown;

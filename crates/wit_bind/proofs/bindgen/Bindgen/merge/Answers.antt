@@ -32,6 +32,9 @@ returns-clause-bare c = so_ok _ _ (λ answer h. h.bare) c.merge_matched.result c
 pub returns-clause-growth : goal.returns-clause-growth
 returns-clause-growth c = so_ok _ _ (λ answer h. h.grows) c.merge_matched.result c.merge_matched.ensures.merged
 
+pub returns-clause-nothing : goal.returns-clause-nothing
+returns-clause-nothing c = so_ok _ _ (λ answer h. h.nothing) c.merge_matched.result c.merge_matched.ensures.merged
+
 pub returns-clause-order : goal.returns-clause-order
 returns-clause-order c = so_ok _ _ (λ answer h. h.order) c.merge_matched.result c.merge_matched.ensures.merged
 

@@ -3,7 +3,7 @@ use Rattle.wit_bind.specs.Merges.{IsMergeRefusal}
 use Rattle.wit_bind.proofs.Growing.{if_ok_both}
 use Rattle.wit_bind.proofs.MatchedPaths.{all-matched}
 use Rattle.wit_bind.proofs.Refusals.{clash_is, encodings_are}
-use Rattle.wit_bind.proofs.TooMany.{refused-so}
+use Rattle.wit_bind.proofs.Outgrown.{refused-so}
 use Rattle.wit_bind.proofs.Uniting.{unite}
 use Rattle.wit_bind.proofs.bindgen.Bindgen.planned.Goals as goal
 use Rattle.base_lemmas.proofs.Options.{if_ok}
@@ -52,4 +52,5 @@ returns-clause-refusal c =
     let own = c.args.self.now in
     let other = c.args.other.now in
     let matched : IsMatched own.resolve other.resolve c.in_ok-matches.matches = record { packages = c.in_ok-matches.ensures.packages; interfaces = c.in_ok-matches.ensures.interfaces; worlds = c.in_ok-matches.ensures.worlds } in
-    refused-so own.resolve other.resolve own.world.0 other.world.0 c.in_ok-matches.matches c.requires.own.valid c.requires.others.valid matched c.requires.own.in_range c.requires.others.in_range (IsMergeRefusal own other) tt (λ h. h) c.union_of.result c.union_of.ensures.refuses c.union_of.ensures.size
+    let can = unite own other c.requires.own c.requires.others c.in_ok-matches.matches matched c.in_ok-refuse_clash.ensures.none c.in_ok-refuse_clash-2.ensures.imports c.in_ok-refuse_clash-2.ensures.exports in
+    refused-so own other c.requires.own c.requires.others can c.in_ok-matches.matches matched (IsMergeRefusal own other) tt (λ h. h) c.union_of.result c.union_of.ensures.refuses c.union_of.ensures.size

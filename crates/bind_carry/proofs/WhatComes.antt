@@ -1,0 +1,346 @@
+-- What is copied of types: those whose owners are, types that new imports are, and types without a name that are made of what is carried.
+use Rattle.std.proofs.Common.{◌≡◌, ◌⊎◌, inl, inr, refl, sym, ap, subst, ◌∙◌, ℕ, zero, suc, ◌<◌, arith, Bool, true, false, ◌&&◌, ◌==◌, ◌+◌, cond, nat_lt, List, [], ◌∷◌, length, map, Option, Some, None, is_none, is_some, option_map, slice_get, if◌then◌else◌}
+use Rattle.std.specs.Prelude.{String, count_by, option_and_then}
+use Rattle.std.specs.declared.alloc.Global.{Global}
+use Rattle.std.specs.HashMap.{get_by_text}
+use Rattle.std.specs.List.{Contains}
+use Rattle.std.specs.Option.{option_map_or}
+use Rattle.std.proofs.lemmas.Bool.{ltb-true}
+use Rattle.std.proofs.lemmas.List.{length-map}
+use Rattle.std.proofs.lemmas.List.Sums.{sum_by-cons}
+use Rattle.std.proofs.lemmas.Option.{slice_get-map, slice_get_within}
+use Rattle.wit_model.specs.Lookup.{interface_at, world_at}
+use Rattle.wit_model.specs.Rules.{item_type}
+use Rattle.wit_model.specs.Text.{Text, optional_text, text_of}
+use Rattle.wit_model.specs.Valid.{IsValid, as_world}
+use Rattle.wit_model.specs.declared.model.InterfaceId.{InterfaceId}
+use Rattle.wit_model.specs.declared.model.Resolve.{Resolve}
+use Rattle.wit_model.specs.declared.model.TypeDef.{TypeDef}
+use Rattle.wit_model.specs.declared.model.TypeId.{TypeId}
+use Rattle.wit_model.specs.declared.model.TypeOwner.{TypeOwner}
+use Rattle.wit_model.specs.declared.model.TypeOwner.TheVariants as owner
+use Rattle.wit_model.specs.declared.model.World.{World}
+use Rattle.wit_model.specs.declared.model.WorldId.{WorldId}
+use Rattle.wit_model.specs.declared.model.WorldItem.{WorldItem}
+use Rattle.wit_model.specs.declared.model.WorldKey.{WorldKey}
+use Rattle.wit_model.proofs.Elements.{contains-get}
+use Rattle.bind_copy.specs.Copies.{is_new_under}
+use Rattle.bind_union.proofs.Lists.{no_true}
+use Rattle.bind_union.proofs.WorldNamesakes.{type_imported, world_type, IsImported}
+use Rattle.bind_carry.specs.BoundGains.{bound_fates, gains_any, type_under_key, unified}
+use Rattle.bind_carry.specs.Fates.{are_carried, carries, copies, is_carried, settled, settled_from, FallBelow}
+use Rattle.bind_carry.specs.First.{adds_any, beside_first, fate_in, fate_named, fate_of, first_fates, flag_under, is_named_at, second_from, second_in}
+use Rattle.bind_carry.specs.Listed.{given_interface, type_named}
+use Rattle.bind_carry.specs.MadeOf.{owned, type_parts, unnamed, IsMadeOf, IsMadeUp, IsOwnedBy}
+use Rattle.bind_carry.specs.Numbers.{copied_count}
+use Rattle.bind_carry.specs.Renumbered.{is_matched}
+use Rattle.bind_carry.specs.SecondPass.{DoNotClash}
+use Rattle.bind_carry.specs.Shown.{type_in}
+use Rattle.bind_carry.specs.TooLong.{CarriedThings, TypeFates}
+use Rattle.bind_carry.specs.declared.fate.Fate.{Fate}
+use Rattle.bind_carry.specs.declared.fate.Fate.TheVariants as fate
+use Rattle.bind_carry.proofs.CopiesPlaced.{some_same}
+use Rattle.bind_carry.proofs.PartsCarried.{no_home}
+use Rattle.bind_carry.proofs.Ranges.{is_in_range}
+use Rattle.bind_carry.proofs.SecondKnown.{number_type, type_number, unmet_new}
+use Rattle.bind_carry.proofs.SecondTypes.{second_long, unified_at, unified_long, unified_set, IsUnified}
+use Rattle.bind_carry.proofs.SettledParts.{settled_all, settled_long}
+use Rattle.base_lemmas.proofs.Bools.{left_of, right_of}
+use Rattle.base_lemmas.proofs.Elements.{all-contained, get-contains}
+use Rattle.base_lemmas.proofs.Lists.{within_there}
+use Rattle.base_lemmas.proofs.Numbers.{equal}
+use Rattle.bind_carry.proofs.FirstTypes.{beside_stands, named_no_copy}
+
+-- ---- marks
+
+-- as many are marked as are copied
+pub marked_count : (bs : List Bool) → count_by (λ b. b) bs ≡ copied_count bs
+marked_count [] = refl
+marked_count (true ∷ bs) = let r = marked_count bs in let one : count_by (λ b. b) (true ∷ bs) ≡ 1 + count_by (λ b. b) bs = sum_by-cons (λ (b : Bool). cond b 1 0) true bs in omega (arith, r, one)
+marked_count (false ∷ bs) = let r = marked_count bs in let one : count_by (λ b. b) (false ∷ bs) ≡ 0 + count_by (λ b. b) bs = sum_by-cons (λ (b : Bool). cond b 1 0) false bs in omega (arith, r, one)
+
+mapped_some : (p : Fate → Bool) (o : Option Fate) → option_map p o ≡ Some true → (f : Fate) × (o ≡ Some f) × (p f ≡ true)
+mapped_some p None h = let wrong : ⊥ = cc in absurd wrong
+mapped_some p (Some f) h = (f, refl, some_same (p f) true h)
+
+given_some : (p : Fate → Bool) (o : Option Fate) → option_map_or p o false ≡ true → (f : Fate) × (o ≡ Some f) × (p f ≡ true)
+given_some p None h = no_true h
+given_some p (Some f) h = (f, refl, h)
+
+-- ---- fates in the end
+
+copied_how : (f : Fate) (none may : Bool) → copies (settled f none may) ≡ true → (copies f ≡ true) ⊎ ((none ≡ true) × (may ≡ true))
+copied_how fate.Left true true h = inr (refl, refl)
+copied_how fate.Left true false h = no_true h
+copied_how fate.Left false true h = no_true h
+copied_how fate.Left false false h = no_true h
+copied_how (fate.Stands k) none may h = no_true h
+copied_how (fate.Copied home) none may h = inl refl
+
+carried_how : (f : Fate) (none may : Bool) → carries (settled f none may) ≡ true → (carries f ≡ true) ⊎ ((none ≡ true) × (may ≡ true))
+carried_how fate.Left true true h = inr (refl, refl)
+carried_how fate.Left true false h = no_true h
+carried_how fate.Left false true h = no_true h
+carried_how fate.Left false false h = no_true h
+carried_how (fate.Stands k) none may h = inl refl
+carried_how (fate.Copied home) none may h = inl refl
+
+module _ (adds : Bool) (types : List TypeDef) (fates : List Fate) (falls : FallBelow types) (long : length fates ≡ length types) where
+  abbrev final : List Fate
+  final = settled_from adds [] types fates
+
+  -- A fate in the end is what it was at first, or that of a type without a name whose parts are carried.
+  record IsHow (P : Fate → Bool) (n : ℕ) : Type 0 where
+    def : TypeDef
+    found : slice_get types n ≡ Some def
+    first : Fate
+    at_first : slice_get fates n ≡ Some first
+    how : (P first ≡ true) ⊎ ((is_none def.name ≡ true) × (adds ≡ true) × (are_carried final (type_parts def) ≡ true))
+
+  how_so : (P : Fate → Bool) → ((f : Fate) (none may : Bool) → P (settled f none may) ≡ true → (P f ≡ true) ⊎ ((none ≡ true) × (may ≡ true))) → (n : ℕ) (g : Fate) → slice_get final n ≡ Some g → P g ≡ true → IsHow P n
+  how_so P settles n g at h = record { def = t.0; found = t.1; first = f.0; at_first = f.1; how = by (settles f.0 (is_none t.0.name) may passes) }
+    where
+      inside : n < length types
+      inside = let less = slice_get_within final n g at in let same = settled_long adds types fates long in omega (arith, less, same)
+
+      t : (t : TypeDef) × (slice_get types n ≡ Some t)
+      t = within_there types n inside
+
+      f : (f : Fate) × (slice_get fates n ≡ Some f)
+      f = within_there fates n (omega (arith, inside, long))
+
+      may : Bool
+      may = adds && are_carried final (type_parts t.0)
+
+      passes : P (settled f.0 (is_none t.0.name) may) ≡ true
+      passes = ap P (some_same (settled f.0 (is_none t.0.name) may) g (sym (settled_all adds types fates falls n t.0 f.0 t.1 f.1) ∙ at)) ∙ h
+
+      by : (P f.0 ≡ true) ⊎ ((is_none t.0.name ≡ true) × (may ≡ true)) → (P f.0 ≡ true) ⊎ ((is_none t.0.name ≡ true) × (adds ≡ true) × (are_carried final (type_parts t.0) ≡ true))
+      by (inl e) = inl e
+      by (inr (none, all)) = inr (none, left_of adds (are_carried final (type_parts t.0)) all, right_of adds (are_carried final (type_parts t.0)) all)
+
+  module _ (Owner : TypeOwner → Type 0) (first : (n : ℕ) (t : TypeDef) (f : Fate) → slice_get types n ≡ Some t → slice_get fates n ≡ Some f → carries f ≡ true → Owner t.owner) where
+    abbrev Made : ℕ → Type 0
+    Made n = IsMadeOf types Owner n
+
+    part_below : (n m : ℕ) (t : TypeDef) → slice_get types n ≡ Some t → Contains (type_parts t) m → m < n
+    part_below n m t at held = ltb-true m n (all-contained (λ k. nat_lt k n) (type_parts t) m (falls n t at) held)
+
+    made_so : (k n : ℕ) → n < suc k → ((m : ℕ) → m < k → is_carried final m ≡ true → Made m) → IsHow carries n → Made n
+    made_so k n less rest h = by h.how
+      where
+        by : (carries h.first ≡ true) ⊎ ((is_none h.def.name ≡ true) × (adds ≡ true) × (are_carried final (type_parts h.def) ≡ true)) → Made n
+        by (inl e) = owned (record { def = h.def; found = h.found; owned_so = first n h.def h.first h.found h.at_first e })
+        by (inr (none, add, all)) =
+            unnamed h.def h.found none (λ m held. rest m (let small = part_below n m h.def h.found held in omega (arith, small, less)) (all-contained (is_carried final) (type_parts h.def) m all held))
+
+    -- what is carried is made of types of such owners
+    made_below : (k n : ℕ) → n < k → is_carried final n ≡ true → Made n
+    made_below zero n less h = absurd (omega (arith, less))
+    made_below (suc k) n less h = let g = given_some carries (slice_get final n) h in made_so k n less (made_below k) (how_so carries carried_how n g.0 g.1 g.2)
+
+    -- what is copied was to be copied at first, or has no name and is made of such types
+    pub copied_so : (Copied : ℕ → Type 0) → ((n : ℕ) (t : TypeDef) (f : Fate) → slice_get types n ≡ Some t → slice_get fates n ≡ Some f → copies f ≡ true → Copied n)
+        → (n : ℕ) → slice_get (map copies final) n ≡ Some true → Copied n ⊎ ((adds ≡ true) × IsMadeUp types Owner n)
+    copied_so Copied begins n mark = by h.how
+      where
+        g : (f : Fate) × (slice_get final n ≡ Some f) × (copies f ≡ true)
+        g = mapped_some copies (slice_get final n) (sym (slice_get-map copies final n) ∙ mark)
+
+        h : IsHow copies n
+        h = how_so copies copied_how n g.0 g.1 g.2
+
+        by : (copies h.first ≡ true) ⊎ ((is_none h.def.name ≡ true) × (adds ≡ true) × (are_carried final (type_parts h.def) ≡ true)) → Copied n ⊎ ((adds ≡ true) × IsMadeUp types Owner n)
+        by (inl e) = inl (begins n h.def h.first h.found h.at_first e)
+        by (inr (none, add, all)) =
+            inr (add, record { def = h.def; found = h.found; nameless = none; parts = λ m held. made_below (suc m) m (omega arith) (all-contained (is_carried final) (type_parts h.def) m all held) })
+
+-- ---- by path
+
+module _ (own other : Resolve) (valid_other : IsValid other) (matched : List (Option InterfaceId)) (c : CarriedThings) (Copied Owner : TypeOwner → Type 0)
+    (copied_interface : (id : InterfaceId) → flag_under c.copied_interfaces.items id.0 ≡ true → Copied (owner.Interface id)) (copied_world : (id : WorldId) → flag_under c.copied_worlds.items id.0 ≡ true → Copied (owner.World id))
+    (copied_owner : (o : TypeOwner) → Copied o → Owner o) (matched_owner : (id : InterfaceId) → is_matched matched id.0 ≡ true → Owner (owner.Interface id)) where
+  named_matched : (n : ℕ) (name : Option Text) → carries (fate_named own matched n name) ≡ true → is_matched matched n ≡ true
+  named_matched n None h = no_true h
+  named_matched n (Some name) h = by (given_interface (slice_get matched n)) refl (beside_stands (type_named own matched n name) h)
+    where
+      by : (o : Option InterfaceId) → given_interface (slice_get matched n) ≡ o → is_some (type_named own matched n name) ≡ true → is_matched matched n ≡ true
+      by None e k = no_true (sym (ap (λ (o : Option InterfaceId). is_some (option_and_then (λ id. option_and_then (λ i. get_by_text i.types name) (interface_at own id.0)) o)) e) ∙ k)
+      by (Some id) e k = ap is_some e
+
+  begins_copied : (o : TypeOwner) (name : Option Text) → copies (fate_in own matched c o name) ≡ true → Copied o
+  begins_copied owner.None name h = no_true h
+  begins_copied (owner.World id) name h = by (flag_under c.copied_worlds.items id.0) refl (fate.Copied _) h
+    where
+      by : (b : Bool) → flag_under c.copied_worlds.items id.0 ≡ b → (f : Fate) → copies (if b then f else fate.Left) ≡ true → Copied (owner.World id)
+      by true e f k = copied_world id e
+      by false e f k = no_true k
+  begins_copied (owner.Interface id) name h = by (flag_under c.copied_interfaces.items id.0) refl (fate.Copied _) h
+    where
+      by : (b : Bool) → flag_under c.copied_interfaces.items id.0 ≡ b → (f : Fate) → copies (if b then f else fate_named own matched id.0 name) ≡ true → Copied (owner.Interface id)
+      by true e f k = copied_interface id e
+      by false e f k = no_true (sym (named_no_copy own matched id.0 name) ∙ k)
+
+  begins_carried : (o : TypeOwner) (name : Option Text) → carries (fate_in own matched c o name) ≡ true → Owner o
+  begins_carried owner.None name h = no_true h
+  begins_carried (owner.World id) name h = by (flag_under c.copied_worlds.items id.0) refl (fate.Copied _) h
+    where
+      by : (b : Bool) → flag_under c.copied_worlds.items id.0 ≡ b → (f : Fate) → carries (if b then f else fate.Left) ≡ true → Owner (owner.World id)
+      by true e f k = copied_owner (owner.World id) (copied_world id e)
+      by false e f k = no_true k
+  begins_carried (owner.Interface id) name h = by (flag_under c.copied_interfaces.items id.0) refl (fate.Copied _) h
+    where
+      by : (b : Bool) → flag_under c.copied_interfaces.items id.0 ≡ b → (f : Fate) → carries (if b then f else fate_named own matched id.0 name) ≡ true → Owner (owner.Interface id)
+      by true e f k = copied_owner (owner.Interface id) (copied_interface id e)
+      by false e f k = matched_owner id (named_matched id.0 name k)
+
+  abbrev initial : List Fate
+  initial = map (fate_of own matched c) other.types.items
+
+  initial_is : (n : ℕ) (t : TypeDef) (f : Fate) → slice_get other.types.items n ≡ Some t → slice_get initial n ≡ Some f → fate_of own matched c t ≡ f
+  initial_is n t f at e = some_same (fate_of own matched c t) f (sym (slice_get-map (fate_of own matched c) other.types.items n ∙ ap (option_map (fate_of own matched c)) at) ∙ e)
+
+  -- a type that is copied with what is carried by path
+  pub first_comes : (n : ℕ) → slice_get (map copies (first_fates own other matched c)) n ≡ Some true → IsOwnedBy other.types.items Copied n ⊎ ((adds_any c ≡ true) × IsMadeUp other.types.items Owner n)
+  first_comes =
+      copied_so (adds_any c) other.types.items initial (is_in_range other valid_other).falls (length-map other.types.items (fate_of own matched c)) Owner
+      (λ n t f at e k. begins_carried t.owner (optional_text t.name) (ap carries (initial_is n t f at e) ∙ k))
+      (IsOwnedBy other.types.items Copied)
+      (λ n t f at e k. record { def = t; found = at; owned_so = begins_copied t.owner (optional_text t.name) (ap copies (initial_is n t f at e) ∙ k) })
+
+-- ---- with what the bound world gains
+
+-- A new import of the other's bound world is the type of this number.
+pub record IsNewImport (interfaces : List ℕ) (here es : List (WorldKey × WorldItem)) (n : ℕ) : Type 0 where
+  pub entry : WorldKey × WorldItem
+  pub held : Contains es entry
+  pub is_type : item_type entry.1 ≡ Some n
+  pub is_new : is_new_under interfaces here entry.0 ≡ true
+
+module _ (own other : Resolve) (valid_own : IsValid own) (valid_other : IsValid other) (world other_world : ℕ) (w v : World) (at_v : world_at other other_world ≡ Some v) (agree : DoNotClash own other w v)
+    (copied : List Bool) (interfaces : List ℕ) (before : TypeFates) (numbers : List ℕ) (long : length before ≡ length other.types.items) (numbers_long : length numbers ≡ length other.types.items) (Copied Owner : TypeOwner → Type 0)
+    (copied_interface : (id : InterfaceId) → flag_under copied id.0 ≡ true → Copied (owner.Interface id)) (copied_owner : (o : TypeOwner) → Copied o → Owner o)
+    (named_owner : (id : InterfaceId) → is_named_at other id.0 ≡ true → Owner (owner.Interface id)) (bound_owner : (id : WorldId) → id.0 ≡ other_world → Owner (owner.World id)) where
+  abbrev types : List TypeDef
+  types = other.types.items
+
+  abbrev behind : List Fate
+  behind = second_from other world other_world copied interfaces types before numbers
+
+  abbrev at_first : List Fate
+  at_first = unified w.imports.entries v.imports.entries behind
+
+  -- a fate behind the first pass
+  behind_is : (ts : List TypeDef) (fs : List Fate) (ns : List ℕ) (n : ℕ) (t : TypeDef) (g : Fate) → slice_get ts n ≡ Some t → slice_get (second_from other world other_world copied interfaces ts fs ns) n ≡ Some g
+      → (f : Fate) × (k : ℕ) × (second_in other world other_world copied interfaces t.owner (beside_first f k) ≡ g)
+  behind_is [] fs ns n t g at e = let wrong : ⊥ = cc in absurd wrong
+  behind_is (u ∷ ts) [] ns n t g at e = let wrong : ⊥ = cc in absurd wrong
+  behind_is (u ∷ ts) (f ∷ fs) [] n t g at e = let wrong : ⊥ = cc in absurd wrong
+  behind_is (u ∷ ts) (f ∷ fs) (k ∷ ns) zero t g at e =
+      (f, k, ap (λ (x : TypeDef). second_in other world other_world copied interfaces x.owner (beside_first f k)) (sym (some_same u t at)) ∙ some_same (second_in other world other_world copied interfaces u.owner (beside_first f k)) g e)
+  behind_is (u ∷ ts) (f ∷ fs) (k ∷ ns) (suc n) t g at e = behind_is ts fs ns n t g at e
+
+  long_behind : length behind ≡ length types
+  long_behind = second_long other world other_world copied interfaces types before numbers long numbers_long
+
+  -- what a fate is at first: what it is behind the first pass, or that of the own type under its key
+  begins : (n : ℕ) (t : TypeDef) (f : Fate) → slice_get types n ≡ Some t → slice_get at_first n ≡ Some f
+      → ((g : Fate) × (k : ℕ) × (second_in other world other_world copied interfaces t.owner (beside_first g k) ≡ f)) ⊎ IsUnified w.imports.entries v.imports.entries at_first n
+  begins n t f at e = by (unified_at w.imports.entries v.imports.entries behind n g.0 g.1)
+    where
+      inside : n < length behind
+      inside = let less = slice_get_within types n t at in omega (arith, less, long_behind)
+
+      g : (g : Fate) × (slice_get behind n ≡ Some g)
+      g = within_there behind n inside
+
+      by : (slice_get at_first n ≡ Some g.0) ⊎ IsUnified w.imports.entries v.imports.entries at_first n
+          → ((g : Fate) × (k : ℕ) × (second_in other world other_world copied interfaces t.owner (beside_first g k) ≡ f)) ⊎ IsUnified w.imports.entries v.imports.entries at_first n
+      by (inl same) = let b = behind_is types before numbers n t g.0 at g.1 in inl (b.0, b.1, b.2 ∙ some_same g.0 f (sym same ∙ e))
+      by (inr u) = inr u
+
+  left_beside : (f : Fate) (n : ℕ) → copies (beside_first f n) ≡ false
+  left_beside fate.Left n = refl
+  left_beside (fate.Stands k) n = refl
+  left_beside (fate.Copied home) n = refl
+
+  stands_left : (k : ℕ) (f : Fate) → fate.Stands k ≡ f → copies f ≡ true → ⊥
+  stands_left k f e h = no_true (ap copies e ∙ h)
+
+  abbrev pub Gained : ℕ → Type 0
+  Gained n = IsOwnedBy types Copied n ⊎ IsNewImport interfaces w.imports.entries v.imports.entries n
+
+  -- a type of the bound world that is copied is a new import
+  new_import : (n : ℕ) (t : TypeDef) (f : Fate) → slice_get types n ≡ Some t → t.owner ≡ as_world other_world → slice_get at_first n ≡ Some f → copies f ≡ true → IsNewImport interfaces w.imports.entries v.imports.entries n
+  new_import n t f at home e copy = named_so t.name refl
+    where
+      named_so : (o : Option (String Global)) → t.name ≡ o → IsNewImport interfaces w.imports.entries v.imports.entries n
+      named_so None q = let wrong : as_world other_world ≡ owner.None = sym home ∙ no_home other valid_other n t at (ap is_some q) in absurd cc
+      named_so (Some s) q = by (type_under_key w.imports.entries x.entry.0) refl
+        where
+          x : IsImported other valid_other other_world v at_v (text_of s) n
+          x = type_imported other valid_other other_world v at_v n t at s q home
+
+          id : (id : TypeId) × (type_in x.entry.1 ≡ Some id) × (id.0 ≡ n)
+          id = number_type x.entry.1 n x.is_type
+
+          place : (k : ℕ) × (slice_get v.imports.entries k ≡ Some x.entry)
+          place = contains-get v.imports.entries x.entry x.held
+
+          less : id.0.0 < length behind
+          less = let inside = slice_get_within types n t at in let same = id.2 in omega (arith, inside, same, long_behind)
+
+          by : (o : Option TypeId) → type_under_key w.imports.entries x.entry.0 ≡ o → IsNewImport interfaces w.imports.entries v.imports.entries n
+          by None r = record { entry = x.entry; held = x.held; is_type = x.is_type; is_new = unmet_new own other valid_own valid_other other_world w v at_v agree interfaces x.entry x.held id.0 id.1 r }
+          by (Some mine) r =
+              let u = unified_set w.imports.entries v.imports.entries behind place.0 x.entry id.0 mine place.1 id.1 r less in
+              absurd (stands_left u.own.0 f (some_same (fate.Stands u.own.0) f (sym u.stands ∙ (ap (slice_get at_first) id.2 ∙ e))) copy)
+
+  gained_home : (n : ℕ) (t : TypeDef) (f : Fate) (o : TypeOwner) (g : Fate) (k : ℕ) → slice_get types n ≡ Some t → slice_get at_first n ≡ Some f → copies f ≡ true → t.owner ≡ o → second_in other world other_world copied interfaces o (beside_first g k) ≡ f → Gained n
+  gained_home n t f owner.None g k at e copy home is = no_true (ap copies is ∙ copy)
+  gained_home n t f (owner.World id) g k at e copy home is = by (id.0 == other_world) refl (fate.Copied _) (ap copies is ∙ copy)
+    where
+      by : (b : Bool) → (id.0 == other_world) ≡ b → (h : Fate) → copies (if b then h else fate.Left) ≡ true → Gained n
+      by false q h r = no_true r
+      by true q h r = inr (new_import n t f at (home ∙ ap (λ (m : ℕ). as_world m) (equal id.0 other_world q)) e copy)
+  gained_home n t f (owner.Interface id) g k at e copy home is = by (flag_under copied id.0) refl (is_named_at other id.0) (fate.Copied _) (ap copies is ∙ copy)
+    where
+      by : (b : Bool) → flag_under copied id.0 ≡ b → (d : Bool) (h : Fate) → copies (if b then h else (if d then beside_first g k else fate.Left)) ≡ true → Gained n
+      by true q d h r = inl (record { def = t; found = at; owned_so = subst Copied (sym home) (copied_interface id q) })
+      by false q true h r = no_true (sym (left_beside g k) ∙ r)
+      by false q false h r = no_true r
+
+  gained_copied : (n : ℕ) (t : TypeDef) (f : Fate) → slice_get types n ≡ Some t → slice_get at_first n ≡ Some f → copies f ≡ true → Gained n
+  gained_copied n t f at e copy = by (begins n t f at e)
+    where
+      by : ((g : Fate) × (k : ℕ) × (second_in other world other_world copied interfaces t.owner (beside_first g k) ≡ f)) ⊎ IsUnified w.imports.entries v.imports.entries at_first n → Gained n
+      by (inl b) = gained_home n t f t.owner b.0 b.1 at e copy refl b.2
+      by (inr u) = absurd (stands_left u.own.0 f (some_same (fate.Stands u.own.0) f (sym u.stands ∙ e)) copy)
+
+  carried_home : (o : TypeOwner) (f g : Fate) (k : ℕ) → carries f ≡ true → second_in other world other_world copied interfaces o (beside_first g k) ≡ f → Owner o
+  carried_home owner.None f g k carry is = no_true (ap carries is ∙ carry)
+  carried_home (owner.World id) f g k carry is = by (id.0 == other_world) refl (fate.Copied _) (ap carries is ∙ carry)
+    where
+      by : (b : Bool) → (id.0 == other_world) ≡ b → (h : Fate) → carries (if b then h else fate.Left) ≡ true → Owner (owner.World id)
+      by false q h r = no_true r
+      by true q h r = bound_owner id (equal id.0 other_world q)
+  carried_home (owner.Interface id) f g k carry is = by (flag_under copied id.0) refl (is_named_at other id.0) refl (fate.Copied _) (ap carries is ∙ carry)
+    where
+      by : (b : Bool) → flag_under copied id.0 ≡ b → (d : Bool) → is_named_at other id.0 ≡ d → (h : Fate) → carries (if b then h else (if d then beside_first g k else fate.Left)) ≡ true → Owner (owner.Interface id)
+      by true q d s h r = copied_owner (owner.Interface id) (copied_interface id q)
+      by false q true s h r = named_owner id s
+      by false q false s h r = no_true r
+
+  gained_carried : (n : ℕ) (t : TypeDef) (f : Fate) → slice_get types n ≡ Some t → slice_get at_first n ≡ Some f → carries f ≡ true → Owner t.owner
+  gained_carried n t f at e carry = by (begins n t f at e)
+    where
+      by : ((g : Fate) × (k : ℕ) × (second_in other world other_world copied interfaces t.owner (beside_first g k) ≡ f)) ⊎ IsUnified w.imports.entries v.imports.entries at_first n → Owner t.owner
+      by (inl b) = carried_home t.owner f b.0 b.1 carry b.2
+      by (inr u) =
+          let x = world_type other valid_other other_world v at_v u.entry.0 u.entry.1 (get-contains v.imports.entries u.place u.entry u.at_place) n (type_number u.entry.1 u.id u.is_type ∙ ap Some u.number) in
+          subst Owner (sym (ap (λ (d : TypeDef). d.owner) (sym (some_same x.def t (sym x.found ∙ at))) ∙ x.home)) (bound_owner (record { 0 = other_world }) refl)
+
+  -- a type that is copied with what the bound world gains
+  pub second_comes : (n : ℕ) → slice_get (map copies (bound_fates other world other_world w v copied interfaces before numbers)) n ≡ Some true → Gained n ⊎ ((gains_any interfaces w v ≡ true) × IsMadeUp types Owner n)
+  second_comes =
+      copied_so (gains_any interfaces w v) types at_first (is_in_range other valid_other).falls (unified_long w.imports.entries v.imports.entries behind ∙ long_behind) Owner gained_carried Gained gained_copied

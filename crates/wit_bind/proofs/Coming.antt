@@ -1,0 +1,358 @@
+-- What is copied of other bindings comes by its path, or is gained by the own bound world.
+use Rattle.std.proofs.Common.{◌≡◌, ◌⊎◌, inl, inr, refl, sym, ap, subst, ◌∙◌, arith, ℕ, zero, suc, ◌+◌, Bool, true, false, not, ◌&&◌, ◌||◌, ◌==◌, List, [], ◌∷◌, length, map, Option, Some, None, is_none, is_some, slice_get, unwrap_or, Contains}
+use Rattle.std.specs.Prelude.{String}
+use Rattle.std.specs.declared.alloc.Global.{Global}
+use Rattle.std.specs.List.{list_any}
+use Rattle.std.specs.Option.{option_map_or}
+use Rattle.std.proofs.lemmas.List.{length-map}
+use Rattle.std.proofs.lemmas.Option.{slice_get_within}
+use Rattle.wit_model.specs.declared.model.Interface.{Interface}
+use Rattle.wit_model.specs.declared.model.Resolve.{Resolve}
+use Rattle.wit_model.specs.declared.model.TypeOwner.{TypeOwner}
+use Rattle.wit_model.specs.declared.model.TypeOwner.TheVariants as owner
+use Rattle.wit_model.specs.declared.model.World.{World}
+use Rattle.wit_model.specs.declared.model.WorldItem.{WorldItem}
+use Rattle.wit_model.specs.declared.model.WorldKey.{WorldKey}
+use Rattle.wit_model.specs.declared.model.WorldKey.TheVariants as key
+use Rattle.wit_model.specs.Lookup.{interface_at, interface_path, key_text, world_at}
+use Rattle.wit_model.specs.Meaning.{WorldMeaning}
+use Rattle.wit_model.specs.Meant.{entries_meaning, no_world, world_meaning}
+use Rattle.wit_model.specs.Rules.{is_id}
+use Rattle.wit_model.specs.Text.{Text, text_eq}
+use Rattle.wit_model.specs.Uses.{item_interface}
+use Rattle.wit_model.proofs.OnePath.{named-path}
+use Rattle.bind_meaning.specs.Clash.{entry_under, CanUnite}
+use Rattle.bind_meaning.proofs.WorldBindings.{export-key, import-key, keys-apart, IsKey}
+use Rattle.bind_clash.specs.Faults.{IsMatched}
+use Rattle.bind_clash.proofs.KeysMatched.{no-entry}
+use Rattle.bind_copy.specs.Copies.{is_key_under, is_new_under, number_under}
+use Rattle.bind_match.specs.declared.matches.Matches.{Matches}
+use Rattle.bind_union.proofs.Lists.{no_true}
+use Rattle.bind_carry.specs.Bound.{bound_interfaces}
+use Rattle.bind_carry.specs.BoundGains.{bound_fates, gained_inline, gains_any}
+use Rattle.bind_carry.specs.Fates.{copies}
+use Rattle.bind_carry.specs.First.{adds_any, first_fates, flag_under, is_named_at}
+use Rattle.bind_carry.specs.MadeOf.{Come, IsMadeUp, IsOwnedBy}
+use Rattle.bind_carry.specs.Marked.{is_inline_at, is_shown_in, mark_worlds, AreChosen}
+use Rattle.bind_carry.specs.MatchedSame.{AreMatchedAt, NoneOfPath}
+use Rattle.bind_carry.specs.Numbers.{copied_count, interface_number}
+use Rattle.bind_carry.specs.Renumbered.{is_matched}
+use Rattle.bind_carry.specs.SecondPass.{DoNotClash}
+use Rattle.bind_carry.specs.Shown.{any_new, AreShownBelow}
+use Rattle.bind_carry.specs.TooLong.{carried_interfaces, carried_worlds, copies_of, CarriedThings, TypeFates}
+use Rattle.bind_carry.specs.Which.{new_interfaces, AreMatchedAll, IsNumbered}
+use Rattle.bind_carry.specs.Whole.{kept}
+use Rattle.bind_carry.proofs.FirstMatched.{matched_under, named_of_path, uncopied_under}
+use Rattle.bind_carry.proofs.Marking.{are_chosen}
+use Rattle.bind_carry.proofs.Ranges.{is_in_range}
+use Rattle.bind_carry.proofs.Ready.{fates_long, interface_count}
+use Rattle.bind_carry.proofs.SecondMarks.{gained_flag, gained_long, is_gained, is_shown_new}
+use Rattle.bind_carry.proofs.WhatComes.{first_comes, marked_count, second_comes, IsNewImport}
+use Rattle.bind_carry.proofs.WorldEntries.{any_place, export_keyed, import_keyed, new_under_same}
+use Rattle.bind_carry.proofs.CountedCopies.{interfaces_flagged, worlds_flagged}
+use Rattle.wit_bind.specs.declared.bindgen.Bindgen.{Bindgen}
+use Rattle.wit_bind.specs.Bindings.{binding_of, IsBindgen}
+use Rattle.wit_bind.specs.Comes.{ExportIsGained, ImportIsGained, InlineComes, InlineIsGained, InterfaceComes, OwnerComes, OwnerIsGained, OwnerIsShown, OwnerStands, SomethingComes, SomethingIsGained, TypeComes, TypeIsGained, WorldComes}
+use Rattle.wit_bind.proofs.MatchedPaths.{all-matched, matched-with, none-of-path}
+use Rattle.wit_bind.proofs.NumbersAgree.{united_agree_by_numbers}
+use Rattle.wit_bind.proofs.TooMany.{new-interface, new-world, shown}
+use Rattle.base_lemmas.proofs.Bools.{left_of as first_true, right_of as second_true}
+use Rattle.base_lemmas.proofs.Elements.{get-contains}
+use Rattle.base_lemmas.proofs.Lists.{within_there}
+use Rattle.base_lemmas.proofs.Options.{there as some-of}
+use Rattle.wit_model.proofs.RulesLemmas.{is_id_some as some_id}
+use Rattle.wit_model.proofs.TextLemmas.{text_same as text-same}
+
+-- ---- lists
+
+flag-there : {A : Type 0} (flags : List Bool) (xs : List A) (n : ℕ) → length flags ≡ length xs → flag_under flags n ≡ true → (x : A) × (slice_get xs n ≡ Some x)
+flag-there {A} flags xs n long h = go (slice_get flags n) refl h
+  where
+    go : (o : Option Bool) → slice_get flags n ≡ o → unwrap_or o false ≡ true → (x : A) × (slice_get xs n ≡ Some x)
+    go None e k = no_true k
+    go (Some b) e k = within_there xs n (let less = slice_get_within flags n b e in omega (arith, less, long))
+
+mark-flag : (marks : List Bool) (n : ℕ) → slice_get marks n ≡ Some true → flag_under marks n ≡ true
+mark-flag marks n e = ap (λ o. unwrap_or o false) e
+
+-- what is kept had its flag
+kept-from : {A : Type 0} (flags : List Bool) (xs : List A) (p : ℕ) (x : A) → slice_get (kept flags xs) p ≡ Some x → (n : ℕ) × (slice_get xs n ≡ Some x) × (flag_under flags n ≡ true)
+kept-from [] xs p x e = let wrong : ⊥ = cc in absurd wrong
+kept-from (b ∷ bs) [] p x e = let wrong : ⊥ = cc in absurd wrong
+kept-from (true ∷ bs) (y ∷ ys) zero x e = (zero, e, refl)
+kept-from (true ∷ bs) (y ∷ ys) (suc p) x e = let r = kept-from bs ys p x e in (suc r.0, r.1, r.2)
+kept-from (false ∷ bs) (y ∷ ys) p x e = let r = kept-from bs ys p x e in (suc r.0, r.1, r.2)
+
+either-true : {P : Type 0} (a b : Bool) → (a ≡ true → P) → (b ≡ true → P) → (a || b) ≡ true → P
+either-true true b f g h = f refl
+either-true false b f g h = g h
+
+-- what passes none of these isn't one
+none-passes : {A : Type 0} (p : A → Bool) (xs : List A) (x : A) → not (list_any p xs) ≡ true → Contains xs x → p x ≡ false
+none-passes p [] x h (i, l, e) = absurd (omega (arith, l))
+none-passes p (y ∷ ys) x h (zero, l, e) = ap p (sym e) ∙ first (p y) (list_any p ys) h
+  where
+    first : (a b : Bool) → not (a || b) ≡ true → a ≡ false
+    first true b k = no_true k
+    first false b k = refl
+none-passes p (y ∷ ys) x h (suc i, l, e) = none-passes p ys x (later (p y) (list_any p ys) h) (i, omega (arith, l), e)
+  where
+    later : (a b : Bool) → not (a || b) ≡ true → not b ≡ true
+    later true b k = no_true k
+    later false b k = k
+
+module _ (own other : Bindgen) (o : IsBindgen own) (t : IsBindgen other) (can : CanUnite (binding_of own) (binding_of other)) (m : Matches) (matched : IsMatched own.resolve other.resolve m) where
+  abbrev r : Resolve
+  r = own.resolve
+
+  abbrev s : Resolve
+  s = other.resolve
+
+  all : AreMatchedAll s m
+  all = all-matched r s m matched
+
+  none : NoneOfPath r s m.interfaces.items
+  none = none-of-path own other o t can m matched
+
+  has-path : (n : ℕ) → is_named_at s n ≡ true → is_some (interface_path s n) ≡ true
+  has-path n h = named-path s t.valid n h
+
+  -- ---- by path
+
+  chosen : AreChosen s m.interfaces.items (carried_worlds s m) (carried_interfaces s m)
+  chosen = are_chosen s m.interfaces.items (carried_worlds s m) all.interfaces (shown r s o.valid t.valid m matched)
+
+  world-comes : (n : ℕ) → flag_under (carried_worlds s m) n ≡ true → WorldComes r s n
+  world-comes n h =
+      let w = flag-there (carried_worlds s m) s.worlds.items n (worlds_flagged s m.worlds.items s.worlds.items all.worlds) h in
+      record { world = w.0; found = w.1; is_new = new-world r s o.valid t.valid m matched n w.0 w.1 h }
+
+  pub interface-comes : (n : ℕ) → flag_under (carried_interfaces s m) n ≡ true → InterfaceComes r s n
+  interface-comes n h = by (is_some i.0.name) refl
+    where
+      i : (i : Interface) × (interface_at s n ≡ Some i)
+      i = flag-there (carried_interfaces s m) s.interfaces.items n (interfaces_flagged s m.interfaces.items (carried_worlds s m) all.interfaces) h
+
+      inline-so : (o : Option (String Global)) → is_some o ≡ false → is_none o ≡ true
+      inline-so None e = refl
+      inline-so (Some x) e = no_true (sym e)
+
+      shows : (es : List (WorldKey × WorldItem)) → is_shown_in es n ≡ true → (e : WorldKey × WorldItem) × Contains es e × (item_interface e.1 ≡ Some n)
+      shows es k =
+          let p = any_place (λ (e : WorldKey × WorldItem). is_id n (item_interface e.1)) es k in
+          (p.thing, get-contains es p.place p.thing p.there, some_id n (item_interface p.thing.1) p.passes_it)
+
+      by : (b : Bool) → is_some i.0.name ≡ b → InterfaceComes r s n
+      by true e = inl (record { interface = i.0; found = i.1; named = e; is_new = new-interface r s o.valid t.valid m matched (carried_worlds s m) (carried_interfaces s m) chosen n i.0 i.1 h })
+      by false e =
+          let p = any_place (λ (w : World). is_shown_in w.imports.entries n || is_shown_in w.exports.entries n) (kept (carried_worlds s m) s.worlds.items) (sym (chosen.inline n i.0 i.1 e) ∙ h) in
+          let k = kept-from (carried_worlds s m) s.worlds.items p.place p.thing p.there in
+          let comes : WorldComes r s k.0 = record { world = p.thing; found = k.1; is_new = new-world r s o.valid t.valid m matched k.0 p.thing k.1 k.2 } in
+          let inline : is_inline_at s n ≡ true = ap (λ x. option_map_or (λ (j : Interface). is_none j.name) x false) i.1 ∙ inline-so i.0.name e in
+          inr (either-true {P = InlineComes r s n} (is_shown_in p.thing.imports.entries n) (is_shown_in p.thing.exports.entries n)
+          (λ q. let x = shows p.thing.imports.entries q in record { inline = inline; place = k.0; comes = comes; entry = x.0; held = inl x.1; shown = x.2 })
+          (λ q. let x = shows p.thing.exports.entries q in record { inline = inline; place = k.0; comes = comes; entry = x.0; held = inr x.1; shown = x.2 })
+          p.passes_it)
+
+  pub interfaces-come : Come (InterfaceComes r s) (copied_count (carried_interfaces s m))
+  interfaces-come = record { marks = carried_interfaces s m; marked = marked_count (carried_interfaces s m); each = λ n e. interface-comes n (mark-flag (carried_interfaces s m) n e) }
+
+  stands : (w : TypeOwner) → OwnerComes r s w → OwnerStands r s w
+  stands (owner.Interface id) h = inr h
+  stands (owner.World id) h = h
+  stands owner.None h = h
+
+  module _ (c : CarriedThings) (numbered : IsNumbered r s m c) where
+    worlds-are : c.copied_worlds.items ≡ carried_worlds s m
+    worlds-are = numbered.copied_worlds
+
+    pub interfaces-are : c.copied_interfaces.items ≡ carried_interfaces s m
+    interfaces-are = numbered.copied_interfaces ∙ ap (λ (l : List Bool). mark_worlds s (new_interfaces m.interfaces.items s.interfaces.items) l s.worlds.items) worlds-are
+
+    copied-interface : (n : ℕ) → flag_under c.copied_interfaces.items n ≡ true → InterfaceComes r s n
+    copied-interface n h = interface-comes n (ap (λ (l : List Bool). flag_under l n) (sym interfaces-are) ∙ h)
+
+    pub copied-world : (n : ℕ) → flag_under c.copied_worlds.items n ≡ true → WorldComes r s n
+    copied-world n h = world-comes n (ap (λ (l : List Bool). flag_under l n) (sym worlds-are) ∙ h)
+
+    same : AreMatchedAt r s m.interfaces.items c.packages.items
+    same = matched-with own other o t can m matched c numbered
+
+    any-flag : (flags : List Bool) → list_any (λ b. b) flags ≡ true → (n : ℕ) × (flag_under flags n ≡ true)
+    any-flag flags h = let p = any_place (λ (b : Bool). b) flags h in (p.place, ap (λ (o : Option Bool). unwrap_or o false) p.there ∙ p.passes_it)
+
+    something : adds_any c ≡ true → SomethingComes r s
+    something h =
+        either-true {P = SomethingComes r s} (list_any (λ b. b) c.copied_interfaces.items) (list_any (λ b. b) c.copied_worlds.items)
+        (λ q. let f = any-flag c.copied_interfaces.items q in (f.0, inl (copied-interface f.0 f.1))) (λ q. let f = any-flag c.copied_worlds.items q in (f.0, inr (copied-world f.0 f.1))) h
+
+    abbrev fates : TypeFates
+    fates = first_fates r s m.interfaces.items c
+
+    pub types-come : Come (TypeComes r s) (copies_of fates)
+    types-come = record {
+      marks = map copies fates;
+      marked = marked_count (map copies fates);
+      each = λ n e. by n
+          (first_comes r s t.valid m.interfaces.items c (OwnerComes r s) (OwnerStands r s) (λ id h. copied-interface id.0 h) (λ id h. copied-world id.0 h) stands (λ id h. inl (same id.0 h).has_path) n e);
+    }
+      where
+        by : (n : ℕ) → IsOwnedBy s.types.items (OwnerComes r s) n ⊎ ((adds_any c ≡ true) × IsMadeUp s.types.items (OwnerStands r s) n) → TypeComes r s n
+        by n (inl x) = inl x
+        by n (inr (h, x)) = inr (something h, x)
+
+    -- ---- keys that are new
+
+    abbrev numbers : List ℕ
+    numbers = c.interfaces.items
+
+    own-number : (n : ℕ) (h : is_matched m.interfaces.items n ≡ true) → number_under numbers n ≡ (same n h).id.0
+    own-number n h =
+        let x = same n h in
+        let name : is_some x.old.name ≡ true = named_of_path s n x.old x.found x.has_path in
+        let flag : flag_under c.copied_interfaces.items n ≡ false = ap (λ (l : List Bool). flag_under l n) interfaces-are ∙ (chosen.named n x.old x.found name ∙ ap not h) in
+        ap (λ (l : List ℕ). number_under l n) numbered.interfaces
+        ∙ (uncopied_under (length r.interfaces.items) c.copied_interfaces.items (map interface_number m.interfaces.items) n (numbered.interface_count ∙ (sym all.interfaces ∙ sym (length-map m.interfaces.items interface_number))) flag
+        ∙ matched_under m.interfaces.items n x.id x.given)
+
+    text-apart : (k x : WorldKey) → IsKey s t.valid k → IsKey r o.valid x → is_key_under numbers k x ≡ false → text_eq (key_text s k) (key_text r x) ≡ false
+    text-apart (key.Name a) (key.Name b) g h e = keys-apart r o.valid (key.Name a) (key.Name b) g h e
+    text-apart (key.Name a) (key.Interface b) g h e = keys-apart r o.valid (key.Name a) (key.Interface b) g h e
+    text-apart (key.Interface a) (key.Name b) g h e = keys-apart s t.valid (key.Interface a) (key.Name b) g h refl
+    text-apart (key.Interface a) (key.Interface b) g h e = go (is_matched m.interfaces.items a.0) refl
+      where
+        go : (y : Bool) → is_matched m.interfaces.items a.0 ≡ y → text_eq (key_text s (key.Interface a)) (key_text r (key.Interface b)) ≡ false
+        go true q =
+            let x = same a.0 q in
+            let path : interface_path r x.id.0 ≡ interface_path s a.0 = x.path in
+            ap (λ (p : Option Text). text_eq (unwrap_or p []) (key_text r (key.Interface b))) (sym path)
+            ∙ keys-apart r o.valid (key.Interface x.id) (key.Interface b) (ap is_some path ∙ g) h (ap (λ (k : ℕ). k == b.0) (sym (own-number a.0 q)) ∙ e)
+        go false q = same-or (text_eq (key_text s (key.Interface a)) (key_text r (key.Interface b))) refl
+          where
+            same-or : (y : Bool) → text_eq (key_text s (key.Interface a)) (key_text r (key.Interface b)) ≡ y → y ≡ false
+            same-or false z = refl
+            same-or true z =
+                let theirs = some-of (interface_path s a.0) g in
+                let ours = some-of (interface_path r b.0) h in
+                let one : theirs.0 ≡ ours.0 = sym (ap (λ (p : Option Text). unwrap_or p []) theirs.1) ∙ (text-same (key_text s (key.Interface a)) (key_text r (key.Interface b)) z ∙ ap (λ (p : Option Text). unwrap_or p []) ours.1) in
+                absurd (none a.0 b.0 q g (ours.1 ∙ (ap Some (sym one) ∙ sym theirs.1)))
+
+    -- under the text of a new key the own side has nothing
+    absent : (here : List (WorldKey × WorldItem)) → ((x : WorldKey × WorldItem) → Contains here x → IsKey r o.valid x.0) → (k : WorldKey) → IsKey s t.valid k → is_new_under numbers here k ≡ true → entry_under (key_text s k) (entries_meaning r here) ≡ None
+    absent here keys k g new = no-entry r (key_text s k) here (λ x held. text-apart k x.0 g (keys x held) (none-passes (λ (e : WorldKey × WorldItem). is_key_under numbers k e.0) here x new held))
+
+    -- ---- what the bound world gains
+
+    module _ (w v : World) (at_w : world_at r own.world.0 ≡ Some w) (at_v : world_at s other.world.0 ≡ Some v) where
+      ours : world_meaning r w ≡ (binding_of own).bound
+      ours = sym (ap (λ (z : Option World). option_map_or (world_meaning r) z no_world) at_w)
+
+      import-gained : (e : WorldKey × WorldItem) → Contains v.imports.entries e → is_new_under numbers w.imports.entries e.0 ≡ true → ImportIsGained own other e
+      import-gained e held new = record {
+        held = subst (λ (l : List (WorldKey × WorldItem)). Contains l e) (sym (ap (λ (z : Option World). option_map_or (λ (x : World). x.imports.entries) z []) at_v)) held;
+        is_new = ap (λ (b : WorldMeaning). entry_under (key_text s e.0) b.imports) (sym ours) ∙ absent w.imports.entries (import-key r o.valid own.world.0 w at_w) e.0 (import-key s t.valid other.world.0 v at_v e held) new;
+      }
+
+      export-gained : (e : WorldKey × WorldItem) → Contains v.exports.entries e → is_new_under numbers w.exports.entries e.0 ≡ true → ExportIsGained own other e
+      export-gained e held new = record {
+        held = subst (λ (l : List (WorldKey × WorldItem)). Contains l e) (sym (ap (λ (z : Option World). option_map_or (λ (x : World). x.exports.entries) z []) at_v)) held;
+        is_new = ap (λ (b : WorldMeaning). entry_under (key_text s e.0) b.exports) (sym ours) ∙ absent w.exports.entries (export-key r o.valid own.world.0 w at_w) e.0 (export-key s t.valid other.world.0 v at_v e held) new;
+      }
+
+      abbrev gained : List Bool
+      gained = gained_inline s numbers w v
+
+      inline-gained : (n : ℕ) → flag_under gained n ≡ true → InlineIsGained own other n
+      inline-gained n h =
+          let both = sym (gained_flag s numbers w v below.0 below.1 n) ∙ h in
+          either-true {P = InlineIsGained own other n} (is_shown_new s numbers w.imports.entries v.imports.entries n) (is_shown_new s numbers w.exports.entries v.exports.entries n)
+          (λ q.
+          let p = any_place (λ (e : WorldKey × WorldItem). is_new_under numbers w.imports.entries e.0 && is_id n (item_interface e.1)) v.imports.entries q in
+          let e = p.thing in
+          record {
+            inline = first_true (is_inline_at s n) (is_gained s numbers w v below.0 below.1 n) both;
+            entry = e;
+            gained = inl (import-gained e (get-contains v.imports.entries p.place e p.there) (first_true (is_new_under numbers w.imports.entries e.0) (is_id n (item_interface e.1)) p.passes_it));
+            shown = some_id n (item_interface e.1) (second_true (is_new_under numbers w.imports.entries e.0) (is_id n (item_interface e.1)) p.passes_it);
+          })
+          (λ q.
+          let p = any_place (λ (e : WorldKey × WorldItem). is_new_under numbers w.exports.entries e.0 && is_id n (item_interface e.1)) v.exports.entries q in
+          let e = p.thing in
+          record {
+            inline = first_true (is_inline_at s n) (is_gained s numbers w v below.0 below.1 n) both;
+            entry = e;
+            gained = inr (export-gained e (get-contains v.exports.entries p.place e p.there) (first_true (is_new_under numbers w.exports.entries e.0) (is_id n (item_interface e.1)) p.passes_it));
+            shown = some_id n (item_interface e.1) (second_true (is_new_under numbers w.exports.entries e.0) (is_id n (item_interface e.1)) p.passes_it);
+          })
+          (second_true (is_inline_at s n) (is_gained s numbers w v below.0 below.1 n) both)
+        where
+          below : AreShownBelow (length s.interfaces.items) v.imports.entries × AreShownBelow (length s.interfaces.items) v.exports.entries
+          below = shown r s o.valid t.valid m matched other.world.0 v at_v
+
+      pub inline-come : Come (InlineIsGained own other) (copied_count gained)
+      inline-come = record { marks = gained; marked = marked_count gained; each = λ n e. inline-gained n (mark-flag gained n e) }
+
+      -- ---- types
+
+      module _ (before : ℕ) where
+        abbrev later : List ℕ
+        later = bound_interfaces r before c gained
+
+        -- interfaces with a name have one number in both
+        named-same : (n : ℕ) (i : Interface) → interface_at s n ≡ Some i → is_some i.name ≡ true → number_under later n ≡ number_under numbers n
+        named-same n i at name = uncopied_under (length r.interfaces.items + before) gained numbers n long (no-flag (flag_under gained n) refl)
+          where
+            below : AreShownBelow (length s.interfaces.items) v.imports.entries × AreShownBelow (length s.interfaces.items) v.exports.entries
+            below = shown r s o.valid t.valid m matched other.world.0 v at_v
+
+            long : length gained ≡ length numbers
+            long = gained_long s numbers w v below.0 below.1 ∙ sym (interface_count r s m c (is_in_range s t.valid) all numbered)
+
+            not-inline : (x : Option (String Global)) → is_some x ≡ true → is_none x ≡ true → ⊥
+            not-inline None e k = no_true e
+            not-inline (Some y) e k = no_true k
+
+            no-flag : (b : Bool) → flag_under gained n ≡ b → flag_under gained n ≡ false
+            no-flag false e = e
+            no-flag true e =
+                absurd (not-inline i.name name (sym (ap (λ x. option_map_or (λ (j : Interface). is_none j.name) x false) at) ∙ (inline-gained n e).inline))
+
+        import-same : (e : WorldKey × WorldItem) → Contains v.imports.entries e → is_new_under later w.imports.entries e.0 ≡ true → ImportIsGained own other e
+        import-same e held new =
+            import-gained e held (sym (new_under_same later numbers w.imports.entries e.0 (λ id is. let k = import_keyed s t.valid other.world.0 v at_v e held id is in named-same id.0 k.def k.found k.named)) ∙ new)
+
+        export-same : (e : WorldKey × WorldItem) → Contains v.exports.entries e → is_new_under later w.exports.entries e.0 ≡ true → ExportIsGained own other e
+        export-same e held new =
+            export-gained e held (sym (new_under_same later numbers w.exports.entries e.0 (λ id is. let k = export_keyed s t.valid other.world.0 v at_v e held id is in named-same id.0 k.def k.found k.named)) ∙ new)
+
+        something-gained : gains_any later w v ≡ true → SomethingIsGained own other
+        something-gained h =
+            either-true {P = SomethingIsGained own other} (any_new later w.imports.entries v.imports.entries) (any_new later w.exports.entries v.exports.entries)
+            (λ q. let p = any_place (λ (e : WorldKey × WorldItem). is_new_under later w.imports.entries e.0) v.imports.entries q in (p.thing, inl (import-same p.thing (get-contains v.imports.entries p.place p.thing p.there) p.passes_it)))
+            (λ q. let p = any_place (λ (e : WorldKey × WorldItem). is_new_under later w.exports.entries e.0) v.exports.entries q in (p.thing, inr (export-same p.thing (get-contains v.exports.entries p.place p.thing p.there) p.passes_it)))
+            h
+
+        shown-owner : (w : TypeOwner) → OwnerIsGained own other w → OwnerIsShown own other w
+        shown-owner (owner.Interface id) h = inr h
+        shown-owner (owner.World id) h = absurd h
+        shown-owner owner.None h = h
+
+        agree : DoNotClash r s w v
+        agree = (united_agree_by_numbers own other o t can w v at_w at_v).bound
+
+        abbrev later_fates : List ℕ → TypeFates
+        later_fates ns = bound_fates s own.world.0 other.world.0 w v gained later fates ns
+
+        pub types-gained : (ns : List ℕ) → length ns ≡ length s.types.items → Come (TypeIsGained own other) (copies_of (later_fates ns))
+        types-gained ns long = record {
+          marks = map copies (later_fates ns);
+          marked = marked_count (map copies (later_fates ns));
+          each = λ n e. by n
+              (second_comes r s o.valid t.valid own.world.0 other.world.0 w v at_v agree gained later fates ns (fates_long r s m c) long (OwnerIsGained own other) (OwnerIsShown own other)
+              (λ id h. inline-gained id.0 h) shown-owner (λ id h. inl (has-path id.0 h)) (λ id h. h) n e);
+        }
+          where
+            by : (n : ℕ) → (IsOwnedBy s.types.items (OwnerIsGained own other) n ⊎ IsNewImport later w.imports.entries v.imports.entries n) ⊎ ((gains_any later w v ≡ true) × IsMadeUp s.types.items (OwnerIsShown own other) n) → TypeIsGained own other n
+            by n (inl (inl x)) = inl x
+            by n (inl (inr x)) = inr (inl (record { entry = x.entry; gained = import-same x.entry x.held x.is_new; is_type = x.is_type }))
+            by n (inr (h, x)) = inr (inr (something-gained h, x))

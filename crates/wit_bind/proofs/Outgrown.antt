@@ -1,0 +1,90 @@
+-- Where a union would make a list too long, so would what comes.
+use Rattle.std.proofs.Common.{◌≡◌, inl, inr, refl, ap, ◌∙◌, arith, ℕ, ◌+◌, ◌<◌, ◌≤◌, [], length, Some}
+use Rattle.std.specs.Prelude.{Err, IfErr, Ok, Result}
+use Rattle.wit_model.specs.declared.error.Error.{Error}
+use Rattle.wit_model.specs.declared.error.Error.TheVariants as errors
+use Rattle.wit_model.specs.declared.model.World.{World}
+use Rattle.wit_model.specs.Lookup.{world_at}
+use Rattle.bind_meaning.specs.Clash.{CanUnite}
+use Rattle.bind_clash.specs.Faults.{IsMatched}
+use Rattle.bind_match.specs.declared.matches.Matches.{Matches}
+use Rattle.bind_carry.specs.BoundGains.{gained_inline}
+use Rattle.bind_carry.specs.Fates.{numbers_by}
+use Rattle.bind_carry.specs.First.{first_fates}
+use Rattle.bind_carry.specs.MadeOf.{Come}
+use Rattle.bind_carry.specs.Numbers.{copied_count, IsMemoryOrSize}
+use Rattle.bind_carry.specs.TooLong.{carried_interfaces, copies_of, gained_fates, IsTooLong}
+use Rattle.bind_carry.proofs.CopiesPlaced.{numbers_by_long}
+use Rattle.bind_carry.proofs.Ready.{fates_long}
+use Rattle.wit_bind.specs.declared.bindgen.Bindgen.{Bindgen}
+use Rattle.wit_bind.specs.Bindings.{binding_of, IsBindgen}
+use Rattle.wit_bind.specs.Merges.{AreTooMany}
+use Rattle.wit_bind.proofs.Coming.{inline-come, interfaces-are, interfaces-come, types-come, types-gained}
+use Rattle.wit_bind.proofs.TooMany.{packages-few, worlds-few}
+use Rattle.base_lemmas.proofs.Lists.{within_there}
+
+none-come : (P : ℕ → Type 0) → Come P 0
+none-come P = record { marks = []; marked = refl; each = λ n e. let wrong : ⊥ = cc in absurd wrong }
+
+more : (limit own some all : ℕ) → limit < own + some → some ≤ all → limit < own + all
+more limit own some all h l = omega (arith, h, l)
+
+first-alone : (limit own first : ℕ) → limit < own + first → limit < own + (first + 0)
+first-alone limit own first h = omega (arith, h)
+
+both-come : (limit own first all second : ℕ) → first ≡ all → limit < (own + first) + second → limit < own + (all + second)
+both-come limit own first all second e h = omega (arith, e, h)
+
+module _ (own other : Bindgen) (o : IsBindgen own) (t : IsBindgen other) (can : CanUnite (binding_of own) (binding_of other)) (m : Matches) (matched : IsMatched own.resolve other.resolve m) where
+  too-many : (w v : World) → world_at own.resolve own.world.0 ≡ Some w → world_at other.resolve other.world.0 ≡ Some v → IsTooLong own.resolve other.resolve own.world.0 other.world.0 m w v → AreTooMany own other
+  too-many w v at_w at_v (inl (inl h)) = inl (more 4294967295 (length own.resolve.packages.items) _ _ h (packages-few own.resolve other.resolve o.valid t.valid m matched))
+  too-many w v at_w at_v (inl (inr (inl h))) = inr (inl (more 4294967295 (length own.resolve.worlds.items) _ _ h (worlds-few own.resolve other.resolve o.valid t.valid m matched)))
+  too-many w v at_w at_v (inl (inr (inr h))) = inr (inr (inl (record {
+    first = copied_count (carried_interfaces other.resolve m);
+    first_come = interfaces-come own other o t can m matched;
+    second = 0;
+    second_come = none-come _;
+    too_long = first-alone 4294967295 (length own.resolve.interfaces.items) _ h;
+  })))
+  too-many w v at_w at_v (inr (c, numbered, inl h)) = inr (inr (inr (record {
+    first = copies_of (first_fates own.resolve other.resolve m.interfaces.items c);
+    first_come = types-come own other o t can m matched c numbered;
+    second = 0;
+    second_come = none-come _;
+    too_long = first-alone 4294967295 (length own.resolve.types.items) _ h;
+  })))
+  too-many w v at_w at_v (inr (c, numbered, inr (inl h))) = inr (inr (inl (record {
+    first = copied_count (carried_interfaces other.resolve m);
+    first_come = interfaces-come own other o t can m matched;
+    second = copied_count (gained_inline other.resolve c.interfaces.items w v);
+    second_come = inline-come own other o t can m matched c numbered w v at_w at_v;
+    too_long = both-come 4294967295 (length own.resolve.interfaces.items) _ _ _ (ap copied_count (interfaces-are own other o t can m matched c numbered)) h;
+  })))
+  too-many w v at_w at_v (inr (c, numbered, inr (inr h))) =
+      let fates = first_fates own.resolve other.resolve m.interfaces.items c in
+      let numbers = numbers_by (length own.resolve.types.items) fates in
+      inr (inr (inr (record {
+        first = copies_of fates;
+        first_come = types-come own other o t can m matched c numbered;
+        second = copies_of (gained_fates own.resolve other.resolve own.world.0 other.world.0 w v c fates numbers (copied_count c.copied_interfaces.items));
+        second_come = types-gained own other o t can m matched c numbered w v at_w at_v (copied_count c.copied_interfaces.items) numbers (numbers_by_long (length own.resolve.types.items) fates ∙ fates_long own.resolve other.resolve m c);
+        too_long = both-come 4294967295 (length own.resolve.types.items) _ _ _ refl h;
+      })))
+
+  -- ---- the refusal of a union
+
+  module _ (P : Error → Type 0) (memory : P errors.Memory) (size : AreTooMany own other → P errors.Size) where
+    refusal : (e : Error) → IsMemoryOrSize e
+        → (e ≡ errors.Size → (w v : World) → world_at own.resolve own.world.0 ≡ Some w → world_at other.resolve other.world.0 ≡ Some v → IsTooLong own.resolve other.resolve own.world.0 other.world.0 m w v) → P e
+    refusal errors.Memory h long = memory
+    refusal errors.Size h long =
+        let w = within_there own.resolve.worlds.items own.world.0 o.in_range in
+        let v = within_there other.resolve.worlds.items other.world.0 t.in_range in
+        size (too-many w.0 v.0 w.1 v.1 (long refl w.0 v.0 w.1 v.1))
+    refusal e h long = absurd h
+
+    -- a union is refused for want of memory, or where there would be too much
+    pub refused-so : {A : Type 0} (r : Result A Error) → IfErr r IsMemoryOrSize
+        → IfErr r (λ e. e ≡ errors.Size → (w v : World) → world_at own.resolve own.world.0 ≡ Some w → world_at other.resolve other.world.0 ≡ Some v → IsTooLong own.resolve other.resolve own.world.0 other.world.0 m w v) → IfErr r P
+    refused-so (Ok a) h long = tt
+    refused-so (Err e) h long = refusal e h long
