@@ -179,7 +179,7 @@ module _ (r : Resolve) (v : IsValid r) where
     where
       go : (c : Bool) → (b == a) ≡ c → c ≡ false
       go false e = refl
-      go true e = let wrong : true ≡ false = sym (same-number a) ∙ ap (λ k. a == k) (sym (Rattle.wit_model.proofs.Elements.equal b a e)) ∙ h in let z : ⊥ = cc in absurd z
+      go true e = let wrong : true ≡ false = sym (same-number a) ∙ ap (λ k. a == k) (sym (Rattle.base_lemmas.proofs.Numbers.equal b a e)) ∙ h in let z : ⊥ = cc in absurd z
 
   -- ---- the parts
 

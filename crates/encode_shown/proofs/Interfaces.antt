@@ -132,7 +132,7 @@ module _ (r : Resolve) (v : IsValid r) (n : ℕ) (i : Interface) (there : interf
       let key = contains-mapped text_of (keys i.types) t (subst (λ (ts : List Text). Contains ts t) type-names c) in
       let one = no-longer (list_any (λ other. text_eq (text_of key.0) (text_of other)) (keys i.functions))
       (all-contained (λ name. not (list_any (λ other. text_eq (text_of name) (text_of other)) (keys i.functions))) (keys i.types) key.0 rest key.1) in
-      ap (list_any (text_eq t)) function-names ∙ Rattle.wit_model.proofs.Lists.list_any_mapped (text_eq t) text_of (keys i.functions)
+      ap (list_any (text_eq t)) function-names ∙ Rattle.base_lemmas.proofs.Elements.any_of_map (text_eq t) text_of (keys i.functions)
       ∙ ap (λ u. list_any (λ other. text_eq u (text_of other)) (keys i.functions)) (sym key.2) ∙ one
 
   -- ---- the view

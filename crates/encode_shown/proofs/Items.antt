@@ -146,7 +146,7 @@ module _ (r : Resolve) (v : IsValid r) (n : ℕ) where
   resource-used f m name e is =
       let number : Contains (function_numbers f) m = Contains-append_right (filter_map number_of (function_types f)) (option_to_list (resource_of f.kind)) m (subst (λ (o : Option ℕ). Contains (option_to_list o) m) (sym e) (contains-one m)) in
       let meets : Contains (met_by (met_of r) m) m = subst (λ (ns : List ℕ). Contains ns m) (sym (met_step r (valid-references r v) m is.def is.there ∙ ap (λ o. option_map_or (λ x. m ∷ []) o (used_by_type r is.def)) is.named_)) (contains-one m) in
-      let own : has_owner r (as_world n) m ≡ true = ap (λ o. option_map_or (λ def. same_owner def.owner (as_world n)) o false) is.there ∙ ap (λ o. same_owner o (as_world n)) is.owned ∙ Rattle.wit_model.proofs.Elements.same-number n in
+      let own : has_owner r (as_world n) m ≡ true = ap (λ o. option_map_or (λ def. same_owner def.owner (as_world n)) o false) is.there ∙ ap (λ o. same_owner o (as_world n)) is.owned ∙ Rattle.base_lemmas.proofs.Numbers.same-number n in
       contains-filter (has_owner r (as_world n)) (used_by_function r f) m (contains-flat (met_by (met_of r)) (function_numbers f) m m number meets) own
 
   -- a resource of the world that stands among these is seen
@@ -154,7 +154,7 @@ module _ (r : Resolve) (v : IsValid r) (n : ℕ) where
       → (m : ℕ) (name : Text) → has (filter_map item_type (map (λ e. e.1) before)) m ≡ true → IsResourceOf r v (as_world n) m name → Contains (resources_seen ss) name
   resource-seen before ss z entries m name h is =
       let given = given-contains item_type (map (λ e. e.1) before) m (has-contains _ m h) in
-      let entry = Rattle.encode_shown.proofs.Interfaces.contains-mapped (λ (e : WorldKey × WorldItem). e.1) before given.0 given.1 in
+      let entry = Rattle.base_lemmas.proofs.Elements.map_from (λ (e : WorldKey × WorldItem). e.1) before given.0 given.1 in
       let typed = typed-item entry.0.1 m (ap item_type entry.2 ∙ given.2) in
       let seen = zip-right (ShowsItem r) before ss entry.0 z entry.1 in
       of-type entry.0.0 entry.0.1 (entries entry.0 entry.1) typed.0 typed.1 typed.2 seen.0 seen.1 seen.2

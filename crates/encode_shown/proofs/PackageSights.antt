@@ -308,7 +308,7 @@ module _ (r : Resolve) (v : IsValid r) where
 
     -- an interface of another package is seen whole where a world shows it
     pub whole-shown : (m : ℕ) (path : Text) → interface_path r m ≡ Some path → is_of named path ≡ false → is_seen_whole r v all_seen path ≡ is_shown_in r p m
-    whole-shown m path e other = Rattle.wit_model.proofs.Distinct.either_way (is_seen_whole r v all_seen path) (is_shown_in r p m) forth back
+    whole-shown m path e other = Rattle.base_lemmas.proofs.Bools.both_ways (is_seen_whole r v all_seen path) (is_shown_in r p m) forth back
       where
         forth : is_seen_whole r v all_seen path ≡ true → is_shown_in r p m ≡ true
         forth h =

@@ -167,7 +167,7 @@ pub world-sections-mean : (r : Resolve) → IsValid r → (n : ℕ) (w : World) 
 world-sections-mean r v n w p there home x sections is e = go w.package refl home
   where
     same : is.world ≡ w
-    same = Rattle.wit_model.proofs.Elements.same-some is.world w (sym is.there ∙ there)
+    same = Rattle.std.proofs.lemmas.Option.same_Some is.world w (sym is.there ∙ there)
 
     of-package : (k : ℕ) → package_at r k ≡ Some p → reads.world_package sections ≡ Some (meant.world_package r p w)
     of-package k at =

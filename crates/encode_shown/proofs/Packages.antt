@@ -36,6 +36,7 @@ use Rattle.encode_shown.proofs.Zips.{zip-all, zip-left}
 use Rattle.base_lemmas.proofs.Elements.{all_pass as all-from, contains-map, filter_keeps as contains-filter, filter_kept as filter-contains, map_from as contains-mapped}
 use Rattle.std.proofs.lemmas.Bool.{and_from as both}
 use Rattle.wit_model.proofs.TextLemmas.{text_alike as text-alike}
+use Rattle.base_lemmas.proofs.Bools.{left_of as left_true}
 
 -- lists, element by element
 zip-flat : {A B C : Type 0} (R : A → B → Type 0) (f : A → C) (g : B → List C) → ((a : A) (b : B) → R a b → g b ≡ f a ∷ []) → (xs : List A) (ys : List B) → AllZip R xs ys → flat_map g ys ≡ map f xs
@@ -153,7 +154,7 @@ module _ (r : Resolve) (v : IsValid r) (n : ℕ) (p : Package) (at : package_at 
 
   -- what is foreign has a path
   foreign-named : (m : ℕ) → is_foreign r n m ≡ true → (path : Text) × (interface_path r m ≡ Some path)
-  foreign-named m h = go (interface_path r m) refl (Rattle.wit_model.proofs.Lists.first_true (is_some (interface_path r m)) _ h)
+  foreign-named m h = go (interface_path r m) refl (left_true (is_some (interface_path r m)) _ h)
     where
       go : (o : Option Text) → interface_path r m ≡ o → is_some o ≡ true → (path : Text) × (interface_path r m ≡ Some path)
       go None e h = let wrong : ⊥ = cc in absurd wrong

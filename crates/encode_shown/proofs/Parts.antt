@@ -209,7 +209,7 @@ module _ (r : Resolve) (v : IsValid r) where
     where
       go : (o : Option ℕ) → Contains (option_to_list o) m → passes (is_resource r) o ≡ true → is_resource r m ≡ true
       go None c h = absurd (let l = c.1 in omega (arith, l))
-      go (Some k) c h = subst (λ (j : ℕ). is_resource r j ≡ true) (Rattle.wit_model.proofs.Elements.one-contained k m c) h
+      go (Some k) c h = subst (λ (j : ℕ). is_resource r j ≡ true) (Rattle.base_lemmas.proofs.Elements.last_of k m c) h
 
   shallow-children : (n : ℕ) (def : TypeDef) → type_at r n ≡ Some def → is_alias def.kind ≡ false → list_all (λ t. nat_le (levels t) 100) (child_trees (declared_by (trees_of r) def.kind)) ≡ true
   unfolding depths

@@ -35,6 +35,7 @@ use Rattle.base_lemmas.proofs.Bools.{left_of as first_true, right_of as second_t
 use Rattle.base_lemmas.proofs.Elements.{all-contained, all_pass as all-from, contains-later, contains-one, last_of as one-contained, map_from as contains-mapped, zip-append, zip_map as zip-same}
 use Rattle.std.proofs.lemmas.Bool.{and_from as both}
 use Rattle.std.proofs.lemmas.Option.{same_Some as same-some}
+use Rattle.wit_model.proofs.ValidLemmas.{world_passes as rule_of_world}
 
 -- the key of what shows an item
 pub key-seen : (r : Resolve) (e : WorldKey × WorldItem) (s : Seen) → ShowsItem r e s → s.key ≡ key_text r e.0
@@ -141,7 +142,7 @@ module _ (r : Resolve) (v : IsValid r) (n : ℕ) where
 
     order : each_after (uses_stand_before r n) [] (values w.imports ++ values w.exports) ≡ true
     unfolding order_of_items
-    order = Rattle.encode_shown.proofs.Basics.world-passes order_of_items r v.rules.order_of_items n w there
+    order = rule_of_world order_of_items r v.rules.order_of_items n w there
 
     imports-pass : are_imports [] scope.imports ≡ true
     imports-pass = imports-obey [] [] tt (λ e c. none-in e c) w.imports.entries scope.imports shows.imports imports-are

@@ -1,14 +1,14 @@
 use Rattle.std.proofs.Common.{◌≡◌, sym, ap, ◌∙◌, ◌++◌, ◌∷◌, [], Some, None, option_and_then}
 use Rattle.wit_model.specs.Rules.{after_prefix}
-use Rattle.check_rules.proofs.MemberNames as members
+use Rattle.wit_model.proofs.RulesLemmas.{after_both as both_prefixes}
 use Rattle.check_rules.proofs.members.after_resource.Goals as goal
 
 pub returns-in-Some : goal.returns-in-Some
 returns-in-Some c =
     let found : Some c.in-Some.rest.now ≡ after_prefix c.args.mark.now c.args.name.now = c.in-Some.ensures in
-    c.after_both.ensures ∙ (ap (option_and_then (after_prefix (c.args.resource.now ++ (46 ∷ [])))) found ∙ sym (members.after_both c.args.mark.now (c.args.resource.now ++ (46 ∷ [])) c.args.name.now))
+    c.after_both.ensures ∙ (ap (option_and_then (after_prefix (c.args.resource.now ++ (46 ∷ [])))) found ∙ sym (both_prefixes c.args.mark.now (c.args.resource.now ++ (46 ∷ [])) c.args.name.now))
 
 pub returns-in-None : goal.returns-in-None
 returns-in-None c =
     let found : None ≡ after_prefix c.args.mark.now c.args.name.now = c.in-None.ensures in
-    ap (option_and_then (after_prefix (c.args.resource.now ++ (46 ∷ [])))) found ∙ sym (members.after_both c.args.mark.now (c.args.resource.now ++ (46 ∷ [])) c.args.name.now)
+    ap (option_and_then (after_prefix (c.args.resource.now ++ (46 ∷ [])))) found ∙ sym (both_prefixes c.args.mark.now (c.args.resource.now ++ (46 ∷ [])) c.args.name.now)
