@@ -1,5 +1,5 @@
 -- What one more addition says of the slots of a flat encoder.
-use Rattle.std.proofs.Common.{◌≡◌, sym, subst, ◌∙◌, refl, ap, ℕ, ◌+◌, Bool, true, false, cond, List, [], ◌∷◌, ◌++◌, inl, inr, arith, Result, Ok, Err, IfOk, OnErr, OnOk, Option, Some, None, nat_eq, option_to_list, find}
+use Rattle.std.proofs.Common.{◌≡◌, sym, subst, ◌∙◌, refl, ap, ℕ, Bool, true, false, cond, List, [], ◌∷◌, ◌++◌, inl, inr, arith, Result, Ok, Err, IfOk, OnErr, OnOk, Option, Some, None, nat_eq, is_some, ◌||◌, option_to_list, find}
 use Rattle.std.proofs.lemmas.Bool.{eqb-true}
 use Rattle.std.proofs.lemmas.List.{reverse-append}
 use Rattle.std.specs.Prelude.{reverse}
@@ -13,6 +13,7 @@ use Rattle.comp_bytes.specs.declared.forms.ComponentDefinedType.{ComponentDefine
 use Rattle.comp_bytes.specs.declared.forms.ComponentExternName.{ComponentExternName}
 use Rattle.comp_bytes.specs.declared.forms.ComponentFuncType.{ComponentFuncType}
 use Rattle.comp_bytes.specs.RawOf.{raw_name}
+use Rattle.encode_types.specs.declared.maps.TypeEncodingMaps.{TypeEncodingMaps}
 use Rattle.encode_types.specs.Scope.{Scope, exported_name}
 use Rattle.encode_types.specs.Counts.{Definitions, ExportsOne, one_type_more, one_function_more}
 use Rattle.encode_types.specs.Slots.{Adds, SlotAdded, NameAdded, SlotsGrow, Standing, tree}
@@ -20,10 +21,11 @@ use Rattle.encode_flat.specs.declared.forms.Form.{Form}
 use Rattle.encode_flat.specs.declared.forms.Form.TheVariants as form
 use Rattle.encode_flat.specs.declared.marks.Mark.{Mark}
 use Rattle.encode_flat.specs.declared.marks.Mark.TheVariants as mark
-use Rattle.encode_flat.specs.Marked.{import_slot, slot_count}
-use Rattle.encode_flat.specs.Flat.{FlatReads, ReadsAs, exports_more, flat_definitions, flat-in_range, is_name_of}
+use Rattle.encode_flat.specs.Marked.{Imports, import_slot, slot_count}
+use Rattle.encode_flat.specs.declared.encoder.FlatEncoderOf.{FlatEncoderOf}
+use Rattle.encode_flat.specs.Flat.{FlatReads, ImportsOnce, ReadsAs, exports_more, flat_definitions, flat-in_range, is_name_of}
 use Rattle.encode_flat.proofs.Exported.{found-in, name-passes, name-same}
-use Rattle.base_lemmas.proofs.Numbers.{no-slot}
+use Rattle.base_lemmas.proofs.Numbers.{no-slot, same-number}
 use Rattle.std.proofs.lemmas.Option.{none-some as not-none, same_Some as some-is}
 
 -- one form more, the latest first
@@ -127,3 +129,39 @@ import-reads r place (mark.Import k ∷ ks) xs n i e = go (import-reads r place 
 pub import-ok : {E : Type 0} (res : Result ℕ E) (r : Resolve) (place : Place) (ks : List Mark) (xs : List Form) (n : ℕ) → IfOk res (λ i. import_slot ks n ≡ Some i) → IfOk res (λ i. FlatReads r place ks xs i (tree (number_tree r n)))
 import-ok (Ok i) r place ks xs n h = import-reads r place ks xs n i h
 import-ok (Err e) r place ks xs n h = h
+
+-- a type that has a slot keeps it, and another one gets the next
+pub imports-once : {E : Type 0} (res : Result ℕ E) (e : FlatEncoderOf TypeEncodingMaps) (ks : List Mark) (n : ℕ) → IfOk res (λ i. import_slot ks n ≡ Some i) → OnOk res (Imports e.marks n ks) → IfOk res (λ i. ImportsOnce n i e (record e { marks = ks }))
+imports-once (Ok i) e ks n is once = by (import_slot e.marks n) refl
+  where
+    known : (k j : ℕ) → import_slot e.marks n ≡ Some j → (b : Bool) → nat_eq k n ≡ b → is_some (import_slot e.marks k) ≡ (nat_eq k n || is_some (import_slot e.marks k))
+    known k j q true s = ap is_some (ap (import_slot e.marks) (eqb-true k n s) ∙ q) ∙ sym (ap (λ b. b || is_some (import_slot e.marks k)) s)
+    known k j q false s = sym (ap (λ b. b || is_some (import_slot e.marks k)) s)
+
+    index : ks ≡ mark.Import n ∷ e.marks → i ≡ slot_count e.marks
+    index made = some-is i (slot_count e.marks) (sym is ∙ ap (λ zs. import_slot zs n) made ∙ ap (λ b. cond b (Some (slot_count e.marks)) (import_slot e.marks n)) (same-number n))
+
+    last : (b : Bool) (k : ℕ) (o : Option ℕ) → is_some (cond b (Some k) o) ≡ (b || is_some o)
+    last true k o = refl
+    last false k o = refl
+
+    by : (o : Option ℕ) → import_slot e.marks n ≡ o → ImportsOnce n i e (record e { marks = ks })
+    by (Some j) q =
+        let same : ks ≡ e.marks = once.has (ap is_some q) in
+        record {
+          again = λ h. ap (λ (zs : List Mark). record e { marks = zs }) same;
+          first = λ h. absurd (let wrong : true ≡ false = sym (ap is_some q) ∙ h in let z : ⊥ = cc in z);
+          others = λ k. ap (λ zs. is_some (import_slot zs k)) same ∙ known k j q (nat_eq k n) refl;
+        }
+    by None q =
+        let made : ks ≡ mark.Import n ∷ e.marks = once.lacks q in
+        subst (λ (zs : List Mark). ImportsOnce n i e (record e { marks = zs })) (sym made) (record {
+          again = λ h. absurd (let wrong : false ≡ true = sym (ap is_some q) ∙ h in let z : ⊥ = cc in z);
+          first = λ h. record {
+            index = index made;
+            one_more = refl;
+            adds = record { kept = λ j m s. inl s; new = λ m p. inr (index made, p); only = λ j m s. elim s [ inl a ↦ inl a | inr b ↦ inr (b.0 ∙ sym (index made), b.1) ] };
+          };
+          others = λ k. last (nat_eq k n) (slot_count e.marks) (import_slot e.marks k);
+        })
+imports-once (Err y) e ks n is once = tt

@@ -1,5 +1,5 @@
 -- What the slots of a flat encoder stand for: each is read with what was added before it.
-use Rattle.std.specs.Prelude.{ℕ, ◌^◌, ◌+◌, ◌<◌, ◌≡◌, ◌⊎◌, ◌&&◌, Bool, false, nat_lt, List, [], ◌∷◌, ◌++◌, reverse, Option, Some, None, option_to_list}
+use Rattle.std.specs.Prelude.{ℕ, ◌^◌, ◌+◌, ◌<◌, ◌≡◌, ◌⊎◌, ◌&&◌, ◌||◌, Bool, true, false, nat_eq, nat_lt, List, [], ◌∷◌, ◌++◌, reverse, Option, Some, None, option_to_list, is_some}
 use Rattle.std.proofs.Common.{inl, inr, arith}
 use Rattle.std.specs.List.{find}
 use Rattle.std.specs.Option.{option_eq}
@@ -16,13 +16,13 @@ use Rattle.encode_types.specs.Slots.{Defines, DefinesFunction, Pairs, Standing, 
 use Rattle.encode_types.specs.Counts.{Definitions, one_type_more, one_function_more}
 use Rattle.encode_types.specs.Known.{no_around}
 use Rattle.encode_types.specs.Table.{table_scope}
-use Rattle.encode_types.specs.View.{View}
+use Rattle.encode_types.specs.View.{AddsSlot, View}
 use Rattle.encode_flat.specs.declared.encoder.FlatEncoderOf.{FlatEncoderOf}
 use Rattle.encode_flat.specs.declared.forms.Form.{Form}
 use Rattle.encode_flat.specs.declared.forms.Form.TheVariants as form
 use Rattle.encode_flat.specs.declared.marks.Mark.{Mark}
 use Rattle.encode_flat.specs.declared.marks.Mark.TheVariants as mark
-use Rattle.encode_flat.specs.Marked.{Imports, mark_count, slot_count}
+use Rattle.encode_flat.specs.Marked.{import_slot, mark_count, slot_count}
 
 -- what a form stands for, after the slots that say S
 abbrev pub ReadsAs : Place → Pairs → Form → Standing → Type 0
@@ -81,13 +81,9 @@ flat_definitions declarations (mark.Name j ∷ ks) (x ∷ xs) = defined_by decla
 abbrev pub forms_of : FlatEncoderOf TypeEncodingMaps → List Form
 forms_of e = reverse e.forms.items
 
--- what was added, the latest first
-abbrev pub marks_of : FlatEncoderOf TypeEncodingMaps → List Mark
-marks_of e = e.marks
-
--- A type of another interface that has a slot keeps it, and nothing is added. Another one gets the next slot.
-abbrev pub ImportsOnce : FlatEncoderOf TypeEncodingMaps → ℕ → FlatEncoderOf TypeEncodingMaps → Type 0
-ImportsOnce e n e' = Imports (marks_of e) n (marks_of e')
+-- whether a type of another interface has a slot
+abbrev pub has_import : FlatEncoderOf TypeEncodingMaps → ℕ → Bool
+has_import e n = is_some (import_slot e.marks n)
 
 -- what a flat encoder holds, as its user sees it
 abbrev pub flat_view : FlatEncoderOf TypeEncodingMaps → View
@@ -102,6 +98,13 @@ flat_view e = record {
   extent = 0;
   lacks_room = λ request. nat_lt (slot_count e.marks + 1) (2 ^ 32) ≡ false;
 }
+
+-- A type of another interface that has a slot keeps it, and the encoder is as it was. Another one gets the next slot, which is answered and stands for
+-- the type. No other type gets one.
+pub record ImportsOnce (n i : ℕ) (e e' : FlatEncoderOf TypeEncodingMaps) : Type 0 where
+  pub again : has_import e n ≡ true → e' ≡ e
+  pub first : has_import e n ≡ false → AddsSlot (flat_view e) (flat_view e') i (λ m. m ≡ tree (number_tree e.resolve.now n))
+  pub others : (k : ℕ) → has_import e' k ≡ (nat_eq k n || has_import e k)
 
 pub flat-in_range : (r : Resolve) (place : Place) (ks : List Mark) (xs : List Form) (i : ℕ) (m : Standing) → FlatReads r place ks xs i m → i < slot_count ks
 flat-in_range r place [] xs i m h = absurd h

@@ -140,7 +140,7 @@ impl<'a> ValtypeEncoder<'a> for FlatEncoderOf<'a, TypeEncodingMaps<'a>> {
         ensures written { OnOk result (WritesImport (flat_view self.old) (flat_view self.new) id.0) }
         ensures size { result ≡ Err Size → Refuses (flat_view self.old) (flat_view self.new) (import_of id.0) }
         ensures refuses { IfErr result IsMemoryOrSize }
-        ensures once { OnOk result (ImportsOnce self.old id.0 self.new) }
+        ensures once { IfOk result (λ i. ImportsOnce id.0 i self.old self.new) }
     {
         self.marks.import(id.0)
     }

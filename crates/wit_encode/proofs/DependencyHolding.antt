@@ -68,7 +68,7 @@ module _ (r : Resolve) (canonical : Bool) (a a' : Around) (i : InterfaceId) (num
   }
     where
       one : DefinesTypesOf r i.0 (before.declared, inner)
-      one = record { def = t.def; there = t.there; declarations = t.encodes.part.declared; is = refl; function_types = t.encodes.function_types; value_types = t.encodes.part.value_types }
+      one = record { def = t.def; there = t.there; declarations = t.encodes.part.declared; is = refl; ordered = t.encodes.part.is_instance; function_types = t.encodes.function_types; value_types = t.encodes.part.value_types }
 
 -- nothing is defined, and nothing is held, where nothing is declared
 pub nothing-held : (r : Resolve) (a : Around) → a.declared ≡ Declarations.no_more → HoldsImports r a []
@@ -98,7 +98,7 @@ module _ (r : Resolve) (canonical : Bool) (a a' : Around) (i : InterfaceId) (def
     own = (encodes.part.before.declared, own);
     are = placed-instances r a encodes.part.before encodes.part.aliases.grown own exported_by outer made_last;
     reached = subst (λ (xs : List ℕ). AllZip (DefinesTypesOf r) xs (instances_declared a.declared)) order h.inside;
-    exported = record { def = def; there = there; declarations = encodes.part.declared; is = refl; function_types = encodes.part.function_types; value_types = encodes.part.value_types };
+    exported = record { def = def; there = there; declarations = encodes.part.declared; is = refl; ordered = encodes.part.is_instance; function_types = encodes.part.function_types; value_types = encodes.part.value_types };
     aliases = export-aliased r canonical a a' ns i def k outer there encodes is order imported aliased;
   }
 

@@ -101,7 +101,7 @@ module _ (r : Resolve) (e e' e'' : WorldEncoder) (x : Entry) (i : InterfaceId) (
       (zip-append (DefinesInterface r) (interfaces_among es) (instances_declared e.outer) (i.0 ∷ []) ((before.declared, inner) ∷ []) h.inside (one, tt))))
     where
       one : DefinesInterface r i.0 (before.declared, inner)
-      one = record { def = def; there = there; declarations = encodes.part.declared; is = refl; function_types = encodes.part.function_types; value_types = encodes.part.value_types }
+      one = record { def = def; there = there; declarations = encodes.part.declared; is = refl; ordered = encodes.part.is_instance; function_types = encodes.part.function_types; value_types = encodes.part.value_types }
 
   pub interface-few : (es : List Entry) → HoldsFew r e es → HoldsFew r e'' (es ++ x ∷ [])
   interface-few es h = record {

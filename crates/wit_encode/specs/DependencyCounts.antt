@@ -10,16 +10,18 @@ use Rattle.comp_bytes.specs.Raw.{Declaration, Declarations, from_list}
 use Rattle.encode_reach.specs.Reach.{reached_in_order}
 use Rattle.encode_types.specs.Distinct.{is_value_type, is_function_type, DefinesTypes}
 use Rattle.wit_encode.specs.DependencyAliases.{HasAliases, IsAskedFor}
-use Rattle.wit_encode.specs.Instance.{count_declared, stands_inside}
+use Rattle.wit_encode.specs.Instance.{IsInstance, count_declared, stands_inside}
 use Rattle.wit_encode.specs.Worlds.{instances_declared}
 use Rattle.wit_encode.specs.WorldCounts.{DefinesInterface}
 
--- An instance type defines what the types of its interface ask for, each once, and no type of a function.
+-- An instance type shows the types of its interface in order, and no function. It defines what these types ask for, each once, and no type of a
+-- function.
 pub record DefinesTypesOf (r : Resolve) (i : ℕ) (declared : Declarations × Declarations) : Type 0 where
   pub def : Interface
   pub there : interface_at r i ≡ Some def
   pub declarations : List Declaration
   pub is : declared.1 ≡ from_list declarations
+  pub ordered : IsInstance r declared.0 (record { 0 = i }) declarations []
   pub function_types : count_by is_function_type declarations ≡ 0
   pub value_types : DefinesTypes r (Some (record { 0 = i })) (stands_inside r (record { 0 = i }) declared.0 declarations) (values def.types) [] (from_list declarations)
 

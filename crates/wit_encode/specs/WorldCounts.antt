@@ -1,4 +1,5 @@
--- What the component type of a world defines: each key of a function and each unnamed kind once, and the same in each instance type.
+-- What the component type of a world defines: each key of a function and each unnamed kind once, and the same in each instance type, which shows
+-- its interface in order.
 use Rattle.std.specs.Prelude.{ℕ, ◌≡◌, List, [], ◌∷◌, ◌++◌, map, length, Some, None}
 use Rattle.std.specs.List.{AllZip, IsDistinct}
 use Rattle.std.specs.Set.{is_member}
@@ -17,19 +18,22 @@ use Rattle.encode_types.specs.Scope.{Scope}
 use Rattle.encode_types.specs.Table.{table_scope}
 use Rattle.encode_names.specs.WorldSteps.{Entry, interfaces_among}
 use Rattle.wit_encode.specs.declared.world.Placed.{Placed}
-use Rattle.wit_encode.specs.Instance.{count_declared, stands_inside, SlotsStand, outer_slots}
+use Rattle.wit_encode.specs.Instance.{IsInstance, count_declared, meaning_of, stands_inside, SlotsStand, outer_slots}
+use Rattle.wit_encode.specs.Order.{functions_in_order}
 use Rattle.wit_encode.specs.WorldItems.{entry_of}
 use Rattle.wit_encode.specs.WorldRoom.{functions_among, referred_among, type_ids_among}
 use Rattle.wit_encode.specs.Worlds.{WorldEncoder, world_definitions, instances_declared}
 
 -- ---- what is defined
 
--- An instance type defines what the types and functions of its interface ask for, each once, and nothing else.
+-- An instance type shows the types of its interface in order, and its functions: those of resources by the order of their resource, then the
+-- others. It defines what these types and functions ask for, each once, and nothing else.
 pub record DefinesInterface (r : Resolve) (i : ℕ) (declared : Declarations × Declarations) : Type 0 where
   pub def : Interface
   pub there : interface_at r i ≡ Some def
   pub declarations : List Declaration
   pub is : declared.1 ≡ from_list declarations
+  pub ordered : IsInstance r declared.0 (record { 0 = i }) declarations (map (meaning_of r) (functions_in_order def))
   pub function_types : DefinesKeys r (stands_inside r (record { 0 = i }) declared.0 declarations) (functions_of_interface def) declarations
   pub value_types : DefinesTypes r (Some (record { 0 = i })) (stands_inside r (record { 0 = i }) declared.0 declarations) (values def.types) (functions_of_interface def) (from_list declarations)
 

@@ -91,7 +91,8 @@ fn import_dependencies<'a>(
 ///
 /// Nothing is defined beside instance types, and in each of them each unnamed kind that is met is defined once, as is each named type that has
 /// a definition of its own; in that of the interface itself there are as many types of functions as its functions have keys, and in the others
-/// none. A type of another interface that one of them meets gets one alias, of the instance of its interface, and nothing else does.
+/// none. Types stand there in order, and functions of resources by the order of their resource, and then the others. A type of another interface
+/// that one of them meets gets one alias, of the instance of its interface, and nothing else does.
 ///
 /// Takes as long as encoding the types of these interfaces, and the functions of this one, and its declarations take no more bytes than the
 /// interface, with what it reaches, weighs. Refuses `Memory` besides, and `Size` only where that is more than 4,294,967,295.

@@ -454,7 +454,8 @@ fn encode_entries(
 /// than 4,294,967,295.
 ///
 /// In the component type as many types of functions are defined as the world's functions have keys, and each unnamed kind that its types and
-/// functions meet is defined once, as is each of its named types that has a definition of its own. In each instance type it is the same.
+/// functions meet is defined once, as is each of its named types that has a definition of its own. In each instance type it is the same, and
+/// there the types of the interface stand in order, and its functions: those of resources by the order of their resource, then the others.
 ///
 /// Takes as long as encoding its interfaces, types and functions, with a search in an ordered map for each. Its declarations take no more bytes
 /// than the world weighs.
