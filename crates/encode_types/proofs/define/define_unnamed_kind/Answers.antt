@@ -1,4 +1,4 @@
-use Rattle.std.proofs.Common.{refl, ◌∙◌, subst, ℕ, List, inl, inr, arith}
+use Rattle.std.proofs.Common.{refl, subst, ℕ, List, inl, inr, arith}
 use Rattle.std.specs.List.{Contains}
 use Rattle.encode_types.specs.Codes.{lists_of}
 use Rattle.encode_types.specs.Maps.{HasKind, LacksKind, LacksList}

@@ -1,4 +1,4 @@
-use Rattle.std.proofs.Common.{◌≡◌, ◌+◌, ◌≤◌, refl, sym, subst, ap, ℕ, [], length, arith}
+use Rattle.std.proofs.Common.{◌≡◌, ◌+◌, refl, sym, subst, ap, [], length, arith}
 use Rattle.wit_model.specs.Meant.{signature_of}
 use Rattle.wit_model.specs.Parts.{function_types}
 use Rattle.encode_types.specs.Extents.{signature_extent}
@@ -88,8 +88,12 @@ define_key-requires g c = λ _. (
 
 pub returns-clause-counts : goal.returns-clause-counts
 returns-clause-counts g c = ok-map c.define_key.result _ _
-    (λ i h. (c.key_of-key.result, c.key_of-key.ensures, counts-behind c.args.resolve.now (g.E.ValtypeEncoder.view c.args.enc.now).scope (g.E.ValtypeEncoder.view c.list_of_key.new.enc).scope (g.E.ValtypeEncoder.view c.args.enc.now).maps (g.E.ValtypeEncoder.view c.list_of_key.new.enc).maps (g.E.ValtypeEncoder.view c.define_key.new.enc).maps (g.E.ValtypeEncoder.view c.args.enc.now).definitions (g.E.ValtypeEncoder.view c.list_of_key.new.enc).definitions (g.E.ValtypeEncoder.view c.define_key.new.enc).definitions c.key_of-key.result i
-    c.list_of_key.ensures.leaves.scope_stays c.list_of_key.ensures.names c.list_of_key.ensures.counts (lacks g (goal.at.returns-clause-counts g c).In_default) h)) (rw c.index_of_key.ensures.same at c.define_key.ensures.counts)
+    (λ i h. (
+      c.key_of-key.result,
+      c.key_of-key.ensures,
+      counts-behind c.args.resolve.now (g.E.ValtypeEncoder.view c.args.enc.now).scope (g.E.ValtypeEncoder.view c.list_of_key.new.enc).scope (g.E.ValtypeEncoder.view c.args.enc.now).maps (g.E.ValtypeEncoder.view c.list_of_key.new.enc).maps (g.E.ValtypeEncoder.view c.define_key.new.enc).maps (g.E.ValtypeEncoder.view c.args.enc.now).definitions (g.E.ValtypeEncoder.view c.list_of_key.new.enc).definitions (g.E.ValtypeEncoder.view c.define_key.new.enc).definitions c.key_of-key.result i
+          c.list_of_key.ensures.leaves.scope_stays c.list_of_key.ensures.names c.list_of_key.ensures.counts (lacks g (goal.at.returns-clause-counts g c).In_default) h,
+    )) (rw c.index_of_key.ensures.same at c.define_key.ensures.counts)
 
 pub returns-clause-learns : goal.returns-clause-learns
 returns-clause-learns g c = on_ok c.define_key.result _ _

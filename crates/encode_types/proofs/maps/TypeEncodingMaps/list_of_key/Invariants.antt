@@ -1,4 +1,4 @@
-use Rattle.std.proofs.Common.{◌≡◌, [], ◌∷◌, length, take}
+use Rattle.std.proofs.Common.{◌≡◌, [], ◌∷◌, length}
 use Rattle.encode_types.specs.Codes.{names_of, async_code, AddsParams, HaveNumbers}
 use Rattle.encode_types.specs.Maps.{AddsNames}
 use Rattle.encode_types.proofs.maps.TypeEncodingMaps.list_of_key.Given as goal
