@@ -1,7 +1,6 @@
 -- Maps that agree with slots, over what a call adds.
-use Rattle.std.proofs.Common.{◌≡◌, refl, sym, subst, ap, ◌∙◌, ℕ, Bool, true, false, List, ◌⊎◌, inl, inr, Result, Ok, Err, OnOk, OnErr, Option, Some, None, nat_eq, arith, [], ◌∷◌, ◌++◌, map, length, get_or, Vec}
+use Rattle.std.proofs.Common.{◌≡◌, refl, sym, subst, ap, ◌∙◌, ℕ, Bool, true, false, List, ◌⊎◌, inl, inr, Result, Ok, Err, OnOk, OnErr, Option, Some, None, nat_eq, arith, [], ◌∷◌, ◌++◌, map, length, get_or}
 use Rattle.std.specs.Prelude.{is_some, IsSome, IsPermutation}
-use Rattle.std.specs.declared.alloc.Global.{Global}
 use Rattle.std.specs.List.{Contains, AllPairs}
 use Rattle.std.specs.Borrow.{Bor}
 use Rattle.std.proofs.lemmas.Cmp.{nat_eq_equiv}
@@ -18,15 +17,15 @@ use Rattle.wit_model.specs.declared.model.TypeDefKind.{TypeDefKind}
 use Rattle.wit_model.specs.declared.model.TypeId.{TypeId}
 use Rattle.encode_types.specs.declared.maps.TypeEncodingMaps.{TypeEncodingMaps}
 use Rattle.encode_types.specs.declared.key.FunctionKey.{FunctionKey}
-use Rattle.encode_types.specs.Codes.{kind_code, names_of, lists_of, IsKeyList}
+use Rattle.encode_types.specs.Codes.{kind_code, names_of, lists_of, IsKeyList, ListKey}
 use Rattle.encode_types.specs.Slots.{Pairs, Standing, tree, function, Keeps}
 use Rattle.encode_types.specs.View.{View, SameRest}
 use Rattle.encode_types.specs.Leaves.{Leaves}
-use Rattle.encode_types.specs.Maps.{Known, by_number, by_kind, by_key, by_unit_future, by_unit_stream, Holds, standing_of, IsOnce, IsSomeKeyList, AreNumbered, MapsAgree, MapsGrow, IsKnown, LacksList, LacksKey, StandsAsKind, SameMaps, NamesGrow, AddsNames, LearnsNumber, LearnsList, LearnsKey, LearnsOne}
+use Rattle.encode_types.specs.Maps.{Known, by_number, by_kind, by_key, by_unit_future, by_unit_stream, Holds, standing_of, IsOnce, IsSomeKeyList, AreNumbered, MapsAgree, MapsGrow, IsKnown, LacksList, StandsAsKind, StandsAsKey, SameMaps, NamesGrow, AddsNames, LearnsNumber, LearnsList, LearnsKeyList, LearnsOne}
 use Rattle.encode_types.proofs.Around.{around-same}
 use Rattle.encode_types.proofs.EqualLists.{kinds-of-lists, keys-of-lists, key-shrink}
 use Rattle.encode_types.proofs.KindLaws.{same_tree, same-signature}
-use Rattle.encode_types.proofs.Tables.{kept-in, new-in, one-more-in, pairs-permuted, key-grow, list-lacking}
+use Rattle.encode_types.proofs.Tables.{kept-in, new-in, one-more-in, pairs-permuted, key-grow}
 
 pub either : {A E : Type 0} (x : Result A E) (P Q : Type 0) → OnOk x P → OnErr x Q → P ⊎ Q
 either (Ok x) P Q p q = inl p
@@ -41,17 +40,17 @@ on_ok (Err e) P Q f p = p
 -- the same entries, under names that may have been added
 pub adds-holds : (m m' : TypeEncodingMaps) → AddsNames m m' → (k : Known) (i : ℕ) → Holds m k i → Holds m' k i
 adds-holds m m' s (by_number n) i h = subst (λ (xs : List (ℕ × ℕ)). Contains xs (n, i)) (sym s.rest.numbers) h
-adds-holds m m' s (by_kind k) i h = (h.0, subst (λ (xs : List (Vec ℕ Global × ℕ)). Contains (map {B = List ℕ × ℕ} (λ e. (e.0.items, e.1)) xs) (kind_code k, i)) (sym s.rest.kinds) h.1)
-adds-holds m m' s (by_key k) i h = (h.0, key-grow (names_of m.names) (names_of m'.names) k h.0 s.grow h.1, subst (λ (xs : List (Vec ℕ Global × ℕ)). Contains (map {B = List ℕ × ℕ} (λ e. (e.0.items, e.1)) xs) (h.0, i)) (sym s.rest.keys) h.2)
+adds-holds m m' s (by_kind k) i h = (h.0, subst (λ (xs : List (ListKey × ℕ)). Contains (map {B = List ℕ × ℕ} (λ e. (e.0.0.items, e.1)) xs) (kind_code k, i)) (sym s.rest.kinds) h.1)
+adds-holds m m' s (by_key k) i h = (h.0, key-grow (names_of m.names) (names_of m'.names) k h.0 s.grow h.1, subst (λ (xs : List (ListKey × ℕ)). Contains (map {B = List ℕ × ℕ} (λ e. (e.0.0.items, e.1)) xs) (h.0, i)) (sym s.rest.keys) h.2)
 adds-holds m m' s by_unit_future i h = s.rest.unit_future_ ∙ h
 adds-holds m m' s by_unit_stream i h = s.rest.unit_stream_ ∙ h
 
 -- and back: a key that is found by more names was found before
-adds-back : (m m' : TypeEncodingMaps) → IsOnce m → AddsNames m m' → (k : Known) (i : ℕ) → Holds m' k i → Holds m k i
+pub adds-back : (m m' : TypeEncodingMaps) → IsOnce m → AddsNames m m' → (k : Known) (i : ℕ) → Holds m' k i → Holds m k i
 adds-back m m' o s (by_number n) i h = subst (λ (xs : List (ℕ × ℕ)). Contains xs (n, i)) s.rest.numbers h
-adds-back m m' o s (by_kind k) i h = (h.0, subst (λ (xs : List (Vec ℕ Global × ℕ)). Contains (map {B = List ℕ × ℕ} (λ e. (e.0.items, e.1)) xs) (kind_code k, i)) s.rest.kinds h.1)
+adds-back m m' o s (by_kind k) i h = (h.0, subst (λ (xs : List (ListKey × ℕ)). Contains (map {B = List ℕ × ℕ} (λ e. (e.0.0.items, e.1)) xs) (kind_code k, i)) s.rest.kinds h.1)
 adds-back m m' o s (by_key k) i h =
-    let c : Contains (lists_of m.func_type_map) (h.0, i) = subst (λ (xs : List (Vec ℕ Global × ℕ)). Contains (map {B = List ℕ × ℕ} (λ e. (e.0.items, e.1)) xs) (h.0, i)) s.rest.keys h.2 in
+    let c : Contains (lists_of m.func_type_map) (h.0, i) = subst (λ (xs : List (ListKey × ℕ)). Contains (map {B = List ℕ × ℕ} (λ e. (e.0.0.items, e.1)) xs) (h.0, i)) s.rest.keys h.2 in
     let other = o.key_lists h.0 i c in
     (h.0, key-shrink (names_of m.names) (names_of m'.names) (s.grow.numbered o.names_).table s.grow.kept k other.key h.0 h.1 other.is, c)
 adds-back m m' o s by_unit_future i h = sym s.rest.unit_future_ ∙ h
@@ -60,11 +59,11 @@ adds-back m m' o s by_unit_stream i h = sym s.rest.unit_stream_ ∙ h
 adds-once : (m m' : TypeEncodingMaps) → AddsNames m m' → IsOnce m → IsOnce m'
 adds-once m m' s o = record {
   numbers = subst (λ (xs : List (ℕ × ℕ)). AllPairs (λ x y. nat_eq x.0 y.0 ≡ false) xs) (sym s.rest.numbers) o.numbers;
-  kinds = subst (λ (xs : List (Vec ℕ Global × ℕ)). AllPairs (λ x y. x.0 ≡ y.0 → ⊥) (map {B = List ℕ × ℕ} (λ e. (e.0.items, e.1)) xs)) (sym s.rest.kinds) o.kinds;
-  keys = subst (λ (xs : List (Vec ℕ Global × ℕ)). AllPairs (λ x y. x.0 ≡ y.0 → ⊥) (map {B = List ℕ × ℕ} (λ e. (e.0.items, e.1)) xs)) (sym s.rest.keys) o.keys;
-  kind_lists = λ xs i c. o.kind_lists xs i (subst (λ (es : List (Vec ℕ Global × ℕ)). Contains (map {B = List ℕ × ℕ} (λ e. (e.0.items, e.1)) es) (xs, i)) s.rest.kinds c);
+  kinds = subst (λ (xs : List (ListKey × ℕ)). AllPairs (λ x y. x.0 ≡ y.0 → ⊥) (map {B = List ℕ × ℕ} (λ e. (e.0.0.items, e.1)) xs)) (sym s.rest.kinds) o.kinds;
+  keys = subst (λ (xs : List (ListKey × ℕ)). AllPairs (λ x y. x.0 ≡ y.0 → ⊥) (map {B = List ℕ × ℕ} (λ e. (e.0.0.items, e.1)) xs)) (sym s.rest.keys) o.keys;
+  kind_lists = λ xs i c. o.kind_lists xs i (subst (λ (es : List (ListKey × ℕ)). Contains (map {B = List ℕ × ℕ} (λ e. (e.0.0.items, e.1)) es) (xs, i)) s.rest.kinds c);
   key_lists = λ xs i c.
-      let other = o.key_lists xs i (subst (λ (es : List (Vec ℕ Global × ℕ)). Contains (map {B = List ℕ × ℕ} (λ e. (e.0.items, e.1)) es) (xs, i)) s.rest.keys c) in
+      let other = o.key_lists xs i (subst (λ (es : List (ListKey × ℕ)). Contains (map {B = List ℕ × ℕ} (λ e. (e.0.0.items, e.1)) es) (xs, i)) s.rest.keys c) in
       record { key = other.key; is = key-grow (names_of m.names) (names_of m'.names) other.key xs s.grow other.is };
   names_ = s.grow.numbered o.names_;
 }
@@ -124,11 +123,11 @@ learns-number r m m' id i fresh l = record { grow = grow; only = λ o. only; onc
   where
     grow : (k : Known) (j : ℕ) → Holds m k j → Holds m' k j
     grow (by_number n) j h = kept-in m.id_to_index.entries m'.id_to_index.entries (id.0, i) l.more (n, j) h
-    grow (by_kind k) j h = (h.0, subst (λ (xs : List (Vec ℕ Global × ℕ)). Contains (map {B = List ℕ × ℕ} (λ e. (e.0.items, e.1)) xs) (kind_code k, j)) (sym l.rest.kinds) h.1)
+    grow (by_kind k) j h = (h.0, subst (λ (xs : List (ListKey × ℕ)). Contains (map {B = List ℕ × ℕ} (λ e. (e.0.0.items, e.1)) xs) (kind_code k, j)) (sym l.rest.kinds) h.1)
     grow (by_key k) j h = (
       h.0,
       subst (λ (xs : List (Bor Text × ℕ)). IsKeyList (map {B = Text × ℕ} (λ e. (e.0.now, e.1)) xs) k h.0) (sym l.rest.names_) h.1,
-      subst (λ (xs : List (Vec ℕ Global × ℕ)). Contains (map {B = List ℕ × ℕ} (λ e. (e.0.items, e.1)) xs) (h.0, j)) (sym l.rest.keys) h.2,
+      subst (λ (xs : List (ListKey × ℕ)). Contains (map {B = List ℕ × ℕ} (λ e. (e.0.0.items, e.1)) xs) (h.0, j)) (sym l.rest.keys) h.2,
     )
     grow by_unit_future j h = l.rest.unit_future_ ∙ h
     grow by_unit_stream j h = l.rest.unit_stream_ ∙ h
@@ -138,11 +137,11 @@ learns-number r m m' id i fresh l = record { grow = grow; only = λ o. only; onc
       | inl q ↦ inl q
       | inr e ↦ inr (ap (λ (p : ℕ × ℕ). standing_of r (by_number p.0)) (sym e), ap (λ (p : ℕ × ℕ). p.1) (sym e))
     ]
-    only (by_kind k) j h = inl (h.0, subst (λ (xs : List (Vec ℕ Global × ℕ)). Contains (map {B = List ℕ × ℕ} (λ e. (e.0.items, e.1)) xs) (kind_code k, j)) l.rest.kinds h.1)
+    only (by_kind k) j h = inl (h.0, subst (λ (xs : List (ListKey × ℕ)). Contains (map {B = List ℕ × ℕ} (λ e. (e.0.0.items, e.1)) xs) (kind_code k, j)) l.rest.kinds h.1)
     only (by_key k) j h = inl (
       h.0,
       subst (λ (xs : List (Bor Text × ℕ)). IsKeyList (map {B = Text × ℕ} (λ e. (e.0.now, e.1)) xs) k h.0) l.rest.names_ h.1,
-      subst (λ (xs : List (Vec ℕ Global × ℕ)). Contains (map {B = List ℕ × ℕ} (λ e. (e.0.items, e.1)) xs) (h.0, j)) l.rest.keys h.2,
+      subst (λ (xs : List (ListKey × ℕ)). Contains (map {B = List ℕ × ℕ} (λ e. (e.0.0.items, e.1)) xs) (h.0, j)) l.rest.keys h.2,
     )
     only by_unit_future j h = inl (sym l.rest.unit_future_ ∙ h)
     only by_unit_stream j h = inl (sym l.rest.unit_stream_ ∙ h)
@@ -155,11 +154,11 @@ learns-number r m m' id i fresh l = record { grow = grow; only = λ o. only; onc
     once o = record {
       numbers = pairs-permuted (λ (x y : ℕ × ℕ). nat_eq x.0 y.0 ≡ false) numbers-apart _ m'.id_to_index.entries l.more
           (all_pairs_push (λ x y. nat_eq x.0 y.0 ≡ false) m.id_to_index.entries (id.0, i) o.numbers (λ k d lt. apart _ (Contains-get_or _ k d lt) _ refl));
-      kinds = subst (λ (xs : List (Vec ℕ Global × ℕ)). AllPairs (λ x y. x.0 ≡ y.0 → ⊥) (map {B = List ℕ × ℕ} (λ e. (e.0.items, e.1)) xs)) (sym l.rest.kinds) o.kinds;
-      keys = subst (λ (xs : List (Vec ℕ Global × ℕ)). AllPairs (λ x y. x.0 ≡ y.0 → ⊥) (map {B = List ℕ × ℕ} (λ e. (e.0.items, e.1)) xs)) (sym l.rest.keys) o.keys;
-      kind_lists = λ xs j c. o.kind_lists xs j (subst (λ (es : List (Vec ℕ Global × ℕ)). Contains (map {B = List ℕ × ℕ} (λ e. (e.0.items, e.1)) es) (xs, j)) l.rest.kinds c);
+      kinds = subst (λ (xs : List (ListKey × ℕ)). AllPairs (λ x y. x.0 ≡ y.0 → ⊥) (map {B = List ℕ × ℕ} (λ e. (e.0.0.items, e.1)) xs)) (sym l.rest.kinds) o.kinds;
+      keys = subst (λ (xs : List (ListKey × ℕ)). AllPairs (λ x y. x.0 ≡ y.0 → ⊥) (map {B = List ℕ × ℕ} (λ e. (e.0.0.items, e.1)) xs)) (sym l.rest.keys) o.keys;
+      kind_lists = λ xs j c. o.kind_lists xs j (subst (λ (es : List (ListKey × ℕ)). Contains (map {B = List ℕ × ℕ} (λ e. (e.0.0.items, e.1)) es) (xs, j)) l.rest.kinds c);
       key_lists = λ xs j c. subst (λ (ns : List (Bor Text × ℕ)). IsSomeKeyList (map {B = Text × ℕ} (λ e. (e.0.now, e.1)) ns) xs) (sym l.rest.names_)
-          (o.key_lists xs j (subst (λ (es : List (Vec ℕ Global × ℕ)). Contains (map {B = List ℕ × ℕ} (λ e. (e.0.items, e.1)) es) (xs, j)) l.rest.keys c));
+          (o.key_lists xs j (subst (λ (es : List (ListKey × ℕ)). Contains (map {B = List ℕ × ℕ} (λ e. (e.0.0.items, e.1)) es) (xs, j)) l.rest.keys c));
       names_ = subst (λ (ns : List (Bor Text × ℕ)). AreNumbered (map {B = Text × ℕ} (λ e. (e.0.now, e.1)) ns)) (sym l.rest.names_) o.names_;
     }
 
@@ -173,7 +172,7 @@ learns-kind r m m' kind xs i unnamed is lacks l = record { grow = grow; only = �
     grow (by_key k) j h = (
       h.0,
       subst (λ (ns : List (Bor Text × ℕ)). IsKeyList (map {B = Text × ℕ} (λ e. (e.0.now, e.1)) ns) k h.0) (sym l.rest.names_) h.1,
-      subst (λ (es : List (Vec ℕ Global × ℕ)). Contains (map {B = List ℕ × ℕ} (λ e. (e.0.items, e.1)) es) (h.0, j)) (sym l.rest.keys) h.2,
+      subst (λ (es : List (ListKey × ℕ)). Contains (map {B = List ℕ × ℕ} (λ e. (e.0.0.items, e.1)) es) (h.0, j)) (sym l.rest.keys) h.2,
     )
     grow by_unit_future j h = l.rest.unit_future_ ∙ h
     grow by_unit_stream j h = l.rest.unit_stream_ ∙ h
@@ -190,7 +189,7 @@ learns-kind r m m' kind xs i unnamed is lacks l = record { grow = grow; only = �
     only (by_key k) j h = inl (
       h.0,
       subst (λ (ns : List (Bor Text × ℕ)). IsKeyList (map {B = Text × ℕ} (λ e. (e.0.now, e.1)) ns) k h.0) l.rest.names_ h.1,
-      subst (λ (es : List (Vec ℕ Global × ℕ)). Contains (map {B = List ℕ × ℕ} (λ e. (e.0.items, e.1)) es) (h.0, j)) l.rest.keys h.2,
+      subst (λ (es : List (ListKey × ℕ)). Contains (map {B = List ℕ × ℕ} (λ e. (e.0.0.items, e.1)) es) (h.0, j)) l.rest.keys h.2,
     )
     only by_unit_future j h = inl (sym l.rest.unit_future_ ∙ h)
     only by_unit_stream j h = inl (sym l.rest.unit_stream_ ∙ h)
@@ -199,51 +198,56 @@ learns-kind r m m' kind xs i unnamed is lacks l = record { grow = grow; only = �
     once o = record {
       numbers = subst (λ (es : List (ℕ × ℕ)). AllPairs (λ x y. nat_eq x.0 y.0 ≡ false) es) (sym l.rest.numbers) o.numbers;
       kinds = new-pairs (lists_of m.def_to_index) (lists_of m'.def_to_index) xs i l.more lacks o.kinds;
-      keys = subst (λ (es : List (Vec ℕ Global × ℕ)). AllPairs (λ x y. x.0 ≡ y.0 → ⊥) (map {B = List ℕ × ℕ} (λ e. (e.0.items, e.1)) es)) (sym l.rest.keys) o.keys;
+      keys = subst (λ (es : List (ListKey × ℕ)). AllPairs (λ x y. x.0 ≡ y.0 → ⊥) (map {B = List ℕ × ℕ} (λ e. (e.0.0.items, e.1)) es)) (sym l.rest.keys) o.keys;
       kind_lists = λ ys j c. elim (one-more-in (lists_of m.def_to_index) (lists_of m'.def_to_index) (xs, i) l.more (ys, j) c) [
         | inl q ↦ o.kind_lists ys j q
         | inr e ↦ record { kind = kind; unnamed = unnamed; is = ap (λ (p : List ℕ × ℕ). p.0) (sym e) ∙ is }
       ];
       key_lists = λ ys j c. subst (λ (ns : List (Bor Text × ℕ)). IsSomeKeyList (map {B = Text × ℕ} (λ e. (e.0.now, e.1)) ns) ys) (sym l.rest.names_)
-          (o.key_lists ys j (subst (λ (es : List (Vec ℕ Global × ℕ)). Contains (map {B = List ℕ × ℕ} (λ e. (e.0.items, e.1)) es) (ys, j)) l.rest.keys c));
+          (o.key_lists ys j (subst (λ (es : List (ListKey × ℕ)). Contains (map {B = List ℕ × ℕ} (λ e. (e.0.0.items, e.1)) es) (ys, j)) l.rest.keys c));
       names_ = subst (λ (ns : List (Bor Text × ℕ)). AreNumbered (map {B = Text × ℕ} (λ e. (e.0.now, e.1)) ns)) (sym l.rest.names_) o.names_;
     }
 
-pub learns-key : (r : Resolve) (m m' : TypeEncodingMaps) (key : FunctionKey) (i : ℕ) → LacksKey m key → LearnsKey m m' key i → Learns r m m' i (standing_of r (by_key key))
-learns-key r m m' key i lacks l = record { grow = grow; only = only; once = once }
+pub learns-key : (r : Resolve) (m m' : TypeEncodingMaps) (key : FunctionKey) (xs : List ℕ) (i : ℕ) → IsKeyList (names_of m.names) key xs → LacksList (lists_of m.func_type_map) xs → LearnsKeyList m m' xs i → Learns r m m' i (standing_of r (by_key key))
+learns-key r m m' key xs i is lacks l = record { grow = grow; only = only; once = once }
   where
     grow : (k : Known) (j : ℕ) → Holds m k j → Holds m' k j
     grow (by_number n) j h = subst (λ (es : List (ℕ × ℕ)). Contains es (n, j)) (sym l.rest.numbers) h
-    grow (by_kind k) j h = (h.0, subst (λ (es : List (Vec ℕ Global × ℕ)). Contains (map {B = List ℕ × ℕ} (λ e. (e.0.items, e.1)) es) (kind_code k, j)) (sym l.rest.kinds) h.1)
-    grow (by_key k) j h = (h.0, key-grow (names_of m.names) (names_of m'.names) k h.0 l.grow h.1, kept-in (lists_of m.func_type_map) (lists_of m'.func_type_map) (l.list, i) l.more (h.0, j) h.2)
+    grow (by_kind k) j h = (h.0, subst (λ (es : List (ListKey × ℕ)). Contains (map {B = List ℕ × ℕ} (λ e. (e.0.0.items, e.1)) es) (kind_code k, j)) (sym l.rest.kinds) h.1)
+    grow (by_key k) j h = (
+      h.0,
+      subst (λ (ns : List (Bor Text × ℕ)). IsKeyList (map {B = Text × ℕ} (λ e. (e.0.now, e.1)) ns) k h.0) (sym l.rest.names_) h.1,
+      kept-in (lists_of m.func_type_map) (lists_of m'.func_type_map) (xs, i) l.more (h.0, j) h.2,
+    )
     grow by_unit_future j h = l.rest.unit_future_ ∙ h
     grow by_unit_stream j h = l.rest.unit_stream_ ∙ h
 
     only : IsOnce m → (k : Known) (j : ℕ) → Holds m' k j → Holds m k j ⊎ ((standing_of r k ≡ standing_of r (by_key key)) × (j ≡ i))
     only o (by_number n) j h = inl (subst (λ (es : List (ℕ × ℕ)). Contains es (n, j)) l.rest.numbers h)
-    only o (by_kind k) j h = inl (h.0, subst (λ (es : List (Vec ℕ Global × ℕ)). Contains (map {B = List ℕ × ℕ} (λ e. (e.0.items, e.1)) es) (kind_code k, j)) l.rest.kinds h.1)
-    only o (by_key k) j h = elim (one-more-in (lists_of m.func_type_map) (lists_of m'.func_type_map) (l.list, i) l.more (h.0, j) h.2) [
-      | inl q ↦
-          let other = o.key_lists h.0 j q in
-          inl (h.0, key-shrink (names_of m.names) (names_of m'.names) (l.grow.numbered o.names_).table l.grow.kept k other.key h.0 h.1 other.is, q)
-      | inr e ↦
-          let q : h.0 ≡ l.list = ap (λ (p : List ℕ × ℕ). p.0) (sym e) in
-          inr (ap (λ (s : Signature). function s) (same-signature r k key (keys-of-lists (names_of m'.names) k key h.0 l.list (l.grow.numbered o.names_).table h.1 l.is q)), ap (λ (p : List ℕ × ℕ). p.1) (sym e))
-    ]
+    only o (by_kind k) j h = inl (h.0, subst (λ (es : List (ListKey × ℕ)). Contains (map {B = List ℕ × ℕ} (λ e. (e.0.0.items, e.1)) es) (kind_code k, j)) l.rest.kinds h.1)
+    only o (by_key k) j h =
+        let listed : IsKeyList (names_of m.names) k h.0 = subst (λ (ns : List (Bor Text × ℕ)). IsKeyList (map {B = Text × ℕ} (λ e. (e.0.now, e.1)) ns) k h.0) l.rest.names_ h.1 in
+        elim (one-more-in (lists_of m.func_type_map) (lists_of m'.func_type_map) (xs, i) l.more (h.0, j) h.2) [
+          | inl q ↦ inl (h.0, listed, q)
+          | inr e ↦
+              let q : h.0 ≡ xs = ap (λ (p : List ℕ × ℕ). p.0) (sym e) in
+              inr (ap (λ (s : Signature). function s) (same-signature r k key (keys-of-lists (names_of m.names) k key h.0 xs o.names_.table listed is q)), ap (λ (p : List ℕ × ℕ). p.1) (sym e))
+        ]
     only o by_unit_future j h = inl (sym l.rest.unit_future_ ∙ h)
     only o by_unit_stream j h = inl (sym l.rest.unit_stream_ ∙ h)
 
     once : IsOnce m → IsOnce m'
     once o = record {
       numbers = subst (λ (es : List (ℕ × ℕ)). AllPairs (λ x y. nat_eq x.0 y.0 ≡ false) es) (sym l.rest.numbers) o.numbers;
-      kinds = subst (λ (es : List (Vec ℕ Global × ℕ)). AllPairs (λ x y. x.0 ≡ y.0 → ⊥) (map {B = List ℕ × ℕ} (λ e. (e.0.items, e.1)) es)) (sym l.rest.kinds) o.kinds;
-      keys = new-pairs (lists_of m.func_type_map) (lists_of m'.func_type_map) l.list i l.more (list-lacking m (names_of m'.names) key l.list o l.grow lacks l.is) o.keys;
-      kind_lists = λ ys j c. o.kind_lists ys j (subst (λ (es : List (Vec ℕ Global × ℕ)). Contains (map {B = List ℕ × ℕ} (λ e. (e.0.items, e.1)) es) (ys, j)) l.rest.kinds c);
-      key_lists = λ ys j c. elim (one-more-in (lists_of m.func_type_map) (lists_of m'.func_type_map) (l.list, i) l.more (ys, j) c) [
-        | inl q ↦ let other = o.key_lists ys j q in record { key = other.key; is = key-grow (names_of m.names) (names_of m'.names) other.key ys l.grow other.is }
-        | inr e ↦ record { key = key; is = subst (IsKeyList (names_of m'.names) key) (ap (λ (p : List ℕ × ℕ). p.0) e) l.is }
-      ];
-      names_ = l.grow.numbered o.names_;
+      kinds = subst (λ (es : List (ListKey × ℕ)). AllPairs (λ x y. x.0 ≡ y.0 → ⊥) (map {B = List ℕ × ℕ} (λ e. (e.0.0.items, e.1)) es)) (sym l.rest.kinds) o.kinds;
+      keys = new-pairs (lists_of m.func_type_map) (lists_of m'.func_type_map) xs i l.more lacks o.keys;
+      kind_lists = λ ys j c. o.kind_lists ys j (subst (λ (es : List (ListKey × ℕ)). Contains (map {B = List ℕ × ℕ} (λ e. (e.0.0.items, e.1)) es) (ys, j)) l.rest.kinds c);
+      key_lists = λ ys j c. subst (λ (ns : List (Bor Text × ℕ)). IsSomeKeyList (map {B = Text × ℕ} (λ e. (e.0.now, e.1)) ns) ys) (sym l.rest.names_)
+          (elim (one-more-in (lists_of m.func_type_map) (lists_of m'.func_type_map) (xs, i) l.more (ys, j) c) [
+            | inl q ↦ o.key_lists ys j q
+            | inr e ↦ record { key = key; is = subst (IsKeyList (names_of m.names) key) (ap (λ (p : List ℕ × ℕ). p.0) e) is }
+          ]);
+      names_ = subst (λ (ns : List (Bor Text × ℕ)). AreNumbered (map {B = Text × ℕ} (λ e. (e.0.now, e.1)) ns)) (sym l.rest.names_) o.names_;
     }
 
 pub learns-unit_future : (r : Resolve) (m m' : TypeEncodingMaps) (i : ℕ) → m.unit_future ≡ None → m' ≡ record m { unit_future = Some i } → Learns r m m' i (standing_of r by_unit_future)
@@ -307,9 +311,15 @@ module _ {E : Type 0} (x : Result (Unit {0}) E) (r : Resolve) (m₀ m m₁ m' : 
       (on_ok x _ _ (λ l. subst (λ (z : TypeEncodingMaps). Learns r z m₁ i (standing_of r (by_kind s.kind))) (sym e) (learns-kind r m m₁ s.kind xs i s.unnamed s.is fresh (subst (λ (z : TypeEncodingMaps). LearnsList z m₁ xs i) e l))) ok)
       (on_err x _ _ (λ l. same-adds m₀ m₁ l) err) a s.stands
 
-  pub changes-key : (key : FunctionKey) → LacksKey m key → OnOk x (LearnsKey m₀ m₁ key i) → OnErr x (AddsNames m₀ m₁) → S i (standing_of r (by_key key)) → Changes r m m' S'
-  changes-key key fresh ok err s = changes-call x r m₀ m m₁ m' S S' i _ e e' keeps
-      (on_ok x _ _ (λ l. subst (λ (z : TypeEncodingMaps). Learns r z m₁ i (standing_of r (by_key key))) (sym e) (learns-key r m m₁ key i fresh (subst (λ (z : TypeEncodingMaps). LearnsKey z m₁ key i) e l))) ok) err a s
+  pub changes-key : (xs : List ℕ) → LacksList (lists_of m.func_type_map) xs → OnOk x (LearnsKeyList m₀ m₁ xs i) → OnErr x (SameMaps m₀ m₁) → StandsAsKey r (names_of m.names) S xs i → Changes r m m' S'
+  changes-key xs fresh ok err s = changes-call x r m₀ m m₁ m' S S' i _ e e' keeps
+      (on_ok x _ _ (λ l. subst (λ (z : TypeEncodingMaps). Learns r z m₁ i (standing_of r (by_key s.key))) (sym e) (learns-key r m m₁ s.key xs i s.is fresh (subst (λ (z : TypeEncodingMaps). LearnsKeyList z m₁ xs i) e l))) ok)
+      (on_err x _ _ (λ l. same-adds m₀ m₁ l) err) a s.stands
+
+-- a call that adds names alone
+pub changes-listed : (r : Resolve) (m₀ m m₁ m' : TypeEncodingMaps) (S S' : Pairs) → m₀ ≡ m → m' ≡ m₁ → Keeps S S' → AddsNames m₀ m₁ → MapsAgree r m S → Changes r m m' S'
+changes-listed r m₀ m m₁ m' S S' e e' keeps l a = subst (λ (z : TypeEncodingMaps). Changes r m z S') (sym e')
+    (changes-names r m m₁ S' (subst (λ (z : TypeEncodingMaps). AddsNames z m₁) e l) (record { says = λ k j c. keeps j (standing_of r k) (a.says k j c); once = a.once }))
 
 pub changes-unit : (r : Resolve) (m m' : TypeEncodingMaps) (S S' : Pairs) (k : Known) (i : ℕ) → Keeps S S' → Learns r m m' i (standing_of r k) → MapsAgree r m S → S i (standing_of r k) → Changes r m m' S'
 changes-unit r m m' S S' k i keeps l a s = changes-learns r m m' S' i _ l (record { says = λ k j h. keeps j (standing_of r k) (a.says k j h); once = a.once }) (keeps i (standing_of r k) s)
@@ -350,10 +360,10 @@ empty-agrees r m S ids kinds keys names future stream = record {
 }
   where
     kinds' : lists_of m.def_to_index ≡ []
-    kinds' = ap (map (λ (e : Vec ℕ Global × ℕ). (e.0.items, e.1))) kinds
+    kinds' = ap (map (λ (e : ListKey × ℕ). (e.0.0.items, e.1))) kinds
 
     keys' : lists_of m.func_type_map ≡ []
-    keys' = ap (map (λ (e : Vec ℕ Global × ℕ). (e.0.items, e.1))) keys
+    keys' = ap (map (λ (e : ListKey × ℕ). (e.0.0.items, e.1))) keys
 
     names' : names_of m.names ≡ []
     names' = ap (map (λ (e : Bor Text × ℕ). (e.0.now, e.1))) names

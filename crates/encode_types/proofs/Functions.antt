@@ -1,8 +1,7 @@
 -- Types of functions by their keys.
-use Rattle.std.proofs.Common.{◌≡◌, refl, sym, subst, ap, ◌∙◌, ℕ, List, [], ◌∷◌, ◌++◌, inl, inr, map, option_map, Vec, Bool, Option}
+use Rattle.std.proofs.Common.{◌≡◌, sym, subst, ap, ◌∙◌, ℕ, List, [], ◌∷◌, ◌++◌, inl, inr, map, option_map, Bool, Option}
 use Rattle.std.specs.Prelude.{IsPermutation}
 use Rattle.std.specs.Borrow.{Bor}
-use Rattle.std.specs.declared.alloc.Global.{Global}
 use Rattle.std.specs.List.{Contains}
 use Rattle.std.proofs.lemmas.List.Elements.{Contains-append_left, Contains-append_right}
 use Rattle.wit_model.specs.Text.{Text, text_of}
@@ -13,18 +12,19 @@ use Rattle.wit_model.specs.declared.model.Resolve.{Resolve}
 use Rattle.wit_model.specs.declared.model.Function.{Function}
 use Rattle.wit_model.specs.declared.model.«Type».{«Type» as ValueType}
 use Rattle.encode_types.specs.declared.key.FunctionKey.{FunctionKey}
-use Rattle.encode_types.specs.declared.codes.KeyList.{KeyList}
 use Rattle.encode_types.specs.declared.maps.TypeEncodingMaps.{TypeEncodingMaps}
 use Rattle.encode_types.specs.Key.{IsKeyOf, key_signature}
-use Rattle.encode_types.specs.Maps.{MapsAgree, NamesGrow, HasKey, LacksKey, LearnsKey, by_key}
+use Rattle.encode_types.specs.Maps.{MapsAgree, NamesGrow, IsOnce, AddsNames, KeepsKnownNames, HasKey, LacksKey, LearnsKeyList, by_key}
 use Rattle.encode_types.specs.Slots.{Pairs, function}
 use Rattle.encode_types.specs.Scope.{Scope}
 use Rattle.encode_types.specs.Fits.{CanEncode}
-use Rattle.encode_types.specs.Codes.{names_of, lists_of, IsListed, IsKeyList, IsListOf}
+use Rattle.encode_types.specs.Codes.{names_of, lists_of, ListKey, IsListed, IsKeyList}
 use Rattle.encode_types.specs.Distinct.{KnowsKey, key_of}
 use Rattle.wit_model.specs.Lookup.{is_async}
 use Rattle.wit_model.specs.declared.model.Param.{Param}
 use Rattle.encode_types.specs.Counts.{SameKeys, Definitions, one_function_more, AddsTypes, AddsFunction}
+use Rattle.encode_types.proofs.Agree.{adds-holds, adds-back}
+use Rattle.encode_types.proofs.Tables.{listed-names, listed-grow, names-same, names-then}
 use Rattle.encode_types.proofs.Defining.{shows-none, shows-trans}
 use Rattle.encode_types.proofs.Marking.{slots-none, slots-then}
 
@@ -60,24 +60,66 @@ encode-right r scope scope' xs ys e c =
 
 -- ---- counts
 
-pub counts-key : (r : Resolve) (scope : Scope) (m m₁ m' : TypeEncodingMaps) (d d₁ d' : Definitions) (key : FunctionKey) (i : ℕ) → LacksKey m key → AddsTypes r scope m m₁ d d₁ → LearnsKey m₁ m' key i → d' ≡ one_function_more i d₁ → AddsFunction r scope m m' d d' key i
-counts-key r scope m m₁ m' d d₁ d' key i lacks a l e =
+pub counts-key : (r : Resolve) (scope : Scope) (m m₁ m' : TypeEncodingMaps) (d d₁ d' : Definitions) (key : FunctionKey) (xs : List ℕ) (i : ℕ) → LacksKey m key → AddsTypes r scope m m₁ d d₁ → IsKeyList (names_of m₁.names) key xs → LearnsKeyList m₁ m' xs i → d' ≡ one_function_more i d₁
+    → AddsFunction r scope m m' d d' key i
+counts-key r scope m m₁ m' d d₁ d' key xs i lacks a is l e =
     let f : d'.functions ≡ d.functions ++ i ∷ [] = ap (λ (z : Definitions). z.functions) e ∙ ap (λ (xs : List ℕ). xs ++ i ∷ []) a.functions in
     let rest = slots-none r scope m₁ m' d₁ d' l.rest.numbers l.rest.kinds (ap (λ (z : Definitions). z.types) e) (ap (λ (z : Definitions). z.exported) e) in
-    let more : IsPermutation (lists_of m.func_type_map ++ (l.list, i) ∷ []) (lists_of m'.func_type_map) =
-    subst (λ (es : List (Vec ℕ Global × ℕ)). IsPermutation (map {B = List ℕ × ℕ} (λ e. (e.0.items, e.1)) es ++ (l.list, i) ∷ []) (lists_of m'.func_type_map)) a.keys.lists l.more in
-    let grow : NamesGrow (names_of m.names) (names_of m'.names) = subst (λ (ns : List (Bor Text × ℕ)). NamesGrow (map {B = Text × ℕ} (λ e. (e.0.now, e.1)) ns) (names_of m'.names)) a.keys.names_ l.grow in
-    record { slots = slots-then a.slots rest; keys = inr (lacks, record { grow = grow; list = l.list; is = l.is; more = more }, f); shows = shows-trans a.shows (shows-none r scope m₁ m' d₁ d' l.rest.numbers (ap (λ (z : Definitions). z.exports) e)) }
+    let more : IsPermutation (lists_of m.func_type_map ++ (xs, i) ∷ []) (lists_of m'.func_type_map) =
+    subst (λ (es : List (ListKey × ℕ)). IsPermutation (map {B = List ℕ × ℕ} (λ e. (e.0.0.items, e.1)) es ++ (xs, i) ∷ []) (lists_of m'.func_type_map)) a.keys.lists l.more in
+    let grow : NamesGrow (names_of m.names) (names_of m'.names) = names-same (names_of m.names) (names_of m'.names) (ap (map (λ (e : Bor Text × ℕ). (e.0.now, e.1))) (l.rest.names_ ∙ a.keys.names_)) in
+    let listed : IsKeyList (names_of m'.names) key xs = subst (λ (ns : List (Bor Text × ℕ)). IsKeyList (map {B = Text × ℕ} (λ e. (e.0.now, e.1)) ns) key xs) (sym l.rest.names_) is in
+    record { slots = slots-then a.slots rest; keys = inr (lacks, record { grow = grow; list = xs; is = listed; more = more }, f); shows = shows-trans a.shows (shows-none r scope m₁ m' d₁ d' l.rest.numbers (ap (λ (z : Definitions). z.exports) e)) }
 
-pub counts-known : (r : Resolve) (scope : Scope) (m : TypeEncodingMaps) (d : Definitions) (key : FunctionKey) (i : ℕ) → HasKey m key i → AddsFunction r scope m m d d key i
-counts-known r scope m d key i h = record { slots = slots-none r scope m m d d refl refl refl refl; keys = inl (h, record { lists = refl; names_ = refl }, refl); shows = shows-none r scope m m d d refl refl }
+-- a key whose list is there: its names had numbers, so none was added
+pub counts-found : (r : Resolve) (scope : Scope) (m m' : TypeEncodingMaps) (d d' : Definitions) (key : FunctionKey) (xs : List ℕ) (i : ℕ) → IsOnce m → AddsNames m m' → KeepsKnownNames key m m' → IsKeyList (names_of m'.names) key xs → Contains (lists_of m'.func_type_map) (xs, i) → d' ≡ d
+    → AddsFunction r scope m m' d d' key i
+counts-found r scope m m' d d' key xs i once s keep is c e =
+    let has : HasKey m key i = adds-back m m' once s (by_key key) i (xs, is, c) in
+    let names : m'.names.entries ≡ m.names.entries = keep (λ p h. listed-names (names_of m.names) key.params.0.now has.1.middle p has.1.listed h) in
+    record {
+      slots = slots-none r scope m m' d d' s.rest.numbers s.rest.kinds (ap (λ (z : Definitions). z.types) e) (ap (λ (z : Definitions). z.exported) e);
+      keys = inl (has, record { lists = s.rest.keys; names_ = names }, ap (λ (z : Definitions). z.functions) e);
+      shows = shows-none r scope m m' d d' s.rest.numbers (ap (λ (z : Definitions). z.exports) e);
+    }
+
+-- names have been added before
+pub counts-behind : (r : Resolve) (scope scope' : Scope) (m m₁ m' : TypeEncodingMaps) (d d₁ d' : Definitions) (key : FunctionKey) (i : ℕ) → scope' ≡ scope → AddsNames m m₁ → d₁ ≡ d → LacksKey m₁ key → AddsFunction r scope' m₁ m' d₁ d' key i → AddsFunction r scope m m' d d' key i
+counts-behind r scope scope' m m₁ m' d d₁ d' key i q s e lacks a' =
+    let a : AddsFunction r scope m₁ m' d₁ d' key i = subst (λ (z : Scope). AddsFunction r z m₁ m' d₁ d' key i) q a' in
+    record {
+      slots = slots-then (slots-none r scope m m₁ d d₁ s.rest.numbers s.rest.kinds (ap (λ (z : Definitions). z.types) e) (ap (λ (z : Definitions). z.exported) e)) a.slots;
+      keys = elim a.keys [
+        | inl h ↦ absurd (lacks i h.0)
+        | inr h ↦ inr (
+          λ j k. lacks j (adds-holds m m₁ s (by_key key) j k),
+          record {
+            grow = names-then s.grow h.1.grow;
+            list = h.1.list;
+            is = h.1.is;
+            more = subst (λ (es : List (ListKey × ℕ)). IsPermutation (map {B = List ℕ × ℕ} (λ e. (e.0.0.items, e.1)) es ++ (h.1.list, i) ∷ []) (lists_of m'.func_type_map)) s.rest.keys h.1.more;
+          },
+          h.2 ∙ ap (λ (z : Definitions). z.functions ++ i ∷ []) e,
+        )
+      ];
+      shows = shows-trans (shows-none r scope m m₁ d d₁ s.rest.numbers (ap (λ (z : Definitions). z.exports) e)) a.shows;
+    }
+
+-- a key that is known is known under more names
+pub knows-more : (m m' : TypeEncodingMaps) (f : Function) → AddsNames m m' → KnowsKey m (key_of f) → KnowsKey m' (key_of f)
+knows-more m m' f s (xs, i, l, c) = (
+  xs,
+  i,
+  record { middle = l.middle; listed = listed-grow (names_of m.names) (names_of m'.names) f.params.items l.middle s.grow l.listed; is = l.is },
+  subst (λ (es : List (ListKey × ℕ)). Contains (map {B = List ℕ × ℕ} (λ e. (e.0.0.items, e.1)) es) (xs, i)) (sym s.rest.keys) c,
+)
 
 pub lacks-same : (m m' : TypeEncodingMaps) (key : FunctionKey) → SameKeys m m' → LacksKey m key → LacksKey m' key
 lacks-same m m' key e l i h = l i (
   h.0,
   subst (λ (ns : List (Bor Text × ℕ)). IsKeyList (map {B = Text × ℕ} (λ e. (e.0.now, e.1)) ns) key h.0) e.names_ h.1,
-  subst (λ (es : List (Vec ℕ Global × ℕ)). Contains (map {B = List ℕ × ℕ} (λ e. (e.0.items, e.1)) es) (h.0, i)) e.lists h.2,
+  subst (λ (es : List (ListKey × ℕ)). Contains (map {B = List ℕ × ℕ} (λ e. (e.0.0.items, e.1)) es) (h.0, i)) e.lists h.2,
 )
 
-pub list-same : (m m' : TypeEncodingMaps) (key : FunctionKey) (list : KeyList) → SameKeys m m' → IsListOf (names_of m.names) key list → IsListOf (names_of m'.names) key list
-list-same m m' key list e l = subst (λ (ns : List (Bor Text × ℕ)). IsListOf (map {B = Text × ℕ} (λ e. (e.0.now, e.1)) ns) key list) (sym e.names_) l
+pub list-same : (m m' : TypeEncodingMaps) (key : FunctionKey) (xs : List ℕ) → SameKeys m m' → IsKeyList (names_of m.names) key xs → IsKeyList (names_of m'.names) key xs
+list-same m m' key xs e l = subst (λ (ns : List (Bor Text × ℕ)). IsKeyList (map {B = Text × ℕ} (λ e. (e.0.now, e.1)) ns) key xs) (sym e.names_) l

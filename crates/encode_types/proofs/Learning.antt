@@ -1,5 +1,5 @@
 -- What maps learn, call by call.
-use Rattle.std.proofs.Common.{◌≡◌, refl, sym, subst, ap, ◌∙◌, ℕ, ◌⊎◌, false, inl, inr, List, [], ◌∷◌, ◌++◌, map, Option, Some, None, option_to_list, Result, Ok, Err, OnOk, String, Vec}
+use Rattle.std.proofs.Common.{◌≡◌, refl, sym, subst, ap, ◌∙◌, ℕ, ◌⊎◌, false, inl, inr, List, [], ◌∷◌, ◌++◌, map, Option, Some, None, option_to_list, Result, Ok, Err, OnOk, String}
 use Rattle.std.specs.declared.alloc.Global.{Global}
 use Rattle.std.specs.List.{Contains}
 use Rattle.std.specs.Borrow.{Bor}
@@ -18,14 +18,14 @@ use Rattle.encode_types.specs.Key.{IsKeyOf}
 use Rattle.encode_types.specs.Kinds.{parts_of}
 use Rattle.wit_model.specs.Rules.{is_named_kind}
 use Rattle.wit_model.specs.Text.{Text}
-use Rattle.encode_types.specs.Codes.{kind_code, names_of, lists_of, IsKeyList}
-use Rattle.encode_types.specs.Maps.{IsKnown, IsReady, AllReady, HasKind, MapsGrow, LearnsOne, LearnsList, LearnsKey, by_kind}
+use Rattle.encode_types.specs.Codes.{kind_code, names_of, lists_of, IsKeyList, ListKey}
+use Rattle.encode_types.specs.Maps.{IsKnown, IsReady, AllReady, HasKind, MapsGrow, AddsNames, LearnsOne, LearnsList, LearnsKeyList, by_kind}
 use Rattle.encode_types.proofs.Tables.{new-in, one-more-in, key-grow}
 use Rattle.encode_types.specs.Plan.{foreign_owner}
 use Rattle.encode_types.specs.Scope.{Scope}
 use Rattle.encode_types.specs.Counts.{Definitions, SameKeys, AddsTypes}
 use Rattle.encode_types.specs.MetKinds.{IsKnownKind, IsKnownList, IsReadyKey, KeepsNames, IsHeld, key_types, Learns, LearnsMet, LearnsKindOf}
-use Rattle.encode_types.proofs.Agree.{known-grow}
+use Rattle.encode_types.proofs.Agree.{known-grow, adds-holds}
 use Rattle.encode_types.proofs.Lists.{none-in}
 use Rattle.encode_types.proofs.Encoding.{learns-nothing, learns-both, learns-same}
 use Rattle.base_lemmas.proofs.Elements.{last_of as one-contained}
@@ -76,7 +76,7 @@ learns-then {r} {own} {own'} {a} {b} {c} e p q' =
 
 module _ (r : Resolve) (own : Option InterfaceId) (m m' : TypeEncodingMaps) (n : ℕ) (def : TypeDef) (at : type_at r n ≡ Some def) (one : LearnsOne m m' n) (grow : MapsGrow m m') (keys : SameKeys m m') where
   old-keys : (ys : List ℕ) (i : ℕ) → Contains (lists_of m'.func_type_map) (ys, i) → Contains (lists_of m.func_type_map) (ys, i) ⊎ IsReadyKey m' ys
-  old-keys ys i c = inl (subst (λ (es : List (Vec ℕ Global × ℕ)). Contains (map {B = List ℕ × ℕ} (λ e. (e.0.items, e.1)) es) (ys, i)) keys.lists c)
+  old-keys ys i c = inl (subst (λ (es : List (ListKey × ℕ)). Contains (map {B = List ℕ × ℕ} (λ e. (e.0.0.items, e.1)) es) (ys, i)) keys.lists c)
 
   old-names : KeepsNames m m'
   old-names = record { kept_list = λ k ys h. subst (λ (ns : List (Bor Text × ℕ)). IsKeyList (map {B = Text × ℕ} (λ e. (e.0.now, e.1)) ns) k ys) (sym keys.names_) h }
@@ -106,7 +106,7 @@ module _ (r : Resolve) (own : Option InterfaceId) (m m' : TypeEncodingMaps) (n :
 
   module _ (kinds : m'.def_to_index.entries ≡ m.def_to_index.entries) where
     old-kinds : (ys : List ℕ) (i : ℕ) → Contains (lists_of m'.def_to_index) (ys, i) → Contains (lists_of m.def_to_index) (ys, i) ⊎ IsKnownList r m' ys
-    old-kinds ys i c = inl (subst (λ (es : List (Vec ℕ Global × ℕ)). Contains (map {B = List ℕ × ℕ} (λ e. (e.0.items, e.1)) es) (ys, i)) kinds c)
+    old-kinds ys i c = inl (subst (λ (es : List (ListKey × ℕ)). Contains (map {B = List ℕ × ℕ} (λ e. (e.0.0.items, e.1)) es) (ys, i)) kinds c)
 
     -- a named one
     pub learns-named : AllReady m (parts_of def.kind) → (def.name ≡ None → ⊥) → Learns r own m m'
@@ -140,8 +140,8 @@ kind-had m kind i h = record { known = (i, h); only = λ ys j c. inl c }
 
 pub kind-same : (m m₁ m' : TypeEncodingMaps) (kind : TypeDefKind) → m'.def_to_index.entries ≡ m₁.def_to_index.entries → LearnsKindOf m m₁ kind → LearnsKindOf m m' kind
 kind-same m m₁ m' kind e l = record {
-  known = (l.known.0, (l.known.1.0, subst (λ (es : List (Vec ℕ Global × ℕ)). Contains (map {B = List ℕ × ℕ} (λ e. (e.0.items, e.1)) es) (kind_code kind, l.known.0)) (sym e) l.known.1.1));
-  only = λ ys j c. l.only ys j (subst (λ (es : List (Vec ℕ Global × ℕ)). Contains (map {B = List ℕ × ℕ} (λ e. (e.0.items, e.1)) es) (ys, j)) e c);
+  known = (l.known.0, (l.known.1.0, subst (λ (es : List (ListKey × ℕ)). Contains (map {B = List ℕ × ℕ} (λ e. (e.0.0.items, e.1)) es) (kind_code kind, l.known.0)) (sym e) l.known.1.1));
+  only = λ ys j c. l.only ys j (subst (λ (es : List (ListKey × ℕ)). Contains (map {B = List ℕ × ℕ} (λ e. (e.0.0.items, e.1)) es) (ys, j)) e c);
 }
 
 -- ---- a call
@@ -194,28 +194,44 @@ ready-single m t h u c = subst (IsReady m) (one-contained t u c) h
 key-types : (key : FunctionKey) (f : Function) → IsKeyOf key f → key_types key ≡ function_types f
 key-types key f k = λ i. map (λ p. p.ty) (k.params i) ++ option_to_list (k.result_ i)
 
-pub met-key : (r : Resolve) (own : Option InterfaceId) (m m₁ m₂ m' : TypeEncodingMaps) (key : FunctionKey) (i : ℕ) (f : Function) → IsKeyOf key f → LearnsMet r own (function_types f) m m₁ → AllReady m₁ (function_types f)
-    → m₂ ≡ m₁ → LearnsKey m₂ m' key i → MapsGrow m₂ m' → LearnsMet r own (function_types f) m m'
-met-key r own m m₁ m₂ m' key i f is met ready e l' grow = record {
+pub met-key : (r : Resolve) (own : Option InterfaceId) (m m₁ m₂ m' : TypeEncodingMaps) (key : FunctionKey) (xs : List ℕ) (i : ℕ) (f : Function) → IsKeyOf key f → LearnsMet r own (function_types f) m m₁ → AllReady m₁ (function_types f)
+    → m₂ ≡ m₁ → IsKeyList (names_of m₁.names) key xs → LearnsKeyList m₂ m' xs i → MapsGrow m₂ m' → LearnsMet r own (function_types f) m m'
+met-key r own m m₁ m₂ m' key xs i f is met ready e listed l' grow = record {
   only = learns-same m m₁ m' met.only l.rest.numbers;
   learns = learns-then refl met.learns (record {
     grow = more;
-    names_ = record { kept_list = λ k ys h. key-grow (names_of m₁.names) (names_of m'.names) k ys l.grow h };
+    names_ = record { kept_list = same-names };
     numbers = λ n def k at f. inl (k.0, subst (λ (xs : List (ℕ × ℕ)). Contains xs (n, k.0)) l.rest.numbers k.1);
-    kinds = λ ys j c. inl (subst (λ (es : List (Vec ℕ Global × ℕ)). Contains (map {B = List ℕ × ℕ} (λ e. (e.0.items, e.1)) es) (ys, j)) l.rest.kinds c);
-    keys = λ ys j c. elim (one-more-in (lists_of m₁.func_type_map) (lists_of m'.func_type_map) (l.list, i) l.more (ys, j) c) [
+    kinds = λ ys j c. inl (subst (λ (es : List (ListKey × ℕ)). Contains (map {B = List ℕ × ℕ} (λ e. (e.0.0.items, e.1)) es) (ys, j)) l.rest.kinds c);
+    keys = λ ys j c. elim (one-more-in (lists_of m₁.func_type_map) (lists_of m'.func_type_map) (xs, i) l.more (ys, j) c) [
       | inl h ↦ inl h
       | inr h ↦ inr (record {
         key = key;
-        is = subst (IsKeyList (names_of m'.names) key) (ap (λ (z : List ℕ × ℕ). z.0) h) l.is;
+        is = subst (IsKeyList (names_of m'.names) key) (ap (λ (z : List ℕ × ℕ). z.0) h) (same-names key xs listed);
         ready = subst (AllReady m') (sym (key-types key f is)) (ready-grow m₁ m' (function_types f) more ready);
       })
     ];
   });
 }
   where
-    l : LearnsKey m₁ m' key i
-    l = subst (λ (z : TypeEncodingMaps). LearnsKey z m' key i) e l'
+    l : LearnsKeyList m₁ m' xs i
+    l = subst (λ (z : TypeEncodingMaps). LearnsKeyList z m' xs i) e l'
 
     more : MapsGrow m₁ m'
     more = subst (λ (z : TypeEncodingMaps). MapsGrow z m') e grow
+
+    same-names : (k : FunctionKey) (ys : List ℕ) → IsKeyList (names_of m₁.names) k ys → IsKeyList (names_of m'.names) k ys
+    same-names k ys h = subst (λ (ns : List (Bor Text × ℕ)). IsKeyList (map {B = Text × ℕ} (λ e. (e.0.now, e.1)) ns) k ys) (sym l.rest.names_) h
+
+-- names that may have been added, and nothing else
+pub met-names : (r : Resolve) (own : Option InterfaceId) (ts : List ValueType) (m m' : TypeEncodingMaps) → AddsNames m m' → LearnsMet r own ts m m'
+met-names r own ts m m' s = record {
+  only = learns-same m m m' (learns-nothing _ m) s.rest.numbers;
+  learns = record {
+    grow = record { keeps = adds-holds m m' s };
+    names_ = record { kept_list = λ k ys h. key-grow (names_of m.names) (names_of m'.names) k ys s.grow h };
+    numbers = λ n def k at f. inl (k.0, subst (λ (xs : List (ℕ × ℕ)). Contains xs (n, k.0)) s.rest.numbers k.1);
+    kinds = λ ys j c. inl (subst (λ (es : List (ListKey × ℕ)). Contains (map {B = List ℕ × ℕ} (λ e. (e.0.0.items, e.1)) es) (ys, j)) s.rest.kinds c);
+    keys = λ ys j c. inl (subst (λ (es : List (ListKey × ℕ)). Contains (map {B = List ℕ × ℕ} (λ e. (e.0.0.items, e.1)) es) (ys, j)) s.rest.keys c);
+  };
+}

@@ -1,7 +1,6 @@
 -- Which definition is which, call by call.
-use Rattle.std.proofs.Common.{◌≡◌, refl, sym, subst, ap, ◌∙◌, ℕ, ◌+◌, inl, inr, append_assoc, append-nil, Bool, true, false, cond, List, [], ◌∷◌, ◌++◌, length, length-append, arith, count_by, zero-add, map, Vec}
+use Rattle.std.proofs.Common.{◌≡◌, refl, sym, subst, ap, ◌∙◌, ℕ, ◌+◌, inl, inr, append_assoc, append-nil, Bool, true, false, cond, List, [], ◌∷◌, ◌++◌, length, length-append, arith, count_by, zero-add, map}
 use Rattle.std.specs.Prelude.{IsPermutation, not, filter}
-use Rattle.std.specs.declared.alloc.Global.{Global}
 use Rattle.std.specs.List.{Contains}
 use Rattle.std.proofs.lemmas.List.{map-append}
 use Rattle.std.proofs.lemmas.List.Sums.{sum_by-append}
@@ -10,7 +9,7 @@ use Rattle.std.proofs.lemmas.List.Elements.{Contains-append_cases, Contains-appe
 use Rattle.wit_model.specs.declared.model.Resolve.{Resolve}
 use Rattle.wit_model.specs.declared.model.TypeId.{TypeId}
 use Rattle.encode_types.specs.declared.maps.TypeEncodingMaps.{TypeEncodingMaps}
-use Rattle.encode_types.specs.Codes.{lists_of}
+use Rattle.encode_types.specs.Codes.{lists_of, ListKey}
 use Rattle.encode_types.specs.Maps.{LearnsNumber, LearnsList}
 use Rattle.encode_types.specs.Scope.{Scope}
 use Rattle.encode_types.specs.Counts.{Definitions, Marked, slots_of, named_slots, other_slots, kind_slots, key_slots, names_defined, is_defined_by_name, type_more_if, IsTarget, AddsSlots}
@@ -29,12 +28,12 @@ others-both xs ys = ap slots_of (filter-append (λ x. not x.0) xs ys) ∙ map-ap
 pub more-then : {X : Type 0} (us vs ws xs ys : List X) → IsPermutation (us ++ xs) vs → IsPermutation (vs ++ ys) ws → IsPermutation (us ++ (xs ++ ys)) ws
 more-then us vs ws xs ys p q = subst (λ zs. IsPermutation zs ws) (append_assoc us xs ys) (IsPermutation-trans ((us ++ xs) ++ ys) (vs ++ ys) ws (IsPermutation-append_left ys (us ++ xs) vs p) q)
 
-slot-lists : (es : List (Vec ℕ Global × ℕ)) → map {B = ℕ} (λ e. e.1) (map {B = List ℕ × ℕ} (λ e. (e.0.items, e.1)) es) ≡ map (λ e. e.1) es
+slot-lists : (es : List (ListKey × ℕ)) → map {B = ℕ} (λ e. e.1) (map {B = List ℕ × ℕ} (λ e. (e.0.0.items, e.1)) es) ≡ map (λ e. e.1) es
 slot-lists [] = refl
 slot-lists (e ∷ es) = ap (λ xs. e.1 ∷ xs) (slot-lists es)
 
 same-kinds : (m m' : TypeEncodingMaps) → m'.def_to_index.entries ≡ m.def_to_index.entries → IsPermutation (kind_slots m ++ []) (kind_slots m')
-same-kinds m m' e = subst (λ (es : List (Vec ℕ Global × ℕ)). IsPermutation (kind_slots m ++ []) (map (λ e. e.1) es)) (sym e) (subst (λ xs. IsPermutation xs (kind_slots m)) (sym (append-nil (kind_slots m))) (IsPermutation-refl (kind_slots m)))
+same-kinds m m' e = subst (λ (es : List (ListKey × ℕ)). IsPermutation (kind_slots m ++ []) (map (λ e. e.1) es)) (sym e) (subst (λ xs. IsPermutation xs (kind_slots m)) (sym (append-nil (kind_slots m))) (IsPermutation-refl (kind_slots m)))
 
 one-kind-more : (m m' : TypeEncodingMaps) (xs : List ℕ) (i : ℕ) → LearnsList m m' xs i → IsPermutation (kind_slots m ++ i ∷ []) (kind_slots m')
 one-kind-more m m' xs i l =
@@ -44,7 +43,7 @@ one-kind-more m m' xs i l =
 
 -- the keys of functions, likewise
 pub same-keys : (m m' : TypeEncodingMaps) → m'.func_type_map.entries ≡ m.func_type_map.entries → IsPermutation (key_slots m ++ []) (key_slots m')
-same-keys m m' e = subst (λ (es : List (Vec ℕ Global × ℕ)). IsPermutation (key_slots m ++ []) (map (λ e. e.1) es)) (sym e) (subst (λ xs. IsPermutation xs (key_slots m)) (sym (append-nil (key_slots m))) (IsPermutation-refl (key_slots m)))
+same-keys m m' e = subst (λ (es : List (ListKey × ℕ)). IsPermutation (key_slots m ++ []) (map (λ e. e.1) es)) (sym e) (subst (λ xs. IsPermutation xs (key_slots m)) (sym (append-nil (key_slots m))) (IsPermutation-refl (key_slots m)))
 
 pub one-key-more : (m m' : TypeEncodingMaps) (xs : List ℕ) (i : ℕ) → IsPermutation (lists_of m.func_type_map ++ (xs, i) ∷ []) (lists_of m'.func_type_map) → IsPermutation (key_slots m ++ i ∷ []) (key_slots m')
 one-key-more m m' xs i more =

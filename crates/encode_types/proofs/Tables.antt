@@ -1,12 +1,13 @@
 -- Ordered maps as lists of entries: what is found, what isn't, and what is added.
 use Rattle.std.proofs.Common.{◌≡◌, refl, sym, subst, ap, ◌∙◌, ℕ, zero, suc, ◌+◌, ◌<◌, Bool, true, false, List, [], ◌∷◌, ◌++◌, map, length, get_or, take, Option, Some, None, arith, inl, inr, nat_cmp, length-append, append_assoc, Ordering}
-use Rattle.std.specs.Prelude.{IsPermutation, AllPairs, ◌⊎◌, IfSome, IfNone, IsSome, is_some}
+use Rattle.std.specs.Prelude.{IsPermutation, AllPairs, ◌⊎◌, IfSome, IfNone, IsSome}
 use Rattle.std.specs.Cmp.{IsTotalOrder}
 use Rattle.std.proofs.lemmas.Cmp.{nat_cmp_total, nat_list_cmp_total}
 use Rattle.std.specs.declared.cmp.Ordering.TheVariants.{Less, Equal, Greater}
-use Rattle.std.specs.Ordering.{is_eq, is_lt, match_ordering, ordering_reverse}
+use Rattle.std.specs.Ordering.{is_eq, match_ordering, ordering_reverse}
 use Rattle.std.specs.List.{Contains, swap}
 use Rattle.std.specs.Map.{lookup}
+use Rattle.std.specs.Borrow.{Bor}
 use Rattle.std.specs.BTreeMap.{insert_entry, is_at}
 use Rattle.std.specs.Cmp.Lexicographic.{slice_cmp}
 use Rattle.std.proofs.lemmas.Map.Lookups.{exact_bytes, exact_unsigned}
@@ -18,12 +19,12 @@ use Rattle.std.proofs.lemmas.List.{map-append, take_more}
 use Rattle.wit_model.specs.Text.{Text, text_of}
 use Rattle.wit_model.specs.declared.model.Param.{Param}
 use Rattle.encode_types.specs.declared.key.FunctionKey.{FunctionKey}
-use Rattle.encode_types.specs.Codes.{names_of, lists_of, Names, IsTable, AreListed, AddsParams, AddsParam, IsKeyStart, IsKeyList, type_code}
+use Rattle.encode_types.specs.Codes.{names_of, lists_of, Names, ListKey, IsTable, AreListed, AddsParams, AddsParam, IsKeyList, type_code}
 use Rattle.encode_types.specs.KeyLaws.{key_equiv}
-use Rattle.encode_types.proofs.EqualLists.{lists-of-keys, key-shrink}
+use Rattle.encode_types.proofs.EqualLists.{lists-of-keys}
 use Rattle.encode_types.specs.Maps.{AreNumbered, NamesGrow, AddsNames, IsOnce, LacksKey, LacksList}
 use Rattle.encode_types.specs.declared.maps.TypeEncodingMaps.{TypeEncodingMaps}
-use Rattle.encode_types.proofs.Lists.{none-in, element-at}
+use Rattle.encode_types.proofs.Lists.{none-in}
 use Rattle.base_lemmas.proofs.Elements.{contains-map, map_from as contains-unmap}
 
 pub equal-is : (o : Ordering) → is_eq o ≡ true → o ≡ Equal
@@ -176,61 +177,62 @@ number-inserted es fs n i lacks e = inserted nat_cmp n i es fs
 -- ---- entries by a list of numbers that is read from the key
 
 module _ {K : Type 0} (f : K → List ℕ) where
-  abbrev at_list : List ℕ → K → Bool
-  at_list xs k = is_eq (slice_cmp nat_cmp xs (f k))
-
   abbrev read : List (K × ℕ) → List (List ℕ × ℕ)
   read es = map (λ e. (f e.0, e.1)) es
 
-  pub reads : (es : List (K × ℕ)) (xs : List ℕ) (v : ℕ) → lookup (at_list xs) es ≡ Some v → Contains (read es) (xs, v)
-  reads es xs v h =
-      let r = found (at_list xs) es v h in
-      subst (λ ys. Contains (read es) (ys, v)) (sym (exact_bytes xs (f r.0) (equal-is _ r.2))) (contains-map (λ (e : K × ℕ). (f e.0, e.1)) es (r.0, v) r.1)
+  -- by a test that passes at this list alone
+  pub reads : (xs : List ℕ) (test : K → Bool) → ((k : K) → test k ≡ true → f k ≡ xs) → (es : List (K × ℕ)) (v : ℕ) → lookup test es ≡ Some v → Contains (read es) (xs, v)
+  reads xs test tells es v h =
+      let r = found test es v h in
+      subst (λ ys. Contains (read es) (ys, v)) (tells r.0 r.2) (contains-map (λ (e : K × ℕ). (f e.0, e.1)) es (r.0, v) r.1)
 
-  pub lacks : (es : List (K × ℕ)) (xs : List ℕ) → lookup (at_list xs) es ≡ None → (i : ℕ) → Contains (read es) (xs, i) → ⊥
-  lacks es xs h i c =
+  -- by a test that passes at each entry with this list
+  pub lacks : (xs : List ℕ) (test : K → Bool) (es : List (K × ℕ)) → ((k : K) (v : ℕ) → Contains es (k, v) → f k ≡ xs → test k ≡ true) → lookup test es ≡ None → (i : ℕ) → Contains (read es) (xs, i) → ⊥
+  lacks xs test es finds h i c =
       let r = contains-unmap (λ (e : K × ℕ). (f e.0, e.1)) es (xs, i) c in
-      let same : f r.0.0 ≡ xs = ap (λ (z : List ℕ × ℕ). z.0) r.2 in
-      absent (at_list xs) es h r.0.0 r.0.1 r.1 (ap is_eq (ap (slice_cmp nat_cmp xs) same ∙ equal-self nat_list_cmp_total xs))
+      absent test es h r.0.0 r.0.1 r.1 (finds r.0.0 r.0.1 r.1 (ap (λ (z : List ℕ × ℕ). z.0) r.2))
 
-  pub list-found : (es : List (K × ℕ)) (xs : List ℕ) (o : Option ℕ) → o ≡ lookup (at_list xs) es → IfSome o (λ i. Contains (read es) (xs, i))
-  list-found es xs o q = some-when o _ (λ v e. reads es xs v (sym q ∙ e))
-
-  pub list-lacks : (es : List (K × ℕ)) (xs : List ℕ) (o : Option ℕ) → o ≡ lookup (at_list xs) es → IfNone o ((i : ℕ) → Contains (read es) (xs, i) → ⊥)
-  list-lacks es xs o q = none-when o _ (λ e. lacks es xs (sym q ∙ e))
-
-  pub list-there : (es : List (K × ℕ)) (xs : List ℕ) → is_some (lookup (at_list xs) es) ≡ true → (i : ℕ) × Contains (read es) (xs, i)
-  list-there es xs h = go (lookup (at_list xs) es) refl h
-    where
-      go : (o : Option ℕ) → lookup (at_list xs) es ≡ o → is_some o ≡ true → (i : ℕ) × Contains (read es) (xs, i)
-      go None q t = absurd (let z : ⊥ = cc in z)
-      go (Some v) q t = (v, reads es xs v q)
-
-  pub list-missing : (es : List (K × ℕ)) (xs : List ℕ) → is_some (lookup (at_list xs) es) ≡ false → (i : ℕ) → Contains (read es) (xs, i) → ⊥
-  list-missing es xs h = go (lookup (at_list xs) es) refl h
-    where
-      go : (o : Option ℕ) → lookup (at_list xs) es ≡ o → is_some o ≡ false → (i : ℕ) → Contains (read es) (xs, i) → ⊥
-      go None q t = lacks es xs q
-      go (Some v) q t = absurd (let z : ⊥ = cc in z)
-
-  -- a list that is above the greatest isn't there
-  pub list-above : (es : List (K × ℕ)) (xs ys : List ℕ) → slice_cmp nat_cmp xs ys ≡ Greater → ((k : K) → IsSome (lookup (at_list (f k)) es) → is_lt (slice_cmp nat_cmp ys (f k)) ≡ false) → (i : ℕ) → Contains (read es) (xs, i) → ⊥
-  list-above es xs ys above most i c =
-      let r = contains-unmap (λ (e : K × ℕ). (f e.0, e.1)) es (xs, i) c in
-      let same : f r.0.0 ≡ xs = ap (λ (z : List ℕ × ℕ). z.0) r.2 in
-      let there : IsSome (lookup (at_list (f r.0.0)) es) = some-or (lookup (at_list (f r.0.0)) es) (λ e. absent (at_list (f r.0.0)) es e r.0.0 r.0.1 r.1 (ap is_eq (equal-self nat_list_cmp_total (f r.0.0)))) in
-      let below : slice_cmp nat_cmp ys xs ≡ Less = nat_list_cmp_total.antisymm ys xs ∙ ap ordering_reverse above in
-      let bad : true ≡ false = sym (ap is_lt below) ∙ ap (λ zs. is_lt (slice_cmp nat_cmp ys zs)) (sym same) ∙ most r.0.0 there in
-      let z : ⊥ = cc in
-      z
-
-  pub list-inserted : (es fs : List (K × ℕ)) (k : K) (i : ℕ) → ((j : ℕ) → Contains (read es) (f k, j) → ⊥) → fs ≡ insert_entry (λ a b. slice_cmp nat_cmp (f a) (f b)) es k i
+  pub list-inserted : (cmp : K → K → Ordering) (k : K) → ((j : K) → is_at (cmp k) j ≡ true → f j ≡ f k) → (es fs : List (K × ℕ)) (i : ℕ) → ((j : ℕ) → Contains (read es) (f k, j) → ⊥) → fs ≡ insert_entry cmp es k i
       → IsPermutation (read es ++ (f k, i) ∷ []) (read fs)
-  list-inserted es fs k i none e =
-      let p = inserted (λ a b. slice_cmp nat_cmp (f a) (f b)) k i es fs (none-or (lookup (at_list (f k)) es) (λ v h. none v (reads es (f k) v h))) e in
+  list-inserted cmp k tells es fs i none e =
+      let p = inserted cmp k i es fs (none-or (lookup (is_at (cmp k)) es) (λ v h. none v (reads (f k) (is_at (cmp k)) tells es v h))) e in
       subst (λ xs. IsPermutation xs (read fs)) (map-append (λ (e : K × ℕ). (f e.0, e.1)) es ((k, i) ∷ [])) (IsPermutation-map (λ (e : K × ℕ). (f e.0, e.1)) _ _ p)
 
+-- ---- lists in falling order
+
+abbrev at_list : List ℕ → ListKey → Bool
+at_list xs k = is_eq (slice_cmp nat_cmp k.0.items xs)
+
+tells-list : (xs : List ℕ) (k : ListKey) → at_list xs k ≡ true → k.0.items ≡ xs
+tells-list xs k h = exact_bytes k.0.items xs (equal-is _ h)
+
+pub key-found : (es : List (ListKey × ℕ)) (xs : List ℕ) (o : Option ℕ) → o ≡ lookup (at_list xs) es → IfSome o (λ i. Contains (map {B = List ℕ × ℕ} (λ e. (e.0.0.items, e.1)) es) (xs, i))
+key-found es xs o q = some-when o _ (λ v e. reads (λ (k : ListKey). k.0.items) xs (at_list xs) (tells-list xs) es v (sym q ∙ e))
+
+pub key-lacks : (es : List (ListKey × ℕ)) (xs : List ℕ) (o : Option ℕ) → o ≡ lookup (at_list xs) es → IfNone o (LacksList (map {B = List ℕ × ℕ} (λ e. (e.0.0.items, e.1)) es) xs)
+key-lacks es xs o q = none-when o _ (λ e. lacks (λ (k : ListKey). k.0.items) xs (at_list xs) es (λ k v c s. ap (λ ys. is_eq (slice_cmp nat_cmp ys xs)) s ∙ ap is_eq (equal-self nat_list_cmp_total xs)) (sym q ∙ e))
+
+pub key-inserted : (es fs : List (ListKey × ℕ)) (k : ListKey) (i : ℕ) → LacksList (map {B = List ℕ × ℕ} (λ e. (e.0.0.items, e.1)) es) k.0.items → fs ≡ insert_entry (λ a b. slice_cmp nat_cmp b.0.items a.0.items) es k i
+    → IsPermutation (map {B = List ℕ × ℕ} (λ e. (e.0.0.items, e.1)) es ++ (k.0.items, i) ∷ []) (map {B = List ℕ × ℕ} (λ e. (e.0.0.items, e.1)) fs)
+key-inserted es fs k i none e = list-inserted (λ (k : ListKey). k.0.items) (λ a b. slice_cmp nat_cmp b.0.items a.0.items) k (λ j h. tells-list k.0.items j h) es fs i none e
+
 -- ---- names
+
+abbrev at_text : Text → Bor Text → Bool
+at_text t k = is_eq (slice_cmp nat_cmp t k.now)
+
+tells-text : (t : Text) (k : Bor Text) → at_text t k ≡ true → k.now ≡ t
+tells-text t k h = sym (exact_bytes t k.now (equal-is _ h))
+
+pub text-found : (es : List (Bor Text × ℕ)) (t : Text) (v : ℕ) → lookup (at_text t) es ≡ Some v → Contains (map {B = Text × ℕ} (λ e. (e.0.now, e.1)) es) (t, v)
+text-found es t v h = reads (λ (k : Bor Text). k.now) t (at_text t) (tells-text t) es v h
+
+pub text-lacks : (es : List (Bor Text × ℕ)) (t : Text) → lookup (at_text t) es ≡ None → (i : ℕ) → Contains (map {B = Text × ℕ} (λ e. (e.0.now, e.1)) es) (t, i) → ⊥
+text-lacks es t h = lacks (λ (k : Bor Text). k.now) t (at_text t) es (λ k v c s. ap (λ xs. is_eq (slice_cmp nat_cmp t xs)) s ∙ ap is_eq (equal-self nat_list_cmp_total t)) h
+
+pub text-inserted : (es fs : List (Bor Text × ℕ)) (k : Bor Text) (i : ℕ) → ((j : ℕ) → Contains (map {B = Text × ℕ} (λ e. (e.0.now, e.1)) es) (k.now, j) → ⊥) → fs ≡ insert_entry (λ a b. slice_cmp nat_cmp a.now b.now) es k i
+    → IsPermutation (map {B = Text × ℕ} (λ e. (e.0.now, e.1)) es ++ (k.now, i) ∷ []) (map {B = Text × ℕ} (λ e. (e.0.now, e.1)) fs)
+text-inserted es fs k i none e = list-inserted (λ (t : Bor Text). t.now) (λ a b. slice_cmp nat_cmp a.now b.now) k (λ j h. tells-text k.now j h) es fs i none e
 
 pub names-grow : (names names' : Names) (t : Text) → IsPermutation (names ++ (t, length names) ∷ []) names' → ((n : ℕ) → Contains names (t, n) → ⊥) → NamesGrow names names'
 names-grow names names' t p none = record { kept = λ u n c. kept-in names names' (t, length names) p (u, n) c; numbered = numbered }
@@ -309,27 +311,16 @@ pub key-grow : (names names' : Names) (key : FunctionKey) (xs : List ℕ) → Na
 key-grow names names' key xs g h = record { middle = h.middle; listed = listed-grow names names' key.params.0.now h.middle g h.listed; is = h.is }
 
 -- one more parameter of a loop
-pub listed-next : (names : Names) (ps : List Param) (i : ℕ) (p : Param) (n : ℕ) (start before after : List ℕ) → i < length ps → p ≡ get_or ps i p → AddsParams names i start before ps → Contains names (text_of p.name, n) → after ≡ before ++ n ∷ type_code p.ty ∷ []
-    → AddsParams names (i + 1) start after ps
-listed-next names ps i p n start before after l e a c is = record {
-  middle = a.middle ++ n ∷ type_code p.ty ∷ [];
-  is = is ∙ ap (λ xs. xs ++ n ∷ type_code p.ty ∷ []) a.is ∙ append_assoc start a.middle (n ∷ type_code p.ty ∷ []);
-  are = subst (λ (xs : List Param). AreListed names xs (a.middle ++ n ∷ type_code p.ty ∷ [])) (ap (λ z. take i ps ++ z ∷ []) e ∙ sym (take_more ps i p l)) (listed-more names (take i ps) a.middle p n a.are c);
+pub adds-next : (names : Names) (ps : List Param) (i : ℕ) (p : Param) (start before after : List ℕ) → i < length ps → p ≡ get_or ps i p → AddsParams names i start before ps → AddsParam names before after p → AddsParams names (i + 1) start after ps
+adds-next names ps i p start before after l e a b = record {
+  middle = a.middle ++ b.number ∷ type_code p.ty ∷ [];
+  is = b.is ∙ ap (λ xs. xs ++ b.number ∷ type_code p.ty ∷ []) a.is ∙ append_assoc start a.middle (b.number ∷ type_code p.ty ∷ []);
+  are = subst (λ (xs : List Param). AreListed names xs (a.middle ++ b.number ∷ type_code p.ty ∷ [])) (ap (λ z. take i ps ++ z ∷ []) e ∙ sym (take_more ps i p l)) (listed-more names (take i ps) a.middle p b.number a.are b.there);
   most = omega (arith, l);
 }
 
-pub adds-next : (names : Names) (ps : List Param) (i : ℕ) (p : Param) (start before after : List ℕ) → i < length ps → p ≡ get_or ps i p → AddsParams names i start before ps → AddsParam names before after p → AddsParams names (i + 1) start after ps
-adds-next names ps i p start before after l e a b = listed-next names ps i p b.number start before after l e a b.there b.is
-
 pub adds-grow : (names names' : Names) (n : ℕ) (xs ys : List ℕ) (ps : List Param) → NamesGrow names names' → AddsParams names n xs ys ps → AddsParams names' n xs ys ps
 adds-grow names names' n xs ys ps g a = record { middle = a.middle; is = a.is; are = listed-grow names names' (take n ps) a.middle g a.are; most = a.most }
-
--- a key has no list where the name of a parameter has no number
-pub lacks-list : (names : Names) (key : FunctionKey) (n : ℕ) (xs ys : List ℕ) → IsKeyStart names key n xs → IsKeyList names key ys → ⊥
-lacks-list names key n xs ys s h =
-    let p = element-at key.params.0.now n s.before in
-    let r = listed-names names key.params.0.now h.middle p.0 h.listed (n, s.before, sym p.1) in
-    s.lacks p.0 s.before p.1 r.0 r.1
 
 -- one key has one list
 pub one-list : (names : Names) (key : FunctionKey) (xs ys : List ℕ) → IsTable names → IsKeyList names key xs → IsKeyList names key ys → xs ≡ ys
@@ -351,8 +342,6 @@ adds-names-then p q = record {
   grow = names-then p.grow q.grow;
 }
 
--- a key that the maps lack has a list that they lack, also by more names
-pub list-lacking : (m : TypeEncodingMaps) (names' : Names) (key : FunctionKey) (xs : List ℕ) → IsOnce m → NamesGrow (names_of m.names) names' → LacksKey m key → IsKeyList names' key xs → LacksList (lists_of m.func_type_map) xs
-list-lacking m names' key xs once g none is i c =
-    let other = once.key_lists xs i c in
-    none i (xs, key-shrink (names_of m.names) names' (g.numbered once.names_).table g.kept key other.key xs is other.is, c)
+-- a key whose list the maps lack
+pub key-lacking : (m : TypeEncodingMaps) (key : FunctionKey) (xs : List ℕ) → IsOnce m → IsKeyList (names_of m.names) key xs → LacksList (lists_of m.func_type_map) xs → LacksKey m key
+key-lacking m key xs once is none i h = none i (subst (λ (ys : List ℕ). Contains (lists_of m.func_type_map) (ys, i)) (one-list (names_of m.names) key h.0 xs once.names_.table h.1 is) h.2)

@@ -1,9 +1,10 @@
 -- Types, unnamed kinds and keys of functions as numbers and lists of numbers, for ordered tables.
-use Rattle.std.specs.Prelude.{ℕ, ◌≡◌, ◌+◌, ◌<◌, ◌≤◌, Bool, true, false, List, [], ◌∷◌, ◌++◌, map, length, take, get_or, Option, Some, None, Vec}
+use Rattle.std.specs.Prelude.{ℕ, ◌≡◌, ◌+◌, ◌≤◌, Bool, true, false, List, [], ◌∷◌, ◌++◌, map, length, take, Option, Some, None, Vec}
 use Rattle.std.specs.Borrow.{Bor}
 use Rattle.std.specs.BTreeMap.{BTreeMap}
 use Rattle.std.specs.List.{Contains}
 use Rattle.std.specs.declared.alloc.Global.{Global}
+use Rattle.std.specs.declared.cmp.Reverse.{Reverse}
 use Rattle.wit_model.specs.Text.{Text, text_of}
 use Rattle.wit_model.specs.declared.model.Param.{Param}
 use Rattle.wit_model.specs.declared.model.TypeDefKind.{TypeDefKind}
@@ -12,8 +13,6 @@ use Rattle.wit_model.specs.declared.model.Handle.TheVariants as handle
 use Rattle.wit_model.specs.declared.model.«Type».{«Type» as ValueType}
 use Rattle.wit_model.specs.declared.model.«Type».TheVariants as ty
 use Rattle.encode_types.specs.declared.key.FunctionKey.{FunctionKey}
-use Rattle.encode_types.specs.declared.codes.KeyList.{KeyList}
-use Rattle.encode_types.specs.declared.codes.KeyList.TheVariants as listed
 
 -- the number of a type: those of primitive types are below 14
 abbrev pub type_code : ValueType → ℕ
@@ -102,25 +101,20 @@ pub record AddsParam (names : Names) (xs ys : List ℕ) (p : Param) : Type 0 whe
   pub there : Contains names (text_of p.name, number)
   pub is : ys ≡ xs ++ number ∷ type_code p.ty ∷ []
 
--- a text has no number
-abbrev pub LacksText : Names → Text → Type 0
-LacksText names t = (m : ℕ) → Contains names (t, m) → ⊥
+-- a text has a number
+abbrev pub HasNumber : Names → Text → Type 0
+HasNumber names t = (n : ℕ) × Contains names (t, n)
 
--- the name of parameter n, where there is one, has no number
-abbrev pub LacksNumber : Names → List Param → ℕ → Type 0
-LacksNumber names params n = (p : Param) → n < length params → p ≡ get_or params n p → LacksText names (text_of p.name)
+-- the names of these parameters have numbers
+abbrev pub HaveNumbers : Names → List Param → Type 0
+HaveNumbers names params = (p : Param) → Contains params p → HasNumber names (text_of p.name)
 
--- the list is that of a key up to parameter n, whose name has no number
-pub record IsKeyStart (names : Names) (key : FunctionKey) (n : ℕ) (xs : List ℕ) : Type 0 where
-  pub adds : AddsParams names n (async_code key.async_ ∷ length key.params.0.now ∷ []) xs key.params.0.now
-  pub before : n < length key.params.0.now
-  pub lacks : LacksNumber names key.params.0.now n
+-- ---- ordered maps
 
--- what is known of a key's list: it is whole, or it stops at a parameter whose name has no number
-abbrev pub IsListOf : Names → FunctionKey → KeyList → Type 0
-IsListOf names key (listed.Whole xs) = IsKeyList names key xs.items
-IsListOf names key (listed.Start xs n) = IsKeyStart names key n xs.items
+-- a list of numbers as a key, in falling order
+abbrev pub ListKey : Type 0
+ListKey = Reverse (Vec ℕ Global)
 
 -- the lists of an ordered map, each with its number
-abbrev pub lists_of : BTreeMap (Vec ℕ Global) ℕ → List (List ℕ × ℕ)
-lists_of t = map (λ e. (e.0.items, e.1)) t.entries
+abbrev pub lists_of : BTreeMap ListKey ℕ → List (List ℕ × ℕ)
+lists_of t = map (λ e. (e.0.0.items, e.1)) t.entries

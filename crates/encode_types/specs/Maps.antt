@@ -16,7 +16,7 @@ use Rattle.comp_bytes.specs.declared.forms.ComponentValType.TheVariants as v
 use Rattle.comp_bytes.specs.declared.forms.PrimitiveValType.TheVariants as p
 use Rattle.encode_types.specs.declared.key.FunctionKey.{FunctionKey}
 use Rattle.encode_types.specs.declared.maps.TypeEncodingMaps.{TypeEncodingMaps}
-use Rattle.encode_types.specs.Codes.{Names, IsTable, kind_code, IsKeyList, names_of, lists_of}
+use Rattle.encode_types.specs.Codes.{Names, IsTable, kind_code, IsKeyList, HaveNumbers, names_of, lists_of}
 use Rattle.encode_types.specs.Key.{key_signature}
 use Rattle.encode_types.specs.Kinds.{kind_tree}
 use Rattle.encode_types.specs.Slots.{Standing, tree, function, Pairs}
@@ -118,6 +118,12 @@ pub record StandsAsKind (r : Resolve) (S : Pairs) (xs : List ℕ) (i : ℕ) : Ty
   pub is : xs ≡ kind_code kind
   pub stands : S i (tree (kind_tree r kind))
 
+-- a slot stands for the type of the functions whose key has this list
+pub record StandsAsKey (r : Resolve) (names : Names) (S : Pairs) (xs : List ℕ) (i : ℕ) : Type 0 where
+  pub key : FunctionKey
+  pub is : IsKeyList names key xs
+  pub stands : S i (function (key_signature r key))
+
 -- ---- what is learnt
 
 -- the maps have the same entries, and so have the two caches
@@ -139,6 +145,10 @@ pub record AddsNames (m m' : TypeEncodingMaps) : Type 0 where
   pub rest : SameMaps m (record m' { names = m.names })
   pub grow : NamesGrow (names_of m.names) (names_of m'.names)
 
+-- no name is added for a key where all of its names have numbers
+abbrev pub KeepsKnownNames : FunctionKey → TypeEncodingMaps → TypeEncodingMaps → Type 0
+KeepsKnownNames key m m' = HaveNumbers (names_of m.names) key.params.0.now → m'.names.entries ≡ m.names.entries
+
 -- one type number more, and the rest as it was
 pub record LearnsNumber (m m' : TypeEncodingMaps) (id : TypeId) (i : ℕ) : Type 0 where
   pub rest : SameMaps m (record m' { id_to_index = m.id_to_index })
@@ -149,13 +159,10 @@ pub record LearnsList (m m' : TypeEncodingMaps) (xs : List ℕ) (i : ℕ) : Type
   pub rest : SameMaps m (record m' { def_to_index = m.def_to_index })
   pub more : IsPermutation (lists_of m.def_to_index ++ (xs, i) ∷ []) (lists_of m'.def_to_index)
 
--- one key more by its list, the names of its parameters, and the rest as it was
-pub record LearnsKey (m m' : TypeEncodingMaps) (key : FunctionKey) (i : ℕ) : Type 0 where
-  pub rest : SameMaps m (record m' { func_type_map = m.func_type_map; names = m.names })
-  pub grow : NamesGrow (names_of m.names) (names_of m'.names)
-  pub list : List ℕ
-  pub is : IsKeyList (names_of m'.names) key list
-  pub more : IsPermutation (lists_of m.func_type_map ++ (list, i) ∷ []) (lists_of m'.func_type_map)
+-- one key more by its list, and the rest as it was
+pub record LearnsKeyList (m m' : TypeEncodingMaps) (xs : List ℕ) (i : ℕ) : Type 0 where
+  pub rest : SameMaps m (record m' { func_type_map = m.func_type_map })
+  pub more : IsPermutation (lists_of m.func_type_map ++ (xs, i) ∷ []) (lists_of m'.func_type_map)
 
 -- each type number that has been learnt is one of these
 pub record LearnsOnly (P : ℕ → Type 0) (m m' : TypeEncodingMaps) : Type 0 where

@@ -1,19 +1,17 @@
 //! Types, unnamed kinds and keys of functions as lists of numbers, by which ordered tables find them.
 
-ghost use Rattle.std.specs.Prelude.{◌≡◌, ◌+◌, ◌++◌, ◌∷◌, [], false, IfOk, OnOk, map};
-ghost use Rattle.std.specs.Ordering.{nat_cmp};
-ghost use Rattle.std.specs.Cmp.Lexicographic.{slice_cmp};
+ghost use Rattle.std.specs.Prelude.{◌≡◌, ◌+◌, ◌++◌, ◌∷◌, [], false, IfOk, OnOk, length, map};
 ghost use Rattle.wit_model.specs.Rules.{is_named_kind};
-ghost use Rattle.encode_types.specs.Codes.{type_code as code_of, optional_code, kind_code, names_of, IsListOf, AddsParams, LacksNumber};
+ghost use Rattle.encode_types.specs.Codes.{type_code as code_of, async_code, optional_code, kind_code};
 
 use crate::key::FunctionKey;
 use std::alloc::{AllocError, Global};
-use std::cmp::Ordering;
-use std::collections::BTreeMap;
-use wit_model::{Handle, Param, Type, TypeDefKind, TypeId};
+use std::cmp::Reverse;
+use wit_model::{Handle, Type, TypeDefKind, TypeId};
 
-/// The numbers of the names of parameters.
-pub(crate) type Names<'a> = BTreeMap<&'a str, u64>;
+/// A list of numbers as a key of an ordered map, in falling order. What is new mostly has the greatest numbers, so it stands first, where a
+/// search begins.
+pub(crate) type ListKey = Reverse<Vec<u64>>;
 
 fn id_code(id: TypeId) -> u64
     ensures { result ≡ 14 + id.0 }
@@ -121,15 +119,6 @@ pub(crate) fn kind_list(alloc: Global, kind: &TypeDefKind) -> Result<Vec<u64>, A
     Ok(list)
 }
 
-/// The list of a key, as far as the names of its parameters have numbers.
-#[derive(Drop)]
-pub(crate) enum KeyList {
-    /// All of it.
-    Whole(Vec<u64>),
-    /// What stands before the first parameter whose name has no number, and the place of this parameter.
-    Start(Vec<u64>, usize),
-}
-
 /// Adds a parameter to a list, by the numbers of its name and its type.
 pub(crate) fn push_param(list: &mut Vec<u64>, number: u64, ty: &Type) -> Result<(), AllocError>
     ensures { OnOk result (list.new.items ≡ list.old.items ++ number ∷ code_of ty.now ∷ []) }
@@ -139,44 +128,12 @@ pub(crate) fn push_param(list: &mut Vec<u64>, number: u64, ty: &Type) -> Result<
     Ok(())
 }
 
-/// Adds the parameters to a list, up to the first whose name has no number. Answers how many there are.
-fn push_params(names: &Names, list: &mut Vec<u64>, params: &[Param]) -> Result<usize, AllocError>
-    ensures adds { IfOk result (λ n. AddsParams (names_of names.now) n list.old.items list.new.items params.now) }
-    ensures stops { IfOk result (LacksNumber (names_of names.now) params.now) }
-{
-    for i in 0..params.len() {
-        let param = &params[i];
-        let Some(number) = names.get(param.name.as_str()) else {
-            return Ok(i);
-        };
-        push_param(list, *number, &param.ty)?;
-    }
-    Ok(params.len())
-}
-
-/// The order in which tables hold lists.
-pub(crate) fn list_order<'x>(a: &'x [u64], b: &'x [u64]) -> Ordering
-    ensures { result ≡ slice_cmp nat_cmp a.now b.now }
-{
-    Ord::cmp(&a, &b)
-}
-
-/// The list of a key: whether it is asynchronous, how many parameters it has, each by the numbers of its name and its type, and the result.
-/// It stops where a name of a parameter has no number.
-pub(crate) fn key_list(
-    alloc: Global,
-    names: &Names,
-    key: &FunctionKey,
-) -> Result<KeyList, AllocError>
-    ensures { IfOk result (IsListOf (names_of names.now) key.now) }
+/// The start of the list of a key, before its parameters: whether it is asynchronous, and how many they are. There is room for the rest.
+pub(crate) fn key_start(alloc: Global, key: &FunctionKey) -> Result<Vec<u64>, AllocError>
+    ensures { IfOk result (λ v. v.items ≡ async_code key.now.async_ ∷ length key.now.params.0.now ∷ []) }
 {
     let mut list = Vec::with_capacity(alloc, 2 * key.params.0.len() + 4)?;
     list.push(u64::from(key.async_))?;
     list.push(key.params.0.len() as u64)?;
-    let listed = push_params(names, &mut list, key.params.0)?;
-    if listed < key.params.0.len() {
-        return Ok(KeyList::Start(list, listed));
-    }
-    push_optional(&mut list, key.result)?;
-    Ok(KeyList::Whole(list))
+    Ok(list)
 }

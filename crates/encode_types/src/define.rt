@@ -30,7 +30,7 @@ ghost use Rattle.encode_types.specs.Counts.{one_type_more, is_defined_by_name, o
 ghost use Rattle.encode_types.specs.MetKinds.{LearnsKindOf};
 ghost use Rattle.encode_types.specs.Leaves.{Leaves, LearnsFrom, LearnsParts, CountsTypes, DefinesIf, LacksRoom};
 
-use crate::codes::kind_list;
+use crate::codes::{ListKey, kind_list};
 use crate::encoder::ValtypeEncoder;
 use crate::lend::{
     definition_of, index_of, index_of_kind, order_of, remember_id, remember_kind, value_of,
@@ -40,6 +40,7 @@ use crate::plan::foreign;
 use crate::shape::{Shape, shape_of};
 use comp_bytes::{ComponentDefinedType, ComponentExternName, ComponentValType};
 use std::alloc::Global;
+use std::cmp::Reverse;
 use wit_model::{Error, InterfaceId, Resolve, Type, TypeDef, TypeDefKind, TypeId};
 
 /// Adds a slot for a shape, and answers it.
@@ -131,10 +132,10 @@ fn define_new_kind<'a, E: ValtypeEncoder<'a>>(
     enc: &mut E,
     resolve: &'a Resolve,
     kind: &'a TypeDefKind,
-    list: Vec<u64>,
+    list: ListKey,
 ) -> Result<u32, Error>
     requires unnamed { is_named_kind kind.now ≡ false }
-    requires list { list.items ≡ kind_code kind.now }
+    requires list { list.0.items ≡ kind_code kind.now }
     requires lacks { LacksKind (E.view enc.old).maps kind.now }
     requires ready { AllReady (E.view enc.old).maps (parts_of kind.now) }
     requires formed { IsFormed (E.view enc.old).scope (kind_tree resolve.now kind.now) }
@@ -177,8 +178,8 @@ fn define_unnamed_kind<'a, E: ValtypeEncoder<'a>>(
     ensures size { result ≡ Err Size → NewKindLacksRoom resolve.now kind.entry.now (E.view enc.old) (E.view enc.new) }
     ensures refuses { IfErr result IsMemoryOrSize }
 {
-    let list = kind_list(alloc, kind)?;
-    if let Some(index) = index_of_kind(enc, list.as_slice()) {
+    let list = Reverse(kind_list(alloc, kind)?);
+    if let Some(index) = index_of_kind(enc, &list) {
         return Ok(index);
     }
     define_new_kind(alloc, enc, resolve, kind, list)

@@ -7,7 +7,7 @@ ghost use Rattle.wit_model.specs.Meant.{signature_of};
 ghost use Rattle.wit_model.specs.Parts.{function_types};
 ghost use Rattle.encode_types.specs.Slots.{function, FollowsFunction};
 ghost use Rattle.encode_types.specs.Key.{IsKeyOf};
-ghost use Rattle.encode_types.specs.Codes.{names_of, IsListOf};
+ghost use Rattle.encode_types.specs.Codes.{names_of, IsKeyList};
 ghost use Rattle.encode_types.specs.Maps.{AllReady, LacksKey};
 ghost use Rattle.encode_types.specs.Fits.{CanEncode};
 ghost use Rattle.encode_types.specs.Formed.{IsFormedSignature};
@@ -17,7 +17,7 @@ ghost use Rattle.encode_types.specs.View.{Agrees, HoldsLearnt, WritesLearnt};
 ghost use Rattle.encode_types.specs.Leaves.{Leaves, LearnsFrom, CountsTypes, CountsFunction, LacksRoom, FunctionLacksRoom};
 ghost use Rattle.encode_types.specs.declared.key.FunctionKey.{FunctionKey as KeyValue};
 
-use crate::codes::KeyList;
+use crate::codes::ListKey;
 use crate::encode::{encode_optional_valtype, encode_params};
 use crate::encoder::ValtypeEncoder;
 use crate::key::{FunctionKey, key_of};
@@ -64,11 +64,11 @@ fn define_key<'a, E: ValtypeEncoder<'a>>(
     resolve: &'a Resolve,
     func: &'a Function,
     key: FunctionKey<'a>,
-    list: KeyList,
+    list: ListKey,
 ) -> Result<u32, Error>
     requires encodable { CanEncode resolve.now (E.view enc.old).scope (function_types func.now) }
     requires is_key { IsKeyOf key func.now }
-    requires list { IsListOf (names_of (E.view enc.old).maps.names) key list }
+    requires list { IsKeyList (names_of (E.view enc.old).maps.names) key list.0.items }
     requires lacks { LacksKey (E.view enc.old).maps key }
     requires formed { IsFormedSignature (E.view enc.old).scope (signature_of resolve.now func.now) }
     requires agree { Agrees resolve.now (E.view enc.old) }
@@ -84,7 +84,7 @@ fn define_key<'a, E: ValtypeEncoder<'a>>(
 {
     let def = function_of(alloc, enc, resolve, func, key.async_)?;
     let index = enc.define_function_type(def)?;
-    remember_key(enc, resolve, key, list, index)?;
+    remember_key(enc, resolve, list, index)?;
     Ok(index)
 }
 
@@ -111,8 +111,8 @@ pub fn encode_func_type<'a, E: ValtypeEncoder<'a>>(
     ensures refuses { IfErr result IsMemoryOrSize }
 {
     let key = key_of(func);
-    let list = list_of_key(alloc, enc, &key)?;
-    if let Some(index) = index_of_key(enc, &key, &list) {
+    let list = list_of_key(alloc, enc, resolve, &key)?;
+    if let Some(index) = index_of_key(enc, &list) {
         return Ok(index);
     }
     define_key(alloc, enc, resolve, func, key, list)

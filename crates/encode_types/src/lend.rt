@@ -6,17 +6,16 @@ ghost use Rattle.comp_bytes.specs.Refusal.{IsMemoryOrSize};
 ghost use Rattle.wit_model.specs.declared.error.Error.TheVariants.{Size};
 ghost use Rattle.wit_model.specs.Types.{number_tree};
 ghost use Rattle.wit_model.specs.Tree.{future_tree, stream_tree};
-ghost use Rattle.encode_types.specs.Slots.{tree, function};
-ghost use Rattle.encode_types.specs.Key.{key_signature};
+ghost use Rattle.encode_types.specs.Slots.{tree};
 ghost use Rattle.encode_types.specs.Kinds.{kind_of, parts_of};
-ghost use Rattle.encode_types.specs.Codes.{names_of, lists_of, IsListOf};
-ghost use Rattle.encode_types.specs.Maps.{IsKnown, HasKey, IsOnce, LacksKey, LacksList, StandsAsKind, IsReady, AllReady, IsWritten, LearnsNumber, LearnsList, LearnsKey};
+ghost use Rattle.encode_types.specs.Codes.{names_of, lists_of, IsKeyList};
+ghost use Rattle.encode_types.specs.Maps.{IsKnown, LacksList, StandsAsKind, StandsAsKey, IsReady, AllReady, IsWritten, AddsNames, KeepsKnownNames, LearnsNumber, LearnsList, LearnsKeyList};
 ghost use Rattle.encode_types.specs.Definition.{IsWrittenParam, FollowsKind};
 ghost use Rattle.encode_types.specs.Plan.{IsLayered, AllInRange, IsOrderOf};
 ghost use Rattle.encode_types.specs.View.{Agrees};
 ghost use Rattle.encode_types.specs.Leaves.{Leaves};
 
-use crate::codes::KeyList;
+use crate::codes::ListKey;
 use crate::definition::{definition, params_in};
 use crate::encoder::ValtypeEncoder;
 use crate::key::FunctionKey;
@@ -36,36 +35,20 @@ pub(crate) fn index_of<'a, E: ValtypeEncoder<'a>>(enc: &mut E, id: TypeId) -> Op
     enc.type_encoding_maps().index_of(id)
 }
 
-pub(crate) fn index_of_kind<'a, E: ValtypeEncoder<'a>>(enc: &mut E, list: &[u64]) -> Option<u32>
+pub(crate) fn index_of_kind<'a, E: ValtypeEncoder<'a>>(enc: &mut E, list: &ListKey) -> Option<u32>
     ensures same { enc.new ≡ enc.old }
-    ensures some { IfSome result (λ i. Contains (lists_of (E.view enc.old).maps.def_to_index) (list.now, i)) }
-    ensures none { IfNone result (LacksList (lists_of (E.view enc.old).maps.def_to_index) list.now) }
+    ensures some { IfSome result (λ i. Contains (lists_of (E.view enc.old).maps.def_to_index) (list.now.0.items, i)) }
+    ensures none { IfNone result (LacksList (lists_of (E.view enc.old).maps.def_to_index) list.now.0.items) }
 {
     enc.type_encoding_maps().index_of_kind(list)
 }
 
-pub(crate) fn list_of_key<'a, E: ValtypeEncoder<'a>>(
-    alloc: Global,
-    enc: &mut E,
-    key: &FunctionKey,
-) -> Result<KeyList, AllocError>
+pub(crate) fn index_of_key<'a, E: ValtypeEncoder<'a>>(enc: &mut E, list: &ListKey) -> Option<u32>
     ensures same { enc.new ≡ enc.old }
-    ensures list { IfOk result (IsListOf (names_of (E.view enc.old).maps.names) key.now) }
+    ensures some { IfSome result (λ i. Contains (lists_of (E.view enc.old).maps.func_type_map) (list.now.0.items, i)) }
+    ensures none { IfNone result (LacksList (lists_of (E.view enc.old).maps.func_type_map) list.now.0.items) }
 {
-    enc.type_encoding_maps().list_of_key(alloc, key)
-}
-
-pub(crate) fn index_of_key<'a, E: ValtypeEncoder<'a>>(
-    enc: &mut E,
-    key: &FunctionKey,
-    list: &KeyList,
-) -> Option<u32>
-    requires { IsListOf (names_of (E.view enc.old).maps.names) key.now list.now }
-    ensures same { enc.new ≡ enc.old }
-    ensures some { IfSome result (HasKey (E.view enc.old).maps key.now) }
-    ensures none { IfNone result (IsOnce (E.view enc.old).maps → LacksKey (E.view enc.old).maps key.now) }
-{
-    enc.type_encoding_maps().index_of_key(key, list)
+    enc.type_encoding_maps().index_of_key(list)
 }
 
 pub(crate) fn unit_future<'a, E: ValtypeEncoder<'a>>(enc: &mut E) -> Option<u32>
@@ -131,6 +114,25 @@ pub(crate) fn order_of<'a, E: ValtypeEncoder<'a>>(
 
 // ---- writes
 
+pub(crate) fn list_of_key<'a, E: ValtypeEncoder<'a>>(
+    alloc: Global,
+    enc: &mut E,
+    resolve: &'a Resolve,
+    key: &FunctionKey<'a>,
+) -> Result<ListKey, AllocError>
+    requires { Agrees resolve.now (E.view enc.old) }
+    ensures names { AddsNames (E.view enc.old).maps (E.view enc.new).maps }
+    ensures known { KeepsKnownNames key.now (E.view enc.old).maps (E.view enc.new).maps }
+    ensures list { IfOk result (λ v. IsKeyList (names_of (E.view enc.new).maps.names) key.now v.0.items) }
+    ensures leaves { Leaves resolve.now (E.view enc.old) (E.view enc.new) }
+    ensures around_stays { (E.view enc.new).around ≡ (E.view enc.old).around }
+    ensures counts { (E.view enc.new).definitions ≡ (E.view enc.old).definitions }
+    ensures held { (E.view enc.new).held ≡ (E.view enc.old).held }
+    ensures written { (E.view enc.new).extent ≡ (E.view enc.old).extent }
+{
+    enc.type_encoding_maps().list_of_key(alloc, key)
+}
+
 pub(crate) fn remember_id<'a, E: ValtypeEncoder<'a>>(
     enc: &mut E,
     resolve: &'a Resolve,
@@ -155,13 +157,13 @@ pub(crate) fn remember_id<'a, E: ValtypeEncoder<'a>>(
 pub(crate) fn remember_kind<'a, E: ValtypeEncoder<'a>>(
     enc: &mut E,
     resolve: &'a Resolve,
-    list: Vec<u64>,
+    list: ListKey,
     index: u32,
 ) -> Result<(), Error>
-    requires stands { StandsAsKind resolve.now (E.view enc.old).stands list.items index }
-    requires fresh { LacksList (lists_of (E.view enc.old).maps.def_to_index) list.items }
+    requires stands { StandsAsKind resolve.now (E.view enc.old).stands list.0.items index }
+    requires fresh { LacksList (lists_of (E.view enc.old).maps.def_to_index) list.0.items }
     requires agree { Agrees resolve.now (E.view enc.old) }
-    ensures ok { OnOk result (LearnsList (E.view enc.old).maps (E.view enc.new).maps list.items index) }
+    ensures ok { OnOk result (LearnsList (E.view enc.old).maps (E.view enc.new).maps list.0.items index) }
     ensures leaves { Leaves resolve.now (E.view enc.old) (E.view enc.new) }
     ensures around_stays { (E.view enc.new).around ≡ (E.view enc.old).around }
     ensures counts { (E.view enc.new).definitions ≡ (E.view enc.old).definitions }
@@ -176,15 +178,13 @@ pub(crate) fn remember_kind<'a, E: ValtypeEncoder<'a>>(
 pub(crate) fn remember_key<'a, E: ValtypeEncoder<'a>>(
     enc: &mut E,
     resolve: &'a Resolve,
-    key: FunctionKey<'a>,
-    list: KeyList,
+    list: ListKey,
     index: u32,
 ) -> Result<(), Error>
-    requires stands { (E.view enc.old).stands index (function (key_signature resolve.now key)) }
-    requires list { IsListOf (names_of (E.view enc.old).maps.names) key list }
-    requires fresh { LacksKey (E.view enc.old).maps key }
+    requires stands { StandsAsKey resolve.now (names_of (E.view enc.old).maps.names) (E.view enc.old).stands list.0.items index }
+    requires fresh { LacksList (lists_of (E.view enc.old).maps.func_type_map) list.0.items }
     requires agree { Agrees resolve.now (E.view enc.old) }
-    ensures ok { OnOk result (LearnsKey (E.view enc.old).maps (E.view enc.new).maps key.entry index) }
+    ensures ok { OnOk result (LearnsKeyList (E.view enc.old).maps (E.view enc.new).maps list.0.items index) }
     ensures leaves { Leaves resolve.now (E.view enc.old) (E.view enc.new) }
     ensures around_stays { (E.view enc.new).around ≡ (E.view enc.old).around }
     ensures counts { (E.view enc.new).definitions ≡ (E.view enc.old).definitions }
@@ -193,7 +193,7 @@ pub(crate) fn remember_key<'a, E: ValtypeEncoder<'a>>(
     ensures size { result ≡ Err Size → ⊥ }
     ensures refuses { IfErr result IsMemoryOrSize }
 {
-    enc.type_encoding_maps().remember_key(key, list, index)
+    enc.type_encoding_maps().remember_key(list, index)
 }
 
 pub(crate) fn remember_unit_future<'a, E: ValtypeEncoder<'a>>(enc: &mut E, index: u32)

@@ -6,25 +6,26 @@ ghost use Rattle.wit_model.specs.Text.{text_of};
 ghost use Rattle.wit_model.specs.declared.error.Error.TheVariants.{Size};
 ghost use Rattle.encode_types.specs.Maps.{IsReady, IsWritten};
 
-use crate::codes::{KeyList, key_list, list_order, push_optional, push_param};
+use crate::codes::{ListKey, key_start, push_optional, push_param};
 use crate::key::FunctionKey;
 use comp_bytes::{ComponentValType, PrimitiveValType};
 use std::alloc::{AllocError, Global};
-use std::cmp::Ordering;
+use std::cmp::Reverse;
 use std::collections::BTreeMap;
 use wit_model::{Error, Param, Type, TypeId};
 
 /// The indexes of what a scope has defined, in ordered maps.
 ///
-/// Unnamed kinds and the types of functions are found by lists of numbers (`laws::equal_lists`).
+/// Unnamed kinds and the types of functions are found by lists of numbers (`laws::equal_lists`), which stand in falling order: what is new mostly
+/// has the greatest numbers, and so stands first.
 #[derive(Drop)]
 pub struct TypeEncodingMaps<'a> {
     /// The types that have been met, by number.
     pub id_to_index: BTreeMap<u32, u32>,
     /// The unnamed types, by the lists of their kinds.
-    pub def_to_index: BTreeMap<Vec<u64>, u32>,
+    pub def_to_index: BTreeMap<Reverse<Vec<u64>>, u32>,
     /// The types of functions, by the lists of their keys.
-    pub func_type_map: BTreeMap<Vec<u64>, u32>,
+    pub func_type_map: BTreeMap<Reverse<Vec<u64>>, u32>,
     /// The names of the parameters of these functions, each with a number.
     pub names: BTreeMap<&'a str, u64>,
     /// The future without an element that `encode_unit_future` defined.
@@ -34,8 +35,8 @@ pub struct TypeEncodingMaps<'a> {
 }
 
 impl<'a> TypeEncodingMaps<'a> {
-    ghost use Rattle.encode_types.specs.Codes.{names_of, lists_of, IsKeyList, IsKeyStart, IsListOf, LacksText, AddsParam};
-    ghost use Rattle.encode_types.specs.Maps.{IsKnown, HasKey, LacksKey, IsOnce, LacksList, AddsNames, LearnsNumber, LearnsList, LearnsKey, SameMaps};
+    ghost use Rattle.encode_types.specs.Codes.{names_of, lists_of, HasNumber, HaveNumbers, IsKeyList, AddsParam};
+    ghost use Rattle.encode_types.specs.Maps.{IsKnown, LacksList, AddsNames, KeepsKnownNames, LearnsNumber, LearnsList, LearnsKeyList, SameMaps};
     ghost use Rattle.std.specs.List.{Contains};
 
     /// Maps that hold nothing. Takes constant time and no memory.
@@ -70,47 +71,73 @@ impl<'a> TypeEncodingMaps<'a> {
     }
 
     /// The index under which the list of a kind is known.
-    pub(crate) fn index_of_kind(&self, list: &[u64]) -> Option<u32>
-        ensures some { IfSome result (λ i. Contains (lists_of self.now.def_to_index) (list.now, i)) }
-        ensures none { IfNone result (LacksList (lists_of self.now.def_to_index) list.now) }
+    pub(crate) fn index_of_kind(&self, list: &ListKey) -> Option<u32>
+        ensures some { IfSome result (λ i. Contains (lists_of self.now.def_to_index) (list.now.0.items, i)) }
+        ensures none { IfNone result (LacksList (lists_of self.now.def_to_index) list.now.0.items) }
     {
         self.def_to_index.get(list).copied()
     }
 
-    /// The list of a key, as far as the names of its parameters have numbers.
+    /// The index under which the list of a key is known.
+    pub(crate) fn index_of_key(&self, list: &ListKey) -> Option<u32>
+        ensures some { IfSome result (λ i. Contains (lists_of self.now.func_type_map) (list.now.0.items, i)) }
+        ensures none { IfNone result (LacksList (lists_of self.now.func_type_map) list.now.0.items) }
+    {
+        self.func_type_map.get(list).copied()
+    }
+
+    /// Gives a name without a number one, and answers it.
+    fn give_number(&mut self, name: &'a str) -> Result<u64, AllocError>
+        requires { HasNumber (names_of self.old.names) name.now → ⊥ }
+        ensures names { AddsNames self.old self.new }
+        ensures ok { IfOk result (λ n. Contains (names_of self.new.names) (name.entry.now, n)) }
+    {
+        let number = self.names.len() as u64;
+        self.names.insert(name, number)?;
+        Ok(number)
+    }
+
+    /// The number of a name, which is given one unless it has one.
+    fn number_of(&mut self, name: &'a str) -> Result<u64, AllocError>
+        ensures names { AddsNames self.old self.new }
+        ensures known { HasNumber (names_of self.old.names) name.entry.now → self.new.names.entries ≡ self.old.names.entries }
+        ensures ok { IfOk result (λ n. Contains (names_of self.new.names) (name.entry.now, n)) }
+    {
+        if let Some(number) = self.names.get(name).copied() {
+            return Ok(number);
+        }
+        self.give_number(name)
+    }
+
+    /// Adds a parameter, whose name is given a number unless it has one.
+    fn push_named(&mut self, list: &mut Vec<u64>, param: &'a Param) -> Result<(), AllocError>
+        ensures names { AddsNames self.old self.new }
+        ensures known { HasNumber (names_of self.old.names) (text_of param.entry.now.name) → self.new.names.entries ≡ self.old.names.entries }
+        ensures ok { OnOk result (AddsParam (names_of self.new.names) list.old.items list.new.items param.entry.now) }
+    {
+        let number = self.number_of(param.name.as_str())?;
+        push_param(list, number, &param.ty)?;
+        Ok(())
+    }
+
+    /// The list of a key, whose names are given numbers: whether it is asynchronous, how many parameters it has, each by the numbers of its name
+    /// and its type, and the result. Names that have numbers keep them.
     pub(crate) fn list_of_key(
-        &self,
+        &mut self,
         alloc: Global,
-        key: &FunctionKey,
-    ) -> Result<KeyList, AllocError>
-        ensures { IfOk result (IsListOf (names_of self.now.names) key.now) }
+        key: &FunctionKey<'a>,
+    ) -> Result<ListKey, AllocError>
+        ensures names { AddsNames self.old self.new }
+        ensures known { KeepsKnownNames key.now self.old self.new }
+        ensures list { IfOk result (λ v. IsKeyList (names_of self.new.names) key.now v.0.items) }
     {
-        key_list(alloc, &self.names, key)
-    }
-
-    /// The index under which the list of a key is known. New names and types have greater numbers: the last list is looked at first.
-    fn index_of_list(&self, list: &[u64]) -> Option<u32>
-        ensures some { IfSome result (λ i. Contains (lists_of self.now.func_type_map) (list.now, i)) }
-        ensures none { IfNone result (LacksList (lists_of self.now.func_type_map) list.now) }
-    {
-        let (last, index) = self.func_type_map.last_key_value()?;
-        match list_order(list, last.as_slice()) {
-            Ordering::Less => self.func_type_map.get(list).copied(),
-            Ordering::Equal => Some(*index),
-            Ordering::Greater => None,
+        let params = key.params.0;
+        let mut list = key_start(alloc, key)?;
+        for i in 0..params.len() {
+            self.push_named(&mut list, &params[i])?;
         }
-    }
-
-    /// The index under which an equal key is known, by the list of the key.
-    pub(crate) fn index_of_key(&self, key: &FunctionKey, list: &KeyList) -> Option<u32>
-        requires { IsListOf (names_of self.now.names) key.now list.now }
-        ensures some { IfSome result (HasKey self.now key.now) }
-        ensures none { IfNone result (IsOnce self.now → LacksKey self.now key.now) }
-    {
-        match list {
-            KeyList::Whole(list) => self.index_of_list(list.as_slice()),
-            KeyList::Start(_, _) => None,
-        }
+        push_optional(&mut list, key.result)?;
+        Ok(Reverse(list))
     }
 
     pub(crate) fn remember_id(&mut self, id: TypeId, index: u32) -> Result<(), Error>
@@ -124,9 +151,9 @@ impl<'a> TypeEncodingMaps<'a> {
         Ok(())
     }
 
-    pub(crate) fn remember_kind(&mut self, list: Vec<u64>, index: u32) -> Result<(), Error>
-        requires { LacksList (lists_of self.old.def_to_index) list.items }
-        ensures ok { OnOk result (LearnsList self.old self.new list.items index) }
+    pub(crate) fn remember_kind(&mut self, list: ListKey, index: u32) -> Result<(), Error>
+        requires { LacksList (lists_of self.old.def_to_index) list.0.items }
+        ensures ok { OnOk result (LearnsList self.old self.new list.0.items index) }
         ensures err { OnErr result (SameMaps self.old self.new) }
         ensures size { result ≡ Err Size → ⊥ }
         ensures refuses { IfErr result IsMemoryOrSize }
@@ -135,110 +162,14 @@ impl<'a> TypeEncodingMaps<'a> {
         Ok(())
     }
 
-    /// Gives a name without a number one, and answers it.
-    fn give_number(&mut self, name: &'a str) -> Result<u64, Error>
-        requires { LacksText (names_of self.old.names) name.now }
-        ensures names { AddsNames self.old self.new }
-        ensures ok { IfOk result (λ n. Contains (names_of self.new.names) (name.entry.now, n)) }
+    /// Remembers a key by its list.
+    pub(crate) fn remember_key(&mut self, list: ListKey, index: u32) -> Result<(), Error>
+        requires { LacksList (lists_of self.old.func_type_map) list.0.items }
+        ensures ok { OnOk result (LearnsKeyList self.old self.new list.0.items index) }
+        ensures err { OnErr result (SameMaps self.old self.new) }
         ensures size { result ≡ Err Size → ⊥ }
         ensures refuses { IfErr result IsMemoryOrSize }
     {
-        let number = self.names.len() as u64;
-        self.names.insert(name, number)?;
-        Ok(number)
-    }
-
-    /// The number of a name, which is given one unless it has one.
-    fn number_of(&mut self, name: &'a str) -> Result<u64, Error>
-        ensures names { AddsNames self.old self.new }
-        ensures ok { IfOk result (λ n. Contains (names_of self.new.names) (name.entry.now, n)) }
-        ensures size { result ≡ Err Size → ⊥ }
-        ensures refuses { IfErr result IsMemoryOrSize }
-    {
-        if let Some(number) = self.names.get(name).copied() {
-            return Ok(number);
-        }
-        self.give_number(name)
-    }
-
-    /// Adds the parameter whose name has no number yet to the start of the list of its key.
-    fn push_first(&mut self, list: &mut Vec<u64>, param: &'a Param) -> Result<(), Error>
-        requires { LacksText (names_of self.old.names) (text_of param.now.name) }
-        ensures names { AddsNames self.old self.new }
-        ensures ok { OnOk result (AddsParam (names_of self.new.names) list.old.items list.new.items param.entry.now) }
-        ensures size { result ≡ Err Size → ⊥ }
-        ensures refuses { IfErr result IsMemoryOrSize }
-    {
-        let number = self.give_number(param.name.as_str())?;
-        push_param(list, number, &param.ty)?;
-        Ok(())
-    }
-
-    /// Adds another parameter, whose name is given a number unless it has one.
-    fn push_next(&mut self, list: &mut Vec<u64>, param: &'a Param) -> Result<(), Error>
-        ensures names { AddsNames self.old self.new }
-        ensures ok { OnOk result (AddsParam (names_of self.new.names) list.old.items list.new.items param.entry.now) }
-        ensures size { result ≡ Err Size → ⊥ }
-        ensures refuses { IfErr result IsMemoryOrSize }
-    {
-        let number = self.number_of(param.name.as_str())?;
-        push_param(list, number, &param.ty)?;
-        Ok(())
-    }
-
-    /// The list of a key whose start ends before parameter `from`.
-    fn rest_of_list(
-        &mut self,
-        key: &FunctionKey<'a>,
-        list: Vec<u64>,
-        from: usize,
-    ) -> Result<Vec<u64>, Error>
-        requires { IsKeyStart (names_of self.old.names) key.now from list.items }
-        ensures names { AddsNames self.old self.new }
-        ensures ok { IfOk result (λ v. IsKeyList (names_of self.new.names) key.now v.items) }
-        ensures size { result ≡ Err Size → ⊥ }
-        ensures refuses { IfErr result IsMemoryOrSize }
-    {
-        let mut list = list;
-        let params = key.params.0;
-        self.push_first(&mut list, &params[from])?;
-        for i in from + 1..params.len() {
-            self.push_next(&mut list, &params[i])?;
-        }
-        push_optional(&mut list, key.result)?;
-        Ok(list)
-    }
-
-    /// All of the list of a key, whose names are given numbers.
-    fn whole_list(&mut self, key: &FunctionKey<'a>, list: KeyList) -> Result<Vec<u64>, Error>
-        requires { IsListOf (names_of self.old.names) key.now list }
-        ensures names { AddsNames self.old self.new }
-        ensures ok { IfOk result (λ v. IsKeyList (names_of self.new.names) key.now v.items) }
-        ensures size { result ≡ Err Size → ⊥ }
-        ensures refuses { IfErr result IsMemoryOrSize }
-    {
-        match list {
-            KeyList::Whole(list) => Ok(list),
-            KeyList::Start(list, from) => self.rest_of_list(key, list, from),
-        }
-    }
-
-    /// Remembers a key by its list, as far as there is one.
-    pub(crate) fn remember_key(
-        &mut self,
-        key: FunctionKey<'a>,
-        list: KeyList,
-        index: u32,
-    ) -> Result<(), Error>
-        requires list { IsListOf (names_of self.old.names) key list }
-        requires lacks { LacksKey self.old key }
-        requires once { IsOnce self.old }
-        ensures ok { OnOk result (LearnsKey self.old self.new key.entry index) }
-        ensures err { OnErr result (AddsNames self.old self.new) }
-        ensures size { result ≡ Err Size → ⊥ }
-        ensures refuses { IfErr result IsMemoryOrSize }
-    {
-        let list = self.whole_list(&key, list)?;
         self.func_type_map.insert(list, index)?;
         Ok(())
     }

@@ -1,5 +1,5 @@
 -- Which value types a scope defines, from what has been defined call by call.
-use Rattle.std.proofs.Common.{◌≡◌, refl, sym, ap, subst, ◌∙◌, ℕ, suc, Bool, true, false, List, [], ◌∷◌, ◌++◌, map, Option, Some, None, arith, count_by, Vec}
+use Rattle.std.proofs.Common.{◌≡◌, refl, sym, ap, subst, ◌∙◌, ℕ, suc, Bool, true, false, List, [], ◌∷◌, ◌++◌, map, Option, Some, None, arith, count_by}
 use Rattle.std.specs.Prelude.{nat_eq, not, cond, filter, IsPermutation, String, ◌||◌}
 use Rattle.std.specs.declared.alloc.Global.{Global}
 use Rattle.std.specs.List.{Contains, AllZip}
@@ -24,7 +24,7 @@ use Rattle.wit_model.specs.declared.model.«Type».{«Type» as ValueType}
 use Rattle.wit_model.specs.declared.model.Function.{Function}
 use Rattle.comp_bytes.specs.Raw.{Declarations}
 use Rattle.encode_types.specs.declared.maps.TypeEncodingMaps.{TypeEncodingMaps}
-use Rattle.encode_types.specs.Codes.{kind_code, lists_of}
+use Rattle.encode_types.specs.Codes.{kind_code, lists_of, ListKey}
 use Rattle.encode_types.specs.Kinds.{kind_tree}
 use Rattle.encode_types.specs.Slots.{Pairs, Standing, tree}
 use Rattle.encode_types.specs.Maps.{MapsAgree, by_kind, by_number}
@@ -97,21 +97,21 @@ behind [] = []
 behind (y ∷ ys) = ys
 
 -- the slot of each kind that is known
-kinds-stand : (r : Resolve) (m : TypeEncodingMaps) (S : Pairs) → MapsAgree r m S → (es : List (Vec ℕ Global × ℕ)) (ks : List TypeDefKind) → map (λ e. e.0) (map {B = List ℕ × ℕ} (λ e. (e.0.items, e.1)) es) ≡ map kind_code ks
-    → ((x : List ℕ × ℕ) → Contains (map {B = List ℕ × ℕ} (λ e. (e.0.items, e.1)) es) x → Contains (lists_of m.def_to_index) x) → ((k : TypeDefKind) → Contains ks k → is_named_kind k ≡ false)
+kinds-stand : (r : Resolve) (m : TypeEncodingMaps) (S : Pairs) → MapsAgree r m S → (es : List (ListKey × ℕ)) (ks : List TypeDefKind) → map (λ e. e.0) (map {B = List ℕ × ℕ} (λ e. (e.0.0.items, e.1)) es) ≡ map kind_code ks
+    → ((x : List ℕ × ℕ) → Contains (map {B = List ℕ × ℕ} (λ e. (e.0.0.items, e.1)) es) x → Contains (lists_of m.def_to_index) x) → ((k : TypeDefKind) → Contains ks k → is_named_kind k ≡ false)
     → AllZip (λ k i. S i (tree (kind_tree r k))) ks (map (λ e. e.1) es)
 kinds-stand r m S agree [] [] e known unnamed = tt
 kinds-stand r m S agree [] (k ∷ ks) e known unnamed = absurd (let z : ⊥ = cc in z)
 kinds-stand r m S agree (x ∷ es) [] e known unnamed = absurd (let z : ⊥ = cc in z)
 kinds-stand r m S agree (x ∷ es) (k ∷ ks) e known unnamed = (
-  agree.says (by_kind k) x.1 (unnamed k (0, omega arith, refl), subst (λ (l : List ℕ). Contains (lists_of m.def_to_index) (l, x.1)) (head e) (known (x.0.items, x.1) (0, omega arith, refl))),
+  agree.says (by_kind k) x.1 (unnamed k (0, omega arith, refl), subst (λ (l : List ℕ). Contains (lists_of m.def_to_index) (l, x.1)) (head e) (known (x.0.0.items, x.1) (0, omega arith, refl))),
   kinds-stand r m S agree es ks (tail e) (λ y c. known y (suc c.0, (let l = c.1 in omega arith), c.2)) (λ y c. unnamed y (suc c.0, (let l = c.1 in omega arith), c.2)),
 )
   where
-    head : x.0.items ∷ map (λ e. e.0) (map {B = List ℕ × ℕ} (λ e. (e.0.items, e.1)) es) ≡ kind_code k ∷ map kind_code ks → x.0.items ≡ kind_code k
+    head : x.0.0.items ∷ map (λ e. e.0) (map {B = List ℕ × ℕ} (λ e. (e.0.0.items, e.1)) es) ≡ kind_code k ∷ map kind_code ks → x.0.0.items ≡ kind_code k
     head h = ap first h
 
-    tail : x.0.items ∷ map (λ e. e.0) (map {B = List ℕ × ℕ} (λ e. (e.0.items, e.1)) es) ≡ kind_code k ∷ map kind_code ks → map (λ e. e.0) (map {B = List ℕ × ℕ} (λ e. (e.0.items, e.1)) es) ≡ map kind_code ks
+    tail : x.0.0.items ∷ map (λ e. e.0) (map {B = List ℕ × ℕ} (λ e. (e.0.0.items, e.1)) es) ≡ kind_code k ∷ map kind_code ks → map (λ e. e.0) (map {B = List ℕ × ℕ} (λ e. (e.0.0.items, e.1)) es) ≡ map kind_code ks
     tail h = ap behind h
 
 -- ---- the whole
@@ -155,5 +155,5 @@ module _ (r : Resolve) (v : IsValid r) (own : Option InterfaceId) (scope : Scope
     named = ap (filter (is_member nat_eq (value_slots declared))) targets ∙ passes-marked (is_member nat_eq (value_slots declared)) a.targets is-value no-value ∙ a.own;
     count = (let x = a.names in let none : names_defined r scope m ≡ 0 = ap (count_by (λ (e : ℕ × ℕ). is_defined_by_name r scope e.0)) no_numbers in omega arith);
     all = subst (λ xs. IsPermutation xs (kind_slots m' ++ named_slots a.added)) (sym values) (IsPermutation-trans (slots_of a.added) (other_slots a.added ++ named_slots a.added) (kind_slots m' ++ named_slots a.added) (split-marked a.added)
-        (IsPermutation-append_left (named_slots a.added) (other_slots a.added) (kind_slots m') (subst (λ xs. IsPermutation (xs ++ other_slots a.added) (kind_slots m')) (ap (map (λ (e : Vec ℕ Global × ℕ). e.1)) no_kinds) a.kinds)));
+        (IsPermutation-append_left (named_slots a.added) (other_slots a.added) (kind_slots m') (subst (λ xs. IsPermutation (xs ++ other_slots a.added) (kind_slots m')) (ap (map (λ (e : ListKey × ℕ). e.1)) no_kinds) a.kinds)));
   }

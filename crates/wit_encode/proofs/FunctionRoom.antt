@@ -1,6 +1,5 @@
 -- Which functions of an interface have no room, call after call.
-use Rattle.std.proofs.Common.{◌≡◌, refl, sym, subst, ap, ◌∙◌, ℕ, ◌+◌, ◌≤◌, ◌⊎◌, inl, inr, Bool, true, false, cond, ◌||◌, List, [], ◌∷◌, ◌++◌, map, length, length-append, Option, arith, Vec}
-use Rattle.std.specs.declared.alloc.Global.{Global}
+use Rattle.std.proofs.Common.{◌≡◌, refl, sym, subst, ap, ◌∙◌, ℕ, ◌+◌, ◌≤◌, ◌⊎◌, inl, inr, Bool, true, false, cond, ◌||◌, List, [], ◌∷◌, ◌++◌, map, length, length-append, Option, arith}
 use Rattle.std.specs.Cmp.{IsEquivalence}
 use Rattle.std.specs.List.{Contains, IsDistinct, list_any}
 use Rattle.std.specs.Set.{is_member, unique_keys, distinct_count}
@@ -26,6 +25,7 @@ use Rattle.encode_types.proofs.Rooms.{lacks-request, room-more, room-after}
 use Rattle.wit_encode.specs.FunctionRoom.{LacksFunctions}
 use Rattle.wit_encode.proofs.HeldKeys.{same_equiv, keyed}
 use Rattle.base_lemmas.proofs.Elements.{any-at, any-contains as any-found, contains-map, last_of as one-contained, map_from as from-map}
+use Rattle.encode_types.specs.Codes.{ListKey}
 
 -- ---- how many keys
 
@@ -50,7 +50,7 @@ keys-few keys xs d h = length-le_from_is_member same_equiv keys (unique_keys are
 
 -- a key for each entry
 entry-keys : (m : TypeEncodingMaps) (once : IsOnce m) → length (keyed m once).keys ≡ length m.func_type_map.entries
-entry-keys m once = (keyed m once).count ∙ length-map m.func_type_map.entries (λ (e : Vec ℕ Global × ℕ). (e.0.items, e.1))
+entry-keys m once = (keyed m once).count ∙ length-map m.func_type_map.entries (λ (e : ListKey × ℕ). (e.0.0.items, e.1))
 
 -- ---- one function
 

@@ -1,8 +1,7 @@
 -- The keys of functions whose lists maps hold.
-use Rattle.std.proofs.Common.{◌≡◌, refl, sym, subst, ap, ◌∙◌, ℕ, zero, suc, ◌<◌, Bool, true, false, ◌&&◌, List, [], ◌∷◌, ◌++◌, map, length, get_or, arith, Vec}
+use Rattle.std.proofs.Common.{◌≡◌, refl, sym, subst, ap, ◌∙◌, ℕ, zero, suc, ◌<◌, Bool, true, false, ◌&&◌, List, [], ◌∷◌, ◌++◌, map, length, get_or, arith}
 use Rattle.std.specs.Prelude.{AllPairs, IsPermutation}
 use Rattle.std.specs.Borrow.{Bor}
-use Rattle.std.specs.declared.alloc.Global.{Global}
 use Rattle.std.specs.List.{Contains, IsDistinct, AllZip}
 use Rattle.std.proofs.lemmas.List.Sorted.{length_permutation}
 use Rattle.std.specs.Option.{option_eq}
@@ -18,7 +17,7 @@ use Rattle.encode_types.specs.declared.key.FunctionKey.{FunctionKey}
 use Rattle.encode_types.specs.declared.maps.TypeEncodingMaps.{TypeEncodingMaps}
 use Rattle.encode_types.specs.Key.{same_type, same_param}
 use Rattle.encode_types.specs.KeyLaws.{type_equiv, param_equiv, text_same}
-use Rattle.encode_types.specs.Codes.{type_code, optional_code, Names, IsTable, AreListed, IsListed, names_of, lists_of}
+use Rattle.encode_types.specs.Codes.{type_code, optional_code, Names, IsTable, AreListed, IsListed, names_of, lists_of, ListKey}
 use Rattle.encode_types.specs.Maps.{IsSomeKeyList, IsOnce, NamesGrow, MapsAgree, by_key}
 use Rattle.encode_types.specs.Counts.{key_slots}
 use Rattle.encode_types.specs.Slots.{Pairs, function}
@@ -94,12 +93,12 @@ knows-along m m' e n k (xs, i, l, c) = (
   xs,
   i,
   subst (λ (ns : List (Bor Text × ℕ)). HasList (map {B = Text × ℕ} (λ e. (e.0.now, e.1)) ns) k xs) (sym n) l,
-  subst (λ (es : List (Vec ℕ Global × ℕ)). Contains (map {B = List ℕ × ℕ} (λ e. (e.0.items, e.1)) es) (xs, i)) (sym e) c,
+  subst (λ (es : List (ListKey × ℕ)). Contains (map {B = List ℕ × ℕ} (λ e. (e.0.0.items, e.1)) es) (xs, i)) (sym e) c,
 )
 
 -- where there is no entry, no key is known
 pub knows-none : (m : TypeEncodingMaps) (k : Key) → m.func_type_map.entries ≡ [] → KnowsKey m k → ⊥
-knows-none m k e (xs, i, l, c) = none-in (xs, i) (subst (λ (es : List (Vec ℕ Global × ℕ)). Contains (map {B = List ℕ × ℕ} (λ e. (e.0.items, e.1)) es) (xs, i)) e c)
+knows-none m k e (xs, i, l, c) = none-in (xs, i) (subst (λ (es : List (ListKey × ℕ)). Contains (map {B = List ℕ × ℕ} (λ e. (e.0.0.items, e.1)) es) (xs, i)) e c)
 
 -- ---- one key for each entry
 
@@ -185,14 +184,14 @@ keyed m once =
 -- ---- the slots of keys
 
 -- the slot of each key that is known
-keys-stand : (r : Resolve) (m : TypeEncodingMaps) (S : Pairs) → MapsAgree r m S → (ks : List Key) (es : List (Vec ℕ Global × ℕ)) → AreKeysOf (names_of m.names) ks (map {B = List ℕ × ℕ} (λ e. (e.0.items, e.1)) es)
-    → ((x : List ℕ × ℕ) → Contains (map {B = List ℕ × ℕ} (λ e. (e.0.items, e.1)) es) x → Contains (lists_of m.func_type_map) x)
+keys-stand : (r : Resolve) (m : TypeEncodingMaps) (S : Pairs) → MapsAgree r m S → (ks : List Key) (es : List (ListKey × ℕ)) → AreKeysOf (names_of m.names) ks (map {B = List ℕ × ℕ} (λ e. (e.0.0.items, e.1)) es)
+    → ((x : List ℕ × ℕ) → Contains (map {B = List ℕ × ℕ} (λ e. (e.0.0.items, e.1)) es) x → Contains (lists_of m.func_type_map) x)
     → AllZip (λ k i. S i (function (signature_of_key r k))) ks (map (λ e. e.1) es)
 keys-stand r m S agree [] [] h known = tt
 keys-stand r m S agree [] (x ∷ es) h known = absurd h
 keys-stand r m S agree (k ∷ ks) [] h known = absurd h
 keys-stand r m S agree (k ∷ ks) (x ∷ es) h known = (
-  agree.says (by_key (as_key k)) x.1 (x.0.items, h.0, known (x.0.items, x.1) (0, omega arith, refl)),
+  agree.says (by_key (as_key k)) x.1 (x.0.0.items, h.0, known (x.0.0.items, x.1) (0, omega arith, refl)),
   keys-stand r m S agree ks es h.1 (λ y c. known y (suc c.0, (let l = c.1 in omega (arith, l)), c.2)),
 )
 
@@ -202,7 +201,7 @@ pub stand-for-keys : (r : Resolve) (S : Pairs) (m m' : TypeEncodingMaps) (k : Ke
 stand-for-keys r S m m' k declared agree none added is p = record {
   slots = key_slots m';
   stand = keys-stand r m' S agree k.keys m'.func_type_map.entries k.lists (λ x c. c);
-  all = subst (λ xs. IsPermutation xs (key_slots m')) (sym is) (subst (λ (es : List (Vec ℕ Global × ℕ)). IsPermutation (map (λ e. e.1) es ++ added) (key_slots m')) none p);
+  all = subst (λ xs. IsPermutation xs (key_slots m')) (sym is) (subst (λ (es : List (ListKey × ℕ)). IsPermutation (map (λ e. e.1) es ++ added) (key_slots m')) none p);
 }
 
 -- there are as many of them as keys

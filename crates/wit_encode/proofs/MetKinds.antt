@@ -1,7 +1,6 @@
 -- Maps that began empty hold the kinds of the unnamed types that are met, each once.
-use Rattle.std.proofs.Common.{◌≡◌, refl, sym, subst, ap, ◌∙◌, ℕ, zero, suc, ◌<◌, ◌⊎◌, inl, inr, Bool, true, false, List, [], ◌∷◌, map, length, get_or, arith, Option, Vec}
+use Rattle.std.proofs.Common.{◌≡◌, refl, sym, subst, ap, ◌∙◌, ℕ, zero, suc, ◌<◌, ◌⊎◌, inl, inr, Bool, true, false, List, [], ◌∷◌, map, length, get_or, arith, Option}
 use Rattle.std.specs.Prelude.{AllPairs}
-use Rattle.std.specs.declared.alloc.Global.{Global}
 use Rattle.std.specs.List.{Contains}
 use Rattle.std.specs.Cmp.Lexicographic.{pointwise}
 use Rattle.wit_model.specs.Text.{text_of, text_eq}
@@ -14,7 +13,7 @@ use Rattle.wit_model.specs.declared.model.InterfaceId.{InterfaceId}
 use Rattle.wit_model.specs.declared.model.«Type».{«Type» as ValueType}
 use Rattle.encode_types.specs.declared.maps.TypeEncodingMaps.{TypeEncodingMaps}
 use Rattle.encode_types.specs.Key.{same_type, same_param}
-use Rattle.encode_types.specs.Codes.{kind_code, lists_of}
+use Rattle.encode_types.specs.Codes.{kind_code, lists_of, ListKey}
 use Rattle.encode_types.specs.Maps.{same_kind, IsKnown, IsReady, AllReady, IsOnce, LearnsOnly}
 use Rattle.encode_types.specs.Plan.{Reaches, itself, through}
 use Rattle.encode_types.specs.MetKinds.{ReachedFrom, IsMetKind, HasSame, AreMetKinds, IsKnownKind, IsHeld, Learns, MetKindsAreHeld}
@@ -124,7 +123,7 @@ module _ (r : Resolve) (v : IsValid r) (own : Option InterfaceId) (ts : List Val
 
       kind-of : (xs : List ℕ) (i : ℕ) → Contains held (xs, i) → (k : TypeDefKind) × IsKindOf r m' xs k
       kind-of xs i c = elim (learns.kinds xs i c) [
-        | inl h ↦ none-in (xs, i) (subst (λ (es : List (Vec ℕ Global × ℕ)). Contains (map {B = List ℕ × ℕ} (λ e. (e.0.items, e.1)) es) (xs, i)) no_kinds h)
+        | inl h ↦ none-in (xs, i) (subst (λ (es : List (ListKey × ℕ)). Contains (map {B = List ℕ × ℕ} (λ e. (e.0.0.items, e.1)) es) (xs, i)) no_kinds h)
         | inr k ↦ (k.kind, record { is = k.is; unnamed = unnamed k.kind k.known; known = k.known })
       ]
         where

@@ -19,7 +19,8 @@ use Rattle.wit_model.specs.Lookup.{resource_of}
 use Rattle.wit_model.specs.declared.model.TypeId.{TypeId}
 use Rattle.wit_model.specs.declared.model.Function.{Function}
 use Rattle.wit_encode.specs.Instance.{placed_function}
-use Rattle.wit_encode.specs.Order.{is_function_of, by_resource, place_among, ArePlaces}
+use Rattle.wit_encode.specs.Order.{any_of_resource, is_function_of, by_resource, place_among, ArePlaces}
+use Rattle.base_lemmas.proofs.Bools.{first_false, second_false}
 use Rattle.base_lemmas.proofs.Lists.{filter_all as filter-all}
 use Rattle.std.proofs.lemmas.List.{nil_from_length as no-more}
 
@@ -148,6 +149,27 @@ in-order (t ∷ ts) xs ys up same =
     in-order ts (filter (λ f. not (p f)) xs) (filter (λ f. not (p f)) ys) (rises-later key key' p (place-first t ts) (place-later t ts) ys up)
     (λ k. class-later key key' p (place-first t ts) (place-later t ts) k ys ∙ same (1 + k) ∙ sym (class-later key key' p (place-first t ts) (place-later t ts) k xs)) in
     split key key' p (place-first t ts) (place-later t ts) ys up ∙ (λ i. a i ++ b i)
+
+-- where no function is of a resource, the order is that of the list
+pub in-list-order : (ts : List TypeId) (fs : List (Text × Function)) → any_of_resource fs ≡ false → by_resource ts fs ≡ fs
+in-list-order [] fs h = refl
+in-list-order (t ∷ ts) fs h =
+    ap (λ xs. xs ++ by_resource ts (filter (λ f. not (is_function_of t f)) fs)) (none fs h) ∙ ap (by_resource ts) (others fs h) ∙ in-list-order ts fs h
+  where
+    without : (f : Text × Function) (o : Option ℕ) → resource_of f.1.kind ≡ o → is_some o ≡ false → is_function_of t f ≡ false
+    without f None e h = ap (λ o. option_map_or (λ n. nat_eq n t.0) o false) e
+    without f (Some n) e h = absurd (true≢false h)
+
+    head-without : (f : Text × Function) (fs : List (Text × Function)) → any_of_resource (f ∷ fs) ≡ false → is_function_of t f ≡ false
+    head-without f fs h = without f (resource_of f.1.kind) refl (first_false (is_some (resource_of f.1.kind)) (any_of_resource fs) h)
+
+    none : (fs : List (Text × Function)) → any_of_resource fs ≡ false → filter (is_function_of t) fs ≡ []
+    none [] h = refl
+    none (f ∷ fs) h = dropped (is_function_of t) f fs (head-without f fs h) ∙ none fs (second_false (is_some (resource_of f.1.kind)) (any_of_resource fs) h)
+
+    others : (fs : List (Text × Function)) → any_of_resource fs ≡ false → filter (λ f. not (is_function_of t f)) fs ≡ fs
+    others [] h = refl
+    others (f ∷ fs) h = kept (λ f. not (is_function_of t f)) f fs (opposite (is_function_of t f) (head-without f fs h)) ∙ ap (λ xs. f ∷ xs) (others fs (second_false (is_some (resource_of f.1.kind)) (any_of_resource fs) h))
 
 -- ---- functions with their places
 

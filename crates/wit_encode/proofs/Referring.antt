@@ -2,8 +2,7 @@
 use Rattle.encode_types.specs.Aliases.{AliasesMet}
 use Rattle.encode_types.specs.Known.{Around}
 use Rattle.encode_types.proofs.Aliasing.{met-more}
-use Rattle.std.proofs.Common.{◌≡◌, refl, sym, subst, ap, ◌∙◌, ℕ, suc, ◌+◌, ◌<◌, ◌≤◌, true, ◌&&◌, inl, inr, List, [], ◌∷◌, ◌++◌, map, take, length, get_or, Option, option_to_list, Result, Ok, Err, OnOk, arith, Vec}
-use Rattle.std.specs.declared.alloc.Global.{Global}
+use Rattle.std.proofs.Common.{◌≡◌, refl, sym, subst, ap, ◌∙◌, ℕ, suc, ◌+◌, ◌<◌, ◌≤◌, true, ◌&&◌, inl, inr, List, [], ◌∷◌, ◌++◌, map, take, length, get_or, Option, option_to_list, Result, Ok, Err, OnOk, arith}
 use Rattle.std.specs.Prelude.{IsPermutation, flat_map}
 use Rattle.std.specs.List.{Contains}
 use Rattle.std.specs.Option.{option_eq}
@@ -33,7 +32,7 @@ use Rattle.encode_types.specs.Counts.{Definitions}
 use Rattle.encode_types.specs.Key.{same_type, same_param}
 use Rattle.encode_types.specs.Maps.{IsKnown, AllReady, IsOnce}
 use Rattle.wit_encode.specs.Exports.{AllKnown}
-use Rattle.encode_types.specs.Codes.{names_of}
+use Rattle.encode_types.specs.Codes.{names_of, ListKey}
 use Rattle.encode_types.specs.Distinct.{key_of, key_view, are_same, AddsFunctions, DefinesTypes}
 use Rattle.encode_types.specs.MetKinds.{referred, IsMetKind, AreMetKinds, LearnsMet, LearnsFrom, key_types}
 use Rattle.encode_types.proofs.Lists.{none-in}
@@ -136,7 +135,7 @@ module _ (r : Resolve) (scope : Scope) (own : Option InterfaceId) (m m' : TypeEn
       let here : is_member are_same (map key_of fs) (key_of f) ≡ true = any-at (are_same (key_of f)) (map key_of fs) (key_of f) (contains-map key_of fs f c) (same_equiv.refl (key_of f)) in
       let held = a.learnt (key_of f) here in
       elim (l.learns.keys held.0 held.1 held.3) [
-        | inl h ↦ none-in (held.0, held.1) (subst (λ (es : List (Vec ℕ Global × ℕ)). Contains (map {B = List ℕ × ℕ} (λ e. (e.0.items, e.1)) es) (held.0, held.1)) b.keys h)
+        | inl h ↦ none-in (held.0, held.1) (subst (λ (es : List (ListKey × ℕ)). Contains (map {B = List ℕ × ℕ} (λ e. (e.0.0.items, e.1)) es) (held.0, held.1)) b.keys h)
         | inr h ↦ subst (AllReady m') (sym (same-types f h.key (alike (names_of m'.names) (key_of f) (key_view h.key) held.0 once.names_.table held.2 h.is))) h.ready
       ]
 

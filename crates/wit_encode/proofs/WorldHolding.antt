@@ -1,8 +1,7 @@
 -- How much an encoder of a world holds after each item, and why a call has no room.
-use Rattle.std.proofs.Common.{◌≡◌, refl, sym, subst, ap, ◌∙◌, ℕ, zero, suc, ◌+◌, ◌*◌, ◌≤◌, inl, inr, Bool, true, false, ◌&&◌, List, [], ◌∷◌, ◌++◌, map, length, length-append, append_assoc, append-nil, Option, Some, None, is_some, arith, Vec}
+use Rattle.std.proofs.Common.{◌≡◌, refl, sym, subst, ap, ◌∙◌, ℕ, zero, suc, ◌+◌, ◌*◌, ◌≤◌, inl, inr, Bool, true, false, ◌&&◌, List, [], ◌∷◌, ◌++◌, map, length, length-append, append_assoc, append-nil, Option, Some, None, is_some, arith}
 use Rattle.std.specs.Prelude.{nat_eq, AllPairs}
 use Rattle.std.specs.List.{Contains}
-use Rattle.std.specs.declared.alloc.Global.{Global}
 use Rattle.std.specs.Option.{option_map_or}
 use Rattle.std.proofs.lemmas.Bool.{eqb-true}
 use Rattle.std.proofs.lemmas.List.{length-map}
@@ -57,6 +56,7 @@ use Rattle.wit_encode.proofs.Refusing.{counts-refused, outer-pushed, outer-slots
 use Rattle.wit_encode.proofs.WorldCounting.{referred-front, referred-behind, function-referred, type-referred}
 use Rattle.base_lemmas.proofs.Bools.{left_of as first_true, right_of as second_true}
 use Rattle.base_lemmas.proofs.Elements.{last_of as one-contained, map_from as from-map}
+use Rattle.encode_types.specs.Codes.{ListKey}
 
 -- ---- how many entries
 
@@ -182,7 +182,7 @@ held-after r p p' e e' es n q q' h keys f =
 pub one-key : {r : Resolve} {scope : Scope} {m m' : TypeEncodingMaps} {d d' : Definitions} {key : FunctionKey} {i : ℕ} → AddsFunction r scope m m' d d' key i → length m'.func_type_map.entries ≤ length m.func_type_map.entries + 1
 one-key {r} {scope} {m} {m'} a = elim a.keys [
   | inl same ↦ (let l : length m'.func_type_map.entries ≡ length m.func_type_map.entries = ap length same.1.lists in omega (arith, l))
-  | inr more ↦ (let l = lists-longer (λ (v : Vec ℕ Global). v.items) m.func_type_map.entries m'.func_type_map.entries (more.1.list, _) more.1.more in omega (arith, l))
+  | inr more ↦ (let l = lists-longer (λ (v : ListKey). v.0.items) m.func_type_map.entries m'.func_type_map.entries (more.1.list, _) more.1.more in omega (arith, l))
 ]
 
 -- a function: its type, and then its import or export

@@ -1,7 +1,7 @@
 -- The order of the functions of an interface.
 use Rattle.std.specs.Prelude.{ℕ, ◌≡◌, Bool, false, not, nat_eq, List, [], ◌∷◌, ◌++◌, filter, map}
-use Rattle.std.specs.Option.{option_map_or}
-use Rattle.std.specs.List.{position, position_or_len}
+use Rattle.std.specs.Option.{option_map_or, is_some}
+use Rattle.std.specs.List.{list_any, position, position_or_len}
 use Rattle.std.specs.BTreeMap.{BTreeMap, get}
 use Rattle.std.specs.Ordering.{nat_cmp}
 use Rattle.indexmap.specs.IndexMap.{values}
@@ -19,6 +19,10 @@ is_kind_of kind t = option_map_or (λ n. nat_eq n t.0) (resource_of kind) false
 -- whether a function is a constructor, a method or a static function of this resource
 abbrev pub is_function_of : TypeId → Text × Function → Bool
 is_function_of t f = is_kind_of f.1.kind t
+
+-- whether one of these functions is a constructor, a method or a static function of a resource
+abbrev pub any_of_resource : List (Text × Function) → Bool
+any_of_resource fs = list_any (λ f. is_some (resource_of f.1.kind)) fs
 
 -- functions of the first type's resource, then those of the next one's, and at the end the others, each in the order that they have
 abbrev pub by_resource : List TypeId → List (Text × Function) → List (Text × Function)

@@ -3,7 +3,7 @@
 ghost use Rattle.std.specs.Prelude.{◌≡◌, IfOk, map, IsPermutation, All};
 ghost use Rattle.indexmap.specs.IndexMap.{values};
 ghost use Rattle.wit_encode.specs.Instance.{keyed, placed_function};
-ghost use Rattle.wit_encode.specs.Order.{functions_in_order as in_order, place_among, ArePlaces};
+ghost use Rattle.wit_encode.specs.Order.{any_of_resource, functions_in_order as in_order, place_among, ArePlaces};
 
 use std::alloc::{AllocError, Global};
 use std::collections::BTreeMap;
@@ -54,10 +54,23 @@ fn placed<'a>(
     Ok(all)
 }
 
+/// Whether a function of an interface is of a resource.
+fn has_resource(interface: &Interface) -> bool
+    ensures { result ≡ any_of_resource (map keyed interface.now.functions.entries) }
+{
+    for (_name, func) in interface.functions.iter() {
+        if func.kind.resource().is_some() {
+            return true;
+        }
+    }
+    false
+}
+
 /// The functions of an interface: those of resources by the order of their resource, then the others, and each of these in the order
 /// of the map.
 ///
-/// Takes as long as sorting the functions, and one search among the types for each of them.
+/// Takes as long as sorting the functions, and one search among the types for each of them. Where none is of a resource, it takes one step for
+/// each function.
 pub(crate) fn functions_in_order<'a>(
     alloc: Global,
     interface: &'a Interface,
@@ -65,6 +78,9 @@ pub(crate) fn functions_in_order<'a>(
     ensures all { IfOk result (λ v. IsPermutation (map keyed interface.now.functions.entries) (map placed_function v.items)) }
     ensures order { IfOk result (λ v. map placed_function v.items ≡ in_order interface.now) }
 {
+    if !has_resource(interface) {
+        return placed(alloc, interface, &[], &BTreeMap::new(alloc));
+    }
     let types = types_in_order(alloc, interface)?;
     let places = places_of(alloc, &types)?;
     let mut all = placed(alloc, interface, &types, &places)?;

@@ -1,4 +1,4 @@
-use Rattle.std.proofs.Common.{refl, ◌∙◌, subst, ℕ, List, inl, inr, arith}
+use Rattle.std.proofs.Common.{refl, subst, ℕ, List, inl, inr, arith}
 use Rattle.std.specs.List.{Contains}
 use Rattle.encode_types.specs.Codes.{lists_of}
 use Rattle.encode_types.specs.Maps.{HasKind, LacksKind, LacksList}
@@ -11,13 +11,13 @@ use Rattle.encode_types.proofs.Writing.{written-none}
 use Rattle.base_lemmas.proofs.Options.{at_ok}
 
 had : (g : Over) (c : In-Some g) → HasKind (g.E.ValtypeEncoder.view c.args.enc.now).maps c.args.kind.now c.in-Some.index
-had g c = (c.requires.unnamed, subst (λ (xs : List ℕ). Contains (lists_of (g.E.ValtypeEncoder.view c.args.enc.now).maps.def_to_index) (xs, c.in-Some.index)) (c.as_slice.ensures.value ∙ c.in_ok-list.ensures) c.in-Some.ensures.some)
+had g c = (c.requires.unnamed, subst (λ (xs : List ℕ). Contains (lists_of (g.E.ValtypeEncoder.view c.args.enc.now).maps.def_to_index) (xs, c.in-Some.index)) c.in_ok-kind_list.ensures c.in-Some.ensures.some)
 
 pub returns-in-Some-clause-ok : goal.returns-in-Some-clause-ok
 returns-in-Some-clause-ok g c = rw c.index_of_kind.ensures.same (kind-stands c.args.resolve.now (g.E.ValtypeEncoder.view c.args.enc.now).maps (g.E.ValtypeEncoder.view c.args.enc.now).stands c.args.kind.now c.in-Some.index c.requires.agree (had g (goal.at.returns-in-Some-clause-ok g c).In-Some))
 
 lacks : (g : Over) (c : In_default g) → LacksKind (g.E.ValtypeEncoder.view c.args.enc.now).maps c.args.kind.now
-lacks g c = subst (LacksList (lists_of (g.E.ValtypeEncoder.view c.args.enc.now).maps.def_to_index)) (c.as_slice.ensures.value ∙ c.in_ok-list.ensures) (rw c.in_default.is at c.index_of_kind.ensures.none)
+lacks g c = subst (LacksList (lists_of (g.E.ValtypeEncoder.view c.args.enc.now).maps.def_to_index)) c.in_ok-kind_list.ensures (rw c.in_default.is at c.index_of_kind.ensures.none)
 
 pub define_new_kind-requires : goal.define_new_kind-requires
 define_new_kind-requires g c = λ _. (
@@ -25,7 +25,7 @@ define_new_kind-requires g c = λ _. (
   rw c.index_of_kind.ensures.same (
     c.requires.unnamed,
     (
-      c.in_ok-list.ensures,
+      c.in_ok-kind_list.ensures,
       (
         lacks g (goal.at.define_new_kind-requires g c).In_default,
         (c.requires.ready, (c.requires.formed, c.requires.agree)),

@@ -1,5 +1,4 @@
-use Rattle.std.proofs.Common.{◌≡◌, refl, ◌∙◌, sym, subst, ap, rules, arith, ℕ, length, Vec}
-use Rattle.std.specs.declared.alloc.Global.{Global}
+use Rattle.std.proofs.Common.{◌≡◌, refl, ◌∙◌, sym, subst, ap, rules, arith, length}
 use Rattle.wit_model.specs.Parts.{function_types}
 use Rattle.encode_types.specs.Scope.{Scope}
 use Rattle.encode_types.specs.Room.{function_type}
@@ -7,7 +6,7 @@ use Rattle.encode_types.proofs.Rooms.{room-more, room-after, only-reached, lacks
 use Rattle.wit_model.specs.Meaning.{Signature}
 use Rattle.wit_model.specs.Meant.{signature_of}
 use Rattle.encode_types.specs.declared.maps.TypeEncodingMaps.{TypeEncodingMaps}
-use Rattle.encode_types.specs.Maps.{LearnsKey, MapsGrow}
+use Rattle.encode_types.specs.Maps.{LacksList, LearnsKeyList, MapsGrow}
 use Rattle.encode_types.specs.Slots.{function}
 use Rattle.encode_types.proofs.Defining.{leaves-kept, leaves-trans, lists-longer}
 use Rattle.encode_types.proofs.Learning.{met-key}
@@ -21,6 +20,7 @@ use Rattle.encode_types.proofs.Writing.{writes-beside, writes-most}
 use Rattle.std.proofs.Common.{◌≤◌, ◌+◌}
 use Rattle.encode_types.specs.Extents.{signature_extent}
 use Rattle.encode_types.proofs.Aliasing.{makes-same}
+use Rattle.encode_types.specs.Codes.{names_of, lists_of, ListKey, IsKeyList}
 
 pub function_of-requires : goal.function_of-requires
 function_of-requires g c = λ _. ((refl, tt), (c.requires.encodable, (c.requires.is_key.async, c.requires.agree)))
@@ -31,17 +31,25 @@ define_function_type-requires g c = λ _. ((refl, tt), (_, c.in_ok-def.ensures.o
 stands : (g : Over) (c : In_ok-index g) → (g.E.ValtypeEncoder.view c.define_function_type.new.self).stands c.in_ok-index.index (function (signature_of c.args.resolve.now c.args.func.now))
 stands g c = c.in_ok-index.ensures.ok.adds.new (function (signature_of c.args.resolve.now c.args.func.now)) c.in_ok-def.ensures.ok
 
+-- the list of the key, by the names that are there after its types have been defined
+listed : (g : Over) (c : In_ok-index g) → IsKeyList (names_of (g.E.ValtypeEncoder.view c.function_of.new.enc).maps.names) c.args.key c.args.list.0.items
+listed g c = list-same (g.E.ValtypeEncoder.view c.args.enc.now).maps (g.E.ValtypeEncoder.view c.function_of.new.enc).maps c.args.key c.args.list.0.items c.in_ok-def.ensures.counts.keys c.requires.list
+
+new-list : (g : Over) (c : In_ok-index g) → LacksList (lists_of (g.E.ValtypeEncoder.view c.function_of.new.enc).maps.func_type_map) c.args.list.0.items
+new-list g c i h = lacks-same (g.E.ValtypeEncoder.view c.args.enc.now).maps (g.E.ValtypeEncoder.view c.function_of.new.enc).maps c.args.key c.in_ok-def.ensures.counts.keys c.requires.lacks i (c.args.list.0.items, listed g c, h)
+
 pub remember_key-requires : goal.remember_key-requires
 remember_key-requires g c = λ _. (
   (refl, tt),
   (
-    subst (λ (s : Signature). (g.E.ValtypeEncoder.view c.define_function_type.new.self).stands c.in_ok-index.index (function s)) (sym (key-signature c.args.resolve.now c.args.key c.args.func.now c.requires.is_key)) (stands g (goal.at.remember_key-requires g c).In_ok-index),
+    record {
+      key = c.args.key;
+      is = rw c.define_function_type.ensures.maps_stay (listed g (goal.at.remember_key-requires g c).In_ok-index);
+      stands = subst (λ (s : Signature). (g.E.ValtypeEncoder.view c.define_function_type.new.self).stands c.in_ok-index.index (function s)) (sym (key-signature c.args.resolve.now c.args.key c.args.func.now c.requires.is_key)) (stands g (goal.at.remember_key-requires g c).In_ok-index);
+    },
     (
-      rw c.define_function_type.ensures.maps_stay (list-same (g.E.ValtypeEncoder.view c.args.enc.now).maps (g.E.ValtypeEncoder.view c.function_of.new.enc).maps c.args.key c.args.list c.in_ok-def.ensures.counts.keys c.requires.list),
-      (
-        rw c.define_function_type.ensures.maps_stay (lacks-same (g.E.ValtypeEncoder.view c.args.enc.now).maps (g.E.ValtypeEncoder.view c.function_of.new.enc).maps c.args.key c.in_ok-def.ensures.counts.keys c.requires.lacks),
-        (leaves-kept {v = g.E.ValtypeEncoder.view c.function_of.new.enc} {v' = g.E.ValtypeEncoder.view c.define_function_type.new.self} c.function_of.ensures.leaves.agree c.define_function_type.ensures.grows c.define_function_type.ensures.scope_stays c.define_function_type.ensures.maps_stay).agree,
-      ),
+      rw c.define_function_type.ensures.maps_stay (new-list g (goal.at.remember_key-requires g c).In_ok-index),
+      (leaves-kept {v = g.E.ValtypeEncoder.view c.function_of.new.enc} {v' = g.E.ValtypeEncoder.view c.define_function_type.new.self} c.function_of.ensures.leaves.agree c.define_function_type.ensures.grows c.define_function_type.ensures.scope_stays c.define_function_type.ensures.maps_stay).agree,
     ),
   ),
 )
@@ -54,14 +62,14 @@ returns-clause-leaves g c = leaves-trans c.function_of.ensures.leaves (leaves-tr
 
 pub returns-clause-counts : goal.returns-clause-counts
 returns-clause-counts g c =
-    counts-key c.args.resolve.now (g.E.ValtypeEncoder.view c.args.enc.now).scope (g.E.ValtypeEncoder.view c.args.enc.now).maps (g.E.ValtypeEncoder.view c.function_of.new.enc).maps (g.E.ValtypeEncoder.view c.remember_key.new.enc).maps (g.E.ValtypeEncoder.view c.args.enc.now).definitions (g.E.ValtypeEncoder.view c.function_of.new.enc).definitions (g.E.ValtypeEncoder.view c.remember_key.new.enc).definitions c.args.key c.in_ok-index.index
-    c.requires.lacks c.in_ok-def.ensures.counts
-    (subst (λ (z : TypeEncodingMaps). LearnsKey z (g.E.ValtypeEncoder.view c.remember_key.new.enc).maps c.args.key c.in_ok-index.index) c.define_function_type.ensures.maps_stay c.in_ok-remember_key.ensures.ok)
+    counts-key c.args.resolve.now (g.E.ValtypeEncoder.view c.args.enc.now).scope (g.E.ValtypeEncoder.view c.args.enc.now).maps (g.E.ValtypeEncoder.view c.function_of.new.enc).maps (g.E.ValtypeEncoder.view c.remember_key.new.enc).maps (g.E.ValtypeEncoder.view c.args.enc.now).definitions (g.E.ValtypeEncoder.view c.function_of.new.enc).definitions (g.E.ValtypeEncoder.view c.remember_key.new.enc).definitions c.args.key c.args.list.0.items c.in_ok-index.index
+    c.requires.lacks c.in_ok-def.ensures.counts (listed g (goal.at.returns-clause-counts g c).In_ok-index)
+    (subst (λ (z : TypeEncodingMaps). LearnsKeyList z (g.E.ValtypeEncoder.view c.remember_key.new.enc).maps c.args.list.0.items c.in_ok-index.index) c.define_function_type.ensures.maps_stay c.in_ok-remember_key.ensures.ok)
     (c.remember_key.ensures.counts ∙ c.in_ok-index.ensures.counts)
 
 pub returns-clause-learns : goal.returns-clause-learns
 returns-clause-learns g c = met-key c.args.resolve.now (g.E.ValtypeEncoder.view c.args.enc.now).scope.own_interface (g.E.ValtypeEncoder.view c.args.enc.now).maps (g.E.ValtypeEncoder.view c.function_of.new.enc).maps _ (g.E.ValtypeEncoder.view c.remember_key.new.enc).maps
-    c.args.key c.in_ok-index.index c.args.func.now c.requires.is_key c.in_ok-def.ensures.learns c.in_ok-def.ensures.knows c.define_function_type.ensures.maps_stay c.in_ok-remember_key.ensures.ok c.remember_key.ensures.leaves.maps_grow
+    c.args.key c.args.list.0.items c.in_ok-index.index c.args.func.now c.requires.is_key c.in_ok-def.ensures.learns c.in_ok-def.ensures.knows c.define_function_type.ensures.maps_stay (listed g (goal.at.returns-clause-learns g c).In_ok-index) c.in_ok-remember_key.ensures.ok c.remember_key.ensures.leaves.maps_grow
 
 pub returns-in_err-index-clause-leaves : goal.returns-in_err-index-clause-leaves
 returns-in_err-index-clause-leaves g c = leaves-trans c.function_of.ensures.leaves (leaves-kept {v = g.E.ValtypeEncoder.view c.function_of.new.enc} {v' = g.E.ValtypeEncoder.view c.define_function_type.new.self} c.function_of.ensures.leaves.agree c.define_function_type.ensures.grows c.define_function_type.ensures.scope_stays c.define_function_type.ensures.maps_stay)
@@ -73,11 +81,11 @@ pub returns-clause-held : goal.returns-clause-held
 returns-clause-held g c =
     let same = c.define_function_type.ensures.maps_stay in
     let after = (g.E.ValtypeEncoder.view c.remember_key.new.enc).maps in
-    let learns = subst (λ (z : TypeEncodingMaps). LearnsKey z (g.E.ValtypeEncoder.view c.remember_key.new.enc).maps c.args.key c.in_ok-index.index) same c.in_ok-remember_key.ensures.ok in
+    let learns = subst (λ (z : TypeEncodingMaps). LearnsKeyList z (g.E.ValtypeEncoder.view c.remember_key.new.enc).maps c.args.list.0.items c.in_ok-index.index) same c.in_ok-remember_key.ensures.ok in
     let grow = subst (λ (z : TypeEncodingMaps). MapsGrow z (g.E.ValtypeEncoder.view c.remember_key.new.enc).maps) same c.remember_key.ensures.leaves.maps_grow in
     let first = c.define_function_type.ensures.held in
     let second = c.remember_key.ensures.held in
-    holds-key grow learns.rest.numbers (lists-longer (λ (v : Vec ℕ Global). v.items) (g.E.ValtypeEncoder.view c.function_of.new.enc).maps.func_type_map.entries after.func_type_map.entries (learns.list, c.in_ok-index.index) learns.more)
+    holds-key grow learns.rest.numbers (lists-longer (λ (v : ListKey). v.0.items) (g.E.ValtypeEncoder.view c.function_of.new.enc).maps.func_type_map.entries after.func_type_map.entries (c.args.list.0.items, c.in_ok-index.index) learns.more)
     (omega (arith, first, second)) c.in_ok-def.ensures.held
 
 pub returns-in_err-def-clause-size : goal.returns-in_err-def-clause-size

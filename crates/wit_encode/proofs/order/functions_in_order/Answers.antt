@@ -1,15 +1,17 @@
-use Rattle.std.proofs.Common.{rules, ◌≡◌, ◌∙◌, ℕ, List, map, subst}
+use Rattle.std.proofs.Common.{rules, ◌≡◌, ◌∙◌, sym, ℕ, List, map, subst}
 use Rattle.std.specs.Prelude.{All, IsPermutation, String}
 use Rattle.std.specs.Borrow.{Bor}
 use Rattle.std.specs.declared.alloc.Global.{Global}
 use Rattle.std.proofs.lemmas.Fn.{always_returns_same}
+use Rattle.std.proofs.lemmas.Result.{IfOk-weaker}
 use Rattle.std.proofs.lemmas.List.Sorted.{IsPermutation-map, IsNonDecreasingBy-from_sort_by_key}
 use Rattle.wit_model.specs.Text.{Text}
 use Rattle.wit_model.specs.declared.model.TypeId.{TypeId}
 use Rattle.wit_model.specs.declared.model.Function.{Function}
-use Rattle.wit_encode.specs.Instance.{placed_function}
+use Rattle.indexmap.specs.IndexMap.{values}
+use Rattle.wit_encode.specs.Instance.{keyed, placed_function}
 use Rattle.wit_encode.specs.Order.{by_resource, place_among}
-use Rattle.wit_encode.proofs.Ordering.{sorted-in-order}
+use Rattle.wit_encode.proofs.Ordering.{in-list-order, sorted-in-order}
 use Rattle.wit_encode.proofs.order.functions_in_order.Goals as goal
 
 pub returns-clause-all : goal.returns-clause-all
@@ -25,3 +27,6 @@ returns-clause-order c =
     (IsNonDecreasingBy-from_sort_by_key key _ c.in_ok-sort_by_key.ensures.sorted (λ a r q k. search rules))
     (c.sort_by_key.ensures.stable key (always_returns_same _ (λ a r. r ≡ key a.0.now) _ (λ a r q k. search rules)))
     ∙ (λ i. by_resource (c.in_ok-types.ensures i) (c.in_ok-all.ensures.functions i))
+
+pub returns-then-not-has_resource-clause-order : goal.returns-then-not-has_resource-clause-order
+returns-then-not-has_resource-clause-order c = IfOk-weaker c.placed.result _ _ (λ v h. h ∙ sym (in-list-order (values c.args.interface.now.types) (map keyed c.args.interface.now.functions.entries) (sym c.has_resource.ensures ∙ c.if-not-has_resource.true))) c.placed.ensures.functions
