@@ -24,7 +24,6 @@ pub list-alike : {A : Type 0} (same : A → A → Bool) → ((x : A) → same x 
 list-alike same h [] = refl
 list-alike same h (x ∷ xs) = both _ _ (h x) (list-alike same h xs)
 
-
 declaration-alike : (d : Declaration) → same_declaration d d ≡ true
 declaration-alike (Declaration.type_ t) = tree-alike t
 declaration-alike Declaration.resource = refl
