@@ -127,8 +127,8 @@ def whole(stored):
 def measured_on(stored):
     about = stored.about
     build = ("the programs that `rt ci` leaves" if about["build"] == "proved" else
-             "**programs built without a proof** (`--unproved`): the tables say so at each column. They have no traps, and the inline hints of their sources")
-    busy = (f" Other programs worked on the machine meanwhile (load {about['load']}), so times are rough here, and instructions are what to go by."
+             "**programs built without a proof** (`--unproved`): the tables say so at each column. They have no traps, but have the inline hints of their sources")
+    busy = (f" Other programs ran on the machine meanwhile (load {about['load']}). So times are rough here, and instructions are more reliable."
             if is_busy(stored) else "")
     counter = {"perf": "`perf`", "valgrind": "`valgrind`"}.get(about["counter"], "nothing")
     runs = "one process" if about.get("runs", "1") == "1" else f"{about['runs']} processes"
@@ -147,7 +147,7 @@ def hostile():
     about = dict(line.split(": ", 1) for line in lines if not line.startswith("|") and ": " in line)
     build = "a build without a proof" if about["build"] == "unproved" else "the proved build"
     mega = about["sizes"].replace(",", ", ")
-    head = f"Of {build}, at about {mega} million bytes, in seconds of the processor. A process may take {SECONDS} s and {MEGABYTES:,} MB of addresses."
+    head = f"CPU seconds of {build}, at about {mega} million bytes. A process may take {SECONDS} s and {MEGABYTES:,} MB of addresses."
     return "\n".join([head, "", *HEAD, *(x for x in lines if x.startswith("|"))])
 
 
