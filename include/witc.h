@@ -1,4 +1,4 @@
-/* The functions of libwitc_ffi.a, for C and C++: WIT packages and core modules, in binary form and as text.
+/* WIT packages and core modules, in binary form and as text, for C and C++. Link with `pkg-config --libs witc`; witc.hpp has the same for C++17.
  *
  * Each call takes bytes as a pointer and a length. It returns a status, and puts bytes of its own into an answer:
  *
@@ -6,8 +6,6 @@
  *     uint8_t status = witc_package_text(bytes, length, &answer);
  *     if (answer.length > 0) fwrite(answer.at, 1, answer.length, stdout);
  *     witc_free(&answer);
- *
- * Link libwitc_ffi.a and the kit's own archive, $KIT/c/liblibc_c.a (README.md says how to find it).
  *
  * For each call:
  *
@@ -29,6 +27,9 @@
 extern "C" {
 #endif
 
+/* The version of this interface. The name of the shared library ends with it. */
+#define WITC_ABI 1
+
 /* The call succeeded. The answer is the result. */
 #define WITC_DONE 0
 /* The bytes, or the worlds, are refused. The answer says why, in one line. */
@@ -47,7 +48,7 @@ typedef struct witc_answer {
 
 #define WITC_NO_ANSWER { NULL, 0, NULL }
 
-/* Frees the bytes of an answer, and sets it to WITC_NO_ANSWER. An answer without bytes stays as it is. */
+/* Frees the bytes of an answer, and sets it to WITC_NO_ANSWER. So calling it again does nothing. */
 void witc_free(witc_answer *answer);
 
 /* The functions of the library. Here no pointer may be null, even if its length is 0. */
@@ -64,23 +65,23 @@ static inline const uint8_t *witc_some(const uint8_t *bytes) {
 }
 
 /* Prints a WIT package in binary form as text, as `witc print` does. Returns WITC_DONE, WITC_REFUSED or WITC_LACKING. */
-static inline uint8_t witc_print(const uint8_t *bytes, size_t length, witc_answer *answer) {
+static inline uint8_t witc_package_text(const uint8_t *bytes, size_t length, witc_answer *answer) {
     return witc_print_slice(witc_some(bytes), length, answer);
 }
 
 /* Merges the worlds in the sections of a core module, and prints them as text, as `witc module` does. Returns WITC_DONE, WITC_REFUSED or WITC_LACKING. */
-static inline uint8_t witc_module(const uint8_t *bytes, size_t length, witc_answer *answer) {
+static inline uint8_t witc_module_text(const uint8_t *bytes, size_t length, witc_answer *answer) {
     return witc_module_slice(witc_some(bytes), length, answer);
 }
 
 /* Removes these sections from a core module, as `witc strip` does. Returns WITC_DONE, WITC_REFUSED or WITC_LACKING. */
-static inline uint8_t witc_strip(const uint8_t *bytes, size_t length, witc_answer *answer) {
+static inline uint8_t witc_module_strip(const uint8_t *bytes, size_t length, witc_answer *answer) {
     return witc_strip_slice(witc_some(bytes), length, answer);
 }
 
 /* Whether the package's world `next` can replace its world `prev`, as `witc compat` says. Returns WITC_DONE with the line `compatible`, WITC_REFUSED,
- * WITC_NO_WORLD or WITC_LACKING. The names are UTF-8. */
-static inline uint8_t witc_compat(const uint8_t *bytes, size_t length, const uint8_t *prev, size_t prev_length, const uint8_t *next, size_t next_length,
+ * WITC_NO_WORLD or WITC_LACKING. The names are UTF-8, without a zero at their end. */
+static inline uint8_t witc_compat(const uint8_t *bytes, size_t length, const char *prev, size_t prev_length, const char *next, size_t next_length,
                                   witc_answer *answer) {
     return witc_compat_slices(witc_some(bytes), length, witc_some((const uint8_t *)prev), prev_length, witc_some((const uint8_t *)next), next_length, answer);
 }
