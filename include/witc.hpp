@@ -1,4 +1,4 @@
-// WIT packages and core modules as bytes and as text, for C++17 and later. Link with `pkg-config --libs witc`.
+// WIT packages and core modules, in binary form and as text, for C++17 and later. Link with `pkg-config --libs witc`.
 //
 //     try {
 //         std::cout << witc::package_text(bytes).view();
@@ -6,8 +6,8 @@
 //         std::cerr << r.what() << '\n';
 //     }
 //
-// A call reads bytes as a string_view, which nothing changes meanwhile. It answers bytes that are freed with the value that holds them, throws a
-// witc::refusal, or std::bad_alloc where memory was wanting. Threads may make calls side by side.
+// A call reads bytes as a string_view, which must stay unchanged during the call. It returns bytes that are freed with the value that owns them. It throws a
+// witc::refusal, or std::bad_alloc when out of memory. Threads may call at the same time.
 #ifndef WITC_HPP
 #define WITC_HPP
 
@@ -28,11 +28,11 @@ class refusal : public std::runtime_error {
   public:
     refusal(std::uint8_t status, std::string_view line) : std::runtime_error(message_of(line)), status_(status) {}
 
-    /// WITC_REFUSED for bytes or worlds that are refused, or WITC_NO_WORLD where a world isn't there or its name isn't UTF-8.
+    /// WITC_REFUSED if the bytes or worlds are refused, WITC_NO_WORLD if a world doesn't exist or its name isn't UTF-8.
     std::uint8_t status() const noexcept { return status_; }
 
   private:
-    // The message in the line of an answer, which begins with `refused: ` where bytes or worlds are refused.
+    // The message in the line of an answer. The line begins with `refused: ` if bytes or worlds are refused.
     static std::string message_of(std::string_view line) {
         constexpr std::string_view head = "refused: ";
         if (line.substr(0, head.size()) == head) line.remove_prefix(head.size());
@@ -43,7 +43,7 @@ class refusal : public std::runtime_error {
     std::uint8_t status_;
 };
 
-/// Bytes that the library has made. They are moved, not copied, and freed with the last value that holds them.
+/// Bytes made by the library. They are moved, not copied, and freed with the last value that owns them.
 class bytes {
   public:
     bytes(bytes &&other) noexcept : raw_(std::exchange(other.raw_, witc_answer WITC_NO_ANSWER)) {}
@@ -58,7 +58,7 @@ class bytes {
     bytes &operator=(const bytes &) = delete;
     ~bytes() { witc_free(&raw_); }
 
-    /// Null where there are no bytes.
+    /// Null if there are no bytes.
     const std::uint8_t *data() const noexcept { return raw_.at; }
     std::size_t size() const noexcept { return raw_.length; }
     bool empty() const noexcept { return raw_.length == 0; }
@@ -68,7 +68,7 @@ class bytes {
     /// Of a value that ends with the expression: its bytes, copied.
     std::string view() && { return std::string(static_cast<const bytes &>(*this).view()); }
 
-    /// What a call puts into an answer, which is freed also where this throws.
+    /// The result of a call, from an answer that is freed even if this throws.
     template <class Call> static bytes of(Call call) {
         bytes made;
         std::uint8_t status = call(&made.raw_);
@@ -86,22 +86,22 @@ class bytes {
 /// Where the bytes of a view begin.
 inline const std::uint8_t *front(std::string_view b) noexcept { return reinterpret_cast<const std::uint8_t *>(b.data()); }
 
-/// The bytes of a package to its text.
+/// Prints a package as text.
 inline bytes package_text(std::string_view package) {
     return bytes::of([&](witc_answer *answer) { return witc_package_text(front(package), package.size(), answer); });
 }
 
-/// A core module to the text of what its sections that carry worlds bind together.
+/// Merges the worlds in the sections of a core module, and prints them as text.
 inline bytes module_text(std::string_view core) {
     return bytes::of([&](witc_answer *answer) { return witc_module_text(front(core), core.size(), answer); });
 }
 
-/// A core module without these sections.
+/// Removes these sections from a core module.
 inline bytes module_strip(std::string_view core) {
     return bytes::of([&](witc_answer *answer) { return witc_module_strip(front(core), core.size(), answer); });
 }
 
-/// Throws a refusal where the package's world `next` may not take the place of its world `prev`.
+/// Throws a refusal if the package's world `next` can't replace its world `prev`.
 inline void compat(std::string_view package, std::string_view prev, std::string_view next) {
     bytes::of([&](witc_answer *answer) {
         return witc_compat(front(package), package.size(), prev.data(), prev.size(), next.data(), next.size(), answer);
