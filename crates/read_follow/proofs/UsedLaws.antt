@@ -313,4 +313,4 @@ module _ (old : World) (st : IsWorld old) (b : Bool) (name : ExternName) (n : �
       ∙ ap Some (plus_instance b m (record { interface = interface_of k; view = view_in U G v }) meant n
       ∙ ((λ i. plus m [] (record { interface = interface_is paths place of key is_key.stands i; view = view_in U G v } ∷ []) (imported b meant) (exported b meant) (n ∷ []))
       ∙ seen_plus b (seen_in place U G (old.instances ++ x ∷ [])) m [] (instance_in place U G x ∷ []) (n ∷ []) s meant
-      (λ i. record { key = key_text k; shown = follow.Shown.instance k (viewed U G (last_one old.instances x i)); external_id = (raw_name name).external_id }))))))
+      (λ i. record { key = key_text k; shown = follow.Shown.instance k (viewed U G (at_last old.instances x i)); external_id = (raw_name name).external_id }))))))

@@ -1,7 +1,7 @@
 use Rattle.std.proofs.Common.{◌≡◌, sym, ap, ◌∙◌, Some, None, option_and_then}
 use Rattle.wit_model.specs.Rules.{after_prefix}
 use Rattle.wit_model.proofs.RulesLemmas.{after_both as both_prefixes}
-use Rattle.check_rules.proofs.both_prefixes.Goals as goal
+use Rattle.check_rules.proofs.members.after_both.Goals as goal
 
 pub returns-in-Some : goal.returns-in-Some
 returns-in-Some c =
