@@ -1,17 +1,7 @@
-// WIT packages and core modules as bytes and as text, for C++17 and later. Link with `pkg-config --libs witc`.
-//
-//     try {
-//         std::cout << witc::package_text(bytes).view();
-//     } catch (const witc::refusal &r) {
-//         std::cerr << r.what() << '\n';
-//     }
-//
-// A call reads bytes as a string_view, which nothing changes meanwhile. It answers bytes that are freed with the value that holds them, throws a
-// witc::refusal, or std::bad_alloc where memory was wanting. Threads may make calls side by side.
+// WIT packages, worlds and core modules, for C++17: each call answers bytes that are freed with them, or throws a witc::refusal.
 #ifndef WITC_HPP
 #define WITC_HPP
 
-#include <cstddef>
 #include <cstdint>
 #include <new>
 #include <stdexcept>
@@ -23,27 +13,27 @@
 
 namespace witc {
 
-/// Why a call is refused: what() is a line without its end.
+enum class encoding : std::uint32_t { utf8 = WITC_UTF8, utf16 = WITC_UTF16, latin1_utf16 = WITC_LATIN1_UTF16 };
+
+/// Why a call is refused: code() is one of WITC_TOO_LARGE .. WITC_BAD_ENCODING, what() the line, subject() the name that it is about.
 class refusal : public std::runtime_error {
   public:
-    refusal(std::uint8_t status, std::string_view line) : std::runtime_error(message_of(line)), status_(status) {}
-
-    /// WITC_REFUSED for bytes or worlds that are refused, or WITC_NO_WORLD where a world isn't there or its name isn't UTF-8.
-    std::uint8_t status() const noexcept { return status_; }
+    explicit refusal(const witc_answer &a)
+        : std::runtime_error(std::string(reinterpret_cast<const char *>(a.at), a.length)), code_(a.why.code), detail_(a.why.detail), offset_(a.why.offset),
+          subject_(std::string(what()).substr(a.length - a.why.subject)) {}
+    std::uint32_t code() const noexcept { return code_; }
+    std::uint32_t detail() const noexcept { return detail_; }
+    bool has_offset() const noexcept { return offset_ != WITC_NOWHERE; }
+    std::size_t offset() const noexcept { return offset_; }
+    const std::string &subject() const noexcept { return subject_; }
 
   private:
-    // The message in the line of an answer, which begins with `refused: ` where bytes or worlds are refused.
-    static std::string message_of(std::string_view line) {
-        constexpr std::string_view head = "refused: ";
-        if (line.substr(0, head.size()) == head) line.remove_prefix(head.size());
-        if (!line.empty() && line.back() == '\n') line.remove_suffix(1);
-        return std::string(line);
-    }
-
-    std::uint8_t status_;
+    std::uint32_t code_, detail_;
+    std::size_t offset_;
+    std::string subject_;
 };
 
-/// Bytes that the library has made. They are moved, not copied, and freed with the last value that holds them.
+/// Bytes that the library made, moved and not copied.
 class bytes {
   public:
     bytes(bytes &&other) noexcept : raw_(std::exchange(other.raw_, witc_answer WITC_NO_ANSWER)) {}
@@ -58,54 +48,78 @@ class bytes {
     bytes &operator=(const bytes &) = delete;
     ~bytes() { witc_free(&raw_); }
 
-    /// Null where there are no bytes.
     const std::uint8_t *data() const noexcept { return raw_.at; }
     std::size_t size() const noexcept { return raw_.length; }
     bool empty() const noexcept { return raw_.length == 0; }
-    std::string_view view() const & noexcept {
-        return empty() ? std::string_view() : std::string_view(reinterpret_cast<const char *>(raw_.at), raw_.length);
-    }
+    std::string_view view() const & noexcept { return size() ? std::string_view(reinterpret_cast<const char *>(raw_.at), size()) : std::string_view(); }
     /// Of a value that ends with the expression: its bytes, copied.
     std::string view() && { return std::string(static_cast<const bytes &>(*this).view()); }
+    operator std::string_view() const & noexcept { return view(); }
 
-    /// What a call puts into an answer, which is freed also where this throws.
+    /// What a call puts into an answer. Frees it also where it throws.
     template <class Call> static bytes of(Call call) {
         bytes made;
-        std::uint8_t status = call(&made.raw_);
-        if (status == WITC_LACKING) throw std::bad_alloc();
-        if (status != WITC_DONE) throw refusal(status, made.view());
-        return made;
+        switch (call(&made.raw_)) {
+            case WITC_DONE: return made;
+            case WITC_NO_MEMORY: throw std::bad_alloc();
+            default: throw refusal(made.raw_);
+        }
     }
 
   private:
     bytes() noexcept : raw_ WITC_NO_ANSWER {}
-
     witc_answer raw_;
 };
 
-/// Where the bytes of a view begin.
-inline const std::uint8_t *front(std::string_view b) noexcept { return reinterpret_cast<const std::uint8_t *>(b.data()); }
+namespace detail {
+inline const std::uint8_t *at(std::string_view b) { return reinterpret_cast<const std::uint8_t *>(b.data()); }
+}  // namespace detail
 
-/// The bytes of a package to its text.
-inline bytes package_text(std::string_view package) {
-    return bytes::of([&](witc_answer *answer) { return witc_package_text(front(package), package.size(), answer); });
+#define WITC_CPP_CALL(name) \
+    inline bytes name(std::string_view b) { \
+        return bytes::of([&](witc_answer *a) { return witc_##name(detail::at(b), b.size(), a); }); \
+    }
+WITC_CPP_CALL(package_text)
+WITC_CPP_CALL(world_text)
+WITC_CPP_CALL(world_package)
+WITC_CPP_CALL(module_text)
+WITC_CPP_CALL(module_package)
+WITC_CPP_CALL(module_strip)
+#undef WITC_CPP_CALL
+
+inline bytes package_bytes(std::string_view b, bool canonical = false) {
+    return bytes::of([&](witc_answer *a) { return witc_package_bytes(detail::at(b), b.size(), canonical, a); });
 }
-
-/// A core module to the text of what its sections that carry worlds bind together.
-inline bytes module_text(std::string_view core) {
-    return bytes::of([&](witc_answer *answer) { return witc_module_text(front(core), core.size(), answer); });
+inline bytes module_section(std::string_view b, std::size_t number) {
+    return bytes::of([&](witc_answer *a) { return witc_module_section(detail::at(b), b.size(), number, a); });
 }
-
-/// A core module without these sections.
-inline bytes module_strip(std::string_view core) {
-    return bytes::of([&](witc_answer *answer) { return witc_module_strip(front(core), core.size(), answer); });
+inline bytes embed(std::string_view b, std::string_view world, encoding e = encoding::utf8, bool canonical = false) {
+    return bytes::of([&](witc_answer *a) { return witc_embed(detail::at(b), b.size(), world.data(), world.size(), static_cast<std::uint32_t>(e), canonical, a); });
 }
-
-/// Throws a refusal where the package's world `next` may not take the place of its world `prev`.
-inline void compat(std::string_view package, std::string_view prev, std::string_view next) {
-    bytes::of([&](witc_answer *answer) {
-        return witc_compat(front(package), package.size(), prev.data(), prev.size(), next.data(), next.size(), answer);
+inline bytes attach(std::string_view module, std::string_view b, std::string_view world, encoding e = encoding::utf8, bool canonical = false) {
+    return bytes::of([&](witc_answer *a) {
+        return witc_attach(detail::at(module), module.size(), detail::at(b), b.size(), world.data(), world.size(), static_cast<std::uint32_t>(e), canonical, a);
     });
+}
+/// Throws a refusal that names the first item in the way.
+inline void require_compatible(std::string_view b, std::string_view prev, std::string_view next) {
+    bytes::of([&](witc_answer *a) { return witc_compat(detail::at(b), b.size(), prev.data(), prev.size(), next.data(), next.size(), a); });
+}
+inline bool same_world(std::string_view b, std::string_view world, std::string_view other, std::string_view other_world) {
+    try {
+        bytes::of([&](witc_answer *a) {
+            return witc_same_world(detail::at(b), b.size(), world.data(), world.size(), detail::at(other), other.size(), other_world.data(), other_world.size(), a);
+        });
+        return true;
+    } catch (const refusal &r) {
+        if (r.code() == WITC_DIFFERS) return false;
+        throw;
+    }
+}
+inline unsigned kinds(std::string_view b) {
+    unsigned sum = witc_kinds(detail::at(b), b.size());
+    if (sum == WITC_KIND_UNKNOWN) throw std::bad_alloc();
+    return sum;
 }
 
 }  // namespace witc
