@@ -34,10 +34,6 @@ pub none_not_some : {X : Type 0} (o : Option X) → is_none o ≡ not (is_some o
 none_not_some None = refl
 none_not_some (Some x) = refl
 
-pub on-held : {A E : Type 0} (x : Result A E) (P : Type 0) → P → OnOk x P
-on-held (Ok x) P p = p
-on-held (Err e) P p = tt
-
 pub err_said : {A B : Type 0} (P Q : B → Type 0) → ((e : B) → P e → Q e) → (r : Result A B) → IfErr r P → IfErr r Q
 err_said P Q f (Ok x) h = h
 err_said P Q f (Err e) h = f e h
@@ -63,3 +59,11 @@ ok_holds p (Err e) = tt
 
 pub some_is : {A : Type 0} (x y : A) → ◌≡◌ {A = Option A} (Some x) (Some y) → x ≡ y
 some_is x y e = cc
+
+pub at_ok : {T E P : Type 0} (r : Result T E) → P → OnOk r P
+at_ok (Ok v) p = p
+at_ok (Err e) p = tt
+
+pub none_is : {A : Type 0} (v : Option A) → is_none v ≡ true → v ≡ None
+none_is None h = refl
+none_is (Some x) h = let wrong : ⊥ = cc in absurd wrong

@@ -1,12 +1,11 @@
 -- At most as many are copied as pass a test that each of these passes.
-use Rattle.std.proofs.Common.{◌≡◌, refl, sym, ap, subst, ◌∙◌, ℕ, zero, suc, ◌+◌, ◌≤◌, Bool, true, false, cond, not, ◌&&◌, arith, List, [], ◌∷◌, ◌++◌, length, map, filter, Option, Some, None, is_none, slice_get, slice_set, replicate, if◌then◌else◌}
+use Rattle.std.proofs.Common.{◌≡◌, refl, sym, ap, subst, ◌∙◌, ℕ, zero, suc, ◌+◌, ◌≤◌, Bool, true, false, cond, ◌&&◌, arith, List, [], ◌∷◌, ◌++◌, length, map, filter, Option, Some, None, is_none, slice_get, slice_set, replicate, if◌then◌else◌}
 use Rattle.std.specs.Prelude.{count_by, filter_map}
 use Rattle.std.proofs.lemmas.List.Elements.{filter-append, filter_map-append}
 use Rattle.std.proofs.lemmas.List.Sums.{sum_by-cons}
 use Rattle.indexmap.specs.IndexMap.{values}
 use Rattle.wit_model.specs.Text.{Text, optional_text}
 use Rattle.wit_model.specs.Uses.{item_interface, items_of}
-use Rattle.wit_model.specs.declared.model.Interface.{Interface}
 use Rattle.wit_model.specs.declared.model.InterfaceId.{InterfaceId}
 use Rattle.wit_model.specs.declared.model.Resolve.{Resolve}
 use Rattle.wit_model.specs.declared.model.TypeDef.{TypeDef}
@@ -19,13 +18,11 @@ use Rattle.wit_model.specs.declared.model.WorldItem.{WorldItem}
 use Rattle.wit_model.specs.declared.model.WorldItem.TheVariants as item
 use Rattle.wit_model.specs.declared.model.WorldKey.{WorldKey}
 use Rattle.bind_copy.specs.Copies.{is_new_under}
-use Rattle.bind_match.specs.Matching.{is_root_world}
 use Rattle.bind_union.specs.Views.{kind_view, view_numbers}
 use Rattle.bind_union.proofs.Lists.{no_true}
 use Rattle.bind_carry.specs.BoundGains.{bound_fates, gained_inline, gains_any, type_under_key, unified, unify_one}
 use Rattle.bind_carry.specs.Fates.{are_carried, copies, settled, settled_from}
-use Rattle.bind_carry.specs.First.{adds_any, beside_first, fate_beside, fate_in, fate_named, fate_of, first_fates, flag_under, is_named_at, second_from, second_in}
-use Rattle.bind_carry.specs.Listed.{type_named}
+use Rattle.bind_carry.specs.First.{adds_any, beside_first, fate_in, fate_named, fate_of, first_fates, flag_under, is_named_at, second_from, second_in}
 use Rattle.bind_carry.specs.Marked.{is_inline_at, mark_item, mark_items, mark_new_items, mark_worlds}
 use Rattle.bind_carry.specs.Numbers.{copied_count}
 use Rattle.bind_carry.specs.Shown.{type_in}
@@ -37,6 +34,8 @@ use Rattle.bind_carry.specs.declared.plan.Carried.{Carried}
 use Rattle.bind_carry.proofs.Counting.{length_both}
 use Rattle.bind_carry.proofs.Marking.{mark_items_long}
 use Rattle.std.proofs.lemmas.Option.{same_Some as same-some}
+use Rattle.bind_carry.proofs.FirstTypes.{named_no_copy as named_left}
+use Rattle.bind_carry.proofs.Marking.{new_long as named_flagged}
 
 -- ---- flags
 
@@ -73,12 +72,6 @@ module _ (r : Resolve) where
   worlds_flagged (m ∷ ms) [] long = absurd (omega (arith, long))
   worlds_flagged (m ∷ ms) (w ∷ ws) long = ap suc (worlds_flagged ms ws (omega (arith, long)))
 
-  pub world_flag : (ms : List (Option WorldId)) (ws : List World) (n : ℕ) (o : Option WorldId) (w : World) → slice_get ms n ≡ Some o → slice_get ws n ≡ Some w → flag_under (new_worlds r ms ws) n ≡ (is_none o && not (is_root_world r w))
-  world_flag [] ws n o w at e = let wrong : ⊥ = cc in absurd wrong
-  world_flag (m ∷ ms) [] n o w at e = let wrong : ⊥ = cc in absurd wrong
-  world_flag (m ∷ ms) (u ∷ ws) zero o w at e = let matched = same-some m o at in let world = same-some u w e in (λ i. is_none (matched i) && not (is_root_world r (world i)))
-  world_flag (m ∷ ms) (u ∷ ws) (suc n) o w at e = world_flag ms ws n o w at e
-
   marks_flagged : (marks flags : List Bool) (ws : List World) → length (mark_worlds r marks flags ws) ≡ length marks
   marks_flagged marks [] ws = refl
   marks_flagged marks (b ∷ bs) [] = refl
@@ -86,12 +79,6 @@ module _ (r : Resolve) where
       let first = mark_items r marks w.imports.entries in
       marks_flagged (mark_items r first w.exports.entries) bs ws ∙ (mark_items_long r first w.exports.entries ∙ mark_items_long r marks w.imports.entries)
   marks_flagged marks (false ∷ bs) (w ∷ ws) = marks_flagged marks bs ws
-
-named_flagged : (ms : List (Option InterfaceId)) (is : List Interface) → length ms ≡ length is → length (new_interfaces ms is) ≡ length is
-named_flagged [] [] long = refl
-named_flagged [] (i ∷ is) long = absurd (omega (arith, long))
-named_flagged (m ∷ ms) [] long = absurd (omega (arith, long))
-named_flagged (m ∷ ms) (i ∷ is) long = ap suc (named_flagged ms is (omega (arith, long)))
 
 pub interfaces_flagged : (other : Resolve) (ms : List (Option InterfaceId)) (flags : List Bool) → length ms ≡ length other.interfaces.items → length (mark_worlds other (new_interfaces ms other.interfaces.items) flags other.worlds.items) ≡ length other.interfaces.items
 interfaces_flagged other ms flags long = marks_flagged other (new_interfaces ms other.interfaces.items) flags other.worlds.items ∙ named_flagged ms other.interfaces.items long
@@ -144,14 +131,6 @@ abbrev pub IsHomeCopied : List Bool → TypeOwner → Type 0
 IsHomeCopied flags (owner.Interface id) = flag_under flags id.0 ≡ true
 IsHomeCopied flags (owner.World id) = Unit {0}
 IsHomeCopied flags owner.None = Unit {0}
-
-beside_left : (o : Option TypeId) → copies (fate_beside o) ≡ false
-beside_left None = refl
-beside_left (Some id) = refl
-
-named_left : (own : Resolve) (matched : List (Option InterfaceId)) (n : ℕ) (name : Option Text) → copies (fate_named own matched n name) ≡ false
-named_left own matched n None = refl
-named_left own matched n (Some name) = beside_left (type_named own matched n name)
 
 first_home : (own : Resolve) (matched : List (Option InterfaceId)) (c : Carried) (o : TypeOwner) (name : Option Text) → copies (fate_in own matched c o name) ≡ true → IsHomeCopied c.copied_interfaces.items o
 first_home own matched c (owner.World id) name h = tt

@@ -1,9 +1,7 @@
 -- How many are copied.
-use Rattle.std.proofs.Common.{◌≡◌, refl, sym, ap, subst, ◌∙◌, ℕ, ◌+◌, ◌≤◌, Bool, true, false, arith, List, [], ◌∷◌, ◌++◌, length, map}
+use Rattle.std.proofs.Common.{◌≡◌, refl, sym, ap, ◌∙◌, ℕ, ◌+◌, ◌≤◌, Bool, true, false, arith, List, [], ◌∷◌, ◌++◌, length, map}
 use Rattle.std.specs.List.{AllZip}
-use Rattle.std.specs.Prelude.{Err, IfErr, Ok, Option, Result}
-use Rattle.std.specs.Result.{IsErrAnd}
-use Rattle.wit_model.specs.declared.error.Error.{Error}
+use Rattle.std.specs.Prelude.{Option}
 use Rattle.wit_model.specs.declared.model.Interface.{Interface}
 use Rattle.wit_model.specs.declared.model.PackageId.{PackageId}
 use Rattle.wit_model.specs.declared.model.TypeDef.{TypeDef}
@@ -95,6 +93,3 @@ pub carried_all : {X Y : Type 0} (P : X → Y → Type 0) (flags : List Bool) (x
 carried_all P flags xs ys count h = let long = zip_long P (kept flags xs) ys h in let all = kept_all flags xs count in omega (arith, long, all)
 
 -- what holds of an error holds where that is the answer
-pub err_so : {A : Type 0} (P : Error → Type 0) (r : Result A Error) (e : Error) → IsErrAnd r (λ x. x ≡ e) → P e → IfErr r P
-err_so P (Ok x) e h p = tt
-err_so P (Err x) e h p = subst P (sym h) p

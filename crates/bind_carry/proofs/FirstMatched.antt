@@ -26,7 +26,6 @@ use Rattle.bind_copy.specs.Copies.{number_under}
 use Rattle.bind_union.specs.Carried.{carries_owner, IsInterface, IsType, Renumbering}
 use Rattle.bind_union.specs.Matching.{type_names, AreMatched, IsMatch}
 use Rattle.bind_union.specs.Merged.{BeginsWith}
-use Rattle.bind_union.proofs.Homes.{owner_equal}
 use Rattle.bind_union.proofs.Listed.{found_by_text, under_text}
 use Rattle.bind_union.proofs.Lists.{no_true}
 use Rattle.bind_union.proofs.MatchedStand.{matched_stand}
@@ -44,6 +43,7 @@ use Rattle.bind_carry.proofs.CopiesPlaced.{stands_under}
 use Rattle.bind_carry.proofs.FirstTypes.{excluded, final_stands, first_types, named_carried, owned_copied, stood_how}
 use Rattle.base_lemmas.proofs.Bools.{left_of as first_true, right_of as second_true}
 use Rattle.base_lemmas.proofs.Elements.{all_two}
+use Rattle.wit_model.proofs.PartsLemmas.{owner_same as owner_equal}
 
 -- ---- own numbers
 

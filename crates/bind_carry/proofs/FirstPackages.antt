@@ -13,7 +13,6 @@ use Rattle.wit_model.specs.declared.model.Resolve.{Resolve}
 use Rattle.wit_model.specs.Lookup.{package_at}
 use Rattle.wit_model.specs.Rules.{same_package_name, same_version}
 use Rattle.wit_model.specs.Text.{text_eq, text_of}
-use Rattle.wit_model.proofs.VersionLaws.{text_same}
 use Rattle.bind_add.specs.Growth.{GainsNone, HaveGained}
 use Rattle.bind_add.specs.declared.added.Names.{Names}
 use Rattle.bind_copy.specs.Copies.{number_under}
@@ -32,6 +31,7 @@ use Rattle.base_lemmas.proofs.Lists.{front_at, mapped_get as mapped_at}
 use Rattle.base_lemmas.proofs.Numbers.{equal}
 use Rattle.std.proofs.lemmas.Option.{slice_get_within as within_list}
 use Rattle.wit_model.proofs.VersionLaws.{same_versions as version_parts}
+use Rattle.wit_model.proofs.TextLemmas.{text_same}
 
 -- ---- names
 

@@ -65,11 +65,11 @@ copied_carried (fate.Copied home ∷ fs) zero h = refl
 copied_carried (f ∷ fs) (suc n) h = copied_carried fs n h
 
 -- a type that stands for an own one is no copy
-beside_no_copy : (o : Option TypeId) → copies (fate_beside o) ≡ false
+pub beside_no_copy : (o : Option TypeId) → copies (fate_beside o) ≡ false
 beside_no_copy None = refl
 beside_no_copy (Some id) = refl
 
-named_no_copy : (own : Resolve) (matched : List (Option InterfaceId)) (a : ℕ) (o : Option Text) → copies (fate_named own matched a o) ≡ false
+pub named_no_copy : (own : Resolve) (matched : List (Option InterfaceId)) (a : ℕ) (o : Option Text) → copies (fate_named own matched a o) ≡ false
 named_no_copy own matched a None = refl
 named_no_copy own matched a (Some name) = beside_no_copy (type_named own matched a name)
 

@@ -21,7 +21,6 @@ use Rattle.wit_model.specs.Uses.{item_interface}
 use Rattle.wit_model.specs.Valid.{IsValid, as_world, is_place, item_function, numbers_in_range, world_items}
 use Rattle.wit_model.proofs.OnePath.{found-in}
 use Rattle.bind_union.specs.Carried.{Renumbering}
-use Rattle.bind_union.proofs.Homes.{owner_equal}
 use Rattle.bind_union.proofs.Lists.{no_true}
 use Rattle.bind_union.proofs.WorldRules.{by_entries}
 use Rattle.bind_carry.specs.CarriedParts.{is_function_carried}
@@ -41,7 +40,8 @@ use Rattle.base_lemmas.proofs.Bools.{left_of as first_true, right_of as second_t
 use Rattle.base_lemmas.proofs.Elements.{all_get as all_at}
 use Rattle.base_lemmas.proofs.Numbers.{same-number}
 use Rattle.std.proofs.lemmas.Map.Keys.{any_passes_from_place as any_of_at}
-use Rattle.bind_meaning.proofs.WorldPaths.{world-passes as world_passes}
+use Rattle.wit_model.proofs.PartsLemmas.{owner_same as owner_equal}
+use Rattle.wit_model.proofs.ValidLemmas.{world_passes}
 
 -- ---- lists
 

@@ -30,7 +30,7 @@ text_apart a b h = go (text_eq b a) refl
     go false e = e
     go true e = no_true (sym h ∙ (bytes_eq-Decides a b).1 (sym ((bytes_eq-Decides b a).0 e)))
 
-none_more : {X : Type 0} (p : X → Bool) (xs : List X) (y : X) → not (list_any p xs) ≡ true → p y ≡ false → not (list_any p (xs ++ y ∷ [])) ≡ true
+pub none_more : {X : Type 0} (p : X → Bool) (xs : List X) (y : X) → not (list_any p xs) ≡ true → p y ≡ false → not (list_any p (xs ++ y ∷ [])) ≡ true
 none_more p [] y h k = ap (λ b. not (b || false)) k
 none_more p (x ∷ xs) y h k = go (p x) h (λ rest. none_more p xs y rest k)
   where

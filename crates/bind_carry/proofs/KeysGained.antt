@@ -44,7 +44,7 @@ use Rattle.std.proofs.lemmas.Bool.{and_from as both}
 -- an interface with a name isn't inline
 
 -- keys of a list whose interfaces pass
-keys_pass : (p : ℕ → Bool) (es : List (WorldKey × WorldItem)) → ((e : WorldKey × WorldItem) → Contains es e → (id : InterfaceId) → e.0 ≡ key.Interface id → p id.0 ≡ true) → list_all (is_key_carried p) (keys_of es) ≡ true
+pub keys_pass : (p : ℕ → Bool) (es : List (WorldKey × WorldItem)) → ((e : WorldKey × WorldItem) → Contains es e → (id : InterfaceId) → e.0 ≡ key.Interface id → p id.0 ≡ true) → list_all (is_key_carried p) (keys_of es) ≡ true
 keys_pass p [] each = refl
 keys_pass p (e ∷ es) each = both (is_key_carried p e.0) (list_all (is_key_carried p) (keys_of es)) (one e.0 (each e (0, omega arith, refl))) (keys_pass p es (λ x held. each x (contains-later e es x held)))
   where

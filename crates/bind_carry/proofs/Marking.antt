@@ -137,7 +137,7 @@ new_at (m ∷ ms) [] long n i at = absurd (omega (arith, long))
 new_at (m ∷ ms) (j ∷ is) long zero i at = let same : j ≡ i = ap (λ o. unwrap_or o j) at in (λ k. none_is m k && not (is_none (same k).name))
 new_at (m ∷ ms) (j ∷ is) long (suc n) i at = new_at ms is (omega (arith, long)) n i at
 
-new_long : (ms : List (Option InterfaceId)) (is : List Interface) → length ms ≡ length is → length (new_interfaces ms is) ≡ length is
+pub new_long : (ms : List (Option InterfaceId)) (is : List Interface) → length ms ≡ length is → length (new_interfaces ms is) ≡ length is
 new_long [] [] long = refl
 new_long [] (i ∷ is) long = absurd (omega (arith, long))
 new_long (m ∷ ms) [] long = absurd (omega (arith, long))

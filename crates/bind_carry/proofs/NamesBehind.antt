@@ -8,7 +8,6 @@ use Rattle.std.specs.declared.alloc.Global.{Global}
 use Rattle.std.proofs.lemmas.List.{map-append}
 use Rattle.indexmap.specs.IndexMap.{insert_all, insert_entry}
 use Rattle.wit_model.specs.Text.{Text, text_eq, text_of}
-use Rattle.wit_model.proofs.AnyOrder.{text-same}
 use Rattle.wit_model.proofs.Distinct.{text_eq_flip}
 use Rattle.bind_union.specs.Merged.{is_name}
 use Rattle.bind_union.proofs.Listed.{under_text}
@@ -16,6 +15,7 @@ use Rattle.bind_union.proofs.Lists.{no_true}
 use Rattle.bind_union.proofs.PackageNames.{name_append}
 use Rattle.bind_carry.proofs.CopiesPlaced.{nothing_there, some_same}
 use Rattle.base_lemmas.proofs.Elements.{contains-later}
+use Rattle.wit_model.proofs.TextLemmas.{text_same as text-same}
 
 -- ---- names and numbers
 

@@ -20,7 +20,6 @@ use Rattle.wit_model.specs.Text.{Text, text_eq, text_of}
 use Rattle.wit_model.specs.Valid.{IsValid, names_in_packages, places}
 use Rattle.wit_model.proofs.Distinct.{text_eq_flip}
 use Rattle.wit_model.proofs.OnePath.{found-in, package-passes}
-use Rattle.wit_model.proofs.VersionLaws.{text_same}
 use Rattle.bind_copy.specs.Copies.{number_under}
 use Rattle.bind_match.specs.Matching.{given, interface_in, is_root_world, own_interface_of, own_package_of, own_world_of, world_in}
 use Rattle.bind_match.specs.declared.matches.Matches.{Matches}
@@ -45,6 +44,8 @@ use Rattle.base_lemmas.proofs.Numbers.{equal}
 use Rattle.base_lemmas.proofs.Options.{none_not_some}
 use Rattle.std.proofs.lemmas.Bool.{and_from as both}
 use Rattle.std.proofs.lemmas.Option.{slice_get_within as within_list}
+use Rattle.bind_carry.proofs.InsertedBehind.{none_more}
+use Rattle.wit_model.proofs.TextLemmas.{text_named as label_is, text_same}
 
 -- ---- lists
 
@@ -55,14 +56,6 @@ passes_of_filter p q (x ∷ xs) each = go (p x) refl (passes_of_filter p q xs (�
     go : (b : Bool) → p x ≡ b → list_all q (filter p xs) ≡ true → list_all q (cond b (x ∷ filter p xs) (filter p xs)) ≡ true
     go true e rest = both (q x) (list_all q (filter p xs)) (each x (0, omega arith, refl) e) rest
     go false e rest = rest
-
-none_more : {X : Type 0} (p : X → Bool) (xs : List X) (y : X) → not (list_any p xs) ≡ true → p y ≡ false → not (list_any p (xs ++ y ∷ [])) ≡ true
-none_more p [] y h k = ap (λ b. not (b || false)) k
-none_more p (x ∷ xs) y h k = go (p x) h (λ rest. none_more p xs y rest k)
-  where
-    go : (b : Bool) → not (b || list_any p xs) ≡ true → (not (list_any p xs) ≡ true → not (list_any p (xs ++ y ∷ [])) ≡ true) → not (b || list_any p (xs ++ y ∷ [])) ≡ true
-    go true h more = no_true h
-    go false h more = more h
 
 -- whether a name stands among entries
 abbrev pub is_name_in : {X : Type 0} → List (String Global × X) → Text → Bool
@@ -154,10 +147,6 @@ pub record IsWorldOf (r : Resolve) (n : ℕ) (e : String Global × WorldId) : Ty
 pub home_is : (n : ℕ) (o : Option PackageId) → is_id n (package_number o) ≡ true → (home : PackageId) × (o ≡ Some home) × (home.0 ≡ n)
 home_is n None h = no_true h
 home_is n (Some id) h = (id, refl, equal id.0 n h)
-
-label_is : (o : Option (String Global)) (t : Text) → text_is o t ≡ true → (s : String Global) × (o ≡ Some s) × (text_of s ≡ t)
-label_is None t h = no_true h
-label_is (Some s) t h = (s, refl, text_same (text_of s) t h)
 
 module _ (r : Resolve) (valid : IsValid r) (n : ℕ) (p : Package) (at : package_at r n ≡ Some p) where
   pub interface_of : (e : String Global × InterfaceId) → Contains p.interfaces.entries e → IsInterfaceOf r n e

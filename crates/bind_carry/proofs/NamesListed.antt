@@ -1,5 +1,5 @@
 -- What a name in a package of a valid `Resolve` is, and where it stands.
-use Rattle.std.proofs.Common.{◌≡◌, refl, ap, ◌∙◌, ℕ, true, ◌&&◌, Option, Some, None, option_map}
+use Rattle.std.proofs.Common.{◌≡◌, ap, ◌∙◌, ℕ, ◌&&◌, Some, option_map}
 use Rattle.std.specs.Prelude.{String}
 use Rattle.std.specs.List.{Contains}
 use Rattle.std.specs.declared.alloc.Global.{Global}
@@ -13,23 +13,14 @@ use Rattle.wit_model.specs.Names.{path_in}
 use Rattle.wit_model.specs.Rules.{is_id, package_number, text_is}
 use Rattle.wit_model.specs.Text.{Text, optional_text, text_eq, text_of}
 use Rattle.wit_model.specs.Valid.{IsValid}
-use Rattle.wit_model.proofs.AnyOrder.{text-same}
 use Rattle.bind_union.specs.Merged.{interface_names, world_names}
 use Rattle.bind_union.proofs.Carrying.{path_by, path_parts}
 use Rattle.bind_union.proofs.KeptPackages.{found_option, interfaces_stand, is_interface_of, is_world_of, worlds_stand}
-use Rattle.bind_union.proofs.Lists.{no_true}
 use Rattle.bind_union.proofs.UnitedWorlds.{world_path}
 use Rattle.base_lemmas.proofs.Bools.{left_of as first_true, right_of as second_true}
 use Rattle.base_lemmas.proofs.Elements.{all-contained}
-use Rattle.base_lemmas.proofs.Numbers.{equal}
-
-text_given : (o : Option (String Global)) (t : Text) → text_is o t ≡ true → (s : String Global) × (o ≡ Some s) × (text_of s ≡ t)
-text_given None t h = no_true h
-text_given (Some s) t h = (s, refl, text-same (text_of s) t h)
-
-home_given : (n : ℕ) (o : Option PackageId) → is_id n (package_number o) ≡ true → (id : PackageId) × (o ≡ Some id) × (id.0 ≡ n)
-home_given n None h = no_true h
-home_given n (Some id) h = (id, refl, equal id.0 n h)
+use Rattle.bind_carry.proofs.NamesGained.{home_is as home_given}
+use Rattle.wit_model.proofs.TextLemmas.{text_named as text_given, text_same as text-same}
 
 -- The interface of a name and a number in a package.
 pub record IsListedInterface (r : Resolve) (home : ℕ) (p : Package) (name : Text) (n : ℕ) : Type 0 where

@@ -28,7 +28,6 @@ use Rattle.bind_carry.specs.Marked.{AreChosen}
 use Rattle.bind_carry.specs.Numbers.{interface_number, world_number}
 use Rattle.bind_carry.specs.Packaged.{is_copied_interface, is_copied_world, IsInterfaceName, IsWorldName}
 use Rattle.bind_carry.specs.SecondPass.{is_left_out}
-use Rattle.bind_carry.specs.Which.{new_worlds}
 use Rattle.bind_carry.specs.declared.plan.Carried.{Carried}
 use Rattle.bind_carry.proofs.CopiesPlaced.{nothing_there, some_same}
 use Rattle.bind_carry.proofs.FirstCarried.{chosen_so}
@@ -41,15 +40,11 @@ use Rattle.base_lemmas.proofs.Bools.{left_of as first_true, right_of as second_t
 use Rattle.base_lemmas.proofs.Elements.{contains-map, get-contains}
 use Rattle.base_lemmas.proofs.Lists.{mapped_get as mapped_at}
 use Rattle.std.proofs.lemmas.Bool.{not-false as root_left, not-true as not_set}
+use Rattle.bind_carry.proofs.NamesGained.{new_world_flag as new_world_at}
 
 -- ---- worlds by their flags
 
 -- a world is new where no own one has its path, and it isn't `root:root/root`
-new_world_at : (r : Resolve) (ms : List (Option WorldId)) (ws : List World) (n : ℕ) (o : Option WorldId) (w : World) → slice_get ms n ≡ Some o → slice_get ws n ≡ Some w → flag_under (new_worlds r ms ws) n ≡ (is_none o && not (is_root_world r w))
-new_world_at r [] ws n o w at_o at_w = nothing_there o at_o
-new_world_at r (m ∷ ms) [] n o w at_o at_w = nothing_there w at_w
-new_world_at r (m ∷ ms) (x ∷ ws) zero o w at_o at_w = λ i. is_none (some_same m o at_o i) && not (is_root_world r (some_same x w at_w i))
-new_world_at r (m ∷ ms) (x ∷ ws) (suc n) o w at_o at_w = new_world_at r ms ws n o w at_o at_w
 
 -- the own number of a world that has one
 world_under : (ms : List (Option WorldId)) (n : ℕ) (id : WorldId) → slice_get ms n ≡ Some (Some id) → number_under (map world_number ms) n ≡ id.0

@@ -4,7 +4,6 @@ use Rattle.std.specs.Prelude.{codes, is_none}
 use Rattle.std.specs.List.{list_all}
 use Rattle.std.specs.Ordering.{eq_by_cmp}
 use Rattle.std.specs.Cmp.Lexicographic.{texts_ties}
-use Rattle.semver.specs.declared.Version.{Version}
 use Rattle.wit_model.specs.declared.model.Package.{Package}
 use Rattle.wit_model.specs.declared.model.PackageName.{PackageName}
 use Rattle.wit_model.specs.Lookup.{identity_of, optional_version_text}
@@ -13,12 +12,15 @@ use Rattle.wit_model.specs.Rules.{same_package_name}
 use Rattle.wit_model.specs.Text.{Text, text_cmp, text_eq, text_of}
 use Rattle.wit_model.proofs.NameLaws.{label_lacks}
 use Rattle.wit_model.proofs.OnePath.{IsPackageName}
-use Rattle.wit_model.proofs.VersionLaws.{same_name, same_text, text_same}
+use Rattle.wit_model.proofs.VersionLaws.{same_name, same_text}
 use Rattle.bind_meaning.specs.Binding.{package_text}
 use Rattle.bind_match.specs.Matching.{is_root_name}
 use Rattle.base_lemmas.proofs.Bools.{both_ways as either_way, left_of as first_true, right_of as second_true}
 use Rattle.base_lemmas.proofs.Numbers.{same-number}
 use Rattle.std.proofs.lemmas.Bool.{and_from as both}
+use Rattle.base_lemmas.proofs.Options.{none_is as no_version}
+use Rattle.wit_model.proofs.LookupLemmas.{versionless}
+use Rattle.wit_model.proofs.TextLemmas.{text_same}
 
 -- ---- texts up to a byte that they lack
 
@@ -98,14 +100,6 @@ module _ (p q : Package) (names_p : IsPackageName p) (names_q : IsPackageName q)
       (λ h. same_of_texts (text_same (text_of_package p) (text_of_package q) (texts_ties (text_of_package p) (text_of_package q) ∙ h)))
 
 -- ---- the root package
-
-no_version : (v : Option Version) → is_none v ≡ true → v ≡ None
-no_version None h = refl
-no_version (Some v) h = let wrong : ⊥ = cc in absurd wrong
-
-versionless : (v : Option Version) → optional_version_text v ≡ None → is_none v ≡ true
-versionless None e = refl
-versionless (Some v) e = let wrong : ⊥ = cc in absurd wrong
 
 abbrev root_identity : PackageIdentity
 root_identity = record { namespace = codes "root"; name = codes "root"; version = None }

@@ -12,7 +12,6 @@ use Rattle.wit_model.specs.declared.model.Function.{Function}
 use Rattle.wit_model.specs.declared.model.Interface.{Interface}
 use Rattle.wit_model.specs.declared.model.Resolve.{Resolve}
 use Rattle.wit_model.specs.declared.model.TypeDef.{TypeDef}
-use Rattle.wit_model.specs.declared.model.TypeDefKind.{TypeDefKind}
 use Rattle.wit_model.specs.declared.model.TypeDefKind.TheVariants as kind
 use Rattle.wit_model.specs.declared.model.TypeOwner.{TypeOwner}
 use Rattle.wit_model.specs.declared.model.TypeOwner.TheVariants as owner
@@ -32,14 +31,14 @@ use Rattle.wit_model.proofs.Functions.{all_flat}
 use Rattle.wit_model.proofs.Owners.{function_home, named_met, owned_stays, unnamed_met}
 use Rattle.wit_model.proofs.OnePath.{found-in, interface-passes}
 use Rattle.bind_union.proofs.Carrying.{references_of}
-use Rattle.bind_union.proofs.Homes.{owner_equal}
 use Rattle.bind_union.proofs.Lists.{no_true}
-use Rattle.bind_union.proofs.TypeRules.{type_passes}
 use Rattle.bind_union.proofs.WorldRules.{by_entries}
 use Rattle.bind_carry.specs.CarriedParts.{AreCarriedByOwner, PartsAreCarried, is_function_carried}
 use Rattle.base_lemmas.proofs.Bools.{left_of as first_true, right_of as second_true}
 use Rattle.base_lemmas.proofs.Elements.{all_three, all_two, all_weaker}
-use Rattle.bind_meaning.proofs.WorldPaths.{world-passes as world_passes}
+use Rattle.wit_model.proofs.PartsLemmas.{owner_same as owner_equal}
+use Rattle.wit_model.proofs.UsesLemmas.{alias_numbers}
+use Rattle.wit_model.proofs.ValidLemmas.{type_passes, world_passes}
 
 -- ---- lists
 
@@ -59,22 +58,6 @@ never : {A : Type 0} (u : ℕ) → ◌≡◌ {A = Option ℕ} None (Some u) → 
 never u e = let wrong : ⊥ = cc in absurd wrong
 
 -- an alias refers to its target alone
-alias_numbers : (k : TypeDefKind) (u : ℕ) → alias_target k ≡ Some u → kind_numbers k ≡ u ∷ []
-alias_numbers (kind.Type_ t) u e = ap option_to_list e
-alias_numbers (kind.Record x) u e = never u e
-alias_numbers kind.Resource u e = never u e
-alias_numbers (kind.Handle x) u e = never u e
-alias_numbers (kind.Flags x) u e = never u e
-alias_numbers (kind.Tuple x) u e = never u e
-alias_numbers (kind.Variant x) u e = never u e
-alias_numbers (kind.Enum x) u e = never u e
-alias_numbers (kind.Option x) u e = never u e
-alias_numbers (kind.Result x) u e = never u e
-alias_numbers (kind.List x) u e = never u e
-alias_numbers (kind.Map x y) u e = never u e
-alias_numbers (kind.FixedLengthList x y) u e = never u e
-alias_numbers (kind.Future x) u e = never u e
-alias_numbers (kind.Stream x) u e = never u e
 
 -- ---- owners of types
 

@@ -34,7 +34,6 @@ use Rattle.bind_copy.specs.Copies.{all_below, are_names_below, are_params_below,
 use Rattle.bind_union.specs.Views.{type_numbers}
 use Rattle.bind_union.proofs.Carrying.{references_of, refers_below}
 use Rattle.bind_union.proofs.Images.{given_numbers, numbers_cons, numbers_of_view}
-use Rattle.bind_union.proofs.Lists.{each_at}
 use Rattle.bind_carry.specs.Fates.{FallBelow}
 use Rattle.bind_carry.specs.InRange.{IsInRange}
 use Rattle.bind_carry.specs.Listed.{are_interfaces_below, are_worlds_below, IsHomeBelow, IsOwnerBelow}
@@ -43,6 +42,7 @@ use Rattle.bind_carry.specs.Shown.{are_keys_below, type_in, AreNewShownBelow, Ar
 use Rattle.std.specs.Option.{option_map_or}
 use Rattle.base_lemmas.proofs.Bools.{left_of as first_true, right_of as second_true}
 use Rattle.base_lemmas.proofs.Lists.{within_there as there}
+use Rattle.wit_model.proofs.RulesLemmas.{each_at}
 
 -- ---- functions
 

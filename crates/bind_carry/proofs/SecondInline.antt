@@ -22,7 +22,7 @@ use Rattle.wit_model.specs.Text.{text_of}
 use Rattle.wit_model.specs.Uses.{item_interface}
 use Rattle.wit_model.specs.Valid.{IsValid, key_eq}
 use Rattle.wit_model.proofs.Elements.{contains-get}
-use Rattle.wit_model.proofs.OnePath.{found-in, named-path}
+use Rattle.wit_model.proofs.OnePath.{named-path}
 use Rattle.bind_copy.specs.Copies.{is_new_under, number_under}
 use Rattle.bind_match.specs.declared.matches.Matches.{Matches}
 use Rattle.bind_union.proofs.Lists.{no_true}
@@ -43,6 +43,7 @@ use Rattle.bind_carry.proofs.WorldEntries.{any_place, import_keyed, import_range
 use Rattle.base_lemmas.proofs.Bools.{left_of as first_true, right_of as second_true}
 use Rattle.base_lemmas.proofs.Numbers.{equal, same-number}
 use Rattle.std.proofs.lemmas.Map.Keys.{any_passes_from_place as any_at}
+use Rattle.wit_model.proofs.UsesLemmas.{interface_in_range as interface_there}
 
 -- ---- lists
 
@@ -56,11 +57,6 @@ interface_is : (r : Resolve) (y : WorldItem) (i : ℕ) → item_interface y ≡ 
 interface_is r (item.Interface id s d x) i e = ap (interface_item r) (some_same id.0 i e)
 interface_is r (item.Function g) i e = let wrong : ⊥ = cc in absurd wrong
 interface_is r (item.Type_ id) i e = let wrong : ⊥ = cc in absurd wrong
-
-interface_there : (r : Resolve) (y : WorldItem) (i : ℕ) → item_interface y ≡ Some i → item_in_range r y ≡ true → (def : Interface) × (interface_at r i ≡ Some def)
-interface_there r (item.Interface id s d x) i e h = let f = found-in r.interfaces.items id.0 h in (f.0, ap (interface_at r) (sym (some_same id.0 i e)) ∙ f.1)
-interface_there r (item.Function g) i e h = let wrong : ⊥ = cc in absurd wrong
-interface_there r (item.Type_ id) i e h = let wrong : ⊥ = cc in absurd wrong
 
 is_shown : (y : WorldItem) (i : ℕ) → item_interface y ≡ Some i → is_id i (item_interface y) ≡ true
 is_shown y i e = ap (is_id i) e ∙ same-number i

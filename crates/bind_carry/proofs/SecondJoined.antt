@@ -1,5 +1,5 @@
 -- The bound world gains the items whose keys it hasn't, one by one, and own ones stand for the others.
-use Rattle.std.proofs.Common.{◌≡◌, inl, inr, refl, sym, ap, ◌∙◌, ℕ, ◌+◌, arith, Bool, true, false, not, ◌&&◌, ◌||◌, List, [], ◌∷◌, length, Option, Some, None, is_none, is_some, option_and_then, option_to_list, slice_get, if◌then◌else◌}
+use Rattle.std.proofs.Common.{◌≡◌, inl, inr, refl, sym, ap, ◌∙◌, ℕ, ◌+◌, Bool, true, false, not, ◌&&◌, ◌||◌, List, [], length, Option, Some, None, is_none, is_some, option_and_then, option_to_list, slice_get, if◌then◌else◌}
 use Rattle.std.specs.Prelude.{String}
 use Rattle.std.specs.declared.alloc.Global.{Global}
 use Rattle.std.specs.List.{list_all, Contains, IsDistinct}
@@ -8,7 +8,6 @@ use Rattle.std.specs.Option.{option_map_or}
 use Rattle.std.proofs.lemmas.Bool.{or_left, or_right, and_from as both}
 use Rattle.wit_model.specs.declared.model.Function.{Function}
 use Rattle.wit_model.specs.declared.model.Interface.{Interface}
-use Rattle.wit_model.specs.declared.model.InterfaceId.{InterfaceId}
 use Rattle.wit_model.specs.declared.model.Resolve.{Resolve}
 use Rattle.wit_model.specs.declared.model.TypeDef.{TypeDef}
 use Rattle.wit_model.specs.declared.model.TypeId.{TypeId}
@@ -46,7 +45,7 @@ use Rattle.bind_carry.specs.declared.fate.Fate.TheVariants as fate
 use Rattle.bind_carry.specs.declared.plan.Carried.{Carried}
 use Rattle.bind_carry.proofs.FirstCarried.{interfaces_once}
 use Rattle.bind_carry.proofs.JoinedItems.{items_join}
-use Rattle.bind_carry.proofs.KeysApart.{is_key_carried, keys_apart}
+use Rattle.bind_carry.proofs.KeysApart.{keys_apart}
 use Rattle.bind_carry.proofs.LabelsFound.{label_found}
 use Rattle.bind_carry.proofs.PassedTypes.{parts_hold}
 use Rattle.bind_carry.proofs.SecondAgreed.{adds, before, before_fates, fates, import_stands_for, initial, named_is_carried, second}
@@ -62,22 +61,16 @@ use Rattle.bind_carry.proofs.SecondTypes.{unified_at, IsUnified}
 use Rattle.bind_carry.proofs.SettledParts.{copied_still}
 use Rattle.bind_carry.proofs.WorldEntries.{export_keyed, export_range, export_so, import_keyed, import_range, label_new, new_under_same}
 use Rattle.base_lemmas.proofs.Bools.{left_of as first_true, right_of as second_true}
-use Rattle.base_lemmas.proofs.Elements.{all-contained, contains-later, get-contains}
+use Rattle.base_lemmas.proofs.Elements.{all-contained, get-contains}
 use Rattle.base_lemmas.proofs.Numbers.{same-number}
 use Rattle.std.proofs.lemmas.Map.Keys.{any_passes_from_place as any_at}
+use Rattle.bind_carry.proofs.KeysGained.{keys_pass}
 
 not_some : {X : Type 0} (o : Option X) → not (is_some o) ≡ true → o ≡ None
 not_some None h = refl
 not_some (Some x) h = no_true h
 
 -- keys of a list whose interfaces pass
-keys_pass : (p : ℕ → Bool) (es : List (WorldKey × WorldItem)) → ((e : WorldKey × WorldItem) → Contains es e → (id : InterfaceId) → e.0 ≡ key.Interface id → p id.0 ≡ true) → list_all (is_key_carried p) (keys_of es) ≡ true
-keys_pass p [] each = refl
-keys_pass p (e ∷ es) each = both (is_key_carried p e.0) (list_all (is_key_carried p) (keys_of es)) (one e.0 (each e (0, omega arith, refl))) (keys_pass p es (λ x held. each x (contains-later e es x held)))
-  where
-    one : (k : WorldKey) → ((id : InterfaceId) → k ≡ key.Interface id → p id.0 ≡ true) → is_key_carried p k ≡ true
-    one (key.Name t) h = refl
-    one (key.Interface id) h = h id refl
 
 module _ (own other merged : Resolve) (valid_own : IsValid own) (valid_other : IsValid other) (world other_world : ℕ) (w v : World) (m : Matches) (c : Carried) (first_numbers : List ℕ) (p : IsFirstPass own other merged m c first_numbers) (copied : List Bool) (interfaces types : List ℕ)
     (s : IsSecondPass own other merged world other_world w v m c first_numbers p copied interfaces types) where

@@ -25,7 +25,6 @@ use Rattle.wit_model.specs.Meant.{item_meaning}
 use Rattle.wit_model.specs.Rules.{item_type}
 use Rattle.wit_model.specs.Text.{text_of}
 use Rattle.wit_model.specs.Valid.{IsValid, as_interface, as_world, key_eq}
-use Rattle.wit_model.proofs.AnyOrder.{text-same}
 use Rattle.wit_model.proofs.Elements.{contains-get}
 use Rattle.bind_copy.specs.Copies.{is_new_under, number_under}
 use Rattle.bind_match.specs.declared.matches.Matches.{Matches}
@@ -57,6 +56,7 @@ use Rattle.bind_carry.proofs.SecondTypes.{second_long, unified_set, IsUnified}
 use Rattle.bind_carry.proofs.WorldEntries.{any_new_same, export_keyed, import_keyed, label_new, IsNumberedSame}
 use Rattle.base_lemmas.proofs.Elements.{get-contains, lookup_stands}
 use Rattle.std.proofs.lemmas.Map.Keys.{any_passes_from_place as any_at}
+use Rattle.wit_model.proofs.TextLemmas.{text_same as text-same}
 
 -- ---- items that are types
 

@@ -17,7 +17,6 @@ use Rattle.wit_model.specs.declared.model.WorldKey.TheVariants as key
 use Rattle.wit_model.specs.Lookup.{interface_at, interface_path, key_text}
 use Rattle.wit_model.specs.Text.{text_of}
 use Rattle.wit_model.specs.Valid.{IsValid, key_eq}
-use Rattle.wit_model.proofs.AnyOrder.{text-same}
 use Rattle.bind_copy.specs.Copies.{is_key_under, is_new_under, number_under}
 use Rattle.bind_match.specs.declared.matches.Matches.{Matches}
 use Rattle.bind_union.specs.Carried.{KeyBecomes, Renumbering}
@@ -38,6 +37,7 @@ use Rattle.bind_carry.proofs.SecondStands.{named_carried_there, second_named}
 use Rattle.bind_carry.proofs.WorldEntries.{any_place, label_new, IsPlacedIn}
 use Rattle.base_lemmas.proofs.Elements.{get-contains, lookup_stands}
 use Rattle.base_lemmas.proofs.Numbers.{equal}
+use Rattle.wit_model.proofs.TextLemmas.{text_same as text-same}
 
 module _ (own other merged : Resolve) (valid_own : IsValid own) (valid_other : IsValid other) (world other_world : ℕ) (w v : World) (m : Matches) (c : Carried) (first_numbers : List ℕ) (p : IsFirstPass own other merged m c first_numbers) (copied : List Bool) (interfaces types : List ℕ)
     (s : IsSecondPass own other merged world other_world w v m c first_numbers p copied interfaces types) where

@@ -23,7 +23,7 @@ use Rattle.wit_model.proofs.Distinct.{text_eq_flip}
 use Rattle.bind_add.specs.Growth.{GainsNone, HasGained, HasGainedItems, IsAdded}
 use Rattle.bind_add.specs.declared.added.Added.{Added}
 use Rattle.bind_add.specs.declared.added.Names.{Names}
-use Rattle.bind_copy.specs.Copies.{become_one, is_new_under, names_in, type_names, type_names_under, AreNewCopied, IsEntryUnder, IsFunctionEntry, IsInterfaceUnder, IsKeyUnder}
+use Rattle.bind_copy.specs.Copies.{become_one, is_new_under, names_in, type_names, AreNewCopied, IsEntryUnder, IsFunctionEntry, IsInterfaceUnder, IsKeyUnder}
 use Rattle.bind_copy.proofs.Gained.{same_images}
 use Rattle.bind_match.specs.declared.matches.Matches.{Matches}
 use Rattle.bind_carry.specs.AddedDistinct.{UnionsHaveDistinctKeys}
@@ -40,6 +40,7 @@ use Rattle.bind_carry.proofs.NamesGained.{distinct_along}
 use Rattle.base_lemmas.proofs.Elements.{zip_at_right as zip_at}
 use Rattle.base_lemmas.proofs.Lists.{within_there}
 use Rattle.base_lemmas.proofs.Numbers.{turned as number_flip}
+use Rattle.bind_copy.proofs.CopiesLemmas.{names_alone_under}
 
 -- ---- keys the other way round
 
@@ -105,10 +106,6 @@ module _ {X Y : Type 0} where
 names_alone : (es : List (String Global × TypeId)) → map (λ (x : Text × ℕ). x.0) (type_names es) ≡ names_in es
 names_alone [] = refl
 names_alone (e ∷ es) = ap (λ l. text_of e.0 ∷ l) (names_alone es)
-
-names_alone_under : (numbers : List ℕ) (es : List (String Global × TypeId)) → map (λ (x : Text × ℕ). x.0) (type_names_under numbers es) ≡ names_in es
-names_alone_under numbers [] = refl
-names_alone_under numbers (e ∷ es) = ap (λ l. text_of e.0 ∷ l) (names_alone_under numbers es)
 
 interface_distinct : (numbers : List ℕ) (home : Option PackageId) (old new : Interface) → IsInterfaceUnder numbers home old new → IsUnique string_eq old.types × IsUnique string_eq old.functions → IsUnique string_eq new.types × IsUnique string_eq new.functions
 interface_distinct numbers home old new is unique = (

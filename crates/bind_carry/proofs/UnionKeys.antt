@@ -21,7 +21,6 @@ use Rattle.wit_model.specs.Names.{path_in}
 use Rattle.wit_model.specs.Rules.{package_number}
 use Rattle.wit_model.specs.Text.{optional_text, text_of, Text}
 use Rattle.wit_model.specs.Valid.{key_eq, IsValid}
-use Rattle.wit_model.proofs.VersionLaws.{text_same}
 use Rattle.bind_add.specs.Growth.{HasGainedItems}
 use Rattle.bind_add.specs.declared.added.Added.{Added}
 use Rattle.bind_copy.specs.Copies.{is_key_under, is_new_under, number_under, IsEntryUnder, IsKeyUnder}
@@ -50,6 +49,7 @@ use Rattle.base_lemmas.proofs.Elements.{contains-later, get-contains}
 use Rattle.base_lemmas.proofs.Lists.{within_there}
 use Rattle.base_lemmas.proofs.Numbers.{equal}
 use Rattle.std.proofs.lemmas.Bool.{not-false as not_not}
+use Rattle.wit_model.proofs.TextLemmas.{text_same}
 
 -- ---- lists
 

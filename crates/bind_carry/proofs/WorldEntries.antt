@@ -18,11 +18,11 @@ use Rattle.wit_model.specs.Valid.{IsValid, is_place, key_eq, numbers_in_range, w
 use Rattle.wit_model.proofs.OnePath.{found-in}
 use Rattle.bind_union.proofs.Lists.{no_true}
 use Rattle.bind_copy.specs.Copies.{is_key_under, is_new_under, number_under}
-use Rattle.bind_union.proofs.WorldNamesakes.{some_id}
 use Rattle.bind_carry.specs.Shown.{any_new}
 use Rattle.base_lemmas.proofs.Bools.{left_of as first_true, right_of as second_true}
 use Rattle.base_lemmas.proofs.Elements.{all-contained, contains-later}
-use Rattle.bind_meaning.proofs.WorldPaths.{world-passes}
+use Rattle.wit_model.proofs.RulesLemmas.{is_id_some as some_id}
+use Rattle.wit_model.proofs.ValidLemmas.{world_passes as world-passes}
 
 -- ---- lists
 

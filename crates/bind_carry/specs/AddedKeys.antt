@@ -23,6 +23,7 @@ pub data KeyView : Type 0 where
   labelled : Text → KeyView
   numbered : ℕ → KeyView
 
+-- what a key of the code says
 abbrev pub key_view : WorldKey → KeyView
 key_view (key.Name name) = labelled (text_of name)
 key_view (key.Interface id) = numbered id.0

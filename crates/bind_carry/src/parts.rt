@@ -67,21 +67,21 @@ fn are_types_carried(fates: &[Fate], types: &[Type]) -> bool
     types.iter().all(|ty| is_type_carried(fates, *ty))
 }
 
-#[tactic(auto, using(crate::proofs::Flat::flat_all_mapped))]
+#[tactic(auto, using(base_lemmas::proofs::Elements::flat_all_mapped))]
 fn is_record_carried(fates: &[Fate], record_: &Record) -> bool
     ensures { result ≡ are_carried fates.now (view_numbers (kind_view (kinds.Record record_.now))) }
 {
     are_fields_carried(fates, &record_.fields)
 }
 
-#[tactic(auto, using(crate::proofs::Flat::flat_all_mapped))]
+#[tactic(auto, using(base_lemmas::proofs::Elements::flat_all_mapped))]
 fn is_variant_carried(fates: &[Fate], variant: &Variant) -> bool
     ensures { result ≡ are_carried fates.now (view_numbers (kind_view (kinds.Variant variant.now))) }
 {
     are_cases_carried(fates, &variant.cases)
 }
 
-#[tactic(auto, using(crate::proofs::Flat::flat_all))]
+#[tactic(auto, using(base_lemmas::proofs::Elements::flat_all))]
 fn is_tuple_carried(fates: &[Fate], tuple: &Tuple) -> bool
     ensures { result ≡ are_carried fates.now (view_numbers (kind_view (kinds.Tuple tuple.now))) }
 {

@@ -24,7 +24,8 @@ use Rattle.bind_meaning.specs.ByNumbers.{binding_at}
 use Rattle.bind_meaning.specs.Clash.{Differ, ExportFault, ImportFault, InterfaceFault, IsFirstOf, WorldFault, carried_worlds}
 use Rattle.bind_meaning.specs.Encodings.{Encodings}
 use Rattle.bind_meaning.specs.Roots.{root_path}
-use Rattle.bind_meaning.proofs.Listed.{find-contains, from-map, given as unpacked}
+use Rattle.bind_meaning.proofs.Listed.{from-map, given as unpacked}
+use Rattle.wit_model.proofs.AnyOrder.{found-there as find-contains}
 use Rattle.bind_meaning.proofs.Maps.{by_tie, get-without, itself_ties}
 use Rattle.bind_meaning.proofs.WorldBindings.{export-key, exports-distinct, import-key, imports-distinct, interface-found, interface-under, world-found, world-under}
 use Rattle.bind_meaning.proofs.WorldPaths.{path_at}

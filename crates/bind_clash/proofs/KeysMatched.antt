@@ -18,7 +18,6 @@ use Rattle.wit_model.specs.Lookup.{interface_at, interface_path, key_text, path_
 use Rattle.wit_model.specs.Meant.{entries_meaning, entry_meaning}
 use Rattle.wit_model.specs.Rules.{are_distinct}
 use Rattle.wit_model.specs.Valid.{IsValid, key_eq}
-use Rattle.wit_model.proofs.AnyOrder.{text-same}
 use Rattle.wit_model.proofs.Elements.{none-in}
 use Rattle.bind_meaning.proofs.Listed.{given as unpacked}
 use Rattle.bind_meaning.proofs.Maps.{by_tie, eq_by_text, found_keys, has_key, itself_ties}
@@ -31,6 +30,7 @@ use Rattle.base_lemmas.proofs.Bools.{left_of as first_true, right_of as second_t
 use Rattle.base_lemmas.proofs.Elements.{contains-later, first-contained}
 use Rattle.base_lemmas.proofs.Numbers.{equal}
 use Rattle.base_lemmas.proofs.Options.{there as some-of}
+use Rattle.wit_model.proofs.TextLemmas.{text_same as text-same}
 
 -- ---- keys by their texts
 

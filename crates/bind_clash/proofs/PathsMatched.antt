@@ -5,7 +5,6 @@ use Rattle.std.specs.HashMap.{get_by_text}
 use Rattle.std.specs.declared.alloc.Global.{Global}
 use Rattle.std.proofs.lemmas.Option.{slice_get-map, same_Some as same-some}
 use Rattle.std.proofs.lemmas.Slice.Eq.{bytes_eq-Decides}
-use Rattle.semver.specs.declared.Version.{Version}
 use Rattle.wit_model.specs.declared.model.Interface.{Interface}
 use Rattle.wit_model.specs.declared.model.InterfaceId.{InterfaceId}
 use Rattle.wit_model.specs.declared.model.Package.{Package}
@@ -19,7 +18,6 @@ use Rattle.wit_model.specs.Names.{PackageIdentity, is_identity, is_label, path_i
 use Rattle.wit_model.specs.Lookup.{identity_of, interface_at, interface_path, optional_version_text, package_at, path_of_interface, path_of_world, world_at}
 use Rattle.wit_model.specs.Rules.{interface_is_listed, is_id, package_number, same_package_name, text_is, world_is_listed}
 use Rattle.wit_model.specs.Valid.{IsValid}
-use Rattle.wit_model.proofs.AnyOrder.{text-same}
 use Rattle.wit_model.proofs.NameLaws.{one_path}
 use Rattle.wit_model.proofs.OnePath.{has-path, package-name, package-once, path-label, path-listed}
 use Rattle.wit_model.proofs.VersionLaws.{same_name}
@@ -29,7 +27,7 @@ use Rattle.bind_meaning.proofs.WorldPaths.{has-world-path, path_at, world-label,
 use Rattle.bind_union.specs.Merged.{interface_names, world_names}
 use Rattle.bind_union.proofs.Carrying.{path_by, path_parts}
 use Rattle.bind_union.proofs.KeptPackages.{found_option, interfaces_stand, is_interface_of, is_world_of, worlds_stand}
-use Rattle.bind_union.proofs.Namesakes.{some_id, under_contains}
+use Rattle.bind_union.proofs.Namesakes.{under_contains}
 use Rattle.bind_union.proofs.PackageNames.{interfaces_by_name, worlds_by_name}
 use Rattle.bind_union.proofs.United.{some_name}
 use Rattle.bind_union.proofs.UnitedWorlds.{world_path}
@@ -38,6 +36,10 @@ use Rattle.base_lemmas.proofs.Bools.{left_of as first_true, right_of as second_t
 use Rattle.base_lemmas.proofs.Elements.{all-contained}
 use Rattle.base_lemmas.proofs.Numbers.{equal}
 use Rattle.std.proofs.lemmas.Bool.{and_from as both}
+use Rattle.base_lemmas.proofs.Options.{none_is as no-version}
+use Rattle.wit_model.proofs.LookupLemmas.{versionless}
+use Rattle.wit_model.proofs.RulesLemmas.{is_id_some as some_id}
+use Rattle.wit_model.proofs.TextLemmas.{text_same as text-same}
 
 pub untrue : {A : Type 0} → false ≡ true → A
 untrue e = let no : ⊥ = cc in absurd no
@@ -268,14 +270,6 @@ root-identity = refl
 
 root-label : is_label root ≡ true
 root-label = refl
-
-no-version : (v : Option Version) → is_none v ≡ true → v ≡ None
-no-version None h = refl
-no-version (Some v) h = untrue h
-
-versionless : (v : Option Version) → optional_version_text v ≡ None → is_none v ≡ true
-versionless None e = refl
-versionless (Some v) e = let no : ⊥ = cc in absurd no
 
 module _ (r : Resolve) (v : IsValid r) (w : World) (t : Text) (is : IsPathOf r w.«package» (text_of w.name) t) where
   root-test : is_root_world r w ≡ (text_eq (text_of w.name) root && is_root_name is.package_.name)

@@ -13,6 +13,7 @@ use Rattle.wit_model.specs.declared.model.TypeId.{TypeId}
 use Rattle.bind_copy.specs.Copies.{names_in, number_under, type_names, type_names_under}
 use Rattle.base_lemmas.proofs.Bools.{left_of as first_true, right_of as second_true}
 use Rattle.std.proofs.lemmas.Bool.{not-true as not_true, or_parts as none_of}
+use Rattle.bind_copy.proofs.CopiesLemmas.{names_alone_under as firsts_under}
 
 -- no name in front is the one that stands in the middle
 at_middle : (t x : Text) (front rest : List Text) → list_any (text_eq x) (front ++ t ∷ rest) ≡ false → text_eq x t ≡ false
@@ -38,10 +39,6 @@ module _ (numbers : List ℕ) where
   firsts_done : (done : List (String Global × TypeId)) (ys : List (Text × ℕ)) → map (λ (x : Text × ℕ). x.0) (type_names done ++ ys) ≡ names_in done ++ map (λ (x : Text × ℕ). x.0) ys
   firsts_done [] ys = refl
   firsts_done (e ∷ es) ys = ap (λ ts. text_of e.0 ∷ ts) (firsts_done es ys)
-
-  firsts_under : (es : List (String Global × TypeId)) → map (λ (x : Text × ℕ). x.0) (type_names_under numbers es) ≡ names_in es
-  firsts_under [] = refl
-  firsts_under (e ∷ es) = ap (λ ts. text_of e.0 ∷ ts) (firsts_under es)
 
   last_in : (done : List (String Global × TypeId)) (k : String Global) (v : TypeId) (ys : List (Text × ℕ)) → type_names (done ++ (k, v) ∷ []) ++ ys ≡ type_names done ++ (text_of k, v.0) ∷ ys
   last_in [] k v ys = refl

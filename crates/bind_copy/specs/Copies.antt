@@ -55,20 +55,23 @@ flag_names flags = map (λ f. text_of f.name) flags
 abbrev pub enum_names : List EnumCase → List Text
 enum_names cases = map (λ c. text_of c.name) cases
 
--- the documentation of fields, cases and flags, one by one
+-- the documentation of each field of a record
 abbrev pub field_docs : List Field → List (Option Text)
 field_docs fields = map (λ f. optional_text f.docs.contents) fields
 
+-- the documentation of each case of a variant
 abbrev pub case_docs : List Case → List (Option Text)
 case_docs cases = map (λ c. optional_text c.docs.contents) cases
 
+-- the documentation of each flag
 abbrev pub flag_docs : List Flag → List (Option Text)
 flag_docs flags = map (λ f. optional_text f.docs.contents) flags
 
+-- the documentation of each case of an enum
 abbrev pub enum_docs : List EnumCase → List (Option Text)
 enum_docs cases = map (λ c. optional_text c.docs.contents) cases
 
--- that of what a kind is made of
+-- the documentation of each field, case or flag of a kind
 abbrev pub member_docs : TypeDefKind → List (Option Text)
 member_docs (kind.Record record_) = field_docs record_.fields.items
 member_docs (kind.Variant variant) = case_docs variant.cases.items

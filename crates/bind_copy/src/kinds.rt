@@ -126,7 +126,7 @@ fn image_of_handle(numbers: &[u32], handle: &Handle) -> TypeDefKind
     }
 }
 
-#[tactic(auto, using(crate::proofs::Flat::flat_all_mapped))]
+#[tactic(auto, using(base_lemmas::proofs::Elements::flat_all_mapped))]
 fn copy_record(alloc: Global, numbers: &[u32], record_: &Record) -> Result<TypeDefKind, Error>
     requires { list_all (λ n. nat_lt n (length numbers.now)) (view_numbers (kind_view (kinds.Record record_.now))) ≡ true }
     ensures view { IfOk result (λ copy. kind_view copy ≡ renamed (number_under numbers.now) (kind_view (kinds.Record record_.now))) }
@@ -138,7 +138,7 @@ fn copy_record(alloc: Global, numbers: &[u32], record_: &Record) -> Result<TypeD
     }))
 }
 
-#[tactic(auto, using(crate::proofs::Flat::flat_all_mapped))]
+#[tactic(auto, using(base_lemmas::proofs::Elements::flat_all_mapped))]
 fn copy_variant(alloc: Global, numbers: &[u32], variant: &Variant) -> Result<TypeDefKind, Error>
     requires { list_all (λ n. nat_lt n (length numbers.now)) (view_numbers (kind_view (kinds.Variant variant.now))) ≡ true }
     ensures view { IfOk result (λ copy. kind_view copy ≡ renamed (number_under numbers.now) (kind_view (kinds.Variant variant.now))) }
@@ -150,7 +150,7 @@ fn copy_variant(alloc: Global, numbers: &[u32], variant: &Variant) -> Result<Typ
     }))
 }
 
-#[tactic(auto, using(crate::proofs::Flat::flat_all))]
+#[tactic(auto, using(base_lemmas::proofs::Elements::flat_all))]
 fn copy_tuple(alloc: Global, numbers: &[u32], tuple: &Tuple) -> Result<TypeDefKind, Error>
     requires { list_all (λ n. nat_lt n (length numbers.now)) (view_numbers (kind_view (kinds.Tuple tuple.now))) ≡ true }
     ensures view { IfOk result (λ copy. kind_view copy ≡ renamed (number_under numbers.now) (kind_view (kinds.Tuple tuple.now))) }

@@ -23,14 +23,14 @@ use Rattle.wit_model.specs.Names.{constructor_name, cut, is_label, method_name}
 use Rattle.wit_model.specs.Parts.{same_owner}
 use Rattle.wit_model.specs.Rules.{after_prefix, entries_labels, function_labels, is_freestanding, is_member, is_member_name, is_member_of, is_name_key, is_resource_itself, is_stability, item_labels, key_label, passes, resource_name}
 use Rattle.wit_model.specs.Valid.{IsValid, as_interface, as_world, function_names, functions_of_interface, item_function, labels}
-use Rattle.wit_model.proofs.AnyOrder.{text-same}
 use Rattle.wit_model.proofs.Entries.{each_from_at, lists_pass}
 use Rattle.wit_model.proofs.NameLaws.{label_lacks}
 use Rattle.wit_model.proofs.OnePath.{interface-passes}
-use Rattle.bind_meaning.proofs.WorldPaths.{world-passes}
 use Rattle.base_lemmas.proofs.Bools.{left_of as first_true, right_of as second_true}
 use Rattle.base_lemmas.proofs.Elements.{all-contained, contains-map}
 use Rattle.wit_model.proofs.Prefixes.{after_sound as after-front}
+use Rattle.wit_model.proofs.TextLemmas.{text_same as text-same}
+use Rattle.wit_model.proofs.ValidLemmas.{world_passes as world-passes}
 
 -- ---- texts
 

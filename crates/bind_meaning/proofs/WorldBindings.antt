@@ -25,18 +25,21 @@ use Rattle.wit_model.specs.Meant.{entries_meaning, entry_meaning, interface_mean
 use Rattle.wit_model.specs.Rules.{are_distinct, entries_in_range, export_stands, import_stands, in_list, is_id, is_interface_key, item_in_range, key_in_range, package_number, passes}
 use Rattle.wit_model.specs.Uses.{item_interface}
 use Rattle.wit_model.specs.Valid.{IsValid, is_place, key_eq, numbers_in_range, places, world_items}
-use Rattle.wit_model.proofs.AnyOrder.{text-same}
 use Rattle.wit_model.proofs.Elements.{contains-filter_map, contains-get}
 use Rattle.wit_model.proofs.OnePath.{found-in, has-path, named-path, path-once}
 use Rattle.bind_meaning.specs.Binding.{Stand}
 use Rattle.bind_meaning.specs.ByNumbers.{WorldsAreBindings, interfaces_by_path, worlds_by_path}
 use Rattle.bind_meaning.proofs.KeyNames.{Lacks, colon, goes-on, key_lacks}
-use Rattle.bind_meaning.proofs.Listed.{contains-find, find-contains, from-given, given, mapped}
-use Rattle.bind_meaning.proofs.WorldPaths.{path-apart, path_at, world-once, world-passes}
+use Rattle.bind_meaning.proofs.Listed.{from-given, given, mapped}
+use Rattle.wit_model.proofs.Maps.{there_some as contains-find}
+use Rattle.wit_model.proofs.AnyOrder.{found-there as find-contains}
+use Rattle.bind_meaning.proofs.WorldPaths.{path-apart, path_at, world-once}
 use Rattle.base_lemmas.proofs.Bools.{left_of as first_true, right_of as second_true}
 use Rattle.base_lemmas.proofs.Elements.{all-contained, contains-later, contains-one, first-contained, get-contains}
 use Rattle.base_lemmas.proofs.Numbers.{same-number}
 use Rattle.base_lemmas.proofs.Options.{there as some-of}
+use Rattle.wit_model.proofs.TextLemmas.{text_same as text-same}
+use Rattle.wit_model.proofs.ValidLemmas.{world_passes as world-passes}
 
 -- ---- what stands under a path
 

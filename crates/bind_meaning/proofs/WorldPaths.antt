@@ -1,5 +1,5 @@
 -- A world is known by its path: in valid packages no two have the same, and none has that of an interface.
-use Rattle.std.proofs.Common.{◌≡◌, refl, sym, ap, subst, ◌∙◌, arith, ℕ, ◌+◌, Bool, true, false, not, ◌&&◌, ◌||◌, cond, List, [], ◌∷◌, Option, Some, option_map, option_and_then, String}
+use Rattle.std.proofs.Common.{◌≡◌, refl, sym, ap, subst, ◌∙◌, ℕ, Bool, true, false, not, ◌&&◌, ◌||◌, cond, List, [], ◌∷◌, Option, Some, option_map, option_and_then, String}
 use Rattle.std.specs.Prelude.{is_some}
 use Rattle.std.specs.List.{list_any}
 use Rattle.std.specs.Option.{option_map_or}
@@ -15,17 +15,14 @@ use Rattle.wit_model.specs.Text.{Text, text_eq, text_of}
 use Rattle.wit_model.specs.Names.{is_label, path_in}
 use Rattle.wit_model.specs.Lookup.{identity_of, interface_path, package_at, path_in_package, path_of_world, world_at}
 use Rattle.wit_model.specs.Rules.{interface_is_listed, is_id, is_world_name, package_number, world_is_listed}
-use Rattle.wit_model.specs.Valid.{IsValid, Keeps, Rule, labels, places}
-use Rattle.wit_model.proofs.Entries.{each_from_at, lists_pass}
+use Rattle.wit_model.specs.Valid.{IsValid, labels, places}
 use Rattle.wit_model.proofs.NameLaws.{one_path}
 use Rattle.wit_model.proofs.OnePath.{HasPath, given-test, has-path, interface-passes, one-number, package-name, package-once, path-label}
 use Rattle.wit_model.proofs.VersionLaws.{same_name}
 use Rattle.bind_meaning.proofs.Listed.{given, mapped}
 use Rattle.base_lemmas.proofs.Bools.{left_of as first_true, not-false as not-both, right_of as second_true}
 use Rattle.std.proofs.lemmas.Option.{same_Some as some-same}
-
-pub world-passes : (rule : Rule) (r : Resolve) → Keeps rule r → (n : ℕ) (w : World) → world_at r n ≡ Some w → rule.world_ r n w ≡ true
-world-passes rule r k n w at = let here : 0 + n ≡ n = omega arith in subst (λ (m : ℕ). rule.world_ r m w ≡ true) here (each_from_at (rule.world_ r) 0 r.worlds.items n w (lists_pass rule r k).2 at)
+use Rattle.wit_model.proofs.ValidLemmas.{world_passes as world-passes}
 
 -- what a path is of
 pub record HasWorldPath (r : Resolve) (n : ℕ) (path : Text) : Type 0 where

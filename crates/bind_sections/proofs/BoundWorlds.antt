@@ -20,7 +20,6 @@ use Rattle.wit_model.specs.Meant.{world_package}
 use Rattle.wit_model.specs.Rules.{entries_labels, export_stands, import_stands, is_stability, item_labels, key_label}
 use Rattle.wit_model.specs.Valid.{IsValid, labels, world_items}
 use Rattle.plan_meaning.specs.NothingElse.{HoldsWorldAlone}
-use Rattle.bind_meaning.proofs.WorldPaths.{world-passes}
 use Rattle.bind_meaning.specs.ByMeaning.{binding_of_world, world_path}
 use Rattle.wit_bind.specs.declared.bindgen.Bindgen.{Bindgen}
 use Rattle.wit_bind.specs.Bindings.{binding_of}
@@ -35,6 +34,7 @@ use Rattle.bind_sections.proofs.DecodedWorlds.{same-interfaces}
 use Rattle.base_lemmas.proofs.Bools.{left_of as first_true, right_of as second_true}
 use Rattle.base_lemmas.proofs.Elements.{all-contained}
 use Rattle.std.proofs.lemmas.Option.{same_Some as some-same}
+use Rattle.wit_model.proofs.ValidLemmas.{world_passes as world-passes}
 
 -- ---- what stands where
 

@@ -46,7 +46,9 @@ use Rattle.wit_bind.specs.Functions.{Items, IsFunctionKey, MapsFunctions, of_int
 use Rattle.wit_bind.specs.Keys.{function_key, scope_of}
 use Rattle.wit_bind.proofs.ValidKeys.{canonical-by-name}
 use Rattle.bind_sections.proofs.DecodedWorlds.{meaning-at, shown-at, shown_map}
-use Rattle.bind_meaning.proofs.Listed.{contains-find, find-contains, from-flat, from-map}
+use Rattle.bind_meaning.proofs.Listed.{from-flat, from-map}
+use Rattle.wit_model.proofs.Maps.{there_some as contains-find}
+use Rattle.wit_model.proofs.AnyOrder.{found-there as find-contains}
 use Rattle.base_lemmas.proofs.Bools.{left_of as first_true, right_of as second_true}
 use Rattle.base_lemmas.proofs.Elements.{contains-map, contains-one, last_of as one-contained}
 use Rattle.base_lemmas.proofs.Numbers.{equal}

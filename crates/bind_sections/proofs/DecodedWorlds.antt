@@ -19,7 +19,9 @@ use Rattle.wit_model.proofs.Elements.{contains-filter_map, contains-get, has-con
 use Rattle.wit_model.proofs.OnePath.{path-once}
 use Rattle.bind_meaning.proofs.Maps.{by_tie}
 use Rattle.bind_meaning.specs.ByNumbers.{interfaces_by_path}
-use Rattle.bind_meaning.proofs.Listed.{contains-find, find-contains, from-given, from-map, given, mapped, same-entries}
+use Rattle.bind_meaning.proofs.Listed.{from-given, from-map, given, mapped, same-entries}
+use Rattle.wit_model.proofs.Maps.{there_some as contains-find}
+use Rattle.wit_model.proofs.AnyOrder.{found-there as find-contains}
 use Rattle.base_lemmas.proofs.Elements.{contains-map, contains-one, filter_keeps as contains-filter, filter_kept as from-filter, get-contains}
 use Rattle.base_lemmas.proofs.Options.{there as some-of}
 

@@ -29,7 +29,7 @@ use Rattle.bind_sections.specs.BoundLaws.{BoundAreBindings, SectionsAreBindings}
 use Rattle.base_lemmas.proofs.Bools.{left_of as first_true, right_of as second_true}
 use Rattle.std.proofs.lemmas.Bool.{not-true as is_false}
 use Rattle.std.proofs.lemmas.Option.{same_Some as some-same}
-use Rattle.plan_meaning.proofs.KeptTypes.{distinct_same as same_test}
+use Rattle.comp_meaning.proofs.RulesLemmas.{distinct_same as same_test}
 
 -- ---- the world that was read
 

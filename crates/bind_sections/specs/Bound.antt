@@ -81,7 +81,7 @@ pub data IsRefused (input : List ℕ) (error : Error) : Type 0 where
   no_module : ((rest : List ℕ) → input ≡ module_preamble ++ rest → ⊥) → error ≡ errors.NotAModule → IsRefused input error
   first : (fs : List Framed) (left : List ℕ) (ds : List (List ℕ)) → HasSections input fs left → CarryData fs ds → Refuses (IsLeftOver input left) root_binding ds error → IsRefused input error
 
--- The same, or want of memory. `Size` comes only where a list of a union would pass 4,294,967,295.
+-- The bytes are refused so, or for want of memory, or with `Size`, which another promise limits to lists that would be too long.
 abbrev pub RefusesBindings : List ℕ → Error → Type 0
 RefusesBindings input errors.Memory = Unit {0}
 RefusesBindings input errors.Size = Unit {0}

@@ -30,7 +30,7 @@ SectionsMeanOnce = (d : List ℕ) (m n : WorldPackage) (e f : StringEncoding) �
 abbrev pub SectionsAreBindings : Type 0
 SectionsAreBindings = (d : List ℕ) (m : WorldPackage) (e : StringEncoding) → SectionMeans d m e → IsBinding (binding_of_world m e)
 
--- So is what a module binds.
+-- What a module binds is a binding.
 abbrev pub BoundAreBindings : Type 0
 BoundAreBindings = (input : List ℕ) (c : Binding) → IsBound input c → IsBinding c
 
@@ -56,7 +56,7 @@ OneRefusal = (input : List ℕ) (e f : Error) → e ≢ errors.Memory → f ≢ 
 abbrev pub SectionsBindTheirWorlds : Type 0
 SectionsBindTheirWorlds = (d : List ℕ) (b : Bindgen) (m : WorldPackage) (e : StringEncoding) → IsBoundBy d b → SectionMeans d m e → IsBindgen b × (binding_of b ≡ binding_of_world m e)
 
--- So such data means a world and says an encoding.
+-- Data that binds something means a world, and says an encoding.
 abbrev pub BoundSectionsMean : Type 0
 BoundSectionsMean = (d : List ℕ) (b : Bindgen) → IsBoundBy d b → (m : WorldPackage) × (e : StringEncoding) × SectionMeans d m e
 

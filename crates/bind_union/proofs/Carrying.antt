@@ -37,12 +37,13 @@ use Rattle.bind_union.specs.Views.{renamed_type}
 use Rattle.bind_union.specs.Images.{HasImageKind, AreCarried, RefersBelow}
 use Rattle.bind_union.specs.Carried.{Renumbering, owner_under, carries_owner, IsSameName, IsNamesake, IsType, IsInterface, IsCarried}
 use Rattle.wit_model.proofs.Elements.{has-contains}
-use Rattle.bind_union.proofs.Lists.{each_at, no_true}
+use Rattle.bind_union.proofs.Lists.{no_true}
 use Rattle.bind_union.proofs.Images.{same_trees, numbers_of_view}
 use Rattle.bind_union.proofs.ViewTests.{numbers_same}
 use Rattle.base_lemmas.proofs.Bools.{left_of as first_true, right_of as second_true}
 use Rattle.base_lemmas.proofs.Elements.{all-contained}
 use Rattle.base_lemmas.proofs.Numbers.{same-number}
+use Rattle.wit_model.proofs.RulesLemmas.{each_at}
 
 -- ---- rules of a valid one
 

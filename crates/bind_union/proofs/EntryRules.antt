@@ -23,11 +23,12 @@ use Rattle.wit_model.specs.Checks.{references}
 use Rattle.bind_union.specs.Carried.{Renumbering, owner_under, KeyBecomes, ItemBecomes, EntryBecomes, IsFunctionCopy, IsInterface, IsCarried}
 use Rattle.bind_union.specs.Joined.{Joined, none, met, added}
 use Rattle.bind_union.proofs.Lists.{no_true}
-use Rattle.bind_union.proofs.Homes.{owner_equal, owner_itself}
-use Rattle.bind_union.proofs.TypeRules.{named_alike, stability_alike}
+use Rattle.bind_union.proofs.TypeRules.{stability_alike}
 use Rattle.bind_union.proofs.FunctionRules.{freestanding_under, function_range_passes, function_labels_pass, member_passes}
 use Rattle.base_lemmas.proofs.Bools.{left_of as first_true, right_of as second_true}
 use Rattle.base_lemmas.proofs.Numbers.{equal, same-number}
+use Rattle.wit_model.proofs.PartsLemmas.{owner_itself, owner_same as owner_equal}
+use Rattle.wit_model.proofs.TextLemmas.{some_alike as named_alike}
 
 -- what each entry passes, what is added passes
 pub added_pass : (f : Renumbering) (own : List (WorldKey × WorldItem)) (p q : WorldKey × WorldItem → Bool) → ((a b : WorldKey × WorldItem) → EntryBecomes f a b → p a ≡ true → q b ≡ true)

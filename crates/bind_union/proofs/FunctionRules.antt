@@ -35,11 +35,12 @@ use Rattle.bind_union.specs.Carried.{Renumbering, owner_under, call_under, IsTyp
 use Rattle.bind_union.proofs.Lists.{no_true}
 use Rattle.bind_union.proofs.ViewTests.{view_ok, view_own, view_borrow, ok_by_view, ok_under, own_by_view, own_under, borrow_by_view, borrow_under, numbers_under, number_under, one_given}
 use Rattle.bind_union.proofs.Carrying.{kind_carried, image_kind, used_same}
-use Rattle.bind_union.proofs.Homes.{owner_equal, owner_itself, alias_there, members_of_all}
+use Rattle.bind_union.proofs.Homes.{alias_there, members_of_all}
 use Rattle.bind_union.proofs.TypeRules.{stability_alike, values_pass, no_resource_passes, shallow_passes, all_owned}
 use Rattle.base_lemmas.proofs.Bools.{left_of as first_true, right_of as second_true}
 use Rattle.base_lemmas.proofs.Elements.{all_two}
 use Rattle.base_lemmas.proofs.Numbers.{equal, same-number}
+use Rattle.wit_model.proofs.PartsLemmas.{owner_itself, owner_same as owner_equal}
 
 -- ---- kinds of functions
 

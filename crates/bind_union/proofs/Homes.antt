@@ -26,6 +26,7 @@ use Rattle.bind_union.proofs.ViewTests.{alias_same, resource_same, number_under}
 use Rattle.bind_union.proofs.Carrying.{references_of, kind_carried}
 use Rattle.base_lemmas.proofs.Bools.{left_of as first_true, right_of as second_true}
 use Rattle.base_lemmas.proofs.Numbers.{equal, same-number}
+use Rattle.wit_model.proofs.PartsLemmas.{owner_itself, owner_same as owner_equal}
 
 -- ---- kinds
 
@@ -66,22 +67,6 @@ pub members_of_all : (p : ℕ → Bool) (k : TypeDefKind) → list_all p (kind_n
 members_of_all p k h = first_true _ _ (sym (list_all-append p (filter_map number_of (member_types k)) (option_to_list (handled k) ++ option_to_list (alias_target k))) ∙ h)
 
 -- ---- owners
-
-pub owner_equal : (a b : TypeOwner) → same_owner a b ≡ true → a ≡ b
-owner_equal (owner.World a) (owner.World b) h = ap (λ (n : ℕ). owner.World (record { 0 = n })) (equal a.0 b.0 h)
-owner_equal (owner.Interface a) (owner.Interface b) h = ap (λ (n : ℕ). owner.Interface (record { 0 = n })) (equal a.0 b.0 h)
-owner_equal owner.None owner.None h = refl
-owner_equal (owner.World a) (owner.Interface b) h = no_true h
-owner_equal (owner.World a) owner.None h = no_true h
-owner_equal (owner.Interface a) (owner.World b) h = no_true h
-owner_equal (owner.Interface a) owner.None h = no_true h
-owner_equal owner.None (owner.World b) h = no_true h
-owner_equal owner.None (owner.Interface b) h = no_true h
-
-pub owner_itself : (a : TypeOwner) → same_owner a a ≡ true
-owner_itself (owner.World a) = same-number a.0
-owner_itself (owner.Interface a) = same-number a.0
-owner_itself owner.None = refl
 
 -- a copy has no other's number
 pub apart : (f : ℕ → ℕ) (carries copies : ℕ → Bool) → Rises f carries copies → ((n : ℕ) → copies n ≡ true → carries n ≡ true) → (m n : ℕ) → carries m ≡ true → copies n ≡ true → f m ≡ f n → m ≡ n

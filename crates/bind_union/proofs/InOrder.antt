@@ -9,12 +9,13 @@ use Rattle.wit_model.specs.Rules.{each_after}
 use Rattle.wit_model.proofs.Elements.{contains-has, has-contains}
 use Rattle.bind_meaning.proofs.Listed.{from-map}
 use Rattle.bind_union.specs.Carried.{Rises}
-use Rattle.bind_union.proofs.Lists.{no_true, after_of_map}
+use Rattle.bind_union.proofs.Lists.{no_true}
 use Rattle.bind_union.proofs.Homes.{apart}
 use Rattle.base_lemmas.proofs.Bools.{left_of as first_true, right_of as second_true}
 use Rattle.base_lemmas.proofs.Elements.{contains-map}
 use Rattle.base_lemmas.proofs.Numbers.{equal, same-number}
 use Rattle.wit_model.proofs.Chains.{all_has as passes_at}
+use Rattle.wit_model.proofs.RulesLemmas.{after_of_map}
 
 -- what passes on the one side passes on the other
 pub zip_all : {A B : Type 0} (R : A → B → Type 0) (p : A → Bool) (q : B → Bool) → ((a : A) (b : B) → R a b → p a ≡ true → q b ≡ true) → (xs : List A) (ys : List B) → AllZip R xs ys → list_all p xs ≡ true → list_all q ys ≡ true

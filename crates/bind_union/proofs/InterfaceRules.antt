@@ -22,13 +22,14 @@ use Rattle.wit_model.specs.Checks.{references}
 use Rattle.std.proofs.lemmas.Simd.{map-map}
 use Rattle.wit_model.proofs.OnePath.{interface-passes}
 use Rattle.bind_union.specs.Carried.{Renumbering, owner_under, IsFunctionEntry, IsInterface, IsInterfaceCopy, IsCarried}
-use Rattle.bind_union.proofs.Homes.{owner_equal, owner_itself}
-use Rattle.bind_union.proofs.TypeRules.{named_alike, label_alike, stability_alike, used, used_there}
+use Rattle.bind_union.proofs.TypeRules.{label_alike, stability_alike, used, used_there}
 use Rattle.bind_union.proofs.FunctionRules.{function_labels_pass, function_stays_passes, function_handles_pass, function_depths_pass, member_passes}
 use Rattle.bind_union.proofs.UsedInterfaces.{deps_there}
 use Rattle.bind_union.proofs.InOrder.{zip_all, order_there}
 use Rattle.base_lemmas.proofs.Bools.{left_of as first_true, right_of as second_true}
 use Rattle.base_lemmas.proofs.Elements.{all_two, any_of_map as list_any_mapped, zip_map}
+use Rattle.wit_model.proofs.PartsLemmas.{owner_itself, owner_same as owner_equal}
+use Rattle.wit_model.proofs.TextLemmas.{some_alike as named_alike}
 
 module _ (r s : Resolve) (f : Renumbering) (valid : KeepsRules r) (is : IsCarried r s f) (below_s : Keeps references s) where
   -- a named type of an owner is one of the new owner

@@ -27,7 +27,6 @@ use Rattle.wit_model.specs.Parts.{kind_numbers}
 use Rattle.wit_model.specs.Rules.{passes, in_list, package_number, interface_type_numbers, function_in_range, owner_in_range, key_in_range, item_in_range, entries_in_range}
 use Rattle.wit_model.specs.Valid.{KeepsRules, numbers_in_range, is_place}
 use Rattle.wit_model.proofs.OnePath.{found-in, interface-passes}
-use Rattle.bind_meaning.proofs.WorldPaths.{world-passes}
 use Rattle.bind_union.specs.Views.{KindView, record_view, variant_view, flags_view, enum_view, tuple_view, resource_view, own_view, borrow_view, option_view, result_view, list_view, map_view, fixed_list_view, future_view, stream_view, alias_view, kind_view, renamed_type, renamed}
 use Rattle.bind_union.specs.Images.{HasImageKind}
 use Rattle.bind_union.specs.Carried.{Renumbering, IsSameName, owner_under, carries_owner, copies_owner, call_under, IsFunctionCopy, IsFunctionEntry, IsType, IsInterface, IsCarried, KeyBecomes, ItemBecomes}
@@ -35,9 +34,9 @@ use Rattle.bind_union.specs.Joined.{Joined, none, added}
 use Rattle.bind_union.specs.Merged.{BeginsWith}
 use Rattle.bind_union.proofs.Lists.{no_true}
 use Rattle.bind_union.proofs.Images.{numbers_of_view}
-use Rattle.bind_union.proofs.TypeRules.{type_passes}
 use Rattle.base_lemmas.proofs.Bools.{left_of as first_true, right_of as second_true}
 use Rattle.wit_model.proofs.Chains.{all_has as passes_at}
+use Rattle.wit_model.proofs.ValidLemmas.{type_passes, world_passes as world-passes}
 
 abbrev pub itself : Resolve → Renumbering
 itself r = record {

@@ -17,7 +17,6 @@ use Rattle.wit_model.proofs.Entries.{free_passes}
 use Rattle.wit_model.proofs.Elements.{none-in}
 use Rattle.std.proofs.lemmas.Bool.{lt-ltb, and_from as both}
 use Rattle.std.proofs.lemmas.Option.{slice_get_within}
-use Rattle.bind_meaning.proofs.WorldPaths.{world-passes}
 use Rattle.bind_union.specs.Carried.{Renumbering, EntryBecomes, IsFunctionCopy}
 use Rattle.bind_union.specs.Merged.{IsMerged}
 use Rattle.bind_union.proofs.TypeRules.{shape_passes, named_passes, handle_passes, depth_passes, label_passes, stay_passes, stability_alike}
@@ -30,6 +29,7 @@ use Rattle.bind_union.proofs.Itself.{itself, joined_itself, world_range}
 use Rattle.bind_union.proofs.Sources.{Source, own_source, below_there, each_type, each_interface, each_world, each_joined}
 use Rattle.base_lemmas.proofs.Bools.{left_of as first_true, right_of as second_true}
 use Rattle.wit_model.proofs.Shown.{after_append}
+use Rattle.wit_model.proofs.ValidLemmas.{world_passes as world-passes}
 
 pub kept : (rule : Rule) (s : Resolve) → each_from (rule.package_ s) 0 s.packages.items ≡ true → each_from (rule.interface_ s) 0 s.interfaces.items ≡ true → each_from (rule.world_ s) 0 s.worlds.items ≡ true → each_from (rule.type_ s) 0 s.types.items ≡ true → Keeps rule s
 kept rule s ps is ws ts = both _ _ ps (both _ _ is (both _ _ ws ts))

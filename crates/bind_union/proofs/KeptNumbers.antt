@@ -17,10 +17,8 @@ use Rattle.wit_model.specs.Rules.{passes, in_list, package_number, owner_in_rang
 use Rattle.wit_model.specs.Checks.{references}
 use Rattle.wit_model.specs.Valid.{Keeps, KeepsRules, is_place, functions_of_interface, numbers_in_range}
 use Rattle.wit_model.proofs.OnePath.{found-in, interface-passes}
-use Rattle.bind_meaning.proofs.WorldPaths.{world-passes}
 use Rattle.bind_union.specs.Carried.{Renumbering, owner_under, carries_owner}
 use Rattle.bind_union.specs.Merged.{IsMerged}
-use Rattle.bind_union.proofs.Lists.{each_by_number}
 use Rattle.bind_union.proofs.ViewTests.{numbers_same}
 use Rattle.bind_union.proofs.Images.{numbers_of_view}
 use Rattle.bind_union.proofs.FunctionRules.{function_range_passes}
@@ -35,6 +33,8 @@ use Rattle.bind_union.proofs.KeptPackages.{all_stand, ranges_hold}
 use Rattle.base_lemmas.proofs.Bools.{left_of as first_true, right_of as second_true}
 use Rattle.base_lemmas.proofs.Elements.{all_two}
 use Rattle.base_lemmas.proofs.Numbers.{equal}
+use Rattle.wit_model.proofs.RulesLemmas.{each_by_number}
+use Rattle.wit_model.proofs.ValidLemmas.{world_passes as world-passes}
 
 place_below : (n k : ℕ) → n < k → k ≤ 4294967295 → is_place n ≡ true
 place_below n k low few = go (n == 4294967295) refl

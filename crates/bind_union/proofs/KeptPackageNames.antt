@@ -18,11 +18,12 @@ use Rattle.wit_model.proofs.Distinct.{text_eq_flip}
 use Rattle.wit_model.proofs.OnePath.{package-passes}
 use Rattle.bind_union.specs.Carried.{Renumbering, IsSameName}
 use Rattle.bind_union.specs.Merged.{PackageStands, grown, brought, IsKeptPackage, IsPackageOf, IsMerged}
-use Rattle.bind_union.proofs.Lists.{each_at, each_by_number}
 use Rattle.bind_union.proofs.TypeRules.{version_alike, are_parts}
 use Rattle.bind_union.proofs.Kept.{kept}
 use Rattle.base_lemmas.proofs.Bools.{left_of as first_true, right_of as second_true}
-use Rattle.base_lemmas.proofs.Numbers.{equal, same-number, turned as number_flip}
+use Rattle.base_lemmas.proofs.Numbers.{equal, same-number}
+use Rattle.wit_model.proofs.RulesLemmas.{each_at, each_by_number, version_flip}
+use Rattle.wit_model.proofs.RulesLemmas.{name_flip}
 
 -- ---- names by their texts
 
@@ -38,15 +39,6 @@ versions_by_parts (Some a) (Some b) = refl
 same_name : (a b c d : PackageName) → IsSameName a b → IsSameName c d → same_package_name b d ≡ same_package_name a c
 same_name a b c d x y = λ i. text_eq (x.namespace i) (y.namespace i) && (text_eq (x.name i) (y.name i)
     && (versions_by_parts b.version d.version ∙ ((λ j. option_eq same_parts (x.version j) (y.version j)) ∙ sym (versions_by_parts a.version c.version))) i)
-
-version_flip : (a b : Option Version) → option_eq same_version a b ≡ option_eq same_version b a
-version_flip None None = refl
-version_flip None (Some b) = refl
-version_flip (Some a) None = refl
-version_flip (Some a) (Some b) = λ i. number_flip a.major b.major i && (number_flip a.minor b.minor i && (number_flip a.patch b.patch i && (text_eq_flip (parts_of a).3 (parts_of b).3 i && text_eq_flip (parts_of a).4 (parts_of b).4 i)))
-
-name_flip : (a b : PackageName) → same_package_name a b ≡ same_package_name b a
-name_flip a b = λ i. text_eq_flip (text_of a.namespace) (text_of b.namespace) i && (text_eq_flip (text_of a.name) (text_of b.name) i && version_flip a.version b.version i)
 
 abbrev is_package_name : PackageName → Bool
 is_package_name p = is_label (text_of p.namespace) && (is_label (text_of p.name) && passes is_version p.version)

@@ -21,7 +21,7 @@ use Rattle.wit_model.proofs.Entries.{free_passes}
 use Rattle.wit_model.proofs.OnePath.{found-in, package-passes}
 use Rattle.bind_union.specs.Carried.{Renumbering}
 use Rattle.bind_union.specs.Merged.{interface_names, world_names, IsJoinedPackage, PackageStands, grown, brought, IsKeptPackage, IsPackageOf, IsMerged}
-use Rattle.bind_union.proofs.Lists.{no_true, each_by_number}
+use Rattle.bind_union.proofs.Lists.{no_true}
 use Rattle.bind_union.proofs.EntryRules.{text_alike}
 use Rattle.bind_union.proofs.FunctionRules.{id_under}
 use Rattle.bind_union.proofs.Itself.{get_begin}
@@ -30,6 +30,8 @@ use Rattle.bind_union.proofs.PackageNames.{names_pass}
 use Rattle.base_lemmas.proofs.Bools.{left_of as first_true, right_of as second_true}
 use Rattle.base_lemmas.proofs.Elements.{all_two}
 use Rattle.base_lemmas.proofs.Numbers.{equal}
+use Rattle.wit_model.proofs.RulesLemmas.{each_by_number}
+use Rattle.wit_model.proofs.TextLemmas.{named_too}
 
 -- the interface is there, and has this name and this package
 abbrev pub is_interface_of : Resolve → ℕ → Text × ℕ → Bool
@@ -88,10 +90,6 @@ module _ (r : Resolve) (valid : KeepsRules r) (n : ℕ) (p : Package) (found : p
       ∙ both _ _ (second_true (is_id n (package_number w.0.«package»)) _ old) (first_true _ _ old))
       p.worlds.entries (sym (list_all-map (λ (id : WorldId). in_list r.worlds.items id.0) (λ e. e.1) p.worlds.entries) ∙ second_true (list_all (λ id. in_list r.interfaces.items id.0) (values p.interfaces)) _ ranges)
       (first_true _ _ (second_true (list_all (interface_belongs r n) p.interfaces.entries) _ belong))
-
-named_too : (o : Option (String Global)) (t : Text) → text_is o t ≡ true → is_some o ≡ true
-named_too None t h = no_true h
-named_too (Some s) t h = refl
 
 -- ---- back to the rules
 

@@ -22,13 +22,11 @@ use Rattle.wit_model.proofs.Entries.{free_passes}
 use Rattle.wit_model.proofs.Elements.{none-in}
 use Rattle.wit_model.proofs.VersionLaws.{same_text}
 use Rattle.wit_model.proofs.OnePath.{found-in, interface-passes}
-use Rattle.bind_meaning.proofs.WorldPaths.{world-passes}
 use Rattle.bind_union.proofs.Listed.{under_text}
-use Rattle.wit_model.proofs.AnyOrder.{text-same}
 use Rattle.bind_union.specs.Carried.{Renumbering, IsInterface}
 use Rattle.bind_union.specs.Joined.{Joined, IsJoined}
 use Rattle.bind_union.specs.Merged.{interface_names, world_names, is_name, IsJoinedPackage, PackageStands, grown, brought, IsKeptPackage, IsPackageOf, IsCopyUnder, AreCopies, IsWorldCopy, IsMerged}
-use Rattle.bind_union.proofs.Lists.{no_true, each_by_number}
+use Rattle.bind_union.proofs.Lists.{no_true}
 use Rattle.bind_union.proofs.WorldOrder.{items, numbers_append}
 use Rattle.bind_union.proofs.Itself.{get_begin, world_range}
 use Rattle.bind_union.proofs.Sources.{each_interface_of_three, each_world}
@@ -40,6 +38,9 @@ use Rattle.bind_union.proofs.Shown.{one_sums, one_of_sum, shown, times_are, show
 use Rattle.base_lemmas.proofs.Bools.{left_of as first_true, right_of as second_true}
 use Rattle.base_lemmas.proofs.Elements.{all-contained, all_by_number as all_by_get, get-contains}
 use Rattle.base_lemmas.proofs.Numbers.{equal, same-number}
+use Rattle.wit_model.proofs.RulesLemmas.{each_by_number}
+use Rattle.wit_model.proofs.TextLemmas.{text_same as text-same}
+use Rattle.wit_model.proofs.ValidLemmas.{world_passes as world-passes}
 
 types_free : (s : Resolve) → each_from (places.type_ s) 0 s.types.items ≡ true
 unfolding places

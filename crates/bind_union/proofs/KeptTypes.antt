@@ -25,12 +25,10 @@ use Rattle.wit_model.specs.Checks.{references}
 use Rattle.wit_model.proofs.Entries.{free_passes}
 use Rattle.std.proofs.lemmas.List.{map-append}
 use Rattle.wit_model.proofs.OnePath.{found-in}
-use Rattle.bind_meaning.proofs.WorldPaths.{world-passes}
 use Rattle.bind_union.specs.Carried.{Renumbering, owner_under, copies_owner, ItemBecomes, IsType}
 use Rattle.bind_union.specs.Joined.{Joined, none, met, added}
 use Rattle.bind_union.specs.Merged.{IsMerged, IsCopyUnder}
-use Rattle.bind_union.proofs.Lists.{no_true, each_by_number}
-use Rattle.bind_union.proofs.TypeRules.{type_passes}
+use Rattle.bind_union.proofs.Lists.{no_true}
 use Rattle.bind_union.proofs.InterfaceRules.{interface_order_passes, all_named_of, number_uses}
 use Rattle.bind_union.proofs.InOrder.{after_weaker}
 use Rattle.bind_union.proofs.WorldOrder.{items, numbers_append}
@@ -42,6 +40,8 @@ use Rattle.bind_union.proofs.Kept.{kept, below}
 use Rattle.base_lemmas.proofs.Bools.{left_of as first_true, right_of as second_true}
 use Rattle.base_lemmas.proofs.Elements.{all_two}
 use Rattle.base_lemmas.proofs.Numbers.{equal}
+use Rattle.wit_model.proofs.RulesLemmas.{each_by_number}
+use Rattle.wit_model.proofs.ValidLemmas.{type_passes, world_passes as world-passes}
 
 -- numbers that are copied aren't those that were there
 fresh_added : (f : Renumbering) (own : List (WorldKey × WorldItem)) (k : ℕ) → ((m : ℕ) → f.copies_type m ≡ true → k ≤ f.types m) → (n : ℕ) → n < k → (olds news : List (WorldKey × WorldItem)) → Joined f own olds news → has (filter_map item_type (items news)) n ≡ false

@@ -20,7 +20,6 @@ use Rattle.wit_model.specs.Rules.{is_id, is_name_key, item_type, interface_type_
 use Rattle.wit_model.specs.Valid.{Keeps, KeepsRules}
 use Rattle.wit_model.specs.Checks.{references}
 use Rattle.wit_model.proofs.Elements.{contains-has, contains-filter_map}
-use Rattle.wit_model.proofs.AnyOrder.{text-same}
 use Rattle.wit_model.proofs.Distinct.{text_eq_flip}
 use Rattle.std.proofs.lemmas.List.{map-append}
 use Rattle.bind_union.specs.Carried.{Renumbering, KeyBecomes, ItemBecomes, IsInterface, IsCarried}
@@ -38,6 +37,7 @@ use Rattle.base_lemmas.proofs.Elements.{contains-map}
 use Rattle.base_lemmas.proofs.Maps.{lookup_of_map}
 use Rattle.base_lemmas.proofs.Numbers.{equal, same-number}
 use Rattle.std.proofs.lemmas.Bool.{and_from as both}
+use Rattle.wit_model.proofs.TextLemmas.{text_same as text-same}
 
 -- ---- interfaces
 

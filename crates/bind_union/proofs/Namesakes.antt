@@ -31,7 +31,7 @@ use Rattle.wit_model.specs.Meaning.{TypeMeaning, InterfaceSense}
 use Rattle.wit_model.specs.Meant.{interface_meaning, type_meaning, type_meaning_at, no_type}
 use Rattle.wit_model.specs.Rules.{passes, in_list, is_id, package_number, function_in_range, interface_type_numbers, is_listed, is_listed_in_interface, is_named_of, is_named_number, are_in_order, is_use, is_resource_itself, is_named_kind, owner_in_range}
 use Rattle.wit_model.specs.Valid.{IsValid, is_place, as_interface, numbers_in_range, order_of_types, owners, named_kinds}
-use Rattle.wit_model.proofs.AnyOrder.{same-text, text-same}
+use Rattle.wit_model.proofs.AnyOrder.{same-text}
 use Rattle.wit_model.proofs.Elements.{none-in, contains-has, has-contains}
 use Rattle.wit_model.proofs.Functions.{all_flat}
 use Rattle.wit_model.proofs.OnePath.{path-once, named-path, found-in, interface-passes}
@@ -42,8 +42,7 @@ use Rattle.bind_meaning.proofs.Listed.{from-map}
 use Rattle.bind_union.specs.Matching.{type_names, IsMatch, AreMatched, AreNamesakes, MatchesAreNamesakes, MatchesAreOnto}
 use Rattle.bind_union.proofs.Lists.{no_true}
 use Rattle.bind_union.proofs.Carrying.{references_of}
-use Rattle.bind_union.proofs.Homes.{owner_equal, alias_of_all}
-use Rattle.bind_union.proofs.TypeRules.{type_passes}
+use Rattle.bind_union.proofs.Homes.{alias_of_all}
 use Rattle.bind_union.proofs.Listed.{under_text, found_by_text}
 use Rattle.base_lemmas.proofs.Bools.{left_of as first_true, right_of as second_true}
 use Rattle.base_lemmas.proofs.Elements.{contains-later, contains-map}
@@ -51,6 +50,10 @@ use Rattle.base_lemmas.proofs.Maps.{lookup_of_map}
 use Rattle.base_lemmas.proofs.Numbers.{equal, same-number}
 use Rattle.std.proofs.lemmas.Option.{same_Some as same-some}
 use Rattle.wit_model.proofs.Chains.{all_has as passes_at}
+use Rattle.wit_model.proofs.PartsLemmas.{owner_same as owner_equal}
+use Rattle.wit_model.proofs.RulesLemmas.{is_id_some as some_id}
+use Rattle.wit_model.proofs.TextLemmas.{text_same as text-same}
+use Rattle.wit_model.proofs.ValidLemmas.{type_passes}
 
 -- ---- kinds
 
@@ -178,10 +181,6 @@ under_contains name (e ∷ es) t h = go (bytes_eq name e.0) refl h (under_contai
     go : (b : Bool) → text_eq name e.0 ≡ b → cond b (Some e.1) (under_text name es) ≡ Some t → (under_text name es ≡ Some t → Contains es (name, t)) → Contains (e ∷ es) (name, t)
     go true k h rest = (0, omega arith, λ i. (sym (text-same name e.0 k) i, same-some e.1 t h i))
     go false k h rest = contains-later e es (name, t) (rest h)
-
-pub some_id : (n : ℕ) (o : Option ℕ) → is_id n o ≡ true → o ≡ Some n
-some_id n None h = no_true h
-some_id n (Some m) h = ap Some (equal m n h)
 
 pub number_listed : (es : List (Text × ℕ)) (name : Text) (t : ℕ) → Contains es (name, t) → has (map (λ (e : Text × ℕ). e.1) es) t ≡ true
 number_listed es name t c = contains-has (map (λ (e : Text × ℕ). e.1) es) t (contains-map (λ (e : Text × ℕ). e.1) es (name, t) c)

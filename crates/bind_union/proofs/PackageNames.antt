@@ -10,7 +10,6 @@ use Rattle.wit_model.specs.declared.model.InterfaceId.{InterfaceId}
 use Rattle.wit_model.specs.declared.model.WorldId.{WorldId}
 use Rattle.wit_model.specs.Text.{Text, text_of, text_eq}
 use Rattle.wit_model.specs.Rules.{is_id, is_world_name}
-use Rattle.wit_model.proofs.AnyOrder.{text-same}
 use Rattle.bind_union.specs.Merged.{interface_names, world_names, is_name, JoinedNames, none, met, left, added}
 use Rattle.bind_union.proofs.Lists.{no_true}
 use Rattle.bind_union.proofs.FunctionRules.{id_under}
@@ -19,6 +18,7 @@ use Rattle.base_lemmas.proofs.Bools.{left_of as first_true, right_of as second_t
 use Rattle.base_lemmas.proofs.Elements.{any_of_map, contains-later}
 use Rattle.base_lemmas.proofs.Maps.{lookup_of_map}
 use Rattle.base_lemmas.proofs.Numbers.{equal}
+use Rattle.wit_model.proofs.TextLemmas.{text_same as text-same}
 
 -- what each name passes, what is added passes
 pub names_pass : (number : ℕ → ℕ) (copies left_out : ℕ → Bool) (own : List (Text × ℕ)) (p q : Text × ℕ → Bool) → ((name : Text) (old : ℕ) → copies old ≡ true → p (name, old) ≡ true → q (name, number old) ≡ true)

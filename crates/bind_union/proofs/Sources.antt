@@ -19,13 +19,13 @@ use Rattle.wit_model.proofs.OnePath.{found-in}
 use Rattle.bind_union.specs.Carried.{Renumbering, IsCarried}
 use Rattle.bind_union.specs.Joined.{IsJoined}
 use Rattle.bind_union.specs.Merged.{IsCopyUnder, IsMerged}
-use Rattle.bind_union.proofs.Lists.{each_by_number}
 use Rattle.bind_union.proofs.Images.{numbers_of_view}
 use Rattle.bind_union.proofs.ViewTests.{numbers_same}
 use Rattle.bind_union.proofs.Carrying.{references_of}
 use Rattle.bind_union.proofs.Itself.{get_begin, itself, carried_itself, joined_itself, world_range}
 use Rattle.base_lemmas.proofs.Elements.{all_two}
 use Rattle.base_lemmas.proofs.Numbers.{equal}
+use Rattle.wit_model.proofs.RulesLemmas.{each_by_number}
 
 -- a `Resolve` of which something is carried into this one
 pub record Source (s : Resolve) : Type 0 where

@@ -10,7 +10,6 @@ use Rattle.semver.specs.declared.Version.{Version}
 use Rattle.semver.specs.Identifiers.{parts_of}
 use Rattle.semver.specs.Grammar.{is_pre_release, is_build}
 use Rattle.wit_model.specs.declared.model.Resolve.{Resolve}
-use Rattle.wit_model.specs.declared.model.TypeDef.{TypeDef}
 use Rattle.wit_model.specs.declared.model.TypeOwner.{TypeOwner}
 use Rattle.wit_model.specs.declared.model.TypeOwner.TheVariants as owner
 use Rattle.wit_model.specs.declared.model.Stability.{Stability}
@@ -24,29 +23,23 @@ use Rattle.wit_model.specs.Types.{number_of}
 use Rattle.wit_model.specs.Parts.{kind_numbers, member_types, handled, met_by, met_of, is_resource, is_resource_type, same_owner, has_owner, used_by_type}
 use Rattle.wit_model.specs.Uses.{alias_target, owner_interface}
 use Rattle.wit_model.specs.Rules.{passes, is_stability, are_member_labels, is_named_kind, is_named_number, is_shallow, is_use}
-use Rattle.wit_model.specs.Valid.{Rule, Keeps, KeepsRules, labels, owners, shapes, named_kinds, handles, depths}
+use Rattle.wit_model.specs.Valid.{Keeps, KeepsRules, labels, owners, shapes, named_kinds, handles, depths}
 use Rattle.wit_model.specs.Checks.{references}
 use Rattle.wit_model.proofs.Lists.{list_all_filter_map}
-use Rattle.wit_model.proofs.Entries.{lists_pass}
 use Rattle.wit_model.proofs.Checks.{below_at}
 use Rattle.bind_union.specs.Views.{renamed_type}
 use Rattle.bind_union.specs.Carried.{Renumbering, StabilityView, unknown, stable, unstable, stability_view, owner_under, carries_owner, copies_owner, IsType, IsTypeCopy, IsCarried}
-use Rattle.bind_union.proofs.Lists.{each_at, no_true}
+use Rattle.bind_union.proofs.Lists.{no_true}
 use Rattle.bind_union.proofs.ViewTests.{types_same, handled_same, alias_same, labels_same, shape_same, named_same, numbers_same}
 use Rattle.bind_union.proofs.Carrying.{references_of, kind_carried, type_tree_same, used_same}
 use Rattle.bind_union.proofs.Homes as homes
 use Rattle.bind_union.proofs.Homes.{alias_of_all, handled_of_all, members_of_all, resource_same_at, resource_type_same, owner_stays, owner_apart}
 use Rattle.base_lemmas.proofs.Bools.{left_of as first_true, right_of as second_true}
 use Rattle.base_lemmas.proofs.Elements.{all_two}
+use Rattle.wit_model.proofs.TextLemmas.{some_alike as named_alike}
+use Rattle.wit_model.proofs.ValidLemmas.{type_passes}
 
 -- ---- texts
-
-pub named_alike : (a b : Option (String Global)) → optional_text a ≡ optional_text b → is_some a ≡ is_some b
-named_alike a b e = by_text a ∙ (ap is_some e ∙ sym (by_text b))
-  where
-    by_text : (o : Option (String Global)) → is_some o ≡ is_some (optional_text o)
-    by_text None = refl
-    by_text (Some x) = refl
 
 pub label_alike : (a b : Option (String Global)) → optional_text a ≡ optional_text b → passes (λ name. is_label (text_of name)) a ≡ passes (λ name. is_label (text_of name)) b
 label_alike a b e = by_text a ∙ (ap (passes is_label) e ∙ sym (by_text b))
@@ -76,9 +69,6 @@ pub stability_alike : (a b : Stability) → stability_view a ≡ stability_view 
 stability_alike a b e = stability_by_view a ∙ (ap is_stable_view e ∙ sym (stability_by_view b))
 
 -- ---- the rules of the other
-
-pub type_passes : (rule : Rule) (r : Resolve) → Keeps rule r → (n : ℕ) (def : TypeDef) → type_at r n ≡ Some def → rule.type_ r n def ≡ true
-type_passes rule r h n def is = each_at (rule.type_ r) r.types.items n def (lists_pass rule r h).3 is
 
 module _ (r s : Resolve) (f : Renumbering) (valid : KeepsRules r) (is : IsCarried r s f) (below_s : Keeps references s) where
   -- what is asked of each type of a value

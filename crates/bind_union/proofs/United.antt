@@ -15,7 +15,6 @@ use Rattle.wit_model.specs.Meant.{interface_meaning_at}
 use Rattle.wit_model.specs.Rules.{is_id, text_is, package_number}
 use Rattle.wit_model.specs.Valid.{Keeps, IsValid, HasDistinctKeys}
 use Rattle.wit_model.specs.Checks.{references}
-use Rattle.wit_model.proofs.AnyOrder.{text-same}
 use Rattle.wit_model.proofs.Elements.{none-in}
 use Rattle.wit_model.proofs.OnePath.{HasPath, has-path, path-listed, path-once, found-in}
 use Rattle.bind_union.specs.Carried.{Renumbering}
@@ -27,11 +26,13 @@ use Rattle.bind_union.proofs.Kept.{below}
 use Rattle.bind_union.proofs.KeptPackages.{is_interface_of, interfaces_stand, found_option}
 use Rattle.bind_union.proofs.PackageNames.{interfaces_by_name}
 use Rattle.bind_union.proofs.Listed.{under_text}
-use Rattle.bind_union.proofs.Namesakes.{some_id, under_contains}
+use Rattle.bind_union.proofs.Namesakes.{under_contains}
 use Rattle.bind_union.proofs.Meanings.{merged_means}
 use Rattle.bind_union.proofs.Valid.{merged_is_valid}
 use Rattle.base_lemmas.proofs.Bools.{left_of as first_true, right_of as second_true}
 use Rattle.base_lemmas.proofs.Elements.{all-contained}
+use Rattle.wit_model.proofs.RulesLemmas.{is_id_some as some_id}
+use Rattle.wit_model.proofs.TextLemmas.{text_same as text-same}
 
 pub some_name : (o : Option (String Global)) (t : Text) → text_is o t ≡ true → optional_text o ≡ Some t
 some_name None t h = no_true h

@@ -14,7 +14,6 @@ use Rattle.wit_model.specs.Meant.{world_meaning, no_world}
 use Rattle.wit_model.specs.Rules.{passes, in_list, is_id, package_number, same_package_name}
 use Rattle.wit_model.specs.Valid.{Keeps, IsValid}
 use Rattle.wit_model.specs.Checks.{references}
-use Rattle.wit_model.proofs.AnyOrder.{text-same}
 use Rattle.wit_model.proofs.NameLaws.{one_path}
 use Rattle.wit_model.proofs.VersionLaws.{same_name}
 use Rattle.wit_model.proofs.Elements.{none-in}
@@ -31,12 +30,14 @@ use Rattle.bind_union.proofs.KeptNumbers.{world_package}
 use Rattle.bind_union.proofs.KeptPlaces.{world_case, own_world_low}
 use Rattle.bind_union.proofs.PackageNames.{worlds_by_name, found_name, copy_found}
 use Rattle.bind_union.proofs.Listed.{under_text}
-use Rattle.bind_union.proofs.Namesakes.{some_id, under_contains}
+use Rattle.bind_union.proofs.Namesakes.{under_contains}
 use Rattle.bind_union.proofs.Meanings.{merged_means}
 use Rattle.base_lemmas.proofs.Bools.{left_of as first_true, right_of as second_true}
 use Rattle.base_lemmas.proofs.Elements.{all-contained}
 use Rattle.base_lemmas.proofs.Numbers.{equal, same-number}
 use Rattle.std.proofs.lemmas.Option.{same_Some as same-some}
+use Rattle.wit_model.proofs.RulesLemmas.{is_id_some as some_id}
+use Rattle.wit_model.proofs.TextLemmas.{text_same as text-same}
 
 -- the path of a world by its name and its package
 pub world_path : (r : Resolve) (w : World) → path_of_world r w ≡ path_by r (Some (text_of w.name)) (package_number w.«package»)

@@ -1,5 +1,5 @@
 -- What an interface uses, under its new number.
-use Rattle.std.proofs.Common.{◌≡◌, refl, sym, ap, subst, ◌∙◌, ℕ, Bool, true, false, ◌||◌, not, ◌==◌, List, [], ◌∷◌, map, Option, Some, None, option_map, option_and_then, option_to_list, slice_get}
+use Rattle.std.proofs.Common.{◌≡◌, refl, sym, ap, subst, ◌∙◌, ℕ, Bool, true, false, not, ◌==◌, List, [], map, Option, Some, None, option_map, option_and_then, option_to_list, slice_get}
 use Rattle.std.specs.List.{list_all, Contains}
 use Rattle.std.specs.Option.{option_map_or}
 use Rattle.indexmap.specs.IndexMap.{values}
@@ -17,18 +17,16 @@ use Rattle.wit_model.proofs.Elements.{has-contains, contains-has, contains-filte
 use Rattle.wit_model.proofs.Chains.{has_once}
 use Rattle.bind_meaning.proofs.Listed.{from-map}
 use Rattle.bind_union.specs.Carried.{Renumbering, owner_under, carries_owner, IsType, IsInterface, IsCarried}
-use Rattle.bind_union.proofs.Lists.{no_true, has_filter, filter_has}
+use Rattle.bind_union.proofs.Lists.{no_true}
+use Rattle.wit_model.proofs.UsesLemmas.{has_filter, filter_has}
 use Rattle.bind_union.proofs.Homes.{alias_there}
-use Rattle.base_lemmas.proofs.Elements.{contains-later, contains-map, contains-one, filter_map_from, get-contains}
+use Rattle.base_lemmas.proofs.Elements.{contains-map, contains-one, filter_map_from, get-contains}
 use Rattle.base_lemmas.proofs.Numbers.{equal, same-number}
-use Rattle.std.proofs.lemmas.Bool.{and_from as both}
 use Rattle.std.proofs.lemmas.Option.{same_Some as same-some}
 use Rattle.wit_model.proofs.Chains.{all_has as passes_at}
+use Rattle.wit_model.proofs.UsesLemmas.{all_from_has}
 
 -- what each number of a list passes, all pass
-pub all_from_has : (p : ℕ → Bool) (ns : List ℕ) → ((n : ℕ) → has ns n ≡ true → p n ≡ true) → list_all p ns ≡ true
-all_from_has p [] h = refl
-all_from_has p (n ∷ ns) h = both _ _ (h n (ap (λ b. b || has ns n) (same-number n))) (all_from_has p ns (λ m c. h m (contains-has (n ∷ ns) m (contains-later n ns m (has-contains ns m c)))))
 
 pub given_contains : {X : Type 0} (o : Option X) (x : X) → o ≡ Some x → Contains (option_to_list o) x
 given_contains o x e = subst (λ (p : Option _). Contains (option_to_list p) x) (sym e) (contains-one x)

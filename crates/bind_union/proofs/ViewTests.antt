@@ -18,6 +18,7 @@ use Rattle.std.proofs.lemmas.Simd.{map-map}
 use Rattle.std.proofs.lemmas.List.{map-append}
 use Rattle.bind_union.specs.Views.{KindView, record_view, variant_view, flags_view, enum_view, tuple_view, resource_view, own_view, borrow_view, option_view, result_view, list_view, map_view, fixed_list_view, future_view, stream_view, alias_view, kind_view, renamed_type, renamed}
 use Rattle.base_lemmas.proofs.Lists.{filter_of_map}
+use Rattle.wit_model.proofs.RulesLemmas.{items_of_map}
 
 -- ---- lists
 
@@ -37,10 +38,6 @@ one_given g (Some x) = refl
 pub two_given : {X Y : Type 0} (g : X → Y) (a b : Option X) → option_to_list (option_map g a) ++ option_to_list (option_map g b) ≡ map g (option_to_list a ++ option_to_list b)
 two_given g None b = one_given g b
 two_given g (Some x) b = ap (λ ys. g x ∷ ys) (one_given g b)
-
-items_of_map : {X Y : Type 0} (g : X → Y) (xs : List X) → has_items (map g xs) ≡ has_items xs
-items_of_map g [] = refl
-items_of_map g (x ∷ xs) = refl
 
 pub number_under : (f : ℕ → ℕ) (t : ValueType) → number_of (renamed_type f t) ≡ option_map f (number_of t)
 number_under f ty.Bool = refl

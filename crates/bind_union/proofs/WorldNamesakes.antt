@@ -25,30 +25,26 @@ use Rattle.wit_model.specs.Meaning.{Item, interface, inline, function, declares,
 use Rattle.wit_model.specs.Meant.{type_meaning, type_meaning_at, no_type, interface_item, interface_meaning_at, item_meaning}
 use Rattle.wit_model.specs.Rules.{passes, is_id, text_is, is_name_key, item_type, key_in_range, item_in_range, world_type_numbers, is_listed, is_listed_in_world, import_stands, export_stands, is_use}
 use Rattle.wit_model.specs.Valid.{IsValid, as_interface, as_world, order_of_types, owners, world_items}
-use Rattle.wit_model.proofs.AnyOrder.{text-same}
 use Rattle.wit_model.proofs.Functions.{all_flat}
 use Rattle.wit_model.proofs.OnePath.{path-once, named-path, found-in}
 use Rattle.wit_model.proofs.Owners.{met_step, owned_stays}
-use Rattle.bind_meaning.proofs.WorldPaths.{world-passes}
 use Rattle.bind_union.specs.Carried.{Renumbering}
 use Rattle.bind_union.specs.Joined.{ItemStandsFor}
 use Rattle.bind_union.specs.Matching.{IsMatch, AreMatched, WorldsAgree, AreWorldNamesakes, MetImportsStand}
 use Rattle.bind_union.proofs.Lists.{no_true}
 use Rattle.bind_union.proofs.Carrying.{references_of}
-use Rattle.bind_union.proofs.Homes.{owner_equal, alias_of_all}
-use Rattle.bind_union.proofs.TypeRules.{type_passes}
+use Rattle.bind_union.proofs.Homes.{alias_of_all}
 use Rattle.bind_union.proofs.Itself.{world_range}
 use Rattle.bind_union.proofs.Namesakes.{alias_declares, name_is_alias, resource_declares, declares_resource, is_here, place_in, name_in, named_tree, target_named, IsTarget, same_by_path}
 use Rattle.base_lemmas.proofs.Bools.{left_of as first_true, right_of as second_true}
 use Rattle.base_lemmas.proofs.Elements.{all-contained, lookup_stands}
-use Rattle.base_lemmas.proofs.Numbers.{equal}
 use Rattle.std.proofs.lemmas.Option.{same_Some as same-some}
+use Rattle.wit_model.proofs.PartsLemmas.{owner_same as owner_equal}
+use Rattle.wit_model.proofs.RulesLemmas.{is_id_some as some_id}
+use Rattle.wit_model.proofs.TextLemmas.{text_same as text-same}
+use Rattle.wit_model.proofs.ValidLemmas.{type_passes, world_passes as world-passes}
 
 -- ---- look-ups
-
-pub some_id : (n : ℕ) (o : Option ℕ) → is_id n o ≡ true → o ≡ Some n
-some_id n None h = no_true h
-some_id n (Some m) h = ap Some (equal m n h)
 
 -- ---- types of a world
 

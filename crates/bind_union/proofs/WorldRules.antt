@@ -27,12 +27,10 @@ use Rattle.wit_model.specs.Checks.{references}
 use Rattle.wit_model.proofs.Lists.{list_all_filter_map}
 use Rattle.wit_model.proofs.InOrder.{found_stands}
 use Rattle.std.proofs.lemmas.List.{map-append}
-use Rattle.bind_meaning.proofs.WorldPaths.{world-passes}
 use Rattle.bind_union.specs.Carried.{Renumbering, EntryBecomes, IsCarried}
 use Rattle.bind_union.specs.Joined.{IsJoined}
 use Rattle.bind_union.proofs.Lists.{no_true}
-use Rattle.bind_union.proofs.Homes.{owner_equal, owner_back}
-use Rattle.bind_union.proofs.TypeRules.{type_passes}
+use Rattle.bind_union.proofs.Homes.{owner_back}
 use Rattle.bind_union.proofs.FunctionRules.{function_stays_passes, function_handles_pass, function_depths_pass}
 use Rattle.bind_union.proofs.InterfaceRules.{named_of_there, number_uses}
 use Rattle.bind_union.proofs.EntryRules.{added_pass, entry_range, entry_labels, entry_function, entry_member, entry_import_stands, entry_export_stands}
@@ -41,6 +39,8 @@ use Rattle.base_lemmas.proofs.Bools.{left_of as first_true, right_of as second_t
 use Rattle.base_lemmas.proofs.Elements.{all_two}
 use Rattle.wit_model.proofs.Chains.{all_has as passes_at}
 use Rattle.wit_model.proofs.Shown.{after_append}
+use Rattle.wit_model.proofs.PartsLemmas.{owner_same as owner_equal}
+use Rattle.wit_model.proofs.ValidLemmas.{type_passes, world_passes as world-passes}
 
 pub all_true : {A : Type 0} (xs : List A) → list_all (λ x. true) xs ≡ true
 all_true [] = refl

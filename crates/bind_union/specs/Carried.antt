@@ -71,6 +71,7 @@ pub data StabilityView : Type 0 where
   stable : ℕ × ℕ × ℕ × List ℕ × List ℕ → Option (ℕ × ℕ × ℕ × List ℕ × List ℕ) → StabilityView
   unstable : Text → Option (ℕ × ℕ × ℕ × List ℕ × List ℕ) → StabilityView
 
+-- a stability of the code by its versions and its feature
 abbrev pub stability_view : Stability → StabilityView
 stability_view stability.Unknown = unknown
 stability_view (stability.Stable since deprecated) = stable (parts_of since) (option_map parts_of deprecated)

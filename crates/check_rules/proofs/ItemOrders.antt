@@ -31,11 +31,12 @@ use Rattle.wit_model.proofs.Listed.{misfit}
 use Rattle.wit_model.proofs.Owners.{all_filter, function_home}
 use Rattle.check_rules.proofs.Ordered.{highest_flat}
 use Rattle.wit_model.proofs.InOrder.{found, fitting, found_stands, highest_within}
-use Rattle.check_rules.proofs.OwnerOrder.{owned_named, owned_place, owner_same, all_same}
+use Rattle.check_rules.proofs.OwnerOrder.{owned_named, owned_place, all_same}
 use Rattle.check_rules.proofs.ListOrders.{before_seam}
 use Rattle.wit_model.proofs.Shown.{after_both, after_append, interfaces_before}
 use Rattle.base_lemmas.proofs.Bools.{left_of as first_true, right_of as second_true}
 use Rattle.base_lemmas.proofs.Elements.{all_by_number as all_at, all_weaker as all_imply}
+use Rattle.wit_model.proofs.PartsLemmas.{owner_same}
 
 -- ---- the parts of the rule on the order of types
 

@@ -1,5 +1,5 @@
 -- The third part of the rule on the order of types, by places, for interfaces and worlds.
-use Rattle.std.proofs.Common.{◌≡◌, refl, sym, ap, subst, ◌∙◌, ℕ, zero, suc, ◌+◌, Bool, true, false, ◌&&◌, ◌||◌, not, ◌==◌, eq-eqb, lit≤, List, [], ◌∷◌, ◌++◌, take, length, map, filter_map, option_map, position, string_bytes, Some, None, Option, unwrap_or, arith, String}
+use Rattle.std.proofs.Common.{◌≡◌, refl, sym, ap, subst, ◌∙◌, ℕ, zero, suc, ◌+◌, true, false, ◌||◌, not, ◌==◌, eq-eqb, lit≤, List, [], ◌∷◌, ◌++◌, take, length, map, filter_map, option_map, position, string_bytes, Some, None, Option, unwrap_or, arith, String}
 use Rattle.std.specs.declared.alloc.Global.{Global}
 use Rattle.std.specs.List.{list_all, cons_option}
 use Rattle.std.specs.Option.{option_map_or}
@@ -29,10 +29,11 @@ use Rattle.wit_model.proofs.Checks.{keeps_three}
 use Rattle.wit_model.proofs.Listings.{given_all, given_found, entry_fits, item_entry_fits}
 use Rattle.wit_model.proofs.InOrder.{found, fitting}
 use Rattle.check_rules.proofs.OwnerOrder.{walk, entry_stands}
-use Rattle.base_lemmas.proofs.Bools.{left_of as first_true, or_true, right_of as second_true}
+use Rattle.base_lemmas.proofs.Bools.{left_of as first_true, or_true}
 use Rattle.base_lemmas.proofs.Elements.{all_weaker as all_imply}
 use Rattle.std.proofs.lemmas.Bool.{and_right as second_false}
 use Rattle.wit_model.proofs.Chains.{all_has}
+use Rattle.check_rules.proofs.PackageNames.{each_both}
 
 take_map : {X Y : Type 0} (f : X → Y) (n : ℕ) (xs : List X) → map f (take n xs) ≡ take n (map f xs)
 take_map f zero [] = refl
@@ -140,12 +141,6 @@ world_order_breaks r n e = (lit≤ tt, go (world_at r n) e)
     go (Some w) h = ap Some (second_false _ _ (ap (λ o. unwrap_or o true) h))
 
 -- ---- the three parts of the rule on the order of types
-
-each_both : {A : Type 0} (p q : ℕ → A → Bool) (k : ℕ) (xs : List A) → each_from p k xs ≡ true → each_from q k xs ≡ true → each_from (λ n x. p n x && q n x) k xs ≡ true
-each_both p q k [] f g = refl
-each_both p q k (x ∷ xs) f g =
-    (λ i. (first_true (p k x) (each_from p (k + 1) xs) f i && first_true (q k x) (each_from q (k + 1) xs) g i) && each_from (λ n x. p n x && q n x) (k + 1) xs)
-    ∙ each_both p q (k + 1) xs (second_true (p k x) (each_from p (k + 1) xs) f) (second_true (q k x) (each_from q (k + 1) xs) g)
 
 pub order_kept : (r : Resolve) → Keeps references r → Keeps listings r → Keeps list_orders r → Keeps order_of_types r
 unfolding references listings list_orders order_of_types

@@ -1,5 +1,5 @@
 -- The order of an owner's list, entry by entry: what each owner's list has to know of its types.
-use Rattle.std.proofs.Common.{◌≡◌, refl, sym, ap, subst, ◌∙◌, ℕ, ◌+◌, Bool, true, false, ◌&&◌, ◌||◌, not, nat_le, T, eqb→eq, List, [], ◌∷◌, ◌++◌, take, length, filter_map, flat_map, option_to_list, position, is_some, Some, None, Option, append_assoc, append-nil, length-append, arith, String}
+use Rattle.std.proofs.Common.{◌≡◌, refl, sym, ap, subst, ◌∙◌, ℕ, ◌+◌, Bool, true, false, ◌&&◌, ◌||◌, not, nat_le, List, [], ◌∷◌, ◌++◌, take, length, filter_map, flat_map, position, is_some, Some, None, Option, append_assoc, append-nil, length-append, arith, String}
 use Rattle.std.specs.declared.alloc.Global.{Global}
 use Rattle.std.specs.List.{list_all, cons_option}
 use Rattle.std.specs.Option.{option_map_or}
@@ -10,7 +10,6 @@ use Rattle.wit_model.specs.declared.model.TypeDef.{TypeDef}
 use Rattle.wit_model.specs.declared.model.TypeOwner.{TypeOwner}
 use Rattle.wit_model.specs.declared.model.TypeOwner.TheVariants as owner
 use Rattle.wit_model.specs.Text.{Text, text_of}
-use Rattle.wit_model.specs.declared.model.TypeDefKind.{TypeDefKind}
 use Rattle.wit_model.specs.declared.model.TypeDefKind.TheVariants as kind
 use Rattle.wit_model.specs.Lookup.{type_at, interface_at}
 use Rattle.wit_model.specs.Uses.{has, alias_target, owner_interface}
@@ -24,6 +23,8 @@ use Rattle.check_rules.proofs.Ordered.{highest_flat}
 use Rattle.wit_model.proofs.InOrder.{found, fitting, used_place, highest_within}
 use Rattle.base_lemmas.proofs.Bools.{left_of as first_true, right_of as second_true}
 use Rattle.std.proofs.lemmas.Bool.{not-true as not_true}
+use Rattle.wit_model.proofs.PartsLemmas.{owner_same}
+use Rattle.wit_model.proofs.UsesLemmas.{alias_numbers}
 
 -- ---- a walk over the list with places is a walk with what stands before
 
@@ -57,17 +58,6 @@ module _ {V : Type 0} (num : V → Option ℕ) (stands : ℕ → ℕ → Bool) (
 
 -- ---- what is used has its place
 
-pub owner_same : (a b : TypeOwner) → same_owner a b ≡ true → a ≡ b
-owner_same (owner.World a) (owner.World b) e = ap (λ k. owner.World (record { 0 = k })) (eqb→eq a.0 b.0 (subst T (sym e) tt))
-owner_same (owner.Interface a) (owner.Interface b) e = ap (λ k. owner.Interface (record { 0 = k })) (eqb→eq a.0 b.0 (subst T (sym e) tt))
-owner_same owner.None owner.None e = refl
-owner_same (owner.World a) (owner.Interface b) e = let wrong : ⊥ = cc in absurd wrong
-owner_same (owner.World a) owner.None e = let wrong : ⊥ = cc in absurd wrong
-owner_same (owner.Interface a) (owner.World b) e = let wrong : ⊥ = cc in absurd wrong
-owner_same (owner.Interface a) owner.None e = let wrong : ⊥ = cc in absurd wrong
-owner_same owner.None (owner.World b) e = let wrong : ⊥ = cc in absurd wrong
-owner_same owner.None (owner.Interface b) e = let wrong : ⊥ = cc in absurd wrong
-
 pub all_same : (p f g : ℕ → Bool) → ((m : ℕ) → p m ≡ true → f m ≡ g m) → (ns : List ℕ) → list_all p ns ≡ true → list_all f ns ≡ list_all g ns
 all_same p f g same [] h = refl
 all_same p f g same (m ∷ ns) h = λ i. same m (first_true _ _ h) i && all_same p f g same ns (second_true _ _ h) i
@@ -91,22 +81,6 @@ foreign_real r (owner.World id) h = refl
 foreign_real r owner.None h = let wrong : ⊥ = cc in absurd wrong
 
 -- an alias of a number refers to that number alone
-alias_numbers : (k : TypeDefKind) (t : ℕ) → alias_target k ≡ Some t → kind_numbers k ≡ t ∷ []
-alias_numbers (kind.Type_ ty) t e = ap option_to_list e
-alias_numbers kind.Resource t e = let wrong : ⊥ = cc in absurd wrong
-alias_numbers (kind.Record x) t e = let wrong : ⊥ = cc in absurd wrong
-alias_numbers (kind.Handle x) t e = let wrong : ⊥ = cc in absurd wrong
-alias_numbers (kind.Flags x) t e = let wrong : ⊥ = cc in absurd wrong
-alias_numbers (kind.Tuple x) t e = let wrong : ⊥ = cc in absurd wrong
-alias_numbers (kind.Variant x) t e = let wrong : ⊥ = cc in absurd wrong
-alias_numbers (kind.Enum x) t e = let wrong : ⊥ = cc in absurd wrong
-alias_numbers (kind.Option x) t e = let wrong : ⊥ = cc in absurd wrong
-alias_numbers (kind.Result x) t e = let wrong : ⊥ = cc in absurd wrong
-alias_numbers (kind.List x) t e = let wrong : ⊥ = cc in absurd wrong
-alias_numbers (kind.Map x y) t e = let wrong : ⊥ = cc in absurd wrong
-alias_numbers (kind.FixedLengthList x y) t e = let wrong : ⊥ = cc in absurd wrong
-alias_numbers (kind.Future x) t e = let wrong : ⊥ = cc in absurd wrong
-alias_numbers (kind.Stream x) t e = let wrong : ⊥ = cc in absurd wrong
 
 -- What a list of an owner has to know: where a type of that owner stands in it.
 module _ (r : Resolve) (kept : Keeps listings r) {K V : Type 0} (num : V → Option ℕ) (o : TypeOwner) (es : List (K × V)) (tests : Text → K → Bool)

@@ -2,7 +2,6 @@
 use Rattle.std.proofs.Common.{◌≡◌, refl, sym, ap, subst, ◌∙◌, ℕ, zero, suc, ◌+◌, ◌<◌, Bool, true, false, ◌&&◌, ◌||◌, not, ◌==◌, List, [], ◌∷◌, map, take, Option, Some, None, option_map, slice_get, inl, inr, arith, lit≤, eq-eqb}
 use Rattle.std.specs.List.{list_any}
 use Rattle.std.proofs.lemmas.Bool.{cases_order, or_right, and_from as both_true, and_left as fails_first, and_right as fails_second, or_parts as either_fails}
-use Rattle.std.specs.Option.{option_eq}
 use Rattle.semver.specs.declared.Version.{Version}
 use Rattle.semver.specs.Identifiers.{pre_text, build_text}
 use Rattle.wit_model.specs.declared.error.EntryList.TheVariants as lists
@@ -20,13 +19,15 @@ use Rattle.wit_model.proofs.Distinct.{adds_new, adds_apart, are_apart, not_is, t
 use Rattle.base_lemmas.proofs.Bools.{both_same, left_of as first_true, right_of as second_true}
 use Rattle.base_lemmas.proofs.Numbers.{unequal as differ, turned as number_flip}
 use Rattle.std.proofs.lemmas.Option.{same_Some as some_same}
+use Rattle.wit_model.proofs.RulesLemmas.{version_flip as optional_flip}
+use Rattle.wit_model.proofs.RulesLemmas.{name_flip}
 
 no_some : {A B : Type 0} (x : A) → None ≡ Some x → B
 no_some x e = let wrong : ⊥ = cc in absurd wrong
 
 -- ---- lists
 
-each_both : {A : Type 0} (p q : ℕ → A → Bool) (n : ℕ) (xs : List A) → each_from p n xs ≡ true → each_from q n xs ≡ true → each_from (λ m x. p m x && q m x) n xs ≡ true
+pub each_both : {A : Type 0} (p q : ℕ → A → Bool) (n : ℕ) (xs : List A) → each_from p n xs ≡ true → each_from q n xs ≡ true → each_from (λ m x. p m x && q m x) n xs ≡ true
 each_both p q n [] h k = refl
 each_both p q n (x ∷ xs) h k = both_true _ _ (both_true (p n x) (q n x) (first_true _ _ h) (first_true _ _ k)) (each_both p q (n + 1) xs (second_true (p n x) _ h) (second_true (q n x) _ k))
 
@@ -73,17 +74,6 @@ version_flip a b =
     (both_same _ _ _ _ (number_flip a.minor b.minor)
     (both_same _ _ _ _ (number_flip a.patch b.patch)
     (both_same _ _ _ _ (text_eq_flip (pre_text a.pre) (pre_text b.pre)) (text_eq_flip (build_text a.build) (build_text b.build)))))
-
-optional_flip : (a b : Option Version) → option_eq same_version a b ≡ option_eq same_version b a
-optional_flip None None = refl
-optional_flip None (Some b) = refl
-optional_flip (Some a) None = refl
-optional_flip (Some a) (Some b) = version_flip a b
-
-name_flip : (a b : PackageName) → same_package_name a b ≡ same_package_name b a
-name_flip a b =
-    both_same _ _ _ _ (text_eq_flip (text_of a.namespace) (text_of b.namespace))
-    (both_same _ _ _ _ (text_eq_flip (text_of a.name) (text_of b.name)) (optional_flip a.version b.version))
 
 -- no other package has the name
 only_at : (r : Resolve) → are_apart same_package_name (map (λ p. p.name) r.packages.items) ≡ true → (n : ℕ) (p : Package) → slice_get r.packages.items n ≡ Some p → distinct_names.package_ r n p ≡ true

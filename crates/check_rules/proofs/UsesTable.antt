@@ -1,10 +1,9 @@
 -- The sets of the interfaces that each interface uses.
-use Rattle.std.proofs.Common.{◌≡◌, refl, sym, ap, subst, ◌∙◌, ℕ, ◌+◌, ◌<◌, ◌≤◌, Bool, true, false, ◌&&◌, ◌||◌, not, ◌==◌, nat_eq, eq-eqb, List, [], ◌∷◌, ◌++◌, length, option_to_list, slice_get, Some, None, Option, arith}
+use Rattle.std.proofs.Common.{◌≡◌, refl, sym, ap, subst, ◌∙◌, ℕ, ◌+◌, ◌<◌, ◌≤◌, Bool, true, false, ◌&&◌, ◌||◌, not, ◌==◌, List, [], ◌∷◌, ◌++◌, length, option_to_list, slice_get, Some, None, Option, arith}
 use Rattle.std.specs.List.{list_all, list_any}
 use Rattle.std.specs.Option.{option_map_or}
 use Rattle.std.specs.HashSet.{HashSet}
 use Rattle.std.proofs.lemmas.Option.{slice_get_past}
-use Rattle.std.proofs.lemmas.Bool.Decides.{nat_tests}
 use Rattle.indexmap.specs.IndexMap.{values}
 use Rattle.wit_model.specs.declared.model.Resolve.{Resolve}
 use Rattle.wit_model.specs.declared.model.Interface.{Interface}
@@ -16,17 +15,9 @@ use Rattle.wit_model.proofs.Shown.{deps_pass}
 use Rattle.base_lemmas.proofs.Elements.{not_all}
 use Rattle.base_lemmas.proofs.Lists.{at_last as get_last}
 use Rattle.wit_model.proofs.Chains.{all_has}
+use Rattle.wit_model.proofs.UsesLemmas.{all_from_has as all_of_has, any_is_has as held}
 
 -- ---- lists with the same numbers
-
-all_of_has : (test : ℕ → Bool) (ns : List ℕ) → ((q : ℕ) → has ns q ≡ true → test q ≡ true) → list_all test ns ≡ true
-all_of_has test [] all = refl
-all_of_has test (n ∷ ns) all =
-    λ i. all n (ap (λ b. b || has ns n) (eq-eqb n n refl)) i && all_of_has test ns (λ q h. all q (ap (λ b. (n == q) || b) h ∙ or_true (n == q))) i
-  where
-    or_true : (b : Bool) → (b || true) ≡ true
-    or_true true = refl
-    or_true false = refl
 
 pub same_has : (test : ℕ → Bool) (xs ys : List ℕ) → ((q : ℕ) → has xs q ≡ has ys q) → list_all test xs ≡ list_all test ys
 same_has test xs ys same = go (list_all test xs) (list_all test ys) refl refl
@@ -38,13 +29,6 @@ same_has test xs ys same = go (list_all test xs) (list_all test ys) refl refl
     go true b e f = sym (over xs ys same e) ∙ f
     go false true e f = sym e ∙ over ys xs (λ q. sym (same q)) f
     go false false e f = refl
-
-held : (ns : List ℕ) (q : ℕ) → list_any (nat_eq q) ns ≡ has ns q
-held [] q = refl
-held (n ∷ ns) q = λ i. turned i || held ns q i
-  where
-    turned : nat_eq q n ≡ (n == q)
-    turned = grind (arith, nat_tests)
 
 -- ---- the table
 

@@ -19,7 +19,7 @@ use Rattle.comp_bytes.proofs.HeldLaws.{sequence_push}
 use Rattle.comp_bytes.proofs.ComponentLaws.{type_law, export_law, sections_again}
 use Rattle.comp_bytes.proofs.PartsLaws.{alone, join, put_behind, put_behind-last, put_behind-ended, Ended-custom, grouped_behind, top_slots-push}
 
-sequence_append : {A : Type 0} (form : A → Spellings) (xs ys : List A) (bytes text : List ℕ) → Sequence form xs bytes → Sequence form ys text → Sequence form (xs ++ ys) (bytes ++ text)
+pub sequence_append : {A : Type 0} (form : A → Spellings) (xs ys : List A) (bytes text : List ℕ) → Sequence form xs bytes → Sequence form ys text → Sequence form (xs ++ ys) (bytes ++ text)
 sequence_append form [] ys bytes text s t = rw s t
 sequence_append form (x ∷ xs) ys bytes text s t =
     (s.0, s.1 ++ text, ap (λ (l : List ℕ). l ++ text) s.2 ∙ append_assoc s.0 s.1 text, s.3, sequence_append form xs ys s.1 text s.4 t)

@@ -17,12 +17,9 @@ use Rattle.comp_bytes.proofs.PartLaws.{taken_at, tagged_takes, tag_law, pair_law
 use Rattle.comp_bytes.proofs.FormLaws.{or_some}
 use Rattle.comp_bytes.proofs.DeclarationLaws.{declaration_law}
 use Rattle.comp_bytes.proofs.NestedLaws.{not_nested}
+use Rattle.comp_bytes.proofs.HeldLaws.{Sequence-from_list as flat_out, declaration_count-from_list as count_is}
 
 -- ---- entries are declarations
-
-count_is : (ds : List Declaration) → declaration_count (from_list ds) ≡ length ds
-count_is [] = refl
-count_is (d ∷ ds) = ap suc (count_is ds)
 
 free_is : (ds : List Declaration) → imports_nothing (from_list ds) ≡ import_free ds
 free_is [] = refl
@@ -35,10 +32,6 @@ free_is (Declaration.exported name described ∷ ds) = free_is ds
 flat_into : (ds : List Declaration) (text : List ℕ) → Sequence IsDeclaration ds text → AreDeclarations (from_list ds) text
 flat_into [] text s = s
 flat_into (d ∷ ds) text s = (s.0, s.1, s.2, s.3, flat_into ds s.1 s.4)
-
-flat_out : (ds : List Declaration) (text : List ℕ) → AreDeclarations (from_list ds) text → Sequence IsDeclaration ds text
-flat_out [] text s = s
-flat_out (d ∷ ds) text s = (s.0, s.1, s.2, s.3, flat_out ds s.1 s.4)
 
 held_into : (ds : List Declaration) (text : List ℕ) → Tagged 0x42 (Held ds) text → InstanceTypeOf (from_list ds) (AreDeclarations (from_list ds)) text
 held_into ds text s =

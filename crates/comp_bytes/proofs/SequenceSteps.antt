@@ -2,6 +2,7 @@
 use Rattle.std.proofs.Common.{◌≡◌, refl, sym, ap, ◌∙◌, ℕ, suc, ◌+◌, ◌-◌, ◌<◌, ◌≤◌, arith, List, [], ◌∷◌, ◌++◌, map, Option, Some, None, append_assoc, append-nil}
 use Rattle.std.proofs.lemmas.List.{map-append}
 use Rattle.comp_bytes.specs.Reading.{Reader, ◌>>=◌, sequence_at}
+use Rattle.base_lemmas.proofs.Numbers.{less}
 
 -- what was found, with these in front
 abbrev pub with_front : {A : Type 0} → List A → Option (List A × List ℕ) → Option (List A × List ℕ)
@@ -24,9 +25,6 @@ module _ {A : Type 0} (reader : Reader A) where
   stop : (k : ℕ) (bytes : List ℕ) → reader bytes ≡ None → sequence_at reader (suc k) bytes ≡ None
   unfolding sequence_at
   stop k bytes e = ap (λ o. o >>= λ y. sequence_at reader k y.1 >>= λ ys. Some (y.0 ∷ ys.0, ys.1)) e
-
-  less : (n i : ℕ) → i < n → n - i ≡ suc (n - (i + 1))
-  less n i h = omega (arith, h)
 
   -- The items so far, seen by raw, stand in front of what is still to be read.
   module _ {X : Type 0} (raw : X → A) (items : List X) (n i : ℕ) (bytes rest : List ℕ)

@@ -10,6 +10,7 @@ use Rattle.comp_bytes.specs.Form.{Spellings, Sequence}
 use Rattle.comp_bytes.specs.Appending.{Appended, Stopped, Appends}
 use Rattle.comp_bytes.proofs.HeldLaws.{sequence_push}
 use Rattle.comp_bytes.proofs.Appends.{stopped_after, refused, done}
+use Rattle.comp_bytes.proofs.BuiltLaws.{sequence_append as Sequence-append}
 
 flat_map-push : {A : Type 0} (f : A → List ℕ) (xs : List A) (y : A) → flat_map f (xs ++ y ∷ []) ≡ flat_map f xs ++ f y
 flat_map-push f [] y = append-nil (f y)
@@ -51,11 +52,6 @@ stopped_at form bytes test view xs i d old now new e lt a s =
     (λ fails. list_all-fails test (map view xs) i (view d) within (ap test is ∙ fails))
 
 -- ---- sequences behind sequences
-
-Sequence-append : {A : Type 0} (form : A → Spellings) (xs ys : List A) (front back : List ℕ) → Sequence form xs front → Sequence form ys back → Sequence form (xs ++ ys) (front ++ back)
-Sequence-append form [] ys front back s t = rw s t
-Sequence-append form (x ∷ xs) ys front back s t =
-    (s.0, s.1 ++ back, ap (λ (l : List ℕ). l ++ back) s.2 ∙ append_assoc s.0 s.1 back, s.3, Sequence-append form xs ys s.1 back s.4 t)
 
 flat_map-append : {A : Type 0} (f : A → List ℕ) (xs ys : List A) → flat_map f (xs ++ ys) ≡ flat_map f xs ++ flat_map f ys
 flat_map-append f [] ys = refl

@@ -20,6 +20,6 @@ abbrev pub IsReadAtAs : {X A : Type 0} → (X → A) → (A → Spellings) → L
 IsReadAtAs view form bytes at (Ok x) = (at ≤ x.1) × (x.1 ≤ length bytes) × form (view x.0) (slice_range bytes at x.1)
 IsReadAtAs {A} view form bytes at (Err e) = Refuses e bytes ((y : A) (end : ℕ) → form y (slice_range bytes at end) → ⊥)
 
--- The same of what is answered itself.
+-- From the offset at it reads the form that stands there, and where the form ends, and refuses where none stands.
 abbrev pub IsReadAt : {A : Type 0} → (A → Spellings) → List ℕ → ℕ → Result (A × ℕ) Error → Type 0
 IsReadAt form bytes at r = IsReadAtAs (λ x. x) form bytes at r

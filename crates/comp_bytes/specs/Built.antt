@@ -9,23 +9,24 @@ use Rattle.comp_bytes.specs.Writing.{u32_bytes, top_type_bytes, top_export_bytes
 use Rattle.comp_bytes.specs.Held.{found_in}
 use Rattle.comp_bytes.specs.Parts.{Part, sections_of_parts, parts_of, top_slots}
 
--- the items of the open section
+-- the items of the section that is still open
 pub data Group : Type 0 where
   of_types : List TopType → Group
   of_exports : List TopExport → Group
 
--- their section, if there are any
+-- the section of these items, if there are any
 abbrev pub group_sections : Group → List Section
 group_sections (of_types []) = []
 group_sections (of_types (t ∷ ts)) = Section.types (t ∷ ts) ∷ []
 group_sections (of_exports []) = []
 group_sections (of_exports (e ∷ es)) = Section.exports (e ∷ es) ∷ []
 
--- so many items, of exports or of types
+-- so many items that these bytes spell, of exports or of types
 abbrev pub group_in : Bool → ℕ → List ℕ → Group
 group_in false n bytes = of_types (found_in (sequence_at type_at n bytes))
 group_in true n bytes = of_exports (found_in (sequence_at top_export_at n bytes))
 
+-- the sections that were found, or none
 abbrev pub found_sections : Option (List Section) → List Section
 found_sections None = []
 found_sections (Some sections) = sections

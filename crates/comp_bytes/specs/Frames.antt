@@ -45,6 +45,7 @@ pub record IsRefusedAt (old new : Unread) (cause : Cause) (offset : ℕ) : Type 
   pub within : offset ≤ length old.bytes
   pub kept : new ≡ record { bytes = old.bytes; at = old.at; refused = Some (cause, offset) }
 
+-- a refusal: no frame begins here, with the cause and the offset that the error names
 abbrev pub IsRefused : Unread → Unread → Error → Type 0
 IsRefused old new (errors.NoReading cause offset) = IsRefusedAt old new cause offset
 IsRefused old new _ = ⊥

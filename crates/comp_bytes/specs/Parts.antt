@@ -45,10 +45,12 @@ fits_component ps = nat_lt (length (component_bytes (sections_of_parts ps))) (2 
 
 -- ---- from sections back to parts
 
+-- the parts of a section
 abbrev pub parts_in : Section → List Part
 parts_in (Section.types ts) = map top_type ts
 parts_in (Section.exports es) = map top_export es
 parts_in (Section.custom name contents) = custom name contents ∷ []
 
+-- the parts of sections, in order
 abbrev pub parts_of : List Section → List Part
 parts_of sections = flat_map parts_in sections

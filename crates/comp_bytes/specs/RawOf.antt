@@ -16,6 +16,7 @@ use Rattle.comp_bytes.specs.Raw.{Labeled, DefinedType, FunctionType, Alias, Exte
 abbrev pub with_label : {T : Type 0} → List ℕ → T → Labeled T
 with_label label x = record { label = label; type_of = x }
 
+-- a borrowed label with what stands beside it
 abbrev pub labeled : {T : Type 0} → Bor (List ℕ) × T → Labeled T
 labeled p = with_label p.0.now p.1
 
@@ -23,6 +24,7 @@ labeled p = with_label p.0.now p.1
 abbrev pub text_of : Bor (List ℕ) → List ℕ
 text_of text = text.now
 
+-- the raw form of a definition
 abbrev pub raw_defined : ComponentDefinedType → DefinedType
 raw_defined (forms.Primitive p) = DefinedType.primitive p
 raw_defined (forms.Record fields) = DefinedType.record_of (map labeled fields.items)
@@ -40,9 +42,11 @@ raw_defined (forms.Borrow n) = DefinedType.borrow_of n
 raw_defined (forms.Stream v) = DefinedType.stream_of v
 raw_defined (forms.Future v) = DefinedType.future_of v
 
+-- the raw form of a function type
 abbrev pub raw_function : ComponentFuncType → FunctionType
 raw_function f = record { is_async = f.async_; parameters = map labeled f.params.items; result_type = f.result }
 
+-- the raw form of an alias
 abbrev pub raw_alias : BorrowedAlias → Alias
 raw_alias (aliases.InstanceExport instance name) = Alias.of_export instance name.now
 raw_alias (aliases.Outer count index) = Alias.of_outer count index
@@ -51,6 +55,7 @@ raw_alias (aliases.Outer count index) = Alias.of_outer count index
 abbrev pub text_given : Option (CowStr Global) → Option (List ℕ)
 text_given text = option_map cow_str_bytes text
 
+-- the raw form of the name of an import or an export, with its attributes
 abbrev pub raw_name : ComponentExternName → ExternName
 raw_name name = record {
   text = cow_str_bytes name.name;

@@ -7,7 +7,7 @@ use Rattle.std.proofs.lemmas.List.Elements.{Contains-append_left, Contains-appen
 use Rattle.std.proofs.lemmas.Bool.{and_from}
 use Rattle.wit_model.specs.Text.{Text, text_eq}
 use Rattle.wit_model.specs.Tree.{Place}
-use Rattle.wit_model.proofs.VersionLaws.{same_text, text_same}
+use Rattle.wit_model.proofs.VersionLaws.{same_text}
 use Rattle.comp_meaning.specs.Rules.{distinct, is_interface}
 use Rattle.comp_meaning.specs.Reads.{Sight, same_functions, agree, all_agree, are_interfaces}
 use Rattle.comp_meaning.specs.Agreement.{first_of, first_whole, same_types, agrees_with_first, agree_with_first, FirstAgrees}
@@ -15,6 +15,7 @@ use Rattle.comp_meaning.proofs.SameLaws.{shown_types_decide}
 use Rattle.comp_meaning.proofs.FunctionLists.{functions_make_one_map}
 use Rattle.base_lemmas.proofs.Bools.{both_ways as either_way, left_of as first_true, right_of as second_true}
 use Rattle.base_lemmas.proofs.Elements.{last_of}
+use Rattle.wit_model.proofs.TextLemmas.{text_same}
 
 -- ---- one view and another
 

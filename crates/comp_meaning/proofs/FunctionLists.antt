@@ -9,8 +9,9 @@ use Rattle.std.proofs.lemmas.Bool.{eqb-true, eq-eqb, and_from, or_left, or_right
 use Rattle.std.proofs.lemmas.Bool.Decides.{Decides-at}
 use Rattle.std.proofs.lemmas.Cmp.{nat_list_cmp_total}
 use Rattle.wit_model.specs.Text.{Text, TextMap, text_eq, text_cmp}
-use Rattle.wit_model.proofs.VersionLaws.{same_text, text_same}
-use Rattle.wit_model.proofs.Maps.{one_map, found_there, there_some}
+use Rattle.wit_model.proofs.VersionLaws.{same_text}
+use Rattle.wit_model.proofs.Maps.{one_map, there_some}
+use Rattle.wit_model.proofs.AnyOrder.{found-there as found_there}
 use Rattle.comp_meaning.specs.Rules.{distinct}
 use Rattle.comp_meaning.specs.Same.{same_function, stand_in}
 use Rattle.comp_meaning.specs.Reads.{same_functions}
@@ -18,6 +19,7 @@ use Rattle.comp_meaning.specs.SameLaws.{DecidesEquality, SameFunctionsStandInEac
 use Rattle.comp_meaning.proofs.SameLaws.{functions_decide}
 use Rattle.comp_meaning.proofs.Marks.{marks, all_taken, Counted, no_number, one_number_first, no_more, exact, taken_at, true_mark, all_marked}
 use Rattle.base_lemmas.proofs.Bools.{both_ways as either_way, left_of as first_true, right_of as second_true}
+use Rattle.wit_model.proofs.TextLemmas.{text_same}
 
 module _ {X : Type 0} where
   abbrev names : List (Text × X) → List Text

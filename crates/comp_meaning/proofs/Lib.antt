@@ -12,3 +12,5 @@ mod ReadingExamples
 mod CornerExamples
 mod IndexExamples
 mod WholeExample
+pub mod FollowLemmas
+pub mod RulesLemmas

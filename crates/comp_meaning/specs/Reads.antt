@@ -26,26 +26,28 @@ pub record Top : Type 0 where
   pub slots : List ℕ
   pub exported : List (Text × ℕ)
 
--- each type is a component type
+-- a type at the top, which has to be a component type
 abbrev pub top_type : Top → TopType → Option Top
 top_type top (TopType.component ds) = Some (record { types = top.types ++ ds ∷ []; slots = top.slots ++ length top.types ∷ []; exported = top.exported })
 top_type top _ = None
 
--- a name with no attribute
+-- whether a name has no attribute
 abbrev pub is_bare : ExternName → Bool
 is_bare name = is_none name.implements && (is_none name.version_suffix && is_none name.external_id)
 
--- each export has a label, and exports a type that none has exported
+-- an export at the top: it has a label, and exports a type that none before it has exported
 abbrev pub top_export : Top → TopExport → Option Top
 top_export top e =
     slice_get top.slots e.type_index >>= λ n.
     provided (is_bare e.exported_as && (is_label e.exported_as.text && not (list_any (λ x. x.1 == n) top.exported)))
     (record { types = top.types; slots = top.slots ++ n ∷ []; exported = top.exported ++ (e.exported_as.text, n) ∷ [] })
 
+-- follows a list one element at a time, and stops where a step fails
 abbrev pub steps : {S A : Type 0} → (S → A → Option S) → S → List A → Option S
 steps step state [] = Some state
 steps step state (x ∷ xs) = step state x >>= λ next. steps step next xs
 
+-- the sections of a component, one by one: types, exports, and custom sections, which are passed over
 abbrev pub top_section : Top → Section → Option Top
 top_section top (Section.custom name contents) = Some top
 top_section top (Section.types ts) = steps top_type top ts
@@ -88,7 +90,7 @@ exported_view (seen ∷ []) = export_of seen.shown
     export_of _ = None
 exported_view _ = None
 
--- Each import is used by a later one or by the export. Since one uses only earlier ones, the export reaches them all, and only them.
+-- Whether each import is used by a later one or by the export. Since one uses only earlier ones, the export reaches them all, and only them.
 abbrev pub are_reached : List (Text × View) → View → Bool
 are_reached [] exported = true
 are_reached (i ∷ later) exported =
@@ -98,6 +100,7 @@ are_reached (i ∷ later) exported =
 abbrev pub labelled_path : Text → Text → Option PackageIdentity
 labelled_path label path = read_path path >>= λ p. provided (text_eq p.1 label) p.0
 
+-- a world at the top: its wrapper exports it under a path that ends in the label
 abbrev pub world_part : Text → Declarations × ExternName → Option (PackageIdentity × Part)
 world_part label w =
     when (is_none w.1.implements && is_none w.1.external_id) (complete_path w.1.text w.1.version_suffix) >>= λ path.
@@ -105,6 +108,7 @@ world_part label w =
     component_scope w.0 >>= λ scope.
     provided (is_world scope) (package_, world scope)
 
+-- an interface at the top: its component type imports what it uses and exports it under a path that ends in the label
 abbrev pub interface_part : Text → Declarations → Option (PackageIdentity × Part)
 interface_part label ds =
     component_scope ds >>= λ scope.
@@ -113,6 +117,7 @@ interface_part label ds =
     labelled_path label exported.0 >>= λ package_.
     provided (distinct (exported.0 ∷ map (λ i. i.0) imports) && are_reached imports exported.1) (package_, interface exported.1 imports)
 
+-- a part at the top, under its label: a world in a wrapper, or an interface
 abbrev pub part_of : Text → Declarations → Option (PackageIdentity × Part)
 part_of label ds = by_wrapper (wrapped ds)
   where
@@ -126,6 +131,7 @@ pub record Member : Type 0 where
   pub package_ : PackageIdentity
   pub part : Part
 
+-- a component type exported under a label, followed as a part
 abbrev pub member : Text × Declarations → Option Member
 member x = part_of x.0 x.1 >>= λ p. Some (record { label = x.0; package_ = p.0; part = p.1 })
 
@@ -137,6 +143,7 @@ pub record Sight : Type 0 where
   pub view : View
   pub whole : Bool
 
+-- the view that an instance gives of a named interface
 abbrev pub of_instance : Instance → List Sight
 of_instance i = with_path i.interface
   where
@@ -153,28 +160,32 @@ sights m = of_part m.part
     of_part (interface exported imports) =
         map (λ i. record { path = i.0; view = i.1; whole = false }) imports ++ record { path = path_in m.package_ m.label; view = exported; whole = true } ∷ []
 
--- Two views of one path agree: in their types with all that is declared, in order, and if both show the functions in those.
+-- whether two shown types have the same name, declaration and external id
 abbrev pub same_shown : ShownType → ShownType → Bool
 same_shown a b = text_eq a.name b.name && same_type a.meaning b.meaning
 
+-- whether two lists have the same functions by name, in whatever order
 abbrev pub same_functions : List (Text × FunctionMeaning) → List (Text × FunctionMeaning) → Bool
 same_functions xs ys = length xs == length ys && stand_in same_function xs ys
 
+-- Whether two views of one path agree: in their types, in order, and in their functions if both show them.
 abbrev pub agree : Sight → Sight → Bool
 agree a b =
     not (text_eq a.path b.path)
     || (pointwise same_shown a.view.types b.view.types && (not (a.whole && b.whole) || same_functions a.view.functions b.view.functions))
 
+-- whether all views of one path agree
 abbrev pub all_agree : List Sight → Bool
 all_agree [] = true
 all_agree (s ∷ rest) = list_all (agree s) rest && all_agree rest
 
--- each interface that is seen may be one
+-- whether each interface that is seen is well-formed
 abbrev pub are_interfaces : List Sight → Bool
 are_interfaces seen = list_all (λ s. is_interface (Place.of_interface s.path) s.view) seen
 
 -- ---- what it means
 
+-- the functions of an interface, from the first view that shows them
 abbrev pub functions_of : Text → List Sight → List (Text × FunctionMeaning)
 functions_of path [] = []
 functions_of path (s ∷ rest) = if text_eq path s.path && s.whole then s.view.functions else functions_of path rest
@@ -187,6 +198,7 @@ interface_meaning view functions = record { types = map (λ t. (t.name, t.meanin
 abbrev pub seen_meaning : List Sight → Sight → Text × InterfaceMeaning
 seen_meaning all s = (s.path, interface_meaning s.view (functions_of s.path all))
 
+-- what an import or an export means
 abbrev pub item_of : Shown → Item InterfaceMeaning
 item_of (Shown.instance (Key.path path) view) = Item.interface path
 item_of (Shown.instance (Key.implementing label path) view) = Item.interface path
@@ -194,12 +206,15 @@ item_of (Shown.instance (Key.label label) view) = Item.inline (interface_meaning
 item_of (Shown.function f) = Item.function f
 item_of (Shown.declares d) = Item.declares d
 
+-- an import or an export under its key, with its external id
 abbrev pub entry : Seen → Text × Entry InterfaceMeaning
 entry seen = (seen.key, record { item = item_of seen.shown; external_id = seen.external_id })
 
+-- what a world means by what it shows: its imports and exports, in order
 abbrev pub world_meaning : Scope → WorldMeaning
 world_meaning scope = record { imports = map entry scope.imports; exports = map entry scope.exports }
 
+-- the world that a part is, under its label, if it is one
 abbrev pub worlds_of : Member → List (Text × WorldMeaning)
 worlds_of m = of_part m.part
   where
@@ -207,6 +222,7 @@ worlds_of m = of_part m.part
     of_part (world scope) = (m.label, world_meaning scope) ∷ []
     of_part (interface exported imports) = []
 
+-- the interface that a part is, under its label, if it is one
 abbrev pub interfaces_of : Member → List (Text × InterfaceMeaning)
 interfaces_of m = of_part m.part
   where
@@ -214,6 +230,7 @@ interfaces_of m = of_part m.part
     of_part (world scope) = []
     of_part (interface exported imports) = (m.label, interface_meaning exported exported.functions) ∷ []
 
+-- whether a part is an interface
 abbrev pub is_interface_part : Part → Bool
 is_interface_part (world scope) = false
 is_interface_part (interface exported imports) = true
@@ -226,7 +243,7 @@ is_of package_ path = of_read (read_path path)
     of_read None = false
     of_read (Some p) = same_identity package_ p.0
 
--- an interface of the package that is seen stands at the top
+-- whether an interface that is seen stands at the top, if it is one of the package
 abbrev pub stands_at_top : PackageIdentity → List Member → Sight → Bool
 stands_at_top package_ members s =
     not (is_of package_ s.path) || list_any (λ m. is_interface_part m.part && text_eq s.path (path_in package_ m.label)) members
@@ -246,6 +263,7 @@ package_with package_ members =
       foreign = from_entries (map (seen_meaning seen) (filter (λ s. not (is_of package_ s.path)) seen));
     })
 
+-- what these parts mean as a package. The first one says which package it is
 abbrev pub package_of_members : List Member → Option PackageMeaning
 package_of_members [] = None
 package_of_members (m ∷ ms) = package_with m.package_ (m ∷ ms)
@@ -261,6 +279,7 @@ world_with package_ name scope =
     provided (all_agree seen && (are_interfaces seen && not (list_any (λ s. text_eq s.path (path_in package_ name)) seen)))
     (record { identity = package_; name = name; world = world_meaning scope; shown = from_entries (map (seen_meaning seen) seen) })
 
+-- what one part means as a world by itself
 abbrev pub world_of_members : List Member → Option WorldPackage
 world_of_members (m ∷ []) = of_part m.part
   where

@@ -12,18 +12,18 @@ use Rattle.comp_meaning.specs.Follow.{View, ShownType, Seen, Shown, Key, Scope, 
 
 -- ---- names
 
--- no text stands twice
+-- whether no text stands twice
 abbrev pub distinct : List Text → Bool
 distinct [] = true
 distinct (x ∷ xs) = not (list_any (text_eq x) xs) && distinct xs
 
--- labels, none twice
+-- whether these are labels, of which none stands twice
 abbrev pub are_labels : List Text → Bool
 are_labels names = list_all is_label names && distinct names
 
 -- ---- types
 
--- a form that only a named type has
+-- whether only a named type may have this form
 abbrev pub is_named_form : Form → Bool
 is_named_form (Form.record_of _) = true
 is_named_form (Form.variant_of _) = true
@@ -31,6 +31,7 @@ is_named_form (Form.flags_of _) = true
 is_named_form (Form.enum_of _) = true
 is_named_form _ = false
 
+-- the labels in a form: names of fields, cases or flags
 abbrev pub form_labels : Form → List Text
 form_labels (Form.record_of names) = names
 form_labels (Form.variant_of cases) = map (λ c. c.0) cases
@@ -38,13 +39,14 @@ form_labels (Form.flags_of names) = names
 form_labels (Form.enum_of names) = names
 form_labels _ = []
 
--- A type as a part of another, or of a function: the names in it are of the place, and records, variants, flags and enums are named.
+-- Whether a type may be a part of another, or of a function: names in it are of this place, and records, variants, flags and enums are named.
 abbrev mutual
   pub is_part : Place → Tree → Bool
   is_part place (Tree.primitive p) = true
   is_part place (Tree.named q name) = same_place place q
   is_part place (Tree.node form ts) = not (is_named_form form) && are_parts place ts
 
+  -- whether types may be parts of another, each of them
   pub are_parts : Place → Trees → Bool
   are_parts place Trees.no_children = true
   are_parts place (Trees.child t ts) = is_part place t && are_parts place ts
@@ -53,7 +55,7 @@ abbrev mutual
 abbrev pub most_levels : ℕ
 most_levels = 100
 
--- What a name may be declared as: a resource, a primitive, another name, also of another interface, or a form.
+-- Whether a name may be declared so: as a resource, a primitive, another name, also of another interface, or a form.
 abbrev pub is_declared : Place → Declaration → Bool
 is_declared place Declaration.resource = true
 is_declared place (Declaration.type_ (Tree.primitive p)) = true
@@ -62,61 +64,67 @@ is_declared place (Declaration.type_ (Tree.node form ts)) = are_labels (form_lab
 
 -- ---- functions
 
+-- whether a type may be a parameter's: a part of at most 100 unnamed levels
 abbrev pub is_parameter_type : Place → Tree → Bool
 is_parameter_type place t = is_part place t && nat_le (levels t) most_levels
 
+-- whether a function may have this result, or none
 abbrev pub is_result_type : Place → Option Tree → Bool
 is_result_type place None = true
 is_result_type place (Some t) = is_parameter_type place t
 
+-- whether a signature is well-formed: labels that differ, and types that may stand there
 abbrev pub is_signature : Place → Signature → Bool
 is_signature place f =
     are_labels (map (λ p. p.0) f.params) && list_all (λ p. is_parameter_type place p.1) f.params && is_result_type place f.result
 
--- the resource of the name, handed over and lent
+-- an own of the resource of this name
 abbrev pub own_name : Place → Text → Tree
 own_name place name = tree.own_tree (Tree.named place name)
 
+-- a borrow of the resource of this name
 abbrev pub borrow_name : Place → Text → Tree
 borrow_name place name = tree.borrow_tree (Tree.named place name)
 
--- a label behind the front
+-- whether a name is this prefix and then a label
 abbrev pub is_label_behind : Text → Text → Bool
 is_label_behind front name = starts_with nat_eq name front && is_label (drop (length front) name)
 
--- the first parameter of a method
+-- whether the first parameter is `self`, of this type
 abbrev pub begins_with_self : Tree → List (Text × Tree) → Bool
 begins_with_self self [] = false
 begins_with_self self (p ∷ ps) = text_eq p.0 (codes "self") && same_tree p.1 self
 
--- what a constructor answers: the resource, or a result whose ok is the resource
+-- whether a constructor may answer this: an own of the resource, or a result whose ok is one
 abbrev pub constructs : Tree → Option Tree → Bool
 constructs own None = false
 constructs own (Some (Tree.node (Form.result_of true err) (Trees.child t ts))) = same_tree t own
 constructs own (Some t) = same_tree t own
 
--- A function of the resource: `[constructor]r`, which is not asynchronous, `[method]r.f` or `[static]r.f`, with a label f.
+-- Whether a function is one of the resource: `[constructor]r`, which is not asynchronous, `[method]r.f` or `[static]r.f`, with a label f.
 abbrev pub is_function_of : Place → Text → Signature → Text → Bool
 is_function_of place name f resource =
     (text_eq name (constructor_name resource) && not f.is_async && constructs (own_name place resource) f.result)
     || (is_label_behind (method_name resource []) name && begins_with_self (borrow_name place resource) f.params)
     || is_label_behind (static_name resource []) name
 
--- A function whose resource is one of these, or that has none
+-- Whether a function is well-formed: it is freestanding, or one of these resources has it.
 abbrev pub is_function : Place → List Text → Text → Signature → Bool
 is_function place resources name f = is_signature place f && (is_label name || list_any (is_function_of place name f) resources)
 
 -- ---- interfaces
 
+-- whether a name is declared as a resource
 abbrev pub is_resource : Declaration → Bool
 is_resource Declaration.resource = true
 is_resource (Declaration.type_ t) = false
 
+-- the names of the resources among the types of an interface
 abbrev pub resources_of : List ShownType → List Text
 resources_of [] = []
 resources_of (t ∷ ts) = if is_resource t.meaning.declaration then t.name ∷ resources_of ts else resources_of ts
 
--- what an interface whose names stand in the place may have
+-- whether the types and the functions of a view are well-formed, and their names are of this place and differ
 abbrev pub is_interface : Place → View → Bool
 is_interface place view =
     list_all (λ t. is_label t.name && is_declared place t.meaning.declaration) view.types
@@ -125,20 +133,22 @@ is_interface place view =
 
 -- ---- what uses what
 
--- the other interface of whose name the declaration is another name
+-- the path of the interface whose type a declaration aliases
 abbrev pub used_by : Declaration → List Text
 used_by (Declaration.type_ (Tree.named (Place.of_interface path) name)) = path ∷ []
 used_by _ = []
 
+-- the paths of the interfaces whose types the types of a view alias
 abbrev pub used_by_view : View → List Text
 used_by_view view = flat_map (λ t. used_by t.meaning.declaration) view.types
 
--- the interfaces that an import or an export uses, itself not counted
+-- these paths without an interface's own
 abbrev pub others_than : Option Text → List Text → List Text
 others_than None paths = paths
 others_than (Some own) [] = []
 others_than (Some own) (p ∷ ps) = if text_eq own p then others_than (Some own) ps else p ∷ others_than (Some own) ps
 
+-- the interfaces that an import or an export uses, its own not counted
 abbrev pub uses : Seen → List Text
 uses seen = uses_of seen.shown
   where
@@ -155,11 +165,12 @@ path_seen (Shown.instance (Key.path p) view) = p ∷ []
 path_seen (Shown.instance (Key.implementing l p) view) = p ∷ []
 path_seen _ = []
 
--- each interface that is used stands earlier
+-- whether each interface that an import or an export uses stands earlier
 abbrev pub stand_earlier : List Text → List Seen → Bool
 stand_earlier earlier [] = true
 stand_earlier earlier (s ∷ rest) = list_all (λ p. list_any (text_eq p) earlier) (uses s) && stand_earlier (earlier ++ path_seen s.shown) rest
 
+-- the resources that a world's imports declare, by name
 abbrev pub resources_seen : List Seen → List Text
 resources_seen [] = []
 resources_seen (s ∷ rest) = if is_resource_seen s.shown then s.key ∷ resources_seen rest else resources_seen rest
@@ -168,17 +179,18 @@ resources_seen (s ∷ rest) = if is_resource_seen s.shown then s.key ∷ resourc
     is_resource_seen (Shown.declares d) = is_resource d
     is_resource_seen _ = false
 
--- an import or an export of a world, behind these imports
+-- whether an import or an export of a world is well-formed, where these resources were imported before it
 abbrev pub is_item : List Text → Text → Shown → Bool
 is_item resources key (Shown.instance k view) = is_interface (place_of (interface_of k)) view
 is_item resources key (Shown.function f) = is_function Place.here resources key f
 is_item resources key (Shown.declares d) = is_label key && is_declared Place.here d
 
+-- whether each import of a world is well-formed, behind those before it
 abbrev pub are_imports : List Seen → List Seen → Bool
 are_imports earlier [] = true
 are_imports earlier (s ∷ rest) = is_item (resources_seen earlier) s.key s.shown && are_imports (earlier ++ s ∷ []) rest
 
--- what a world may have
+-- whether the imports and the exports of a world are well-formed, and what they use stands before them
 abbrev pub is_world : Scope → Bool
 is_world scope =
     are_imports [] scope.imports

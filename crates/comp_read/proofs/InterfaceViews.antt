@@ -17,7 +17,7 @@ use Rattle.comp_read.proofs.Scopes.{IsSeen, IsSeenAs}
 use Rattle.base_lemmas.proofs.Bools.{left_of as first_true, right_of as second_true}
 use Rattle.base_lemmas.proofs.Elements.{all_at, contains-map, contains-one, get-contains, last_of as one-contained, map_from as from_map, zip_at as zip_there, zip_at_right as zip_at}
 use Rattle.std.proofs.lemmas.Option.{same_Some as same-some}
-use Rattle.read_exports.proofs.InterfaceLaws.{provided_is as of_provided}
+use Rattle.comp_meaning.proofs.FollowLemmas.{provided_is as of_provided}
 
 no_some : {A B : Type 0} (x : A) → None ≡ Some x → B
 no_some x e = let wrong : ⊥ = cc in absurd wrong

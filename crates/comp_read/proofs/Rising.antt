@@ -7,9 +7,10 @@ use Rattle.wit_model.specs.Text.{Text}
 use Rattle.plan_meaning.specs.Plan.{PlannedPackage}
 use Rattle.plan_package.specs.WholeInterfaces.{Home}
 use Rattle.plan_package.specs.WholePackages.{ListsPlace, PlansPackage, another, entries_from, entry_of, the_main}
-use Rattle.plan_laws.proofs.PlaceNumbers.{IsOnce, number_there}
+use Rattle.plan_laws.proofs.PlaceNumbers.{IsOnce}
 use Rattle.read_exports.specs.declared.members.Member.{Member}
 use Rattle.comp_read.specs.Order.{rise}
+use Rattle.plan_package.proofs.ReadPackageLaws.{number_at as number_there}
 
 -- ---- entries by their numbers
 

@@ -22,8 +22,7 @@ use Rattle.base_lemmas.proofs.Numbers.{same-number}
 use Rattle.std.proofs.lemmas.Bool.{and_from as both}
 use Rattle.std.proofs.lemmas.Map.Keys.{any_passes_from_place as get_any}
 use Rattle.std.proofs.lemmas.Option.{same_Some as same-some}
-use Rattle.plan_parts.proofs.SightLaws.{text_self as same_text}
-use Rattle.wit_model.proofs.AnyOrder.{text-same as text_same}
+use Rattle.wit_model.proofs.TextLemmas.{text_alike as same_text, text_same}
 
 -- the text isn't one of these
 not_among : (l : Text) (ls : List Text) → ((x : Text) → Contains ls x → l ≡ x → ⊥) → not (list_any (text_eq l) ls) ≡ true

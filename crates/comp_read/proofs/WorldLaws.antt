@@ -1,13 +1,11 @@
 -- What is built of the plan of one world.
-use Rattle.std.proofs.Common.{◌≡◌, ap, subst, ◌∙◌, ℕ, ◌≤◌, true, false, List, length, Option, Some, None, slice_get}
-use Rattle.std.proofs.lemmas.Bool.{eqb-true}
+use Rattle.std.proofs.Common.{◌≡◌, ap, subst, ◌∙◌, ℕ, ◌≤◌, List, length, Option, Some, slice_get}
 use Rattle.wit_model.specs.declared.model.Resolve.{Resolve}
 use Rattle.wit_model.specs.declared.model.World.{World}
 use Rattle.wit_model.specs.Lookup.{world_at}
 use Rattle.wit_model.specs.Meaning.{WorldPackage}
 use Rattle.wit_model.specs.Meant.{MeantWorld}
 use Rattle.wit_model.specs.Names.{PackageIdentity}
-use Rattle.wit_model.specs.Rules.{is_id}
 use Rattle.wit_model.specs.Valid.{IsValid}
 use Rattle.plan_meaning.specs.Built.{IsBuilt, planned_world}
 use Rattle.plan_meaning.specs.NumberedViews.{Tables}
@@ -28,10 +26,7 @@ use Rattle.comp_read.specs.Order.{PackagesRise}
 use Rattle.comp_read.proofs.BuildLaws.{few_built}
 use Rattle.comp_read.proofs.WorldOrder.{built_rise}
 use Rattle.base_lemmas.proofs.Lists.{get_back}
-
-id_is : (n : ℕ) (o : Option ℕ) → is_id n o ≡ true → o ≡ Some n
-id_is n None e = let wrong : false ≡ true = e in absurd cc
-id_is n (Some m) e = ap Some (eqb-true m n e)
+use Rattle.wit_model.proofs.RulesLemmas.{is_id_some as id_is}
 
 both : (r : Resolve) (m : WorldPackage) (a b : Option WorldPackage) → a ≡ b → (MeantWorld r 0 m → a ≡ Some m) × ((a ≡ Some m) → MeantWorld r 0 m) → (MeantWorld r 0 m → b ≡ Some m) × ((b ≡ Some m) → MeantWorld r 0 m)
 both r m a b same is = subst (λ (o : Option WorldPackage). (MeantWorld r 0 m → o ≡ Some m) × ((o ≡ Some m) → MeantWorld r 0 m)) same is

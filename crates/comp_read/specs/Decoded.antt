@@ -49,7 +49,7 @@ pub record IsDecoded (bytes : List ℕ) (r : Resolve) (n : ℕ) : Type 0 where
   pub meant : (m : PackageMeaning) → Meant r n m ↔ Reads bytes m
   pub few : length r.types.items ≤ length bytes
 
--- they mean no package
+-- The bytes mean no package.
 abbrev pub MeansNothing : List ℕ → Type 0
 MeansNothing bytes = (m : PackageMeaning) → Reads bytes m → ⊥
 

@@ -56,11 +56,11 @@ pub record IsDecodedWorld (bytes : List ℕ) (r : Resolve) (n : ℕ) : Type 0 wh
   pub meant : (m : WorldPackage) → MeantWorld r n m ↔ ReadsWorld bytes m
   pub few : length r.types.items ≤ length bytes
 
--- they mean no one world
+-- The bytes mean no world by itself.
 abbrev pub MeansNoWorld : List ℕ → Type 0
 MeansNoWorld bytes = (m : WorldPackage) → ReadsWorld bytes m → ⊥
 
--- Bytes that mean no one world are refused with an offset among them, and all others with `Memory` alone.
+-- Bytes that mean no world by itself are refused with an offset among them, and all others with `Memory` alone.
 abbrev pub RefusesWorldBytes : List ℕ → Error → Type 0
 RefusesWorldBytes bytes (errors.NoReading cause offset) = (offset ≤ length bytes) × MeansNoWorld bytes
 RefusesWorldBytes bytes errors.Memory = Unit {0}

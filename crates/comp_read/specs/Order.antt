@@ -18,7 +18,7 @@ use Rattle.comp_meaning.specs.Follow.{each}
 use Rattle.comp_meaning.specs.Reads.{Member, Part, exported_types, functions_of, interface, member, sights, world, worlds_of}
 use Rattle.plan_meaning.specs.Plan.{Plan, PlannedPackage, numbers_of}
 
--- each number is smaller than those behind it
+-- whether each number is smaller than those behind it
 abbrev pub rise : List ℕ → Bool
 rise [] = true
 rise (n ∷ ns) = list_all (nat_lt n) ns && rise ns
@@ -27,11 +27,11 @@ rise (n ∷ ns) = list_all (nat_lt n) ns && rise ns
 abbrev pub numbers_in : Package → List ℕ
 numbers_in q = map (λ id. id.0) (values q.interfaces)
 
--- Each package lists its interfaces in the order of their numbers,
+-- Each package lists its interfaces in the order of their numbers.
 abbrev pub ListByNumber : Resolve → Type 0
 ListByNumber r = (k : ℕ) (q : Package) → package_at r k ≡ Some q → rise (numbers_in q) ≡ true
 
--- or each but the one of this number.
+-- Each package but the one of this number lists its interfaces in the order of their numbers.
 abbrev pub OthersListByNumber : Resolve → ℕ → Type 0
 OthersListByNumber r n = (k : ℕ) (q : Package) → (k ≡ n → ⊥) → package_at r k ≡ Some q → rise (numbers_in q) ≡ true
 
@@ -58,6 +58,7 @@ shown_under m = of_part m.part
     of_part (world scope) = map (λ i. i.interface) scope.instances
     of_part (interface exported imports) = map (λ i. Some i.0) imports ++ Some (path_in m.package_ m.label) ∷ []
 
+-- whether an interface is shown under this path
 abbrev pub is_under : Text → Option Text → Bool
 is_under path o = option_map_or (text_eq path) o false
 
@@ -79,6 +80,7 @@ functions_shown members path = map (λ f. f.0) (functions_of path (flat_map sigh
 abbrev pub worlds_shown : List Member → List Text
 worlds_shown members = map (λ w. w.0) (flat_map worlds_of members)
 
+-- the names of an interface's functions, in their order
 abbrev pub function_names : Interface → List Text
 function_names i = map (λ e. text_of e.0) i.functions.entries
 
@@ -89,13 +91,13 @@ pub record FollowsParts (members : List Member) (r : Resolve) : Type 0 where
   pub functions : (k : ℕ) (i : Interface) (path : Text) → interface_at r k ≡ Some i → path_of_interface r i ≡ Some path → function_names i ≡ functions_shown members path
   pub worlds : map (λ w. text_of w.name) r.worlds.items ≡ worlds_shown members
 
--- So it is with what the bytes export,
+-- What the bytes export, the `Resolve` follows: its interfaces, functions and worlds stand in that order.
 pub record FollowsBytes (bytes : List ℕ) (r : Resolve) : Type 0 where
   pub members : List Member
   pub exported : ExportParts bytes members
   pub follows : FollowsParts members r
 
--- which is what their sections do, if there are any.
+-- What is followed by levels, the `Resolve` follows in that order.
 pub record FollowsLevels (levels : Option (List Piece)) (r : Resolve) : Type 0 where
   pub members : List Member
   pub exported : (levels >>= λ pieces. exported_parts pieces >>= each member_by_levels) ≡ Some members

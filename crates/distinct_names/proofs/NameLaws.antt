@@ -6,7 +6,7 @@ use Rattle.wit_model.specs.Text.{Text, text_eq}
 use Rattle.wit_model.specs.Names.{is_label}
 use Rattle.wit_model.proofs.Distinct.{adds_new, adds_distinct, new_turn, old_turn, last_turn}
 use Rattle.comp_meaning.specs.Rules.{are_labels, distinct}
-use Rattle.plan_meaning.proofs.KeptTypes.{distinct_same}
+use Rattle.comp_meaning.proofs.RulesLemmas.{distinct_same}
 
 abbrev pub seen : Bor (List ℕ) → Text
 seen k = k.now

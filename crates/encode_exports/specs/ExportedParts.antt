@@ -13,6 +13,7 @@ abbrev pub exporting_from : ℕ → List (Text × Declarations) → List Part
 exporting_from n [] = []
 exporting_from n (x ∷ xs) = one_exported n x ++ exporting_from (suc (suc n)) xs
 
+-- the parts of a component that exports these component types
 abbrev pub exporting : List (Text × Declarations) → List Part
 exporting xs = exporting_from zero xs
 

@@ -2,7 +2,6 @@
 use Rattle.std.proofs.Common.{◌≡◌, sym, ◌∙◌, refl, ap, zero, suc, Bool, true, false, cond, List, [], ◌∷◌, arith, Option, Some, None, find}
 use Rattle.std.specs.List.{Contains}
 use Rattle.std.specs.Option.{option_eq}
-use Rattle.std.proofs.lemmas.Cmp.{nat_list_eq_equiv}
 use Rattle.wit_model.specs.Text.{Text, text_eq}
 use Rattle.wit_model.specs.Meaning.{TypeMeaning}
 use Rattle.comp_bytes.specs.Raw.{ExternName}
@@ -11,9 +10,7 @@ use Rattle.encode_types.specs.Scope.{exported_name}
 use Rattle.encode_flat.specs.Flat.{is_name_of}
 use Rattle.base_lemmas.proofs.Bools.{left_of as first_true, right_of as second_true}
 use Rattle.std.proofs.lemmas.Bool.{and_from as both}
-
-text-alike : (t : Text) → text_eq t t ≡ true
-text-alike t = nat_list_eq_equiv.refl t
+use Rattle.wit_model.proofs.TextLemmas.{text_alike as text-alike}
 
 optional-alike : (o : Option Text) → option_eq text_eq o o ≡ true
 optional-alike None = refl

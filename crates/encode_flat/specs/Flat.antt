@@ -53,7 +53,7 @@ exported_by declarations (form.Export i name) = option_to_list (find (is_name_of
 exported_by declarations (form.Resource name) = option_to_list (find (is_name_of (raw_name name)) declarations)
 exported_by declarations _ = []
 
--- the slot whose type it exports
+-- the slot whose type a form exports, if it exports one
 abbrev pub exported_slot : Form → Option ℕ
 exported_slot (form.Export i name) = Some i
 exported_slot _ = None
@@ -68,6 +68,7 @@ defined_by declarations k (form.Definition d) before = one_type_more k before
 defined_by declarations k (form.Function f) before = one_function_more k before
 defined_by declarations k x before = exports_more (exported_slot x) (exported_by declarations x) before
 
+-- what has been defined and exported, by what was added and its forms
 abbrev pub flat_definitions : List (Text × TypeMeaning) → List Mark → List Form → Definitions
 flat_definitions declarations [] xs = record { types = []; exported = []; functions = []; exports = [] }
 flat_definitions declarations (mark.Import n ∷ ks) xs = flat_definitions declarations ks xs
@@ -88,7 +89,7 @@ marks_of e = e.marks
 abbrev pub ImportsOnce : FlatEncoderOf TypeEncodingMaps → ℕ → FlatEncoderOf TypeEncodingMaps → Type 0
 ImportsOnce e n e' = Imports (marks_of e) n (marks_of e')
 
--- what it holds, as a user of the encoder sees it
+-- what a flat encoder holds, as its user sees it
 abbrev pub flat_view : FlatEncoderOf TypeEncodingMaps → View
 flat_view e = record {
   scope = table_scope e.resolve.now e.owner;

@@ -3,11 +3,12 @@ use Rattle.std.specs.Prelude.{ℕ, ◌+◌, ◌≡◌, true, cond, nat_eq, List,
 use Rattle.encode_flat.specs.declared.marks.Mark.{Mark}
 use Rattle.encode_flat.specs.declared.marks.Mark.TheVariants as mark
 
--- how many slots one takes: a name has none of its own
+-- how many slots one addition takes: a further name of a slot takes none
 abbrev pub slots_of : Mark → ℕ
 slots_of (mark.Name i) = 0
 slots_of _ = 1
 
+-- how many slots there are
 abbrev pub slot_count : List Mark → ℕ
 slot_count [] = 0
 slot_count (k ∷ ks) = slot_count ks + slots_of k
@@ -18,7 +19,7 @@ import_slot [] n = None
 import_slot (mark.Import m ∷ ks) n = cond (nat_eq n m) (Some (slot_count ks)) (import_slot ks n)
 import_slot (_ ∷ ks) n = import_slot ks n
 
--- how many there are
+-- how many additions there are
 abbrev pub mark_count : List Mark → ℕ
 mark_count [] = 0
 mark_count (k ∷ ks) = mark_count ks + 1

@@ -10,13 +10,10 @@ use Rattle.semver.specs.Grammar as grammar
 use Rattle.semver.specs.Parse.{Parts}
 use Rattle.wit_model.specs.Text.{Text, text_of}
 use Rattle.wit_model.specs.Names.{PackageIdentity, path_in, cut, is_label, is_version, read_path, canonical_version, version_suffix}
-use Rattle.wit_model.specs.Lookup.{interface_path, canonical_path, canonical_suffix, canonical_identity_of, identity_of, package_at, package_of_interface}
-use Rattle.wit_model.specs.Paths.{full_name}
+use Rattle.wit_model.specs.Lookup.{interface_path, canonical_path, canonical_suffix, canonical_identity_of, identity_of}
 use Rattle.wit_model.specs.Rules.{passes}
 use Rattle.wit_model.specs.Valid.{IsValid}
 use Rattle.wit_model.specs.declared.model.Resolve.{Resolve}
-use Rattle.wit_model.specs.declared.model.Interface.{Interface}
-use Rattle.wit_model.specs.declared.model.Package.{Package}
 use Rattle.wit_model.specs.declared.model.PackageName.{PackageName}
 use Rattle.wit_model.proofs.NameLaws.{label_lacks, spelled_path_reads}
 use Rattle.wit_model.proofs.OnePath.{HasPath, has-path, package-name, path-label}
@@ -27,6 +24,7 @@ use Rattle.comp_meaning.specs.Follow.{Key, complete_path, is_begun_version, is_f
 use Rattle.encode_names.specs.WorldNames.{written_path, written_suffix}
 use Rattle.base_lemmas.proofs.Bools.{no-and}
 use Rattle.std.proofs.lemmas.Option.{same_Some as same-some}
+use Rattle.wit_model.proofs.PathsLemmas.{named_in_full as full-name}
 
 -- ---- texts
 
@@ -103,14 +101,6 @@ complete begun None path e is reads =
 complete begun (Some t) path e is reads =
     ap (λ b. provided b (begun ++ t) >>= λ whole. provided (is_some (read_path whole)) whole) (is t refl)
     ∙ ap (λ whole. provided (is_some (read_path whole)) whole) (sym e) ∙ ap (λ b. provided b path) reads
-
-full-name : (r : Resolve) (n : ℕ) (path : Text) (h : HasPath r n path) → full_name r n ≡ Some (h.package_.name, h.name)
-full-name r n path h =
-    let home : package_of_interface r n ≡ Some h.package_ =
-    ap (option_and_then (λ (i : Interface). option_and_then (λ p. package_at r p.0) i.package)) h.there ∙ ap (option_and_then (λ p. package_at r p.0)) h.in_package ∙ h.stands in
-    ap (option_and_then (λ (i : Interface). option_and_then (λ name. option_map (λ (q : Package). (q.name, name)) (package_of_interface r n)) i.name)) h.there
-    ∙ ap (option_and_then (λ name. option_map (λ (q : Package). (q.name, name)) (package_of_interface r n))) h.named_
-    ∙ ap (option_map (λ (q : Package). (q.name, h.name))) home
 
 module _ (r : Resolve) (v : IsValid r) (n : ℕ) (path : Text) (is : interface_path r n ≡ Some path) where
   home : HasPath r n path

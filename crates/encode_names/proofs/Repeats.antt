@@ -7,8 +7,8 @@ use Rattle.std.proofs.lemmas.Cmp.{nat_list_eq_equiv}
 use Rattle.std.proofs.lemmas.Map.Keys.{IsDistinct-push}
 use Rattle.std.proofs.lemmas.Map.Views.{Contains-from_any}
 use Rattle.wit_model.specs.Text.{Text, text_eq, text_of}
-use Rattle.wit_model.proofs.AnyOrder.{text-same}
 use Rattle.base_lemmas.proofs.Elements.{any_of_map as list_any_mapped}
+use Rattle.wit_model.proofs.TextLemmas.{text_same as text-same}
 
 abbrev pub Strings : Type 0
 Strings = List (String Global)

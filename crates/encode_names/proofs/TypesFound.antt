@@ -11,13 +11,13 @@ use Rattle.wit_model.specs.Parts.{is_resource}
 use Rattle.wit_model.specs.Rules.{is_id, is_listed, is_listed_in_interface, passes}
 use Rattle.wit_model.specs.declared.model.Resolve.{Resolve}
 use Rattle.wit_model.specs.declared.model.TypeId.{TypeId}
-use Rattle.wit_model.proofs.AnyOrder.{text-same}
 use Rattle.comp_meaning.specs.Follow.{find_type}
 use Rattle.encode_shown.specs.Views.{home_of, name_slot, shown_type, types_of}
 use Rattle.encode_shown.proofs.Members.{valid-listed}
 use Rattle.encode_names.specs.WorldSteps.{TypesAreFound}
 use Rattle.base_lemmas.proofs.Bools.{left_of as first_true}
 use Rattle.base_lemmas.proofs.Numbers.{equal}
+use Rattle.wit_model.proofs.TextLemmas.{text_same as text-same}
 
 -- what a look-up by name finds is shown under that name
 found-shown : (r : Resolve) (place : Place) (es : List (String Global × TypeId)) (n : ℕ) (t : Text) → is_id n (option_map (λ (id : TypeId). id.0) (lookup (λ k. text_eq t (text_of k)) es)) ≡ true

@@ -19,7 +19,7 @@ canonical_names_of r items = map (λ e. written_key r true e.0) items
 abbrev pub canonical_paths_of : Resolve → List ℕ → List Text
 canonical_paths_of r numbers = map (written_path r true) numbers
 
--- no text stands twice
+-- no text of these stands twice
 abbrev pub AreDifferent : List Text → Type 0
 AreDifferent texts = IsDistinct text_eq texts
 

@@ -4,6 +4,7 @@ use Rattle.std.specs.Prelude.{◌≡◌, ℕ, ◌+◌, Bool, true, false, if◌t
 use Rattle.std.specs.List.{list_all}
 use Rattle.comp_meaning.specs.Follow.{Seen, Shown}
 
+-- whether an import is a type
 abbrev pub is_type_shown : Shown → Bool
 is_type_shown (Shown.instance key view) = false
 is_type_shown (Shown.function f) = false
@@ -13,7 +14,7 @@ abbrev pub types_seen : List Seen → List Seen
 types_seen [] = []
 types_seen (s ∷ ss) = if is_type_shown s.shown then s ∷ types_seen ss else types_seen ss
 
--- the others, where so many types stand before all of these
+-- what else is imported, each with how many types stand before it, of which there are so many before all of these
 abbrev pub others_seen : ℕ → List Seen → List (ℕ × Seen)
 others_seen n [] = []
 others_seen n (s ∷ ss) = if is_type_shown s.shown then others_seen (n + 1) ss else (n, s) ∷ others_seen n ss

@@ -33,6 +33,7 @@ use Rattle.encode_names.specs.Rebuilt.{others_seen, types_seen}
 
 -- ---- imports and exports so far
 
+-- an import or an export of a world, under its key
 abbrev pub Entry : Type 0
 Entry = WorldKey × WorldItem
 
@@ -69,7 +70,7 @@ pub record IsEntryOf (r : Resolve) (e : Entry) : Type 0 where
   pub there : world_at r number ≡ Some world
   pub listed : Contains (world.imports.entries ++ world.exports.entries) e
 
--- the numbers of the interfaces among them, in order
+-- the numbers of the interfaces among imports or exports, in order
 abbrev pub interfaces_among : List Entry → List ℕ
 interfaces_among es = flat_map (λ e. option_to_list (item_interface e.1)) es
 

@@ -1,8 +1,6 @@
 -- A step of the walk keeps what is listed at the end, and leaves fewer steps.
-use Rattle.std.proofs.Common.{◌≡◌, refl, sym, ap, ◌∙◌, ℕ, suc, ◌+◌, arith, true, false, ◌||◌, ◌==◌, nat_eq, List, [], ◌∷◌, ◌++◌, map, reverse}
+use Rattle.std.proofs.Common.{◌≡◌, refl, sym, ap, ◌∙◌, ℕ, suc, ◌+◌, arith, true, false, nat_eq, List, [], ◌∷◌, ◌++◌, map, reverse}
 use Rattle.std.specs.Prelude.{if◌then◌else◌, fold}
-use Rattle.std.specs.List.{list_any}
-use Rattle.std.proofs.lemmas.Bool.Decides.{nat_tests}
 use Rattle.std.proofs.lemmas.List.{map-append, reverse-append}
 use Rattle.indexmap.specs.IndexSet.{insert_key}
 use Rattle.wit_model.specs.declared.model.Resolve.{Resolve}
@@ -14,14 +12,9 @@ use Rattle.encode_reach.specs.Walk.{listed_after, listed_at_end, sum_along, step
 use Rattle.encode_reach.specs.declared.reach.Step.{Step}
 use Rattle.encode_reach.specs.declared.reach.Step.TheVariants as step
 use Rattle.encode_reach.proofs.Fuel.{each-bound, each-bound-steps}
+use Rattle.wit_model.proofs.UsesLemmas.{any_is_has as held}
 
 -- a set of numbers has what the list of them has
-pub held : (ns : List ℕ) (q : ℕ) → list_any (nat_eq q) ns ≡ has ns q
-held [] q = refl
-held (n ∷ ns) q = λ i. turned i || held ns q i
-  where
-    turned : nat_eq q n ≡ (n == q)
-    turned = grind (arith, nat_tests)
 
 pub inserted : (ns : List ℕ) (n : ℕ) → insert_key nat_eq ns n ≡ add ns n
 inserted ns n = ap (λ b. if b then ns else (ns ++ n ∷ [])) (held ns n)

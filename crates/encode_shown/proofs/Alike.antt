@@ -1,8 +1,7 @@
 -- Meanings are the same as themselves.
 use Rattle.std.proofs.Common.{◌≡◌, refl, Bool, true, false, ◌&&◌, List, [], ◌∷◌, Option, Some, None}
 use Rattle.std.specs.Cmp.Lexicographic.{pointwise}
-use Rattle.std.proofs.lemmas.Cmp.{nat_list_eq_equiv}
-use Rattle.wit_model.specs.Text.{Text, text_eq}
+use Rattle.wit_model.specs.Text.{text_eq}
 use Rattle.wit_model.specs.Names.{PackageIdentity}
 use Rattle.wit_model.specs.Tree.{Declaration}
 use Rattle.wit_model.specs.Meaning.{Signature, FunctionMeaning}
@@ -11,9 +10,7 @@ use Rattle.comp_meaning.specs.Same.{same_option, same_bool, same_tree, same_decl
 use Rattle.comp_meaning.specs.Reads.{same_shown}
 use Rattle.std.proofs.lemmas.Bool.{and_from as both}
 use Rattle.comp_meaning.proofs.SameLaws.{tree_itself as tree-alike}
-
-pub text-alike : (t : Text) → text_eq t t ≡ true
-text-alike t = nat_list_eq_equiv.refl t
+use Rattle.wit_model.proofs.TextLemmas.{text_alike as text-alike}
 
 bool-alike : (b : Bool) → same_bool b b ≡ true
 bool-alike true = refl

@@ -1,5 +1,5 @@
 -- Lists of texts in which none stands twice.
-use Rattle.std.proofs.Common.{◌≡◌, refl, ap, ◌∙◌, Bool, true, false, not, ◌||◌, List, [], ◌∷◌, ◌++◌, arith}
+use Rattle.std.proofs.Common.{◌≡◌, refl, ap, ◌∙◌, true, false, not, ◌||◌, List, [], ◌∷◌, ◌++◌, arith}
 use Rattle.std.specs.Prelude.{IsPermutation}
 use Rattle.std.specs.List.{Contains, AllByRecursion, IsDistinct, list_any}
 use Rattle.std.proofs.lemmas.Map.Keys.{IsDistinct-IsPermutation}
@@ -10,18 +10,11 @@ use Rattle.comp_meaning.specs.Rules.{distinct}
 use Rattle.base_lemmas.proofs.Bools.{left_of as first_true, right_of as second_true}
 use Rattle.base_lemmas.proofs.Elements.{contains-later}
 use Rattle.std.proofs.lemmas.Bool.{and_from as both, not-true as no-longer}
+use Rattle.wit_model.proofs.TextLemmas.{none_of_texts as any-none}
 
 none-any : (t : Text) (ts : List Text) → AllByRecursion (λ y. text_eq t y ≡ false) ts → list_any (text_eq t) ts ≡ false
 none-any t [] h = refl
 none-any t (x ∷ xs) h = ap (λ b. b || list_any (text_eq t) xs) h.0 ∙ none-any t xs h.1
-
-any-none : (t : Text) (ts : List Text) → list_any (text_eq t) ts ≡ false → AllByRecursion (λ y. text_eq t y ≡ false) ts
-any-none t [] h = tt
-any-none t (x ∷ xs) h = go (any-none t xs) (text_eq t x) refl h
-  where
-    go : (list_any (text_eq t) xs ≡ false → AllByRecursion (λ y. text_eq t y ≡ false) xs) → (b : Bool) → text_eq t x ≡ b → (b || list_any (text_eq t) xs) ≡ false → AllByRecursion (λ y. text_eq t y ≡ false) (x ∷ xs)
-    go more true e h = let wrong : ⊥ = cc in absurd wrong
-    go more false e h = (e, more h)
 
 pub distinct-from : (ts : List Text) → IsDistinct text_eq ts → distinct ts ≡ true
 unfolding IsDistinct

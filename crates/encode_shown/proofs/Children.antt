@@ -16,6 +16,7 @@ use Rattle.wit_model.specs.declared.model.«Type».{«Type» as ValueType}
 use Rattle.comp_meaning.specs.Rules.{is_part, are_parts, is_declared, is_named_form, form_labels, are_labels}
 use Rattle.base_lemmas.proofs.Bools.{left_of as first_true, right_of as second_true}
 use Rattle.std.proofs.lemmas.Bool.{and_from as both}
+use Rattle.wit_model.proofs.TreeLemmas.{child_list_of_children as listed}
 
 abbrev pub child_trees : Declaration → List Tree
 child_trees (type_ (node form ts)) = child_list ts
@@ -33,10 +34,6 @@ has_named_form _ = false
 abbrev pub is_alias : TypeDefKind → Bool
 is_alias (kind.Type_ t) = true
 is_alias _ = false
-
-pub listed : (ts : List Tree) → child_list (children ts) ≡ ts
-listed [] = refl
-listed (t ∷ ts) = ap (λ us. t ∷ us) (listed ts)
 
 given-listed : (os : List (Option Tree)) → child_list (given os) ≡ filter_map (λ o. o) os
 given-listed [] = refl

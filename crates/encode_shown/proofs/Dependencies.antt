@@ -30,7 +30,6 @@ use Rattle.wit_model.specs.declared.model.TypeId.{TypeId}
 use Rattle.wit_model.specs.declared.model.TypeOwner.{TypeOwner}
 use Rattle.wit_model.specs.declared.model.TypeOwner.TheVariants as owner
 use Rattle.wit_model.specs.declared.model.«Type».TheVariants as ty
-use Rattle.wit_model.proofs.AnyOrder.{text-same}
 use Rattle.wit_model.proofs.NameLaws.{spelled_path_reads}
 use Rattle.wit_model.proofs.Elements.{contains-flat, none-in}
 use Rattle.wit_model.proofs.OnePath.{path-once}
@@ -41,8 +40,6 @@ use Rattle.comp_meaning.specs.Rules.{distinct, used_by, used_by_view, is_world}
 use Rattle.comp_meaning.specs.Reads.{Part, imported_view, exported_view, are_reached, labelled_path, interface_part, world_part}
 use Rattle.encode_shown.specs.PackageTypes.{plain_name}
 use Rattle.encode_shown.specs.Views.{shown_type, home_of, types_of, ShowsInterface, ShowsImport, ShowsWorld, ShowsDependencies, AreUsed}
-use Rattle.encode_shown.proofs.Basics.{type-passes}
-use Rattle.encode_shown.proofs.Alike.{text-alike}
 use Rattle.encode_shown.proofs.Parts.{named-tree}
 use Rattle.encode_shown.proofs.Members.{meaning-there}
 use Rattle.encode_shown.proofs.Reach.{once_from}
@@ -56,6 +53,8 @@ use Rattle.base_lemmas.proofs.Numbers.{same-number}
 use Rattle.base_lemmas.proofs.Options.{there as some-of}
 use Rattle.std.proofs.lemmas.Bool.{and_from as both}
 use Rattle.std.proofs.lemmas.Option.{same_Some as same-some}
+use Rattle.wit_model.proofs.TextLemmas.{text_alike as text-alike, text_same as text-same}
+use Rattle.wit_model.proofs.ValidLemmas.{type_passes as type-passes}
 
 -- ---- numbers that differ
 

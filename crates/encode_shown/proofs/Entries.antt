@@ -21,9 +21,9 @@ use Rattle.wit_model.specs.declared.model.WorldItem.TheVariants as item
 use Rattle.wit_model.specs.declared.model.Function.{Function}
 use Rattle.wit_model.proofs.Lists.{list_all_filter_map}
 use Rattle.wit_model.proofs.OnePath.{found-in, named-path}
-use Rattle.encode_shown.proofs.Basics.{world-passes}
 use Rattle.base_lemmas.proofs.Bools.{left_of as first_true, right_of as second_true}
 use Rattle.base_lemmas.proofs.Elements.{all-contained, contains-map}
+use Rattle.wit_model.proofs.ValidLemmas.{world_passes as world-passes}
 
 -- a key that is an interface is that of the item
 abbrev pub key_stands : Resolve → WorldKey → WorldItem → Bool

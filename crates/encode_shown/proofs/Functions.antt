@@ -31,12 +31,13 @@ use Rattle.wit_model.specs.declared.model.«Type».TheVariants as ty
 use Rattle.comp_meaning.specs.Same.{same_tree}
 use Rattle.comp_meaning.specs.Rules.{is_part, are_labels, is_parameter_type, is_result_type, is_signature, own_name, borrow_name, is_label_behind, begins_with_self, is_function_of, is_function}
 use Rattle.comp_meaning.specs.Rules as shown
-use Rattle.encode_shown.proofs.Basics.{same-owner, or-cases}
+use Rattle.encode_shown.proofs.Basics.{or-cases}
 use Rattle.encode_shown.proofs.Parts.{place-alike, labels-from, named-tree, unnamed-tree, values-part}
 use Rattle.base_lemmas.proofs.Bools.{given-not, left_of as first_true, right_of as second_true}
 use Rattle.base_lemmas.proofs.Numbers.{equal}
 use Rattle.std.proofs.lemmas.Bool.{and_from as both, or_left as or-first, or_right as or-second}
 use Rattle.std.proofs.lemmas.Option.{same_Some as same-some}
+use Rattle.wit_model.proofs.PartsLemmas.{owner_same as same-owner}
 
 -- ---- prefixes
 

@@ -28,7 +28,7 @@ use Rattle.wit_model.specs.declared.model.TypeDefKind.{TypeDefKind}
 use Rattle.wit_model.specs.declared.model.TypeDefKind.TheVariants as kind
 use Rattle.wit_model.specs.declared.model.TypeId.{TypeId}
 use Rattle.wit_model.specs.declared.model.TypeOwner.TheVariants as owner
-use Rattle.wit_model.proofs.AnyOrder.{text-same, distinct-texts, same-map}
+use Rattle.wit_model.proofs.AnyOrder.{distinct-texts, same-map}
 use Rattle.wit_model.proofs.OnePath.{interface-passes}
 use Rattle.comp_meaning.specs.Follow.{View, ShownType}
 use Rattle.comp_meaning.specs.Rules.{distinct, is_interface, is_declared, is_function, resources_of, is_resource}
@@ -41,6 +41,7 @@ use Rattle.encode_shown.proofs.Members.{entry-type, entry-of, meaning-there, nam
 use Rattle.base_lemmas.proofs.Bools.{left_of as first_true, right_of as second_true}
 use Rattle.base_lemmas.proofs.Elements.{all-contained, all_pass as all-from, contains-later, contains-map, map_from as contains-mapped}
 use Rattle.std.proofs.lemmas.Bool.{and_from as both, not-true as no-longer}
+use Rattle.wit_model.proofs.TextLemmas.{text_same as text-same}
 
 -- an element of a list that is mapped is that of one that it is from
 

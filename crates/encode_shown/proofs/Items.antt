@@ -1,6 +1,5 @@
 -- What shows an import or an export of a valid world obeys the rules of items.
-use Rattle.std.proofs.Common.{◌≡◌, refl, sym, subst, ap, ◌∙◌, ℕ, zero, suc, Bool, true, false, ◌&&◌, cond, List, [], ◌∷◌, map, Option, Some, None, String, arith}
-use Rattle.std.specs.declared.alloc.Global.{Global}
+use Rattle.std.proofs.Common.{◌≡◌, refl, sym, subst, ap, ◌∙◌, ℕ, zero, suc, Bool, true, false, ◌&&◌, cond, List, [], ◌∷◌, map, Option, Some, None, arith}
 use Rattle.std.specs.Prelude.{is_some, option_to_list, filter_map}
 use Rattle.std.specs.List.{AllZip, Contains, list_all}
 use Rattle.std.specs.Option.{option_map_or}
@@ -26,14 +25,13 @@ use Rattle.wit_model.specs.declared.model.WorldItem.{WorldItem}
 use Rattle.wit_model.specs.declared.model.WorldItem.TheVariants as item
 use Rattle.wit_model.specs.declared.model.Function.{Function}
 use Rattle.wit_model.proofs.Owners.{met_step}
-use Rattle.wit_model.proofs.AnyOrder.{text-same}
 use Rattle.wit_model.proofs.Elements.{contains-flat, none-in, has-contains}
 use Rattle.wit_model.proofs.OnePath.{found-in}
 use Rattle.comp_meaning.specs.Follow.{View, Seen, Shown, interface_of}
 use Rattle.comp_meaning.specs.Follow as follow
 use Rattle.comp_meaning.specs.Rules.{is_interface, is_declared, is_function, is_item, is_resource, resources_seen}
 use Rattle.encode_shown.specs.Views.{instance_key, shown_item, IsViewOf, ShowsItem}
-use Rattle.encode_shown.proofs.Basics.{same-owner, valid-references}
+use Rattle.encode_shown.proofs.Basics.{valid-references}
 use Rattle.encode_shown.proofs.Parts.{number-declared}
 use Rattle.encode_shown.proofs.Functions.{IsResourceOf, function-shown}
 use Rattle.encode_shown.proofs.Members.{IsNamedType, meaning-there, name-label}
@@ -46,6 +44,8 @@ use Rattle.base_lemmas.proofs.Elements.{all-contained, contains-later, contains-
 use Rattle.base_lemmas.proofs.Numbers.{equal}
 use Rattle.std.proofs.lemmas.Bool.{and_from as both}
 use Rattle.std.proofs.lemmas.Option.{same_Some as same-some}
+use Rattle.wit_model.proofs.PartsLemmas.{owner_same as same-owner}
+use Rattle.wit_model.proofs.TextLemmas.{text_named as text-named}
 
 -- ---- places
 
@@ -63,10 +63,6 @@ instance-home (key.Name name) (Some path) h = refl
 pub path-home : (o : Option Text) → follow.place_of o ≡ place_of_path o
 path-home None = refl
 path-home (Some path) = refl
-
-text-named : (o : Option (String Global)) (t : Text) → text_is o t ≡ true → (name : String Global) × (o ≡ Some name) × (text_of name ≡ t)
-text-named None t h = let wrong : ⊥ = cc in absurd wrong
-text-named (Some name) t h = (name, refl, text-same (text_of name) t h)
 
 pub typed-item : (i : WorldItem) (m : ℕ) → item_type i ≡ Some m → (id : TypeId) × (i ≡ item.Type_ id) × (id.0 ≡ m)
 typed-item (item.Type_ id) m e = (id, refl, same-some id.0 m e)

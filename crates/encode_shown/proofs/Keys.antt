@@ -20,13 +20,13 @@ use Rattle.wit_model.specs.declared.model.Function.{Function}
 use Rattle.wit_model.specs.declared.model.FunctionKind.{FunctionKind}
 use Rattle.wit_model.specs.declared.model.FunctionKind.TheVariants as call
 use Rattle.wit_model.proofs.NameLaws.{label_lacks, identity_namespace}
-use Rattle.wit_model.proofs.AnyOrder.{text-same}
 use Rattle.wit_model.proofs.OnePath.{has-path, package-name, path-once}
 use Rattle.encode_shown.proofs.Entries.{IsEntry, interface-key-path}
 use Rattle.base_lemmas.proofs.Bools.{left_of as first_true, right_of as second_true}
 use Rattle.base_lemmas.proofs.Elements.{contains-later}
 use Rattle.base_lemmas.proofs.Numbers.{equal, same-number}
 use Rattle.base_lemmas.proofs.Options.{there as some-of}
+use Rattle.wit_model.proofs.TextLemmas.{text_same as text-same}
 
 -- a key is a path, or a label, or the name of a function of a resource
 abbrev pub IsKey : Resolve → WorldKey → Type 0

@@ -23,14 +23,15 @@ use Rattle.wit_model.specs.declared.model.TypeOwner.{TypeOwner}
 use Rattle.wit_model.specs.declared.model.TypeOwner.TheVariants as owner
 use Rattle.wit_model.proofs.Listed.{misfit}
 use Rattle.wit_model.proofs.Listings.{given_all, given_found}
-use Rattle.wit_model.proofs.AnyOrder.{text-same}
 use Rattle.wit_model.proofs.Elements.{contains-get}
 use Rattle.wit_model.proofs.OnePath.{found-in, given-test, interface-passes}
-use Rattle.encode_shown.proofs.Basics.{type-passes, same-owner}
 use Rattle.base_lemmas.proofs.Bools.{left_of as first_true, right_of as second_true}
 use Rattle.base_lemmas.proofs.Elements.{all-contained, contains-later, contains-map}
 use Rattle.base_lemmas.proofs.Numbers.{equal, same-number}
 use Rattle.base_lemmas.proofs.Options.{there as some-of}
+use Rattle.wit_model.proofs.PartsLemmas.{owner_same as same-owner}
+use Rattle.wit_model.proofs.TextLemmas.{text_same as text-same}
+use Rattle.wit_model.proofs.ValidLemmas.{type_passes as type-passes}
 
 -- what a look-up by text finds
 pub found-entry : {V : Type 0} (number : V → ℕ) (es : List (String Global × V)) (n : ℕ) (t : Text) → is_id n (option_map number (lookup (λ k. bytes_eq t (text_of k)) es)) ≡ true

@@ -20,7 +20,6 @@ use Rattle.wit_model.specs.declared.model.WorldId.{WorldId}
 use Rattle.wit_model.specs.declared.model.World.{World}
 use Rattle.wit_model.proofs.NameLaws.{spelled_path_reads}
 use Rattle.wit_model.proofs.VersionLaws.{same_name}
-use Rattle.wit_model.proofs.AnyOrder.{text-same}
 use Rattle.wit_model.proofs.OnePath.{given-test, interface-passes, HasPath, has-path, path-label, path-listed, package-name, package-once, package-passes, found-in}
 use Rattle.encode_shown.proofs.Members.{found-entry}
 use Rattle.comp_meaning.specs.Same.{same_identity, same_option}
@@ -31,6 +30,7 @@ use Rattle.base_lemmas.proofs.Elements.{all-contained, contains-map}
 use Rattle.base_lemmas.proofs.Numbers.{equal, same-number}
 use Rattle.std.proofs.lemmas.Bool.{not-true as no-longer}
 use Rattle.std.proofs.lemmas.Option.{same_Some as some-same}
+use Rattle.wit_model.proofs.TextLemmas.{text_same as text-same}
 
 same-optional : (a b : Option Text) → same_option text_eq a b ≡ true → a ≡ b
 same-optional None None h = refl

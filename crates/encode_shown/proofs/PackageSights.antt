@@ -22,15 +22,13 @@ use Rattle.wit_model.specs.declared.model.World.{World}
 use Rattle.wit_model.specs.declared.model.WorldId.{WorldId}
 use Rattle.wit_model.specs.declared.model.WorldItem.{WorldItem}
 use Rattle.wit_model.specs.declared.model.WorldItem.TheVariants as item
-use Rattle.wit_model.proofs.AnyOrder.{text-same}
 use Rattle.wit_model.proofs.NameLaws.{spelled_path_reads}
 use Rattle.wit_model.proofs.Elements.{contains-flat, contains-filter_map, none-in, has-contains, contains-has}
 use Rattle.wit_model.proofs.OnePath.{path-once}
 use Rattle.comp_meaning.specs.Follow.{View}
 use Rattle.comp_meaning.specs.Reads.{Sight, Member, sights, is_of}
 use Rattle.encode_shown.specs.Views.{ShowsInterface, ShowsImport, ShowsReached, ShowsPackage, ShowsInterfaceMember, ShowsWorldMember}
-use Rattle.encode_shown.proofs.Basics.{world-passes}
-use Rattle.encode_shown.proofs.Alike.{text-alike, identity-alike}
+use Rattle.encode_shown.proofs.Alike.{identity-alike}
 use Rattle.encode_shown.proofs.Used.{contains-flat-from}
 use Rattle.encode_shown.proofs.Owning.{identity, own-interface, own-path}
 use Rattle.encode_shown.proofs.Reach.{Chain, chain-reached, holds-reached, used-chain, earlier-used}
@@ -39,6 +37,8 @@ use Rattle.encode_shown.proofs.Sights.{IsSight, is_seen_whole}
 use Rattle.encode_shown.proofs.Zips.{zip-left, zip-right, given-contains}
 use Rattle.base_lemmas.proofs.Bools.{left_of as first_true, right_of as second_true}
 use Rattle.base_lemmas.proofs.Elements.{all-contained, any-contains, contains-map, contains-one, filter_keeps as contains-filter, filter_kept as filter-contains, last_of as one-contained, map_from as contains-mapped}
+use Rattle.wit_model.proofs.TextLemmas.{text_alike as text-alike, text_same as text-same}
+use Rattle.wit_model.proofs.ValidLemmas.{world_passes as world-passes}
 
 -- what stands behind others passes the test behind some of them
 after-item : {A : Type 0} (q : List A → A → Bool) (before xs : List A) (x : A) → each_after q before xs ≡ true → Contains xs x → (front : List A) × (q front x ≡ true) × ((y : A) → Contains front y → Contains (before ++ xs) y)

@@ -25,7 +25,7 @@ use Rattle.comp_meaning.specs.Follow.{provided, is_filled}
 use Rattle.comp_meaning.specs.Same.{same_identity}
 use Rattle.comp_meaning.specs.Reads.{Sight, Member, sights, is_of, stands_at_top, is_interface_part, seen_meaning, interfaces_of, worlds_of, package_with, package_of_members}
 use Rattle.encode_shown.specs.Views.{ShowsPackage, ShowsInterfaceMember, ShowsWorldMember}
-use Rattle.encode_shown.proofs.Alike.{text-alike, identity-alike}
+use Rattle.encode_shown.proofs.Alike.{identity-alike}
 use Rattle.encode_shown.proofs.Interfaces.{interface-means}
 use Rattle.encode_shown.proofs.WorldMeans.{world-means}
 use Rattle.encode_shown.proofs.Owning.{foreign-path, own-listed}
@@ -35,6 +35,7 @@ use Rattle.encode_shown.proofs.PackageSights.{seen-reached, reached-seen, whole-
 use Rattle.encode_shown.proofs.Zips.{zip-all, zip-left}
 use Rattle.base_lemmas.proofs.Elements.{all_pass as all-from, contains-map, filter_keeps as contains-filter, filter_kept as filter-contains, map_from as contains-mapped}
 use Rattle.std.proofs.lemmas.Bool.{and_from as both}
+use Rattle.wit_model.proofs.TextLemmas.{text_alike as text-alike}
 
 -- lists, element by element
 zip-flat : {A B C : Type 0} (R : A → B → Type 0) (f : A → C) (g : B → List C) → ((a : A) (b : B) → R a b → g b ≡ f a ∷ []) → (xs : List A) (ys : List B) → AllZip R xs ys → flat_map g ys ≡ map f xs

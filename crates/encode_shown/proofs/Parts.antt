@@ -1,5 +1,5 @@
 -- The types of an owner, as parts of others: the names in them are of the owner's place.
-use Rattle.std.proofs.Common.{◌≡◌, refl, sym, subst, ap, ◌∙◌, ℕ, zero, suc, ◌<◌, Bool, true, false, not, ◌&&◌, ◌||◌, nat_lt, nat_le, List, [], ◌∷◌, map, length, unwrap_or, Option, Some, None, String, option_to_list, arith}
+use Rattle.std.proofs.Common.{◌≡◌, refl, sym, subst, ap, ◌∙◌, ℕ, zero, suc, ◌<◌, Bool, true, false, not, ◌&&◌, ◌||◌, nat_lt, nat_le, List, [], map, length, unwrap_or, Option, Some, None, String, option_to_list, arith}
 use Rattle.std.specs.declared.alloc.Global.{Global}
 use Rattle.std.specs.Prelude.{is_some, filter_map, flat_map}
 use Rattle.std.specs.List.{Contains, list_all}
@@ -9,7 +9,7 @@ use Rattle.std.proofs.lemmas.Option.{slice_get_within}
 use Rattle.std.proofs.lemmas.List.Folds.{list_all-append, list_all-map}
 use Rattle.std.proofs.lemmas.List.Elements.{Contains-append_left, Contains-append_right}
 use Rattle.std.proofs.lemmas.Cmp.{nat_list_eq_equiv}
-use Rattle.wit_model.specs.Text.{Text, text_of, text_eq}
+use Rattle.wit_model.specs.Text.{Text, text_of}
 use Rattle.wit_model.specs.Tree.{Tree, Place, Primitive, Declaration, type_, resource, primitive, named, node, of_interface, here, levels}
 use Rattle.wit_model.specs.Types.{declared_by, tree_of, tree_at, tree_of_declaration, type_tree, number_tree, trees_of, no_tree, number_of, declaration_of}
 use Rattle.wit_model.specs.Lookup.{type_at, place_of}
@@ -35,12 +35,15 @@ use Rattle.wit_model.proofs.Owners.{named_met, unnamed_met}
 use Rattle.wit_model.proofs.Elements.{contains-filter_map}
 use Rattle.wit_model.proofs.OnePath.{found-in}
 use Rattle.comp_meaning.specs.Same.{same_place}
-use Rattle.comp_meaning.specs.Rules.{is_part, is_declared, are_labels, distinct}
-use Rattle.encode_shown.proofs.Basics.{type-passes, valid-references, same-owner, or-cases}
+use Rattle.comp_meaning.specs.Rules.{is_part, is_declared, are_labels}
+use Rattle.encode_shown.proofs.Basics.{valid-references, or-cases}
 use Rattle.encode_shown.proofs.Children.{child_trees, has_named_form, is_alias, children-are, labels-are, form-unnamed, parts-from, declared-from}
 use Rattle.base_lemmas.proofs.Bools.{given-not, left_of as first_true, right_of as second_true}
 use Rattle.base_lemmas.proofs.Elements.{all-contained, all_pass as all-from, contains-one}
 use Rattle.base_lemmas.proofs.Options.{there as some-of}
+use Rattle.comp_meaning.proofs.RulesLemmas.{distinct_same as distinct-same}
+use Rattle.wit_model.proofs.PartsLemmas.{owner_same as same-owner}
+use Rattle.wit_model.proofs.ValidLemmas.{type_passes as type-passes}
 
 pub place-alike : (a : Place) → same_place a a ≡ true
 place-alike (of_interface p) = nat_list_eq_equiv.refl p
@@ -82,10 +85,6 @@ resource-named f (kind.Variant x) e = refl
 resource-named f (kind.Flags x) e = refl
 resource-named f (kind.Enum x) e = refl
 resource-named f _ e = let wrong : ⊥ = cc in absurd wrong
-
-distinct-same : (ts : List Text) → rules.are_distinct ts ≡ distinct ts
-distinct-same [] = refl
-distinct-same (t ∷ ts) = ap (λ (b : Bool). not (Rattle.std.specs.List.list_any (text_eq t) ts) && b) (distinct-same ts)
 
 none-given : (f : ℕ → Bool) (o : Option ℕ) → o ≡ None → option_map_or f o false ≡ false
 none-given f None e = refl

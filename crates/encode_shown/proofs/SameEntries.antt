@@ -7,20 +7,9 @@ use Rattle.std.proofs.lemmas.Cmp.{nat_list_cmp_total, nat_list_eq_equiv}
 use Rattle.wit_model.specs.Text.{Text, TextMap, text_cmp}
 use Rattle.wit_model.proofs.AnyOrder.{same-text, found-there}
 use Rattle.wit_model.proofs.Elements.{none-in}
+use Rattle.wit_model.proofs.Maps.{there_some as found-some}
 
 module _ {X : Type 0} where
-  -- something is found under a name that stands there
-  found-some : (es : List (Text × X)) (q : Text) (x : X) → Contains es (q, x) → (y : X) × (find text_cmp q es ≡ Some y)
-  found-some [] q x c = none-in (q, x) c
-  found-some (e ∷ es) q x (zero, l, h) =
-      let same : eq_by_cmp text_cmp q e.0 ≡ true = ap (λ (z : Text × X). eq_by_cmp text_cmp q z.0) h ∙ (same-text q q ∙ nat_list_eq_equiv.refl q) in
-      (e.1, ap (λ b. cond b (Some e.1) (find text_cmp q es)) same)
-  found-some (e ∷ es) q x (suc k, l, h) = go (eq_by_cmp text_cmp q e.0) (found-some es q x (k, omega (arith, l), h))
-    where
-      go : (b : Bool) → (y : X) × (find text_cmp q es ≡ Some y) → (y : X) × (cond b (Some e.1) (find text_cmp q es) ≡ Some y)
-      go true rest = (e.1, refl)
-      go false rest = rest
-
   abbrev as_map : List (Text × X) → TextMap X
   as_map xs = from_entries xs
 

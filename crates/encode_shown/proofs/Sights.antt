@@ -14,7 +14,6 @@ use Rattle.wit_model.specs.Meaning.{FunctionMeaning, InterfaceMeaning}
 use Rattle.wit_model.specs.Meant.{interface_meaning_at, types_alone}
 use Rattle.wit_model.specs.Valid.{IsValid}
 use Rattle.wit_model.specs.declared.model.Resolve.{Resolve}
-use Rattle.wit_model.proofs.AnyOrder.{text-same}
 use Rattle.wit_model.proofs.OnePath.{path-once}
 use Rattle.comp_meaning.specs.Follow.{View}
 use Rattle.comp_meaning.specs.Rules.{is_interface}
@@ -22,11 +21,12 @@ use Rattle.comp_meaning.specs.Same.{same_function, stand_in}
 use Rattle.comp_meaning.specs.Reads.{Sight, same_shown, same_functions, agree, all_agree, are_interfaces, functions_of, interface_meaning, seen_meaning}
 use Rattle.encode_shown.specs.Views.{home_of, ShowsTypes, ShowsInterface}
 use Rattle.encode_shown.specs.Views as views
-use Rattle.encode_shown.proofs.Alike.{list-alike, shown-alike, function-alike, text-alike}
+use Rattle.encode_shown.proofs.Alike.{list-alike, shown-alike, function-alike}
 use Rattle.encode_shown.proofs.Interfaces.{interface-obeys, interface-means, types-obey, types-mean}
 use Rattle.encode_shown.proofs.Zips.{zip-left}
 use Rattle.base_lemmas.proofs.Bools.{left_of as first_true, right_of as second_true}
 use Rattle.base_lemmas.proofs.Elements.{all_pass as all-from}
+use Rattle.wit_model.proofs.TextLemmas.{text_alike as text-alike, text_same as text-same}
 
 -- a sight shows the interface whole, or its types alone
 abbrev pub ShowsAs : Resolve → ℕ → Bool → View → Type 0

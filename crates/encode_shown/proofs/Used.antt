@@ -35,7 +35,6 @@ use Rattle.wit_model.proofs.OnePath.{found-in}
 use Rattle.comp_meaning.specs.Follow.{View, ShownType}
 use Rattle.comp_meaning.specs.Rules.{used_by, used_by_view, others_than}
 use Rattle.encode_shown.specs.Views.{shown_type, home_of, types_of}
-use Rattle.encode_shown.proofs.Basics.{type-passes}
 use Rattle.encode_shown.proofs.Children.{is_alias}
 use Rattle.encode_shown.proofs.Parts.{named-tree}
 use Rattle.encode_shown.proofs.Members.{meaning-there}
@@ -43,6 +42,7 @@ use Rattle.base_lemmas.proofs.Bools.{left_of as first_true, right_of as second_t
 use Rattle.base_lemmas.proofs.Elements.{all-contained, all_pass as all-from, contains-later, contains-map, contains-one, last_of as one-contained, map_from as contains-mapped}
 use Rattle.base_lemmas.proofs.Numbers.{equal}
 use Rattle.base_lemmas.proofs.Options.{there as some-of}
+use Rattle.wit_model.proofs.ValidLemmas.{type_passes as type-passes}
 
 -- the interface of this path, that a declaration uses
 pub record UsesPath (r : Resolve) (used : Option ℕ) (path : Text) : Type 0 where

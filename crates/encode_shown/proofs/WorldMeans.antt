@@ -29,7 +29,6 @@ use Rattle.wit_model.specs.declared.model.WorldKey.TheVariants as key
 use Rattle.wit_model.specs.declared.model.WorldItem.{WorldItem}
 use Rattle.wit_model.specs.declared.model.WorldItem.TheVariants as item
 use Rattle.wit_model.proofs.Lists.{lookup_any}
-use Rattle.wit_model.proofs.AnyOrder.{text-same}
 use Rattle.wit_model.proofs.NameLaws.{one_path}
 use Rattle.wit_model.proofs.VersionLaws.{same_name}
 use Rattle.wit_model.proofs.OnePath.{HasPath, has-path, path-label, package-name, package-once, given-test, interface-passes}
@@ -37,8 +36,6 @@ use Rattle.comp_meaning.specs.Follow.{View, Seen, Shown, Instance, Scope, interf
 use Rattle.comp_meaning.specs.Reads.{Sight, of_instance, item_of, entry, world_meaning, seen_meaning, world_with, interface_meaning}
 use Rattle.comp_meaning.specs.Follow.{provided}
 use Rattle.encode_shown.specs.Views.{instance_key, shown_item, instances_of, IsViewOf, ShowsItem, ShowsInterface, ShowsWorld}
-use Rattle.encode_shown.proofs.Basics.{world-passes}
-use Rattle.encode_shown.proofs.Alike.{text-alike}
 use Rattle.encode_shown.proofs.Interfaces.{interface-means}
 use Rattle.encode_shown.proofs.Entries.{IsEntry}
 use Rattle.encode_shown.proofs.Items.{has_home, instance-home, entry-home}
@@ -48,6 +45,8 @@ use Rattle.base_lemmas.proofs.Bools.{left_of as first_true, right_of as second_t
 use Rattle.base_lemmas.proofs.Elements.{contains-later}
 use Rattle.std.proofs.lemmas.Bool.{and_from as both, not-true as no-longer}
 use Rattle.std.proofs.lemmas.Option.{same_Some as some-same}
+use Rattle.wit_model.proofs.TextLemmas.{text_alike as text-alike, text_same as text-same}
+use Rattle.wit_model.proofs.ValidLemmas.{world_passes as world-passes}
 
 module _ (r : Resolve) (v : IsValid r) (n : ℕ) where
   -- ---- entries

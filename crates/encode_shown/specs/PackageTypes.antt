@@ -1,4 +1,4 @@
--- The component types of a package, each under its label, that show the package where their indexes are followed.
+-- The component types of a package, each under its label, that show the package where their indexes are followed (Component Model WIT.md, "Package Format").
 use Rattle.std.specs.Prelude.{◌≡◌, ℕ, zero, List, ◌++◌, Some, None, String}
 use Rattle.std.specs.List.{AllZip}
 use Rattle.std.specs.declared.alloc.Global.{Global}
@@ -42,6 +42,7 @@ pub record IsWorldType (r : Resolve) (p : Package) (n : ℕ) (label : Text) (x :
   pub follows : component_scope inner ≡ Some scope
   pub shows : ShowsWorld r world scope
 
+-- The component type is that of a world, which the package lists under this name.
 abbrev pub IsListedWorldType : Resolve → Package → String Global × WorldId → Text × Declarations → Type 0
 IsListedWorldType r p e x = IsWorldType r p e.1.0 (text_of e.0) x
 

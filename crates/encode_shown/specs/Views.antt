@@ -33,6 +33,7 @@ use Rattle.comp_meaning.specs.Reads.{Member, Part}
 abbrev pub name_slot : Bool → Place → Text → Slot
 name_slot is_one place name = if is_one then Slot.resource place name else Slot.value (Tree.named place name)
 
+-- a named type of an interface as it is shown in this place
 abbrev pub shown_type : Resolve → Place → String Global × TypeId → ShownType
 shown_type r place e = record { name = text_of e.0; meaning = type_meaning_at r e.1.0; slot = name_slot (is_resource r e.1.0) place (text_of e.0) }
 
@@ -40,9 +41,11 @@ shown_type r place e = record { name = text_of e.0; meaning = type_meaning_at r 
 abbrev pub home_of : Resolve → ℕ → Place
 home_of r n = place_of_path (interface_path r n)
 
+-- the named types that are shown of interface n, in order
 abbrev pub types_of : Resolve → ℕ → Interface → List ShownType
 types_of r n i = map (shown_type r (home_of r n)) i.types.entries
 
+-- the functions that are shown of an interface, in the order of its map
 abbrev pub functions_of : Resolve → Interface → List (Text × FunctionMeaning)
 functions_of r i = map (λ e. (text_of e.0, function_meaning r e.1)) i.functions.entries
 
@@ -77,6 +80,7 @@ IsViewOf r (item.Interface id stability docs external_id) view = ShowsInterface 
 IsViewOf r (item.Function f) view = Unit {0}
 IsViewOf r (item.Type_ id) view = Unit {0}
 
+-- An import or an export of a world is shown so, its interface by some view.
 pub record ShowsItem (r : Resolve) (e : WorldKey × WorldItem) (seen : Seen) : Type 0 where
   pub view : View
   pub is_view : IsViewOf r e.1 view

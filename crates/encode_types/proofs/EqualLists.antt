@@ -22,6 +22,7 @@ use Rattle.encode_types.specs.Codes.{type_code, optional_code, kind_code, Names,
 use Rattle.encode_types.specs.CodeLaws.{EqualKinds, EqualKeys}
 use Rattle.encode_types.proofs.KindLaws.{same_types, optional_same, types_same}
 use Rattle.base_lemmas.proofs.Bools.{left_of as first_true, right_of as second_true}
+use Rattle.wit_model.proofs.TextLemmas.{text_alike as text-refl}
 
 -- ---- types
 
@@ -187,10 +188,6 @@ pub equal_kinds : EqualKinds
 equal_kinds = λ a b n m. record { same = kinds-of-lists a b n m; equal = lists-of-kinds a b n }
 
 -- ---- keys of functions
-
-text-refl : (t : Text) → text_eq t t ≡ true
-text-refl [] = refl
-text-refl (x ∷ xs) = both _ _ (eq-eqb x x refl) (text-refl xs)
 
 -- lists of equally many parameters, and what follows them
 params-of-lists : (names : Names) → IsTable names → (ps qs : List Param) (xs ys us vs : List ℕ) → AreListed names ps xs → AreListed names qs ys → length ps ≡ length qs → xs ++ us ≡ ys ++ vs

@@ -24,6 +24,6 @@ pub record AliasesMet (r : Resolve) (own : Option InterfaceId) (ts : List ValueT
   pub grown : GrowsAround r a a'
   pub met : (x : Aliased) → Contains grown.made x → IsMetElsewhere r own ts x.number.0
 
--- so it is around the scope of an encoder
+-- around the scope of an encoder nothing has been declared but aliases of such types, each of one that had none
 abbrev pub MakesMet : Resolve → List ValueType → View → View → Type 0
 MakesMet r ts v v' = AliasesMet r v.scope.own_interface ts v.around v'.around

@@ -17,8 +17,10 @@ pub record EqualKeyLists (a b : FunctionKey) (xs ys : List ℕ) : Type 0 where
   pub same : xs ≡ ys → same_key a b ≡ true
   pub equal : same_key a b ≡ true → xs ≡ ys
 
+-- The lists of two unnamed kinds are equal exactly where the kinds are the same.
 abbrev pub EqualKinds : Type 0
 EqualKinds = (a b : TypeDefKind) → is_named_kind a ≡ false → is_named_kind b ≡ false → EqualKindLists a b
 
+-- The lists of two keys of functions are equal exactly where the keys are the same.
 abbrev pub EqualKeys : Type 0
 EqualKeys = (names : Names) (a b : FunctionKey) (xs ys : List ℕ) → IsTable names → IsKeyList names a xs → IsKeyList names b ys → EqualKeyLists a b xs ys

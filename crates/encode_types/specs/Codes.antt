@@ -69,6 +69,7 @@ AreListed names [] [] = Unit {0}
 AreListed names (p ∷ ps) (n ∷ t ∷ xs) = Contains names (text_of p.name, n) × (t ≡ type_code p.ty) × AreListed names ps xs
 AreListed names _ _ = ⊥
 
+-- whether a function is asynchronous, as a number
 abbrev pub async_code : Bool → ℕ
 async_code false = 0
 async_code true = 1
@@ -80,6 +81,7 @@ pub record IsListed (names : Names) (is_async : Bool) (params : List Param) (res
   pub listed : AreListed names params middle
   pub is : xs ≡ async_code is_async ∷ length params ∷ (middle ++ optional_code result_type)
 
+-- the list that stands for the key of a function
 abbrev pub IsKeyList : Names → FunctionKey → List ℕ → Type 0
 IsKeyList names key xs = IsListed names key.async_ key.params.0.now key.result.now xs
 
@@ -114,6 +116,7 @@ pub record IsKeyStart (names : Names) (key : FunctionKey) (n : ℕ) (xs : List �
   pub before : n < length key.params.0.now
   pub lacks : LacksNumber names key.params.0.now n
 
+-- what is known of a key's list: it is whole, or it stops at a parameter whose name has no number
 abbrev pub IsListOf : Names → FunctionKey → KeyList → Type 0
 IsListOf names key (listed.Whole xs) = IsKeyList names key xs.items
 IsListOf names key (listed.Start xs n) = IsKeyStart names key n xs.items

@@ -1,4 +1,4 @@
--- What is defined in a scope, and what for.
+-- What is defined in a scope, and what for (Component Model Binary.md, "Index Spaces" and "Type Definitions").
 use Rattle.std.specs.Prelude.{ℕ, ◌≡◌, ◌+◌, Bool, false, not, cond, ◌&&◌, ◌++◌, ◌∷◌, [], ◌⊎◌, is_some, is_none, length, count_by, IsPermutation, List, Option, Some, None, option_map, option_and_then, option_to_list, map, filter, filter_map}
 use Rattle.std.specs.List.{Contains}
 use Rattle.std.specs.Option.{option_map_or}
@@ -35,7 +35,7 @@ one_type_more i d = record { types = d.types ++ i ∷ []; exported = d.exported;
 abbrev pub one_function_more : ℕ → Definitions → Definitions
 one_function_more i d = record { types = d.types; exported = d.exported; functions = d.functions ++ i ∷ []; exports = d.exports }
 
--- the same where this holds
+-- a value type has been defined in slot i, if this holds
 abbrev pub type_more_if : Bool → ℕ → Definitions → Definitions
 type_more_if b i d = cond b (one_type_more i d) d
 
@@ -43,10 +43,11 @@ type_more_if b i d = cond b (one_type_more i d) d
 abbrev pub is_defined_under_name : Scope → TypeDef → Bool
 is_defined_under_name scope def = is_none (foreign_owner scope.own_interface def.owner) && (is_some def.name && has_definition def.kind)
 
+-- whether the type of this number is a named one of the place that has a definition of its own
 abbrev pub is_defined_by_name : Resolve → Scope → ℕ → Bool
 is_defined_by_name r scope n = option_map_or (is_defined_under_name scope) (type_at r n) false
 
--- how many of the known numbers are such types
+-- how many of the known numbers are named types of the place with definitions of their own
 abbrev pub names_defined : Resolve → Scope → TypeEncodingMaps → ℕ
 names_defined r scope m = count_by (λ e. is_defined_by_name r scope e.0) m.id_to_index.entries
 
@@ -62,6 +63,7 @@ pub record ExportsOne (scope : Scope) (d d' : Definitions) (slot : Option ℕ) (
 abbrev pub name_of_own : Scope → TypeDef → Option Text
 name_of_own scope def = cond (is_none (foreign_owner scope.own_interface def.owner)) (option_map text_of def.name) None
 
+-- the name of the type of this number, where it is a named one of the place
 abbrev pub own_name : Resolve → Scope → ℕ → Option Text
 own_name r scope n = option_and_then (name_of_own scope) (type_at r n)
 
@@ -74,12 +76,12 @@ pub record Shows (r : Resolve) (scope : Scope) (m m' : TypeEncodingMaps) (d d' :
   pub declared : (x : Text × TypeMeaning) → Contains shown x → Contains scope.declarations x
   pub names : map (λ x. x.0) shown ≡ filter_map (λ e. own_name r scope e.0) learnt
 
--- the same types of functions are known, by the same names
+-- the maps know the same types of functions, by the same names
 pub record SameKeys (m m' : TypeEncodingMaps) : Type 0 where
   pub lists : m'.func_type_map.entries ≡ m.func_type_map.entries
   pub names_ : m'.names.entries ≡ m.names.entries
 
--- one key more, and names of its parameters
+-- the maps know one key more, and the names of its parameters
 pub record AddsKey (m m' : TypeEncodingMaps) (key : FunctionKey) (i : ℕ) : Type 0 where
   pub grow : NamesGrow (names_of m.names) (names_of m'.names)
   pub list : List ℕ
@@ -92,12 +94,15 @@ pub record AddsKey (m m' : TypeEncodingMaps) (key : FunctionKey) (i : ℕ) : Typ
 abbrev pub Marked : Type 0
 Marked = List (Bool × ℕ)
 
+-- these slots, without marks
 abbrev pub slots_of : Marked → List ℕ
 slots_of xs = map (λ x. x.1) xs
 
+-- the slots that are marked
 abbrev pub named_slots : Marked → List ℕ
 named_slots xs = slots_of (filter (λ x. x.0) xs)
 
+-- the slots that aren't marked
 abbrev pub other_slots : Marked → List ℕ
 other_slots xs = slots_of (filter (λ x. not x.0) xs)
 

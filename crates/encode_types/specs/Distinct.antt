@@ -39,6 +39,7 @@ pub record Key : Type 0 where
   pub params : List Param
   pub result_type : Option ValueType
 
+-- the key of a function's type
 abbrev pub key_of : Function → Key
 key_of f = record { is_async = is_async f.kind; params = f.params.items; result_type = f.result }
 
@@ -86,10 +87,12 @@ pub record AddsFunctions (r : Resolve) (scope : Scope) (m m' : TypeEncodingMaps)
 
 -- ---- what is declared
 
+-- whether a declaration defines a value type
 abbrev pub is_value_type : Declaration → Bool
 is_value_type (Declaration.defined d) = true
 is_value_type _ = false
 
+-- whether a declaration defines the type of a function
 abbrev pub is_function_type : Declaration → Bool
 is_function_type (Declaration.function f) = true
 is_function_type _ = false
@@ -128,6 +131,7 @@ abbrev pub described_slot : ComponentTypeRef → Option ℕ
 described_slot (refs.TypeEq i) = Some i
 described_slot _ = None
 
+-- the slot whose type a declaration imports or exports under a name
 abbrev pub target_of : Declaration → Option ℕ
 target_of (Declaration.imported name described) = described_slot described
 target_of (Declaration.exported name described) = described_slot described

@@ -32,6 +32,7 @@ is_foreign scope def = is_some (foreign_owner scope.own_interface def.owner)
 abbrev pub CanImport : Resolve → Scope → ℕ → Type 0
 CanImport r scope n = (def : TypeDef) (i : InterfaceId) → type_at r n ≡ Some def → foreign_owner scope.own_interface def.owner ≡ Some i → IsImportable scope i.0 n
 
+-- The type of this number fits the scope.
 abbrev pub Fits : Resolve → Scope → ℕ → Type 0
 Fits r scope n = (def : TypeDef) → type_at r n ≡ Some def → FitsScope r scope n def
 

@@ -7,16 +7,16 @@ use Rattle.comp_meaning.specs.Follow.{is_key, is_filled}
 use Rattle.encode_types.specs.Resources.{Names, is_resource_tree}
 use Rattle.encode_types.specs.Scope.{Scope}
 
--- no resource is among them
+-- whether no resource is among these trees
 abbrev pub are_values : Names → List Tree → Bool
 are_values resources ts = list_all (λ t. not (is_resource_tree resources t)) ts
 
--- the first of them can be the key of a map
+-- whether the first of these trees can be the key of a map
 abbrev pub has_key : List Tree → Bool
 has_key [] = false
 has_key (t ∷ ts) = is_key t
 
--- A form with its children. Records, variants, flags, enums and tuples aren't empty, a fixed length is at least 1, a map's key is
+-- Whether a form with its children is well-formed: records, variants, flags, enums and tuples aren't empty, a fixed length is at least 1, a map's key is
 -- directly a primitive that serves as one, a handle is of a resource, and nothing else is.
 abbrev pub is_formed_node : Names → Form → List Tree → Bool
 is_formed_node resources (record_of labels) ts = is_filled labels && are_values resources ts
@@ -34,7 +34,7 @@ is_formed_node resources (result_of ok err) ts = are_values resources ts
 is_formed_node resources (future_of element) ts = are_values resources ts
 is_formed_node resources (stream_of element) ts = are_values resources ts
 
--- a tree at its top: a name is no definition
+-- whether a tree can be defined, at its top: a name is no definition
 abbrev pub is_formed : Names → Tree → Bool
 is_formed resources (primitive p) = true
 is_formed resources (named place name) = false

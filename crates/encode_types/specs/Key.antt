@@ -1,4 +1,4 @@
--- What makes the type of a function: whether it is asynchronous, its parameters by name and type, its result.
+-- What makes the type of a function (Component Model Binary.md, "Type Definitions"): whether it is asynchronous, its parameters by name and type, its result.
 use Rattle.std.specs.Prelude.{◌≡◌, ◌&&◌, Bool, map, option_map, ◌++◌}
 use mathlib.Core.Bool.{beq}
 use Rattle.std.specs.Hash as fed
@@ -25,6 +25,7 @@ same_type = type_eq.ghosts.eq
 abbrev pub same_param : Param → Param → Bool
 same_param p q = text_eq (text_of p.name) (text_of q.name) && same_type p.ty q.ty
 
+-- whether two functions have the same parameters, in order
 abbrev pub same_params : ParamSignatures → ParamSignatures → Bool
 same_params a b = pointwise same_param a.0.now b.0.now
 
@@ -32,7 +33,7 @@ same_params a b = pointwise same_param a.0.now b.0.now
 abbrev pub same_key : FunctionKey → FunctionKey → Bool
 same_key a b = beq a.async_ b.async_ && (same_params a.params b.params && option_eq same_type a.result.now b.result.now)
 
--- the key of a function
+-- this is the key of the function
 pub record IsKeyOf (key : FunctionKey) (f : Function) : Type 0 where
   pub async : key.async_ ≡ is_async f.kind
   pub params : key.params.0.now ≡ f.params.items
@@ -48,14 +49,18 @@ key_signature r key = record {
 
 -- ---- what is hashed
 
+-- what is hashed of a type
 abbrev pub type_writes : ValueType → fed.HashWrites
 type_writes = type_hash.ghosts.hash_input
 
+-- what is hashed of a parameter: its name and its type
 abbrev pub param_writes : Param → fed.HashWrites
 param_writes p = fed.str (text_of p.name) ++ type_writes p.ty
 
+-- what is hashed of parameters, in order
 abbrev pub params_writes : ParamSignatures → fed.HashWrites
 params_writes a = fed.slice param_writes a.0.now
 
+-- what is hashed of a key
 abbrev pub key_writes : FunctionKey → fed.HashWrites
 key_writes k = fed.bool k.async_ ++ (params_writes k.params ++ fed.option type_writes k.result.now)

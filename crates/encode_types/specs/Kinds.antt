@@ -1,4 +1,4 @@
--- Kinds of types: what each is made of, and how the encoder treats it.
+-- Kinds of types: what each is made of, and how the encoder treats it (Component Model Binary.md, "Type Definitions").
 use Rattle.std.specs.Prelude.{Bool, true, false, List, [], ◌∷◌}
 use Rattle.wit_model.specs.declared.model.TypeDefKind.{TypeDefKind}
 use Rattle.wit_model.specs.declared.model.TypeDefKind.TheVariants as kind

@@ -29,6 +29,7 @@ use Rattle.encode_types.specs.Standing.{is_slot_of}
 
 -- ---- what stands around
 
+-- What stands around a scope: declarations, instances of interfaces, and aliases of their types.
 pub record Around : Type 0 where
   -- what has been declared there
   pub declared : Declarations
@@ -37,15 +38,15 @@ pub record Around : Type 0 where
   -- numbers of types of other interfaces that have an alias there, each with its slot
   pub known : List (ℕ × ℕ)
 
--- of a scope around which there is none
+-- what stands around a scope that has none around it
 abbrev pub no_around : Around
 no_around = record { declared = Declarations.no_more; instances = []; known = [] }
 
--- the instance of an interface
+-- the instance of an interface, if one is listed
 abbrev pub known_instance : List (ℕ × ℕ) → ℕ → Option ℕ
 known_instance instances i = lookup (is_at (nat_cmp i)) instances
 
--- the slot of a type number
+-- the slot of a type number, if one is listed
 abbrev pub known_slot : List (ℕ × ℕ) → ℕ → Option ℕ
 known_slot known n = lookup (is_at (nat_cmp n)) known
 
@@ -61,6 +62,7 @@ is_name_slot _ _ = false
 abbrev pub is_known_as : Names → Tree → Slot → Bool
 is_known_as resources t slot = is_foreign_name slot && (is_slot_of resources slot && is_name_slot t slot)
 
+-- whether a slot stands for the type of this number under its name
 abbrev pub is_slot_for : Resolve → ℕ → Option Slot → Bool
 is_slot_for r n slot = option_map_or (is_known_as (named_resources r) (number_tree r n)) slot false
 
@@ -68,7 +70,7 @@ is_slot_for r n slot = option_map_or (is_known_as (named_resources r) (number_tr
 abbrev pub is_named_of : ℕ → TypeDef → Bool
 is_named_of i def = same_owner (owner.Interface (record { 0 = i })) def.owner && is_some def.name
 
--- an instance of a named interface
+-- whether an instance is one of the named interface of this path
 abbrev pub is_instance_of : Option Text → Instance → Bool
 is_instance_of path instance = option_map_or (λ p. option_map_or (text_eq p) instance.interface false) path false
 
@@ -81,6 +83,7 @@ abbrev pub is_standing : Resolve → ℕ → Instance → Bool
 is_standing r i instance =
     is_instance_of (interface_path r i) instance && list_all (λ e. not (is_named_of i e.1) || shows_type r instance e) (numbered_from 0 r.types.items)
 
+-- whether an interface is listed with an instance that is its own and shows each of its named types
 abbrev pub stands_around : Resolve → List (ℕ × ℕ) → List Instance → ℕ → Bool
 stands_around r listed instances i = option_map_or (λ k. option_map_or (is_standing r i) (slice_get instances k) false) (known_instance listed i) false
 
@@ -88,6 +91,7 @@ stands_around r listed instances i = option_map_or (λ k. option_map_or (is_stan
 abbrev pub are_right : Resolve → List (ℕ × ℕ) → List Slot → Bool
 are_right r known slots = list_all (λ e. is_slot_for r e.0 (slice_get slots e.1)) known
 
+-- the numbers below n
 abbrev pub below : ℕ → List ℕ
 below zero = []
 below (suc n) = n ∷ below n
@@ -96,9 +100,11 @@ below (suc n) = n ∷ below n
 abbrev pub outer_scope : Declarations → Option follow.Scope
 outer_scope outer = component_steps new_scope outer
 
+-- the slots of a component type, followed
 abbrev pub outer_slots : Declarations → List Slot
 outer_slots outer = option_map_or (λ s. s.slots) (outer_scope outer) []
 
+-- the instances of a component type, followed
 abbrev pub outer_instances : Declarations → List Instance
 outer_instances outer = option_map_or (λ s. s.instances) (outer_scope outer) []
 
@@ -115,9 +121,11 @@ pub record Aliased : Type 0 where
   pub instance : ℕ
   pub name : Text
 
+-- the declaration of an alias
 abbrev pub alias_declared : Aliased → Declaration
 alias_declared a = Declaration.alias_of (Alias.of_export a.instance a.name)
 
+-- what stands around, with one alias more
 abbrev pub with_alias : Around → Aliased → Around
 with_alias around a = record {
   declared = append around.declared (Declarations.declares (alias_declared a) Declarations.no_more);
@@ -138,10 +146,12 @@ pub record IsAlias (r : Resolve) (around : Around) (a : Aliased) : Type 0 where
   pub instance : known_instance around.instances interface.0 ≡ Some a.instance
   pub first : known_slot around.known a.number.0 ≡ None
 
+-- what stands around, with these aliases more, one after the other
 abbrev pub with_aliases : Around → List Aliased → Around
 with_aliases around [] = around
 with_aliases around (a ∷ more) = with_aliases (with_alias around a) more
 
+-- These aliases can be made around, one after the other, each of a type that had none.
 abbrev pub AreAliases : Resolve → Around → List Aliased → Type 0
 AreAliases r around [] = Unit {0}
 AreAliases r around (a ∷ more) = IsAlias r around a × AreAliases r (with_alias around a) more
@@ -161,7 +171,7 @@ pub record IsSource (r : Resolve) (around : Around) (i n : ℕ) : Type 0 where
   pub owned : def.owner ≡ owner.Interface (record { 0 = i })
   pub stands : Contains (standing_instances r around) i
 
--- the same with one alias at most, of this type
+-- Nothing has been declared around but one alias at most, of this type, which had none.
 pub data ReachesAround (r : Resolve) (id : TypeId) (a a' : Around) : Type 0 where
   as_before : a' ≡ a → ReachesAround r id a a'
   aliased : (x : Aliased) → IsAlias r a x → x.number ≡ id → a' ≡ with_alias a x → ReachesAround r id a a'

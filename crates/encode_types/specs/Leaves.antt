@@ -43,11 +43,11 @@ LearnsParts r v v' = Learns r v.scope.own_interface v.maps v'.maps
 abbrev pub LacksRoom : Resolve → List ValueType → List Request → View → View → Type 0
 LacksRoom r ts requests v v' = FindsNoRoom r v.scope.own_interface ts requests (length requests) v.maps v.held v'.held v'.lacks_room
 
--- the same of the parts of a kind and its definition
+-- a part of a kind, or its definition, has no room, and no more is held than was and what they take
 abbrev pub KindLacksRoom : Resolve → TypeDefKind → View → View → Type 0
 KindLacksRoom r kind v v' = LacksRoom r (parts_of kind) (value_type (kind_tree r kind) ∷ []) v v'
 
--- the same of the types of a function and its own, where the maps lacked its key
+-- the types of a function, or its own type, have no room, where the maps lacked its key
 pub record FunctionLacksRoom (r : Resolve) (f : Function) (v v' : View) : Type 0 where
   pub new_key : KnowsKey v.maps (key_of f) → ⊥
   pub room : LacksRoom r (function_types f) (function_type (signature_of r f) ∷ []) v v'
@@ -56,7 +56,7 @@ pub record FunctionLacksRoom (r : Resolve) (f : Function) (v v' : View) : Type 0
 abbrev pub CountsTypes : Resolve → View → View → Type 0
 CountsTypes r v v' = AddsTypes r v.scope v.maps v'.maps v.definitions v'.definitions
 
--- the same, and behind it one value type, which this is
+-- what has been defined is what the maps have learnt, and behind it one value type, which this is
 pub record CountsOneMore (r : Resolve) (v v' : View) (x : ComponentValType) : Type 0 where
   pub slot : ℕ
   pub is : x ≡ value.Type_ slot
@@ -64,7 +64,7 @@ pub record CountsOneMore (r : Resolve) (v v' : View) (x : ComponentValType) : Ty
   pub adds : AddsTypes r v.scope v.maps v'.maps v.definitions parts
   pub one_more : v'.definitions ≡ one_type_more slot parts
 
--- the same with the type of a function, which has this key and stands at this index
+-- what has been defined is what the maps have learnt, with the type of a function, which has this key and stands at this index
 abbrev pub CountsFunction : Resolve → View → View → FunctionKey → ℕ → Type 0
 CountsFunction r v v' key i = AddsFunction r v.scope v.maps v'.maps v.definitions v'.definitions key i
 

@@ -33,7 +33,7 @@ pub data Known : Type 0 where
   by_key : FunctionKey → Known
   by_unit_future by_unit_stream : Known
 
--- a kind and a key are found by their lists
+-- The maps have this index for a type number, a kind, a key, or a future or stream without elements. Kinds and keys are found by their lists.
 abbrev pub Holds : TypeEncodingMaps → Known → ℕ → Type 0
 Holds m (by_number n) i = Contains m.id_to_index.entries (n, i)
 Holds m (by_kind kind) i = (is_named_kind kind ≡ false) × Contains (lists_of m.def_to_index) (kind_code kind, i)
@@ -41,6 +41,7 @@ Holds m (by_key key) i = (xs : List ℕ) × IsKeyList (names_of m.names) key xs 
 Holds m by_unit_future i = m.unit_future ≡ Some i
 Holds m by_unit_stream i = m.unit_stream ≡ Some i
 
+-- what the index stands for that the maps know
 abbrev pub standing_of : Resolve → Known → Standing
 standing_of r (by_number n) = tree (number_tree r n)
 standing_of r (by_kind kind) = tree (kind_tree r kind)
@@ -57,12 +58,13 @@ pub record AreNumbered (names : Names) : Type 0 where
   pub table : IsTable names
   pub below : (t : Text) (n : ℕ) → Contains names (t, n) → n < length names
 
--- this is the list of an unnamed kind, or of a key
+-- this is the list of some unnamed kind
 pub record IsKindList (xs : List ℕ) : Type 0 where
   pub kind : TypeDefKind
   pub unnamed : is_named_kind kind ≡ false
   pub is : xs ≡ kind_code kind
 
+-- this is the list of some key
 pub record IsSomeKeyList (names : Names) (xs : List ℕ) : Type 0 where
   pub key : FunctionKey
   pub is : IsKeyList names key xs
@@ -101,10 +103,11 @@ HasKind m kind i = Holds m (by_kind kind) i
 abbrev pub HasKey : TypeEncodingMaps → FunctionKey → ℕ → Type 0
 HasKey m key i = Holds m (by_key key) i
 
--- the maps hold no index of a kind, or of a key
+-- the maps hold no index of this kind
 abbrev pub LacksKind : TypeEncodingMaps → TypeDefKind → Type 0
 LacksKind m kind = LacksList (lists_of m.def_to_index) (kind_code kind)
 
+-- the maps hold no index of this key
 abbrev pub LacksKey : TypeEncodingMaps → FunctionKey → Type 0
 LacksKey m key = (i : ℕ) → HasKey m key i → ⊥
 
@@ -187,5 +190,6 @@ IsWritten m x ty.ErrorContext = x ≡ v.Primitive p.ErrorContext
 abbrev pub IsReady : TypeEncodingMaps → ValueType → Type 0
 IsReady m t = (id : TypeId) → t ≡ ty.Id id → IsKnown m id.0
 
+-- each of these parts can be written
 abbrev pub AllReady : TypeEncodingMaps → List ValueType → Type 0
 AllReady m ts = (t : ValueType) → Contains ts t → IsReady m t

@@ -18,6 +18,7 @@ use Rattle.encode_types.specs.declared.plan.Order.{Order}
 use Rattle.encode_types.specs.Kinds.{parts_of}
 use Rattle.encode_types.specs.Maps.{IsKnown}
 
+-- whether the interface of a scope, if it has one, is this one
 abbrev pub is_interface : Option InterfaceId → InterfaceId → Bool
 is_interface None i = false
 is_interface (Some j) i = nat_eq j.0 i.0
@@ -33,12 +34,12 @@ pub data Reaches (r : Resolve) (own : Option InterfaceId) : ValueType → ℕ �
   itself : (id : TypeId) → Reaches r own (ty.Id id) id.0
   through : (id : TypeId) (def : TypeDef) (t : ValueType) (n : ℕ) → type_at r id.0 ≡ Some def → foreign_owner own def.owner ≡ None → Contains (parts_of def.kind) t → Reaches r own t n → Reaches r own (ty.Id id) n
 
--- the same by way of numbers that the maps lack, which lack n too
+-- n is met on the way down from a type, by way of numbers that the maps lack, which lack n too
 pub data Meets (r : Resolve) (own : Option InterfaceId) (m : TypeEncodingMaps) : ValueType → ℕ → Type 0 where
   at_once : (id : TypeId) → (IsKnown m id.0 → ⊥) → Meets r own m (ty.Id id) id.0
   further : (id : TypeId) (def : TypeDef) (t : ValueType) (n : ℕ) → (IsKnown m id.0 → ⊥) → type_at r id.0 ≡ Some def → foreign_owner own def.owner ≡ None → Contains (parts_of def.kind) t → Meets r own m t n → Meets r own m (ty.Id id) n
 
--- from one of the types
+-- n is so met from one of these types
 abbrev pub MetFrom : Resolve → Option InterfaceId → TypeEncodingMaps → List ValueType → ℕ → Type 0
 MetFrom r own m ts n = (t : ValueType) × Contains ts t × Meets r own m t n
 
@@ -46,9 +47,11 @@ MetFrom r own m ts n = (t : ValueType) × Contains ts t × Meets r own m t n
 pub record IsLayered (r : Resolve) : Type 0 where
   pub smaller : (n : ℕ) (def : TypeDef) → type_at r n ≡ Some def → list_all (λ m. nat_lt m n) (kind_numbers def.kind) ≡ true
 
+-- a type is a primitive, or its number is in range
 abbrev pub InRange : Resolve → ValueType → Type 0
 InRange r t = (id : TypeId) → t ≡ ty.Id id → id.0 < length r.types.items
 
+-- each of these types is a primitive, or its number is in range
 abbrev pub AllInRange : Resolve → List ValueType → Type 0
 AllInRange r ts = (t : ValueType) → Contains ts t → InRange r t
 

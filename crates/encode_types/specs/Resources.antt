@@ -29,6 +29,7 @@ is_resource_declaration resources resource = true
 
 -- ---- those of the packages
 
+-- whether an owner is an interface that has a name
 abbrev pub is_named_interface : Resolve → TypeOwner → Bool
 is_named_interface r (owner.Interface i) = is_some (interface_path r i.0)
 is_named_interface r _ = false
@@ -37,6 +38,7 @@ is_named_interface r _ = false
 abbrev pub is_met_owner : Resolve → TypeOwner → TypeOwner → Bool
 is_met_owner r o other = same_owner o other || is_named_interface r other
 
+-- whether a type of such an owner is a resource, or an alias of one, under this name in this place
 abbrev pub is_resource_entry : Resolve → (TypeOwner → Bool) → Place → Text → ℕ × TypeDef → Bool
 is_resource_entry r met place name e = (met e.1.owner && is_resource r e.0) && (same_place place (place_of r e.1.owner) && text_is e.1.name name)
 
@@ -44,6 +46,6 @@ is_resource_entry r met place name e = (met e.1.owner && is_resource r e.0) && (
 abbrev pub resource_names : Resolve → (TypeOwner → Bool) → Names
 resource_names r met place name = list_any (is_resource_entry r met place name) (numbered_from 0 r.types.items)
 
--- those of named interfaces
+-- the names of the resources, and of the aliases of resources, of named interfaces
 abbrev pub named_resources : Resolve → Names
 named_resources r = resource_names r (is_named_interface r)

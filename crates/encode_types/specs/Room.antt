@@ -41,6 +41,7 @@ Refusals = Request → Type 0
 
 -- ---- which requests fit: the counts and the lengths of their labels are numbers of 32 bits
 
+-- whether the counts and the labels of a form fit
 abbrev pub fits_form : Form → List Tree → Bool
 fits_form (record_of labels) ts = fits_names labels
 fits_form (variant_of cases) ts = fits_names (map (λ c. c.0) cases)
@@ -49,22 +50,24 @@ fits_form (flags_of names) ts = fits_names names
 fits_form (enum_of names) ts = fits_names names
 fits_form _ ts = true
 
--- a tree at its top
+-- whether the counts and the labels of a tree fit, its parts by index
 abbrev pub fits_tree : Tree → Bool
 fits_tree (primitive p) = true
 fits_tree (named place name) = true
 fits_tree (node form ts) = fits_form form (child_list ts)
 
--- the name of a type, by which an alias brings it
+-- whether the name of a type fits, by which an alias brings it
 abbrev pub fits_type_name : Resolve → ℕ → Bool
 fits_type_name r n = option_map_or (λ def. fits_given (optional_text def.name)) (type_at r n) true
 
+-- whether the counts and the labels of what is asked for fit
 abbrev pub fits_request : Resolve → Request → Bool
 fits_request r (value_type t) = fits_tree t
 fits_request r (function_type s) = fits_names (map (λ p. p.0) s.params)
 fits_request r (export_name name) = fits_name name
 fits_request r (import_of n) = fits_type_name r n
 
+-- a request has no room because it doesn't fit itself
 abbrev pub IsUnfit : Resolve → Refusals
 IsUnfit r request = fits_request r request ≡ false
 
@@ -82,28 +85,30 @@ LacksRoomBehind r held request = IsUnfit r request ⊎ (limit ≤ held)
 abbrev pub function_name : Text × Function → ExternName
 function_name f = record { text = f.0; implements = None; version_suffix = None; external_id = optional_text f.1.external_id }
 
--- a function of an interface: its type and its name
+-- what a function of an interface asks for: its type and its name
 abbrev pub function_requests : Resolve → Text × Function → List Request
 function_requests r f = function_type (signature_of r f.1) ∷ export_name (function_name f) ∷ []
 
 -- ---- how many declarations they take
 
--- A type number takes two, a definition and its export, where it has a definition of its own under its name. Else it takes one: an alias, an
+-- How many declarations a type number takes: two, a definition and its export, where it has a definition of its own under its name. Else one: an alias, an
 -- export, or the definition of its kind.
 abbrev pub number_count : Resolve → Option InterfaceId → ℕ → ℕ
 number_count r own n = cond (has_own_definition r own n) 2 1
 
+-- how many declarations these type numbers take
 abbrev pub numbers_count : Resolve → Option InterfaceId → List ℕ → ℕ
 numbers_count r own numbers = sum_by (number_count r own) numbers
 
--- functions take a type for each key, and an export each
+-- how many declarations functions take: a type for each key, and an export each
 abbrev pub functions_count : List (Text × Function) → ℕ
 functions_count fs = distinct_count are_same (map (λ f. key_of f.1) fs) + length fs
 
--- the kind of an unnamed type that is of no other interface
+-- the kind of a type, if it has no name and is of no other interface
 abbrev pub unnamed_kind : Resolve → Option InterfaceId → ℕ → Option TypeDefKind
 unnamed_kind r own n = option_and_then (λ def. cond (is_none def.name && is_none (foreign_owner own def.owner)) (Some def.kind) None) (type_at r n)
 
+-- whether both are unnamed kinds, and the same
 abbrev pub are_one_kind : Option TypeDefKind → Option TypeDefKind → Bool
 are_one_kind (Some a) (Some b) = same_kind a b
 are_one_kind _ _ = false
@@ -112,10 +117,11 @@ are_one_kind _ _ = false
 abbrev pub share_declarations : Resolve → Option InterfaceId → ℕ → ℕ → Bool
 share_declarations r own x y = nat_eq x y || are_one_kind (unnamed_kind r own x) (unnamed_kind r own y)
 
+-- no two of these type numbers have the same declarations
 abbrev pub AreApart : Resolve → Option InterfaceId → List ℕ → Type 0
 AreApart r own numbers = AllPairs (λ x y. share_declarations r own x y ≡ false) numbers
 
--- an unnamed kind that the maps lack
+-- the kind of an unnamed type, which the maps lack
 pub record IsNewKind (m : TypeEncodingMaps) (kind : TypeDefKind) : Type 0 where
   pub unnamed : is_named_kind kind ≡ false
   pub lacks : LacksKind m kind

@@ -1,4 +1,4 @@
--- The surroundings of a scope, and what may be exported and imported there.
+-- The surroundings of a scope, and what may be exported and imported there (Component Model Binary.md, "Index Spaces" and "Import and Export Definitions").
 use Rattle.std.specs.Prelude.{ℕ, ◌≡◌, Bool, true, List, [], Option, Some, None, String}
 use Rattle.std.specs.List.{Contains}
 use Rattle.std.specs.declared.alloc.Global.{Global}
@@ -33,7 +33,7 @@ pub record Others : Type 0 where
   -- each of them behind what has been declared before it
   pub declared : List (Declarations × Declarations)
 
--- of a table, and of an instance type
+-- what else stands around the scope of a table or of an instance type: nothing
 abbrev pub no_others : Others
 no_others = record { world = None; listed = []; instance_count = 0; imports = []; exports = []; instances = []; instance_types = 0; used = []; declared = [] }
 

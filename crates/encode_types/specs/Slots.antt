@@ -22,7 +22,7 @@ pub data Standing : Type 0 where
 abbrev pub Pairs : Type 1
 Pairs = ℕ → Standing → Type 0
 
--- all that the first says the second says too
+-- what a slot stands for by the first, it stands for by the second too
 abbrev pub Keeps : Pairs → Pairs → Type 0
 Keeps S S' = (i : ℕ) (m : Standing) → S i m → S' i m
 
@@ -45,6 +45,7 @@ pub record SlotAdded (S S' : Pairs) (n n' i : ℕ) (P : Standing → Type 0) : T
 
 -- ---- definitions, with each index followed
 
+-- the primitive that a primvaltype is
 abbrev pub primitive_of : PrimitiveValType → Primitive
 primitive_of p.Bool = Primitive.bool
 primitive_of p.U8 = Primitive.u8
@@ -66,6 +67,7 @@ abbrev pub StandsFor : Pairs → ComponentValType → Tree → Type 0
 StandsFor S (v.Primitive x) t = t ≡ primitive (primitive_of x)
 StandsFor S (v.Type_ i) t = S i (tree t)
 
+-- a part that may be left out: both are left out, or it stands for the tree
 abbrev pub StandsForOptional : Pairs → Option ComponentValType → Option Tree → Type 0
 StandsForOptional S None None = Unit {0}
 StandsForOptional S (Some x) (Some t) = StandsFor S x t
@@ -112,6 +114,7 @@ pub record FollowsFunction (S : Pairs) (f : ComponentFuncType) (s : Signature) :
   pub params : AllZip (NamedStands S) f.params.items s.params
   pub result_ : StandsForOptional S f.result s.result
 
+-- what the type of a function stands for
 abbrev pub DefinesFunction : Pairs → ComponentFuncType → Standing → Type 0
 DefinesFunction S f (tree t) = ⊥
 DefinesFunction S f (function s) = FollowsFunction S f s

@@ -13,6 +13,7 @@ standing_at (Some (Slot.function s)) = Some (function s)
 standing_at (Some (Slot.instance ds n)) = None
 standing_at None = None
 
+-- what each of these slots stands for
 abbrev pub SlotsStand : List Slot → Pairs
 SlotsStand slots i m = standing_at (slice_get slots i) ≡ Some m
 

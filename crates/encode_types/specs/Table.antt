@@ -26,13 +26,16 @@ pub use Rattle.encode_types.specs.Known.{below}
 use Rattle.encode_types.specs.Scope.{Scope, no_others}
 use Rattle.encode_types.specs.View.{View, Agrees}
 
+-- the declaration of a type under its name, if it has one
 abbrev pub named_declaration : Resolve → Option (String Global) → TypeDef → List (Text × TypeMeaning)
 named_declaration r None def = []
 named_declaration r (Some name) def = (text_of name, type_meaning r def) ∷ []
 
+-- the declaration of a named type that this owner has
 abbrev pub declaration_in : Resolve → TypeOwner → TypeDef → List (Text × TypeMeaning)
 declaration_in r o def = cond (same_owner o def.owner) (named_declaration r def.name def) []
 
+-- the interface that an owner is, if it is one
 abbrev pub interface_of_owner : TypeOwner → Option InterfaceId
 interface_of_owner (owner.Interface i) = Some i
 interface_of_owner _ = None
@@ -41,6 +44,7 @@ interface_of_owner _ = None
 abbrev pub has_named_owner : Resolve → TypeDef → Bool
 has_named_owner r def = option_map_or (λ i. option_map_or (λ other. is_some other.name) (interface_at r i) false) (owner_interface def.owner) false
 
+-- the scope of an owner: its named types, and an instance of each interface
 abbrev pub table_scope : Resolve → TypeOwner → Scope
 table_scope r o = record {
   packages = r;

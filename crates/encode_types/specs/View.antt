@@ -17,6 +17,7 @@ use Rattle.encode_types.specs.Counts.{Definitions, ExportsOne}
 use Rattle.encode_types.specs.Room.{Request, Refusals, HoldsFor, value_type, function_type}
 use Rattle.encode_types.specs.Extents.{tree_extent, signature_extent, import_extent, known_extent}
 
+-- What an encoder holds: its scope, its slots, its maps, and what has been defined and written.
 pub record View : Type 1 where
   -- what is around
   pub scope : Scope
@@ -64,10 +65,11 @@ pub record Refuses (v v' : View) (request : Request) : Type 0 where
   pub lacks : v'.lacks_room request
   pub held : v'.held ≤ v.held
 
--- so it is of a definition, or the type of a function, as it was read before the call
+-- a definition has no room, as it was read before the call
 abbrev pub LacksDefinition : View → View → ComponentDefinedType → Type 0
 LacksDefinition v v' def = (t : Tree) → Follows v.stands def t → Refuses v v' (value_type t)
 
+-- the type of a function has no room, as it was read before the call
 abbrev pub LacksFunctionType : View → View → ComponentFuncType → Type 0
 LacksFunctionType v v' def = (s : Signature) → FollowsFunction v.stands def s → Refuses v v' (function_type s)
 
@@ -91,10 +93,11 @@ HoldsLearnt r n v v' = HoldsFor r v.scope.own_interface v.maps v'.maps v.held v'
 pub record Writes (n : ℕ) (v v' : View) : Type 0 where
   pub extent : v'.extent ≤ v.extent + n
 
--- a definition, or the type of a function, as it was read before the call, has been written
+-- a definition has been written, as it was read before the call
 abbrev pub WritesDefinition : View → View → ComponentDefinedType → Type 0
 WritesDefinition v v' def = (t : Tree) → Follows v.stands def t → Writes (tree_extent t) v v'
 
+-- the type of a function has been written, as it was read before the call
 abbrev pub WritesFunctionType : View → View → ComponentFuncType → Type 0
 WritesFunctionType v v' def = (s : Signature) → FollowsFunction v.stands def s → Writes (signature_extent s) v v'
 
@@ -106,7 +109,7 @@ WritesImport v v' n = (def : TypeDef) → type_at v.scope.packages n ≡ Some de
 pub record WritesLearnt (r : Resolve) (n : ℕ) (v v' : View) : Type 0 where
   pub extent : v'.extent + known_extent r v.scope.own_interface v.maps ≤ v.extent + (known_extent r v.scope.own_interface v'.maps + n)
 
--- all but the maps is the same
+-- all of an encoder but its maps is the same
 pub record SameRest (v v' : View) : Type 0 where
   pub scope_ : v'.scope ≡ v.scope
   pub around_ : v'.around ≡ v.around

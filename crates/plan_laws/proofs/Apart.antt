@@ -13,7 +13,8 @@ use Rattle.plan_meaning.specs.NumberedMembers.{Homes, NumberedMember}
 use Rattle.plan_meaning.specs.NumberedRules.{Fact}
 use Rattle.plan_meaning.specs.NumberedViews.{NumberedSight, NumberedView, Tables, path_at}
 use Rattle.plan_meaning.specs.NumberedWorlds.{HasPath, NumberedInstance, are_once}
-use Rattle.plan_meaning.proofs.Lists.{filter_has, has_filter, no_true}
+use Rattle.plan_meaning.proofs.Lists.{no_true}
+use Rattle.wit_model.proofs.UsesLemmas.{filter_has, has_filter}
 use Rattle.read_exports.specs.Members.{numbered_member, numbered_members, numbered_part}
 use Rattle.read_exports.specs.declared.members.Member.{Member}
 use Rattle.read_exports.specs.declared.members.Part.{Part}

@@ -10,8 +10,9 @@ use Rattle.plan_meaning.specs.NumberedViews.{NumberedSight, first_at}
 use Rattle.plan_types.specs.Orders.{joined, joined_all}
 use Rattle.plan_types.specs.PlannedTypes.{number_in}
 use Rattle.plan_types.proofs.OrderLaws.{joined_both}
-use Rattle.plan_laws.proofs.PlaceNumbers.{all_joined, all_once, from_joined, none_twice, number_there}
+use Rattle.plan_laws.proofs.PlaceNumbers.{all_joined, all_once, from_joined, none_twice}
 use Rattle.base_lemmas.proofs.Lists.{front_at as at_front, middle_get}
+use Rattle.plan_package.proofs.ReadPackageLaws.{number_at as number_there}
 
 -- ---- lists that are split
 

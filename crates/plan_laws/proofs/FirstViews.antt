@@ -18,7 +18,7 @@ use Rattle.base_lemmas.proofs.Bools.{left_of as first_true, right_of as second_t
 use Rattle.base_lemmas.proofs.Elements.{all-contained, contains-one, map_from as from_map}
 use Rattle.base_lemmas.proofs.Numbers.{same-number}
 use Rattle.std.proofs.lemmas.Option.{same_Some as same-some}
-use Rattle.wit_model.proofs.AnyOrder.{text-same as text_same}
+use Rattle.wit_model.proofs.TextLemmas.{text_same}
 
 -- ---- what is told of a type
 

@@ -42,7 +42,7 @@ use Rattle.plan_laws.proofs.GatheredSights.{IsGatheredFrom, IsGatheredOne, gathe
 use Rattle.plan_laws.proofs.Inside.{flat_cases}
 use Rattle.plan_laws.proofs.ListedFunctions.{functions_listed, seen_same}
 use Rattle.plan_laws.proofs.Origins.{view_among}
-use Rattle.plan_laws.proofs.PlaceNumbers.{number_there, one_owner, owner_numbered, place_number}
+use Rattle.plan_laws.proofs.PlaceNumbers.{one_owner, owner_numbered, place_number}
 use Rattle.plan_laws.proofs.Planned.{first_there, interface_there, view_met}
 use Rattle.plan_laws.proofs.ShownWhole.{sight_viewed}
 use Rattle.plan_laws.proofs.Viewed.{planned_interfaces_are_viewed}
@@ -50,6 +50,7 @@ use Rattle.plan_laws.proofs.WholePlacesTop.{sight_of_place}
 use Rattle.plan_laws.proofs.WholeTypes.{packages_are_ruled, path_planned}
 use Rattle.base_lemmas.proofs.Elements.{all_at, contains-later, contains-map, contains-one, get-contains, zip_each}
 use Rattle.std.proofs.lemmas.Option.{same_Some as same-some}
+use Rattle.plan_package.proofs.ReadPackageLaws.{number_at as number_there}
 
 -- what holds of the elements of each number
 

@@ -1,11 +1,11 @@
 -- Each instance of a world has the place of one that it imports or exports.
-use Rattle.std.proofs.Common.{◌≡◌, refl, sym, ap, subst, ◌∙◌, ℕ, zero, suc, ◌⊎◌, inl, inr, arith, true, List, [], ◌∷◌, map, Option, Some, None}
+use Rattle.std.proofs.Common.{◌≡◌, refl, sym, ap, subst, ◌∙◌, ℕ, ◌⊎◌, inl, inr, true, List, [], map, Option, Some, None}
 use Rattle.std.specs.List.{AllByRecursion, Contains}
 use Rattle.std.proofs.lemmas.List.Elements.{Contains-append_cases}
 use Rattle.wit_model.specs.Text.{Text}
 use Rattle.wit_model.proofs.Elements.{none-in}
 use Rattle.comp_meaning.specs.Follow as follow
-use Rattle.comp_meaning.specs.Follow.{Direction, Instance, export_, import_, interface_of}
+use Rattle.comp_meaning.specs.Follow.{Instance, export_, import_, interface_of}
 use Rattle.comp_meaning.specs.Reads as reads
 use Rattle.read_shown.specs.Instances as tree
 use Rattle.read_shown.specs.Instances.{going, instances_in}
@@ -26,23 +26,10 @@ use Rattle.plan_laws.specs.ShownNames.{IsInput}
 use Rattle.plan_laws.proofs.Inside.{flat_cases}
 use Rattle.plan_laws.proofs.OwnPlaces.{inline_of, inline_seen, inlines}
 use Rattle.plan_laws.proofs.ShownFrom.{IsWorldOf}
-use Rattle.base_lemmas.proofs.Elements.{all_at, contains-later, contains-map, last_of as one-contained, map_from as from_map}
+use Rattle.base_lemmas.proofs.Elements.{all_at, contains-map, last_of as one-contained, map_from as from_map}
+use Rattle.plan_laws.proofs.ShownRules.{one_way as either_way}
 
 -- one of these goes one of the two ways
-either_way : (seen : List (Direction × Instance)) (x : Instance) → Contains (map (λ (y : Direction × Instance). y.1) seen) x → Contains (going import_ seen) x ⊎ Contains (going export_ seen) x
-either_way [] x c = none-in x c
-either_way ((import_, y) ∷ seen) x (zero, low, same) = inl (zero, omega arith, same)
-either_way ((export_, y) ∷ seen) x (zero, low, same) = inr (zero, omega arith, same)
-either_way ((import_, y) ∷ seen) x (suc i, low, same) = by (either_way seen x (i, omega (arith, low), same))
-  where
-    by : Contains (going import_ seen) x ⊎ Contains (going export_ seen) x → Contains (y ∷ going import_ seen) x ⊎ Contains (going export_ seen) x
-    by (inl there) = inl (contains-later y (going import_ seen) x there)
-    by (inr there) = inr there
-either_way ((export_, y) ∷ seen) x (suc i, low, same) = by (either_way seen x (i, omega (arith, low), same))
-  where
-    by : Contains (going import_ seen) x ⊎ Contains (going export_ seen) x → Contains (going import_ seen) x ⊎ Contains (y ∷ going export_ seen) x
-    by (inl there) = inl there
-    by (inr there) = inr (contains-later y (going export_ seen) x there)
 
 module _ (t : Tables) (tables : AreTables t) where
   key_place : (key : NumberedKey) → KeyStands t key → (q : ℕ) (path : Text) → path_at t q ≡ Some path → interface_of (key_of t key) ≡ Some path → place_of_key key ≡ q

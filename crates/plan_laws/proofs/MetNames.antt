@@ -8,28 +8,13 @@ use Rattle.std.proofs.lemmas.List.Elements.{Contains-append_cases}
 use Rattle.wit_model.proofs.Elements.{none-in}
 use Rattle.read_shown.specs.Trees.{DeclarationStands, HandleStands, PartsStand, SignatureStands, TreeStands, is_handle}
 use Rattle.plan_meaning.specs.NumberedViews.{AllOf, AreTables, FunctionShape, IsPart, PartsOf, Tables, declaration_of, place_at, signature_over, tree_at}
-use Rattle.plan_meaning.specs.Shapes.{Shape, form_code, named_shape, node_shape}
+use Rattle.plan_meaning.specs.Shapes.{Shape, named_shape, node_shape}
 use Rattle.plan_meaning.proofs.ShapeLaws.{PartView, is_name, is_node, is_primitive, viewed}
 use Rattle.plan_types.specs.Used.{signature_parts}
 use Rattle.plan_laws.proofs.Inside.{IsIn, inside, itself, name_alone}
 use Rattle.base_lemmas.proofs.Elements.{last_of as one-contained}
 use Rattle.std.proofs.lemmas.Option.{same_Some as same-some}
-
-no_sort : (f : Form) → (form_code f).sort ≡ 0 → ⊥
-no_sort (Form.record_of names) e = cc
-no_sort (Form.variant_of cases) e = cc
-no_sort Form.list_of e = cc
-no_sort (Form.fixed_list_of n) e = cc
-no_sort Form.option_of e = cc
-no_sort Form.own_of e = cc
-no_sort Form.borrow_of e = cc
-no_sort Form.map_of e = cc
-no_sort Form.tuple_of e = cc
-no_sort (Form.flags_of names) e = cc
-no_sort (Form.enum_of names) e = cc
-no_sort (Form.result_of ok err) e = cc
-no_sort (Form.future_of some) e = cc
-no_sort (Form.stream_of some) e = cc
+use Rattle.plan_meaning.proofs.ShapesLemmas.{no_sort}
 
 module _ (t : Tables) (tables : AreTables t) (Met : Place → Text → Bool → Type 0) (n q : ℕ) (name : Text) (at : slice_get t.shapes n ≡ Some (named_shape q name)) where
   -- the name is met, as a resource or as a type of values

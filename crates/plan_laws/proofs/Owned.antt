@@ -29,12 +29,13 @@ use Rattle.plan_type_laws.proofs.KeptKinds.{kinds_tell}
 use Rattle.plan_package.specs.PlanWhole.{PlansWhole, places_in, shown_first}
 use Rattle.plan_laws.specs.Owners.{PlannedTypesAreOwned, homes_in, owners_of}
 use Rattle.plan_laws.specs.ShownNames.{IsInput}
-use Rattle.plan_laws.proofs.PlaceNumbers.{number_given, number_there, owner_met, owners_apart}
+use Rattle.plan_laws.proofs.PlaceNumbers.{number_given, owner_met, owners_apart}
 use Rattle.plan_laws.proofs.Planned.{home_alone, name_met, named_there}
 use Rattle.plan_laws.proofs.Showings.{showings_named}
 use Rattle.plan_laws.proofs.ViewNames.{same_place}
 use Rattle.base_lemmas.proofs.Elements.{get-contains, zip_at_right as zip_get}
 use Rattle.std.proofs.lemmas.Slice.Zip.{AllZip-long as zip_length}
+use Rattle.plan_package.proofs.ReadPackageLaws.{number_at as number_there}
 
 module _ (t : Tables) (h : Homes) (ms : List Member) (members : List reads.Member) (input : IsInput t h ms members) (main : ℕ) (p : Plan) (planned : PlansWhole t h.packages (home_at h) main ms p) where
   abbrev places : List ℕ

@@ -15,7 +15,6 @@ use Rattle.wit_model.proofs.Elements.{contains-has, has-contains, none-in}
 use Rattle.read_shown.proofs.Lists.{at_end}
 use Rattle.plan_meaning.specs.NumberedMembers.{NumberedMember}
 use Rattle.plan_meaning.specs.ReadFunctions.{Beside}
-use Rattle.plan_meaning.proofs.KeptFunctions.{owner_itself}
 use Rattle.read_exports.specs.Members.{numbered_members}
 use Rattle.read_exports.specs.declared.members.Member.{Member}
 use Rattle.plan_types.specs.Orders.{joined, joined_all, places_of_part}
@@ -24,6 +23,8 @@ use Rattle.plan_package.specs.PlanWhole.{places_in}
 use Rattle.plan_laws.specs.Owners.{homes_in, owner_of, owners_of}
 use Rattle.base_lemmas.proofs.Elements.{contains-one, get-contains, last_of as one-contained}
 use Rattle.base_lemmas.proofs.Numbers.{same-number}
+use Rattle.plan_package.proofs.ReadPackageLaws.{number_at as number_there}
+use Rattle.wit_model.proofs.PartsLemmas.{owner_itself}
 
 -- ---- numbers
 
@@ -43,8 +44,6 @@ module _ (ps : List ℕ) (q : ℕ) where
   number_by false high m e = let wrong : None ≡ Some m = e in absurd cc
 
   -- a place stands under its number
-  pub number_there : (m : ℕ) → number_in ps q ≡ Some m → slice_get ps m ≡ Some q
-  number_there m e = number_by (nat_lt first (length ps)) refl m e
 
   given_by : (b : Bool) → nat_lt first (length ps) ≡ b → Contains ps q → (m : ℕ) × (cond b (Some first) None ≡ Some m)
   given_by true low c = (first, refl)

@@ -14,7 +14,7 @@ use Rattle.plan_meaning.proofs.Lists.{any_get}
 use Rattle.plan_laws.proofs.FirstViews.{option_same, same_of_option}
 use Rattle.base_lemmas.proofs.Bools.{left_of as first_true, right_of as second_true}
 use Rattle.base_lemmas.proofs.Elements.{all-contained, get-contains}
-use Rattle.wit_model.proofs.AnyOrder.{text-same as text_same}
+use Rattle.wit_model.proofs.TextLemmas.{text_same}
 
 same_decides : (a b : NumberedFunction) → Decides (same_function a b) (a ≡ b)
 same_decides a b = (into, back)

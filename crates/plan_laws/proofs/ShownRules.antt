@@ -90,7 +90,7 @@ pub signature_of : (place : Place) (resources : List Text) (name : Text) (f : Si
 signature_of place resources name f h = first_true (rules.is_signature place f) (is_label name || list_any (rules.is_function_of place name f) resources) h
 
 -- an instance is imported or exported
-one_way : (seen : List (Direction × Instance)) (x : Instance) → Contains (map (λ (y : Direction × Instance). y.1) seen) x → Contains (going import_ seen) x ⊎ Contains (going export_ seen) x
+pub one_way : (seen : List (Direction × Instance)) (x : Instance) → Contains (map (λ (y : Direction × Instance). y.1) seen) x → Contains (going import_ seen) x ⊎ Contains (going export_ seen) x
 one_way [] x c = none-in x c
 one_way ((import_, y) ∷ seen) x (zero, low, e) = inl (0, omega arith, e)
 one_way ((export_, y) ∷ seen) x (zero, low, e) = inr (0, omega arith, e)

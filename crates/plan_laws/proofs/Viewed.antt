@@ -45,7 +45,7 @@ use Rattle.plan_laws.proofs.FirstTypes.{first_told, view_good, views_told}
 use Rattle.plan_laws.proofs.FirstViews.{first_is}
 use Rattle.plan_laws.proofs.Owned.{planned_name}
 use Rattle.plan_laws.proofs.PartNames.{trees_of_all}
-use Rattle.plan_laws.proofs.PlaceNumbers.{all_joined, number_given, number_there, owner_numbered, place_number}
+use Rattle.plan_laws.proofs.PlaceNumbers.{all_joined, number_given, owner_numbered, place_number}
 use Rattle.plan_laws.proofs.Planned.{first_there}
 use Rattle.plan_laws.proofs.Showings.{slot_is}
 use Rattle.plan_laws.proofs.ViewNames.{instance_tree}
@@ -55,6 +55,7 @@ use Rattle.base_lemmas.proofs.Lists.{append_of_map, get_back as unmapped_get, ma
 use Rattle.std.proofs.ByRecursion.{All-weaker as recursion_weaker}
 use Rattle.std.proofs.lemmas.Slice.Zip.{AllZip-long as zip_length}
 use Rattle.plan_package.proofs.PlacedLaws.{part_placed as places_of_views}
+use Rattle.plan_package.proofs.ReadPackageLaws.{number_at as number_there}
 
 -- what stands beside the same elements
 zip_beside : {A B C : Type 0} (P : A → B → Type 0) (Q : A → C → Type 0) (R : B → C → Type 0) (xs : List A) → ((x : A) → Contains xs x → (b : B) (c : C) → P x b → Q x c → R b c) → (bs : List B) (cs : List C) → AllZip P xs bs → AllZip Q xs cs → AllZip R bs cs

@@ -7,7 +7,7 @@ use Rattle.std.proofs.lemmas.Bool.{eq-eqb, ltb-false, ltb-true}
 use Rattle.std.proofs.lemmas.List.Elements.{Contains-append_cases, Contains-append_left, Contains-append_right}
 use Rattle.std.proofs.lemmas.Option.{slice_get_within, same_Some as same-some}
 use Rattle.wit_model.specs.Text.{Text}
-use Rattle.wit_model.proofs.Elements.{contains-flat, contains-get, contains-has, none-in}
+use Rattle.wit_model.proofs.Elements.{contains-flat, contains-get, contains-has}
 use Rattle.comp_meaning.specs.Reads as reads
 use Rattle.plan_meaning.specs.FollowedNumbers.{IsMetFrom, IsOneOf, IsScopeIn, IsShownIn}
 use Rattle.plan_meaning.specs.KeptResources.{FormIsMarked}
@@ -74,6 +74,7 @@ use Rattle.plan_laws.proofs.WorldItems.{world_member}
 use Rattle.base_lemmas.proofs.Elements.{all_at, contains-map, contains-one, last_of as one-contained, map_from as from_map}
 use Rattle.base_lemmas.proofs.Lists.{get_back as unmapped_get, mapped_get, within_there as slice_there}
 use Rattle.std.proofs.ByRecursion.{All-weaker as recursion_weaker}
+use Rattle.plan_laws.proofs.ViewNames.{part_of_function as part_of}
 
 -- ---- parts of functions
 
@@ -89,16 +90,6 @@ parts_each P f each =
     result (Some k) one = one k (contains-one k)
 
 -- a part of a function is one of these
-part_of : (P : ℕ → Type 0) (f : FunctionShape) → PartsOf P f → (k : ℕ) → Contains (signature_parts f) k → P k
-part_of P f all k c = by (Contains-append_cases (map (λ (x : Text × ℕ). x.1) f.params) (option_to_list f.result) k c)
-  where
-    result : (r : Option ℕ) → AllOf P r → Contains (option_to_list r) k → P k
-    result None given there = none-in k there
-    result (Some j) given there = subst P (one-contained j k there) given
-
-    by : Contains (map (λ (x : Text × ℕ). x.1) f.params) k ⊎ Contains (option_to_list f.result) k → P k
-    by (inl among) = let from = from_map (λ (x : Text × ℕ). x.1) f.params k among in subst P from.2 (all_at (λ (x : Text × ℕ). P x.1) f.params all.0 from.0 from.1)
-    by (inr last) = result f.result all.1 last
 
 module _ (t : Tables) (h : Homes) (known : ℕ → Fact) (n : ℕ) (ms : List Member) (members : List reads.Member) (given : IsPackageInput t h known n ms members) (bare : ImportsAreBare ms) where
   abbrev numbered : List NumberedMember

@@ -28,7 +28,6 @@ use Rattle.plan_meaning.specs.Shapes.{Shape, first_label, named_shape}
 use Rattle.plan_parts.specs.Interfaces.{AreResources, IsPlannedFunction, slot_part}
 use Rattle.read_exports.specs.Members.{numbered_members}
 use Rattle.read_exports.specs.declared.members.Member.{Member}
-use Rattle.read_exports.specs.declared.members.Part.{Part}
 use Rattle.read_exports.specs.declared.members.Part.TheVariants as parts
 use Rattle.read_rules.specs.declared.scopes.Scope.{Scope}
 use Rattle.read_rules.specs.declared.scopes.Seen.{Seen}
@@ -38,7 +37,7 @@ use Rattle.read_rules.specs.Scopes.{numbered_scope, numbered_seen, numbered_show
 use Rattle.read_rules.specs.Tables.{given_text}
 use Rattle.plan_types.specs.Showings.{NumberedShowing, showings_of_members, signatures_of_members, signatures_of_part, signatures_of_seen, signatures_of_shown}
 use Rattle.plan_package.specs.PlanWhole.{PlansWhole, places_in, shown_first}
-use Rattle.plan_package.specs.WholeWorlds.{PlansItem, a_function, a_type, an_instance, types_seen, types_shown, world_in_part, worlds_in}
+use Rattle.plan_package.specs.WholeWorlds.{PlansItem, a_function, a_type, an_instance, types_seen, types_shown}
 use Rattle.plan_type_laws.proofs.FirstFound.{firsts_found}
 use Rattle.plan_laws.specs.Owners.{owners_of}
 use Rattle.plan_laws.specs.ShownNames.{DeclaresName, IsInput}
@@ -54,6 +53,7 @@ use Rattle.plan_laws.proofs.WorldKeys.{declared_in, is_world_owned, keys_apart, 
 use Rattle.base_lemmas.proofs.Bools.{left_of as first_true, right_of as second_true}
 use Rattle.base_lemmas.proofs.Elements.{all-contained, all_at, contains-later, contains-map, contains-one, get-contains, last_of as one-contained, map_from as from_map, zip_at_right as zip_get}
 use Rattle.std.proofs.lemmas.Option.{same_Some as same-some}
+use Rattle.plan_laws.proofs.WorldItems.{world_member as world_there}
 
 -- ---- lists
 
@@ -331,12 +331,6 @@ module _ (t : Tables) (h : Homes) (ms : List Member) (members : List reads.Membe
                 of_list x.exports (items_read w.exports.now is.good.exports export_item (λ f among. values_of f (Contains-append_right (flat_map signatures_of_seen w.imports.now) (flat_map signatures_of_seen w.exports.now) f among)) x.exports exports) i g e there
 
 -- a world that is exported
-world_there : (ms : List Member) (w : Text × Scope) → Contains (worlds_in ms) w → (m : Member) × Contains ms m × (m.part ≡ parts.World w.1)
-world_there ms w c = let from = flat_cases (λ (m : Member). world_in_part m.label.now m.part) ms w c in (from.0, from.1, by from.0.label.now from.0.part from.2)
-  where
-    by : (label : Text) (a : Part) → Contains (world_in_part label a) w → a ≡ parts.World w.1
-    by label (parts.World v) there = ap (λ (x : Text × Scope). parts.World x.1) (one-contained (label, v) w there)
-    by label (parts.Interface q v imports) there = none-in w there
 
 pub world_functions_are_read : WorldFunctionsAreRead
 world_functions_are_read t h ms members ruled main p planned whole known w among x made =

@@ -36,7 +36,7 @@ use Rattle.plan_laws.specs.WholeTypes.{IsRuledInput}
 use Rattle.plan_laws.specs.WholeWorlds.{WorldsAreReadAs}
 use Rattle.plan_laws.proofs.FirstTypes.{views_told}
 use Rattle.plan_laws.proofs.FirstViews.{first_is}
-use Rattle.plan_laws.proofs.PlaceNumbers.{number_given, number_there, one_owner, owner_numbered}
+use Rattle.plan_laws.proofs.PlaceNumbers.{number_given, one_owner, owner_numbered}
 use Rattle.plan_laws.proofs.Planned.{first_there, interface_there, name_shown, view_met}
 use Rattle.plan_laws.proofs.Viewed.{planned_interfaces_are_viewed}
 use Rattle.plan_laws.proofs.WholePlacesLabels.{world_among}
@@ -45,6 +45,7 @@ use Rattle.plan_laws.proofs.WholeWorlds.{planned_worlds_are_read}
 use Rattle.base_lemmas.proofs.Elements.{all_at, contains-map, get-contains, map_from as from_map, zip_at}
 use Rattle.base_lemmas.proofs.Lists.{get_back as unmapped_get}
 use Rattle.std.proofs.lemmas.Option.{same_Some as same-some}
+use Rattle.plan_package.proofs.ReadPackageLaws.{number_at as number_there}
 
 module _ (t : Tables) (h : Homes) (known : ℕ → Fact) (n : ℕ) (ms : List Member) (members : List reads.Member) (given : IsPackageInput t h known n ms members) (ordered : ViewsAreOrdered t ms) (p : Plan) (planned : PlansWhole t h.packages (home_at h) n ms p)
     (b : Beside) (beside_owners : b.owners ≡ owners_of ms) (interfaces : InterfacesAreViewed t planned.kept p b (views_read ms)) (read : WorldsAreReadAs t ms planned.kept p b (views_read ms)) where

@@ -39,17 +39,18 @@ use Rattle.plan_package.proofs.ListedLaws.{homes_are_listed, worlds_are_listed}
 use Rattle.plan_laws.specs.Owners.{homes_in, owners_of}
 use Rattle.plan_laws.specs.Whole.{IsPackageInput}
 use Rattle.plan_laws.specs.WholePlaces.{LabelsStand}
-use Rattle.plan_laws.proofs.PlaceNumbers.{number_there, owner_numbered, owners_apart, place_number}
+use Rattle.plan_laws.proofs.PlaceNumbers.{owner_numbered, owners_apart, place_number}
 use Rattle.plan_laws.proofs.Planned.{first_there, interface_there, named_there}
 use Rattle.plan_laws.proofs.Showings.{all_given}
 use Rattle.plan_laws.proofs.WholePlacesInstances.{own_shown}
 use Rattle.plan_laws.proofs.WholePlacesItems as items
 use Rattle.plan_laws.proofs.WholePlacesLabels.{interface_among, interface_of, interfaces_differ, no_world, world_among, world_of, worlds_differ}
-use Rattle.plan_laws.proofs.WholePlacesLists.{once_within}
 use Rattle.plan_laws.proofs.WholePlacesTop.{IsOwnInstance, at_top, interface_home, main_identity, own_instance, world_followed}
 use Rattle.base_lemmas.proofs.Bools.{left_of as first_true, right_of as second_true}
 use Rattle.base_lemmas.proofs.Elements.{all_at, all_by_number, contains-map, get-contains, zip_at, zip_at_right as zip_get}
 use Rattle.base_lemmas.proofs.Lists.{within_there as there_at}
+use Rattle.plan_laws.proofs.OwnPlaces.{once_inside as once_within}
+use Rattle.plan_package.proofs.ReadPackageLaws.{number_at as number_there}
 
 -- the places of what a world imports and exports
 abbrev shown_of : Scope → List ℕ

@@ -11,7 +11,7 @@ use Rattle.read_shown.specs.Instances as tree
 use Rattle.plan_meaning.specs.FollowedNumbers.{IsOneOf, IsScopeIn, IsSeenIn}
 use Rattle.plan_meaning.specs.NumberedViews.{Tables, path_at}
 use Rattle.plan_meaning.specs.NumberedWorlds.{KeyStands, NumberedInstance, NumberedKey, NumberedScope, NumberedSeen, NumberedShown, Shows, are_once, declares, function, implementing, instance, instance_of, key_of, label, path, place_of_key, seen_of, shown_of}
-use Rattle.plan_meaning.proofs.Lists.{filter_has, has_filter}
+use Rattle.wit_model.proofs.UsesLemmas.{filter_has, has_filter}
 use Rattle.plan_type_laws.specs.ShownMarks.{has_no_path, places_of_seen, places_of_shown}
 use Rattle.plan_laws.proofs.Inside.{flat_cases}
 use Rattle.plan_laws.proofs.WholePlacesLists.{all_there}

@@ -24,10 +24,10 @@ use Rattle.read_rules.specs.declared.scopes.Seen.{Seen}
 use Rattle.read_rules.specs.Scopes.{numbered_key, numbered_seen, numbered_shown}
 use Rattle.plan_types.specs.PlannedTypes.{number_in}
 use Rattle.plan_package.specs.WholeWorlds.{PlansItem, PlansWorld, a_function, a_type, an_instance, world_in_part, worlds_in}
-use Rattle.plan_laws.proofs.PlaceNumbers.{number_there}
 use Rattle.base_lemmas.proofs.Bools.{left_of as first_true, right_of as second_true}
 use Rattle.base_lemmas.proofs.Elements.{zip-append as zip_both}
 use Rattle.std.proofs.lemmas.Option.{same_Some as same-some}
+use Rattle.plan_package.proofs.ReadPackageLaws.{number_at as number_there}
 
 module _ (places : List ℕ) where
   -- the place has the number

@@ -1,14 +1,13 @@
 -- Texts and numbers of which none stands twice.
-use Rattle.std.proofs.Common.{◌≡◌, refl, sym, ap, subst, ◌∙◌, ℕ, zero, suc, ◌<◌, ◌≤◌, arith, Bool, true, false, not, ◌||◌, ◌==◌, cond, List, [], ◌∷◌, ◌++◌, filter, length}
-use Rattle.std.specs.List.{Contains, flat_map, list_any}
+use Rattle.std.proofs.Common.{◌≡◌, refl, sym, ap, subst, ◌∙◌, ℕ, ◌<◌, ◌≤◌, arith, Bool, true, false, not, ◌||◌, ◌==◌, cond, List, [], ◌∷◌, ◌++◌, filter, length}
+use Rattle.std.specs.List.{list_any}
 use Rattle.std.proofs.lemmas.Bool.{eq-eqb, eqb-true, and_from as both, not-true as not_true}
-use Rattle.std.proofs.lemmas.List.Elements.{filter-append}
 use Rattle.wit_model.specs.Text.{Text, text_eq}
 use Rattle.wit_model.specs.Uses.{has}
-use Rattle.wit_model.proofs.Elements.{none-in}
 use Rattle.comp_meaning.specs.Rules.{distinct}
 use Rattle.plan_meaning.specs.NumberedWorlds.{are_once}
-use Rattle.plan_meaning.proofs.Lists.{has_filter, no_true}
+use Rattle.plan_meaning.proofs.Lists.{no_true}
+use Rattle.wit_model.proofs.UsesLemmas.{has_filter}
 use Rattle.plan_meaning.proofs.ReadLists.{never}
 use Rattle.base_lemmas.proofs.Bools.{first_false, left_of as first_true, right_of as second_true, second_false as later_false}
 
@@ -47,11 +46,6 @@ once_parts (x ∷ xs) ys e =
     absent (z ∷ zs) f = (λ i. first_false (z == x) (has (zs ++ ys) x) f i || absent zs (later_false (z == x) (has (zs ++ ys) x) f) i)
 
 -- those that pass in a part of what is listed
-pub once_within : {A : Type 0} (test : ℕ → Bool) (f : A → List ℕ) (xs : List A) → are_once (filter test (flat_map f xs)) ≡ true → (x : A) → Contains xs x → are_once (filter test (f x)) ≡ true
-once_within test f [] e x c = none-in x c
-once_within test f (y ∷ xs) e x (zero, low, same) = ap (λ z. are_once (filter test (f z))) (sym same) ∙ (once_parts (filter test (f y)) (filter test (flat_map f xs)) (ap are_once (sym (filter-append test (f y) (flat_map f xs))) ∙ e)).0
-once_within test f (y ∷ xs) e x (suc i, low, same) =
-    once_within test f xs (once_parts (filter test (f y)) (filter test (flat_map f xs)) (ap are_once (sym (filter-append test (f y) (flat_map f xs))) ∙ e)).1 x (i, omega (arith, low), same)
 
 -- as many numbers that are there, none twice, are all
 module _ (x : ℕ) where

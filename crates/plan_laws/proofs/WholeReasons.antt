@@ -39,13 +39,14 @@ use Rattle.plan_laws.specs.Whole.{IsPackageInput}
 use Rattle.plan_laws.specs.WholeReasons.{AreShownAlike, HavePlaces}
 use Rattle.plan_laws.proofs.Inside.{flat_cases}
 use Rattle.plan_laws.proofs.Owned.{planned_name}
-use Rattle.plan_laws.proofs.PlaceNumbers.{number_given, number_there}
+use Rattle.plan_laws.proofs.PlaceNumbers.{number_given}
 use Rattle.plan_laws.proofs.Planned.{interface_there}
 use Rattle.plan_laws.proofs.Showings.{IsNamed, showings_named}
 use Rattle.plan_laws.proofs.WholeReasonsFunctions.{by_function}
 use Rattle.base_lemmas.proofs.Elements.{last_of as one-contained, zip_at, zip_at_right as zip_get}
 use Rattle.base_lemmas.proofs.Lists.{get_back as unmapped_get}
 use Rattle.std.proofs.lemmas.Slice.Zip.{AllZip-long as zip_length}
+use Rattle.plan_package.proofs.ReadPackageLaws.{number_at as number_there}
 
 pub there_marked : (marks : List Bool) (n : ℕ) → is_marked marks n ≡ true → slice_get marks n ≡ Some true
 there_marked [] n e = no_true e

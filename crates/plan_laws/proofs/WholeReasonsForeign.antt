@@ -19,7 +19,6 @@ use Rattle.plan_meaning.specs.Plan.{Plan, PlannedInterface, interface_in}
 use Rattle.plan_meaning.specs.ReadFunctions.{Beside}
 use Rattle.plan_meaning.specs.ReadPlans.{IsReadPlan}
 use Rattle.plan_meaning.specs.ReadWholes.{IsSeenFor, IsShownByWorld, IsViewOf, in_member, in_world}
-use Rattle.plan_meaning.proofs.KeptFunctions.{owner_itself}
 use Rattle.plan_meaning.proofs.ReadLists.{never}
 use Rattle.read_exports.specs.Members.{numbered_member, numbered_members, numbered_part}
 use Rattle.read_exports.specs.declared.members.Member.{Member}
@@ -38,11 +37,13 @@ use Rattle.plan_laws.specs.Owners.{homes_in, owners_of}
 use Rattle.plan_laws.specs.Whole.{IsPackageInput}
 use Rattle.plan_laws.specs.WholeReasonsForeign.{HasForeignReasons, IsShownWhole, PartIsReached}
 use Rattle.plan_laws.proofs.Inside.{flat_cases}
-use Rattle.plan_laws.proofs.PlaceNumbers.{number_given, number_there, owner_numbered, owners_apart, place_number}
+use Rattle.plan_laws.proofs.PlaceNumbers.{number_given, owner_numbered, owners_apart, place_number}
 use Rattle.plan_laws.proofs.Planned.{interface_there, view_met}
 use Rattle.plan_laws.proofs.Showings.{all_given}
 use Rattle.plan_laws.proofs.WholePlacesTop.{interface_home, sight_of_place}
 use Rattle.base_lemmas.proofs.Elements.{all_at, contains-map, contains-one, get-contains, last_of as one-contained, map_from as from_map, zip_at_right as zip_get}
+use Rattle.plan_package.proofs.ReadPackageLaws.{number_at as number_there}
+use Rattle.wit_model.proofs.PartsLemmas.{owner_itself}
 
 module _ (t : Tables) (h : Homes) (known : ℕ → Fact) (n : ℕ) (ms : List Member) (members : List reads.Member) (given : IsPackageInput t h known n ms members) (p : Plan)
     (planned : PlansWhole t h.packages (home_at h) n ms p) (b : Beside) (owned : b.owners ≡ owners_of ms) (views : ℕ → NumberedView) (read : IsReadPlan t h planned.kept p b views)

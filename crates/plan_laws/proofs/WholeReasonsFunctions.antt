@@ -42,11 +42,12 @@ use Rattle.plan_package.specs.WholeWorlds.{PlansItem, PlansWorld, a_function, a_
 use Rattle.plan_laws.specs.Whole.{IsPackageInput}
 use Rattle.plan_laws.specs.WholeReasons.{AreShownAlike}
 use Rattle.plan_laws.proofs.Inside.{flat_cases}
-use Rattle.plan_laws.proofs.PlaceNumbers.{number_given, number_there}
+use Rattle.plan_laws.proofs.PlaceNumbers.{number_given}
 use Rattle.plan_laws.proofs.Planned.{first_there, interface_there, view_met}
 use Rattle.plan_laws.proofs.WholePlacesLabels.{world_among}
 use Rattle.base_lemmas.proofs.Elements.{all_at, contains-later, contains-map, contains-one, get-contains, last_of as one-contained, map_from as from_map, zip_at, zip_at_right as zip_get}
 use Rattle.base_lemmas.proofs.Numbers.{same-number}
+use Rattle.plan_package.proofs.ReadPackageLaws.{number_at as number_there}
 
 -- ---- parts of functions
 

@@ -38,13 +38,14 @@ use Rattle.plan_laws.specs.Owners.{homes_in, owners_of}
 use Rattle.plan_laws.specs.ShownNames.{IsInput}
 use Rattle.plan_laws.specs.ShownRules.{TypeObeys}
 use Rattle.plan_laws.specs.WholeTypes.{IsRuledInput, PackagesAreRuled, PlannedTypesAreWhole, TypesAreWhole}
-use Rattle.plan_laws.proofs.PlaceNumbers.{number_given, number_there, owner_met}
+use Rattle.plan_laws.proofs.PlaceNumbers.{number_given, owner_met}
 use Rattle.plan_laws.proofs.Planned.{first_there, home_alone, interface_there, shown_met}
 use Rattle.plan_laws.proofs.ShownNames.{names_are_shown}
 use Rattle.plan_laws.proofs.ShownRules.{all_of, rules_obeyed}
 use Rattle.base_lemmas.proofs.Bools.{left_of as first_true, right_of as second_true}
 use Rattle.base_lemmas.proofs.Elements.{all_at}
 use Rattle.base_lemmas.proofs.Lists.{within_there as slice_there}
+use Rattle.plan_package.proofs.ReadPackageLaws.{number_at as number_there}
 
 -- ---- what is shown
 

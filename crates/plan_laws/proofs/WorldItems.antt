@@ -50,12 +50,13 @@ use Rattle.plan_laws.proofs.Inside.{flat_cases}
 use Rattle.plan_laws.proofs.Origins as origins
 use Rattle.plan_laws.proofs.Origins.{origin, view_among}
 use Rattle.plan_laws.proofs.Owned.{planned_name}
-use Rattle.plan_laws.proofs.PlaceNumbers.{IsOnce, number_given, number_there}
+use Rattle.plan_laws.proofs.PlaceNumbers.{IsOnce, number_given}
 use Rattle.plan_laws.proofs.Planned.{first_there, interface_there, place_seen}
 use Rattle.plan_laws.proofs.Showings.{slot_is}
 use Rattle.base_lemmas.proofs.Elements.{all_at, contains-map, contains-one, get-contains, last_of as one-contained}
 use Rattle.base_lemmas.proofs.Lists.{front_at as at_front, get_back as unmapped_get, mapped_get, middle_get, within_there as slice_there}
 use Rattle.std.proofs.lemmas.Slice.Zip.{AllZip-long as zip_length}
+use Rattle.plan_package.proofs.ReadPackageLaws.{number_at as number_there}
 
 declared_of : Shown → Option ℕ
 declared_of (shown.Declares g o) = o

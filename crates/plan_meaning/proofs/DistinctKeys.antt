@@ -4,7 +4,6 @@ use Rattle.std.specs.Prelude.{string_eq}
 use Rattle.std.specs.declared.alloc.Global.{Global}
 use Rattle.std.specs.List.{list_any, IsDistinct, AllByRecursion}
 use Rattle.std.specs.Map.{keys_of}
-use Rattle.std.proofs.lemmas.List.Folds.{list_any-append}
 use Rattle.indexmap.specs.IndexMap.{IsUnique}
 use Rattle.wit_model.specs.declared.model.Resolve.{Resolve}
 use Rattle.wit_model.specs.declared.model.Package.{Package}
@@ -26,19 +25,14 @@ use Rattle.plan_meaning.proofs.Words.{plan_of}
 use Rattle.plan_meaning.proofs.Labels.{names_are}
 use Rattle.base_lemmas.proofs.Bools.{left_of as first_true, right_of as second_true}
 use Rattle.base_lemmas.proofs.Elements.{all_get}
-use Rattle.std.proofs.lemmas.Bool.{and_from as both}
 use Rattle.std.proofs.lemmas.Option.{slice_get-map as get_of_map}
+use Rattle.plan_meaning.proofs.ListedTypes.{distinct_front as front_distinct}
 
 -- ---- parts of a list whose names differ
 
-first_missed : (a b : Bool) → not (a || b) ≡ true → not a ≡ true
+pub first_missed : (a b : Bool) → not (a || b) ≡ true → not a ≡ true
 first_missed false b h = refl
 first_missed true b h = no_true h
-
-front_distinct : (xs ys : List Text) → are_distinct (xs ++ ys) ≡ true → are_distinct xs ≡ true
-front_distinct [] ys h = refl
-front_distinct (x ∷ xs) ys h =
-    both _ _ (first_missed (list_any (text_eq x) xs) (list_any (text_eq x) ys) (ap not (sym (list_any-append (text_eq x) xs ys)) ∙ first_true _ _ h)) (front_distinct xs ys (second_true (not (list_any (text_eq x) (xs ++ ys))) _ h))
 
 pub back_distinct : (xs ys : List Text) → are_distinct (xs ++ ys) ≡ true → are_distinct ys ≡ true
 back_distinct [] ys h = h

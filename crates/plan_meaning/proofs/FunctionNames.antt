@@ -44,7 +44,7 @@ use Rattle.base_lemmas.proofs.Elements.{all_two}
 use Rattle.std.proofs.lemmas.Bool.{and_from as both}
 use Rattle.std.proofs.lemmas.Option.{slice_get-map as get_of_map}
 
-unnamed : (o : Option (String Global)) → is_none (optional_text o) ≡ is_none o
+pub unnamed : (o : Option (String Global)) → is_none (optional_text o) ≡ is_none o
 unnamed None = refl
 unnamed (Some s) = refl
 

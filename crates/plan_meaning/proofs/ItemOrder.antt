@@ -20,13 +20,14 @@ use Rattle.plan_meaning.specs.Plan.{kind_numbers, used_by_numbers, type_in}
 use Rattle.plan_meaning.specs.PlanRules as planned
 use Rattle.plan_meaning.specs.PlanRules.{IsPlan}
 use Rattle.plan_meaning.specs.Built.{planned_kind, planned_type, planned_world, planned_item}
-use Rattle.plan_meaning.proofs.Lists.{or_of_map, same_or, after_of_map, each_built}
+use Rattle.plan_meaning.proofs.Lists.{or_of_map, same_or, each_built}
 use Rattle.plan_meaning.proofs.Words.{plan_of, function_numbers_are, has_owner_is, used_are, used_by_kind_is, interface_used_is, direct_uses_are}
 use Rattle.plan_meaning.proofs.FunctionRules.{items_are}
 use Rattle.plan_meaning.proofs.WorldItems.{item_interface_is}
 use Rattle.plan_meaning.proofs.TypeOrder.{item_types_are}
 use Rattle.base_lemmas.proofs.Lists.{filter_of_map}
 use Rattle.std.proofs.lemmas.Option.{slice_get-map as get_of_map}
+use Rattle.wit_model.proofs.RulesLemmas.{after_of_map}
 
 pub item_interfaces_are : (xs : List WorldItem) → filter_map plan.item_interface (map planned_item xs) ≡ filter_map uses.item_interface xs
 item_interfaces_are xs = filter_of_map plan.item_interface planned_item xs ∙ ap (λ (h : WorldItem → Option ℕ). filter_map h xs) (λ i x. item_interface_is x i)

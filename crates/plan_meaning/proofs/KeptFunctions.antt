@@ -15,7 +15,7 @@ use Rattle.wit_model.specs.Tree.{Place, Form, Tree, levels}
 use Rattle.wit_model.specs.Lookup.{resource_of}
 use Rattle.wit_model.specs.Parts.{same_owner}
 use Rattle.wit_model.specs.Rules.{after_prefix, are_member_labels, in_list, is_freestanding, is_id, passes}
-use Rattle.wit_model.proofs.VersionLaws.{same_text, text_same}
+use Rattle.wit_model.proofs.VersionLaws.{same_text}
 use Rattle.comp_meaning.specs.Rules as rules
 use Rattle.comp_meaning.specs.Rules.{are_labels, is_label_behind, most_levels}
 use Rattle.plan_meaning.specs.Shapes.{Shape, first_label, form_code, named_shape, node_shape, IsShape, a_name, a_node}
@@ -36,7 +36,8 @@ use Rattle.plan_meaning.proofs.ShapeLaws.{split_part}
 use Rattle.plan_meaning.proofs.Words.{behind}
 use Rattle.base_lemmas.proofs.Bools.{left_of as first_true, right_of as second_true}
 use Rattle.base_lemmas.proofs.Lists.{map_of_map, within_there as slice_there}
-use Rattle.base_lemmas.proofs.Numbers.{same-number}
+use Rattle.wit_model.proofs.PartsLemmas.{owner_itself}
+use Rattle.wit_model.proofs.TextLemmas.{text_same}
 
 -- ---- names
 
@@ -49,11 +50,6 @@ behind_label (p ∷ ps) (b ∷ bs) h = by (p == b) refl (behind_label ps bs) h
         → option_map_or is_label (cond v (after_prefix ps bs) None) false ≡ true
     by true e more h = more (sym (ap (λ v. (v && starts_with nat_eq bs ps) && is_label (drop (length ps) bs)) e) ∙ h)
     by false e more h = no_true (sym (ap (λ v. (v && starts_with nat_eq bs ps) && is_label (drop (length ps) bs)) e) ∙ h)
-
-pub owner_itself : (o : TypeOwner) → same_owner o o ≡ true
-owner_itself (owner.World id) = same-number id.0
-owner_itself (owner.Interface id) = same-number id.0
-owner_itself owner.None = refl
 
 -- ---- forms by their numbers
 

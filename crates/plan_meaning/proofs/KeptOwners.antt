@@ -28,7 +28,6 @@ use Rattle.plan_meaning.specs.GatheredPlan.{Becomes, BecomesIfGiven, DeclaresKin
 use Rattle.plan_meaning.specs.KeptTypes.{IsKeptType, unnamed, declared, TypesAreKept}
 use Rattle.plan_meaning.specs.KeptOwners.{IsNamedInterface, AreOwned, OwnersStand, KeptOwnersStand, of_name}
 use Rattle.plan_meaning.proofs.GatheredPlan.{form_tree}
-use Rattle.plan_meaning.proofs.KeptFunctions.{owner_itself}
 use Rattle.plan_meaning.proofs.KeptTypes.{form_obeys, keeps, parts_before}
 use Rattle.plan_meaning.proofs.Lists.{no_true}
 use Rattle.plan_meaning.proofs.NumberedRules.{no_name, shape_there}
@@ -39,6 +38,7 @@ use Rattle.base_lemmas.proofs.Elements.{all_at, all_by_number, contains-later, g
 use Rattle.base_lemmas.proofs.Lists.{slice_take, within_there as slice_there}
 use Rattle.std.proofs.lemmas.Option.{same_Some as same-some}
 use Rattle.wit_model.proofs.Owners.{numbered_at as numbered_there}
+use Rattle.wit_model.proofs.PartsLemmas.{owner_itself}
 
 -- what is met at a type, by what is met at smaller numbers
 pub met_there : (p : Plan) (j : ℕ) (x : PlannedType) → slice_get p.types j ≡ Some x → met_by (met_in p) j ≡ met_at (take j (met_in p)) (j, x)

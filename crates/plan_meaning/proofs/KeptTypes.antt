@@ -1,16 +1,16 @@
 -- Types of a plan that are those of kept shapes pass the tests on types.
 use Rattle.std.proofs.Common.{◌≡◌, refl, sym, ap, subst, ◌∙◌, ℕ, ◌+◌, ◌-◌, ◌<◌, ◌≤◌, arith, Bool, true, false, not, ◌&&◌, ◌||◌, ◌==◌, cond, List, [], ◌∷◌, length, map, filter_map, Option, Some, None, is_some, slice_get}
 use Rattle.std.specs.Prelude.{nat_le, nat_lt}
-use Rattle.std.specs.List.{AllByRecursion, AllZip, cons_option, list_all, list_any}
+use Rattle.std.specs.List.{AllByRecursion, AllZip, cons_option, list_all}
 use Rattle.std.specs.Option.{option_map_or}
 use Rattle.std.proofs.lemmas.Bool.{eq-eqb, lt-ltb, le-leb, leb-true, and_from as both}
 use Rattle.std.proofs.lemmas.List.Folds.{list_all-map}
-use Rattle.wit_model.specs.Text.{Text, text_eq}
+use Rattle.wit_model.specs.Text.{Text}
 use Rattle.wit_model.specs.Names.{is_label}
 use Rattle.wit_model.specs.Tree.{Place, Form, Tree, Declaration, children, deepest, levels}
-use Rattle.wit_model.specs.Rules.{each_from, are_distinct, are_member_labels, has_items, passes}
+use Rattle.wit_model.specs.Rules.{each_from, are_member_labels, has_items, passes}
 use Rattle.comp_meaning.specs.Rules as rules
-use Rattle.comp_meaning.specs.Rules.{are_labels, are_parts, distinct, form_labels, is_named_form, most_levels}
+use Rattle.comp_meaning.specs.Rules.{are_labels, are_parts, form_labels, is_named_form, most_levels}
 use Rattle.comp_meaning.specs.Follow.{is_key_primitive}
 use Rattle.plan_meaning.specs.Shapes.{Shape, form_code, node_shape, named_shape, part_tree, primitives, IsShape, a_name, a_node}
 use Rattle.plan_meaning.specs.Plan.{Plan, PlannedKind, PlannedType, part_number, kind_numbers, alias_number, trees_in}
@@ -21,7 +21,7 @@ use Rattle.plan_meaning.specs.NumberedRules as numbered
 use Rattle.plan_meaning.specs.GatheredPlan as gathered
 use Rattle.plan_meaning.specs.GatheredPlan.{Becomes, DeclaresKind, a_resource, a_form, Keeps}
 use Rattle.plan_meaning.specs.KeptTypes.{IsKeptForm, alone, of_name, IsKeptType, unnamed, declared, TypesAreKept, TypesPass, KeptTypesPass}
-use Rattle.plan_meaning.proofs.Lists.{each_by_number, no_true}
+use Rattle.plan_meaning.proofs.Lists.{no_true}
 use Rattle.plan_meaning.proofs.GatheredPlan.{parts_kept, form_tree}
 use Rattle.plan_meaning.proofs.NumberedRules.{no_name, shape_there}
 use Rattle.plan_meaning.proofs.Words.{behind}
@@ -29,12 +29,10 @@ use Rattle.base_lemmas.proofs.Bools.{left_of as first_true, right_of as second_t
 use Rattle.base_lemmas.proofs.Elements.{all_by_number, zip-kept as zip-weaker}
 use Rattle.base_lemmas.proofs.Lists.{within_there as slice_there}
 use Rattle.std.proofs.lemmas.Option.{same_Some as same-some, slice_get_past as slice_past}
+use Rattle.comp_meaning.proofs.RulesLemmas.{distinct_same}
+use Rattle.wit_model.proofs.RulesLemmas.{each_by_number}
 
 -- ---- lists
-
-pub distinct_same : (ts : List Text) → are_distinct ts ≡ distinct ts
-distinct_same [] = refl
-distinct_same (t ∷ ts) = ap (λ b. not (list_any (text_eq t) ts) && b) (distinct_same ts)
 
 pub member_labels : (ts : List Text) → are_labels ts ≡ true → are_member_labels ts ≡ true
 member_labels ts h = ap (λ b. list_all is_label ts && b) (distinct_same ts) ∙ h

@@ -1,5 +1,5 @@
 -- Shapes of kinds, and which kinds have names.
-use Rattle.std.proofs.Common.{◌≡◌, refl, sym, ap, ◌∙◌, ℕ, ◌+◌, ◌≤◌, true, false, ◌&&◌, ◌||◌, not, List, [], ◌∷◌, map, Option, Some, None, option_map, is_some, String, arith}
+use Rattle.std.proofs.Common.{◌≡◌, refl, sym, ap, ◌∙◌, ℕ, ◌+◌, ◌≤◌, true, false, ◌&&◌, ◌||◌, not, [], Option, Some, None, option_map, is_some, String, arith}
 use Rattle.std.specs.declared.alloc.Global.{Global}
 use Rattle.std.specs.Option.{option_map_or}
 use Rattle.std.proofs.lemmas.Option.{slice_get_past, slice_get-map as get_of_map}
@@ -14,7 +14,7 @@ use Rattle.wit_model.specs.Text.{optional_text, text_of}
 use Rattle.wit_model.specs.Lookup.{type_at}
 use Rattle.wit_model.specs.Uses.{alias_target}
 use Rattle.wit_model.specs.Rules as rules
-use Rattle.wit_model.specs.Rules.{has_items, passes}
+use Rattle.wit_model.specs.Rules.{passes}
 use Rattle.wit_model.specs.Valid.{Keeps, shapes, named_kinds}
 use Rattle.wit_model.proofs.Entries.{types_keep}
 use Rattle.comp_meaning.specs.Follow.{is_key_primitive}
@@ -27,10 +27,7 @@ use Rattle.plan_meaning.proofs.Lists.{each_from_built, no_true}
 use Rattle.plan_meaning.proofs.Words.{plan_of, alias_is}
 use Rattle.base_lemmas.proofs.Bools.{left_of as first_true, right_of as second_true}
 use Rattle.std.proofs.lemmas.Bool.{and_from as both}
-
-pub items_of_map : {A B : Type 0} (g : A → B) (xs : List A) → has_items (map g xs) ≡ has_items xs
-items_of_map g [] = refl
-items_of_map g (x ∷ xs) = refl
+use Rattle.wit_model.proofs.RulesLemmas.{items_of_map}
 
 key_is : (t : ValueType) → is_key_part (part_of t) ≡ rules.is_map_key t
 key_is ty.Bool = refl

@@ -49,3 +49,4 @@ mod WholeBuilt
 mod OneWorldPlan
 mod WholeRead
 mod WholeGathered
+pub mod ShapesLemmas

@@ -23,7 +23,7 @@ use Rattle.plan_meaning.specs.ReadFunctions.{Beside}
 use Rattle.plan_meaning.specs.ReadInterfaces.{IsNumberOf, IsKeptAs, HasName}
 use Rattle.plan_meaning.specs.ReadWorlds.{ReadItem, is_type_seen, IsReadItem, by_path, by_label, implementing_path, a_function, a_type}
 use Rattle.plan_meaning.specs.ReadOrder.{IsShownThere, in_interface, in_world, OrderIsRead}
-use Rattle.plan_meaning.proofs.Lists.{each_by_number, no_true}
+use Rattle.plan_meaning.proofs.Lists.{no_true}
 use Rattle.plan_meaning.proofs.ReadInterfaces.{has_labels}
 use Rattle.plan_meaning.proofs.ReadLists.{never, number_there}
 use Rattle.plan_meaning.proofs.ReadWorlds.{import_keys_differ}
@@ -31,6 +31,7 @@ use Rattle.base_lemmas.proofs.Bools.{first_false as none_first, left_of as first
 use Rattle.base_lemmas.proofs.Elements.{all_at, contains-later, contains-map}
 use Rattle.base_lemmas.proofs.Numbers.{same-number}
 use Rattle.std.proofs.lemmas.Option.{same_Some as same-some}
+use Rattle.wit_model.proofs.RulesLemmas.{each_by_number}
 
 -- ---- lists
 

@@ -12,10 +12,10 @@ use Rattle.wit_model.proofs.Elements.{none-in}
 use Rattle.wit_model.proofs.Functions.{all_flat}
 use Rattle.plan_meaning.specs.Plan.{Plan, PlannedType, kind_numbers, met_at, met_in, used_by_numbers}
 use Rattle.plan_meaning.proofs.KeptOwners.{met_there}
-use Rattle.plan_meaning.proofs.Lists.{each_at}
 use Rattle.base_lemmas.proofs.Elements.{all-contained, all_weaker, contains-later}
 use Rattle.base_lemmas.proofs.Lists.{slice_take, within_there as slice_there}
 use Rattle.std.proofs.lemmas.Bool.{and_from as both, ltb-true as less_than}
+use Rattle.wit_model.proofs.RulesLemmas.{each_at}
 
 pub flat_among : {A B : Type 0} (f : A → List B) (xs : List A) (y : B) → Contains (flat_map f xs) y → (x : A) × Contains xs x × Contains (f x) y
 flat_among f [] y c = none-in y c

@@ -22,7 +22,7 @@ use Rattle.plan_meaning.specs.PlanRules as planned
 use Rattle.plan_meaning.specs.PlanRules.{HoldsNoMore, IsPackagePlan, IsWorldPlan}
 use Rattle.plan_meaning.specs.Built.{IsBuilt, planned_kind, planned_type, planned_function, planned_interface, planned_world, planned_package}
 use Rattle.plan_meaning.specs.NothingElse.{is_part_of, TypesAreUsed, PackagesAreUsed, HoldsPackageAlone, HoldsWorldAlone}
-use Rattle.plan_meaning.proofs.Lists.{any_get, each_of_map, each_at}
+use Rattle.plan_meaning.proofs.Lists.{any_get, each_of_map}
 use Rattle.plan_meaning.proofs.Words.{plan_of, kind_numbers_are, function_numbers_are}
 use Rattle.plan_meaning.proofs.KindRules.{has_text}
 use Rattle.plan_meaning.proofs.FunctionRules.{functions_are, world_functions_are}
@@ -33,10 +33,8 @@ use Rattle.base_lemmas.proofs.Bools.{left_of as first_true, right_of as second_t
 use Rattle.base_lemmas.proofs.Elements.{any_of_map}
 use Rattle.base_lemmas.proofs.Lists.{get_back}
 use Rattle.std.proofs.lemmas.Option.{slice_get-map as get_of_map}
-
-lacks_text : (o : Option (String Global)) → is_none (optional_text o) ≡ is_none o
-lacks_text None = refl
-lacks_text (Some s) = refl
+use Rattle.plan_meaning.proofs.FunctionNames.{unnamed as lacks_text}
+use Rattle.wit_model.proofs.RulesLemmas.{each_at, items_of_map as some_items}
 
 module _ (r : Resolve) (m : ℕ) where
   -- ---- types and packages
@@ -76,10 +74,6 @@ module _ (r : Resolve) (m : ℕ) where
       (λ i. sym (has_text def.name) i || (sym (part_is k) i && sym (lacks_text def.external_id) i))
       ∙ each_at (λ n x. is_some (planned_type x).name || (planned.is_part (plan_of r m) n && is_none (planned_type x).external_id)) r.types.items k def
       (sym (each_of_map (λ n t. is_some t.name || (planned.is_part (plan_of r m) n && is_none t.external_id)) planned_type 0 r.types.items) ∙ more.types) e
-
-  some_items : {A B : Type 0} (g : A → B) (xs : List A) → has_items (map g xs) ≡ has_items xs
-  some_items g [] = refl
-  some_items g (x ∷ xs) = refl
 
   pub packages_used : HoldsNoMore (plan_of r m) → PackagesAreUsed r m
   packages_used more k q e =

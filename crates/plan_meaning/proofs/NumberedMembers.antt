@@ -7,7 +7,7 @@ use Rattle.wit_model.specs.Text.{Text, text_eq}
 use Rattle.wit_model.specs.Names.{PackageIdentity, path_in, read_path}
 use Rattle.wit_model.specs.Tree.{Place}
 use Rattle.wit_model.proofs.NameLaws.{read_path_is_spelled}
-use Rattle.wit_model.proofs.VersionLaws.{same_text, text_same}
+use Rattle.wit_model.proofs.VersionLaws.{same_text}
 use Rattle.comp_meaning.specs.Follow.{View, each, is_filled, provided, place_of}
 use Rattle.comp_bytes.specs.Reading.{◌>>=◌}
 use Rattle.comp_meaning.specs.Same.{same_identity}
@@ -25,6 +25,7 @@ use Rattle.plan_meaning.proofs.NumberedWorlds.{path_is, path_number, sights_in_n
 use Rattle.base_lemmas.proofs.Bools.{both_ways as either_way, left_of as first_true, right_of as second_true}
 use Rattle.base_lemmas.proofs.Lists.{append_of_map, map_of_map}
 use Rattle.std.proofs.lemmas.Option.{same_Some as same-some}
+use Rattle.wit_model.proofs.TextLemmas.{text_same}
 
 pub only_sights : (t : Tables) (known : ℕ → Fact) (seen : List NumberedSight) → AllByRecursion (IsKnownSight t known) seen → AllByRecursion (IsSight t) seen
 only_sights t known [] all = tt

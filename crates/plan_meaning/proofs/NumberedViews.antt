@@ -7,7 +7,7 @@ use Rattle.std.proofs.lemmas.Bool.{eqb-true, eq-eqb}
 use Rattle.wit_model.specs.Text.{Text, text_eq}
 use Rattle.wit_model.specs.Tree.{Place, Tree}
 use Rattle.wit_model.specs.Meaning.{Signature}
-use Rattle.wit_model.proofs.VersionLaws.{same_text, text_same}
+use Rattle.wit_model.proofs.VersionLaws.{same_text}
 use Rattle.comp_meaning.specs.Follow.{place_of}
 use Rattle.comp_meaning.specs.Same.{same_option, same_tree, same_declaration, same_signature, stand_in}
 use Rattle.comp_meaning.specs.Same as same
@@ -20,6 +20,7 @@ use Rattle.plan_meaning.specs.NumberedViews.{FunctionShape, Tables, path_at, pat
 use Rattle.plan_meaning.proofs.ShapeLaws.{one_number_apart}
 use Rattle.base_lemmas.proofs.Bools.{both_ways as either_way}
 use Rattle.base_lemmas.proofs.Lists.{append_of_map, length_of_map, within_there as slice_there}
+use Rattle.wit_model.proofs.TextLemmas.{text_same}
 
 path_is : (o p : Option Text) (x y : Text) → o ≡ Some x → p ≡ Some y → place_of o ≡ place_of p → o ≡ p
 path_is o p x y eo ep h =

@@ -8,7 +8,7 @@ use Rattle.wit_model.specs.Text.{Text, text_eq}
 use Rattle.wit_model.specs.Names.{is_label}
 use Rattle.wit_model.specs.Tree.{Place, Tree, Declaration}
 use Rattle.wit_model.specs.Uses.{has}
-use Rattle.wit_model.proofs.VersionLaws.{same_text, text_same}
+use Rattle.wit_model.proofs.VersionLaws.{same_text}
 use Rattle.comp_meaning.specs.Follow.{View, Seen, interface_of, place_of}
 use Rattle.comp_meaning.specs.Rules as rules
 use Rattle.comp_meaning.specs.Rules.{distinct}
@@ -22,6 +22,7 @@ use Rattle.plan_meaning.proofs.NumberedRules.{no_shape, shape_there, no_name, de
 use Rattle.base_lemmas.proofs.Bools.{both_ways as either_way}
 use Rattle.base_lemmas.proofs.Elements.{all_both as all_in_both}
 use Rattle.base_lemmas.proofs.Lists.{append_of_map, map_of_map}
+use Rattle.wit_model.proofs.TextLemmas.{text_same}
 
 pub path_is : (t : Tables) (p : ℕ) (h : HasPath t p) → path_text t p ≡ h.0
 path_is t p h = ap (λ o. unwrap_or o []) h.1

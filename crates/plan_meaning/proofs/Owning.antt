@@ -26,12 +26,13 @@ use Rattle.plan_meaning.specs.Plan.{type_in}
 use Rattle.plan_meaning.specs.PlanRules as planned
 use Rattle.plan_meaning.specs.PlanRules.{IsPlan}
 use Rattle.plan_meaning.specs.Built.{planned_type, planned_function, planned_interface}
-use Rattle.plan_meaning.proofs.Lists.{or_of_map, same_or, each_two, each_from_built, each_of_map, each_at, each_by_number}
+use Rattle.plan_meaning.proofs.Lists.{or_of_map, same_or, each_two, each_from_built, each_of_map}
 use Rattle.plan_meaning.proofs.Words.{plan_of, alias_is, value_numbers_are, has_owner_is, used_are, used_by_kind_is, interfaces_used_are}
 use Rattle.plan_meaning.proofs.KindRules.{has_text}
 use Rattle.plan_meaning.proofs.FunctionRules.{interfaces_pass, worlds_pass}
 use Rattle.std.proofs.lemmas.Bool.{and_from as both}
 use Rattle.std.proofs.lemmas.Option.{slice_get-map as get_of_map}
+use Rattle.wit_model.proofs.RulesLemmas.{each_at, each_by_number}
 
 module _ (r : Resolve) (m : ℕ) where
   has_name_is : (n : ℕ) → planned.has_name (plan_of r m) n ≡ option_map_or (λ other. is_some other.name) (interface_at r n) false

@@ -16,7 +16,7 @@ use Rattle.wit_model.specs.Lookup.{package_at, interface_at, interface_path, pat
 use Rattle.wit_model.specs.Uses.{has, reached_by_package, is_shown_in}
 use Rattle.wit_model.specs.Meaning.{InterfaceMeaning, WorldMeaning, PackageMeaning}
 use Rattle.wit_model.specs.Meant as meant
-use Rattle.wit_model.specs.Meant.{Meant, interface_meaning_at, types_alone, is_foreign, foreign_of, foreign_meaning, no_interface}
+use Rattle.wit_model.specs.Meant.{Meant, interface_meaning_at, types_alone, is_foreign, foreign_of, foreign_meaning}
 use Rattle.wit_model.specs.Rules.{is_id, package_number}
 use Rattle.wit_model.specs.Valid.{IsValid}
 use Rattle.wit_model.proofs.Elements.{contains-filter_map, has-contains, contains-has}
@@ -28,7 +28,8 @@ use Rattle.plan_meaning.specs.PlanRules.{IsPackagePlan}
 use Rattle.plan_meaning.specs.PlanMeaning as planned
 use Rattle.plan_meaning.specs.PlanMeaning.{plan_meaning, foreign_entry}
 use Rattle.plan_meaning.specs.Built.{IsBuilt, planned_function, planned_interface, planned_world, planned_package}
-use Rattle.plan_meaning.proofs.Lists.{any_get, has_filter, filter_has, no_true}
+use Rattle.plan_meaning.proofs.Lists.{any_get, no_true}
+use Rattle.wit_model.proofs.UsesLemmas.{has_filter, filter_has}
 use Rattle.plan_meaning.proofs.Words.{plan_of, path_of_planned_is}
 use Rattle.plan_meaning.proofs.Meanings.{planned_function_entry, meant_function_entry, interface_is, interface_at_is, world_at_is, functions_are}
 use Rattle.plan_meaning.proofs.Reaching.{shown_in, all_reached}
@@ -39,14 +40,12 @@ use Rattle.base_lemmas.proofs.Lists.{get_back, map_of_map, nothing-mapped as non
 use Rattle.base_lemmas.proofs.Options.{there as some-of}
 use Rattle.std.proofs.lemmas.Bool.{and_from as both}
 use Rattle.std.proofs.lemmas.Option.{same_Some as same-some, slice_get-map as get_of_map}
+use Rattle.wit_model.proofs.MeantLemmas.{meaning_there}
 
 -- ---- the path of an interface that stands there
 
 pub path_there : (r : Resolve) (n : ℕ) (i : Interface) → interface_at r n ≡ Some i → interface_path r n ≡ path_of_interface r i
 path_there r n i e = ap (option_and_then (path_of_interface r)) e
-
-pub meaning_there : (r : Resolve) (n : ℕ) (i : Interface) → interface_at r n ≡ Some i → interface_meaning_at r n ≡ meant.interface_meaning r i
-meaning_there r n i e = ap (λ o. option_map_or (meant.interface_meaning r) o no_interface) e
 
 pub some_path : {A : Type 0} (o : Option Text) (f : Text → A) (x : A) → option_map f o ≡ Some x → (path : Text) × (o ≡ Some path) × (f path ≡ x)
 some_path None f x e = absurd (let wrong : ⊥ = cc in wrong)

@@ -14,8 +14,8 @@ use Rattle.plan_meaning.specs.ReadFunctions.{Beside, IsReadFunction, FunctionsAr
 use Rattle.plan_meaning.proofs.KeptFunctions.{kept_functions_pass}
 use Rattle.plan_meaning.proofs.KeptOwners.{kept_owners_stand}
 use Rattle.plan_meaning.proofs.KeptResources.{kept_resources_stand}
-use Rattle.plan_meaning.proofs.Lists.{each_by_number}
 use Rattle.std.proofs.lemmas.Bool.{and_from as both}
+use Rattle.wit_model.proofs.RulesLemmas.{each_by_number}
 
 all_of : {X : Type 0} (P : X → Type 0) (test : X → Bool) → ((x : X) → P x → test x ≡ true) → (xs : List X) → AllByRecursion P xs → list_all test xs ≡ true
 all_of P test passes [] all = refl

@@ -22,14 +22,15 @@ use Rattle.plan_meaning.specs.KeptTypes.{IsKeptType, unnamed, declared, TypesAre
 use Rattle.plan_meaning.specs.KeptOwners.{AreOwned}
 use Rattle.plan_meaning.specs.ReadFunctions.{Beside}
 use Rattle.plan_meaning.specs.ReadInterfaces.{IsNumberOf, IsKeptAs, HasName, IsNamed, IsReadInterface, ReadInterfacesPass}
-use Rattle.plan_meaning.proofs.KeptFunctions.{owner_itself}
-use Rattle.plan_meaning.proofs.KeptTypes.{distinct_same}
-use Rattle.plan_meaning.proofs.Lists.{each_by_number, no_true}
+use Rattle.plan_meaning.proofs.Lists.{no_true}
 use Rattle.plan_meaning.proofs.NumberedRules.{no_name}
 use Rattle.base_lemmas.proofs.Bools.{left_of as first_true, right_of as second_true}
 use Rattle.base_lemmas.proofs.Elements.{all_by_number}
 use Rattle.base_lemmas.proofs.Lists.{map_of_map, within_there as slice_there}
 use Rattle.std.proofs.lemmas.Option.{same_Some as same-some}
+use Rattle.comp_meaning.proofs.RulesLemmas.{distinct_same}
+use Rattle.wit_model.proofs.PartsLemmas.{owner_itself}
+use Rattle.wit_model.proofs.RulesLemmas.{each_by_number}
 
 -- ---- names
 

@@ -33,9 +33,10 @@ use Rattle.plan_meaning.specs.KeptFunctions.{FunctionPasses}
 use Rattle.plan_meaning.specs.ReadFunctions.{Beside}
 use Rattle.plan_meaning.specs.ReadWorlds.{ReadItem, is_type_seen, types_follow, IsInterfaceOf, IsReadUnder, IsTypeUnder, IsReadItem, by_path, by_label, implementing_path, a_function, a_type}
 use Rattle.plan_meaning.specs.ReadOrder.{IsViewedInterface, OrderIsRead, ReadOrderPasses}
-use Rattle.plan_meaning.proofs.KeptFunctions.{owner_itself, kept_functions_pass}
+use Rattle.plan_meaning.proofs.KeptFunctions.{kept_functions_pass}
 use Rattle.plan_meaning.proofs.KeptTypes.{kept_types_pass}
-use Rattle.plan_meaning.proofs.Lists.{each_at, each_by_number, filter_has, no_true}
+use Rattle.plan_meaning.proofs.Lists.{no_true}
+use Rattle.wit_model.proofs.UsesLemmas.{filter_has}
 use Rattle.plan_meaning.proofs.ListedTypes.{listed, types_are_listed}
 use Rattle.plan_meaning.proofs.MetTypes.{used_among}
 use Rattle.plan_meaning.proofs.ReadLists.{never, or_nothing}
@@ -46,6 +47,8 @@ use Rattle.plan_meaning.proofs.Words.{behind}
 use Rattle.base_lemmas.proofs.Bools.{left_of as first_true, right_of as second_true}
 use Rattle.base_lemmas.proofs.Elements.{all-contained, all_at, all_both, all_pass as all_among, all_weaker, contains-later, filter_map_from, get-contains, last_of as one-contained, zip_at_right as zip_at}
 use Rattle.base_lemmas.proofs.Lists.{append_of_map, get_back, within_there as slice_there}
+use Rattle.wit_model.proofs.PartsLemmas.{owner_itself}
+use Rattle.wit_model.proofs.RulesLemmas.{each_at, each_by_number}
 
 -- ---- places
 

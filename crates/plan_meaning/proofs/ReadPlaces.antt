@@ -25,15 +25,17 @@ use Rattle.plan_meaning.specs.NumberedViews.{Tables, path_at, AreTables}
 use Rattle.plan_meaning.specs.NumberedWorlds.{HasPath, are_once}
 use Rattle.plan_meaning.specs.NumberedMembers.{Homes, HomesStand, home_at}
 use Rattle.plan_meaning.specs.ReadPlaces.{inline_shown, IsPlacedInterface, under_path, inline, IsListedInterface, IsListedWorld, PlacesAreRead, PlaceTests, ReadPlacesPass}
-use Rattle.plan_meaning.proofs.KeptFunctions.{owner_itself}
-use Rattle.plan_meaning.proofs.KeptTypes.{distinct_same}
 use Rattle.plan_meaning.proofs.Listed.{in_range}
-use Rattle.plan_meaning.proofs.Lists.{each_by_number, has_filter, no_true}
+use Rattle.plan_meaning.proofs.Lists.{no_true}
+use Rattle.wit_model.proofs.UsesLemmas.{has_filter}
 use Rattle.plan_meaning.proofs.ReadLists.{distinct_both, never, number_there, times, times_absent, times_both, times_filter, times_of, times_once}
 use Rattle.base_lemmas.proofs.Bools.{left_of as first_true, right_of as second_true}
 use Rattle.base_lemmas.proofs.Elements.{all_by_number, get-contains}
 use Rattle.base_lemmas.proofs.Numbers.{same-number}
 use Rattle.std.proofs.lemmas.Option.{same_Some as same-some}
+use Rattle.comp_meaning.proofs.RulesLemmas.{distinct_same}
+use Rattle.wit_model.proofs.PartsLemmas.{owner_itself}
+use Rattle.wit_model.proofs.RulesLemmas.{each_by_number}
 
 pub one_interface : (m n : ℕ) → as_interface m ≡ as_interface n → m ≡ n
 one_interface m n e = same-some m n (ap owner_interface e)

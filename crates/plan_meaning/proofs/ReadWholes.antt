@@ -25,8 +25,8 @@ use Rattle.plan_meaning.specs.ReadPlaces.{IsPlacedInterface, under_path, inline}
 use Rattle.plan_meaning.specs.ReadWorlds.{ReadItem, IsReadItem, by_path, by_label, implementing_path, a_function, a_type}
 use Rattle.plan_meaning.specs.ReadPlans.{IsReadPlan}
 use Rattle.plan_meaning.specs.ReadWholes.{IsPartOfFunction, a_parameter, a_result, IsPartOfKept, of_type, of_interface, of_world, HasHomes, IsKeptForReasons, place_shown, IsShownByWorld, IsViewOf, IsSeenFor, in_world, in_member, ForeignIsRead, IsReadWorldPlan, ReadPackagePlanStands, ReadWorldPlanStands}
-use Rattle.plan_meaning.proofs.KeptFunctions.{owner_itself}
-use Rattle.plan_meaning.proofs.Lists.{each_by_number, has_filter, no_true}
+use Rattle.plan_meaning.proofs.Lists.{no_true}
+use Rattle.wit_model.proofs.UsesLemmas.{has_filter}
 use Rattle.plan_meaning.proofs.MetTypes.{flat_among}
 use Rattle.plan_meaning.proofs.ReadLists.{never}
 use Rattle.plan_meaning.proofs.ReadOrder.{same_uses}
@@ -39,6 +39,8 @@ use Rattle.base_lemmas.proofs.Elements.{all_at, all_both, all_by_number, any-at 
 use Rattle.base_lemmas.proofs.Lists.{append_of_map}
 use Rattle.base_lemmas.proofs.Numbers.{same-number}
 use Rattle.std.proofs.lemmas.Option.{same_Some as same-some}
+use Rattle.wit_model.proofs.PartsLemmas.{owner_itself}
+use Rattle.wit_model.proofs.RulesLemmas.{each_by_number}
 
 module _ (t : Tables) (tables : AreTables t) (h : Homes) (homes : HomesStand t h) (kept : List ℕ) (p : Plan) (b : Beside) (views : ℕ → NumberedView) (read : IsReadPlan t h kept p b views) where
   one_place : (a c n : ℕ) → b.owners a ≡ as_interface n → b.owners c ≡ as_interface n → a ≡ c

@@ -27,9 +27,9 @@ use Rattle.plan_meaning.specs.KeptFunctions.{IsKindOf, of_none, a_constructor, a
 use Rattle.plan_meaning.specs.KeptOwners.{AreOwned, of_interface}
 use Rattle.plan_meaning.specs.ReadFunctions.{Beside}
 use Rattle.plan_meaning.specs.ReadWorlds.{ReadItem, is_type_seen, types_follow, IsInterfaceOf, IsReadUnder, IsTypeUnder, IsReadItem, by_path, by_label, implementing_path, a_function, a_type, IsReadWorld, ReadWorldsPass}
-use Rattle.plan_meaning.proofs.KeptFunctions.{owner_itself, kept_functions_pass}
+use Rattle.plan_meaning.proofs.KeptFunctions.{kept_functions_pass}
 use Rattle.plan_meaning.proofs.Listed.{in_range}
-use Rattle.plan_meaning.proofs.Lists.{each_by_number, no_true}
+use Rattle.plan_meaning.proofs.Lists.{no_true}
 use Rattle.plan_meaning.proofs.NumberedRules.{no_name}
 use Rattle.plan_meaning.proofs.ReadInterfaces.{bears_name}
 use Rattle.plan_meaning.proofs.ReadLists.{never, or_nothing}
@@ -37,6 +37,8 @@ use Rattle.base_lemmas.proofs.Bools.{first_false as none_first, left_of as first
 use Rattle.base_lemmas.proofs.Elements.{all_by_number}
 use Rattle.base_lemmas.proofs.Numbers.{same-number}
 use Rattle.std.proofs.lemmas.Option.{same_Some as same-some}
+use Rattle.wit_model.proofs.PartsLemmas.{owner_itself}
+use Rattle.wit_model.proofs.RulesLemmas.{each_by_number}
 
 -- ---- a function whose name is a label
 

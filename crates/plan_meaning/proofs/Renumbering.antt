@@ -9,13 +9,13 @@ use Rattle.wit_model.proofs.Tables.{grow_at}
 use Rattle.plan_meaning.specs.Shapes.{Shape, primitives, part_tree, shape_tree, shape_trees, IsTable}
 use Rattle.plan_meaning.specs.Plan.{Plan, PlannedType, PlannedKind, part_number, kind_numbers, declared_as, tree_of_planned, place_in, trees_in}
 use Rattle.plan_meaning.specs.Renumbering.{IsPart, a_primitive, a_shape, IsTypeOf, of_form, of_name, AreKept, TreesAreKept}
-use Rattle.plan_meaning.proofs.Lists.{each_at}
 use Rattle.plan_meaning.proofs.ShapeLaws.{node_tree, name_tree, part_behind, part_front, tree_at_number}
 use Rattle.plan_meaning.proofs.Words.{behind}
 use Rattle.base_lemmas.proofs.Bools.{left_of as first_true, right_of as second_true}
 use Rattle.base_lemmas.proofs.Lists.{slice_take, within_there as slice_there}
 use Rattle.std.proofs.lemmas.Bool.{ltb-true as less_than}
 use Rattle.std.proofs.lemmas.Option.{same_Some as same-some}
+use Rattle.wit_model.proofs.RulesLemmas.{each_at}
 
 -- what comes first, and what follows
 head_passes : (p : ℕ → Bool) (n : ℕ) (o : Option ℕ) (ns : List ℕ) → o ≡ Some n → list_all p (cons_option o ns) ≡ true → p n ≡ true

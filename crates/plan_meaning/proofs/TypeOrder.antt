@@ -46,6 +46,7 @@ use Rattle.base_lemmas.proofs.Elements.{all_get}
 use Rattle.base_lemmas.proofs.Lists.{filter_of_map, map_of_map}
 use Rattle.base_lemmas.proofs.Maps.{lookup_of_map}
 use Rattle.std.proofs.lemmas.Option.{slice_get-map as get_of_map}
+use Rattle.wit_model.proofs.TextLemmas.{named_too}
 
 -- ---- the lists of types
 
@@ -62,10 +63,6 @@ item_types_are xs = filter_of_map plan.item_type planned_item xs ∙ ap (λ h. f
 
 pub world_types_are : (w : World) → plan.world_types (planned_world w) ≡ world_type_numbers w
 world_types_are w = ap (filter_map plan.item_type) (values_are w.imports.entries) ∙ item_types_are (values w.imports)
-
-named_too : (o : Option (String Global)) (t : Text) → text_is o t ≡ true → is_some o ≡ true
-named_too None t h = no_true h
-named_too (Some s) t h = refl
 
 -- a number that stands under a name stands in the list
 pub under_has : (name : Text) (n : ℕ) (es : List (Text × ℕ)) → is_id n (number_under name es) ≡ true → has (numbers_of es) n ≡ true

@@ -13,7 +13,7 @@ use Rattle.comp_meaning.proofs.Computing.{computes}
 use Rattle.plan_meaning.specs.Shapes.{Shape, form_of, named_shape, part_tree, shape_tree, shape_trees}
 use Rattle.plan_meaning.specs.Plan as plan
 use Rattle.plan_meaning.specs.Plan.{PlannedKey, PlannedItem, PlannedType, PlannedInterface, PlannedWorld, PlannedPackage, interface_in, world_in}
-use Rattle.plan_meaning.specs.PlanRules.{functions_of, is_foreign, world_functions, IsPackagePlan}
+use Rattle.plan_meaning.specs.PlanRules.{functions_of, is_foreign, world_functions}
 use Rattle.plan_meaning.specs.Renumbering.{a_primitive, a_shape}
 use Rattle.plan_meaning.specs.NumberedViews.{place_at, NumberedView, NumberedType, NumberedFunction, NumberedSight, value, resource}
 use Rattle.plan_meaning.specs.NumberedRules.{Fact, nowhere, in_place}
@@ -30,10 +30,9 @@ use Rattle.plan_meaning.specs.ReadWholes.{a_parameter, a_result, IsPartOfKept, o
 use Rattle.plan_meaning.specs.ReadWholes as wholes
 use Rattle.plan_meaning.specs.NumberedMembers.{home_at, is_of_package}
 use Rattle.plan_meaning.proofs.ReadPlaces.{one_interface}
-use Rattle.plan_meaning.proofs.ReadWholes.{read_package_plan_stands}
 use Rattle.plan_meaning.proofs.Lists.{no_true}
 use Rattle.plan_meaning.proofs.WholePlan.{plain, planned_interfaces, planned_types, planned_world, taking, unnamed_type, whole_plan}
-use Rattle.plan_meaning.proofs.WholeRead.{by_number, tables, are_tables, shapes, kept, marks, are_marked, owners, are_owned, homes, homes_stand, types_are_kept, place_is, no_named, nothing_there, seen_outside, seen_name, signature}
+use Rattle.plan_meaning.proofs.WholeRead.{by_number, tables, shapes, kept, marks, are_marked, owners, are_owned, homes, types_are_kept, place_is, no_named, nothing_there, seen_outside, seen_name, signature}
 use Rattle.base_lemmas.proofs.Elements.{all_at, last_of as one-contained}
 use Rattle.std.proofs.lemmas.Option.{same_Some as same-some}
 
@@ -728,5 +727,3 @@ is_read_package = record {
 }
 
 -- so it is the plan of a package
-pub read_is_package_plan : IsPackagePlan whole_plan
-read_is_package_plan = read_package_plan_stands tables are_tables homes homes_stand kept whole_plan beside views is_read_package

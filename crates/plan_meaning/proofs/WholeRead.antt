@@ -29,7 +29,7 @@ use Rattle.plan_meaning.specs.GatheredPlan.{Becomes, DeclaresKind, a_resource, a
 use Rattle.plan_meaning.specs.KeptTypes.{IsKeptType, unnamed, declared, TypesAreKept}
 use Rattle.plan_meaning.specs.KeptResources.{MarkedBy, AreMarked}
 use Rattle.plan_meaning.specs.KeptOwners.{IsNamedInterface, AreOwned}
-use Rattle.plan_meaning.proofs.Lists.{each_at, no_true}
+use Rattle.plan_meaning.proofs.Lists.{no_true}
 use Rattle.plan_meaning.proofs.NumberedRules.{no_name}
 use Rattle.plan_meaning.proofs.ReadLists.{never}
 use Rattle.plan_meaning.proofs.ShapeLaws.{form_back}
@@ -38,6 +38,7 @@ use Rattle.plan_meaning.proofs.Words.{behind}
 use Rattle.base_lemmas.proofs.Bools.{left_of as first_true, right_of as second_true}
 use Rattle.base_lemmas.proofs.Elements.{all_get}
 use Rattle.std.proofs.lemmas.Option.{same_Some as same-some}
+use Rattle.wit_model.proofs.RulesLemmas.{each_at}
 
 -- ---- by number
 

@@ -27,16 +27,18 @@ use Rattle.plan_meaning.specs.PlanRules.{IsWorldPlan}
 use Rattle.plan_meaning.specs.PlanMeaning as planned
 use Rattle.plan_meaning.specs.PlanMeaning.{plan_world_meaning, shown_entry}
 use Rattle.plan_meaning.specs.Built.{IsBuilt, planned_interface, planned_world, planned_package}
-use Rattle.plan_meaning.proofs.Lists.{has_filter, filter_has, no_true}
+use Rattle.plan_meaning.proofs.Lists.{no_true}
+use Rattle.wit_model.proofs.UsesLemmas.{has_filter, filter_has}
 use Rattle.plan_meaning.proofs.Words.{plan_of, path_of_planned_is}
 use Rattle.plan_meaning.proofs.Meanings.{interface_is, world_is}
 use Rattle.plan_meaning.proofs.Reaching.{shows_is}
-use Rattle.plan_meaning.proofs.PackageMeans.{under, path_there, meaning_there, some_path, named}
+use Rattle.plan_meaning.proofs.PackageMeans.{under, path_there, some_path, named}
 use Rattle.plan_meaning.proofs.Valid.{plan_is, built_is_valid}
 use Rattle.base_lemmas.proofs.Elements.{contains-map, contains-one, filter_map_from, get-contains, map_from}
 use Rattle.base_lemmas.proofs.Lists.{get_back}
 use Rattle.base_lemmas.proofs.Options.{there as some-of}
 use Rattle.std.proofs.lemmas.Option.{same_Some as same-some, slice_get-map as get_of_map}
+use Rattle.wit_model.proofs.MeantLemmas.{meaning_there}
 
 module _ (r : Resolve) (m : ℕ) where
   -- an entry of the plan, and what it is

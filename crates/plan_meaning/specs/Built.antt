@@ -127,16 +127,20 @@ planned_package p = record {
 
 -- ---- without documentation and stability
 
+-- whether there is no documentation
 abbrev pub is_undocumented : Docs → Bool
 is_undocumented docs = is_none docs.contents
 
+-- whether no stability is known
 abbrev pub is_unknown : Stability → Bool
 is_unknown stability.Unknown = true
 is_unknown _ = false
 
+-- whether there is no documentation, and no stability is known
 abbrev pub is_bare : Docs → Stability → Bool
 is_bare docs stability_ = is_undocumented docs && is_unknown stability_
 
+-- whether no field, case or flag has documentation
 abbrev pub is_bare_kind : TypeDefKind → Bool
 is_bare_kind (kind.Record record_) = list_all (λ f. is_undocumented f.docs) record_.fields.items
 is_bare_kind (kind.Flags flags) = list_all (λ f. is_undocumented f.docs) flags.flags.items
@@ -144,20 +148,25 @@ is_bare_kind (kind.Variant variant) = list_all (λ c. is_undocumented c.docs) va
 is_bare_kind (kind.Enum enum) = list_all (λ c. is_undocumented c.docs) enum.cases.items
 is_bare_kind _ = true
 
+-- whether a type has no documentation, and no stability is known
 abbrev pub is_bare_type : TypeDef → Bool
 is_bare_type def = is_bare def.docs def.stability && is_bare_kind def.kind
 
+-- whether a function has no documentation, and no stability is known
 abbrev pub is_bare_function : Function → Bool
 is_bare_function f = is_bare f.docs f.stability
 
+-- whether an interface and its functions have no documentation, and no stability is known
 abbrev pub is_bare_interface : Interface → Bool
 is_bare_interface i = is_bare i.docs i.stability && list_all is_bare_function (values i.functions)
 
+-- whether an item has no documentation, and no stability is known
 abbrev pub is_bare_item : WorldItem → Bool
 is_bare_item (item.Interface id stability_ docs external_id) = is_bare docs stability_
 is_bare_item (item.Function f) = is_bare_function f
 is_bare_item (item.Type_ id) = true
 
+-- whether a world and its items have no documentation, and no stability is known
 abbrev pub is_bare_world : World → Bool
 is_bare_world w = is_bare w.docs w.stability && (list_all is_bare_item (values w.imports) && list_all is_bare_item (values w.exports))
 

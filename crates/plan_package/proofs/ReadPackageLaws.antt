@@ -42,7 +42,7 @@ number_there p (q ∷ ps) h = by (p == q) refl (number_there p ps) h
         let one : suc (prefix_len (λ q. not (p == q)) ps) ≡ 1 + prefix_len (λ q. not (p == q)) ps = omega arith in
         subst (λ (m : ℕ). slice_get (q ∷ ps) m ≡ Some p) one (later (omega (arith, h)))
 
-number_at : (places : List ℕ) (p n : ℕ) → number_in places p ≡ Some n → slice_get places n ≡ Some p
+pub number_at : (places : List ℕ) (p n : ℕ) → number_in places p ≡ Some n → slice_get places n ≡ Some p
 number_at places p n is = by (nat_lt (prefix_len (λ q. not (p == q)) places) (length places)) refl is
   where
     by : (b : Bool) → nat_lt (prefix_len (λ q. not (p == q)) places) (length places) ≡ b → cond b (Some (prefix_len (λ q. not (p == q)) places)) None ≡ Some n → slice_get places n ≡ Some p

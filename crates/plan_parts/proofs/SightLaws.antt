@@ -1,7 +1,6 @@
 -- Views that are each compared with the first of their place.
 use Rattle.std.proofs.Common.{◌≡◌, refl, sym, ap, subst, ◌∙◌, ℕ, zero, suc, ◌+◌, ◌<◌, arith, Bool, true, false, not, ◌&&◌, ◌||◌, ◌==◌, cond, List, [], ◌∷◌, ◌++◌, map, take, length, get_or, Option, Some, None, Result, Ok, Err, IfOk, eq-eqb, append_assoc, ◌≤◌}
 use Rattle.std.proofs.lemmas.List.{map-append, take_more}
-use Rattle.std.proofs.lemmas.Slice.Eq.{bytes_eq-Decides}
 use Rattle.std.specs.Cmp.Lexicographic.{pointwise}
 use Rattle.std.specs.List.{AllByRecursion, find, list_all, list_any}
 use Rattle.std.specs.Option.{option_map_or}
@@ -13,6 +12,7 @@ use Rattle.read_rules.specs.Sights.{numbered_sight}
 use Rattle.plan_parts.specs.declared.views.Sighted.{Sighted}
 use Rattle.plan_parts.specs.Views.{in_numbers, sighted}
 use Rattle.std.proofs.lemmas.Bool.{and_from as both}
+use Rattle.wit_model.proofs.TextLemmas.{text_alike as text_self}
 
 pub each_at : {A : Type 0} (P : A → Type 0) (xs : List A) (i : ℕ) (d : A) → i < length xs → AllByRecursion P xs → P (get_or xs i d)
 each_at P [] i d h all = absurd (omega (arith, h))
@@ -30,9 +30,6 @@ sighted_more xs i d old new y within added is before =
     ∙ (ap (map in_numbers) (sym (map-append numbered_sight (take i xs) (x ∷ []))) ∙ ap (λ l. map in_numbers (map numbered_sight l)) (sym (take_more xs i d within)))))))
 
 -- ---- what is the same as itself
-
-pub text_self : (t : Text) → text_eq t t ≡ true
-text_self t = (bytes_eq-Decides t t).1 refl
 
 id_self : (o : Option Text) → same_id o o ≡ true
 id_self None = refl

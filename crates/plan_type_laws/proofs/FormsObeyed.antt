@@ -39,7 +39,7 @@ use Rattle.read_exports.specs.declared.members.Part.{Part}
 use Rattle.read_exports.specs.declared.members.Part.TheVariants as parts
 use Rattle.read_exports.specs.Members.{numbered_member, numbered_members, numbered_part}
 use Rattle.plan_types.specs.Showings.{NumberedShowing, showing_of, showings_of_import, showings_of_members, showings_of_part, showings_of_seen, showings_of_shown, showings_of_view, signatures_of_members, signatures_of_part, signatures_of_seen, signatures_of_shown, signatures_of_view}
-use Rattle.plan_type_laws.proofs.InnerForms.{child_list_back, form_range, inner_stands, signature_parts_hold, view_part}
+use Rattle.plan_type_laws.proofs.InnerForms.{form_range, inner_stands, signature_parts_hold, view_part}
 use Rattle.plan_type_laws.proofs.Walks.{all_any, all_flat, at_each}
 use Rattle.plan_type_laws.specs.FormsObeyed.{FormsAreObeyed, LengthsFit}
 use Rattle.plan_type_laws.specs.MembersStand.{MembersStand, all_instances}
@@ -49,6 +49,7 @@ use Rattle.base_lemmas.proofs.Elements.{all_both, contains-one, get-contains}
 use Rattle.base_lemmas.proofs.Lists.{map_of_map, within_there as slice_there}
 use Rattle.std.proofs.ByRecursion.{All-map as all_mapped, All-weaker as recursion_weaker}
 use Rattle.std.proofs.lemmas.Option.{slice_get-map as get_of_map}
+use Rattle.wit_model.proofs.TreeLemmas.{child_list_of_children as child_list_back}
 
 module _ (t : Tables) (tables : AreTables t) (fit : LengthsFit t) where
   -- ---- forms

@@ -3,7 +3,7 @@ use Rattle.std.proofs.Common.{◌≡◌, refl, sym, ap, subst, ◌∙◌, ℕ, z
 use Rattle.std.proofs.lemmas.Option.{slice_get_within, same_Some as same-some}
 use Rattle.std.specs.List.{AllByRecursion, Contains}
 use Rattle.wit_model.specs.Text.{Text}
-use Rattle.wit_model.specs.Tree.{Form, Place, Tree, Trees, child_list, children}
+use Rattle.wit_model.specs.Tree.{Form, Place, Tree, Trees, children}
 use Rattle.wit_model.specs.Types.{no_tree}
 use Rattle.wit_model.proofs.Elements.{none-in}
 use Rattle.plan_meaning.proofs.ShapeLaws.{PartView, is_name, is_node, is_primitive, node_tree, part_behind, tree_at_number, viewed}
@@ -14,10 +14,6 @@ use Rattle.plan_meaning.specs.NumberedViews as numbered
 use Rattle.plan_meaning.specs.Shapes.{Shape, named_shape, node_shape, shape_trees}
 use Rattle.read_shown.specs.Trees.{HandleStands, PartsStand, SignatureStands, TreeStands, is_handle}
 use Rattle.plan_type_laws.specs.ShownForms.{HasNumberIn, itself, inside}
-
-pub child_list_back : (ts : List Tree) → child_list (children ts) ≡ ts
-child_list_back [] = refl
-child_list_back (t ∷ ts) = ap (λ us. t ∷ us) (child_list_back ts)
 
 -- an item of a list is the first, or stands behind it
 among : {A : Type 0} {R : Type 0} (x y : A) (xs : List A) → Contains (x ∷ xs) y → (x ≡ y → R) → (Contains xs y → R) → R

@@ -24,6 +24,7 @@ call_of (call.Doc line) = OutputCall.Doc (string_bytes line)
 call_of call.Semicolon = OutputCall.Semicolon
 call_of (call.Str text) = OutputCall.Str (string_bytes text)
 
+-- what a list of calls of the code shows
 abbrev pub calls_of : List Call → List OutputCall
 calls_of calls = map call_of calls
 

@@ -29,12 +29,10 @@ use Rattle.print_grammar.proofs.PathReads.{EndsVersion, colon_id_call, version_r
 use Rattle.print_grammar.proofs.DeclaredReads.{start_call, members_repeat}
 use Rattle.print_grammar.proofs.MemberReads.{empty_line, members_read, world_members_read}
 use Rattle.base_lemmas.proofs.Bools.{left_of, right_of}
+use Rattle.print_grammar.proofs.Printing.{three_lists as four_lists}
 
 five_lists : (a b c d e : List OutputCall) → (((a ++ b) ++ c) ++ d) ++ e ≡ a ++ (b ++ (c ++ (d ++ e)))
 five_lists a b c d e = simp append_assoc
-
-four_lists : (a b c d : List OutputCall) → ((a ++ b) ++ c) ++ d ≡ a ++ (b ++ (c ++ d))
-four_lists a b c d = simp append_assoc
 
 line_after : (is_main : Bool) {more : List OutputCall} {ts : List Token} → Follows true more ts → Follows true (line_after_calls is_main ++ more) ts
 line_after true f = empty_line f

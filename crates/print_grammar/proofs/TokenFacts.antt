@@ -111,7 +111,7 @@ letter_no_blank c h = grind (arith, nat_tests)
 letter_no_slash : (c : ℕ) → is_ascii_alphabetic c ≡ true → (c == 47) ≡ false
 letter_no_slash c h = grind (arith, nat_tests)
 
-no_comment : (c : ℕ) (cs : List ℕ) → (c == 47) ≡ false → begins_comment (c ∷ cs) ≡ false
+pub no_comment : (c : ℕ) (cs : List ℕ) → (c == 47) ≡ false → begins_comment (c ∷ cs) ≡ false
 no_comment c cs h = rw h refl
 
 word_ends : (c : ℕ) (cs rest : List ℕ) → is_ascii_alphabetic c ≡ true → ends_word rest ≡ true → EndsToken (c ∷ cs) rest

@@ -19,11 +19,12 @@ use Rattle.semver.specs.Parse.{Parts, version_parts}
 use Rattle.semver.specs.declared.error.Error.{Error}
 use Rattle.semver.proofs.Grammar.{version_parts-sound}
 use Rattle.wit_model.specs.Names.{cut, is_version_text}
-use Rattle.print_grammar.specs.Token.{Token, Tokens, spelled, is_blank, begins_comment, is_numeral, are_three_numerals, is_version_core, is_given, is_version_number, is_semantic_version, number_token}
+use Rattle.print_grammar.specs.Token.{Token, Tokens, spelled, is_blank, is_numeral, are_three_numerals, is_version_core, is_given, is_version_number, is_semantic_version, number_token}
 use Rattle.print_grammar.proofs.ByteTests.{all_but_one, parts_pass}
 use Rattle.print_grammar.proofs.TokenFacts.{NoToken, EndsToken, ends_by, ends_by_two, token_at}
 use Rattle.base_lemmas.proofs.Bools.{left_of, right_of}
 use Rattle.base_lemmas.proofs.Elements.{all_weaker as weaker_all}
+use Rattle.print_grammar.proofs.TokenFacts.{no_comment}
 
 -- ---- what stands before and after a byte
 
@@ -375,9 +376,6 @@ number_ends c cs (d ∷ e ∷ es) digit ends = elim (cases_Bool (is_version_byte
       (ends_by_two (c ∷ cs) 46 e es (dot_ends c cs digit) (other_ends c (cs ++ 46 ∷ []) e digit (not_true _ (right_of (d == 46) _ right))))
   | inr other ↦ ends_by (c ∷ cs) d (e ∷ es) (other_ends c cs d digit other)
 ]
-
-no_comment : (c : ℕ) (cs : List ℕ) → (c == 47) ≡ false → begins_comment (c ∷ cs) ≡ false
-no_comment c cs h = rw h refl
 
 -- a text that begins with a digit
 abbrev begins_with_digit : List ℕ → Bool

@@ -1,4 +1,4 @@
--- The calls that printing makes of an output: those of a tree, with its documentation.
+-- The calls that printing makes of an output: those of a tree of WIT text, with its documentation (WIT.md, "Package declaration" to "Item: type").
 use Rattle.std.specs.Prelude.{Bool, true, false, List, [], ◌∷◌, ◌++◌, ◌==◌, ◌||◌, ◌&&◌, nat_le, not, ℕ, Option, None, Some, codes, map, if◌then◌else◌}
 use Rattle.std.specs.List.{flat_map}
 use Rattle.std.specs.Fmt.{decimal, digits}
@@ -28,7 +28,7 @@ name_calls label of_kind = Ty (escaped label) of_kind ∷ []
 abbrev pub space : OutputCall
 space = Str (codes " ")
 
--- runs of calls, with a separator between
+-- runs of calls, with a separator between them
 abbrev pub separated : OutputCall → List (List OutputCall) → List OutputCall
 separated separator [] = []
 separated separator (run ∷ runs) = run ++ flat_map (λ next. separator ∷ next) runs
@@ -43,10 +43,12 @@ abbrev pub version_attribute_calls : Text → Text → List OutputCall
 version_attribute_calls word version =
     Keyword word ∷ Str (codes "(") ∷ Keyword (codes "version") ∷ Str (codes " = ") ∷ Ty version kind.VersionAnnotation ∷ Str (codes ")") ∷ Newline ∷ []
 
+-- a deprecation's attribute, if there is one
 abbrev pub deprecated_calls : Option Text → List OutputCall
 deprecated_calls None = []
 deprecated_calls (Some version) = version_attribute_calls (codes "@deprecated") version
 
+-- feature gates, each an attribute on its line
 abbrev pub gates_calls : Gates → List OutputCall
 gates_calls Ungated = []
 gates_calls (Since version deprecated) = version_attribute_calls (codes "@since") version ++ deprecated_calls deprecated
@@ -59,7 +61,7 @@ abbrev pub is_plain : ℕ → Bool
 is_plain c =
     (nat_le 97 c && nat_le c 122) || (nat_le 65 c && nat_le c 90) || (nat_le 48 c && nat_le c 57) || (c == 45) || (c == 95) || (c == 46) || (c == 47) || (c == 58) || (c == 32)
 
--- a character in a string
+-- how a character is written in a string
 abbrev pub escaped_character : ℕ → Text
 escaped_character c =
     if is_plain c then c ∷ []
@@ -70,9 +72,11 @@ escaped_character c =
     else (if c == 9 then codes "\\t"
     else (codes "\\u{" ++ digits 16 false c) ++ codes "}")))))
 
+-- a character of a string
 abbrev pub character_call : ℕ → OutputCall
 character_call c = PushStr (escaped_character c)
 
+-- an external id's attribute, if there is one
 abbrev pub external_id_calls : Option (List ℕ) → List OutputCall
 external_id_calls None = []
 external_id_calls (Some characters) =
@@ -83,6 +87,7 @@ abbrev pub handle_calls : Text → Text → List OutputCall
 handle_calls word resource = Ty word kind.BuiltIn ∷ GenericArgsStart ∷ Ty (escaped resource) kind.Resource ∷ GenericArgsEnd ∷ []
 
 abbrev mutual
+  -- a type where it is used
   pub type_calls : TypeTree → List OutputCall
   type_calls (PrimitiveType p) = Ty (primitive_text p) kind.BuiltIn ∷ []
   type_calls (Name name) = name_calls name kind.Other
@@ -106,12 +111,12 @@ abbrev mutual
   type_calls Stream = PushStr (codes "stream") ∷ []
   type_calls (StreamOf ty) = PushStr (codes "stream<") ∷ (type_calls ty ++ (PushStr (codes ">") ∷ []))
 
-  -- with commas between
+  -- the types of a tuple, with commas between
   pub types_calls : TypeTrees → List OutputCall
   types_calls NoTypes = []
   types_calls (AndTypes ty types) = type_calls ty ++ more_types_calls types
 
-  -- each after a comma
+  -- further types of a tuple, each after a comma
   pub more_types_calls : TypeTrees → List OutputCall
   more_types_calls NoTypes = []
   more_types_calls (AndTypes ty types) = Str (codes ", ") ∷ (type_calls ty ++ more_types_calls types)
@@ -149,9 +154,11 @@ alias_body_calls Stream = Ty (codes "stream") kind.BuiltIn ∷ []
 alias_body_calls (StreamOf ty) = Ty (codes "stream") kind.BuiltIn ∷ Str (codes "<") ∷ (type_calls ty ++ (Str (codes ">") ∷ []))
 alias_body_calls ty = type_calls ty
 
+-- a parameter: its name, a colon and its type
 abbrev pub param_calls : ParamTree → List OutputCall
 param_calls param = Param (escaped param.name) ∷ Str (codes ": ") ∷ type_calls param.ty
 
+-- an arrow and a function's result, if it has one
 abbrev pub result_calls : Option TypeTree → List OutputCall
 result_calls None = []
 result_calls (Some ty) = Str (codes " -> ") ∷ type_calls ty
@@ -161,13 +168,16 @@ abbrev pub params_calls : List ParamTree → Option TypeTree → List OutputCall
 params_calls params result =
     Str (codes "(") ∷ ((separated (Str (codes ", ")) (map param_calls params) ++ (Str (codes ")") ∷ [])) ++ result_calls result)
 
+-- the word `async`, where a function is asynchronous
 abbrev pub async_calls : Bool → List OutputCall
 async_calls true = Keyword (codes "async") ∷ space ∷ []
 async_calls false = []
 
+-- a function's type
 abbrev pub signature_calls : SignatureTree → List OutputCall
 signature_calls signature = async_calls signature.is_async ++ (Keyword (codes "func") ∷ params_calls signature.params signature.result)
 
+-- a case's payload in parentheses, if it has one
 abbrev pub payload_calls : Option TypeTree → List OutputCall
 payload_calls None = []
 payload_calls (Some ty) = Str (codes "(") ∷ (type_calls ty ++ (Str (codes ")") ∷ []))
@@ -176,16 +186,19 @@ payload_calls (Some ty) = Str (codes "(") ∷ (type_calls ty ++ (Str (codes ")")
 abbrev pub block_calls : Text → Text → TypeKind → List OutputCall → List OutputCall
 block_calls word name of_kind body = Keyword word ∷ space ∷ Ty (escaped name) of_kind ∷ IndentStart ∷ (body ++ (IndentEnd ∷ []))
 
+-- a path: a name alone, or with its package and version
 abbrev pub path_calls : PathTree → List OutputCall
 path_calls (Local interface) = name_calls interface kind.InterfacePath
 path_calls (Full namespace name interface version) =
     Ty (escaped namespace) kind.NamespacePath ∷ Str (codes ":") ∷ Ty (escaped name) kind.PackageNamePath ∷ Str (codes "/") ∷ Ty (escaped interface) kind.InterfacePath
     ∷ version_calls version kind.VersionPath
 
+-- a name that is used, and what it is called here, after `as`
 abbrev pub own_name_calls : Text → Option Text → List OutputCall
 own_name_calls other None = name_calls other kind.TypeImport
 own_name_calls other (Some own) = Ty (escaped other) kind.TypeImport ∷ space ∷ Keyword (codes "as") ∷ space ∷ Ty (escaped own) kind.TypeAlias ∷ []
 
+-- a name of a `use`
 abbrev pub used_name_calls : UsedName → List OutputCall
 used_name_calls used = own_name_calls used.other used.own
 
@@ -204,15 +217,18 @@ abbrev pub line_after_calls : Bool → List OutputCall
 line_after_calls true = Newline ∷ []
 line_after_calls false = []
 
+-- a package's name and version
 abbrev pub package_name_calls : Text → Text → Option Text → List OutputCall
 package_name_calls namespace name version =
     Keyword (codes "package") ∷ space ∷ Ty (escaped namespace) kind.NamespaceDeclaration ∷ Str (codes ":") ∷ Ty (escaped name) kind.PackageNameDeclaration
     ∷ version_calls version kind.VersionDeclaration
 
+-- what follows a package's name: `;` in the main package, else an open brace
 abbrev pub package_start_calls : Bool → List OutputCall
 package_start_calls true = Semicolon ∷ Newline ∷ []
 package_start_calls false = IndentStart ∷ []
 
+-- what ends a package: nothing for the main package, else a closed brace
 abbrev pub package_end_calls : Bool → List OutputCall
 package_end_calls true = []
 package_end_calls false = IndentEnd ∷ []
@@ -223,19 +239,24 @@ module _ (emits_docs : Bool) where
   abbrev pub doc_calls : List Text → List OutputCall
   doc_calls docs = if emits_docs then map Doc docs else []
 
+  -- what stands in front of an item: documentation, gates and an external id
   abbrev pub prefix_calls : Prefix → List OutputCall
   prefix_calls prefix = doc_calls prefix.docs ++ gates_calls prefix.gates ++ external_id_calls prefix.external_id
 
+  -- a field of a record, on its line
   abbrev pub field_calls : FieldTree → List OutputCall
   field_calls field =
       doc_calls field.docs ++ (Param (escaped field.name) ∷ Str (codes ": ") ∷ (type_calls field.ty ++ (Str (codes ",") ∷ Newline ∷ [])))
 
+  -- a case of a variant, on its line
   abbrev pub case_calls : CaseTree → List OutputCall
   case_calls c = doc_calls c.docs ++ (Case (escaped c.name) ∷ (payload_calls c.payload ++ (Str (codes ",") ∷ Newline ∷ [])))
 
+  -- a flag or a case of an enum, on its line
   abbrev pub label_calls : LabelTree → List OutputCall
   label_calls label = doc_calls label.docs ++ (Case (escaped label.name) ∷ Str (codes ",") ∷ Newline ∷ [])
 
+  -- a function of a resource
   abbrev pub resource_member_calls : ResourceMember → List OutputCall
   resource_member_calls (Constructor prefix params result) =
       prefix_calls prefix ++ (Keyword (codes "constructor") ∷ (params_calls params result ++ (Semicolon ∷ [])))
@@ -249,6 +270,7 @@ module _ (emits_docs : Bool) where
   resource_body_calls [] = Semicolon ∷ []
   resource_body_calls (member ∷ members) = IndentStart ∷ (flat_map resource_member_calls (member ∷ members) ++ (IndentEnd ∷ []))
 
+  -- a declared type
   abbrev pub declared_calls : Declared → List OutputCall
   declared_calls (RecordOf name fields) = block_calls (codes "record") name kind.Record (flat_map field_calls fields)
   declared_calls (VariantOf name cases) = block_calls (codes "variant") name kind.Variant (flat_map case_calls cases)
@@ -258,6 +280,7 @@ module _ (emits_docs : Bool) where
       Keyword (codes "type") ∷ space ∷ Ty (escaped name) (alias_kind ty) ∷ Str (codes " = ") ∷ (alias_body_calls ty ++ (Semicolon ∷ []))
   declared_calls (ResourceOf name members) = Ty (codes "resource") kind.BuiltIn ∷ space ∷ Ty (escaped name) kind.Resource ∷ resource_body_calls members
 
+  -- a `use` of another interface's types
   abbrev pub use_calls : Prefix → PathTree → List UsedName → List OutputCall
   use_calls prefix path names =
       prefix_calls prefix
@@ -265,6 +288,7 @@ module _ (emits_docs : Bool) where
       ++ (Str (codes ".{") ∷ (separated (Str (codes ", ")) (map used_name_calls names)
       ++ (Str (codes "}") ∷ Semicolon ∷ [])))))
 
+  -- a function under its name
   abbrev pub function_calls : Prefix → Text → TypeKind → SignatureTree → List OutputCall
   function_calls prefix name of_kind signature = prefix_calls prefix ++ (Ty (escaped name) of_kind ∷ Str (codes ": ") ∷ (signature_calls signature ++ (Semicolon ∷ [])))
 
@@ -277,6 +301,7 @@ module _ (emits_docs : Bool) where
   members_calls printed (FunctionMember prefix name signature ∷ members) =
       item_calls printed (function_calls prefix name kind.FunctionFreestanding signature) ++ members_calls true members
 
+  -- what a world imports or exports, after the word `import` or `export`
   abbrev pub extern_calls : ExternTree → List OutputCall
   extern_calls (Path path) = path_calls path ++ (Semicolon ∷ [])
   extern_calls (NamedFunction name signature) = Ty (escaped name) kind.Other ∷ Str (codes ": ") ∷ (signature_calls signature ++ (Semicolon ∷ []))
@@ -284,6 +309,7 @@ module _ (emits_docs : Bool) where
   extern_calls (NamedInterface name members) =
       Ty (escaped name) kind.Other ∷ Str (codes ": ") ∷ Keyword (codes "interface") ∷ IndentStart ∷ (members_calls false members ++ (IndentEnd ∷ []))
 
+  -- an import or an export of a world
   abbrev pub world_extern_calls : Prefix → Text → ExternTree → List OutputCall
   world_extern_calls prefix word extern_ = prefix_calls prefix ++ (Keyword word ∷ space ∷ extern_calls extern_)
 
@@ -303,6 +329,7 @@ module _ (emits_docs : Bool) where
   abbrev pub interface_outer_calls : List Text → Gates → Text → List OutputCall
   interface_outer_calls docs gates name = doc_calls docs ++ gates_calls gates ++ (Keyword (codes "interface") ∷ space ∷ Ty (escaped name) kind.InterfaceDeclaration ∷ [])
 
+  -- an interface or a world of a package
   abbrev pub package_item_calls : Bool → ItemTree → List OutputCall
   package_item_calls is_main (InterfaceItem docs gates name members) =
       interface_outer_calls docs gates name ++ (IndentStart ∷ (members_calls false members ++ (IndentEnd ∷ line_after_calls is_main)))
@@ -313,6 +340,7 @@ module _ (emits_docs : Bool) where
   abbrev pub package_outer_calls : PackageHead → List OutputCall
   package_outer_calls head = doc_calls head.docs ++ package_name_calls head.namespace head.name head.version
 
+  -- a package: its documentation, its name and its items
   abbrev pub package_calls : Bool → PackageTree → List OutputCall
   package_calls is_main tree = package_outer_calls tree.head ++ package_start_calls is_main ++ flat_map (package_item_calls is_main) tree.items ++ package_end_calls is_main
 
@@ -326,5 +354,6 @@ module _ (emits_docs : Bool) where
   nested_calls [] = []
   nested_calls (tree ∷ trees) = package_calls false tree ++ more_nested_calls trees
 
+  -- a file: the main package, and then the nested ones
   abbrev pub file_calls : FileTree → List OutputCall
   file_calls file = package_calls true file.main ++ nested_calls file.nested

@@ -6,6 +6,7 @@ use Rattle.wit_model.specs.Text.{Text, text_eq}
 pub data Primitive : Type 0 where
   Bool_ U8 U16 U32 U64 S8 S16 S32 S64 F32 F64 Char String ErrorContext : Primitive
 
+-- how a primitive type is written
 abbrev pub primitive_text : Primitive → Text
 primitive_text Bool_ = codes "bool"
 primitive_text U8 = codes "u8"
@@ -50,6 +51,7 @@ entry_of (entry ∷ entries) text = if text_eq entry.0 text then Some entry.1 el
 abbrev pub keyword_of : Text → Option Keyword
 keyword_of text = entry_of keyword_texts text
 
+-- whether a text is a keyword
 abbrev pub is_keyword : Text → Bool
 is_keyword text = is_some (keyword_of text)
 

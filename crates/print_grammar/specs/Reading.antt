@@ -1,4 +1,4 @@
--- What a text says: its tokens, and the tree that they are.
+-- What a text of WIT says: its tokens, and the tree that they are (WIT.md, "Lexical structure" and "Top-level items").
 use Rattle.std.specs.Prelude.{◌≡◌, List, ℕ}
 use Rattle.print_grammar.specs.Token.{Token, Tokens}
 use Rattle.print_grammar.specs.Tree.{FileTree}

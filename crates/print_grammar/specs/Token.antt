@@ -12,9 +12,11 @@ use Rattle.print_grammar.specs.Keyword.{Keyword, keyword_of}
 use Rattle.print_grammar.specs.Keyword.Keyword.{Underscore}
 use Rattle.print_grammar.specs.Calls.{is_plain}
 
+-- The punctuation of WIT text.
 pub data Mark : Type 0 where
   OpenBrace CloseBrace OpenParen CloseParen Less Greater Colon Semi Comma Dot Equals Slash At Arrow : Mark
 
+-- A token of WIT text.
 pub data Token : Type 0 where
   -- a label that is no keyword
   Word : List ℕ → Token
@@ -29,23 +31,24 @@ pub data Token : Type 0 where
 
 -- ---- versions
 
--- digits, with no zero in front of others
+-- whether a text is digits, with no zero in front of others
 abbrev pub is_numeral : List ℕ → Bool
 is_numeral text = nat_lt 0 (length text) && (is_numeric text && not (has_leading_zero text))
 
--- the version core: three numerals
+-- whether these are a version core: three numerals
 abbrev pub are_three_numerals : List (List ℕ) → Bool
 are_three_numerals (major ∷ minor ∷ patch ∷ []) = is_numeral major && (is_numeral minor && is_numeral patch)
 are_three_numerals texts = false
 
+-- whether a text is a version core: three numerals with dots between
 abbrev pub is_version_core : List ℕ → Bool
 is_version_core text = are_three_numerals (parts text)
 
--- not empty, and passing a test
+-- whether a text isn't empty, and passes a test
 abbrev pub is_given : (List ℕ → Bool) → List ℕ → Bool
 is_given test text = nat_lt 0 (length text) && test text
 
--- a version core, and a pre-release after the first `-` where there is one
+-- whether a text is a version core, and a pre-release after its first `-` if it has one
 abbrev pub is_version_number : List ℕ → Bool
 is_version_number text = option_map_or (λ p. is_version_core p.0 && is_given is_pre_release p.1) (cut 45 text) (is_version_core text)
 
@@ -61,11 +64,13 @@ pub data StringState : Type 0 where
   Between AfterBackslash AfterU AfterBrace : StringState
   InCode : ℕ → StringState
 
+-- What a character of a string leads to: a refusal, the end, another place, or a character that is read.
 pub data StringStep : Type 0 where
   Refused Closed : StringStep
   Goes : StringState → StringStep
   Reads : ℕ → StringStep
 
+-- what the character after `\` leads to
 abbrev pub escape_step : ℕ → StringStep
 escape_step c =
     if c == 92 then Reads 92
@@ -75,19 +80,20 @@ escape_step c =
     else (if c == 116 then Reads 9
     else (if c == 117 then Goes AfterU else Refused)))))
 
--- a lower-case hexadecimal digit
+-- the value of a lower-case hexadecimal digit
 abbrev pub hexadecimal : ℕ → Option ℕ
 hexadecimal c = if is_ascii_digit c then Some (c - 48) else (if nat_le 97 c && nat_le c 102 then Some (c - 87) else None)
 
+-- a code's digits so far, and one more; the code is read as a number
 abbrev pub code_step : ℕ → Option ℕ → StringStep
 code_step front (Some d) = Goes (InCode (16 * front + d))
 code_step front None = Refused
 
--- the character of a code, if it is one of a character
+-- the character of a code, if it is a code of one
 abbrev pub end_step : ℕ → StringStep
 end_step front = if scalar front then Reads front else Refused
 
--- A code has one digit at least.
+-- What a character leads to, where a string is read. A code has one digit at least.
 abbrev pub string_step : StringState → ℕ → StringStep
 string_step Between c = if c == 34 then Closed else (if c == 92 then Goes AfterBackslash else (if is_plain c then Reads c else Refused))
 string_step AfterBackslash c = escape_step c
@@ -95,12 +101,12 @@ string_step AfterU c = if c == 123 then Goes AfterBrace else Refused
 string_step AfterBrace c = code_step 0 (hexadecimal c)
 string_step (InCode front) c = if c == 125 then end_step front else code_step front (hexadecimal c)
 
--- nothing more
+-- no more characters, if the text ends here
 abbrev pub only_at_end : List ℕ → Option (List ℕ)
 only_at_end [] = Some []
 only_at_end (c ∷ cs) = None
 
--- the characters up to the closing quotation mark, which is the end
+-- the characters up to the closing quotation mark, with which the text ends
 abbrev pub string_characters : StringState → List ℕ → Option (List ℕ)
 string_characters state [] = None
 string_characters state (c ∷ cs) =
@@ -202,10 +208,12 @@ pub data Front : Type 0 where
   -- nothing that may stand there
   Unknown : Front
 
+-- what stands at the front of a text, by the longest token that begins there
 abbrev pub found : Option Taken → Front
 found None = Unknown
 found (Some taken) = Found taken.token taken.rest
 
+-- what stands at the front of a text: its end, a blank, a comment, a token, or nothing that may
 abbrev pub front_of_text : List ℕ → Front
 front_of_text [] = Ended
 front_of_text (c ∷ cs) =

@@ -47,15 +47,18 @@ pub record Prefix : Type 0 where
   pub gates : Gates
   pub external_id : Option (List ℕ)
 
+-- A parameter of a function.
 pub record ParamTree : Type 0 where
   pub name : Text
   pub ty : TypeTree
 
+-- A field of a record.
 pub record FieldTree : Type 0 where
   pub docs : List Text
   pub name : Text
   pub ty : TypeTree
 
+-- A case of a variant, with its payload where it has one.
 pub record CaseTree : Type 0 where
   pub docs : List Text
   pub name : Text
@@ -66,6 +69,7 @@ pub record LabelTree : Type 0 where
   pub docs : List Text
   pub name : Text
 
+-- A function's type.
 pub record SignatureTree : Type 0 where
   pub is_async : Bool
   pub params : List ParamTree
@@ -116,6 +120,7 @@ pub data WorldMember : Type 0 where
   WorldImport : Prefix → ExternTree → WorldMember
   WorldExport : Prefix → ExternTree → WorldMember
 
+-- What a package has: interfaces and worlds, each with documentation, gates and a name.
 pub data ItemTree : Type 0 where
   InterfaceItem : List Text → Gates → Text → List MemberTree → ItemTree
   WorldItem : List Text → Gates → Text → List WorldMember → ItemTree

@@ -1,5 +1,5 @@
 -- How calls in turn move a view: one call and then the others, some calls and then some more.
-use Rattle.std.proofs.Common.{◌≡◌, List, [], ◌∷◌, ◌++◌, refl, sym, inl, inr, ◌∙◌, ap, subst, Result, Ok, Err, OnOk, append-nil, append_assoc}
+use Rattle.std.proofs.Common.{◌≡◌, List, [], ◌∷◌, ◌++◌, refl, sym, inl, inr, ◌∙◌, ap, subst, append-nil, append_assoc}
 use Rattle.std.specs.List.{flat_map}
 use Rattle.print_output.specs.OutputCall.{OutputCall, View, after, after_all, body_calls, line_begun_after, Counts, Moves, Begins}
 use Rattle.print_output.specs.OutputCall.Moves.{nothing_moved, then_moved}
@@ -49,9 +49,6 @@ module _ {Kept : Type 0} (keeps : View Kept → OutputCall → Kept) where
 -- a fact of an error, whichever result it is
 
 -- a fact of a value, whichever result it is
-pub at_ok : {T E P : Type 0} (r : Result T E) → P → OnOk r P
-at_ok (Ok v) p = p
-at_ok (Err e) p = tt
 
 module _ {Kept : Type 0} {keeps : View Kept → OutputCall → Kept} where
   -- one call, as a list

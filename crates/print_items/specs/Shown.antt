@@ -1,4 +1,4 @@
--- What is shown of packages: their trees, with documentation.
+-- What is shown of packages: their trees as WIT text has them, with documentation (WIT.md, "Package declaration" to "Item: type").
 use Rattle.std.specs.Prelude.{Bool, true, false, List, [], ◌∷◌, ◌++◌, ◌==◌, ◌&&◌, ℕ, Option, None, Some, map, drop, option_map, option_and_then, unwrap_or, slice_get, is_some, if◌then◌else◌, filter, String}
 use Rattle.std.specs.List.{filter_map}
 use Rattle.std.specs.Option.{option_map_or, option_eq}
@@ -60,7 +60,7 @@ use Rattle.print_grammar.specs.Tree.ItemTree.{InterfaceItem, WorldItem}
 
 -- ---- texts
 
--- a name that is there
+-- the text of a name that is there
 abbrev pub present_name : Option (String Global) → Text
 present_name name = option_map_or text_of name []
 
@@ -68,6 +68,7 @@ present_name name = option_map_or text_of name []
 abbrev pub shown_docs : Docs → List Text
 shown_docs docs = option_map_or (λ contents. lines (text_of contents)) docs.contents []
 
+-- the feature gates of an item, by its stability
 abbrev pub shown_gates : Stability → Gates
 shown_gates stability.Unknown = Ungated
 shown_gates (stability.Stable since deprecated) = Since (version_text since) (optional_version_text deprecated)
@@ -77,12 +78,13 @@ shown_gates (stability.Unstable feature deprecated) = Unstable (text_of feature)
 abbrev pub shown_external_id : Option (String Global) → Option (List ℕ)
 shown_external_id external_id = option_map (λ s. chars (text_of s)) external_id
 
+-- what stands in front of an item: its documentation, its gates and its external id
 abbrev pub shown_prefix : Docs → Stability → Option (String Global) → Prefix
 shown_prefix docs gates external_id = record { docs = shown_docs docs; gates = shown_gates gates; external_id = shown_external_id external_id }
 
 -- ---- types
 
--- the name of a type number
+-- the name of the type of this number
 abbrev pub type_name : Resolve → TypeId → Text
 type_name resolve id = option_map_or (λ def. present_name def.name) (type_at resolve id.0) []
 
@@ -104,18 +106,22 @@ used_type trees value.String = PrimitiveType Primitive.String
 used_type trees value.ErrorContext = PrimitiveType Primitive.ErrorContext
 used_type trees (value.Id id) = unwrap_or (slice_get trees id.0) (Name [])
 
+-- types where they are used, as those of a tuple
 abbrev pub used_types : List TypeTree → List ValueType → TypeTrees
 used_types trees [] = NoTypes
 used_types trees (ty ∷ types) = AndTypes (used_type trees ty) (used_types trees types)
 
+-- a future, with its element where it has one
 abbrev pub future_tree : Option TypeTree → TypeTree
 future_tree None = Future
 future_tree (Some ty) = FutureOf ty
 
+-- a stream, with its element where it has one
 abbrev pub stream_tree : Option TypeTree → TypeTree
 stream_tree None = Stream
 stream_tree (Some ty) = StreamOf ty
 
+-- a result, with its ok and its err where it has them
 abbrev pub result_tree : Option TypeTree → Option TypeTree → TypeTree
 result_tree None None = Result
 result_tree (Some ok) None = ResultOk ok
@@ -151,6 +157,7 @@ trees_from resolve trees (def ∷ defs) = trees_from resolve (trees ++ def_tree 
 abbrev pub type_trees : Resolve → List TypeTree
 type_trees resolve = trees_from resolve [] resolve.types.items
 
+-- a type where it is used
 abbrev pub shown_type : Resolve → ValueType → TypeTree
 shown_type resolve ty = used_type (type_trees resolve) ty
 
@@ -162,6 +169,7 @@ shown_map resolve key value = MapOf (shown_type resolve key) (shown_type resolve
 abbrev pub shown_payload : Resolve → Option ValueType → Option TypeTree
 shown_payload resolve payload = option_map (shown_type resolve) payload
 
+-- a field of a record
 abbrev pub shown_field : Resolve → Field → FieldTree
 shown_field resolve field = record { docs = shown_docs field.docs; name = text_of field.name; ty = shown_type resolve field.ty }
 
@@ -169,17 +177,21 @@ shown_field resolve field = record { docs = shown_docs field.docs; name = text_o
 abbrev pub shown_fields : Resolve → Record → List FieldTree
 shown_fields resolve r = map (shown_field resolve) r.fields.items
 
+-- a case of a variant
 abbrev pub shown_case : Resolve → Case → CaseTree
 shown_case resolve c = record { docs = shown_docs c.docs; name = text_of c.name; payload = option_map (shown_type resolve) c.ty }
 
+-- a flag
 abbrev pub shown_flag : Flag → LabelTree
 shown_flag flag = record { docs = shown_docs flag.docs; name = text_of flag.name }
 
+-- a case of an enum
 abbrev pub shown_enum_case : EnumCase → LabelTree
 shown_enum_case c = record { docs = shown_docs c.docs; name = text_of c.name }
 
 -- ---- functions
 
+-- whether a function is a method
 abbrev pub is_method : FunctionKind → Bool
 is_method (function.Method id) = true
 is_method (function.AsyncMethod id) = true
@@ -189,6 +201,7 @@ is_method kind = false
 abbrev pub belongs_to : TypeId → Function → Bool
 belongs_to resource f = option_map_or (λ number. number == resource.0) (resource_of f.kind) false
 
+-- a parameter of a function
 abbrev pub shown_param : Resolve → Param → ParamTree
 shown_param resolve param = record { name = text_of param.name; ty = shown_type resolve param.ty }
 
@@ -196,6 +209,7 @@ shown_param resolve param = record { name = text_of param.name; ty = shown_type 
 abbrev pub shown_params : Resolve → Function → List ParamTree
 shown_params resolve f = map (shown_param resolve) (if is_method f.kind then drop 1 f.params.items else f.params.items)
 
+-- a function's type, a method's without `self`
 abbrev pub shown_signature : Resolve → Function → SignatureTree
 shown_signature resolve f = record { is_async = is_async f.kind; params = shown_params resolve f; result = option_map (shown_type resolve) f.result }
 
@@ -206,9 +220,11 @@ constructor_result resolve resource (Some (value.Id id)) =
     if option_map_or (is_own_of resource.0) (type_at resolve id.0) false then None else Some (shown_type resolve (value.Id id))
 constructor_result resolve resource (Some ty) = Some (shown_type resolve ty)
 
+-- what stands in front of a function
 abbrev pub function_prefix : Function → Prefix
 function_prefix f = shown_prefix f.docs f.stability f.external_id
 
+-- a function of a resource, under its own name
 abbrev pub shown_resource_member : Resolve → Function → ResourceMember
 shown_resource_member resolve f = by_kind f.kind
   where
@@ -263,6 +279,7 @@ path_from resolve here interface = by_package interface.«package»
     by_package None = Local name
     by_package (Some p) = if p.0 == here.0 then Local name else option_map_or (full_path name) (package_at resolve p.0) (Local name)
 
+-- the path from a package to the interface of this number
 abbrev pub shown_path : Resolve → PackageId → InterfaceId → PathTree
 shown_path resolve here id = option_map_or (path_from resolve here) (interface_at resolve id.0) (Local [])
 
@@ -272,11 +289,11 @@ pub record Used : Type 0 where
   pub prefix : Prefix
   pub names : List UsedName
 
--- an own name, where it differs
+-- the name that a type has here, where it isn't the one that it has there
 abbrev pub own_name : Text → Text → Option Text
 own_name own other = if text_eq own other then None else Some own
 
--- A type is a use where its target is another owner's.
+-- the use that a type is, if its target is another owner's
 abbrev pub used_of : Resolve → TypeOwner → Text → TypeDef → Option Used
 used_of resolve here own def = by_kind def.kind
   where
@@ -295,6 +312,7 @@ used_of resolve here own def = by_kind def.kind
     by_kind (defined.Type_ (value.Id id)) = option_and_then (λ target. by_owner (present_name target.name) target.owner) (type_at resolve id.0)
     by_kind kind = None
 
+-- whether two items have the same gates
 abbrev pub same_gates : Gates → Gates → Bool
 same_gates Ungated Ungated = true
 same_gates (Since a d) (Since b e) = text_eq a b && option_eq text_eq d e
@@ -305,12 +323,13 @@ same_gates a b = false
 abbrev pub same_group : Used → Used → Bool
 same_group a b = (a.interface.0 == b.interface.0) && same_gates a.prefix.gates b.prefix.gates && option_eq text_eq a.prefix.external_id b.prefix.external_id
 
--- uses in groups: neighbours of one group are written as one
+-- a use in front of groups: it joins the first of them, if it can be written with it
 abbrev pub grouped_with : Used → List Used → List Used
 grouped_with used [] = used ∷ []
 grouped_with used (group ∷ groups) =
     if same_group used group then record used { names = used.names ++ group.names } ∷ groups else used ∷ group ∷ groups
 
+-- uses in groups: neighbours that can be written as one `use` are one
 abbrev pub grouped : List Used → List Used
 grouped [] = []
 grouped (used ∷ uses) = grouped_with used (grouped uses)
@@ -335,6 +354,7 @@ declared_with resolve here functions listed def =
     then None
     else Some (record { prefix = shown_prefix def.docs def.stability def.external_id; declared = shown_declared resolve functions listed.id def })
 
+-- the types of an owner that are no uses, each declared, in order
 abbrev pub shown_declarations : Resolve → TypeOwner → List Function → List Listed → List DeclaredWith
 shown_declarations resolve here functions types =
     filter_map (λ listed. option_and_then (declared_with resolve here functions listed) (type_at resolve listed.id.0)) types
@@ -361,9 +381,11 @@ shown_types resolve here functions types =
 abbrev pub listed_types : Interface → List Listed
 listed_types interface = map (λ entry. record { name = text_of entry.0; id = entry.1 }) interface.types.entries
 
+-- the functions of an interface
 abbrev pub listed_functions : Interface → List Function
 listed_functions interface = map (λ entry. entry.1) interface.functions.entries
 
+-- a freestanding function of an interface
 abbrev pub shown_function : Resolve → Function → MemberTree
 shown_function resolve f = FunctionMember (function_prefix f) (text_of f.name) (shown_signature resolve f)
 
@@ -393,6 +415,7 @@ extern_docs resolve (key.Interface other) id docs = shown_docs docs
 extern_docs resolve (key.Name s) id docs =
     if is_some docs.contents then shown_docs docs else option_map_or (λ i. shown_docs i.docs) (interface_at resolve id.0) []
 
+-- what stands in front of an import or an export
 abbrev pub extern_prefix : Resolve → WorldKey → Item → Prefix
 extern_prefix resolve k (item.Interface id gates docs external_id) =
     record { docs = extern_docs resolve k id docs; gates = shown_gates gates; external_id = shown_external_id external_id }
@@ -403,23 +426,29 @@ extern_prefix resolve k (item.Type_ id) = record { docs = []; gates = Ungated; e
 abbrev pub Entry : Type 0
 Entry = WorldKey × Item
 
+-- an import of a world
 abbrev pub shown_import : Resolve → PackageId → Entry → WorldMember
 shown_import resolve here entry = WorldImport (extern_prefix resolve entry.0 entry.1) (shown_extern resolve here entry.0 entry.1)
 
+-- an export of a world
 abbrev pub shown_export : Resolve → PackageId → Entry → WorldMember
 shown_export resolve here entry = WorldExport (extern_prefix resolve entry.0 entry.1) (shown_extern resolve here entry.0 entry.1)
 
+-- whether an item is an interface
 abbrev pub is_interface_item : Item → Bool
 is_interface_item (item.Interface id gates docs external_id) = true
 is_interface_item other = false
 
+-- the function that an item is, if it is one
 abbrev pub function_of_item : Item → Option Function
 function_of_item (item.Function f) = Some f
 function_of_item other = None
 
+-- whether an item is a freestanding function
 abbrev pub is_freestanding_item : Item → Bool
 is_freestanding_item item = option_map_or (λ f. is_freestanding f.kind) (function_of_item item) false
 
+-- the type that an import is, under its name, if it is one
 abbrev pub type_of_entry : WorldKey → Item → Option Listed
 type_of_entry (key.Name s) (item.Type_ id) = Some (record { name = text_of s; id = id })
 type_of_entry k other = None
@@ -428,6 +457,7 @@ type_of_entry k other = None
 abbrev pub listed_imports : World → List Listed
 listed_imports world = filter_map (λ entry. type_of_entry entry.0 entry.1) world.imports.entries
 
+-- the functions that a world imports itself
 abbrev pub imported_functions : World → List Function
 imported_functions world = filter_map (λ entry. function_of_item entry.1) world.imports.entries
 
@@ -440,16 +470,18 @@ shown_world_in resolve id world here =
     ++ map (shown_import resolve here) (filter (λ entry. is_freestanding_item entry.1) world.imports.entries)
     ++ map (shown_export resolve here) world.exports.entries
 
+-- a world's members
 abbrev pub shown_world : Resolve → WorldId → World → List WorldMember
 shown_world resolve id world = option_map_or (shown_world_in resolve id world) world.«package» []
 
 -- ---- packages
 
--- A package's interface and world, under their names.
+-- a package's interface, under its name
 abbrev pub shown_interface_item : Resolve → String Global × InterfaceId → Option ItemTree
 shown_interface_item resolve entry =
     option_map (λ i. InterfaceItem (shown_docs i.docs) (shown_gates i.stability) (text_of entry.0) (shown_interface resolve entry.1 i)) (interface_at resolve entry.1.0)
 
+-- a package's world, under its name
 abbrev pub shown_world_item : Resolve → String Global × WorldId → Option ItemTree
 shown_world_item resolve entry =
     option_map (λ w. WorldItem (shown_docs w.docs) (shown_gates w.stability) (text_of entry.0) (shown_world resolve entry.1 w)) (world_at resolve entry.1.0)
@@ -469,6 +501,7 @@ shown_package_of resolve p = record {
 abbrev pub no_package : PackageTree
 no_package = record { head = record { docs = []; namespace = []; name = []; version = None }; items = [] }
 
+-- the package of this number
 abbrev pub shown_package : Resolve → PackageId → PackageTree
 shown_package resolve id = option_map_or (shown_package_of resolve) (package_at resolve id.0) no_package
 

@@ -50,12 +50,12 @@ line_begun_after (Doc line) begun = true
 line_begun_after Semicolon begun = true
 line_begun_after call begun = false
 
--- no line end in it
+-- whether no line end stands in a text
 abbrev pub is_one_line : List ℕ → Bool
 is_one_line [] = true
 is_one_line (c ∷ cs) = not (c == 10) && is_one_line cs
 
--- no space at its front
+-- whether no space stands at the front of a text
 abbrev pub has_no_space_first : List ℕ → Bool
 has_no_space_first [] = true
 has_no_space_first (c ∷ cs) = not (c == 32)

@@ -17,11 +17,11 @@ abbrev pub front_of : Bool → ℕ → List ℕ
 front_of true level = indentation level
 front_of false level = []
 
--- with text at the end, as it stands
+-- the text with this at its end, as it stands
 abbrev pub pushed : View Written → List ℕ → Written
 pushed view text = record { text = view.kept.text ++ text; level = view.kept.level }
 
--- with text at the end, and the indentation before it where a line has just begun
+-- the text with this at its end, and the indentation before it where a line has just begun
 abbrev pub printed : View Written → List ℕ → Written
 printed view text = record { text = (view.kept.text ++ front_of view.line_begun view.kept.level) ++ text; level = view.kept.level }
 

@@ -18,7 +18,6 @@ use Rattle.wit_model.specs.Lookup.{package_at, interface_at, world_at}
 use Rattle.wit_model.specs.Rules.{in_list, passes, is_stability, text_is}
 use Rattle.wit_model.specs.Valid.{IsValid, package_names, labels, names_in_packages}
 use Rattle.wit_model.proofs.OnePath.{package-passes, interface-passes}
-use Rattle.wit_model.proofs.VersionLaws.{text_same}
 use Rattle.print_output.specs.OutputCall.{View, Moves, is_one_line}
 use Rattle.print_output.specs.Render.{Written, render, writes, blank}
 use Rattle.print_grammar.specs.Calls.{file_calls}
@@ -37,6 +36,7 @@ use Rattle.print_packages.proofs.ValidWorlds.{world_well}
 use Rattle.base_lemmas.proofs.Bools.{left_of, right_of}
 use Rattle.base_lemmas.proofs.Elements.{joined_well}
 use Rattle.base_lemmas.proofs.Lists.{within_there as one_there}
+use Rattle.wit_model.proofs.TextLemmas.{text_same}
 
 module _ (r : Resolve) (valid : IsValid r) where
   -- a name under which something with this label stands

@@ -46,7 +46,7 @@ package_of_owner r o = unwrap_or (owner_package r o) (record { 0 = 4294967295 })
 abbrev pub given_members : Resolve → TypeOwner → Functions → List Listed → List MemberTree
 given_members r o entries types = use_members r (package_of_owner r o) o types ++ given_declarations r o entries types
 
--- the same with functions in a map
+-- uses and then declared types, with functions in a map
 abbrev pub given_with : {S : Type 0} → Resolve → TypeOwner → FunctionMap S → List Listed → List MemberTree
 given_with r o functions = given_members r o functions.entries
 

@@ -24,7 +24,7 @@ use Rattle.wit_model.specs.Parts.{same_owner}
 use Rattle.wit_model.specs.Rules.{has_items, in_list, is_stability, passes}
 use Rattle.wit_model.specs.Text.{Text, text_eq, text_of}
 use Rattle.wit_model.specs.Uses.{alias_target}
-use Rattle.wit_model.proofs.VersionLaws.{same_text, text_same}
+use Rattle.wit_model.proofs.VersionLaws.{same_text}
 use Rattle.print_output.specs.OutputCall.{OutputCall}
 use Rattle.print_output.specs.OutputCall.OutputCall.{Keyword, Str}
 use Rattle.print_grammar.specs.Tree.{MemberTree, PathTree, UsedName}
@@ -35,6 +35,7 @@ use Rattle.print_uses.specs.UseGroups.{group_end_calls, is_printable_use, joins,
 use Rattle.print_grammar.specs.WellNamed.{is_well_gates, is_well_path}
 use Rattle.print_uses.specs.declared.use_group.Use.{Use}
 use Rattle.base_lemmas.proofs.Bools.{both_ways, left_of, or_false, or_true, right_of}
+use Rattle.wit_model.proofs.TextLemmas.{text_same}
 
 -- ---- a use alone
 

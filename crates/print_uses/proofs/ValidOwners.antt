@@ -32,25 +32,14 @@ use Rattle.wit_model.proofs.TreeTable.{kept_numbers}
 use Rattle.wit_model.proofs.Owners.{named_met, owned_stays}
 use Rattle.wit_model.proofs.Listings.{interface_fits, misnamed_in_interface_breaks}
 use Rattle.wit_model.proofs.OnePath.{interface-passes, given-test}
-use Rattle.wit_model.proofs.VersionLaws.{text_same}
 use Rattle.print_items.specs.Shown.{Listed}
 use Rattle.print_items.proofs.TypesWell.{type_rule, label_of}
 use Rattle.base_lemmas.proofs.Bools.{left_of, right_of}
 use Rattle.base_lemmas.proofs.Lists.{within_there as one_there}
-use Rattle.base_lemmas.proofs.Numbers.{equal as equal-numbers}
+use Rattle.wit_model.proofs.PartsLemmas.{owner_same as same_owner_is}
+use Rattle.wit_model.proofs.TextLemmas.{text_same}
 
 -- ---- owners
-
-pub same_owner_is : (a b : TypeOwner) → same_owner a b ≡ true → a ≡ b
-same_owner_is (owner.World a) (owner.World b) h = let same : a.0 ≡ b.0 = equal-numbers a.0 b.0 h in ap (λ n. owner.World (record { 0 = n })) same
-same_owner_is (owner.Interface a) (owner.Interface b) h = let same : a.0 ≡ b.0 = equal-numbers a.0 b.0 h in ap (λ n. owner.Interface (record { 0 = n })) same
-same_owner_is owner.None owner.None h = refl
-same_owner_is (owner.World a) (owner.Interface b) h = absurd cc
-same_owner_is (owner.World a) owner.None h = absurd cc
-same_owner_is (owner.Interface a) (owner.World b) h = absurd cc
-same_owner_is (owner.Interface a) owner.None h = absurd cc
-same_owner_is owner.None (owner.World b) h = absurd cc
-same_owner_is owner.None (owner.Interface b) h = absurd cc
 
 -- another owner is another one the other way round
 other_way : (o : TypeOwner) (id : InterfaceId) → same_owner o (owner.Interface id) ≡ false → same_owner (owner.Interface id) o ≡ false

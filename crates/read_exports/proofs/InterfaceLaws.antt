@@ -3,7 +3,7 @@ use Rattle.std.proofs.Common.{◌≡◌, refl, sym, ap, subst, ◌∙◌, ℕ, B
 use Rattle.std.specs.List.{AllByRecursion}
 use Rattle.wit_model.specs.Names.{PackageIdentity}
 use Rattle.wit_model.specs.Text.{Text, text_eq}
-use Rattle.wit_model.proofs.VersionLaws.{same_text, text_same}
+use Rattle.wit_model.proofs.VersionLaws.{same_text}
 use Rattle.comp_bytes.specs.Reading.{◌>>=◌}
 use Rattle.comp_meaning.specs.Follow.{View, each, is_filled, provided}
 use Rattle.comp_meaning.specs.Rules.{distinct}
@@ -18,13 +18,11 @@ use Rattle.plan_meaning.proofs.NumberedWorlds.{path_is, paths_in_numbers, reache
 use Rattle.read_exports.specs.Interfaces.{IsInterfacePart, IsPartOf, InterfacesInNumbers, Placed, InterfaceScopesInNumbers, at_home, elsewhere, interface_of_scope, shown_interface}
 use Rattle.base_lemmas.proofs.Lists.{map_of_map}
 use Rattle.std.proofs.lemmas.Option.{same_Some as same-some}
+use Rattle.comp_meaning.proofs.FollowLemmas.{provided_is}
+use Rattle.wit_model.proofs.TextLemmas.{text_same}
 
 no_some : {A B : Type 0} (x : A) → None ≡ Some x → B
 no_some x e = let wrong : ⊥ = cc in absurd wrong
-
-pub provided_is : {A : Type 0} (b : Bool) (x y : A) → provided b x ≡ Some y → x ≡ y
-provided_is true x y e = same-some x y e
-provided_is false x y e = no_some y e
 
 -- ---- what stands
 

@@ -18,11 +18,12 @@ use Rattle.read_follow.specs.Found.{Refuses}
 use Rattle.read_follow.specs.Functions.{functions_in, param_tree, signature_in, AreApart, AreFunctionsIn, FunctionShape, IsFunctionIn}
 use Rattle.read_follow.specs.Slots.{slots_in, AreInRange, AreNames}
 use Rattle.plan_meaning.specs.PlanRules.{is_form}
-use Rattle.plan_meaning.specs.Shapes.{Shape, code, form_code, form_of, named_shape, node_shape, part_tree, shape_tree, shape_trees, Adds, stays, comes, IsShape, a_name, a_node, IsTable}
+use Rattle.plan_meaning.specs.Shapes.{Shape, code, form_of, named_shape, node_shape, part_tree, shape_tree, shape_trees, Adds, stays, comes, IsShape, a_name, a_node, IsTable}
 use Rattle.plan_meaning.proofs.ShapeLaws.{form_back, name_tree, node_tree, one_number, part_behind, tree_at_number}
 use Rattle.read_follow.proofs.TableGrowth.{part_kept, trees_length, trees_more}
 use Rattle.base_lemmas.proofs.Elements.{all_end}
 use Rattle.base_lemmas.proofs.Lists.{get_back as mapped_back, last_or, within_there as slice_there}
+use Rattle.plan_meaning.proofs.ShapesLemmas.{no_sort as no_name}
 
 -- ---- lists that grow
 
@@ -58,21 +59,6 @@ adds_cases old new s stays = inl refl
 adds_cases old new s (comes fresh) = inr refl
 
 -- no form has the number of a name
-no_name : (f : Form) → (form_code f).sort ≡ 0 → ⊥
-no_name (Form.record_of names) e = cc
-no_name (Form.variant_of cases) e = cc
-no_name Form.list_of e = cc
-no_name (Form.fixed_list_of n) e = cc
-no_name Form.option_of e = cc
-no_name Form.own_of e = cc
-no_name Form.borrow_of e = cc
-no_name Form.map_of e = cc
-no_name Form.tuple_of e = cc
-no_name (Form.flags_of names) e = cc
-no_name (Form.enum_of names) e = cc
-no_name (Form.result_of ok err) e = cc
-no_name (Form.future_of some) e = cc
-no_name (Form.stream_of some) e = cc
 
 -- where nothing comes into it
 pub no_shapes : (ss : List Shape) → AddsForms ss ss

@@ -21,6 +21,7 @@ use Rattle.plan_meaning.proofs.ShapeLaws.{name_tree, node_tree, part_front, spli
 use Rattle.base_lemmas.proofs.Bools.{and-true as and_true, and_assoc, and_flip}
 use Rattle.base_lemmas.proofs.Elements.{contains-one as of_one}
 use Rattle.base_lemmas.proofs.Lists.{mapped_get, within_there as slice_there}
+use Rattle.plan_meaning.proofs.ShapesLemmas.{no_sort as sort_of_form}
 
 -- ---- places
 
@@ -177,22 +178,6 @@ first_labels [] = refl
 first_labels (l ∷ ls) = ap (λ rest. l.0.now ∷ rest) (first_labels ls)
 
 -- ---- the fact of a key
-
-sort_of_form : (f : Form) → (form_code f).sort ≡ 0 → ⊥
-sort_of_form (Form.record_of ls) e = omega (arith, e)
-sort_of_form (Form.variant_of cases) e = omega (arith, e)
-sort_of_form Form.list_of e = omega (arith, e)
-sort_of_form (Form.fixed_list_of n) e = omega (arith, e)
-sort_of_form Form.option_of e = omega (arith, e)
-sort_of_form Form.own_of e = omega (arith, e)
-sort_of_form Form.borrow_of e = omega (arith, e)
-sort_of_form Form.map_of e = omega (arith, e)
-sort_of_form Form.tuple_of e = omega (arith, e)
-sort_of_form (Form.flags_of ls) e = omega (arith, e)
-sort_of_form (Form.enum_of ls) e = omega (arith, e)
-sort_of_form (Form.result_of ok err) e = omega (arith, e)
-sort_of_form (Form.future_of some) e = omega (arith, e)
-sort_of_form (Form.stream_of some) e = omega (arith, e)
 
 named_by_sort : (f : Form) → is_named_sort (form_code f).sort ≡ is_named_form f
 named_by_sort (Form.record_of ls) = refl

@@ -29,7 +29,7 @@ use Rattle.read_follow.proofs.KeyLaws.{beq_again}
 use Rattle.read_follow.proofs.Refusing.{refused}
 use Rattle.read_follow.proofs.RowLaws.{behind_more, behind_none, none_dropped, raw_at, raw_end}
 use Rattle.base_lemmas.proofs.Bools.{beq_same, left_of as first_true, right_of as second_true}
-use Rattle.wit_model.proofs.AnyOrder.{text-same as text_same}
+use Rattle.wit_model.proofs.TextLemmas.{text_same}
 
 -- ---- sameness
 

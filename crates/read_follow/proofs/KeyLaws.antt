@@ -11,7 +11,7 @@ use Rattle.read_follow.specs.declared.keys.Key.{Key}
 use Rattle.plan_meaning.specs.Shapes.{Shape}
 use Rattle.read_follow.specs.KeyShapes.{shape_of, label_of}
 use Rattle.base_lemmas.proofs.Bools.{beq_same, left_of as first_true, right_of as second_true}
-use Rattle.wit_model.proofs.AnyOrder.{text-same as text_same}
+use Rattle.wit_model.proofs.TextLemmas.{text_same}
 
 abbrev pub same_key : Key → Key → Bool
 same_key = key_eq.ghosts.eq

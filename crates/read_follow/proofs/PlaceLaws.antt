@@ -19,7 +19,7 @@ use Rattle.read_follow.proofs.SlotLaws.{mapped_none}
 use Rattle.base_lemmas.proofs.Bools.{left_of as first_true, right_of as second_true}
 use Rattle.base_lemmas.proofs.Lists.{last_or, mapped_get}
 use Rattle.std.proofs.lemmas.Option.{slice_get_within as found_below}
-use Rattle.wit_model.proofs.AnyOrder.{text-same as text_same}
+use Rattle.wit_model.proofs.TextLemmas.{text_same}
 
 -- ---- equal keys
 

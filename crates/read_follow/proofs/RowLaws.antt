@@ -28,7 +28,7 @@ use Rattle.read_follow.specs.DefinitionKeys.{IsNodeOf}
 use Rattle.read_follow.proofs.Refusing.{refused}
 use Rattle.base_lemmas.proofs.Elements.{all_end}
 use Rattle.base_lemmas.proofs.Options.{some_is}
-use Rattle.plan_meaning.proofs.KindRules.{items_of_map as mapped_items}
+use Rattle.wit_model.proofs.RulesLemmas.{items_of_map as mapped_items}
 
 pub behind_none : {Y : Type 0} (found : Option (List Y)) → behind_rows [] found ≡ found
 behind_none None = refl

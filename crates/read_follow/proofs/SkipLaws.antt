@@ -196,19 +196,15 @@ module _ (bytes rest : List ℕ) (tag : ℕ) (front : bytes ≡ tag ∷ rest) wh
   held_export_skipped is =
       ap behind (ap held (ap declaration_at (front_is 4 is) ∙ export_declared rest) ∙ held_as exported (λ p. refl) (seen_at rest)) ∙ behind_as exported (seen_at rest)
 
--- ---- declared types, by their first byte
-
-module _ (bytes rest : List ℕ) (tag : ℕ) (front : bytes ≡ tag ∷ rest) where
-  begun : (first : ℕ) → tag ≡ first → bytes ≡ first ∷ rest
-  begun first is = front ∙ ap (λ b. b ∷ rest) is
+  -- ---- declared types, by their first byte
 
   pub function_declared : tag ≡ 0x40 → behind (type_by_first bytes) ≡ behind (function_type_at false rest)
   unfolding type_by_first declared_type_at as_at
-  function_declared is = ap (λ text. behind (type_by_first text)) (begun 0x40 is) ∙ behind_as Declaration.function (function_type_at false rest)
+  function_declared is = ap (λ text. behind (type_by_first text)) (front_is 0x40 is) ∙ behind_as Declaration.function (function_type_at false rest)
 
   pub async_declared : tag ≡ 0x43 → behind (type_by_first bytes) ≡ behind (function_type_at true rest)
   unfolding type_by_first declared_type_at as_at
-  async_declared is = ap (λ text. behind (type_by_first text)) (begun 0x43 is) ∙ behind_as Declaration.function (function_type_at true rest)
+  async_declared is = ap (λ text. behind (type_by_first text)) (front_is 0x43 is) ∙ behind_as Declaration.function (function_type_at true rest)
 
   unlike : (k : ℕ) → (tag ≡ k → ⊥) → (tag == k) ≡ false
   unlike k h = by (tag == k) refl

@@ -19,7 +19,6 @@ use Rattle.read_follow.specs.Following.{scope_at, signatures_at, slots_at, trees
 use Rattle.read_follow.specs.Found.{Refuses}
 use Rattle.read_follow.specs.Functions.{functions_in, FunctionShape}
 use Rattle.read_follow.specs.InstanceScopes.{foreign_slot, state_of, step_of, tables_of, taken_by, IsFollowed, IsViewOf, ShowsNothing}
-use Rattle.read_follow.specs.Pieces.{AreAlike}
 use Rattle.read_follow.specs.Placed.{apart, MayMeet, SlotOver}
 use Rattle.read_follow.specs.Slots.{slot_in, slots_in}
 use Rattle.plan_meaning.specs.Shapes.{Shape, named_shape, node_shape, shape_trees}
@@ -255,8 +254,3 @@ module _ (marks : List Bool) (here : ℕ) (start : State) (tables : AreTables (l
       }
 
 -- where a refusal is seen changes nothing
-pub alike : {A : Type 0} (e f : Refusal) (o : Option A) → AreAlike e f → Refuses e o → Refuses f o
-alike refusals.Memory refusals.Memory o h r = r
-alike refusals.Memory (refusals.Absent cause left) o h r = absurd h
-alike (refusals.Absent cause left) refusals.Memory o h r = absurd h
-alike (refusals.Absent cause left) (refusals.Absent other more) o h r = r

@@ -43,16 +43,13 @@ use Rattle.read_follow.proofs.FollowingLaws.{name_part}
 use Rattle.base_lemmas.proofs.Lists.{at_last}
 use Rattle.base_lemmas.proofs.Numbers.{nothing_more as none_before}
 use Rattle.std.proofs.lemmas.Option.{slice_get_within as found_below}
+use Rattle.read_follow.proofs.FollowingLaws.{if_err as if_refused}
 
 -- ---- the view of an instance type
 
 if_ok : {A : Type 0} (P Q : A → Type 0) (r : Result A Refusal) → ((x : A) → P x → Q x) → IfOk r P → IfOk r Q
 if_ok P Q (Ok x) f h = f x h
 if_ok P Q (Err e) f h = h
-
-if_refused : {A : Type 0} (P Q : Refusal → Type 0) (r : Result A Refusal) → ((e : Refusal) → P e → Q e) → IfErr r P → IfErr r Q
-if_refused P Q (Ok x) f h = h
-if_refused P Q (Err e) f h = f e h
 
 when_none : {A : Type 0} (b : Bool) → when {A = A} b None ≡ None
 when_none true = refl

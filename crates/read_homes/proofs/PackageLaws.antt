@@ -16,7 +16,7 @@ use Rattle.base_lemmas.proofs.Bools.{left_of as first_true, right_of as second_t
 use Rattle.base_lemmas.proofs.Lists.{last_or, none_there as nothing_at, slice_front}
 use Rattle.std.proofs.lemmas.Bool.{and_from as both, or_right as either_true}
 use Rattle.std.proofs.lemmas.Option.{slice_get_within as found_below}
-use Rattle.wit_model.proofs.AnyOrder.{text-same as same_text}
+use Rattle.wit_model.proofs.TextLemmas.{text_same as same_text}
 
 -- ---- equal texts
 

@@ -5,7 +5,6 @@ use Rattle.std.specs.List.{AllByRecursion, AllZip}
 use Rattle.wit_model.specs.Names.{PackageIdentity, path_in, read_path}
 use Rattle.wit_model.specs.Text.{Text, text_eq, text_of}
 use Rattle.wit_model.proofs.NameLaws.{read_path_is_spelled}
-use Rattle.wit_model.proofs.VersionLaws.{text_same}
 use Rattle.comp_bytes.specs.Levels.{Piece}
 use Rattle.comp_bytes.specs.Reading.{◌>>=◌}
 use Rattle.comp_meaning.specs.ByLevels.{world_of_pieces}
@@ -30,6 +29,7 @@ use Rattle.read_members.specs.ReadMembers.{members_meant, AreRead, IsPartRead}
 use Rattle.read_members.proofs.MeantLaws.{read_members_are_meant}
 use Rattle.read_members.proofs.SightLaws.{members_are_known}
 use Rattle.std.proofs.lemmas.Option.{same_Some as same-some}
+use Rattle.wit_model.proofs.TextLemmas.{text_same}
 
 -- the one world of the members
 pub by_members : (pieces : List Piece) → world_of_pieces pieces ≡ (members_meant pieces >>= world_of_members)

@@ -28,7 +28,7 @@ use Rattle.read_members.specs.Decided.{MembersAreKnown}
 use Rattle.read_members.specs.ReadMembers.{AreRead, IsPartRead}
 use Rattle.base_lemmas.proofs.Elements.{all_both}
 use Rattle.std.proofs.lemmas.Option.{same_Some as same-some}
-use Rattle.read_exports.proofs.InterfaceLaws.{provided_is}
+use Rattle.comp_meaning.proofs.FollowLemmas.{provided_is}
 
 -- ---- what is shown as an interface
 

@@ -3,8 +3,8 @@ use Rattle.std.proofs.Common.{inl, inr, ap, ◌∙◌, subst, List, map, Some}
 use Rattle.wit_model.specs.Text.{Text}
 use Rattle.plan_meaning.specs.NumberedWorlds.{NumberedSeen, NumberedShown}
 use Rattle.read_numbers.specs.PlacedNumbers.{ImportsComeLast, IsCountedItem}
-use Rattle.read_numbers.proofs.PlacedViews.{not_twice}
 use Rattle.base_lemmas.proofs.Lists.{mapped_get}
+use Rattle.comp_meaning.proofs.RulesLemmas.{not_twice}
 
 pub imports_come_last : ImportsComeLast
 imports_come_last t w h apart j c s d at here is =

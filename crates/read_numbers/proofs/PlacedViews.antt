@@ -1,9 +1,9 @@
 -- Views in numbers: the places that they are over, the numbers of their names, and the order of these.
-use Rattle.std.proofs.Common.{◌≡◌, inl, inr, refl, sym, ap, ◌∙◌, subst, ℕ, zero, suc, ◌+◌, ◌<◌, ◌&&◌, arith, Bool, true, false, not, ◌||◌, List, [], ◌∷◌, map, length, Option, Some, None, IfSome, option_map, slice_get, unwrap_or}
+use Rattle.std.proofs.Common.{◌≡◌, inl, inr, refl, sym, ap, ◌∙◌, subst, ℕ, zero, suc, ◌+◌, ◌<◌, ◌&&◌, arith, Bool, true, false, ◌||◌, List, [], ◌∷◌, map, length, Option, Some, None, IfSome, option_map, slice_get, unwrap_or}
 use Rattle.std.specs.Prelude.{nat_lt}
 use Rattle.std.specs.List.{AllByRecursion, AllZip, list_all, list_any}
 use Rattle.std.proofs.Math.ListN.{length-map}
-use Rattle.std.proofs.lemmas.Bool.{lt-ltb, not-true, false≢true}
+use Rattle.std.proofs.lemmas.Bool.{lt-ltb}
 use Rattle.wit_model.specs.Meaning.{Signature}
 use Rattle.wit_model.specs.Text.{Text, text_eq}
 use Rattle.wit_model.specs.Tree.{Place, Tree}
@@ -28,8 +28,8 @@ use Rattle.read_follow.proofs.DefiningLaws.{all_at}
 use Rattle.read_numbers.specs.NumberedParts.{numbered_function, numbered_shown_function, numbered_slot, numbered_type, numbered_view, tables_in}
 use Rattle.read_numbers.specs.PlacedNumbers.{part_of, IsMetPart, IsNumbered, IsPlacedView, IsRisingView}
 use Rattle.read_numbers.proofs.MetNumbers.{met_from}
-use Rattle.base_lemmas.proofs.Bools.{left_of as first_true, right_of as second_true}
 use Rattle.base_lemmas.proofs.Lists.{mapped_get, within_there as slice_there}
+use Rattle.comp_meaning.proofs.RulesLemmas.{not_twice}
 
 -- ---- the numbers of names
 
@@ -74,15 +74,6 @@ any_there x (y ∷ xs) (suc j) e = ap (λ b. text_eq x y || b) (any_there x xs j
     or_true : (b : Bool) → (b || true) ≡ true
     or_true true = refl
     or_true false = refl
-
-pub not_twice : (xs : List Text) → distinct xs ≡ true → (i j : ℕ) (x : Text) → i < j → slice_get xs i ≡ Some x → slice_get xs j ≡ Some x → ⊥
-not_twice [] apart i j x less e f = cc
-not_twice (y ∷ xs) apart i zero x less e f = omega (arith, less)
-not_twice (y ∷ xs) apart zero (suc j) x less e f =
-    let same : y ≡ x = cc in
-    let none = not-true (list_any (text_eq y) xs) (first_true (not (list_any (text_eq y) xs)) (distinct xs) apart) in
-    false≢true (sym none ∙ any_there y xs j (f ∙ ap Some (sym same)))
-not_twice (y ∷ xs) apart (suc i) (suc j) x less e f = not_twice xs (second_true (not (list_any (text_eq y) xs)) (distinct xs) apart) i j x (omega (arith, less)) e f
 
 name_at : (ts : List ShownType) (j : ℕ) (x : ShownType) → slice_get ts j ≡ Some x → slice_get (map (λ (y : NumberedType). y.name) (map numbered_type ts)) j ≡ Some x.name.now
 name_at [] j x e = absurd cc

@@ -11,9 +11,9 @@ use Rattle.plan_meaning.specs.NumberedViews.{FunctionShape}
 use Rattle.read_rules.specs.declared.tables.Tables.{Tables}
 use Rattle.read_rules.specs.FunctionNames.{constructs_one, is_member_of_one, is_method_of_one, is_static_of_one}
 use Rattle.read_rules.specs.Tables.{known_in, numbered_tables}
-use Rattle.read_rules.proofs.MemberNames.{is_joined}
 use Rattle.read_rules.proofs.TextLaws.{any_either, any_none, any_same}
 use Rattle.base_lemmas.proofs.Bools.{and_line as regroup, or_line as line_up}
+use Rattle.wit_model.proofs.TextLemmas.{is_joined}
 
 -- ---- tests
 

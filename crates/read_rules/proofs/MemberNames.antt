@@ -11,32 +11,16 @@ use Rattle.wit_model.specs.Rules.{after_prefix}
 use Rattle.wit_model.proofs.NameLaws.{label_lacks}
 use Rattle.comp_meaning.specs.Rules.{is_label_behind}
 use Rattle.base_lemmas.proofs.Bools.{both_ways as either_way, left_of as first_true, right_of as second_true}
-use Rattle.base_lemmas.proofs.Numbers.{turned}
 use Rattle.std.proofs.lemmas.Bool.{and_from as both_true}
 use Rattle.wit_model.proofs.PathParts.{after-itself as prefix_on}
 use Rattle.wit_model.proofs.Prefixes.{after_sound as prefix_back}
+use Rattle.wit_model.proofs.RulesLemmas.{after_both}
 
 -- ---- what stands after a prefix
 
 -- a prefix of two parts is one after the other
-pub after_both : (ps qs bs : Text) → after_prefix (ps ++ qs) bs ≡ option_and_then (after_prefix qs) (after_prefix ps bs)
-after_both [] qs bs = refl
-after_both (p ∷ ps) qs [] = refl
-after_both (p ∷ ps) qs (b ∷ bs) = go (after_both ps qs bs) (p == b)
-  where
-    go : after_prefix (ps ++ qs) bs ≡ option_and_then (after_prefix qs) (after_prefix ps bs) → (v : Bool) → cond v (after_prefix (ps ++ qs) bs) None ≡ option_and_then (after_prefix qs) (cond v (after_prefix ps bs) None)
-    go again true = again
-    go again false = refl
 
 -- a text is a prefix and a rest where what follows the prefix is the rest
-pub is_joined : (ps qs bs : Text) → text_eq bs (ps ++ qs) ≡ option_map_or (λ rest. text_eq rest qs) (after_prefix ps bs) false
-is_joined [] qs bs = refl
-is_joined (p ∷ ps) qs [] = refl
-is_joined (p ∷ ps) qs (b ∷ bs) = ap (λ v. v && text_eq bs (ps ++ qs)) (turned b p) ∙ go (is_joined ps qs bs) (p == b)
-  where
-    go : text_eq bs (ps ++ qs) ≡ option_map_or (λ rest. text_eq rest qs) (after_prefix ps bs) false → (v : Bool) → (v && text_eq bs (ps ++ qs)) ≡ option_map_or (λ rest. text_eq rest qs) (cond v (after_prefix ps bs) None) false
-    go again true = again
-    go again false = refl
 
 one_byte : (fits labelled : Bool) (o : Option Text) → (fits && labelled) ≡ option_map_or is_label o false → (v : Bool) → ((v && fits) && labelled) ≡ option_map_or is_label (cond v o None) false
 one_byte fits labelled o again true = again

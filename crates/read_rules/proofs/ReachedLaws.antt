@@ -12,6 +12,7 @@ use Rattle.read_rules.specs.declared.views.ViewType.{ViewType}
 use Rattle.read_rules.specs.Reached.{numbered_import, used_by_types}
 use Rattle.read_rules.specs.Views.{numbered_type}
 use Rattle.base_lemmas.proofs.Bools.{or_false, or_line}
+use Rattle.std.proofs.lemmas.Bool.{and_right as second_fails}
 
 has_append : (xs ys : List ℕ) (n : ℕ) → has (xs ++ ys) n ≡ (has xs n || has ys n)
 has_append xs ys n = list_any-append (λ m. m == n) xs ys
@@ -42,10 +43,6 @@ module _ (t : Tables) (xs : List ViewType) (i : ℕ) (ks : List ℕ) (n : ℕ) {
   types_end past = sym (or_false (has ks n)) ∙ (ap (λ ys. has ks n || has (used_by_types t (map numbered_type ys)) n) (sym (drop_of_length-le xs past)) ∙ kept)
 
 module _ (t : Tables) (e : NumberedView) where
-  second_fails : (a b : Bool) → b ≡ false → (a && b) ≡ false
-  second_fails true b h = h
-  second_fails false b h = refl
-
   suffix_fails : (xs : List ImportedView) (k : ℕ) → are_reached t (map numbered_import (drop k xs)) e ≡ false → are_reached t (map numbered_import xs) e ≡ false
   suffix_fails xs zero h = h
   suffix_fails [] (suc k) h = h

@@ -12,7 +12,7 @@ use Rattle.read_rules.specs.Tables.{now_of}
 use Rattle.read_rules.specs.Views.{numbered_type}
 use Rattle.base_lemmas.proofs.Bools.{absorbed, or_false, or_line}
 use Rattle.std.proofs.lemmas.Bool.{or_right as second_of}
-use Rattle.wit_model.proofs.AnyOrder.{text-same as same_text}
+use Rattle.wit_model.proofs.TextLemmas.{text_same as same_text}
 
 or_no : (a b : Bool) → b ≡ false → a ≡ (a || b)
 or_no true b e = refl

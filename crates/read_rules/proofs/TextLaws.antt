@@ -5,7 +5,7 @@ use Rattle.std.specs.List.{list_any}
 use Rattle.wit_model.specs.Text.{Text, text_eq}
 use Rattle.comp_meaning.specs.Rules.{are_labels}
 use Rattle.read_rules.specs.Tables.{now_of, param_of}
-use Rattle.wit_model.proofs.AnyOrder.{text-same as same_text}
+use Rattle.wit_model.proofs.TextLemmas.{text_same as same_text}
 
 -- ---- one text among several
 

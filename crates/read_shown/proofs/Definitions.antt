@@ -17,12 +17,9 @@ use Rattle.read_shown.specs.Trees.{AllAt, count_true, is_formed, HandleStands, T
 use Rattle.read_shown.proofs.Lists.{each_found, each_filled, given_found}
 use Rattle.base_lemmas.proofs.Numbers.{same_count}
 use Rattle.base_lemmas.proofs.Options.{some_is}
+use Rattle.wit_model.proofs.TreeLemmas.{child_list_of_children as listed}
 
 -- ---- counts
-
-pub listed : (ts : List Tree) → child_list (children ts) ≡ ts
-listed [] = refl
-listed (t ∷ ts) = ap (λ us. t ∷ us) (listed ts)
 
 filled_map : {A B : Type 0} (f : A → B) (xs : List A) → is_filled xs ≡ true → is_filled (map f xs) ≡ true
 filled_map f [] h = h

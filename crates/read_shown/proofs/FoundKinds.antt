@@ -4,7 +4,7 @@ use Rattle.std.proofs.lemmas.Option.{slice_get_within}
 use Rattle.wit_model.specs.Text.{Text, text_eq}
 use Rattle.wit_model.specs.Tree.{Place}
 use Rattle.wit_model.specs.Meaning.{FunctionMeaning}
-use Rattle.wit_model.proofs.VersionLaws.{same_text, text_same}
+use Rattle.wit_model.proofs.VersionLaws.{same_text}
 use Rattle.comp_meaning.specs.Follow.{Slot, View, ShownType, Instance, find_type, place_of}
 use Rattle.read_shown.specs.Views.{named_slot, ShowsName, IsMetInView, inside, outside}
 use Rattle.read_shown.specs.Scopes.{IsShownBefore}
@@ -16,6 +16,7 @@ use Rattle.read_shown.proofs.Lists.{first_found, first_some, first_there}
 use Rattle.read_shown.proofs.OneKind.{before_somewhere, kind_of_named, one_kind, slot_kind, AllStand, IsOfPath, IsShownSomewhere}
 use Rattle.read_shown.proofs.Scopes.{type_found}
 use Rattle.base_lemmas.proofs.Options.{some_is}
+use Rattle.wit_model.proofs.TextLemmas.{text_same}
 
 -- ---- in a list of types
 

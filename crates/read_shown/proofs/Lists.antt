@@ -1,19 +1,16 @@
 -- Lists by the numbers of their items, and what is found in each.
-use Rattle.std.proofs.Common.{◌≡◌, ◌⊎◌, inl, inr, refl, sym, ap, subst, ◌∙◌, ℕ, zero, suc, ◌<◌, ◌≤◌, arith, take, length-append, true, not, List, [], ◌∷◌, ◌++◌, length, Option, Some, None, slice_get, IfSome}
-use Rattle.std.specs.List.{AllByRecursion, list_any}
-use Rattle.std.proofs.lemmas.Bool.{not-true}
+use Rattle.std.proofs.Common.{◌≡◌, ◌⊎◌, inl, inr, refl, sym, ap, subst, ◌∙◌, ℕ, zero, suc, ◌<◌, ◌≤◌, arith, take, length-append, true, List, [], ◌∷◌, ◌++◌, length, Option, Some, None, slice_get, IfSome}
+use Rattle.std.specs.List.{AllByRecursion}
 use Rattle.std.proofs.lemmas.Option.{slice_get_within}
-use Rattle.wit_model.specs.Text.{Text, text_eq}
-use Rattle.wit_model.proofs.VersionLaws.{same_text}
+use Rattle.wit_model.specs.Text.{Text}
 use Rattle.comp_bytes.specs.Reading.{◌>>=◌}
 use Rattle.comp_bytes.proofs.Readers.{bind_some}
 use Rattle.comp_meaning.specs.Follow.{each, given, is_filled}
 use Rattle.comp_meaning.specs.Rules.{distinct}
 use Rattle.read_shown.specs.Trees.{AllAt}
-use Rattle.base_lemmas.proofs.Bools.{left_of as first_true, right_of as second_true}
 use Rattle.base_lemmas.proofs.Lists.{front_at as at_front}
 use Rattle.base_lemmas.proofs.Options.{some_is}
-use Rattle.std.proofs.lemmas.Map.Keys.{any_passes_from_place as any_at}
+use Rattle.comp_meaning.proofs.RulesLemmas.{not_twice as twice}
 
 -- an item of the front
 
@@ -93,14 +90,6 @@ last_of x (y ∷ xs) = let more = last_of y xs in (x ∷ more.0, more.1, ap (λ 
 -- an item of the mapped list is the image of one
 
 -- no text stands twice
-pub twice : (xs : List Text) → distinct xs ≡ true → (i j : ℕ) (x : Text) → i < j → slice_get xs i ≡ Some x → slice_get xs j ≡ Some x → ⊥
-twice [] apart i j x less e f = cc
-twice (y ∷ xs) apart i zero x less e f = omega (arith, less)
-twice (y ∷ xs) apart zero (suc j) x less e f =
-    let none = not-true (list_any (text_eq y) xs) (first_true (not (list_any (text_eq y) xs)) (distinct xs) apart) in
-    let there = any_at (text_eq y) xs j x f (same_text y x (some_is y x e)) in
-    cc
-twice (y ∷ xs) apart (suc i) (suc j) x less e f = twice xs (second_true (not (list_any (text_eq y) xs)) (distinct xs) apart) i j x (omega (arith, less)) e f
 
 -- where no text stands twice, it stands at one number
 pub one_place : (xs : List Text) → distinct xs ≡ true → (i j : ℕ) (x : Text) → slice_get xs i ≡ Some x → slice_get xs j ≡ Some x → i ≡ j

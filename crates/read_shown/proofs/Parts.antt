@@ -6,7 +6,6 @@ use Rattle.std.proofs.lemmas.List.{append-nil}
 use Rattle.wit_model.specs.Text.{Text, text_eq}
 use Rattle.wit_model.specs.Names.{PackageIdentity, path_in, read_path}
 use Rattle.wit_model.proofs.NameLaws.{read_path_is_spelled}
-use Rattle.wit_model.proofs.VersionLaws.{text_same}
 use Rattle.comp_bytes.specs.Raw.{ExternName, Declarations}
 use Rattle.comp_bytes.specs.Reading.{◌>>=◌}
 use Rattle.comp_bytes.proofs.Readers.{bind_some, when_some}
@@ -19,12 +18,14 @@ use Rattle.read_shown.specs.Scopes.{IsInstanceBefore, IsShownBefore, ScopeStands
 use Rattle.read_shown.specs.Instances.{instance_of, instances_in, going, InstancesAreSeen}
 use Rattle.read_shown.specs.Parts.{named_instance, MemberStands}
 use Rattle.read_shown.proofs.Instances.{instances_seen}
-use Rattle.read_shown.proofs.Lists.{each_found, last_of, twice}
+use Rattle.read_shown.proofs.Lists.{each_found, last_of}
 use Rattle.read_shown.proofs.Scopes.{scope_stands}
-use Rattle.read_shown.proofs.Uses.{text_there, use_stands_before}
+use Rattle.read_shown.proofs.Uses.{use_stands_before}
 use Rattle.base_lemmas.proofs.Bools.{left_of as first_true, right_of as second_true}
 use Rattle.base_lemmas.proofs.Lists.{get_back as unmapped_get, mapped_get, middle_get, slice_front as front_get}
 use Rattle.base_lemmas.proofs.Options.{some_is}
+use Rattle.comp_meaning.proofs.RulesLemmas.{not_twice as twice}
+use Rattle.wit_model.proofs.TextLemmas.{text_same, text_there}
 
 -- ---- what is found
 

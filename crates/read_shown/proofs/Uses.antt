@@ -1,16 +1,15 @@
 -- Each interface that a well-formed view uses was seen before it.
-use Rattle.std.proofs.Common.{◌≡◌, ◌⊎◌, inl, inr, refl, sym, ap, subst, ◌∙◌, ℕ, zero, suc, arith, Bool, true, false, ◌||◌, List, [], ◌∷◌, flat_map, Option, Some, None, slice_get}
-use Rattle.std.specs.List.{Contains, list_any}
-use Rattle.wit_model.specs.Text.{Text, text_eq}
+use Rattle.std.proofs.Common.{◌≡◌, ◌⊎◌, inl, inr, refl, sym, ap, subst, ◌∙◌, ℕ, zero, suc, Bool, List, [], ◌∷◌, flat_map, Option, Some, None, slice_get}
+use Rattle.std.specs.List.{Contains}
+use Rattle.wit_model.specs.Text.{Text}
 use Rattle.wit_model.specs.Tree.{Place, Tree, Declaration}
 use Rattle.wit_model.proofs.Elements.{none-in}
-use Rattle.wit_model.proofs.VersionLaws.{text_same}
 use Rattle.comp_meaning.specs.Follow.{ShownType, Instance, place_of}
 use Rattle.comp_meaning.specs.Rules.{used_by, used_by_view}
 use Rattle.read_shown.specs.Trees.{DeclarationStands}
 use Rattle.read_shown.specs.Views.{IsMetInView, inside, outside, ViewStands}
 use Rattle.read_shown.specs.Scopes.{IsInstanceBefore, IsShownBefore}
-use Rattle.base_lemmas.proofs.Elements.{contains-later, last_of as one-contained}
+use Rattle.base_lemmas.proofs.Elements.{last_of as one-contained}
 use Rattle.std.proofs.lemmas.List.Elements.{Contains-append_cases as in_either}
 
 -- ---- what stands in lists
@@ -19,14 +18,6 @@ use Rattle.std.proofs.lemmas.List.Elements.{Contains-append_cases as in_either}
 in_flat : {A B : Type 0} (f : A → List B) (xs : List A) (y : B) → Contains (flat_map f xs) y → (n : ℕ) × (x : A) × (slice_get xs n ≡ Some x) × Contains (f x) y
 in_flat f [] y c = none-in y c
 in_flat f (x ∷ xs) y c = elim (in_either (f x) (flat_map f xs) y c) [ inl here ↦ (zero, x, refl, here) | inr later ↦ (let r = in_flat f xs y later in (suc r.0, r.1, r.2, r.3)) ]
-
-pub text_there : (path : Text) (xs : List Text) → list_any (text_eq path) xs ≡ true → Contains xs path
-text_there path [] e = absurd cc
-text_there path (x ∷ xs) e = by (text_eq path x) refl e (text_there path xs)
-  where
-    by : (b : Bool) → text_eq path x ≡ b → (b || list_any (text_eq path) xs) ≡ true → (list_any (text_eq path) xs ≡ true → Contains xs path) → Contains (x ∷ xs) path
-    by true is h rest = (0, omega arith, sym (text_same path x is))
-    by false is h rest = contains-later x xs path (rest h)
 
 -- ---- what a view uses
 

@@ -3,7 +3,7 @@ use Rattle.std.proofs.Common.{◌≡◌, refl, sym, ap, subst, ◌∙◌, ℕ, z
 use Rattle.std.proofs.lemmas.Option.{slice_get_within}
 use Rattle.wit_model.specs.Text.{Text, text_eq}
 use Rattle.wit_model.specs.Tree.{Place, Tree, Declaration}
-use Rattle.wit_model.proofs.VersionLaws.{same_text, text_same}
+use Rattle.wit_model.proofs.VersionLaws.{same_text}
 use Rattle.comp_meaning.specs.Follow.{Instance, Seen, Shown}
 use Rattle.comp_meaning.specs.Rules.{distinct}
 use Rattle.read_shown.specs.Trees.{AllAt, DeclarationStands}
@@ -14,6 +14,7 @@ use Rattle.read_shown.proofs.Scopes.{declared_last}
 use Rattle.read_shown.proofs.Wider.{declaration_wider, signature_wider}
 use Rattle.base_lemmas.proofs.Lists.{mapped_get}
 use Rattle.base_lemmas.proofs.Options.{some_is}
+use Rattle.wit_model.proofs.TextLemmas.{text_same}
 
 declared_is : (d e : Declaration) → Shown.declares d ≡ Shown.declares e → d ≡ e
 declared_is d e h = cc

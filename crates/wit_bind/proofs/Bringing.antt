@@ -32,7 +32,6 @@ use Rattle.bind_carry.specs.MatchedSame.{AreMatchedAt}
 use Rattle.bind_carry.specs.Renumbered.{is_matched}
 use Rattle.bind_carry.specs.TooLong.{CarriedThings}
 use Rattle.bind_carry.specs.Which.{AreMatchedAll, IsNumbered}
-use Rattle.bind_carry.proofs.CountedCopies.{world_flag}
 use Rattle.bind_carry.proofs.FirstCarried.{chosen_so}
 use Rattle.bind_carry.proofs.FirstPackages.{found_own}
 use Rattle.bind_carry.proofs.Ranges.{is_in_range}
@@ -40,6 +39,7 @@ use Rattle.wit_bind.specs.Merges.{is_new_interface, is_new_package, is_new_world
 use Rattle.base_lemmas.proofs.Bools.{left_of as first_true, right_of as second_true}
 use Rattle.base_lemmas.proofs.Lists.{mapped_get as mapped_at}
 use Rattle.std.proofs.lemmas.Map.Keys.{any_passes_from_place as any_at}
+use Rattle.bind_carry.proofs.NamesGained.{new_world_flag as world_flag}
 
 -- ---- what stands under a path
 

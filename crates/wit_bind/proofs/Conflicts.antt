@@ -12,7 +12,6 @@ use Rattle.wit_model.specs.declared.model.StringEncoding.{StringEncoding}
 use Rattle.wit_model.specs.declared.model.StringEncoding.TheVariants as encodings
 use Rattle.wit_model.specs.contracts.model.StringEncodingPartialEq.TheImpl as encoding
 use Rattle.wit_model.specs.Text.{Text, text_eq, text_of}
-use Rattle.wit_model.proofs.AnyOrder.{text-same}
 use Rattle.wit_model.proofs.VersionLaws.{same_text}
 use Rattle.bind_meaning.specs.Clash.{Differ, EncodingFault, itself}
 use Rattle.bind_clash.specs.Faults.{IsLeastFault, least_of}
@@ -20,6 +19,7 @@ use Rattle.bind_clash.proofs.LeastFaults.{of_two, one_fault, same_faults}
 use Rattle.wit_bind.specs.Encodings.{Encodings, encoding_at, kept_encodings, number_of_encoding}
 use Rattle.wit_bind.specs.Unions.{conflict_at, Gains, has_another, or_else}
 use Rattle.wit_bind.proofs.Kept.{Entries, kept_at, under, under_put}
+use Rattle.wit_model.proofs.TextLemmas.{text_same as text-same}
 
 -- ---- the least of what is left, beside the least so far
 

@@ -11,11 +11,12 @@ use Rattle.wit_model.specs.declared.model.Resolve.{Resolve}
 use Rattle.wit_model.specs.declared.model.StringEncoding.{StringEncoding}
 use Rattle.wit_model.specs.declared.model.WorldKey.{WorldKey}
 use Rattle.wit_model.specs.Text.{Text, text_eq, text_cmp, text_of}
-use Rattle.wit_model.proofs.AnyOrder.{same-text, text-same}
+use Rattle.wit_model.proofs.AnyOrder.{same-text}
 use Rattle.wit_bind.specs.Keys.{function_key}
 use Rattle.wit_bind.specs.Encodings.{encoding_at, encoding_under, kept_encodings}
 use Rattle.wit_bind.specs.KeyTests.{is_key_of}
 use Rattle.wit_bind.specs.KeyLists.{Puts}
+use Rattle.wit_model.proofs.TextLemmas.{text_same as text-same}
 
 abbrev pub Entries : Type 0
 Entries = List (String Global × StringEncoding)

@@ -5,16 +5,9 @@ use Rattle.wit_model.specs.Text.{Text, text_eq}
 use Rattle.wit_model.specs.Rules.{after_prefix}
 use Rattle.wit_bind.specs.Keys.{text_under}
 use Rattle.wit_bind.specs.KeyTests.{after_slash}
+use Rattle.wit_model.proofs.RulesLemmas.{after_both}
 
 -- two texts, one after the other
-pub after_both : (p q t : Text) → after_prefix (p ++ q) t ≡ option_and_then (after_prefix q) (after_prefix p t)
-after_both [] q t = refl
-after_both (p ∷ ps) q [] = refl
-after_both (p ∷ ps) q (b ∷ bs) = by (p == b) (after_both ps q bs)
-  where
-    by : (v : Bool) → after_prefix (ps ++ q) bs ≡ option_and_then (after_prefix q) (after_prefix ps bs) → cond v (after_prefix (ps ++ q) bs) None ≡ option_and_then (after_prefix q) (cond v (after_prefix ps bs) None)
-    by true h = h
-    by false h = refl
 
 -- a text and what it ends with
 pub same_after : (p q t : Text) → text_eq (p ++ q) t ≡ option_map_or (text_eq q) (after_prefix p t) false

@@ -3,12 +3,12 @@ use Rattle.std.proofs.Common.{◌≡◌, refl, sym, ap, ◌∙◌, ◌⊎◌, in
 use Rattle.std.specs.List.{Contains, cons_option}
 use Rattle.wit_model.specs.declared.model.StringEncoding.{StringEncoding}
 use Rattle.wit_model.specs.Text.{Text, text_eq}
-use Rattle.wit_model.proofs.AnyOrder.{text-same}
 use Rattle.wit_model.proofs.Elements.{none-in}
 use Rattle.wit_model.proofs.VersionLaws.{same_text}
 use Rattle.wit_bind.specs.Encodings.{Encodings, encoding_at}
 use Rattle.wit_bind.specs.KeyLists.{Entry, Puts, put_all}
 use Rattle.std.proofs.lemmas.Option.{same_Some as same-some}
+use Rattle.wit_model.proofs.TextLemmas.{text_same as text-same}
 
 abbrev Look : Type 0
 Look = Text → Option StringEncoding

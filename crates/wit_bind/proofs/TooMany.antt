@@ -23,7 +23,6 @@ use Rattle.wit_model.specs.Rules.{same_package_name}
 use Rattle.wit_model.specs.Text.{Text, text_eq, text_of}
 use Rattle.wit_model.specs.Uses.{owner_interface}
 use Rattle.wit_model.specs.Valid.{IsValid}
-use Rattle.wit_model.proofs.AnyOrder.{text-same}
 use Rattle.wit_model.proofs.NameLaws.{identity_namespace, label_lacks}
 use Rattle.wit_model.proofs.OnePath.{package-name}
 use Rattle.wit_model.proofs.VersionLaws.{same_name}
@@ -45,7 +44,7 @@ use Rattle.bind_carry.specs.Renumbered.{is_matched}
 use Rattle.bind_carry.specs.Shown.{AreShownBelow}
 use Rattle.bind_carry.specs.TooLong.{carried_interfaces, carried_packages, carried_worlds, copies_of, gained_fates, IsTooLong, CarriedThings, TypeFates}
 use Rattle.bind_carry.specs.Which.{AreMatchedAll, IsNumbered}
-use Rattle.bind_carry.proofs.CountedCopies.{first_few, flags_few, gained_few, interfaces_flagged, second_few, world_flag, worlds_flagged, IsHomeCopied}
+use Rattle.bind_carry.proofs.CountedCopies.{first_few, flags_few, gained_few, interfaces_flagged, second_few, worlds_flagged, IsHomeCopied}
 use Rattle.bind_carry.proofs.FirstCarried.{chosen_so}
 use Rattle.bind_carry.proofs.Marking.{are_chosen}
 use Rattle.bind_carry.proofs.PartsCarried.{no_home}
@@ -58,6 +57,8 @@ use Rattle.base_lemmas.proofs.Lists.{mapped_get as mapped_at, within_there}
 use Rattle.base_lemmas.proofs.Numbers.{same-number}
 use Rattle.std.proofs.lemmas.Option.{same_Some as same-some}
 use Rattle.wit_model.proofs.NameLaws.{identity_name as label-of}
+use Rattle.bind_carry.proofs.NamesGained.{new_world_flag as world_flag}
+use Rattle.wit_model.proofs.TextLemmas.{text_same as text-same}
 
 untrue : {A : Type 0} → false ≡ true → A
 untrue e = let no : ⊥ = cc in absurd no

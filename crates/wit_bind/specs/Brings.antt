@@ -19,30 +19,33 @@ use Rattle.wit_bind.specs.Merges.{is_new_interface, is_new_package, is_new_world
 
 -- ---- what is said of things beside what they mean
 
--- Of a function, a type or an item. The last is the documentation of a type's fields, cases or flags.
+-- What is said of a function, a type or an item. The last is the documentation of a type's fields, cases or flags.
 pub record Notes : Type 0 where
   pub docs : Option Text
   pub stability : StabilityView
   pub external_id : Option Text
   pub of_members : List (Option Text)
 
+-- what is said of a function
 abbrev pub function_notes : Function → Notes
 function_notes f = record { docs = optional_text f.docs.contents; stability = stability_view f.stability; external_id = optional_text f.external_id; of_members = [] }
 
+-- what is said of a type
 abbrev pub type_notes : TypeDef → Notes
 type_notes t = record { docs = optional_text t.docs.contents; stability = stability_view t.stability; external_id = optional_text t.external_id; of_members = member_docs t.kind }
 
--- the same of the type of a number
+-- what is said of the type of this number
 abbrev pub type_notes_at : Resolve → ℕ → Option Notes
 type_notes_at r n = option_map type_notes (type_at r n)
 
--- Of an interface, its functions by their names and its types by theirs, both in their order.
+-- What is said of an interface, of its functions by their names and of its types by theirs, both in their order.
 pub record InterfaceNotes : Type 0 where
   pub docs : Option Text
   pub stability : StabilityView
   pub functions : List (Text × Notes)
   pub types : List (Text × Option Notes)
 
+-- what is said of an interface, its functions and its types
 abbrev pub interface_notes : Resolve → Interface → InterfaceNotes
 interface_notes r i = record {
   docs = optional_text i.docs.contents;
@@ -51,15 +54,16 @@ interface_notes r i = record {
   types = map (λ e. (text_of e.0, type_notes_at r e.1.0)) i.types.entries;
 }
 
--- the same of the interface of a number, where it is inline, and so comes with the item that shows it
+-- what is said of an interface where it is inline, and so comes with the item that shows it
 abbrev pub inline_notes : Resolve → ℕ → Option InterfaceNotes
 inline_notes r n = option_and_then (λ i. if is_none i.name then Some (interface_notes r i) else None) (interface_at r n)
 
--- Of an item of a world, and of the inline interface that it shows.
+-- What is said of an item of a world, and of the inline interface that it shows.
 pub record ItemNotes : Type 0 where
   pub itself : Option Notes
   pub inline : Option InterfaceNotes
 
+-- what is said of an item
 abbrev pub item_notes : Resolve → WorldItem → ItemNotes
 item_notes r (item.Interface id stability docs external_id) = record {
   itself = Some (record { docs = optional_text docs.contents; stability = stability_view stability; external_id = optional_text external_id; of_members = [] });
@@ -68,17 +72,18 @@ item_notes r (item.Interface id stability docs external_id) = record {
 item_notes r (item.Function f) = record { itself = Some (function_notes f); inline = None }
 item_notes r (item.Type_ id) = record { itself = type_notes_at r id.0; inline = None }
 
--- under the label or the path of its key
+-- what is said of an import or an export, under the label or the path of its key
 abbrev pub entry_notes : Resolve → WorldKey × WorldItem → Text × ItemNotes
 entry_notes r e = (key_text r e.0, item_notes r e.1)
 
--- Of a world, its imports and its exports in their order.
+-- What is said of a world, and of its imports and its exports in their order.
 pub record WorldNotes : Type 0 where
   pub docs : Option Text
   pub stability : StabilityView
   pub imports : List (Text × ItemNotes)
   pub exports : List (Text × ItemNotes)
 
+-- what is said of a world
 abbrev pub world_notes : Resolve → World → WorldNotes
 world_notes r w = record {
   docs = optional_text w.docs.contents;

@@ -21,10 +21,11 @@ use Rattle.wit_bind.specs.Encodings.{Encodings, encoding_at}
 abbrev pub Items : Type 0
 Items = List (WorldKey × WorldItem)
 
--- what the world of this number imports, and what it exports
+-- what the world of this number imports
 abbrev pub imports_of : Resolve → ℕ → Items
 imports_of r n = option_map_or (λ w. w.imports.entries) (world_at r n) []
 
+-- what the world of this number exports
 abbrev pub exports_of : Resolve → ℕ → Items
 exports_of r n = option_map_or (λ w. w.exports.entries) (world_at r n) []
 

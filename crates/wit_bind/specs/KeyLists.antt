@@ -21,6 +21,7 @@ use Rattle.wit_bind.specs.Functions.{Items}
 abbrev pub Choice : Type 0
 Choice = WorldKey → Text → Option StringEncoding
 
+-- a key with its encoding
 abbrev pub Entry : Type 0
 Entry = Text × StringEncoding
 

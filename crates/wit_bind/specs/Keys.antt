@@ -30,6 +30,7 @@ unversioned name = record { namespace = text_of name.namespace; name = text_of n
 abbrev pub unversioned_path : Resolve → ℕ → Option Text
 unversioned_path r n = option_map (λ e. path_in (unversioned e.0) (text_of e.1)) (full_name r n)
 
+-- what the functions of a key stand under, without version: a label, or an interface's path
 abbrev pub unversioned_scope_of : Resolve → WorldKey → Option Text
 unversioned_scope_of r (key.Name name) = Some (text_of name)
 unversioned_scope_of r (key.Interface id) = unversioned_path r id.0

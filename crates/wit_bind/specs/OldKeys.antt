@@ -27,7 +27,7 @@ abbrev pub items_of : Side → World → Items
 items_of sides.Imports w = w.imports.entries
 items_of sides.Exports w = w.exports.entries
 
--- the same of the world of a number
+-- what the world of this number imports, or exports
 abbrev pub items_on : Side → Resolve → ℕ → Items
 items_on side r n = option_map_or (items_of side) (world_at r n) []
 
@@ -54,7 +54,7 @@ pub record CarriesOver (old : Text → Option StringEncoding) (r : Resolve) (ite
   pub each : (k : Text) (e : StringEncoding) → HadEncoding old r items k e → (f : StringEncoding) × (encoding_at m k ≡ Some f)
   pub only : (k : Text) (e : StringEncoding) → encoding_at m k ≡ Some e → HadEncoding old r items k e
 
--- the same where each key has just the encoding that a function of it had
+-- A map has, under the key of each function that had an encoding under its old key, just that one, and no others.
 pub record CarriesEach (old : Text → Option StringEncoding) (r : Resolve) (items : Items) (m : Encodings) : Type 0 where
   pub each : (k : Text) (e : StringEncoding) → HadEncoding old r items k e → encoding_at m k ≡ Some e
   pub only : (k : Text) (e : StringEncoding) → encoding_at m k ≡ Some e → HadEncoding old r items k e

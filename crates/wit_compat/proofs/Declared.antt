@@ -29,13 +29,14 @@ use Rattle.wit_compat.specs.declared.look.Look.TheVariants as look
 use Rattle.wit_compat.specs.Opened.{form_of, places_of}
 use Rattle.wit_compat.specs.Table.{AllInRange, InRange}
 use Rattle.wit_compat.specs.TwoSides.{aliased, is_resource_itself, IsKindOf, SameDeclared, TellsDeclared}
-use Rattle.wit_compat.proofs.Alike.{below_number, children_back, is_below, node_children, node_form}
+use Rattle.wit_compat.proofs.Alike.{below_number, is_below, node_children, node_form}
 use Rattle.wit_compat.proofs.OpenedTable.{opened_built}
 use Rattle.wit_compat.proofs.Sided.{named_is, never, number_case, places_in_range}
 use Rattle.base_lemmas.proofs.Bools.{right_of as second_true}
 use Rattle.base_lemmas.proofs.Elements.{last_of as one-contained}
 use Rattle.base_lemmas.proofs.Lists.{within_there as found_at}
 use Rattle.std.proofs.lemmas.Option.{slice_get_within as below_length}
+use Rattle.wit_model.proofs.TreeLemmas.{child_list_of_children as children_back}
 
 true_false : {P : Type 0} → true ≡ false → P
 true_false e = let wrong : ⊥ = cc in absurd wrong

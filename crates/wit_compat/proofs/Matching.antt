@@ -13,12 +13,6 @@ use Rattle.wit_compat.proofs.Including.{found_shown}
 use Rattle.wit_compat.proofs.Transitive.{found_stands}
 use Rattle.base_lemmas.proofs.Elements.{contains-map as contains_mapped}
 
--- what follows from a result
-
-pub err_then : {X E : Type 0} {P Q : E → Type 0} (x : Result X E) → ((e : E) → P e → Q e) → IfErr x P → IfErr x Q
-err_then (Ok v) f p = tt
-err_then (Err e) f p = f e p
-
 -- the same is found in both
 abbrev pub AreAlike : List (Name × Thing) → List (Name × Thing) → Type 0
 AreAlike xs ys = (name : Name) → find_named name xs ≡ find_named name ys

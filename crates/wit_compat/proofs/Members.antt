@@ -1,15 +1,15 @@
 -- What is found under a name, and what two interfaces have by name.
 use Rattle.std.proofs.Common.{◌≡◌, ◌↔◌, sym, ap, ◌∙◌, ℕ, Bool, false, List, Option, Some, None, option_map, IsTrue}
 use Rattle.std.specs.List.{Contains, IsAmong}
-use Rattle.std.specs.Option.{option_map_or}
 use Rattle.wit_model.specs.declared.model.Resolve.{Resolve}
 use Rattle.wit_model.specs.declared.model.Interface.{Interface}
 use Rattle.wit_model.specs.Lookup.{interface_at}
 use Rattle.wit_model.specs.Meaning.{InterfaceSense, interface_sense}
-use Rattle.wit_model.specs.Meant.{interface_meaning, interface_meaning_at, no_interface}
+use Rattle.wit_model.specs.Meant.{interface_meaning, interface_meaning_at}
 use Rattle.wit_compat.specs.TwoSides.{functions_sense, types_sense}
 use Rattle.wit_compat.proofs.Sided.{never}
 use Rattle.std.proofs.lemmas.Option.{same_Some as same-some}
+use Rattle.wit_model.proofs.MeantLemmas.{meaning_there as interface_there}
 
 pub among_contains : {X : Type 0} (xs : List X) (x : X) → IsAmong xs x → Contains xs x
 among_contains xs x (i, h) = (i, h.0, sym h.1)
@@ -26,9 +26,6 @@ module _ {X Y : Type 0} (g : Y → X) (x : X) where
   missing_exact o e = never _ (λ same. let wrong : None ≡ Some x = sym (ap (option_map g) e) ∙ same in let z : ⊥ = cc in z)
 
 -- ---- interfaces
-
-pub interface_there : (r : Resolve) (n : ℕ) (i : Interface) → interface_at r n ≡ Some i → interface_meaning_at r n ≡ interface_meaning r i
-interface_there r n i at = ap (λ o. option_map_or (interface_meaning r) o no_interface) at
 
 module _ (a b : Resolve) where
   module _ (i j : Interface) where

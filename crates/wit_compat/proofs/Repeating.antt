@@ -1,5 +1,5 @@
 -- Texts that stand once, and the first that repeats an earlier one.
-use Rattle.std.proofs.Common.{arith, ◌≡◌, refl, sym, ap, subst, ◌∙◌, ◌⊎◌, inl, inr, true, false, cond, Bool, List, [], ◌∷◌, ◌++◌, append_assoc, map, Bor, ℕ, ◌||◌, Option, None, Some, MatchOption, Result, Ok, Err, IfOk}
+use Rattle.std.proofs.Common.{arith, ◌≡◌, refl, sym, ap, subst, ◌∙◌, ◌⊎◌, inl, inr, true, false, cond, List, [], ◌∷◌, ◌++◌, append_assoc, map, Bor, ℕ, Option, None, Some, MatchOption, Result, Ok, Err, IfOk}
 use Rattle.std.specs.List.{list_any, AllByRecursion, Contains, IsDistinct}
 use Rattle.std.proofs.lemmas.List.{map-append}
 use Rattle.std.proofs.lemmas.List.Elements.{Contains-append_left, Contains-append_right, Contains-append_cases, Contains-push}
@@ -11,6 +11,7 @@ use Rattle.wit_model.proofs.Distinct.{text_eq_flip}
 use Rattle.wit_compat.specs.Compatible.{bare_keys, keys_of_world, HasKeysOnce, IsFirstRepeat, IsRepeatedIn}
 use Rattle.base_lemmas.proofs.Elements.{any_of_map as list_any_mapped, last_of as contains_one}
 use Rattle.std.proofs.lemmas.Bool.{or_parts as neither}
+use Rattle.wit_model.proofs.TextLemmas.{text_there as any_there}
 
 abbrev pub now : List (Bor (List ℕ)) → List Text
 now = map (λ s. s.now)
@@ -19,14 +20,6 @@ pub now_push : (keys : List (Bor (List ℕ))) (t : Bor (List ℕ)) → now (keys
 now_push keys t = map-append (λ s. s.now) keys (t ∷ [])
 
 -- ---- a text more
-
-pub any_there : (t : Text) (ts : List Text) → list_any (text_eq t) ts ≡ true → Contains ts t
-any_there t [] e = absurd (let z : ⊥ = cc in z)
-any_there t (x ∷ xs) e = by (any_there t xs) (text_eq t x) refl e
-  where
-    by : (list_any (text_eq t) xs ≡ true → Contains xs t) → (b : Bool) → text_eq t x ≡ b → (b || list_any (text_eq t) xs) ≡ true → Contains (x ∷ xs) t
-    by later true same f = subst (Contains (x ∷ xs)) (sym ((bytes_eq-Decides t x).0 same)) (Contains-append_left (x ∷ []) xs x (Contains-push [] x))
-    by later false other f = Contains-append_right (x ∷ []) xs t (later f)
 
 apart_push : (x : Text) (xs : List Text) (t : Text) → AllByRecursion (λ y. text_eq x y ≡ false) xs → text_eq t x ≡ false → AllByRecursion (λ y. text_eq x y ≡ false) (xs ++ t ∷ [])
 apart_push x [] t h e = (text_eq_flip x t ∙ e, tt)

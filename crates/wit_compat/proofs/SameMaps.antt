@@ -1,6 +1,6 @@
 -- Two maps made of lists of entries are the same where their lists are as long, and each entry of the one is found in the other.
 use Rattle.std.proofs.Common.{◌≡◌, refl, sym, ap, subst, ◌∙◌, arith, ◌≤◌, Bool, true, false, ◌||◌, cond, List, [], ◌∷◌, map, length, Option, Some, None, is_some, IsSome, option_map}
-use Rattle.std.specs.List.{Contains, AllByRecursion, IsDistinct, list_any}
+use Rattle.std.specs.List.{Contains, IsDistinct, list_any}
 use Rattle.std.specs.Map.{keys_of, lookup}
 use Rattle.std.specs.FinMap.{find, from_entries, get-from_entries, same_map, slice_cmp-IsAntisymmetric, nat_cmp-IsAntisymmetric}
 use Rattle.std.proofs.Math.ListN.{length-map}
@@ -8,21 +8,14 @@ use Rattle.std.proofs.lemmas.Cmp.{nat_list_cmp_total, nat_list_eq_equiv}
 use Rattle.std.proofs.lemmas.Map.Keys.{IsDistinct-cons}
 use Rattle.std.proofs.lemmas.Map.Steps.{length-le_from_keys}
 use Rattle.wit_model.specs.Text.{Text, TextMap, text_cmp, text_eq}
-use Rattle.wit_model.proofs.AnyOrder.{same-text, text-same, there-found}
+use Rattle.wit_model.proofs.AnyOrder.{same-text, there-found}
 use Rattle.wit_model.proofs.Lists.{lookup_any}
 use Rattle.base_lemmas.proofs.Elements.{contains-later, contains-map}
+use Rattle.base_lemmas.proofs.Options.{there as some_there}
+use Rattle.wit_model.proofs.TextLemmas.{none_of_texts as all_apart, text_same as text-same}
 
 true_false : {P : Type 0} → true ≡ false → P
 true_false e = let wrong : ⊥ = cc in absurd wrong
-
-all_apart : (q : Text) (ks : List Text) → list_any (text_eq q) ks ≡ false → AllByRecursion (λ y. text_eq q y ≡ false) ks
-all_apart q [] h = tt
-all_apart q (k ∷ ks) h = by (text_eq q k) refl h (all_apart q ks)
-  where
-    by : (b : Bool) → text_eq q k ≡ b → (b || list_any (text_eq q) ks) ≡ false → (list_any (text_eq q) ks ≡ false → AllByRecursion (λ y. text_eq q y ≡ false) ks)
-        → (text_eq q k ≡ false) × AllByRecursion (λ y. text_eq q y ≡ false) ks
-    by true t h later = true_false h
-    by false t h later = (t, later h)
 
 module _ {X : Type 0} where
   abbrev as_map : List (Text × X) → TextMap X
@@ -60,10 +53,6 @@ module _ {X : Type 0} where
       by : (b : Bool) → text_eq q e.0 ≡ b → cond b (Some e.1) (under q es) ≡ Some x → (under q es ≡ Some x → under q fs ≡ Some x) → under q fs ≡ Some x
       by true t h later = ap (λ k. under k fs) (text-same q e.0 t) ∙ a.0 ∙ h
       by false t h later = later h
-
-  some_there : (o : Option X) → is_some o ≡ true → (x : X) × (o ≡ Some x)
-  some_there None h = let wrong : ⊥ = cc in absurd wrong
-  some_there (Some x) h = (x, refl)
 
   -- a name among those of the list
   key_some : (q : Text) (es : List (Text × X)) → list_any (text_eq q) (keys_of es) ≡ true → IsSome (under q es)

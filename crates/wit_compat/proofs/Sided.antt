@@ -1,5 +1,5 @@
 -- Types of two `Resolve`s, and the paths of their interfaces.
-use Rattle.std.proofs.Common.{arith, ◌≡◌, ◌↔◌, refl, sym, ap, subst, ◌∙◌, ◌⊎◌, inl, inr, ℕ, ◌+◌, ◌<◌, ◌≤◌, Bool, true, false, not, ◌||◌, cond, List, [], ◌∷◌, ◌++◌, take, map, length, get_or, slice_get, Option, Some, None, option_map, option_and_then, unwrap_or, is_some, IsTrue, String, Vec, Result, Ok, Err, IfOk}
+use Rattle.std.proofs.Common.{arith, ◌≡◌, ◌↔◌, refl, sym, ap, subst, ◌∙◌, ◌⊎◌, inl, inr, ℕ, ◌+◌, ◌<◌, ◌≤◌, Bool, true, false, not, ◌||◌, cond, List, [], ◌∷◌, ◌++◌, take, map, length, get_or, slice_get, Option, Some, None, option_map, unwrap_or, is_some, IsTrue, String, Vec, Result, Ok, Err, IfOk}
 use Rattle.std.specs.declared.alloc.Global.{Global}
 use Rattle.std.specs.declared.alloc.AllocError.{AllocError}
 use Rattle.std.specs.List.{Contains}
@@ -17,7 +17,7 @@ use Rattle.wit_model.specs.declared.model.Handle.TheVariants as handle
 use Rattle.wit_model.specs.declared.model.«Type».{«Type» as ValueType}
 use Rattle.wit_model.specs.declared.model.«Type».TheVariants as ty
 use Rattle.wit_model.specs.declared.model.PackageName.{PackageName}
-use Rattle.wit_model.specs.Lookup.{identity_of, package_at, place_of, type_at}
+use Rattle.wit_model.specs.Lookup.{identity_of, place_of, type_at}
 use Rattle.wit_model.specs.Names.{is_identity, is_label, is_version, path_in}
 use Rattle.wit_model.specs.Paths.{full_name}
 use Rattle.wit_model.specs.Rules.{is_named_kind, is_named_number, passes, same_package_name}
@@ -28,7 +28,7 @@ use Rattle.wit_model.specs.Uses.{alias_target}
 use Rattle.wit_model.specs.Valid.{IsValid, named_kinds}
 use Rattle.wit_model.proofs.Entries.{each_from_at, lists_pass}
 use Rattle.wit_model.proofs.NameLaws.{one_path}
-use Rattle.wit_model.proofs.OnePath.{HasPath, has-path, package-name, path-label}
+use Rattle.wit_model.proofs.OnePath.{has-path, package-name, path-label}
 use Rattle.wit_model.proofs.PathParts.{path_made}
 use Rattle.wit_model.proofs.VersionLaws.{same_name}
 use Rattle.wit_model.proofs.TreeTable.{kept_numbers, kept_trees_at}
@@ -39,22 +39,18 @@ use Rattle.wit_compat.specs.Table.{AllInRange, InRange, is_alias}
 use Rattle.wit_compat.specs.declared.side.Path.{Path}
 use Rattle.wit_compat.specs.TwoSides.{path_text, IsKnown, name_leaf, rank, AllSame, IsParted, SameType, Says}
 use Rattle.wit_compat.specs.Walk.{Pair}
-use Rattle.wit_compat.proofs.Alike.{below_number, children_back, is_below, node_children, node_form, places_below, primitive_back, primitive_in, tree_of_number}
+use Rattle.wit_compat.proofs.Alike.{below_number, is_below, node_children, node_form, places_below, primitive_back, primitive_in, tree_of_number}
 use Rattle.wit_compat.proofs.OpenedTable.{built, opened_built}
 use Rattle.base_lemmas.proofs.Bools.{left_of as first_true, not_or}
 use Rattle.base_lemmas.proofs.Elements.{all-contained as all_contained, get-contains as contains_at}
 use Rattle.base_lemmas.proofs.Lists.{take_found as take_more_at, within_there as found_at}
+use Rattle.wit_model.proofs.PathsLemmas.{named_in_full}
+use Rattle.wit_model.proofs.TreeLemmas.{child_list_of_children as children_back}
 
 -- ---- paths
 
 abbrev path_of : PackageName × String Global → Text
 path_of e = path_in (identity_of e.0) (text_of e.1)
-
-named_in_full : (r : Resolve) (n : ℕ) (path : Text) (h : HasPath r n path) → full_name r n ≡ Some (h.package_.name, h.name)
-named_in_full r n path h =
-    ap (λ o. option_and_then (λ i. option_and_then (λ name. option_map (λ p. (p.name, name)) (option_and_then (λ i. option_and_then (λ p. package_at r p.0) i.package) o)) i.name) o) h.there
-    ∙ (λ i. option_and_then (λ name. option_map (λ p. (p.name, name)) (option_and_then (λ p. package_at r p.0) (h.in_package i))) (h.named_ i))
-    ∙ ap (option_map (λ p. (p.name, h.name))) h.stands
 
 -- the parts of a path are what a package and an interface may be called
 abbrev pub ArePartsOfPath : PackageName × String Global → Type 0

@@ -18,11 +18,11 @@ use Rattle.wit_model.specs.Meaning.{Entry, InterfaceSense, WorldSense, entries_s
 use Rattle.wit_model.specs.Meant.{entries_meaning, entry_meaning, no_world, world_meaning, world_meaning_at}
 use Rattle.wit_model.specs.Rules.{entries_in_range, item_in_range, key_in_range}
 use Rattle.wit_model.specs.Text.{Text, text_cmp, text_eq, text_of}
-use Rattle.wit_model.proofs.AnyOrder.{text-same}
 use Rattle.wit_compat.specs.TwoSides.{indexed_sense, sense_entry, AllItemsInRange, BorrowedEntry, PutsFirst}
 use Rattle.wit_compat.proofs.SameMaps.{maps_same, under, under_is}
 use Rattle.base_lemmas.proofs.Bools.{left_of as first_true, right_of as second_true}
 use Rattle.base_lemmas.proofs.Options.{there as some-of}
+use Rattle.wit_model.proofs.TextLemmas.{text_same as text-same}
 
 -- ---- the first of two answers
 

@@ -34,6 +34,7 @@ pub record Compatible (r : Resolve) (prev new : World) : Type 0 where
 abbrev pub package_name : Resolve → World → Option PackageIdentity
 package_name r w = option_map (λ p. bare_identity p.name) (package_of_world r w)
 
+-- the keys of imports or exports, without version
 abbrev pub bare_keys : Resolve → List (WorldKey × WorldItem) → List Text
 bare_keys r es = map (λ e. bare_key r e.0) es
 
@@ -161,6 +162,6 @@ pub data IsRefused (r : Resolve) (prev new : World) : Error → Type 0 where
   memory : IsRefused r prev new error.Memory
   refused : (e : Error) (f : Refusal) → refusal_of e ≡ Some f → Refuses r prev new f → IsRefused r prev new e
 
--- of the worlds of these two numbers
+-- this holds of the worlds of these two numbers
 abbrev pub OfWorlds : Resolve → WorldId → WorldId → (World → World → Type 0) → Type 0
 OfWorlds r prev new Holds = (p n : World) → world_at r prev.0 ≡ Some p → world_at r new.0 ≡ Some n → Holds p n

@@ -36,11 +36,13 @@ bare_path r n = option_map (λ e. path_in (bare_identity e.0) (text_of e.1)) (fu
 
 -- ---- the label of an inline interface
 
+-- whether an item is the interface of this number
 abbrev pub is_item_of : ℕ → WorldItem → Bool
 is_item_of n (item.Interface id stability docs external_id) = id.0 == n
 is_item_of n (item.Function f) = false
 is_item_of n (item.Type_ id) = false
 
+-- the label that a key is; a path has none
 abbrev pub label_of_key : WorldKey → Text
 label_of_key (key.Name name) = text_of name
 label_of_key (key.Interface id) = []
@@ -50,9 +52,11 @@ abbrev pub label_among : ℕ → List (WorldKey × WorldItem) → Option Text
 label_among n [] = None
 label_among n (e ∷ es) = if is_item_of n e.1 then Some (label_of_key e.0) else label_among n es
 
+-- the imports and the exports of a world
 abbrev pub entries_of_world : World → List (WorldKey × WorldItem)
 entries_of_world w = w.imports.entries ++ w.exports.entries
 
+-- the label of an inline interface, from the worlds of the `Resolve`
 abbrev pub inline_label : Resolve → ℕ → Text
 inline_label r n = unwrap_or (label_among n (flat_map entries_of_world r.worlds.items)) []
 
@@ -85,6 +89,7 @@ abbrev pub opened_kind : Tree → List Tree → TypeDefKind → Tree
 opened_kind leaf trees kind.Resource = leaf
 opened_kind leaf trees k = tree_of_declaration (declared_by trees k)
 
+-- the opened tree of a definition; a resource is a leaf by its place and name
 abbrev pub opened_definition : Resolve → List Tree → TypeDef → Tree
 opened_definition r trees def = opened_kind (resource_leaf r def) trees def.kind
 
@@ -92,6 +97,7 @@ opened_definition r trees def = opened_kind (resource_leaf r def) trees def.kind
 unfoldable pub opened_of : Resolve → List Tree
 opened_of r = grow (opened_definition r) [] r.types.items
 
+-- the opened tree of a type
 abbrev pub opened_tree : Resolve → ValueType → Tree
 opened_tree r t = tree_of (opened_of r) t
 

@@ -8,6 +8,7 @@ use Rattle.wit_model.specs.Meant.{entry_meaning, interface_meaning, world_meanin
 use Rattle.wit_compat.specs.declared.place.Place.{Place}
 use Rattle.wit_compat.specs.declared.place.Place.TheVariants as place
 
+-- the sense of an interface, a world or an import
 pub data Sense : Type 0 where
   of_interface : InterfaceSense → Sense
   of_world : WorldSense → Sense

@@ -57,7 +57,7 @@ pub record IsSide (s : Side) : Type 0 where
 abbrev pub SameType : Resolve → Resolve → ValueType → ValueType → Type 0
 SameType a b t u = type_tree a t ≡ type_tree b u
 
--- each pair of numbers stands for the same
+-- each pair of numbers is of two types that stand for the same
 abbrev pub AllSame : Resolve → Resolve → List Pair → Type 0
 AllSame a b pairs = (p : Pair) → Contains pairs p → number_tree a p.0 ≡ number_tree b p.1
 
@@ -160,10 +160,11 @@ AllItemsInRange r es = (e : BorrowedEntry) → Contains es e → item_in_range r
 
 -- ---- a comparison of many places
 
--- the first `Resolve` of a comparison, and the second
+-- the first `Resolve` of a comparison
 abbrev pub first_of : Senses → Resolve
 first_of s = s.left.resolve.now
 
+-- the second `Resolve` of a comparison
 abbrev pub second_of : Senses → Resolve
 second_of s = s.right.resolve.now
 

@@ -1,4 +1,4 @@
--- Which pairs of type numbers a comparison may have to compare, aliases followed.
+-- Which pairs of type numbers a comparison of two worlds may have to compare, aliases followed.
 use Rattle.std.specs.Prelude.{◌≡◌, ℕ, Bool, true, false, if◌then◌else◌, List, [], ◌∷◌, ◌++◌, length, map, flat_map, Option, Some, option_to_list, is_some, unwrap_or, slice_get}
 use Rattle.std.specs.Option.{option_map_or}
 use Rattle.std.specs.List.{Contains}
@@ -18,7 +18,7 @@ use Rattle.wit_compat.specs.Flat.{Name, Thing, of_type, of_function, find_named,
 
 -- ---- aliases followed
 
--- a type, from a table of what earlier numbers are
+-- what a type is, from a table of what earlier numbers are
 abbrev pub in_heads : List ValueType → ValueType → ValueType
 in_heads heads (ty.Id id) = unwrap_or (slice_get heads id.0) (ty.Id id)
 in_heads heads t = t
@@ -28,6 +28,7 @@ abbrev pub head_of_kind : List ValueType → TypeDefKind → ValueType
 head_of_kind heads (kind.Type_ t) = in_heads heads t
 head_of_kind heads k = ty.Id (record { 0 = length heads })
 
+-- what a type number is, aliases followed, from what earlier numbers are
 abbrev pub head_of : List ValueType → TypeDef → ValueType
 head_of heads def = head_of_kind heads def.kind
 
@@ -40,6 +41,7 @@ followed r t = in_heads (heads_of r) t
 
 -- ---- pairs
 
+-- the numbers of two types that are compared
 abbrev pub Pair : Type 0
 Pair = ℕ × ℕ
 
@@ -48,8 +50,7 @@ abbrev pub both : Option ℕ → Option ℕ → List Pair
 both (Some a) (Some b) = (a, b) ∷ []
 both _ _ = []
 
--- the pairs at equal places of two lists of types
--- by a table of what each number is, aliases followed
+-- the pairs at equal places of two lists of types, by a table of what each number is, aliases followed
 abbrev pub pairs_at : List ValueType → List ValueType → List ValueType → List Pair
 pairs_at heads [] us = []
 pairs_at heads (t ∷ ts) [] = []
@@ -80,6 +81,7 @@ pairs_of_things r _ _ = []
 abbrev pub pairs_between : Resolve → Bool → Thing → Thing → List Pair
 pairs_between r back small large = if back then pairs_of_things r large small else pairs_of_things r small large
 
+-- the pairs of a thing of the small list and the one of that name in the large list, if there is one
 abbrev pub pairs_of_entry : Resolve → Bool → List (Name × Thing) → Name × Thing → List Pair
 pairs_of_entry r back large e = option_map_or (pairs_between r back e.1) (find_named e.0 large) []
 
@@ -98,10 +100,11 @@ pub data Reached (r : Resolve) (roots : List Pair) : Pair → Type 0 where
   root : (p : Pair) → Contains roots p → Reached r roots p
   below : (p q : Pair) → Reached r roots p → Contains (pairs_below r p) q → Reached r roots q
 
+-- the pairs of types that two worlds lead to, from what both have under one name
 abbrev pub Walk : Resolve → World → World → Pair → Type 0
 Walk r prev new = Reached r (pairs_of_worlds r prev new)
 
--- each stands once
+-- each of these pairs stands once
 abbrev pub AreDifferent : List Pair → Type 0
 AreDifferent [] = Unit {0}
 AreDifferent (p ∷ ps) = (Contains ps p → ⊥) × AreDifferent ps

@@ -48,10 +48,11 @@ RefusesReadBack p errors.Size = Unit {0}
 RefusesReadBack p (errors.NoReading cause offset) = HasNoMembers p
 RefusesReadBack p _ = ⊥
 
--- Where bytes are decoded to a package, and that one is encoded, the bytes mean the same. It has an interface or a world.
+-- Where bytes are decoded to a package, and that one is encoded again, both mean the same.
 abbrev pub EncodingKeepsMeaning : Type 0
 EncodingKeepsMeaning = (bytes again : List ℕ) (s : Resolve) (k : ℕ) → IsDecoded bytes s k → MeansPackage s k again
     → (m : PackageMeaning) → Reads bytes m ↔ Reads again m
 
+-- A package that was decoded has an interface or a world.
 abbrev pub DecodedHaveMembers : Type 0
 DecodedHaveMembers = (bytes : List ℕ) (s : Resolve) (k : ℕ) (p : Package) → IsDecoded bytes s k → package_at s k ≡ Some p → HasMembers p

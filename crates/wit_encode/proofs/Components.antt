@@ -11,11 +11,12 @@ use Rattle.std.specs.List.{list_any}
 use Rattle.encode_types.proofs.Marking.{count-push}
 use Rattle.comp_meaning.specs.Follow.{View, Shown, Key, key_text, interface_of, place_of, used_view, Slot, Scope, Seen, Direction, import_, export_, see, when, definition, function_signature, function_in, named_type, exported_slot, key_of, see_instance, see_function, see_type, in_scope, component_step, component_steps, flat}
 use Rattle.wit_encode.specs.Instance.{count_declared}
-use Rattle.wit_encode.proofs.Steps.{unbind, unprovided}
+use Rattle.wit_encode.proofs.Steps.{unbind}
 use Rattle.std.proofs.lemmas.Option.{same_Some as some-same}
 use Rattle.comp_meaning.proofs.EntryLaws.{flat_list as flat-list}
+use Rattle.comp_meaning.proofs.FollowLemmas.{provided_is as unprovided}
 
-see-slots : (direction : Direction) (seen : Seen) (s : Scope) → (see direction seen s).slots ≡ s.slots
+pub see-slots : (direction : Direction) (seen : Seen) (s : Scope) → (see direction seen s).slots ≡ s.slots
 see-slots import_ seen s = refl
 see-slots export_ seen s = refl
 

@@ -38,7 +38,7 @@ use Rattle.wit_encode.proofs.Reached.{part-at}
 use Rattle.wit_encode.proofs.ValueSlots.{IsPlain}
 use Rattle.base_lemmas.proofs.Bools.{right_of as second_true}
 use Rattle.base_lemmas.proofs.Elements.{contains-one, member-there as slot-there, there-member as has-slot}
-use Rattle.encode_shown.proofs.Basics.{type-passes as type_passes}
+use Rattle.wit_model.proofs.ValidLemmas.{type_passes}
 
 -- ---- lists of slots
 

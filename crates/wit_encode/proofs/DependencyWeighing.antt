@@ -44,7 +44,7 @@ use Rattle.encode_shown.proofs.Dependencies.{distinct-front}
 use Rattle.base_lemmas.proofs.Bools.{right_of as second_true}
 use Rattle.base_lemmas.proofs.Elements.{contains-map}
 use Rattle.base_lemmas.proofs.Numbers.{same-number}
-use Rattle.encode_shown.proofs.Basics.{type-passes as type_passes}
+use Rattle.wit_model.proofs.ValidLemmas.{type_passes}
 
 -- ---- what is reached
 

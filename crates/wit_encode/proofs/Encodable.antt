@@ -44,7 +44,6 @@ use Rattle.wit_encode.proofs.OwnerScope.{types_encode, types_use, functions_enco
 use Rattle.wit_encode.proofs.Naming.{names-agree}
 use Rattle.wit_encode.proofs.Opening.{opened-sound, opened-around}
 use Rattle.wit_encode.proofs.Validity.{valid-layered}
-use Rattle.encode_shown.proofs.Basics.{same-owner}
 use Rattle.base_lemmas.proofs.Bools.{left_of as first_true, right_of as second_true}
 use Rattle.base_lemmas.proofs.Elements.{all-contained, contains-map, last_of as one-contained}
 use Rattle.base_lemmas.proofs.Numbers.{equal as equal-numbers}
@@ -52,6 +51,7 @@ use Rattle.base_lemmas.proofs.Options.{there as some-of}
 use Rattle.std.proofs.lemmas.Option.{same_Some as some-same}
 use Rattle.wit_model.proofs.Elements.{contains-has, has-contains}
 use Rattle.wit_model.proofs.OnePath.{interface-passes as interface_passes}
+use Rattle.wit_model.proofs.PartsLemmas.{owner_same as same-owner}
 
 -- ---- look-ups
 

@@ -50,8 +50,8 @@ use Rattle.base_lemmas.proofs.Bools.{right_of as second_true}
 use Rattle.base_lemmas.proofs.Elements.{contains-one, zip_long as zip-length}
 use Rattle.base_lemmas.proofs.Lists.{map_of_map as map-twice}
 use Rattle.comp_bytes.proofs.IndexWrites.{length_within as positive-short}
-use Rattle.encode_shown.proofs.Basics.{type-passes as type_passes}
-use Rattle.encode_shown.proofs.Children.{listed}
+use Rattle.wit_model.proofs.TreeLemmas.{child_list_of_children as listed}
+use Rattle.wit_model.proofs.ValidLemmas.{type_passes}
 
 -- ---- parts
 

@@ -20,7 +20,7 @@ use Rattle.encode_types.specs.Resources.{Names, is_resource_tree, is_resource_de
 use Rattle.encode_types.specs.Formed.{are_values, is_formed}
 use Rattle.base_lemmas.proofs.Bools.{left_of as first_true, right_of as second_true}
 use Rattle.std.proofs.lemmas.Bool.{and_from as both}
-use Rattle.encode_shown.proofs.Children.{listed as children-list}
+use Rattle.wit_model.proofs.TreeLemmas.{child_list_of_children as children-list}
 
 -- ---- children
 

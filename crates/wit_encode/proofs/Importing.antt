@@ -43,6 +43,7 @@ use Rattle.base_lemmas.proofs.Bools.{left_of as first_true, right_of as second_t
 use Rattle.base_lemmas.proofs.Elements.{all-contained}
 use Rattle.base_lemmas.proofs.Lists.{front_more as get-left}
 use Rattle.base_lemmas.proofs.Numbers.{same-number}
+use Rattle.wit_encode.proofs.LatestInstances.{own-key}
 
 -- ---- lists
 
@@ -257,31 +258,28 @@ none-outside r outer j n m = go (is_sound_in r None (contents_of r outer None)) 
 -- ---- one entry more in an ordered map
 
 module _ (n t : ℕ) where
-  own-key : is_at (nat_cmp n) n ≡ true
-  own-key = ap is_eq (equal-self nat_cmp_total n)
-
   apart : (e : ℕ × ℕ) (es : List (ℕ × ℕ)) → known_slot (e ∷ es) n ≡ None → nat_cmp n e.0 ≡ Equal → ⊥
   apart e es h q = let y : is_eq (nat_cmp n e.0) ≡ true = ap is_eq q in let s : Some e.1 ≡ None = sym (cond-true _ _ _ y) ∙ h in cc
 
   -- it is found
   pub new-slot : (es : List (ℕ × ℕ)) → known_slot es n ≡ None → known_slot (insert_entry nat_cmp es n t) n ≡ Some t
-  new-slot [] h = cond-true _ _ _ own-key
+  new-slot [] h = cond-true _ _ _ (own-key n)
   new-slot (e ∷ es) h = by (nat_cmp n e.0) refl (λ q. new-slot es (sym (cond-false _ _ _ q) ∙ h))
     where
       by : (o : Ordering) → nat_cmp n e.0 ≡ o → (is_eq (nat_cmp n e.0) ≡ false → known_slot (insert_entry nat_cmp es n t) n ≡ Some t)
           → known_slot (match_ordering o ((n, t) ∷ e ∷ es) ((e.0, t) ∷ es) (e ∷ insert_entry nat_cmp es n t)) n ≡ Some t
-      by Less q more = cond-true _ _ _ own-key
+      by Less q more = cond-true _ _ _ (own-key n)
       by Equal q more = absurd (apart e es h q)
       by Greater q more = let f : is_eq (nat_cmp n e.0) ≡ false = ap is_eq q in cond-false _ _ _ f ∙ more f
 
   -- without it the entries are those that were there
   pub taken-back : (es : List (ℕ × ℕ)) → known_slot es n ≡ None → remove_entry (is_at (nat_cmp n)) (insert_entry nat_cmp es n t) ≡ es
-  taken-back [] h = cond-true _ _ _ own-key
+  taken-back [] h = cond-true _ _ _ (own-key n)
   taken-back (e ∷ es) h = by (nat_cmp n e.0) refl (λ q. taken-back es (sym (cond-false _ _ _ q) ∙ h))
     where
       by : (o : Ordering) → nat_cmp n e.0 ≡ o → (is_eq (nat_cmp n e.0) ≡ false → remove_entry (is_at (nat_cmp n)) (insert_entry nat_cmp es n t) ≡ es)
           → remove_entry (is_at (nat_cmp n)) (match_ordering o ((n, t) ∷ e ∷ es) ((e.0, t) ∷ es) (e ∷ insert_entry nat_cmp es n t)) ≡ e ∷ es
-      by Less q more = cond-true _ _ _ own-key
+      by Less q more = cond-true _ _ _ (own-key n)
       by Equal q more = absurd (apart e es h q)
       by Greater q more = let f : is_eq (nat_cmp n e.0) ≡ false = ap is_eq q in cond-false _ _ _ f ∙ ap (λ xs. e ∷ xs) (more f)
 

@@ -28,11 +28,11 @@ use Rattle.encode_types.specs.Resources.{is_named_interface, named_resources}
 use Rattle.encode_types.specs.Known.{Around, below, is_instance_of, is_known_as, is_named_of, is_slot_for, is_standing, outer_instances, shows_type, standing_instances, stands_around}
 use Rattle.wit_encode.proofs.Naming.{HaveHomes, names-agree, one-home}
 use Rattle.wit_encode.specs.Dependencies.{HasImported, ImportsStand, imported_instance}
-use Rattle.encode_shown.proofs.Basics.{same-owner}
 use Rattle.base_lemmas.proofs.Bools.{left_of as first_true, right_of as second_true}
 use Rattle.base_lemmas.proofs.Elements.{filter_keeps as contains-filter}
 use Rattle.base_lemmas.proofs.Options.{there as some-of}
 use Rattle.encode_shown.proofs.Parts.{place-alike}
+use Rattle.wit_model.proofs.PartsLemmas.{owner_same as same-owner}
 
 -- ---- lists
 

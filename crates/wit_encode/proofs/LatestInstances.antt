@@ -19,17 +19,17 @@ use Rattle.base_lemmas.proofs.Lists.{front_more as get-left}
 
 -- ---- one entry in an ordered map, new or not
 
-module _ (i number : ℕ) where
-  own-key : is_at (nat_cmp i) i ≡ true
-  own-key = ap is_eq (equal-self nat_cmp_total i)
+pub own-key : (i : ℕ) → is_at (nat_cmp i) i ≡ true
+own-key i = ap is_eq (equal-self nat_cmp_total i)
 
+module _ (i number : ℕ) where
   pub found-new : (es : List (ℕ × ℕ)) → known_instance (insert_entry nat_cmp es i number) i ≡ Some number
-  found-new [] = cond-true _ _ _ own-key
+  found-new [] = cond-true _ _ _ (own-key i)
   found-new (e ∷ es) = by (nat_cmp i e.0) refl (found-new es)
     where
       by : (o : Ordering) → nat_cmp i e.0 ≡ o → known_instance (insert_entry nat_cmp es i number) i ≡ Some number
           → known_instance (match_ordering o ((i, number) ∷ e ∷ es) ((e.0, number) ∷ es) (e ∷ insert_entry nat_cmp es i number)) i ≡ Some number
-      by Less q more = cond-true _ _ _ own-key
+      by Less q more = cond-true _ _ _ (own-key i)
       by Equal q more = let here : is_eq (nat_cmp i e.0) ≡ true = ap is_eq q in cond-true _ _ _ here
       by Greater q more = let other : is_eq (nat_cmp i e.0) ≡ false = ap is_eq q in cond-false _ _ _ other ∙ more
 

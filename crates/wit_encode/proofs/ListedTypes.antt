@@ -32,12 +32,13 @@ use Rattle.wit_encode.proofs.Owned.{alias-part, own-interface, owner-kept as kep
 use Rattle.wit_model.proofs.OnePath.{given-test, found-in}
 use Rattle.wit_encode.proofs.Numbers.{after-at}
 use Rattle.wit_model.proofs.Elements.{has-contains}
-use Rattle.encode_shown.proofs.Basics.{same-owner, or-cases}
+use Rattle.encode_shown.proofs.Basics.{or-cases}
 use Rattle.base_lemmas.proofs.Bools.{left_of as first_true, not-false, right_of as second_true}
 use Rattle.base_lemmas.proofs.Elements.{all-contained, get-contains}
 use Rattle.base_lemmas.proofs.Numbers.{same-number}
-use Rattle.encode_shown.proofs.Basics.{type-passes as type_passes}
 use Rattle.wit_model.proofs.OnePath.{interface-passes as interface_passes}
+use Rattle.wit_model.proofs.PartsLemmas.{owner_same as same-owner}
+use Rattle.wit_model.proofs.ValidLemmas.{type_passes}
 
 -- a type of an interface's list
 pub record IsListedType (r : Resolve) (i : ℕ) (e : String Global × TypeId) : Type 0 where

@@ -24,10 +24,10 @@ use Rattle.encode_types.specs.KeyLaws.{text_same}
 use Rattle.encode_types.specs.Resources.{is_named_interface, is_resource_entry, resource_names}
 use Rattle.encode_types.specs.Table.{is_met_owner, has_named_owner}
 use Rattle.wit_model.proofs.OnePath.{found-in, given-test, one-number, named-path, path-once}
-use Rattle.encode_shown.proofs.Basics.{same-owner}
 use Rattle.base_lemmas.proofs.Bools.{both_ways as either_way, left_of as first_true, right_of as second_true}
 use Rattle.std.proofs.lemmas.Bool.{and_from as both, or_left as or-first, or_right as or-second}
 use Rattle.encode_shown.proofs.Parts.{place-alike}
+use Rattle.wit_model.proofs.PartsLemmas.{owner_same as same-owner}
 
 -- ---- numbered lists
 

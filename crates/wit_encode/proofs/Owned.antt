@@ -27,9 +27,10 @@ use Rattle.encode_types.specs.Kinds.{parts_of}
 use Rattle.encode_types.specs.Plan.{foreign_owner}
 use Rattle.encode_types.specs.Table.{interface_of_owner}
 use Rattle.encode_types.proofs.Planning.{part-number}
-use Rattle.encode_shown.proofs.Basics.{valid-references, same-owner, or-cases}
+use Rattle.encode_shown.proofs.Basics.{valid-references, or-cases}
 use Rattle.base_lemmas.proofs.Bools.{right_of as second_true}
 use Rattle.base_lemmas.proofs.Elements.{all-contained, last_of as one-contained}
+use Rattle.wit_model.proofs.PartsLemmas.{owner_same as same-owner}
 
 -- ---- owners
 

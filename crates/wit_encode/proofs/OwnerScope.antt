@@ -1,6 +1,6 @@
 -- What is met from the types and functions of an owner is of the owner, or of an interface that it uses: where an instance of each of
 -- these stands, all of it can be encoded in the scope of the owner.
-use Rattle.std.proofs.Common.{◌≡◌, refl, sym, subst, ap, ◌∙◌, ℕ, ◌+◌, ◌<◌, ◌⊎◌, inl, inr, Bool, true, false, not, cond, ◌&&◌, ◌==◌, eq-eqb, List, [], ◌∷◌, length, option_to_list, Option, Some, None, String, unwrap_or, is_some, arith}
+use Rattle.std.proofs.Common.{◌≡◌, refl, sym, subst, ap, ◌∙◌, ℕ, ◌<◌, ◌⊎◌, inl, inr, Bool, true, false, not, cond, ◌&&◌, ◌==◌, eq-eqb, List, [], ◌∷◌, length, option_to_list, Option, Some, None, String, unwrap_or, is_some, arith}
 use Rattle.std.proofs.lemmas.Bool.{ltb-true, and_from as both, not-true, or_left as or-first, or_right as or-second}
 use Rattle.std.proofs.lemmas.List.Folds.{list_all-append}
 use Rattle.std.specs.declared.alloc.Global.{Global}
@@ -17,7 +17,7 @@ use Rattle.wit_model.specs.Meant.{type_meaning}
 use Rattle.wit_model.specs.Uses.{alias_target, owner_interface, items_of}
 use Rattle.wit_model.specs.Parts.{met_by, met_of, same_owner, has_owner, function_types, function_numbers, is_resource_type}
 use Rattle.wit_model.specs.Rules.{in_list, is_use, passes, package_number, function_in_range, function_stays, item_in_range, key_in_range, entries_in_range}
-use Rattle.wit_model.specs.Valid.{Rule, Keeps, IsValid, numbers_in_range, owners, handles, is_place, functions_of_interface, functions_of_world, item_function}
+use Rattle.wit_model.specs.Valid.{IsValid, numbers_in_range, owners, handles, is_place, functions_of_interface, functions_of_world, item_function}
 use Rattle.wit_model.specs.declared.model.Resolve.{Resolve}
 use Rattle.wit_model.specs.declared.model.Interface.{Interface}
 use Rattle.wit_model.specs.declared.model.World.{World}
@@ -35,7 +35,6 @@ use Rattle.wit_model.specs.declared.model.TypeOwner.TheVariants as owner
 use Rattle.wit_model.specs.declared.model.«Type».{«Type» as ValueType}
 use Rattle.wit_model.specs.declared.model.«Type».TheVariants as ty
 use Rattle.wit_model.proofs.Lists.{list_all_filter_map}
-use Rattle.wit_model.proofs.Entries.{each_from_at, lists_pass}
 use Rattle.wit_model.proofs.Owners.{named_met}
 use Rattle.wit_model.proofs.Functions.{all_flat}
 use Rattle.encode_types.specs.Kinds.{parts_of}
@@ -50,20 +49,17 @@ use Rattle.wit_encode.proofs.Owned.{stays, part-met, own-interface, alias-part}
 use Rattle.wit_encode.proofs.Naming.{one-home, named-owner, names-agree}
 use Rattle.wit_encode.proofs.Validity.{OwnersMet, valid-layered, valid-unnamed, valid-ownerless, valid-formed, signature-formed, has-name, named-agree, named-parts, named-alike, foreign-interface, declared-there}
 use Rattle.wit_model.proofs.Elements.{contains-filter_map}
-use Rattle.encode_shown.proofs.Basics.{valid-references, same-owner}
+use Rattle.encode_shown.proofs.Basics.{valid-references}
 use Rattle.base_lemmas.proofs.Bools.{left_of as first_true, right_of as second_true}
 use Rattle.base_lemmas.proofs.Elements.{all-contained, contains-one, last_of as one-contained}
 use Rattle.base_lemmas.proofs.Lists.{given-some}
 use Rattle.base_lemmas.proofs.Numbers.{equal as equal-numbers}
 use Rattle.base_lemmas.proofs.Options.{there as some-of}
 use Rattle.wit_model.proofs.OnePath.{interface-passes as interface_passes}
+use Rattle.wit_model.proofs.PartsLemmas.{owner_itself as owner-itself, owner_same as same-owner}
+use Rattle.wit_model.proofs.ValidLemmas.{world_passes}
 
 -- ---- owners
-
-owner-itself : (o : TypeOwner) → same_owner o o ≡ true
-owner-itself (owner.World w) = eq-eqb w.0 w.0 refl
-owner-itself (owner.Interface i) = eq-eqb i.0 i.0 refl
-owner-itself owner.None = refl
 
 is-owned : (a o : TypeOwner) → a ≡ o → same_owner a o ≡ true
 is-owned a o e = subst (λ (x : TypeOwner). same_owner x o ≡ true) (sym e) (owner-itself o)
@@ -314,9 +310,6 @@ module _ (r : Resolve) (v : IsValid r) (o : TypeOwner) where
 
 none-there : {X P : Type 0} (x : X) → Contains [] x → P
 none-there x c = absurd (let l : c.0 < 0 = c.1 in omega arith)
-
-pub world_passes : (rule : Rule) (r : Resolve) → Keeps rule r → (n : ℕ) (w : World) → world_at r n ≡ Some w → rule.world_ r n w ≡ true
-world_passes rule r k n w at = let here : 0 + n ≡ n = omega arith in subst (λ (m : ℕ). rule.world_ r m w ≡ true) here (each_from_at (rule.world_ r) 0 r.worlds.items n w (lists_pass rule r k).2 at)
 
 module _ (r : Resolve) (v : IsValid r) (p : TypeOwner → Function → Bool)
     (of_interface : (i : InterfaceId) (home : Interface) → interface_at r i.0 ≡ Some home → list_all (p (owner.Interface i)) (functions_of_interface home) ≡ true)

@@ -47,12 +47,13 @@ use Rattle.wit_encode.proofs.ListedTypes.{owned-listed, listed-type}
 use Rattle.wit_encode.proofs.OwnerScope.{function-ranges, function-refers, type-stays, types-stay}
 use Rattle.wit_encode.proofs.WorldUses.{own-type}
 use Rattle.wit_model.proofs.Elements.{contains-get, contains-flat, has-contains}
-use Rattle.encode_shown.proofs.Basics.{valid-references, same-owner}
+use Rattle.encode_shown.proofs.Basics.{valid-references}
 use Rattle.base_lemmas.proofs.Bools.{left_of as first_true, not-false, right_of as second_true}
 use Rattle.base_lemmas.proofs.Elements.{all-contained, contains-one, flat-same, last_of as one-contained, map_from as from-map}
 use Rattle.base_lemmas.proofs.Lists.{slice_take as get-take, within_there as there-at}
 use Rattle.std.proofs.lemmas.Option.{same_Some as same-some, slice_get_within as within}
 use Rattle.wit_model.proofs.Owners.{numbered_at as numbered-at}
+use Rattle.wit_model.proofs.PartsLemmas.{owner_same as same-owner}
 
 -- ---- lists
 

@@ -71,10 +71,6 @@ from-then {r} {own} {own'} {xs} {ys} {a} {b} {c} e p q = record {
   learns = learns-then e p.learns q.learns;
 }
 
-pub on-any : {A E P : Type 0} (x : Result A E) → P → OnOk x P
-on-any (Ok a) p = p
-on-any (Err e) p = tt
-
 pub on-both : {A E P Q R : Type 0} (x : Result A E) → (P → Q → R) → OnOk x P → OnOk x Q → OnOk x R
 on-both (Ok a) f p q = f p q
 on-both (Err e) f p q = q

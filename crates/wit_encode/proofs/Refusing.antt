@@ -39,7 +39,7 @@ use Rattle.wit_encode.proofs.HeldKeys.{knows-none}
 use Rattle.wit_encode.specs.Instance.{held_in, lacks_room_in, placed_function}
 use Rattle.base_lemmas.proofs.Elements.{zip_long as zip-length}
 use Rattle.base_lemmas.proofs.Lists.{map_of_map as map-twice}
-use Rattle.encode_shown.proofs.Children.{listed}
+use Rattle.wit_model.proofs.TreeLemmas.{child_list_of_children as listed}
 
 pub on-size : {A : Type 0} (res : Result A Error) (P : Type 0) → OnErr res P → res ≡ Err errors.Size → P
 on-size (Ok x) P p h = absurd (let z : ⊥ = cc in z)

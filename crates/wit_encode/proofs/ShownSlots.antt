@@ -27,14 +27,15 @@ use Rattle.comp_meaning.specs.Follow.{Slot, ShownType, InstanceScope, is_simple,
 use Rattle.encode_shown.specs.Views.{name_slot, shown_type, types_of}
 use Rattle.encode_types.specs.Resources.{Names, is_met_owner, resource_names}
 use Rattle.encode_types.specs.Standing.{is_slot_of}
-use Rattle.wit_encode.proofs.Steps.{unbind, unwhen, unprovided}
+use Rattle.wit_encode.proofs.Steps.{unbind, unwhen}
 use Rattle.wit_encode.proofs.Naming.{one-home, names-agree}
 use Rattle.wit_encode.proofs.ListedTypes.{listed-type, listed-key}
-use Rattle.encode_shown.proofs.Basics.{same-owner}
 use Rattle.base_lemmas.proofs.Elements.{all-contained, contains-later, contains-one, last_of as one-contained}
 use Rattle.base_lemmas.proofs.Numbers.{same-number}
 use Rattle.std.proofs.lemmas.Bool.{or_left as or-first}
 use Rattle.std.proofs.lemmas.Option.{same_Some as some-same}
+use Rattle.comp_meaning.proofs.FollowLemmas.{provided_is as unprovided}
+use Rattle.wit_model.proofs.PartsLemmas.{owner_same as same-owner}
 
 module _ (place : Place) where
   -- ---- slots of names

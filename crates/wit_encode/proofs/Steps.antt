@@ -6,7 +6,8 @@ use Rattle.comp_bytes.specs.Raw.{Declaration, Alias, ExternName}
 use Rattle.comp_bytes.specs.Held.{declaration_slots, type_slots}
 use Rattle.comp_bytes.specs.Reading.{◌>>=◌}
 use Rattle.wit_model.specs.Tree.{Place}
-use Rattle.comp_meaning.specs.Follow.{Slot, InstanceScope, when, provided, is_simple, definition, function_signature, function_in, named_type, show_type, show_function, instance_step, instance_steps}
+use Rattle.comp_meaning.specs.Follow.{Slot, InstanceScope, when, is_simple, definition, function_signature, function_in, named_type, show_type, show_function, instance_step, instance_steps}
+use Rattle.comp_meaning.proofs.FollowLemmas.{provided_is as unprovided}
 
 -- ---- a way back through a step
 
@@ -22,10 +23,6 @@ unbind (Some x) f y e = record { item = x; is = refl; then = e }
 pub unwhen : {A : Type 0} (b : Bool) (o : Option A) (y : A) → when b o ≡ Some y → o ≡ Some y
 unwhen true o y e = e
 unwhen false o y e = absurd (let z : ⊥ = cc in z)
-
-pub unprovided : {A : Type 0} (b : Bool) (x y : A) → provided b x ≡ Some y → x ≡ y
-unprovided true x y e = cc
-unprovided false x y e = absurd (let z : ⊥ = cc in z)
 
 -- ---- how many slots there are
 

@@ -22,7 +22,7 @@ use Rattle.encode_types.specs.Formed.{are_values, is_formed}
 use Rattle.wit_encode.specs.Instance.{standing_at, SlotsStand, is_slot_of}
 use Rattle.base_lemmas.proofs.Bools.{left_of as first_true, right_of as second_true}
 use Rattle.std.proofs.lemmas.Bool.{not-true as not-false}
-use Rattle.encode_shown.proofs.Children.{listed as children-list}
+use Rattle.wit_model.proofs.TreeLemmas.{child_list_of_children as children-list}
 
 primitive-same : (x : PrimitiveValType) → primitive_of x ≡ primitive_of_type x
 primitive-same p.Bool = refl

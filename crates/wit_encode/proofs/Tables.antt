@@ -35,10 +35,10 @@ use Rattle.wit_encode.specs.OwnerScope.{NamesStand, IsOfInstance}
 use Rattle.wit_encode.proofs.OwnerScope.{names_encode, table_is_scope}
 use Rattle.wit_encode.proofs.Naming.{named-owner}
 use Rattle.wit_model.specs.Parts.{same_owner}
-use Rattle.encode_shown.proofs.Basics.{same-owner}
 use Rattle.base_lemmas.proofs.Bools.{left_of as first_true, right_of as second_true}
 use Rattle.base_lemmas.proofs.Elements.{last_of as one-contained}
 use Rattle.base_lemmas.proofs.Options.{there as some-of}
+use Rattle.wit_model.proofs.PartsLemmas.{owner_same as same-owner}
 
 module _ (r : Resolve) (own : InterfaceId) (valid : IsValid r) (met : list_all (is_met_by r (owner.Interface own)) r.types.items ≡ true) where
   -- each name that is met is of the owner, or of another interface, which has a name

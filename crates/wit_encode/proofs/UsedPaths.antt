@@ -19,7 +19,7 @@ use Rattle.wit_model.specs.declared.model.TypeId.{TypeId}
 use Rattle.wit_model.specs.declared.model.«Type».TheVariants as ty
 use Rattle.wit_model.specs.declared.model.TypeOwner.TheVariants as owner
 use Rattle.wit_model.proofs.Elements.{contains-flat, contains-get, none-in}
-use Rattle.encode_shown.proofs.Basics.{type-passes, valid-references, same-owner, or-cases}
+use Rattle.encode_shown.proofs.Basics.{valid-references, or-cases}
 use Rattle.encode_shown.proofs.Reach.{once_from}
 use Rattle.encode_shown.proofs.Zips.{given-contains}
 use Rattle.wit_model.proofs.OnePath.{named-path}
@@ -31,6 +31,8 @@ use Rattle.base_lemmas.proofs.Elements.{all-contained, contains-one, filter_kept
 use Rattle.base_lemmas.proofs.Numbers.{same-number}
 use Rattle.base_lemmas.proofs.Options.{there as some-of}
 use Rattle.std.proofs.lemmas.Option.{same_Some as some-same}
+use Rattle.wit_model.proofs.PartsLemmas.{owner_same as same-owner}
+use Rattle.wit_model.proofs.ValidLemmas.{type_passes as type-passes}
 
 abbrev is_named_at : Resolve → ℕ → Bool
 is_named_at r k = option_map_or (λ (other : Interface). is_some other.name) (interface_at r k) false

@@ -4,7 +4,7 @@ use Rattle.std.specs.declared.alloc.Global.{Global}
 use Rattle.std.specs.Prelude.{is_some, is_none}
 use Rattle.std.specs.List.{Contains, list_all}
 use Rattle.std.specs.Option.{option_map_or}
-use Rattle.std.proofs.lemmas.Bool.{cases_eq, or_left as or-first, or_right as or-second}
+use Rattle.std.proofs.lemmas.Bool.{or_left as or-first, or_right as or-second}
 use Rattle.std.proofs.lemmas.List.Elements.{Contains-append_left, Contains-append_right}
 use Rattle.wit_model.specs.Text.{text_of, Text}
 use Rattle.wit_model.specs.Lookup.{type_at, place_of, interface_at, is_async}
@@ -47,12 +47,14 @@ use Rattle.encode_types.specs.Formed.{is_formed, are_values, IsFormedSignature}
 use Rattle.wit_encode.proofs.Forming.{Agree, kind-formed, kind-alike, values-of, optional-values}
 use Rattle.wit_model.specs.declared.model.TypeOwner.TheVariants as owner
 use Rattle.wit_model.specs.declared.model.«Type».TheVariants as ty
-use Rattle.encode_shown.proofs.Basics.{valid-references, same-owner}
+use Rattle.encode_shown.proofs.Basics.{valid-references}
 use Rattle.base_lemmas.proofs.Bools.{left_of as first_true, not_or as unnamed-of, right_of as second_true}
 use Rattle.base_lemmas.proofs.Elements.{all-contained, all_get as all-at, contains-one}
 use Rattle.base_lemmas.proofs.Options.{nameless}
-use Rattle.encode_shown.proofs.Basics.{type-passes as type_passes}
 use Rattle.wit_model.proofs.OnePath.{interface-passes as interface_passes}
+use Rattle.wit_encode.proofs.ImportsStand.{below-there as below-contains}
+use Rattle.wit_model.proofs.PartsLemmas.{owner_same as same-owner}
+use Rattle.wit_model.proofs.ValidLemmas.{type_passes}
 
 abbrev signature_like : Resolve → Bool → List Param → Option ValueType → Signature
 signature_like r a ps o = record { is_async = a; params = map (λ p. (text_of p.name, type_tree r p.ty)) ps; result = option_map (type_tree r) o }
@@ -128,16 +130,6 @@ foreign-interface own (owner.Interface j) i e = go (is_interface own j) e
     go : (b : Bool) → cond b None (Some j) ≡ Some i → owner.Interface j ≡ owner.Interface i
     go true e = let wrong : ⊥ = cc in absurd wrong
     go false e = ap (λ o. owner.Interface (unwrap_or o j)) e
-
-below-contains : (n m : ℕ) → m < n → Contains (below n) m
-below-contains zero m h = absurd (omega (arith, h))
-below-contains (suc n) m h = elim (cases_eq m n) [
-  | inl e ↦ subst (λ (k : ℕ). Contains (n ∷ below n) k) (sym e) (0, omega arith, refl)
-  | inr d ↦ later (below-contains n m (omega arith))
-]
-  where
-    later : Contains (below n) m → Contains (n ∷ below n) m
-    later (i, l, e) = (suc i, omega (arith, l), e)
 
 contains-flat_map : {X Y : Type 0} (f : X → List Y) (xs : List X) (n : ℕ) (x : X) (y : Y) → slice_get xs n ≡ Some x → Contains (f x) y → Contains (flat_map f xs) y
 contains-flat_map f [] n x y e c = let wrong : ⊥ = cc in absurd wrong

@@ -23,7 +23,7 @@ use Rattle.encode_types.proofs.Marking.{count-push}
 use Rattle.wit_encode.specs.Instance.{count_declared}
 use Rattle.encode_types.proofs.Lists.{none-in}
 use Rattle.wit_encode.specs.Worlds.{instances_from, instances_declared}
-use Rattle.wit_encode.proofs.Steps.{unbind, unprovided, unwhen}
+use Rattle.wit_encode.proofs.Steps.{unbind, unwhen}
 use Rattle.wit_encode.proofs.Steps as steps
 use Rattle.wit_encode.proofs.Components as components
 use Rattle.base_lemmas.proofs.Elements.{last_of as one-contained}
@@ -31,6 +31,7 @@ use Rattle.base_lemmas.proofs.Numbers.{no-slot as add-nothing}
 use Rattle.std.proofs.lemmas.Option.{same_Some as some-same}
 use Rattle.comp_bytes.proofs.HeldLaws.{from_list-push as list-push}
 use Rattle.encode_names.proofs.WorldSteps.{slot-behind as get-end}
+use Rattle.comp_meaning.proofs.FollowLemmas.{provided_is as unprovided}
 
 -- ---- which they are
 

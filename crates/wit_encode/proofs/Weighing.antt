@@ -61,9 +61,9 @@ use Rattle.base_lemmas.proofs.Bools.{left_of as first_true, right_of as second_t
 use Rattle.base_lemmas.proofs.Elements.{all-contained, contains-later, contains-map, contains-one, map_from as from-map}
 use Rattle.base_lemmas.proofs.Lists.{map_of_map as map-twice}
 use Rattle.base_lemmas.proofs.Numbers.{equal, same-number}
-use Rattle.encode_shown.proofs.Basics.{type-passes as type_passes}
-use Rattle.encode_shown.proofs.Children.{listed}
 use Rattle.wit_model.proofs.OnePath.{interface-passes as interface_passes}
+use Rattle.wit_model.proofs.TreeLemmas.{child_list_of_children as listed}
+use Rattle.wit_model.proofs.ValidLemmas.{type_passes}
 
 -- ---- texts that don't fit are long
 

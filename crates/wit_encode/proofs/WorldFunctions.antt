@@ -52,6 +52,7 @@ use Rattle.wit_encode.proofs.WorldScope.{sound-again, sound-outside}
 use Rattle.wit_encode.proofs.WorldShown.{types-shown}
 use Rattle.wit_encode.proofs.WorldUses.{function-listed, function-there, items_meet_standing}
 use Rattle.encode_shown.proofs.Basics.{valid-references}
+use Rattle.wit_encode.proofs.Components.{see-slots}
 
 -- ---- nothing has been encoded
 
@@ -177,10 +178,6 @@ module _ (r : Resolve) (w : WorldId) (a a' : Around) (slots : outer_slots a'.dec
         slots = ap (list_all _) same ∙ s.slots;
         right = (λ i. are_right r (known i) (same i)) ∙ s.right;
       })
-
-pub see-slots : (direction : Direction) (seen : Seen) (s : follow.Scope) → (see direction seen s).slots ≡ s.slots
-see-slots import_ seen s = refl
-see-slots export_ seen s = refl
 
 pub see-instances : (direction : Direction) (seen : Seen) (s : follow.Scope) → (see direction seen s).instances ≡ s.instances
 see-instances import_ seen s = refl

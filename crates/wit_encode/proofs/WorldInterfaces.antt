@@ -17,7 +17,6 @@ use Rattle.wit_model.specs.declared.model.Resolve.{Resolve}
 use Rattle.wit_model.specs.declared.model.World.{World}
 use Rattle.wit_model.specs.declared.model.WorldKey.{WorldKey}
 use Rattle.wit_model.specs.declared.model.WorldKey.TheVariants as key
-use Rattle.wit_model.specs.declared.model.WorldItem.{WorldItem}
 use Rattle.wit_model.specs.declared.model.WorldItem.TheVariants as item
 use Rattle.wit_model.specs.declared.model.Interface.{Interface}
 use Rattle.wit_model.specs.declared.model.InterfaceId.{InterfaceId}
@@ -30,7 +29,6 @@ use Rattle.encode_shown.specs.Views.{ShowsInterface, home_of, instance_key}
 use Rattle.encode_types.specs.Known.{Around, GrowsAround, UsedStand, are_right, is_standing, outer_instances, outer_scope, outer_slots, standing_instances}
 use Rattle.encode_types.specs.Maps.{standing_of}
 use Rattle.encode_types.specs.Standing.{SlotsStand, is_slot_of}
-use Rattle.wit_model.proofs.OnePath.{found-in}
 use Rattle.encode_types.proofs.Tables.{equal-self}
 use Rattle.encode_names.specs.WorldNames.{name_of_item}
 use Rattle.encode_names.specs.WorldSteps.{Entry, Entries, IsTurnOf, StandsAs, StepsTo, declared_towards, interfaces_among, seen_instance, with_entry, with_instance}
@@ -49,22 +47,18 @@ use Rattle.wit_encode.proofs.ImportsStand.{instance-stands}
 use Rattle.wit_encode.proofs.LatestInstances.{stands-then}
 use Rattle.wit_encode.proofs.UsedPaths.{used-path}
 use Rattle.wit_encode.proofs.WorldAliases.{aliases-shown, with_outer}
-use Rattle.wit_encode.proofs.WorldFunctions.{done_items, next-entry, next-place, nothing-brought, see-instances, see-slots, stand-before}
+use Rattle.wit_encode.proofs.WorldFunctions.{done_items, next-entry, next-place, nothing-brought, see-instances, stand-before}
 use Rattle.wit_encode.proofs.WorldScope.{SoundOutside, sound-again, sound-outside}
 use Rattle.wit_encode.proofs.WorldUses.{entries-range, interfaces-ready}
 use Rattle.base_lemmas.proofs.Bools.{left_of as first_true, right_of as second_true}
 use Rattle.base_lemmas.proofs.Elements.{all-contained}
 use Rattle.base_lemmas.proofs.Options.{there as some-of}
 use Rattle.std.proofs.lemmas.Bool.{and_from as both}
-use Rattle.std.proofs.lemmas.Option.{same_Some as some-same}
 use Rattle.encode_shown.proofs.PackageSights.{interface-uses as uses-of}
+use Rattle.wit_encode.proofs.Components.{see-slots}
+use Rattle.wit_model.proofs.UsesLemmas.{interface_in_range as interface-range}
 
 -- ---- the interface of an item
-
-interface-range : (r : Resolve) (i : WorldItem) (n : ℕ) → item_interface i ≡ Some n → item_in_range r i ≡ true → (def : Interface) × (interface_at r n ≡ Some def)
-interface-range r (item.Interface id stability docs external_id) n e h = subst (λ (m : ℕ). (def : Interface) × (interface_at r m ≡ Some def)) (some-same id.0 n e) (found-in r.interfaces.items id.0 h)
-interface-range r (item.Function f) n e h = absurd (let z : ⊥ = cc in z)
-interface-range r (item.Type_ id) n e h = absurd (let z : ⊥ = cc in z)
 
 no-type : (x : Entry) (n : ℕ) → item_interface x.1 ≡ Some n → types_among (x ∷ []) ≡ []
 no-type (k, item.Interface id stability docs external_id) n e = refl

@@ -48,12 +48,13 @@ use Rattle.wit_encode.proofs.WorldFunctions.{at-length, before-next, done_items,
 use Rattle.wit_encode.proofs.WorldShown.{type_seen, types-shown}
 use Rattle.wit_encode.proofs.WorldUses.{items_meet_standing, no-type-exported, own-type, parts-listed, type-key}
 use Rattle.wit_model.proofs.Elements.{contains-get}
-use Rattle.encode_shown.proofs.Basics.{valid-references, same-owner}
+use Rattle.encode_shown.proofs.Basics.{valid-references}
 use Rattle.base_lemmas.proofs.Bools.{left_of as first_true, right_of as second_true}
 use Rattle.base_lemmas.proofs.Elements.{contains-one, first-contained as contains-first, last_of as one-contained}
 use Rattle.base_lemmas.proofs.Numbers.{equal, same-number}
 use Rattle.base_lemmas.proofs.Options.{there as some-of}
 use Rattle.std.proofs.lemmas.Option.{same_Some as same-some}
+use Rattle.wit_model.proofs.PartsLemmas.{owner_same as same-owner}
 
 module _ (r : Resolve) (v : IsValid r) (w : World) (e : WorldEncoder) (done : Entries) (h : HasShown r w e done) (k : WorldKey) (id : TypeId) (n : IsNext r w import_ done (k, item.Type_ id)) where
   abbrev entry : Entry

@@ -44,15 +44,17 @@ use Rattle.wit_encode.proofs.Meeting.{named-meets, unnamed-meets, part-uses}
 use Rattle.wit_encode.proofs.Naming.{named-owner}
 use Rattle.wit_encode.proofs.Numbers.{after-at}
 use Rattle.wit_encode.proofs.Owned.{part-met}
-use Rattle.wit_encode.proofs.OwnerScope.{AllStay, IsUse, Stay, function-refers, named-stays, target-is, type-stays, types-stay, use-at, use-foreign, world_passes}
+use Rattle.wit_encode.proofs.OwnerScope.{AllStay, IsUse, Stay, function-refers, named-stays, target-is, type-stays, types-stay, use-at, use-foreign}
 use Rattle.wit_encode.proofs.Validity.{valid-ownerless}
 use Rattle.wit_model.proofs.Elements.{contains-filter_map, contains-get, contains-flat, has-contains}
-use Rattle.encode_shown.proofs.Basics.{valid-references, same-owner}
+use Rattle.encode_shown.proofs.Basics.{valid-references}
 use Rattle.base_lemmas.proofs.Bools.{left_of as first_true, right_of as second_true}
 use Rattle.base_lemmas.proofs.Elements.{all-contained, contains-one, get-contains, last_of as one-contained, map_from as contains-mapped}
 use Rattle.base_lemmas.proofs.Lists.{given-some}
 use Rattle.base_lemmas.proofs.Options.{there as some-of}
 use Rattle.std.proofs.lemmas.Option.{same_Some as some-same}
+use Rattle.wit_model.proofs.PartsLemmas.{owner_same as same-owner}
+use Rattle.wit_model.proofs.ValidLemmas.{world_passes}
 
 -- ---- beginnings of lists
 

@@ -49,7 +49,6 @@ use Rattle.encode_names.specs.WorldSteps.{Entry, interfaces_among}
 use Rattle.wit_encode.specs.WorldItems.{types_among}
 use Rattle.wit_encode.specs.WorldRoom.{functions_among, type_ids_among, IsMetAmong, IsTypeAmong, count_among, entries_in, WorldLacksRoom, an_interface, a_name, a_type, a_function, too_many, LackingWorldsAreHeavy}
 use Rattle.wit_encode.proofs.Mapped.{from-filter}
-use Rattle.wit_encode.proofs.OwnerScope.{world_passes}
 use Rattle.wit_encode.proofs.Reached.{from-flat, IsOwner, interface-owner, world-owner}
 use Rattle.wit_encode.proofs.Weighing.{fits-text, given-fits, Differ, sum-among, contains-once, at-least, one-of, type-heavy, counted-once, counted-least, part-heavy-of, lacking-heavy}
 use Rattle.wit_encode.proofs.WorldUses.{no-type-exported}
@@ -58,7 +57,7 @@ use Rattle.base_lemmas.proofs.Bools.{left_of as first_true, right_of as second_t
 use Rattle.base_lemmas.proofs.Elements.{all-contained, contains-later, contains-map, contains-one, map_from as from-map}
 use Rattle.base_lemmas.proofs.Numbers.{same-number}
 use Rattle.encode_names.proofs.NamesRead.{no-suffix as no-suffix-written}
-use Rattle.encode_shown.proofs.Basics.{type-passes as type_passes}
+use Rattle.wit_model.proofs.ValidLemmas.{type_passes, world_passes}
 
 -- ---- names that don't fit are long
 

@@ -23,6 +23,7 @@ use Rattle.wit_encode.specs.Instance.{EncodesDependency, EncodesInterface}
 abbrev pub seen_import : Text × View → Seen
 seen_import i = record { key = i.0; shown = Shown.instance (Key.path i.0) i.1; external_id = None }
 
+-- the instance that such an import brings
 abbrev pub imported_instance : Text × View → Instance
 imported_instance i = record { interface = Some i.0; view = i.1 }
 

@@ -17,17 +17,19 @@ use Rattle.wit_encode.specs.Instance.{whole_interface, types_alone_of}
 
 -- ---- what stands there
 
--- the aliases among the declarations at the first level, in order
+-- the alias that a declaration is, if it is one
 abbrev pub alias_in : Declaration → List Alias
 alias_in (Declaration.alias_of a) = a ∷ []
 alias_in _ = []
 
+-- the aliases among declarations at the first level, in order
 abbrev pub aliases_declared : Declarations → List Alias
 aliases_declared Declarations.no_more = []
 aliases_declared (Declarations.declares d rest) = alias_in d ++ aliases_declared rest
 aliases_declared (Declarations.component inner rest) = aliases_declared rest
 aliases_declared (Declarations.instance inner rest) = aliases_declared rest
 
+-- an alias in its raw form: of an instance's export
 abbrev pub export_alias : Aliased → Alias
 export_alias a = Alias.of_export a.instance a.name
 
@@ -39,13 +41,13 @@ pub record IsMetByTypes (r : Resolve) (i n : ℕ) : Type 0 where
   pub there : interface_at r i ≡ Some def
   pub met : IsMetElsewhere r (Some (record { 0 = i })) (types_alone_of def) n
 
--- from its types or its functions
+-- a type of another interface is met from the types or the functions of interface i
 pub record IsMetByWhole (r : Resolve) (i n : ℕ) : Type 0 where
   pub def : Interface
   pub there : interface_at r i ≡ Some def
   pub met : IsMetElsewhere r (Some (record { 0 = i })) (whole_interface def) n
 
--- from the types of one of these interfaces
+-- a type of another interface is met from the types of one of these
 abbrev pub IsMetAmong : Resolve → List ℕ → ℕ → Type 0
 IsMetAmong r interfaces n = (i : ℕ) × Contains interfaces i × IsMetByTypes r i n
 

@@ -53,6 +53,7 @@ use Rattle.encode_types.specs.MetKinds.{referred}
 
 -- ---- what has been declared in a scope
 
+-- What has been declared in a scope: its slots, what it shows, whether it can be followed, and which slots define what.
 pub record Contents : Type 0 where
   pub slots : List Slot
   pub shown : View
@@ -62,10 +63,11 @@ pub record Contents : Type 0 where
   pub exported : List ℕ
   pub functions : List ℕ
 
+-- the view of nothing
 abbrev pub no_view : View
 no_view = record { types = []; functions = [] }
 
--- how many of the declarations at the first level are such
+-- how many of the declarations at the first level pass a test
 abbrev pub count_declared : (Declaration → Bool) → Declarations → ℕ
 count_declared test Declarations.no_more = 0
 count_declared test (Declarations.declares d rest) = count_by test (d ∷ []) + count_declared test rest
@@ -83,10 +85,11 @@ outer_contents outer = record {
   functions = function_slots outer;
 }
 
+-- the declarations of an instance type, followed in the component type around it
 abbrev pub inner_scope : Place → Declarations → List Declaration → Option InstanceScope
 inner_scope place outer ds = instance_steps place (outer_slots outer) new_instance ds
 
--- of the instance type in it
+-- what has been declared in the instance type
 unfoldable pub inner_contents : Place → Declarations → List Declaration → Contents
 inner_contents place outer ds = record {
   slots = option_map_or (λ s. s.slots) (inner_scope place outer ds) [];
@@ -238,6 +241,7 @@ keyed e = (text_of e.0, e.1)
 abbrev pub placed_function : ℕ × Bor (String Global) × Bor Function → Text × Function
 placed_function f = (text_of f.1.now, f.2.now)
 
+-- a function under its name, as what it means
 abbrev pub meaning_of : Resolve → Text × Function → Text × FunctionMeaning
 meaning_of r f = (f.0, function_meaning r f.1)
 
@@ -253,10 +257,11 @@ pub record IsInstance (r : Resolve) (outer : Declarations) (i : InterfaceId) (ds
   pub shows : view.functions ≡ functions
   pub types : view.types ≡ option_map_or (types_of r i.0) (interface_at r i.0) []
 
--- what an interface refers to: its types, and those of its functions, or its types alone
+-- what the types and the functions of an interface refer to
 abbrev pub whole_interface : Interface → List ValueType
 whole_interface def = referred (values def.types) (values def.functions)
 
+-- what the types of an interface refer to, without its functions
 abbrev pub types_alone_of : Interface → List ValueType
 types_alone_of def = referred (values def.types) []
 
@@ -267,7 +272,7 @@ pub record AliasesFor (r : Resolve) (i : InterfaceId) (around around' : Around) 
   pub there : interface_at r i.0 ≡ Some def
   pub made : AliasesMet r (Some i) (whole_interface def) around around'
 
--- So it is, and they are met from its types alone.
+-- In the component type nothing has been declared but aliases of types that are met from the interface's types alone.
 pub record AliasesForTypes (r : Resolve) (i : InterfaceId) (around around' : Around) : Type 0 where
   pub def : Interface
   pub there : interface_at r i.0 ≡ Some def
@@ -302,7 +307,7 @@ pub record EncodesPart (r : Resolve) (around around' : Around) (i : InterfaceId)
   pub function_types : DefinesKeys r (stands_inside r i before.declared declared) functions declared
   pub value_types : DefinesTypes r (Some i) (stands_inside r i before.declared declared) (values def.types) functions (from_list declared)
 
--- So it is with the types of the interface and all its functions: what is shown is the interface.
+-- What `EncodesPart` says, of the types of the interface and all its functions: what is shown is the interface.
 pub record EncodesInterface (r : Resolve) (around around' : Around) (i : InterfaceId) (def : Interface) (k : ℕ) : Type 0 where
   pub part : EncodesPart r around around' i def (functions_in_order def) (values def.functions) k
   pub shows : ShowsInterface r i.0 part.is_instance.view
@@ -310,7 +315,7 @@ pub record EncodesInterface (r : Resolve) (around around' : Around) (i : Interfa
   -- how many types of functions are defined
   pub function_types : count_by is_function_type part.declared ≡ distinct_count are_same (map key_of (values def.functions))
 
--- So it is with the types alone.
+-- What `EncodesPart` says, of the types of the interface alone.
 pub record EncodesDependency (r : Resolve) (around around' : Around) (i : InterfaceId) (def : Interface) (k : ℕ) : Type 0 where
   pub part : EncodesPart r around around' i def [] [] k
   pub shows : ShowsTypes r i.0 part.is_instance.view

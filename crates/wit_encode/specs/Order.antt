@@ -16,10 +16,11 @@ use Rattle.wit_model.specs.declared.model.Interface.{Interface}
 abbrev pub is_kind_of : FunctionKind → TypeId → Bool
 is_kind_of kind t = option_map_or (λ n. nat_eq n t.0) (resource_of kind) false
 
+-- whether a function is a constructor, a method or a static function of this resource
 abbrev pub is_function_of : TypeId → Text × Function → Bool
 is_function_of t f = is_kind_of f.1.kind t
 
--- those of the first type, then, of those that are left, those of the next one, and at the end those of none: each in the order that they have
+-- functions of the first type's resource, then those of the next one's, and at the end the others, each in the order that they have
 abbrev pub by_resource : List TypeId → List (Text × Function) → List (Text × Function)
 by_resource [] fs = fs
 by_resource (t ∷ ts) fs = filter (is_function_of t) fs ++ by_resource ts (filter (λ f. not (is_function_of t f)) fs)

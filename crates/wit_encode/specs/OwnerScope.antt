@@ -88,6 +88,7 @@ pub record IsTypeOf (r : Resolve) (o : TypeOwner) (id : TypeId) : Type 0 where
   pub named_ : is_some def.name ≡ true
   pub owned : def.owner ≡ o
 
+-- the functions of an interface or a world
 abbrev pub functions_of : Resolve → TypeOwner → List Function
 functions_of r (owner.Interface i) = option_map_or functions_of_interface (interface_at r i.0) []
 functions_of r (owner.World w) = option_map_or functions_of_world (world_at r w.0) []
@@ -100,20 +101,22 @@ abbrev pub NamesEncode : Type 0
 NamesEncode = (r : Resolve) (o : TypeOwner) (scope : Scope) (ts : List ValueType) → IsValid r → IsScopeOf r o scope → AllInRange r ts → NamesStand r o scope ts
     → CanEncode r scope ts
 
--- So it is with the named types of the owner, and with its functions, where an instance stands of each other interface whose types are met.
+-- The named types of an owner can be encoded, where an instance stands of each other interface whose types are met.
 abbrev pub TypesEncode : Type 0
 TypesEncode = (r : Resolve) (o : TypeOwner) (scope : Scope) (id : TypeId) → IsValid r → IsScopeOf r o scope → IsTypeOf r o id → InstancesStand r scope (ty.Id id ∷ [])
     → CanEncode r scope (ty.Id id ∷ [])
 
+-- The functions of an owner can be encoded, where an instance stands of each other interface whose types are met.
 abbrev pub FunctionsEncode : Type 0
 FunctionsEncode = (r : Resolve) (o : TypeOwner) (scope : Scope) (f : Function) → IsValid r → IsScopeOf r o scope → Contains (functions_of r o) f
     → InstancesStand r scope (function_types f) → CanEncodeFunction r scope f
 
--- No other interfaces are met than those that the owner uses.
+-- The types of an owner meet no other interfaces than those that it uses.
 abbrev pub TypesUse : Type 0
 TypesUse = (r : Resolve) (o : TypeOwner) (scope : Scope) (id : TypeId) → IsValid r → IsScopeOf r o scope → IsTypeOf r o id → UsesStand r o scope
     → InstancesStand r scope (ty.Id id ∷ [])
 
+-- The functions of an owner meet no other interfaces than those that it uses.
 abbrev pub FunctionsUse : Type 0
 FunctionsUse = (r : Resolve) (o : TypeOwner) (scope : Scope) (f : Function) → IsValid r → IsScopeOf r o scope → Contains (functions_of r o) f → UsesStand r o scope
     → InstancesStand r scope (function_types f)

@@ -121,11 +121,11 @@ AreWorlds r entries = (e : ListedWorld) → Contains entries e → e.1.0 < lengt
 abbrev pub ShowsWorldAt : Resolve → ℕ → Declarations → Type 0
 ShowsWorldAt r n declared = (w : World) → world_at r n ≡ Some w → ShowsWorldType r w declared
 
--- each definition of world n once
+-- the declarations have each definition of world n once
 abbrev pub DefinesWorldOnce : Resolve → ℕ → Declarations → Type 0
 DefinesWorldOnce r n declared = (w : World) → world_at r n ≡ Some w → DefinesOnce r declared (entries_in w)
 
--- the names of world n, whole or canonical
+-- the declarations have the names of world n, whole or canonical
 abbrev pub WritesNamesAt : Resolve → Bool → ℕ → Declarations → Type 0
 WritesNamesAt r canonical n declared = (w : World) → world_at r n ≡ Some w → WritesNames r canonical w declared
 
@@ -137,6 +137,7 @@ WrapsWorldAt r canonical p n declared = (w : World) → world_at r n ≡ Some w 
 abbrev pub HasNoClashAt : Resolve → ℕ → Type 0
 HasNoClashAt r n = (w : World) → world_at r n ≡ Some w → HasNoClash r w
 
+-- none of these worlds has two imports or two exports of one canonical name
 abbrev pub HaveNoClash : Resolve → List ListedWorld → Type 0
 HaveNoClash r entries = (e : ListedWorld) → Contains entries e → HasNoClashAt r e.1.0
 
@@ -184,6 +185,7 @@ pub data RefusesPackage (r : Resolve) (p : Package) (canonical : Bool) (e : Erro
 abbrev pub HasMembers : Package → Type 0
 HasMembers p = (is_filled p.interfaces.entries || is_filled p.worlds.entries) ≡ true
 
+-- no interface and no world stands in the package
 abbrev pub HasNoMembers : Package → Type 0
 HasNoMembers p = (is_filled p.interfaces.entries || is_filled p.worlds.entries) ≡ false
 
@@ -191,6 +193,7 @@ HasNoMembers p = (is_filled p.interfaces.entries || is_filled p.worlds.entries) 
 abbrev pub MeansPackage : Resolve → ℕ → List ℕ → Type 0
 MeansPackage r n bytes = (m : PackageMeaning) → Meant r n m ↔ Reads bytes m
 
+-- whether a part of a component is a custom section
 abbrev pub is_custom : Part → Bool
 is_custom (Part.top_type t) = false
 is_custom (Part.top_export e) = false
@@ -206,7 +209,7 @@ PartsMean r n parts = (more : List Part) → list_all is_custom more ≡ true �
 abbrev pub HoldsPackageAt : Resolve → Bool → ℕ → List Part → Type 0
 HoldsPackageAt r canonical n parts = (p : Package) → package_at r n ≡ Some p → HoldsPackage r canonical p parts
 
--- the bytes of such a component
+-- the bytes of a component that holds package n, in the one spelling that is written
 abbrev pub SpellsPackageAt : Resolve → Bool → ℕ → List ℕ → Type 0
 SpellsPackageAt r canonical n bytes = (p : Package) → package_at r n ≡ Some p → SpellsPackage r canonical p bytes
 

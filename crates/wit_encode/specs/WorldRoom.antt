@@ -27,9 +27,11 @@ use Rattle.wit_encode.specs.WorldItems.{types_among}
 
 -- ---- what entries meet
 
+-- the functions among imports and exports
 abbrev pub functions_among : List Entry → List Function
 functions_among es = filter_map (λ e. item_function e.1) es
 
+-- the types among imports and exports
 abbrev pub type_ids_among : List Entry → List TypeId
 type_ids_among es = map (λ n. record { 0 = n }) (types_among es)
 
@@ -73,6 +75,7 @@ pub record AreMany (r : Resolve) (es : List Entry) (n : ℕ) : Type 0 where
   pub are_brought : AreSome (IsTypeAmong r es) brought
   pub many : n ≤ 2 * length met + (length brought + 2 * count_among es)
 
+-- the imports and the exports of a world
 abbrev pub entries_in : World → List Entry
 entries_in w = w.imports.entries ++ w.exports.entries
 

@@ -1,4 +1,4 @@
--- What an encoder of a world holds: a component type, in whose scope the types of the world are imported.
+-- What an encoder of a world holds: a component type, in whose scope the types of the world are imported (Component Model WIT.md, "Package Format").
 use Rattle.std.specs.Prelude.{ℕ, ◌-◌, Bool, false, ◌&&◌, if◌then◌else◌, List, [], ◌∷◌, Option, Some, None, length, filter_map, is_some}
 use Rattle.std.specs.Option.{option_map_or}
 use Rattle.std.specs.List.{filter, list_all}
@@ -28,14 +28,17 @@ use Rattle.wit_encode.specs.Instance.{around_at, declared_extent}
 use Rattle.wit_encode.specs.WrittenNames.{instances_around}
 use Rattle.wit_encode.specs.declared.world.WorldEncoderOf.{WorldEncoderOf}
 
+-- an encoder of a world, with the maps of the code
 abbrev pub WorldEncoder : Type 0
 WorldEncoder = WorldEncoderOf TypeEncodingMaps
 
 -- ---- what has been imported and exported
 
+-- what a component type imports, followed
 abbrev pub seen_imports : Declarations → List Seen
 seen_imports outer = option_map_or (λ s. s.imports) (outer_scope outer) []
 
+-- what a component type exports, followed
 abbrev pub seen_exports : Declarations → List Seen
 seen_exports outer = option_map_or (λ s. s.exports) (outer_scope outer) []
 
@@ -49,6 +52,7 @@ declaration_shown (Shown.instance key view) = None
 declaration_shown (Shown.function f) = None
 declaration_shown (Shown.declares d) = Some d
 
+-- an import of a type, by its name and what it means
 abbrev pub declared_type : Seen → Option (Text × TypeMeaning)
 declared_type seen = option_map_or (λ d. Some (seen.key, record { declaration = d; external_id = seen.external_id })) (declaration_shown seen.shown) None
 
@@ -59,12 +63,13 @@ instances_from before (Declarations.declares d rest) = instances_from (append be
 instances_from before (Declarations.component inner rest) = instances_from (append before (Declarations.component inner Declarations.no_more)) rest
 instances_from before (Declarations.instance inner rest) = (before, inner) ∷ instances_from (append before (Declarations.instance inner Declarations.no_more)) rest
 
+-- the instance types of a component type, each with what was declared before it
 abbrev pub instances_declared : Declarations → List (Declarations × Declarations)
 instances_declared outer = instances_from Declarations.no_more outer
 
 -- ---- the scope of the component type
 
--- which names stand for resources there
+-- which names stand for resources in the scope of a world
 abbrev pub world_resources : Resolve → WorldId → Names
 world_resources r w = resource_names r (is_met_owner r (owner.World w))
 
@@ -97,6 +102,7 @@ world_scope r w count component = record (table_scope r (owner.World w)) {
   others = others_of w count component;
 }
 
+-- what has been defined in a component type, and which types it imports
 abbrev pub world_definitions : Declarations → Definitions
 world_definitions outer = record {
   types = value_slots outer;
@@ -107,18 +113,19 @@ world_definitions outer = record {
 
 -- ---- what is held
 
--- a named type of an interface that is listed with an instance
+-- whether a type is a named one of an interface that is listed with an instance
 abbrev pub is_of_listed : List (ℕ × ℕ) → TypeDef → Bool
 is_of_listed listed def = is_some def.name && option_map_or (λ i. is_some (known_instance listed i)) (owner_interface def.owner) false
 
--- whether such a type has an alias
+-- whether a type of an interface that is listed with an instance has an alias
 abbrev pub is_brought : Resolve → Around → ℕ → Bool
 is_brought r component n = is_some (known_slot component.known n) && option_map_or (is_of_listed component.instances) (type_at r n) false
 
+-- the types of listed interfaces that have an alias in the component type
 abbrev pub brought_numbers : Resolve → Around → List ℕ
 brought_numbers r component = filter (is_brought r component) (below (length r.types.items))
 
--- how many declarations there are beside one for each of these types
+-- how many declarations there are beside an alias for each type that is brought
 abbrev pub held_beside : Resolve → Around → ℕ
 held_beside r component = declaration_count component.declared - length (brought_numbers r component)
 
@@ -144,6 +151,6 @@ world_around e = around_at e.outer e.foreign
 abbrev pub world_view_of : Resolve → WorldEncoder → View
 world_view_of r e = world_view r e.world e.instances (world_around e) e.maps
 
--- in its own
+-- what an encoder of a world holds, read in its own packages
 abbrev pub world_encoder_view : WorldEncoder → View
 world_encoder_view e = world_view_of e.resolve.now e

@@ -12,6 +12,7 @@ use Rattle.encode_names.specs.WorldNames.{name_of_interface, name_of_item}
 use Rattle.encode_reach.specs.Reach.{reached_in_order}
 use Rattle.encode_names.specs.WorldSteps.{Entry}
 
+-- the name of an import or an export, if that is an instance
 abbrev pub described_name : ExternName → ComponentTypeRef → List ExternName
 described_name name (refs.Instance n) = name ∷ []
 described_name name (refs.Func n) = []
@@ -27,18 +28,19 @@ instance_name (Declaration.alias_of a) = []
 instance_name (Declaration.imported name described) = described_name name described
 instance_name (Declaration.exported name described) = described_name name described
 
--- of those at the first level, in order
+-- the names of the instances that are imported and exported at the first level, in order
 abbrev pub instance_names : Declarations → List ExternName
 instance_names Declarations.no_more = []
 instance_names (Declarations.declares d rest) = instance_name d ++ instance_names rest
 instance_names (Declarations.component inner rest) = instance_names rest
 instance_names (Declarations.instance inner rest) = instance_names rest
 
--- these declarations alone, with the instance types
+-- the declaration in front of the others, if there is a name
 abbrev pub if_named : List ExternName → Declaration → Declarations → Declarations
 if_named [] d rest = rest
 if_named (n ∷ ns) d rest = Declarations.declares d rest
 
+-- the instance types of a component type, and its imports and exports of instances
 abbrev pub instance_declarations : Declarations → Declarations
 instance_declarations Declarations.no_more = Declarations.no_more
 instance_declarations (Declarations.declares d rest) = if_named (instance_name d) d (instance_declarations rest)

@@ -21,6 +21,7 @@ use Rattle.wit_encode.specs.OwnerScope.{IsScopeOf}
 use Rattle.wit_encode.specs.Worlds.{WorldEncoder, world_around, world_encoder_view}
 use Rattle.wit_encode.specs.WrittenBytes.{AddsBytes, whole_extent}
 
+-- an encoder of an interface, over an encoder of a world
 abbrev pub InterfaceEncoder : Type 0
 InterfaceEncoder = InterfaceEncoderOf WorldEncoder
 
@@ -30,11 +31,11 @@ InterfaceEncoder = InterfaceEncoderOf WorldEncoder
 abbrev pub encoder_in : {E : Type 0} → InterfaceEncoderOf E → E
 encoder_in e = e.encoder
 
--- with another in its place
+-- the encoder of interfaces, with another encoder of its component type
 abbrev pub with_encoder : {E : Type 0} → InterfaceEncoderOf E → E → InterfaceEncoderOf E
 with_encoder e x = record e { encoder = x }
 
--- its component type, as the scope of a world that has no types
+-- what an encoder of interfaces holds: its component type, as the scope of a world that has no types
 abbrev pub interface_encoder_view : InterfaceEncoder → View
 interface_encoder_view e = world_encoder_view e.encoder
 
@@ -54,7 +55,7 @@ numbers_of interfaces = map (λ (id : InterfaceId). id.0) interfaces
 abbrev pub world_of : InterfaceEncoder → TypeOwner
 world_of e = owner.World e.encoder.world
 
--- its component type, in which instances and aliases stand
+-- the component type of an encoder of interfaces, in which instances and aliases stand
 abbrev pub component_of : InterfaceEncoder → Around
 component_of e = world_around e.encoder
 
@@ -94,10 +95,11 @@ pub record LeavesInterfaces (e e' : InterfaceEncoder) : Type 0 where
 abbrev pub EncodesInterfaceAs : InterfaceEncoder → InterfaceEncoder → InterfaceId → ℕ → Type 0
 EncodesInterfaceAs e e' i k = (def : Interface) → interface_at (packages_of e) i.0 ≡ Some def → EncodesInterface (packages_of e) (component_of e) (component_of e') i def k
 
--- nothing is new but aliases of types of other interfaces that are met from an interface, or from its types alone
+-- nothing is new but aliases of types of other interfaces that are met from the interface
 abbrev pub AddsAliases : InterfaceEncoder → InterfaceEncoder → InterfaceId → Type 0
 AddsAliases e e' i = AliasesFor (packages_of e) i (component_of e) (component_of e')
 
+-- nothing is new but aliases of types of other interfaces that are met from the interface's types
 abbrev pub AddsAliasesForTypes : InterfaceEncoder → InterfaceEncoder → InterfaceId → Type 0
 AddsAliasesForTypes e e' i = AliasesForTypes (packages_of e) i (component_of e) (component_of e')
 
@@ -135,7 +137,7 @@ pub record ImportsSome (e e' : InterfaceEncoder) (interfaces : List InterfaceId)
   pub before : ImportsUpTo e between interfaces next
   pub in_part : ImportsInPart between e' next
 
--- those that an interface reaches, in the order in which it comes to them, each behind those that it uses itself
+-- the numbers that an interface reaches, in the order in which it comes to them, each behind those that it uses itself
 abbrev pub AreReachedBy : Resolve → InterfaceId → List InterfaceId → Type 0
 AreReachedBy r i interfaces = numbers_of interfaces ≡ reached_in_order r i.0
 

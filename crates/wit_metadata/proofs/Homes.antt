@@ -11,10 +11,10 @@ use Rattle.wit_model.specs.declared.model.PackageId.{PackageId}
 use Rattle.wit_model.specs.declared.model.Resolve.{Resolve}
 use Rattle.wit_model.specs.declared.model.World.{World}
 use Rattle.wit_model.proofs.OnePath.{found-in}
-use Rattle.encode_shown.proofs.Basics.{world-passes}
 use Rattle.wit_metadata.specs.Carried.{HasHome}
 use Rattle.base_lemmas.proofs.Bools.{left_of as first_true, right_of as second_true}
 use Rattle.base_lemmas.proofs.Options.{there as some-of}
+use Rattle.wit_model.proofs.ValidLemmas.{world_passes as world-passes}
 
 pub world-home : (r : Resolve) → IsValid r → (n : ℕ) (w : World) → world_at r n ≡ Some w → HasHome r w
 unfolding places numbers_in_range

@@ -6,7 +6,7 @@ use Rattle.std.proofs.lemmas.Grind.{flat_map-append}
 use Rattle.std.proofs.lemmas.List.{length-append}
 use Rattle.std.proofs.Math.Seq.{drop-append_seam}
 use Rattle.wit_model.specs.Text.{Text, text_eq}
-use Rattle.wit_model.proofs.VersionLaws.{same_text, text_same}
+use Rattle.wit_model.proofs.VersionLaws.{same_text}
 use Rattle.wit_model.specs.declared.model.StringEncoding.{StringEncoding}
 use Rattle.wit_model.specs.declared.model.StringEncoding.TheVariants as encodings
 use Rattle.comp_bytes.specs.Form.{Sequence}
@@ -18,6 +18,7 @@ use Rattle.wit_metadata.specs.Encodings.{contents_of, section_name}
 use Rattle.wit_metadata.specs.Modules.{Framed}
 use Rattle.wit_metadata.specs.Said.{EncodingsAreReadBack, IsSaidIn, said_by}
 use Rattle.wit_metadata.proofs.ModuleLaws.{one-custom, one-frame}
+use Rattle.wit_model.proofs.TextLemmas.{text_same}
 
 -- no frame stands in front of these bytes
 abbrev pub IsFrameless : List ℕ → Type 0

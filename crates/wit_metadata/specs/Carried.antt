@@ -39,7 +39,7 @@ contents_under name sections = flat_map contents sections
 abbrev pub last_of : List (List ℕ) → Option (List ℕ)
 last_of xs = slice_get xs (length xs - 1)
 
--- The bytes are a component whose last custom section of that name says this encoding.
+-- The bytes are a component whose last custom section `wit-component-encoding` says this encoding.
 pub record CarriesEncoding (e : StringEncoding) (bytes : List ℕ) : Type 0 where
   pub sections : List Section
   pub spelled : IsComponent sections bytes

@@ -4,6 +4,7 @@ use Rattle.wit_model.specs.declared.model.StringEncoding.{StringEncoding}
 use Rattle.wit_model.specs.declared.model.StringEncoding.TheVariants as encodings
 use Rattle.wit_model.specs.Text.{Text}
 
+-- the byte that stands for a string encoding
 abbrev pub code_of : StringEncoding → ℕ
 code_of encodings.UTF8 = 0
 code_of encodings.UTF16 = 1
@@ -17,7 +18,7 @@ encoding_at n = if n == 0 then Some encodings.UTF8 else if n == 1 then Some enco
 abbrev pub section_name : Text
 section_name = codes "wit-component-encoding"
 
--- what stands in it: the version of the format, and the encoding
+-- what stands in that section: the version of the format, 4, and the byte of the encoding
 abbrev pub contents_of : StringEncoding → List ℕ
 contents_of e = 4 ∷ code_of e ∷ []
 

@@ -32,10 +32,11 @@ AreSections fs bytes = Sequence IsFrame fs bytes × AllByRecursion IsNamed fs
 abbrev pub IsModule : List Framed → List ℕ → Type 0
 IsModule fs bytes = (rest : List ℕ) × (bytes ≡ module_preamble ++ rest) × AreSections fs rest
 
--- A section carries a world: a custom one whose name begins so.
+-- what the name of a custom section that carries a world begins with
 abbrev pub carrying_name : Text
 carrying_name = codes "component-type"
 
+-- A section carries a world: it is a custom one whose name begins with `component-type`.
 abbrev pub Carries : Framed → Type 0
 Carries f = (f.0 ≡ 0) × ((c : List ℕ × List ℕ) × IsCustom c f.1 × (starts_with nat_eq c.0 carrying_name ≡ true))
 
@@ -49,12 +50,13 @@ pub data AreOthers : List Framed → List Framed → Type 0 where
 abbrev pub module_bytes : List Framed → List ℕ
 module_bytes fs = module_preamble ++ flat_map (λ f. framed f.0 f.1) fs
 
--- The bytes are a module without a section that carries a world; or one with such sections, and what is answered is the module of the others.
+-- The bytes are a module, and no section of it carries a world.
 pub record IsUnbound (bytes : List ℕ) : Type 0 where
   pub sections : List Framed
   pub is : IsModule sections bytes
   pub others : AreOthers sections sections
 
+-- Some sections of the module carry worlds, and what is kept is the module of the others.
 pub record IsStripped (bytes kept : List ℕ) : Type 0 where
   pub sections : List Framed
   pub is : IsModule sections bytes
@@ -63,17 +65,19 @@ pub record IsStripped (bytes kept : List ℕ) : Type 0 where
   pub fewer : length others < length sections
   pub kept_are : kept ≡ module_bytes others
 
+-- What is answered of a module without the worlds: none where it carries none, or the module of its other sections.
 abbrev pub StripsModule : List ℕ → Option (Vec ℕ Global) → Type 0
 StripsModule bytes None = IsUnbound bytes
 StripsModule bytes (Some kept) = IsStripped bytes kept.items
 
--- What stands in front of bytes: a section, whether it carries a world, and the bytes behind it; or no section.
+-- A section stands in front of these bytes, with a name if it is a custom one, and these bytes behind it.
 pub record IsInFront (bytes : List ℕ) (f : Framed) (rest : List ℕ) : Type 0 where
   pub front : List ℕ
   pub parts : bytes ≡ front ++ rest
   pub framed_ : IsFrame f front
   pub named_ : IsNamed f
 
+-- No section stands in front of these bytes.
 abbrev pub IsFrontless : List ℕ → Type 0
 IsFrontless bytes = (f : Framed) (rest : List ℕ) → IsInFront bytes f rest → ⊥
 

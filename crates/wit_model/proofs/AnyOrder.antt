@@ -11,11 +11,8 @@ use Rattle.std.proofs.lemmas.Map.Text.{is_eq-slice_cmp}
 use Rattle.std.proofs.lemmas.Map.Keys.{IsDistinct-IsPermutation}
 use Rattle.std.proofs.lemmas.List.Sorted.{IsPermutation-map, IsPermutation-sym, Contains-permutation}
 use Rattle.wit_model.specs.Text.{Text, TextMap, text_of, text_eq, text_cmp}
-use Rattle.std.specs.Cmp.Lexicographic.{same_text}
 use Rattle.base_lemmas.proofs.Elements.{contains-map}
-
-pub text-same : (a b : Text) → text_eq a b ≡ true → a ≡ b
-text-same a b h = same_text a b (sym h)
+use Rattle.wit_model.proofs.TextLemmas.{text_same as text-same}
 
 pub same-text : (a b : Text) → eq_by_cmp text_cmp a b ≡ text_eq a b
 same-text a b = is_eq-slice_cmp a b

@@ -4,27 +4,13 @@ use Rattle.std.specs.List.{Contains}
 use Rattle.std.specs.Ordering.{eq_by_cmp}
 use Rattle.std.specs.FinMap.{find, from_entries, get-from_entries, same_map, slice_cmp-IsAntisymmetric, nat_cmp-IsAntisymmetric}
 use Rattle.std.proofs.lemmas.Cmp.{nat_list_cmp_total, nat_list_eq_equiv}
-use Rattle.std.proofs.lemmas.Map.Text.{is_eq-slice_cmp}
 use Rattle.std.proofs.lemmas.Slice.Eq.{bytes_eq-Decides}
-use Rattle.wit_model.specs.Text.{Text, TextMap, text_eq, text_cmp}
+use Rattle.wit_model.specs.Text.{Text, TextMap, text_cmp}
 use Rattle.wit_model.specs.Maps.{HaveSameEntries}
-
-same_order : (a b : Text) → eq_by_cmp text_cmp a b ≡ text_eq a b
-same_order a b = is_eq-slice_cmp a b
+use Rattle.wit_model.proofs.AnyOrder.{same-text as same_order}
+use Rattle.wit_model.proofs.AnyOrder.{found-there as found_there}
 
 module _ {X : Type 0} where
-  -- what is found is an entry, and under the name of an entry something is found
-  pub found_there : (es : List (Text × X)) (q : Text) (x : X) → find text_cmp q es ≡ Some x → Contains es (q, x)
-  found_there [] q x h = absurd cc
-  found_there (e ∷ es) q x h = go (found_there es q x) (eq_by_cmp text_cmp q e.0) refl h
-    where
-      go : (find text_cmp q es ≡ Some x → Contains es (q, x)) → (b : Bool) → eq_by_cmp text_cmp q e.0 ≡ b → cond b (Some e.1) (find text_cmp q es) ≡ Some x → Contains (e ∷ es) (q, x)
-      go more true t h =
-          let key : e.0 ≡ q = sym ((bytes_eq-Decides q e.0).0 (sym (same_order q e.0) ∙ t)) in
-          let value : e.1 ≡ x = ap (λ o. unwrap_or o x) h in
-          (0, omega arith, λ i. (key i, value i))
-      go more false t h = let rest = more h in (suc rest.0, (let l = rest.1 in omega arith), rest.2)
-
   pub there_some : (es : List (Text × X)) (q : Text) (x : X) → Contains es (q, x) → (y : X) × (find text_cmp q es ≡ Some y)
   there_some [] q x (j, l, h) = absurd (omega (arith, l))
   there_some (e ∷ es) q x (zero, l, h) =

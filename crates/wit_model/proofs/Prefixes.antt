@@ -6,7 +6,8 @@ use Rattle.std.specs.Borrow.{Bor}
 use Rattle.std.proofs.lemmas.Option.{same_Some}
 use Rattle.wit_model.specs.Text.{Text}
 use Rattle.wit_model.specs.Rules.{after_prefix}
-use Rattle.base_lemmas.proofs.Numbers.{equal as same_byte, same-number as byte_same}
+use Rattle.base_lemmas.proofs.Numbers.{equal as same_byte}
+use Rattle.wit_model.proofs.PathParts.{after-itself as after_complete}
 
 -- the prefix stands before what follows it
 pub after_sound : (ps bs rest : Text) → after_prefix ps bs ≡ Some rest → bs ≡ ps ++ rest
@@ -17,10 +18,6 @@ after_sound (p ∷ ps) (b ∷ bs) rest h = go (after_sound ps bs rest) (p == b) 
     go : (after_prefix ps bs ≡ Some rest → bs ≡ ps ++ rest) → (v : Bool) → (p == b) ≡ v → cond v (after_prefix ps bs) None ≡ Some rest → b ∷ bs ≡ (p ∷ ps) ++ rest
     go again true e k = let head : p ≡ b = same_byte p b e in let tail : bs ≡ ps ++ rest = again k in cc
     go again false e k = let wrong : ⊥ = cc in absurd wrong
-
-after_complete : (ps rest : Text) → after_prefix ps (ps ++ rest) ≡ Some rest
-after_complete [] rest = refl
-after_complete (p ∷ ps) rest = ap (λ v. cond v (after_prefix ps (ps ++ rest)) None) (byte_same p) ∙ after_complete ps rest
 
 -- what `strip_prefix` gives
 pub stripped : (ps bs : Text) (r : Option (Bor Text)) → MatchOption r (FindsTextPrefix ps bs None) (λ x. StripsPrefix (FindsTextPrefix ps) bs x.now) → option_copied r ≡ after_prefix ps bs

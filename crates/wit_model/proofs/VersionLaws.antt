@@ -17,6 +17,7 @@ use Rattle.wit_model.specs.Lookup.{identity_of, optional_version_text}
 use Rattle.wit_model.specs.Rules.{passes, same_version, same_package_name}
 use Rattle.wit_model.specs.NameLaws.{OneVersion, SameName}
 use Rattle.base_lemmas.proofs.Numbers.{same_count as same_number}
+use Rattle.wit_model.proofs.TextLemmas.{text_same}
 
 five_parts : (a b c d e : Bool) → (a && (b && (c && (d && e)))) ≡ true → (a ≡ true) × (b ≡ true) × (c ≡ true) × (d ≡ true) × (e ≡ true)
 five_parts a b c d e h =
@@ -43,9 +44,6 @@ one_version v w h k same = parts_by_text (parts_of v) (parts_of w) (valid_parts 
 
 pub same_text : (a b : Text) → a ≡ b → text_eq a b ≡ true
 same_text a b e = (bytes_eq-Decides a b).1 e
-
-pub text_same : (a b : Text) → text_eq a b ≡ true → a ≡ b
-text_same a b e = (bytes_eq-Decides a b).0 e
 
 pub versions_same : (a b : Version) → parts_of a ≡ parts_of b → same_version a b ≡ true
 versions_same a b e =

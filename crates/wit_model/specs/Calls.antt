@@ -49,6 +49,7 @@ own_name_of (kind.Static id) name = after_dot name
 own_name_of (kind.AsyncStatic id) name = after_dot name
 own_name_of (kind.Constructor id) name = codes "constructor"
 
+-- a function's own name in WIT, without its resource's
 abbrev pub item_name : Function → Text
 item_name f = own_name_of f.kind (text_of f.name)
 
@@ -66,6 +67,7 @@ is_shorthand r f (kind.AsyncMethod id) = false
 is_shorthand r f (kind.Static id) = false
 is_shorthand r f (kind.AsyncStatic id) = false
 
+-- whether a function can be written as a constructor that gives its resource and can't fail
 abbrev pub is_constructor_shorthand : Resolve → Function → Bool
 is_constructor_shorthand r f = is_shorthand r f f.kind
 

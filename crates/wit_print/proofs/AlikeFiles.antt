@@ -24,7 +24,7 @@ use Rattle.wit_model.specs.declared.model.TypeOwner.TheVariants as owner
 use Rattle.wit_model.specs.declared.model.«Type».{«Type» as ValueType}
 use Rattle.wit_model.specs.declared.model.«Type».TheVariants as value
 use Rattle.wit_model.specs.declared.model.Function.{Function}
-use Rattle.wit_model.specs.Text.{Text, text_of, optional_text}
+use Rattle.wit_model.specs.Text.{Text, text_of}
 use Rattle.wit_model.specs.Lookup.{package_at, interface_at, world_at, type_at}
 use Rattle.wit_model.specs.Parts.{same_owner}
 use Rattle.wit_model.specs.Rules.{is_freestanding}
@@ -43,6 +43,7 @@ use Rattle.print_items.specs.Shown.{present_name, shown_docs, shown_prefix, show
 use Rattle.wit_print.proofs.AlikeTypes.{same, Both, at_both, or_alike, then_alike, map_alike, bare_map_alike, filter_alike, name_alike, external_id_alike, gates_alike, types_at, signature_alike, function_prefix_alike, declared_alike}
 use Rattle.wit_print.proofs.UndocumentedCalls.{undocumented_calls}
 use Rattle.base_lemmas.proofs.Lists.{append_of_map as map_joined}
+use Rattle.wit_model.proofs.TextLemmas.{some_alike}
 
 -- ---- lists
 
@@ -76,12 +77,6 @@ given_alike R f g each (x ∷ xs) (y ∷ ys) h = λ i. cons_option (each x y h.0
 -- a declared type without its documentation
 abbrev bare_with : DeclaredWith → DeclaredWith
 bare_with d = record { prefix = bare_prefix same d.prefix; declared = bare_declared same d.declared }
-
-some_alike : (x y : Option (String Global)) → optional_text x ≡ optional_text y → is_some x ≡ is_some y
-some_alike None None h = refl
-some_alike None (Some t) h = let wrong : ⊥ = cc in absurd wrong
-some_alike (Some s) None h = let wrong : ⊥ = cc in absurd wrong
-some_alike (Some s) (Some t) h = refl
 
 types_bare_in : (ds : List DeclaredWith) → map (bare_world_member same) (map (λ d. WorldType d.prefix d.declared) ds) ≡ map (λ d. WorldType d.prefix d.declared) (map bare_with ds)
 types_bare_in [] = refl

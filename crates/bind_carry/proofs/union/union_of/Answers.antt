@@ -11,11 +11,12 @@ use Rattle.bind_carry.specs.TooLong.{copies_of, AreTooManyGained, IsTooLong}
 use Rattle.wit_model.specs.Lookup.{world_at}
 use Rattle.wit_model.specs.declared.error.Error.TheVariants.{Size}
 use Rattle.wit_model.specs.declared.model.World.{World}
-use Rattle.bind_carry.proofs.Counting.{carried_few, err_so}
+use Rattle.bind_carry.proofs.Counting.{carried_few}
 use Rattle.bind_carry.proofs.ManyCarried.{gained_by_count}
 use Rattle.bind_carry.proofs.Ranges.{is_in_range, shown_below}
 use Rattle.bind_carry.proofs.Ready.{carried_ready, interface_count, owners_below, world_keys_below}
 use Rattle.bind_carry.proofs.union.union_of.Goals as goal
+use Rattle.base_lemmas.proofs.Options.{passed as err_so}
 
 pub number_carried-requires-clause-few_packages : goal.number_carried-requires-clause-few_packages
 number_carried-requires-clause-few_packages c = subst (λ (k : ℕ). k ≤ 4294967295) (sym c.requires.matches.packages) (is_in_range c.args.other.now c.requires.other).few_packages

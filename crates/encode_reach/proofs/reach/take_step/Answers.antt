@@ -4,9 +4,10 @@ use Rattle.wit_model.specs.declared.model.InterfaceId.{InterfaceId}
 use Rattle.wit_model.specs.Uses.{has, direct_deps}
 use Rattle.encode_reach.specs.Walk.{IsDone, visits}
 use Rattle.encode_reach.specs.declared.reach.Step.TheVariants as step
-use Rattle.encode_reach.proofs.Steps.{held, inserted, skipped, appended, visited}
+use Rattle.encode_reach.proofs.Steps.{inserted, skipped, appended, visited}
 use Rattle.encode_reach.proofs.reach.take_step.Goals as goal
 use Rattle.encode_reach.proofs.reach.take_step.Goals.{in-Append+in_ok-insert-in-Append, in-Visit+else-contains+in_ok-used-in-Visit+in_ok-push-in-Visit+in_ok-push_visits-in-Visit}
+use Rattle.wit_model.proofs.UsesLemmas.{any_is_has as held}
 
 pub returns-then-contains-clause-done : goal.returns-then-contains-clause-done
 returns-then-contains-clause-done c =

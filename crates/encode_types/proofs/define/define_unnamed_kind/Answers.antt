@@ -8,7 +8,7 @@ use Rattle.encode_types.proofs.define.define_unnamed_kind.Given.{Over}
 use Rattle.encode_types.proofs.define.define_unnamed_kind.Goals as goal
 use Rattle.encode_types.proofs.define.define_unnamed_kind.Goals.{In-Some, In_default}
 use Rattle.encode_types.proofs.Writing.{written-none}
-use Rattle.base_lemmas.proofs.Options.{on-held}
+use Rattle.base_lemmas.proofs.Options.{at_ok}
 
 had : (g : Over) (c : In-Some g) → HasKind (g.E.ValtypeEncoder.view c.args.enc.now).maps c.args.kind.now c.in-Some.index
 had g c = (c.requires.unnamed, subst (λ (xs : List ℕ). Contains (lists_of (g.E.ValtypeEncoder.view c.args.enc.now).maps.def_to_index) (xs, c.in-Some.index)) (c.as_slice.ensures.value ∙ c.in_ok-list.ensures) c.in-Some.ensures.some)
@@ -50,7 +50,7 @@ pub returns-in-Some-clause-held : goal.returns-in-Some-clause-held
 returns-in-Some-clause-held g c = rw c.index_of_kind.ensures.same (inl (omega arith))
 
 pub returns-clause-held : goal.returns-clause-held
-returns-clause-held g c = on-held c.define_new_kind.result _ (inr (lacks g (goal.at.returns-clause-held g c).In_default, (rw c.index_of_kind.ensures.same at c.define_new_kind.ensures.held)))
+returns-clause-held g c = at_ok c.define_new_kind.result (inr (lacks g (goal.at.returns-clause-held g c).In_default, (rw c.index_of_kind.ensures.same at c.define_new_kind.ensures.held)))
 
 pub returns-clause-size : goal.returns-clause-size
 returns-clause-size g c = λ h. record { new = lacks g (goal.at.returns-clause-size g c).In_default; refuses = (rw c.index_of_kind.ensures.same at (c.define_new_kind.ensures.size h)) }

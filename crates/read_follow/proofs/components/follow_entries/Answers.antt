@@ -4,8 +4,8 @@ use Rattle.read_follow.specs.Bodies.{items_in, raw_entry}
 use Rattle.read_follow.specs.Scopes.{start_of, world_of}
 use Rattle.read_follow.proofs.ComponentLaws.{followed_none, followed_on, followed_whole, not_unread, nothing_on}
 use Rattle.read_follow.proofs.NameTableLaws.{no_names}
-use Rattle.read_follow.proofs.StepLaws.{alike}
 use Rattle.read_follow.proofs.components.follow_entries.Goals as goal
+use Rattle.read_follow.proofs.SectionLaws.{alike}
 
 pub loop-init : goal.loop-init
 loop-init c =

@@ -3,8 +3,9 @@ use Rattle.read_follow.specs.Bodies.{held_declaration_at, items_in}
 use Rattle.read_follow.specs.Declares.{raw_declared}
 use Rattle.read_follow.specs.Following.{slots_at}
 use Rattle.read_follow.specs.InstanceScopes.{state_of, tables_of}
-use Rattle.read_follow.proofs.StepLaws.{alike, around_in, followed_all, followed_more, followed_none, not_unread, nothing_shown}
+use Rattle.read_follow.proofs.StepLaws.{around_in, followed_all, followed_more, followed_none, not_unread, nothing_shown}
 use Rattle.read_follow.proofs.instances.follow_body.Goals as goal
+use Rattle.read_follow.proofs.SectionLaws.{alike}
 
 pub loop-init : goal.loop-init
 loop-init c =

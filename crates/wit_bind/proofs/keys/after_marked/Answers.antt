@@ -1,8 +1,8 @@
 use Rattle.std.proofs.Common.{rules, ◌≡◌, sym, ap, ◌∙◌, Some, None, option_and_then}
 use Rattle.std.specs.Option.{option_copied}
 use Rattle.wit_model.specs.Rules.{after_prefix}
-use Rattle.wit_bind.proofs.KeyTexts.{after_both}
 use Rattle.wit_bind.proofs.keys.after_marked.Goals as goal
+use Rattle.wit_model.proofs.RulesLemmas.{after_both}
 
 pub returns-in_err-rest : goal.returns-in_err-rest
 returns-in_err-rest c =

@@ -5,11 +5,12 @@ use Rattle.wit_compat.specs.Index.{indexed}
 use Rattle.wit_compat.specs.Parts.{named_thing}
 use Rattle.wit_compat.specs.Walk.{Pair, pairs_shared}
 use Rattle.wit_compat.specs.Table.{AreAmong, AreReached}
-use Rattle.wit_compat.proofs.Matching.{entries_in_range_by, err_then, fault_alike, found_in_range, included_alike, pairs_alike}
+use Rattle.wit_compat.proofs.Matching.{entries_in_range_by, fault_alike, found_in_range, included_alike, pairs_alike}
 use Rattle.wit_compat.proofs.Signatures.{reached_none}
 use Rattle.wit_compat.proofs.Validity.{layered, things_in_range}
 use Rattle.wit_compat.proofs.sides.compare_sides.Goals as goal
 use Rattle.std.proofs.lemmas.Result.{on_ok_weaker as ok_then}
+use Rattle.std.proofs.lemmas.Result.{IfErr-weaker}
 
 pub included-requires-clause-layered : goal.included-requires-clause-layered
 included-requires-clause-layered c = layered c.args.resolve.now c.requires.valid
@@ -39,7 +40,7 @@ returns-in-Ok-clause-refuses c =
     let r = c.args.resolve.now in
     let large = things_of r c.args.large.now.entries in
     let is : map named_thing c.deref.result.now ≡ things_of r c.args.small.now.entries = ap (map named_thing) c.deref.ensures.value ∙ c.in-Ok.ensures.small in
-    err_then c.included.result (λ e i. subst (λ xs. IsFaultOf (all_shown r xs) (all_shown r large) e) is
+    IfErr-weaker c.included.result _ _ (λ e i. subst (λ xs. IsFaultOf (all_shown r xs) (all_shown r large) e) is
     (fault_alike r (indexed c.in-Ok.found.entries) large c.in-Ok.ensures.large (all_shown r (map named_thing c.deref.result.now)) e i)) c.included.ensures.refuses
 
 pub returns-in-Ok-clause-holds : goal.returns-in-Ok-clause-holds

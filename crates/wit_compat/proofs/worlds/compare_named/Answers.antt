@@ -1,9 +1,10 @@
 use Rattle.wit_compat.specs.Compatible.{Accepts, IsRefused, memory}
-use Rattle.wit_compat.proofs.Matching.{by_result, err_then}
+use Rattle.wit_compat.proofs.Matching.{by_result}
 use Rattle.wit_compat.proofs.Refusing.{mismatch_refused, repeated_refused}
 use Rattle.wit_compat.proofs.Validity.{types_fit}
 use Rattle.wit_compat.proofs.worlds.compare_named.Goals as goal
 use Rattle.std.proofs.lemmas.Result.{on_ok_weaker as ok_then}
+use Rattle.std.proofs.lemmas.Result.{IfErr-weaker}
 
 pub returns-in-Err-clause-accepts : goal.returns-in-Err-clause-accepts
 returns-in-Err-clause-accepts c = repeated_refused c.args.resolve.now c.args.prev.now c.args.new.now c.requires.packages c.in-Err.error c.in-Err.ensures.refuses
@@ -18,7 +19,7 @@ returns-in-Ok-clause-accepts c =
     let new = c.args.new.now in
     by_result (Accepts r prev new) (IsRefused r prev new) c.compare_anew.result
     (ok_then c.compare_anew.result (λ k. record { comparable = record { packages = c.requires.packages; prev_keys = c.in_default.ensures.prev; new_keys = c.in_default.ensures.new }; compatible = k }) c.compare_anew.ensures.compatible)
-    (err_then c.compare_anew.result (mismatch_refused r prev new c.requires.packages c.in_default.ensures.prev c.in_default.ensures.new) c.compare_anew.ensures.refuses)
+    (IfErr-weaker c.compare_anew.result _ _ (mismatch_refused r prev new c.requires.packages c.in_default.ensures.prev c.in_default.ensures.new) c.compare_anew.ensures.refuses)
 
 pub returns-in-Err-heads-clause-accepts : goal.returns-in-Err-heads-clause-accepts
 returns-in-Err-heads-clause-accepts c = memory

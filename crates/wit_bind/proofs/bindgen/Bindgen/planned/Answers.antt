@@ -1,5 +1,4 @@
 use Rattle.bind_clash.specs.Faults.{IsMatched}
-use Rattle.bind_clash.proofs.FirstClash.{err_is}
 use Rattle.wit_bind.specs.Merges.{IsMergeRefusal}
 use Rattle.wit_bind.proofs.Growing.{if_ok_both}
 use Rattle.wit_bind.proofs.MatchedPaths.{all-matched}
@@ -8,6 +7,7 @@ use Rattle.wit_bind.proofs.TooMany.{refused-so}
 use Rattle.wit_bind.proofs.Uniting.{unite}
 use Rattle.wit_bind.proofs.bindgen.Bindgen.planned.Goals as goal
 use Rattle.base_lemmas.proofs.Options.{if_ok}
+use Rattle.base_lemmas.proofs.Options.{passed as err_is}
 
 pub refuse_clash-requires-clause-matches : goal.refuse_clash-requires-clause-matches
 refuse_clash-requires-clause-matches c = record { packages = c.in_ok-matches.ensures.packages; interfaces = c.in_ok-matches.ensures.interfaces; worlds = c.in_ok-matches.ensures.worlds }

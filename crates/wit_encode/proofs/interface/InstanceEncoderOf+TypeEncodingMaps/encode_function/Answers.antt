@@ -8,7 +8,7 @@ use Rattle.wit_model.specs.Text.{text_of}
 use Rattle.wit_model.specs.Meant.{signature_of, function_meaning}
 use Rattle.comp_bytes.specs.RawOf.{raw_name}
 use Rattle.encode_types.specs.MetKinds.{LearnsFrom}
-use Rattle.wit_encode.proofs.Referring.{on-any, from-met}
+use Rattle.wit_encode.proofs.Referring.{from-met}
 use Rattle.wit_model.specs.Parts.{function_types}
 use Rattle.wit_encode.specs.Instance.{own_of}
 use Rattle.wit_encode.proofs.Continuing.{Showed, function-showed, after-types}
@@ -27,6 +27,7 @@ use Rattle.encode_types.proofs.Writing.{writes-beside}
 use Rattle.encode_types.specs.Extents.{name_extent}
 use Rattle.std.proofs.Common.{◌≤◌, ◌+◌}
 use Rattle.encode_types.proofs.Aliasing.{makes-same}
+use Rattle.base_lemmas.proofs.Options.{at_ok as on-any}
 
 pub encode_func_type-requires : goal.encode_func_type-requires
 encode_func_type-requires c = λ _. ((refl, tt), rw c.requires.open.packages_ (c.requires.encodable.types, (c.requires.encodable.formed, c.requires.open.agree)))

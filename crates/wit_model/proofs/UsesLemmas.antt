@@ -1,0 +1,81 @@
+-- Lemmas on lists of numbers, and on what a type or an item leads to.
+use Rattle.wit_model.specs.declared.model.TypeDefKind.TheVariants as kind
+use Rattle.wit_model.specs.declared.model.WorldItem.TheVariants as item
+use Rattle.base_lemmas.proofs.Elements.{contains-later}
+use Rattle.base_lemmas.proofs.Numbers.{same-number}
+use Rattle.std.proofs.Common.{Bool, List, Some, [], ap, arith, cond, false, filter, nat_eq, option_to_list, refl, subst, sym, true, ℕ, ◌==◌, ◌||◌, ◌∙◌, ◌∷◌, ◌≡◌}
+use Rattle.std.proofs.lemmas.Bool.{and_from as both, eqb-true, or_right}
+use Rattle.std.proofs.lemmas.Bool.Decides.{nat_tests}
+use Rattle.std.proofs.lemmas.Option.{same_Some as some-same}
+use Rattle.std.specs.List.{list_all, list_any}
+use Rattle.wit_model.proofs.Elements.{contains-has, has-contains}
+use Rattle.wit_model.proofs.OnePath.{found-in}
+use Rattle.wit_model.specs.Lookup.{interface_at}
+use Rattle.wit_model.specs.Parts.{kind_numbers}
+use Rattle.wit_model.specs.Rules.{item_in_range}
+use Rattle.wit_model.specs.Uses.{alias_target, has, item_interface}
+use Rattle.wit_model.specs.declared.model.Interface.{Interface}
+use Rattle.wit_model.specs.declared.model.Resolve.{Resolve}
+use Rattle.wit_model.specs.declared.model.TypeDefKind.{TypeDefKind}
+use Rattle.wit_model.specs.declared.model.WorldItem.{WorldItem}
+
+pub all_from_has : (p : ℕ → Bool) (ns : List ℕ) → ((n : ℕ) → has ns n ≡ true → p n ≡ true) → list_all p ns ≡ true
+all_from_has p [] h = refl
+all_from_has p (n ∷ ns) h = both _ _ (h n (ap (λ b. b || has ns n) (same-number n))) (all_from_has p ns (λ m c. h m (contains-has (n ∷ ns) m (contains-later n ns m (has-contains ns m c)))))
+
+pub alias_numbers : (k : TypeDefKind) (t : ℕ) → alias_target k ≡ Some t → kind_numbers k ≡ t ∷ []
+alias_numbers (kind.Type_ ty) t e = ap option_to_list e
+alias_numbers kind.Resource t e = let wrong : ⊥ = cc in absurd wrong
+alias_numbers (kind.Record x) t e = let wrong : ⊥ = cc in absurd wrong
+alias_numbers (kind.Handle x) t e = let wrong : ⊥ = cc in absurd wrong
+alias_numbers (kind.Flags x) t e = let wrong : ⊥ = cc in absurd wrong
+alias_numbers (kind.Tuple x) t e = let wrong : ⊥ = cc in absurd wrong
+alias_numbers (kind.Variant x) t e = let wrong : ⊥ = cc in absurd wrong
+alias_numbers (kind.Enum x) t e = let wrong : ⊥ = cc in absurd wrong
+alias_numbers (kind.Option x) t e = let wrong : ⊥ = cc in absurd wrong
+alias_numbers (kind.Result x) t e = let wrong : ⊥ = cc in absurd wrong
+alias_numbers (kind.List x) t e = let wrong : ⊥ = cc in absurd wrong
+alias_numbers (kind.Map x y) t e = let wrong : ⊥ = cc in absurd wrong
+alias_numbers (kind.FixedLengthList x y) t e = let wrong : ⊥ = cc in absurd wrong
+alias_numbers (kind.Future x) t e = let wrong : ⊥ = cc in absurd wrong
+alias_numbers (kind.Stream x) t e = let wrong : ⊥ = cc in absurd wrong
+
+pub interface_in_range : (r : Resolve) (i : WorldItem) (n : ℕ) → item_interface i ≡ Some n → item_in_range r i ≡ true → (def : Interface) × (interface_at r n ≡ Some def)
+interface_in_range r (item.Interface id stability docs external_id) n e h = subst (λ (m : ℕ). (def : Interface) × (interface_at r m ≡ Some def)) (some-same id.0 n e) (found-in r.interfaces.items id.0 h)
+interface_in_range r (item.Function f) n e h = absurd (let z : ⊥ = cc in z)
+interface_in_range r (item.Type_ id) n e h = absurd (let z : ⊥ = cc in z)
+
+pub any_is_has : (ns : List ℕ) (q : ℕ) → list_any (nat_eq q) ns ≡ has ns q
+any_is_has [] q = refl
+any_is_has (n ∷ ns) q = λ i. turned i || any_is_has ns q i
+  where
+    turned : nat_eq q n ≡ (n == q)
+    turned = grind (arith, nat_tests)
+
+no_true : {A : Type 0} → false ≡ true → A
+no_true e = let wrong : ⊥ = cc in absurd wrong
+
+pub has_filter : (p : ℕ → Bool) (ns : List ℕ) (n : ℕ) → has ns n ≡ true → p n ≡ true → has (filter p ns) n ≡ true
+has_filter p [] n h k = no_true h
+has_filter p (x ∷ ns) n h k = go (x == n) refl (p x) refl (λ e. has_filter p ns n e k)
+  where
+    go : (b : Bool) → (x == n) ≡ b → (c : Bool) → p x ≡ c → (has ns n ≡ true → has (filter p ns) n ≡ true) → has (cond c (x ∷ filter p ns) (filter p ns)) n ≡ true
+    go true e true f rest = ap (λ b. b || has (filter p ns) n) e
+    go true e false f rest = no_true (sym f ∙ (ap p (eqb-true x n e) ∙ k))
+    go false e true f rest = ap (λ b. b || has (filter p ns) n) e ∙ rest (sym (ap (λ b. b || has ns n) e) ∙ h)
+    go false e false f rest = rest (sym (ap (λ b. b || has ns n) e) ∙ h)
+
+pub filter_has : (p : ℕ → Bool) (ns : List ℕ) (n : ℕ) → has (filter p ns) n ≡ true → (has ns n ≡ true) × (p n ≡ true)
+filter_has p [] n h = no_true h
+filter_has p (x ∷ ns) n h = go (p x) refl h (filter_has p ns n)
+  where
+    later : (has ns n ≡ true) × (p n ≡ true) → ((x == n) || has ns n) ≡ true
+    later more = or_right (x == n) (has ns n) more.0
+
+    front : p x ≡ true → (b : Bool) → (x == n) ≡ b → (b || has (filter p ns) n) ≡ true → (has (filter p ns) n ≡ true → (has ns n ≡ true) × (p n ≡ true)) → (has (x ∷ ns) n ≡ true) × (p n ≡ true)
+    front f true e h rest = (ap (λ b. b || has ns n) e, sym (ap p (eqb-true x n e)) ∙ f)
+    front f false e h rest = let more = rest h in (later more, more.1)
+
+    go : (c : Bool) → p x ≡ c → has (cond c (x ∷ filter p ns) (filter p ns)) n ≡ true → (has (filter p ns) n ≡ true → (has ns n ≡ true) × (p n ≡ true)) → (has (x ∷ ns) n ≡ true) × (p n ≡ true)
+    go true f h rest = front f (x == n) refl h rest
+    go false f h rest = let more = rest h in (later more, more.1)
