@@ -4,6 +4,7 @@ ghost use Rattle.std.specs.Prelude.{IfErr, IfOk};
 ghost use Rattle.witc_written.specs.Written.{EncodesModule, EncodesPackage, RefusesEncoded, RefusesEncodedModule};
 
 use std::alloc::Global;
+use wit_component::laws::encoding_keeps_that_meaning;
 use wit_component::{Error, PackageId, decode, encode, metadata};
 
 /// The package that the bytes mean, encoded anew, with canonical names or without: bytes that mean the same, without documentation and custom sections.
@@ -12,6 +13,7 @@ pub fn package_bytes(alloc: Global, bytes: &[u8], canonical_names: bool) -> Resu
     ensures encoded { IfOk result (λ x. EncodesPackage bytes.now canonical_names x.items) }
     ensures refused { IfErr result (RefusesEncoded bytes.now canonical_names) }
 {
+    encoding_keeps_that_meaning();
     let (resolve, id) = decode(alloc, bytes)?;
     encode(alloc, &resolve, id, canonical_names)
 }
