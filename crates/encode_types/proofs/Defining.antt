@@ -221,6 +221,7 @@ leaves-trans {r} {v} {v'} {v''} p q = record {
     kept = λ i x h. q.grows.kept i x (p.grows.kept i x h);
     more = (let x = p.grows.more in let y = q.grows.more in omega arith);
     around_ = around-trans p.grows.around_ (subst (λ (z : Scope). GrowsAround z.packages v'.around v''.around) p.scope_stays q.grows.around_);
+    own_ = λ ns h. q.grows.own_ ns (p.grows.own_ ns h);
   };
   scope_stays = q.scope_stays ∙ p.scope_stays;
 }

@@ -6,7 +6,7 @@ use Rattle.encode_types.proofs.Functions.{key-stands, counts-known}
 use Rattle.encode_types.proofs.func_type.encode_func_type.Goals as goal
 use Rattle.encode_types.proofs.Writing.{writes-nothing}
 use Rattle.encode_types.proofs.Rooms.{holds-none}
-use Rattle.encode_types.proofs.Aliasing.{met-none}
+use Rattle.encode_types.proofs.Aliasing.{met-none, imports-none}
 use Rattle.std.proofs.lemmas.Result.{IfOk-weaker as ok-map}
 
 pub returns-in-Some-clause-ok : goal.returns-in-Some-clause-ok
@@ -41,3 +41,12 @@ returns-clause-aliases g c = rw (c.index_of_key.ensures.same, c.list_of_key.ensu
 
 pub returns-in_err-list-clause-aliases : goal.returns-in_err-list-clause-aliases
 returns-in_err-list-clause-aliases g c = rw c.list_of_key.ensures.same (met-none refl)
+
+pub returns-in-Some-clause-imports : goal.returns-in-Some-clause-imports
+returns-in-Some-clause-imports g c = rw (c.index_of_key.ensures.same, c.list_of_key.ensures.same) (imports-none refl)
+
+pub returns-clause-imports : goal.returns-clause-imports
+returns-clause-imports g c = rw (c.index_of_key.ensures.same, c.list_of_key.ensures.same) at c.define_key.ensures.imports
+
+pub returns-in_err-list-clause-imports : goal.returns-in_err-list-clause-imports
+returns-in_err-list-clause-imports g c = rw c.list_of_key.ensures.same (imports-none refl)
