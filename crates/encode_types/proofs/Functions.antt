@@ -67,10 +67,10 @@ counts-key r scope m m₁ m' d d₁ d' key i lacks a l e =
     let more : IsPermutation (lists_of m.func_type_map ++ (l.list, i) ∷ []) (lists_of m'.func_type_map) =
     subst (λ (es : List (Vec ℕ Global × ℕ)). IsPermutation (map {B = List ℕ × ℕ} (λ e. (e.0.items, e.1)) es ++ (l.list, i) ∷ []) (lists_of m'.func_type_map)) a.keys.lists l.more in
     let grow : NamesGrow (names_of m.names) (names_of m'.names) = subst (λ (ns : List (Bor Text × ℕ)). NamesGrow (map {B = Text × ℕ} (λ e. (e.0.now, e.1)) ns) (names_of m'.names)) a.keys.names_ l.grow in
-    record { slots = slots-then a.slots rest; keys = inr (lacks, record { grow = grow; list = l.list; is = l.is; more = more }, f); shows = shows-trans a.shows (shows-none r scope m₁ m' d₁ d' l.rest.numbers (ap (λ (z : Definitions). z.exports) e)) }
+    record { slots = slots-then a.slots rest; keys = inr (lacks, record { units = record { future_ = l.rest.unit_future_ ∙ a.keys.units.future_; stream_ = l.rest.unit_stream_ ∙ a.keys.units.stream_ }; grow = grow; list = l.list; is = l.is; more = more }, f); shows = shows-trans a.shows (shows-none r scope m₁ m' d₁ d' l.rest.numbers (ap (λ (z : Definitions). z.exports) e)) }
 
 pub counts-known : (r : Resolve) (scope : Scope) (m : TypeEncodingMaps) (d : Definitions) (key : FunctionKey) (i : ℕ) → HasKey m key i → AddsFunction r scope m m d d key i
-counts-known r scope m d key i h = record { slots = slots-none r scope m m d d refl refl refl refl; keys = inl (h, record { lists = refl; names_ = refl }, refl); shows = shows-none r scope m m d d refl refl }
+counts-known r scope m d key i h = record { slots = slots-none r scope m m d d refl refl refl refl; keys = inl (h, record { lists = refl; names_ = refl; units = record { future_ = refl; stream_ = refl } }, refl); shows = shows-none r scope m m d d refl refl }
 
 pub lacks-same : (m m' : TypeEncodingMaps) (key : FunctionKey) → SameKeys m m' → LacksKey m key → LacksKey m' key
 lacks-same m m' key e l i h = l i (

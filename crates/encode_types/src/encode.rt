@@ -2,7 +2,8 @@
 //!
 //! Each function answers a slot, or a type by it, that stands for the tree asked for. Also after a refusal the old slots stand for
 //! what they did and the maps agree with the slots. An unnamed kind that `encode_valtype` meets, or another function on its way to the
-//! parts, is defined only where the maps lack it, and then it is in the maps. What a function is named after it defines at each call.
+//! parts, is defined only where the maps lack it, and then it is in the maps. What a function is named after it defines at each call. The caches of
+//! a future and a stream without an element are filled by `encode_unit_future` and `encode_unit_stream` alone.
 //!
 //! `Error::Size` comes only from a call of the encoder, for what has no room in the encoder that is left: the definition, the name or the
 //! import of a type that is met from those asked for, or what the function is named after. By then the encoder holds what it held, and less
