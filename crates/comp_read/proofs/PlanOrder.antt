@@ -38,7 +38,8 @@ use Rattle.plan_laws.proofs.OneWorld.{functions_shown as functions_in_world, one
 use Rattle.plan_laws.proofs.Planned.{first_there, interface_there}
 use Rattle.plan_laws.proofs.WholeTypes.{packages_are_ruled, path_planned}
 use Rattle.plan_type_laws.specs.ShownMarks.{has_no_path}
-use Rattle.comp_read.specs.Order.{FollowsParts, function_names, once_by_path, shown_under, worlds_shown}
+use Rattle.comp_read.specs.Order.{FollowsParts, function_names, once_by_path, packages_shown, shown_under, worlds_shown}
+use Rattle.comp_read.proofs.PackageOrder.{built_identities}
 use Rattle.comp_read.proofs.ShownOrder.{members_paths, names_alike, paths_once, scope_paths}
 use Rattle.comp_read.proofs.WorldOrder.{joined_behind}
 use Rattle.base_lemmas.proofs.Elements.{get-contains, zip_each, zip_map as zip_names}
@@ -173,14 +174,15 @@ module _ (p : Plan) (r : Resolve) (built : IsBuilt p r) where
   pub worlds_built : map (λ w. text_of w.name) r.worlds.items ≡ map (λ w. w.name) p.worlds
   worlds_built = sym (map_of_map (λ (w : PlannedWorld). w.name) planned_world r.worlds.items) ∙ ap (map (λ w. w.name)) built.worlds
 
-pub package_follows : (t : Tables) (h : Homes) (known : ℕ → Fact) (n : ℕ) (ms : List Member) (members : List reads.Member) → IsPackageInput t h known n ms members → StandAlone t ms
+pub package_follows : (t : Tables) (h : Homes) (known : ℕ → Fact) (n : ℕ) (ms : List Member) (members : List reads.Member) → IsPackageInput t h known n ms members → StandAlone t ms → h.packages ≡ packages_shown members
     → (p : Plan) → PlansWhole t h.packages (home_at h) n ms p → (r : Resolve) → IsBuilt p r → FollowsParts members r
-package_follows t h known n ms members given alone p planned r built =
+package_follows t h known n ms members given alone packages p planned r built =
     let are = package_shown t h known n ms members given alone in
     let seen = sights_of_members t (numbered_members ms) in
     let shown = flat_map reads.sights members in
     let under = flat_map shown_under members in
     record {
+      packages = built_identities t h.packages (home_at h) n ms p planned r built ∙ packages;
       interfaces = paths_built p r built ∙ paths_planned t h known n ms members given p planned seen shown under are;
       functions = functions_built p r built shown (functions_planned t h known n ms members given p planned seen shown under are);
       worlds = worlds_built p r built ∙ (worlds_planned t h known n ms members given p planned seen shown under are ∙ worlds_meant t h ms members given.input.shown);
@@ -221,8 +223,9 @@ module _ (t : Tables) (h : Homes) (known : ℕ → Fact) (n : ℕ) (m : Member) 
       ap (map (λ (v : Text × Scope). v.0)) (one_world t h n m own w is own_are)
       ∙ (sym (ap (λ a. map (λ (v : Text × Scope). v.0) (world_in_part m.label.now a ++ [])) is) ∙ worlds_meant t h (m ∷ []) ones zip)
 
-  pub world_follows : (p : Plan) → PlansWhole t h.packages (home_at h) n (m ∷ own) p → (r : Resolve) → IsBuilt p r → FollowsParts ones r
-  world_follows p planned r built = record {
+  pub world_follows : h.packages ≡ packages_shown ones → (p : Plan) → PlansWhole t h.packages (home_at h) n (m ∷ own) p → (r : Resolve) → IsBuilt p r → FollowsParts ones r
+  world_follows packages p planned r built = record {
+    packages = built_identities t h.packages (home_at h) n (m ∷ own) p planned r built ∙ packages;
     interfaces = paths_built p r built ∙ paths_planned t h known n (m ∷ own) members given p planned world_seen world_views (flat_map shown_under ones) world_shown;
     functions = functions_built p r built world_views (functions_planned t h known n (m ∷ own) members given p planned world_seen world_views (flat_map shown_under ones) world_shown);
     worlds = worlds_built p r built ∙ (worlds_planned t h known n (m ∷ own) members given p planned world_seen world_views (flat_map shown_under ones) world_shown ∙ one_label);
