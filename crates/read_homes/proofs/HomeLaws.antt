@@ -13,6 +13,7 @@ use Rattle.plan_meaning.specs.NumberedMembers as members
 use Rattle.read_homes.specs.Homes.{given_home, given_text, package_read, ArePackages, ArePaths, ComeInOrder, Grows, HaveReasons, IsHomeOf, IsReadAs, IsReason, Joins, stays, comes, Takes}
 use Rattle.read_homes.proofs.PackageLaws.{homes_on}
 use Rattle.base_lemmas.proofs.Lists.{at_last as last_there, front_more, last_or, within_there as at_number}
+use Rattle.base_lemmas.proofs.Options.{some_is}
 use Rattle.std.proofs.lemmas.Option.{slice_get_within as found_below}
 
 -- ---- why a package is there
@@ -73,8 +74,8 @@ in_order_more first old new path homes home is have reason order p n name at c l
               inr (record { number = b.place; earlier = omega (arith, inside, last); name = b.name; home = front_more homes home b.place (Some (c, b.name)) b.home })
         ]
         | inr own ↦
-            let same : Some (c, own.0) ≡ Some (n, name) = sym own.1 ∙ h.1 in
-            let one : c ≡ n = cc in
+            let same : ◌≡◌ {A = ℕ × Text} (c, own.0) (n, name) = some_is (c, own.0) (n, name) (sym own.1 ∙ h.1) in
+            let one : c ≡ n = ap (λ (y : ℕ × Text). y.0) same in
             absurd (omega (arith, less, one))
       ]
 ]
