@@ -1,5 +1,5 @@
 -- What is built of a plan stands in the order of what was followed.
-use Rattle.std.proofs.Common.{◌≡◌, refl, sym, ap, subst, ◌∙◌, ℕ, zero, suc, true, List, [], ◌∷◌, ◌++◌, map, Option, Some, None, slice_get, option_map, append-nil}
+use Rattle.std.proofs.Common.{◌≡◌, refl, sym, ap, subst, ◌∙◌, ℕ, true, List, [], ◌∷◌, ◌++◌, map, Option, Some, slice_get, option_map, append-nil}
 use Rattle.std.proofs.lemmas.Option.{slice_get-map, same_Some as same-some}
 use Rattle.std.specs.List.{AllByRecursion, AllZip, Contains, filter, flat_map}
 use Rattle.wit_model.specs.declared.model.Interface.{Interface}
@@ -42,19 +42,8 @@ use Rattle.comp_read.specs.Order.{FollowsParts, function_names, once_by_path, pa
 use Rattle.comp_read.proofs.PackageOrder.{built_identities}
 use Rattle.comp_read.proofs.ShownOrder.{members_paths, names_alike, paths_once, scope_paths}
 use Rattle.comp_read.proofs.WorldOrder.{joined_behind}
-use Rattle.base_lemmas.proofs.Elements.{get-contains, zip_each, zip_map as zip_names}
+use Rattle.base_lemmas.proofs.Elements.{get-contains, zip_at_right, zip_each, zip_map as zip_names}
 use Rattle.base_lemmas.proofs.Lists.{append_of_map as map_append, map_of_map, same_map as map_each}
-
--- ---- lists
-
--- what holds of the elements of each number
-
--- what stands beside the element of this number
-zip_back : {A B : Type 0} (R : A → B → Type 0) (xs : List A) (ys : List B) → AllZip R xs ys → (k : ℕ) (y : B) → slice_get ys k ≡ Some y → (x : A) × (slice_get xs k ≡ Some x)
-zip_back R xs [] zip k y e = let wrong : None ≡ Some y = e in absurd cc
-zip_back R [] (z ∷ ys) zip k y e = absurd zip
-zip_back R (x ∷ xs) (z ∷ ys) zip zero y e = (x, refl)
-zip_back R (x ∷ xs) (z ∷ ys) zip (suc k) y e = zip_back R xs ys zip.1 k y e
 
 -- ---- what is shown, in numbers
 
@@ -114,7 +103,7 @@ module _ (t : Tables) (h : Homes) (known : ℕ → Fact) (n : ℕ) (ms : List Me
 
     pub functions_planned : (k : ℕ) (i : PlannedInterface) (path : Text) → slice_get p.interfaces k ≡ Some i → path_of_planned p i ≡ Some path → map (λ f. f.0) i.functions ≡ map (λ f. f.0) (reads.functions_of path shown)
     functions_planned k i path there at_path =
-        let back = zip_back (PlansPlace t planned.kept n (home_at h) (views_of_members (numbered_members ms))) (places_in ms) p.interfaces planned.interfaces k i there in
+        let back = zip_at_right (PlansPlace t planned.kept n (home_at h) (views_of_members (numbered_members ms))) (places_in ms) p.interfaces planned.interfaces k i there in
         let q = back.0 in
         let has : HasPath t q = (path, sym (path_there k q i back.1 there) ∙ at_path) in
         let found = interface_there t h ms members given.input n p planned k q back.1 in
