@@ -1,7 +1,7 @@
 -- The scope of an encoder over one table of slots: of the types of an interface or a world, with the instances of all interfaces.
-use Rattle.std.specs.Prelude.{◌≡◌, Bool, true, false, ◌||◌, ◌&&◌, cond, List, [], ◌∷◌, length, flat_map, Option, Some, None, String, is_some, is_none}
+use Rattle.std.specs.Prelude.{◌≡◌, Bool, true, false, ◌||◌, ◌&&◌, cond, ℕ, List, [], ◌∷◌, length, flat_map, Option, Some, None, String, is_some, is_none}
 use Rattle.std.specs.declared.alloc.Global.{Global}
-use Rattle.std.specs.List.{Contains, list_all}
+use Rattle.std.specs.List.{Contains}
 use Rattle.std.specs.Option.{option_map_or}
 use Rattle.wit_model.specs.Text.{Text, text_of}
 use Rattle.wit_model.specs.Meaning.{TypeMeaning}
@@ -20,6 +20,7 @@ use Rattle.encode_types.specs.Kinds.{has_definition}
 use Rattle.wit_model.specs.declared.model.TypeOwner.{TypeOwner}
 use Rattle.wit_model.specs.declared.model.TypeOwner.TheVariants as owner
 use Rattle.encode_types.specs.Plan.{foreign_owner}
+use Rattle.encode_types.specs.MetKinds.{ReachedFrom}
 use Rattle.encode_types.specs.Resources.{resource_names}
 pub use Rattle.encode_types.specs.Resources.{is_met_owner}
 pub use Rattle.encode_types.specs.Known.{below}
@@ -62,6 +63,10 @@ table_scope r o = record {
 abbrev pub is_met_by : Resolve → TypeOwner → TypeDef → Bool
 is_met_by r o def = is_none def.name || (same_owner def.owner o || (is_some (foreign_owner (interface_of_owner o) def.owner) && has_named_owner r def))
 
+-- each type that these meet on the way down may be met from the types of the owner
+abbrev pub AllMetBy : Resolve → TypeOwner → List ValueType → Type 0
+AllMetBy r o ts = (n : ℕ) (def : TypeDef) → ReachedFrom r (interface_of_owner o) ts n → type_at r n ≡ Some def → is_met_by r o def ≡ true
+
 -- a type with a definition of its own: no resource, and no alias of a number
 abbrev pub IsDefined : Resolve → ValueType → Type 0
 IsDefined r t = (id : TypeId) → t ≡ ty.Id id → (def : TypeDef) → type_at r id.0 ≡ Some def → has_definition def.kind ≡ true
@@ -72,6 +77,5 @@ AllDefined r ts = (t : ValueType) → Contains ts t → IsDefined r t
 -- an encoder of an interface of valid packages over one table, whose maps agree with its slots
 pub record IsTableOf (r : Resolve) (own : InterfaceId) (v : View) : Type 0 where
   pub valid : IsValid r
-  pub met : list_all (is_met_by r (owner.Interface own)) r.types.items ≡ true
   pub scope_ : v.scope ≡ table_scope r (owner.Interface own)
   pub agree : Agrees r v

@@ -1,5 +1,5 @@
 -- The calls for a kind without a name of its own, in three parts: before its types, its types with commas between, and behind them.
-use Rattle.std.specs.Prelude.{Bool, false, true, List, [], ◌∷◌, ◌++◌, ◌&&◌, not, ℕ, zero, suc, Option, Some, None, codes}
+use Rattle.std.specs.Prelude.{Bool, false, true, List, [], ◌∷◌, ◌++◌, ◌&&◌, not, ℕ, zero, suc, Option, Some, None, codes, option_to_list}
 use Rattle.std.specs.Option.{option_map_or}
 use Rattle.std.specs.Fmt.{decimal}
 use Rattle.wit_model.specs.declared.model.Resolve.{Resolve}
@@ -76,6 +76,17 @@ kind_end k = []
 abbrev pub comma_calls : ℕ → List OutputCall
 comma_calls zero = []
 comma_calls (suc n) = Str (codes ", ") ∷ []
+
+-- the types of a kind that has two at most
+abbrev pub few_types : TypeDefKind → List ValueType
+few_types (defined.Option ty) = ty ∷ []
+few_types (defined.Result result) = option_to_list result.ok ++ option_to_list result.err
+few_types (defined.List ty) = ty ∷ []
+few_types (defined.Map k v) = k ∷ v ∷ []
+few_types (defined.FixedLengthList ty length) = ty ∷ []
+few_types (defined.Future ty) = option_to_list ty
+few_types (defined.Stream ty) = option_to_list ty
+few_types k = []
 
 -- the types from this number on, by the trees of the type numbers
 abbrev pub types_from : List TypeTree → ℕ → List ValueType → List OutputCall

@@ -1,7 +1,7 @@
 //! Types where they are used, printed.
 #![tactic(auto, using(crate::proofs::Driven::driving))]
 
-ghost use Rattle.std.specs.Prelude.{◌≡◌, ◌++◌, ◌∷◌, ◌≤◌, [], codes, Bool, true, false, List, length, slice_get, option_to_list, IsTrue};
+ghost use Rattle.std.specs.Prelude.{◌≡◌, ◌++◌, ◌∷◌, ◌≤◌, [], codes, Bool, true, false, List, option_to_list, take, IsTrue};
 ghost use Rattle.std.specs.Fmt.{decimal};
 ghost use Rattle.wit_model.specs.Names.{is_label};
 ghost use Rattle.wit_model.specs.Parts.{member_types, handle_target};
@@ -12,7 +12,7 @@ ghost use Rattle.print_items.specs.Drives.{Drives, LineIs, MayFollow};
 ghost use Rattle.print_output.specs.OutputCall.{OutputCall, is_one_line, has_no_space_first};
 ghost use Rattle.print_items.specs.Shown.{present_name, shown_type, type_name, used_type};
 ghost use Rattle.print_grammar.specs.Calls.{handle_calls, type_calls};
-ghost use Rattle.print_items.specs.TypeParts.{carrier_end, carrier_start, comma_calls, handle_start, handles_label, is_labelled, is_primitive, kind_calls, kind_end, kind_start, may_be_unnamed, result_end, result_start, word_start};
+ghost use Rattle.print_items.specs.TypeParts.{carrier_end, carrier_start, comma_calls, few_types as few_types_lem, handle_start, handles_label, is_labelled, is_primitive, kind_calls, kind_end, kind_start, may_be_unnamed, result_end, result_start, word_start};
 ghost use Rattle.print_grammar.specs.Tree.{TypeTree};
 ghost use Rattle.print_grammar.specs.WellNamed.{is_well_type};
 
@@ -220,51 +220,72 @@ fn write_kind_end<O: Output>(driver: &mut Driver<O>, kind: &TypeDefKind)
     }
 }
 
-/// One of at most two types.
-fn one_of_two(first: Option<Type>, second: Option<Type>, number: usize) -> Option<Type>
-    ensures { result ≡ slice_get (option_to_list first ++ option_to_list second) number }
+/// A room for two types, and how many of it are taken.
+type Few = ([Type; 2], usize);
+
+/// The types that are given, in front.
+fn few_of(first: Option<Type>, second: Option<Type>) -> Few
+    ensures few { take result.1 result.0 ≡ option_to_list first ++ option_to_list second }
+    ensures small { result.1 ≤ 2 }
 {
     match first {
-        Some(_) => {
-            if number == 0 {
-                return first;
-            }
-            if number == 1 { second } else { None }
-        }
-        None => { if number == 0 { second } else { None } }
+        Some(first) => match second {
+            Some(second) => ([first, second], 2),
+            None => ([first, first], 1),
+        },
+        None => match second {
+            Some(second) => ([second, second], 1),
+            None => ([Type::Bool, Type::Bool], 0),
+        },
     }
 }
 
-fn one_of(types: &[Type], number: usize) -> Option<Type>
-    ensures { result ≡ slice_get types.now number }
-{
-    match types.get(number) {
-        Some(ty) => Some(*ty),
-        None => None,
-    }
-}
-
-/// One of the types of a kind without a name of its own.
-fn kind_type(kind: &TypeDefKind, number: usize) -> Option<Type>
-    requires { is_named_kind kind.now ≡ false }
-    ensures { result ≡ slice_get (member_types kind.now) number }
+/// The types of a kind without a name of its own that is no tuple, which are two at most, in front.
+fn few_types(kind: &TypeDefKind) -> Few
+    ensures few { take result.1 result.0 ≡ few_types_lem kind.now }
+    ensures small { result.1 ≤ 2 }
 {
     match kind {
-        TypeDefKind::Tuple(tuple) => one_of(&tuple.types, number),
-        TypeDefKind::Option(ty) => one_of_two(Some(*ty), None, number),
-        TypeDefKind::Result(of) => one_of_two(of.ok, of.err, number),
-        TypeDefKind::List(ty) => one_of_two(Some(*ty), None, number),
-        TypeDefKind::Map(key, value) => one_of_two(Some(*key), Some(*value), number),
-        TypeDefKind::FixedLengthList(ty, _) => one_of_two(Some(*ty), None, number),
-        TypeDefKind::Future(payload) => one_of_two(*payload, None, number),
-        TypeDefKind::Stream(payload) => one_of_two(*payload, None, number),
-        TypeDefKind::Handle(_) => None,
-        TypeDefKind::Record(_) => None,
-        TypeDefKind::Resource => None,
-        TypeDefKind::Flags(_) => None,
-        TypeDefKind::Variant(_) => None,
-        TypeDefKind::Enum(_) => None,
-        TypeDefKind::Type_(_) => None,
+        TypeDefKind::Option(ty) => few_of(Some(*ty), None),
+        TypeDefKind::Result(of) => few_of(of.ok, of.err),
+        TypeDefKind::List(ty) => few_of(Some(*ty), None),
+        TypeDefKind::Map(key, value) => few_of(Some(*key), Some(*value)),
+        TypeDefKind::FixedLengthList(ty, _) => few_of(Some(*ty), None),
+        TypeDefKind::Future(payload) => few_of(*payload, None),
+        TypeDefKind::Stream(payload) => few_of(*payload, None),
+        TypeDefKind::Tuple(_) => few_of(None, None),
+        TypeDefKind::Handle(_) => few_of(None, None),
+        TypeDefKind::Record(_) => few_of(None, None),
+        TypeDefKind::Resource => few_of(None, None),
+        TypeDefKind::Flags(_) => few_of(None, None),
+        TypeDefKind::Variant(_) => few_of(None, None),
+        TypeDefKind::Enum(_) => few_of(None, None),
+        TypeDefKind::Type_(_) => few_of(None, None),
+    }
+}
+
+/// The types of a kind without a name of its own: those of a tuple where they stand, and else the few.
+fn kind_types<'a>(kind: &'a TypeDefKind, few: &'a [Type]) -> &'a [Type]
+    requires unnamed { is_named_kind kind.now ≡ false }
+    requires few { few.now ≡ few_types_lem kind.now }
+    ensures { result.now ≡ member_types kind.entry.now }
+{
+    match kind {
+        TypeDefKind::Tuple(tuple) => &tuple.types,
+        TypeDefKind::Option(_) => few,
+        TypeDefKind::Result(_) => few,
+        TypeDefKind::List(_) => few,
+        TypeDefKind::Map(_, _) => few,
+        TypeDefKind::FixedLengthList(_, _) => few,
+        TypeDefKind::Future(_) => few,
+        TypeDefKind::Stream(_) => few,
+        TypeDefKind::Handle(_) => few,
+        TypeDefKind::Record(_) => few,
+        TypeDefKind::Resource => few,
+        TypeDefKind::Flags(_) => few,
+        TypeDefKind::Variant(_) => few,
+        TypeDefKind::Enum(_) => few,
+        TypeDefKind::Type_(_) => few,
     }
 }
 
@@ -278,38 +299,6 @@ fn write_comma<O: Output>(driver: &mut Driver<O>, number: usize)
     }
 }
 
-/// How many values an option holds.
-fn given(ty: Option<Type>) -> usize
-    ensures length { result ≡ length (option_to_list ty) }
-    ensures small { result ≤ 1 }
-{
-    if ty.is_some() { 1 } else { 0 }
-}
-
-/// How many types such a kind has.
-fn kind_length(kind: &TypeDefKind) -> usize
-    requires { is_named_kind kind.now ≡ false }
-    ensures { result ≡ length (member_types kind.now) }
-{
-    match kind {
-        TypeDefKind::Tuple(tuple) => tuple.types.len(),
-        TypeDefKind::Option(_) => 1,
-        TypeDefKind::Result(of) => given(of.ok) + given(of.err),
-        TypeDefKind::List(_) => 1,
-        TypeDefKind::Map(_, _) => 2,
-        TypeDefKind::FixedLengthList(_, _) => 1,
-        TypeDefKind::Future(payload) => given(*payload),
-        TypeDefKind::Stream(payload) => given(*payload),
-        TypeDefKind::Handle(_) => 0,
-        TypeDefKind::Record(_) => 0,
-        TypeDefKind::Resource => 0,
-        TypeDefKind::Flags(_) => 0,
-        TypeDefKind::Variant(_) => 0,
-        TypeDefKind::Enum(_) => 0,
-        TypeDefKind::Type_(_) => 0,
-    }
-}
-
 /// The kind of a type number that is written without its name, if it has one. No call is deeper than the kind has unnamed levels.
 #[cycle(types)]
 pub(crate) fn write_unnamed<O: Output>(driver: &mut Driver<O>, resolve: &Resolve, id: TypeId)
@@ -320,13 +309,15 @@ pub(crate) fn write_unnamed<O: Output>(driver: &mut Driver<O>, resolve: &Resolve
 {
     let def = &resolve.types[id.0 as usize];
     write_kind_start(driver, resolve, &def.kind);
-    for number in 0..kind_length(&def.kind) {
+    let few = few_types(&def.kind);
+    let types = kind_types(&def.kind, &few.0[..few.1]);
+    for number in 0..types.len() {
         if driver.refused {
             return;
         }
-        let part = kind_type(&def.kind, number).unwrap();
+        let part = &types[number];
         write_comma(driver, number);
-        write_type_name(driver, resolve, &part);
+        write_type_name(driver, resolve, part);
     }
     write_kind_end(driver, &def.kind);
 }

@@ -8,4 +8,5 @@ pub mod Outline
 pub mod Parts
 pub mod Index
 pub mod TwoSides
+pub mod Comparison
 pub mod Senses

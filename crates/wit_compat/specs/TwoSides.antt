@@ -27,7 +27,6 @@ use Rattle.wit_model.specs.Text.{Text, TextMap, optional_text, text_eq, text_of}
 use Rattle.std.specs.Option.{option_map_or}
 use Rattle.wit_model.specs.Types.{number_tree, type_tree, trees_of, declared_by}
 use Rattle.wit_model.specs.Valid.{IsValid}
-use Rattle.wit_compat.specs.declared.senses.Senses.{Senses}
 use Rattle.wit_compat.specs.declared.side.Path.{Path}
 use Rattle.wit_compat.specs.declared.side.Side.{Side}
 use Rattle.wit_compat.specs.declared.look.Look.{Look}
@@ -157,19 +156,3 @@ PutsFirst old new e = ((new ≡ old) × IsSome (lookup (λ k. text_eq (text_of e
 
 abbrev pub AllItemsInRange : Resolve → List BorrowedEntry → Type 0
 AllItemsInRange r es = (e : BorrowedEntry) → Contains es e → item_in_range r e.1.now ≡ true
-
--- ---- a comparison of many places
-
--- the first `Resolve` of a comparison
-abbrev pub first_of : Senses → Resolve
-first_of s = s.left.resolve.now
-
--- the second `Resolve` of a comparison
-abbrev pub second_of : Senses → Resolve
-second_of s = s.right.resolve.now
-
--- Both are valid, and what the table holds are pairs of types that stand for the same.
-pub record IsReady (s : Senses) : Type 0 where
-  pub left : IsSide s.left
-  pub right : IsSide s.right
-  pub pairs : AllSame s.left.resolve.now s.right.resolve.now s.pairs.keys

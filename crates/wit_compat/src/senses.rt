@@ -6,7 +6,8 @@ ghost use Rattle.wit_model.specs.Meant.{world_meaning_at};
 ghost use Rattle.wit_model.specs.Valid.{IsValid};
 ghost use Rattle.wit_model.specs.Refusals.{IsMemory};
 ghost use Rattle.wit_compat.specs.Senses.{sense_of};
-ghost use Rattle.wit_compat.specs.TwoSides.{first_of, second_of, AllSame, IsReady, IsSide};
+ghost use Rattle.wit_compat.specs.Comparison.{IsReady};
+ghost use Rattle.wit_compat.specs.TwoSides.{AllSame, IsSide};
 
 use crate::contents::same_worlds;
 use crate::interfaces::same_interfaces;
@@ -16,6 +17,7 @@ use crate::place::{Place, import_at};
 use crate::side::Side;
 use indexmap::IndexSet;
 use std::alloc::{AllocError, Global};
+use std::marker::Model;
 use wit_model::{Error, Resolve, WorldId};
 
 /// Whether two worlds, by number, have the same sense.
@@ -91,6 +93,14 @@ pub struct Senses<'a> {
     pairs: Pairs,
 }
 
+impl<'a> Model for Senses<'a> {
+    ghost use Rattle.wit_compat.specs.Comparison.{Comparison};
+
+    ghost Value = { Comparison };
+
+    ghost view = { λ s. record { first = s.left.resolve.now; second = s.right.resolve.now; pairs = s.pairs.keys } };
+}
+
 impl<'a> Senses<'a> {
     /// The two, with nothing compared yet. Both are valid. Nothing of either is looked at, so it takes no memory, and no more time for
     /// large ones. Refuses `Memory` alone.
@@ -98,8 +108,8 @@ impl<'a> Senses<'a> {
         requires left { IsValid left.now }
         requires right { IsValid right.now }
         ensures ready { IfOk result IsReady }
-        ensures first { IfOk result (λ s. first_of s ≡ left.entry.now) }
-        ensures second { IfOk result (λ s. second_of s ≡ right.entry.now) }
+        ensures first { IfOk result (λ s. s.first ≡ left.entry.now) }
+        ensures second { IfOk result (λ s. s.second ≡ right.entry.now) }
         ensures refuses { IfErr result IsMemory }
     {
         Ok(Senses {
@@ -122,13 +132,13 @@ impl<'a> Senses<'a> {
     /// size of what is compared and of the types met for the first time.
     pub fn same(&mut self, alloc: Global, at: Place, other: Place) -> Result<bool, Error>
         requires ready { IsReady self.old }
-        requires at { is_some (sense_of (first_of self.old) at) ≡ true }
-        requires other { is_some (sense_of (second_of self.old) other) ≡ true }
-        ensures exact { IfOk result (λ y. IsTrue y ↔ (sense_of (first_of self.old) at ≡ sense_of (second_of self.old) other)) }
+        requires at { is_some (sense_of self.old.first at) ≡ true }
+        requires other { is_some (sense_of self.old.second other) ≡ true }
+        ensures exact { IfOk result (λ y. IsTrue y ↔ (sense_of self.old.first at ≡ sense_of self.old.second other)) }
         ensures refuses { IfErr result IsMemory }
         ensures ready { IsReady self.new }
-        ensures first { first_of self.new ≡ first_of self.old }
-        ensures second { second_of self.new ≡ second_of self.old }
+        ensures first { self.new.first ≡ self.old.first }
+        ensures second { self.new.second ≡ self.old.second }
     {
         match same_places(alloc, &self.left, &self.right, at, other, &mut self.pairs) {
             Ok(same) => Ok(same),

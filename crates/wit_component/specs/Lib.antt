@@ -40,6 +40,7 @@ pub use Rattle.wit_encode.specs.OwnerScope
 pub use Rattle.wit_encode.specs.Packages
 pub use Rattle.wit_encode.specs.WholeWorlds
 pub use Rattle.wit_interfaces.specs.InterfaceEncoders
+pub use Rattle.wit_compat.specs.Comparison
 pub use Rattle.wit_compat.specs.Compatible
 pub use Rattle.wit_compat.specs.Senses
 pub use Rattle.print_grammar.specs.Calls

@@ -146,7 +146,8 @@ fn call_valtype<'a>(
     resolve: &'a Resolve,
     ty: Type,
 ) -> Result<Option<u32>, Error>
-    requires { IsTableOf resolve.now OWN (flat_view table.old) }
+    requires table { IsTableOf resolve.now OWN (flat_view table.old) }
+    requires met { list_all (is_met_by resolve.now (TypeOwner.Interface OWN)) resolve.now.types.items ≡ true }
     ensures { IsTableOf resolve.now OWN (flat_view table.new) }
 {
     if !is_in_range(resolve, ty) {
@@ -162,7 +163,8 @@ fn call_optional<'a>(
     resolve: &'a Resolve,
     ty: Option<Type>,
 ) -> Result<Option<u32>, Error>
-    requires { IsTableOf resolve.now OWN (flat_view table.old) }
+    requires table { IsTableOf resolve.now OWN (flat_view table.old) }
+    requires met { list_all (is_met_by resolve.now (TypeOwner.Interface OWN)) resolve.now.types.items ≡ true }
     ensures { IsTableOf resolve.now OWN (flat_view table.new) }
 {
     if !is_optional_in_range(resolve, ty) {
@@ -182,6 +184,7 @@ fn encode_kind<'a>(
     kind: &'a TypeDefKind,
 ) -> Result<ComponentValType, Error>
     requires table { IsTableOf resolve.now OWN (flat_view table.old) }
+    requires met { list_all (is_met_by resolve.now (TypeOwner.Interface OWN)) resolve.now.types.items ≡ true }
     requires in_range { AllInRange resolve.now (parts_of kind.now) }
     requires formed { has_definition kind.now ≡ true → IsFormed (flat_view table.old).scope (kind_tree resolve.now kind.now) }
     ensures { IsTableOf resolve.now OWN (flat_view table.new) }
@@ -206,7 +209,8 @@ fn call_kind<'a>(
     resolve: &'a Resolve,
     id: TypeId,
 ) -> Result<Option<u32>, Error>
-    requires { IsTableOf resolve.now OWN (flat_view table.old) }
+    requires table { IsTableOf resolve.now OWN (flat_view table.old) }
+    requires met { list_all (is_met_by resolve.now (TypeOwner.Interface OWN)) resolve.now.types.items ≡ true }
     ensures { IsTableOf resolve.now OWN (flat_view table.new) }
 {
     if !is_number(resolve, id) {
@@ -228,7 +232,8 @@ fn call_params<'a>(
     resolve: &'a Resolve,
     params: &'a [Param],
 ) -> Result<Option<u32>, Error>
-    requires { IsTableOf resolve.now OWN (flat_view table.old) }
+    requires table { IsTableOf resolve.now OWN (flat_view table.old) }
+    requires met { list_all (is_met_by resolve.now (TypeOwner.Interface OWN)) resolve.now.types.items ≡ true }
     ensures { IsTableOf resolve.now OWN (flat_view table.new) }
 {
     if !are_in_range(resolve, params) {
@@ -244,7 +249,8 @@ fn call_function<'a>(
     resolve: &'a Resolve,
     function: &'a Function,
 ) -> Result<Option<u32>, Error>
-    requires { IsTableOf resolve.now OWN (flat_view table.old) }
+    requires table { IsTableOf resolve.now OWN (flat_view table.old) }
+    requires met { list_all (is_met_by resolve.now (TypeOwner.Interface OWN)) resolve.now.types.items ≡ true }
     ensures { IsTableOf resolve.now OWN (flat_view table.new) }
 {
     if !are_in_range(resolve, &function.params) || !is_optional_in_range(resolve, function.result) {
@@ -263,7 +269,8 @@ fn call_import<'a>(
     resolve: &'a Resolve,
     id: TypeId,
 ) -> Result<Option<u32>, Error>
-    requires { IsTableOf resolve.now OWN (flat_view table.old) }
+    requires table { IsTableOf resolve.now OWN (flat_view table.old) }
+    requires met { list_all (is_met_by resolve.now (TypeOwner.Interface OWN)) resolve.now.types.items ≡ true }
     ensures { IsTableOf resolve.now OWN (flat_view table.new) }
 {
     if !is_number(resolve, id) {
@@ -280,7 +287,8 @@ fn answer<'a>(
     function: &'a Function,
     call: Call,
 ) -> Result<Option<u32>, Error>
-    requires { IsTableOf resolve.now OWN (flat_view table.old) }
+    requires table { IsTableOf resolve.now OWN (flat_view table.old) }
+    requires met { list_all (is_met_by resolve.now (TypeOwner.Interface OWN)) resolve.now.types.items ≡ true }
     ensures { IsTableOf resolve.now OWN (flat_view table.new) }
 {
     match call {
@@ -306,7 +314,8 @@ fn right_answers<'a>(
     function: &'a Function,
     calls: &[Answered],
 ) -> Result<(usize, u32), Error>
-    requires { IsTableOf resolve.now OWN (flat_view table.old) }
+    requires table { IsTableOf resolve.now OWN (flat_view table.old) }
+    requires met { list_all (is_met_by resolve.now (TypeOwner.Interface OWN)) resolve.now.types.items ≡ true }
 {
     for (number, (call, expected)) in calls.iter().enumerate() {
         if answer(alloc, table, resolve, function, *call)? != *expected {
@@ -379,7 +388,8 @@ fn is_valid(alloc: Global, resolve: &Resolve) -> Result<bool, Error>
 
 // A table for `OWN`, if the packages are valid.
 fn table_of<'a>(alloc: Global, resolve: &'a Resolve) -> Result<Option<FlatEncoder<'a>>, Error>
-    ensures { IfOk result (λ o. IfSome o (λ table. IsTableOf resolve.now OWN (flat_view table))) }
+    ensures table { IfOk result (λ o. IfSome o (λ table. IsTableOf resolve.now OWN (flat_view table))) }
+    ensures met { IfOk result (λ o. IfSome o (λ table. list_all (is_met_by resolve.now (TypeOwner.Interface OWN)) resolve.now.types.items ≡ true)) }
 {
     if !is_valid(alloc, resolve)? || !are_met(resolve, &resolve.types) {
         return Ok(None);

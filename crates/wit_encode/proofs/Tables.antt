@@ -15,6 +15,7 @@ use Rattle.wit_model.specs.declared.model.Function.{Function}
 use Rattle.wit_model.specs.declared.model.TypeDefKind.{TypeDefKind}
 use Rattle.wit_model.specs.declared.model.TypeDefKind.TheVariants as kind
 use Rattle.wit_model.specs.declared.model.«Type».TheVariants as ty
+use Rattle.wit_model.specs.declared.model.TypeOwner.{TypeOwner}
 use Rattle.wit_model.specs.declared.model.TypeOwner.TheVariants as owner
 use Rattle.wit_model.specs.declared.model.InterfaceId.{InterfaceId}
 use Rattle.wit_model.specs.declared.model.«Type».{«Type» as ValueType}
@@ -27,7 +28,7 @@ use Rattle.encode_types.specs.Plan.{InRange, AllInRange, foreign_owner}
 use Rattle.encode_types.specs.Maps.{MapsAgree}
 use Rattle.encode_types.specs.Scope.{Scope, IsImportable}
 use Rattle.encode_types.specs.Leaves.{Leaves}
-use Rattle.encode_types.specs.Table.{table_scope, interface_of_owner, is_met_by, has_named_owner, IsTableOf, IsDefined, AllDefined}
+use Rattle.encode_types.specs.Table.{table_scope, interface_of_owner, is_met_by, has_named_owner, AllMetBy, IsTableOf, IsDefined, AllDefined}
 use Rattle.wit_model.proofs.OnePath.{found-in}
 use Rattle.encode_types.proofs.Planning.{part-smaller}
 use Rattle.wit_encode.proofs.Validity.{valid-layered, valid-resource, valid-formed, signature-formed, table-agree, all-met, named-met, foreign-interface, importable}
@@ -36,14 +37,14 @@ use Rattle.wit_encode.proofs.OwnerScope.{names_encode, table_is_scope}
 use Rattle.wit_encode.proofs.Naming.{named-owner}
 use Rattle.wit_model.specs.Parts.{same_owner}
 use Rattle.base_lemmas.proofs.Bools.{left_of as first_true, right_of as second_true}
-use Rattle.base_lemmas.proofs.Elements.{last_of as one-contained}
+use Rattle.base_lemmas.proofs.Elements.{all_get as all-at, last_of as one-contained}
 use Rattle.base_lemmas.proofs.Options.{there as some-of}
 use Rattle.wit_model.proofs.PartsLemmas.{owner_same as same-owner}
 
-module _ (r : Resolve) (own : InterfaceId) (valid : IsValid r) (met : list_all (is_met_by r (owner.Interface own)) r.types.items ≡ true) where
+module _ (r : Resolve) (own : InterfaceId) (valid : IsValid r) where
   -- each name that is met is of the owner, or of another interface, which has a name
-  named-stands : (ts : List ValueType) → NamesStand r (owner.Interface own) (table_scope r (owner.Interface own)) ts
-  named-stands ts n def m is named = go (same_owner def.owner (owner.Interface own)) refl (named-met r valid (owner.Interface own) met n def is named)
+  named-stands : (ts : List ValueType) → AllMetBy r (owner.Interface own) ts → NamesStand r (owner.Interface own) (table_scope r (owner.Interface own)) ts
+  named-stands ts met n def m is named = go (same_owner def.owner (owner.Interface own)) refl (named-met r valid (owner.Interface own) def (met n def m is) named)
     where
       go : (b : Bool) → same_owner def.owner (owner.Interface own) ≡ b → (b || (is_some (foreign_owner (interface_of_owner (owner.Interface own)) def.owner) && has_named_owner r def)) ≡ true
           → (def.owner ≡ owner.Interface own) ⊎ IsOfInstance r (table_scope r (owner.Interface own)) def
@@ -57,21 +58,24 @@ module _ (r : Resolve) (own : InterfaceId) (valid : IsValid r) (met : list_all (
             stands = (importable r valid (owner.Interface own) n def is f.0 f.1).stands;
           })
 
-  encodes : (ts : List ValueType) → AllInRange r ts → CanEncode r (table_scope r (owner.Interface own)) ts
-  encodes ts inside = names_encode r (owner.Interface own) (table_scope r (owner.Interface own)) ts valid (table_is_scope r (owner.Interface own) valid) inside (named-stands ts)
+  encodes : (ts : List ValueType) → AllInRange r ts → AllMetBy r (owner.Interface own) ts → CanEncode r (table_scope r (owner.Interface own)) ts
+  encodes ts inside met = names_encode r (owner.Interface own) (table_scope r (owner.Interface own)) ts valid (table_is_scope r (owner.Interface own) valid) inside (named-stands ts met)
 
-pub table-encodes : (r : Resolve) (own : InterfaceId) (v : View) → IsTableOf r own v → (ts : List ValueType) → AllInRange r ts → CanEncode r v.scope ts
-table-encodes r own v t ts inside = subst (λ (s : Scope). CanEncode r s ts) (sym t.scope_) (encodes r own t.valid t.met ts inside)
+-- where all types may be met from those of an owner, all that a list meets may be
+pub all-may-be-met : (r : Resolve) (o : TypeOwner) → list_all (is_met_by r o) r.types.items ≡ true → (ts : List ValueType) → AllMetBy r o ts
+all-may-be-met r o met ts n def m is = all-at (is_met_by r o) r.types.items n def met is
+
+pub table-encodes : (r : Resolve) (own : InterfaceId) (v : View) → IsTableOf r own v → (ts : List ValueType) → AllInRange r ts → AllMetBy r (owner.Interface own) ts → CanEncode r v.scope ts
+table-encodes r own v t ts inside met = subst (λ (s : Scope). CanEncode r s ts) (sym t.scope_) (encodes r own t.valid ts inside met)
 
 -- what it is after a call
 pub table-leaves : (r : Resolve) (own : InterfaceId) (v v' : View) → IsTableOf r own v → Leaves r v v' → IsTableOf r own v'
-table-leaves r own v v' t l = record { valid = t.valid; met = t.met; scope_ = l.scope_stays ∙ t.scope_; agree = l.agree }
+table-leaves r own v v' t l = record { valid = t.valid; scope_ = l.scope_stays ∙ t.scope_; agree = l.agree }
 
 -- after a call that learns nothing
 pub table-grows : (r : Resolve) (own : InterfaceId) (v v' : View) → IsTableOf r own v → v'.scope ≡ v.scope → v'.maps ≡ v.maps → Grows v v' → IsTableOf r own v'
 table-grows r own v v' t scope maps g = record {
   valid = t.valid;
-  met = t.met;
   scope_ = scope ∙ t.scope_;
   agree = subst (λ (m : TypeEncodingMaps). MapsAgree r m v'.stands) (sym maps) (record { says = λ k j h. g.kept j _ (t.agree.says k j h); once = t.agree.once });
 }
@@ -101,11 +105,11 @@ none-in_range r t c = let l = c.1 in absurd (omega arith)
 -- ---- what is well formed
 
 -- what a type of a table is defined as is well formed
-pub table-formed : (r : Resolve) (own : InterfaceId) (v : View) → IsTableOf r own v → (n : ℕ) (def : TypeDef) → n < length r.types.items → type_at r n ≡ Some def → has_definition def.kind ≡ true → IsFormed v.scope (kind_tree r def.kind)
-table-formed r own v t n def inside is d = subst (λ (s : Scope). IsFormed s (kind_tree r def.kind)) (sym t.scope_) (record {
+pub table-formed : (r : Resolve) (own : InterfaceId) (v : View) → IsTableOf r own v → (n : ℕ) (def : TypeDef) → n < length r.types.items → type_at r n ≡ Some def → AllMetBy r (owner.Interface own) (parts_of def.kind) → has_definition def.kind ≡ true → IsFormed v.scope (kind_tree r def.kind)
+table-formed r own v t n def inside is met d = subst (λ (s : Scope). IsFormed s (kind_tree r def.kind)) (sym t.scope_) (record {
   sound = refl;
   formed = valid-formed r (table_scope r (owner.Interface own)).resources t.valid n def is
-      (table-agree r t.valid (owner.Interface own) (parts_of def.kind) (table-parts r t.valid n def inside is) (all-met r t.valid (owner.Interface own) t.met (parts_of def.kind))) d;
+      (table-agree r t.valid (owner.Interface own) (parts_of def.kind) (table-parts r t.valid n def inside is) (all-met r t.valid (owner.Interface own) (parts_of def.kind) met)) d;
 })
 
 defined-kind : (f : ℕ → Bool) (k : TypeDefKind) → has_definition k ≡ true → is_resource_kind f k ≡ false
@@ -132,10 +136,10 @@ defined-values r v (t ∷ ts) inside d = both _ _ (ap not (defined-value r v t (
     later u (i, l, e) = (suc i, omega (arith, l), e)
 
 -- a function that takes and gives types with definitions of their own
-pub table-signature : (r : Resolve) (own : InterfaceId) (v : View) → IsTableOf r own v → (f : Function) → AllInRange r (function_types f) → AllDefined r (function_types f) → IsFormedSignature v.scope (signature_of r f)
-table-signature r own v t f inside d = subst (λ (s : Scope). IsFormedSignature s (signature_of r f)) (sym t.scope_) (signature-formed r (table_scope r (owner.Interface own)) f.params.items f.result refl (is_async f.kind)
+pub table-signature : (r : Resolve) (own : InterfaceId) (v : View) → IsTableOf r own v → (f : Function) → AllInRange r (function_types f) → AllMetBy r (owner.Interface own) (function_types f) → AllDefined r (function_types f) → IsFormedSignature v.scope (signature_of r f)
+table-signature r own v t f inside met d = subst (λ (s : Scope). IsFormedSignature s (signature_of r f)) (sym t.scope_) (signature-formed r (table_scope r (owner.Interface own)) f.params.items f.result refl (is_async f.kind)
     (defined-values r t.valid (function_types f) inside d)
-    (table-agree r t.valid (owner.Interface own) (function_types f) inside (all-met r t.valid (owner.Interface own) t.met (function_types f))))
+    (table-agree r t.valid (owner.Interface own) (function_types f) inside (all-met r t.valid (owner.Interface own) (function_types f) met)))
 
 pub formed-as : (r : Resolve) (scope : Scope) (k k' : TypeDefKind) → k ≡ k' → has_definition k' ≡ true → (has_definition k ≡ true → IsFormed scope (kind_tree r k)) → IsFormed scope (kind_tree r k')
 formed-as r scope k k' e d h = subst (λ (x : TypeDefKind). IsFormed scope (kind_tree r x)) e (h (ap has_definition e ∙ d))

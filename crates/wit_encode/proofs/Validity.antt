@@ -33,10 +33,10 @@ use Rattle.std.proofs.lemmas.Bool.{lt-ltb}
 use Rattle.wit_model.specs.declared.model.TypeDefKind.{TypeDefKind}
 use Rattle.wit_model.specs.declared.model.TypeDefKind.TheVariants as kind
 use Rattle.wit_model.specs.declared.model.Handle.TheVariants as handle
-use Rattle.encode_types.specs.Plan.{IsLayered, InRange, AllInRange, foreign_owner, is_interface}
+use Rattle.encode_types.specs.Plan.{IsLayered, InRange, AllInRange, Reaches, itself, foreign_owner, is_interface}
 use Rattle.encode_types.specs.Scope.{IsImportable, Scope}
 use Rattle.wit_encode.specs.OwnerScope.{NamesAgree}
-use Rattle.encode_types.specs.Table.{table_scope, below, interface_of_owner, declaration_in, named_declaration, is_met_by, is_met_owner, has_named_owner}
+use Rattle.encode_types.specs.Table.{table_scope, below, interface_of_owner, declaration_in, named_declaration, is_met_by, is_met_owner, has_named_owner, AllMetBy}
 use Rattle.encode_types.proofs.Planning.{part-smaller}
 use Rattle.wit_model.proofs.OnePath.{found-in}
 use Rattle.wit_encode.proofs.Naming.{HaveHomes, named-owner, valid-owner_in_range, one-home, names-agree}
@@ -49,7 +49,7 @@ use Rattle.wit_model.specs.declared.model.TypeOwner.TheVariants as owner
 use Rattle.wit_model.specs.declared.model.«Type».TheVariants as ty
 use Rattle.encode_shown.proofs.Basics.{valid-references}
 use Rattle.base_lemmas.proofs.Bools.{left_of as first_true, not_or as unnamed-of, right_of as second_true}
-use Rattle.base_lemmas.proofs.Elements.{all-contained, all_get as all-at, contains-one}
+use Rattle.base_lemmas.proofs.Elements.{all-contained, contains-one}
 use Rattle.base_lemmas.proofs.Options.{nameless}
 use Rattle.wit_model.proofs.OnePath.{interface-passes as interface_passes}
 use Rattle.wit_encode.proofs.ImportsStand.{below-there as below-contains}
@@ -249,16 +249,18 @@ module _ (r : Resolve) (v : IsValid r) (o : TypeOwner) where
   pub table-agree : (ts : List ValueType) → AllInRange r ts → AreMet ts → Agree r (resource_names r (is_met_owner r o)) ts
   table-agree = met-agree r v (is_met_owner r o) (one-home r v o)
 
-  module _ (met : list_all (is_met_by r o) r.types.items ≡ true) where
-    -- a named type is of the owner, or of another interface, which has a name
-    pub named-met : (n : ℕ) (def : TypeDef) → type_at r n ≡ Some def → is_some def.name ≡ true → (same_owner def.owner o || (is_some (foreign_owner (interface_of_owner o) def.owner) && has_named_owner r def)) ≡ true
-    named-met n def is named = or-right (is_none def.name) _ (nameless def.name named) (all-at (is_met_by r o) r.types.items n def met is)
+  -- a named type that may be met is of the owner, or of another interface, which has a name
+  pub named-met : (def : TypeDef) → is_met_by r o def ≡ true → is_some def.name ≡ true → (same_owner def.owner o || (is_some (foreign_owner (interface_of_owner o) def.owner) && has_named_owner r def)) ≡ true
+  named-met def met named = or-right (is_none def.name) _ (nameless def.name named) met
 
-    -- the named types are met, where all are
-    pub all-met : (ts : List ValueType) → AreMet ts
-    all-met ts t c id e def is named = owner-met def (either-owner (same_owner def.owner o) (is_some (foreign_owner (interface_of_owner o) def.owner)) (has_named_owner r def) (named-met id.0 def is named))
-      where
-        either-owner : (a b c : Bool) → (a || (b && c)) ≡ true → (a ≡ true) ⊎ (c ≡ true)
-        either-owner true b c h = inl refl
-        either-owner false true c h = inr h
-        either-owner false false c h = let wrong : ⊥ = cc in absurd wrong
+  -- the named types of a list are met, where all that it meets may be
+  pub all-met : (ts : List ValueType) → AllMetBy r o ts → AreMet ts
+  all-met ts met t c id e def is named = owner-met def (either-owner (same_owner def.owner o) (is_some (foreign_owner (interface_of_owner o) def.owner)) (has_named_owner r def) (named-met def (met id.0 def (t, c, reached) is) named))
+    where
+      reached : Reaches r (interface_of_owner o) t id.0
+      reached = subst (λ (x : ValueType). Reaches r (interface_of_owner o) x id.0) (sym e) (itself id)
+
+      either-owner : (a b c : Bool) → (a || (b && c)) ≡ true → (a ≡ true) ⊎ (c ≡ true)
+      either-owner true b c h = inl refl
+      either-owner false true c h = inr h
+      either-owner false false c h = let wrong : ⊥ = cc in absurd wrong

@@ -26,31 +26,20 @@ write_unnamed-write_kind_start-requires g t c =
     let at : type_at c.args.resolve.now c.args.id.0 ≡ Some c.index-def.result.now = slice_get_read _ _ _ _ refl (ltb-true _ _ c.requires.in_range) c.index-def.ensures in
     handles_at c.args.resolve.now c.requires.valid c.args.id c.index-def.result.now at
 
-pub write_unnamed-kind_length-number-end-requires : goal.write_unnamed-kind_length-number-end-requires
-write_unnamed-kind_length-number-end-requires g t c =
+pub write_unnamed-kind_types-types-requires-clause-unnamed : goal.write_unnamed-kind_types-types-requires-clause-unnamed
+write_unnamed-kind_types-types-requires-clause-unnamed g t c =
     let at : type_at c.args.resolve.now c.args.id.0 ≡ Some c.index-def.result.now = slice_get_read _ _ _ _ refl (ltb-true _ _ c.requires.in_range) c.index-def.ensures in
     kind_at c.args.resolve.now c.requires.valid c.args.id c.index-def.result.now at c.requires.unnamed
-
-pub write_unnamed-kind_type-requires : goal.write_unnamed-kind_type-requires
-write_unnamed-kind_type-requires g t c =
-    let at : type_at c.args.resolve.now c.args.id.0 ≡ Some c.index-def.result.now = slice_get_read _ _ _ _ refl (ltb-true _ _ c.requires.in_range) c.index-def.ensures in
-    kind_at c.args.resolve.now c.requires.valid c.args.id c.index-def.result.now at c.requires.unnamed
-
-pub write_unnamed-unwrap-part-requires : goal.write_unnamed-unwrap-part-requires
-write_unnamed-unwrap-part-requires g t c =
-    let types = member_types c.index-def.result.now.kind in
-    let within : c.loop-number.number < length types = subst (λ n. c.loop-number.number < n) c.kind_length-number-end.ensures c.loop-number-test.true in
-    ap is_some (c.kind_type.ensures ∙ (one_there types c.loop-number.number within).1)
 
 pub write_unnamed-write_type_name-requires : goal.write_unnamed-write_type_name-requires
 write_unnamed-write_type_name-requires g t c κs within =
     let at : type_at c.args.resolve.now c.args.id.0 ≡ Some c.index-def.result.now = slice_get_read _ _ _ _ refl (ltb-true _ _ c.requires.in_range) c.index-def.ensures in
-    let part : slice_get (member_types c.index-def.result.now.kind) c.loop-number.number ≡ Some c.unwrap-part.result = sym c.kind_type.ensures ∙ c.unwrap-part.ensures in
-    let falls : rank c.unwrap-part.result < c.args.id.0 + 1 = part_falls c.args.resolve.now c.requires.valid c.args.id c.index-def.result.now at c.loop-number.number c.unwrap-part.result part in
+    let part : slice_get (member_types c.index-def.result.now.kind) c.loop-number.number ≡ Some c.index-part.result.now = subst (λ ts. slice_get ts c.loop-number.number ≡ Some c.index-part.result.now) c.kind_types-types.ensures (slice_get_read _ _ _ _ refl c.loop-number-test.true c.index-part.ensures) in
+    let falls : rank c.index-part.result.now < c.args.id.0 + 1 = part_falls c.args.resolve.now c.requires.valid c.args.id c.index-def.result.now at c.loop-number.number c.index-part.result.now part in
     let m : 2 * c.args.id.0 + 1 ≡ t = c.decreases in
-    let fall : 2 * rank c.unwrap-part.result < 2 * c.args.id.0 + 1 = omega arith in (
-      subst (λ n. 2 * rank c.unwrap-part.result < n) m fall,
-      (within, (c.requires.valid, part_in_range c.args.resolve.now c.requires.valid c.args.id c.index-def.result.now at c.loop-number.number c.unwrap-part.result part)),
+    let fall : 2 * rank c.index-part.result.now < 2 * c.args.id.0 + 1 = omega arith in (
+      subst (λ n. 2 * rank c.index-part.result.now < n) m fall,
+      (within, (c.requires.valid, part_in_range c.args.resolve.now c.requires.valid c.args.id c.index-def.result.now at c.loop-number.number c.index-part.result.now part)),
     )
 
 pub write_unnamed-loop-number-init : goal.write_unnamed-loop-number-init
@@ -64,8 +53,8 @@ write_unnamed-loop-number-preserved g t c =
     let r = c.args.resolve.now in
     let types = member_types c.index-def.result.now.kind in
     let n = c.loop-number.number in
-    let part : slice_get types n ≡ Some c.unwrap-part.result = sym c.kind_type.ensures ∙ c.unwrap-part.ensures in
-    driving_next (comma_calls n ++ type_calls (shown_type r c.unwrap-part.result)) (types_from (type_trees r) (n + 1) (drop (n + 1) types)) c.loop-number.invariant (types_next (type_trees r) types n c.unwrap-part.result part)
+    let part : slice_get types n ≡ Some c.index-part.result.now = subst (λ ts. slice_get ts n ≡ Some c.index-part.result.now) c.kind_types-types.ensures (slice_get_read _ _ _ _ refl c.loop-number-test.true c.index-part.ensures) in
+    driving_next (comma_calls n ++ type_calls (shown_type r c.index-part.result.now)) (types_from (type_trees r) (n + 1) (drop (n + 1) types)) c.loop-number.invariant (types_next (type_trees r) types n c.index-part.result.now part)
     (driven c.write_comma.ensures.calls c.write_type_name.ensures.calls)
 
 pub write_unnamed-write_kind_end-requires : goal.write_unnamed-write_kind_end-requires
@@ -73,7 +62,7 @@ write_unnamed-write_kind_end-requires g t c free =
     let r = c.args.resolve.now in
     let k = c.index-def.result.now.kind in
     let n = c.loop-number.number in
-    let past = types_past (type_trees r) (member_types k) n (subst (λ m. m ≤ n) c.kind_length-number-end.ensures c.loop-number-test.false) in
+    let past = types_past (type_trees r) (member_types k) n (subst (λ ts. length ts ≤ n) c.kind_types-types.ensures c.loop-number-test.false) in
     let done = driving_done c.loop-number.invariant past in
     subst (λ b. may_follow b (kind_end k) ≡ true) (sym (line_driven done free)) (end_may_follow r (type_trees r) (g.O.Output.view c.args.driver.now.output.now).line_begun k)
 
@@ -90,7 +79,7 @@ write_unnamed-returns g t c =
     let k = c.index-def.result.now.kind in
     let n = c.loop-number.number in
     let at : type_at r c.args.id.0 ≡ Some c.index-def.result.now = slice_get_read _ _ _ _ refl (ltb-true _ _ c.requires.in_range) c.index-def.ensures in
-    let past = types_past (type_trees r) (member_types k) n (subst (λ m. m ≤ n) c.kind_length-number-end.ensures c.loop-number-test.false) in
+    let past = types_past (type_trees r) (member_types k) n (subst (λ ts. length ts ≤ n) c.kind_types-types.ensures c.loop-number-test.false) in
     let done = driving_done c.loop-number.invariant past in
     record { calls = driven_on done c.write_kind_end.ensures.calls (kind_calls_at r c.requires.valid c.args.id c.index-def.result.now at c.requires.unnamed) }
 
