@@ -74,7 +74,8 @@ one-import x y e = cc
 differ-as : {S : Type 0} (c : S → Sense) → ((x y : S) → c x ≡ c y → x ≡ y) → (o p : Option Sense) (x y : S) → o ≡ Some (c x) → p ≡ Some (c y) → (o ≢ p) ↔ (x ≢ y)
 differ-as {S} c one o p x y e f = ((λ d same. d (e ∙ (ap (λ (s : S). Some (c s)) same ∙ sym f))), (λ d same. d (one x y (same-some (c x) (c y) (sym e ∙ (same ∙ f))))))
 
-interface-sensed-at : (r : Resolve) (id : InterfaceId) (t : Text) → interface_path r id.0 ≡ Some t → sense_of r (place.Interface id) ≡ Some (of_interface (interface_sense (interface_meaning_at r id.0)))
+interface-sensed-at : (r : Resolve) (id : InterfaceId) (t : Text) → interface_path r id.0 ≡ Some t
+    → sense_of r (place.Interface id) ≡ Some (of_interface (interface_sense (interface_meaning_at r id.0)))
 interface-sensed-at r id t e =
     let i = unpacked (path_of_interface r) (interface_at r id.0) t e in
     ap (option_map (λ (x : Interface). of_interface (interface_sense (interface_meaning r x)))) i.1
@@ -86,7 +87,8 @@ world-sensed-at r id t e =
     ap (option_map (λ (x : World). of_world (world_sense (world_meaning r x)))) w.1
     ∙ sym (ap (λ (o : Option World). Some (of_world (world_sense (option_map_or (world_meaning r) o no_world)))) w.1)
 
-import-sensed-at : (r : Resolve) (id : WorldId) (w : World) → world_at r id.0 ≡ Some w → (p : ℕ) (e : WorldKey × WorldItem) → slice_get w.imports.entries p ≡ Some e → sense_of r (place.Import id p) ≡ Some (of_import (entry_sense (entry_meaning r e.1)))
+import-sensed-at : (r : Resolve) (id : WorldId) (w : World) → world_at r id.0 ≡ Some w → (p : ℕ) (e : WorldKey × WorldItem) → slice_get w.imports.entries p ≡ Some e
+    → sense_of r (place.Import id p) ≡ Some (of_import (entry_sense (entry_meaning r e.1)))
 import-sensed-at r id w at p e here =
     ap (option_map (λ (i : WorldItem). of_import (entry_sense (entry_meaning r i))))
     (ap (option_and_then (λ (x : World). option_map (λ (y : WorldKey × WorldItem). y.1) (slice_get x.imports.entries p))) at ∙ ap (option_map (λ (y : WorldKey × WorldItem). y.1)) here)
@@ -132,7 +134,8 @@ module _ (r : Resolve) (G : Text → Type 0) (t : Text) where
       }
 
 -- an entry that is found stands there
-entry-of : (r : Resolve) (es : List (WorldKey × WorldItem)) (t : Text) (x : Entry InterfaceMeaning) → find text_cmp t (entries_meaning r es) ≡ Some x → (p : ℕ) × ((e : WorldKey × WorldItem) × ((slice_get es p ≡ Some e) × (key_text r e.0 ≡ t)))
+entry-of : (r : Resolve) (es : List (WorldKey × WorldItem)) (t : Text) (x : Entry InterfaceMeaning) → find text_cmp t (entries_meaning r es) ≡ Some x → (p : ℕ)
+    × ((e : WorldKey × WorldItem) × ((slice_get es p ≡ Some e) × (key_text r e.0 ≡ t)))
 entry-of r es t x e =
     let d = from-map (λ (y : WorldKey × WorldItem). (key_text r y.0, entry_meaning r y.1)) es (t, x) (find-contains (entries_meaning r es) t x e) in
     let p = contains-get es d.0 d.1.0 in
@@ -168,10 +171,13 @@ module _ (own other : Resolve) (m : Matches) (n k : ℕ) (w z : World) (s : AreW
     interfaces-differ : (id : InterfaceId) → own_interface_of own m.packages.items i ≡ Some id → InterfaceDiffers own other m p i ↔ Differ interface_sense (get A.interfaces t) (get B.interfaces t)
     interfaces-differ id e =
         let ours = own-interface-has own other s.own_valid s.other_valid m.packages.items s.matched.packages p i at t path id e in
-        let by_place = differ-as of_interface one-interface (sense_of own (place.Interface id)) (sense_of other (place.Interface (record { 0 = p }))) (interface_sense (interface_meaning_at own id.0)) (interface_sense (interface_meaning_at other p))
+        let by_place = differ-as of_interface one-interface (sense_of own (place.Interface id)) (sense_of other (place.Interface (record { 0 = p }))) (interface_sense (interface_meaning_at own id.0))
+        (interface_sense (interface_meaning_at other p))
         (interface-sensed-at own id t ours) (interface-sensed-at other (record { 0 = p }) t their-path) in
-        let by_path = known interface_sense (get A.interfaces t) (get B.interfaces t) (interface_meaning_at own id.0) (interface_meaning_at other p) (interface-found own s.own_valid id.0 t ours) their-interface in
-        subst (λ (o : Option InterfaceId). OtherSense own other (option_map place.Interface o) (place.Interface (record { 0 = p })) ↔ Differ interface_sense (get A.interfaces t) (get B.interfaces t)) (sym e)
+        let by_path = known interface_sense (get A.interfaces t) (get B.interfaces t) (interface_meaning_at own id.0) (interface_meaning_at other p) (interface-found own s.own_valid id.0 t ours)
+        their-interface in
+        subst (λ (o : Option InterfaceId). OtherSense own other (option_map place.Interface o) (place.Interface (record { 0 = p }))
+        ↔ Differ interface_sense (get A.interfaces t) (get B.interfaces t)) (sym e)
         ((λ x. by_path.1 (by_place.0 x)), (λ x. by_place.1 (by_path.0 x)))
 
     interface-differs-forth : InterfaceDiffers own other m p i → Differ interface_sense (get A.interfaces t) (get B.interfaces t)
@@ -226,7 +232,8 @@ module _ (own other : Resolve) (m : Matches) (n k : ℕ) (w z : World) (s : AreW
         → OtherSense own other (option_map place.World (own_world_of own m.packages.items y)) (place.World (record { 0 = p })) ↔ Differ world_sense (get A.worlds t) (get (carried_worlds B) t)
     worlds-differ f id e =
         let ours = world-in-has own other s.own_valid s.other_valid m.packages.items s.matched.packages y.«package» (text_of y.name) t place-of id e in
-        let by_place = differ-as of_world one-world (sense_of own (place.World id)) (sense_of other (place.World (record { 0 = p }))) (world_sense (world_meaning_at own id.0)) (world_sense (world_meaning_at other p))
+        let by_place = differ-as of_world one-world (sense_of own (place.World id)) (sense_of other (place.World (record { 0 = p }))) (world_sense (world_meaning_at own id.0))
+        (world_sense (world_meaning_at other p))
         (world-sensed-at own id t ours) (world-sensed-at other (record { 0 = p }) t world-their-path) in
         let by_path = known world_sense (get A.worlds t) (get (carried_worlds B) t) (world_meaning_at own id.0) (world_meaning_at other p) (world-found own s.own_valid id.0 t ours) (their-world f) in
         subst (λ (o : Option WorldId). OtherSense own other (option_map place.World o) (place.World (record { 0 = p })) ↔ Differ world_sense (get A.worlds t) (get (carried_worlds B) t)) (sym e)
@@ -301,7 +308,11 @@ module _ (own other : Resolve) (m : Matches) (n k : ℕ) (w z : World) (s : AreW
   interface-back t (inr (inl x)) =
       let g = second-stands (get A.interfaces t) (get (carried_worlds B) t) x in
       let y = their-world-at t g.0 g.1 in
-      inr (y.number, slice_get_within other.worlds.items y.number y.def y.there, (y.def, y.there, (y.path, no-root y.number y.def y.there t y.path y.apart, crossing-back y.number y.def y.there t y.path x)))
+      inr (
+        y.number,
+        slice_get_within other.worlds.items y.number y.def y.there,
+        (y.def, y.there, (y.path, no-root y.number y.def y.there t y.path y.apart, crossing-back y.number y.def y.there t y.path x)),
+      )
   interface-back t (inr (inr x)) =
       let g = second-stands (get A.worlds t) (get B.interfaces t) x in
       let i = their-interface-at t g.0 g.1 in
@@ -322,11 +333,13 @@ module _ (own other : Resolve) (m : Matches) (n k : ℕ) (w z : World) (s : AreW
   Keyed = List (Text × Entry InterfaceMeaning)
 
   -- the other's entry under its own key
-  import-found : (p : ℕ) (e : WorldKey × WorldItem) → slice_get z.imports.entries p ≡ Some e → find text_cmp (key_text other e.0) (entries_meaning other z.imports.entries) ≡ Some (entry_meaning other e.1)
+  import-found : (p : ℕ) (e : WorldKey × WorldItem) → slice_get z.imports.entries p ≡ Some e
+      → find text_cmp (key_text other e.0) (entries_meaning other z.imports.entries) ≡ Some (entry_meaning other e.1)
   import-found p e at = found-distinct (entries_meaning other z.imports.entries) (key_text other e.0) (entry_meaning other e.1) (imports-distinct other s.other_valid k z s.other_at)
       (contains-map (λ (y : WorldKey × WorldItem). (key_text other y.0, entry_meaning other y.1)) z.imports.entries e (get-contains z.imports.entries p e at))
 
-  export-found : (p : ℕ) (e : WorldKey × WorldItem) → slice_get z.exports.entries p ≡ Some e → find text_cmp (key_text other e.0) (entries_meaning other z.exports.entries) ≡ Some (entry_meaning other e.1)
+  export-found : (p : ℕ) (e : WorldKey × WorldItem) → slice_get z.exports.entries p ≡ Some e
+      → find text_cmp (key_text other e.0) (entries_meaning other z.exports.entries) ≡ Some (entry_meaning other e.1)
   export-found p e at = found-distinct (entries_meaning other z.exports.entries) (key_text other e.0) (entry_meaning other e.1) (exports-distinct other s.other_valid k z s.other_at)
       (contains-map (λ (y : WorldKey × WorldItem). (key_text other y.0, entry_meaning other y.1)) z.exports.entries e (get-contains z.exports.entries p e at))
 
@@ -351,11 +364,14 @@ module _ (own other : Resolve) (m : Matches) (n k : ℕ) (w z : World) (s : AreW
       where
         by : (o : Option ℕ) → own_place_in m w.imports.entries e.0 ≡ o → DiffersAt (own_place_in m w.imports.entries e.0) ↔ Differ entry_sense OurImport TheirImport
         by None f =
-            let none = no-own-entry own other s.own_valid s.other_valid m s.matched w.imports.entries (import-key own s.own_valid n w s.own_at) e.0 (import-key other s.other_valid k z s.other_at e (get-contains z.imports.entries p e at)) f in
+            let none = no-own-entry own other s.own_valid s.other_valid m s.matched w.imports.entries (import-key own s.own_valid n w s.own_at) e.0
+            (import-key other s.other_valid k z s.other_at e (get-contains z.imports.entries p e at)) f in
             ((λ x. absurd (subst DiffersAt f x)), (λ x. absurd (subst (λ (o : Option (Entry InterfaceMeaning)). Differ entry_sense o TheirImport) none x)))
         by (Some q) f =
-            let h = own-entry own other s.own_valid s.other_valid m s.matched w.imports.entries (import-key own s.own_valid n w s.own_at) e.0 (import-key other s.other_valid k z s.other_at e (get-contains z.imports.entries p e at)) q f in
-            let by_place = differ-as of_import one-import (sense_of own (place.Import (record { 0 = n }) q)) (sense_of other (place.Import (record { 0 = k }) p)) (entry_sense (entry_meaning own h.entry.1)) (entry_sense (entry_meaning other e.1))
+            let h = own-entry own other s.own_valid s.other_valid m s.matched w.imports.entries (import-key own s.own_valid n w s.own_at) e.0
+            (import-key other s.other_valid k z s.other_at e (get-contains z.imports.entries p e at)) q f in
+            let by_place = differ-as of_import one-import (sense_of own (place.Import (record { 0 = n }) q)) (sense_of other (place.Import (record { 0 = k }) p))
+            (entry_sense (entry_meaning own h.entry.1)) (entry_sense (entry_meaning other e.1))
             (import-sensed-at own (record { 0 = n }) w s.own_at q h.entry h.stands) (import-sensed-at other (record { 0 = k }) z s.other_at p e at) in
             let by_key = known entry_sense OurImport TheirImport (entry_meaning own h.entry.1) (entry_meaning other e.1) h.found (import-found p e at) in
             subst (λ (o : Option ℕ). DiffersAt o ↔ Differ entry_sense OurImport TheirImport) (sym f) ((λ x. by_key.1 (by_place.0 x)), (λ x. by_place.1 (by_key.0 x)))
@@ -372,10 +388,12 @@ module _ (own other : Resolve) (m : Matches) (n k : ℕ) (w z : World) (s : AreW
       where
         by : (o : Option ℕ) → own_place_in m w.exports.entries e.0 ≡ o → (is_some (own_place_in m w.exports.entries e.0) ≡ true) ↔ Stand OurExport TheirExport
         by None f =
-            let none = no-own-entry own other s.own_valid s.other_valid m s.matched w.exports.entries (export-key own s.own_valid n w s.own_at) e.0 (export-key other s.other_valid k z s.other_at e (get-contains z.exports.entries p e at)) f in
+            let none = no-own-entry own other s.own_valid s.other_valid m s.matched w.exports.entries (export-key own s.own_valid n w s.own_at) e.0
+            (export-key other s.other_valid k z s.other_at e (get-contains z.exports.entries p e at)) f in
             ((λ x. untrue (sym (ap is_some f) ∙ x)), (λ x. absurd (subst (λ (o : Option (Entry InterfaceMeaning)). Stand o TheirExport) none x)))
         by (Some q) f =
-            let h = own-entry own other s.own_valid s.other_valid m s.matched w.exports.entries (export-key own s.own_valid n w s.own_at) e.0 (export-key other s.other_valid k z s.other_at e (get-contains z.exports.entries p e at)) q f in
+            let h = own-entry own other s.own_valid s.other_valid m s.matched w.exports.entries (export-key own s.own_valid n w s.own_at) e.0
+            (export-key other s.other_valid k z s.other_at e (get-contains z.exports.entries p e at)) q f in
             ((λ x. both-stand OurExport TheirExport (entry_meaning own h.entry.1) (entry_meaning other e.1) h.found (export-found p e at)), (λ x. ap is_some f))
 
   imports-first : (o : Option Text) → IsFirstFault other z.imports.entries (ImportFaults own other m n k w) o → IsFirstIn B.bound.imports (ImportFault A B) o

@@ -41,7 +41,8 @@ one-text r (key.Interface a) (key.Name b) e = untrue e
 one-text r (key.Interface a) (key.Interface b) e = ap (λ (n : ℕ). unwrap_or (interface_path r n) []) (equal a.0 b.0 e)
 
 -- under a text that is no key's nothing is found
-pub no-entry : (r : Resolve) (t : Text) (es : List (WorldKey × WorldItem)) → ((e : WorldKey × WorldItem) → Contains es e → text_eq t (key_text r e.0) ≡ false) → find text_cmp t (entries_meaning r es) ≡ None
+pub no-entry : (r : Resolve) (t : Text) (es : List (WorldKey × WorldItem)) → ((e : WorldKey × WorldItem) → Contains es e → text_eq t (key_text r e.0) ≡ false)
+    → find text_cmp t (entries_meaning r es) ≡ None
 no-entry r t [] none = refl
 no-entry r t (e ∷ es) none =
     ap (λ b. cond b (Some (entry_meaning r e.1)) (find text_cmp t (entries_meaning r es))) (sym (eq_by_text t (key_text r e.0)) ∙ none e (first-contained e es))
@@ -89,7 +90,8 @@ module _ (own : Resolve) (v : IsValid own) (k : WorldKey) (is : IsKey own v k) w
   under [] all n p e = let no : ⊥ = cc in absurd no
   under (d ∷ es) all n p e = by (key_eq k d.0) refl e (λ f. under es (λ x c. all x (contains-later d es x c)) (n + 1) p f)
     where
-      tied : (b : Bool) → key_eq k d.0 ≡ b → find text_cmp (key_text own k) (entries_meaning own (d ∷ es)) ≡ cond b (Some (entry_meaning own d.1)) (find text_cmp (key_text own k) (entries_meaning own es))
+      tied : (b : Bool) → key_eq k d.0 ≡ b
+          → find text_cmp (key_text own k) (entries_meaning own (d ∷ es)) ≡ cond b (Some (entry_meaning own d.1)) (find text_cmp (key_text own k) (entries_meaning own es))
       tied b t = ap (λ b. cond b (Some (entry_meaning own d.1)) (find text_cmp (key_text own k) (entries_meaning own es))) (tie d.0 (all d (first-contained d es)) ∙ t)
 
       by : (b : Bool) → key_eq k d.0 ≡ b → cond b (Some n) (position_from (key_eq k) (n + 1) (map (λ (e : WorldKey × WorldItem). e.0) es)) ≡ Some p
@@ -103,7 +105,8 @@ module _ (own : Resolve) (v : IsValid own) (k : WorldKey) (is : IsKey own v k) w
           let there : (n + 1) + j ≡ n + suc j = omega arith in
           record { place = suc z.place; number = z.number ∙ there; entry = z.entry; stands = z.stands; found = tied false t ∙ z.found }
 
-  none-under : (es : List (WorldKey × WorldItem)) → ((e : WorldKey × WorldItem) → Contains es e → IsKey own v e.0) → (n : ℕ) → position_from (key_eq k) n (map (λ e. e.0) es) ≡ None → find text_cmp (key_text own k) (entries_meaning own es) ≡ None
+  none-under : (es : List (WorldKey × WorldItem)) → ((e : WorldKey × WorldItem) → Contains es e → IsKey own v e.0) → (n : ℕ) → position_from (key_eq k) n (map (λ e. e.0) es) ≡ None
+      → find text_cmp (key_text own k) (entries_meaning own es) ≡ None
   none-under [] all n e = refl
   none-under (d ∷ es) all n e = by (key_eq k d.0) refl e (λ f. none-under es (λ x c. all x (contains-later d es x c)) (n + 1) f)
     where
@@ -115,7 +118,8 @@ module _ (own : Resolve) (v : IsValid own) (k : WorldKey) (is : IsKey own v k) w
 
 -- ---- what a key of the other's finds
 
-module _ (own other : Resolve) (v : IsValid own) (u : IsValid other) (m : Matches) (h : IsMatched own other m) (es : List (WorldKey × WorldItem)) (all : (e : WorldKey × WorldItem) → Contains es e → IsKey own v e.0) where
+module _ (own other : Resolve) (v : IsValid own) (u : IsValid other) (m : Matches) (h : IsMatched own other m) (es : List (WorldKey × WorldItem))
+    (all : (e : WorldKey × WorldItem) → Contains es e → IsKey own v e.0) where
   own-id : (n : ℕ) (i : Interface) → interface_at other n ≡ Some i → own_id m n ≡ own_interface_of own m.packages.items i
   own-id n i at =
       let f = own_interface_of own m.packages.items in
@@ -152,13 +156,15 @@ module _ (own other : Resolve) (v : IsValid own) (u : IsValid other) (m : Matche
       }
 
   pub own-entry : (k : WorldKey) → IsKey other u k → (p : ℕ) → own_place_in m es k ≡ Some p → HasOwn k p
-  own-entry (key.Name name) g p e = has-own (key.Name name) (key.Name name) g refl p (under own v (key.Name name) g es all 0 p (sym (position_from-zero (key_eq (key.Name name)) (map (λ (e : WorldKey × WorldItem). e.0) es)) ∙ e))
+  own-entry (key.Name name) g p e = has-own (key.Name name) (key.Name name) g refl p
+      (under own v (key.Name name) g es all 0 p (sym (position_from-zero (key_eq (key.Name name)) (map (λ (e : WorldKey × WorldItem). e.0) es)) ∙ e))
   own-entry (key.Interface id) g p e =
       let a = unpacked (λ (x : InterfaceId). position (key_eq (key.Interface x)) (map (λ (e : WorldKey × WorldItem). e.0) es)) (own_id m id.0) p e in
       let path = some-of (interface_path other id.0) g in
       let has = id-has id.0 path.0 path.1 a.0 a.1 in
       let is : is_some (interface_path own a.0.0) ≡ true = ap is_some has in
-      has-own (key.Interface id) (key.Interface a.0) is (ap (λ (o : Option Text). unwrap_or o []) (path.1 ∙ sym has)) p (under own v (key.Interface a.0) is es all 0 p (sym (position_from-zero (key_eq (key.Interface a.0)) (map (λ (e : WorldKey × WorldItem). e.0) es)) ∙ a.2))
+      has-own (key.Interface id) (key.Interface a.0) is (ap (λ (o : Option Text). unwrap_or o []) (path.1 ∙ sym has)) p
+      (under own v (key.Interface a.0) is es all 0 p (sym (position_from-zero (key_eq (key.Interface a.0)) (map (λ (e : WorldKey × WorldItem). e.0) es)) ∙ a.2))
 
   pub no-own-entry : (k : WorldKey) → IsKey other u k → own_place_in m es k ≡ None → find text_cmp (key_text other k) (entries_meaning own es) ≡ None
   no-own-entry (key.Name name) g e = none-under own v (key.Name name) g es all 0 (sym (position_from-zero (key_eq (key.Name name)) (map (λ (e : WorldKey × WorldItem). e.0) es)) ∙ e)
@@ -183,9 +189,11 @@ module _ (own other : Resolve) (v : IsValid own) (u : IsValid other) (m : Matche
               absurd (id-none id.0 path.0 path.1 f j.0 (theirs.1 ∙ ap Some one))
           same-or false t = refl
 
-      by : (o : Option InterfaceId) → own_id m id.0 ≡ o → option_and_then (λ (x : InterfaceId). position (key_eq (key.Interface x)) (map (λ (e : WorldKey × WorldItem). e.0) es)) o ≡ None → find text_cmp (key_text other (key.Interface id)) (entries_meaning own es) ≡ None
+      by : (o : Option InterfaceId) → own_id m id.0 ≡ o → option_and_then (λ (x : InterfaceId). position (key_eq (key.Interface x)) (map (λ (e : WorldKey × WorldItem). e.0) es)) o ≡ None
+          → find text_cmp (key_text other (key.Interface id)) (entries_meaning own es) ≡ None
       by None f none = no-entry own (key_text other (key.Interface id)) es (λ d c. other-text f d.0 (all d c))
       by (Some x) f none =
           let has = id-has id.0 path.0 path.1 x f in
           let is : is_some (interface_path own x.0) ≡ true = ap is_some has in
-          ap (λ (t : Text). find text_cmp t (entries_meaning own es)) (ap (λ (o : Option Text). unwrap_or o []) (path.1 ∙ sym has)) ∙ none-under own v (key.Interface x) is es all 0 (sym (position_from-zero (key_eq (key.Interface x)) (map (λ (e : WorldKey × WorldItem). e.0) es)) ∙ none)
+          ap (λ (t : Text). find text_cmp t (entries_meaning own es)) (ap (λ (o : Option Text). unwrap_or o []) (path.1 ∙ sym has)) ∙ none-under own v (key.Interface x) is es all 0
+          (sym (position_from-zero (key_eq (key.Interface x)) (map (λ (e : WorldKey × WorldItem). e.0) es)) ∙ none)

@@ -76,7 +76,8 @@ pub world_sensed : (r : Resolve) (id : WorldId) → in_list r.worlds.items id.0 
 world_sensed r id h = let x = found-in r.worlds.items id.0 h in kept_some _ (world_at r id.0) x.0 x.1
 
 module _ (own other : Resolve) (v : IsValid own) (m : Matches) (h : IsMatched own other m) where
-  pub interface_matched : (n : ℕ) (o : Option InterfaceId) → n < length other.interfaces.items → o ≡ get_or m.interfaces.items n o → (i : Interface) → interface_at other n ≡ Some i → own_interface_of own m.packages.items i ≡ o
+  pub interface_matched : (n : ℕ) (o : Option InterfaceId) → n < length other.interfaces.items → o ≡ get_or m.interfaces.items n o → (i : Interface) → interface_at other n ≡ Some i
+      → own_interface_of own m.packages.items i ≡ o
   interface_matched n o lt is i at =
       let f = own_interface_of own m.packages.items in
       sym (same-some _ _ (sym (slice_get_read m.interfaces.items (length other.interfaces.items) n o (sym (ap length h.interfaces ∙ length-map other.interfaces.items f)) lt is)
@@ -88,7 +89,8 @@ module _ (own other : Resolve) (v : IsValid own) (m : Matches) (h : IsMatched ow
       sym (same-some _ _ (sym (slice_get_read m.worlds.items (length other.worlds.items) n o (sym (ap length h.worlds ∙ length-map other.worlds.items f)) lt is)
       ∙ ap (λ xs. slice_get xs n) h.worlds ∙ slice_get-map f other.worlds.items n ∙ ap (option_map f) at))
 
-  pub interface_there : (n : ℕ) (o : Option InterfaceId) → n < length other.interfaces.items → o ≡ get_or m.interfaces.items n o → (id : InterfaceId) → o ≡ Some id → is_some (sense_of own (place.Interface id)) ≡ true
+  pub interface_there : (n : ℕ) (o : Option InterfaceId) → n < length other.interfaces.items → o ≡ get_or m.interfaces.items n o → (id : InterfaceId) → o ≡ Some id
+      → is_some (sense_of own (place.Interface id)) ≡ true
   interface_there n o lt is id e =
       let x = found-in other.interfaces.items n (lt-ltb n (length other.interfaces.items) lt) in
       let found = interface_matched n o lt is x.0 x.1 ∙ e in
@@ -107,7 +109,8 @@ not_same : (P : Type 0) (y : Bool) → (IsTrue y ↔ P) → IsTrue (not y) ↔ (
 not_same P true h = ((λ t p. false_true t), λ none. absurd (none (h.0 refl)))
 not_same P false h = ((λ t p. false_true (h.1 p)), λ none. refl)
 
-pub other_sense : (r s own other : Resolve) → r ≡ own → s ≡ other → (p q : Place) (y : Bool) → (IsTrue y ↔ (sense_of r p ≡ sense_of s q)) → (o : Option Place) → o ≡ Some p → IsTrue (not y) ↔ OtherSense own other o q
+pub other_sense : (r s own other : Resolve) → r ≡ own → s ≡ other → (p q : Place) (y : Bool) → (IsTrue y ↔ (sense_of r p ≡ sense_of s q)) → (o : Option Place) → o ≡ Some p → IsTrue (not y)
+    ↔ OtherSense own other o q
 other_sense r s own other e f p q y h o g =
     subst (λ (o : Option Place). IsTrue (not y) ↔ OtherSense own other o q) (sym g)
     (not_same (sense_of own p ≡ sense_of other q) y (subst (λ (x : Resolve). IsTrue y ↔ (sense_of own p ≡ sense_of x q)) f (subst (λ (x : Resolve). IsTrue y ↔ (sense_of x p ≡ sense_of s q)) e h)))
@@ -128,7 +131,8 @@ pub with_root : (b : Bool) → b ≡ false → (y : Bool) (P : Type 0) → (IsTr
 with_root b e y P h = ((λ t. (e, h.0 t)), λ p. h.1 p.1)
 
 module _ (own other : Resolve) (m : Matches) (n : ℕ) (i : Interface) (at : interface_at other n ≡ Some i) where
-  pub interface_fault : IsTrue (is_own_world_of own m i) ⊎ InterfaceDiffers own other m n i → (r : Result (Option (String Global)) Error) → IfOk r (λ p. optional_text p ≡ interface_path other n) → IfOk r (λ p. IsLeastFault (InterfaceFaultAt own other m n) (optional_text p))
+  pub interface_fault : IsTrue (is_own_world_of own m i) ⊎ InterfaceDiffers own other m n i → (r : Result (Option (String Global)) Error) → IfOk r (λ p. optional_text p ≡ interface_path other n)
+      → IfOk r (λ p. IsLeastFault (InterfaceFaultAt own other m n) (optional_text p))
   interface_fault fault r h = in_ok _ _ (λ p ok.
       path_fault (InterfaceFaultAt own other m n) (optional_text p)
       (λ t e. (i, at, sym (ap (option_and_then (path_of_interface other)) at) ∙ sym ok ∙ e, fault))
@@ -153,7 +157,8 @@ world_fits r v n lt = elim (cases_order n 4294967295) [
       let in_list_ : 4294967295 < length r.worlds.items = omega (arith, lt, more) in
       let x = found-in r.worlds.items 4294967295 (lt-ltb 4294967295 (length r.worlds.items) in_list_) in
       let passed = each_from_at (numbers_in_range.world_ r) 0 r.worlds.items 4294967295 x.0 (lists_pass numbers_in_range r v.rules.numbers_in_range).2 x.1 in
-      absurd (false_true (first_true (is_place 4294967295) (passes (in_list r.packages.items) (package_number x.0.«package») && (entries_in_range r x.0.imports.entries && entries_in_range r x.0.exports.entries)) passed))
+      absurd (false_true (first_true (is_place 4294967295) (passes (in_list r.packages.items) (package_number x.0.«package»)
+      && (entries_in_range r x.0.imports.entries && entries_in_range r x.0.exports.entries)) passed))
 ]
 
 -- the package of a world is there
@@ -165,16 +170,19 @@ home_there r v n w at =
 
 -- ---- worlds
 
-pub crossing_fault : (own other : Resolve) (m : Matches) (w : World) (home : PackageId) → w.«package» ≡ Some home → (t : Text) → path_in_package other home.0 (text_of w.name) ≡ Some t → is_root_world other w ≡ false → is_some (interface_in own m.packages.items w.«package» (text_of w.name)) ≡ true → IsLeastFault (CrossingOf own other m w) (Some t)
+pub crossing_fault : (own other : Resolve) (m : Matches) (w : World) (home : PackageId) → w.«package» ≡ Some home → (t : Text) → path_in_package other home.0 (text_of w.name) ≡ Some t
+    → is_root_world other w ≡ false → is_some (interface_in own m.packages.items w.«package» (text_of w.name)) ≡ true → IsLeastFault (CrossingOf own other m w) (Some t)
 crossing_fault own other m w home inside t path root found =
     let e : path_of_world other w ≡ Some t = ap (option_and_then (λ (p : PackageId). path_in_package other p.0 (text_of w.name))) inside ∙ path in
     one_fault (CrossingOf own other m w) t (e, root, found) (λ s h. same-some s t (sym h.0 ∙ e))
 
-pub crossing_at : (own other : Resolve) (m : Matches) (n : ℕ) (w : World) → world_at other n ≡ Some w → (o : Option Text) → IsLeastFault (CrossingOf own other m w) o → IsLeastFault (CrossingAt own other m n) o
+pub crossing_at : (own other : Resolve) (m : Matches) (n : ℕ) (w : World) → world_at other n ≡ Some w → (o : Option Text) → IsLeastFault (CrossingOf own other m w) o
+    → IsLeastFault (CrossingAt own other m n) o
 crossing_at own other m n w at o h =
     same_faults (CrossingOf own other m w) (CrossingAt own other m n) (λ t f. (w, at, f)) (λ t f. subst (λ (x : World). CrossingOf own other m x t) (same-some f.0 w (sym f.1 ∙ at)) f.2) o h
 
-pub world_fault : (own other : Resolve) (m : Matches) (n : ℕ) (w : World) → world_at other n ≡ Some w → (home : PackageId) → w.«package» ≡ Some home → (t : Text) → path_in_package other home.0 (text_of w.name) ≡ Some t → WorldDiffers own other m n w → IsLeastFault (WorldFaultAt own other m n) (Some t)
+pub world_fault : (own other : Resolve) (m : Matches) (n : ℕ) (w : World) → world_at other n ≡ Some w → (home : PackageId) → w.«package» ≡ Some home → (t : Text)
+    → path_in_package other home.0 (text_of w.name) ≡ Some t → WorldDiffers own other m n w → IsLeastFault (WorldFaultAt own other m n) (Some t)
 world_fault own other m n w at home inside t path d =
     let e : path_of_world other w ≡ Some t = ap (option_and_then (λ (p : PackageId). path_in_package other p.0 (text_of w.name))) inside ∙ path in
     one_fault (WorldFaultAt own other m n) t (w, at, e, d) (λ s h. same-some s t (sym h.2 ∙ ap (path_of_world other) (same-some h.0 w (sym h.1 ∙ at)) ∙ e))

@@ -61,7 +61,8 @@ first-named : (name : PackageName) (n : ℕ) (ps : List Package) (g : PackageId)
 first-named name n [] g e = let no : ⊥ = cc in absurd no
 first-named name n (p ∷ ps) g e = by (same_package_name name p.name) refl e (λ f. first-named name (n + 1) ps g f)
   where
-    by : (b : Bool) → same_package_name name p.name ≡ b → cond b (Some (numbered n)) (package_from name (n + 1) ps) ≡ Some g → (package_from name (n + 1) ps ≡ Some g → IsFirstNamed name (n + 1) ps g) → IsFirstNamed name n (p ∷ ps) g
+    by : (b : Bool) → same_package_name name p.name ≡ b → cond b (Some (numbered n)) (package_from name (n + 1) ps) ≡ Some g → (package_from name (n + 1) ps ≡ Some g → IsFirstNamed name (n + 1) ps g)
+        → IsFirstNamed name n (p ∷ ps) g
     by true s f later =
         let here : n ≡ n + 0 = omega arith in
         record { place = 0; number = ap (λ (x : PackageId). x.0) (sym (same-some (numbered n) g f)) ∙ here; package_ = p; stands = refl; named = s }
@@ -72,7 +73,8 @@ first-named name n (p ∷ ps) g e = by (same_package_name name p.name) refl e (�
         record { place = suc z.place; number = z.number ∙ there; package_ = z.package_; stands = z.stands; named = z.named }
 
 -- where a package of the name stands, one is found
-some-named : (name : PackageName) (n : ℕ) (ps : List Package) (k : ℕ) (p : Package) → slice_get ps k ≡ Some p → same_package_name name p.name ≡ true → (g : PackageId) × (package_from name n ps ≡ Some g)
+some-named : (name : PackageName) (n : ℕ) (ps : List Package) (k : ℕ) (p : Package) → slice_get ps k ≡ Some p → same_package_name name p.name ≡ true → (g : PackageId)
+    × (package_from name n ps ≡ Some g)
 some-named name n [] k p e s = let no : ⊥ = cc in absurd no
 some-named name n (q ∷ ps) k p e s = by (same_package_name name q.name) refl k e (λ j f. some-named name (n + 1) ps j p f s)
   where
@@ -93,7 +95,8 @@ pub record IsPathOf (r : Resolve) (home : Option PackageId) (name t : Text) : Ty
   pub label : is_label name ≡ true
 
 module _ (r : Resolve) (v : IsValid r) where
-  interface-path-of : (n : ℕ) (i : Interface) → interface_at r n ≡ Some i → (t : Text) → path_of_interface r i ≡ Some t → (s : String Global) × ((i.name ≡ Some s) × IsPathOf r i.«package» (text_of s) t)
+  interface-path-of : (n : ℕ) (i : Interface) → interface_at r n ≡ Some i → (t : Text) → path_of_interface r i ≡ Some t → (s : String Global)
+      × ((i.name ≡ Some s) × IsPathOf r i.«package» (text_of s) t)
   interface-path-of n i at t e =
       let h = has-path r n t (ap (option_and_then (path_of_interface r)) at ∙ e) in
       let one : i ≡ h.def = same-some i h.def (sym at ∙ h.there) in (
@@ -155,7 +158,12 @@ module _ (own other : Resolve) (v : IsValid own) (u : IsValid other) (packages :
         let k = z.place in
         let none_before : 0 + k ≡ k = omega arith in
         let stands : package_at own g.0 ≡ Some z.package_ = ap (package_at own) (z.number ∙ none_before) ∙ z.stands in
-        record { package_ = z.package_; stands = stands; identity = sym ((same_name is.package_.name z.package_.name (package-name other u is.id.0 is.package_ is.stands).version (package-name own v g.0 z.package_ stands).version).0 z.named) }
+        record {
+          package_ = z.package_;
+          stands = stands;
+          identity = sym
+              ((same_name is.package_.name z.package_.name (package-name other u is.id.0 is.package_ is.stands).version (package-name own v g.0 z.package_ stands).version).0 z.named);
+        }
 
     home-there : (j : ℕ) (p : Package) → package_at own j ≡ Some p → identity_of p.name ≡ identity_of is.package_.name → (g : PackageId) × ((home_in packages home ≡ Some g) × (g.0 ≡ j))
     home-there j p at same =
@@ -294,7 +302,8 @@ module _ (r : Resolve) (v : IsValid r) (w : World) (t : Text) (is : IsPathOf r w
   pub has-root : t ≡ root_path → is_root_world r w ≡ true
   has-root e =
       let d = is.package_.name in
-      let parts = one_path (identity_of d) root_meaning.identity (text_of w.name) root (package-name r v is.id.0 is.package_ is.stands).identity is.label root-identity root-label (sym is.spelled ∙ (e ∙ sym root-spelled)) in
+      let parts = one_path (identity_of d) root_meaning.identity (text_of w.name) root (package-name r v is.id.0 is.package_ is.stands).identity is.label root-identity root-label
+      (sym is.spelled ∙ (e ∙ sym root-spelled)) in
       let namespace : text_of d.namespace ≡ root = ap (λ (p : PackageIdentity). p.namespace) parts.0 in
       let label : text_of d.name ≡ root = ap (λ (p : PackageIdentity). p.name) parts.0 in
       let version : optional_version_text d.version ≡ None = ap (λ (p : PackageIdentity). p.version) parts.0 in

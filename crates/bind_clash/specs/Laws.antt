@@ -49,12 +49,15 @@ FaultsAreOfBindings = (own other : Resolve) (m : Matches) (n k : ℕ) (w v : Wor
 abbrev pub ClashesAreOfBindings : Type 0
 ClashesAreOfBindings = (own other : Resolve) (m : Matches) (n k : ℕ) (w v : World) → AreWorlds own other m n k w v → (a b c d : Encodings) →
     (e : Error) → IsClashAt own other m n k w v e →
-    (e ≡ errors.Memory) ⊎ ((kind : ClashKind) × (key : String Global) × (e ≡ errors.Clash kind key) × IsClash (binding_at own n a b) (binding_at other k c d) kind (text_of key))
+    (e ≡ errors.Memory) ⊎ ((kind : ClashKind) × (key : String Global) × (e ≡ errors.Clash kind key)
+    × IsClash (binding_at own n a b) (binding_at other k c d) kind (text_of key))
 
 -- Where nothing clashes but encodings, the first of these is the clash.
 abbrev pub EncodingsClashLast : Type 0
-EncodingsClashLast = (own other : Resolve) (m : Matches) (n k : ℕ) (w v : World) → AreWorlds own other m n k w v → (a b c d : Encodings) → HasNoClash own other m n k w v → (t : Text) →
-    IsLeast (EncodingFault a c) t ⊎ (NoFault (EncodingFault a c) × IsLeast (EncodingFault b d) t) → IsClash (binding_at own n a b) (binding_at other k c d) kinds.Encoding t
+EncodingsClashLast = (own other : Resolve) (m : Matches) (n k : ℕ) (w v : World) → AreWorlds own other m n k w v → (a b c d : Encodings)
+    → HasNoClash own other m n k w v → (t : Text) →
+    IsLeast (EncodingFault a c) t ⊎ (NoFault (EncodingFault a c) × IsLeast (EncodingFault b d) t)
+    → IsClash (binding_at own n a b) (binding_at other k c d) kinds.Encoding t
 
 -- Where nothing clashes, and no key has two encodings, the bindings can be united, if it can be told of senses whether they are equal.
 abbrev pub NoneIsOfBindings : Type 0

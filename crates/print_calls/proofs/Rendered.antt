@@ -12,5 +12,6 @@ list-renders calls list moved =
     let r = Moves-appends moved in
     ap render r.2 ∙ ap (λ (v : View Written). v.kept.text) (Expands-writes blank calls r.0 r.1)
 
-pub lists-as-text : (calls : List OutputCall) (list : View (List OutputCall)) (text : View Written) → Moves appends no_calls calls list → Moves writes blank calls text → render list.kept ≡ text.kept.text
+pub lists-as-text : (calls : List OutputCall) (list : View (List OutputCall)) (text : View Written) → Moves appends no_calls calls list → Moves writes blank calls text
+    → render list.kept ≡ text.kept.text
 lists-as-text calls list text moved written = list-renders calls list moved ∙ sym (ap (λ (v : View Written). v.kept.text) (Moves-writes written))

@@ -9,7 +9,8 @@ use Rattle.print_items.specs.Drives.{Drives}
 use Rattle.print_items.proofs.Driven.{driven3}
 
 -- members in turn, which are these, as they are shown
-pub block_driven : {O Kept : Type 0} {view : O → View Kept} {keeps : View Kept → OutputCall → Kept} {X Y : Type 0} (start : List OutputCall) (run : Y → List OutputCall) (show : X → Y) (members all : List X) {a b c d : Driver O}
+pub block_driven : {O Kept : Type 0} {view : O → View Kept} {keeps : View Kept → OutputCall → Kept} {X Y : Type 0} (start : List OutputCall) (run : Y → List OutputCall) (show : X → Y)
+    (members all : List X) {a b c d : Driver O}
     → Drives view keeps a start b → Drives view keeps b (flat_map (λ x. run (show x)) members) c → Drives view keeps c (IndentEnd ∷ []) d → members ≡ all
     → Drives view keeps a (start ++ (flat_map run (map show all) ++ (IndentEnd ∷ []))) d
 block_driven start run show members all p q r e =

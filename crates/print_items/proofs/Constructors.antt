@@ -47,7 +47,8 @@ module _ (r : Resolve) (id : TypeId) where
   constructor_params f e = ap (λ k. map (shown_param r) (if is_method k then drop 1 f.params.items else f.params.items)) e
 
   -- and are well named, as its result
-  pub constructor_well : (f : Function) → f.kind ≡ call.Constructor id → is_well_resource_member (shown_resource_member r f) ≡ true → (list_all is_well_param (shown_params r f) ≡ true) × (is_well_optional is_well_type (constructor_result r id f.result) ≡ true)
+  pub constructor_well : (f : Function) → f.kind ≡ call.Constructor id → is_well_resource_member (shown_resource_member r f) ≡ true → (list_all is_well_param (shown_params r f) ≡ true)
+      × (is_well_optional is_well_type (constructor_result r id f.result) ≡ true)
   constructor_well f e well =
       let known = subst (λ k. is_well_resource_member (shown_resource_member r (record f { kind = k })) ≡ true) e well in
       let rest = right_of (is_well_prefix (function_prefix f)) _ known in (
@@ -65,7 +66,8 @@ module _ (r : Resolve) (f : Function) (well : is_well_resource_member (shown_res
   pub member_named : is_constructor f.kind ≡ false → (is_label (item_name f) && is_well_signature (shown_signature r f)) ≡ true
   member_named other = go f.kind other well
     where
-      go : (k : FunctionKind) → is_constructor k ≡ false → is_well_resource_member (shown_resource_member r (record f { kind = k })) ≡ true → (is_label (item_name (record f { kind = k })) && is_well_signature (shown_signature r (record f { kind = k }))) ≡ true
+      go : (k : FunctionKind) → is_constructor k ≡ false → is_well_resource_member (shown_resource_member r (record f { kind = k })) ≡ true
+          → (is_label (item_name (record f { kind = k })) && is_well_signature (shown_signature r (record f { kind = k }))) ≡ true
       go (call.Constructor id) other h = absurd cc
       go (call.Static id) other h = right_of (is_well_prefix (function_prefix f)) _ h
       go (call.AsyncStatic id) other h = right_of (is_well_prefix (function_prefix f)) _ h
@@ -90,7 +92,8 @@ module _ (r : Resolve) (f : Function) (well : is_well_resource_member (shown_res
   pub member_whole : (emits : Bool) → prefix_calls emits (function_prefix f) ++ bare_member_calls (shown_resource_member r f) ≡ resource_member_calls emits (shown_resource_member r f)
   member_whole emits = go f.kind
     where
-      go : (k : FunctionKind) → prefix_calls emits (function_prefix f) ++ bare_member_calls (shown_resource_member r (record f { kind = k })) ≡ resource_member_calls emits (shown_resource_member r (record f { kind = k }))
+      go : (k : FunctionKind) → prefix_calls emits (function_prefix f) ++ bare_member_calls (shown_resource_member r (record f { kind = k })) ≡ resource_member_calls emits
+          (shown_resource_member r (record f { kind = k }))
       go (call.Constructor id) = refl
       go (call.Static id) = refl
       go (call.AsyncStatic id) = refl
@@ -101,6 +104,7 @@ module _ (r : Resolve) (f : Function) (well : is_well_resource_member (shown_res
 
 -- ---- a resource's functions in a block
 
-pub block_of : (emits : Bool) (r : Resolve) (fs : List (Bor Function)) → false ≡ (length fs == 0) → IndentStart ∷ (flat_map (λ f. resource_member_calls emits (shown_resource_member r f.now)) fs ++ (IndentEnd ∷ [])) ≡ resource_body_calls emits (map (λ f. shown_resource_member r f.now) fs)
+pub block_of : (emits : Bool) (r : Resolve) (fs : List (Bor Function)) → false ≡ (length fs == 0)
+    → IndentStart ∷ (flat_map (λ f. resource_member_calls emits (shown_resource_member r f.now)) fs ++ (IndentEnd ∷ [])) ≡ resource_body_calls emits (map (λ f. shown_resource_member r f.now) fs)
 block_of emits r [] some = absurd cc
 block_of emits r (f ∷ fs) some = ap (λ calls. IndentStart ∷ (calls ++ (IndentEnd ∷ []))) (sym (flat_map-map (resource_member_calls emits) (λ g. shown_resource_member r g.now) (f ∷ fs)))

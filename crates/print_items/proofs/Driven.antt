@@ -25,18 +25,21 @@ module _ {Kept : Type 0} {keeps : View Kept → OutputCall → Kept} where
   runs_none false u = all_made (nothing_moved refl)
 
   -- a call of the output
-  called : {T E : Type 0} (r : Result T E) (u v : View Kept) (call : OutputCall) → OnOk r (Counts keeps u call v) → OnErr r (Reaches keeps u (body_calls call) v) → Runs keeps false u (call ∷ []) (is_err r) v
+  called : {T E : Type 0} (r : Result T E) (u v : View Kept) (call : OutputCall) → OnOk r (Counts keeps u call v) → OnErr r (Reaches keeps u (body_calls call) v)
+      → Runs keeps false u (call ∷ []) (is_err r) v
   called (Ok x) u v call h k = all_made (one_moved h)
   called (Err e) u v call h k = one_refused (begun_in k)
 
-  runs_one : {T E : Type 0} (refused now : Bool) (r : Result T E) (u v : View Kept) (call : OutputCall) → refused ≡ false → now ≡ is_err r → OnOk r (Counts keeps u call v) → OnErr r (Reaches keeps u (body_calls call) v) → Runs keeps refused u (call ∷ []) now v
+  runs_one : {T E : Type 0} (refused now : Bool) (r : Result T E) (u v : View Kept) (call : OutputCall) → refused ≡ false → now ≡ is_err r → OnOk r (Counts keeps u call v)
+      → OnErr r (Reaches keeps u (body_calls call) v) → Runs keeps refused u (call ∷ []) now v
   runs_one refused now r u v call f n h k = subst (λ b. Runs keeps b u (call ∷ []) now v) (sym f) (subst (λ b. Runs keeps false u (call ∷ []) b v) (sym n) (called r u v call h k))
 
   by_result : {T E : Type 0} (r : Result T E) (u v : View Kept) (calls : List OutputCall) → OnOk r (Moves keeps u calls v) → OnErr r (Begins keeps u calls v) → Runs keeps false u calls (is_err r) v
   by_result (Ok x) u v calls h k = all_made h
   by_result (Err e) u v calls h k = one_refused k
 
-  runs_by : {T E : Type 0} (refused now : Bool) (r : Result T E) (u v : View Kept) (calls : List OutputCall) → refused ≡ false → now ≡ is_err r → OnOk r (Moves keeps u calls v) → OnErr r (Begins keeps u calls v) → Runs keeps refused u calls now v
+  runs_by : {T E : Type 0} (refused now : Bool) (r : Result T E) (u v : View Kept) (calls : List OutputCall) → refused ≡ false → now ≡ is_err r → OnOk r (Moves keeps u calls v)
+      → OnErr r (Begins keeps u calls v) → Runs keeps refused u calls now v
   runs_by refused now r u v calls f n h k = subst (λ b. Runs keeps b u calls now v) (sym f) (subst (λ b. Runs keeps false u calls b v) (sym n) (by_result r u v calls h k))
 
   -- no call where one was refused
@@ -75,43 +78,53 @@ module _ {O Kept : Type 0} {view : O → View Kept} {keeps : View Kept → Outpu
   pub driven3 : {a b c d : Driver O} {A B C all : List OutputCall} → Drives view keeps a A b → Drives view keeps b B c → Drives view keeps c C d → A ++ (B ++ C) ≡ all → Drives view keeps a all d
   driven3 p q r h = driven_on p (driven q r) h
 
-  pub driven4 : {a b c d e : Driver O} {A B C D all : List OutputCall} → Drives view keeps a A b → Drives view keeps b B c → Drives view keeps c C d → Drives view keeps d D e → A ++ (B ++ (C ++ D)) ≡ all → Drives view keeps a all e
+  pub driven4 : {a b c d e : Driver O} {A B C D all : List OutputCall} → Drives view keeps a A b → Drives view keeps b B c → Drives view keeps c C d → Drives view keeps d D e
+      → A ++ (B ++ (C ++ D)) ≡ all → Drives view keeps a all e
   driven4 p q r s h = driven_on p (driven q (driven r s)) h
 
-  pub driven5 : {a b c d e f : Driver O} {A B C D E all : List OutputCall} → Drives view keeps a A b → Drives view keeps b B c → Drives view keeps c C d → Drives view keeps d D e → Drives view keeps e E f → A ++ (B ++ (C ++ (D ++ E))) ≡ all → Drives view keeps a all f
+  pub driven5 : {a b c d e f : Driver O} {A B C D E all : List OutputCall} → Drives view keeps a A b → Drives view keeps b B c → Drives view keeps c C d → Drives view keeps d D e
+      → Drives view keeps e E f → A ++ (B ++ (C ++ (D ++ E))) ≡ all → Drives view keeps a all f
   driven5 p q r s t h = driven_on p (driven q (driven r (driven s t))) h
 
-  pub driven6 : {a b c d e f g : Driver O} {A B C D E F all : List OutputCall} → Drives view keeps a A b → Drives view keeps b B c → Drives view keeps c C d → Drives view keeps d D e → Drives view keeps e E f → Drives view keeps f F g → A ++ (B ++ (C ++ (D ++ (E ++ F)))) ≡ all → Drives view keeps a all g
+  pub driven6 : {a b c d e f g : Driver O} {A B C D E F all : List OutputCall} → Drives view keeps a A b → Drives view keeps b B c → Drives view keeps c C d → Drives view keeps d D e
+      → Drives view keeps e E f → Drives view keeps f F g → A ++ (B ++ (C ++ (D ++ (E ++ F)))) ≡ all → Drives view keeps a all g
   driven6 p q r s t u h = driven_on p (driven q (driven r (driven s (driven t u)))) h
 
-  pub driven7 : {a b c d e f g i : Driver O} {A B C D E F G all : List OutputCall} → Drives view keeps a A b → Drives view keeps b B c → Drives view keeps c C d → Drives view keeps d D e → Drives view keeps e E f → Drives view keeps f F g → Drives view keeps g G i → A ++ (B ++ (C ++ (D ++ (E ++ (F ++ G))))) ≡ all → Drives view keeps a all i
+  pub driven7 : {a b c d e f g i : Driver O} {A B C D E F G all : List OutputCall} → Drives view keeps a A b → Drives view keeps b B c → Drives view keeps c C d → Drives view keeps d D e
+      → Drives view keeps e E f → Drives view keeps f F g → Drives view keeps g G i → A ++ (B ++ (C ++ (D ++ (E ++ (F ++ G))))) ≡ all → Drives view keeps a all i
   driven7 p q r s t u v h = driven_on p (driven q (driven r (driven s (driven t (driven u v))))) h
 
   -- grouped to the left
   pub driven3_left : {a b c d : Driver O} {A B C all : List OutputCall} → Drives view keeps a A b → Drives view keeps b B c → Drives view keeps c C d → (A ++ B) ++ C ≡ all → Drives view keeps a all d
   driven3_left p q r h = driven_on (driven p q) r h
 
-  pub driven4_left : {a b c d e : Driver O} {A B C D all : List OutputCall} → Drives view keeps a A b → Drives view keeps b B c → Drives view keeps c C d → Drives view keeps d D e → ((A ++ B) ++ C) ++ D ≡ all → Drives view keeps a all e
+  pub driven4_left : {a b c d e : Driver O} {A B C D all : List OutputCall} → Drives view keeps a A b → Drives view keeps b B c → Drives view keeps c C d → Drives view keeps d D e
+      → ((A ++ B) ++ C) ++ D ≡ all → Drives view keeps a all e
   driven4_left p q r s h = driven_on (driven (driven p q) r) s h
 
   -- grouped in pairs
-  pub driven4_pairs : {a b c d e : Driver O} {A B C D all : List OutputCall} → Drives view keeps a A b → Drives view keeps b B c → Drives view keeps c C d → Drives view keeps d D e → (A ++ B) ++ (C ++ D) ≡ all → Drives view keeps a all e
+  pub driven4_pairs : {a b c d e : Driver O} {A B C D all : List OutputCall} → Drives view keeps a A b → Drives view keeps b B c → Drives view keeps c C d → Drives view keeps d D e
+      → (A ++ B) ++ (C ++ D) ≡ all → Drives view keeps a all e
   driven4_pairs p q r s h = driven_on (driven p q) (driven r s) h
 
   -- one more of the runs of calls that the elements of a list give
-  pub one_run : {X : Type 0} (run : X → List OutputCall) (xs : List X) (i : ℕ) (x : X) {a b c : Driver O} → Drives view keeps a (flat_map run (take i xs)) b → i < length xs → x ≡ get_or xs i x → Drives view keeps b (run x) c → Drives view keeps a (flat_map run (take (i + 1) xs)) c
+  pub one_run : {X : Type 0} (run : X → List OutputCall) (xs : List X) (i : ℕ) (x : X) {a b c : Driver O} → Drives view keeps a (flat_map run (take i xs)) b → i < length xs → x ≡ get_or xs i x
+      → Drives view keeps b (run x) c → Drives view keeps a (flat_map run (take (i + 1) xs)) c
   one_run run xs i x d within e more = driven_on d more (sym (flat_map-take_next run xs i x within e))
 
   -- a call of the output, or none where one was refused
-  pub call_made : {T E : Type 0} (a b : Driver O) (r : Result T E) (call : OutputCall) → b.output.ghost_name ≡ a.output.ghost_name → a.refused ≡ false → b.refused ≡ is_err r → OnOk r (Counts keeps (view a.output.now) call (view b.output.now)) → OnErr r (Reaches keeps (view a.output.now) (body_calls call) (view b.output.now)) → Drives view keeps a (call ∷ []) b
+  pub call_made : {T E : Type 0} (a b : Driver O) (r : Result T E) (call : OutputCall) → b.output.ghost_name ≡ a.output.ghost_name → a.refused ≡ false → b.refused ≡ is_err r
+      → OnOk r (Counts keeps (view a.output.now) call (view b.output.now)) → OnErr r (Reaches keeps (view a.output.now) (body_calls call) (view b.output.now)) → Drives view keeps a (call ∷ []) b
   call_made a b r call s f n h k = record { same = s; runs = runs_one _ _ r _ _ call f n h k }
 
   -- calls made by a function of their own
-  pub spelled_made : {T E : Type 0} (a b : Driver O) (r : Result T E) (call : OutputCall) → b.output.ghost_name ≡ a.output.ghost_name → a.refused ≡ false → b.refused ≡ is_err r → OnOk r (Moves keeps (view a.output.now) (call ∷ []) (view b.output.now)) → OnErr r (Begins keeps (view a.output.now) (call ∷ []) (view b.output.now)) → Drives view keeps a (call ∷ []) b
+  pub spelled_made : {T E : Type 0} (a b : Driver O) (r : Result T E) (call : OutputCall) → b.output.ghost_name ≡ a.output.ghost_name → a.refused ≡ false → b.refused ≡ is_err r
+      → OnOk r (Moves keeps (view a.output.now) (call ∷ []) (view b.output.now)) → OnErr r (Begins keeps (view a.output.now) (call ∷ []) (view b.output.now)) → Drives view keeps a (call ∷ []) b
   spelled_made a b r call s f n h k = record { same = s; runs = runs_by _ _ r _ _ (call ∷ []) f n h k }
 
   -- a call that counts as itself
-  pub plain_made : {T E : Type 0} (a b : Driver O) (r : Result T E) (call : OutputCall) → b.output.ghost_name ≡ a.output.ghost_name → a.refused ≡ false → b.refused ≡ is_err r → OnOk r (view b.output.now ≡ after keeps (view a.output.now) call) → OnErr r (view b.output.now ≡ view a.output.now) → Drives view keeps a (call ∷ []) b
+  pub plain_made : {T E : Type 0} (a b : Driver O) (r : Result T E) (call : OutputCall) → b.output.ghost_name ≡ a.output.ghost_name → a.refused ≡ false → b.refused ≡ is_err r
+      → OnOk r (view b.output.now ≡ after keeps (view a.output.now) call) → OnErr r (view b.output.now ≡ view a.output.now) → Drives view keeps a (call ∷ []) b
   plain_made a b r call s f n h k = spelled_made a b r call s f n (on_ok r (λ e. one_moved (inl e)) h) (on_err r (λ e. nothing_begun e) k)
 
   -- no call where one was refused
@@ -148,7 +161,8 @@ module _ {Kept : Type 0} {keeps : View Kept → OutputCall → Kept} where
 
 module _ {O Kept : Type 0} {view : O → View Kept} {keeps : View Kept → OutputCall → Kept} where
   -- whether a line has just begun after calls of which none was refused
-  pub line_driven : {a b : Driver O} {calls : List OutputCall} → Drives view keeps a calls b → b.refused ≡ false → (view b.output.now).line_begun ≡ lines_begun_after (view a.output.now).line_begun calls
+  pub line_driven : {a b : Driver O} {calls : List OutputCall} → Drives view keeps a calls b → b.refused ≡ false
+      → (view b.output.now).line_begun ≡ lines_begun_after (view a.output.now).line_begun calls
   line_driven d n = runs_line d.runs n
 
   -- what refused nothing now refused nothing before
@@ -169,7 +183,8 @@ module _ {O Kept : Type 0} {view : O → View Kept} {keeps : View Kept → Outpu
   driving_first run rest d e = record { made = run; driven = d; whole = e }
 
   -- some of the calls that were left ran
-  pub driving_next : (run rest : List OutputCall) {left all : List OutputCall} {old now new : Driver O} → Driving view keeps left all old now → left ≡ run ++ rest → Drives view keeps now run new → Driving view keeps rest all old new
+  pub driving_next : (run rest : List OutputCall) {left all : List OutputCall} {old now new : Driver O} → Driving view keeps left all old now → left ≡ run ++ rest → Drives view keeps now run new
+      → Driving view keeps rest all old new
   driving_next run rest g e d = record { made = g.made ++ run; driven = driven g.driven d; whole = append_assoc g.made run rest ∙ ap (λ x. g.made ++ x) (sym e) ∙ g.whole }
 
   -- none was left

@@ -82,7 +82,8 @@ module _ {Kept X : Type 0} {keeps : View Kept → OutputCall → Kept} {run : X 
   underway all left old e = record { made = []; moved = nothing_moved refl; whole = ap (flat_map run) e }
 
   -- one more run
-  pub run_made : {all left : List X} {old now new : View Kept} (x : X) (others : List X) → Underway keeps run all left old now → left ≡ x ∷ others → Moves keeps now (run x) new → Underway keeps run all others old new
+  pub run_made : {all left : List X} {old now new : View Kept} (x : X) (others : List X) → Underway keeps run all left old now → left ≡ x ∷ others → Moves keeps now (run x) new
+      → Underway keeps run all others old new
   run_made x others u e m = record {
     made = u.made ++ run x;
     moved = Moves-append keeps u.moved m;
@@ -90,7 +91,8 @@ module _ {Kept X : Type 0} {keeps : View Kept → OutputCall → Kept} {run : X 
   }
 
   -- a refusal in a run
-  pub run_begun : {all left : List X} {old now new : View Kept} (x : X) (others : List X) → Underway keeps run all left old now → left ≡ x ∷ others → Begins keeps now (run x) new → Begins keeps old (flat_map run all) new
+  pub run_begun : {all left : List X} {old now new : View Kept} (x : X) (others : List X) → Underway keeps run all left old now → left ≡ x ∷ others → Begins keeps now (run x) new
+      → Begins keeps old (flat_map run all) new
   run_begun {old = old} {new = new} x others u e b =
       let both : u.made ++ (run x ++ flat_map run others) ≡ flat_map run _ = ap (λ xs. u.made ++ flat_map run xs) (sym e) ∙ u.whole in
       subst (λ calls. Begins keeps old calls new) both (Begins-append keeps u.moved (Begins-more keeps (flat_map run others) b))
@@ -113,11 +115,13 @@ module _ {Kept : Type 0} {keeps : View Kept → OutputCall → Kept} where
   going left all old e = record { made = []; moved = nothing_moved refl; whole = e }
 
   -- some of the calls that were left are made
-  pub made_on : (run rest : List OutputCall) {left all : List OutputCall} {old now new : View Kept} → Going keeps left all old now → left ≡ run ++ rest → Moves keeps now run new → Going keeps rest all old new
+  pub made_on : (run rest : List OutputCall) {left all : List OutputCall} {old now new : View Kept} → Going keeps left all old now → left ≡ run ++ rest → Moves keeps now run new
+      → Going keeps rest all old new
   made_on run rest g e m = record { made = g.made ++ run; moved = Moves-append keeps g.moved m; whole = append_assoc g.made run rest ∙ ap (λ x. g.made ++ x) (sym e) ∙ g.whole }
 
   -- a refusal in those that were left
-  pub refused_in : (run rest : List OutputCall) {left all : List OutputCall} {old now new : View Kept} → Going keeps left all old now → left ≡ run ++ rest → Begins keeps now run new → Begins keeps old all new
+  pub refused_in : (run rest : List OutputCall) {left all : List OutputCall} {old now new : View Kept} → Going keeps left all old now → left ≡ run ++ rest → Begins keeps now run new
+      → Begins keeps old all new
   refused_in run rest {old = old} {new = new} g e b =
       subst (λ calls. Begins keeps old calls new) (ap (λ x. g.made ++ x) (sym e) ∙ g.whole) (Begins-append keeps g.moved (Begins-more keeps rest b))
 

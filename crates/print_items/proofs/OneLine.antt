@@ -99,7 +99,8 @@ length_one_line n = decimal_one_line n
 pub ruleset lengths = (length_one_line)
 
 -- parts between points, each of identifier bytes
-parts_one_line : (test : Text → Bool) → ((part : Text) → test part ≡ true → list_all is_identifier_byte part ≡ true) → (ps : List Text) → list_all test ps ≡ true → is_one_line (join_with_byte 46 ps) ≡ true
+parts_one_line : (test : Text → Bool) → ((part : Text) → test part ≡ true → list_all is_identifier_byte part ≡ true) → (ps : List Text) → list_all test ps ≡ true
+    → is_one_line (join_with_byte 46 ps) ≡ true
 parts_one_line test bytes [] h = refl
 parts_one_line test bytes (p ∷ []) h = one_line_of is_identifier_byte refl p (bytes p (first_true _ _ h))
 parts_one_line test bytes (p ∷ q ∷ qs) h =

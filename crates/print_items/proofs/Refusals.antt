@@ -15,7 +15,8 @@ module _ {O Kept : Type 0} {view : O → View Kept} {keeps : View Kept → Outpu
   driven_cut others d r e = driven_on d (call_passed _ others r) e
 
   -- the runs of the other elements of a list
-  pub run_cut : {X : Type 0} (run : X → List OutputCall) (xs : List X) (i : ℕ) {a b : Driver O} → Drives view keeps a (flat_map run (take i xs)) b → b.refused ≡ true → Drives view keeps a (flat_map run xs) b
+  pub run_cut : {X : Type 0} (run : X → List OutputCall) (xs : List X) (i : ℕ) {a b : Driver O} → Drives view keeps a (flat_map run (take i xs)) b → b.refused ≡ true
+      → Drives view keeps a (flat_map run xs) b
   run_cut run xs i d r = driven_cut (flat_map run (drop i xs)) d r (sym (flat_map-append run (take i xs) (drop i xs)) ∙ ap (flat_map run) (take-append-drop i xs))
 
   -- the calls of the other elements of a list, one each

@@ -40,7 +40,13 @@ version_is_text v h = ap is_ok (version_parts-complete (parts_of v) valid)
     after_patch = right_of (nat_lt v.patch (2 ^ 64)) _ after_minor
 
     valid : IsValidVersion (parts_of v)
-    valid = (ltb-true _ _ (left_of _ _ h), ltb-true _ _ (left_of _ _ after_major), ltb-true _ _ (left_of _ _ after_minor), left_of _ _ after_patch, right_of (is_pre_release (pre_text v.pre)) _ after_patch)
+    valid = (
+      ltb-true _ _ (left_of _ _ h),
+      ltb-true _ _ (left_of _ _ after_major),
+      ltb-true _ _ (left_of _ _ after_minor),
+      left_of _ _ after_patch,
+      right_of (is_pre_release (pre_text v.pre)) _ after_patch,
+    )
 
 pub optional_version : (v : Option Version) → passes is_version v ≡ true → is_well_optional is_version_text (optional_version_text v) ≡ true
 optional_version None h = refl

@@ -67,7 +67,8 @@ module _ (n : ℕ) (trees : List TypeTree) where
   all_same [] h = refl
   all_same (t ∷ ts) h = λ i. AndTypes (used_same t (left_of _ _ h) i) (all_same ts (right_of (is_below n t) _ h) i)
 
-  one_same : (o : Option ValueType) (rest : List ValueType) → list_all (is_below n) (option_to_list o ++ rest) ≡ true → (option_map (used_type (take n trees)) o ≡ option_map (used_type trees) o) × (list_all (is_below n) rest ≡ true)
+  one_same : (o : Option ValueType) (rest : List ValueType) → list_all (is_below n) (option_to_list o ++ rest) ≡ true → (option_map (used_type (take n trees)) o ≡ option_map (used_type trees) o)
+      × (list_all (is_below n) rest ≡ true)
   one_same None rest h = (refl, h)
   one_same (Some t) rest h = (ap Some (used_same t (left_of _ _ h)), right_of (is_below n t) _ h)
 
@@ -75,7 +76,8 @@ module _ (n : ℕ) (trees : List TypeTree) where
   payload_same None h = refl
   payload_same (Some t) h = ap Some (used_same t (left_of _ _ h))
 
-  two_same : (a b : Option ValueType) → list_all (is_below n) (option_to_list a ++ option_to_list b) ≡ true → result_tree (option_map (used_type (take n trees)) a) (option_map (used_type (take n trees)) b) ≡ result_tree (option_map (used_type trees) a) (option_map (used_type trees) b)
+  two_same : (a b : Option ValueType) → list_all (is_below n) (option_to_list a ++ option_to_list b) ≡ true
+      → result_tree (option_map (used_type (take n trees)) a) (option_map (used_type (take n trees)) b) ≡ result_tree (option_map (used_type trees) a) (option_map (used_type trees) b)
   two_same a b h =
       let first = one_same a (option_to_list b) h in
       λ i. result_tree (first.0 i) (payload_same b first.1 i)
@@ -156,11 +158,14 @@ module _ (r : Resolve) (trees : List TypeTree) where
   types_whole [] = refl
   types_whole (t ∷ ts) = ap (λ x. type_calls (used_type trees t) ++ x) (more_whole 0 ts)
 
-  result_whole : (ok err : Option ValueType) → (result_start ok err ++ types_from trees 0 (option_to_list ok ++ option_to_list err)) ++ result_end ok err ≡ type_calls (result_tree (option_map (used_type trees) ok) (option_map (used_type trees) err))
+  result_whole : (ok err : Option ValueType)
+      → (result_start ok err ++ types_from trees 0 (option_to_list ok ++ option_to_list err)) ++ result_end ok err ≡ type_calls
+      (result_tree (option_map (used_type trees) ok) (option_map (used_type trees) err))
   result_whole None None = refl
   result_whole None (Some u) = one_part (result_start None (Some u)) (type_calls (used_type trees u)) (result_end None (Some u))
   result_whole (Some t) None = one_part (result_start (Some t) None) (type_calls (used_type trees t)) (result_end (Some t) None)
-  result_whole (Some t) (Some u) = two_parts (result_start (Some t) (Some u)) (type_calls (used_type trees t)) (OutputCall.Str (codes ", ")) (type_calls (used_type trees u)) (result_end (Some t) (Some u))
+  result_whole (Some t) (Some u) = two_parts (result_start (Some t) (Some u)) (type_calls (used_type trees t)) (OutputCall.Str (codes ", ")) (type_calls (used_type trees u))
+      (result_end (Some t) (Some u))
 
   future_whole : (o : Option ValueType) → (kind_start r (defined.Future o) ++ types_from trees 0 (option_to_list o)) ++ carrier_end o ≡ type_calls (future_tree (option_map (used_type trees) o))
   future_whole None = refl
@@ -178,7 +183,8 @@ module _ (r : Resolve) (trees : List TypeTree) where
   kind_whole (defined.Option t) u = one_part (kind_start r (defined.Option t)) (type_calls (used_type trees t)) (kind_end (defined.Option t))
   kind_whole (defined.Result result) u = result_whole result.ok result.err
   kind_whole (defined.List t) u = one_part (kind_start r (defined.List t)) (type_calls (used_type trees t)) (kind_end (defined.List t))
-  kind_whole (defined.Map k v) u = two_parts (kind_start r (defined.Map k v)) (type_calls (used_type trees k)) (OutputCall.Str (codes ", ")) (type_calls (used_type trees v)) (kind_end (defined.Map k v))
+  kind_whole (defined.Map k v) u = two_parts (kind_start r (defined.Map k v)) (type_calls (used_type trees k)) (OutputCall.Str (codes ", ")) (type_calls (used_type trees v))
+      (kind_end (defined.Map k v))
   kind_whole (defined.FixedLengthList t n) u = one_part (kind_start r (defined.FixedLengthList t n)) (type_calls (used_type trees t)) (kind_end (defined.FixedLengthList t n))
   kind_whole (defined.Future o) u = future_whole o
   kind_whole (defined.Stream o) u = stream_whole o
@@ -267,7 +273,8 @@ module _ (r : Resolve) (valid : IsValid r) (id : TypeId) (def : TypeDef) (at : t
   handles_at = go def.kind known.below known.handled_
     where
       go : (k : TypeDefKind) → list_all (λ m. nat_lt m id.0) (kind_numbers k) ≡ true → passes (λ m. is_label (type_name r (record { 0 = m }))) (handled k) ≡ true → handles_label r k ≡ true
-      go (defined.Handle h) b l = both (in_list r.types.items (handle_target h)) _ (lt-ltb _ _ (let m : handle_target h < id.0 = ltb-true _ _ (left_of _ _ b) in let n : id.0 < length r.types.items = within in omega arith)) l
+      go (defined.Handle h) b l = both (in_list r.types.items (handle_target h)) _
+          (lt-ltb _ _ (let m : handle_target h < id.0 = ltb-true _ _ (left_of _ _ b) in let n : id.0 < length r.types.items = within in omega arith)) l
       go (defined.Tuple x) b l = refl
       go (defined.Option x) b l = refl
       go (defined.Result x) b l = refl
@@ -296,7 +303,8 @@ module _ (r : Resolve) (valid : IsValid r) (id : TypeId) (def : TypeDef) (at : t
   pub part_in_range : (n : ℕ) (t : ValueType) → slice_get (member_types def.kind) n ≡ Some t → passes (in_list r.types.items) (number_of t) ≡ true
   part_in_range n t e = below_more id.0 (length r.types.items) within (number_of t) (part_below n t e)
 
-  def_same : (trees : List TypeTree) (name : Option (String Global)) → def.name ≡ name → option_map_or (λ s. Name (text_of s)) name (kind_tree r (take id.0 trees) def.kind) ≡ option_map_or (λ s. Name (text_of s)) name (kind_tree r trees def.kind)
+  def_same : (trees : List TypeTree) (name : Option (String Global)) → def.name ≡ name
+      → option_map_or (λ s. Name (text_of s)) name (kind_tree r (take id.0 trees) def.kind) ≡ option_map_or (λ s. Name (text_of s)) name (kind_tree r trees def.kind)
   def_same trees None e = kind_same id.0 trees r def.kind (no_named_kind e) members_below
   def_same trees (Some s) e = refl
 
@@ -331,7 +339,8 @@ module _ (r : Resolve) (valid : IsValid r) (id : TypeId) (def : TypeDef) (at : t
   kind_calls_at h = kind_whole r (type_trees r) def.kind (kind_at h) ∙ sym (ap (λ o. option_map_or (λ d. type_calls (kind_tree r (type_trees r) d.kind)) o []) at)
 
 -- the types from a number on begin with the next
-pub types_next : (trees : List TypeTree) (ts : List ValueType) (n : ℕ) (t : ValueType) → slice_get ts n ≡ Some t → types_from trees n (drop n ts) ≡ (comma_calls n ++ type_calls (used_type trees t)) ++ types_from trees (n + 1) (drop (n + 1) ts)
+pub types_next : (trees : List TypeTree) (ts : List ValueType) (n : ℕ) (t : ValueType) → slice_get ts n ≡ Some t
+    → types_from trees n (drop n ts) ≡ (comma_calls n ++ type_calls (used_type trees t)) ++ types_from trees (n + 1) (drop (n + 1) ts)
 types_next trees ts n t e =
     rw (add-one, drop_at ts n t e) (sym (append_assoc (comma_calls n) (type_calls (used_type trees t)) (types_from trees (suc n) (drop (suc n) ts))))
   where

@@ -46,7 +46,8 @@ pub below_of_numbers : (n : ℕ) (ts : List ValueType) (rest : List ℕ) → lis
 below_of_numbers n [] rest h = refl
 below_of_numbers n (t ∷ ts) rest h = let p = go (number_of t) h in both (is_below n t) _ p.0 (below_of_numbers n ts rest p.1)
   where
-    go : (o : Option ℕ) → list_all (λ m. nat_lt m n) (Rattle.std.specs.List.cons_option o (filter_map number_of ts) ++ rest) ≡ true → (passes (λ m. nat_lt m n) o ≡ true) × (list_all (λ m. nat_lt m n) (filter_map number_of ts ++ rest) ≡ true)
+    go : (o : Option ℕ) → list_all (λ m. nat_lt m n) (Rattle.std.specs.List.cons_option o (filter_map number_of ts) ++ rest) ≡ true → (passes (λ m. nat_lt m n) o ≡ true)
+        × (list_all (λ m. nat_lt m n) (filter_map number_of ts ++ rest) ≡ true)
     go None g = (refl, g)
     go (Some m) g = (left_of _ _ g, right_of (nat_lt m n) _ g)
 
@@ -89,14 +90,16 @@ module _ (trees : List TypeTree) (well : list_all is_well_type trees ≡ true) w
   stream_well None h = refl
   stream_well (Some t) h = used_well t (left_of _ _ h)
 
-  result_well : (ok err : Option ValueType) → list_all (is_below (length trees)) (option_to_list ok ++ option_to_list err) ≡ true → is_well_type (result_tree (option_map (used_type trees) ok) (option_map (used_type trees) err)) ≡ true
+  result_well : (ok err : Option ValueType) → list_all (is_below (length trees)) (option_to_list ok ++ option_to_list err) ≡ true
+      → is_well_type (result_tree (option_map (used_type trees) ok) (option_map (used_type trees) err)) ≡ true
   result_well None None h = refl
   result_well (Some t) None h = used_well t (left_of _ _ h)
   result_well None (Some u) h = used_well u (left_of _ _ h)
   result_well (Some t) (Some u) h = both (is_well_type (used_type trees t)) _ (used_well t (left_of _ _ h)) (used_well u (left_of _ _ (right_of (is_below (length trees) t) _ h)))
 
   -- A kind without a name of its own, whose parts stand before it, is shown well.
-  pub kind_well : (r : Resolve) (k : TypeDefKind) → list_all (λ m. nat_lt m (length trees)) (kind_numbers k) ≡ true → has_shape k ≡ true → is_named_kind k ≡ false → passes (λ m. is_label (type_name r (record { 0 = m }))) (handled k) ≡ true → is_well_type (kind_tree r trees k) ≡ true
+  pub kind_well : (r : Resolve) (k : TypeDefKind) → list_all (λ m. nat_lt m (length trees)) (kind_numbers k) ≡ true → has_shape k ≡ true → is_named_kind k ≡ false
+      → passes (λ m. is_label (type_name r (record { 0 = m }))) (handled k) ≡ true → is_well_type (kind_tree r trees k) ≡ true
   kind_well r (defined.Handle (handle.Own id)) b s n h = h
   kind_well r (defined.Handle (handle.Borrow id)) b s n h = h
   kind_well r (defined.Tuple tuple) b s n h = some_well tuple.types.items s (below_of_numbers (length trees) tuple.types.items [] b)
@@ -131,19 +134,22 @@ def_well r trees def well h = go def.name h.label h.named
     no_kind true e = absurd cc
     no_kind false e = refl
 
-    go : (name : Option (String Global)) → passes (λ s. is_label (text_of s)) name ≡ true → (not (is_named_kind def.kind) || is_some name) ≡ true → is_well_type (option_map_or (λ s. Name (text_of s)) name (kind_tree r trees def.kind)) ≡ true
+    go : (name : Option (String Global)) → passes (λ s. is_label (text_of s)) name ≡ true → (not (is_named_kind def.kind) || is_some name) ≡ true
+        → is_well_type (option_map_or (λ s. Name (text_of s)) name (kind_tree r trees def.kind)) ≡ true
     go (Some s) label named = label
     go None label named = kind_well trees well r def.kind h.below h.shape (no_kind _ named) h.handled_
 
 -- The trees of type numbers from the front are well named.
-pub trees_well : (r : Resolve) (trees : List TypeTree) (defs : List TypeDef) → list_all is_well_type trees ≡ true → ((k : ℕ) (def : TypeDef) → slice_get defs k ≡ Some def → IsShownType r (length trees + k) def) → list_all is_well_type (trees_from r trees defs) ≡ true
+pub trees_well : (r : Resolve) (trees : List TypeTree) (defs : List TypeDef) → list_all is_well_type trees ≡ true
+    → ((k : ℕ) (def : TypeDef) → slice_get defs k ≡ Some def → IsShownType r (length trees + k) def) → list_all is_well_type (trees_from r trees defs) ≡ true
 trees_well r trees [] well each = well
 trees_well r trees (def ∷ defs) well each =
     let now : length trees + 0 ≡ length trees = omega arith in
     let one = def_well r trees def well (subst (λ n. IsShownType r n def) now (each 0 def refl)) in
     trees_well r (trees ++ def_tree r trees def ∷ []) defs
     (list_all-append is_well_type trees (def_tree r trees def ∷ []) ∙ both (list_all is_well_type trees) _ well (both (is_well_type (def_tree r trees def)) _ one refl))
-    (λ k d e. let next : length trees + suc k ≡ length (trees ++ def_tree r trees def ∷ []) + k = omega (arith, length-append trees (def_tree r trees def ∷ [])) in subst (λ n. IsShownType r n d) next (each (suc k) d e))
+    (λ k d e. let next : length trees + suc k ≡ length (trees ++ def_tree r trees def ∷ []) + k = omega (arith, length-append trees (def_tree r trees def ∷ [])) in
+    subst (λ n. IsShownType r n d) next (each (suc k) d e))
 
 -- as many trees as type numbers
 pub trees_count : (r : Resolve) (trees : List TypeTree) (defs : List TypeDef) → length (trees_from r trees defs) ≡ length trees + length defs
@@ -201,7 +207,8 @@ module _ (r : Resolve) (valid : IsValid r) where
       has_name true b q h = h
       has_name false b q h = absurd cc
 
-      go : (o : Option TypeDef) → type_at r n ≡ o → option_map_or (λ def. is_resource_kind (ends_in_resource r steps) def.kind) o false ≡ true → is_label (option_map_or (λ def. present_name def.name) o []) ≡ true
+      go : (o : Option TypeDef) → type_at r n ≡ o → option_map_or (λ def. is_resource_kind (ends_in_resource r steps) def.kind) o false ≡ true
+          → is_label (option_map_or (λ def. present_name def.name) o []) ≡ true
       go None e g = absurd cc
       go (Some def) e g = name_well n def e (has_name (is_named_kind def.kind) (is_some def.name) (resource_kind (ends_in_resource r steps) def.kind g) (name_of_kind n def e))
 

@@ -72,7 +72,8 @@ abbrev pub static_start_calls : Text → List OutputCall
 static_start_calls name = Ty (escaped name) kind.FunctionStatic ∷ Str (codes ": ") ∷ Keyword (codes "static") ∷ space ∷ []
 
 abbrev pub static_calls : Text → SignatureTree → List OutputCall
-static_calls name signature = Ty (escaped name) kind.FunctionStatic ∷ Str (codes ": ") ∷ Keyword (codes "static") ∷ space ∷ (signature_calls signature ++ (Semicolon ∷ []))
+static_calls name signature = Ty (escaped name) kind.FunctionStatic ∷ Str (codes ": ") ∷ Keyword (codes "static") ∷ space
+    ∷ (signature_calls signature ++ (Semicolon ∷ []))
 
 abbrev pub constructor_calls : List ParamTree → Option TypeTree → List OutputCall
 constructor_calls params result = Keyword (codes "constructor") ∷ (params_calls params result ++ (Semicolon ∷ []))

@@ -392,7 +392,8 @@ shown_function resolve f = FunctionMember (function_prefix f) (text_of f.name) (
 -- An interface: uses, then declared types, then functions.
 abbrev pub shown_interface : Resolve → InterfaceId → Interface → List MemberTree
 shown_interface resolve id interface =
-    map (λ used. UseMember used.prefix (path_from_owner resolve interface.«package» used.interface) used.names) (shown_uses resolve (owner.Interface id) (listed_types interface))
+    map (λ used. UseMember used.prefix (path_from_owner resolve interface.«package» used.interface) used.names)
+    (shown_uses resolve (owner.Interface id) (listed_types interface))
     ++ map (λ d. TypeMember d.prefix d.declared) (shown_declarations resolve (owner.Interface id) (listed_functions interface) (listed_types interface))
     ++ map (shown_function resolve) (filter (λ f. is_freestanding f.kind) (listed_functions interface))
 
@@ -479,7 +480,8 @@ shown_world resolve id world = option_map_or (shown_world_in resolve id world) w
 -- a package's interface, under its name
 abbrev pub shown_interface_item : Resolve → String Global × InterfaceId → Option ItemTree
 shown_interface_item resolve entry =
-    option_map (λ i. InterfaceItem (shown_docs i.docs) (shown_gates i.stability) (text_of entry.0) (shown_interface resolve entry.1 i)) (interface_at resolve entry.1.0)
+    option_map (λ i. InterfaceItem (shown_docs i.docs) (shown_gates i.stability) (text_of entry.0) (shown_interface resolve entry.1 i))
+    (interface_at resolve entry.1.0)
 
 -- a package's world, under its name
 abbrev pub shown_world_item : Resolve → String Global × WorldId → Option ItemTree
@@ -488,7 +490,13 @@ shown_world_item resolve entry =
 
 -- a package's documentation and name
 abbrev pub shown_head : Package → PackageHead
-shown_head p = record { docs = shown_docs p.docs; namespace = text_of p.name.namespace; name = text_of p.name.name; version = optional_version_text p.name.version }
+shown_head p = record {
+  docs = shown_docs p.docs;
+  namespace = text_of p.name.namespace;
+  name = text_of p.name.name;
+  version =
+      optional_version_text p.name.version;
+}
 
 -- A package: its interfaces, and then its worlds.
 abbrev pub shown_package_of : Resolve → Package → PackageTree

@@ -52,7 +52,8 @@ module _ (r : Resolve) (o : TypeOwner) where
   own_alone fs t = ap (λ own. own_members own t) (filter_twice (belongs_to t.id) fs)
 
   -- types with the functions by their resources are types with all functions
-  pub declared_by_resource : (entries : Functions) (fs : List Function) → ((id : TypeId) → functions_under entries id ≡ filter (belongs_to id) fs) → (types : List Listed) → given_declarations r o entries types ≡ declared_members r o fs types
+  pub declared_by_resource : (entries : Functions) (fs : List Function) → ((id : TypeId) → functions_under entries id ≡ filter (belongs_to id) fs) → (types : List Listed)
+      → given_declarations r o entries types ≡ declared_members r o fs types
   declared_by_resource entries fs same [] = refl
   declared_by_resource entries fs same (t ∷ ts) =
       ap (λ ms. ms ++ given_declarations r o entries ts) (ap (λ gs. listed_declaration r o gs t) (same t.id) ∙ own_alone fs t)

@@ -26,18 +26,23 @@ use Rattle.base_lemmas.proofs.Elements.{all_weaker as weaker_all}
 
 -- one function in its block
 pub function_alone : (emits printed : Bool) (r : Resolve) (f : Function)
-    → line_between printed ++ (prefix_calls emits (function_prefix f) ++ named_calls (text_of f.name) FunctionFreestanding (shown_signature r f)) ≡ members_calls emits printed (shown_function r f ∷ [])
+    → line_between printed ++ (prefix_calls emits (function_prefix f) ++ named_calls (text_of f.name) FunctionFreestanding (shown_signature r f)) ≡ members_calls emits printed
+    (shown_function r f ∷ [])
 function_alone emits true r f = sym (append-nil _)
 function_alone emits false r f = sym (append-nil _)
 
 -- one function and then others
-one_and_more : (emits printed : Bool) (r : Resolve) (f : Function) (ms : List MemberTree) → members_calls emits printed (shown_function r f ∷ ms) ≡ members_calls emits printed (shown_function r f ∷ []) ++ members_calls emits true ms
-one_and_more emits true r f ms = ap (λ x. x ++ members_calls emits true ms) (sym (append-nil (item_calls true (function_calls emits (function_prefix f) (text_of f.name) FunctionFreestanding (shown_signature r f)))))
-one_and_more emits false r f ms = ap (λ x. x ++ members_calls emits true ms) (sym (append-nil (item_calls false (function_calls emits (function_prefix f) (text_of f.name) FunctionFreestanding (shown_signature r f)))))
+one_and_more : (emits printed : Bool) (r : Resolve) (f : Function) (ms : List MemberTree)
+    → members_calls emits printed (shown_function r f ∷ ms) ≡ members_calls emits printed (shown_function r f ∷ []) ++ members_calls emits true ms
+one_and_more emits true r f ms = ap (λ x. x ++ members_calls emits true ms)
+    (sym (append-nil (item_calls true (function_calls emits (function_prefix f) (text_of f.name) FunctionFreestanding (shown_signature r f)))))
+one_and_more emits false r f ms = ap (λ x. x ++ members_calls emits true ms)
+    (sym (append-nil (item_calls false (function_calls emits (function_prefix f) (text_of f.name) FunctionFreestanding (shown_signature r f)))))
 
 module _ (emits printed : Bool) (r : Resolve) (e : String Global × Function) (es : List (String Global × Function)) where
   -- a freestanding function is next
-  pub next_shown : is_freestanding e.1.kind ≡ true → members_calls emits printed (shown_functions r (e ∷ es)) ≡ members_calls emits printed (shown_function r e.1 ∷ []) ++ members_calls emits true (shown_functions r es)
+  pub next_shown : is_freestanding e.1.kind ≡ true
+      → members_calls emits printed (shown_functions r (e ∷ es)) ≡ members_calls emits printed (shown_function r e.1 ∷ []) ++ members_calls emits true (shown_functions r es)
   next_shown h = rw h (one_and_more emits printed r e.1 (shown_functions r es))
 
   -- a function of a resource is left out

@@ -44,17 +44,20 @@ after_true (x ∷ xs) = refl
 
 module _ (emits : Bool) (r : Resolve) (here : PackageId) where
   entries_calls : (printed : Bool) (xs : List Entry) (rest : List WorldMember)
-      → world_members_calls emits printed false (map (shown_import r here) xs ++ rest) ≡ flat_map (entry_calls emits r here (codes "import")) xs ++ world_members_calls emits (shown_after printed xs) false rest
+      → world_members_calls emits printed false (map (shown_import r here) xs ++ rest) ≡ flat_map (entry_calls emits r here (codes "import")) xs ++ world_members_calls emits
+      (shown_after printed xs) false rest
   entries_calls printed [] rest = refl
   entries_calls printed (x ∷ xs) rest =
-      ap (λ calls. entry_calls emits r here (codes "import") x ++ calls) (entries_calls true xs rest ∙ ap (λ b. flat_map (entry_calls emits r here (codes "import")) xs ++ world_members_calls emits b false rest) (after_true xs))
+      ap (λ calls. entry_calls emits r here (codes "import") x ++ calls)
+      (entries_calls true xs rest ∙ ap (λ b. flat_map (entry_calls emits r here (codes "import")) xs ++ world_members_calls emits b false rest) (after_true xs))
       ∙ sym (append_assoc (entry_calls emits r here (codes "import") x) (flat_map (entry_calls emits r here (codes "import")) xs) (world_members_calls emits true false rest))
 
   more_exports : (ys : List Entry) → world_members_calls emits true true (map (shown_export r here) ys) ≡ flat_map (entry_calls emits r here (codes "export")) ys
   more_exports [] = refl
   more_exports (y ∷ ys) = ap (λ calls. entry_calls emits r here (codes "export") y ++ calls) (more_exports ys)
 
-  exports_after : (printed : Bool) (ys : List Entry) → world_members_calls emits printed false (map (shown_export r here) ys) ≡ line_between (printed && has_items ys) ++ flat_map (entry_calls emits r here (codes "export")) ys
+  exports_after : (printed : Bool) (ys : List Entry)
+      → world_members_calls emits printed false (map (shown_export r here) ys) ≡ line_between (printed && has_items ys) ++ flat_map (entry_calls emits r here (codes "export")) ys
   exports_after true [] = refl
   exports_after false [] = refl
   exports_after true (y ∷ ys) = ap (λ calls. (OutputCall.Newline ∷ entry_calls emits r here (codes "export") y) ++ calls) (more_exports ys)
@@ -65,7 +68,8 @@ module _ (emits : Bool) (r : Resolve) (here : PackageId) where
   kept_runs run test [] = refl
   kept_runs run test (x ∷ xs) = go (test x) (kept_runs run test xs)
     where
-      go : (b : Bool) → flat_map run (filter test xs) ≡ flat_map (λ e. if test e then run e else []) xs → flat_map run (cond b (x ∷ filter test xs) (filter test xs)) ≡ (if b then run x else []) ++ flat_map (λ e. if test e then run e else []) xs
+      go : (b : Bool) → flat_map run (filter test xs) ≡ flat_map (λ e. if test e then run e else []) xs
+          → flat_map run (cond b (x ∷ filter test xs) (filter test xs)) ≡ (if b then run x else []) ++ flat_map (λ e. if test e then run e else []) xs
       go true rest = ap (λ calls. run x ++ calls) rest
       go false rest = rest
 
@@ -76,7 +80,8 @@ module _ (emits : Bool) (r : Resolve) (here : PackageId) where
   -- uses and declared types of a world are those of an interface
   world_uses : (printed : Bool) (us : List Used) (rest : List WorldMember)
       → world_members_calls emits printed false (map (λ used. WorldUse used.prefix (shown_path r here used.interface) used.names) us ++ rest)
-      ≡ members_calls emits printed (map (λ used. UseMember used.prefix (shown_path r here used.interface) used.names) us) ++ world_members_calls emits (printed_after printed (map (λ used. UseMember used.prefix (shown_path r here used.interface) used.names) us)) false rest
+      ≡ members_calls emits printed (map (λ used. UseMember used.prefix (shown_path r here used.interface) used.names) us) ++ world_members_calls emits
+      (printed_after printed (map (λ used. UseMember used.prefix (shown_path r here used.interface) used.names) us)) false rest
   world_uses printed [] rest = refl
   world_uses printed (u ∷ us) rest =
       let ms = map (λ used. UseMember used.prefix (shown_path r here used.interface) used.names) us in
@@ -116,7 +121,9 @@ members_shown emits r id w here =
     ap (world_members_calls emits false false)
     (five (map (shown_import r here) interfaces) (map (λ used. WorldUse used.prefix (shown_path r here used.interface) used.names) us) (map (λ d. WorldType d.prefix d.declared) ds) calls ends)
     ∙ entries_calls emits r here false interfaces _
-    ∙ ap (λ b. flat_map run interfaces ++ world_members_calls emits b false (map (λ used. WorldUse used.prefix (shown_path r here used.interface) used.names) us ++ (map (λ d. WorldType d.prefix d.declared) ds ++ (calls ++ ends)))) (shown_after_is emits r here false interfaces)
+    ∙ ap (λ b. flat_map run interfaces ++ world_members_calls emits b false
+    (map (λ used. WorldUse used.prefix (shown_path r here used.interface) used.names) us ++ (map (λ d. WorldType d.prefix d.declared) ds ++ (calls ++ ends))))
+    (shown_after_is emits r here false interfaces)
     ∙ ap (λ x. flat_map run interfaces ++ x)
     (world_uses emits r here p us (map (λ d. WorldType d.prefix d.declared) ds ++ (calls ++ ends))
     ∙ ap (λ x. members_calls emits p uses ++ x)
@@ -124,7 +131,8 @@ members_shown emits r id w here =
     ∙ ap (λ x. members_calls emits (printed_after p uses) declared ++ x)
     (entries_calls emits r here (printed_after (printed_after p uses) declared) functions ends
     ∙ ap (λ x. flat_map run functions ++ x)
-    (ap (λ b. world_members_calls emits b false ends) (shown_after_is emits r here (printed_after (printed_after p uses) declared) functions ∙ ap (λ b. b || has_items functions) (sym (printed_append p uses declared)))
+    (ap (λ b. world_members_calls emits b false ends) (shown_after_is emits r here (printed_after (printed_after p uses) declared) functions ∙ ap (λ b. b || has_items functions)
+    (sym (printed_append p uses declared)))
     ∙ exports_after emits r here (printed_imports r here id w) w.exports.entries)))
     ∙ sym (append_assoc (members_calls emits p uses) (members_calls emits (printed_after p uses) declared) (flat_map run functions ++ tail))
     ∙ ap (λ x. x ++ (flat_map run functions ++ tail)) (sym (members_append emits p uses declared))
@@ -160,21 +168,26 @@ shown_calls emits r here name id w h =
     ap (λ o. world_members_calls emits false false (option_map_or (shown_world_in r id w) o [])) h.package_ ∙ members_shown emits r id w here in
     let front : List OutputCall = doc_calls emits (shown_docs w.docs) ++ gates_calls (shown_gates w.stability) in
     ap (λ calls. front ++ block_calls (codes "world") name WorldDeclaration calls) inner
-    ∙ sym (append_assoc front (OutputCall.Keyword (codes "world") ∷ space ∷ OutputCall.Ty (escaped name) WorldDeclaration ∷ OutputCall.IndentStart ∷ []) (world_body_calls emits r here id w ++ (OutputCall.IndentEnd ∷ [])))
+    ∙ sym (append_assoc front (OutputCall.Keyword (codes "world") ∷ space ∷ OutputCall.Ty (escaped name) WorldDeclaration ∷ OutputCall.IndentStart ∷ [])
+    (world_body_calls emits r here id w ++ (OutputCall.IndentEnd ∷ [])))
 
 -- the calls for a world of a package, where it stands in its list
-pub calls_listed : (emits : Bool) (r : Resolve) (here : PackageId) (entry : String Global × WorldId) (w : World) → world_at r entry.1.0 ≡ Some w → IsPrintableWorld r here entry.1 w → world_calls emits r here (text_of entry.0) entry.1 w ≡ listed_calls emits r entry
+pub calls_listed : (emits : Bool) (r : Resolve) (here : PackageId) (entry : String Global × WorldId) (w : World) → world_at r entry.1.0 ≡ Some w → IsPrintableWorld r here entry.1 w
+    → world_calls emits r here (text_of entry.0) entry.1 w ≡ listed_calls emits r entry
 calls_listed emits r here entry w e h = rw e (sym (shown_calls emits r here (text_of entry.0) entry.1 w h))
 
 -- ---- packages
 
-given_calls : (emits main : Bool) (o : Option World) (show : World → ItemTree) (same : (w : World) → package_item_calls emits main (show w) ≡ package_item_calls emits false (show w)) (items : List ItemTree) (rest : List OutputCall)
+given_calls : (emits main : Bool) (o : Option World) (show : World → ItemTree) (same : (w : World) → package_item_calls emits main (show w) ≡ package_item_calls emits false (show w))
+    (items : List ItemTree) (rest : List OutputCall)
     → flat_map (package_item_calls emits main) items ≡ rest
     → flat_map (package_item_calls emits main) (cons_option (option_map show o) items) ≡ option_map_or (package_item_calls emits false) (option_map show o) [] ++ rest
 given_calls emits main None show same items rest e = e
-given_calls emits main (Some w) show same items rest e = ap (λ calls. calls ++ flat_map (package_item_calls emits main) items) (same w) ∙ ap (λ calls. package_item_calls emits false (show w) ++ calls) e
+given_calls emits main (Some w) show same items rest e = ap (λ calls. calls ++ flat_map (package_item_calls emits main) items) (same w) ∙ ap
+    (λ calls. package_item_calls emits false (show w) ++ calls) e
 
-worlds_shown : (emits main : Bool) (r : Resolve) (entries : List (String Global × WorldId)) → flat_map (package_item_calls emits main) (filter_map (shown_world_item r) entries) ≡ flat_map (listed_calls emits r) entries
+worlds_shown : (emits main : Bool) (r : Resolve) (entries : List (String Global × WorldId))
+    → flat_map (package_item_calls emits main) (filter_map (shown_world_item r) entries) ≡ flat_map (listed_calls emits r) entries
 worlds_shown emits main r [] = refl
 worlds_shown emits main r (x ∷ xs) = given_calls emits main (world_at r x.1.0) _ (λ w. refl) (filter_map (shown_world_item r) xs) _ (worlds_shown emits main r xs)
 
@@ -183,23 +196,27 @@ given_items : (emits main : Bool) (o : Option ItemTree) (items : List ItemTree) 
 given_items emits main None items rest e = e
 given_items emits main (Some i) items rest e = ap (λ calls. package_item_calls emits main i ++ calls) e
 
-interfaces_shown : (emits main : Bool) (r : Resolve) (entries : List (String Global × InterfaceId)) → flat_map (package_item_calls emits main) (filter_map (shown_interface_item r) entries) ≡ flat_map (listed_interface_calls emits main r) entries
+interfaces_shown : (emits main : Bool) (r : Resolve) (entries : List (String Global × InterfaceId))
+    → flat_map (package_item_calls emits main) (filter_map (shown_interface_item r) entries) ≡ flat_map (listed_interface_calls emits main r) entries
 interfaces_shown emits main r [] = refl
 interfaces_shown emits main r (x ∷ xs) = given_items emits main (shown_interface_item r x) (filter_map (shown_interface_item r) xs) _ (interfaces_shown emits main r xs)
 
 -- the calls for what a package has
 items_shown : (emits main : Bool) (r : Resolve) (interfaces : List (String Global × InterfaceId)) (worlds : List (String Global × WorldId))
-    → flat_map (package_item_calls emits main) (filter_map (shown_interface_item r) interfaces ++ filter_map (shown_world_item r) worlds) ≡ flat_map (listed_interface_calls emits main r) interfaces ++ flat_map (listed_calls emits r) worlds
+    → flat_map (package_item_calls emits main) (filter_map (shown_interface_item r) interfaces ++ filter_map (shown_world_item r) worlds) ≡ flat_map (listed_interface_calls emits main r) interfaces
+    ++ flat_map (listed_calls emits r) worlds
 items_shown emits main r interfaces worlds =
     flat_map-append (package_item_calls emits main) (filter_map (shown_interface_item r) interfaces) (filter_map (shown_world_item r) worlds)
     ∙ ap (λ calls. calls ++ flat_map (package_item_calls emits main) (filter_map (shown_world_item r) worlds)) (interfaces_shown emits main r interfaces)
     ∙ ap (λ calls. flat_map (listed_interface_calls emits main r) interfaces ++ calls) (worlds_shown emits main r worlds)
 
 -- a world of a list that can be printed is there
-pub listed_world : (r : Resolve) (here : PackageId) (entry : String Global × WorldId) → is_printable_listed r here entry ≡ true → (w : World) × (world_at r entry.1.0 ≡ Some w) × IsPrintableWorld r here entry.1 w
+pub listed_world : (r : Resolve) (here : PackageId) (entry : String Global × WorldId) → is_printable_listed r here entry ≡ true → (w : World) × (world_at r entry.1.0 ≡ Some w)
+    × IsPrintableWorld r here entry.1 w
 listed_world r here entry h = go (world_at r entry.1.0) refl (second_true (is_label (text_of entry.0)) _ h)
   where
-    go : (o : Option World) → world_at r entry.1.0 ≡ o → option_map_or (is_printable_world r here entry.1) o false ≡ true → (w : World) × (world_at r entry.1.0 ≡ Some w) × IsPrintableWorld r here entry.1 w
+    go : (o : Option World) → world_at r entry.1.0 ≡ o → option_map_or (is_printable_world r here entry.1) o false ≡ true → (w : World) × (world_at r entry.1.0 ≡ Some w)
+        × IsPrintableWorld r here entry.1 w
     go None e k = absurd cc
     go (Some w) e k = (w, e, printable_world r here entry.1 w k)
 
@@ -210,23 +227,27 @@ read_is (y ∷ ys) zero d x e = cc
 read_is (y ∷ ys) (suc n) d x e = read_is ys n d x e
 
 -- the world that was read is that of the entry, and can be printed
-pub listed_at : (r : Resolve) (here : PackageId) (entry : String Global × WorldId) (w : World) → w ≡ get_or r.worlds.items entry.1.0 w → is_printable_listed r here entry ≡ true → (world_at r entry.1.0 ≡ Some w) × IsPrintableWorld r here entry.1 w
+pub listed_at : (r : Resolve) (here : PackageId) (entry : String Global × WorldId) (w : World) → w ≡ get_or r.worlds.items entry.1.0 w → is_printable_listed r here entry ≡ true
+    → (world_at r entry.1.0 ≡ Some w) × IsPrintableWorld r here entry.1 w
 listed_at r here entry w e h =
     let found = listed_world r here entry h in
     let same : found.0 ≡ w = sym (e ∙ read_is r.worlds.items entry.1.0 w found.0 found.1) in
     (found.1 ∙ ap Some same, subst (IsPrintableWorld r here entry.1) same found.2)
 
-pub calls_at : (emits : Bool) (r : Resolve) (here : PackageId) (entry : String Global × WorldId) (w : World) (name : Text) → name ≡ text_of entry.0 → w ≡ get_or r.worlds.items entry.1.0 w → is_printable_listed r here entry ≡ true
+pub calls_at : (emits : Bool) (r : Resolve) (here : PackageId) (entry : String Global × WorldId) (w : World) (name : Text) → name ≡ text_of entry.0 → w ≡ get_or r.worlds.items entry.1.0 w
+    → is_printable_listed r here entry ≡ true
     → world_calls emits r here name entry.1 w ≡ listed_calls emits r entry
 calls_at emits r here entry w name n e h =
     let at = listed_at r here entry w e h in
     ap (λ text. world_calls emits r here text entry.1 w) n ∙ calls_listed emits r here entry w at.0 at.1
 
 -- the gates and the name of an interface that can be printed
-pub listed_interface_well : (r : Resolve) (entry : String Global × InterfaceId) (i : Interface) → interface_at r entry.1.0 ≡ Some i → is_printable_interface r entry ≡ true → (is_well_gates (shown_gates i.stability) && is_label (text_of entry.0)) ≡ true
+pub listed_interface_well : (r : Resolve) (entry : String Global × InterfaceId) (i : Interface) → interface_at r entry.1.0 ≡ Some i → is_printable_interface r entry ≡ true
+    → (is_well_gates (shown_gates i.stability) && is_label (text_of entry.0)) ≡ true
 listed_interface_well r entry i e h =
     let item : is_well_item (ItemTree.InterfaceItem (shown_docs i.docs) (shown_gates i.stability) (text_of entry.0) (shown_interface r entry.1 i)) ≡ true =
-    subst (λ o. passes is_well_item (option_map (λ x. ItemTree.InterfaceItem (shown_docs x.docs) (shown_gates x.stability) (text_of entry.0) (shown_interface r entry.1 x)) o) ≡ true) e (second_true (in_list r.interfaces.items entry.1.0) _ h) in
+    subst (λ o. passes is_well_item (option_map (λ x. ItemTree.InterfaceItem (shown_docs x.docs) (shown_gates x.stability) (text_of entry.0) (shown_interface r entry.1 x)) o) ≡ true) e
+    (second_true (in_list r.interfaces.items entry.1.0) _ h) in
     let rest = second_true (list_all is_one_line (shown_docs i.docs)) _ item in
     rw (first_true (is_well_gates (shown_gates i.stability)) _ rest, first_true (is_label (text_of entry.0)) _ (second_true (is_well_gates (shown_gates i.stability)) _ rest)) refl
 
@@ -245,7 +266,8 @@ package_shown emits main r p =
     ∙ sym (append_assoc start (interfaces ++ worlds) (package_end_calls main))
     ∙ ap (λ items. (start ++ items) ++ package_end_calls main) (sym (items_shown emits main r p.interfaces.entries p.worlds.entries))
 
-pub package_shown_at : (emits main : Bool) (r : Resolve) (id : PackageId) (p : Package) → package_at r id.0 ≡ Some p → listed_package_calls emits main r p ≡ package_calls emits main (shown_package r id)
+pub package_shown_at : (emits main : Bool) (r : Resolve) (id : PackageId) (p : Package) → package_at r id.0 ≡ Some p
+    → listed_package_calls emits main r p ≡ package_calls emits main (shown_package r id)
 package_shown_at emits main r id p e = rw e (package_shown emits main r p)
 
 -- nested packages, each after two line ends
@@ -254,7 +276,8 @@ more_nested emits r [] = refl
 more_nested emits r (id ∷ ids) = ap (λ calls. next_package_calls emits r id ++ calls) (more_nested emits r ids)
 
 -- the first nested package and the others
-pub nested_shown : (emits : Bool) (r : Resolve) (id : PackageId) (ids : List PackageId) → package_calls emits false (shown_package r id) ++ flat_map (next_package_calls emits r) ids ≡ nested_calls emits (map (shown_package r) (id ∷ ids))
+pub nested_shown : (emits : Bool) (r : Resolve) (id : PackageId) (ids : List PackageId)
+    → package_calls emits false (shown_package r id) ++ flat_map (next_package_calls emits r) ids ≡ nested_calls emits (map (shown_package r) (id ∷ ids))
 nested_shown emits r id ids = ap (λ calls. package_calls emits false (shown_package r id) ++ calls) (more_nested emits r ids)
 
 pub no_nested : (emits : Bool) (r : Resolve) (ids : List PackageId) → length ids ≡ 0 → nested_calls emits (map (shown_package r) ids) ≡ []

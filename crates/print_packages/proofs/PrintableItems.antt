@@ -35,7 +35,8 @@ module _ (r : Resolve) (here : PackageId) where
 
   -- ---- interfaces
 
-  module _ (k : WorldKey) (i : WorldItem) (id : InterfaceId) (gates : Stability) (docs : Docs) (external_id : Option (String Global)) (is : i ≡ item.Interface id gates docs external_id) (h : is_printable_entry r here (k, i) ≡ true) where
+  module _ (k : WorldKey) (i : WorldItem) (id : InterfaceId) (gates : Stability) (docs : Docs) (external_id : Option (String Global)) (is : i ≡ item.Interface id gates docs external_id)
+      (h : is_printable_entry r here (k, i) ≡ true) where
     known : is_printable_entry r here (k, item.Interface id gates docs external_id) ≡ true
     known = subst (λ j. is_printable_entry r here (k, j) ≡ true) is h
 
@@ -50,20 +51,23 @@ module _ (r : Resolve) (here : PackageId) where
       pub prefix_well : is_well_prefix (shown_prefix given gates external_id) ≡ true
       prefix_well = subst (λ p. is_well_prefix p ≡ true) (sym prefix_is) (left_of _ _ (well_of k (item.Interface id gates docs external_id) known))
 
-      pub keyed_calls : (emits : Bool) (word : Text) (m : InterfaceId) → k ≡ key.Interface m → world_extern_calls emits (shown_prefix given gates external_id) word (Path (shown_path r here m)) ≡ entry_calls emits r here word (k, i)
+      pub keyed_calls : (emits : Bool) (word : Text) (m : InterfaceId) → k ≡ key.Interface m
+          → world_extern_calls emits (shown_prefix given gates external_id) word (Path (shown_path r here m)) ≡ entry_calls emits r here word (k, i)
       keyed_calls emits word m e =
           ap (λ p. world_extern_calls emits p word (Path (shown_path r here m))) (prefix_is ∙ ap (λ l. extern_prefix r l (item.Interface id gates docs external_id)) e)
           ∙ sym (ap (λ l. entry_calls emits r here word (l, item.Interface id gates docs external_id)) e)
           ∙ sym (ap (λ j. entry_calls emits r here word (k, j)) is)
 
-      pub labelled_calls : (emits : Bool) (word : Text) (s : String Global) → k ≡ key.Name s → world_extern_calls emits (shown_prefix given gates external_id) word (labelled_tree r here (text_of s) id) ≡ entry_calls emits r here word (k, i)
+      pub labelled_calls : (emits : Bool) (word : Text) (s : String Global) → k ≡ key.Name s
+          → world_extern_calls emits (shown_prefix given gates external_id) word (labelled_tree r here (text_of s) id) ≡ entry_calls emits r here word (k, i)
       labelled_calls emits word s e =
           ap (λ p. world_extern_calls emits p word (labelled_tree r here (text_of s) id)) (prefix_is ∙ ap (λ l. extern_prefix r l (item.Interface id gates docs external_id)) e)
           ∙ sym (ap (λ l. entry_calls emits r here word (l, item.Interface id gates docs external_id)) e)
           ∙ sym (ap (λ j. entry_calls emits r here word (k, j)) is)
 
     pub key_there : (m : InterfaceId) → k ≡ key.Interface m → in_list r.interfaces.items m.0 ≡ true
-    key_there m e = let whole = subst (λ l. is_printable_entry r here (l, item.Interface id gates docs external_id) ≡ true) e known in left_of _ _ (left_of (in_list r.interfaces.items m.0 && in_list r.interfaces.items id.0) _ whole)
+    key_there m e = let whole = subst (λ l. is_printable_entry r here (l, item.Interface id gates docs external_id) ≡ true) e known in
+        left_of _ _ (left_of (in_list r.interfaces.items m.0 && in_list r.interfaces.items id.0) _ whole)
 
     pub key_path : (m : InterfaceId) → k ≡ key.Interface m → is_well_path (shown_path r here m) ≡ true
     key_path m e =
@@ -77,15 +81,19 @@ module _ (r : Resolve) (here : PackageId) where
 
   -- ---- functions
 
-  function_parts : (k : WorldKey) (f : Function) → is_printable_entry r here (k, item.Function f) ≡ true → (is_well_prefix (function_prefix f) ≡ true) × (is_well_extern (NamedFunction (text_of f.name) (shown_signature r f)) ≡ true)
+  function_parts : (k : WorldKey) (f : Function) → is_printable_entry r here (k, item.Function f) ≡ true → (is_well_prefix (function_prefix f) ≡ true)
+      × (is_well_extern (NamedFunction (text_of f.name) (shown_signature r f)) ≡ true)
   function_parts (key.Name s) f h = let well = well_of (key.Name s) (item.Function f) h in (left_of _ _ well, right_of (is_well_prefix (function_prefix f)) _ well)
   function_parts (key.Interface m) f h =
-      let wrong : false ≡ true = left_of false (is_well_world_member (shown_import r here (key.Interface m, item.Function f))) (right_of (key_in_range r (key.Interface m) && item_in_range r (item.Function f)) _ h) in absurd cc
+      let wrong : false ≡ true = left_of false (is_well_world_member (shown_import r here (key.Interface m, item.Function f)))
+      (right_of (key_in_range r (key.Interface m) && item_in_range r (item.Function f)) _ h) in absurd cc
 
-  function_calls_by : (k : WorldKey) (f : Function) (emits : Bool) (word : Text) → is_printable_entry r here (k, item.Function f) ≡ true → world_extern_calls emits (function_prefix f) word (NamedFunction (text_of f.name) (shown_signature r f)) ≡ entry_calls emits r here word (k, item.Function f)
+  function_calls_by : (k : WorldKey) (f : Function) (emits : Bool) (word : Text) → is_printable_entry r here (k, item.Function f) ≡ true
+      → world_extern_calls emits (function_prefix f) word (NamedFunction (text_of f.name) (shown_signature r f)) ≡ entry_calls emits r here word (k, item.Function f)
   function_calls_by (key.Name s) f emits word h = refl
   function_calls_by (key.Interface m) f emits word h =
-      let wrong : false ≡ true = left_of false (is_well_world_member (shown_import r here (key.Interface m, item.Function f))) (right_of (key_in_range r (key.Interface m) && item_in_range r (item.Function f)) _ h) in absurd cc
+      let wrong : false ≡ true = left_of false (is_well_world_member (shown_import r here (key.Interface m, item.Function f)))
+      (right_of (key_in_range r (key.Interface m) && item_in_range r (item.Function f)) _ h) in absurd cc
 
   module _ (k : WorldKey) (i : WorldItem) (f : Function) (is : i ≡ item.Function f) (h : is_printable_entry r here (k, i) ≡ true) where
     pub function_known : (is_well_prefix (function_prefix f) ≡ true) × (is_well_extern (NamedFunction (text_of f.name) (shown_signature r f)) ≡ true)
@@ -99,5 +107,6 @@ module _ (r : Resolve) (here : PackageId) where
   pub named_tree : (label : Text) (id : InterfaceId) (i : Interface) → interface_at r id.0 ≡ Some i → is_some i.name ≡ true → labelled_tree r here label id ≡ NamedPath label (shown_path r here id)
   named_tree label id i e h = rw (e, h) refl
 
-  pub inline_tree : (label : Text) (id : InterfaceId) (i : Interface) → interface_at r id.0 ≡ Some i → is_some i.name ≡ false → labelled_tree r here label id ≡ NamedInterface label (shown_interface r id i)
+  pub inline_tree : (label : Text) (id : InterfaceId) (i : Interface) → interface_at r id.0 ≡ Some i → is_some i.name ≡ false
+      → labelled_tree r here label id ≡ NamedInterface label (shown_interface r id i)
   inline_tree label id i e h = rw (e, h) refl

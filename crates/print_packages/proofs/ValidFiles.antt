@@ -98,16 +98,20 @@ module _ (r : Resolve) (valid : IsValid r) where
       subst (λ o. is_well_package (option_map_or (shown_package_of r) o no_package) ≡ true) (sym there.1) (package_of_well id.0 there.0 there.1)
 
   -- What is shown of valid packages is well named.
-  pub file_well : (main : PackageId) (nested : List PackageId) → main.0 < length r.packages.items → list_all (λ id. in_list r.packages.items id.0) nested ≡ true → is_well_file (shown_file r main nested) ≡ true
+  pub file_well : (main : PackageId) (nested : List PackageId) → main.0 < length r.packages.items → list_all (λ id. in_list r.packages.items id.0) nested ≡ true
+      → is_well_file (shown_file r main nested) ≡ true
   file_well main nested below others =
       both (is_well_package (shown_package r main)) _ (package_well main below)
       (each_well (λ id. in_list r.packages.items id.0) (shown_package r) is_well_package (λ id h. package_well id (ltb-true id.0 (length r.packages.items) h)) nested others)
 
 -- The text of valid packages, with documentation or without, is read as what is shown of them, and as nothing else.
-pub packages_read : (emits_docs : Bool) (r : Resolve) (main : PackageId) (nested : List PackageId) → IsValid r → main.0 < length r.packages.items → list_all (λ id. in_list r.packages.items id.0) nested ≡ true → IsOnlyReading (render (file_calls emits_docs (shown_file r main nested))) (file_as_read (shown_file r main nested))
+pub packages_read : (emits_docs : Bool) (r : Resolve) (main : PackageId) (nested : List PackageId) → IsValid r → main.0 < length r.packages.items
+    → list_all (λ id. in_list r.packages.items id.0) nested ≡ true → IsOnlyReading (render (file_calls emits_docs (shown_file r main nested))) (file_as_read (shown_file r main nested))
 packages_read emits_docs r main nested valid below others = file_reads_only emits_docs (shown_file r main nested) (file_well r valid main nested below others)
 
 -- So is what an output holds that kept the text of these calls from the start.
-pub kept_text_reads : (emits_docs : Bool) (r : Resolve) (main : PackageId) (nested : List PackageId) → IsValid r → main.0 < length r.packages.items → list_all (λ id. in_list r.packages.items id.0) nested ≡ true → (new : View Written) → Moves writes blank (file_calls emits_docs (shown_file r main nested)) new → IsOnlyReading new.kept.text (file_as_read (shown_file r main nested))
+pub kept_text_reads : (emits_docs : Bool) (r : Resolve) (main : PackageId) (nested : List PackageId) → IsValid r → main.0 < length r.packages.items
+    → list_all (λ id. in_list r.packages.items id.0) nested ≡ true → (new : View Written) → Moves writes blank (file_calls emits_docs (shown_file r main nested)) new
+    → IsOnlyReading new.kept.text (file_as_read (shown_file r main nested))
 kept_text_reads emits_docs r main nested valid below others new moved =
     subst (λ t. IsOnlyReading t (file_as_read (shown_file r main nested))) (sym (ap (λ v. v.kept.text) (Moves-writes moved))) (packages_read emits_docs r main nested valid below others)

@@ -44,7 +44,8 @@ use Rattle.base_lemmas.proofs.Lists.{within_there as found}
 -- ---- items
 
 -- a printable entry is in range, stands where it may, and is shown well
-is_printable : (r : Resolve) (valid : IsValid r) (here : PackageId) (n : ℕ) (k : WorldKey) (i : WorldItem) → is_known_entry r n (k, i) ≡ true → is_export_item i ≡ true → is_printable_entry r here (k, i) ≡ true
+is_printable : (r : Resolve) (valid : IsValid r) (here : PackageId) (n : ℕ) (k : WorldKey) (i : WorldItem) → is_known_entry r n (k, i) ≡ true → is_export_item i ≡ true
+    → is_printable_entry r here (k, i) ≡ true
 is_printable r valid here n k i known exported =
     both_true (key_in_range r k && item_in_range r i) _ (first_true _ _ known)
     (both_true (is_shown_item k i) _ (shown k i known exported) (extern_well r valid here n k i known exported))
@@ -53,7 +54,8 @@ is_printable r valid here n k i known exported =
     shown l (item.Interface id gates docs external_id) h x = refl
     shown (key.Name s) (item.Function f) h x = x
     shown (key.Interface m) (item.Function f) h x =
-        let wrong : false ≡ true = second_true (key_label (key.Interface m) (item.Function f) && item_labels (item.Function f)) false (second_true (key_in_range r (key.Interface m) && item_in_range r (item.Function f)) _ h) in
+        let wrong : false ≡ true = second_true (key_label (key.Interface m) (item.Function f) && item_labels (item.Function f)) false
+        (second_true (key_in_range r (key.Interface m) && item_in_range r (item.Function f)) _ h) in
         absurd cc
     shown (key.Name s) (item.Type_ id) h x = absurd cc
     shown (key.Interface m) (item.Type_ id) h x = absurd cc
@@ -83,13 +85,15 @@ module _ (r : Resolve) (valid : IsValid r) (here : PackageId) (n : ℕ) where
       go (key.Name s) (item.Interface id gates docs external_id) h = refl
       go (key.Interface m) i h = refl
 
-  types_listed : (w : World) → list_all (is_known_entry r n) w.imports.entries ≡ true → list_all (is_known_listed r (owner.World (record { 0 = n }))) (listed_imports w) ≡ true → list_all (is_listed_type r (owner.World (record { 0 = n }))) (listed_imports w) ≡ true
+  types_listed : (w : World) → list_all (is_known_entry r n) w.imports.entries ≡ true → list_all (is_known_listed r (owner.World (record { 0 = n }))) (listed_imports w) ≡ true
+      → list_all (is_listed_type r (owner.World (record { 0 = n }))) (listed_imports w) ≡ true
   types_listed w known types =
       all_both (λ (t : Listed). in_list r.types.items t.id.0) (is_known_listed r (owner.World (record { 0 = n }))) (listed_imports w)
       (given_well (is_known_entry r n) (λ e. type_of_entry e.0 e.1) (λ (t : Listed). in_list r.types.items t.id.0) entry_in_range w.imports.entries known) types
 
   functions_listed : (w : World) → list_all (is_known_entry r n) w.imports.entries ≡ true → list_all (is_listed_function r (owner.World (record { 0 = n }))) (imported_functions w) ≡ true
-  functions_listed w known = given_well (is_known_entry r n) (λ e. function_of_item e.1) (is_listed_function r (owner.World (record { 0 = n }))) (λ e k. entry_function_known r valid n e.0 e.1 k) w.imports.entries known
+  functions_listed w known = given_well (is_known_entry r n) (λ e. function_of_item e.1) (is_listed_function r (owner.World (record { 0 = n }))) (λ e k. entry_function_known r valid n e.0 e.1 k)
+      w.imports.entries known
 
 -- ---- worlds
 
@@ -100,14 +104,16 @@ last_three true false c d h = absurd cc
 last_three true true false d h = absurd cc
 last_three true true true false h = absurd cc
 
-world_labels : (r : Resolve) (n : ℕ) (w : World) → IsValid r → world_at r n ≡ Some w → (is_label (text_of w.name) ≡ true) × (is_stability w.stability ≡ true) × (entries_labels w.imports.entries ≡ true) × (entries_labels w.exports.entries ≡ true)
+world_labels : (r : Resolve) (n : ℕ) (w : World) → IsValid r → world_at r n ≡ Some w → (is_label (text_of w.name) ≡ true) × (is_stability w.stability ≡ true)
+    × (entries_labels w.imports.entries ≡ true) × (entries_labels w.exports.entries ≡ true)
 unfolding labels
 world_labels r n w v e =
     let here = each_from_at (labels.world_ r) 0 r.worlds.items n w (lists_pass labels r v.rules.labels).2 e in
     let rest = last_three (is_label (text_of w.name)) (is_stability w.stability) (entries_labels w.imports.entries) (entries_labels w.exports.entries) here in
     (first_true _ _ here, rest.0, rest.1, rest.2)
 
-valid_world : (r : Resolve) (here : PackageId) (n : ℕ) (w : World) → IsValid r → world_at r n ≡ Some w → is_id here.0 (package_number w.«package») ≡ true → is_printable_world r here (record { 0 = n }) w ≡ true
+valid_world : (r : Resolve) (here : PackageId) (n : ℕ) (w : World) → IsValid r → world_at r n ≡ Some w → is_id here.0 (package_number w.«package») ≡ true
+    → is_printable_world r here (record { 0 = n }) w ≡ true
 valid_world r here n w v e belongs =
     let names = world_labels r n w v e in
     let known = world_is_shown r v n w e in
@@ -126,12 +132,14 @@ valid_listed r here x v range belongs =
     let world = found r.worlds.items x.1.0 (ltb-true x.1.0 (length r.worlds.items) range) in
     let w = world.0 in
     let listed = given (λ w. is_id here.0 (package_number w.«package») && text_eq (text_of w.name) (text_of x.0)) (world_at r x.1.0) w world.1 belongs in
-    let name : text_of w.name ≡ text_of x.0 = same_text (text_of w.name) (text_of x.0) (sym (second_true (is_id here.0 (package_number w.«package»)) (text_eq (text_of w.name) (text_of x.0)) listed)) in
+    let name : text_of w.name ≡ text_of x.0 = same_text (text_of w.name) (text_of x.0)
+    (sym (second_true (is_id here.0 (package_number w.«package»)) (text_eq (text_of w.name) (text_of x.0)) listed)) in
     let inside : option_map_or (is_printable_world r here x.1) (world_at r x.1.0) false ≡ true =
     subst (λ o. option_map_or (is_printable_world r here x.1) o false ≡ true) (sym world.1) (valid_world r here x.1.0 w v world.1 (first_true _ _ listed)) in
     both_true _ _ (subst (λ t. is_label t ≡ true) name (world_labels r x.1.0 w v world.1).0) inside
 
-all_listed : (r : Resolve) (here : PackageId) → IsValid r → (xs : List (String Global × WorldId)) → list_all (λ x. in_list r.worlds.items x.1.0) xs ≡ true → list_all (world_belongs r here.0) xs ≡ true → list_all (is_printable_listed r here) xs ≡ true
+all_listed : (r : Resolve) (here : PackageId) → IsValid r → (xs : List (String Global × WorldId)) → list_all (λ x. in_list r.worlds.items x.1.0) xs ≡ true → list_all (world_belongs r here.0) xs ≡ true
+    → list_all (is_printable_listed r here) xs ≡ true
 all_listed r here v [] range belongs = refl
 all_listed r here v (x ∷ xs) range belongs =
     both_true _ _ (valid_listed r here x v (first_true _ _ range) (first_true _ _ belongs))
@@ -157,7 +165,8 @@ pub valid_worlds : (r : Resolve) (here : PackageId) (p : Package) → IsValid r 
 valid_worlds r here p v e = all_listed r here v p.worlds.entries (package_range r here.0 p v e) (package_worlds r here.0 p v e)
 
 -- a package's name is one
-pub valid_name : (r : Resolve) (n : ℕ) (p : Package) → IsValid r → package_at r n ≡ Some p → (is_label (text_of p.name.namespace) ≡ true) × (is_label (text_of p.name.name) ≡ true) × (is_well_optional is_version_text (optional_version_text p.name.version) ≡ true)
+pub valid_name : (r : Resolve) (n : ℕ) (p : Package) → IsValid r → package_at r n ≡ Some p → (is_label (text_of p.name.namespace) ≡ true) × (is_label (text_of p.name.name) ≡ true)
+    × (is_well_optional is_version_text (optional_version_text p.name.version) ≡ true)
 unfolding package_names
 valid_name r n p v e =
     let here = each_from_at (package_names.package_ r) 0 r.packages.items n p (lists_pass package_names r v.rules.package_names).0 e in
@@ -174,4 +183,5 @@ valid_interfaces r n p v e =
     let range = sym (list_all-map (λ id. in_list r.interfaces.items id.0) (λ x. x.1) p.interfaces.entries) ∙ ids in
     let keys = package-passes names_in_packages r v.rules.names_in_packages n p e in
     all_both (λ x. in_list r.interfaces.items x.1.0) (λ x. passes is_well_item (shown_interface_item r x)) p.interfaces.entries range
-    (weaker_all (λ x. passes (λ i. text_is i.name (text_of x.0)) (interface_at r x.1.0)) (λ x. passes is_well_item (shown_interface_item r x)) (interface_item_well r v) p.interfaces.entries (first_true _ _ keys))
+    (weaker_all (λ x. passes (λ i. text_is i.name (text_of x.0)) (interface_at r x.1.0)) (λ x. passes is_well_item (shown_interface_item r x)) (interface_item_well r v) p.interfaces.entries
+    (first_true _ _ keys))

@@ -114,12 +114,14 @@ module _ (r : Resolve) (valid : IsValid r) where
       go false None = refl
       go false (Some i) = docs_well i.docs
 
-  interface_prefix_well : (k : WorldKey) (id : InterfaceId) (gates : Stability) (docs : Docs) (external_id : Option (String Global)) → is_stability gates ≡ true → is_well_prefix (extern_prefix r k (item.Interface id gates docs external_id)) ≡ true
+  interface_prefix_well : (k : WorldKey) (id : InterfaceId) (gates : Stability) (docs : Docs) (external_id : Option (String Global)) → is_stability gates ≡ true
+      → is_well_prefix (extern_prefix r k (item.Interface id gates docs external_id)) ≡ true
   interface_prefix_well k id gates docs external_id h =
       both (list_all is_one_line (extern_docs r k id docs)) _ (extern_docs_well k id docs) (both (is_well_gates (shown_gates gates)) _ (gates_well gates h) (external_id_well external_id))
 
   -- what an interface under a label is: a path, or what it has
-  labelled_interface_well : (here : PackageId) (s : Text) (id : InterfaceId) → is_label s ≡ true → (b : Bool) → is_named_interface r id.0 ≡ b → is_well_extern (if b then NamedPath s (shown_path r here id) else NamedInterface s (option_map_or (shown_interface r id) (interface_at r id.0) [])) ≡ true
+  labelled_interface_well : (here : PackageId) (s : Text) (id : InterfaceId) → is_label s ≡ true → (b : Bool) → is_named_interface r id.0 ≡ b
+      → is_well_extern (if b then NamedPath s (shown_path r here id) else NamedInterface s (option_map_or (shown_interface r id) (interface_at r id.0) [])) ≡ true
   labelled_interface_well here s id label true named = both (is_label s) _ label (path_well r valid here id named)
   labelled_interface_well here s id label false named = both (is_label s) _ label (go (interface_at r id.0) refl)
     where
@@ -127,19 +129,22 @@ module _ (r : Resolve) (valid : IsValid r) where
       go None e = refl
       go (Some i) e = interface_well r valid id i e
 
-  pub extern_well : (here : PackageId) (n : ℕ) (k : WorldKey) (i : Item) → is_known_entry r n (k, i) ≡ true → is_export_item i ≡ true → (is_well_prefix (extern_prefix r k i) && is_well_extern (shown_extern r here k i)) ≡ true
+  pub extern_well : (here : PackageId) (n : ℕ) (k : WorldKey) (i : Item) → is_known_entry r n (k, i) ≡ true → is_export_item i ≡ true
+      → (is_well_prefix (extern_prefix r k i) && is_well_extern (shown_extern r here k i)) ≡ true
   extern_well here n (key.Interface m) (item.Interface id gates docs external_id) known shown =
       let stable : is_stability gates ≡ true = left_of _ _ (right_of (in_list r.interfaces.items m.0 && in_list r.interfaces.items id.0) _ known) in
       let stands = right_of (is_stability gates) _ (right_of (in_list r.interfaces.items m.0 && in_list r.interfaces.items id.0) _ known) in
       both (is_well_prefix (extern_prefix r (key.Interface m) (item.Interface id gates docs external_id))) _ (interface_prefix_well (key.Interface m) id gates docs external_id stable)
       (path_well r valid here m (key_named m.0 (left_of _ _ (left_of (in_list r.interfaces.items m.0 && in_list r.interfaces.items id.0) _ known)) (right_of (is_id m.0 (Some id.0)) _ stands)))
   extern_well here n (key.Interface m) (item.Function f) known shown =
-      let wrong : false ≡ true = right_of (key_label (key.Interface m) (item.Function f) && item_labels (item.Function f)) false (right_of (key_in_range r (key.Interface m) && item_in_range r (item.Function f)) _ known) in
+      let wrong : false ≡ true = right_of (key_label (key.Interface m) (item.Function f) && item_labels (item.Function f)) false
+      (right_of (key_in_range r (key.Interface m) && item_in_range r (item.Function f)) _ known) in
       absurd cc
   extern_well here n (key.Interface m) (item.Type_ id) known shown = absurd cc
   extern_well here n (key.Name s) (item.Interface id gates docs external_id) known shown =
       let named : (is_label (text_of s) && is_stability gates) ≡ true = left_of _ _ (right_of (in_list r.interfaces.items id.0) _ known) in
-      both (is_well_prefix (extern_prefix r (key.Name s) (item.Interface id gates docs external_id))) _ (interface_prefix_well (key.Name s) id gates docs external_id (right_of (is_label (text_of s)) _ named))
+      both (is_well_prefix (extern_prefix r (key.Name s) (item.Interface id gates docs external_id))) _
+      (interface_prefix_well (key.Name s) id gates docs external_id (right_of (is_label (text_of s)) _ named))
       (labelled_interface_well here (text_of s) id (left_of _ _ named) (is_named_interface r id.0) refl)
   extern_well here n (key.Name s) (item.Function f) known shown =
       let range : item_in_range r (item.Function f) ≡ true = left_of _ _ known in
@@ -156,10 +161,12 @@ module _ (r : Resolve) (valid : IsValid r) where
   entry_function_known n k (item.Function f) known =
       let rest = right_of (key_in_range r k && item_in_range r (item.Function f)) _ known in
       let named : function_labels f ≡ true = right_of (key_label k (item.Function f)) _ (left_of _ _ rest) in
-      let own : (is_name_key (text_of f.name) k && is_member r (owner.World (record { 0 = n })) f) ≡ true = left_of _ _ (right_of (key_label k (item.Function f) && item_labels (item.Function f)) _ rest) in
+      let own : (is_name_key (text_of f.name) k && is_member r (owner.World (record { 0 = n })) f) ≡ true =
+      left_of _ _ (right_of (key_label k (item.Function f) && item_labels (item.Function f)) _ rest) in
       both (item_in_range r (item.Function f)) _ (right_of (key_in_range r k) _ (left_of _ _ known)) (both (function_labels f) _ named (right_of (is_name_key (text_of f.name) k) _ own))
 
-  listed_imports_known : (o : TypeOwner) (es : List Entry) → entries_labels es ≡ true → list_all (is_named_of r o) (filter_map item_type (values_of es)) ≡ true → list_all (is_known_listed r o) (filter_map (λ e. type_of_entry e.0 e.1) es) ≡ true
+  listed_imports_known : (o : TypeOwner) (es : List Entry) → entries_labels es ≡ true → list_all (is_named_of r o) (filter_map item_type (values_of es)) ≡ true
+      → list_all (is_known_listed r o) (filter_map (λ e. type_of_entry e.0 e.1) es) ≡ true
   listed_imports_known o [] named own = refl
   listed_imports_known o (e ∷ es) named own = go e.0 e.1 (left_of _ _ named) own (listed_imports_known o es (right_of (key_label e.0 e.1 && item_labels e.1) _ named))
     where
@@ -182,7 +189,8 @@ module _ (r : Resolve) (valid : IsValid r) where
     pub exports : list_all (λ e. is_known_entry r n e && is_export_item e.1) w.exports.entries ≡ true
     pub types : list_all (is_known_listed r (owner.World (record { 0 = n }))) (listed_imports w) ≡ true
 
-  entries_known : (n : ℕ) (es : List Entry) → entries_in_range r es ≡ true → entries_labels es ≡ true → list_all (is_own_entry r n) es ≡ true → list_all (λ e. stands_under r e.0 e.1) es ≡ true → list_all (is_known_entry r n) es ≡ true
+  entries_known : (n : ℕ) (es : List Entry) → entries_in_range r es ≡ true → entries_labels es ≡ true → list_all (is_own_entry r n) es ≡ true → list_all (λ e. stands_under r e.0 e.1) es ≡ true
+      → list_all (is_known_entry r n) es ≡ true
   entries_known n es range named own under =
       all_both (λ e. key_in_range r e.0 && item_in_range r e.1) (λ e. (key_label e.0 e.1 && item_labels e.1) && (is_own_entry r n e && stands_under r e.0 e.1)) es range
       (all_both (λ e. key_label e.0 e.1 && item_labels e.1) (λ e. is_own_entry r n e && stands_under r e.0 e.1) es named
@@ -200,7 +208,8 @@ module _ (r : Resolve) (valid : IsValid r) where
         imports = entries_known n w.imports.entries (left_of _ _ range) (left_of _ _ named) (left_of _ _ own)
             (weaker_all (λ x. import_stands r n x.0 x.1) (λ x. stands_under r x.0 x.1) (λ x h. import_under r n x.0 x.1 h) w.imports.entries (left_of _ _ stand));
         exports = all_both (is_known_entry r n) (λ x. is_export_item x.1) w.exports.entries
-            (entries_known n w.exports.entries (right_of (entries_in_range r w.imports.entries) _ range) (right_of (entries_labels w.imports.entries) _ named) (right_of (list_all (is_own_entry r n) w.imports.entries) _ own)
+            (entries_known n w.exports.entries (right_of (entries_in_range r w.imports.entries) _ range) (right_of (entries_labels w.imports.entries) _ named)
+            (right_of (list_all (is_own_entry r n) w.imports.entries) _ own)
             (weaker_all (λ x. export_stands r x.0 x.1) (λ x. stands_under r x.0 x.1) (λ x h. export_under r x.0 x.1 h) w.exports.entries exported))
             (weaker_all (λ x. export_stands r x.0 x.1) (λ x. is_export_item x.1) (λ x h. export_item r x.0 x.1 h) w.exports.entries exported);
         types = listed_imports_known (owner.World (record { 0 = n })) w.imports.entries (left_of _ _ named) (left_of _ _ (world_rule r valid order_of_types valid.rules.order_of_types n w e));
@@ -220,13 +229,16 @@ module _ (r : Resolve) (valid : IsValid r) where
       (joined_well is_well_world_member (interfaces ++ uses ++ declared) functions
       (joined_well is_well_world_member (interfaces ++ uses) declared
       (joined_well is_well_world_member interfaces uses
-      (kept_well (is_known_entry r id.0) (λ e. is_interface_item e.1) (shown_import r here) is_well_world_member (λ e known test. extern_well here id.0 e.0 e.1 known (interface_import e.1 test)) w.imports.entries h.imports)
+      (kept_well (is_known_entry r id.0) (λ e. is_interface_item e.1) (shown_import r here) is_well_world_member (λ e known test. extern_well here id.0 e.0 e.1 known (interface_import e.1 test))
+      w.imports.entries h.imports)
       (each_well (is_known_use r) (λ used. WorldUse used.prefix (shown_path r here used.interface) used.names) is_well_world_member (use_well here) (shown_uses r (owner.World id) (listed_imports w))
       (uses_known r valid (owner.World id) refl (listed_imports w) h.types)))
       (each_well is_well_declared_with (λ d. WorldType d.prefix d.declared) is_well_world_member (λ d g. g) (shown_declarations r (owner.World id) (imported_functions w) (listed_imports w))
       (declarations_well r valid (owner.World id) refl (imported_functions w) (listed_imports w) functions_known h.types)))
-      (kept_well (is_known_entry r id.0) (λ e. is_freestanding_item e.1) (shown_import r here) is_well_world_member (λ e known test. extern_well here id.0 e.0 e.1 known (function_import e.1 test)) w.imports.entries h.imports))
-      (each_well (λ e. is_known_entry r id.0 e && is_export_item e.1) (shown_export r here) is_well_world_member (λ e known. extern_well here id.0 e.0 e.1 (left_of _ _ known) (right_of (is_known_entry r id.0 e) _ known)) w.exports.entries h.exports)
+      (kept_well (is_known_entry r id.0) (λ e. is_freestanding_item e.1) (shown_import r here) is_well_world_member (λ e known test. extern_well here id.0 e.0 e.1 known (function_import e.1 test))
+      w.imports.entries h.imports))
+      (each_well (λ e. is_known_entry r id.0 e && is_export_item e.1) (shown_export r here) is_well_world_member
+      (λ e known. extern_well here id.0 e.0 e.1 (left_of _ _ known) (right_of (is_known_entry r id.0 e) _ known)) w.exports.entries h.exports)
     where
       interfaces : List WorldMember
       interfaces = map (shown_import r here) (filter (λ e. is_interface_item e.1) w.imports.entries)
@@ -241,7 +253,8 @@ module _ (r : Resolve) (valid : IsValid r) where
       functions = map (shown_import r here) (filter (λ e. is_freestanding_item e.1) w.imports.entries)
 
       functions_known : list_all (is_known_function r (owner.World id)) (imported_functions w) ≡ true
-      functions_known = given_well (is_known_entry r id.0) (λ e. function_of_item e.1) (is_known_function r (owner.World id)) (λ e known. entry_function_known id.0 e.0 e.1 known) w.imports.entries h.imports
+      functions_known = given_well (is_known_entry r id.0) (λ e. function_of_item e.1) (is_known_function r (owner.World id)) (λ e known. entry_function_known id.0 e.0 e.1 known)
+          w.imports.entries h.imports
 
   -- What is shown of a world is well named.
   pub world_well : (id : WorldId) (w : World) → world_at r id.0 ≡ Some w → list_all is_well_world_member (shown_world r id w) ≡ true

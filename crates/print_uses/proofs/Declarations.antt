@@ -34,22 +34,26 @@ use Rattle.base_lemmas.proofs.Bools.{right_of}
 -- ---- calls
 
 -- one declaration in its block
-pub declaration_alone : (emits printed : Bool) (prefix : Prefix) (declared : Declared) → line_between printed ++ (prefix_calls emits prefix ++ declared_calls emits declared) ≡ members_calls emits printed (TypeMember prefix declared ∷ [])
+pub declaration_alone : (emits printed : Bool) (prefix : Prefix) (declared : Declared)
+    → line_between printed ++ (prefix_calls emits prefix ++ declared_calls emits declared) ≡ members_calls emits printed (TypeMember prefix declared ∷ [])
 declaration_alone emits true prefix declared = sym (append-nil _)
 declaration_alone emits false prefix declared = sym (append-nil _)
 
 -- one member and then others
 pub member_and_more : (emits printed : Bool) (m : MemberTree) (ms : List MemberTree) → members_calls emits printed (m ∷ ms) ≡ members_calls emits printed (m ∷ []) ++ members_calls emits true ms
 member_and_more emits printed (UseMember prefix path names) ms = ap (λ x. x ++ members_calls emits true ms) (sym (append-nil (use_calls emits prefix path names)))
-member_and_more emits printed (TypeMember prefix declared) ms = ap (λ x. x ++ members_calls emits true ms) (sym (append-nil (item_calls printed (prefix_calls emits prefix ++ declared_calls emits declared))))
-member_and_more emits printed (FunctionMember prefix name signature) ms = ap (λ x. x ++ members_calls emits true ms) (sym (append-nil (item_calls printed (function_calls emits prefix name FunctionFreestanding signature))))
+member_and_more emits printed (TypeMember prefix declared) ms = ap (λ x. x ++ members_calls emits true ms)
+    (sym (append-nil (item_calls printed (prefix_calls emits prefix ++ declared_calls emits declared))))
+member_and_more emits printed (FunctionMember prefix name signature) ms =
+    ap (λ x. x ++ members_calls emits true ms) (sym (append-nil (item_calls printed (function_calls emits prefix name FunctionFreestanding signature))))
 
 pub after_printed : (ms : List MemberTree) → printed_after true ms ≡ true
 after_printed [] = refl
 after_printed (m ∷ ms) = refl
 
 -- some members and then others
-pub members_append : (emits printed : Bool) (ms more : List MemberTree) → members_calls emits printed (ms ++ more) ≡ members_calls emits printed ms ++ members_calls emits (printed_after printed ms) more
+pub members_append : (emits printed : Bool) (ms more : List MemberTree)
+    → members_calls emits printed (ms ++ more) ≡ members_calls emits printed ms ++ members_calls emits (printed_after printed ms) more
 members_append emits printed [] more = refl
 members_append emits printed (m ∷ ms) more =
     member_and_more emits printed m (ms ++ more)
@@ -72,13 +76,16 @@ members_shown r xs fs e = each xs ∙ ap (map (shown_resource_member r)) e
 -- ---- one after the other
 
 module _ (r : Resolve) (fs : List Function) where
-  pub declaration_at : (id : TypeId) (def : TypeDef) → type_at r id.0 ≡ Some def → declaration_of r fs id ≡ TypeMember (shown_prefix def.docs def.stability def.external_id) (shown_declared r fs id def) ∷ []
+  pub declaration_at : (id : TypeId) (def : TypeDef) → type_at r id.0 ≡ Some def
+      → declaration_of r fs id ≡ TypeMember (shown_prefix def.docs def.stability def.external_id) (shown_declared r fs id def) ∷ []
   declaration_at id def e = ap (λ o. option_map_or (λ d. TypeMember (shown_prefix d.docs d.stability d.external_id) (shown_declared r fs id d) ∷ []) o []) e
 
   -- a type that can be printed is there, and is well named
-  pub printable_at : (id : TypeId) (def : TypeDef) → type_at r id.0 ≡ Some def → is_printable_type r fs id ≡ true → (is_well_prefix (shown_prefix def.docs def.stability def.external_id) && is_well_declared (shown_declared r fs id def)) ≡ true
+  pub printable_at : (id : TypeId) (def : TypeDef) → type_at r id.0 ≡ Some def → is_printable_type r fs id ≡ true
+      → (is_well_prefix (shown_prefix def.docs def.stability def.external_id) && is_well_declared (shown_declared r fs id def)) ≡ true
   printable_at id def e h =
-      subst (λ o. option_map_or (λ d. is_well_prefix (shown_prefix d.docs d.stability d.external_id) && is_well_declared (shown_declared r fs id d)) o false ≡ true) e (right_of (in_list r.types.items id.0) _ h)
+      subst (λ o. option_map_or (λ d. is_well_prefix (shown_prefix d.docs d.stability d.external_id) && is_well_declared (shown_declared r fs id d)) o false ≡ true) e
+      (right_of (in_list r.types.items id.0) _ h)
 
 -- ---- interfaces of a valid `Resolve`
 
@@ -96,7 +103,8 @@ module _ (r : Resolve) (valid : IsValid r) (id : InterfaceId) (i : Interface) (a
 
   -- What an interface has are its types, and then its functions.
   pub interface_calls : (emits : Bool) (here : PackageId) → i.«package» ≡ Some here
-      → members_calls emits false (type_members r here (owner.Interface id) (listed_functions i) (listed_types i)) ++ members_calls emits (printed_after false (type_members r here (owner.Interface id) (listed_functions i) (listed_types i))) (shown_functions r i.functions.entries)
+      → members_calls emits false (type_members r here (owner.Interface id) (listed_functions i) (listed_types i)) ++ members_calls emits
+      (printed_after false (type_members r here (owner.Interface id) (listed_functions i) (listed_types i))) (shown_functions r i.functions.entries)
       ≡ members_calls emits false (shown_interface r id i)
   interface_calls emits here placed =
       let types = type_members r here (owner.Interface id) (listed_functions i) (listed_types i) in

@@ -55,10 +55,12 @@ module _ (r : Resolve) (valid : IsValid r) where
       let split = sym (list_all-append (is_below (length r.types.items)) (map (λ p. p.ty) f.params.items) (option_to_list f.result)) ∙ all in
       let names = left_of _ _ (left_of _ _ (right_of (not (is_freestanding f.kind) || is_label (text_of f.name)) _ named)) in
       let known = params_known f.params.items names (left_of _ _ split) in
-      both (list_all is_well_param (shown_params r f)) _ (params_well (if is_method f.kind then drop 1 f.params.items else f.params.items) (written_well known_param (is_method f.kind) f.params.items known))
+      both (list_all is_well_param (shown_params r f)) _ (params_well (if is_method f.kind then drop 1 f.params.items else f.params.items)
+      (written_well known_param (is_method f.kind) f.params.items known))
       (optional_type_well f.result (right_of (list_all (is_below (length r.types.items)) (map (λ p. p.ty) f.params.items)) _ split))
 
 -- So is what stands in front of it.
 pub function_prefix_well : (f : Function) → function_labels f ≡ true → is_well_prefix (function_prefix f) ≡ true
 function_prefix_well f named =
-    shown_prefix_well f.docs f.stability f.external_id (right_of (are_member_labels (map (λ p. text_of p.name) f.params.items)) _ (right_of (not (is_freestanding f.kind) || is_label (text_of f.name)) _ named))
+    shown_prefix_well f.docs f.stability f.external_id (right_of (are_member_labels (map (λ p. text_of p.name) f.params.items)) _
+    (right_of (not (is_freestanding f.kind) || is_label (text_of f.name)) _ named))

@@ -38,7 +38,8 @@ module _ (ts : List (Bor Text × TypeId)) (i : ℕ) (d : Bor Text × TypeId) (wi
 
     module _ (path : InterfaceId → PathTree) (before : Option Used) where
       uses_next : uses_calls path before (filter_map (listed_use r o) (listed_of (drop i ts)))
-          ≡ listed_use_calls path before (listed_use r o (entry (get_or ts i d))) ++ uses_calls path (use_after before (listed_use r o (entry (get_or ts i d)))) (filter_map (listed_use r o) (listed_of (drop (i + 1) ts)))
+          ≡ listed_use_calls path before (listed_use r o (entry (get_or ts i d))) ++ uses_calls path (use_after before (listed_use r o (entry (get_or ts i d))))
+          (filter_map (listed_use r o) (listed_of (drop (i + 1) ts)))
       uses_next = ap (λ ls. uses_calls path before (filter_map (listed_use r o) ls)) at_place ∙ next_listed_use r o path before (entry (get_or ts i d)) (listed_of (drop (i + 1) ts))
 
       pub use_made : {Kept : Type 0} {keeps : View Kept → OutputCall → Kept} {all : List OutputCall} {old now new : View Kept} (after : Option Used)
@@ -55,7 +56,8 @@ module _ (ts : List (Bor Text × TypeId)) (i : ℕ) (d : Bor Text × TypeId) (wi
           → Begins keeps now (listed_use_calls path before (listed_use r o (entry (get_or ts i d)))) new
           → Begins keeps old all new
       use_refused g b =
-          refused_in (listed_use_calls path before (listed_use r o (entry (get_or ts i d)))) (uses_calls path (use_after before (listed_use r o (entry (get_or ts i d)))) (filter_map (listed_use r o) (listed_of (drop (i + 1) ts)))) g uses_next b
+          refused_in (listed_use_calls path before (listed_use r o (entry (get_or ts i d))))
+          (uses_calls path (use_after before (listed_use r o (entry (get_or ts i d)))) (filter_map (listed_use r o) (listed_of (drop (i + 1) ts)))) g uses_next b
 
     pub uses_some : (before after : Option Used) (all : Bool) → (is_some before || has_items (filter_map (listed_use r o) (listed_of (drop i ts)))) ≡ all
         → after ≡ use_after before (listed_use r o (entry (get_or ts i d))) → (is_some after || has_items (filter_map (listed_use r o) (listed_of (drop (i + 1) ts)))) ≡ all
@@ -65,5 +67,6 @@ module _ (ts : List (Bor Text × TypeId)) (i : ℕ) (d : Bor Text × TypeId) (wi
         ∙ ap (λ ls. is_some before || has_items (filter_map (listed_use r o) ls)) (sym at_place)
         ∙ h
 
-pub known_after : (ts : List (Bor Text × TypeId)) (i : ℕ) → i < length ts → (r : Resolve) (o : TypeOwner) → list_all (is_listed_type r o) (listed_of (drop i ts)) ≡ true → list_all (is_listed_type r o) (listed_of (drop (i + 1) ts)) ≡ true
+pub known_after : (ts : List (Bor Text × TypeId)) (i : ℕ) → i < length ts → (r : Resolve) (o : TypeOwner) → list_all (is_listed_type r o) (listed_of (drop i ts)) ≡ true
+    → list_all (is_listed_type r o) (listed_of (drop (i + 1) ts)) ≡ true
 known_after ts i within r o h = let there = one_there ts i within in known_then ts i there.0 within r o h

@@ -58,7 +58,8 @@ module _ (r : Resolve) where
       unfolding labels
       gated = left_of _ _ (right_of (passes (λ s. is_label (text_of s)) def.name) _ (type_rule r valid labels valid.rules.labels id.0 def at))
 
-      pub use_printable : (here : PackageId) → same_owner o owner.None ≡ false → (u : Use) → u.def.now ≡ def → u.own.now ≡ name → used_of r o name def ≡ Some (shown_use u) → is_printable_use r here u ≡ true
+      pub use_printable : (here : PackageId) → same_owner o owner.None ≡ false → (u : Use) → u.def.now ≡ def → u.own.now ≡ name → used_of r o name def ≡ Some (shown_use u)
+          → is_printable_use r here u ≡ true
       use_printable here placed u same own e =
           let label : is_label name ≡ true = left_of _ _ (right_of (in_list r.types.items id.0) _ known) in
           let use_is : is_known_use r (shown_use u) ≡ true = subst (λ x. passes (is_known_use r) x ≡ true) e (use_known r valid o placed name id.0 def at (right_of (is_some def.name) _ its) label) in
@@ -84,21 +85,28 @@ module _ (r : Resolve) where
 
     pub declared_here : (fs : List Function) → used_of r o name def ≡ None → listed_declaration r o fs (record { name = name; id = id }) ≡ declaration_of r fs id
     declared_here fs none =
-        ap (λ d. option_map_or (λ (x : DeclaredWith). let ms : List MemberTree = TypeMember x.prefix x.declared ∷ [] in ms) (option_and_then (declared_with r o fs (record { name = name; id = id })) d) []) at
-        ∙ ap (λ u. let given : Option DeclaredWith = if is_some u then None else Some (record { prefix = shown_prefix def.docs def.stability def.external_id; declared = shown_declared r fs id def }) in option_map_or (λ (x : DeclaredWith). let ms : List MemberTree = TypeMember x.prefix x.declared ∷ [] in ms) given []) none
+        ap (λ d. option_map_or (λ (x : DeclaredWith). let ms : List MemberTree = TypeMember x.prefix x.declared ∷ [] in ms)
+        (option_and_then (declared_with r o fs (record { name = name; id = id })) d) []) at
+        ∙ ap (λ u. let given : Option DeclaredWith = if is_some u then None else Some
+        (record { prefix = shown_prefix def.docs def.stability def.external_id; declared = shown_declared r fs id def }) in
+        option_map_or (λ (x : DeclaredWith). let ms : List MemberTree = TypeMember x.prefix x.declared ∷ [] in ms) given []) none
         ∙ sym (declaration_at r fs id def at)
 
     pub declared_nowhere : (fs : List Function) (u : Used) → used_of r o name def ≡ Some u → listed_declaration r o fs (record { name = name; id = id }) ≡ []
     declared_nowhere fs u e =
-        ap (λ d. option_map_or (λ (x : DeclaredWith). let ms : List MemberTree = TypeMember x.prefix x.declared ∷ [] in ms) (option_and_then (declared_with r o fs (record { name = name; id = id })) d) []) at
-        ∙ ap (λ w. let given : Option DeclaredWith = if is_some w then None else Some (record { prefix = shown_prefix def.docs def.stability def.external_id; declared = shown_declared r fs id def }) in option_map_or (λ (x : DeclaredWith). let ms : List MemberTree = TypeMember x.prefix x.declared ∷ [] in ms) given []) e
+        ap (λ d. option_map_or (λ (x : DeclaredWith). let ms : List MemberTree = TypeMember x.prefix x.declared ∷ [] in ms)
+        (option_and_then (declared_with r o fs (record { name = name; id = id })) d) []) at
+        ∙ ap (λ w. let given : Option DeclaredWith = if is_some w then None else Some
+        (record { prefix = shown_prefix def.docs def.stability def.external_id; declared = shown_declared r fs id def }) in
+        option_map_or (λ (x : DeclaredWith). let ms : List MemberTree = TypeMember x.prefix x.declared ∷ [] in ms) given []) e
 
     -- by whether it is a use
     pub nothing_declared : (fs : List Function) (u : Option Use) → option_map shown_use u ≡ used_of r o name def → is_some u ≡ true → listed_declaration r o fs (record { name = name; id = id }) ≡ []
     nothing_declared fs None e h = absurd cc
     nothing_declared fs (Some u) e h = declared_nowhere fs (shown_use u) (sym e)
 
-    pub something_declared : (fs : List Function) (u : Option Use) → option_map shown_use u ≡ used_of r o name def → is_some u ≡ false → listed_declaration r o fs (record { name = name; id = id }) ≡ declaration_of r fs id
+    pub something_declared : (fs : List Function) (u : Option Use) → option_map shown_use u ≡ used_of r o name def → is_some u ≡ false
+        → listed_declaration r o fs (record { name = name; id = id }) ≡ declaration_of r fs id
     something_declared fs None e h = declared_here fs (sym e)
     something_declared fs (Some u) e h = absurd cc
 
@@ -114,7 +122,8 @@ module _ (r : Resolve) where
       abbrev pub uses_left : Option Used → List Listed → List OutputCall
       uses_left before types = uses_calls path before (filter_map (listed_use r o) types)
 
-      pub next_listed_use : (before : Option Used) (t : Listed) (ts : List Listed) → uses_left before (t ∷ ts) ≡ listed_use_calls path before (listed_use r o t) ++ uses_left (use_after before (listed_use r o t)) ts
+      pub next_listed_use : (before : Option Used) (t : Listed) (ts : List Listed)
+          → uses_left before (t ∷ ts) ≡ listed_use_calls path before (listed_use r o t) ++ uses_left (use_after before (listed_use r o t)) ts
       next_listed_use before t ts = next_use path before (listed_use r o t) (filter_map (listed_use r o) ts)
 
     pub next_listed_some : (before : Option Used) (t : Listed) (ts : List Listed)
@@ -132,7 +141,9 @@ module _ (r : Resolve) where
     pub next_declarations : (fs : List Function) (t : Listed) (ts : List Listed) → declared_members r o fs (t ∷ ts) ≡ listed_declaration r o fs t ++ declared_members r o fs ts
     next_declarations fs t ts = go (option_and_then (declared_with r o fs t) (type_at r t.id.0))
       where
-        go : (d : Option DeclaredWith) → map (λ x. TypeMember x.prefix x.declared) (cons_option d (shown_declarations r o fs ts)) ≡ option_map_or (λ (x : DeclaredWith). let ms : List MemberTree = TypeMember x.prefix x.declared ∷ [] in ms) d [] ++ declared_members r o fs ts
+        go : (d : Option DeclaredWith)
+            → map (λ x. TypeMember x.prefix x.declared) (cons_option d (shown_declarations r o fs ts)) ≡ option_map_or
+            (λ (x : DeclaredWith). let ms : List MemberTree = TypeMember x.prefix x.declared ∷ [] in ms) d [] ++ declared_members r o fs ts
         go None = refl
         go (Some d) = refl
 

@@ -28,7 +28,9 @@ module _ (r : Resolve) (here : PackageId) (i : Interface) where
       subst (λ o. path_from r here (record i { «package» = o }) ≡ Local (present_name i.name)) (sym e)
       (pick (p.0 == here.0) same)
     where
-      pick : (b : Bool) → b ≡ true → (let t : PathTree = if b then Local (present_name i.name) else option_map_or (full_path (present_name i.name)) (package_at r p.0) (Local (present_name i.name)) in t) ≡ Local (present_name i.name)
+      pick : (b : Bool) → b ≡ true
+          → (let t : PathTree = if b then Local (present_name i.name) else option_map_or (full_path (present_name i.name)) (package_at r p.0) (Local (present_name i.name)) in t) ≡ Local
+          (present_name i.name)
       pick true h = refl
       pick false h = absurd cc
 
@@ -37,7 +39,8 @@ module _ (r : Resolve) (here : PackageId) (i : Interface) where
       subst (λ o. path_from r here (record i { «package» = o }) ≡ full_path (present_name i.name) x) (sym e)
       (pick (p.0 == here.0) (package_at r p.0) differ at)
     where
-      pick : (b : Bool) (o : Option Package) → b ≡ false → o ≡ Some x → (let t : PathTree = if b then Local (present_name i.name) else option_map_or (full_path (present_name i.name)) o (Local (present_name i.name)) in t) ≡ full_path (present_name i.name) x
+      pick : (b : Bool) (o : Option Package) → b ≡ false → o ≡ Some x
+          → (let t : PathTree = if b then Local (present_name i.name) else option_map_or (full_path (present_name i.name)) o (Local (present_name i.name)) in t) ≡ full_path (present_name i.name) x
       pick true o h g = absurd cc
       pick false None h g = absurd cc
       pick false (Some y) h g = ap (λ z. option_map_or (full_path (present_name i.name)) z (Local (present_name i.name))) g
@@ -52,7 +55,8 @@ pub path_at : (r : Resolve) (here : PackageId) (id : InterfaceId) (i : Interface
 path_at r here id i e = sym (ap (λ o. option_map_or (path_from r here) o (Local [])) e)
 
 -- what is read at a number of another package
-module _ (r : Resolve) (here : PackageId) (i : Interface) (p : PackageId) (x : Package) (placed : passes (in_list r.packages.items) (package_number i.«package») ≡ true) (given : i.«package» ≡ Some p) (other : p.0 ≢ here.0) (read : x ≡ get_or r.packages.items p.0 x) where
+module _ (r : Resolve) (here : PackageId) (i : Interface) (p : PackageId) (x : Package) (placed : passes (in_list r.packages.items) (package_number i.«package») ≡ true) (given : i.«package» ≡ Some p)
+    (other : p.0 ≢ here.0) (read : x ≡ get_or r.packages.items p.0 x) where
   there : package_at r p.0 ≡ Some x
   there = slice_get_read _ _ _ _ refl (ltb-true _ _ (subst (λ o. passes (in_list r.packages.items) (package_number o) ≡ true) given placed)) read
 

@@ -140,7 +140,8 @@ module _ (emits : Bool) (path : InterfaceId → PathTree) where
       by_same rest true e = record {
         more = next.names ++ rest.more;
         others = rest.others;
-        groups = ap (grouped_with used) rest.groups ∙ ap (λ b. if b then record used { names = used.names ++ (next.names ++ rest.more) } ∷ rest.others else used ∷ record next { names = next.names ++ rest.more } ∷ rest.others) e;
+        groups = ap (grouped_with used) rest.groups ∙ ap (λ b. if b then record used { names = used.names ++ (next.names ++ rest.more) } ∷ rest.others else used ∷ record next
+            { names = next.names ++ rest.more } ∷ rest.others) e;
         calls =
             ap (λ b. (if b then more_names_calls next.names else group_end_calls ++ new_group_calls path next) ++ uses_calls path (Some next) uses) e
             ∙ ap (λ x. more_names_calls next.names ++ x) rest.calls
@@ -183,13 +184,15 @@ module _ (emits : Bool) (path : InterfaceId → PathTree) where
 pub use_labels : (r : Resolve) (here : PackageId) (u : Use) → is_printable_use r here u ≡ true → (is_label u.own.now ≡ true) × (is_label u.other.now ≡ true)
 use_labels r here u h =
     let names : (is_label u.own.now && is_label u.other.now) ≡ true =
-    right_of (in_list r.interfaces.items u.interface.0 && is_well_path (shown_path r here u.interface)) _ (right_of (is_stability u.def.now.stability && is_well_gates (shown_gates u.def.now.stability)) _ h) in
+    right_of (in_list r.interfaces.items u.interface.0 && is_well_path (shown_path r here u.interface)) _
+    (right_of (is_stability u.def.now.stability && is_well_gates (shown_gates u.def.now.stability)) _ h) in
     (left_of _ _ names, right_of (is_label u.own.now) _ names)
 
 -- ---- texts by their characters
 
 pub chars_same : (a b : String Global) → text_eq (text_of a) (text_of b) ≡ text_eq (chars (text_of a)) (chars (text_of b))
-chars_same a b = both_ways _ _ (λ h. same_text (chars (text_of a)) (chars (text_of b)) (ap chars (text_same (text_of a) (text_of b) h))) (λ h. same_text (text_of a) (text_of b) (bytes (text_same (chars (text_of a)) (chars (text_of b)) h)))
+chars_same a b = both_ways _ _ (λ h. same_text (chars (text_of a)) (chars (text_of b)) (ap chars (text_same (text_of a) (text_of b) h)))
+    (λ h. same_text (text_of a) (text_of b) (bytes (text_same (chars (text_of a)) (chars (text_of b)) h)))
   where
     bytes : chars (text_of a) ≡ chars (text_of b) → text_of a ≡ text_of b
     bytes e = sym (encodes-chars (text_of a) (IsUtf8-string_bytes a)) ∙ (ap encodes e ∙ encodes-chars (text_of b) (IsUtf8-string_bytes b))
@@ -211,7 +214,8 @@ module _ (path : InterfaceId → PathTree) (before : Option Used) (used : Used) 
 
 -- ---- one type after the other
 
-pub next_use : (path : InterfaceId → PathTree) (before o : Option Used) (rest : List Used) → uses_calls path before (cons_option o rest) ≡ listed_use_calls path before o ++ uses_calls path (use_after before o) rest
+pub next_use : (path : InterfaceId → PathTree) (before o : Option Used) (rest : List Used)
+    → uses_calls path before (cons_option o rest) ≡ listed_use_calls path before o ++ uses_calls path (use_after before o) rest
 next_use path before None rest = refl
 next_use path before (Some used) rest = refl
 
@@ -230,6 +234,7 @@ listed_plain r o (t ∷ ts) = cons (listed_use r o t) (one (type_at r t.id.0)) (
     one None = refl
     one (Some def) = use_plain o t.name def r
 
-    cons : (u : Option Used) → passes is_plain_use u ≡ true → list_all is_plain_use (filter_map (listed_use r o) ts) ≡ true → list_all is_plain_use (cons_option u (filter_map (listed_use r o) ts)) ≡ true
+    cons : (u : Option Used) → passes is_plain_use u ≡ true → list_all is_plain_use (filter_map (listed_use r o) ts) ≡ true
+        → list_all is_plain_use (cons_option u (filter_map (listed_use r o) ts)) ≡ true
     cons None h rest = rest
     cons (Some used) h rest = both (is_plain_use used) _ h rest

@@ -43,7 +43,8 @@ module _ (r : Resolve) (valid : IsValid r) where
       both (is_well_prefix (function_prefix f)) _ (function_prefix_well f named)
       (both (is_label (text_of f.name)) _ (freestanding_label f named free) (signature_well r valid f (left_of _ _ known) named))
 
-  functions_known : (o : TypeOwner) (es : List (String Global × Function)) → list_all (function_in_range r) (values_of es) ≡ true → list_all function_labels (values_of es) ≡ true → list_all (λ e. text_eq (text_of e.0) (text_of e.1.name) && is_member r o e.1) es ≡ true → list_all (is_known_function r o) (map (λ e. e.1) es) ≡ true
+  functions_known : (o : TypeOwner) (es : List (String Global × Function)) → list_all (function_in_range r) (values_of es) ≡ true → list_all function_labels (values_of es) ≡ true
+      → list_all (λ e. text_eq (text_of e.0) (text_of e.1.name) && is_member r o e.1) es ≡ true → list_all (is_known_function r o) (map (λ e. e.1) es) ≡ true
   functions_known o [] range named own = refl
   functions_known o (e ∷ es) range named own =
       let inside : function_in_range r e.1 ≡ true = left_of _ _ range in
@@ -75,7 +76,8 @@ module _ (r : Resolve) (valid : IsValid r) where
   unfolding numbers_in_range order_of_types
   interface_types n i e =
       let range = right_of (passes (in_list r.packages.items) (package_number i.«package»)) _ (right_of (is_place n) _ (interface-passes numbers_in_range r valid.rules.numbers_in_range n i e)) in
-      listed_known r valid (owner.Interface (record { 0 = n })) i.types.entries (left_of _ _ range) (own_names r valid n i e) (left_of _ _ (interface-passes order_of_types r valid.rules.order_of_types n i e))
+      listed_known r valid (owner.Interface (record { 0 = n })) i.types.entries (left_of _ _ range) (own_names r valid n i e)
+      (left_of _ _ (interface-passes order_of_types r valid.rules.order_of_types n i e))
 
   pub in_package : (n : ℕ) (i : Interface) → interface_at r n ≡ Some i → is_some i.«package» ≡ true
   unfolding places
@@ -83,11 +85,13 @@ module _ (r : Resolve) (valid : IsValid r) where
 
   -- ---- members
 
-  use_well : (i : Interface) → is_some i.«package» ≡ true → (used : Used) → is_known_use r used ≡ true → is_well_member (UseMember used.prefix (path_from_owner r i.«package» used.interface) used.names) ≡ true
+  use_well : (i : Interface) → is_some i.«package» ≡ true → (used : Used) → is_known_use r used ≡ true
+      → is_well_member (UseMember used.prefix (path_from_owner r i.«package» used.interface) used.names) ≡ true
   use_well i given used known =
       let more = right_of (is_named_interface r used.interface.0) _ known in
       both (is_well_prefix used.prefix) _ (left_of _ _ more)
-      (both (is_well_path (path_from_owner r i.«package» used.interface)) _ (owner_path_well r valid i.«package» used.interface given (left_of _ _ known)) (right_of (is_well_prefix used.prefix) _ more))
+      (both (is_well_path (path_from_owner r i.«package» used.interface)) _ (owner_path_well r valid i.«package» used.interface given (left_of _ _ known))
+      (right_of (is_well_prefix used.prefix) _ more))
 
   -- What is shown of an interface is well named.
   pub interface_well : (id : InterfaceId) (i : Interface) → interface_at r id.0 ≡ Some i → list_all is_well_member (shown_interface r id i) ≡ true
@@ -102,7 +106,8 @@ module _ (r : Resolve) (valid : IsValid r) where
       (uses_known r valid (owner.Interface id) refl (listed_types i) (interface_types id.0 i e)))
       (each_well is_well_declared_with (λ d. TypeMember d.prefix d.declared) is_well_member (λ d h. h) declarations
       (declarations_well r valid (owner.Interface id) refl (listed_functions i) (listed_types i) (interface_functions id.0 i e) (interface_types id.0 i e))))
-      (kept_well (is_known_function r (owner.Interface id)) (λ f. is_freestanding f.kind) (shown_function r) is_well_member (function_well (owner.Interface id)) (listed_functions i) (interface_functions id.0 i e))
+      (kept_well (is_known_function r (owner.Interface id)) (λ f. is_freestanding f.kind) (shown_function r) is_well_member (function_well (owner.Interface id)) (listed_functions i)
+      (interface_functions id.0 i e))
     where
       uses : List Used
       uses = shown_uses r (owner.Interface id) (listed_types i)

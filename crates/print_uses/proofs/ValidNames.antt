@@ -44,23 +44,27 @@ after_first_dot xs ys h =
 -- the prefix stands before what follows it
 
 -- what follows a front, a label and a dot
-member_label : (front name : Text) (f : Function) → list_all is_no_dot front ≡ true → is_label name ≡ true → is_member_name (front ++ (name ++ (46 ∷ []))) f ≡ true → is_label (after_dot (text_of f.name)) ≡ true
+member_label : (front name : Text) (f : Function) → list_all is_no_dot front ≡ true → is_label name ≡ true → is_member_name (front ++ (name ++ (46 ∷ []))) f ≡ true
+    → is_label (after_dot (text_of f.name)) ≡ true
 member_label front name f plain label h = go (after_prefix (front ++ (name ++ (46 ∷ []))) (text_of f.name)) refl h
   where
     go : (o : Option Text) → after_prefix (front ++ (name ++ (46 ∷ []))) (text_of f.name) ≡ o → option_map_or is_label o false ≡ true → is_label (after_dot (text_of f.name)) ≡ true
     go None e g = absurd cc
     go (Some rest) e g =
         let whole : text_of f.name ≡ (front ++ (name ++ (46 ∷ []))) ++ rest = after_sound (front ++ (name ++ (46 ∷ []))) (text_of f.name) rest e in
-        let again : (front ++ (name ++ (46 ∷ []))) ++ rest ≡ (front ++ name) ++ (46 ∷ rest) = ap (λ t. t ++ rest) (sym (append_assoc front name (46 ∷ []))) ∙ append_assoc (front ++ name) (46 ∷ []) rest in
+        let again : (front ++ (name ++ (46 ∷ []))) ++ rest ≡ (front ++ name) ++ (46 ∷ rest) =
+        ap (λ t. t ++ rest) (sym (append_assoc front name (46 ∷ []))) ∙ append_assoc (front ++ name) (46 ∷ []) rest in
         let lacks : list_all is_no_dot (front ++ name) ≡ true = joined_well is_no_dot front name plain (label_lacks 46 refl name label) in
         let after : after_dot (text_of f.name) ≡ rest = ap after_dot (whole ∙ again) ∙ after_first_dot (front ++ name) rest lacks in
         subst (λ t. is_label t ≡ true) (sym after) g
 
-method_label : (f : Function) (also : Bool) (name : Option Text) → passes is_label name ≡ true → option_map_or (λ t. is_member_name (method_name t []) f && also) name false ≡ true → is_label (after_dot (text_of f.name)) ≡ true
+method_label : (f : Function) (also : Bool) (name : Option Text) → passes is_label name ≡ true → option_map_or (λ t. is_member_name (method_name t []) f && also) name false ≡ true
+    → is_label (after_dot (text_of f.name)) ≡ true
 method_label f also None label h = absurd cc
 method_label f also (Some t) label h = member_label (codes "[method]") t f refl label (left_of (is_member_name (method_name t []) f) also h)
 
-static_label : (f : Function) (name : Option Text) → passes is_label name ≡ true → option_map_or (λ t. is_member_name (static_name t []) f) name false ≡ true → is_label (after_dot (text_of f.name)) ≡ true
+static_label : (f : Function) (name : Option Text) → passes is_label name ≡ true → option_map_or (λ t. is_member_name (static_name t []) f) name false ≡ true
+    → is_label (after_dot (text_of f.name)) ≡ true
 static_label f None label h = absurd cc
 static_label f (Some t) label h = member_label (codes "[static]") t f refl label h
 
@@ -83,7 +87,8 @@ module _ (r : Resolve) (valid : IsValid r) where
   pub item_name_well : (o : TypeOwner) (f : Function) → function_labels f ≡ true → is_member r o f ≡ true → is_label (item_name f) ≡ true
   item_name_well o f named belongs = go f.kind (left_of _ _ named) belongs
     where
-      go : (k : FunctionKind) → (not (is_freestanding k) || is_label (text_of f.name)) ≡ true → passes (λ n. option_map_or (λ name. is_member_of r n name f k) (resource_name r o n) false) (resource_of k) ≡ true → is_label (own_name_of k (text_of f.name)) ≡ true
+      go : (k : FunctionKind) → (not (is_freestanding k) || is_label (text_of f.name)) ≡ true
+          → passes (λ n. option_map_or (λ name. is_member_of r n name f k) (resource_name r o n) false) (resource_of k) ≡ true → is_label (own_name_of k (text_of f.name)) ≡ true
       go call.Freestanding own member = own
       go call.AsyncFreestanding own member = own
       go (call.Method id) own member = method_label f (takes_self r id.0 f) (resource_name r o id.0) (resource_name_label o id.0) member

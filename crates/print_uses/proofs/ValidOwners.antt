@@ -74,7 +74,8 @@ module _ (r : Resolve) (valid : IsValid r) where
       let number : n ≡ 0 + n = omega arith in
       subst (λ m. references.type_ r m def ≡ true) number (kept_numbers r valid.rules n def e)))
 
-  module _ (n : ℕ) (def : TypeDef) (at : type_at r n ≡ Some def) (t : TypeId) (alias : def.kind ≡ defined.Type_ (value.Id t)) (target : TypeDef) (there : type_at r t.0 ≡ Some target) (named : is_some target.name ≡ true) where
+  module _ (n : ℕ) (def : TypeDef) (at : type_at r n ≡ Some def) (t : TypeId) (alias : def.kind ≡ defined.Type_ (value.Id t)) (target : TypeDef) (there : type_at r t.0 ≡ Some target)
+      (named : is_some target.name ≡ true) where
     -- an alias uses its target alone
     uses_target : list_all (has_owner r def.owner) (used_by_type r def) ≡ same_owner target.owner def.owner
     uses_target =
@@ -89,12 +90,14 @@ module _ (r : Resolve) (valid : IsValid r) where
 
     named_by_use : is_use r def ≡ true → has_named_owner r target ≡ true
     named_by_use h =
-        let found = given-test (λ m. option_map_or (λ other. not (same_owner other.owner def.owner) && has_named_owner r other) (type_at r m) false) (alias_target def.kind) false t.0 (ap alias_target alias) h in
+        let found = given-test (λ m. option_map_or (λ other. not (same_owner other.owner def.owner) && has_named_owner r other) (type_at r m) false) (alias_target def.kind) false t.0
+        (ap alias_target alias) h in
         let both_hold = given-test (λ other. not (same_owner other.owner def.owner) && has_named_owner r other) (type_at r t.0) false target there found in
         right_of (not (same_owner target.owner def.owner)) _ both_hold
 
     -- The interface of an alias's target has a name, where it isn't the alias's own.
-    pub target_interface_named : (o : TypeOwner) → same_owner o owner.None ≡ false → same_owner def.owner o ≡ true → (id : InterfaceId) → target.owner ≡ owner.Interface id → same_owner o (owner.Interface id) ≡ false → is_named_interface r id.0 ≡ true
+    pub target_interface_named : (o : TypeOwner) → same_owner o owner.None ≡ false → same_owner def.owner o ≡ true → (id : InterfaceId) → target.owner ≡ owner.Interface id
+        → same_owner o (owner.Interface id) ≡ false → is_named_interface r id.0 ≡ true
     unfolding owners
     target_interface_named o placed home id its differs =
         let own : def.owner ≡ o = same_owner_is def.owner o home in
@@ -119,7 +122,8 @@ module _ (r : Resolve) (valid : IsValid r) where
   pub own_names : (n : ℕ) (i : Interface) → interface_at r n ≡ Some i → list_all (λ e. has_name r (λ name. text_eq name (text_of e.0)) e.1.0) i.types.entries ≡ true
   own_names n i e = go (option_map (λ x. x.1.0) (find (λ x. not (has_name r (λ name. text_eq name (text_of x.0)) x.1.0)) i.types.entries)) refl
     where
-      go : (o : Option ℕ) → option_map (λ x. x.1.0) (find (λ x. not (has_name r (λ name. text_eq name (text_of x.0)) x.1.0)) i.types.entries) ≡ o → list_all (λ x. has_name r (λ name. text_eq name (text_of x.0)) x.1.0) i.types.entries ≡ true
+      go : (o : Option ℕ) → option_map (λ x. x.1.0) (find (λ x. not (has_name r (λ name. text_eq name (text_of x.0)) x.1.0)) i.types.entries) ≡ o
+          → list_all (λ x. has_name r (λ name. text_eq name (text_of x.0)) x.1.0) i.types.entries ≡ true
       go None q = interface_fits r i q
       go (Some m) q = absurd (none_breaks r valid.rules 5 lists.Types m (misnamed_in_interface_breaks r n i e listed_interfaces m (sym q)))
 
@@ -133,7 +137,9 @@ module _ (r : Resolve) (valid : IsValid r) where
       go (Some s) label same = subst (λ t. is_label t ≡ true) (text_same (text_of s) key same) label
 
   -- Entries in range, under their own names, whose types are named ones of the owner.
-  pub listed_known : (o : TypeOwner) (es : List (String Global × TypeId)) → list_all (λ id. in_list r.types.items id.0) (values_of es) ≡ true → list_all (λ e. has_name r (λ name. text_eq name (text_of e.0)) e.1.0) es ≡ true → list_all (is_named_of r o) (map (λ id. id.0) (values_of es)) ≡ true → list_all (is_known_listed r o) (map (λ e. record { name = text_of e.0; id = e.1 }) es) ≡ true
+  pub listed_known : (o : TypeOwner) (es : List (String Global × TypeId)) → list_all (λ id. in_list r.types.items id.0) (values_of es) ≡ true
+      → list_all (λ e. has_name r (λ name. text_eq name (text_of e.0)) e.1.0) es ≡ true → list_all (is_named_of r o) (map (λ id. id.0) (values_of es)) ≡ true
+      → list_all (is_known_listed r o) (map (λ e. record { name = text_of e.0; id = e.1 }) es) ≡ true
   listed_known o [] range names own = refl
   listed_known o (e ∷ es) range names own =
       let inside : in_list r.types.items e.1.0 ≡ true = left_of _ _ range in

@@ -65,7 +65,8 @@ module _ (r : Resolve) (valid : IsValid r) where
   path_from_well : (here : PackageId) (i : Interface) → is_label (present_name i.name) ≡ true → is_well_path (path_from r here i) ≡ true
   path_from_well here i label = go i.«package»
     where
-      pick : (b : Bool) (p : Option Package) → ((x : Package) → p ≡ Some x → is_well_path (full_path (present_name i.name) x) ≡ true) → is_well_path (if b then Local (present_name i.name) else option_map_or (full_path (present_name i.name)) p (Local (present_name i.name))) ≡ true
+      pick : (b : Bool) (p : Option Package) → ((x : Package) → p ≡ Some x → is_well_path (full_path (present_name i.name) x) ≡ true)
+          → is_well_path (if b then Local (present_name i.name) else option_map_or (full_path (present_name i.name)) p (Local (present_name i.name))) ≡ true
       pick true p full = label
       pick false None full = label
       pick false (Some x) full = full x refl
@@ -99,28 +100,39 @@ module _ (r : Resolve) (valid : IsValid r) where
     use_known own n def at home label = go def.kind refl
       where
         gates : is_well_prefix (shown_prefix (record { contents = None }) def.stability def.external_id) ≡ true
-        gates = shown_prefix_well (record { contents = None }) def.stability def.external_id (left_of _ _ (right_of (passes (λ s. is_label (text_of s)) def.name) _ (type_rule r valid labels valid.rules.labels n def at)))
+        gates = shown_prefix_well (record { contents = None }) def.stability def.external_id
+            (left_of _ _ (right_of (passes (λ s. is_label (text_of s)) def.name) _ (type_rule r valid labels valid.rules.labels n def at)))
 
         to_interface : (t : TypeId) (target : TypeDef) (id : InterfaceId) → is_label (present_name target.name) ≡ true → is_named_interface r id.0 ≡ true
-            → is_known_use r (record { interface = id; prefix = shown_prefix (record { contents = None }) def.stability def.external_id; names = record { other = present_name target.name; own = own_name own (present_name target.name) } ∷ [] }) ≡ true
+            → is_known_use r (record {
+              interface = id;
+              prefix = shown_prefix (record { contents = None }) def.stability def.external_id;
+              names =
+                  record { other = present_name target.name; own = own_name own (present_name target.name) } ∷ [];
+            }) ≡ true
         to_interface t target id other named =
-            let one : is_well_used (record { other = present_name target.name; own = own_name own (present_name target.name) }) ≡ true = both (is_label (present_name target.name)) _ other (own_name_well own (present_name target.name) label) in
+            let one : is_well_used (record { other = present_name target.name; own = own_name own (present_name target.name) }) ≡ true =
+            both (is_label (present_name target.name)) _ other (own_name_well own (present_name target.name) label) in
             both (is_named_interface r id.0) _ named (both (is_well_prefix (shown_prefix (record { contents = None }) def.stability def.external_id)) _ gates (both _ _ refl (both _ _ one refl)))
 
-        by_owner : (t : TypeId) → def.kind ≡ defined.Type_ (value.Id t) → (target : TypeDef) → type_at r t.0 ≡ Some target → is_some target.name ≡ true → (w : TypeOwner) → target.owner ≡ w → passes (is_known_use r) (used_of r o own (record def { kind = defined.Type_ (value.Id t) })) ≡ true
+        by_owner : (t : TypeId) → def.kind ≡ defined.Type_ (value.Id t) → (target : TypeDef) → type_at r t.0 ≡ Some target → is_some target.name ≡ true → (w : TypeOwner) → target.owner ≡ w
+            → passes (is_known_use r) (used_of r o own (record def { kind = defined.Type_ (value.Id t) })) ≡ true
         by_owner t alias target there named (owner.World id) its = rw (there, its) refl
         by_owner t alias target there named owner.None its = rw (there, its) refl
         by_owner t alias target there named (owner.Interface id) its = elim (cases_Bool (same_owner o (owner.Interface id))) [
           | inl same ↦ rw (there, its, same) refl
-          | inr differs ↦ rw (there, its, differs) (to_interface t target id (name_well r valid t.0 target there named) (target_interface_named r valid n def at t alias target there named o placed home id its differs))
+          | inr differs ↦ rw (there, its, differs) (to_interface t target id (name_well r valid t.0 target there named)
+              (target_interface_named r valid n def at t alias target there named o placed home id its differs))
         ]
 
-        by_target : (t : TypeId) → def.kind ≡ defined.Type_ (value.Id t) → (d : Option TypeDef) → type_at r t.0 ≡ d → passes (λ target. is_some target.name) d ≡ true → passes (is_known_use r) (used_of r o own (record def { kind = defined.Type_ (value.Id t) })) ≡ true
+        by_target : (t : TypeId) → def.kind ≡ defined.Type_ (value.Id t) → (d : Option TypeDef) → type_at r t.0 ≡ d → passes (λ target. is_some target.name) d ≡ true
+            → passes (is_known_use r) (used_of r o own (record def { kind = defined.Type_ (value.Id t) })) ≡ true
         by_target t alias None there named = rw there refl
         by_target t alias (Some target) there named = by_owner t alias target there named target.owner refl
 
         target_named : (t : TypeId) → def.kind ≡ defined.Type_ (value.Id t) → passes (λ target. is_some target.name) (type_at r t.0) ≡ true
-        target_named t alias = subst (λ a. passes (is_named_number r) a ≡ true) (ap alias_target alias) (right_of (not (is_named_kind def.kind) || is_some def.name) _ (type_rule r valid named_kinds valid.rules.named_kinds n def at))
+        target_named t alias = subst (λ a. passes (is_named_number r) a ≡ true) (ap alias_target alias)
+            (right_of (not (is_named_kind def.kind) || is_some def.name) _ (type_rule r valid named_kinds valid.rules.named_kinds n def at))
 
         by_type : (t : ValueType) → def.kind ≡ defined.Type_ t → passes (is_known_use r) (used_of r o own (record def { kind = defined.Type_ t })) ≡ true
         by_type (value.Id t) alias = by_target t alias (type_at r t.0) refl (target_named t alias)
@@ -146,7 +158,8 @@ module _ (r : Resolve) (valid : IsValid r) where
 
         go : (b : Bool) → list_all (is_known_use r) (if b then record used { names = used.names ++ group.names } ∷ groups else used ∷ group ∷ groups) ≡ true
         go true = both (is_known_use r (record used { names = used.names ++ group.names })) _
-            (both (is_named_interface r used.interface.0) _ named (both (is_well_prefix used.prefix) _ (left_of _ _ more) (joined_some is_well_used used.names group.names (right_of (is_well_prefix used.prefix) _ more) (right_of (is_well_prefix group.prefix) _ others))))
+            (both (is_named_interface r used.interface.0) _ named (both (is_well_prefix used.prefix) _ (left_of _ _ more)
+            (joined_some is_well_used used.names group.names (right_of (is_well_prefix used.prefix) _ more) (right_of (is_well_prefix group.prefix) _ others))))
             (right_of (is_known_use r group) _ rest)
         go false = both (is_known_use r used) _ h rest
 
@@ -158,23 +171,28 @@ module _ (r : Resolve) (valid : IsValid r) where
     pub uses_known : (types : List Listed) → list_all (is_known_listed r o) types ≡ true → list_all (is_known_use r) (shown_uses r o types) ≡ true
     uses_known types h =
         grouped_known (filter_map (λ listed. option_and_then (used_of r o listed.name) (type_at r listed.id.0)) types)
-        (given_well (is_known_listed r o) (λ listed. option_and_then (used_of r o listed.name) (type_at r listed.id.0)) (is_known_use r) (λ listed known. one listed known (type_at r listed.id.0) refl (right_of (is_label listed.name) _ known)) types h)
+        (given_well (is_known_listed r o) (λ listed. option_and_then (used_of r o listed.name) (type_at r listed.id.0)) (is_known_use r)
+        (λ listed known. one listed known (type_at r listed.id.0) refl (right_of (is_label listed.name) _ known)) types h)
       where
-        one : (listed : Listed) → is_known_listed r o listed ≡ true → (d : Option TypeDef) → type_at r listed.id.0 ≡ d → passes (λ def. is_some def.name && same_owner def.owner o) d ≡ true → passes (is_known_use r) (option_and_then (used_of r o listed.name) d) ≡ true
+        one : (listed : Listed) → is_known_listed r o listed ≡ true → (d : Option TypeDef) → type_at r listed.id.0 ≡ d → passes (λ def. is_some def.name && same_owner def.owner o) d ≡ true
+            → passes (is_known_use r) (option_and_then (used_of r o listed.name) d) ≡ true
         one listed known None e own = refl
         one listed known (Some def) e own = use_known listed.name listed.id.0 def e (right_of (is_some def.name) _ own) (left_of _ _ known)
 
     -- The other known types are declared, and shown well.
-    pub declarations_well : (functions : List Function) (types : List Listed) → list_all (is_known_function r o) functions ≡ true → list_all (is_known_listed r o) types ≡ true → list_all is_well_declared_with (shown_declarations r o functions types) ≡ true
+    pub declarations_well : (functions : List Function) (types : List Listed) → list_all (is_known_function r o) functions ≡ true → list_all (is_known_listed r o) types ≡ true
+        → list_all is_well_declared_with (shown_declarations r o functions types) ≡ true
     unfolding labels
     declarations_well functions types functions_known h =
-        given_well (is_known_listed r o) (λ listed. option_and_then (declared_with r o functions listed) (type_at r listed.id.0)) is_well_declared_with (λ listed known. one listed (type_at r listed.id.0) refl (right_of (is_label listed.name) _ known)) types h
+        given_well (is_known_listed r o) (λ listed. option_and_then (declared_with r o functions listed) (type_at r listed.id.0)) is_well_declared_with
+        (λ listed known. one listed (type_at r listed.id.0) refl (right_of (is_label listed.name) _ known)) types h
       where
         pick : (b : Bool) (d : DeclaredWith) → is_well_declared_with d ≡ true → passes is_well_declared_with (if b then None else Some d) ≡ true
         pick true d h = refl
         pick false d h = h
 
-        one : (listed : Listed) → (d : Option TypeDef) → type_at r listed.id.0 ≡ d → passes (λ def. is_some def.name && same_owner def.owner o) d ≡ true → passes is_well_declared_with (option_and_then (declared_with r o functions listed) d) ≡ true
+        one : (listed : Listed) → (d : Option TypeDef) → type_at r listed.id.0 ≡ d → passes (λ def. is_some def.name && same_owner def.owner o) d ≡ true
+            → passes is_well_declared_with (option_and_then (declared_with r o functions listed) d) ≡ true
         one listed None e own = refl
         one listed (Some def) e own =
             let gates : is_stability def.stability ≡ true = left_of _ _ (right_of (passes (λ s. is_label (text_of s)) def.name) _ (type_rule r valid labels valid.rules.labels listed.id.0 def e)) in

@@ -11,12 +11,14 @@ use Rattle.base_lemmas.proofs.Elements.{joined_well}
 -- what a test asks where another passes
 
 -- what is made of each element
-pub each_well : {X Y : Type 0} (known : X → Bool) (shown : X → Y) (well : Y → Bool) → ((x : X) → known x ≡ true → well (shown x) ≡ true) → (xs : List X) → list_all known xs ≡ true → list_all well (map shown xs) ≡ true
+pub each_well : {X Y : Type 0} (known : X → Bool) (shown : X → Y) (well : Y → Bool) → ((x : X) → known x ≡ true → well (shown x) ≡ true) → (xs : List X) → list_all known xs ≡ true
+    → list_all well (map shown xs) ≡ true
 each_well known shown well each [] h = refl
 each_well known shown well each (x ∷ xs) h = both (well (shown x)) _ (each x (left_of _ _ h)) (each_well known shown well each xs (right_of (known x) _ h))
 
 -- what is made of each element that passes another test
-pub kept_well : {X Y : Type 0} (known test : X → Bool) (shown : X → Y) (well : Y → Bool) → ((x : X) → known x ≡ true → test x ≡ true → well (shown x) ≡ true) → (xs : List X) → list_all known xs ≡ true → list_all well (map shown (filter test xs)) ≡ true
+pub kept_well : {X Y : Type 0} (known test : X → Bool) (shown : X → Y) (well : Y → Bool) → ((x : X) → known x ≡ true → test x ≡ true → well (shown x) ≡ true) → (xs : List X) → list_all known xs ≡ true
+    → list_all well (map shown (filter test xs)) ≡ true
 kept_well known test shown well each [] h = refl
 kept_well known test shown well each (x ∷ xs) h = elim (cases_Bool (test x)) [
   | inl yes_ ↦ rw yes_ (both _ _ (each x (left_of _ _ h) yes_) (kept_well known test shown well each xs (right_of (known x) _ h)))
@@ -24,7 +26,8 @@ kept_well known test shown well each (x ∷ xs) h = elim (cases_Bool (test x)) [
 ]
 
 -- what is given by some elements
-pub given_well : {X Y : Type 0} (known : X → Bool) (give : X → Option Y) (well : Y → Bool) → ((x : X) → known x ≡ true → passes well (give x) ≡ true) → (xs : List X) → list_all known xs ≡ true → list_all well (filter_map give xs) ≡ true
+pub given_well : {X Y : Type 0} (known : X → Bool) (give : X → Option Y) (well : Y → Bool) → ((x : X) → known x ≡ true → passes well (give x) ≡ true) → (xs : List X) → list_all known xs ≡ true
+    → list_all well (filter_map give xs) ≡ true
 given_well known give well each [] h = refl
 given_well known give well each (x ∷ xs) h = one_more (give x) (each x (left_of _ _ h)) (given_well known give well each xs (right_of (known x) _ h))
   where

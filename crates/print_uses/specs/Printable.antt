@@ -35,7 +35,8 @@ use Rattle.print_grammar.specs.Calls.{members_calls, printed_after, space, doc_c
 abbrev pub is_printable_type : Resolve → List Function → TypeId → Bool
 is_printable_type r functions id =
     in_list r.types.items id.0
-    && option_map_or (λ def. is_well_prefix (shown_prefix def.docs def.stability def.external_id) && is_well_declared (shown_declared r functions id def)) (type_at r id.0) false
+    && option_map_or (λ def. is_well_prefix (shown_prefix def.docs def.stability def.external_id) && is_well_declared (shown_declared r functions id def))
+    (type_at r id.0) false
 
 -- the declaration of a type
 abbrev pub declaration_of : Resolve → List Function → TypeId → List MemberTree
@@ -50,7 +51,8 @@ is_shown_item k other = false
 
 -- one of a world of the package `here`, in range and well named
 abbrev pub is_printable_entry : Resolve → PackageId → WorldKey × WorldItem → Bool
-is_printable_entry r here entry = (key_in_range r entry.0 && item_in_range r entry.1) && (is_shown_item entry.0 entry.1 && is_well_world_member (shown_import r here entry))
+is_printable_entry r here entry = (key_in_range r entry.0 && item_in_range r entry.1)
+    && (is_shown_item entry.0 entry.1 && is_well_world_member (shown_import r here entry))
 
 -- the calls for an import or an export
 abbrev pub entry_calls : Bool → Resolve → PackageId → Text → WorldKey × WorldItem → List OutputCall
@@ -97,12 +99,14 @@ imports_calls emits_docs r here id w =
 abbrev pub world_body_calls : Bool → Resolve → PackageId → WorldId → World → List OutputCall
 world_body_calls emits_docs r here id w =
     imports_calls emits_docs r here id w
-    ++ (line_between (printed_imports r here id w && has_items w.exports.entries) ++ flat_map (entry_calls emits_docs r here (codes "export")) w.exports.entries)
+    ++ (line_between (printed_imports r here id w && has_items w.exports.entries) ++ flat_map (entry_calls emits_docs r here (codes "export"))
+    w.exports.entries)
 
 -- the calls for a world's documentation, gates and name, and the start of its block
 abbrev pub world_start_calls : Bool → Text → World → List OutputCall
 world_start_calls emits_docs name w =
-    doc_calls emits_docs (shown_docs w.docs) ++ gates_calls (shown_gates w.stability) ++ (Keyword (codes "world") ∷ space ∷ Ty (escaped name) WorldDeclaration ∷ IndentStart ∷ [])
+    doc_calls emits_docs (shown_docs w.docs) ++ gates_calls (shown_gates w.stability)
+    ++ (Keyword (codes "world") ∷ space ∷ Ty (escaped name) WorldDeclaration ∷ IndentStart ∷ [])
 
 -- the calls for a world under a name
 abbrev pub world_calls : Bool → Resolve → PackageId → Text → WorldId → World → List OutputCall

@@ -115,7 +115,8 @@ listed_use_calls path before (Some used) = use_run_calls path before used
 -- the declaration that a listed type is, if it is no use
 abbrev pub listed_declaration : Resolve → TypeOwner → List Function → Listed → List MemberTree
 listed_declaration r here functions listed =
-    option_map_or (λ (d : DeclaredWith). TypeMember d.prefix d.declared ∷ []) (option_and_then (declared_with r here functions listed) (type_at r listed.id.0)) []
+    option_map_or (λ (d : DeclaredWith). TypeMember d.prefix d.declared ∷ [])
+    (option_and_then (declared_with r here functions listed) (type_at r listed.id.0)) []
 
 -- uses and then declared types of an owner in the package `here`, with the functions among which a resource's stand
 abbrev pub use_members : Resolve → PackageId → TypeOwner → List Listed → List MemberTree

@@ -63,7 +63,8 @@ unknown_same (stability.Stable since deprecated) new e h = no_true h
 unknown_same (stability.Unstable feature deprecated) new e h = no_true h
 
 bare_same : (d e : Docs) (s t : Stability) → optional_text e.contents ≡ optional_text d.contents → stability_view t ≡ stability_view s → is_bare d s ≡ true → is_bare e t ≡ true
-bare_same d e s t docs view h = both (is_undocumented e) (is_unknown t) (none_same d.contents e.contents docs (first_true (is_undocumented d) (is_unknown s) h)) (unknown_same s t view (second_true (is_undocumented d) (is_unknown s) h))
+bare_same d e s t docs view h = both (is_undocumented e) (is_unknown t) (none_same d.contents e.contents docs (first_true (is_undocumented d) (is_unknown s) h))
+    (unknown_same s t view (second_true (is_undocumented d) (is_unknown s) h))
 
 -- ---- lists
 
@@ -119,7 +120,8 @@ members_bare (kind.Type_ t) = refl
 type_bare : (old new : TypeDef) → type_notes new ≡ type_notes old → is_bare_type old ≡ true → is_bare_type new ≡ true
 type_bare old new is h =
     both (is_bare new.docs new.stability) (is_bare_kind new.kind)
-    (bare_same old.docs new.docs old.stability new.stability (ap (λ (n : Notes). n.docs) is) (ap (λ (n : Notes). n.stability) is) (first_true (is_bare old.docs old.stability) (is_bare_kind old.kind) h))
+    (bare_same old.docs new.docs old.stability new.stability (ap (λ (n : Notes). n.docs) is) (ap (λ (n : Notes). n.stability) is)
+    (first_true (is_bare old.docs old.stability) (is_bare_kind old.kind) h))
     (members_bare new.kind ∙ (ap (λ (n : Notes). list_all has_none n.of_members) is ∙ (sym (members_bare old.kind) ∙ second_true (is_bare old.docs old.stability) (is_bare_kind old.kind) h)))
 
 -- ---- interfaces
@@ -127,7 +129,8 @@ type_bare old new is h =
 function_bare : (numbers : List ℕ) (old new : Function) → IsFunctionUnder numbers old new → is_bare_function old ≡ true → is_bare_function new ≡ true
 function_bare numbers old new is h = bare_same old.docs new.docs old.stability new.stability is.docs is.stability h
 
-functions_bare : (numbers : List ℕ) (olds news : List (String Global × Function)) → AllZip (IsFunctionEntryUnder numbers) olds news → list_all is_bare_function (map (λ (e : String Global × Function). e.1) olds) ≡ true → list_all is_bare_function (map (λ (e : String Global × Function). e.1) news) ≡ true
+functions_bare : (numbers : List ℕ) (olds news : List (String Global × Function)) → AllZip (IsFunctionEntryUnder numbers) olds news
+    → list_all is_bare_function (map (λ (e : String Global × Function). e.1) olds) ≡ true → list_all is_bare_function (map (λ (e : String Global × Function). e.1) news) ≡ true
 functions_bare numbers [] [] zip h = refl
 functions_bare numbers [] (y ∷ ys) zip h = absurd zip
 functions_bare numbers (x ∷ xs) [] zip h = refl
@@ -136,7 +139,8 @@ functions_bare numbers (x ∷ xs) (y ∷ ys) zip h =
     (function_bare numbers x.1 y.1 zip.0.1 (first_true (is_bare_function x.1) (list_all is_bare_function (map (λ (e : String Global × Function). e.1) xs)) h))
     (functions_bare numbers xs ys zip.1 (second_true (is_bare_function x.1) (list_all is_bare_function (map (λ (e : String Global × Function). e.1) xs)) h))
 
-interface_bare : (numbers : List ℕ) (home : Option PackageId) (old new : Interface) → IsInterfaceUnder numbers home old new → IsUnique string_eq old.functions → is_bare_interface old ≡ true → is_bare_interface new ≡ true
+interface_bare : (numbers : List ℕ) (home : Option PackageId) (old new : Interface) → IsInterfaceUnder numbers home old new → IsUnique string_eq old.functions → is_bare_interface old ≡ true
+    → is_bare_interface new ≡ true
 interface_bare numbers home old new is unique h =
     both (is_bare new.docs new.stability) (list_all is_bare_function (values new.functions))
     (bare_same old.docs new.docs old.stability new.stability is.docs is.stability (first_true (is_bare old.docs old.stability) (list_all is_bare_function (values old.functions)) h))
@@ -158,7 +162,8 @@ item_bare interfaces types (item.Type_ a) (item.Function g) is h = absurd is
 abbrev items : List (WorldKey × WorldItem) → List WorldItem
 items es = map (λ (e : WorldKey × WorldItem). e.1) es
 
-items_bare : (interfaces types : List ℕ) (olds news : List (WorldKey × WorldItem)) → AllZip (IsEntryUnder interfaces types) olds news → ((e : WorldKey × WorldItem) → Contains olds e → is_bare_item e.1 ≡ true) → list_all is_bare_item (items news) ≡ true
+items_bare : (interfaces types : List ℕ) (olds news : List (WorldKey × WorldItem)) → AllZip (IsEntryUnder interfaces types) olds news
+    → ((e : WorldKey × WorldItem) → Contains olds e → is_bare_item e.1 ≡ true) → list_all is_bare_item (items news) ≡ true
 items_bare interfaces types [] [] zip h = refl
 items_bare interfaces types [] (y ∷ ys) zip h = absurd zip
 items_bare interfaces types (x ∷ xs) [] zip h = refl
@@ -167,7 +172,8 @@ items_bare interfaces types (x ∷ xs) (y ∷ ys) zip h =
     (items_bare interfaces types xs ys zip.1 (λ e held. h e (contains-later x xs e held)))
 
 -- those of a list that pass a test, where all items of the list are bare
-chosen_bare : (interfaces types : List ℕ) (test : WorldKey × WorldItem → Bool) (olds news : List (WorldKey × WorldItem)) → AllZip (IsEntryUnder interfaces types) (filter test olds) news → list_all is_bare_item (items olds) ≡ true → list_all is_bare_item (items news) ≡ true
+chosen_bare : (interfaces types : List ℕ) (test : WorldKey × WorldItem → Bool) (olds news : List (WorldKey × WorldItem)) → AllZip (IsEntryUnder interfaces types) (filter test olds) news
+    → list_all is_bare_item (items olds) ≡ true → list_all is_bare_item (items news) ≡ true
 chosen_bare interfaces types test olds news zip h =
     items_bare interfaces types (filter test olds) news zip
     (λ e held. all-contained is_bare_item (items olds) e.1 h (contains-map (λ (x : WorldKey × WorldItem). x.1) olds e (from-filter test olds e held).0))
@@ -191,16 +197,20 @@ module _ (w : World) (h : is_bare_world w ≡ true) where
   exports_are = second_true (list_all is_bare_item (values w.imports)) (list_all is_bare_item (values w.exports)) (second_true (own_bare w) (both_bare w) h)
 
 world_bare : (c : CarriedThings) (types : List ℕ) (old new : World) → IsWorldCarried c types old new
-    → IsDistinct (become_one c.interfaces.items) (keys_of old.imports.entries) × IsDistinct (become_one c.interfaces.items) (keys_of old.exports.entries) → is_bare_world old ≡ true → is_bare_world new ≡ true
+    → IsDistinct (become_one c.interfaces.items) (keys_of old.imports.entries) × IsDistinct (become_one c.interfaces.items) (keys_of old.exports.entries) → is_bare_world old ≡ true
+    → is_bare_world new ≡ true
 world_bare c types old new is apart h =
     both (own_bare new) (both_bare new) (bare_same old.docs new.docs old.stability new.stability is.docs is.stability (own_is old h))
     (both (list_all is_bare_item (values new.imports)) (list_all is_bare_item (values new.exports))
     (chosen_bare c.interfaces.items types (λ (e : WorldKey × WorldItem). is_new_under c.interfaces.items [] e.0) old.imports.entries new.imports.entries (is.imports apart.0) (imports_are old h))
     (chosen_bare c.interfaces.items types (λ (e : WorldKey × WorldItem). is_new_under c.interfaces.items [] e.0) old.exports.entries new.exports.entries (is.exports apart.1) (exports_are old h)))
 
-module _ (own other merged : Resolve) (valid_own : IsValid own) (valid_other : IsValid other) (world k : ℕ) (m : Matches) (w v : World) (added : Added) (keys : List WorldKey) (u : IsUnionOf own other world k m w v added keys) (a : IsAdded key_eq world added own merged)
-    (at_own : world_at own world ≡ Some w) (at : world_at other k ≡ Some v) (all : AreMatchedAll other m) (same : AreMatchedAt own other m.interfaces.items u.carried.packages.items) (none : NoneOfPath own other m.interfaces.items)
-    (grown : Extends own merged world) (sourced : (n : ℕ) (y : TypeDef) → length own.types.items ≤ n → type_at merged n ≡ Some y → (k : ℕ) × (def : TypeDef) × (type_at other k ≡ Some def) × (type_notes y ≡ type_notes def)) (ours : IsBare own) (theirs : IsBare other) where
+module _ (own other merged : Resolve) (valid_own : IsValid own) (valid_other : IsValid other) (world k : ℕ) (m : Matches) (w v : World) (added : Added) (keys : List WorldKey)
+    (u : IsUnionOf own other world k m w v added keys) (a : IsAdded key_eq world added own merged)
+    (at_own : world_at own world ≡ Some w) (at : world_at other k ≡ Some v) (all : AreMatchedAll other m) (same : AreMatchedAt own other m.interfaces.items u.carried.packages.items)
+    (none : NoneOfPath own other m.interfaces.items)
+    (grown : Extends own merged world) (sourced : (n : ℕ) (y : TypeDef) → length own.types.items ≤ n → type_at merged n ≡ Some y → (k : ℕ) × (def : TypeDef) × (type_at other k ≡ Some def)
+    × (type_notes y ≡ type_notes def)) (ours : IsBare own) (theirs : IsBare other) where
   abbrev c : CarriedThings
   c = u.carried
 
@@ -225,14 +235,16 @@ module _ (own other merged : Resolve) (valid_own : IsValid own) (valid_other : I
   new_packages =
       ap (list_all test) u.second.packages
       ∙ zip_all (IsPackageCarried c) test (kept c.new_packages.items other.packages.items) u.before.packages.items
-      (λ x y held is. none_same x.docs.contents y.docs.contents is.docs (all-contained test other.packages.items x theirs.packages (kept_from c.new_packages.items other.packages.items x held))) u.first.packages
+      (λ x y held is. none_same x.docs.contents y.docs.contents is.docs (all-contained test other.packages.items x theirs.packages (kept_from c.new_packages.items other.packages.items x held)))
+      u.first.packages
 
   -- ---- interfaces
 
   abbrev Inline : List Interface → Type 0
   Inline is = list_all is_bare_interface is ≡ true
 
-  one_interface : (flags : List Bool) (numbers : List ℕ) (home : Option PackageId) (x y : Interface) → Contains (kept flags other.interfaces.items) x → IsInterfaceUnder numbers home x y → is_bare_interface y ≡ true
+  one_interface : (flags : List Bool) (numbers : List ℕ) (home : Option PackageId) (x y : Interface) → Contains (kept flags other.interfaces.items) x → IsInterfaceUnder numbers home x y
+      → is_bare_interface y ≡ true
   one_interface flags numbers home x y held is =
       let there = kept_from flags other.interfaces.items x held in
       let place = contains-get other.interfaces.items x there in
@@ -242,8 +254,10 @@ module _ (own other merged : Resolve) (valid_own : IsValid own) (valid_other : I
   new_interfaces =
       ap (list_all is_bare_interface) u.second.inline_copied.behind
       ∙ joined_all is_bare_interface u.before.interfaces.items u.second.inline_copied.more
-      (zip_all (IsInterfaceCarried c u.types) is_bare_interface (kept c.copied_interfaces.items other.interfaces.items) u.before.interfaces.items (λ x y held is. one_interface c.copied_interfaces.items u.types _ x y held is) u.first.interfaces)
-      (zip_all (IsInterfaceUnder u.second.types w.«package») is_bare_interface (kept u.second.copied other.interfaces.items) u.second.inline_copied.more (λ x y held is. one_interface u.second.copied u.second.types w.«package» x y held is) u.second.inline_copied.copies)
+      (zip_all (IsInterfaceCarried c u.types) is_bare_interface (kept c.copied_interfaces.items other.interfaces.items) u.before.interfaces.items
+      (λ x y held is. one_interface c.copied_interfaces.items u.types _ x y held is) u.first.interfaces)
+      (zip_all (IsInterfaceUnder u.second.types w.«package») is_bare_interface (kept u.second.copied other.interfaces.items) u.second.inline_copied.more
+      (λ x y held is. one_interface u.second.copied u.second.types w.«package» x y held is) u.second.inline_copied.copies)
 
   -- ---- types
 
@@ -252,7 +266,9 @@ module _ (own other merged : Resolve) (valid_own : IsValid own) (valid_other : I
     where
       one : (n : ℕ) (y : TypeDef) → type_at merged n ≡ Some y → is_bare_type y ≡ true
       one n y at_y = elim (either n (length own.types.items)) [
-        | inl low ↦ (let t = element_at own.types.items n low in let here : y ≡ t.0 = same-some y t.0 (sym at_y ∙ (ap (λ l. slice_get l n) a.types ∙ front_at own.types.items added.types.items n t.0 t.1)) in ap is_bare_type here ∙ at_all is_bare_type own.types.items n t.0 ours.types t.1)
+        | inl low ↦ (let t = element_at own.types.items n low in let here : y ≡ t.0 =
+            same-some y t.0 (sym at_y ∙ (ap (λ l. slice_get l n) a.types ∙ front_at own.types.items added.types.items n t.0 t.1)) in
+            ap is_bare_type here ∙ at_all is_bare_type own.types.items n t.0 ours.types t.1)
         | inr high ↦ (let x = sourced n y high at_y in type_bare x.1 y x.3 (at_all is_bare_type other.types.items x.0 x.1 theirs.types x.2))
       ]
 
@@ -270,7 +286,8 @@ module _ (own other merged : Resolve) (valid_own : IsValid own) (valid_other : I
   other_world : is_bare_world v ≡ true
   other_world = at_all is_bare_world other.worlds.items k v theirs.worlds at
 
-  behind : (whole here more : List (WorldKey × WorldItem)) → whole ≡ here ++ more → list_all is_bare_item (items here) ≡ true → list_all is_bare_item (items more) ≡ true → list_all is_bare_item (items whole) ≡ true
+  behind : (whole here more : List (WorldKey × WorldItem)) → whole ≡ here ++ more → list_all is_bare_item (items here) ≡ true → list_all is_bare_item (items more) ≡ true
+      → list_all is_bare_item (items whole) ≡ true
   behind whole here more is h l =
       ap (λ es. list_all is_bare_item (items es)) is
       ∙ (ap (list_all is_bare_item) (map-append (λ (e : WorldKey × WorldItem). e.1) here more) ∙ joined_all is_bare_item (items here) (items more) h l)
@@ -279,10 +296,12 @@ module _ (own other merged : Resolve) (valid_own : IsValid own) (valid_other : I
   bound_world =
       both (own_bare x) (both_bare x) ((λ i. is_bare (gained.docs i) (gained.stability i)) ∙ own_is w own_world)
       (both (list_all is_bare_item (values x.imports)) (list_all is_bare_item (values x.exports))
-      (behind x.imports.entries w.imports.entries added.imports.entries (gained.imports ∙ imports_behind own other valid_own valid_other world k m w v added keys u at all same none) (imports_are w own_world)
+      (behind x.imports.entries w.imports.entries added.imports.entries (gained.imports ∙ imports_behind own other valid_own valid_other world k m w v added keys u at all same none)
+      (imports_are w own_world)
       (chosen_bare u.second.interfaces u.second.types (λ (e : WorldKey × WorldItem). is_new_under u.second.interfaces w.imports.entries e.0) v.imports.entries added.imports.entries
       (u.second.imports (imports_apart own other valid_own valid_other world k m w v added keys u at all same none)) (imports_are v other_world)))
-      (behind x.exports.entries w.exports.entries added.exports.entries (gained.exports ∙ exports_behind own other valid_own valid_other world k m w v added keys u at all same none) (exports_are w own_world)
+      (behind x.exports.entries w.exports.entries added.exports.entries (gained.exports ∙ exports_behind own other valid_own valid_other world k m w v added keys u at all same none)
+      (exports_are w own_world)
       (chosen_bare u.second.interfaces u.second.types (λ (e : WorldKey × WorldItem). is_new_under u.second.interfaces w.exports.entries e.0) v.exports.entries added.exports.entries
       (u.second.exports (exports_apart own other valid_own valid_other world k m w v added keys u at all same none)) (exports_are v other_world))))
 
@@ -295,7 +314,8 @@ module _ (own other merged : Resolve) (valid_own : IsValid own) (valid_other : I
       one y z held is =
           let there = kept_from c.copied_worlds.items other.worlds.items y held in
           let place = contains-get other.worlds.items y there in
-          world_bare c u.types y z is (by_path_apart own other valid_own valid_other world k m w v added keys u at all same none place.0 y place.1) (all-contained is_bare_world other.worlds.items y theirs.worlds there)
+          world_bare c u.types y z is (by_path_apart own other valid_own valid_other world k m w v added keys u at all same none place.0 y place.1)
+          (all-contained is_bare_world other.worlds.items y theirs.worlds there)
 
   pub merged_is_bare : IsBare merged
   merged_is_bare = record {

@@ -69,7 +69,8 @@ contrary : {A : Type 0} (b : Bool) → not b ≡ true → b ≡ true → A
 contrary true h e = no_true h
 contrary false h e = no_true e
 
-module _ (own other : Resolve) (v : IsValid own) (u : IsValid other) (m : Matches) (matched : IsMatched own other m) (all : AreMatchedAll other m) (c : CarriedThings) (numbered : IsNumbered own other m c)
+module _ (own other : Resolve) (v : IsValid own) (u : IsValid other) (m : Matches) (matched : IsMatched own other m) (all : AreMatchedAll other m) (c : CarriedThings)
+    (numbered : IsNumbered own other m c)
     (same : AreMatchedAt own other m.interfaces.items c.packages.items) where
   -- ---- packages
 
@@ -102,7 +103,8 @@ module _ (own other : Resolve) (v : IsValid own) (u : IsValid other) (m : Matche
   chosen : AreChosen other m.interfaces.items c.copied_worlds.items c.copied_interfaces.items
   chosen = chosen_so own other m c (is_in_range other u) all numbered
 
-  pub new_interface_copied : (n : ℕ) (i : Interface) (path : Text) → interface_at other n ≡ Some i → path_of_interface other i ≡ Some path → is_new_interface own other i ≡ true → flag_under c.copied_interfaces.items n ≡ true
+  pub new_interface_copied : (n : ℕ) (i : Interface) (path : Text) → interface_at other n ≡ Some i → path_of_interface other i ≡ Some path → is_new_interface own other i ≡ true
+      → flag_under c.copied_interfaces.items n ≡ true
   new_interface_copied n i path at is fresh = go (is_matched m.interfaces.items n) refl
     where
       not_there : not (is_one_of (map (λ e. e.0) (interfaces_by_path own)) path) ≡ true
@@ -113,7 +115,8 @@ module _ (own other : Resolve) (v : IsValid own) (u : IsValid other) (m : Matche
       go true e =
           let x = same n e in
           let its : path_of_interface own x.image ≡ Some path = sym (ap (option_and_then (path_of_interface own)) x.at_image) ∙ (x.path ∙ (ap (option_and_then (path_of_interface other)) at ∙ is)) in
-          contrary (is_one_of (map (λ e. e.0) (interfaces_by_path own)) path) not_there (path_there (path_of_interface own) (interface_meaning own) path own.interfaces.items x.id.0 x.image x.at_image its)
+          contrary (is_one_of (map (λ e. e.0) (interfaces_by_path own)) path) not_there
+          (path_there (path_of_interface own) (interface_meaning own) path own.interfaces.items x.id.0 x.image x.at_image its)
 
   -- ---- worlds
 
@@ -136,10 +139,12 @@ module _ (own other : Resolve) (v : IsValid own) (u : IsValid other) (m : Matche
 
       no_root : (b : Bool) → is_root_world other w ≡ b → not b ≡ true
       no_root false e = refl
-      no_root true e = contrary (text_eq path root_path) (first_true (not (text_eq path root_path)) (not here) so) (same_text path root_path (root-has other u w path (world-path-of other u n w at path is) e))
+      no_root true e = contrary (text_eq path root_path) (first_true (not (text_eq path root_path)) (not here) so)
+          (same_text path root_path (root-has other u w path (world-path-of other u n w at path is) e))
 
       no_own : (o : Option WorldId) → g w ≡ o → is_none o ≡ true
       no_own None e = refl
       no_own (Some id) e =
-          let x = unpacked (path_of_world own) (world_at own id.0) path (world-in-has own other v u m.packages.items matched.packages w.«package» (text_of w.name) path (world-path-of other u n w at path is) id e) in
+          let x = unpacked (path_of_world own) (world_at own id.0) path
+          (world-in-has own other v u m.packages.items matched.packages w.«package» (text_of w.name) path (world-path-of other u n w at path is) id e) in
           contrary here (second_true (not (text_eq path root_path)) (not here) so) (path_there (path_of_world own) (world_meaning own) path own.worlds.items id.0 x.0 x.1 x.2)

@@ -64,7 +64,8 @@ use Rattle.std.proofs.lemmas.Map.Keys.{any_passes_from_place as any_at}
 type_noted : (numbers : List ℕ) (home : TypeOwner) (old new : TypeDef) → IsTypeUnder numbers home old new → type_notes new ≡ type_notes old
 type_noted numbers home old new is = λ i. record { docs = is.docs i; stability = is.stability i; external_id = is.external_id i; of_members = is.of_members i }
 
-module _ (own other merged : Resolve) (valid_own : IsValid own) (valid_other : IsValid other) (world other_world : ℕ) (w v : World) (m : Matches) (c : CarriedThings) (first_numbers : List ℕ) (p : IsFirstPass own other merged m c first_numbers) (copied : List Bool) (interfaces types : List ℕ)
+module _ (own other merged : Resolve) (valid_own : IsValid own) (valid_other : IsValid other) (world other_world : ℕ) (w v : World) (m : Matches) (c : CarriedThings) (first_numbers : List ℕ)
+    (p : IsFirstPass own other merged m c first_numbers) (copied : List Bool) (interfaces types : List ℕ)
     (s : IsSecondPass own other merged world other_world w v m c first_numbers p copied interfaces types) where
   abbrev fates : TypeFates
   fates = first_fates own other m.interfaces.items c
@@ -108,13 +109,21 @@ module _ (own other merged : Resolve) (valid_own : IsValid own) (valid_other : I
 
   -- each type behind own ones has the notes of one of the other's
   pub type_source : (n : ℕ) (y : TypeDef) → length own.types.items ≤ n → type_at merged n ≡ Some y → (k : ℕ) × (def : TypeDef) × (type_at other k ≡ Some def) × (type_notes y ≡ type_notes def)
-  type_source n y high at = elim (type_from own other merged valid_own valid_other world other_world w v m c first_numbers p copied interfaces types s n high (slice_get_within merged.types.items n y at)) [
-    | inl x ↦ let t = first_copies.carried.types x.0 (first_copies.carried.copied_types x.0 x.1) in source x.0 (first.types x.0) x.2 t.def t.found (first_type x.0 x.1)
-    | inr x ↦ let t = second_copies.carried.types x.0 (second_copies.carried.copied_types x.0 x.1) in source x.0 (second.types x.0) x.2 t.def t.found (second_type x.0 x.1)
-  ]
+  type_source n y high at = elim (type_from own other merged valid_own valid_other world other_world w v m c first_numbers p copied interfaces types s n high
+      (slice_get_within merged.types.items n y at)) [
+        | inl x ↦ let t = first_copies.carried.types x.0 (first_copies.carried.copied_types x.0 x.1) in source x.0 (first.types x.0) x.2 t.def t.found (first_type x.0 x.1)
+        | inr x ↦ let t = second_copies.carried.types x.0 (second_copies.carried.copied_types x.0 x.1) in source x.0 (second.types x.0) x.2 t.def t.found (second_type x.0 x.1)
+      ]
     where
-      source : (k j : ℕ) → j ≡ n → (def : TypeDef) → type_at other k ≡ Some def → type_notes_at merged j ≡ type_notes_at other k → (k : ℕ) × (def : TypeDef) × (type_at other k ≡ Some def) × (type_notes y ≡ type_notes def)
-      source k j number def found same = (k, def, found, same-some (type_notes y) (type_notes def) (sym (ap (type_notes_at merged) number ∙ ap (option_map type_notes) at) ∙ (same ∙ ap (option_map type_notes) found)))
+      source : (k j : ℕ) → j ≡ n → (def : TypeDef) → type_at other k ≡ Some def → type_notes_at merged j ≡ type_notes_at other k → (k : ℕ) × (def : TypeDef) × (type_at other k ≡ Some def)
+          × (type_notes y ≡ type_notes def)
+      source k j number def found same = (
+        k,
+        def,
+        found,
+        same-some (type_notes y) (type_notes def)
+            (sym (ap (type_notes_at merged) number ∙ ap (option_map type_notes) at) ∙ (same ∙ ap (option_map type_notes) found)),
+      )
 
   -- ---- interfaces
 
@@ -124,10 +133,12 @@ module _ (own other merged : Resolve) (valid_own : IsValid own) (valid_other : I
   first_interface : (n : ℕ) (i : Interface) → interface_at other n ≡ Some i → flag_under c.copied_interfaces.items n ≡ true → IsUnderAt first_numbers (number_under c.interfaces.items) n i
   first_interface n i at set =
       let flags = p.numbered.interface_count ∙ (sym p.all.interfaces ∙ sym (length-map m.interfaces.items interface_number)) in
-      let place = kept_placed (IsInterfaceCarried c first_numbers) c.copied_interfaces.items (map interface_number m.interfaces.items) other.interfaces.items p.new_interfaces p.interfaces flags (length own.interfaces.items) own.interfaces.items p.more_interfaces refl n i set at in (
+      let place = kept_placed (IsInterfaceCarried c first_numbers) c.copied_interfaces.items (map interface_number m.interfaces.items) other.interfaces.items p.new_interfaces p.interfaces flags
+      (length own.interfaces.items) own.interfaces.items p.more_interfaces refl n i set at in (
         home_under c.packages.items i.«package»,
         place.image,
-        ap (λ l. slice_get l (number_under c.interfaces.items n)) p.interfaces_here ∙ (ap (λ (l : List ℕ). slice_get (own.interfaces.items ++ (p.new_interfaces ++ p.more_interfaces)) (number_under l n)) p.numbered.interfaces ∙ place.at_image),
+        ap (λ l. slice_get l (number_under c.interfaces.items n)) p.interfaces_here
+            ∙ (ap (λ (l : List ℕ). slice_get (own.interfaces.items ++ (p.new_interfaces ++ p.more_interfaces)) (number_under l n)) p.numbered.interfaces ∙ place.at_image),
         place.is,
       )
 
@@ -146,7 +157,8 @@ module _ (own other merged : Resolve) (valid_own : IsValid own) (valid_other : I
   pub interface_brought : (n : ℕ) (i : Interface) (path : Text) → interface_at other n ≡ Some i → flag_under c.copied_interfaces.items n ≡ true → path_of_interface other i ≡ Some path
       → (j : Interface) × Contains merged.interfaces.items j × (path_of_interface merged j ≡ Some path) × (interface_notes merged j ≡ interface_notes other i)
   interface_brought n i path at set is =
-      let x = interface_noted other merged first c.interfaces.items first_numbers valid_other first_copies.carried (λ k h. refl) refl first_type first_interface first_copies.inline_copied n i at set in (
+      let x = interface_noted other merged first c.interfaces.items first_numbers valid_other first_copies.carried (λ k h. refl) refl first_type first_interface first_copies.inline_copied n
+      i at set in (
         x.0,
         get-contains merged.interfaces.items (number_under c.interfaces.items n) x.0 x.1,
         sym (ap (option_and_then (path_of_interface merged)) x.1)
@@ -161,9 +173,11 @@ module _ (own other merged : Resolve) (valid_own : IsValid own) (valid_other : I
       → (q : Package) × Contains merged.packages.items q × (identity_of q.name ≡ identity_of o.name) × (optional_text q.docs.contents ≡ optional_text o.docs.contents)
   package_brought n o at set =
       let flags = ap length p.numbered.new_packages ∙ (length-map m.packages.items is_none ∙ sym (length-map m.packages.items package_number)) in
-      let place = kept_placed (IsPackageCarried c) c.new_packages.items (map package_number m.packages.items) other.packages.items p.new_packages p.packages flags (length own.packages.items) p.grown [] (sym p.gained.count) n o set at in (
+      let place = kept_placed (IsPackageCarried c) c.new_packages.items (map package_number m.packages.items) other.packages.items p.new_packages p.packages flags (length own.packages.items) p.grown
+      [] (sym p.gained.count) n o set at in (
         place.image,
-        subst (λ l. Contains l place.image) (sym (p.packages_here ∙ ap (λ l. p.grown ++ l) (sym (append-nil p.new_packages)))) (get-contains (p.grown ++ (p.new_packages ++ [])) _ place.image place.at_image),
+        subst (λ l. Contains l place.image) (sym (p.packages_here ∙ ap (λ l. p.grown ++ l) (sym (append-nil p.new_packages))))
+            (get-contains (p.grown ++ (p.new_packages ++ [])) _ place.image place.at_image),
         same_identity o.name place.image.name place.is.name,
         place.is.docs,
       )
@@ -181,7 +195,8 @@ module _ (own other merged : Resolve) (valid_own : IsValid own) (valid_other : I
 
   module _ (n : ℕ) (x : World) (path : Text) (at : world_at other n ≡ Some x) (set : flag_under c.copied_worlds.items n ≡ true) (path_is : path_of_world other x ≡ Some path)
       (apart : IsDistinct (become_one c.interfaces.items) (keys_of x.imports.entries) × IsDistinct (become_one c.interfaces.items) (keys_of x.exports.entries)) where
-    place : IsKeptAt (IsWorldCarried c first_numbers) x (p.own_worlds ++ (p.new_worlds ++ [])) (number_under (numbers_of (length own.worlds.items) c.copied_worlds.items (map world_number m.worlds.items)) n)
+    place : IsKeptAt (IsWorldCarried c first_numbers) x (p.own_worlds ++ (p.new_worlds ++ []))
+        (number_under (numbers_of (length own.worlds.items) c.copied_worlds.items (map world_number m.worlds.items)) n)
     place = kept_placed (IsWorldCarried c first_numbers) c.copied_worlds.items (map world_number m.worlds.items) other.worlds.items p.new_worlds p.worlds
         (p.numbered.world_count ∙ (sym p.all.worlds ∙ sym (length-map m.worlds.items world_number))) (length own.worlds.items) p.own_worlds [] (sym p.own_count) n x set at
 
@@ -189,7 +204,8 @@ module _ (own other merged : Resolve) (valid_own : IsValid own) (valid_other : I
     here = p.worlds_here ∙ ap (λ l. p.own_worlds ++ l) (sym (append-nil p.new_worlds))
 
     at_place : world_at merged (number_under c.worlds.items n) ≡ Some place.image
-    at_place = ap (λ l. slice_get l (number_under c.worlds.items n)) here ∙ (ap (λ (l : List ℕ). slice_get (p.own_worlds ++ (p.new_worlds ++ [])) (number_under l n)) p.numbered.worlds ∙ place.at_image)
+    at_place = ap (λ l. slice_get l (number_under c.worlds.items n)) here
+        ∙ (ap (λ (l : List ℕ). slice_get (p.own_worlds ++ (p.new_worlds ++ [])) (number_under l n)) p.numbered.worlds ∙ place.at_image)
 
     j : IsJoined other merged first n [] []
     j = (first_worlds_are_copied own other merged m c first_numbers valid_own valid_other p n set).0.joined
@@ -211,7 +227,8 @@ module _ (own other merged : Resolve) (valid_own : IsValid own) (valid_other : I
     joined_exports = subst (λ (o : World). Joined first [] o.exports.entries place.image.exports.entries) old
         (subst (λ (l : Entries). Joined first [] j.old.exports.entries l) (sym j.exports ∙ ap (λ (z : World). z.exports.entries) image) j.joined_exports)
 
-    noted : (olds news : Entries) → Joined first [] olds news → AllZip (IsEntryUnder c.interfaces.items first_numbers) (filter (λ (e : WorldKey × WorldItem). is_new_under c.interfaces.items [] e.0) olds) news
+    noted : (olds news : Entries) → Joined first [] olds news
+        → AllZip (IsEntryUnder c.interfaces.items first_numbers) (filter (λ (e : WorldKey × WorldItem). is_new_under c.interfaces.items [] e.0) olds) news
         → map (entry_notes merged) news ≡ map (entry_notes other) olds
     noted = entries_noted other merged first c.interfaces.items first_numbers valid_other first_copies.carried (λ k h. refl) refl first_type first_interface first_copies.inline_copied
 
@@ -241,13 +258,15 @@ module _ (own other merged : Resolve) (valid_own : IsValid own) (valid_other : I
   imports_behind =
       let apart = second_joined.imports_apart own other merged valid_own valid_other world other_world w v m c first_numbers p copied interfaces types s in
       s.gained.imports
-      ∙ all_behind interfaces types w.imports.entries (filter is_new_import v.imports.entries) s.new_imports (s.imports apart) (filter_passes is_new_import v.imports.entries) (IsDistinct-keys_filter (become_one interfaces) is_new_import v.imports.entries apart)
+      ∙ all_behind interfaces types w.imports.entries (filter is_new_import v.imports.entries) s.new_imports (s.imports apart) (filter_passes is_new_import v.imports.entries)
+      (IsDistinct-keys_filter (become_one interfaces) is_new_import v.imports.entries apart)
 
   exports_behind : s.image.exports.entries ≡ w.exports.entries ++ s.new_exports
   exports_behind =
       let apart = second_joined.exports_apart own other merged valid_own valid_other world other_world w v m c first_numbers p copied interfaces types s in
       s.gained.exports
-      ∙ all_behind interfaces types w.exports.entries (filter is_new_export v.exports.entries) s.new_exports (s.exports apart) (filter_passes is_new_export v.exports.entries) (IsDistinct-keys_filter (become_one interfaces) is_new_export v.exports.entries apart)
+      ∙ all_behind interfaces types w.exports.entries (filter is_new_export v.exports.entries) s.new_exports (s.exports apart) (filter_passes is_new_export v.exports.entries)
+      (IsDistinct-keys_filter (become_one interfaces) is_new_export v.exports.entries apart)
 
   module _ (own_paths : (n : ℕ) (t : Text) → interface_path own n ≡ Some t → interface_path merged n ≡ Some t) where
     -- keys of own entries have the texts that they had
@@ -261,14 +280,17 @@ module _ (own other merged : Resolve) (valid_own : IsValid own) (valid_other : I
     known : (here : List (WorldKey × WorldItem)) (t : Text) (there : WorldKey × WorldItem) → Contains here there → key_text own there.0 ≡ t → is_one_of (key_texts own here) t ≡ true
     known here t there held e =
         let place = contains-get here there held in
-        any_at (text_eq t) (key_texts own here) place.0 (key_text own there.0) (slice_get-map (λ (x : WorldKey × WorldItem). key_text own x.0) here place.0 ∙ ap (option_map (λ (x : WorldKey × WorldItem). key_text own x.0)) place.1)
+        any_at (text_eq t) (key_texts own here) place.0 (key_text own there.0)
+        (slice_get-map (λ (x : WorldKey × WorldItem). key_text own x.0) here place.0 ∙ ap (option_map (λ (x : WorldKey × WorldItem). key_text own x.0)) place.1)
         (same_text t (key_text own there.0) (sym e))
 
-    module _ (here olds news whole : List (WorldKey × WorldItem)) (behind : whole ≡ here ++ news) (keyed : (x : WorldKey × WorldItem) → Contains here x → (id : InterfaceId) → x.0 ≡ key.Interface id → is_some (interface_path own id.0) ≡ true)
+    module _ (here olds news whole : List (WorldKey × WorldItem)) (behind : whole ≡ here ++ news)
+        (keyed : (x : WorldKey × WorldItem) → Contains here x → (id : InterfaceId) → x.0 ≡ key.Interface id → is_some (interface_path own id.0) ≡ true)
         (join : Joined second here olds news) (zip : AllZip (IsEntryUnder interfaces types) (filter (λ (e : WorldKey × WorldItem). is_new_under interfaces here e.0) olds) news) where
       entries_brought : BringsEntries (key_texts own here) other olds merged whole
       entries_brought e held fresh =
-          go (met_or_noted other merged second interfaces types valid_other second_copies.carried handed_on refl second_type second_interface second_copies.inline_copied here olds news join zip e held)
+          go (met_or_noted other merged second interfaces types valid_other second_copies.carried handed_on refl second_type second_interface second_copies.inline_copied here olds news
+          join zip e held)
         where
           go : IsMetOrNoted other merged second interfaces types valid_other second_copies.carried handed_on refl second_type second_interface second_copies.inline_copied here news e
               → (x : WorldKey × WorldItem) × Contains whole x × (entry_notes merged x ≡ entry_notes other e)
@@ -277,7 +299,8 @@ module _ (own other merged : Resolve) (valid_own : IsValid own) (valid_other : I
 
     -- what the bound world gains, with its notes
     pub bound_brought : (x : World) → world_at merged world ≡ Some x
-        → BringsEntries (key_texts own w.imports.entries) other v.imports.entries merged x.imports.entries × BringsEntries (key_texts own w.exports.entries) other v.exports.entries merged x.exports.entries
+        → BringsEntries (key_texts own w.imports.entries) other v.imports.entries merged x.imports.entries
+        × BringsEntries (key_texts own w.exports.entries) other v.exports.entries merged x.exports.entries
     bound_brought x at =
         let is : s.image ≡ x = same-some s.image x (sym s.at_image ∙ at) in (
           entries_brought w.imports.entries v.imports.entries s.new_imports x.imports.entries (ap (λ (z : World). z.imports.entries) (sym is) ∙ imports_behind)

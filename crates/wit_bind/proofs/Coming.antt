@@ -194,7 +194,8 @@ module _ (own other : Bindgen) (o : IsBindgen own) (t : IsBindgen other) (can : 
       marks = map copies fates;
       marked = marked_count (map copies fates);
       each = λ n e. by n
-          (first_comes r s t.valid m.interfaces.items c (OwnerComes r s) (OwnerStands r s) (λ id h. copied-interface id.0 h) (λ id h. copied-world id.0 h) stands (λ id h. inl (same id.0 h).has_path) n e);
+          (first_comes r s t.valid m.interfaces.items c (OwnerComes r s) (OwnerStands r s) (λ id h. copied-interface id.0 h) (λ id h. copied-world id.0 h) stands
+          (λ id h. inl (same id.0 h).has_path) n e);
     }
       where
         by : (n : ℕ) → IsOwnedBy s.types.items (OwnerComes r s) n ⊎ ((adds_any c ≡ true) × IsMadeUp s.types.items (OwnerStands r s) n) → TypeComes r s n
@@ -212,7 +213,8 @@ module _ (own other : Bindgen) (o : IsBindgen own) (t : IsBindgen other) (can : 
         let name : is_some x.old.name ≡ true = named_of_path s n x.old x.found x.has_path in
         let flag : flag_under c.copied_interfaces.items n ≡ false = ap (λ (l : List Bool). flag_under l n) interfaces-are ∙ (chosen.named n x.old x.found name ∙ ap not h) in
         ap (λ (l : List ℕ). number_under l n) numbered.interfaces
-        ∙ (uncopied_under (length r.interfaces.items) c.copied_interfaces.items (map interface_number m.interfaces.items) n (numbered.interface_count ∙ (sym all.interfaces ∙ sym (length-map m.interfaces.items interface_number))) flag
+        ∙ (uncopied_under (length r.interfaces.items) c.copied_interfaces.items (map interface_number m.interfaces.items) n
+        (numbered.interface_count ∙ (sym all.interfaces ∙ sym (length-map m.interfaces.items interface_number))) flag
         ∙ matched_under m.interfaces.items n x.id x.given)
 
     text-apart : (k x : WorldKey) → IsKey s t.valid k → IsKey r o.valid x → is_key_under numbers k x ≡ false → text_eq (key_text s k) (key_text r x) ≡ false
@@ -234,11 +236,13 @@ module _ (own other : Bindgen) (o : IsBindgen own) (t : IsBindgen other) (can : 
             same-or true z =
                 let theirs = some-of (interface_path s a.0) g in
                 let ours = some-of (interface_path r b.0) h in
-                let one : theirs.0 ≡ ours.0 = sym (ap (λ (p : Option Text). unwrap_or p []) theirs.1) ∙ (text-same (key_text s (key.Interface a)) (key_text r (key.Interface b)) z ∙ ap (λ (p : Option Text). unwrap_or p []) ours.1) in
+                let one : theirs.0 ≡ ours.0 = sym (ap (λ (p : Option Text). unwrap_or p []) theirs.1)
+                ∙ (text-same (key_text s (key.Interface a)) (key_text r (key.Interface b)) z ∙ ap (λ (p : Option Text). unwrap_or p []) ours.1) in
                 absurd (none a.0 b.0 q g (ours.1 ∙ (ap Some (sym one) ∙ sym theirs.1)))
 
     -- under the text of a new key the own side has nothing
-    absent : (here : List (WorldKey × WorldItem)) → ((x : WorldKey × WorldItem) → Contains here x → IsKey r o.valid x.0) → (k : WorldKey) → IsKey s t.valid k → is_new_under numbers here k ≡ true → entry_under (key_text s k) (entries_meaning r here) ≡ None
+    absent : (here : List (WorldKey × WorldItem)) → ((x : WorldKey × WorldItem) → Contains here x → IsKey r o.valid x.0) → (k : WorldKey) → IsKey s t.valid k → is_new_under numbers here k ≡ true
+        → entry_under (key_text s k) (entries_meaning r here) ≡ None
     absent here keys k g new = no-entry r (key_text s k) here (λ x held. text-apart k x.0 g (keys x held) (none-passes (λ (e : WorldKey × WorldItem). is_key_under numbers k e.0) here x new held))
 
     -- ---- what the bound world gains
@@ -250,13 +254,15 @@ module _ (own other : Bindgen) (o : IsBindgen own) (t : IsBindgen other) (can : 
       import-gained : (e : WorldKey × WorldItem) → Contains v.imports.entries e → is_new_under numbers w.imports.entries e.0 ≡ true → ImportIsGained own other e
       import-gained e held new = record {
         held = subst (λ (l : List (WorldKey × WorldItem)). Contains l e) (sym (ap (λ (z : Option World). option_map_or (λ (x : World). x.imports.entries) z []) at_v)) held;
-        is_new = ap (λ (b : WorldMeaning). entry_under (key_text s e.0) b.imports) (sym ours) ∙ absent w.imports.entries (import-key r o.valid own.world.0 w at_w) e.0 (import-key s t.valid other.world.0 v at_v e held) new;
+        is_new = ap (λ (b : WorldMeaning). entry_under (key_text s e.0) b.imports) (sym ours) ∙ absent w.imports.entries (import-key r o.valid own.world.0 w at_w) e.0
+            (import-key s t.valid other.world.0 v at_v e held) new;
       }
 
       export-gained : (e : WorldKey × WorldItem) → Contains v.exports.entries e → is_new_under numbers w.exports.entries e.0 ≡ true → ExportIsGained own other e
       export-gained e held new = record {
         held = subst (λ (l : List (WorldKey × WorldItem)). Contains l e) (sym (ap (λ (z : Option World). option_map_or (λ (x : World). x.exports.entries) z []) at_v)) held;
-        is_new = ap (λ (b : WorldMeaning). entry_under (key_text s e.0) b.exports) (sym ours) ∙ absent w.exports.entries (export-key r o.valid own.world.0 w at_w) e.0 (export-key s t.valid other.world.0 v at_v e held) new;
+        is_new = ap (λ (b : WorldMeaning). entry_under (key_text s e.0) b.exports) (sym ours) ∙ absent w.exports.entries (export-key r o.valid own.world.0 w at_w) e.0
+            (export-key s t.valid other.world.0 v at_v e held) new;
       }
 
       abbrev gained : List Bool
@@ -319,17 +325,21 @@ module _ (own other : Bindgen) (o : IsBindgen own) (t : IsBindgen other) (can : 
 
         import-same : (e : WorldKey × WorldItem) → Contains v.imports.entries e → is_new_under later w.imports.entries e.0 ≡ true → ImportIsGained own other e
         import-same e held new =
-            import-gained e held (sym (new_under_same later numbers w.imports.entries e.0 (λ id is. let k = import_keyed s t.valid other.world.0 v at_v e held id is in named-same id.0 k.def k.found k.named)) ∙ new)
+            import-gained e held (sym (new_under_same later numbers w.imports.entries e.0
+            (λ id is. let k = import_keyed s t.valid other.world.0 v at_v e held id is in named-same id.0 k.def k.found k.named)) ∙ new)
 
         export-same : (e : WorldKey × WorldItem) → Contains v.exports.entries e → is_new_under later w.exports.entries e.0 ≡ true → ExportIsGained own other e
         export-same e held new =
-            export-gained e held (sym (new_under_same later numbers w.exports.entries e.0 (λ id is. let k = export_keyed s t.valid other.world.0 v at_v e held id is in named-same id.0 k.def k.found k.named)) ∙ new)
+            export-gained e held (sym (new_under_same later numbers w.exports.entries e.0
+            (λ id is. let k = export_keyed s t.valid other.world.0 v at_v e held id is in named-same id.0 k.def k.found k.named)) ∙ new)
 
         something-gained : gains_any later w v ≡ true → SomethingIsGained own other
         something-gained h =
             either-true {P = SomethingIsGained own other} (any_new later w.imports.entries v.imports.entries) (any_new later w.exports.entries v.exports.entries)
-            (λ q. let p = any_place (λ (e : WorldKey × WorldItem). is_new_under later w.imports.entries e.0) v.imports.entries q in (p.thing, inl (import-same p.thing (get-contains v.imports.entries p.place p.thing p.there) p.passes_it)))
-            (λ q. let p = any_place (λ (e : WorldKey × WorldItem). is_new_under later w.exports.entries e.0) v.exports.entries q in (p.thing, inr (export-same p.thing (get-contains v.exports.entries p.place p.thing p.there) p.passes_it)))
+            (λ q. let p = any_place (λ (e : WorldKey × WorldItem). is_new_under later w.imports.entries e.0) v.imports.entries q in
+            (p.thing, inl (import-same p.thing (get-contains v.imports.entries p.place p.thing p.there) p.passes_it)))
+            (λ q. let p = any_place (λ (e : WorldKey × WorldItem). is_new_under later w.exports.entries e.0) v.exports.entries q in
+            (p.thing, inr (export-same p.thing (get-contains v.exports.entries p.place p.thing p.there) p.passes_it)))
             h
 
         shown-owner : (w : TypeOwner) → OwnerIsGained own other w → OwnerIsShown own other w
@@ -352,7 +362,8 @@ module _ (own other : Bindgen) (o : IsBindgen own) (t : IsBindgen other) (can : 
               (λ id h. inline-gained id.0 h) shown-owner (λ id h. inl (has-path id.0 h)) (λ id h. h) n e);
         }
           where
-            by : (n : ℕ) → (IsOwnedBy s.types.items (OwnerIsGained own other) n ⊎ IsNewImport later w.imports.entries v.imports.entries n) ⊎ ((gains_any later w v ≡ true) × IsMadeUp s.types.items (OwnerIsShown own other) n) → TypeIsGained own other n
+            by : (n : ℕ) → (IsOwnedBy s.types.items (OwnerIsGained own other) n ⊎ IsNewImport later w.imports.entries v.imports.entries n)
+                ⊎ ((gains_any later w v ≡ true) × IsMadeUp s.types.items (OwnerIsShown own other) n) → TypeIsGained own other n
             by n (inl (inl x)) = inl x
             by n (inl (inr x)) = inr (inl (record { entry = x.entry; gained = import-same x.entry x.held x.is_new; is_type = x.is_type }))
             by n (inr (h, x)) = inr (inr (something-gained h, x))

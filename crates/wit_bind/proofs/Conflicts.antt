@@ -116,7 +116,8 @@ is_among : (m : Encodings) (es : Entries) (t : Text) → Differ itself (encoding
 is_among m [] t h = none_differs (encoding_at m t) h
 is_among m (e ∷ es) t h = by (text_eq t (text_of e.0)) refl h (is_among m es t)
   where
-    by : (b : Bool) → text_eq t (text_of e.0) ≡ b → Differ itself (encoding_at m t) (cond b (Some e.1) (under t es)) → (Differ itself (encoding_at m t) (under t es) → Among m es t) → Here m e t ⊎ Among m es t
+    by : (b : Bool) → text_eq t (text_of e.0) ≡ b → Differ itself (encoding_at m t) (cond b (Some e.1) (under t es)) → (Differ itself (encoding_at m t) (under t es) → Among m es t) → Here m e t
+        ⊎ Among m es t
     by true s x rest = inl (text-same t (text_of e.0) s, differing (encoding_at m t) e.1 x)
     by false s x rest = inr (rest x)
 

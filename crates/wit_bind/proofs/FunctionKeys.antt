@@ -28,7 +28,8 @@ use Rattle.std.proofs.lemmas.Option.{same_Some as same-some}
 -- ---- the entries of functions
 
 -- the key and the encoding of an entry
-pub entry_tells : (o : Option Text) (w : Option StringEncoding) (k : Text) (e : StringEncoding) → option_and_then {U = Entry} (λ q. option_map (λ f. (q, f)) w) o ≡ Some (k, e) → (o ≡ Some k) × (w ≡ Some e)
+pub entry_tells : (o : Option Text) (w : Option StringEncoding) (k : Text) (e : StringEncoding) → option_and_then {U = Entry} (λ q. option_map (λ f. (q, f)) w) o ≡ Some (k, e) → (o ≡ Some k)
+    × (w ≡ Some e)
 entry_tells None w k e h = absurd (let z : ⊥ = cc in z)
 entry_tells (Some q) None k e h = absurd (let z : ⊥ = cc in z)
 entry_tells (Some q) (Some f) k e h = let both = same-some (q, f) (k, e) h in (ap (λ (x : Entry). Some x.0) both, ap (λ (x : Entry). Some x.1) both)
@@ -37,7 +38,8 @@ pub told_entry : (o : Option Text) (w : Option StringEncoding) (k : Text) (e : S
 told_entry o w k e key value = λ i. option_and_then {U = Entry} (λ q. option_map (λ f. (q, f)) (value i)) (key i)
 
 module _ (r : Resolve) (w : Choice) (items : Items) where
-  in_item : (x : Entry) (shown : WorldItem) (scope : WorldKey) (n : ℕ) (owner : Interface) → item_interface shown ≡ Some n → interface_at r n ≡ Some owner → Contains (member_entries r w scope owner.functions.entries) x
+  in_item : (x : Entry) (shown : WorldItem) (scope : WorldKey) (n : ℕ) (owner : Interface) → item_interface shown ≡ Some n → interface_at r n ≡ Some owner
+      → Contains (member_entries r w scope owner.functions.entries) x
       → Contains (entries_of_item r w scope shown) x
   in_item x (item.Interface id stability docs external_id) scope n owner of at c =
       let number : id.0 ≡ n = same-some id.0 n of in
@@ -86,17 +88,20 @@ module _ (r : Resolve) (w : Choice) (items : Items) where
 
 module _ (r : Resolve) (w : Choice) (items : Items) (m : Encodings) (puts : Puts (entries_of_items r w items) empty m) where
   -- under the key of each function that is to have an encoding stands one
-  pub stands_for : (scope : WorldKey) (name k : Text) (e : StringEncoding) → IsFunctionOf r items scope name → function_key r scope name ≡ Some k → w scope name ≡ Some e → (f : StringEncoding) × (encoding_at m k ≡ Some f)
+  pub stands_for : (scope : WorldKey) (name k : Text) (e : StringEncoding) → IsFunctionOf r items scope name → function_key r scope name ≡ Some k → w scope name ≡ Some e → (f : StringEncoding)
+      × (encoding_at m k ≡ Some f)
   stands_for scope name k e of is wants =
       let c = listed r w items scope name (k, e) of (told_entry (function_key r scope name) (w scope name) k e is wants) in
       let f = holds (entries_of_items r w items) (encoding_at empty) k e c in
       (f.0, puts k ∙ f.1)
 
   -- and nothing stands there but what a function of that key is to have
-  pub stands_by : (k : Text) (e : StringEncoding) → encoding_at m k ≡ Some e → (scope : WorldKey) × ((name : Text) × (IsFunctionOf r items scope name × ((function_key r scope name ≡ Some k) × (w scope name ≡ Some e))))
+  pub stands_by : (k : Text) (e : StringEncoding) → encoding_at m k ≡ Some e → (scope : WorldKey)
+      × ((name : Text) × (IsFunctionOf r items scope name × ((function_key r scope name ≡ Some k) × (w scope name ≡ Some e))))
   stands_by k e h = by (comes (entries_of_items r w items) (encoding_at empty) k e (sym (puts k) ∙ h))
     where
-      by : Contains (entries_of_items r w items) (k, e) ⊎ (encoding_at empty k ≡ Some e) → (scope : WorldKey) × ((name : Text) × (IsFunctionOf r items scope name × ((function_key r scope name ≡ Some k) × (w scope name ≡ Some e))))
+      by : Contains (entries_of_items r w items) (k, e) ⊎ (encoding_at empty k ≡ Some e) → (scope : WorldKey)
+          × ((name : Text) × (IsFunctionOf r items scope name × ((function_key r scope name ≡ Some k) × (w scope name ≡ Some e))))
       by (inl c) =
           let u = unlisted r w items (k, e) c in
           let t = entry_tells (function_key r u.0 u.1.0) (w u.0 u.1.0) k e u.1.1.1 in
@@ -115,7 +120,8 @@ module _ (r : Resolve) (items : Items) (k : Text) where
   function_of_key (of_item i) = (key.Name i.name, (text_of i.name, (itself i.name i.function i.stands, ap Some (sym i.is))))
   function_of_key (of_interface i) = (i.scope, (text_of i.name, (member i.scope i.shown i.number i.owner i.name i.function i.stands i.of i.at i.has, i.is)))
 
-pub maps_functions : (r : Resolve) (items : Items) (encoding : StringEncoding) (m : Encodings) → Puts (entries_of_items r (λ scope name. Some encoding) items) empty m → MapsFunctions r items encoding m
+pub maps_functions : (r : Resolve) (items : Items) (encoding : StringEncoding) (m : Encodings) → Puts (entries_of_items r (λ scope name. Some encoding) items) empty m
+    → MapsFunctions r items encoding m
 maps_functions r items encoding m puts = record { each = each; only = only }
   where
     only : (k : Text) (e : StringEncoding) → encoding_at m k ≡ Some e → IsFunctionKey r items k × (e ≡ encoding)
@@ -139,7 +145,8 @@ given-under old (Some was) e h = (was, (refl, h))
 abbrev under_old : (Text → Option StringEncoding) → Resolve → Choice
 under_old old r scope name = option_and_then old (unversioned_key r scope name)
 
-pub carries_over : (old : Text → Option StringEncoding) (r : Resolve) (items : Items) (m : Encodings) → Puts (entries_of_items r (λ scope name. option_and_then old (unversioned_key r scope name)) items) empty m → CarriesOver old r items m
+pub carries_over : (old : Text → Option StringEncoding) (r : Resolve) (items : Items) (m : Encodings)
+    → Puts (entries_of_items r (λ scope name. option_and_then old (unversioned_key r scope name)) items) empty m → CarriesOver old r items m
 carries_over old r items m puts = record {
   each = λ k e h. stands_for r (under_old old r) items m puts h.scope h.name k e h.of h.is (ap (option_and_then old) h.under ∙ h.had);
   only = λ k e h.
@@ -150,11 +157,13 @@ carries_over old r items m puts = record {
 
 -- ---- of what is answered
 
-pub all_functions : {E : Type 0} (r : Resolve) (items : Items) (encoding : StringEncoding) (a : Result Encodings E) → IfOk a (λ m. Puts (entries_of_items r (λ scope name. Some encoding) items) empty m) → IfOk a (MapsFunctions r items encoding)
+pub all_functions : {E : Type 0} (r : Resolve) (items : Items) (encoding : StringEncoding) (a : Result Encodings E)
+    → IfOk a (λ m. Puts (entries_of_items r (λ scope name. Some encoding) items) empty m) → IfOk a (MapsFunctions r items encoding)
 all_functions r items encoding (Ok m) puts = maps_functions r items encoding m puts
 all_functions r items encoding (Err e) puts = tt
 
-pub all_carried : {E : Type 0} (old : Text → Option StringEncoding) (r : Resolve) (items : Items) (a : Result Encodings E) → IfOk a (λ m. Puts (entries_of_items r (λ scope name. option_and_then old (unversioned_key r scope name)) items) empty m)
+pub all_carried : {E : Type 0} (old : Text → Option StringEncoding) (r : Resolve) (items : Items) (a : Result Encodings E)
+    → IfOk a (λ m. Puts (entries_of_items r (λ scope name. option_and_then old (unversioned_key r scope name)) items) empty m)
     → IfOk a (CarriesOver old r items)
 all_carried old r items (Ok m) puts = carries_over old r items m puts
 all_carried old r items (Err e) puts = tt

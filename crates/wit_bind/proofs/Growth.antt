@@ -31,7 +31,8 @@ use Rattle.base_lemmas.proofs.Lists.{within_there as element_at}
 longer : {X : Type 0} (old between more new : List X) (n : ℕ) → length between ≡ length old → new ≡ between ++ more → length more ≤ n → length new ≤ length old + n
 longer old between more new n same is few = let all = ap length is ∙ length_both between more in omega (arith, same, all, few)
 
-module _ (own other new : Bindgen) (o : IsBindgen own) (t : IsBindgen other) (can : CanUnite (binding_of own) (binding_of other)) (added : Added) (keys : List WorldKey) (p : IsPlanOf own other added keys) (g : IsGrownBy added other.metadata own new) where
+module _ (own other new : Bindgen) (o : IsBindgen own) (t : IsBindgen other) (can : CanUnite (binding_of own) (binding_of other)) (added : Added) (keys : List WorldKey)
+    (p : IsPlanOf own other added keys) (g : IsGrownBy added other.metadata own new) where
   bound : (w : World) × (world_at own.resolve own.world.0 ≡ Some w)
   bound = element_at own.resolve.worlds.items own.world.0 o.in_range
 
@@ -57,7 +58,8 @@ module _ (own other new : Bindgen) (o : IsBindgen own) (t : IsBindgen other) (ca
 
   packages : length added.packages.items ≤ packages_to_come own.resolve other.resolve
   packages =
-      let one : length planned.before.packages.items ≤ copied_count c.new_packages.items = carried_few (IsPackageCarried c) c.new_packages.items other.resolve.packages.items planned.before.packages.items planned.first.packages in
+      let one : length planned.before.packages.items ≤ copied_count c.new_packages.items =
+      carried_few (IsPackageCarried c) c.new_packages.items other.resolve.packages.items planned.before.packages.items planned.first.packages in
       let same = ap length planned.second.packages in
       let flags = ap copied_count planned.numbered.new_packages in
       let few = packages-few own.resolve other.resolve o.valid t.valid p.matches p.matched in
@@ -65,7 +67,8 @@ module _ (own other new : Bindgen) (o : IsBindgen own) (t : IsBindgen other) (ca
 
   worlds : length added.worlds.items ≤ worlds_to_come own.resolve other.resolve
   worlds =
-      let one : length planned.before.worlds.items ≤ copied_count c.copied_worlds.items = carried_few (IsWorldCarried c planned.types) c.copied_worlds.items other.resolve.worlds.items planned.before.worlds.items planned.first.worlds in
+      let one : length planned.before.worlds.items ≤ copied_count c.copied_worlds.items =
+      carried_few (IsWorldCarried c planned.types) c.copied_worlds.items other.resolve.worlds.items planned.before.worlds.items planned.first.worlds in
       let same = ap length planned.second.worlds in
       let flags = ap copied_count planned.numbered.copied_worlds in
       let few = worlds-few own.resolve other.resolve o.valid t.valid p.matches p.matched in
@@ -73,7 +76,8 @@ module _ (own other new : Bindgen) (o : IsBindgen own) (t : IsBindgen other) (ca
 
   -- ---- interfaces
 
-  interface-count : length new.resolve.interfaces.items ≡ length own.resolve.interfaces.items + (copied_count (carried_interfaces other.resolve p.matches) + copied_count (gained_inline other.resolve c.interfaces.items w v))
+  interface-count : length new.resolve.interfaces.items ≡ length own.resolve.interfaces.items + (copied_count (carried_interfaces other.resolve p.matches) + copied_count
+      (gained_inline other.resolve c.interfaces.items w v))
   interface-count =
       let s = other.resolve in
       let first : length planned.before.interfaces.items ≡ copied_count c.copied_interfaces.items =
@@ -145,10 +149,12 @@ module _ (own other new : Bindgen) (o : IsBindgen own) (t : IsBindgen other) (ca
     no-worlds : length new.resolve.worlds.items ≡ length own.resolve.worlds.items
     no-worlds =
         let bound_new = g.all_added.worlds w bound.1 in
-        let one : length planned.before.worlds.items ≤ copied_count c.copied_worlds.items = carried_few (IsWorldCarried c planned.types) c.copied_worlds.items other.resolve.worlds.items planned.before.worlds.items planned.first.worlds in
+        let one : length planned.before.worlds.items ≤ copied_count c.copied_worlds.items =
+        carried_few (IsWorldCarried c planned.types) c.copied_worlds.items other.resolve.worlds.items planned.before.worlds.items planned.first.worlds in
         let same = ap length planned.second.worlds in
         let none : copied_count c.copied_worlds.items ≡ 0 =
-        unmarked c.copied_worlds.items (λ n e. no-world own other o t can nothing w v bound.1 other-bound.1 n (copied-world own other o t can p.matches p.matched c planned.numbered n (ap (λ x. unwrap_or x false) e))) in
+        unmarked c.copied_worlds.items (λ n e. no-world own other o t can nothing w v bound.1 other-bound.1 n
+        (copied-world own other o t can p.matches p.matched c planned.numbered n (ap (λ x. unwrap_or x false) e))) in
         let set = set_length own.resolve.worlds.items own.world.0 bound_new.0 in
         let all = ap length bound_new.2 ∙ length_both (slice_set own.resolve.worlds.items own.world.0 bound_new.0) added.worlds.items in
         omega (arith, one, same, none, set, all)
@@ -160,6 +166,7 @@ module _ (own other new : Bindgen) (o : IsBindgen own) (t : IsBindgen other) (ca
               (none-comes (InterfaceComes own.resolve other.resolve) (no-interface own other o t can nothing w v bound.1 other-bound.1) _ ways.interfaces.first_come)
               (none-comes (InlineIsGained own other) (no-inline own other o t can nothing w v bound.1 other-bound.1) _ ways.interfaces.second_come) ways.interfaces.length_is;
           worlds = no-worlds;
-          types = no-longer own.resolve.types.items added.types.items new.resolve.types.items ways.types.first ways.types.second g.all_added.types (none-comes (TypeComes own.resolve other.resolve) (no-type own other o t can nothing w v bound.1 other-bound.1) _ ways.types.first_come)
+          types = no-longer own.resolve.types.items added.types.items new.resolve.types.items ways.types.first ways.types.second g.all_added.types
+              (none-comes (TypeComes own.resolve other.resolve) (no-type own other o t can nothing w v bound.1 other-bound.1) _ ways.types.first_come)
               (none-comes (TypeIsGained own other) (no-gained-type own other o t can nothing w v bound.1 other-bound.1) _ ways.types.second_come) ways.types.length_is;
         }

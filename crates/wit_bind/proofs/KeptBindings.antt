@@ -31,7 +31,8 @@ use Rattle.wit_bind.specs.Extends.{AllPairs, IsSamePackage, IsSameWorld, KeptBin
 -- ---- lists that are related element by element
 
 -- what stands in both under a number
-both-at : {X Y : Type 0} (Related : X → X → Type 0) (f : X → Y) → ((x y : X) → Related x y → f y ≡ f x) → (xs ys : List X) → AllPairs Related xs ys → (n : ℕ) → option_map f (slice_get ys n) ≡ option_map f (slice_get xs n)
+both-at : {X Y : Type 0} (Related : X → X → Type 0) (f : X → Y) → ((x y : X) → Related x y → f y ≡ f x) → (xs ys : List X) → AllPairs Related xs ys → (n : ℕ)
+    → option_map f (slice_get ys n) ≡ option_map f (slice_get xs n)
 both-at Related f same [] [] all n = refl
 both-at Related f same [] (y ∷ ys) all n = absurd all
 both-at Related f same (x ∷ xs) [] all n = absurd all
@@ -110,7 +111,8 @@ module _ (r s : Resolve) (packages : AllPairs IsSamePackage r.packages.items s.p
   same-key (key.Interface id) = ap (λ o. unwrap_or o []) (same-interface_path id.0)
 
   same-entry : (i : WorldItem) → entry_meaning s i ≡ entry_meaning r i
-  same-entry (item.Interface id stability docs external_id) = λ j. record { item = option_map_or interface (same-interface_path id.0 j) (inline (same-interface_at id.0 j)); external_id = optional_text external_id }
+  same-entry (item.Interface id stability docs external_id) = λ j. record
+      { item = option_map_or interface (same-interface_path id.0 j) (inline (same-interface_at id.0 j)); external_id = optional_text external_id }
   same-entry (item.Function f) = λ j. record { item = function (same-signature f j); external_id = optional_text f.external_id }
   same-entry (item.Type_ id) = ap (λ t. record { item = declares t.declaration; external_id = t.external_id }) (same-type id.0)
 
@@ -132,7 +134,8 @@ module _ (r s : Resolve) (packages : AllPairs IsSamePackage r.packages.items s.p
         (λ v w same. λ j. option_map (λ path. (path, same-world v w same j)) (same-world_path v w same j)) r.worlds.items s.worlds.items worlds
 
     same-texts : package_texts s ≡ package_texts r
-    same-texts = both-mapped IsSamePackage (λ p. package_text (identity_of p.name)) (λ p. package_text (identity_of p.name)) (λ p q same. ap (λ n. package_text (identity_of n)) same.name) r.packages.items s.packages.items packages
+    same-texts = both-mapped IsSamePackage (λ p. package_text (identity_of p.name)) (λ p. package_text (identity_of p.name)) (λ p q same. ap (λ n. package_text (identity_of n)) same.name)
+        r.packages.items s.packages.items packages
 
     -- what the world of this number means, and its path
     world-by : {Y : Type 0} (f g : World → Y) (d : Y) → ((v w : World) → IsSameWorld v w → g w ≡ f v) → (n : ℕ) → option_map_or g (world_at s n) d ≡ option_map_or f (world_at r n) d
@@ -153,14 +156,16 @@ module _ (r s : Resolve) (packages : AllPairs IsSamePackage r.packages.items s.p
     as-given f (Some w) = refl
 
     same-bound_path : (n : ℕ) → world_path_at s n ≡ world_path_at r n
-    same-bound_path n = ap (λ o. unwrap_or o []) (as-given (path_of_world s) (world_at s n) ∙ (world-by (path_of_world r) (path_of_world s) None same-world_path n ∙ sym (as-given (path_of_world r) (world_at r n))))
+    same-bound_path n = ap (λ o. unwrap_or o []) (as-given (path_of_world s) (world_at s n)
+        ∙ (world-by (path_of_world r) (path_of_world s) None same-world_path n ∙ sym (as-given (path_of_world r) (world_at r n))))
 
 pub kept_bindings_are_the_same : KeptBindingsAreTheSame
 kept_bindings_are_the_same old new kept =
     let r = old.resolve in
     let s = new.resolve in
     let n = old.world.0 in
-    let here : binding_of new ≡ binding_at s n new.metadata.import_encodings new.metadata.export_encodings = ap (λ w. binding_at s w.0 new.metadata.import_encodings new.metadata.export_encodings) kept.world in
+    let here : binding_of new ≡ binding_at s n new.metadata.import_encodings new.metadata.export_encodings =
+    ap (λ w. binding_at s w.0 new.metadata.import_encodings new.metadata.export_encodings) kept.world in
     here ∙ (λ j. record {
       packages = from_list (same-texts r s kept.packages kept.interfaces kept.types kept.worlds j);
       interfaces = from_entries (same-interfaces r s kept.packages kept.interfaces kept.types j);

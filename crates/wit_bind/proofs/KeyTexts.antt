@@ -31,7 +31,8 @@ pub then_some : (p q t first : Text) (rest : Option Text) → Some first ≡ aft
 then_some p q t first rest found h = h ∙ ap (option_and_then (after_prefix q)) found ∙ sym (after_both p q t)
 
 -- the parts of a path and a slash
-pub path_parts : (space name interface end : Text) → ((space ++ (58 ∷ [])) ++ (name ++ (47 ∷ []))) ++ (interface ++ (end ++ (47 ∷ []))) ≡ (space ++ (58 ∷ (name ++ (47 ∷ (interface ++ end))))) ++ (47 ∷ [])
+pub path_parts : (space name interface end : Text)
+    → ((space ++ (58 ∷ [])) ++ (name ++ (47 ∷ []))) ++ (interface ++ (end ++ (47 ∷ []))) ≡ (space ++ (58 ∷ (name ++ (47 ∷ (interface ++ end))))) ++ (47 ∷ [])
 path_parts space name interface end =
     append_assoc (space ++ (58 ∷ [])) (name ++ (47 ∷ [])) _
     ∙ append_assoc space (58 ∷ []) _
@@ -44,6 +45,7 @@ pub key_after : (scope function t : Text) → text_eq (text_under scope function
 key_after scope function t = ap (λ k. text_eq k t) (sym (append_assoc scope (47 ∷ []) function)) ∙ same_after (scope ++ (47 ∷ [])) function t
 
 -- the same where there may be no scope
-pub is_after : (scope : Option Text) (function t : Text) → option_map_or (λ k. text_eq k t) (option_map (λ s. text_under s function) scope) false ≡ option_map_or (text_eq function) (option_and_then (λ s. after_slash s t) scope) false
+pub is_after : (scope : Option Text) (function t : Text)
+    → option_map_or (λ k. text_eq k t) (option_map (λ s. text_under s function) scope) false ≡ option_map_or (text_eq function) (option_and_then (λ s. after_slash s t) scope) false
 is_after None function t = refl
 is_after (Some s) function t = key_after s function t

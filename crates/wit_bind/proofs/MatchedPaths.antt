@@ -110,7 +110,8 @@ module _ (own other : Bindgen) (o : IsBindgen own) (t : IsBindgen other) (can : 
       let here = has-path r x.id.0 x.path (own-there n x) in
       let there = has-path s n x.path x.path_is in
       let old : there.def ≡ x.old = same-some there.def x.old (sym there.there ∙ x.found) in
-      let parts = one_path (identity_of here.package_.name) (identity_of there.package_.name) (text_of here.name) (text_of there.name) (package-name r o.valid here.home.0 here.package_ here.stands).identity (path-label r o.valid x.id.0 x.path here)
+      let parts = one_path (identity_of here.package_.name) (identity_of there.package_.name) (text_of here.name) (text_of there.name)
+      (package-name r o.valid here.home.0 here.package_ here.stands).identity (path-label r o.valid x.id.0 x.path here)
       (package-name s t.valid there.home.0 there.package_ there.stands).identity (path-label s t.valid n x.path there) (sym here.spelled ∙ there.spelled) in
       -- the own package in which it was looked for
       let name = unpacked (λ (y : String Global). interface_in r m.packages.items x.old.«package» (text_of y)) x.old.name x.id x.own_of in
@@ -126,10 +127,12 @@ module _ (own other : Bindgen) (o : IsBindgen own) (t : IsBindgen other) (can : 
       let named : same_package_name there.package_.name found.there.name ≡ true = ap (λ (y : Package). same_package_name y.name found.there.name) (sym one) ∙ found.same in
       let identities : identity_of there.package_.name ≡ identity_of found.there.name = (same_name there.package_.name found.there.name theirs.version again.version).0 named in
       let number : g.0.0 ≡ here.home.0
-      = package-once r o.valid here.home.0 g.0.0 here.package_ found.there here.stands found.at_there ((same_name here.package_.name found.there.name ours.version again.version).1 (parts.0 ∙ identities)) in
+      = package-once r o.valid here.home.0 g.0.0 here.package_ found.there here.stands found.at_there
+      ((same_name here.package_.name found.there.name ours.version again.version).1 (parts.0 ∙ identities)) in
       let under : number_under c.packages.items there.home.0 ≡ g.0.0 =
       ap (λ l. number_under l there.home.0) u.packages
-      ∙ (uncopied_under (length r.packages.items) c.new_packages.items (map package_number m.packages.items) there.home.0 (ap length u.new_packages ∙ (length-map m.packages.items is_none ∙ sym (length-map m.packages.items package_number)))
+      ∙ (uncopied_under (length r.packages.items) c.new_packages.items (map package_number m.packages.items) there.home.0
+      (ap length u.new_packages ∙ (length-map m.packages.items is_none ∙ sym (length-map m.packages.items package_number)))
       (numbered-flag c.new_packages.items m.packages.items there.home.0 g.0 u.new_packages at)
       ∙ found_number m.packages.items there.home.0 g.0 at)
       in
@@ -145,9 +148,11 @@ module _ (own other : Bindgen) (o : IsBindgen own) (t : IsBindgen other) (can : 
         has_path = ap is_some x.path_is;
         path = own-there n x ∙ sym x.path_is;
         name = ap optional_text here.named_ ∙ (ap Some parts.1 ∙ sym (ap optional_text (ap (λ (y : Interface). y.name) (sym old) ∙ there.named_)));
-        in_package = ap rules.package_number here.in_package ∙ (ap Some (sym (under ∙ number)) ∙ sym (ap (λ (y : Option PackageId). option_map (number_under c.packages.items) (rules.package_number y)) home));
+        in_package = ap rules.package_number here.in_package ∙ (ap Some (sym (under ∙ number)) ∙ sym
+            (ap (λ (y : Option PackageId). option_map (number_under c.packages.items) (rules.package_number y)) home));
         sense = ap interface_sense (sym meant)
-            ∙ (agreed interface_sense (get (binding_of own).interfaces x.path) (get (binding_of other).interfaces x.path) (interface_meaning_at r x.id.0) (interface_meaning_at s n) (can.interfaces x.path)
+            ∙ (agreed interface_sense (get (binding_of own).interfaces x.path) (get (binding_of other).interfaces x.path) (interface_meaning_at r x.id.0) (interface_meaning_at s n)
+            (can.interfaces x.path)
             (interface-found r o.valid x.id.0 x.path (own-there n x)) (interface-found s t.valid n x.path x.path_is)
             ∙ ap interface_sense other_meant);
       }
@@ -160,8 +165,10 @@ module _ (own other : Bindgen) (o : IsBindgen own) (t : IsBindgen other) (can : 
       let path = some-of (interface_path s n) has in
       let i = unpacked (path_of_interface s) (interface_at s n) path.0 path.1 in
       let own_one = own-interface-there r s o.valid t.valid m.packages.items matched.packages n i.0 i.1 path.0 i.2 k (same ∙ path.1) in
-      let at : slice_get m.interfaces.items n ≡ Some (Some own_one.0) = ap (λ l. slice_get l n) matched.interfaces ∙ (mapped_at (own_interface_of r m.packages.items) s.interfaces.items n i.0 i.1 ∙ ap Some own_one.1.0) in
+      let at : slice_get m.interfaces.items n ≡ Some (Some own_one.0) =
+      ap (λ l. slice_get l n) matched.interfaces ∙ (mapped_at (own_interface_of r m.packages.items) s.interfaces.items n i.0 i.1 ∙ ap Some own_one.1.0) in
       true≢false (sym (ap (λ (y : Option (Option InterfaceId)). is_some (given_interface y)) at) ∙ not)
 
 pub matches_have_paths : MatchesHavePaths
-matches_have_paths own other o t can m matched world k w v added keys u = (all-matched own.resolve other.resolve m matched, matched-at own other o t can m matched world k w v added keys u, none-of-path own other o t can m matched)
+matches_have_paths own other o t can m matched world k w v added keys u =
+    (all-matched own.resolve other.resolve m matched, matched-at own other o t can m matched world k w v added keys u, none-of-path own other o t can m matched)

@@ -55,7 +55,8 @@ use Rattle.wit_bind.proofs.UnionBound.{united_are_the_union}
 use Rattle.base_lemmas.proofs.Lists.{front_at, within_there as element_at}
 use Rattle.std.proofs.lemmas.Option.{same_Some as same-some}
 
-module _ (own other new : Bindgen) (o : IsBindgen own) (t : IsBindgen other) (can : CanUnite (binding_of own) (binding_of other)) (added : Added) (keys : List WorldKey) (p : IsPlanOf own other added keys) (g : IsGrownBy added other.metadata own new) where
+module _ (own other new : Bindgen) (o : IsBindgen own) (t : IsBindgen other) (can : CanUnite (binding_of own) (binding_of other)) (added : Added) (keys : List WorldKey)
+    (p : IsPlanOf own other added keys) (g : IsGrownBy added other.metadata own new) where
   abbrev r : Resolve
   r = own.resolve
 
@@ -99,7 +100,8 @@ module _ (own other new : Bindgen) (o : IsBindgen own) (t : IsBindgen other) (ca
     first = first_of p.matches.interfaces.items planned.carried (first_fates r s p.matches.interfaces.items planned.carried) planned.types;
     second = second_pass_of r s p.matches planned.carried own.world.0 other.world.0 w v planned.second.copied planned.second.interfaces planned.types planned.second.types;
     left_out = is_left_out s;
-    merged = unions_are_merged r s new.resolve own.world.0 other.world.0 p.matches w v added keys planned o.valid t.valid g.all_added p.few bound.1 other-bound.1 p.matched.packages p.matched.interfaces p.matched.worlds
+    merged = unions_are_merged r s new.resolve own.world.0 other.world.0 p.matches w v added keys planned o.valid t.valid g.all_added p.few bound.1 other-bound.1 p.matched.packages
+        p.matched.interfaces p.matched.worlds
         paths.1 paths.2 agree.bound agree.no_world agree.no_interface;
     root = root-left-out;
     distinct = unions_have_distinct_keys r s new.resolve own.world.0 other.world.0 p.matches w v added keys planned o.valid t.valid g.all_added bound.1 other-bound.1 paths.0 paths.1 paths.2;
@@ -133,7 +135,8 @@ module _ (own other new : Bindgen) (o : IsBindgen own) (t : IsBindgen other) (ca
       let x = merged_extend.bound_world w bound.1 in
       ap (λ k. map key_view (export_keys new.resolve k)) number
       ∙ (ap (λ y. map key_view (option_map_or (λ (z : World). keys_of z.exports.entries) y [])) x.1
-      ∙ (exports_come_behind r s new.resolve own.world.0 other.world.0 p.matches w v added keys planned o.valid t.valid g.all_added bound.1 other-bound.1 paths.0 paths.1 paths.2 agree.bound.exports x.0 x.1
+      ∙ (exports_come_behind r s new.resolve own.world.0 other.world.0 p.matches w v added keys planned o.valid t.valid g.all_added bound.1 other-bound.1 paths.0 paths.1 paths.2
+      agree.bound.exports x.0 x.1
       ∙ sym (ap (λ y. map key_view (option_map_or (λ (z : World). keys_of z.exports.entries) y [] ++ keys)) bound.1)))
 
   pub merged_answer : map (key_text new.resolve) keys ≡ map (key_text s) (export_keys s other.world.0)
@@ -159,28 +162,33 @@ module _ (own other new : Bindgen) (o : IsBindgen own) (t : IsBindgen other) (ca
       ∙ ap Some (ap (λ (d : PackageName). path_in (identity_of d) (text_of h.name)) q.2.name ∙ sym h.spelled))))
 
   abbrev Gained : World → World → World → Type 0
-  Gained a b x = BringsEntries (key_texts r a.imports.entries) s b.imports.entries new.resolve x.imports.entries × BringsEntries (key_texts r a.exports.entries) s b.exports.entries new.resolve x.exports.entries
+  Gained a b x = BringsEntries (key_texts r a.imports.entries) s b.imports.entries new.resolve x.imports.entries
+      × BringsEntries (key_texts r a.exports.entries) s b.exports.entries new.resolve x.exports.entries
 
   pub merged_brings : BringsItsOwn own other new
   merged_brings = record {
     packages = λ q held fresh.
         let k = contains-get s.packages.items q held in
-        package_brought r s new.resolve o.valid t.valid own.world.0 other.world.0 w v p.matches planned.carried planned.types passes.0 planned.second.copied planned.second.interfaces planned.second.types passes.1 k.0 q k.1
+        package_brought r s new.resolve o.valid t.valid own.world.0 other.world.0 w v p.matches planned.carried planned.types passes.0 planned.second.copied planned.second.interfaces
+        planned.second.types passes.1 k.0 q k.1
         (new_package_copied r s o.valid t.valid p.matches p.matched paths.0 planned.carried planned.numbered paths.1 k.0 q k.1 fresh);
     interfaces = λ i path held is fresh.
         let k = contains-get s.interfaces.items i held in
-        interface_brought r s new.resolve o.valid t.valid own.world.0 other.world.0 w v p.matches planned.carried planned.types passes.0 planned.second.copied planned.second.interfaces planned.second.types passes.1 k.0 i path k.1
+        interface_brought r s new.resolve o.valid t.valid own.world.0 other.world.0 w v p.matches planned.carried planned.types passes.0 planned.second.copied planned.second.interfaces
+        planned.second.types passes.1 k.0 i path k.1
         (new_interface_copied r s o.valid t.valid p.matches p.matched paths.0 planned.carried planned.numbered paths.1 k.0 i path k.1 is fresh) is;
     worlds = λ x path held is fresh.
         let k = contains-get s.worlds.items x held in
-        world_brought r s new.resolve o.valid t.valid own.world.0 other.world.0 w v p.matches planned.carried planned.types passes.0 planned.second.copied planned.second.interfaces planned.second.types passes.1 k.0 x path k.1
+        world_brought r s new.resolve o.valid t.valid own.world.0 other.world.0 w v p.matches planned.carried planned.types passes.0 planned.second.copied planned.second.interfaces
+        planned.second.types passes.1 k.0 x path k.1
         (new_world_copied r s o.valid t.valid p.matches p.matched paths.0 planned.carried planned.numbered paths.1 k.0 x path k.1 is fresh) is
         (by_path_apart r s o.valid t.valid own.world.0 other.world.0 p.matches w v added keys planned other-bound.1 paths.0 paths.1 paths.2 k.0 x k.1);
     bound = λ a b x at_a at_b at_x.
         let ours : w ≡ a = same-some w a (sym bound.1 ∙ at_a) in
         let theirs : v ≡ b = same-some v b (sym other-bound.1 ∙ at_b) in
         subst (λ (y : World). Gained y b x) ours (subst (λ (y : World). Gained w y x) theirs
-        (bound_brought r s new.resolve o.valid t.valid own.world.0 other.world.0 w v p.matches planned.carried planned.types passes.0 planned.second.copied planned.second.interfaces planned.second.types passes.1 own-paths x
+        (bound_brought r s new.resolve o.valid t.valid own.world.0 other.world.0 w v p.matches planned.carried planned.types passes.0 planned.second.copied planned.second.interfaces
+        planned.second.types passes.1 own-paths x
         (sym (ap (world_at new.resolve) number) ∙ at_x)));
   }
 
@@ -188,4 +196,5 @@ module _ (own other new : Bindgen) (o : IsBindgen own) (t : IsBindgen other) (ca
   pub merged_bare : IsBare r → IsBare s → IsBare new.resolve
   merged_bare =
       merged_is_bare r s new.resolve o.valid t.valid own.world.0 other.world.0 p.matches w v added keys planned g.all_added bound.1 other-bound.1 paths.0 paths.1 paths.2 merged_extend
-      (type_source r s new.resolve o.valid t.valid own.world.0 other.world.0 w v p.matches planned.carried planned.types passes.0 planned.second.copied planned.second.interfaces planned.second.types passes.1)
+      (type_source r s new.resolve o.valid t.valid own.world.0 other.world.0 w v p.matches planned.carried planned.types passes.0 planned.second.copied planned.second.interfaces
+      planned.second.types passes.1)

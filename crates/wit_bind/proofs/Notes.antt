@@ -59,7 +59,8 @@ inline_same (Some x) None e = let wrong : ⊥ = cc in absurd wrong
 module _ (r s : Resolve) (f : Renumbering) (interfaces numbers : List ℕ) (valid : IsValid r) (carried : IsCarried r s f)
     (by_interface : (n : ℕ) → f.carries_interface n ≡ true → number_under interfaces n ≡ f.interfaces n) (by_type : number_under numbers ≡ f.types)
     (types_noted : (n : ℕ) → f.copies_type n ≡ true → type_notes_at s (f.types n) ≡ type_notes_at r n)
-    (under : (n : ℕ) (i : Interface) → interface_at r n ≡ Some i → f.copies_interface n ≡ true → (home : Option PackageId) × (j : Interface) × (interface_at s (f.interfaces n) ≡ Some j) × IsInterfaceUnder numbers home i j)
+    (under : (n : ℕ) (i : Interface) → interface_at r n ≡ Some i → f.copies_interface n ≡ true → (home : Option PackageId) × (j : Interface) × (interface_at s (f.interfaces n) ≡ Some j)
+    × IsInterfaceUnder numbers home i j)
     (inline_copied : (m : ℕ) (i : Interface) → f.carries_interface m ≡ true → interface_at r m ≡ Some i → i.name ≡ None → f.copies_interface m ≡ true) where
   -- ---- interfaces
 
@@ -68,7 +69,8 @@ module _ (r s : Resolve) (f : Renumbering) (interfaces numbers : List ℕ) (vali
   each_type [] h = refl
   each_type (e ∷ es) h = λ i. (e.0, types_noted e.1 (first_true _ _ h) i) ∷ each_type es (second_true (f.copies_type e.1) _ h) i
 
-  types_of : (old image : Interface) → IsInterfaceCopy f old image → map {B = Text × Option Notes} (λ e. (text_of e.0, type_notes_at s e.1.0)) image.types.entries ≡ map (λ e. (text_of e.0, type_notes_at r e.1.0)) old.types.entries
+  types_of : (old image : Interface) → IsInterfaceCopy f old image
+      → map {B = Text × Option Notes} (λ e. (text_of e.0, type_notes_at s e.1.0)) image.types.entries ≡ map (λ e. (text_of e.0, type_notes_at r e.1.0)) old.types.entries
   types_of old image c =
       sym (map-map (λ (x : Text × ℕ). (x.0, type_notes_at s x.1)) (λ e. (text_of e.0, e.1.0)) image.types.entries)
       ∙ (ap (map (λ (x : Text × ℕ). (x.0, type_notes_at s x.1))) c.types
@@ -77,12 +79,14 @@ module _ (r s : Resolve) (f : Renumbering) (interfaces numbers : List ℕ) (vali
       ∙ (each_type (map (λ e. (text_of e.0, e.1.0)) old.types.entries) (copied old.types.entries c.copies)
       ∙ map-map (λ (x : Text × ℕ). (x.0, type_notes_at r x.1)) (λ e. (text_of e.0, e.1.0)) old.types.entries))))
     where
-      copied : (es : List (String Global × TypeId)) → list_all (λ (id : TypeId). f.copies_type id.0) (map (λ e. e.1) es) ≡ true → list_all (λ (e : Text × ℕ). f.copies_type e.1) (map (λ e. (text_of e.0, e.1.0)) es) ≡ true
+      copied : (es : List (String Global × TypeId)) → list_all (λ (id : TypeId). f.copies_type id.0) (map (λ e. e.1) es) ≡ true
+          → list_all (λ (e : Text × ℕ). f.copies_type e.1) (map (λ e. (text_of e.0, e.1.0)) es) ≡ true
       copied [] h = refl
       copied (e ∷ es) h = both _ _ (first_true _ _ h) (copied es (second_true (f.copies_type e.1.0) _ h))
 
   -- an interface that is copied has its notes
-  pub interface_noted : (n : ℕ) (i : Interface) → interface_at r n ≡ Some i → f.copies_interface n ≡ true → (j : Interface) × (interface_at s (f.interfaces n) ≡ Some j) × (interface_notes s j ≡ interface_notes r i)
+  pub interface_noted : (n : ℕ) (i : Interface) → interface_at r n ≡ Some i → f.copies_interface n ≡ true → (j : Interface) × (interface_at s (f.interfaces n) ≡ Some j)
+      × (interface_notes s j ≡ interface_notes r i)
   interface_noted n i at copy =
       let x = under n i at copy in
       let j = x.1 in
@@ -155,7 +159,8 @@ module _ (r s : Resolve) (f : Renumbering) (interfaces numbers : List ℕ) (vali
   entry_noted e x u z = λ i. (key_texts_same e.0 x.0 z.0 i, item_noted e.1 x.1 u.1 z.1 i)
 
   -- where nothing was there, all entries are copied, in their order
-  pub entries_noted : (olds news : List (WorldKey × WorldItem)) → Joined f [] olds news → AllZip (IsEntryUnder interfaces numbers) (filter (λ (e : WorldKey × WorldItem). is_new_under interfaces [] e.0) olds) news → map (entry_notes s) news ≡ map (entry_notes r) olds
+  pub entries_noted : (olds news : List (WorldKey × WorldItem)) → Joined f [] olds news
+      → AllZip (IsEntryUnder interfaces numbers) (filter (λ (e : WorldKey × WorldItem). is_new_under interfaces [] e.0) olds) news → map (entry_notes s) news ≡ map (entry_notes r) olds
   entries_noted _ _ none zip = refl
   entries_noted _ _ (met old there olds news c k i rest) zip = let x = contains-get [] there c in let wrong : ⊥ = cc in absurd wrong
   entries_noted _ _ (added old new olds news n z rest) zip = λ i. entry_noted old new zip.0 z i ∷ entries_noted olds news rest zip.1 i
@@ -180,7 +185,8 @@ module _ (r s : Resolve) (f : Renumbering) (interfaces numbers : List ℕ) (vali
 
     -- one that was there stands for an entry, or it's copied
     abbrev pub IsMetOrNoted : List (WorldKey × WorldItem) → WorldKey × WorldItem → Type 0
-    IsMetOrNoted news e = ((there : WorldKey × WorldItem) × Contains own there × (key_text s there.0 ≡ key_text r e.0)) ⊎ ((x : WorldKey × WorldItem) × Contains news x × (entry_notes s x ≡ entry_notes r e))
+    IsMetOrNoted news e = ((there : WorldKey × WorldItem) × Contains own there × (key_text s there.0 ≡ key_text r e.0))
+        ⊎ ((x : WorldKey × WorldItem) × Contains news x × (entry_notes s x ≡ entry_notes r e))
 
     later : (new : WorldKey × WorldItem) (news : List (WorldKey × WorldItem)) (e : WorldKey × WorldItem) → IsMetOrNoted news e → IsMetOrNoted (new ∷ news) e
     later new news e (inl h) = inl h
@@ -195,7 +201,8 @@ module _ (r s : Resolve) (f : Renumbering) (interfaces numbers : List ℕ) (vali
     met_or_noted _ _ (met old there olds news c k i rest) zip e (suc n, l, q) =
         let place = contains-get own there c in
         let known : test old ≡ false =
-        new_same f interfaces numbers by_interface by_type own old.0 (ready old.0 there.0 k) ∙ ap not (any_at (λ (x : WorldKey × WorldItem). same_key f old.0 x.0) own place.0 there place.1 (becomes_same old.0 there.0 k)) in
+        new_same f interfaces numbers by_interface by_type own old.0 (ready old.0 there.0 k) ∙ ap not
+        (any_at (λ (x : WorldKey × WorldItem). same_key f old.0 x.0) own place.0 there place.1 (becomes_same old.0 there.0 k)) in
         met_or_noted olds news rest (subst (λ b. Copied (cond b (old ∷ filter test olds) (filter test olds)) news) known zip) e (n, omega (arith, l), q)
     met_or_noted _ _ (added old new olds news fresh z rest) zip e h =
         let known : test old ≡ true = new_same f interfaces numbers by_interface by_type own old.0 (ready old.0 new.0 z.0) ∙ fresh in

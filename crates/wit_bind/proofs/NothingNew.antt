@@ -76,7 +76,8 @@ module _ (own other : Bindgen) (o : IsBindgen own) (t : IsBindgen other) (can : 
       there : is_some (get (carried_worlds (binding_of other)) path.0) ≡ true
       there =
           ap is_some (get-without (binding_of other).worlds root_path path.0
-          ∙ (ap (λ b. cond b None (get (binding_of other).worlds path.0)) (sym (eq_by_text path.0 root_path) ∙ other-root (text_eq path.0 root_path) (first_true (not (text_eq path.0 root_path)) (not (is_one_of here path.0)) new))
+          ∙ (ap (λ b. cond b None (get (binding_of other).worlds path.0))
+          (sym (eq_by_text path.0 root_path) ∙ other-root (text_eq path.0 root_path) (first_true (not (text_eq path.0 root_path)) (not (is_one_of here path.0)) new))
           ∙ world-found s t.valid n path.0 path.1))
 
       known : is_one_of here path.0 ≡ true

@@ -31,11 +31,13 @@ use Rattle.bind_clash.proofs.FaultsMeant.{both-stand as known}
 -- both are known
 
 -- an entry is found under its key
-entry-found : (r : Resolve) (es : List (WorldKey × WorldItem)) (x : WorldKey × WorldItem) → are_distinct (map (λ (e : Text × Entry InterfaceMeaning). e.0) (entries_meaning r es)) ≡ true → Contains es x
+entry-found : (r : Resolve) (es : List (WorldKey × WorldItem)) (x : WorldKey × WorldItem) → are_distinct (map (λ (e : Text × Entry InterfaceMeaning). e.0) (entries_meaning r es)) ≡ true
+    → Contains es x
     → entry_under (key_text r x.0) (entries_meaning r es) ≡ Some (entry_meaning r x.1)
 entry-found r es x d c = found-distinct (entries_meaning r es) (key_text r x.0) (entry_meaning r x.1) d (contains-map (λ (e : WorldKey × WorldItem). (key_text r e.0, entry_meaning r e.1)) es x c)
 
-module _ (own other : Bindgen) (o : IsBindgen own) (t : IsBindgen other) (can : CanUnite (binding_of own) (binding_of other)) (w v : World) (at_w : world_at own.resolve own.world.0 ≡ Some w) (at_v : world_at other.resolve other.world.0 ≡ Some v) where
+module _ (own other : Bindgen) (o : IsBindgen own) (t : IsBindgen other) (can : CanUnite (binding_of own) (binding_of other)) (w v : World) (at_w : world_at own.resolve own.world.0 ≡ Some w)
+    (at_v : world_at other.resolve other.world.0 ≡ Some v) where
   abbrev r : Resolve
   r = own.resolve
 
@@ -60,9 +62,11 @@ module _ (own other : Bindgen) (o : IsBindgen own) (t : IsBindgen other) (can : 
   pub other-export : (x : WorldKey × WorldItem) → Contains v.exports.entries x → entry_under (key_text s x.0) (binding_of other).bound.exports ≡ Some (entry_meaning s x.1)
   other-export x c = ap (λ (b : WorldMeaning). entry_under (key_text s x.0) b.exports) (sym theirs) ∙ entry-found s v.exports.entries x (exports-distinct s t.valid other.world.0 v at_v) c
 
-  imports-agree : (x e : WorldKey × WorldItem) → Contains w.imports.entries x → Contains v.imports.entries e → key_text r x.0 ≡ key_text s e.0 → entry_sense (entry_meaning r x.1) ≡ entry_sense (entry_meaning s e.1)
+  imports-agree : (x e : WorldKey × WorldItem) → Contains w.imports.entries x → Contains v.imports.entries e → key_text r x.0 ≡ key_text s e.0
+      → entry_sense (entry_meaning r x.1) ≡ entry_sense (entry_meaning s e.1)
   imports-agree x e c d same =
-      agreed entry_sense (entry_under (key_text s e.0) (binding_of own).bound.imports) (entry_under (key_text s e.0) (binding_of other).bound.imports) (entry_meaning r x.1) (entry_meaning s e.1) (can.imports (key_text s e.0))
+      agreed entry_sense (entry_under (key_text s e.0) (binding_of own).bound.imports) (entry_under (key_text s e.0) (binding_of other).bound.imports) (entry_meaning r x.1) (entry_meaning s e.1)
+      (can.imports (key_text s e.0))
       (ap (λ (k : Text). entry_under k (binding_of own).bound.imports) (sym same) ∙ own-import x c) (other-import e d)
 
   exports-apart : (x e : WorldKey × WorldItem) → Contains w.exports.entries x → Contains v.exports.entries e → key_text r x.0 ≡ key_text s e.0 → ⊥
@@ -77,14 +81,16 @@ module _ (own other : Bindgen) (o : IsBindgen own) (t : IsBindgen other) (can : 
       (known (get (binding_of own).worlds path) (get (binding_of other).interfaces path) (world_meaning_at r k) (interface_meaning_at s n)
       (world-found r o.valid k path (ap (option_and_then (path_of_world r)) there ∙ f)) (interface-found s t.valid n path (ap (option_and_then (path_of_interface s)) at ∙ e)))
 
-  carried-found : (k : ℕ) (x : World) (path : Text) → world_at s k ≡ Some x → is_root_world s x ≡ false → path_of_world s x ≡ Some path → get (carried_worlds (binding_of other)) path ≡ Some (world_meaning_at s k)
+  carried-found : (k : ℕ) (x : World) (path : Text) → world_at s k ≡ Some x → is_root_world s x ≡ false → path_of_world s x ≡ Some path
+      → get (carried_worlds (binding_of other)) path ≡ Some (world_meaning_at s k)
   carried-found k x path at not e = get-without (binding_of other).worlds root_path path ∙ by (eq_by_cmp text_cmp path root_path) refl
     where
       by : (b : Bool) → eq_by_cmp text_cmp path root_path ≡ b → cond b None (get (binding_of other).worlds path) ≡ Some (world_meaning_at s k)
       by false q = world-found s t.valid k path (ap (option_and_then (path_of_world s)) at ∙ e)
       by true q = absurd (true≢false (sym (has-root s t.valid x path (world-path-of s t.valid k x at path e) (by_tie path root_path q)) ∙ not))
 
-  no-own-interface : (n : ℕ) (i : Interface) (k : ℕ) (x : World) (path : Text) → interface_at r n ≡ Some i → path_of_interface r i ≡ Some path → world_at s k ≡ Some x → is_root_world s x ≡ false → path_of_world s x ≡ Some path → ⊥
+  no-own-interface : (n : ℕ) (i : Interface) (k : ℕ) (x : World) (path : Text) → interface_at r n ≡ Some i → path_of_interface r i ≡ Some path → world_at s k ≡ Some x → is_root_world s x ≡ false
+      → path_of_world s x ≡ Some path → ⊥
   no-own-interface n i k x path at e there not f =
       can.no_world path
       (known (get (binding_of own).interfaces path) (get (carried_worlds (binding_of other)) path) (interface_meaning_at r n) (world_meaning_at s k)

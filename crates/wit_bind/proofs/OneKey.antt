@@ -73,7 +73,8 @@ module _ (r : Resolve) (v : IsValid r) where
       of_name i None label h = absurd (let z : ⊥ = cc in z)
       of_name i (Some t) label h = of_home t label i.package h
 
-      of_interface : (o : Option Interface) → interface_at r n ≡ o → option_and_then (λ i. option_and_then (λ t. option_map (λ p. (p.name, t)) (option_and_then (λ j. option_and_then (λ q. package_at r q.0) j.package) o)) i.name) o ≡ Some e
+      of_interface : (o : Option Interface) → interface_at r n ≡ o
+          → option_and_then (λ i. option_and_then (λ t. option_map (λ p. (p.name, t)) (option_and_then (λ j. option_and_then (λ q. package_at r q.0) j.package) o)) i.name) o ≡ Some e
           → AreNamed r n e
       of_interface None at h = absurd (let z : ⊥ = cc in z)
       of_interface (Some i) at h = of_name i i.name (interface-label n i at) h
@@ -94,7 +95,8 @@ same_front a b (Some x) None h k same = absurd (goes-on 64 a x (subst (Lacks 64)
 same_front a b (Some x) (Some y) h k same = (same_cut 64 a x b y h k same).0
 
 -- two canonical paths that are one are of one interface but for its version
-same_path : (p q : PackageName) (s t : String Global) → Lacks 58 (text_of p.namespace) → Lacks 58 (text_of q.namespace) → Lacks 47 (text_of p.name) → Lacks 47 (text_of q.name) → Lacks 64 (text_of s) → Lacks 64 (text_of t)
+same_path : (p q : PackageName) (s t : String Global) → Lacks 58 (text_of p.namespace) → Lacks 58 (text_of q.namespace) → Lacks 47 (text_of p.name) → Lacks 47 (text_of q.name) → Lacks 64 (text_of s)
+    → Lacks 64 (text_of t)
     → path_in (canonical_identity_of p) (text_of s) ≡ path_in (canonical_identity_of q) (text_of t) → path_in (unversioned p) (text_of s) ≡ path_in (unversioned q) (text_of t)
 same_path p q s t a b c d e f same =
     let first = same_cut 58 (text_of p.namespace) _ (text_of q.namespace) _ a b same in
@@ -106,7 +108,8 @@ same_path p q s t a b c d e f same =
 
 module _ (r : Resolve) (v : IsValid r) where
   -- a key under a path is no key under a label
-  apart_keys : (n : ℕ) (e : PackageName × String Global) → full_name r n ≡ Some e → (x f g : Text) → Lacks 47 x → Lacks 58 x → x ++ (47 ∷ f) ≡ path_in (canonical_identity_of e.0) (text_of e.1) ++ (47 ∷ g) → ⊥
+  apart_keys : (n : ℕ) (e : PackageName × String Global) → full_name r n ≡ Some e → (x f g : Text) → Lacks 47 x → Lacks 58 x
+      → x ++ (47 ∷ f) ≡ path_in (canonical_identity_of e.0) (text_of e.1) ++ (47 ∷ g) → ⊥
   apart_keys n e h x f g slashless colonless same =
       let named = are_named r v n e h in
       let space = text_of e.0.namespace in
@@ -129,11 +132,13 @@ module _ (r : Resolve) (v : IsValid r) where
   path_key : (id : InterfaceId) (f k : Text) → function_key r (key.Interface id) f ≡ Some k → IsPathKey id.0 f k
   path_key id f k h = go (full_name r id.0) refl (ap (option_map (λ text. text_under text f)) (sym (canonical-by-name r id.0)) ∙ h)
     where
-      go : (o : Option (PackageName × String Global)) → full_name r id.0 ≡ o → option_map (λ text. text_under text f) (option_map (λ p. path_in (canonical_identity_of p.0) (text_of p.1)) o) ≡ Some k → IsPathKey id.0 f k
+      go : (o : Option (PackageName × String Global)) → full_name r id.0 ≡ o → option_map (λ text. text_under text f) (option_map (λ p. path_in (canonical_identity_of p.0) (text_of p.1)) o) ≡ Some k
+          → IsPathKey id.0 f k
       go None at e = absurd (let z : ⊥ = cc in z)
       go (Some e) at h = record { named = e; is = at; spelled = sym (same-some (path_in (canonical_identity_of e.0) (text_of e.1) ++ (47 ∷ f)) k h) }
 
-  old_key : (id : InterfaceId) (f : Text) (e : PackageName × String Global) → full_name r id.0 ≡ Some e → unversioned_key r (key.Interface id) f ≡ Some (path_in (unversioned e.0) (text_of e.1) ++ (47 ∷ f))
+  old_key : (id : InterfaceId) (f : Text) (e : PackageName × String Global) → full_name r id.0 ≡ Some e
+      → unversioned_key r (key.Interface id) f ≡ Some (path_in (unversioned e.0) (text_of e.1) ++ (47 ∷ f))
   old_key id f e at = ap (λ o. option_map (λ text. text_under text f) (option_map (λ p. path_in (unversioned p.0) (text_of p.1)) o)) at
 
   module _ (n : ℕ) (w : World) (at : world_at r n ≡ Some w) (items : Items) (among : (e : WorldKey × WorldItem) → Contains items e → Contains (w.imports.entries ++ w.exports.entries) e) where
@@ -148,7 +153,8 @@ module _ (r : Resolve) (v : IsValid r) where
     name_lacks : (id : InterfaceId) (f : Text) → IsFunctionOf r items (key.Interface id) f → Lacks 47 f
     name_lacks id f (member scope shown m owner name g stands of there has) = listed_lacks 47 slash r v m owner there name g has
 
-    one_old : (a b : WorldKey) (f g k : Text) → IsFunctionOf r items a f → IsFunctionOf r items b g → function_key r a f ≡ Some k → function_key r b g ≡ Some k → unversioned_key r a f ≡ unversioned_key r b g
+    one_old : (a b : WorldKey) (f g k : Text) → IsFunctionOf r items a f → IsFunctionOf r items b g → function_key r a f ≡ Some k → function_key r b g ≡ Some k
+        → unversioned_key r a f ≡ unversioned_key r b g
     one_old (key.Name x) (key.Name y) f g k of of' h h' = h ∙ sym h'
     one_old (key.Name x) (key.Interface id) f g k of of' h h' =
         let l = label_lacks_both x f of in
@@ -164,9 +170,12 @@ module _ (r : Resolve) (v : IsValid r) where
         let a = are_named r v id.0 p.named p.is in
         let b = are_named r v id'.0 q.named q.is in
         let same = sym p.spelled ∙ q.spelled in
-        let ends : f ≡ g = last_cut 47 (path_in (canonical_identity_of p.named.0) (text_of p.named.1)) f (path_in (canonical_identity_of q.named.0) (text_of q.named.1)) g (name_lacks id f of) (name_lacks id' g of') same in
-        let starts = append_cancel_right (path_in (canonical_identity_of p.named.0) (text_of p.named.1)) (path_in (canonical_identity_of q.named.0) (text_of q.named.1)) (47 ∷ g) (ap (λ t. path_in (canonical_identity_of p.named.0) (text_of p.named.1) ++ (47 ∷ t)) (sym ends) ∙ same) in
-        let paths = same_path p.named.0 q.named.0 p.named.1 q.named.1 (label_lacks 58 refl (text_of p.named.0.namespace) a.namespace) (label_lacks 58 refl (text_of q.named.0.namespace) b.namespace) (label_lacks 47 refl (text_of p.named.0.name) a.name) (label_lacks 47 refl (text_of q.named.0.name) b.name)
+        let ends : f ≡ g = last_cut 47 (path_in (canonical_identity_of p.named.0) (text_of p.named.1)) f (path_in (canonical_identity_of q.named.0) (text_of q.named.1)) g (name_lacks id f of)
+        (name_lacks id' g of') same in
+        let starts = append_cancel_right (path_in (canonical_identity_of p.named.0) (text_of p.named.1)) (path_in (canonical_identity_of q.named.0) (text_of q.named.1)) (47 ∷ g)
+        (ap (λ t. path_in (canonical_identity_of p.named.0) (text_of p.named.1) ++ (47 ∷ t)) (sym ends) ∙ same) in
+        let paths = same_path p.named.0 q.named.0 p.named.1 q.named.1 (label_lacks 58 refl (text_of p.named.0.namespace) a.namespace) (label_lacks 58 refl (text_of q.named.0.namespace) b.namespace)
+        (label_lacks 47 refl (text_of p.named.0.name) a.name) (label_lacks 47 refl (text_of q.named.0.name) b.name)
         (label_lacks 64 refl (text_of p.named.1) a.own) (label_lacks 64 refl (text_of q.named.1) b.own) starts in
         old_key id f p.named p.is ∙ ((λ i. Some (paths i ++ (47 ∷ ends i))) ∙ sym (old_key id' g q.named q.is))
 
@@ -188,7 +197,8 @@ one_old_key r v side n a b f g k = by (world_at r n) refl
 
 -- ---- so there is one encoding for each key
 
-carries_each : (old : Text → Option StringEncoding) (r : Resolve) → IsValid r → (side : Side) (n : ℕ) (m : Encodings) → CarriesOver old r (items_on side r n) m → CarriesEach old r (items_on side r n) m
+carries_each : (old : Text → Option StringEncoding) (r : Resolve) → IsValid r → (side : Side) (n : ℕ) (m : Encodings) → CarriesOver old r (items_on side r n) m
+    → CarriesEach old r (items_on side r n) m
 carries_each old r v side n m over = record { each = each; only = over.only }
   where
     each : (k : Text) (e : StringEncoding) → HadEncoding old r (items_on side r n) k e → encoding_at m k ≡ Some e
@@ -199,6 +209,7 @@ carries_each old r v side n m over = record { each = each; only = over.only }
         let value : found.0 ≡ e = same-some found.0 e (sym g.had ∙ ap old was ∙ h.had) in
         found.1 ∙ ap Some value
 
-pub all_each : {E : Type 0} (old : Text → Option StringEncoding) (r : Resolve) → IsValid r → (side : Side) (n : ℕ) (a : Result Encodings E) → IfOk a (CarriesOver old r (items_on side r n)) → IfOk a (CarriesEach old r (items_on side r n))
+pub all_each : {E : Type 0} (old : Text → Option StringEncoding) (r : Resolve) → IsValid r → (side : Side) (n : ℕ) (a : Result Encodings E) → IfOk a (CarriesOver old r (items_on side r n))
+    → IfOk a (CarriesEach old r (items_on side r n))
 all_each old r v side n (Ok m) over = carries_each old r v side n m over
 all_each old r v side n (Err e) over = tt

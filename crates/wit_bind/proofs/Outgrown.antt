@@ -36,7 +36,8 @@ both-come : (limit own first all second : ℕ) → first ≡ all → limit < (ow
 both-come limit own first all second e h = omega (arith, e, h)
 
 module _ (own other : Bindgen) (o : IsBindgen own) (t : IsBindgen other) (can : CanUnite (binding_of own) (binding_of other)) (m : Matches) (matched : IsMatched own.resolve other.resolve m) where
-  too-many : (w v : World) → world_at own.resolve own.world.0 ≡ Some w → world_at other.resolve other.world.0 ≡ Some v → IsTooLong own.resolve other.resolve own.world.0 other.world.0 m w v → AreTooMany own other
+  too-many : (w v : World) → world_at own.resolve own.world.0 ≡ Some w → world_at other.resolve other.world.0 ≡ Some v → IsTooLong own.resolve other.resolve own.world.0 other.world.0 m w v
+      → AreTooMany own other
   too-many w v at_w at_v (inl (inl h)) = inl (more 4294967295 (length own.resolve.packages.items) _ _ h (packages-few own.resolve other.resolve o.valid t.valid m matched))
   too-many w v at_w at_v (inl (inr (inl h))) = inr (inl (more 4294967295 (length own.resolve.worlds.items) _ _ h (worlds-few own.resolve other.resolve o.valid t.valid m matched)))
   too-many w v at_w at_v (inl (inr (inr h))) = inr (inr (inl (record {
@@ -67,7 +68,8 @@ module _ (own other : Bindgen) (o : IsBindgen own) (t : IsBindgen other) (can : 
         first = copies_of fates;
         first_come = types-come own other o t can m matched c numbered;
         second = copies_of (gained_fates own.resolve other.resolve own.world.0 other.world.0 w v c fates numbers (copied_count c.copied_interfaces.items));
-        second_come = types-gained own other o t can m matched c numbered w v at_w at_v (copied_count c.copied_interfaces.items) numbers (numbers_by_long (length own.resolve.types.items) fates ∙ fates_long own.resolve other.resolve m c);
+        second_come = types-gained own other o t can m matched c numbered w v at_w at_v (copied_count c.copied_interfaces.items) numbers
+            (numbers_by_long (length own.resolve.types.items) fates ∙ fates_long own.resolve other.resolve m c);
         too_long = both-come 4294967295 (length own.resolve.types.items) _ _ _ refl h;
       })))
 
@@ -75,7 +77,8 @@ module _ (own other : Bindgen) (o : IsBindgen own) (t : IsBindgen other) (can : 
 
   module _ (P : Error → Type 0) (memory : P errors.Memory) (size : AreTooMany own other → P errors.Size) where
     refusal : (e : Error) → IsMemoryOrSize e
-        → (e ≡ errors.Size → (w v : World) → world_at own.resolve own.world.0 ≡ Some w → world_at other.resolve other.world.0 ≡ Some v → IsTooLong own.resolve other.resolve own.world.0 other.world.0 m w v) → P e
+        → (e ≡ errors.Size → (w v : World) → world_at own.resolve own.world.0 ≡ Some w → world_at other.resolve other.world.0 ≡ Some v
+        → IsTooLong own.resolve other.resolve own.world.0 other.world.0 m w v) → P e
     refusal errors.Memory h long = memory
     refusal errors.Size h long =
         let w = within_there own.resolve.worlds.items own.world.0 o.in_range in
@@ -85,6 +88,7 @@ module _ (own other : Bindgen) (o : IsBindgen own) (t : IsBindgen other) (can : 
 
     -- a union is refused for want of memory, or where there would be too much
     pub refused-so : {A : Type 0} (r : Result A Error) → IfErr r IsMemoryOrSize
-        → IfErr r (λ e. e ≡ errors.Size → (w v : World) → world_at own.resolve own.world.0 ≡ Some w → world_at other.resolve other.world.0 ≡ Some v → IsTooLong own.resolve other.resolve own.world.0 other.world.0 m w v) → IfErr r P
+        → IfErr r (λ e. e ≡ errors.Size → (w v : World) → world_at own.resolve own.world.0 ≡ Some w → world_at other.resolve other.world.0 ≡ Some v
+        → IsTooLong own.resolve other.resolve own.world.0 other.world.0 m w v) → IfErr r P
     refused-so (Ok a) h long = tt
     refused-so (Err e) h long = refusal e h long

@@ -50,7 +50,8 @@ keeps : (es : List Entry) (g : Look) (k : Text) (e : StringEncoding) → g k ≡
 keeps [] g k e h = (e, h)
 keeps (x ∷ xs) g k e h = by (text_eq k x.0) refl (keeps xs (put_one x g) k)
   where
-    by : (b : Bool) → text_eq k x.0 ≡ b → ((f : StringEncoding) → put_one x g k ≡ Some f → (f : StringEncoding) × (put_all xs (put_one x g) k ≡ Some f)) → (f : StringEncoding) × (put_all xs (put_one x g) k ≡ Some f)
+    by : (b : Bool) → text_eq k x.0 ≡ b → ((f : StringEncoding) → put_one x g k ≡ Some f → (f : StringEncoding) × (put_all xs (put_one x g) k ≡ Some f)) → (f : StringEncoding)
+        × (put_all xs (put_one x g) k ≡ Some f)
     by true s rest = rest x.1 (ap (λ b. cond b (Some x.1) (g k)) s)
     by false s rest = rest e (ap (λ b. cond b (Some x.1) (g k)) s ∙ h)
 

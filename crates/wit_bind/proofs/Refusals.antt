@@ -24,7 +24,8 @@ use Rattle.base_lemmas.proofs.Lists.{within_there as element_at}
 -- ---- encodings
 
 -- a fault of imported encodings is the refusal
-pub imported_refused : (own other : ModuleMetadata) (f : Option (String Global)) (e : Error) → IsFaultError kinds.Encoding f e → IsLeastFault (EncodingFault own.import_encodings other.import_encodings) (optional_text f) → IsEncodingRefusal own other e
+pub imported_refused : (own other : ModuleMetadata) (f : Option (String Global)) (e : Error) → IsFaultError kinds.Encoding f e
+    → IsLeastFault (EncodingFault own.import_encodings other.import_encodings) (optional_text f) → IsEncodingRefusal own other e
 imported_refused own other f e h p =
     subst (IsEncodingRefusal own other) (sym h.2) (refl, inl (subst (λ (o : Option (String Global)). IsLeastFault (EncodingFault own.import_encodings other.import_encodings) (optional_text o)) h.1 p))
 
@@ -32,7 +33,14 @@ imported_refused own other f e h p =
 pub exported_refused : (own other : ModuleMetadata) (f : Option (String Global)) (e : Error) → NoFault (EncodingFault own.import_encodings other.import_encodings) → IsFaultError kinds.Encoding f e
     → IsLeastFault (EncodingFault own.export_encodings other.export_encodings) (optional_text f) → IsEncodingRefusal own other e
 exported_refused own other f e none h p =
-    subst (IsEncodingRefusal own other) (sym h.2) (refl, inr (none, subst (λ (o : Option (String Global)). IsLeastFault (EncodingFault own.export_encodings other.export_encodings) (optional_text o)) h.1 p))
+    subst (IsEncodingRefusal own other) (sym h.2) (
+      refl,
+      inr (
+        none,
+        subst
+            (λ (o : Option (String Global)). IsLeastFault (EncodingFault own.export_encodings other.export_encodings) (optional_text o)) h.1 p,
+      ),
+    )
 
 pub memory_refused : (own other : ModuleMetadata) (e : Error) → e ≡ errors.Memory → IsEncodingRefusal own other e
 memory_refused own other e h = subst (IsEncodingRefusal own other) (sym h) tt
@@ -56,11 +64,14 @@ module _ (own other : Bindgen) (o : IsBindgen own) (t : IsBindgen other) (m : Ma
   memory_is e h = subst (IsMergeRefusal own other) (sym h) tt
 
   -- what clashes by numbers is the refusal
-  pub clash_is : (e : Error) → ((w v : World) → world_at own.resolve own.world.0 ≡ Some w → world_at other.resolve other.world.0 ≡ Some v → IsClashAt own.resolve other.resolve m own.world.0 other.world.0 w v e) → IsMergeRefusal own other e
+  pub clash_is : (e : Error)
+      → ((w v : World) → world_at own.resolve own.world.0 ≡ Some w → world_at other.resolve other.world.0 ≡ Some v → IsClashAt own.resolve other.resolve m own.world.0 other.world.0 w v e)
+      → IsMergeRefusal own other e
   clash_is e h = by (clashes_are_of_bindings own.resolve other.resolve m own.world.0 other.world.0 own_world.0 other_world.0 worlds
       own.metadata.import_encodings own.metadata.export_encodings other.metadata.import_encodings other.metadata.export_encodings e (h own_world.0 other_world.0 own_world.1 other_world.1))
     where
-      by : (e ≡ errors.Memory) ⊎ ((kind : ClashKind) × (key : String Global) × (e ≡ errors.Clash kind key) × IsClash (binding_of own) (binding_of other) kind (text_of key)) → IsMergeRefusal own other e
+      by : (e ≡ errors.Memory) ⊎ ((kind : ClashKind) × (key : String Global) × (e ≡ errors.Clash kind key) × IsClash (binding_of own) (binding_of other) kind (text_of key))
+          → IsMergeRefusal own other e
       by (inl memory) = subst (IsMergeRefusal own other) (sym memory) tt
       by (inr c) = subst (IsMergeRefusal own other) (sym c.2) c.3
 

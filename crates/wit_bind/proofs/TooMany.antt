@@ -96,7 +96,8 @@ one-text : (a b : PackageName) → is_identity (identity_of a) ≡ true → is_i
 one-text a b h k e =
     let p = identity_of a in
     let q = identity_of b in
-    let space = around 58 p.namespace q.namespace (p.name ++ at_version p.version) (q.name ++ at_version q.version) (label_lacks 58 refl p.namespace (identity_namespace p h)) (label_lacks 58 refl q.namespace (identity_namespace q k)) e in
+    let space = around 58 p.namespace q.namespace (p.name ++ at_version p.version) (q.name ++ at_version q.version) (label_lacks 58 refl p.namespace (identity_namespace p h))
+    (label_lacks 58 refl q.namespace (identity_namespace q k)) e in
     let name = at-versions p.name q.name p.version q.version (label_lacks 64 refl p.name (label-of p h)) (label_lacks 64 refl q.name (label-of q k)) space.1 in
     λ i. record { namespace = space.0 i; name = name.0 i; version = name.1 i }
 
@@ -115,7 +116,8 @@ any-text : {X : Type 0} (text : X → Text) (t : Text) (xs : List X) → list_an
 any-text text t [] h = untrue h
 any-text text t (x ∷ xs) h = by (text_eq t (text x)) refl h (any-text text t xs)
   where
-    by : (b : Bool) → text_eq t (text x) ≡ b → (b || list_any (text_eq t) (map text xs)) ≡ true → (list_any (text_eq t) (map text xs) ≡ true → IsFound xs (λ y. t ≡ text y)) → IsFound (x ∷ xs) (λ y. t ≡ text y)
+    by : (b : Bool) → text_eq t (text x) ≡ b → (b || list_any (text_eq t) (map text xs)) ≡ true → (list_any (text_eq t) (map text xs) ≡ true → IsFound xs (λ y. t ≡ text y))
+        → IsFound (x ∷ xs) (λ y. t ≡ text y)
     by true s k more = record { place = 0; it = x; stands = refl; fits = text-same t (text x) s }
     by false s k more = later x xs (λ y. t ≡ text y) (more k)
 
@@ -130,7 +132,8 @@ module _ {X M : Type 0} (path : X → Option Text) (meaning : X → M) (t : Text
       rest : List (Text × M)
       rest = filter_map (λ y. option_map (λ p. (p, meaning y)) (path y)) xs
 
-      by : (o : Option Text) → path x ≡ o → list_any (text_eq t) (map (λ (e : Text × M). e.0) (cons_option (option_map (λ p. (p, meaning x)) o) rest)) ≡ true → (list_any (text_eq t) (paths xs) ≡ true → IsFound xs (λ y. path y ≡ Some t))
+      by : (o : Option Text) → path x ≡ o → list_any (text_eq t) (map (λ (e : Text × M). e.0) (cons_option (option_map (λ p. (p, meaning x)) o) rest)) ≡ true
+          → (list_any (text_eq t) (paths xs) ≡ true → IsFound xs (λ y. path y ≡ Some t))
           → IsFound (x ∷ xs) (λ y. path y ≡ Some t)
       by None e k more = later x xs (λ y. path y ≡ Some t) (more k)
       by (Some p) e k more = go (text_eq t p) refl k
@@ -161,7 +164,8 @@ module _ (own other : Resolve) (v : IsValid own) (u : IsValid other) (m : Matche
       none : is_none (own_package_of own.packages.items p) ≡ true
       none =
           let f = own_package_of own.packages.items in
-          sym (ap (λ l. flag_under (map is_none l) n) matched.packages ∙ ap (λ o. unwrap_or o false) (mapped_at is_none (map f other.packages.items) n (f p) (mapped_at f other.packages.items n p at))) ∙ flag
+          sym (ap (λ l. flag_under (map is_none l) n) matched.packages ∙ ap (λ o. unwrap_or o false)
+          (mapped_at is_none (map f other.packages.items) n (f p) (mapped_at f other.packages.items n p at))) ∙ flag
 
       by : (b : Bool) → is_one_of (package_texts own) (package_text (identity_of p.name)) ≡ b → not b ≡ true
       by false e = refl
@@ -195,7 +199,8 @@ module _ (own other : Resolve) (v : IsValid own) (u : IsValid other) (m : Matche
       no-own t e false s = refl
       no-own t e true s =
           let f = any-path (path_of_world own) (world_meaning own) t own.worlds.items s in
-          let there = world-in-there own other v u m.packages.items matched.packages w.«package» (text_of w.name) t (world-path-of other u n w at t e) f.place (ap (option_and_then (path_of_world own)) f.stands ∙ f.fits) in
+          let there = world-in-there own other v u m.packages.items matched.packages w.«package» (text_of w.name) t (world-path-of other u n w at t e) f.place
+          (ap (option_and_then (path_of_world own)) f.stands ∙ f.fits) in
           untrue (sym (ap is_none there.1.0) ∙ first_true (is_none (g w)) (not (is_root_world other w)) both)
 
       go : (o : Option Text) → path_of_world other w ≡ o → option_map_or (λ path. not (text_eq path root_path) && not (is_one_of (map (λ e. e.0) (worlds_by_path own)) path)) o true ≡ true
@@ -207,7 +212,8 @@ module _ (own other : Resolve) (v : IsValid own) (u : IsValid other) (m : Matche
 
   -- ---- interfaces
 
-  pub new-interface : (worlds flags : List Bool) → AreChosen other m.interfaces.items worlds flags → (n : ℕ) (i : Interface) → interface_at other n ≡ Some i → flag_under flags n ≡ true → is_new_interface own other i ≡ true
+  pub new-interface : (worlds flags : List Bool) → AreChosen other m.interfaces.items worlds flags → (n : ℕ) (i : Interface) → interface_at other n ≡ Some i → flag_under flags n ≡ true
+      → is_new_interface own other i ≡ true
   new-interface worlds flags chosen n i at flag = go (path_of_interface other i) refl
     where
       no-own : (t : Text) → path_of_interface other i ≡ Some t → (b : Bool) → is_one_of (map (λ e. e.0) (interfaces_by_path own)) t ≡ b → not b ≡ true
@@ -217,7 +223,8 @@ module _ (own other : Resolve) (v : IsValid own) (u : IsValid other) (m : Matche
           let there = own-interface-there own other v u m.packages.items matched.packages n i at t e f.place (ap (option_and_then (path_of_interface own)) f.stands ∙ f.fits) in
           let id = there.0 in
           let name = unpacked (λ (x : String Global). interface_in own m.packages.items i.«package» (text_of x)) i.name id there.1.0 in
-          let found : slice_get m.interfaces.items n ≡ Some (Some id) = ap (λ l. slice_get l n) matched.interfaces ∙ (mapped_at (own_interface_of own m.packages.items) other.interfaces.items n i at ∙ ap Some there.1.0) in
+          let found : slice_get m.interfaces.items n ≡ Some (Some id) =
+          ap (λ l. slice_get l n) matched.interfaces ∙ (mapped_at (own_interface_of own m.packages.items) other.interfaces.items n i at ∙ ap Some there.1.0) in
           let known : is_matched m.interfaces.items n ≡ true = ap (λ o. is_some (given_interface o)) found in
           untrue (sym (chosen.named n i at (ap is_some name.1) ∙ ap not known) ∙ flag)
 

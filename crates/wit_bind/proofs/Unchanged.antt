@@ -12,7 +12,8 @@ use Rattle.std.proofs.lemmas.Option.{same_Some as same-some}
 
 -- ---- what is related number by number
 
-all_pairs : {X : Type 0} (Related : X → X → Type 0) (xs ys : List X) → length ys ≡ length xs → ((n : ℕ) (x y : X) → slice_get xs n ≡ Some x → slice_get ys n ≡ Some y → Related x y) → AllPairs Related xs ys
+all_pairs : {X : Type 0} (Related : X → X → Type 0) (xs ys : List X) → length ys ≡ length xs → ((n : ℕ) (x y : X) → slice_get xs n ≡ Some x → slice_get ys n ≡ Some y → Related x y)
+    → AllPairs Related xs ys
 all_pairs Related [] [] l h = tt
 all_pairs Related [] (y ∷ ys) l h = absurd (omega (arith, l))
 all_pairs Related (x ∷ xs) [] l h = absurd (omega (arith, l))
@@ -39,7 +40,9 @@ kept_with_room old new h world imported exported = record {
     apart : (n : ℕ) (w v : World) → slice_get old.resolve.worlds.items n ≡ Some w → slice_get new.resolve.worlds.items n ≡ Some v → n ≢ old.world.0 → IsSameWorld w v
     apart n w v a b ne = subst (IsSameWorld w) (same-some w v (sym a ∙ (sym (h.others n ne) ∙ b))) (same_world w)
 
-    by : (n : ℕ) (w v : World) → slice_get old.resolve.worlds.items n ≡ Some w → slice_get new.resolve.worlds.items n ≡ Some v → (n ≡ old.world.0) ⊎ ((n < old.world.0) ⊎ (old.world.0 < n)) → IsSameWorld w v
-    by n w v a b (inl same) = world_is w v (h.bound w v (subst (λ (k : ℕ). slice_get old.resolve.worlds.items k ≡ Some w) same a) (subst (λ (k : ℕ). slice_get new.resolve.worlds.items k ≡ Some v) same b))
+    by : (n : ℕ) (w v : World) → slice_get old.resolve.worlds.items n ≡ Some w → slice_get new.resolve.worlds.items n ≡ Some v → (n ≡ old.world.0) ⊎ ((n < old.world.0) ⊎ (old.world.0 < n))
+        → IsSameWorld w v
+    by n w v a b (inl same) = world_is w v (h.bound w v (subst (λ (k : ℕ). slice_get old.resolve.worlds.items k ≡ Some w) same a)
+        (subst (λ (k : ℕ). slice_get new.resolve.worlds.items k ≡ Some v) same b))
     by n w v a b (inr (inl less)) = apart n w v a b (λ same. omega (arith, less, same))
     by n w v a b (inr (inr more)) = apart n w v a b (λ same. omega (arith, more, same))

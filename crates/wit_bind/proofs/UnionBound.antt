@@ -112,7 +112,8 @@ under-path r path x s = ap (option_and_then (path_of_world r)) s.found ∙ s.pat
 meant-there : (r : Resolve) (path : Text) (x : WorldMeaning) (s : ShowsWorld r path x) → world_meaning_at r s.number ≡ x
 meant-there r path x s = ap (λ (o : Option World). option_map_or (world_meaning r) o no_world) s.found ∙ s.means
 
-module _ (merged_is_valid : MergedIsValid) (bound_means : BoundMeans) (own other new : Bindgen) (o : IsBindgen own) (t : IsBindgen other) (can : CanUnite (binding_of own) (binding_of other)) (u : IsUnited own other new) where
+module _ (merged_is_valid : MergedIsValid) (bound_means : BoundMeans) (own other new : Bindgen) (o : IsBindgen own) (t : IsBindgen other) (can : CanUnite (binding_of own) (binding_of other))
+    (u : IsUnited own other new) where
   abbrev r : Resolve
   r = own.resolve
 
@@ -134,7 +135,8 @@ module _ (merged_is_valid : MergedIsValid) (bound_means : BoundMeans) (own other
   -- ---- interfaces
 
   interfaces-of : (path : Text) (meaning : InterfaceMeaning) →
-      (Shows m path meaning → Shows r path meaning ⊎ (Shows s path meaning × ShowsNone r path)) × (Shows r path meaning → Shows m path meaning) × (Shows s path meaning → ShowsNone r path → Shows m path meaning)
+      (Shows m path meaning → Shows r path meaning ⊎ (Shows s path meaning × ShowsNone r path)) × (Shows r path meaning → Shows m path meaning)
+      × (Shows s path meaning → ShowsNone r path → Shows m path meaning)
   interfaces-of = interfaces_are_united r s m own.world.0 other.world.0 u.first u.second u.left_out o.valid t.valid u.distinct u.merged
 
   found-new : (q : Text) (x : InterfaceMeaning) → Shows m q x → get (binding_of new).interfaces q ≡ Some x
@@ -247,7 +249,8 @@ module _ (merged_is_valid : MergedIsValid) (bound_means : BoundMeans) (own other
     other-worlds : get (binding_of new).worlds q ≡ first_of_two (get A.worlds q) (cond (eq_by_cmp text_cmp q root_path) None (get B.worlds q))
     other-worlds = by (get A.worlds q) (get B.worlds q) (get (binding_of new).worlds q) refl refl refl (eq_by_cmp text_cmp q root_path) refl
       where
-        by : (a b c : Option WorldMeaning) → get A.worlds q ≡ a → get B.worlds q ≡ b → get (binding_of new).worlds q ≡ c → (z : Bool) → eq_by_cmp text_cmp q root_path ≡ z → c ≡ first_of_two a (cond z None b)
+        by : (a b c : Option WorldMeaning) → get A.worlds q ≡ a → get B.worlds q ≡ b → get (binding_of new).worlds q ≡ c → (z : Bool) → eq_by_cmp text_cmp q root_path ≡ z
+            → c ≡ first_of_two a (cond z None b)
         by (Some x) b c e f g z k =
             let h = world-under r q x e in
             sym g ∙ world-new q x ((worlds-of x).1 (shown-world r h.number q x h.under h.means))
@@ -270,12 +273,16 @@ module _ (merged_is_valid : MergedIsValid) (bound_means : BoundMeans) (own other
               | inr x ↦ nothing (get B.worlds q) y f (world-other q y x.0.0)
             ]
 
-  world-at-path : (q : Text) → get (binding_of new).worlds q ≡ cond (eq_by_cmp text_cmp q A.path) (Some (joined_world A.bound B.bound)) (first_of_two (get A.worlds q) (cond (eq_by_cmp text_cmp q root_path) None (get B.worlds q)))
+  world-at-path : (q : Text)
+      → get (binding_of new).worlds q ≡ cond (eq_by_cmp text_cmp q A.path) (Some (joined_world A.bound B.bound))
+      (first_of_two (get A.worlds q) (cond (eq_by_cmp text_cmp q root_path) None (get B.worlds q)))
   world-at-path q = subst
-      (λ (p : Text). get (binding_of new).worlds q ≡ cond (eq_by_cmp text_cmp q p) (Some (joined_world A.bound B.bound)) (first_of_two (get A.worlds q) (cond (eq_by_cmp text_cmp q root_path) None (get B.worlds q))))
+      (λ (p : Text). get (binding_of new).worlds q ≡ cond (eq_by_cmp text_cmp q p) (Some (joined_world A.bound B.bound))
+      (first_of_two (get A.worlds q) (cond (eq_by_cmp text_cmp q root_path) None (get B.worlds q))))
       (sym path-is) (by (eq_by_cmp text_cmp q own-path.0) refl)
     where
-      by : (b : Bool) → eq_by_cmp text_cmp q own-path.0 ≡ b → get (binding_of new).worlds q ≡ cond b (Some (joined_world A.bound B.bound)) (first_of_two (get A.worlds q) (cond (eq_by_cmp text_cmp q root_path) None (get B.worlds q)))
+      by : (b : Bool) → eq_by_cmp text_cmp q own-path.0 ≡ b
+          → get (binding_of new).worlds q ≡ cond b (Some (joined_world A.bound B.bound)) (first_of_two (get A.worlds q) (cond (eq_by_cmp text_cmp q root_path) None (get B.worlds q)))
       by true e = world-found m valid own.world.0 q (bound-path q ∙ (own-path.1 ∙ ap Some (sym (by_tie q own-path.0 e)))) ∙ ap Some bound-here
       by false e = other-worlds q e
 
@@ -312,7 +319,8 @@ module _ (merged_is_valid : MergedIsValid) (bound_means : BoundMeans) (own other
         | inr k ↦ Contains-append_right (package_texts r) (package_texts s) (text-of p.0)
             (let h = u.merged.first_copies.carried.packages k.number k.old k.found in
             let one : h.image ≡ p.0 = same-some h.image p.0 (sym h.at_image ∙ (ap (package_at m) k.here ∙ n.1)) in
-            subst (Contains (package_texts s)) (sym (same-text-of k.old h.image h.name) ∙ ap text-of one) (contains-map text-of s.packages.items k.old (get-contains s.packages.items k.number k.old k.found)))
+            subst (Contains (package_texts s)) (sym (same-text-of k.old h.image h.name) ∙ ap text-of one)
+            (contains-map text-of s.packages.items k.old (get-contains s.packages.items k.number k.old k.found)))
       ])
 
   package-here : (x : Text) → Contains (package_texts r ++ package_texts s) x → Contains (package_texts m) x

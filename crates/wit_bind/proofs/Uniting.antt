@@ -9,7 +9,8 @@ use Rattle.wit_bind.proofs.Refusals.{ClashesNowhere, other_world, own_world, wor
 use Rattle.wit_bind.proofs.Telling.{tell-entry, tell-interface, tell-world}
 
 pub unite : (own other : Bindgen) (o : IsBindgen own) (t : IsBindgen other) (m : Matches) (matched : IsMatched own.resolve other.resolve m) → ClashesNowhere own other o t m matched
-    → NoFault (EncodingFault own.metadata.import_encodings other.metadata.import_encodings) → NoFault (EncodingFault own.metadata.export_encodings other.metadata.export_encodings) → CanUnite (binding_of own) (binding_of other)
+    → NoFault (EncodingFault own.metadata.import_encodings other.metadata.import_encodings) → NoFault (EncodingFault own.metadata.export_encodings other.metadata.export_encodings)
+    → CanUnite (binding_of own) (binding_of other)
 unite own other o t m matched none imported exported =
     let w = own_world own other o t m matched in
     let v = other_world own other o t m matched in

@@ -41,6 +41,7 @@ canonical_is v =
     (cond (nat_lt 0 v.major) (decimal v.major) (cond (nat_lt 0 v.minor) (z ++ (46 ∷ decimal v.minor)) (z ++ (46 ∷ (z ++ (46 ∷ decimal v.patch))))))) zero_is
 
 -- `@` and the canonical part, behind a text
-pub pushed : {A : Type 0} (old marked_ new : Text) (v : Version) (r : Option A) → marked_ ≡ old ++ (64 ∷ []) → IfSome r (λ _. new ≡ marked_ ++ canonical_text v) → IfSome r (λ _. new ≡ old ++ (64 ∷ canonical_version (parts_of v)))
+pub pushed : {A : Type 0} (old marked_ new : Text) (v : Version) (r : Option A) → marked_ ≡ old ++ (64 ∷ []) → IfSome r (λ _. new ≡ marked_ ++ canonical_text v)
+    → IfSome r (λ _. new ≡ old ++ (64 ∷ canonical_version (parts_of v)))
 pushed old marked_ new v None first h = tt
 pushed old marked_ new v (Some x) first h = h ∙ ap (λ t. t ++ canonical_text v) first ∙ append_assoc old (64 ∷ []) (canonical_text v) ∙ ap (λ t. old ++ (64 ∷ t)) (canonical_is v)

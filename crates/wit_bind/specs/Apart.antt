@@ -8,4 +8,5 @@ use Rattle.wit_bind.specs.Extends.{Extends}
 use Rattle.wit_bind.specs.Merges.{IsGrownBy}
 
 abbrev pub GrownExtend : Type 0
-GrownExtend = (added : Added) (metadata : ModuleMetadata) (old new : Bindgen) → old.world.0 < length old.resolve.worlds.items → IsApart added old.resolve old.world.0 → IsGrownBy added metadata old new → Extends old.resolve new.resolve old.world.0
+GrownExtend = (added : Added) (metadata : ModuleMetadata) (old new : Bindgen) → old.world.0 < length old.resolve.worlds.items
+    → IsApart added old.resolve old.world.0 → IsGrownBy added metadata old new → Extends old.resolve new.resolve old.world.0

@@ -28,11 +28,22 @@ pub record Notes : Type 0 where
 
 -- what is said of a function
 abbrev pub function_notes : Function → Notes
-function_notes f = record { docs = optional_text f.docs.contents; stability = stability_view f.stability; external_id = optional_text f.external_id; of_members = [] }
+function_notes f = record {
+  docs = optional_text f.docs.contents;
+  stability = stability_view f.stability;
+  external_id = optional_text f.external_id;
+  of_members = [];
+}
 
 -- what is said of a type
 abbrev pub type_notes : TypeDef → Notes
-type_notes t = record { docs = optional_text t.docs.contents; stability = stability_view t.stability; external_id = optional_text t.external_id; of_members = member_docs t.kind }
+type_notes t = record {
+  docs = optional_text t.docs.contents;
+  stability = stability_view t.stability;
+  external_id = optional_text t.external_id;
+  of_members =
+      member_docs t.kind;
+}
 
 -- what is said of the type of this number
 abbrev pub type_notes_at : Resolve → ℕ → Option Notes
@@ -101,17 +112,24 @@ key_texts r es = map (λ e. key_text r e.0) es
 -- Each entry under a label or path that isn't one of these has its own notes under it in the end.
 abbrev pub BringsEntries : List Text → Resolve → List (WorldKey × WorldItem) → Resolve → List (WorldKey × WorldItem) → Type 0
 BringsEntries here other olds new news =
-    (e : WorldKey × WorldItem) → Contains olds e → is_one_of here (key_text other e.0) ≡ false → (x : WorldKey × WorldItem) × Contains news x × (entry_notes new x ≡ entry_notes other e)
+    (e : WorldKey × WorldItem) → Contains olds e → is_one_of here (key_text other e.0) ≡ false → (x : WorldKey × WorldItem) × Contains news x
+    × (entry_notes new x ≡ entry_notes other e)
 
 -- Packages, interfaces and worlds of the other binding whose names or paths weren't here have theirs in the end, and so have imports and exports that the bound
 -- world hadn't.
 pub record BringsItsOwn (own other new : Bindgen) : Type 0 where
   pub packages : (p : Package) → Contains other.resolve.packages.items p → is_new_package own.resolve p ≡ true
-      → (q : Package) × Contains new.resolve.packages.items q × (identity_of q.name ≡ identity_of p.name) × (optional_text q.docs.contents ≡ optional_text p.docs.contents)
-  pub interfaces : (i : Interface) (path : Text) → Contains other.resolve.interfaces.items i → path_of_interface other.resolve i ≡ Some path → is_new_interface own.resolve other.resolve i ≡ true
-      → (j : Interface) × Contains new.resolve.interfaces.items j × (path_of_interface new.resolve j ≡ Some path) × (interface_notes new.resolve j ≡ interface_notes other.resolve i)
-  pub worlds : (w : World) (path : Text) → Contains other.resolve.worlds.items w → path_of_world other.resolve w ≡ Some path → is_new_world own.resolve other.resolve w ≡ true
-      → (v : World) × Contains new.resolve.worlds.items v × (path_of_world new.resolve v ≡ Some path) × (world_notes new.resolve v ≡ world_notes other.resolve w)
-  pub bound : (w v x : World) → world_at own.resolve own.world.0 ≡ Some w → world_at other.resolve other.world.0 ≡ Some v → world_at new.resolve new.world.0 ≡ Some x
+      → (q : Package) × Contains new.resolve.packages.items q × (identity_of q.name ≡ identity_of p.name)
+      × (optional_text q.docs.contents ≡ optional_text p.docs.contents)
+  pub interfaces : (i : Interface) (path : Text) → Contains other.resolve.interfaces.items i → path_of_interface other.resolve i ≡ Some path
+      → is_new_interface own.resolve other.resolve i ≡ true
+      → (j : Interface) × Contains new.resolve.interfaces.items j × (path_of_interface new.resolve j ≡ Some path)
+      × (interface_notes new.resolve j ≡ interface_notes other.resolve i)
+  pub worlds : (w : World) (path : Text) → Contains other.resolve.worlds.items w → path_of_world other.resolve w ≡ Some path
+      → is_new_world own.resolve other.resolve w ≡ true
+      → (v : World) × Contains new.resolve.worlds.items v × (path_of_world new.resolve v ≡ Some path)
+      × (world_notes new.resolve v ≡ world_notes other.resolve w)
+  pub bound : (w v x : World) → world_at own.resolve own.world.0 ≡ Some w → world_at other.resolve other.world.0 ≡ Some v
+      → world_at new.resolve new.world.0 ≡ Some x
       → BringsEntries (key_texts own.resolve w.imports.entries) other.resolve v.imports.entries new.resolve x.imports.entries
       × BringsEntries (key_texts own.resolve w.exports.entries) other.resolve v.exports.entries new.resolve x.exports.entries

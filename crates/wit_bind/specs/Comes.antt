@@ -40,7 +40,8 @@ is_new_interface own other i = option_map_or (λ path. not (is_one_of (map (λ e
 
 -- whether a world of the other binding comes: none of its path is here, and it isn't the root world
 abbrev pub is_new_world : Resolve → Resolve → World → Bool
-is_new_world own other w = option_map_or (λ path. not (text_eq path root_path) && not (is_one_of (map (λ e. e.0) (worlds_by_path own)) path)) (path_of_world other w) true
+is_new_world own other w = option_map_or (λ path. not (text_eq path root_path) && not (is_one_of (map (λ e. e.0) (worlds_by_path own)) path))
+    (path_of_world other w) true
 
 -- The world of this number comes.
 pub record WorldComes (own other : Resolve) (n : ℕ) : Type 0 where

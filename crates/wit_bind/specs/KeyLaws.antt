@@ -17,7 +17,8 @@ use Rattle.wit_bind.specs.Functions.{Items, imports_of, exports_of, IsFunctionKe
 
 -- Each function of these items has a key, under its own name.
 pub record HaveKeys (r : Resolve) (items : Items) : Type 0 where
-  pub themselves : (scope : WorldKey) (f : Function) → Contains items (scope, item.Function f) → IsFunctionKey r items (text_under (text_of f.name) (text_of f.name))
+  pub themselves : (scope : WorldKey) (f : Function) → Contains items (scope, item.Function f)
+      → IsFunctionKey r items (text_under (text_of f.name) (text_of f.name))
   pub members : (scope : WorldKey) (shown : WorldItem) (n : ℕ) (owner : Interface) (name : String Global) (f : Function)
       → Contains items (scope, shown) → item_interface shown ≡ Some n → interface_at r n ≡ Some owner → Contains owner.functions.entries (name, f)
       → (k : Text) × ((function_key r scope (text_of f.name) ≡ Some k) × IsFunctionKey r items k)

@@ -40,7 +40,8 @@ own_entries r w (key.Interface id) = []
 
 -- those of the functions of an item
 abbrev pub entries_of_item : Resolve → Choice → WorldKey → WorldItem → List Entry
-entries_of_item r w scope (item.Interface id stability docs external_id) = option_map_or (λ i. member_entries r w scope i.functions.entries) (interface_at r id.0) []
+entries_of_item r w scope (item.Interface id stability docs external_id) =
+    option_map_or (λ i. member_entries r w scope i.functions.entries) (interface_at r id.0) []
 entries_of_item r w scope (item.Function f) = own_entries r w scope
 entries_of_item r w scope (item.Type_ id) = []
 

@@ -42,10 +42,14 @@ abbrev pub UnitedAreTheUnion : Type 0
 UnitedAreTheUnion = (own other new : Bindgen) → IsBindgen own → IsBindgen other → CanUnite (binding_of own) (binding_of other) → IsUnited own other new →
     IsBindgen new × (binding_of new ≡ union (binding_of own) (binding_of other))
 
--- Where nothing clashes, each own interface that is found for another has its path and its sense, and no own one has the path of another for which none is found.
+-- Where nothing clashes, each own interface that is found for another has its path and its sense, and no own one has the path of another for which none is
+-- found.
 abbrev pub MatchesHavePaths : Type 0
-MatchesHavePaths = (own other : Bindgen) → IsBindgen own → IsBindgen other → CanUnite (binding_of own) (binding_of other) → (m : Matches) → IsMatched own.resolve other.resolve m → (world k : ℕ) (w v : World) (added : Added) (keys : List WorldKey) (u : IsUnionOf own.resolve other.resolve world k m w v added keys) →
-    AreMatchedAll other.resolve m × AreMatchedAt own.resolve other.resolve m.interfaces.items u.carried.packages.items × NoneOfPath own.resolve other.resolve m.interfaces.items
+MatchesHavePaths = (own other : Bindgen) → IsBindgen own → IsBindgen other → CanUnite (binding_of own) (binding_of other) → (m : Matches)
+    → IsMatched own.resolve other.resolve m → (world k : ℕ) (w v : World) (added : Added) (keys : List WorldKey)
+    (u : IsUnionOf own.resolve other.resolve world k m w v added keys) →
+    AreMatchedAll other.resolve m × AreMatchedAt own.resolve other.resolve m.interfaces.items u.carried.packages.items
+    × NoneOfPath own.resolve other.resolve m.interfaces.items
 
 -- What has to hold of entries and numbers for two bindings to unite: what has one key has one sense, no export has the key of another, and no path is of an
 -- interface and of a world.
@@ -56,5 +60,6 @@ pub record AgreeByNumbers (own other : Resolve) (w v : World) : Type 0 where
 
 -- It does where they unite.
 abbrev pub UnitedAgreeByNumbers : Type 0
-UnitedAgreeByNumbers = (own other : Bindgen) → IsBindgen own → IsBindgen other → CanUnite (binding_of own) (binding_of other) → (w v : World) → world_at own.resolve own.world.0 ≡ Some w → world_at other.resolve other.world.0 ≡ Some v →
+UnitedAgreeByNumbers = (own other : Bindgen) → IsBindgen own → IsBindgen other → CanUnite (binding_of own) (binding_of other) → (w v : World)
+    → world_at own.resolve own.world.0 ≡ Some w → world_at other.resolve other.world.0 ≡ Some v →
     AgreeByNumbers own.resolve other.resolve w v

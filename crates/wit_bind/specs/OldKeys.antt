@@ -61,5 +61,6 @@ pub record CarriesEach (old : Text → Option StringEncoding) (r : Resolve) (ite
 
 -- In a valid `Resolve` functions of a world's imports, or of its exports, that share a key share their key without version.
 abbrev pub OneOldKey : Type 0
-OneOldKey = (r : Resolve) → IsValid r → (side : Side) (n : ℕ) (a b : WorldKey) (f g k : Text) → IsFunctionOf r (items_on side r n) a f → IsFunctionOf r (items_on side r n) b g
+OneOldKey = (r : Resolve) → IsValid r → (side : Side) (n : ℕ) (a b : WorldKey) (f g k : Text) → IsFunctionOf r (items_on side r n) a f
+    → IsFunctionOf r (items_on side r n) b g
     → function_key r a f ≡ Some k → function_key r b g ≡ Some k → unversioned_key r a f ≡ unversioned_key r b g

@@ -73,7 +73,8 @@ own trees (kind.Handle (handle.Borrow id)) e = refl
 own trees _ e = refl
 
 -- a kind that is neither an alias nor a resource has a form
-formed : (k : TypeDefKind) → aliased k ≡ None → is_resource_itself k ≡ false → (f : Form) × (form_of k ≡ Some f) × ((trees : List Tree) → declared_by trees k ≡ type_ (node f (children (map (tree_of trees) (places_of k)))))
+formed : (k : TypeDefKind) → aliased k ≡ None → is_resource_itself k ≡ false → (f : Form) × (form_of k ≡ Some f)
+    × ((trees : List Tree) → declared_by trees k ≡ type_ (node f (children (map (tree_of trees) (places_of k)))))
 formed (kind.Type_ t) e h = let wrong : ⊥ = cc in absurd wrong
 formed kind.Resource e h = true_false h
 formed (kind.Handle (handle.Own id)) e h = (_, refl, λ trees. refl)
@@ -96,7 +97,8 @@ formed (kind.Stream t) e h = (_, refl, λ trees. ap type_ (opened_built trees no
 module _ (r : Resolve) (v : IsValid r) where
   target_range : (k : TypeDefKind) → IsKindOf r k → (t : ValueType) → aliased k ≡ Some t → InRange r t
   target_range k (n, def, at, is) t e id same =
-      let low : is_below n t ≡ true = ap (λ x. Rattle.std.specs.List.list_all (λ m. Rattle.std.proofs.Common.nat_lt m n) (kind_numbers x)) (sym (is ∙ alias_kind k t e)) ∙ kept_numbers r v.rules n def at in
+      let low : is_below n t ≡ true = ap (λ x. Rattle.std.specs.List.list_all (λ m. Rattle.std.proofs.Common.nat_lt m n) (kind_numbers x)) (sym (is ∙ alias_kind k t e)) ∙ kept_numbers r
+      v.rules n def at in
       let less = below_number n t low id same in
       let there = below_length r.types.items n def at in
       omega (arith, less, there)

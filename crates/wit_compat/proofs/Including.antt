@@ -31,7 +31,8 @@ pub entry_missing : (large : List (Name × Shown)) (x : Name × Shown) (e : Erro
 entry_missing large x e none (inl m) = inl m
 entry_missing large x e none (inr q) = inr (missing (spelled_name x.0), q, subst (λ o. IsFault x.0 x.1 o (missing (spelled_name x.0))) (sym none) is_missing)
 
-pub entry_differs : (large : List (Name × Shown)) (x : Name × Shown) (o : Shown) (e : Error) → find_named x.0 large ≡ Some o → (o ≡ x.1 → ⊥) → IsMemoryOr (differs (spelled_name x.0)) e → IsEntryFault large x e
+pub entry_differs : (large : List (Name × Shown)) (x : Name × Shown) (o : Shown) (e : Error) → find_named x.0 large ≡ Some o → (o ≡ x.1 → ⊥) → IsMemoryOr (differs (spelled_name x.0)) e
+    → IsEntryFault large x e
 entry_differs large x o e found other (inl m) = inl m
 entry_differs large x o e found other (inr q) = inr (differs (spelled_name x.0), q, subst (λ p. IsFault x.0 x.1 p (differs (spelled_name x.0))) (sym found) (is_other o other))
 
@@ -59,9 +60,11 @@ module _ (r : Resolve) (back : Bool) (large : List (Name × Thing)) where
 
   pub all_hold : (keys : List Pair) (es : List Entry) → AllStand r back large keys es → AreAmong (pairs_shared r back (map named_thing es) large) keys
   all_hold keys [] h p c = absurd (let z = c.1 in omega (arith, z))
-  all_hold keys (e ∷ es) h p c = by (Contains-append_cases (pairs_of_entry r back large (named_thing e)) (pairs_shared r back (map named_thing es) large) p c) (all_hold keys es (λ x d. h x (Contains-append_right (e ∷ []) es x d)) p)
+  all_hold keys (e ∷ es) h p c = by (Contains-append_cases (pairs_of_entry r back large (named_thing e)) (pairs_shared r back (map named_thing es) large) p c)
+      (all_hold keys es (λ x d. h x (Contains-append_right (e ∷ []) es x d)) p)
     where
-      by : Contains (pairs_of_entry r back large (named_thing e)) p ⊎ Contains (pairs_shared r back (map named_thing es) large) p → (Contains (pairs_shared r back (map named_thing es) large) p → Contains keys p) → Contains keys p
+      by : Contains (pairs_of_entry r back large (named_thing e)) p ⊎ Contains (pairs_shared r back (map named_thing es) large) p
+          → (Contains (pairs_shared r back (map named_thing es) large) p → Contains keys p) → Contains keys p
       by (inl d) later = (h e (Contains-append_left (e ∷ []) es e (Contains-push [] e))).1 p d
       by (inr d) later = later d
 
@@ -76,12 +79,14 @@ module _ (r : Resolve) (back : Bool) (large : List (Name × Thing)) where
   entry_among [] e c = absurd (let z = c.1 in omega (arith, z))
   entry_among (x ∷ xs) e c = by (Contains-append_cases (x ∷ []) xs e c) (entry_among xs e)
     where
-      by : Contains (x ∷ []) e ⊎ Contains xs e → (Contains xs e → AreAmong (pairs_of_entry r back large (named_thing e)) (pairs_shared r back (map named_thing xs) large)) → AreAmong (pairs_of_entry r back large (named_thing e)) (pairs_of_entry r back large (named_thing x) ++ pairs_shared r back (map named_thing xs) large)
+      by : Contains (x ∷ []) e ⊎ Contains xs e → (Contains xs e → AreAmong (pairs_of_entry r back large (named_thing e)) (pairs_shared r back (map named_thing xs) large))
+          → AreAmong (pairs_of_entry r back large (named_thing e)) (pairs_of_entry r back large (named_thing x) ++ pairs_shared r back (map named_thing xs) large)
       by (inl d) later p q = Contains-append_left _ _ p (subst (λ y. Contains (pairs_of_entry r back large (named_thing y)) p) (sym (contains_one x e d)) q)
       by (inr d) later p q = Contains-append_right (pairs_of_entry r back large (named_thing x)) _ p (later d p q)
 
   -- what is reached from what has been reached, and one entry's pairs
-  pub reached_more : (roots mid new : List Pair) (es : List Entry) (e : Entry) → Contains es e → AreReached r (roots ++ pairs_shared r back (map named_thing es) large) mid → AreReached r (mid ++ pairs_of_entry r back large (named_thing e)) new → AreReached r (roots ++ pairs_shared r back (map named_thing es) large) new
+  pub reached_more : (roots mid new : List Pair) (es : List Entry) (e : Entry) → Contains es e → AreReached r (roots ++ pairs_shared r back (map named_thing es) large) mid
+      → AreReached r (mid ++ pairs_of_entry r back large (named_thing e)) new → AreReached r (roots ++ pairs_shared r back (map named_thing es) large) new
   reached_more roots mid new es e c h j p d = reached_through r (roots ++ pairs_shared r back (map named_thing es) large) (mid ++ pairs_of_entry r back large (named_thing e)) from p (j p d)
     where
       from : AreReached r (roots ++ pairs_shared r back (map named_thing es) large) (mid ++ pairs_of_entry r back large (named_thing e))
@@ -92,7 +97,8 @@ module _ (r : Resolve) (back : Bool) (large : List (Name × Thing)) where
           by (inr y) = root q (Contains-append_right roots _ q (entry_among es e c q y))
 
   -- an entry that doesn't stand, after those that do
-  pub first_fault : (keys : List Pair) (front rest : List Entry) (e : Entry) (x : Error) → AllStand r back large keys front → IsEntryFault (all_shown r large) (shown_entry r e) x → IsFaultOf (all_shown r (map named_thing (front ++ e ∷ rest))) (all_shown r large) x
+  pub first_fault : (keys : List Pair) (front rest : List Entry) (e : Entry) (x : Error) → AllStand r back large keys front → IsEntryFault (all_shown r large) (shown_entry r e) x
+      → IsFaultOf (all_shown r (map named_thing (front ++ e ∷ rest))) (all_shown r large) x
   first_fault keys front rest e x h (inl m) = inl m
   first_fault keys front rest e x h (inr (f, q, w)) = inr (
     f,

@@ -37,7 +37,8 @@ module _ (a b : Resolve) where
     members_exact y types h = (λ t. let functions = h.0 t in λ k. record { types = types k; functions = functions k }, λ same. h.1 (ap (λ (s : InterfaceSense). s.functions) same))
 
   pub interfaces_exact : (n m : ℕ) (i j : Interface) (y : Bool) → interface_at a n ≡ Some i → interface_at b m ≡ Some j
-      → (IsTrue y ↔ (interface_sense (interface_meaning a i) ≡ interface_sense (interface_meaning b j))) → IsTrue y ↔ (interface_sense (interface_meaning_at a n) ≡ interface_sense (interface_meaning_at b m))
+      → (IsTrue y ↔ (interface_sense (interface_meaning a i) ≡ interface_sense (interface_meaning b j))) → IsTrue y
+      ↔ (interface_sense (interface_meaning_at a n) ≡ interface_sense (interface_meaning_at b m))
   interfaces_exact n m i j y iat jat h =
       let left = ap interface_sense (interface_there a n i iat) in
       let right = ap interface_sense (interface_there b m j jat) in

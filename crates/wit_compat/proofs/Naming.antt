@@ -30,7 +30,8 @@ names_more r k (i ∷ is) (suc n) h =
     ∙ ap (λ m. interface_name r k ∷ (names_from r (k + 1) (take n is) ++ interface_name r m ∷ [])) (omega arith)
 
 -- the label of one item more
-pub label_more : (n : ℕ) (e : WorldKey × WorldItem) (es : List (WorldKey × WorldItem)) (o : Option Text) → option_or (option_or o (cond (is_item_of n e.1) (Some (label_of_key e.0)) None)) (label_among n es) ≡ option_or o (label_among n (e ∷ es))
+pub label_more : (n : ℕ) (e : WorldKey × WorldItem) (es : List (WorldKey × WorldItem)) (o : Option Text)
+    → option_or (option_or o (cond (is_item_of n e.1) (Some (label_of_key e.0)) None)) (label_among n es) ≡ option_or o (label_among n (e ∷ es))
 label_more n e es (Some t) = refl
 label_more n e es None = by (is_item_of n e.1)
   where

@@ -71,7 +71,8 @@ numbers_stay ks js (t ∷ ts) (n ∷ ns) kept h =
     λ i. kept t n first i ∷ numbers_stay ks js ts ns kept rest i
 
 -- the number of one text more
-pub numbers_more : (ks js : BorrowedTexts) (ts : List Text) (ns : List ℕ) (t : Text) (n : ℕ) → KeepsNumbers ks js → map (number_in ks) ts ≡ map Some ns → number_in js t ≡ Some n → map (number_in js) (ts ++ t ∷ []) ≡ map Some (ns ++ n ∷ [])
+pub numbers_more : (ks js : BorrowedTexts) (ts : List Text) (ns : List ℕ) (t : Text) (n : ℕ) → KeepsNumbers ks js → map (number_in ks) ts ≡ map Some ns → number_in js t ≡ Some n
+    → map (number_in js) (ts ++ t ∷ []) ≡ map Some (ns ++ n ∷ [])
 numbers_more ks js ts ns t n kept h g =
     map-append (number_in js) ts (t ∷ []) ∙ (λ i. numbers_stay ks js ts ns kept h i ++ g i ∷ []) ∙ sym (map-append Some ns (n ∷ []))
 

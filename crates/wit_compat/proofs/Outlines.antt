@@ -121,7 +121,8 @@ length-names r k (i ∷ is) = ap suc (length-names r (k + 1) is)
 pub names_length : (r : Resolve) (names : List (String Global)) → map text_of names ≡ interface_names r → length names ≡ length r.interfaces.items
 names_length r names e = sym (length-map names text_of) ∙ ap length e ∙ length-names r 0 r.interfaces.items
 
-pub name_at : (r : Resolve) (names : List (String Global)) (n : ℕ) (d : String Global) → map text_of names ≡ interface_names r → n < length r.interfaces.items → text_of (get_or names n d) ≡ interface_name r n
+pub name_at : (r : Resolve) (names : List (String Global)) (n : ℕ) (d : String Global) → map text_of names ≡ interface_names r → n < length r.interfaces.items
+    → text_of (get_or names n d) ≡ interface_name r n
 name_at r names n d e h =
     sym (get_or-map text_of names n d) ∙ ap (λ xs. get_or xs n (text_of d)) e ∙ names_at r 0 r.interfaces.items n (text_of d) h ∙ ap (interface_name r) (omega arith)
 

@@ -130,7 +130,8 @@ member_not_empty r n name f (kind.Static id) o h e =
 member_not_empty r n name f (kind.AsyncStatic id) o h e =
     let wrong : false ≡ true = ap (λ (x : Text). option_map_or is_label (after_prefix (static_name name []) x) false) (sym e) ∙ h in cc
 
-found_member : (r : Resolve) (n : ℕ) (f : Function) (k : FunctionKind) (name : Option Text) → is_freestanding k ≡ false → option_map_or (λ t. is_member_of r n t f k) name false ≡ true → text_of f.name ≡ [] → ⊥
+found_member : (r : Resolve) (n : ℕ) (f : Function) (k : FunctionKind) (name : Option Text) → is_freestanding k ≡ false → option_map_or (λ t. is_member_of r n t f k) name false ≡ true
+    → text_of f.name ≡ [] → ⊥
 found_member r n f k None o h e = let z : ⊥ = cc in z
 found_member r n f k (Some name) o h e = member_not_empty r n name f k o h e
 
@@ -167,7 +168,8 @@ module _ (r : Resolve) (v : IsValid r) where
         by None q = interface_fits r i q
         by (Some m) q = absurd (none_breaks r v.rules 5 lists.Types m (misnamed_in_interface_breaks r n i at kept_listings m (sym q)))
 
-    labelled : (list_all function_labels (functions_of_interface i) ≡ true) × (list_all (λ name. not (list_any (λ other. text_eq (text_of name) (text_of other)) (keys i.functions))) (keys i.types) ≡ true)
+    labelled : (list_all function_labels (functions_of_interface i) ≡ true)
+        × (list_all (λ name. not (list_any (λ other. text_eq (text_of name) (text_of other)) (keys i.functions))) (keys i.types) ≡ true)
     unfolding labels
     labelled =
         let passed = each_from_at (labels.interface_ r) 0 r.interfaces.items n i (lists_pass labels r v.rules.labels).1 at in
@@ -251,7 +253,8 @@ module _ (r : Resolve) (v : IsValid r) where
   entry_key [] x c = absurd (none_contained x c)
   entry_key (e ∷ es) x c = by (entry_key es x) (Contains-append_cases (entry_things r e) (things_of r es) x c)
     where
-      by : (Contains (things_of r es) x → (f : WorldKey × WorldItem) × Contains es f × (x.0.0 ≡ bare_key r f.0)) → Contains (entry_things r e) x ⊎ Contains (things_of r es) x → (f : WorldKey × WorldItem) × Contains (e ∷ es) f × (x.0.0 ≡ bare_key r f.0)
+      by : (Contains (things_of r es) x → (f : WorldKey × WorldItem) × Contains es f × (x.0.0 ≡ bare_key r f.0)) → Contains (entry_things r e) x ⊎ Contains (things_of r es) x
+          → (f : WorldKey × WorldItem) × Contains (e ∷ es) f × (x.0.0 ≡ bare_key r f.0)
       by later (inl d) = (e, Contains-append_left (e ∷ []) es e (Contains-push [] e), item_key r (bare_key r e.0) e.1 x d)
       by later (inr d) = let w = later d in (w.0, Contains-append_right (e ∷ []) es w.0 w.1, w.2)
 

@@ -71,7 +71,8 @@ repeat_excludes ts t f d = distinct_apart f.front f.rest t (subst (IsDistinct te
 pub repeated_excludes : (lists : List (List Text)) (t : Text) → IsRepeatedIn lists t → ((ts : List Text) → Contains lists ts → IsDistinct text_eq ts) → ⊥
 repeated_excludes lists t f all =
     repeat_excludes f.list t f.repeats
-    (all f.list (subst (λ (xs : List (List Text)). Contains xs f.list) (sym f.split) (Contains-append_right f.front (f.list ∷ f.rest) f.list (Contains-append_left (f.list ∷ []) f.rest f.list (Contains-push [] f.list)))))
+    (all f.list (subst (λ (xs : List (List Text)). Contains xs f.list) (sym f.split)
+    (Contains-append_right f.front (f.list ∷ f.rest) f.list (Contains-append_left (f.list ∷ []) f.rest f.list (Contains-push [] f.list)))))
 
 pub repeated_first : (ts : List Text) (rest : List (List Text)) (t : Text) → IsFirstRepeat ts t → IsRepeatedIn (ts ∷ rest) t
 repeated_first ts rest t f = record {
@@ -138,6 +139,7 @@ either_way : {X : Type 0} (P P' : Type 0) (Q Q' : X → Type 0) (o : Option X) �
 either_way P P' Q Q' None f g m = f m
 either_way P P' Q Q' (Some x) f g m = g x m
 
-pub ok_either_way : {X E : Type 0} (P P' : Type 0) (Q Q' : X → Type 0) (r : Result (Option X) E) → (P → P') → ((x : X) → Q x → Q' x) → IfOk r (λ o. MatchOption o P Q) → IfOk r (λ o. MatchOption o P' Q')
+pub ok_either_way : {X E : Type 0} (P P' : Type 0) (Q Q' : X → Type 0) (r : Result (Option X) E) → (P → P') → ((x : X) → Q x → Q' x) → IfOk r (λ o. MatchOption o P Q)
+    → IfOk r (λ o. MatchOption o P' Q')
 ok_either_way P P' Q Q' (Ok o) f g m = either_way P P' Q Q' o f g m
 ok_either_way P P' Q Q' (Err e) f g m = tt

@@ -130,9 +130,11 @@ module _ {K A X : Type 0} (text : K → Text) (meaning : A → X) where
 
     -- an entry that isn't found tells the maps apart
     pub not_found : IsDistinct text_eq (map text (keys_of es)) → (under (text k) fs ≡ Some (meaning a) → ⊥) → from_entries (map entry es) ≡ from_entries {R = text_cmp} fs → ⊥
-    not_found d differ same = differ (sym (found_same (map entry es) fs same (text k)) ∙ entry_found (map entry es) fs (subst (IsDistinct text_eq) (sym (keys_are es)) d) (text k) (meaning a) (contains-map entry es (k, a) next_there))
+    not_found d differ same = differ (sym (found_same (map entry es) fs same (text k)) ∙ entry_found (map entry es) fs (subst (IsDistinct text_eq) (sym (keys_are es)) d) (text k) (meaning a)
+        (contains-map entry es (k, a) next_there))
 
-  pub at_end : (fs : List (Text × X)) (es rest : List (K × A)) → IsAlong fs es rest → rest ≡ [] → length es ≡ length fs → IsDistinct text_eq (map text (keys_of es)) → from_entries (map entry es) ≡ from_entries {R = text_cmp} fs
+  pub at_end : (fs : List (Text × X)) (es rest : List (K × A)) → IsAlong fs es rest → rest ≡ [] → length es ≡ length fs → IsDistinct text_eq (map text (keys_of es))
+      → from_entries (map entry es) ≡ from_entries {R = text_cmp} fs
   at_end fs es rest along none l d =
       same_lists (map entry es) fs (subst (IsDistinct text_eq) (sym (keys_are es)) d) (length-map es entry ∙ l) (along.found (subst (λ xs. AreFound fs (map entry xs)) (sym none) tt))
 
@@ -141,7 +143,8 @@ module _ {K A X : Type 0} (text : K → Text) (meaning : A → X) where
   found_with test [] = refl
   found_with test (e ∷ es) = by (test (text e.0)) (found_with test es)
     where
-      by : (b : Bool) → lookup test (map entry es) ≡ option_map meaning (lookup (λ k. test (text k)) es) → cond b (Some (meaning e.1)) (lookup test (map entry es)) ≡ option_map meaning (cond b (Some e.1) (lookup (λ k. test (text k)) es))
+      by : (b : Bool) → lookup test (map entry es) ≡ option_map meaning (lookup (λ k. test (text k)) es)
+          → cond b (Some (meaning e.1)) (lookup test (map entry es)) ≡ option_map meaning (cond b (Some e.1) (lookup (λ k. test (text k)) es))
       by true h = refl
       by false h = h
 

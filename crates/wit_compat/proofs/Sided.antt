@@ -94,7 +94,8 @@ no_rank (ty.Id id) e = no_some id.0 (sym e)
 no_rank _ e = refl
 
 -- an unnamed kind has a form
-form_there : (k : TypeDefKind) → is_named_kind k ≡ false → (f : Form) × (form_of k ≡ Some f) × ((leaf : Tree) (trees : List Tree) → tree_of_declaration (declared_by trees k) ≡ opened_kind leaf trees k) × (is_alias k ≡ false)
+form_there : (k : TypeDefKind) → is_named_kind k ≡ false → (f : Form) × (form_of k ≡ Some f)
+    × ((leaf : Tree) (trees : List Tree) → tree_of_declaration (declared_by trees k) ≡ opened_kind leaf trees k) × (is_alias k ≡ false)
 form_there (kind.Record x) h = absurd (let z : ⊥ = cc in z)
 form_there (kind.Variant x) h = absurd (let z : ⊥ = cc in z)
 form_there (kind.Flags x) h = absurd (let z : ⊥ = cc in z)
@@ -128,7 +129,8 @@ module _ (r : Resolve) (v : IsValid r) (n : ℕ) (def : TypeDef) (at : type_at r
   unnamed_kind : is_some def.name ≡ false → is_named_kind def.kind ≡ false
   unfolding named_kinds
   unnamed_kind e = not_or (is_named_kind def.kind) (is_some def.name)
-      (first_true (not (is_named_kind def.kind) || is_some def.name) (passes (is_named_number r) (alias_target def.kind)) (each_from_at (named_kinds.type_ r) 0 r.types.items n def (lists_pass named_kinds r v.rules.named_kinds).3 at))
+      (first_true (not (is_named_kind def.kind) || is_some def.name) (passes (is_named_number r) (alias_target def.kind))
+      (each_from_at (named_kinds.type_ r) 0 r.types.items n def (lists_pass named_kinds r v.rules.named_kinds).3 at))
       e
 
   -- an unnamed type is a form over what stands at its places
@@ -136,7 +138,8 @@ module _ (r : Resolve) (v : IsValid r) (n : ℕ) (def : TypeDef) (at : type_at r
   unnamed_is e = by def.name refl e (form_there def.kind (unnamed_kind e))
     where
       by : (o : Option (String Global)) → def.name ≡ o → is_some o ≡ false
-          → (f : Form) × (form_of def.kind ≡ Some f) × ((leaf : Tree) (trees : List Tree) → tree_of_declaration (declared_by trees def.kind) ≡ opened_kind leaf trees def.kind) × (is_alias def.kind ≡ false)
+          → (f : Form) × (form_of def.kind ≡ Some f) × ((leaf : Tree) (trees : List Tree) → tree_of_declaration (declared_by trees def.kind) ≡ opened_kind leaf trees def.kind)
+          × (is_alias def.kind ≡ false)
           → (f : Form) × (form_of def.kind ≡ Some f) × (number_tree r n ≡ node f (children (map (type_tree r) (places_of def.kind))))
       by (Some name) q s w = absurd (let z : ⊥ = cc in z)
       by None q s w = (
@@ -227,10 +230,12 @@ module _ (a b : Resolve) (va : IsValid a) (vb : IsValid b) where
 
       equal_again : form_of d.kind ≡ form_of e.kind → map (type_tree a) (places_of d.kind) ≡ map (type_tree b) (places_of e.kind) → Equal
       equal_again f ts =
-          let forms : (unnamed_is a va n d dat p).0 ≡ (unnamed_is b vb m e eat q).0 = ap (λ o. unwrap_or o (unnamed_is a va n d dat p).0) (sym (unnamed_is a va n d dat p).1 ∙ f ∙ (unnamed_is b vb m e eat q).1) in
+          let forms : (unnamed_is a va n d dat p).0 ≡ (unnamed_is b vb m e eat q).0 =
+          ap (λ o. unwrap_or o (unnamed_is a va n d dat p).0) (sym (unnamed_is a va n d dat p).1 ∙ f ∙ (unnamed_is b vb m e eat q).1) in
           (unnamed_is a va n d dat p).2 ∙ (λ i. node (forms i) (children (ts i))) ∙ sym (unnamed_is b vb m e eat q).2
 
-      pub parted : form_of d.kind ≡ form_of e.kind → length (places_of d.kind) ≡ length (places_of e.kind) → IsParted a b (ty.Id (record { 0 = n })) (ty.Id (record { 0 = m })) (places_of d.kind) (places_of e.kind)
+      pub parted : form_of d.kind ≡ form_of e.kind → length (places_of d.kind) ≡ length (places_of e.kind)
+          → IsParted a b (ty.Id (record { 0 = n })) (ty.Id (record { 0 = m })) (places_of d.kind) (places_of e.kind)
       parted f l = record {
         alike = l;
         left = places_in_range a va n d dat;
@@ -242,7 +247,8 @@ module _ (a b : Resolve) (va : IsValid a) (vb : IsValid b) where
 
       pub looked : (x : Result Look AllocError)
           → IfOk x (λ l. (y : Bool) → l ≡ look.Known y → (y ≡ false) × (form_of d.kind ≡ form_of e.kind → length (places_of d.kind) ≡ length (places_of e.kind) → ⊥))
-          → IfOk x (λ l. (ts us : Vec ValueType Global) → l ≡ look.Parts ts us → (form_of d.kind ≡ form_of e.kind) × (ts.items ≡ places_of d.kind) × (us.items ≡ places_of e.kind) × (length ts.items ≡ length us.items))
+          → IfOk x (λ l. (ts us : Vec ValueType Global) → l ≡ look.Parts ts us → (form_of d.kind ≡ form_of e.kind) × (ts.items ≡ places_of d.kind) × (us.items ≡ places_of e.kind)
+          × (length ts.items ≡ length us.items))
           → IfOk x (Says a b (ty.Id (record { 0 = n })) (ty.Id (record { 0 = m })))
       looked (Err x) h k = tt
       looked (Ok (look.Known y)) h k =
@@ -267,7 +273,8 @@ never P h = (λ t. absurd (let z : ⊥ = cc in z), λ p. absurd (h p))
 pub place_at : (xs ys : List ValueType) (i : ℕ) → ys ≡ xs → i < length ys → (d : ValueType) → slice_get xs i ≡ Some (get_or ys i d)
 place_at xs ys i e lt d = ap (λ zs. slice_get zs i) (sym e) ∙ slice_get-get_or ys i d lt
 
-pub tree_at_place : (a b : Resolve) (xs ys : List ValueType) (i : ℕ) (x y : ValueType) → slice_get xs i ≡ Some x → slice_get ys i ≡ Some y → map (type_tree a) xs ≡ map (type_tree b) ys → SameType a b x y
+pub tree_at_place : (a b : Resolve) (xs ys : List ValueType) (i : ℕ) (x y : ValueType) → slice_get xs i ≡ Some x → slice_get ys i ≡ Some y → map (type_tree a) xs ≡ map (type_tree b) ys
+    → SameType a b x y
 tree_at_place a b xs ys i x y xat yat e =
     let maps = ap (λ zs. slice_get zs i) e in
     let left = slice_get-map (type_tree a) xs i ∙ ap (option_map (type_tree a)) xat in
@@ -301,7 +308,8 @@ module _ (a b : Resolve) (t u : ValueType) (xs ys : List ValueType) (w : IsParte
 pub not_same : {P : Type 0} (y : Bool) → (IsTrue y ↔ P) → y ≡ false → P → ⊥
 not_same y h e p = let wrong : true ≡ false = sym (h.1 p) ∙ e in cc
 
-pub remembered : (a b : Resolve) (t u : ValueType) (old new : List Pair) (n m : ℕ) → number_of t ≡ Some n → number_of u ≡ Some m → SameType a b t u → AllSame a b old → ((p : Pair) → Contains new p → Contains old p ⊎ ((n, m) ≡ p)) → AllSame a b new
+pub remembered : (a b : Resolve) (t u : ValueType) (old new : List Pair) (n m : ℕ) → number_of t ≡ Some n → number_of u ≡ Some m → SameType a b t u → AllSame a b old
+    → ((p : Pair) → Contains new p → Contains old p ⊎ ((n, m) ≡ p)) → AllSame a b new
 remembered a b t u old new n m tn um same h k p c = by (k p c)
   where
     by : Contains old p ⊎ ((n, m) ≡ p) → number_tree a p.0 ≡ number_tree b p.1

@@ -55,7 +55,8 @@ module _ (r : Resolve) where
       is_below id.0 (length r.types.items) (first_true (in_list r.types.items id.0) true (ap (λ x. list_all (in_list r.types.items) (option_to_list (number_of x))) (sym is) ∙ one))
 
   pub function_types_in_range : (f : Function) → function_in_range r f ≡ true → AllInRange r (function_types f)
-  function_types_in_range f h = types_in_range (function_types f) (first_true (list_all (in_list r.types.items) (filter_map number_of (function_types f))) (list_all (in_list r.types.items) (option_to_list (resource_of f.kind)))
+  function_types_in_range f h = types_in_range (function_types f) (first_true (list_all (in_list r.types.items) (filter_map number_of (function_types f)))
+      (list_all (in_list r.types.items) (option_to_list (resource_of f.kind)))
       (sym (list_all-append (in_list r.types.items) (filter_map number_of (function_types f)) (option_to_list (resource_of f.kind))) ∙ h))
 
   number_in_range : (id : TypeId) → in_list r.types.items id.0 ≡ true → AllInRange r (ty.Id id ∷ [])
@@ -65,7 +66,8 @@ module _ (r : Resolve) where
       subst (λ n. n < length r.types.items) number (is_below id.0 (length r.types.items) h)
 
   module _ (v : IsValid r) where
-    pub interface_numbers : (n : ℕ) (i : Interface) → interface_at r n ≡ Some i → (list_all (λ id. in_list r.types.items id.0) (values i.types) ≡ true) × (list_all (function_in_range r) (values i.functions) ≡ true)
+    pub interface_numbers : (n : ℕ) (i : Interface) → interface_at r n ≡ Some i → (list_all (λ id. in_list r.types.items id.0) (values i.types) ≡ true)
+        × (list_all (function_in_range r) (values i.functions) ≡ true)
     unfolding numbers_in_range
     interface_numbers n i at =
         let passed = each_from_at (numbers_in_range.interface_ r) 0 r.interfaces.items n i (lists_pass numbers_in_range r v.rules.numbers_in_range).1 at in
@@ -124,7 +126,8 @@ module _ (r : Resolve) where
     things_in_range [] h x c = absurd (let z = c.1 in omega (arith, z))
     things_in_range (e ∷ es) h x c =
         let one = first_true (key_in_range r e.0 && item_in_range r e.1) (entries_in_range r es) h in
-        by (Contains-append_cases (entry_things r e) (things_of r es) x c) (second_true (key_in_range r e.0) (item_in_range r e.1) one) (things_in_range es (second_true (key_in_range r e.0 && item_in_range r e.1) (entries_in_range r es) h) x)
+        by (Contains-append_cases (entry_things r e) (things_of r es) x c) (second_true (key_in_range r e.0) (item_in_range r e.1) one)
+        (things_in_range es (second_true (key_in_range r e.0 && item_in_range r e.1) (entries_in_range r es) h) x)
       where
         by : Contains (entry_things r e) x ⊎ Contains (things_of r es) x → item_in_range r e.1 ≡ true → (Contains (things_of r es) x → ThingInRange r x.1) → ThingInRange r x.1
         by (inl d) own later = item_things_in_range (bare_key r e.0) e.1 own x d
@@ -149,6 +152,8 @@ module _ (r : Resolve) where
     interfaces_fit =
         let le = not_past r.interfaces.items 4294967295 (λ x at.
         let passed = each_from_at (numbers_in_range.interface_ r) 0 r.interfaces.items 4294967295 x (lists_pass numbers_in_range r v.rules.numbers_in_range).1 at in
-        let e : is_place 4294967295 ≡ true = first_true (is_place 4294967295) (passes (in_list r.packages.items) (package_number x.«package») && (list_all (λ id. in_list r.types.items id.0) (values x.types) && list_all (function_in_range r) (values x.functions))) passed in
+        let e : is_place 4294967295 ≡ true = first_true (is_place 4294967295)
+        (passes (in_list r.packages.items) (package_number x.«package»)
+        && (list_all (λ id. in_list r.types.items id.0) (values x.types) && list_all (function_in_range r) (values x.functions))) passed in
         false_true e)
         in omega (arith, le)

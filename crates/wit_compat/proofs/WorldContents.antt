@@ -85,7 +85,8 @@ module _ (r : Resolve) where
 
   pub all_made : (made : List BorrowedEntry) (rest all : List (WorldKey × WorldItem)) → IsSplit made rest all → rest ≡ [] → indexed_sense r made ≡ entries_sense (entries_meaning r all)
   all_made made rest all s e =
-      maps_same (map (sense_entry r) made) (map key_entry all) (λ q. sym (none_over (under q (map (sense_entry r) made))) ∙ ap (λ es. or_first (under q (map (sense_entry r) made)) (under q (map key_entry es))) (sym e) ∙ s q)
+      maps_same (map (sense_entry r) made) (map key_entry all) (λ q. sym (none_over (under q (map (sense_entry r) made))) ∙ ap
+      (λ es. or_first (under q (map (sense_entry r) made)) (under q (map key_entry es))) (sym e) ∙ s q)
       ∙ ap (from_entries {R = text_cmp}) (sym (senses_are all))
 
   module _ (made : List BorrowedEntry) (rest next all : List (WorldKey × WorldItem)) (k : WorldKey) (i : WorldItem) (s : IsSplit made rest all) (split : rest ≡ (k, i) ∷ next) where
@@ -105,8 +106,11 @@ module _ (r : Resolve) where
 
     found_again : (key : String Global) → IsSome (lookup (λ k. text_eq (text_of key) (text_of k)) made) → (y : Entry InterfaceSense) × (under (text_of key) (map (sense_entry r) made) ≡ Some y)
     found_again key h =
-        let x = some-of (lookup (λ k. text_eq (text_of key) (text_of k)) made) h in
-        (entry_sense (entry_meaning r x.0.now), under_is text_of (λ (j : Bor WorldItem). entry_sense (entry_meaning r j.now)) (text_of key) made ∙ ap (option_map (λ (j : Bor WorldItem). entry_sense (entry_meaning r j.now))) x.1)
+        let x = some-of (lookup (λ k. text_eq (text_of key) (text_of k)) made) h in (
+          entry_sense (entry_meaning r x.0.now),
+          under_is text_of (λ (j : Bor WorldItem). entry_sense (entry_meaning r j.now)) (text_of key) made ∙ ap
+              (option_map (λ (j : Bor WorldItem). entry_sense (entry_meaning r j.now))) x.1,
+        )
 
     pub put_split : (key : String Global) (item : Bor WorldItem) (new : List BorrowedEntry) → text_of key ≡ key_text r k → item.now ≡ i → PutsFirst made new (key, item) → IsSplit new next all
     put_split key item new text is (inr n) = made_more key item new text is n
@@ -116,10 +120,13 @@ module _ (r : Resolve) where
 
     pub rest_in_range : entries_in_range r rest ≡ true → (item_in_range r i ≡ true) × (entries_in_range r next ≡ true)
     rest_in_range h =
-        let all : (key_in_range r k && item_in_range r i) && entries_in_range r next ≡ true = ap (entries_in_range r) (sym split) ∙ h in
-        (second_true (key_in_range r k) (item_in_range r i) (first_true (key_in_range r k && item_in_range r i) (entries_in_range r next) all), second_true (key_in_range r k && item_in_range r i) (entries_in_range r next) all)
+        let all : (key_in_range r k && item_in_range r i) && entries_in_range r next ≡ true = ap (entries_in_range r) (sym split) ∙ h in (
+          second_true (key_in_range r k) (item_in_range r i) (first_true (key_in_range r k && item_in_range r i) (entries_in_range r next) all),
+          second_true (key_in_range r k && item_in_range r i) (entries_in_range r next) all,
+        )
 
-  pushed_in_range : (made new : List BorrowedEntry) (key : String Global) (item : Bor WorldItem) → new ≡ made ++ (key, item) ∷ [] → AllItemsInRange r made → item_in_range r item.now ≡ true → AllItemsInRange r new
+  pushed_in_range : (made new : List BorrowedEntry) (key : String Global) (item : Bor WorldItem) → new ≡ made ++ (key, item) ∷ [] → AllItemsInRange r made → item_in_range r item.now ≡ true
+      → AllItemsInRange r new
   pushed_in_range made new key item n h is e c = by (Contains-push_cases made (key, item) e (subst (λ es. Contains es e) n c))
     where
       by : Contains made e ⊎ ((key, item) ≡ e) → item_in_range r e.1.now ≡ true
@@ -130,7 +137,8 @@ module _ (r : Resolve) where
   pub value_in_range : (made : List BorrowedEntry) → AllItemsInRange r made → (item : Bor WorldItem) → Contains (values_of made) item → item_in_range r item.now ≡ true
   value_in_range made h item c = let k = Contains-from_values_of made item c in h (k.0, item) k.1
 
-  pub put_in_range : (made new : List BorrowedEntry) (key : String Global) (item : Bor WorldItem) → PutsFirst made new (key, item) → AllItemsInRange r made → item_in_range r item.now ≡ true → AllItemsInRange r new
+  pub put_in_range : (made new : List BorrowedEntry) (key : String Global) (item : Bor WorldItem) → PutsFirst made new (key, item) → AllItemsInRange r made → item_in_range r item.now ≡ true
+      → AllItemsInRange r new
   put_in_range made new key item (inr n) h is = pushed_in_range made new key item n h is
   put_in_range made new key item (inl w) h is = subst (AllItemsInRange r) (sym w.0) h
 
@@ -145,7 +153,8 @@ module _ (a b : Resolve) (v w : World) where
   imports_back same = ap (λ (s : WorldSense). s.imports) same
 
   pub contents_exact : (y : Bool) → entries_sense (entries_meaning a v.imports.entries) ≡ entries_sense (entries_meaning b w.imports.entries)
-      → (IsTrue y ↔ (entries_sense (entries_meaning a v.exports.entries) ≡ entries_sense (entries_meaning b w.exports.entries))) → IsTrue y ↔ (world_sense (world_meaning a v) ≡ world_sense (world_meaning b w))
+      → (IsTrue y ↔ (entries_sense (entries_meaning a v.exports.entries) ≡ entries_sense (entries_meaning b w.exports.entries))) → IsTrue y
+      ↔ (world_sense (world_meaning a v) ≡ world_sense (world_meaning b w))
   contents_exact y imports h = (λ t. let exports = h.0 t in λ k. record { imports = imports k; exports = exports k }, λ same. h.1 (ap (λ (s : WorldSense). s.exports) same))
 
 world_there : (r : Resolve) (n : ℕ) (w : World) → world_at r n ≡ Some w → world_meaning_at r n ≡ world_meaning r w

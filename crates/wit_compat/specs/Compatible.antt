@@ -115,7 +115,8 @@ pub data Refuses (r : Resolve) (prev new : World) : Refusal → Type 0 where
   packages : (package_name r prev ≡ package_name r new → ⊥) → Refuses r prev new other_package
   keys : (name : Text) → package_name r prev ≡ package_name r new → IsTwice r prev new name → Refuses r prev new (twice_without_version name)
   imports : (f : Refusal) → AreComparable r prev new → IsFirstFault (flat_imports r prev) (flat_imports r new) f → Refuses r prev new f
-  exports : (f : Refusal) → AreComparable r prev new → IsIncluded (flat_imports r prev) (flat_imports r new) → IsFirstFault (flat_exports r new) (flat_exports r prev) f → Refuses r prev new f
+  exports : (f : Refusal) → AreComparable r prev new → IsIncluded (flat_imports r prev) (flat_imports r new)
+      → IsFirstFault (flat_exports r new) (flat_exports r prev) f → Refuses r prev new f
 
 -- What `Ok` says: the packages agree in namespace and name, no key is twice without version, and the worlds are compatible.
 pub record Accepts (r : Resolve) (prev new : World) : Type 0 where

@@ -73,7 +73,8 @@ pub record SameShapes (f g : Function) : Type 0 where
 -- the pairs at equal places of two things
 abbrev pub pairs_of_things : Resolve → Thing → Thing → List Pair
 pairs_of_things r (of_type t) (of_type u) = pairs_at (heads_of r) (t ∷ []) (u ∷ [])
-pairs_of_things r (of_function f) (of_function g) = pairs_at (heads_of r) (map (λ p. p.ty) f.params.items) (map (λ p. p.ty) g.params.items) ++ pairs_at (heads_of r) (option_to_list f.result) (option_to_list g.result)
+pairs_of_things r (of_function f) (of_function g) = pairs_at (heads_of r) (map (λ p. p.ty) f.params.items) (map (λ p. p.ty) g.params.items) ++ pairs_at
+    (heads_of r) (option_to_list f.result) (option_to_list g.result)
 pairs_of_things r _ _ = []
 
 -- The pairs at equal places of a thing of the small list and one of the large list.

@@ -51,13 +51,15 @@ joined_alike : {X Y : Type 0} (f : X → Y) (xs xs' ys ys' : List X) → map f x
 joined_alike f xs xs' ys ys' h g = map_joined f xs ys ∙ ((λ i. h i ++ g i) ∙ sym (map_joined f xs' ys'))
 
 -- what is given by elements that give alike
-given_map_alike : {X Y Z : Type 0} (R : X → X → Type 0) (bare : Y → Z) (f g : X → Option Y) → ((x y : X) → R x y → option_map bare (f x) ≡ option_map bare (g y)) → (xs ys : List X) → AllZip R xs ys → map bare (filter_map f xs) ≡ map bare (filter_map g ys)
+given_map_alike : {X Y Z : Type 0} (R : X → X → Type 0) (bare : Y → Z) (f g : X → Option Y) → ((x y : X) → R x y → option_map bare (f x) ≡ option_map bare (g y)) → (xs ys : List X) → AllZip R xs ys
+    → map bare (filter_map f xs) ≡ map bare (filter_map g ys)
 given_map_alike R bare f g each [] [] h = refl
 given_map_alike R bare f g each [] (y ∷ ys) h = absurd h
 given_map_alike R bare f g each (x ∷ xs) [] h = absurd h
 given_map_alike R bare f g each (x ∷ xs) (y ∷ ys) h = go (f x) (g y) (each x y h.0) (given_map_alike R bare f g each xs ys h.1)
   where
-    go : (o p : Option _) → option_map bare o ≡ option_map bare p → map bare (filter_map f xs) ≡ map bare (filter_map g ys) → map bare (cons_option o (filter_map f xs)) ≡ map bare (cons_option p (filter_map g ys))
+    go : (o p : Option _) → option_map bare o ≡ option_map bare p → map bare (filter_map f xs) ≡ map bare (filter_map g ys)
+        → map bare (cons_option o (filter_map f xs)) ≡ map bare (cons_option p (filter_map g ys))
     go None None e rest = rest
     go None (Some v) e rest = let wrong : ⊥ = cc in absurd wrong
     go (Some u) None e rest = let wrong : ⊥ = cc in absurd wrong
@@ -120,7 +122,8 @@ module _ (a b : Resolve) (alike : DifferInDocumentation a b) where
 
   full_alike : (s t : Text) → s ≡ t → (n : ℕ) → option_map_or (full_path s) (package_at a n) (Local s) ≡ option_map_or (full_path t) (package_at b n) (Local t)
   full_alike s t e n =
-      or_alike AlikePackages (full_path s) (full_path s) (Local s) (λ p q h. λ i. Full (h.namespace i) (h.name i) s (h.version i)) (package_at a n) (package_at b n) (at_both AlikePackages a.packages.items b.packages.items n alike.packages)
+      or_alike AlikePackages (full_path s) (full_path s) (Local s) (λ p q h. λ i. Full (h.namespace i) (h.name i) s (h.version i)) (package_at a n) (package_at b n)
+      (at_both AlikePackages a.packages.items b.packages.items n alike.packages)
       ∙ ap (λ name. option_map_or (full_path name) (package_at b n) (Local name)) e
 
   path_from_alike : (here : PackageId) (x y : Interface) → AlikeInterfaces x y → path_from a here x ≡ path_from b here y
@@ -145,7 +148,8 @@ module _ (a b : Resolve) (alike : DifferInDocumentation a b) where
   use_alike : (o : TypeOwner) (own : Text) (d e : TypeDef) → AlikeTypes d e → used_of a o own d ≡ used_of b o own e
   use_alike o own d e h = go d.kind e.kind h.kind
     where
-      by_owner : (t : TypeId) (x y : TypeDef) → AlikeTypes x y → type_at a t.0 ≡ Some x → type_at b t.0 ≡ Some y → (w : TypeOwner) → x.owner ≡ w → y.owner ≡ w → used_of a o own (record d { kind = defined.Type_ (value.Id t) }) ≡ used_of b o own (record e { kind = defined.Type_ (value.Id t) })
+      by_owner : (t : TypeId) (x y : TypeDef) → AlikeTypes x y → type_at a t.0 ≡ Some x → type_at b t.0 ≡ Some y → (w : TypeOwner) → x.owner ≡ w → y.owner ≡ w
+          → used_of a o own (record d { kind = defined.Type_ (value.Id t) }) ≡ used_of b o own (record e { kind = defined.Type_ (value.Id t) })
       by_owner t x y k p q (owner.World id) r s = rw (p, q, r, s) refl
       by_owner t x y k p q owner.None r s = rw (p, q, r, s) refl
       by_owner t x y k p q (owner.Interface id) r s = rw (p, q, r, s) (λ i. (if same_owner o (owner.Interface id) then None else Some (record {
@@ -154,7 +158,8 @@ module _ (a b : Resolve) (alike : DifferInDocumentation a b) where
         names = record { other = name_alike x.name y.name k.name i; own = own_name own (name_alike x.name y.name k.name i) } ∷ [];
       })))
 
-      by_target : (t : TypeId) (x y : Option TypeDef) → Both AlikeTypes x y → type_at a t.0 ≡ x → type_at b t.0 ≡ y → used_of a o own (record d { kind = defined.Type_ (value.Id t) }) ≡ used_of b o own (record e { kind = defined.Type_ (value.Id t) })
+      by_target : (t : TypeId) (x y : Option TypeDef) → Both AlikeTypes x y → type_at a t.0 ≡ x → type_at b t.0 ≡ y
+          → used_of a o own (record d { kind = defined.Type_ (value.Id t) }) ≡ used_of b o own (record e { kind = defined.Type_ (value.Id t) })
       by_target t None None k p q = rw (p, q) refl
       by_target t None (Some y) k p q = absurd k
       by_target t (Some x) None k p q = absurd k
@@ -182,7 +187,8 @@ module _ (a b : Resolve) (alike : DifferInDocumentation a b) where
       go k l streams = refl
 
   uses_alike : (o : TypeOwner) (types : List Listed) → shown_uses a o types ≡ shown_uses b o types
-  uses_alike o types = ap grouped (given_alike (λ x y. x ≡ y) (λ l. option_and_then (used_of a o l.name) (type_at a l.id.0)) (λ l. option_and_then (used_of b o l.name) (type_at b l.id.0)) each types types (same_lists types))
+  uses_alike o types = ap grouped (given_alike (λ x y. x ≡ y) (λ l. option_and_then (used_of a o l.name) (type_at a l.id.0)) (λ l. option_and_then (used_of b o l.name) (type_at b l.id.0)) each types
+      types (same_lists types))
     where
       one : (l : Listed) → option_and_then (used_of a o l.name) (type_at a l.id.0) ≡ option_and_then (used_of b o l.name) (type_at b l.id.0)
       one l = then_alike AlikeTypes (used_of a o l.name) (used_of b o l.name) (use_alike o l.name) (type_at a l.id.0) (type_at b l.id.0) (types_at a b alike l.id.0)
@@ -190,9 +196,11 @@ module _ (a b : Resolve) (alike : DifferInDocumentation a b) where
       each : (x y : Listed) → x ≡ y → option_and_then (used_of a o x.name) (type_at a x.id.0) ≡ option_and_then (used_of b o y.name) (type_at b y.id.0)
       each x y e = one x ∙ ap (λ l. option_and_then (used_of b o l.name) (type_at b l.id.0)) e
 
-  declarations_alike : (o : TypeOwner) (fs gs : List Function) → AllZip AlikeFunctions fs gs → (types : List Listed) → map bare_with (shown_declarations a o fs types) ≡ map bare_with (shown_declarations b o gs types)
+  declarations_alike : (o : TypeOwner) (fs gs : List Function) → AllZip AlikeFunctions fs gs → (types : List Listed)
+      → map bare_with (shown_declarations a o fs types) ≡ map bare_with (shown_declarations b o gs types)
   declarations_alike o fs gs functions types =
-      given_map_alike (λ x y. x ≡ y) bare_with (λ l. option_and_then (declared_with a o fs l) (type_at a l.id.0)) (λ l. option_and_then (declared_with b o gs l) (type_at b l.id.0)) each types types (same_lists types)
+      given_map_alike (λ x y. x ≡ y) bare_with (λ l. option_and_then (declared_with a o fs l) (type_at a l.id.0)) (λ l. option_and_then (declared_with b o gs l) (type_at b l.id.0)) each types types
+      (same_lists types)
     where
       pick : (m n : Bool) → m ≡ n → (x y : DeclaredWith) → bare_with x ≡ bare_with y → option_map bare_with (if m then None else Some x) ≡ option_map bare_with (if n then None else Some y)
       pick true true e x y h = refl
@@ -200,7 +208,8 @@ module _ (a b : Resolve) (alike : DifferInDocumentation a b) where
       pick true false e x y h = absurd cc
       pick false true e x y h = absurd cc
 
-      one : (l : Listed) (x y : Option TypeDef) → Both AlikeTypes x y → option_map bare_with (option_and_then (declared_with a o fs l) x) ≡ option_map bare_with (option_and_then (declared_with b o gs l) y)
+      one : (l : Listed) (x y : Option TypeDef) → Both AlikeTypes x y
+          → option_map bare_with (option_and_then (declared_with a o fs l) x) ≡ option_map bare_with (option_and_then (declared_with b o gs l) y)
       one l None None h = refl
       one l None (Some y) h = absurd h
       one l (Some x) None h = absurd h
@@ -208,9 +217,14 @@ module _ (a b : Resolve) (alike : DifferInDocumentation a b) where
           pick (is_some (used_of a o l.name x)) (is_some (used_of b o l.name y)) (ap is_some (use_alike o l.name x y h))
           (record { prefix = shown_prefix x.docs x.stability x.external_id; declared = shown_declared a fs l.id x })
           (record { prefix = shown_prefix y.docs y.stability y.external_id; declared = shown_declared b gs l.id y })
-          (λ i. record { prefix = record { docs = []; gates = gates_alike x.stability y.stability h.gates i; external_id = external_id_alike x.external_id y.external_id h.external_id i }; declared = declared_alike a b alike fs gs functions l.id x y h i })
+          (λ i. record {
+            prefix = record { docs = []; gates = gates_alike x.stability y.stability h.gates i; external_id = external_id_alike x.external_id y.external_id h.external_id i };
+            declared =
+                declared_alike a b alike fs gs functions l.id x y h i;
+          })
 
-      each : (x y : Listed) → x ≡ y → option_map bare_with (option_and_then (declared_with a o fs x) (type_at a x.id.0)) ≡ option_map bare_with (option_and_then (declared_with b o gs y) (type_at b y.id.0))
+      each : (x y : Listed) → x ≡ y
+          → option_map bare_with (option_and_then (declared_with a o fs x) (type_at a x.id.0)) ≡ option_map bare_with (option_and_then (declared_with b o gs y) (type_at b y.id.0))
       each x y e = one x (type_at a x.id.0) (type_at b x.id.0) (types_at a b alike x.id.0) ∙ ap (λ l. option_map bare_with (option_and_then (declared_with b o gs l) (type_at b l.id.0))) e
 
   -- ---- interfaces
@@ -223,7 +237,8 @@ module _ (a b : Resolve) (alike : DifferInDocumentation a b) where
   types_bare [] = refl
   types_bare (d ∷ ds) = ap (λ ms. TypeMember (bare_prefix same d.prefix) (bare_declared same d.declared) ∷ ms) (types_bare ds)
 
-  entry_functions : (es fs : List (String Global × Function)) → AllZip (λ d e. (text_of d.0 ≡ text_of e.0) × AlikeFunctions d.1 e.1) es fs → AllZip AlikeFunctions (map (λ e. e.1) es) (map (λ e. e.1) fs)
+  entry_functions : (es fs : List (String Global × Function)) → AllZip (λ d e. (text_of d.0 ≡ text_of e.0) × AlikeFunctions d.1 e.1) es fs
+      → AllZip AlikeFunctions (map (λ e. e.1) es) (map (λ e. e.1) fs)
   entry_functions [] [] h = tt
   entry_functions [] (f ∷ fs) h = absurd h
   entry_functions (e ∷ es) [] h = absurd h
@@ -232,8 +247,10 @@ module _ (a b : Resolve) (alike : DifferInDocumentation a b) where
   members_alike : (id : InterfaceId) (x y : Interface) → AlikeInterfaces x y → map (bare_member same) (shown_interface a id x) ≡ map (bare_member same) (shown_interface b id y)
   members_alike id x y h =
       joined_alike (bare_member same)
-      (map (λ used. UseMember used.prefix (path_from_owner a x.«package» used.interface) used.names) (shown_uses a (owner.Interface id) (listed_types x)) ++ map (λ d. TypeMember d.prefix d.declared) (shown_declarations a (owner.Interface id) (listed_functions x) (listed_types x)))
-      (map (λ used. UseMember used.prefix (path_from_owner b y.«package» used.interface) used.names) (shown_uses b (owner.Interface id) (listed_types y)) ++ map (λ d. TypeMember d.prefix d.declared) (shown_declarations b (owner.Interface id) (listed_functions y) (listed_types y)))
+      (map (λ used. UseMember used.prefix (path_from_owner a x.«package» used.interface) used.names) (shown_uses a (owner.Interface id) (listed_types x)) ++ map (λ d. TypeMember d.prefix d.declared)
+      (shown_declarations a (owner.Interface id) (listed_functions x) (listed_types x)))
+      (map (λ used. UseMember used.prefix (path_from_owner b y.«package» used.interface) used.names) (shown_uses b (owner.Interface id) (listed_types y)) ++ map (λ d. TypeMember d.prefix d.declared)
+      (shown_declarations b (owner.Interface id) (listed_functions y) (listed_types y)))
       (map (shown_function a) (filter (λ f. is_freestanding f.kind) (listed_functions x)))
       (map (shown_function b) (filter (λ f. is_freestanding f.kind) (listed_functions y)))
       (joined_alike (bare_member same)
@@ -242,15 +259,18 @@ module _ (a b : Resolve) (alike : DifferInDocumentation a b) where
       (map (λ d. TypeMember d.prefix d.declared) (shown_declarations a (owner.Interface id) (listed_functions x) (listed_types x)))
       (map (λ d. TypeMember d.prefix d.declared) (shown_declarations b (owner.Interface id) (listed_functions y) (listed_types y)))
       (λ i. map (bare_member same) (map (λ used. UseMember used.prefix (paths used.interface i) used.names) (uses i)))
-      (types_bare (shown_declarations a (owner.Interface id) (listed_functions x) (listed_types x)) ∙ (ap (map (λ d. TypeMember d.prefix d.declared)) declared ∙ sym (types_bare (shown_declarations b (owner.Interface id) (listed_functions y) (listed_types y))))))
-      (bare_map_alike AlikeFunctions (bare_member same) (shown_function a) (shown_function b) function_alike (filter (λ f. is_freestanding f.kind) (listed_functions x)) (filter (λ f. is_freestanding f.kind) (listed_functions y))
+      (types_bare (shown_declarations a (owner.Interface id) (listed_functions x) (listed_types x))
+      ∙ (ap (map (λ d. TypeMember d.prefix d.declared)) declared ∙ sym (types_bare (shown_declarations b (owner.Interface id) (listed_functions y) (listed_types y))))))
+      (bare_map_alike AlikeFunctions (bare_member same) (shown_function a) (shown_function b) function_alike (filter (λ f. is_freestanding f.kind) (listed_functions x))
+      (filter (λ f. is_freestanding f.kind) (listed_functions y))
       (filter_alike AlikeFunctions (λ f. is_freestanding f.kind) (λ f g k. ap is_freestanding k.kind) (listed_functions x) (listed_functions y) functions))
     where
       functions : AllZip AlikeFunctions (listed_functions x) (listed_functions y)
       functions = entry_functions x.functions.entries y.functions.entries h.functions
 
       types : listed_types x ≡ listed_types y
-      types = map_alike {Y = Listed} AlikeEntries (λ e. record { name = text_of e.0; id = e.1 }) (λ e. record { name = text_of e.0; id = e.1 }) (λ d e k. λ i. record { name = k.0 i; id = k.1 i }) x.types.entries y.types.entries h.types
+      types = map_alike {Y = Listed} AlikeEntries (λ e. record { name = text_of e.0; id = e.1 }) (λ e. record { name = text_of e.0; id = e.1 }) (λ d e k. λ i. record { name = k.0 i; id = k.1 i })
+          x.types.entries y.types.entries h.types
 
       paths : (other : InterfaceId) → path_from_owner a x.«package» other ≡ path_from_owner b y.«package» other
       paths other = owner_path_alike x.«package» other ∙ ap (λ p. path_from_owner b p other) h.in_package
@@ -258,8 +278,10 @@ module _ (a b : Resolve) (alike : DifferInDocumentation a b) where
       uses : shown_uses a (owner.Interface id) (listed_types x) ≡ shown_uses b (owner.Interface id) (listed_types y)
       uses = uses_alike (owner.Interface id) (listed_types x) ∙ ap (shown_uses b (owner.Interface id)) types
 
-      declared : map bare_with (shown_declarations a (owner.Interface id) (listed_functions x) (listed_types x)) ≡ map bare_with (shown_declarations b (owner.Interface id) (listed_functions y) (listed_types y))
-      declared = declarations_alike (owner.Interface id) (listed_functions x) (listed_functions y) functions (listed_types x) ∙ ap (λ l. map bare_with (shown_declarations b (owner.Interface id) (listed_functions y) l)) types
+      declared : map bare_with (shown_declarations a (owner.Interface id) (listed_functions x) (listed_types x)) ≡ map bare_with
+          (shown_declarations b (owner.Interface id) (listed_functions y) (listed_types y))
+      declared = declarations_alike (owner.Interface id) (listed_functions x) (listed_functions y) functions (listed_types x) ∙ ap
+          (λ l. map bare_with (shown_declarations b (owner.Interface id) (listed_functions y) l)) types
 
   -- ---- imports and exports
 
@@ -267,20 +289,25 @@ module _ (a b : Resolve) (alike : DifferInDocumentation a b) where
   extern_alike here k l x y (interfaces {id = id}) items = λ i. Path (path_alike here id i)
   extern_alike here (key.Name s) (key.Name t) x y (labels q) (interface_items {id = id} g e) = go (interface_at a id.0) (interface_at b id.0) (interfaces_at id.0)
     where
-      named : (u v : Interface) → AlikeInterfaces u v → (m n : Bool) → m ≡ n → bare_extern same (if m then NamedPath (text_of s) (shown_path a here id) else NamedInterface (text_of s) (shown_interface a id u)) ≡ bare_extern same (if n then NamedPath (text_of t) (shown_path b here id) else NamedInterface (text_of t) (shown_interface b id v))
+      named : (u v : Interface) → AlikeInterfaces u v → (m n : Bool) → m ≡ n
+          → bare_extern same (if m then NamedPath (text_of s) (shown_path a here id) else NamedInterface (text_of s) (shown_interface a id u)) ≡ bare_extern same
+          (if n then NamedPath (text_of t) (shown_path b here id) else NamedInterface (text_of t) (shown_interface b id v))
       named u v h true true same_ = λ i. NamedPath (q i) (path_alike here id i)
       named u v h false false same_ = λ i. NamedInterface (q i) (members_alike id u v h i)
       named u v h true false same_ = absurd cc
       named u v h false true same_ = absurd cc
 
       go : (o p : Option Interface) → Both AlikeInterfaces o p
-          → bare_extern same (if option_map_or (λ i. is_some i.name) o false then NamedPath (text_of s) (shown_path a here id) else NamedInterface (text_of s) (option_map_or (shown_interface a id) o []))
-          ≡ bare_extern same (if option_map_or (λ i. is_some i.name) p false then NamedPath (text_of t) (shown_path b here id) else NamedInterface (text_of t) (option_map_or (shown_interface b id) p []))
+          → bare_extern same (if option_map_or (λ i. is_some i.name) o false then NamedPath (text_of s) (shown_path a here id) else NamedInterface (text_of s)
+          (option_map_or (shown_interface a id) o []))
+          ≡ bare_extern same (if option_map_or (λ i. is_some i.name) p false then NamedPath (text_of t) (shown_path b here id) else NamedInterface (text_of t)
+          (option_map_or (shown_interface b id) p []))
       go None None h = λ i. NamedInterface (q i) []
       go None (Some v) h = absurd h
       go (Some u) None h = absurd h
       go (Some u) (Some v) h = named u v h (is_some u.name) (is_some v.name) (some_alike u.name v.name h.name)
-  extern_alike here (key.Name s) (key.Name t) (item.Function f) (item.Function g) (labels q) (function_items h) = λ i. NamedFunction (h.name i) (bare_signature same (signature_alike a b alike f g h i))
+  extern_alike here (key.Name s) (key.Name t) (item.Function f) (item.Function g) (labels q) (function_items h) =
+      λ i. NamedFunction (h.name i) (bare_signature same (signature_alike a b alike f g h i))
   extern_alike here (key.Name s) (key.Name t) x y (labels q) type_items = refl
 
   prefix_alike : (k l : WorldKey) (x y : Item) → AlikeItems x y → bare_prefix same (extern_prefix a k x) ≡ bare_prefix same (extern_prefix b l y)
@@ -296,21 +323,29 @@ module _ (a b : Resolve) (alike : DifferInDocumentation a b) where
 
   -- ---- worlds
 
-  members_in_alike : (id : WorldId) (x y : World) (here : PackageId) → AlikeWorlds x y → map (bare_world_member same) (shown_world_in a id x here) ≡ map (bare_world_member same) (shown_world_in b id y here)
+  members_in_alike : (id : WorldId) (x y : World) (here : PackageId) → AlikeWorlds x y
+      → map (bare_world_member same) (shown_world_in a id x here) ≡ map (bare_world_member same) (shown_world_in b id y here)
   members_in_alike id x y here h =
       joined_alike (bare_world_member same) _ _ (map (shown_export a here) x.exports.entries) (map (shown_export b here) y.exports.entries)
-      (joined_alike (bare_world_member same) _ _ (map (shown_import a here) (filter (λ e. is_freestanding_item e.1) x.imports.entries)) (map (shown_import b here) (filter (λ e. is_freestanding_item e.1) y.imports.entries))
-      (joined_alike (bare_world_member same) _ _ (map (λ d. WorldType d.prefix d.declared) (shown_declarations a (owner.World id) (imported_functions x) (listed_imports x))) (map (λ d. WorldType d.prefix d.declared) (shown_declarations b (owner.World id) (imported_functions y) (listed_imports y)))
-      (joined_alike (bare_world_member same) (map (shown_import a here) (filter (λ e. is_interface_item e.1) x.imports.entries)) (map (shown_import b here) (filter (λ e. is_interface_item e.1) y.imports.entries))
-      (map (λ used. WorldUse used.prefix (shown_path a here used.interface) used.names) (shown_uses a (owner.World id) (listed_imports x))) (map (λ used. WorldUse used.prefix (shown_path b here used.interface) used.names) (shown_uses b (owner.World id) (listed_imports y)))
+      (joined_alike (bare_world_member same) _ _ (map (shown_import a here) (filter (λ e. is_freestanding_item e.1) x.imports.entries))
+      (map (shown_import b here) (filter (λ e. is_freestanding_item e.1) y.imports.entries))
+      (joined_alike (bare_world_member same) _ _ (map (λ d. WorldType d.prefix d.declared) (shown_declarations a (owner.World id) (imported_functions x) (listed_imports x)))
+      (map (λ d. WorldType d.prefix d.declared) (shown_declarations b (owner.World id) (imported_functions y) (listed_imports y)))
+      (joined_alike (bare_world_member same) (map (shown_import a here) (filter (λ e. is_interface_item e.1) x.imports.entries))
+      (map (shown_import b here) (filter (λ e. is_interface_item e.1) y.imports.entries))
+      (map (λ used. WorldUse used.prefix (shown_path a here used.interface) used.names) (shown_uses a (owner.World id) (listed_imports x)))
+      (map (λ used. WorldUse used.prefix (shown_path b here used.interface) used.names) (shown_uses b (owner.World id) (listed_imports y)))
       (imports (λ e. is_interface_item e.1) (λ d e k. interface_item_alike d.1 e.1 k.1))
       (λ i. map (bare_world_member same) (map (λ used. WorldUse used.prefix (path_alike here used.interface i) used.names) (uses i))))
-      (types_bare_in (shown_declarations a (owner.World id) (imported_functions x) (listed_imports x)) ∙ (ap (map (λ d. WorldType d.prefix d.declared)) declared ∙ sym (types_bare_in (shown_declarations b (owner.World id) (imported_functions y) (listed_imports y))))))
+      (types_bare_in (shown_declarations a (owner.World id) (imported_functions x) (listed_imports x))
+      ∙ (ap (map (λ d. WorldType d.prefix d.declared)) declared ∙ sym (types_bare_in (shown_declarations b (owner.World id) (imported_functions y) (listed_imports y))))))
       (imports (λ e. is_freestanding_item e.1) (λ d e k. freestanding_item_alike d.1 e.1 k.1)))
       (bare_map_alike AlikeWorldEntries (bare_world_member same) (shown_export a here) (shown_export b here) (export_alike here) x.exports.entries y.exports.entries h.exports)
     where
-      imports : (p : Entry → Bool) → ((d e : Entry) → AlikeWorldEntries d e → p d ≡ p e) → map (bare_world_member same) (map (shown_import a here) (filter p x.imports.entries)) ≡ map (bare_world_member same) (map (shown_import b here) (filter p y.imports.entries))
-      imports p each = bare_map_alike AlikeWorldEntries (bare_world_member same) (shown_import a here) (shown_import b here) (import_alike here) (filter p x.imports.entries) (filter p y.imports.entries) (filter_alike AlikeWorldEntries p each x.imports.entries y.imports.entries h.imports)
+      imports : (p : Entry → Bool) → ((d e : Entry) → AlikeWorldEntries d e → p d ≡ p e)
+          → map (bare_world_member same) (map (shown_import a here) (filter p x.imports.entries)) ≡ map (bare_world_member same) (map (shown_import b here) (filter p y.imports.entries))
+      imports p each = bare_map_alike AlikeWorldEntries (bare_world_member same) (shown_import a here) (shown_import b here) (import_alike here) (filter p x.imports.entries)
+          (filter p y.imports.entries) (filter_alike AlikeWorldEntries p each x.imports.entries y.imports.entries h.imports)
 
       types : listed_imports x ≡ listed_imports y
       types = given_alike AlikeWorldEntries (λ e. type_of_entry e.0 e.1) (λ e. type_of_entry e.0 e.1) (λ d e k. listed_alike d.0 e.0 d.1 e.1 k.0 k.1) x.imports.entries y.imports.entries h.imports
@@ -321,8 +356,10 @@ module _ (a b : Resolve) (alike : DifferInDocumentation a b) where
       uses : shown_uses a (owner.World id) (listed_imports x) ≡ shown_uses b (owner.World id) (listed_imports y)
       uses = uses_alike (owner.World id) (listed_imports x) ∙ ap (shown_uses b (owner.World id)) types
 
-      declared : map bare_with (shown_declarations a (owner.World id) (imported_functions x) (listed_imports x)) ≡ map bare_with (shown_declarations b (owner.World id) (imported_functions y) (listed_imports y))
-      declared = declarations_alike (owner.World id) (imported_functions x) (imported_functions y) functions (listed_imports x) ∙ ap (λ l. map bare_with (shown_declarations b (owner.World id) (imported_functions y) l)) types
+      declared : map bare_with (shown_declarations a (owner.World id) (imported_functions x) (listed_imports x)) ≡ map bare_with
+          (shown_declarations b (owner.World id) (imported_functions y) (listed_imports y))
+      declared = declarations_alike (owner.World id) (imported_functions x) (imported_functions y) functions (listed_imports x) ∙ ap
+          (λ l. map bare_with (shown_declarations b (owner.World id) (imported_functions y) l)) types
 
   world_alike : (id : WorldId) (x y : World) → AlikeWorlds x y → map (bare_world_member same) (shown_world a id x) ≡ map (bare_world_member same) (shown_world b id y)
   world_alike id x y h = go x.«package» ∙ ap (λ p. map (bare_world_member same) (option_map_or (shown_world_in b id y) p [])) h.in_package
@@ -345,7 +382,8 @@ module _ (a b : Resolve) (alike : DifferInDocumentation a b) where
       go (Some x) (Some y) k = λ i. Some (InterfaceItem [] (gates_alike x.stability y.stability k.gates i) (h.0 i) (members_alike d.1 x y k i))
 
   world_entry_alike : (d e : String Global × WorldId) → AlikeEntries d e → option_map (bare_item same) (shown_world_item a d) ≡ option_map (bare_item same) (shown_world_item b e)
-  world_entry_alike d e h = go (world_at a d.1.0) (world_at b d.1.0) (at_both AlikeWorlds a.worlds.items b.worlds.items d.1.0 alike.worlds) ∙ ap (λ id. option_map (bare_item same) (shown_world_item b (e.0, id))) h.1
+  world_entry_alike d e h = go (world_at a d.1.0) (world_at b d.1.0) (at_both AlikeWorlds a.worlds.items b.worlds.items d.1.0 alike.worlds) ∙ ap
+      (λ id. option_map (bare_item same) (shown_world_item b (e.0, id))) h.1
     where
       go : (o p : Option World) → Both AlikeWorlds o p
           → option_map (bare_item same) (option_map (λ w. WorldItem (shown_docs w.docs) (shown_gates w.stability) (text_of d.0) (shown_world a d.1 w)) o)
@@ -358,7 +396,8 @@ module _ (a b : Resolve) (alike : DifferInDocumentation a b) where
   package_of_alike : (p q : Package) → AlikePackages p q → bare_package same (shown_package_of a p) ≡ bare_package same (shown_package_of b q)
   package_of_alike p q h = λ i. record { head = record { docs = []; namespace = h.namespace i; name = h.name i; version = h.version i }; items = items i }
     where
-      items : map (bare_item same) (filter_map (shown_interface_item a) p.interfaces.entries ++ filter_map (shown_world_item a) p.worlds.entries) ≡ map (bare_item same) (filter_map (shown_interface_item b) q.interfaces.entries ++ filter_map (shown_world_item b) q.worlds.entries)
+      items : map (bare_item same) (filter_map (shown_interface_item a) p.interfaces.entries ++ filter_map (shown_world_item a) p.worlds.entries) ≡ map (bare_item same)
+          (filter_map (shown_interface_item b) q.interfaces.entries ++ filter_map (shown_world_item b) q.worlds.entries)
       items = joined_alike (bare_item same)
           (filter_map (shown_interface_item a) p.interfaces.entries) (filter_map (shown_interface_item b) q.interfaces.entries)
           (filter_map (shown_world_item a) p.worlds.entries) (filter_map (shown_world_item b) q.worlds.entries)
@@ -382,5 +421,6 @@ module _ (a b : Resolve) (alike : DifferInDocumentation a b) where
   file_alike main nested = λ i. record { main = package_alike main i; nested = packages_alike nested i }
 
 -- Without documentation, packages that differ in documentation alone make the same calls.
-pub undocumented_packages_alike : (a b : Resolve) (main : PackageId) (nested : List PackageId) → DifferInDocumentation a b → file_calls false (shown_file a main nested) ≡ file_calls false (shown_file b main nested)
+pub undocumented_packages_alike : (a b : Resolve) (main : PackageId) (nested : List PackageId) → DifferInDocumentation a b
+    → file_calls false (shown_file a main nested) ≡ file_calls false (shown_file b main nested)
 undocumented_packages_alike a b main nested alike = undocumented_calls (shown_file a main nested) (shown_file b main nested) (file_alike a b alike main nested)

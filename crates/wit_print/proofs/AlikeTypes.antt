@@ -75,7 +75,8 @@ map_alike R f g each (x ∷ xs) [] h = absurd h
 map_alike R f g each (x ∷ xs) (y ∷ ys) h = λ i. each x y h.0 i ∷ map_alike R f g each xs ys h.1 i
 
 -- two steps of which the second takes documentation away
-pub bare_map_alike : {X Y Z : Type 0} (R : X → X → Type 0) (bare : Y → Z) (f g : X → Y) → ((x y : X) → R x y → bare (f x) ≡ bare (g y)) → (xs ys : List X) → AllZip R xs ys → map bare (map f xs) ≡ map bare (map g ys)
+pub bare_map_alike : {X Y Z : Type 0} (R : X → X → Type 0) (bare : Y → Z) (f g : X → Y) → ((x y : X) → R x y → bare (f x) ≡ bare (g y)) → (xs ys : List X) → AllZip R xs ys
+    → map bare (map f xs) ≡ map bare (map g ys)
 bare_map_alike R bare f g each [] [] h = refl
 bare_map_alike R bare f g each [] (y ∷ ys) h = absurd h
 bare_map_alike R bare f g each (x ∷ xs) [] h = absurd h
@@ -171,7 +172,8 @@ module _ (a b : Resolve) (alike : DifferInDocumentation a b) where
   def_alike : (trees : List TypeTree) (d e : TypeDef) → AlikeTypes d e → def_tree a trees d ≡ def_tree b trees e
   def_alike trees d e h = go d.name e.name h.name
     where
-      go : (x y : Option (String Global)) → optional_text x ≡ optional_text y → option_map_or (λ name. Name (text_of name)) x (kind_tree a trees d.kind) ≡ option_map_or (λ name. Name (text_of name)) y (kind_tree b trees e.kind)
+      go : (x y : Option (String Global)) → optional_text x ≡ optional_text y
+          → option_map_or (λ name. Name (text_of name)) x (kind_tree a trees d.kind) ≡ option_map_or (λ name. Name (text_of name)) y (kind_tree b trees e.kind)
       go None None q = kind_alike trees d.kind e.kind h.kind
       go None (Some t) q = let wrong : ⊥ = cc in absurd wrong
       go (Some s) None q = let wrong : ⊥ = cc in absurd wrong
@@ -235,13 +237,20 @@ module _ (a b : Resolve) (alike : DifferInDocumentation a b) where
       given id = constructor_alike id f.result ∙ ap (constructor_result b id) h.result
 
       go : (k : FunctionKind) → bare_resource_member same (shown_resource_member a (record f { kind = k })) ≡ bare_resource_member same (shown_resource_member b (record g { kind = k }))
-      go (call.Constructor id) = λ i. Constructor (prefixes i) (map (bare_param same) (params_alike (record f { kind = call.Constructor id }) (record g { kind = call.Constructor id }) (with_kind (call.Constructor id)) i)) (option_map same (given id i))
-      go (call.Static id) = λ i. Static (prefixes i) (own_name_of (call.Static id) (h.name i)) (bare_signature same (signature_alike (record f { kind = call.Static id }) (record g { kind = call.Static id }) (with_kind (call.Static id)) i))
-      go (call.AsyncStatic id) = λ i. Static (prefixes i) (own_name_of (call.AsyncStatic id) (h.name i)) (bare_signature same (signature_alike (record f { kind = call.AsyncStatic id }) (record g { kind = call.AsyncStatic id }) (with_kind (call.AsyncStatic id)) i))
-      go (call.Method id) = λ i. Method (prefixes i) (own_name_of (call.Method id) (h.name i)) (bare_signature same (signature_alike (record f { kind = call.Method id }) (record g { kind = call.Method id }) (with_kind (call.Method id)) i))
-      go (call.AsyncMethod id) = λ i. Method (prefixes i) (own_name_of (call.AsyncMethod id) (h.name i)) (bare_signature same (signature_alike (record f { kind = call.AsyncMethod id }) (record g { kind = call.AsyncMethod id }) (with_kind (call.AsyncMethod id)) i))
-      go call.Freestanding = λ i. Method (prefixes i) (h.name i) (bare_signature same (signature_alike (record f { kind = call.Freestanding }) (record g { kind = call.Freestanding }) (with_kind call.Freestanding) i))
-      go call.AsyncFreestanding = λ i. Method (prefixes i) (h.name i) (bare_signature same (signature_alike (record f { kind = call.AsyncFreestanding }) (record g { kind = call.AsyncFreestanding }) (with_kind call.AsyncFreestanding) i))
+      go (call.Constructor id) = λ i. Constructor (prefixes i) (map (bare_param same)
+          (params_alike (record f { kind = call.Constructor id }) (record g { kind = call.Constructor id }) (with_kind (call.Constructor id)) i)) (option_map same (given id i))
+      go (call.Static id) = λ i. Static (prefixes i) (own_name_of (call.Static id) (h.name i))
+          (bare_signature same (signature_alike (record f { kind = call.Static id }) (record g { kind = call.Static id }) (with_kind (call.Static id)) i))
+      go (call.AsyncStatic id) = λ i. Static (prefixes i) (own_name_of (call.AsyncStatic id) (h.name i))
+          (bare_signature same (signature_alike (record f { kind = call.AsyncStatic id }) (record g { kind = call.AsyncStatic id }) (with_kind (call.AsyncStatic id)) i))
+      go (call.Method id) = λ i. Method (prefixes i) (own_name_of (call.Method id) (h.name i))
+          (bare_signature same (signature_alike (record f { kind = call.Method id }) (record g { kind = call.Method id }) (with_kind (call.Method id)) i))
+      go (call.AsyncMethod id) = λ i. Method (prefixes i) (own_name_of (call.AsyncMethod id) (h.name i))
+          (bare_signature same (signature_alike (record f { kind = call.AsyncMethod id }) (record g { kind = call.AsyncMethod id }) (with_kind (call.AsyncMethod id)) i))
+      go call.Freestanding = λ i. Method (prefixes i) (h.name i) (bare_signature same
+          (signature_alike (record f { kind = call.Freestanding }) (record g { kind = call.Freestanding }) (with_kind call.Freestanding) i))
+      go call.AsyncFreestanding = λ i. Method (prefixes i) (h.name i) (bare_signature same
+          (signature_alike (record f { kind = call.AsyncFreestanding }) (record g { kind = call.AsyncFreestanding }) (with_kind call.AsyncFreestanding) i))
 
   -- ---- declared types
 
@@ -261,7 +270,8 @@ module _ (a b : Resolve) (alike : DifferInDocumentation a b) where
   belongs_alike id f g h = ap (λ k. option_map_or (λ n. n == id.0) (resource_of k) false) h.kind
 
   -- What is declared differs in documentation alone, among functions that do.
-  pub declared_alike : (fs gs : List Function) → AllZip AlikeFunctions fs gs → (id : TypeId) (d e : TypeDef) → AlikeTypes d e → bare_declared same (shown_declared a fs id d) ≡ bare_declared same (shown_declared b gs id e)
+  pub declared_alike : (fs gs : List Function) → AllZip AlikeFunctions fs gs → (id : TypeId) (d e : TypeDef) → AlikeTypes d e
+      → bare_declared same (shown_declared a fs id d) ≡ bare_declared same (shown_declared b gs id e)
   declared_alike fs gs functions id d e h = go d.kind e.kind h.kind
     where
       name : present_name d.name ≡ present_name e.name
@@ -271,12 +281,16 @@ module _ (a b : Resolve) (alike : DifferInDocumentation a b) where
       kinds k l q = kind_alike (type_trees a) k l q ∙ ap (λ trees. kind_tree b trees l) all_trees_alike
 
       go : (k l : TypeDefKind) → AlikeKinds k l → bare_declared same (shown_declared a fs id (record d { kind = k })) ≡ bare_declared same (shown_declared b gs id (record e { kind = l }))
-      go (defined.Record x) (defined.Record y) (records q) = λ i. RecordOf (name i) (bare_map_alike AlikeFields (bare_field same) (shown_field a) (shown_field b) field_alike x.fields.items y.fields.items q i)
+      go (defined.Record x) (defined.Record y) (records q) = λ i. RecordOf (name i)
+          (bare_map_alike AlikeFields (bare_field same) (shown_field a) (shown_field b) field_alike x.fields.items y.fields.items q i)
       go k l resources =
-          λ i. ResourceOf (name i) (bare_map_alike AlikeFunctions (bare_resource_member same) (shown_resource_member a) (shown_resource_member b) resource_member_alike (filter (belongs_to id) fs) (filter (belongs_to id) gs) (filter_alike AlikeFunctions (belongs_to id) (belongs_alike id) fs gs functions) i)
+          λ i. ResourceOf (name i) (bare_map_alike AlikeFunctions (bare_resource_member same) (shown_resource_member a) (shown_resource_member b) resource_member_alike (filter (belongs_to id) fs)
+          (filter (belongs_to id) gs) (filter_alike AlikeFunctions (belongs_to id) (belongs_alike id) fs gs functions) i)
       go (defined.Flags x) (defined.Flags y) (flags q) = λ i. FlagsOf (name i) (bare_map_alike AlikeFlags (bare_label same) shown_flag shown_flag flag_alike x.flags.items y.flags.items q i)
-      go (defined.Variant x) (defined.Variant y) (variants q) = λ i. VariantOf (name i) (bare_map_alike AlikeCases (bare_case same) (shown_case a) (shown_case b) case_alike x.cases.items y.cases.items q i)
-      go (defined.Enum x) (defined.Enum y) (enums q) = λ i. EnumOf (name i) (bare_map_alike AlikeEnumCases (bare_label same) shown_enum_case shown_enum_case enum_case_alike x.cases.items y.cases.items q i)
+      go (defined.Variant x) (defined.Variant y) (variants q) = λ i. VariantOf (name i)
+          (bare_map_alike AlikeCases (bare_case same) (shown_case a) (shown_case b) case_alike x.cases.items y.cases.items q i)
+      go (defined.Enum x) (defined.Enum y) (enums q) = λ i. EnumOf (name i)
+          (bare_map_alike AlikeEnumCases (bare_label same) shown_enum_case shown_enum_case enum_case_alike x.cases.items y.cases.items q i)
       go k l (handles {h = handle.Own r}) = λ i. AliasOf (name i) (TypeTree.Own (type_name_alike r i))
       go k l (handles {h = handle.Borrow r}) = λ i. AliasOf (name i) (TypeTree.Borrow (type_name_alike r i))
       go (defined.Tuple x) (defined.Tuple y) (tuples q) = λ i. AliasOf (name i) (kinds (defined.Tuple x) (defined.Tuple y) (tuples q) i)

@@ -20,5 +20,6 @@ interface_gates r n i v e =
     let here = each_from_at (labels.interface_ r) 0 r.interfaces.items n i (lists_pass labels r v.rules.labels).1 e in
     first_true _ _ (second_true (passes (λ name. is_label (text_of name)) i.name) _ here)
 
-pub head_at : (emits_docs : Bool) (r : Resolve) (id : InterfaceId) (i : Interface) (name : Text) → interface_at r id.0 ≡ Some i → head_calls emits_docs i name ≡ interface_head_calls emits_docs r id name
+pub head_at : (emits_docs : Bool) (r : Resolve) (id : InterfaceId) (i : Interface) (name : Text) → interface_at r id.0 ≡ Some i
+    → head_calls emits_docs i name ≡ interface_head_calls emits_docs r id name
 head_at emits_docs r id i name e = sym (ap (λ o. option_map_or (λ interface. head_calls emits_docs interface name) o []) e)

@@ -59,7 +59,8 @@ members_alike : (printed : Bool) (ms : List MemberTree) → members_calls false 
 members_alike printed [] = refl
 members_alike printed (UseMember prefix path names ∷ ms) = λ i. use_calls false prefix path names ++ members_alike true ms i
 members_alike printed (TypeMember prefix declared ∷ ms) = λ i. item_calls printed (prefix_calls false prefix ++ declared_alike declared i) ++ members_alike true ms i
-members_alike printed (FunctionMember prefix name signature ∷ ms) = λ i. item_calls printed (function_calls false prefix name kind.FunctionFreestanding (signature_alike signature i)) ++ members_alike true ms i
+members_alike printed (FunctionMember prefix name signature ∷ ms) = λ i. item_calls printed (function_calls false prefix name kind.FunctionFreestanding (signature_alike signature i))
+    ++ members_alike true ms i
 
 extern_alike : (e : ExternTree) → extern_calls false (bare_extern same e) ≡ extern_calls false e
 extern_alike (Path path) = refl
@@ -71,7 +72,8 @@ world_members_alike : (printed exported : Bool) (ms : List WorldMember) → worl
 world_members_alike printed exported [] = refl
 world_members_alike printed exported (WorldUse prefix path names ∷ ms) = λ i. use_calls false prefix path names ++ world_members_alike true exported ms i
 world_members_alike printed exported (WorldType prefix declared ∷ ms) = λ i. item_calls printed (prefix_calls false prefix ++ declared_alike declared i) ++ world_members_alike true exported ms i
-world_members_alike printed exported (WorldImport prefix extern_ ∷ ms) = λ i. (prefix_calls false prefix ++ (Keyword (codes "import") ∷ space ∷ extern_alike extern_ i)) ++ world_members_alike true exported ms i
+world_members_alike printed exported (WorldImport prefix extern_ ∷ ms) =
+    λ i. (prefix_calls false prefix ++ (Keyword (codes "import") ∷ space ∷ extern_alike extern_ i)) ++ world_members_alike true exported ms i
 world_members_alike printed exported (WorldExport prefix extern_ ∷ ms) =
     λ i. item_calls (printed && not exported) (prefix_calls false prefix ++ (Keyword (codes "export") ∷ space ∷ extern_alike extern_ i)) ++ world_members_alike true true ms i
 
@@ -81,7 +83,8 @@ item_alike is_main (WorldItem docs gates name ms) = λ i. doc_calls false docs +
 
 package_alike : (is_main : Bool) (tree : PackageTree) → package_calls false is_main (bare_package same tree) ≡ package_calls false is_main tree
 package_alike is_main tree =
-    λ i. package_outer_calls false tree.head ++ package_start_calls is_main ++ flat_alike (package_item_calls false is_main) (package_item_calls false is_main) (bare_item same) (item_alike is_main) tree.items i ++ package_end_calls is_main
+    λ i. package_outer_calls false tree.head ++ package_start_calls is_main ++ flat_alike (package_item_calls false is_main) (package_item_calls false is_main) (bare_item same) (item_alike is_main)
+    tree.items i ++ package_end_calls is_main
 
 more_nested_alike : (trees : List PackageTree) → more_nested_calls false (map (bare_package same) trees) ≡ more_nested_calls false trees
 more_nested_alike [] = refl

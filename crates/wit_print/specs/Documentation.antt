@@ -40,8 +40,10 @@ use Rattle.wit_model.specs.Lookup.{optional_version_text}
 -- feature gates with the same texts
 pub data AlikeGates : Stability → Stability → Type 0 where
   unknown : AlikeGates stability.Unknown stability.Unknown
-  stable : {s t : Version} {d e : Option Version} → version_text s ≡ version_text t → optional_version_text d ≡ optional_version_text e → AlikeGates (stability.Stable s d) (stability.Stable t e)
-  unstable : {s t : String Global} {d e : Option Version} → text_of s ≡ text_of t → optional_version_text d ≡ optional_version_text e → AlikeGates (stability.Unstable s d) (stability.Unstable t e)
+  stable : {s t : Version} {d e : Option Version} → version_text s ≡ version_text t → optional_version_text d ≡ optional_version_text e
+      → AlikeGates (stability.Stable s d) (stability.Stable t e)
+  unstable : {s t : String Global} {d e : Option Version} → text_of s ≡ text_of t → optional_version_text d ≡ optional_version_text e
+      → AlikeGates (stability.Unstable s d) (stability.Unstable t e)
 
 pub record AlikeParams (a b : Param) : Type 0 where
   pub name : text_of a.name ≡ text_of b.name
@@ -110,7 +112,8 @@ pub data AlikeKeys : WorldKey → WorldKey → Type 0 where
   interfaces : {id : InterfaceId} → AlikeKeys (key.Interface id) (key.Interface id)
 
 pub data AlikeItems : WorldItem → WorldItem → Type 0 where
-  interface_items : {id : InterfaceId} {s t : Stability} {c d : Docs} {x y : Option (String Global)} → AlikeGates s t → optional_text x ≡ optional_text y → AlikeItems (item.Interface id s c x) (item.Interface id t d y)
+  interface_items : {id : InterfaceId} {s t : Stability} {c d : Docs} {x y : Option (String Global)} → AlikeGates s t → optional_text x ≡ optional_text y
+      → AlikeItems (item.Interface id s c x) (item.Interface id t d y)
   function_items : {f g : Function} → AlikeFunctions f g → AlikeItems (item.Function f) (item.Function g)
   type_items : {id : TypeId} → AlikeItems (item.Type_ id) (item.Type_ id)
 

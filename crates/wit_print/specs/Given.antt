@@ -21,7 +21,8 @@ AreItsTypes i given = (t : Listed) → Contains given t → Contains (listed_typ
 
 -- each of these is a function of the interface, whatever it stands under
 abbrev pub AreItsFunctions : Interface → Functions → Type 0
-AreItsFunctions i entries = (under : TypeId × Vec (Bor Function) Global) → Contains entries under → (f : Function) → Contains (behind under.1) f → Contains (listed_functions i) f
+AreItsFunctions i entries = (under : TypeId × Vec (Bor Function) Global) → Contains entries under → (f : Function) → Contains (behind under.1) f
+    → Contains (listed_functions i) f
 
 -- types of an interface are listed types of it
 abbrev pub TypesCanBeGiven : Type 0
@@ -30,5 +31,6 @@ TypesCanBeGiven = (r : Resolve) (id : InterfaceId) (i : Interface) → IsValid r
 
 -- functions of an interface are such functions of it
 abbrev pub FunctionsCanBeGiven : Type 0
-FunctionsCanBeGiven = (r : Resolve) (id : InterfaceId) (i : Interface) → IsValid r → interface_at r id.0 ≡ Some i → (entries : Functions) → AreItsFunctions i entries
+FunctionsCanBeGiven = (r : Resolve) (id : InterfaceId) (i : Interface) → IsValid r → interface_at r id.0 ≡ Some i → (entries : Functions)
+    → AreItsFunctions i entries
     → are_functions_of r (owner.Interface id) entries ≡ true

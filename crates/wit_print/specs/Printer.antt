@@ -47,13 +47,16 @@ AreTypesOf r o given = (xs : GivenTypes) → given xs → list_all (is_listed_ty
 
 -- What is given has been printed, each type as these members, in the block that the printer goes on with, which has printed something from then on
 -- where there are members.
-pub record PrintsTypes {O Kept : Type 0} (keeps : View Kept → OutputCall → Kept) (view : O → View Kept) (p : WitPrinter O) (given : GivenTypes → Type 0) (members : List Listed → List MemberTree) (p' : WitPrinter O) : Type 0 where
+pub record PrintsTypes {O Kept : Type 0} (keeps : View Kept → OutputCall → Kept) (view : O → View Kept) (p : WitPrinter O) (given : GivenTypes → Type 0)
+    (members : List Listed → List MemberTree) (p' : WitPrinter O) : Type 0 where
   pub types : GivenTypes
   pub are : given types
   pub prints : Prints keeps view p (next_calls p (members (listed_of types))) p'
   pub printed : block_has_printed p' ≡ printed_after (block_has_printed p) (members (listed_of types))
 
 -- Nothing has been printed, or a beginning of what is given.
-pub data PrintsTypesInPart {O Kept : Type 0} (keeps : View Kept → OutputCall → Kept) (view : O → View Kept) (p : WitPrinter O) (given : GivenTypes → Type 0) (members : List Listed → List MemberTree) (p' : WitPrinter O) : Type 0 where
+pub data PrintsTypesInPart {O Kept : Type 0} (keeps : View Kept → OutputCall → Kept) (view : O → View Kept) (p : WitPrinter O) (given : GivenTypes → Type 0)
+    (members : List Listed → List MemberTree) (p' : WitPrinter O) : Type 0 where
   nothing : view p'.output ≡ view p.output → PrintsTypesInPart keeps view p given members p'
-  some : (types : GivenTypes) → given types → PrintsInPart keeps view p (next_calls p (members (listed_of types))) p' → PrintsTypesInPart keeps view p given members p'
+  some : (types : GivenTypes) → given types → PrintsInPart keeps view p (next_calls p (members (listed_of types))) p'
+      → PrintsTypesInPart keeps view p given members p'

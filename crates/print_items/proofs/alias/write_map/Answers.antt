@@ -11,4 +11,5 @@ pub returns-clause-calls : goal.returns-clause-calls
 returns-clause-calls g c =
     let key = type_calls (shown_type c.args.resolve.now c.args.key.now) in
     let value = type_calls (shown_type c.args.resolve.now c.args.value.now) in
-    driven3 c.write_angle.ensures.calls c.write_two.ensures.calls c.str.ensures.calls (ap (λ x. Ty (codes "map") BuiltIn ∷ Str (codes "<") ∷ x) (append_assoc key (Str (codes ", ") ∷ value) (Str (codes ">") ∷ [])))
+    driven3 c.write_angle.ensures.calls c.write_two.ensures.calls c.str.ensures.calls
+    (ap (λ x. Ty (codes "map") BuiltIn ∷ Str (codes "<") ∷ x) (append_assoc key (Str (codes ", ") ∷ value) (Str (codes ">") ∷ [])))

@@ -13,17 +13,21 @@ use Rattle.base_lemmas.proofs.Bools.{left_of as first_true, right_of as second_t
 
 pub write_param-requires-clause-well : goal.write_param-requires-clause-well
 write_param-requires-clause-well g c =
-    first_true (is_well_param (shown_param c.args.resolve.now c.in-Some.first.now)) _ (subst (λ ps. list_all (λ p. is_well_param (shown_param c.args.resolve.now p)) ps ≡ true) c.in-Some.ensures.cases.0 c.requires.well)
+    first_true (is_well_param (shown_param c.args.resolve.now c.in-Some.first.now)) _
+    (subst (λ ps. list_all (λ p. is_well_param (shown_param c.args.resolve.now p)) ps ≡ true) c.in-Some.ensures.cases.0 c.requires.well)
 
 pub write_more_params-requires-clause-well : goal.write_more_params-requires-clause-well
 write_more_params-requires-clause-well g c =
-    second_true (is_well_param (shown_param c.args.resolve.now c.in-Some.first.now)) _ (subst (λ ps. list_all (λ p. is_well_param (shown_param c.args.resolve.now p)) ps ≡ true) c.in-Some.ensures.cases.0 c.requires.well)
+    second_true (is_well_param (shown_param c.args.resolve.now c.in-Some.first.now)) _
+    (subst (λ ps. list_all (λ p. is_well_param (shown_param c.args.resolve.now p)) ps ≡ true) c.in-Some.ensures.cases.0 c.requires.well)
 
 pub returns-in-Some-clause-calls : goal.returns-in-Some-clause-calls
 returns-in-Some-clause-calls g c =
     let show = shown_param c.args.resolve.now in
     driven_on c.write_param.ensures.calls c.write_more_params.ensures.calls
-    (separated_first (Str (codes ", ")) show param_calls c.in-Some.first.now c.in-Some.rest.now ∙ ap (λ ps. separated (Str (codes ", ")) (map param_calls (map show ps))) (sym c.in-Some.ensures.cases.0))
+    (separated_first (Str (codes ", ")) show param_calls c.in-Some.first.now c.in-Some.rest.now ∙ ap (λ ps. separated (Str (codes ", ")) (map param_calls (map show ps)))
+    (sym c.in-Some.ensures.cases.0))
 
 pub returns-in_default-clause-calls : goal.returns-in_default-clause-calls
-returns-in_default-clause-calls g c = driven_as (driven_none _) (ap (λ ps. separated (Str (codes ", ")) (map param_calls (map (shown_param c.args.resolve.now) ps))) (sym (nil_from_length c.args.params.now c.in_default.ensures.cases)))
+returns-in_default-clause-calls g c = driven_as (driven_none _) (ap (λ ps. separated (Str (codes ", ")) (map param_calls (map (shown_param c.args.resolve.now) ps)))
+    (sym (nil_from_length c.args.params.now c.in_default.ensures.cases)))

@@ -26,4 +26,5 @@ returns-clause-calls g c =
     let word = Keyword (codes "func") in
     let ends = option_map (shown_type r) f.result in
     driven_on (driven c.write_async.ensures.calls c.keyword.ensures.calls) c.write_params_and_result.ensures.calls
-    (append_assoc front (word ∷ []) (params_calls (map (shown_param r) c.written_params.result.now) ends) ∙ ap (λ ps. front ++ (word ∷ params_calls (map (shown_param r) ps) ends)) c.written_params.ensures)
+    (append_assoc front (word ∷ []) (params_calls (map (shown_param r) c.written_params.result.now) ends) ∙ ap (λ ps. front ++ (word ∷ params_calls (map (shown_param r) ps) ends))
+    c.written_params.ensures)

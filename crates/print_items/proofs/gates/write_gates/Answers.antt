@@ -13,7 +13,10 @@ pub write_deprecated-requires : goal.write_deprecated-requires
 write_deprecated-requires g c = record { version = second_true (is_version_text (version_text c.in-Stable.since)) _ (subst (λ s. is_well_gates (shown_gates s) ≡ true) c.in-Stable.is c.requires.well) }
 
 pub write_deprecated-requires-in-Unstable : goal.write_deprecated-requires-in-Unstable
-write_deprecated-requires-in-Unstable g c = record { version = second_true (is_label (text_of c.in-Unstable.feature)) _ (subst (λ s. is_well_gates (shown_gates s) ≡ true) c.in-Unstable.is c.requires.well) }
+write_deprecated-requires-in-Unstable g c = record {
+  version = second_true (is_label (text_of c.in-Unstable.feature)) _
+      (subst (λ s. is_well_gates (shown_gates s) ≡ true) c.in-Unstable.is c.requires.well);
+}
 
 pub returns-in-Stable : goal.returns-in-Stable
 returns-in-Stable g c = record { calls = driven_on c.write_version_attribute.ensures.calls c.write_deprecated.ensures.calls (ap (λ s. gates_calls (shown_gates s)) (sym c.in-Stable.is)) }

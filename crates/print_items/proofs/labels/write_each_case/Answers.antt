@@ -20,7 +20,10 @@ write_label-requires g c =
     }
 
 pub loop-case-preserved : goal.loop-case-preserved
-loop-case-preserved g c = record { calls = one_run (λ case. label_calls c.args.emits_docs (shown_enum_case case)) _ _ _ c.loop-case.invariant.calls c.loop-case-test.true c.case-item.is (driven_as c.write_label.ensures.calls (ap (λ name. label_calls c.args.emits_docs (record { docs = shown_docs c.case-item.result.docs; name = name })) c.deref.ensures)) }
+loop-case-preserved g c = record {
+  calls = one_run (λ case. label_calls c.args.emits_docs (shown_enum_case case)) _ _ _ c.loop-case.invariant.calls c.loop-case-test.true c.case-item.is
+      (driven_as c.write_label.ensures.calls (ap (λ name. label_calls c.args.emits_docs (record { docs = shown_docs c.case-item.result.docs; name = name })) c.deref.ensures));
+}
 
 pub returns-then-driver : goal.returns-then-driver
 returns-then-driver g c = record { calls = run_cut (λ case. label_calls c.args.emits_docs (shown_enum_case case)) c.args.cases.now c.loop-case.case-index c.loop-case.invariant.calls c.if-driver.true }

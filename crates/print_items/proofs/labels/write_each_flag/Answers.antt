@@ -20,7 +20,10 @@ write_label-requires g c =
     }
 
 pub loop-flag-preserved : goal.loop-flag-preserved
-loop-flag-preserved g c = record { calls = one_run (λ flag. label_calls c.args.emits_docs (shown_flag flag)) _ _ _ c.loop-flag.invariant.calls c.loop-flag-test.true c.flag-item.is (driven_as c.write_label.ensures.calls (ap (λ name. label_calls c.args.emits_docs (record { docs = shown_docs c.flag-item.result.docs; name = name })) c.deref.ensures)) }
+loop-flag-preserved g c = record {
+  calls = one_run (λ flag. label_calls c.args.emits_docs (shown_flag flag)) _ _ _ c.loop-flag.invariant.calls c.loop-flag-test.true c.flag-item.is
+      (driven_as c.write_label.ensures.calls (ap (λ name. label_calls c.args.emits_docs (record { docs = shown_docs c.flag-item.result.docs; name = name })) c.deref.ensures));
+}
 
 pub returns-then-driver : goal.returns-then-driver
 returns-then-driver g c = record { calls = run_cut (λ flag. label_calls c.args.emits_docs (shown_flag flag)) c.args.flags.now c.loop-flag.flag-index c.loop-flag.invariant.calls c.if-driver.true }

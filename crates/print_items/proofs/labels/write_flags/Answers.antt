@@ -19,10 +19,14 @@ pub write_each_flag-requires : goal.write_each_flag-requires
 write_each_flag-requires g c =
     record {
       well =
-          subst (λ xs. list_all (λ x. is_well_label (shown_flag x)) xs ≡ true) (sym c.deref.ensures.value) (block_members is_well_label shown_flag (is_label c.args.name.now) c.args.of.now.flags.items c.requires.well);
+          subst (λ xs. list_all (λ x. is_well_label (shown_flag x)) xs ≡ true) (sym c.deref.ensures.value)
+          (block_members is_well_label shown_flag (is_label c.args.name.now) c.args.of.now.flags.items c.requires.well);
     }
 
 pub returns : goal.returns
 returns g c =
     let start = block_start_calls (codes "flags") c.args.name.now Flags in
-    record { calls = block_driven start (label_calls c.args.emits_docs) shown_flag _ _ c.write_block_start.ensures.calls c.write_each_flag.ensures.calls c.indent_end.ensures.calls c.deref.ensures.value }
+    record {
+      calls = block_driven start (label_calls c.args.emits_docs) shown_flag _ _ c.write_block_start.ensures.calls c.write_each_flag.ensures.calls c.indent_end.ensures.calls
+          c.deref.ensures.value;
+    }

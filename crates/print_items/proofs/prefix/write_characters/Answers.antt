@@ -19,4 +19,7 @@ returns g c =
 pub returns-then-driver : goal.returns-then-driver
 returns-then-driver g c =
     let so_far = YieldsList-so_far (YieldsList-from_chars c.args.text.now c.utf8.text cc) c.loop-c.yielded _ c.loop-c.yielded_by in
-    record { calls = map_cut character_call (chars c.args.text.now) (length c.loop-c.yielded) (driven_as c.loop-c.invariant.calls (ap (map character_call) (sym (map-id c.loop-c.yielded) ∙ so_far))) c.if-driver.true }
+    record {
+      calls = map_cut character_call (chars c.args.text.now) (length c.loop-c.yielded) (driven_as c.loop-c.invariant.calls (ap (map character_call) (sym (map-id c.loop-c.yielded) ∙ so_far)))
+          c.if-driver.true;
+    }

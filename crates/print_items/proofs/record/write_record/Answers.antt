@@ -17,9 +17,13 @@ write_block_start-requires-clause-label g c = left_of _ _ c.requires.well
 
 pub write_fields-requires-clause-well : goal.write_fields-requires-clause-well
 write_fields-requires-clause-well g c =
-    subst (λ xs. list_all (λ x. is_well_field (shown_field c.args.resolve.now x)) xs ≡ true) (sym c.deref.ensures.value) (block_members is_well_field (shown_field c.args.resolve.now) (is_label c.args.name.now) c.args.of.now.fields.items c.requires.well)
+    subst (λ xs. list_all (λ x. is_well_field (shown_field c.args.resolve.now x)) xs ≡ true) (sym c.deref.ensures.value)
+    (block_members is_well_field (shown_field c.args.resolve.now) (is_label c.args.name.now) c.args.of.now.fields.items c.requires.well)
 
 pub returns : goal.returns
 returns g c =
     let start = block_start_calls (codes "record") c.args.name.now Record in
-    record { calls = block_driven start (field_calls c.args.emits_docs) (shown_field c.args.resolve.now) _ _ c.write_block_start.ensures.calls c.write_fields.ensures.calls c.indent_end.ensures.calls c.deref.ensures.value }
+    record {
+      calls = block_driven start (field_calls c.args.emits_docs) (shown_field c.args.resolve.now) _ _ c.write_block_start.ensures.calls c.write_fields.ensures.calls c.indent_end.ensures.calls
+          c.deref.ensures.value;
+    }

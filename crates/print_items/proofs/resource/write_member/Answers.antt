@@ -21,7 +21,8 @@ pub write_static-requires-in-AsyncStatic-clause-label : goal.write_static-requir
 write_static-requires-in-AsyncStatic-clause-label g c = left_of _ _ (member_named c.args.resolve.now c.args.function.now c.requires.well (ap is_constructor c.in-AsyncStatic.is))
 
 pub write_static-requires-in-AsyncStatic-clause-well : goal.write_static-requires-in-AsyncStatic-clause-well
-write_static-requires-in-AsyncStatic-clause-well g c = right_of (is_label (item_name c.args.function.now)) _ (member_named c.args.resolve.now c.args.function.now c.requires.well (ap is_constructor c.in-AsyncStatic.is))
+write_static-requires-in-AsyncStatic-clause-well g c = right_of (is_label (item_name c.args.function.now)) _
+    (member_named c.args.resolve.now c.args.function.now c.requires.well (ap is_constructor c.in-AsyncStatic.is))
 
 pub write_method-requires-clause-label : goal.write_method-requires-clause-label
 write_method-requires-clause-label g c = left_of _ _ (member_named c.args.resolve.now c.args.function.now c.requires.well (ap is_constructor c.in-Method.is))
@@ -33,16 +34,19 @@ pub write_method-requires-in-AsyncMethod-clause-label : goal.write_method-requir
 write_method-requires-in-AsyncMethod-clause-label g c = left_of _ _ (member_named c.args.resolve.now c.args.function.now c.requires.well (ap is_constructor c.in-AsyncMethod.is))
 
 pub write_method-requires-in-AsyncMethod-clause-well : goal.write_method-requires-in-AsyncMethod-clause-well
-write_method-requires-in-AsyncMethod-clause-well g c = right_of (is_label (item_name c.args.function.now)) _ (member_named c.args.resolve.now c.args.function.now c.requires.well (ap is_constructor c.in-AsyncMethod.is))
+write_method-requires-in-AsyncMethod-clause-well g c = right_of (is_label (item_name c.args.function.now)) _
+    (member_named c.args.resolve.now c.args.function.now c.requires.well (ap is_constructor c.in-AsyncMethod.is))
 
 pub write_method-requires-in-Freestanding-clause-label : goal.write_method-requires-in-Freestanding-clause-label
 write_method-requires-in-Freestanding-clause-label g c = left_of _ _ (member_named c.args.resolve.now c.args.function.now c.requires.well (ap is_constructor c.in-Freestanding.is))
 
 pub write_method-requires-in-Freestanding-clause-well : goal.write_method-requires-in-Freestanding-clause-well
-write_method-requires-in-Freestanding-clause-well g c = right_of (is_label (item_name c.args.function.now)) _ (member_named c.args.resolve.now c.args.function.now c.requires.well (ap is_constructor c.in-Freestanding.is))
+write_method-requires-in-Freestanding-clause-well g c = right_of (is_label (item_name c.args.function.now)) _
+    (member_named c.args.resolve.now c.args.function.now c.requires.well (ap is_constructor c.in-Freestanding.is))
 
 pub write_method-requires-in-AsyncFreestanding-clause-label : goal.write_method-requires-in-AsyncFreestanding-clause-label
 write_method-requires-in-AsyncFreestanding-clause-label g c = left_of _ _ (member_named c.args.resolve.now c.args.function.now c.requires.well (ap is_constructor c.in-AsyncFreestanding.is))
 
 pub write_method-requires-in-AsyncFreestanding-clause-well : goal.write_method-requires-in-AsyncFreestanding-clause-well
-write_method-requires-in-AsyncFreestanding-clause-well g c = right_of (is_label (item_name c.args.function.now)) _ (member_named c.args.resolve.now c.args.function.now c.requires.well (ap is_constructor c.in-AsyncFreestanding.is))
+write_method-requires-in-AsyncFreestanding-clause-well g c = right_of (is_label (item_name c.args.function.now)) _
+    (member_named c.args.resolve.now c.args.function.now c.requires.well (ap is_constructor c.in-AsyncFreestanding.is))

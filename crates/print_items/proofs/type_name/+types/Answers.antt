@@ -34,7 +34,8 @@ write_unnamed-kind_types-types-requires-clause-unnamed g t c =
 pub write_unnamed-write_type_name-requires : goal.write_unnamed-write_type_name-requires
 write_unnamed-write_type_name-requires g t c κs within =
     let at : type_at c.args.resolve.now c.args.id.0 ≡ Some c.index-def.result.now = slice_get_read _ _ _ _ refl (ltb-true _ _ c.requires.in_range) c.index-def.ensures in
-    let part : slice_get (member_types c.index-def.result.now.kind) c.loop-number.number ≡ Some c.index-part.result.now = subst (λ ts. slice_get ts c.loop-number.number ≡ Some c.index-part.result.now) c.kind_types-types.ensures (slice_get_read _ _ _ _ refl c.loop-number-test.true c.index-part.ensures) in
+    let part : slice_get (member_types c.index-def.result.now.kind) c.loop-number.number ≡ Some c.index-part.result.now =
+    subst (λ ts. slice_get ts c.loop-number.number ≡ Some c.index-part.result.now) c.kind_types-types.ensures (slice_get_read _ _ _ _ refl c.loop-number-test.true c.index-part.ensures) in
     let falls : rank c.index-part.result.now < c.args.id.0 + 1 = part_falls c.args.resolve.now c.requires.valid c.args.id c.index-def.result.now at c.loop-number.number c.index-part.result.now part in
     let m : 2 * c.args.id.0 + 1 ≡ t = c.decreases in
     let fall : 2 * rank c.index-part.result.now < 2 * c.args.id.0 + 1 = omega arith in (
@@ -53,8 +54,10 @@ write_unnamed-loop-number-preserved g t c =
     let r = c.args.resolve.now in
     let types = member_types c.index-def.result.now.kind in
     let n = c.loop-number.number in
-    let part : slice_get types n ≡ Some c.index-part.result.now = subst (λ ts. slice_get ts n ≡ Some c.index-part.result.now) c.kind_types-types.ensures (slice_get_read _ _ _ _ refl c.loop-number-test.true c.index-part.ensures) in
-    driving_next (comma_calls n ++ type_calls (shown_type r c.index-part.result.now)) (types_from (type_trees r) (n + 1) (drop (n + 1) types)) c.loop-number.invariant (types_next (type_trees r) types n c.index-part.result.now part)
+    let part : slice_get types n ≡ Some c.index-part.result.now = subst (λ ts. slice_get ts n ≡ Some c.index-part.result.now) c.kind_types-types.ensures
+    (slice_get_read _ _ _ _ refl c.loop-number-test.true c.index-part.ensures) in
+    driving_next (comma_calls n ++ type_calls (shown_type r c.index-part.result.now)) (types_from (type_trees r) (n + 1) (drop (n + 1) types)) c.loop-number.invariant
+    (types_next (type_trees r) types n c.index-part.result.now part)
     (driven c.write_comma.ensures.calls c.write_type_name.ensures.calls)
 
 pub write_unnamed-write_kind_end-requires : goal.write_unnamed-write_kind_end-requires
@@ -71,7 +74,10 @@ write_unnamed-returns-then-driver g t c =
     let r = c.args.resolve.now in
     let k = c.index-def.result.now.kind in
     let at : type_at r c.args.id.0 ≡ Some c.index-def.result.now = slice_get_read _ _ _ _ refl (ltb-true _ _ c.requires.in_range) c.index-def.ensures in
-    record { calls = driven_cut (kind_end k) (driving_cut c.loop-number.invariant c.if-driver.true) c.if-driver.true (kind_calls_at r c.requires.valid c.args.id c.index-def.result.now at c.requires.unnamed) }
+    record {
+      calls = driven_cut (kind_end k) (driving_cut c.loop-number.invariant c.if-driver.true) c.if-driver.true
+          (kind_calls_at r c.requires.valid c.args.id c.index-def.result.now at c.requires.unnamed);
+    }
 
 pub write_unnamed-returns : goal.write_unnamed-returns
 write_unnamed-returns g t c =
@@ -113,4 +119,7 @@ write_type_name-returns-in-None g t c =
     let r = c.args.resolve.now in
     let range : in_list r.types.items c.in-Id.id.0 ≡ true = subst (λ x. passes (in_list r.types.items) (number_of x) ≡ true) c.in-Id.is c.requires.in_range in
     let at : type_at r c.in-Id.id.0 ≡ Some c.index-def.result.now = slice_get_read _ _ _ _ refl (ltb-true _ _ range) c.index-def.ensures in
-    record { calls = driven_as c.write_unnamed.ensures.calls (unnamed_calls_at r c.requires.valid c.in-Id.id c.index-def.result.now at c.in-None.is ∙ ap (λ x. type_calls (shown_type r x)) (sym c.in-Id.is)) }
+    record {
+      calls = driven_as c.write_unnamed.ensures.calls (unnamed_calls_at r c.requires.valid c.in-Id.id c.index-def.result.now at c.in-None.is ∙ ap (λ x. type_calls (shown_type r x))
+          (sym c.in-Id.is));
+    }

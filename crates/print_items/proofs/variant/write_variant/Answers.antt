@@ -17,9 +17,13 @@ write_block_start-requires-clause-label g c = left_of _ _ c.requires.well
 
 pub write_cases-requires-clause-well : goal.write_cases-requires-clause-well
 write_cases-requires-clause-well g c =
-    subst (λ xs. list_all (λ x. is_well_case (shown_case c.args.resolve.now x)) xs ≡ true) (sym c.deref.ensures.value) (block_members is_well_case (shown_case c.args.resolve.now) (is_label c.args.name.now) c.args.of.now.cases.items c.requires.well)
+    subst (λ xs. list_all (λ x. is_well_case (shown_case c.args.resolve.now x)) xs ≡ true) (sym c.deref.ensures.value)
+    (block_members is_well_case (shown_case c.args.resolve.now) (is_label c.args.name.now) c.args.of.now.cases.items c.requires.well)
 
 pub returns : goal.returns
 returns g c =
     let start = block_start_calls (codes "variant") c.args.name.now Variant in
-    record { calls = block_driven start (case_calls c.args.emits_docs) (shown_case c.args.resolve.now) _ _ c.write_block_start.ensures.calls c.write_cases.ensures.calls c.indent_end.ensures.calls c.deref.ensures.value }
+    record {
+      calls = block_driven start (case_calls c.args.emits_docs) (shown_case c.args.resolve.now) _ _ c.write_block_start.ensures.calls c.write_cases.ensures.calls c.indent_end.ensures.calls
+          c.deref.ensures.value;
+    }

@@ -6,4 +6,5 @@ use Rattle.print_items.specs.Shown.{belongs_to}
 use Rattle.print_packages.proofs.by_resource.by_resource.Given as goal
 
 abbrev pub invariant-loop-function : goal.invariant-loop-function
-invariant-loop-function l = (id : TypeId) → functions_under l.grouped.entries id ++ filter (belongs_to id) (map (λ f. f.now) (drop l.function-index l.functions)) ≡ filter (belongs_to id) (map (λ f. f.now) l.functions)
+invariant-loop-function l = (id : TypeId) → functions_under l.grouped.entries id ++ filter (belongs_to id) (map (λ f. f.now) (drop l.function-index l.functions)) ≡ filter (belongs_to id)
+    (map (λ f. f.now) l.functions)

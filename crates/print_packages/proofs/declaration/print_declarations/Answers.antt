@@ -18,21 +18,25 @@ print_type_with_functions-requires-clause-known g c = known_here c.args.types.no
 pub returns-in_err-printed-clause-err : goal.returns-in_err-printed-clause-err
 returns-in_err-printed-clause-err g c =
     at_err c.from_residual.result
-    (given_refused c.args.types.now c.loop-listed.listed-index _ c.loop-listed-test.true c.args.resolve.now c.args.owner c.args.functions.now.entries c.loop-listed.has_printed _ c.args.emits_docs refl c.loop-listed.invariant.going c.in_err-printed.ensures.err)
+    (given_refused c.args.types.now c.loop-listed.listed-index _ c.loop-listed-test.true c.args.resolve.now c.args.owner c.args.functions.now.entries c.loop-listed.has_printed _ c.args.emits_docs refl
+    c.loop-listed.invariant.going c.in_err-printed.ensures.err)
 
 pub loop-listed-preserved : goal.loop-listed-preserved
 loop-listed-preserved g c =
     let r = c.args.resolve.now in
     record {
-      going = given_made c.args.types.now c.loop-listed.listed-index _ c.loop-listed-test.true r c.args.owner c.args.functions.now.entries c.loop-listed.has_printed _ c.args.emits_docs c.in_ok-printed.printed refl c.loop-listed.invariant.going c.in_ok-printed.ensures.printed c.in_ok-printed.ensures.ok;
-      printed = given_some c.args.types.now c.loop-listed.listed-index _ c.loop-listed-test.true r c.args.owner c.args.functions.now.entries c.loop-listed.has_printed _ c.in_ok-printed.printed _ refl c.loop-listed.invariant.printed c.in_ok-printed.ensures.printed;
+      going = given_made c.args.types.now c.loop-listed.listed-index _ c.loop-listed-test.true r c.args.owner c.args.functions.now.entries c.loop-listed.has_printed _ c.args.emits_docs
+          c.in_ok-printed.printed refl c.loop-listed.invariant.going c.in_ok-printed.ensures.printed c.in_ok-printed.ensures.ok;
+      printed = given_some c.args.types.now c.loop-listed.listed-index _ c.loop-listed-test.true r c.args.owner c.args.functions.now.entries c.loop-listed.has_printed _ c.in_ok-printed.printed _ refl
+          c.loop-listed.invariant.printed c.in_ok-printed.ensures.printed;
       known = known_after c.args.types.now c.loop-listed.listed-index c.loop-listed-test.true r c.args.owner c.loop-listed.invariant.known;
     }
 
 pub returns-clause-ok : goal.returns-clause-ok
 returns-clause-ok g c =
     let none = drop_all c.loop-listed.listed-index c.args.types.now c.loop-listed-test.false in
-    made_all c.loop-listed.invariant.going (ap (λ ts. members_calls c.args.emits_docs c.loop-listed.has_printed (given_declarations c.args.resolve.now c.args.owner c.args.functions.now.entries (listed_of ts))) none)
+    made_all c.loop-listed.invariant.going (ap (λ ts. members_calls c.args.emits_docs c.loop-listed.has_printed
+    (given_declarations c.args.resolve.now c.args.owner c.args.functions.now.entries (listed_of ts))) none)
 
 pub returns-clause-printed : goal.returns-clause-printed
 returns-clause-printed g c =

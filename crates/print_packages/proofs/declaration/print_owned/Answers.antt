@@ -38,7 +38,9 @@ print_declaration-requires-clause-well g c =
     let fs = map (λ f. f.now) c.args.functions.now in
     let at : type_at r c.args.id.0 ≡ Some def = slice_get_read _ _ _ _ refl (ltb-true _ _ (left_of (in_list r.types.items c.args.id.0) _ c.requires.printable)) c.index-def.ensures in
     let members = members_shown r c.deref.result.now (filter (belongs_to c.args.id) fs) (ap (map (λ f. f.now)) c.deref.ensures.value ∙ c.in_ok-members.ensures) in
-    subst (λ ms. is_well_declared (declared_of r (present_name def.name) ms def.kind) ≡ true) (sym members) (right_of (is_well_prefix (shown_prefix def.docs def.stability def.external_id)) (is_well_declared (shown_declared r fs c.args.id def)) (printable_at r fs c.args.id def at c.requires.printable))
+    subst (λ ms. is_well_declared (declared_of r (present_name def.name) ms def.kind) ≡ true) (sym members)
+    (right_of (is_well_prefix (shown_prefix def.docs def.stability def.external_id)) (is_well_declared (shown_declared r fs c.args.id def))
+    (printable_at r fs c.args.id def at c.requires.printable))
 
 pub returns-clause-ok : goal.returns-clause-ok
 returns-clause-ok g c =
@@ -47,10 +49,13 @@ returns-clause-ok g c =
     let fs = map (λ f. f.now) c.args.functions.now in
     let at : type_at r c.args.id.0 ≡ Some def = slice_get_read _ _ _ _ refl (ltb-true _ _ (left_of (in_list r.types.items c.args.id.0) _ c.requires.printable)) c.index-def.ensures in
     let members = members_shown r c.deref.result.now (filter (belongs_to c.args.id) fs) (ap (map (λ f. f.now)) c.deref.ensures.value ∙ c.in_ok-members.ensures) in
-    let same : members_calls c.args.emits_docs c.args.has_printed (TypeMember (shown_prefix def.docs def.stability def.external_id) (declared_of r (present_name def.name) (map (λ f. shown_resource_member r f.now) c.deref.result.now) def.kind) ∷ []) ≡ members_calls c.args.emits_docs c.args.has_printed (declaration_of r fs c.args.id) =
+    let same : members_calls c.args.emits_docs c.args.has_printed (TypeMember (shown_prefix def.docs def.stability def.external_id)
+    (declared_of r (present_name def.name) (map (λ f. shown_resource_member r f.now) c.deref.result.now) def.kind) ∷ []) ≡ members_calls c.args.emits_docs c.args.has_printed
+    (declaration_of r fs c.args.id) =
     ap (λ ms. members_calls c.args.emits_docs c.args.has_printed (TypeMember (shown_prefix def.docs def.stability def.external_id) (declared_of r (present_name def.name) ms def.kind) ∷ [])) members
     ∙ ap (members_calls c.args.emits_docs c.args.has_printed) (sym (declaration_at r fs c.args.id def at)) in
-    on_ok c.print_declaration.result (λ m. subst (λ calls. Moves g.O.Output.keeps (g.O.Output.view c.args.output.now) calls (g.O.Output.view c.print_declaration.new.output)) same m) c.print_declaration.ensures.ok
+    on_ok c.print_declaration.result (λ m. subst (λ calls. Moves g.O.Output.keeps (g.O.Output.view c.args.output.now) calls (g.O.Output.view c.print_declaration.new.output)) same m)
+    c.print_declaration.ensures.ok
 
 pub returns-clause-err : goal.returns-clause-err
 returns-clause-err g c =
@@ -59,7 +64,10 @@ returns-clause-err g c =
     let fs = map (λ f. f.now) c.args.functions.now in
     let at : type_at r c.args.id.0 ≡ Some def = slice_get_read _ _ _ _ refl (ltb-true _ _ (left_of (in_list r.types.items c.args.id.0) _ c.requires.printable)) c.index-def.ensures in
     let members = members_shown r c.deref.result.now (filter (belongs_to c.args.id) fs) (ap (map (λ f. f.now)) c.deref.ensures.value ∙ c.in_ok-members.ensures) in
-    let same : members_calls c.args.emits_docs c.args.has_printed (TypeMember (shown_prefix def.docs def.stability def.external_id) (declared_of r (present_name def.name) (map (λ f. shown_resource_member r f.now) c.deref.result.now) def.kind) ∷ []) ≡ members_calls c.args.emits_docs c.args.has_printed (declaration_of r fs c.args.id) =
+    let same : members_calls c.args.emits_docs c.args.has_printed (TypeMember (shown_prefix def.docs def.stability def.external_id)
+    (declared_of r (present_name def.name) (map (λ f. shown_resource_member r f.now) c.deref.result.now) def.kind) ∷ []) ≡ members_calls c.args.emits_docs c.args.has_printed
+    (declaration_of r fs c.args.id) =
     ap (λ ms. members_calls c.args.emits_docs c.args.has_printed (TypeMember (shown_prefix def.docs def.stability def.external_id) (declared_of r (present_name def.name) ms def.kind) ∷ [])) members
     ∙ ap (members_calls c.args.emits_docs c.args.has_printed) (sym (declaration_at r fs c.args.id def at)) in
-    on_err c.print_declaration.result (λ b. subst (λ calls. Begins g.O.Output.keeps (g.O.Output.view c.args.output.now) calls (g.O.Output.view c.print_declaration.new.output)) same b) c.print_declaration.ensures.err
+    on_err c.print_declaration.result (λ b. subst (λ calls. Begins g.O.Output.keeps (g.O.Output.view c.args.output.now) calls (g.O.Output.view c.print_declaration.new.output)) same b)
+    c.print_declaration.ensures.err

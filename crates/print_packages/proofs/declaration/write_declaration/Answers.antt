@@ -9,7 +9,8 @@ use Rattle.print_packages.proofs.declaration.write_declaration.Goals as goal
 
 pub write_declared-requires-clause-well : goal.write_declared-requires-clause-well
 write_declared-requires-clause-well g c =
-    subst (λ name. is_well_declared (declared_of c.args.resolve.now name (map (λ f. shown_resource_member c.args.resolve.now f.now) c.args.functions.now) c.args.def.now.kind) ≡ true) (sym c.present-name.ensures) c.requires.well
+    subst (λ name. is_well_declared (declared_of c.args.resolve.now name (map (λ f. shown_resource_member c.args.resolve.now f.now) c.args.functions.now) c.args.def.now.kind) ≡ true)
+    (sym c.present-name.ensures) c.requires.well
 
 pub returns : goal.returns
 returns g c =

@@ -23,14 +23,16 @@ returns-then-is_some-clause-ok g c =
     let at : interface_at c.args.resolve.now c.args.id.0 ≡ Some c.index-interface.result.now = slice_get_read _ _ _ _ refl (ltb-true _ _ c.requires.in_range) c.index-interface.ensures in
     let tree = named_tree c.args.resolve.now c.args.here c.args.label.now c.args.id c.index-interface.result.now at (sym c.is_some.ensures ∙ c.if-is_some.true) in
     let prefix = shown_prefix c.args.docs.now c.args.stability.now c.args.external_id.now in
-    on_ok c.print_labelled_path.result (λ m. subst (λ t. Moves g.O.Output.keeps (g.O.Output.view c.args.output.now) (world_extern_calls c.args.emits_docs prefix c.args.word.now t) (g.O.Output.view c.print_labelled_path.new.output)) (sym tree) m) c.print_labelled_path.ensures.ok
+    on_ok c.print_labelled_path.result (λ m. subst (λ t. Moves g.O.Output.keeps (g.O.Output.view c.args.output.now) (world_extern_calls c.args.emits_docs prefix c.args.word.now t)
+    (g.O.Output.view c.print_labelled_path.new.output)) (sym tree) m) c.print_labelled_path.ensures.ok
 
 pub returns-then-is_some-clause-err : goal.returns-then-is_some-clause-err
 returns-then-is_some-clause-err g c =
     let at : interface_at c.args.resolve.now c.args.id.0 ≡ Some c.index-interface.result.now = slice_get_read _ _ _ _ refl (ltb-true _ _ c.requires.in_range) c.index-interface.ensures in
     let tree = named_tree c.args.resolve.now c.args.here c.args.label.now c.args.id c.index-interface.result.now at (sym c.is_some.ensures ∙ c.if-is_some.true) in
     let prefix = shown_prefix c.args.docs.now c.args.stability.now c.args.external_id.now in
-    on_err c.print_labelled_path.result (λ b. subst (λ t. Begins g.O.Output.keeps (g.O.Output.view c.args.output.now) (world_extern_calls c.args.emits_docs prefix c.args.word.now t) (g.O.Output.view c.print_labelled_path.new.output)) (sym tree) b) c.print_labelled_path.ensures.err
+    on_err c.print_labelled_path.result (λ b. subst (λ t. Begins g.O.Output.keeps (g.O.Output.view c.args.output.now) (world_extern_calls c.args.emits_docs prefix c.args.word.now t)
+    (g.O.Output.view c.print_labelled_path.new.output)) (sym tree) b) c.print_labelled_path.ensures.err
 
 pub print_inline-requires-clause-at : goal.print_inline-requires-clause-at
 print_inline-requires-clause-at g c = slice_get_read _ _ _ _ refl (ltb-true _ _ c.requires.in_range) c.index-interface.ensures
@@ -40,11 +42,13 @@ returns-clause-ok g c =
     let at : interface_at c.args.resolve.now c.args.id.0 ≡ Some c.index-interface.result.now = slice_get_read _ _ _ _ refl (ltb-true _ _ c.requires.in_range) c.index-interface.ensures in
     let tree = inline_tree c.args.resolve.now c.args.here c.args.label.now c.args.id c.index-interface.result.now at (sym c.is_some.ensures ∙ c.if-is_some.false) in
     let prefix = shown_prefix c.args.docs.now c.args.stability.now c.args.external_id.now in
-    on_ok c.print_inline.result (λ m. subst (λ t. Moves g.O.Output.keeps (g.O.Output.view c.args.output.now) (world_extern_calls c.args.emits_docs prefix c.args.word.now t) (g.O.Output.view c.print_inline.new.output)) (sym tree) m) c.print_inline.ensures.ok
+    on_ok c.print_inline.result (λ m. subst (λ t. Moves g.O.Output.keeps (g.O.Output.view c.args.output.now) (world_extern_calls c.args.emits_docs prefix c.args.word.now t)
+    (g.O.Output.view c.print_inline.new.output)) (sym tree) m) c.print_inline.ensures.ok
 
 pub returns-clause-err : goal.returns-clause-err
 returns-clause-err g c =
     let at : interface_at c.args.resolve.now c.args.id.0 ≡ Some c.index-interface.result.now = slice_get_read _ _ _ _ refl (ltb-true _ _ c.requires.in_range) c.index-interface.ensures in
     let tree = inline_tree c.args.resolve.now c.args.here c.args.label.now c.args.id c.index-interface.result.now at (sym c.is_some.ensures ∙ c.if-is_some.false) in
     let prefix = shown_prefix c.args.docs.now c.args.stability.now c.args.external_id.now in
-    on_err c.print_inline.result (λ b. subst (λ t. Begins g.O.Output.keeps (g.O.Output.view c.args.output.now) (world_extern_calls c.args.emits_docs prefix c.args.word.now t) (g.O.Output.view c.print_inline.new.output)) (sym tree) b) c.print_inline.ensures.err
+    on_err c.print_inline.result (λ b. subst (λ t. Begins g.O.Output.keeps (g.O.Output.view c.args.output.now) (world_extern_calls c.args.emits_docs prefix c.args.word.now t)
+    (g.O.Output.view c.print_inline.new.output)) (sym tree) b) c.print_inline.ensures.err

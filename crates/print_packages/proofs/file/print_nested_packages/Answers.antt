@@ -16,11 +16,13 @@ use Rattle.std.proofs.lemmas.Result.{on_err_weaker as on_err, on_ok_weaker as on
 
 pub print_whole_package-requires-clause-in_range : goal.print_whole_package-requires-clause-in_range
 print_whole_package-requires-clause-in_range g c =
-    ltb-true _ _ (first_true (in_list c.args.resolve.now.packages.items c.in-Some.first.now.0) _ (subst (λ ids. list_all (λ id. in_list c.args.resolve.now.packages.items id.0) ids ≡ true) c.in-Some.ensures.cases.0 c.requires.in_range))
+    ltb-true _ _ (first_true (in_list c.args.resolve.now.packages.items c.in-Some.first.now.0) _
+    (subst (λ ids. list_all (λ id. in_list c.args.resolve.now.packages.items id.0) ids ≡ true) c.in-Some.ensures.cases.0 c.requires.in_range))
 
 pub print_more_packages-requires-clause-in_range : goal.print_more_packages-requires-clause-in_range
 print_more_packages-requires-clause-in_range g c =
-    second_true (in_list c.args.resolve.now.packages.items c.in-Some.first.now.0) _ (subst (λ ids. list_all (λ id. in_list c.args.resolve.now.packages.items id.0) ids ≡ true) c.in-Some.ensures.cases.0 c.requires.in_range)
+    second_true (in_list c.args.resolve.now.packages.items c.in-Some.first.now.0) _
+    (subst (λ ids. list_all (λ id. in_list c.args.resolve.now.packages.items id.0) ids ≡ true) c.in-Some.ensures.cases.0 c.requires.in_range)
 
 pub returns-in_err-print_whole_package-clause-err : goal.returns-in_err-print_whole_package-clause-err
 returns-in_err-print_whole_package-clause-err g c =

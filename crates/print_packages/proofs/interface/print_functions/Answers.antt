@@ -22,7 +22,8 @@ loop-key-init g c =
 pub print_function-requires-clause-well : goal.print_function-requires-clause-well
 print_function-requires-clause-well g c =
     let next = rest_more deref_pair c.loop-key.key-iterator c.next.new.self c.next.result (c.in-Some.key, c.in-Some.function) c.in-Some.is c.next.ensures.steps in
-    let known = first_true (is_printable_function c.args.resolve.now c.in-Some.function.now) _ (subst (λ es. list_all (λ e. is_printable_function c.args.resolve.now e.1) es ≡ true) next c.loop-key.invariant.printable) in
+    let known = first_true (is_printable_function c.args.resolve.now c.in-Some.function.now) _
+    (subst (λ es. list_all (λ e. is_printable_function c.args.resolve.now e.1) es ≡ true) next c.loop-key.invariant.printable) in
     printable_member c.args.resolve.now c.in-Some.function.now known (sym c.is_freestanding.ensures ∙ c.if-is_freestanding.true)
 
 pub returns-in_err-print_function-clause-err : goal.returns-in_err-print_function-clause-err
@@ -32,7 +33,8 @@ returns-in_err-print_function-clause-err g c =
     let rest = members_calls c.args.emits_docs true (shown_functions c.args.resolve.now c.next.new.self) in
     at_err c.from_residual.result
     (refused_in run rest c.loop-key.invariant.going
-    (ap (λ es. members_calls c.args.emits_docs c.loop-key.has_printed (shown_functions c.args.resolve.now es)) next ∙ next_shown c.args.emits_docs c.loop-key.has_printed c.args.resolve.now (c.in-Some.key.now, c.in-Some.function.now) c.next.new.self (sym c.is_freestanding.ensures ∙ c.if-is_freestanding.true))
+    (ap (λ es. members_calls c.args.emits_docs c.loop-key.has_printed (shown_functions c.args.resolve.now es)) next ∙ next_shown c.args.emits_docs c.loop-key.has_printed c.args.resolve.now
+    (c.in-Some.key.now, c.in-Some.function.now) c.next.new.self (sym c.is_freestanding.ensures ∙ c.if-is_freestanding.true))
     c.in_err-print_function.ensures.err)
 
 pub loop-key-preserved-then-is_freestanding : goal.loop-key-preserved-then-is_freestanding
@@ -42,7 +44,9 @@ loop-key-preserved-then-is_freestanding g c =
     let rest = members_calls c.args.emits_docs true (shown_functions c.args.resolve.now c.next.new.self) in
     record {
       going = made_on run rest c.loop-key.invariant.going
-          (ap (λ es. members_calls c.args.emits_docs c.loop-key.has_printed (shown_functions c.args.resolve.now es)) next ∙ next_shown c.args.emits_docs c.loop-key.has_printed c.args.resolve.now (c.in-Some.key.now, c.in-Some.function.now) c.next.new.self (sym c.is_freestanding.ensures ∙ c.if-is_freestanding.true))
+          (ap (λ es. members_calls c.args.emits_docs c.loop-key.has_printed (shown_functions c.args.resolve.now es)) next ∙ next_shown c.args.emits_docs c.loop-key.has_printed c.args.resolve.now
+          (c.in-Some.key.now, c.in-Some.function.now) c.next.new.self (sym c.is_freestanding.ensures ∙ c.if-is_freestanding.true))
           c.in_ok-print_function.ensures.ok;
-      printable = second_true (is_printable_function c.args.resolve.now c.in-Some.function.now) _ (subst (λ es. list_all (λ e. is_printable_function c.args.resolve.now e.1) es ≡ true) next c.loop-key.invariant.printable);
+      printable = second_true (is_printable_function c.args.resolve.now c.in-Some.function.now) _
+          (subst (λ es. list_all (λ e. is_printable_function c.args.resolve.now e.1) es ≡ true) next c.loop-key.invariant.printable);
     }

@@ -20,7 +20,8 @@ returns-in_err-has_printed-clause-err g c =
     let i = c.args.interface.now in
     let types = type_members r c.in-Some.here (owner.Interface c.args.id) (listed_functions i) (listed_types i) in
     at_err c.from_residual.result
-    (begun_first (members_calls c.args.emits_docs (printed_after false types) (shown_functions r i.functions.entries)) c.in_err-has_printed.ensures.err (interface_calls r c.requires.valid c.args.id i c.requires.at c.args.emits_docs c.in-Some.here c.in-Some.is))
+    (begun_first (members_calls c.args.emits_docs (printed_after false types) (shown_functions r i.functions.entries)) c.in_err-has_printed.ensures.err
+    (interface_calls r c.requires.valid c.args.id i c.requires.at c.args.emits_docs c.in-Some.here c.in-Some.is))
 
 pub print_functions-requires-clause-printable : goal.print_functions-requires-clause-printable
 print_functions-requires-clause-printable g c = functions_printable c.args.resolve.now c.args.id c.args.interface.now c.requires.valid c.requires.at

@@ -13,4 +13,5 @@ returns-clause-calls g c =
     let docs = doc_calls c.args.emits_docs (shown_docs c.args.interface.now.docs) in
     let gates = gates_calls (shown_gates c.args.interface.now.stability) in
     let word = Keyword (codes "interface") ∷ space ∷ [] in
-    driven_on (driven (driven c.write_docs.ensures.calls c.write_gates.ensures.calls) c.keyword_and_blank.ensures.calls) c.name.ensures.calls (append_assoc (docs ++ gates) word (Ty (escaped c.args.name.now) InterfaceDeclaration ∷ []))
+    driven_on (driven (driven c.write_docs.ensures.calls c.write_gates.ensures.calls) c.keyword_and_blank.ensures.calls) c.name.ensures.calls
+    (append_assoc (docs ++ gates) word (Ty (escaped c.args.name.now) InterfaceDeclaration ∷ []))

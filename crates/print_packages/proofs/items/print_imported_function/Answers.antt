@@ -10,7 +10,8 @@ use Rattle.print_packages.proofs.items.print_imported_function.Goals as goal
 pub returns-then-not-is_freestanding-clause-ok : goal.returns-then-not-is_freestanding-clause-ok
 returns-then-not-is_freestanding-clause-ok g c =
     let view = g.O.Output.view c.args.output.now in
-    subst (λ b. Moves g.O.Output.keeps view (if b then entry_calls c.args.emits_docs c.args.resolve.now c.args.here (codes "import") (c.args.key.now, c.args.item.now) else []) view) (sym (sym c.is_freestanding.ensures ∙ c.if-not-is_freestanding.true)) (nothing_moved refl)
+    subst (λ b. Moves g.O.Output.keeps view (if b then entry_calls c.args.emits_docs c.args.resolve.now c.args.here (codes "import") (c.args.key.now, c.args.item.now) else []) view)
+    (sym (sym c.is_freestanding.ensures ∙ c.if-not-is_freestanding.true)) (nothing_moved refl)
 
 pub print_item-requires-clause-printable : goal.print_item-requires-clause-printable
 print_item-requires-clause-printable g c =

@@ -18,13 +18,15 @@ loop-key-preserved g c =
     let next = rest_more deref_pair c.loop-key.key-iterator c.next.new.self c.next.result (c.in-Some.key, c.in-Some.item) c.in-Some.is c.next.ensures.steps in
     record {
       underway = run_made (c.in-Some.key.now, c.in-Some.item.now) c.next.new.self c.loop-key.invariant.underway next c.in_ok-print_imported_function.ensures.ok;
-      printable = second_true (is_printable_import c.args.resolve.now c.args.here (c.in-Some.key.now, c.in-Some.item.now)) _ (subst (λ items. list_all (is_printable_import c.args.resolve.now c.args.here) items ≡ true) next c.loop-key.invariant.printable);
+      printable = second_true (is_printable_import c.args.resolve.now c.args.here (c.in-Some.key.now, c.in-Some.item.now)) _
+          (subst (λ items. list_all (is_printable_import c.args.resolve.now c.args.here) items ≡ true) next c.loop-key.invariant.printable);
     }
 
 pub print_imported_function-requires-clause-printable : goal.print_imported_function-requires-clause-printable
 print_imported_function-requires-clause-printable g c =
     let next = rest_more deref_pair c.loop-key.key-iterator c.next.new.self c.next.result (c.in-Some.key, c.in-Some.item) c.in-Some.is c.next.ensures.steps in
-    first_true (is_printable_import c.args.resolve.now c.args.here (c.in-Some.key.now, c.in-Some.item.now)) _ (subst (λ items. list_all (is_printable_import c.args.resolve.now c.args.here) items ≡ true) next c.loop-key.invariant.printable)
+    first_true (is_printable_import c.args.resolve.now c.args.here (c.in-Some.key.now, c.in-Some.item.now)) _
+    (subst (λ items. list_all (is_printable_import c.args.resolve.now c.args.here) items ≡ true) next c.loop-key.invariant.printable)
 
 pub returns-in_err-print_imported_function-clause-err : goal.returns-in_err-print_imported_function-clause-err
 returns-in_err-print_imported_function-clause-err g c =

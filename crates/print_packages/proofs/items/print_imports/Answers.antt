@@ -18,19 +18,26 @@ pub returns-in_err-has_types-clause-err : goal.returns-in_err-has_types-clause-e
 returns-in_err-has_types-clause-err g c =
     let w = c.args.world.now in
     let called = flat_map (function_entry_calls c.args.emits_docs c.args.resolve.now c.args.here) w.imports.entries in
-    let begun = subst (λ b. Begins g.O.Output.keeps (g.O.Output.view c.print_imported_interfaces.new.output) (members_calls c.args.emits_docs b (world_type_members c.args.resolve.now c.args.here c.args.id w)) (g.O.Output.view c.print_world_types.new.output)) c.has_interfaces-is_begun.ensures c.in_err-has_types.ensures.err in
+    let begun = subst (λ b. Begins g.O.Output.keeps (g.O.Output.view c.print_imported_interfaces.new.output)
+    (members_calls c.args.emits_docs b (world_type_members c.args.resolve.now c.args.here c.args.id w)) (g.O.Output.view c.print_world_types.new.output)) c.has_interfaces-is_begun.ensures
+    c.in_err-has_types.ensures.err in
     at_err c.from_residual-in_err-has_types.result (Begins-append g.O.Output.keeps c.in_ok-print_imported_interfaces.ensures.ok (Begins-more g.O.Output.keeps called begun))
 
 pub returns-in_err-print_imported_functions-clause-err : goal.returns-in_err-print_imported_functions-clause-err
 returns-in_err-print_imported_functions-clause-err g c =
     let w = c.args.world.now in
-    let moved = subst (λ b. Moves g.O.Output.keeps (g.O.Output.view c.print_imported_interfaces.new.output) (members_calls c.args.emits_docs b (world_type_members c.args.resolve.now c.args.here c.args.id w)) (g.O.Output.view c.print_world_types.new.output)) c.has_interfaces-is_begun.ensures c.in_ok-has_types.ensures.ok in
-    at_err c.from_residual-in_err-print_imported_functions.result (Begins-append g.O.Output.keeps c.in_ok-print_imported_interfaces.ensures.ok (Begins-append g.O.Output.keeps moved c.in_err-print_imported_functions.ensures.err))
+    let moved = subst (λ b. Moves g.O.Output.keeps (g.O.Output.view c.print_imported_interfaces.new.output)
+    (members_calls c.args.emits_docs b (world_type_members c.args.resolve.now c.args.here c.args.id w)) (g.O.Output.view c.print_world_types.new.output)) c.has_interfaces-is_begun.ensures
+    c.in_ok-has_types.ensures.ok in
+    at_err c.from_residual-in_err-print_imported_functions.result (Begins-append g.O.Output.keeps c.in_ok-print_imported_interfaces.ensures.ok
+    (Begins-append g.O.Output.keeps moved c.in_err-print_imported_functions.ensures.err))
 
 pub returns-clause-ok : goal.returns-clause-ok
 returns-clause-ok g c =
     let w = c.args.world.now in
-    let moved = subst (λ b. Moves g.O.Output.keeps (g.O.Output.view c.print_imported_interfaces.new.output) (members_calls c.args.emits_docs b (world_type_members c.args.resolve.now c.args.here c.args.id w)) (g.O.Output.view c.print_world_types.new.output)) c.has_interfaces-is_begun.ensures c.in_ok-has_types.ensures.ok in
+    let moved = subst (λ b. Moves g.O.Output.keeps (g.O.Output.view c.print_imported_interfaces.new.output)
+    (members_calls c.args.emits_docs b (world_type_members c.args.resolve.now c.args.here c.args.id w)) (g.O.Output.view c.print_world_types.new.output)) c.has_interfaces-is_begun.ensures
+    c.in_ok-has_types.ensures.ok in
     Moves-append g.O.Output.keeps c.in_ok-print_imported_interfaces.ensures.ok (Moves-append g.O.Output.keeps moved c.in_ok-print_imported_functions.ensures.ok)
 
 pub returns-clause-printed : goal.returns-clause-printed

@@ -13,26 +13,33 @@ pub returns-in_err-has_imports-clause-err : goal.returns-in_err-has_imports-clau
 returns-in_err-has_imports-clause-err g c =
     let w = c.args.world.now in
     let exported = flat_map (entry_calls c.args.emits_docs c.args.resolve.now c.args.here (codes "export")) w.exports.entries in
-    at_err c.from_residual.result (Begins-more g.O.Output.keeps (line_between (printed_imports c.args.resolve.now c.args.here c.args.id w && has_items w.exports.entries) ++ exported) c.in_err-has_imports.ensures.err)
+    at_err c.from_residual.result (Begins-more g.O.Output.keeps (line_between (printed_imports c.args.resolve.now c.args.here c.args.id w && has_items w.exports.entries) ++ exported)
+    c.in_err-has_imports.ensures.err)
 
 pub returns-in_err-print_line_between-clause-err : goal.returns-in_err-print_line_between-clause-err
 returns-in_err-print_line_between-clause-err g c =
     let w = c.args.world.now in
     let exported = flat_map (entry_calls c.args.emits_docs c.args.resolve.now c.args.here (codes "export")) w.exports.entries in
-    let is = c.both-is_between.ensures ∙ ap (λ b. b && c.has_items.result) c.in_ok-has_imports.ensures.printed ∙ ap (λ b. printed_imports c.args.resolve.now c.args.here c.args.id w && b) c.has_items.ensures in
-    let begun = subst (λ b. Begins g.O.Output.keeps (g.O.Output.view c.print_imports.new.output) (line_between b) (g.O.Output.view c.print_line_between.new.output)) is c.in_err-print_line_between.ensures.err in
+    let is = c.both-is_between.ensures ∙ ap (λ b. b && c.has_items.result) c.in_ok-has_imports.ensures.printed ∙ ap (λ b. printed_imports c.args.resolve.now c.args.here c.args.id w && b)
+    c.has_items.ensures in
+    let begun = subst (λ b. Begins g.O.Output.keeps (g.O.Output.view c.print_imports.new.output) (line_between b) (g.O.Output.view c.print_line_between.new.output)) is
+    c.in_err-print_line_between.ensures.err in
     at_err c.from_residual-in_err-print_line_between.result (Begins-append g.O.Output.keeps c.in_ok-has_imports.ensures.ok (Begins-more g.O.Output.keeps exported begun))
 
 pub returns-clause-ok : goal.returns-clause-ok
 returns-clause-ok g c =
     let w = c.args.world.now in
-    let is = c.both-is_between.ensures ∙ ap (λ b. b && c.has_items.result) c.in_ok-has_imports.ensures.printed ∙ ap (λ b. printed_imports c.args.resolve.now c.args.here c.args.id w && b) c.has_items.ensures in
-    let moved = subst (λ b. Moves g.O.Output.keeps (g.O.Output.view c.print_imports.new.output) (line_between b) (g.O.Output.view c.print_line_between.new.output)) is c.in_ok-print_line_between.ensures.ok in
+    let is = c.both-is_between.ensures ∙ ap (λ b. b && c.has_items.result) c.in_ok-has_imports.ensures.printed ∙ ap (λ b. printed_imports c.args.resolve.now c.args.here c.args.id w && b)
+    c.has_items.ensures in
+    let moved = subst (λ b. Moves g.O.Output.keeps (g.O.Output.view c.print_imports.new.output) (line_between b) (g.O.Output.view c.print_line_between.new.output)) is
+    c.in_ok-print_line_between.ensures.ok in
     on_ok c.print_exports.result (λ m. Moves-append g.O.Output.keeps c.in_ok-has_imports.ensures.ok (Moves-append g.O.Output.keeps moved m)) c.print_exports.ensures.ok
 
 pub returns-clause-err : goal.returns-clause-err
 returns-clause-err g c =
     let w = c.args.world.now in
-    let is = c.both-is_between.ensures ∙ ap (λ b. b && c.has_items.result) c.in_ok-has_imports.ensures.printed ∙ ap (λ b. printed_imports c.args.resolve.now c.args.here c.args.id w && b) c.has_items.ensures in
-    let moved = subst (λ b. Moves g.O.Output.keeps (g.O.Output.view c.print_imports.new.output) (line_between b) (g.O.Output.view c.print_line_between.new.output)) is c.in_ok-print_line_between.ensures.ok in
+    let is = c.both-is_between.ensures ∙ ap (λ b. b && c.has_items.result) c.in_ok-has_imports.ensures.printed ∙ ap (λ b. printed_imports c.args.resolve.now c.args.here c.args.id w && b)
+    c.has_items.ensures in
+    let moved = subst (λ b. Moves g.O.Output.keeps (g.O.Output.view c.print_imports.new.output) (line_between b) (g.O.Output.view c.print_line_between.new.output)) is
+    c.in_ok-print_line_between.ensures.ok in
     on_err c.print_exports.result (λ b. Begins-append g.O.Output.keeps c.in_ok-has_imports.ensures.ok (Begins-append g.O.Output.keeps moved b)) c.print_exports.ensures.err

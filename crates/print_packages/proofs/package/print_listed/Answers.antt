@@ -10,10 +10,12 @@ print_world-requires-clause-world g c =
 
 pub returns-clause-ok : goal.returns-clause-ok
 returns-clause-ok g c =
-    let same = calls_at c.args.emits_docs c.args.resolve.now c.args.here (c.args.name.now, c.args.id.now) c.index-world.result.now c.deref.result.now c.deref.ensures c.index-world.ensures c.requires.printable in
+    let same = calls_at c.args.emits_docs c.args.resolve.now c.args.here (c.args.name.now, c.args.id.now) c.index-world.result.now c.deref.result.now c.deref.ensures c.index-world.ensures
+    c.requires.printable in
     on_ok c.print_world.result (λ m. subst (λ calls. Moves g.O.Output.keeps (g.O.Output.view c.args.output.now) calls (g.O.Output.view c.print_world.new.output)) same m) c.print_world.ensures.ok
 
 pub returns-clause-err : goal.returns-clause-err
 returns-clause-err g c =
-    let same = calls_at c.args.emits_docs c.args.resolve.now c.args.here (c.args.name.now, c.args.id.now) c.index-world.result.now c.deref.result.now c.deref.ensures c.index-world.ensures c.requires.printable in
+    let same = calls_at c.args.emits_docs c.args.resolve.now c.args.here (c.args.name.now, c.args.id.now) c.index-world.result.now c.deref.result.now c.deref.ensures c.index-world.ensures
+    c.requires.printable in
     on_err c.print_world.result (λ b. subst (λ calls. Begins g.O.Output.keeps (g.O.Output.view c.args.output.now) calls (g.O.Output.view c.print_world.new.output)) same b) c.print_world.ensures.err

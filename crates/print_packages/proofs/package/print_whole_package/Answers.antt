@@ -31,13 +31,15 @@ pub returns-clause-ok : goal.returns-clause-ok
 returns-clause-ok g c =
     let at : package_at c.args.resolve.now c.args.here.0 ≡ Some c.index-package.result.now = slice_get_read _ _ _ _ refl c.requires.in_range c.index-package.ensures in
     let same = package_shown_at c.args.emits_docs c.args.is_main c.args.resolve.now c.args.here c.index-package.result.now at in
-    on_ok c.print_listed_package.result (λ m. subst (λ calls. Moves g.O.Output.keeps (g.O.Output.view c.args.output.now) calls (g.O.Output.view c.print_listed_package.new.output)) same m) c.print_listed_package.ensures.ok
+    on_ok c.print_listed_package.result (λ m. subst (λ calls. Moves g.O.Output.keeps (g.O.Output.view c.args.output.now) calls (g.O.Output.view c.print_listed_package.new.output)) same m)
+    c.print_listed_package.ensures.ok
 
 pub returns-clause-err : goal.returns-clause-err
 returns-clause-err g c =
     let at : package_at c.args.resolve.now c.args.here.0 ≡ Some c.index-package.result.now = slice_get_read _ _ _ _ refl c.requires.in_range c.index-package.ensures in
     let same = package_shown_at c.args.emits_docs c.args.is_main c.args.resolve.now c.args.here c.index-package.result.now at in
-    on_err c.print_listed_package.result (λ b. subst (λ calls. Begins g.O.Output.keeps (g.O.Output.view c.args.output.now) calls (g.O.Output.view c.print_listed_package.new.output)) same b) c.print_listed_package.ensures.err
+    on_err c.print_listed_package.result (λ b. subst (λ calls. Begins g.O.Output.keeps (g.O.Output.view c.args.output.now) calls (g.O.Output.view c.print_listed_package.new.output)) same b)
+    c.print_listed_package.ensures.err
 
 pub print_listed_package-requires-clause-interfaces : goal.print_listed_package-requires-clause-interfaces
 print_listed_package-requires-clause-interfaces g c =

@@ -22,7 +22,8 @@ returns-in_err-has_used-clause-err g c =
     let uses = use_members r c.args.here c.args.owner types in
     let declared = declared_members r c.args.owner (map (λ f. f.now) c.args.functions.now) types in
     at_err c.from_residual-in_err-has_used.result
-    (begun_first (members_calls c.args.emits_docs (printed_after c.args.has_printed uses) declared) c.in_err-has_used.ensures.err (sym (members_append c.args.emits_docs c.args.has_printed uses declared)))
+    (begun_first (members_calls c.args.emits_docs (printed_after c.args.has_printed uses) declared) c.in_err-has_used.ensures.err
+    (sym (members_append c.args.emits_docs c.args.has_printed uses declared)))
 
 pub print_declarations-requires-clause-functions : goal.print_declarations-requires-clause-functions
 print_declarations-requires-clause-functions g c =

@@ -22,7 +22,8 @@ print_owned_types-requires-clause-known g c =
 
 pub print_owned_types-requires-clause-functions : goal.print_owned_types-requires-clause-functions
 print_owned_types-requires-clause-functions g c =
-    subst (λ fs. list_all (is_listed_function c.args.resolve.now (owner.World c.args.id)) fs ≡ true) (sym (ap (map (λ f. f.now)) c.deref-2.ensures.value ∙ c.in_ok-functions.ensures)) c.requires.functions
+    subst (λ fs. list_all (is_listed_function c.args.resolve.now (owner.World c.args.id)) fs ≡ true) (sym (ap (map (λ f. f.now)) c.deref-2.ensures.value ∙ c.in_ok-functions.ensures))
+    c.requires.functions
 
 pub returns-clause-ok : goal.returns-clause-ok
 returns-clause-ok g c =
@@ -30,7 +31,8 @@ returns-clause-ok g c =
     let w = c.args.world.now in
     let same = ap (λ ls. type_members r c.args.here (owner.World c.args.id) (map (λ f. f.now) c.deref-2.result.now) ls) (ap listed_of c.deref.ensures.value ∙ c.in_ok-types.ensures)
     ∙ ap (λ fs. type_members r c.args.here (owner.World c.args.id) fs (listed_imports w)) (ap (map (λ f. f.now)) c.deref-2.ensures.value ∙ c.in_ok-functions.ensures) in
-    on_ok c.print_owned_types.result (λ m. subst (λ ms. Moves g.O.Output.keeps (g.O.Output.view c.args.output.now) (members_calls c.args.emits_docs c.args.has_printed ms) (g.O.Output.view c.print_owned_types.new.output)) same m) c.print_owned_types.ensures.ok
+    on_ok c.print_owned_types.result (λ m. subst (λ ms. Moves g.O.Output.keeps (g.O.Output.view c.args.output.now) (members_calls c.args.emits_docs c.args.has_printed ms)
+    (g.O.Output.view c.print_owned_types.new.output)) same m) c.print_owned_types.ensures.ok
 
 pub returns-clause-err : goal.returns-clause-err
 returns-clause-err g c =
@@ -38,7 +40,8 @@ returns-clause-err g c =
     let w = c.args.world.now in
     let same = ap (λ ls. type_members r c.args.here (owner.World c.args.id) (map (λ f. f.now) c.deref-2.result.now) ls) (ap listed_of c.deref.ensures.value ∙ c.in_ok-types.ensures)
     ∙ ap (λ fs. type_members r c.args.here (owner.World c.args.id) fs (listed_imports w)) (ap (map (λ f. f.now)) c.deref-2.ensures.value ∙ c.in_ok-functions.ensures) in
-    on_err c.print_owned_types.result (λ b. subst (λ ms. Begins g.O.Output.keeps (g.O.Output.view c.args.output.now) (members_calls c.args.emits_docs c.args.has_printed ms) (g.O.Output.view c.print_owned_types.new.output)) same b) c.print_owned_types.ensures.err
+    on_err c.print_owned_types.result (λ b. subst (λ ms. Begins g.O.Output.keeps (g.O.Output.view c.args.output.now) (members_calls c.args.emits_docs c.args.has_printed ms)
+    (g.O.Output.view c.print_owned_types.new.output)) same b) c.print_owned_types.ensures.err
 
 pub returns-clause-printed : goal.returns-clause-printed
 returns-clause-printed g c =

@@ -10,4 +10,7 @@ pub returns : goal.returns
 returns g c =
     let prefix = shown_prefix c.args.docs.now c.args.stability.now c.args.external_id.now in
     let path = shown_path c.args.resolve.now c.args.here c.args.id in
-    record { calls = driven_on c.write_front.ensures.calls c.write_labelled_path.ensures.calls (append_assoc (prefix_calls c.args.emits_docs prefix) (Keyword c.args.word.now ∷ space ∷ []) (extern_calls true (NamedPath c.args.label.now path))) }
+    record {
+      calls = driven_on c.write_front.ensures.calls c.write_labelled_path.ensures.calls
+          (append_assoc (prefix_calls c.args.emits_docs prefix) (Keyword c.args.word.now ∷ space ∷ []) (extern_calls true (NamedPath c.args.label.now path)));
+    }

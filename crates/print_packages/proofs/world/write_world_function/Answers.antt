@@ -15,5 +15,6 @@ returns g c =
     let prefix = prefix_calls c.args.emits_docs (function_prefix f) in
     record {
       calls = driven_on c.write_front.ensures.calls c.write_named.ensures.calls
-          (append_assoc prefix (Keyword word ∷ space ∷ []) (named_calls c.deref.result.now Other signature) ∙ ap (λ name. prefix ++ (Keyword word ∷ space ∷ named_calls name Other signature)) c.deref.ensures);
+          (append_assoc prefix (Keyword word ∷ space ∷ []) (named_calls c.deref.result.now Other signature) ∙ ap (λ name. prefix ++ (Keyword word ∷ space ∷ named_calls name Other signature))
+          c.deref.ensures);
     }

@@ -12,5 +12,7 @@ pub returns-clause-calls : goal.returns-clause-calls
 returns-clause-calls g c =
     let name = c.args.name.now in
     driven4 c.name.ensures.calls c.str.ensures.calls c.name-2.ensures.calls c.str-2.ensures.calls
-    (ap (λ namespace. let calls : List OutputCall = Ty (escaped namespace) NamespacePath ∷ Str (codes ":") ∷ Ty (escaped c.deref-2.result.now) PackageNamePath ∷ Str (codes "/") ∷ [] in calls) c.deref.ensures
-    ∙ ap (λ own. let calls : List OutputCall = Ty (escaped (text_of name.namespace)) NamespacePath ∷ Str (codes ":") ∷ Ty (escaped own) PackageNamePath ∷ Str (codes "/") ∷ [] in calls) c.deref-2.ensures)
+    (ap (λ namespace. let calls : List OutputCall = Ty (escaped namespace) NamespacePath ∷ Str (codes ":") ∷ Ty (escaped c.deref-2.result.now) PackageNamePath ∷ Str (codes "/") ∷ [] in calls)
+    c.deref.ensures
+    ∙ ap (λ own. let calls : List OutputCall = Ty (escaped (text_of name.namespace)) NamespacePath ∷ Str (codes ":") ∷ Ty (escaped own) PackageNamePath ∷ Str (codes "/") ∷ [] in calls)
+    c.deref-2.ensures)

@@ -21,16 +21,20 @@ print_listed_use-requires-clause-known g c = known_here c.args.types.now c.loop-
 pub returns-in_err-next-clause-err : goal.returns-in_err-next-clause-err
 returns-in_err-next-clause-err g c =
     at_err c.from_residual.result
-    (subst (λ calls. Begins g.O.Output.keeps (g.O.Output.view c.args.output.now) calls (g.O.Output.view c.print_listed_use.new.output)) (all_uses c.args.resolve.now c.args.owner c.args.emits_docs c.args.has_printed c.args.here (listed_of c.args.types.now))
-    (use_refused c.args.types.now c.loop-listed.listed-index _ c.loop-listed-test.true c.args.resolve.now c.args.owner (shown_path c.args.resolve.now c.args.here) (option_map shown_use c.loop-listed.last) c.loop-listed.invariant.going c.in_err-next.ensures.err))
+    (subst (λ calls. Begins g.O.Output.keeps (g.O.Output.view c.args.output.now) calls (g.O.Output.view c.print_listed_use.new.output))
+    (all_uses c.args.resolve.now c.args.owner c.args.emits_docs c.args.has_printed c.args.here (listed_of c.args.types.now))
+    (use_refused c.args.types.now c.loop-listed.listed-index _ c.loop-listed-test.true c.args.resolve.now c.args.owner (shown_path c.args.resolve.now c.args.here)
+    (option_map shown_use c.loop-listed.last) c.loop-listed.invariant.going c.in_err-next.ensures.err))
 
 pub loop-listed-preserved : goal.loop-listed-preserved
 loop-listed-preserved g c =
     let r = c.args.resolve.now in
     let before = option_map shown_use c.loop-listed.last in
     record {
-      going = use_made c.args.types.now c.loop-listed.listed-index _ c.loop-listed-test.true r c.args.owner (shown_path r c.args.here) before (option_map shown_use c.in_ok-next.next) c.loop-listed.invariant.going c.in_ok-next.ensures.after c.in_ok-next.ensures.ok;
-      printed = uses_some c.args.types.now c.loop-listed.listed-index _ c.loop-listed-test.true r c.args.owner before (option_map shown_use c.in_ok-next.next) _ c.loop-listed.invariant.printed c.in_ok-next.ensures.after;
+      going = use_made c.args.types.now c.loop-listed.listed-index _ c.loop-listed-test.true r c.args.owner (shown_path r c.args.here) before (option_map shown_use c.in_ok-next.next)
+          c.loop-listed.invariant.going c.in_ok-next.ensures.after c.in_ok-next.ensures.ok;
+      printed = uses_some c.args.types.now c.loop-listed.listed-index _ c.loop-listed-test.true r c.args.owner before (option_map shown_use c.in_ok-next.next) _ c.loop-listed.invariant.printed
+          c.in_ok-next.ensures.after;
       known = known_after c.args.types.now c.loop-listed.listed-index c.loop-listed-test.true r c.args.owner c.loop-listed.invariant.known;
       printable = c.in_ok-next.ensures.printable;
     }
@@ -42,7 +46,8 @@ returns-in_err-print_open_end-clause-err g c =
     let before = option_map shown_use c.loop-listed.last in
     let none = drop_all c.loop-listed.listed-index c.args.types.now c.loop-listed-test.false in
     at_err c.from_residual-in_err-print_open_end.result
-    (subst (λ calls. Begins g.O.Output.keeps (g.O.Output.view c.args.output.now) calls (g.O.Output.view c.print_open_end.new.output)) (all_uses r c.args.owner c.args.emits_docs c.args.has_printed c.args.here (listed_of c.args.types.now))
+    (subst (λ calls. Begins g.O.Output.keeps (g.O.Output.view c.args.output.now) calls (g.O.Output.view c.print_open_end.new.output))
+    (all_uses r c.args.owner c.args.emits_docs c.args.has_printed c.args.here (listed_of c.args.types.now))
     (refused_in (open_end_calls before) [] c.loop-listed.invariant.going
     (ap (λ ts. uses_calls path before (filter_map (listed_use r c.args.owner) (listed_of ts))) none ∙ sym (append-nil (open_end_calls before)))
     c.in_err-print_open_end.ensures.err))
@@ -53,7 +58,8 @@ returns-clause-ok g c =
     let path = shown_path r c.args.here in
     let before = option_map shown_use c.loop-listed.last in
     let none = drop_all c.loop-listed.listed-index c.args.types.now c.loop-listed-test.false in
-    subst (λ calls. Moves g.O.Output.keeps (g.O.Output.view c.args.output.now) calls (g.O.Output.view c.print_open_end.new.output)) (all_uses r c.args.owner c.args.emits_docs c.args.has_printed c.args.here (listed_of c.args.types.now))
+    subst (λ calls. Moves g.O.Output.keeps (g.O.Output.view c.args.output.now) calls (g.O.Output.view c.print_open_end.new.output))
+    (all_uses r c.args.owner c.args.emits_docs c.args.has_printed c.args.here (listed_of c.args.types.now))
     (made_all (made_on (open_end_calls before) [] c.loop-listed.invariant.going
     (ap (λ ts. uses_calls path before (filter_map (listed_use r c.args.owner) (listed_of ts))) none ∙ sym (append-nil (open_end_calls before)))
     c.in_ok-print_open_end.ensures.ok) refl)

@@ -10,8 +10,10 @@ use Rattle.print_uses.proofs.use_group.print_uses.Given as goal
 
 abbrev pub invariant-loop-listed : goal.invariant-loop-listed
 invariant-loop-listed g l = record {
-  going : Going g.O.Output.keeps (uses_calls (shown_path l.resolve l.here) (option_map shown_use l.last) (filter_map (listed_use l.resolve l.owner) (listed_of (drop l.listed-index l.types)))) (uses_calls (shown_path l.resolve l.here) None (filter_map (listed_use l.resolve l.owner) (listed_of l.types))) (g.O.Output.view l.fn.output) (g.O.Output.view l.output);
-  printed : (is_some (option_map shown_use l.last) || has_items (filter_map (listed_use l.resolve l.owner) (listed_of (drop l.listed-index l.types)))) ≡ has_items (filter_map (listed_use l.resolve l.owner) (listed_of l.types));
+  going : Going g.O.Output.keeps (uses_calls (shown_path l.resolve l.here) (option_map shown_use l.last) (filter_map (listed_use l.resolve l.owner) (listed_of (drop l.listed-index l.types))))
+      (uses_calls (shown_path l.resolve l.here) None (filter_map (listed_use l.resolve l.owner) (listed_of l.types))) (g.O.Output.view l.fn.output) (g.O.Output.view l.output);
+  printed : (is_some (option_map shown_use l.last) || has_items (filter_map (listed_use l.resolve l.owner) (listed_of (drop l.listed-index l.types)))) ≡ has_items
+      (filter_map (listed_use l.resolve l.owner) (listed_of l.types));
   known : list_all (is_listed_type l.resolve l.owner) (listed_of (drop l.listed-index l.types)) ≡ true;
   printable : passes (is_printable_use l.resolve l.here) l.last ≡ true;
 }

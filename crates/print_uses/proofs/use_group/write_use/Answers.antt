@@ -23,10 +23,14 @@ pub write_one_more-requires-clause-other : goal.write_one_more-requires-clause-o
 write_one_more-requires-clause-other g c = let labels = use_labels c.args.resolve.now c.args.here c.args.used c.requires.printable in labels.1
 
 pub returns-in-None-clause-calls : goal.returns-in-None-clause-calls
-returns-in-None-clause-calls g c = driven_as c.write_new_group.ensures.calls (run_first (shown_path c.args.resolve.now c.args.here) (option_map shown_use c.args.before) (shown_use c.args.used) (ap (option_map shown_use) c.in-None.is))
+returns-in-None-clause-calls g c = driven_as c.write_new_group.ensures.calls
+    (run_first (shown_path c.args.resolve.now c.args.here) (option_map shown_use c.args.before) (shown_use c.args.used) (ap (option_map shown_use) c.in-None.is))
 
 pub returns-then-same_group-clause-calls : goal.returns-then-same_group-clause-calls
-returns-then-same_group-clause-calls g c = driven_as c.write_one_more.ensures.calls (run_joined (shown_path c.args.resolve.now c.args.here) (option_map shown_use c.args.before) (shown_use c.args.used) (shown_use c.in-Some.other) (ap (option_map shown_use) c.in-Some.is) (sym c.same_group.ensures ∙ c.if-same_group.true))
+returns-then-same_group-clause-calls g c = driven_as c.write_one_more.ensures.calls
+    (run_joined (shown_path c.args.resolve.now c.args.here) (option_map shown_use c.args.before) (shown_use c.args.used) (shown_use c.in-Some.other) (ap (option_map shown_use) c.in-Some.is)
+    (sym c.same_group.ensures ∙ c.if-same_group.true))
 
 pub returns-clause-calls : goal.returns-clause-calls
-returns-clause-calls g c = driven_as c.write_next_group.ensures.calls (run_next (shown_path c.args.resolve.now c.args.here) (option_map shown_use c.args.before) (shown_use c.args.used) (shown_use c.in-Some.other) (ap (option_map shown_use) c.in-Some.is) (sym c.same_group.ensures ∙ c.if-same_group.false))
+returns-clause-calls g c = driven_as c.write_next_group.ensures.calls (run_next (shown_path c.args.resolve.now c.args.here) (option_map shown_use c.args.before) (shown_use c.args.used)
+    (shown_use c.in-Some.other) (ap (option_map shown_use) c.in-Some.is) (sym c.same_group.ensures ∙ c.if-same_group.false))

@@ -11,4 +11,5 @@ returns-in_err-rest c =
     given ∙ then_none (marked_by (45 ∷ []) (pre_text c.args.version.now.pre)) (marked_by (43 ∷ []) (build_text c.args.version.now.build)) c.args.text.now (search rules)
 
 pub returns : goal.returns
-returns c = then_some (marked_by (45 ∷ []) (pre_text c.args.version.now.pre)) (marked_by (43 ∷ []) (build_text c.args.version.now.build)) c.args.text.now c.in_ok-rest.rest.now (option_copied c.after_identifier-2.result) (search rules) (search rules)
+returns c = then_some (marked_by (45 ∷ []) (pre_text c.args.version.now.pre)) (marked_by (43 ∷ []) (build_text c.args.version.now.build)) c.args.text.now c.in_ok-rest.rest.now
+    (option_copied c.after_identifier-2.result) (search rules) (search rules)

@@ -10,4 +10,5 @@ returns-in_err-rest c =
     given ∙ then_none ((decimal c.args.version.now.major ++ (46 ∷ [])) ++ (decimal c.args.version.now.minor ++ (46 ∷ []))) (decimal c.args.version.now.patch) c.args.text.now (search rules)
 
 pub returns : goal.returns
-returns c = then_some ((decimal c.args.version.now.major ++ (46 ∷ [])) ++ (decimal c.args.version.now.minor ++ (46 ∷ []))) (decimal c.args.version.now.patch) c.args.text.now c.in_ok-rest.rest.now (option_copied c.after_number.result) (search rules) c.after_number.ensures
+returns c = then_some ((decimal c.args.version.now.major ++ (46 ∷ [])) ++ (decimal c.args.version.now.minor ++ (46 ∷ []))) (decimal c.args.version.now.patch) c.args.text.now c.in_ok-rest.rest.now
+    (option_copied c.after_number.result) (search rules) c.after_number.ensures

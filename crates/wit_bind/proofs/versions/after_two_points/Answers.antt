@@ -10,4 +10,5 @@ returns-in_err-rest c =
     given ∙ then_none (decimal c.args.first ++ (46 ∷ [])) (decimal c.args.second ++ (46 ∷ [])) c.args.text.now (search rules)
 
 pub returns : goal.returns
-returns c = then_some (decimal c.args.first ++ (46 ∷ [])) (decimal c.args.second ++ (46 ∷ [])) c.args.text.now c.in_ok-rest.rest.now (option_copied c.after_point-2.result) (search rules) c.after_point-2.ensures
+returns c = then_some (decimal c.args.first ++ (46 ∷ [])) (decimal c.args.second ++ (46 ∷ [])) c.args.text.now c.in_ok-rest.rest.now (option_copied c.after_point-2.result) (search rules)
+    c.after_point-2.ensures

@@ -10,4 +10,5 @@ returns-in_err-rest c =
     given ∙ then_none (numbers_of c.args.version.now) (identifiers_of c.args.version.now) c.args.text.now (search rules)
 
 pub returns : goal.returns
-returns c = then_some (numbers_of c.args.version.now) (identifiers_of c.args.version.now) c.args.text.now c.in_ok-rest.rest.now (option_copied c.after_identifiers.result) (search rules) c.after_identifiers.ensures
+returns c = then_some (numbers_of c.args.version.now) (identifiers_of c.args.version.now) c.args.text.now c.in_ok-rest.rest.now (option_copied c.after_identifiers.result) (search rules)
+    c.after_identifiers.ensures

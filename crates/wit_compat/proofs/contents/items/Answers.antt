@@ -21,7 +21,8 @@ loop-key-preserved c =
     let next = rest_more deref_pair c.loop-key.key-iterator c.next.new.self c.next.result (c.in-Some.key, item) c.in-Some.is c.next.ensures.steps in
     let range = rest_in_range r made c.loop-key.key-iterator c.next.new.self c.args.list.now.entries c.in-Some.key.now item.now c.loop-key.invariant.split next c.loop-key.invariant.left in
     record {
-      split = put_split r made c.loop-key.key-iterator c.next.new.self c.args.list.now.entries c.in-Some.key.now item.now c.loop-key.invariant.split next key item _ c.in_ok-text.ensures refl c.in_ok-put.ensures;
+      split = put_split r made c.loop-key.key-iterator c.next.new.self c.args.list.now.entries c.in-Some.key.now item.now c.loop-key.invariant.split next key item _ c.in_ok-text.ensures refl
+          c.in_ok-put.ensures;
       made = put_in_range r made _ key item c.in_ok-put.ensures c.loop-key.invariant.made range.0;
       left = range.1;
     }

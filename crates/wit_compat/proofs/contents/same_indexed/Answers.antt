@@ -66,5 +66,8 @@ returns-clause-exact c =
     let f = λ (i : Bor WorldItem). entry_sense (entry_meaning c.args.left.now.resolve.now i.now) in
     let g = λ (i : Bor WorldItem). entry_sense (entry_meaning c.args.right.now.resolve.now i.now) in
     let none = rest_all deref_pair c.loop-key.key-iterator c.next.new.self c.next.result c.in-None.is c.next.ensures.steps in
-    let same : length es ≡ length fs = search rules in
-    (λ t. at_end text_of f (map (entry text_of g) fs) es c.loop-key.key-iterator c.loop-key.invariant.along none (same ∙ sym (length-map fs (entry text_of g))) (distinct-texts (keys c.args.items.now) c.len.ensures.unique), λ same. refl)
+    let same : length es ≡ length fs = search rules in (
+      λ t. at_end text_of f (map (entry text_of g) fs) es c.loop-key.key-iterator c.loop-key.invariant.along none (same ∙ sym (length-map fs (entry text_of g)))
+          (distinct-texts (keys c.args.items.now) c.len.ensures.unique),
+      λ same. refl,
+    )

@@ -27,7 +27,8 @@ returns-in-Some-clause-exact c =
     let others = c.args.others.now in
     let key = text_of c.args.key.now in
     let found : get_by_text others key ≡ Some c.in-Some.other.now = ap (get_by_text others) (sym c.as_str.ensures.value) ∙ sym c.get.ensures.value ∙ ap option_copied c.in-Some.is in
-    in_ok _ _ (λ y h. found_exact (λ (other : Bor WorldItem). entry_sense (entry_meaning b other.now)) (entry_sense (entry_meaning a c.args.item.now)) (get_by_text others key) c.in-Some.other.now y found h)
+    in_ok _ _ (λ y h. found_exact (λ (other : Bor WorldItem). entry_sense (entry_meaning b other.now)) (entry_sense (entry_meaning a c.args.item.now)) (get_by_text others key)
+    c.in-Some.other.now y found h)
     c.same_items.result c.same_items.ensures.exact
 
 pub returns-in-None-clause-exact : goal.returns-in-None-clause-exact

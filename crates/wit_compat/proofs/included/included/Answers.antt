@@ -58,7 +58,8 @@ loop-entry-preserved c =
     record {
       settled = c.in_default.ensures.settled;
       stand = subst (AllStand r c.args.back large new) (sym more)
-          (stand_more r c.args.back large c.loop-entry.pairs.keys new (take i es) e c.loop-entry.invariant.stand c.check_entry-checked.ensures.kept (c.in_default.ensures.stands, c.in_default.ensures.holds));
+          (stand_more r c.args.back large c.loop-entry.pairs.keys new (take i es) e c.loop-entry.invariant.stand c.check_entry-checked.ensures.kept
+          (c.in_default.ensures.stands, c.in_default.ensures.holds));
       kept = λ p d. c.check_entry-checked.ensures.kept p (c.loop-entry.invariant.kept p d);
       reached = reached_more r c.args.back large c.args.pairs.now.keys c.loop-entry.pairs.keys new es e at c.loop-entry.invariant.reached c.check_entry-checked.ensures.reached;
     }
@@ -68,11 +69,13 @@ returns-clause-includes c =
     let es = c.args.small.now in
     let past : length es ≤ c.loop-entry.entry-index = search rules in
     let all : take c.loop-entry.entry-index es ≡ es = take_all c.loop-entry.entry-index es past in
-    all_included c.args.resolve.now c.args.back (indexed c.args.large.now.entries) c.loop-entry.pairs.keys es (subst (AllStand c.args.resolve.now c.args.back (indexed c.args.large.now.entries) c.loop-entry.pairs.keys) all c.loop-entry.invariant.stand)
+    all_included c.args.resolve.now c.args.back (indexed c.args.large.now.entries) c.loop-entry.pairs.keys es
+    (subst (AllStand c.args.resolve.now c.args.back (indexed c.args.large.now.entries) c.loop-entry.pairs.keys) all c.loop-entry.invariant.stand)
 
 pub returns-clause-holds : goal.returns-clause-holds
 returns-clause-holds c =
     let es = c.args.small.now in
     let past : length es ≤ c.loop-entry.entry-index = search rules in
     let all : take c.loop-entry.entry-index es ≡ es = take_all c.loop-entry.entry-index es past in
-    all_hold c.args.resolve.now c.args.back (indexed c.args.large.now.entries) c.loop-entry.pairs.keys es (subst (AllStand c.args.resolve.now c.args.back (indexed c.args.large.now.entries) c.loop-entry.pairs.keys) all c.loop-entry.invariant.stand)
+    all_hold c.args.resolve.now c.args.back (indexed c.args.large.now.entries) c.loop-entry.pairs.keys es
+    (subst (AllStand c.args.resolve.now c.args.back (indexed c.args.large.now.entries) c.loop-entry.pairs.keys) all c.loop-entry.invariant.stand)

@@ -19,7 +19,8 @@ returns-in-Some-clause-exact c =
     let others = c.args.others.now in
     let name = text_of c.args.name.now in
     let found : get_by_text others name ≡ Some c.in-Some.other.now = ap (get_by_text others) (sym c.as_str.ensures.value) ∙ sym c.get.ensures.value ∙ ap option_copied c.in-Some.is in
-    in_ok _ _ (λ y h. found_exact (function_meaning c.args.right.now.resolve.now) (function_meaning c.args.left.now.resolve.now c.args.function.now) (get_by_text others name) c.in-Some.other.now y found h)
+    in_ok _ _ (λ y h. found_exact (function_meaning c.args.right.now.resolve.now) (function_meaning c.args.left.now.resolve.now c.args.function.now) (get_by_text others name)
+    c.in-Some.other.now y found h)
     c.same_function_senses.result c.same_function_senses.ensures.exact
 
 pub returns-in-None-clause-exact : goal.returns-in-None-clause-exact

@@ -31,7 +31,8 @@ pub same_function_under-requires-clause-function : goal.same_function_under-requ
 same_function_under-requires-clause-function c =
     let es = c.args.functions.now.entries in
     let next = rest_more deref_pair c.loop-name.name-iterator c.next.new.self c.next.result (c.in-Some.name, c.in-Some.function) c.in-Some.is c.next.ensures.steps in
-    c.requires.functions c.in-Some.function.now (contains-map (λ e. e.1) es (c.in-Some.name.now, c.in-Some.function.now) (next_there text_of _ _ es c.loop-name.name-iterator c.next.new.self c.in-Some.name.now c.in-Some.function.now c.loop-name.invariant.along next))
+    c.requires.functions c.in-Some.function.now (contains-map (λ e. e.1) es (c.in-Some.name.now, c.in-Some.function.now)
+    (next_there text_of _ _ es c.loop-name.name-iterator c.next.new.self c.in-Some.name.now c.in-Some.function.now c.loop-name.invariant.along next))
 
 pub returns-then-not-branch-clause-exact : goal.returns-then-not-branch-clause-exact
 returns-then-not-branch-clause-exact c =
@@ -64,5 +65,8 @@ returns-clause-exact c =
     let f = function_meaning c.args.left.now.resolve.now in
     let g = function_meaning c.args.right.now.resolve.now in
     let none = rest_all deref_pair c.loop-name.name-iterator c.next.new.self c.next.result c.in-None.is c.next.ensures.steps in
-    let same : length es ≡ length fs = search rules in
-    (λ t. at_end text_of f (map (entry text_of g) fs) es c.loop-name.name-iterator c.loop-name.invariant.along none (same ∙ sym (length-map fs (entry text_of g))) (distinct-texts (keys c.args.functions.now) c.len.ensures.unique), λ same. refl)
+    let same : length es ≡ length fs = search rules in (
+      λ t. at_end text_of f (map (entry text_of g) fs) es c.loop-name.name-iterator c.loop-name.invariant.along none (same ∙ sym (length-map fs (entry text_of g)))
+          (distinct-texts (keys c.args.functions.now) c.len.ensures.unique),
+      λ same. refl,
+    )

@@ -6,7 +6,8 @@ use Rattle.wit_compat.proofs.interfaces.same_interfaces.Goals as goal
 use Rattle.base_lemmas.proofs.Options.{if_ok as in_ok}
 
 pub same_members-requires-clause-a : goal.same_members-requires-clause-a
-same_members-requires-clause-a c = has_types c.args.left.now.resolve.now c.requires.left.valid c.args.a.0 c.index-interface.result.now (slice_get_read _ _ _ _ refl c.requires.a c.index-interface.ensures)
+same_members-requires-clause-a c = has_types c.args.left.now.resolve.now c.requires.left.valid c.args.a.0 c.index-interface.result.now
+    (slice_get_read _ _ _ _ refl c.requires.a c.index-interface.ensures)
 
 pub same_members-requires-clause-b : goal.same_members-requires-clause-b
 same_members-requires-clause-b c = has_types c.args.right.now.resolve.now c.requires.right.valid c.args.b.0 c.index-other.result.now (slice_get_read _ _ _ _ refl c.requires.b c.index-other.ensures)

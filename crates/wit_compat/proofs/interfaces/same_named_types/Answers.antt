@@ -32,7 +32,8 @@ pub same_type_under-requires-clause-id : goal.same_type_under-requires-clause-id
 same_type_under-requires-clause-id c =
     let es = c.args.types.now.entries in
     let next = rest_more deref_pair c.loop-name.name-iterator c.next.new.self c.next.result (c.in-Some.name, c.in-Some.id) c.in-Some.is c.next.ensures.steps in
-    c.requires.types c.in-Some.id.now (contains-map (λ e. e.1) es (c.in-Some.name.now, c.in-Some.id.now) (next_there text_of _ _ es c.loop-name.name-iterator c.next.new.self c.in-Some.name.now c.in-Some.id.now c.loop-name.invariant.along next))
+    c.requires.types c.in-Some.id.now (contains-map (λ e. e.1) es (c.in-Some.name.now, c.in-Some.id.now)
+    (next_there text_of _ _ es c.loop-name.name-iterator c.next.new.self c.in-Some.name.now c.in-Some.id.now c.loop-name.invariant.along next))
 
 pub returns-then-not-branch-clause-exact : goal.returns-then-not-branch-clause-exact
 returns-then-not-branch-clause-exact c =
@@ -65,5 +66,8 @@ returns-clause-exact c =
     let f = λ (id : TypeId). type_meaning_at c.args.left.now.resolve.now id.0 in
     let g = λ (id : TypeId). type_meaning_at c.args.right.now.resolve.now id.0 in
     let none = rest_all deref_pair c.loop-name.name-iterator c.next.new.self c.next.result c.in-None.is c.next.ensures.steps in
-    let same : length es ≡ length fs = search rules in
-    (λ t. at_end text_of f (map (entry text_of g) fs) es c.loop-name.name-iterator c.loop-name.invariant.along none (same ∙ sym (length-map fs (entry text_of g))) (distinct-texts (keys c.args.types.now) c.len.ensures.unique), λ same. refl)
+    let same : length es ≡ length fs = search rules in (
+      λ t. at_end text_of f (map (entry text_of g) fs) es c.loop-name.name-iterator c.loop-name.invariant.along none (same ∙ sym (length-map fs (entry text_of g)))
+          (distinct-texts (keys c.args.types.now) c.len.ensures.unique),
+      λ same. refl,
+    )

@@ -20,7 +20,8 @@ returns-in-Some-clause-exact c =
     let others = c.args.others.now in
     let name = text_of c.args.name.now in
     let found : get_by_text others name ≡ Some c.in-Some.other.now = ap (get_by_text others) (sym c.as_str.ensures.value) ∙ sym c.get.ensures.value ∙ ap option_copied c.in-Some.is in
-    in_ok _ _ (λ y h. found_exact (λ (id : TypeId). type_meaning_at c.args.right.now.resolve.now id.0) (type_meaning_at c.args.left.now.resolve.now c.args.id.0) (get_by_text others name) c.in-Some.other.now y found h)
+    in_ok _ _ (λ y h. found_exact (λ (id : TypeId). type_meaning_at c.args.right.now.resolve.now id.0) (type_meaning_at c.args.left.now.resolve.now c.args.id.0) (get_by_text others name)
+    c.in-Some.other.now y found h)
     c.same_type_meanings.result c.same_type_meanings.ensures.exact
 
 pub returns-in-None-clause-exact : goal.returns-in-None-clause-exact

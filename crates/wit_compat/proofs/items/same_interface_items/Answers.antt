@@ -22,4 +22,5 @@ returns-in-Some-path_at-2-clause-exact c =
 pub returns-in-None-path_at-2-clause-exact : goal.returns-in-None-path_at-2-clause-exact
 returns-in-None-path_at-2-clause-exact c =
     in_ok _ _ (λ y. both_inline c.args.left.now.resolve.now c.args.right.now.resolve.now c.args.a.0 c.args.b.0 y
-    (sym c.path_at.ensures.path ∙ ap (option_map path_text) c.in-None.is) (sym c.path_at-in-None.ensures.path ∙ ap (option_map path_text) c.in-None-path_at-2.is)) c.same_interfaces.result c.same_interfaces.ensures.exact
+    (sym c.path_at.ensures.path ∙ ap (option_map path_text) c.in-None.is) (sym c.path_at-in-None.ensures.path ∙ ap (option_map path_text) c.in-None-path_at-2.is)) c.same_interfaces.result
+    c.same_interfaces.ensures.exact

@@ -9,5 +9,6 @@ returns-in-None-number_of c =
 
 pub returns-in-None : goal.returns-in-None
 returns-in-None c =
-    primitive_exact c.args.left.now.resolve.now c.args.right.now.resolve.now c.requires.left.valid c.requires.right.valid c.args.a c.args.b c.is_same.result c.is_same.ensures.same c.is_same.ensures.differ
+    primitive_exact c.args.left.now.resolve.now c.args.right.now.resolve.now c.requires.left.valid c.requires.right.valid c.args.a c.args.b c.is_same.result c.is_same.ensures.same
+    c.is_same.ensures.differ
     (sym c.number_of.ensures ∙ c.in-None.is) c.requires.b

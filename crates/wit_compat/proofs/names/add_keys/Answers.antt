@@ -9,12 +9,15 @@ pub key_text-requires-clause-in_range : goal.key_text-requires-clause-in_range
 key_text-requires-clause-in_range c =
     let r = c.args.resolve.now in
     let next = rest_more deref_pair c.loop-key.key-iterator c.next.new.self c.next.result (c.in-Some.key, c.in-Some._item) c.in-Some.is c.next.ensures.steps in
-    let all : (key_in_range r c.in-Some.key.now && item_in_range r c.in-Some._item.now) && entries_in_range r c.next.new.self ≡ true = subst (λ es. entries_in_range r es ≡ true) next c.loop-key.invariant in
-    first_true (key_in_range r c.in-Some.key.now) (item_in_range r c.in-Some._item.now) (first_true (key_in_range r c.in-Some.key.now && item_in_range r c.in-Some._item.now) (entries_in_range r c.next.new.self) all)
+    let all : (key_in_range r c.in-Some.key.now && item_in_range r c.in-Some._item.now) && entries_in_range r c.next.new.self ≡ true =
+    subst (λ es. entries_in_range r es ≡ true) next c.loop-key.invariant in
+    first_true (key_in_range r c.in-Some.key.now) (item_in_range r c.in-Some._item.now)
+    (first_true (key_in_range r c.in-Some.key.now && item_in_range r c.in-Some._item.now) (entries_in_range r c.next.new.self) all)
 
 pub loop-key-preserved : goal.loop-key-preserved
 loop-key-preserved c =
     let r = c.args.resolve.now in
     let next = rest_more deref_pair c.loop-key.key-iterator c.next.new.self c.next.result (c.in-Some.key, c.in-Some._item) c.in-Some.is c.next.ensures.steps in
-    let all : (key_in_range r c.in-Some.key.now && item_in_range r c.in-Some._item.now) && entries_in_range r c.next.new.self ≡ true = subst (λ es. entries_in_range r es ≡ true) next c.loop-key.invariant in
+    let all : (key_in_range r c.in-Some.key.now && item_in_range r c.in-Some._item.now) && entries_in_range r c.next.new.self ≡ true =
+    subst (λ es. entries_in_range r es ≡ true) next c.loop-key.invariant in
     second_true (key_in_range r c.in-Some.key.now && item_in_range r c.in-Some._item.now) (entries_in_range r c.next.new.self) all

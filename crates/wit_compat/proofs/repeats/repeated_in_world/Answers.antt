@@ -10,7 +10,8 @@ returns-in-Some c =
     let r = c.args.resolve.now in
     let w = c.args.world.now in
     let imports = bare_keys r w.imports.entries in
-    repeated_first imports (bare_keys r w.exports.entries ∷ []) c.in-Some.key.now (given (IsDistinct text_eq imports) (λ s. IsFirstRepeat imports s.now) c.in_ok-key.field-0 c.in-Some.key c.in_ok-key.ensures c.in-Some.is)
+    repeated_first imports (bare_keys r w.exports.entries ∷ []) c.in-Some.key.now
+    (given (IsDistinct text_eq imports) (λ s. IsFirstRepeat imports s.now) c.in_ok-key.field-0 c.in-Some.key c.in_ok-key.ensures c.in-Some.is)
 
 pub returns-in-None : goal.returns-in-None
 returns-in-None c =
@@ -19,6 +20,7 @@ returns-in-None c =
     let imports = bare_keys r w.imports.entries in
     let exports = bare_keys r w.exports.entries in
     let once = none_given (IsDistinct text_eq imports) (λ s. IsFirstRepeat imports s.now) c.in_ok-key.field-0 c.in_ok-key.ensures c.in-None.is in
-    ok_either_way (IsDistinct text_eq exports) (HasKeysOnce r w) (λ s. IsFirstRepeat exports s.now) (λ s. IsRepeatedIn (imports ∷ exports ∷ []) s.now) c.repeated_key-in-None.result (λ d. record { imports = once; exports = d })
+    ok_either_way (IsDistinct text_eq exports) (HasKeysOnce r w) (λ s. IsFirstRepeat exports s.now) (λ s. IsRepeatedIn (imports ∷ exports ∷ []) s.now) c.repeated_key-in-None.result
+    (λ d. record { imports = once; exports = d })
     (λ s f. repeated_behind (imports ∷ []) (exports ∷ []) s.now (one_once imports once) (repeated_first exports [] s.now f))
     c.repeated_key-in-None.ensures

@@ -13,8 +13,10 @@ pub key_text-text-requires-clause-in_range : goal.key_text-text-requires-clause-
 key_text-text-requires-clause-in_range c =
     let r = c.args.resolve.now in
     let next = rest_more deref_pair c.loop-key.key-iterator c.next.new.self c.next.result (c.in-Some.key, c.in-Some._item) c.in-Some.is c.next.ensures.steps in
-    let all : (key_in_range r c.in-Some.key.now && item_in_range r c.in-Some._item.now) && entries_in_range r c.next.new.self ≡ true = subst (λ es. entries_in_range r es ≡ true) next c.loop-key.invariant.in_range in
-    first_true (key_in_range r c.in-Some.key.now) (item_in_range r c.in-Some._item.now) (first_true (key_in_range r c.in-Some.key.now && item_in_range r c.in-Some._item.now) (entries_in_range r c.next.new.self) all)
+    let all : (key_in_range r c.in-Some.key.now && item_in_range r c.in-Some._item.now) && entries_in_range r c.next.new.self ≡ true =
+    subst (λ es. entries_in_range r es ≡ true) next c.loop-key.invariant.in_range in
+    first_true (key_in_range r c.in-Some.key.now) (item_in_range r c.in-Some._item.now)
+    (first_true (key_in_range r c.in-Some.key.now && item_in_range r c.in-Some._item.now) (entries_in_range r c.next.new.self) all)
 
 pub loop-key-init : goal.loop-key-init
 unfolding IsDistinct
@@ -48,7 +50,8 @@ loop-key-preserved c =
     let t = c.key_text-text.result in
     let absent : list_any (λ k. text_eq t.now k.now) keys ≡ false = search rules in
     let added = c.in_ok-insert.ensures.keys ∙ key_pushed keys t absent in
-    let all : (key_in_range r c.in-Some.key.now && item_in_range r c.in-Some._item.now) && entries_in_range r c.next.new.self ≡ true = subst (λ es. entries_in_range r es ≡ true) next c.loop-key.invariant.in_range in
+    let all : (key_in_range r c.in-Some.key.now && item_in_range r c.in-Some._item.now) && entries_in_range r c.next.new.self ≡ true =
+    subst (λ es. entries_in_range r es ≡ true) next c.loop-key.invariant.in_range in
     record {
       split = c.loop-key.invariant.split ∙ ap (λ es. now keys ++ bare_keys r es) next ∙ ap (λ k. now keys ++ k ∷ rest) (sym c.key_text-text.ensures)
           ∙ sym (append_assoc (now keys) (t.now ∷ []) rest) ∙ ap (λ ks. ks ++ rest) (sym (now_push keys t)) ∙ ap (λ ks. now ks ++ rest) (sym added);

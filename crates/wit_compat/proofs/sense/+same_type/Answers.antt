@@ -22,8 +22,10 @@ same_type-requires t c =
     let xat : slice_get xs i ≡ Some x = place_at xs c.deref-x-items.result.now i c.deref-x-items.ensures.value c.loop-i-test.true ty.Bool in
     let short : i < length ys = let l = w.alike in let lt = c.loop-i-test.true in let e = ap length c.deref-x-items.ensures.value in omega (arith, l, lt, e) in
     let yat : slice_get ys i ≡ Some y = slice_get_read ys _ i y refl short c.index.ensures in
-    let m : rank c.args.a ≡ t = c.decreases in
-    (subst (λ z. rank x < z) m (part_below a b c.args.a c.args.b xs ys w i x y xat yat), (c.requires.left, (c.requires.right, (part_left a b c.args.a c.args.b xs ys w i x y xat yat, (part_right a b c.args.a c.args.b xs ys w i x y xat yat, c.loop-i.invariant.kept)))))
+    let m : rank c.args.a ≡ t = c.decreases in (
+      subst (λ z. rank x < z) m (part_below a b c.args.a c.args.b xs ys w i x y xat yat),
+      (c.requires.left, (c.requires.right, (part_left a b c.args.a c.args.b xs ys w i x y xat yat, (part_right a b c.args.a c.args.b xs ys w i x y xat yat, c.loop-i.invariant.kept)))),
+    )
 
 pub returns-then-not-branch-clause-exact : goal.returns-then-not-branch-clause-exact
 returns-then-not-branch-clause-exact t c =
@@ -55,7 +57,8 @@ loop-i-preserved t c =
     let yat : slice_get ys i ≡ Some y = slice_get_read ys _ i y refl short c.index.ensures in
     let before : map (type_tree a) (take i xs) ≡ map (type_tree b) (take i ys) = ap (λ zs. map (type_tree a) (take i zs)) (sym c.deref-x-items.ensures.value) ∙ c.loop-i.invariant.same in
     record {
-      same = ap (λ zs. map (type_tree a) (take (i + 1) zs)) c.deref-x-items.ensures.value ∙ part_more a b c.args.a c.args.b xs ys w i x y xat yat before (c.in_ok-same_type-in-Parts.ensures.exact.0 (search rules));
+      same = ap (λ zs. map (type_tree a) (take (i + 1) zs)) c.deref-x-items.ensures.value ∙ part_more a b c.args.a c.args.b xs ys w i x y xat yat before
+          (c.in_ok-same_type-in-Parts.ensures.exact.0 (search rules));
       kept = c.same_type.ensures.kept;
     }
 

@@ -8,7 +8,8 @@ use Rattle.wit_compat.proofs.Sided.{never}
 use Rattle.wit_compat.proofs.sense.same_signatures.Goals as goal
 
 pub returns-then-not-branch-clause-exact : goal.returns-then-not-branch-clause-exact
-returns-then-not-branch-clause-exact c = never _ (λ e. c.in_ok-same_shapes.ensures.differ (search rules) (shapes_same c.args.left.now.resolve.now c.args.right.now.resolve.now c.args.f.now c.args.g.now e))
+returns-then-not-branch-clause-exact c = never _ (λ e. c.in_ok-same_shapes.ensures.differ (search rules)
+    (shapes_same c.args.left.now.resolve.now c.args.right.now.resolve.now c.args.f.now c.args.g.now e))
 
 pub same_types-requires-clause-xs : goal.same_types-requires-clause-xs
 same_types-requires-clause-xs c = subst (AllInRange c.args.left.now.resolve.now) (sym (c.deref.ensures.value ∙ c.in_ok-xs.ensures)) c.requires.f

@@ -18,7 +18,8 @@ returns-in-Ok-clause-accepts c =
     let prev = c.args.prev.now in
     let new = c.args.new.now in
     by_result (Accepts r prev new) (IsRefused r prev new) c.compare_anew.result
-    (ok_then c.compare_anew.result (λ k. record { comparable = record { packages = c.requires.packages; prev_keys = c.in_default.ensures.prev; new_keys = c.in_default.ensures.new }; compatible = k }) c.compare_anew.ensures.compatible)
+    (ok_then c.compare_anew.result (λ k. record { comparable = record { packages = c.requires.packages; prev_keys = c.in_default.ensures.prev; new_keys = c.in_default.ensures.new }; compatible = k })
+    c.compare_anew.ensures.compatible)
     (IfErr-weaker c.compare_anew.result _ _ (mismatch_refused r prev new c.requires.packages c.in_default.ensures.prev c.in_default.ensures.new) c.compare_anew.ensures.refuses)
 
 pub returns-in-Err-heads-clause-accepts : goal.returns-in-Err-heads-clause-accepts

@@ -5,7 +5,8 @@ use Rattle.print_items.proofs.Driven.{spelled_made, call_passed}
 use Rattle.print_items.proofs.driver.Driver.case.Goals as goal
 
 pub returns-then-not-self-clause-calls : goal.returns-then-not-self-clause-calls
-returns-then-not-self-clause-calls g c = spelled_made _ _ c.print_case.result (Case (escaped c.args.label.now)) refl c.if-not-self.true c.is_err-self.ensures.value c.print_case.ensures.ok c.print_case.ensures.err
+returns-then-not-self-clause-calls g c = spelled_made _ _ c.print_case.result (Case (escaped c.args.label.now)) refl c.if-not-self.true c.is_err-self.ensures.value c.print_case.ensures.ok
+    c.print_case.ensures.err
 
 pub returns-else-not-self-clause-calls : goal.returns-else-not-self-clause-calls
 returns-else-not-self-clause-calls g c = call_passed _ _ c.if-not-self.false

@@ -12,7 +12,8 @@ pub returns-in_err-reserve-clause-kept : goal.returns-in_err-reserve-clause-kept
 returns-in_err-reserve-clause-kept c = on_err (kept_with_room c.args.self.now _ c.reserve.ensures.same refl refl refl) c.from_residual.result
 
 pub returns-in_err-unite-clause-kept : goal.returns-in_err-unite-clause-kept
-returns-in_err-unite-clause-kept c = on_err (kept_with_room c.args.self.now _ c.reserve.ensures.same refl c.in_err-unite.ensures.imports_kept c.in_err-unite.ensures.exports_kept) c.from_residual-in_err-unite.result
+returns-in_err-unite-clause-kept c = on_err (kept_with_room c.args.self.now _ c.reserve.ensures.same refl c.in_err-unite.ensures.imports_kept c.in_err-unite.ensures.exports_kept)
+    c.from_residual-in_err-unite.result
 
 pub returns-clause-ok : goal.returns-clause-ok
 returns-clause-ok c = record {

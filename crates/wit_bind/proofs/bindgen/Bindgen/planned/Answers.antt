@@ -14,13 +14,15 @@ refuse_clash-requires-clause-matches c = record { packages = c.in_ok-matches.ens
 
 pub union_of-requires-clause-matches : goal.union_of-requires-clause-matches
 union_of-requires-clause-matches c =
-    all-matched c.args.self.now.resolve c.args.other.now.resolve c.in_ok-matches.matches (record { packages = c.in_ok-matches.ensures.packages; interfaces = c.in_ok-matches.ensures.interfaces; worlds = c.in_ok-matches.ensures.worlds })
+    all-matched c.args.self.now.resolve c.args.other.now.resolve c.in_ok-matches.matches
+    (record { packages = c.in_ok-matches.ensures.packages; interfaces = c.in_ok-matches.ensures.interfaces; worlds = c.in_ok-matches.ensures.worlds })
 
 pub returns-in_err-refuse_clash-clause-refusal : goal.returns-in_err-refuse_clash-clause-refusal
 returns-in_err-refuse_clash-clause-refusal c =
     let own = c.args.self.now in
     let other = c.args.other.now in
-    let matched : IsMatched own.resolve other.resolve c.in_ok-matches.matches = record { packages = c.in_ok-matches.ensures.packages; interfaces = c.in_ok-matches.ensures.interfaces; worlds = c.in_ok-matches.ensures.worlds } in
+    let matched : IsMatched own.resolve other.resolve c.in_ok-matches.matches =
+    record { packages = c.in_ok-matches.ensures.packages; interfaces = c.in_ok-matches.ensures.interfaces; worlds = c.in_ok-matches.ensures.worlds } in
     err_is (IsMergeRefusal own other) c.from_residual-in_err-refuse_clash.result c.in_err-refuse_clash.field-0.0 c.from_residual-in_err-refuse_clash.ensures.1
     (clash_is own other c.requires.own c.requires.others c.in_ok-matches.matches matched c.in_err-refuse_clash.field-0.0 c.in_err-refuse_clash.ensures.clash)
 
@@ -28,29 +30,38 @@ pub returns-in_err-refuse_clash-2-clause-refusal : goal.returns-in_err-refuse_cl
 returns-in_err-refuse_clash-2-clause-refusal c =
     let own = c.args.self.now in
     let other = c.args.other.now in
-    let matched : IsMatched own.resolve other.resolve c.in_ok-matches.matches = record { packages = c.in_ok-matches.ensures.packages; interfaces = c.in_ok-matches.ensures.interfaces; worlds = c.in_ok-matches.ensures.worlds } in
+    let matched : IsMatched own.resolve other.resolve c.in_ok-matches.matches =
+    record { packages = c.in_ok-matches.ensures.packages; interfaces = c.in_ok-matches.ensures.interfaces; worlds = c.in_ok-matches.ensures.worlds } in
     err_is (IsMergeRefusal own other) c.from_residual-in_err-refuse_clash-2.result c.in_err-refuse_clash-2.field-0.0 c.from_residual-in_err-refuse_clash-2.ensures.1
-    (encodings_are own other c.requires.own c.requires.others c.in_ok-matches.matches matched c.in_ok-refuse_clash.ensures.none c.in_err-refuse_clash-2.field-0.0 c.in_err-refuse_clash-2.ensures.refusal)
+    (encodings_are own other c.requires.own c.requires.others c.in_ok-matches.matches matched c.in_ok-refuse_clash.ensures.none c.in_err-refuse_clash-2.field-0.0
+    c.in_err-refuse_clash-2.ensures.refusal)
 
 pub returns-clause-united : goal.returns-clause-united
 returns-clause-united c =
     let own = c.args.self.now in
     let other = c.args.other.now in
-    let matched : IsMatched own.resolve other.resolve c.in_ok-matches.matches = record { packages = c.in_ok-matches.ensures.packages; interfaces = c.in_ok-matches.ensures.interfaces; worlds = c.in_ok-matches.ensures.worlds } in
-    if_ok _ _ (λ plan h. unite own other c.requires.own c.requires.others c.in_ok-matches.matches matched c.in_ok-refuse_clash.ensures.none c.in_ok-refuse_clash-2.ensures.imports c.in_ok-refuse_clash-2.ensures.exports)
+    let matched : IsMatched own.resolve other.resolve c.in_ok-matches.matches =
+    record { packages = c.in_ok-matches.ensures.packages; interfaces = c.in_ok-matches.ensures.interfaces; worlds = c.in_ok-matches.ensures.worlds } in
+    if_ok _ _ (λ plan h. unite own other c.requires.own c.requires.others c.in_ok-matches.matches matched c.in_ok-refuse_clash.ensures.none c.in_ok-refuse_clash-2.ensures.imports
+    c.in_ok-refuse_clash-2.ensures.exports)
     c.union_of.result c.union_of.ensures.union
 
 pub returns-clause-ok : goal.returns-clause-ok
 returns-clause-ok c =
     let own = c.args.self.now in
     let other = c.args.other.now in
-    let matched : IsMatched own.resolve other.resolve c.in_ok-matches.matches = record { packages = c.in_ok-matches.ensures.packages; interfaces = c.in_ok-matches.ensures.interfaces; worlds = c.in_ok-matches.ensures.worlds } in
-    if_ok_both _ _ _ (λ plan h few. record { matches = c.in_ok-matches.matches; matched = matched; none = c.in_ok-refuse_clash.ensures.none; union = h; few = few }) c.union_of.result c.union_of.ensures.union c.union_of.ensures.few
+    let matched : IsMatched own.resolve other.resolve c.in_ok-matches.matches =
+    record { packages = c.in_ok-matches.ensures.packages; interfaces = c.in_ok-matches.ensures.interfaces; worlds = c.in_ok-matches.ensures.worlds } in
+    if_ok_both _ _ _ (λ plan h few. record { matches = c.in_ok-matches.matches; matched = matched; none = c.in_ok-refuse_clash.ensures.none; union = h; few = few }) c.union_of.result
+    c.union_of.ensures.union c.union_of.ensures.few
 
 pub returns-clause-refusal : goal.returns-clause-refusal
 returns-clause-refusal c =
     let own = c.args.self.now in
     let other = c.args.other.now in
-    let matched : IsMatched own.resolve other.resolve c.in_ok-matches.matches = record { packages = c.in_ok-matches.ensures.packages; interfaces = c.in_ok-matches.ensures.interfaces; worlds = c.in_ok-matches.ensures.worlds } in
-    let can = unite own other c.requires.own c.requires.others c.in_ok-matches.matches matched c.in_ok-refuse_clash.ensures.none c.in_ok-refuse_clash-2.ensures.imports c.in_ok-refuse_clash-2.ensures.exports in
-    refused-so own other c.requires.own c.requires.others can c.in_ok-matches.matches matched (IsMergeRefusal own other) tt (λ h. h) c.union_of.result c.union_of.ensures.refuses c.union_of.ensures.size
+    let matched : IsMatched own.resolve other.resolve c.in_ok-matches.matches =
+    record { packages = c.in_ok-matches.ensures.packages; interfaces = c.in_ok-matches.ensures.interfaces; worlds = c.in_ok-matches.ensures.worlds } in
+    let can = unite own other c.requires.own c.requires.others c.in_ok-matches.matches matched c.in_ok-refuse_clash.ensures.none c.in_ok-refuse_clash-2.ensures.imports
+    c.in_ok-refuse_clash-2.ensures.exports in
+    refused-so own other c.requires.own c.requires.others can c.in_ok-matches.matches matched (IsMergeRefusal own other) tt (λ h. h) c.union_of.result c.union_of.ensures.refuses
+    c.union_of.ensures.size
