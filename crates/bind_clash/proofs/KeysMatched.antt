@@ -118,8 +118,7 @@ module _ (own : Resolve) (v : IsValid own) (k : WorldKey) (is : IsKey own v k) w
 
 -- ---- what a key of the other's finds
 
-module _ (own other : Resolve) (v : IsValid own) (u : IsValid other) (m : Matches) (h : IsMatched own other m) (es : List (WorldKey × WorldItem))
-    (all : (e : WorldKey × WorldItem) → Contains es e → IsKey own v e.0) where
+module _ (own other : Resolve) (v : IsValid own) (u : IsValid other) (m : Matches) (h : IsMatched own other m) (es : List (WorldKey × WorldItem)) (all : (e : WorldKey × WorldItem) → Contains es e → IsKey own v e.0) where
   own-id : (n : ℕ) (i : Interface) → interface_at other n ≡ Some i → own_id m n ≡ own_interface_of own m.packages.items i
   own-id n i at =
       let f = own_interface_of own m.packages.items in

@@ -35,8 +35,7 @@ module _ (r : Resolve) (here : PackageId) where
 
   -- ---- interfaces
 
-  module _ (k : WorldKey) (i : WorldItem) (id : InterfaceId) (gates : Stability) (docs : Docs) (external_id : Option (String Global)) (is : i ≡ item.Interface id gates docs external_id)
-      (h : is_printable_entry r here (k, i) ≡ true) where
+  module _ (k : WorldKey) (i : WorldItem) (id : InterfaceId) (gates : Stability) (docs : Docs) (external_id : Option (String Global)) (is : i ≡ item.Interface id gates docs external_id) (h : is_printable_entry r here (k, i) ≡ true) where
     known : is_printable_entry r here (k, item.Interface id gates docs external_id) ≡ true
     known = subst (λ j. is_printable_entry r here (k, j) ≡ true) is h
 

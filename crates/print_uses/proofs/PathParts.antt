@@ -55,8 +55,7 @@ pub path_at : (r : Resolve) (here : PackageId) (id : InterfaceId) (i : Interface
 path_at r here id i e = sym (ap (λ o. option_map_or (path_from r here) o (Local [])) e)
 
 -- what is read at a number of another package
-module _ (r : Resolve) (here : PackageId) (i : Interface) (p : PackageId) (x : Package) (placed : passes (in_list r.packages.items) (package_number i.«package») ≡ true) (given : i.«package» ≡ Some p)
-    (other : p.0 ≢ here.0) (read : x ≡ get_or r.packages.items p.0 x) where
+module _ (r : Resolve) (here : PackageId) (i : Interface) (p : PackageId) (x : Package) (placed : passes (in_list r.packages.items) (package_number i.«package») ≡ true) (given : i.«package» ≡ Some p) (other : p.0 ≢ here.0) (read : x ≡ get_or r.packages.items p.0 x) where
   there : package_at r p.0 ≡ Some x
   there = slice_get_read _ _ _ _ refl (ltb-true _ _ (subst (λ o. passes (in_list r.packages.items) (package_number o) ≡ true) given placed)) read
 

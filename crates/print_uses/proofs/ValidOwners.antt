@@ -74,8 +74,7 @@ module _ (r : Resolve) (valid : IsValid r) where
       let number : n ≡ 0 + n = omega arith in
       subst (λ m. references.type_ r m def ≡ true) number (kept_numbers r valid.rules n def e)))
 
-  module _ (n : ℕ) (def : TypeDef) (at : type_at r n ≡ Some def) (t : TypeId) (alias : def.kind ≡ defined.Type_ (value.Id t)) (target : TypeDef) (there : type_at r t.0 ≡ Some target)
-      (named : is_some target.name ≡ true) where
+  module _ (n : ℕ) (def : TypeDef) (at : type_at r n ≡ Some def) (t : TypeId) (alias : def.kind ≡ defined.Type_ (value.Id t)) (target : TypeDef) (there : type_at r t.0 ≡ Some target) (named : is_some target.name ≡ true) where
     -- an alias uses its target alone
     uses_target : list_all (has_owner r def.owner) (used_by_type r def) ≡ same_owner target.owner def.owner
     uses_target =

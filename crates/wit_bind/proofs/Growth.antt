@@ -31,8 +31,7 @@ use Rattle.base_lemmas.proofs.Lists.{within_there as element_at}
 longer : {X : Type 0} (old between more new : List X) (n : ℕ) → length between ≡ length old → new ≡ between ++ more → length more ≤ n → length new ≤ length old + n
 longer old between more new n same is few = let all = ap length is ∙ length_both between more in omega (arith, same, all, few)
 
-module _ (own other new : Bindgen) (o : IsBindgen own) (t : IsBindgen other) (can : CanUnite (binding_of own) (binding_of other)) (added : Added) (keys : List WorldKey)
-    (p : IsPlanOf own other added keys) (g : IsGrownBy added other.metadata own new) where
+module _ (own other new : Bindgen) (o : IsBindgen own) (t : IsBindgen other) (can : CanUnite (binding_of own) (binding_of other)) (added : Added) (keys : List WorldKey) (p : IsPlanOf own other added keys) (g : IsGrownBy added other.metadata own new) where
   bound : (w : World) × (world_at own.resolve own.world.0 ≡ Some w)
   bound = element_at own.resolve.worlds.items own.world.0 o.in_range
 

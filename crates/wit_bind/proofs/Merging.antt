@@ -55,8 +55,7 @@ use Rattle.wit_bind.proofs.UnionBound.{united_are_the_union}
 use Rattle.base_lemmas.proofs.Lists.{front_at, within_there as element_at}
 use Rattle.std.proofs.lemmas.Option.{same_Some as same-some}
 
-module _ (own other new : Bindgen) (o : IsBindgen own) (t : IsBindgen other) (can : CanUnite (binding_of own) (binding_of other)) (added : Added) (keys : List WorldKey)
-    (p : IsPlanOf own other added keys) (g : IsGrownBy added other.metadata own new) where
+module _ (own other new : Bindgen) (o : IsBindgen own) (t : IsBindgen other) (can : CanUnite (binding_of own) (binding_of other)) (added : Added) (keys : List WorldKey) (p : IsPlanOf own other added keys) (g : IsGrownBy added other.metadata own new) where
   abbrev r : Resolve
   r = own.resolve
 

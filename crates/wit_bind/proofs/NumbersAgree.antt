@@ -36,8 +36,7 @@ entry-found : (r : Resolve) (es : List (WorldKey × WorldItem)) (x : WorldKey ×
     → entry_under (key_text r x.0) (entries_meaning r es) ≡ Some (entry_meaning r x.1)
 entry-found r es x d c = found-distinct (entries_meaning r es) (key_text r x.0) (entry_meaning r x.1) d (contains-map (λ (e : WorldKey × WorldItem). (key_text r e.0, entry_meaning r e.1)) es x c)
 
-module _ (own other : Bindgen) (o : IsBindgen own) (t : IsBindgen other) (can : CanUnite (binding_of own) (binding_of other)) (w v : World) (at_w : world_at own.resolve own.world.0 ≡ Some w)
-    (at_v : world_at other.resolve other.world.0 ≡ Some v) where
+module _ (own other : Bindgen) (o : IsBindgen own) (t : IsBindgen other) (can : CanUnite (binding_of own) (binding_of other)) (w v : World) (at_w : world_at own.resolve own.world.0 ≡ Some w) (at_v : world_at other.resolve other.world.0 ≡ Some v) where
   abbrev r : Resolve
   r = own.resolve
 

@@ -112,8 +112,7 @@ under-path r path x s = ap (option_and_then (path_of_world r)) s.found ∙ s.pat
 meant-there : (r : Resolve) (path : Text) (x : WorldMeaning) (s : ShowsWorld r path x) → world_meaning_at r s.number ≡ x
 meant-there r path x s = ap (λ (o : Option World). option_map_or (world_meaning r) o no_world) s.found ∙ s.means
 
-module _ (merged_is_valid : MergedIsValid) (bound_means : BoundMeans) (own other new : Bindgen) (o : IsBindgen own) (t : IsBindgen other) (can : CanUnite (binding_of own) (binding_of other))
-    (u : IsUnited own other new) where
+module _ (merged_is_valid : MergedIsValid) (bound_means : BoundMeans) (own other new : Bindgen) (o : IsBindgen own) (t : IsBindgen other) (can : CanUnite (binding_of own) (binding_of other)) (u : IsUnited own other new) where
   abbrev r : Resolve
   r = own.resolve
 
