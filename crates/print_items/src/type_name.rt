@@ -1,7 +1,7 @@
 //! Types where they are used, printed.
 #![tactic(auto, using(crate::proofs::Driven::driving))]
 
-ghost use Rattle.std.specs.Prelude.{◌≡◌, ◌++◌, ◌∷◌, ◌≤◌, [], codes, Bool, true, false, List, option_to_list, take, IsTrue};
+ghost use Rattle.std.specs.Prelude.{◌≡◌, ◌++◌, ◌∷◌, ◌≤◌, [], codes, Bool, true, false, List, option_to_list, slice_get, take, IsTrue};
 ghost use Rattle.std.specs.Fmt.{decimal};
 ghost use Rattle.wit_model.specs.Names.{is_label};
 ghost use Rattle.wit_model.specs.Parts.{member_types, handle_target};
@@ -264,6 +264,15 @@ fn few_types(kind: &TypeDefKind) -> Few
     }
 }
 
+fn one_of(types: &[Type], number: usize) -> Option<Type>
+    ensures { result ≡ slice_get types.now number }
+{
+    match types.get(number) {
+        Some(ty) => Some(*ty),
+        None => None,
+    }
+}
+
 /// The types of a kind without a name of its own: those of a tuple where they stand, and else the few.
 fn kind_types<'a>(kind: &'a TypeDefKind, few: &'a [Type]) -> &'a [Type]
     requires unnamed { is_named_kind kind.now ≡ false }
@@ -315,9 +324,9 @@ pub(crate) fn write_unnamed<O: Output>(driver: &mut Driver<O>, resolve: &Resolve
         if driver.refused {
             return;
         }
-        let part = &types[number];
+        let part = one_of(types, number).unwrap();
         write_comma(driver, number);
-        write_type_name(driver, resolve, part);
+        write_type_name(driver, resolve, &part);
     }
     write_kind_end(driver, &def.kind);
 }

@@ -31,16 +31,19 @@ write_unnamed-kind_types-types-requires-clause-unnamed g t c =
     let at : type_at c.args.resolve.now c.args.id.0 ≡ Some c.index-def.result.now = slice_get_read _ _ _ _ refl (ltb-true _ _ c.requires.in_range) c.index-def.ensures in
     kind_at c.args.resolve.now c.requires.valid c.args.id c.index-def.result.now at c.requires.unnamed
 
+pub write_unnamed-unwrap-part-requires : goal.write_unnamed-unwrap-part-requires
+write_unnamed-unwrap-part-requires g t c = ap is_some (c.one_of.ensures ∙ (one_there c.kind_types-types.result.now c.loop-number.number c.loop-number-test.true).1)
+
 pub write_unnamed-write_type_name-requires : goal.write_unnamed-write_type_name-requires
 write_unnamed-write_type_name-requires g t c κs within =
     let at : type_at c.args.resolve.now c.args.id.0 ≡ Some c.index-def.result.now = slice_get_read _ _ _ _ refl (ltb-true _ _ c.requires.in_range) c.index-def.ensures in
-    let part : slice_get (member_types c.index-def.result.now.kind) c.loop-number.number ≡ Some c.index-part.result.now =
-    subst (λ ts. slice_get ts c.loop-number.number ≡ Some c.index-part.result.now) c.kind_types-types.ensures (slice_get_read _ _ _ _ refl c.loop-number-test.true c.index-part.ensures) in
-    let falls : rank c.index-part.result.now < c.args.id.0 + 1 = part_falls c.args.resolve.now c.requires.valid c.args.id c.index-def.result.now at c.loop-number.number c.index-part.result.now part in
+    let part : slice_get (member_types c.index-def.result.now.kind) c.loop-number.number ≡ Some c.unwrap-part.result =
+    subst (λ ts. slice_get ts c.loop-number.number ≡ Some c.unwrap-part.result) c.kind_types-types.ensures (sym c.one_of.ensures ∙ c.unwrap-part.ensures) in
+    let falls : rank c.unwrap-part.result < c.args.id.0 + 1 = part_falls c.args.resolve.now c.requires.valid c.args.id c.index-def.result.now at c.loop-number.number c.unwrap-part.result part in
     let m : 2 * c.args.id.0 + 1 ≡ t = c.decreases in
-    let fall : 2 * rank c.index-part.result.now < 2 * c.args.id.0 + 1 = omega arith in (
-      subst (λ n. 2 * rank c.index-part.result.now < n) m fall,
-      (within, (c.requires.valid, part_in_range c.args.resolve.now c.requires.valid c.args.id c.index-def.result.now at c.loop-number.number c.index-part.result.now part)),
+    let fall : 2 * rank c.unwrap-part.result < 2 * c.args.id.0 + 1 = omega arith in (
+      subst (λ n. 2 * rank c.unwrap-part.result < n) m fall,
+      (within, (c.requires.valid, part_in_range c.args.resolve.now c.requires.valid c.args.id c.index-def.result.now at c.loop-number.number c.unwrap-part.result part)),
     )
 
 pub write_unnamed-loop-number-init : goal.write_unnamed-loop-number-init
@@ -54,10 +57,10 @@ write_unnamed-loop-number-preserved g t c =
     let r = c.args.resolve.now in
     let types = member_types c.index-def.result.now.kind in
     let n = c.loop-number.number in
-    let part : slice_get types n ≡ Some c.index-part.result.now = subst (λ ts. slice_get ts n ≡ Some c.index-part.result.now) c.kind_types-types.ensures
-    (slice_get_read _ _ _ _ refl c.loop-number-test.true c.index-part.ensures) in
-    driving_next (comma_calls n ++ type_calls (shown_type r c.index-part.result.now)) (types_from (type_trees r) (n + 1) (drop (n + 1) types)) c.loop-number.invariant
-    (types_next (type_trees r) types n c.index-part.result.now part)
+    let part : slice_get types n ≡ Some c.unwrap-part.result = subst (λ ts. slice_get ts n ≡ Some c.unwrap-part.result) c.kind_types-types.ensures
+    (sym c.one_of.ensures ∙ c.unwrap-part.ensures) in
+    driving_next (comma_calls n ++ type_calls (shown_type r c.unwrap-part.result)) (types_from (type_trees r) (n + 1) (drop (n + 1) types)) c.loop-number.invariant
+    (types_next (type_trees r) types n c.unwrap-part.result part)
     (driven c.write_comma.ensures.calls c.write_type_name.ensures.calls)
 
 pub write_unnamed-write_kind_end-requires : goal.write_unnamed-write_kind_end-requires
