@@ -71,7 +71,7 @@ pub no-function-name : (direction : Direction) (name : ExternName) (k : ℕ) →
 no-function-name import_ name k = refl
 no-function-name export_ name k = refl
 
-interface-name : (direction : Direction) (name : ExternName) (k : ℕ) → instance_name (declared_towards direction name (refs.Instance k)) ≡ name ∷ []
+pub interface-name : (direction : Direction) (name : ExternName) (k : ℕ) → instance_name (declared_towards direction name (refs.Instance k)) ≡ name ∷ []
 interface-name import_ name k = refl
 interface-name export_ name k = refl
 
