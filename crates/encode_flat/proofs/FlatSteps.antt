@@ -1,5 +1,5 @@
 -- What one more addition says of the slots of a flat encoder.
-use Rattle.std.proofs.Common.{◌≡◌, sym, subst, ◌∙◌, refl, ap, ℕ, Bool, true, false, cond, List, [], ◌∷◌, ◌++◌, inl, inr, arith, Result, Ok, Err, IfOk, OnErr, OnOk, Option, Some, None, nat_eq, is_some, ◌||◌, option_to_list, find}
+use Rattle.std.proofs.Common.{◌≡◌, sym, subst, ◌∙◌, refl, ap, ℕ, Bool, true, false, cond, List, [], ◌∷◌, ◌++◌, inl, inr, arith, Result, Ok, Err, IfOk, OnErr, OnOk, Option, Some, None, nat_eq, is_some, ◌||◌, ◌⊎◌, option_to_list, find}
 use Rattle.std.proofs.lemmas.Bool.{eqb-true}
 use Rattle.std.proofs.lemmas.List.{reverse-append}
 use Rattle.std.specs.Prelude.{reverse}
@@ -165,3 +165,29 @@ imports-once (Ok i) e ks n is once = by (import_slot e.marks n) refl
           others = λ k. last (nat_eq k n) (slot_count e.marks) (import_slot e.marks k);
         })
 imports-once (Err y) e ks n is once = tt
+
+-- for which of them there is a slot
+abbrev pub import_known : List Mark → ℕ → Bool
+import_known ks = λ n. is_some (import_slot ks n)
+
+-- a form changes nothing of it, and nor does a name
+pub form-imports : {E : Type 0} (res : Result ℕ E) (ks ks' : List Mark) (old new : List Form) (x : Form) → IfOk res (AddsForm ks old x ks' new) → OnErr res (ks' ≡ ks) → import_known ks' ≡ import_known ks
+form-imports (Ok i) ks ks' old new x h g = ap import_known h.1
+form-imports (Err e) ks ks' old new x h g = ap import_known g
+
+pub name-imports : {T E : Type 0} (res : Result T E) (ks ks' : List Mark) (i : ℕ) → OnOk res (ks' ≡ mark.Name i ∷ ks) → OnErr res (ks' ≡ ks) → import_known ks' ≡ import_known ks
+name-imports (Ok u) ks ks' i h g = ap import_known h
+name-imports (Err e) ks ks' i h g = ap import_known g
+
+-- an import adds this one at most
+pub import-alone : {E : Type 0} (res : Result ℕ E) (ks ks' : List Mark) (n : ℕ) → OnOk res (Imports ks n ks') → OnErr res (ks' ≡ ks) → (k : ℕ) → import_known ks' k ≡ true → (import_known ks k ≡ true) ⊎ (k ≡ n)
+import-alone (Ok i) ks ks' n h g k there = by (import_slot ks n) refl
+  where
+    new : (b : Bool) → nat_eq k n ≡ b → is_some (cond b (Some (slot_count ks)) (import_slot ks k)) ≡ true → (import_known ks k ≡ true) ⊎ (k ≡ n)
+    new true e t = inr (eqb-true k n e)
+    new false e t = inl t
+
+    by : (o : Option ℕ) → import_slot ks n ≡ o → (import_known ks k ≡ true) ⊎ (k ≡ n)
+    by (Some j) e = inl (ap (λ zs. import_known zs k) (sym (h.has (ap is_some e))) ∙ there)
+    by None e = new (nat_eq k n) refl (ap (λ zs. import_known zs k) (sym (h.lacks e)) ∙ there)
+import-alone (Err e) ks ks' n h g k there = inl (ap (λ zs. import_known zs k) (sym g) ∙ there)

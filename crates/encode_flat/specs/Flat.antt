@@ -90,6 +90,7 @@ abbrev pub flat_view : FlatEncoderOf TypeEncodingMaps → View
 flat_view e = record {
   scope = table_scope e.resolve.now e.owner;
   around = no_around;
+  imports = has_import e;
   slot_count = slot_count e.marks;
   stands = FlatReads e.resolve.now (place_of e.resolve.now e.owner) e.marks (forms_of e);
   definitions = flat_definitions (table_scope e.resolve.now e.owner).declarations e.marks (forms_of e);
@@ -97,6 +98,7 @@ flat_view e = record {
   held = mark_count e.marks;
   extent = 0;
   lacks_room = λ request. nat_lt (slot_count e.marks + 1) (2 ^ 32) ≡ false;
+  own = λ ns. Unit {0};
 }
 
 -- A type of another interface that has a slot keeps it, and the encoder is as it was. Another one gets the next slot, which is answered and stands for

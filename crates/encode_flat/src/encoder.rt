@@ -88,7 +88,7 @@ impl<'a> ValtypeEncoder<'a> for FlatEncoderOf<'a, TypeEncodingMaps<'a>> {
     ghost use Rattle.encode_types.specs.Room.{export_name, import_of};
     ghost use Rattle.encode_types.specs.Scope.{DeclaresSlot};
     ghost use Rattle.encode_types.specs.Slots.{tree};
-    ghost use Rattle.encode_types.specs.View.{Exports, ExportsName, Grows, HoldsMore, Refuses, Writes, WritesImport};
+    ghost use Rattle.encode_types.specs.View.{Exports, ExportsName, Grows, HoldsMore, ImportsOne, Refuses, Writes, WritesImport};
     ghost use Rattle.encode_flat.specs.Flat.{ImportsOnce, flat_view, flat-in_range, forms_of};
 
     ghost view = { λ e. flat_view e };
@@ -112,6 +112,7 @@ impl<'a> ValtypeEncoder<'a> for FlatEncoderOf<'a, TypeEncodingMaps<'a>> {
         ensures grows { Grows (flat_view self.old) (flat_view self.new) }
         ensures scope_stays { (flat_view self.new).scope ≡ (flat_view self.old).scope }
         ensures around_stays { (flat_view self.new).around ≡ (flat_view self.old).around }
+        ensures imports_stay { (flat_view self.new).imports ≡ (flat_view self.old).imports }
         ensures maps_stay { (flat_view self.new).maps ≡ (flat_view self.old).maps }
         ensures counts { OnOk result (ExportsName (flat_view self.old) (flat_view self.new) (Some index) (raw_name name.entry)) }
         ensures held { HoldsMore 1 (flat_view self.old) (flat_view self.new) }
@@ -133,6 +134,7 @@ impl<'a> ValtypeEncoder<'a> for FlatEncoderOf<'a, TypeEncodingMaps<'a>> {
         ensures ok { IfOk result (λ i. (flat_view self.new).stands i (tree (number_tree (flat_view self.old).scope.packages id.0))) }
         ensures grows { Grows (flat_view self.old) (flat_view self.new) }
         ensures reaches { ReachesAround (flat_view self.old).scope.packages id (flat_view self.old).around (flat_view self.new).around }
+        ensures imports { ImportsOne id (flat_view self.old).imports (flat_view self.new).imports }
         ensures scope_stays { (flat_view self.new).scope ≡ (flat_view self.old).scope }
         ensures maps_stay { (flat_view self.new).maps ≡ (flat_view self.old).maps }
         ensures counts { OnOk result ((flat_view self.new).definitions ≡ (flat_view self.old).definitions) }
@@ -156,7 +158,7 @@ impl<'a> ValtypeEncoder<'a> for FlatEncoderOf<'a, TypeEncodingMaps<'a>> {
 
     ghost maps_in_view = { λ e. refl };
 
-    ghost view_with_maps = { λ e m. record { scope_ = refl; around_ = refl; slot_count_ = refl; definitions_ = refl; held_ = refl; extent_ = refl; kept = λ i s h. h; back = λ i s h. h } };
+    ghost view_with_maps = { λ e m. record { scope_ = refl; around_ = refl; imports_ = refl; slot_count_ = refl; definitions_ = refl; held_ = refl; extent_ = refl; own_ = λ ns h. h; kept = λ i s h. h; back = λ i s h. h } };
 }
 
 impl<'a> FlatEncoderOf<'a, TypeEncodingMaps<'a>> {

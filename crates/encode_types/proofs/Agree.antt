@@ -325,7 +325,7 @@ pub changes-unit : (r : Resolve) (m m' : TypeEncodingMaps) (S S' : Pairs) (k : K
 changes-unit r m m' S S' k i keeps l a s = changes-learns r m m' S' i _ l (record { says = λ k j h. keeps j (standing_of r k) (a.says k j h); once = a.once }) (keeps i (standing_of r k) s)
 
 pub leaves-changed : (r : Resolve) (v v' : View) → SameRest v v' → Changes r v.maps v'.maps v'.stands → Leaves r v v'
-leaves-changed r v v' s c = record { agree = c.agree; maps_grow = c.grow; grows = record { kept = s.kept; more = (let e = s.slot_count_ in omega arith); around_ = around-same s.around_ }; scope_stays = s.scope_ }
+leaves-changed r v v' s c = record { agree = c.agree; maps_grow = c.grow; grows = record { kept = s.kept; more = (let e = s.slot_count_ in omega arith); around_ = around-same s.around_; own_ = s.own_ }; scope_stays = s.scope_ }
 
 pub known-learnt : (m m' : TypeEncodingMaps) (id : TypeId) (i : ℕ) → LearnsNumber m m' id i → IsKnown m' id.0
 known-learnt m m' id i l = (i, new-in m.id_to_index.entries m'.id_to_index.entries (id.0, i) l.more)

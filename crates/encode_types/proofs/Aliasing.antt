@@ -1,5 +1,5 @@
 -- Aliases of what is met.
-use Rattle.std.proofs.Common.{◌≡◌, sym, subst, ap, ◌∙◌, ℕ, List, [], ◌∷◌, ◌++◌, Option, Some, inl, inr}
+use Rattle.std.proofs.Common.{◌≡◌, refl, sym, subst, ap, ◌∙◌, ℕ, Bool, true, List, [], ◌∷◌, ◌++◌, Option, Some, inl, inr}
 use Rattle.std.specs.List.{Contains}
 use Rattle.std.proofs.lemmas.List.Elements.{Contains-append_cases}
 use Rattle.wit_model.specs.Lookup.{type_at}
@@ -10,10 +10,11 @@ use Rattle.wit_model.specs.declared.model.InterfaceId.{InterfaceId}
 use Rattle.wit_model.specs.declared.model.«Type».{«Type» as ValueType}
 use Rattle.wit_model.specs.declared.model.«Type».TheVariants as ty
 use Rattle.encode_types.specs.declared.maps.TypeEncodingMaps.{TypeEncodingMaps}
-use Rattle.encode_types.specs.Aliases.{IsMetElsewhere, AliasesMet}
+use Rattle.encode_types.specs.Aliases.{IsMetElsewhere, AliasesMet, NumbersMet}
 use Rattle.encode_types.specs.Known.{Around, Aliased, with_aliases, AreAliases, ReachesAround, as_before, aliased}
 use Rattle.encode_types.specs.MetKinds.{ReachedFrom}
 use Rattle.encode_types.specs.Plan.{foreign_owner, itself, Reaches, IsOrderOf}
+use Rattle.encode_types.specs.View.{ImportsOne}
 use Rattle.encode_types.proofs.Around.{with-both, are-both}
 use Rattle.encode_types.proofs.Encoding.{meets-reaches}
 use Rattle.encode_types.proofs.Lists.{none-in}
@@ -73,3 +74,45 @@ makes-number {r} {own} {own'} {m} {ts} {items} {a} {b} {c} n s o h p q =
           (subst (λ (t : ValueType). Reaches r own t k) (sym (one-contained (ty.Id (record { 0 = n })) reached.0 reached.1)) reached.2),
     ))
     (subst (λ (z : Option InterfaceId). AliasesMet r z (ty.Id (record { 0 = n }) ∷ []) b c) s q))
+
+-- ---- imports in the scope itself
+
+pub imports-none : {r : Resolve} {own : Option InterfaceId} {ts : List ValueType} {xs ys : ℕ → Bool} → ys ≡ xs → NumbersMet r own ts xs ys
+imports-none e = record { each = λ n c. inl (subst (λ (zs : ℕ → Bool). zs n ≡ true) e c) }
+
+pub imports-same : {r : Resolve} {own : Option InterfaceId} {ts : List ValueType} {xs ys zs : ℕ → Bool} → zs ≡ ys → NumbersMet r own ts xs ys → NumbersMet r own ts xs zs
+imports-same {r} {own} {ts} {xs} {ys} {zs} e p = subst (λ (us : ℕ → Bool). NumbersMet r own ts xs us) (sym e) p
+
+pub imports-then : {r : Resolve} {own own' : Option InterfaceId} {ts : List ValueType} {xs ys zs : ℕ → Bool} → own' ≡ own → NumbersMet r own ts xs ys → NumbersMet r own' ts ys zs → NumbersMet r own ts xs zs
+imports-then {r} {own} {own'} {ts} {xs} {ys} {zs} s p q = record {
+  each = λ n c. elim ((subst (λ (z : Option InterfaceId). NumbersMet r z ts ys zs) s q).each n c) [ inl old ↦ p.each n old | inr new ↦ inr new ];
+}
+
+pub imports-more : {r : Resolve} {own : Option InterfaceId} {ts us : List ValueType} {xs ys : ℕ → Bool} → ((n : ℕ) → ReachedFrom r own ts n → ReachedFrom r own us n) → NumbersMet r own ts xs ys → NumbersMet r own us xs ys
+imports-more f p = record {
+  each = λ n c. elim (p.each n c) [ inl old ↦ inl old | inr m ↦ inr (record { met = f n m.met; def = m.def; there = m.there; interface = m.interface; foreign = m.foreign }) ];
+}
+
+-- one of this type, which is of another interface
+pub imports-one : {r : Resolve} {own : Option InterfaceId} {id : TypeId} {xs ys : ℕ → Bool} (def : TypeDef) (interface : InterfaceId) → type_at r id.0 ≡ Some def → foreign_owner own def.owner ≡ Some interface → ImportsOne id xs ys → NumbersMet r own (ty.Id id ∷ []) xs ys
+imports-one {r} {own} {id} {xs} {ys} def interface at f one = record {
+  each = λ n c. elim (one.each n c) [
+    | inl old ↦ inl old
+    | inr e ↦ inr (subst (λ (m : ℕ). IsMetElsewhere r own (ty.Id id ∷ []) m) (sym e) (record { met = (ty.Id id, contains-one (ty.Id id), itself id); def = def; there = at; interface = interface; foreign = f }))
+  ];
+}
+
+-- from one number of an order
+pub imports-number : {r : Resolve} {own own' : Option InterfaceId} {m : TypeEncodingMaps} {ts : List ValueType} {items : List ℕ} {xs ys zs : ℕ → Bool} (n : ℕ) → own' ≡ own → IsOrderOf r own m ts items → Contains items n
+    → NumbersMet r own ts xs ys → NumbersMet r own' (ty.Id (record { 0 = n }) ∷ []) ys zs → NumbersMet r own ts xs zs
+imports-number {r} {own} {own'} {m} {ts} {items} {xs} {ys} {zs} n s o h p q =
+    let met = o.added n h in
+    imports-then refl p
+    (imports-more
+    (λ k reached. (
+      met.0,
+      met.1,
+      reaches-then r own met.0 n (meets-reaches r own m met.0 n met.2) k
+          (subst (λ (t : ValueType). Reaches r own t k) (sym (one-contained (ty.Id (record { 0 = n })) reached.0 reached.1)) reached.2),
+    ))
+    (subst (λ (z : Option InterfaceId). NumbersMet r z (ty.Id (record { 0 = n }) ∷ []) ys zs) s q))

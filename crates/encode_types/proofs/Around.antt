@@ -1,5 +1,5 @@
 -- Aliases that are made in the scope around.
-use Rattle.std.proofs.Common.{◌≡◌, refl, subst, ap, ◌∙◌, List, [], ◌∷◌, ◌++◌}
+use Rattle.std.proofs.Common.{◌≡◌, refl, subst, ap, ◌∙◌, ℕ, List, [], ◌∷◌, ◌++◌}
 use Rattle.wit_model.specs.declared.model.Resolve.{Resolve}
 use Rattle.wit_model.specs.declared.model.TypeId.{TypeId}
 use Rattle.encode_types.specs.Slots.{SlotsGrow}
@@ -29,5 +29,5 @@ reaches-grows (as_before e) = around-same e
 reaches-grows (aliased x is n e) = record { made = x ∷ []; are = (is, tt); is = e }
 
 -- a call that adds slots, and makes no alias around
-pub slots-grow : {v v' : View} → SlotsGrow v.stands v'.stands v.slot_count v'.slot_count → v'.around ≡ v.around → Grows v v'
-slots-grow g e = record { kept = g.kept; more = g.more; around_ = around-same e }
+pub slots-grow : {v v' : View} → SlotsGrow v.stands v'.stands v.slot_count v'.slot_count → v'.around ≡ v.around → ((ns : List ℕ) → v.own ns → v'.own ns) → Grows v v'
+slots-grow g e own = record { kept = g.kept; more = g.more; around_ = around-same e; own_ = own }

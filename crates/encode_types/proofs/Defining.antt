@@ -146,19 +146,19 @@ shows-shown r scope m m' d d₁ d' id i name l n e x = record {
 }
 
 pub counts-none : (r : Resolve) (scope : Scope) (m : TypeEncodingMaps) (d : Definitions) → AddsTypes r scope m m d d
-counts-none r scope m d = record { slots = slots-none r scope m m d d refl refl refl refl; functions = refl; keys = record { lists = refl; names_ = refl }; shows = shows-none r scope m m d d refl refl }
+counts-none r scope m d = record { slots = slots-none r scope m m d d refl refl refl refl; functions = refl; keys = record { lists = refl; names_ = refl; units = record { future_ = refl; stream_ = refl } }; shows = shows-none r scope m m d d refl refl }
 
 pub counts-trans : {r : Resolve} {scope scope' : Scope} {a b c : TypeEncodingMaps} {d e f : Definitions} → scope' ≡ scope → AddsTypes r scope a b d e → AddsTypes r scope' b c e f → AddsTypes r scope a c d f
 counts-trans {r} {scope} {scope'} {a} {b} {c} {d} {e} {f} s p q =
     let q' : AddsTypes r scope b c e f = subst (λ (z : Scope). AddsTypes r z b c e f) s q in
-    record { slots = slots-then p.slots q'.slots; functions = q'.functions ∙ p.functions; keys = record { lists = q'.keys.lists ∙ p.keys.lists; names_ = q'.keys.names_ ∙ p.keys.names_ }; shows = shows-trans p.shows q'.shows }
+    record { slots = slots-then p.slots q'.slots; functions = q'.functions ∙ p.functions; keys = record { lists = q'.keys.lists ∙ p.keys.lists; names_ = q'.keys.names_ ∙ p.keys.names_; units = record { future_ = q'.keys.units.future_ ∙ p.keys.units.future_; stream_ = q'.keys.units.stream_ ∙ p.keys.units.stream_ } }; shows = shows-trans p.shows q'.shows }
 
 -- an unnamed kind, in slot i
 pub counts-kind : (r : Resolve) (scope : Scope) (m m' : TypeEncodingMaps) (d d' : Definitions) (xs : List ℕ) (i : ℕ) → LearnsList m m' xs i → d' ≡ one_type_more i d → AddsTypes r scope m m' d d'
 counts-kind r scope m m' d d' xs i l e = record {
   slots = slots-kind r scope m m' d d' xs i l (ap (λ (z : Definitions). z.types) e) (ap (λ (z : Definitions). z.exported) e);
   functions = ap (λ (z : Definitions). z.functions) e;
-  keys = record { lists = l.rest.keys; names_ = l.rest.names_ };
+  keys = record { lists = l.rest.keys; names_ = l.rest.names_; units = record { future_ = l.rest.unit_future_; stream_ = l.rest.unit_stream_ } };
   shows = shows-none r scope m m' d d' l.rest.numbers (ap (λ (z : Definitions). z.exports) e);
 }
 
@@ -167,7 +167,7 @@ pub counts-number : (r : Resolve) (scope : Scope) (m m' : TypeEncodingMaps) (d d
 counts-number r scope m m' d d' id i l n b e = record {
   slots = slots-number r scope m m' d d' id i l b (ap (λ (z : Definitions). z.types) e) (ap (λ (z : Definitions). z.exported) e);
   functions = ap (λ (z : Definitions). z.functions) e;
-  keys = record { lists = l.rest.keys; names_ = l.rest.names_ };
+  keys = record { lists = l.rest.keys; names_ = l.rest.names_; units = record { future_ = l.rest.unit_future_; stream_ = l.rest.unit_stream_ } };
   shows = shows-unshown r scope m m' d d' id i l n (ap (λ (z : Definitions). z.exports) e);
 }
 
@@ -177,7 +177,7 @@ pub counts-resource : (r : Resolve) (scope : Scope) (m m' : TypeEncodingMaps) (d
 counts-resource r scope m m' d d' id i name l n b x = record {
   slots = slots-number r scope m m' d d' id i l b (ap (λ (z : Definitions). z.types) x.one_more) (ap (λ (z : Definitions). z.exported) x.one_more ∙ append-nil d.exported);
   functions = ap (λ (z : Definitions). z.functions) x.one_more;
-  keys = record { lists = l.rest.keys; names_ = l.rest.names_ };
+  keys = record { lists = l.rest.keys; names_ = l.rest.names_; units = record { future_ = l.rest.unit_future_; stream_ = l.rest.unit_stream_ } };
   shows = shows-shown r scope m m' d d d' id i name l n refl x;
 }
 
@@ -199,7 +199,7 @@ pub counts-named : (r : Resolve) (scope : Scope) (m m' : TypeEncodingMaps) (d d�
 counts-named r scope m m' d d₁ d' id i j b name l n q e x target = record {
   slots = slots-named r scope m m' d d' id i j b l q (ap (λ (z : Definitions). z.types) x.one_more ∙ ap (λ (z : Definitions). z.types) e) (ap (λ (z : Definitions). z.exported) x.one_more ∙ ap (λ (z : Definitions). z.exported ++ j ∷ []) e ∙ ap (λ xs. xs ++ j ∷ []) (types-if b j d)) target;
   functions = ap (λ (z : Definitions). z.functions) x.one_more ∙ ap (λ (z : Definitions). z.functions) e ∙ functions-if b j d;
-  keys = record { lists = l.rest.keys; names_ = l.rest.names_ };
+  keys = record { lists = l.rest.keys; names_ = l.rest.names_; units = record { future_ = l.rest.unit_future_; stream_ = l.rest.unit_stream_ } };
   shows = shows-shown r scope m m' d d₁ d' id i name l n (ap (λ (z : Definitions). z.exports) e ∙ exports-if b j d) x;
 }
 
@@ -221,6 +221,7 @@ leaves-trans {r} {v} {v'} {v''} p q = record {
     kept = λ i x h. q.grows.kept i x (p.grows.kept i x h);
     more = (let x = p.grows.more in let y = q.grows.more in omega arith);
     around_ = around-trans p.grows.around_ (subst (λ (z : Scope). GrowsAround z.packages v'.around v''.around) p.scope_stays q.grows.around_);
+    own_ = λ ns h. q.grows.own_ ns (p.grows.own_ ns h);
   };
   scope_stays = q.scope_stays ∙ p.scope_stays;
 }

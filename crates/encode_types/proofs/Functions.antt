@@ -69,7 +69,7 @@ counts-key r scope m m₁ m' d d₁ d' key xs i lacks a is l e =
     subst (λ (es : List (ListKey × ℕ)). IsPermutation (map {B = List ℕ × ℕ} (λ e. (e.0.0.items, e.1)) es ++ (xs, i) ∷ []) (lists_of m'.func_type_map)) a.keys.lists l.more in
     let grow : NamesGrow (names_of m.names) (names_of m'.names) = names-same (names_of m.names) (names_of m'.names) (ap (map (λ (e : Bor Text × ℕ). (e.0.now, e.1))) (l.rest.names_ ∙ a.keys.names_)) in
     let listed : IsKeyList (names_of m'.names) key xs = subst (λ (ns : List (Bor Text × ℕ)). IsKeyList (map {B = Text × ℕ} (λ e. (e.0.now, e.1)) ns) key xs) (sym l.rest.names_) is in
-    record { slots = slots-then a.slots rest; keys = inr (lacks, record { grow = grow; list = xs; is = listed; more = more }, f); shows = shows-trans a.shows (shows-none r scope m₁ m' d₁ d' l.rest.numbers (ap (λ (z : Definitions). z.exports) e)) }
+    record { slots = slots-then a.slots rest; keys = inr (lacks, record { units = record { future_ = l.rest.unit_future_ ∙ a.keys.units.future_; stream_ = l.rest.unit_stream_ ∙ a.keys.units.stream_ }; grow = grow; list = xs; is = listed; more = more }, f); shows = shows-trans a.shows (shows-none r scope m₁ m' d₁ d' l.rest.numbers (ap (λ (z : Definitions). z.exports) e)) }
 
 -- a key whose list is there: its names had numbers, so none was added
 pub counts-found : (r : Resolve) (scope : Scope) (m m' : TypeEncodingMaps) (d d' : Definitions) (key : FunctionKey) (xs : List ℕ) (i : ℕ) → IsOnce m → AddsNames m m' → KeepsKnownNames key m m' → IsKeyList (names_of m'.names) key xs → Contains (lists_of m'.func_type_map) (xs, i) → d' ≡ d
@@ -79,7 +79,7 @@ counts-found r scope m m' d d' key xs i once s keep is c e =
     let names : m'.names.entries ≡ m.names.entries = keep (λ p h. listed-names (names_of m.names) key.params.0.now has.1.middle p has.1.listed h) in
     record {
       slots = slots-none r scope m m' d d' s.rest.numbers s.rest.kinds (ap (λ (z : Definitions). z.types) e) (ap (λ (z : Definitions). z.exported) e);
-      keys = inl (has, record { lists = s.rest.keys; names_ = names }, ap (λ (z : Definitions). z.functions) e);
+      keys = inl (has, record { lists = s.rest.keys; names_ = names; units = record { future_ = s.rest.unit_future_; stream_ = s.rest.unit_stream_ } }, ap (λ (z : Definitions). z.functions) e);
       shows = shows-none r scope m m' d d' s.rest.numbers (ap (λ (z : Definitions). z.exports) e);
     }
 
@@ -94,6 +94,7 @@ counts-behind r scope scope' m m₁ m' d d₁ d' key i q s e lacks a' =
         | inr h ↦ inr (
           λ j k. lacks j (adds-holds m m₁ s (by_key key) j k),
           record {
+            units = record { future_ = h.1.units.future_ ∙ s.rest.unit_future_; stream_ = h.1.units.stream_ ∙ s.rest.unit_stream_ };
             grow = names-then s.grow h.1.grow;
             list = h.1.list;
             is = h.1.is;

@@ -76,13 +76,20 @@ pub record Shows (r : Resolve) (scope : Scope) (m m' : TypeEncodingMaps) (d d' :
   pub declared : (x : Text × TypeMeaning) → Contains shown x → Contains scope.declarations x
   pub names : map (λ x. x.0) shown ≡ filter_map (λ e. own_name r scope e.0) learnt
 
--- the maps know the same types of functions, by the same names
+-- the future and the stream without an element that have caches of their own are known where they were
+pub record SameUnits (m m' : TypeEncodingMaps) : Type 0 where
+  pub future_ : m'.unit_future ≡ m.unit_future
+  pub stream_ : m'.unit_stream ≡ m.unit_stream
+
+-- the maps know the same types of functions, by the same names, and the two caches are the same
 pub record SameKeys (m m' : TypeEncodingMaps) : Type 0 where
   pub lists : m'.func_type_map.entries ≡ m.func_type_map.entries
   pub names_ : m'.names.entries ≡ m.names.entries
+  pub units : SameUnits m m'
 
--- the maps know one key more, and the names of its parameters
+-- the maps know one key more, and the names of its parameters; the two caches are the same
 pub record AddsKey (m m' : TypeEncodingMaps) (key : FunctionKey) (i : ℕ) : Type 0 where
+  pub units : SameUnits m m'
   pub grow : NamesGrow (names_of m.names) (names_of m'.names)
   pub list : List ℕ
   pub is : IsKeyList (names_of m'.names) key list

@@ -22,7 +22,7 @@ use Rattle.encode_types.specs.Distinct.{KnowsKey, key_of, AddsFunctions}
 use Rattle.encode_types.specs.Kinds.{parts_of, kind_tree}
 use Rattle.encode_types.specs.Room.{Request, value_type, function_type, FindsNoRoom}
 use Rattle.encode_types.specs.View.{View, Agrees, Grows, HoldsLearnt}
-use Rattle.encode_types.specs.Aliases.{MakesMet}
+use Rattle.encode_types.specs.Aliases.{ImportsMet, MakesMet}
 
 -- The maps agree with the slots and have lost no entry, old slots stand for what they did, and the surroundings are the same.
 pub record Leaves (r : Resolve) (v v' : View) : Type 0 where
@@ -91,12 +91,13 @@ pub record CanDefine (r : Resolve) (kind : TypeDefKind) (v : View) : Type 0 wher
   pub agree : Agrees r v
 
 -- The parts of a kind have been learnt, and it has been defined, once: the answer stands for it. Old slots stand for what they did, and the maps
--- agree with the slots, and aliases are made of types that its parts meet, also where it is refused.
+-- agree with the slots, and aliases and imports are made of types that its parts meet, also where it is refused.
 pub record DefinesKind (r : Resolve) (kind : TypeDefKind) (v v' : View) (result : Result ComponentValType Error) : Type 0 where
   pub ok : IfOk result (λ x. StandsFor v'.stands x (kind_tree r kind))
   pub learns : OnOk result (LearnsFrom r (parts_of kind) v v')
   pub leaves : Leaves r v v'
   pub aliases : MakesMet r (parts_of kind) v v'
+  pub imports : ImportsMet r (parts_of kind) v v'
   pub counts : IfOk result (CountsOneMore r v v')
   pub held : OnOk result (HoldsLearnt r 1 v v')
   pub size : result ≡ Err Size → KindLacksRoom r kind v v'

@@ -1,9 +1,10 @@
 -- What an encoder holds.
-use Rattle.std.specs.Prelude.{ℕ, ◌≡◌, ◌≤◌, ◌+◌, Bool, cond, Option, Some}
+use Rattle.std.specs.Prelude.{ℕ, ◌≡◌, ◌≤◌, ◌+◌, ◌⊎◌, Bool, true, cond, List, Option, Some}
 use Rattle.wit_model.specs.Tree.{Tree, named}
 use Rattle.wit_model.specs.Meaning.{Signature}
 use Rattle.wit_model.specs.Lookup.{type_at}
 use Rattle.wit_model.specs.declared.model.TypeDef.{TypeDef}
+use Rattle.wit_model.specs.declared.model.TypeId.{TypeId}
 use Rattle.comp_bytes.specs.declared.forms.ComponentDefinedType.{ComponentDefinedType}
 use Rattle.comp_bytes.specs.declared.forms.ComponentFuncType.{ComponentFuncType}
 use Rattle.wit_model.specs.declared.model.Resolve.{Resolve}
@@ -23,6 +24,8 @@ pub record View : Type 1 where
   pub scope : Scope
   -- what stands in the scope around it, if there is one: aliases of types of other interfaces are made there
   pub around : Around
+  -- for which type numbers of other interfaces something stands in the scope itself: an import adds the one that it is asked for at most
+  pub imports : ℕ → Bool
   -- the number of slots, and what each stands for: after an export without a slot, one slot stands for two trees
   pub slot_count : ℕ
   pub stands : Pairs
@@ -36,13 +39,20 @@ pub record View : Type 1 where
   pub extent : ℕ
   -- what more it has no room for, in 32 bits
   pub lacks_room : Refusals
+  -- what the implementor says besides, of a list of numbers that its user has in mind: each call keeps it
+  pub own : List ℕ → Type 0
 
 -- There are at least as many slots, and the old ones stand for what they did. Around, nothing has been declared but aliases of types that
--- had none.
+-- had none. What the implementor says besides goes on to hold.
 pub record Grows (v v' : View) : Type 0 where
   pub kept : Keeps v.stands v'.stands
   pub more : v.slot_count ≤ v'.slot_count
   pub around_ : GrowsAround v.scope.packages v.around v'.around
+  pub own_ : (ns : List ℕ) → v.own ns → v'.own ns
+
+-- of types of other interfaces, something has come to stand in the scope for this one at most
+pub record ImportsOne (id : TypeId) (old new : ℕ → Bool) : Type 0 where
+  pub each : (n : ℕ) → new n ≡ true → (old n ≡ true) ⊎ (n ≡ id.0)
 
 -- slot i is new, and stands for what P holds of
 abbrev pub AddsSlot : View → View → ℕ → (Standing → Type 0) → Type 0
@@ -113,9 +123,11 @@ pub record WritesLearnt (r : Resolve) (n : ℕ) (v v' : View) : Type 0 where
 pub record SameRest (v v' : View) : Type 0 where
   pub scope_ : v'.scope ≡ v.scope
   pub around_ : v'.around ≡ v.around
+  pub imports_ : v'.imports ≡ v.imports
   pub slot_count_ : v'.slot_count ≡ v.slot_count
   pub definitions_ : v'.definitions ≡ v.definitions
   pub held_ : v'.held ≡ v.held
   pub extent_ : v'.extent ≡ v.extent
+  pub own_ : (ns : List ℕ) → v.own ns → v'.own ns
   pub kept : Keeps v.stands v'.stands
   pub back : Keeps v'.stands v.stands

@@ -15,8 +15,8 @@ ghost use Rattle.wit_model.specs.Meant.{type_meaning};
 ghost use Rattle.encode_types.specs.Slots.{tree};
 ghost use Rattle.encode_types.specs.Room.{value_type, export_name, import_of};
 ghost use Rattle.encode_types.specs.Known.{ReachesAround};
-ghost use Rattle.encode_types.specs.Aliases.{MakesMet};
-ghost use Rattle.encode_types.specs.View.{Agrees, Grows, ExportsName, HoldsMore, HoldsLearnt, Refuses, Writes, WritesImport, WritesLearnt};
+ghost use Rattle.encode_types.specs.Aliases.{ImportsMet, MakesMet};
+ghost use Rattle.encode_types.specs.View.{Agrees, Grows, ImportsOne, ExportsName, HoldsMore, HoldsLearnt, Refuses, Writes, WritesImport, WritesLearnt};
 ghost use Rattle.encode_types.specs.Extents.{name_extent, number_extent, tree_extent};
 ghost use Rattle.encode_types.specs.Kinds.{parts_of, kind_of, kind_tree, has_form, has_definition};
 ghost use Rattle.encode_types.specs.Codes.{kind_code};
@@ -57,6 +57,7 @@ pub(crate) fn define_shape<'a, E: ValtypeEncoder<'a>>(
     ensures grows { Grows (E.view enc.old) (E.view enc.new) }
     ensures scope_stays { (E.view enc.new).scope ≡ (E.view enc.old).scope }
     ensures around_stays { (E.view enc.new).around ≡ (E.view enc.old).around }
+    ensures imports_stay { (E.view enc.new).imports ≡ (E.view enc.old).imports }
     ensures maps_stay { (E.view enc.new).maps ≡ (E.view enc.old).maps }
     ensures counts { IfOk result (λ i. (E.view enc.new).definitions ≡ one_type_more i (E.view enc.old).definitions) }
     ensures held { HoldsMore 1 (E.view enc.old) (E.view enc.new) }
@@ -81,6 +82,7 @@ fn define_alias<'a, E: ValtypeEncoder<'a>>(
     ensures grows { Grows (E.view enc.old) (E.view enc.new) }
     ensures scope_stays { (E.view enc.new).scope ≡ (E.view enc.old).scope }
     ensures around_stays { (E.view enc.new).around ≡ (E.view enc.old).around }
+    ensures imports_stay { (E.view enc.new).imports ≡ (E.view enc.old).imports }
     ensures maps_stay { (E.view enc.new).maps ≡ (E.view enc.old).maps }
     ensures counts { IfOk result (DefinesIf (has_definition (TypeDefKind.Type_ ty.now)) (E.view enc.old) (E.view enc.new)) }
     ensures known { (id : _) → ty.now ≡ ValueType.Id id → IfOk result (λ i. Contains (E.view enc.old).maps.id_to_index.entries (id.0, i)) }
@@ -112,6 +114,7 @@ fn define_kind<'a, E: ValtypeEncoder<'a>>(
     ensures grows { Grows (E.view enc.old) (E.view enc.new) }
     ensures scope_stays { (E.view enc.new).scope ≡ (E.view enc.old).scope }
     ensures around_stays { (E.view enc.new).around ≡ (E.view enc.old).around }
+    ensures imports_stay { (E.view enc.new).imports ≡ (E.view enc.old).imports }
     ensures maps_stay { (E.view enc.new).maps ≡ (E.view enc.old).maps }
     ensures counts { IfOk result (DefinesIf (has_definition kind.now) (E.view enc.old) (E.view enc.new)) }
     ensures known { (id : _) → kind.now ≡ TypeDefKind.Type_ (ValueType.Id id) → IfOk result (λ i. Contains (E.view enc.old).maps.id_to_index.entries (id.0, i)) }
@@ -144,6 +147,7 @@ fn define_new_kind<'a, E: ValtypeEncoder<'a>>(
     ensures numbers { OnOk result ((E.view enc.new).maps.id_to_index.entries ≡ (E.view enc.old).maps.id_to_index.entries) }
     ensures leaves { Leaves resolve.now (E.view enc.old) (E.view enc.new) }
     ensures around_stays { (E.view enc.new).around ≡ (E.view enc.old).around }
+    ensures imports_stay { (E.view enc.new).imports ≡ (E.view enc.old).imports }
     ensures counts { OnOk result (CountsTypes resolve.now (E.view enc.old) (E.view enc.new)) }
     ensures kinds { OnOk result (LearnsKindOf (E.view enc.old).maps (E.view enc.new).maps kind.now) }
     ensures held { HoldsMore 1 (E.view enc.old) (E.view enc.new) }
@@ -171,6 +175,7 @@ fn define_unnamed_kind<'a, E: ValtypeEncoder<'a>>(
     ensures numbers { OnOk result ((E.view enc.new).maps.id_to_index.entries ≡ (E.view enc.old).maps.id_to_index.entries) }
     ensures leaves { Leaves resolve.now (E.view enc.old) (E.view enc.new) }
     ensures around_stays { (E.view enc.new).around ≡ (E.view enc.old).around }
+    ensures imports_stay { (E.view enc.new).imports ≡ (E.view enc.old).imports }
     ensures counts { OnOk result (CountsTypes resolve.now (E.view enc.old) (E.view enc.new)) }
     ensures kinds { OnOk result (LearnsKindOf (E.view enc.old).maps (E.view enc.new).maps kind.now) }
     ensures held { OnOk result (HoldsKind kind.entry.now (E.view enc.old) (E.view enc.new)) }
@@ -204,6 +209,7 @@ fn define_unnamed<'a, E: ValtypeEncoder<'a>>(
     ensures ok { OnOk result (LearnsOne (E.view enc.old).maps (E.view enc.new).maps id.0) }
     ensures leaves { Leaves resolve.now (E.view enc.old) (E.view enc.new) }
     ensures around_stays { (E.view enc.new).around ≡ (E.view enc.old).around }
+    ensures imports_stay { (E.view enc.new).imports ≡ (E.view enc.old).imports }
     ensures counts { OnOk result (CountsTypes resolve.now (E.view enc.old) (E.view enc.new)) }
     ensures kinds { OnOk result (LearnsKindOf (E.view enc.old).maps (E.view enc.new).maps kind.now) }
     ensures held { OnOk result (HoldsKind kind.entry.now (E.view enc.old) (E.view enc.new)) }
@@ -231,6 +237,7 @@ fn define_resource<'a, E: ValtypeEncoder<'a>>(
     ensures ok { OnOk result (LearnsOne (E.view enc.old).maps (E.view enc.new).maps id.0) }
     ensures leaves { Leaves resolve.now (E.view enc.old) (E.view enc.new) }
     ensures around_stays { (E.view enc.new).around ≡ (E.view enc.old).around }
+    ensures imports_stay { (E.view enc.new).imports ≡ (E.view enc.old).imports }
     ensures counts { OnOk result (CountsTypes resolve.now (E.view enc.old) (E.view enc.new)) }
     ensures kinds { OnOk result ((E.view enc.new).maps.def_to_index.entries ≡ (E.view enc.old).maps.def_to_index.entries) }
     ensures held { HoldsMore 1 (E.view enc.old) (E.view enc.new) }
@@ -253,6 +260,7 @@ fn export<'a, E: ValtypeEncoder<'a>>(
     ensures grows { Grows (E.view enc.old) (E.view enc.new) }
     ensures scope_stays { (E.view enc.new).scope ≡ (E.view enc.old).scope }
     ensures around_stays { (E.view enc.new).around ≡ (E.view enc.old).around }
+    ensures imports_stay { (E.view enc.new).imports ≡ (E.view enc.old).imports }
     ensures maps_stay { (E.view enc.new).maps ≡ (E.view enc.old).maps }
     ensures counts { OnOk result (ExportsName (E.view enc.old) (E.view enc.new) (Some index) (raw_name name.entry)) }
     ensures held { HoldsMore 1 (E.view enc.old) (E.view enc.new) }
@@ -289,6 +297,7 @@ fn define_named<'a, E: ValtypeEncoder<'a>>(
     ensures ok { OnOk result (LearnsOne (E.view enc.old).maps (E.view enc.new).maps id.0) }
     ensures leaves { Leaves resolve.now (E.view enc.old) (E.view enc.new) }
     ensures around_stays { (E.view enc.new).around ≡ (E.view enc.old).around }
+    ensures imports_stay { (E.view enc.new).imports ≡ (E.view enc.old).imports }
     ensures counts { OnOk result (CountsTypes resolve.now (E.view enc.old) (E.view enc.new)) }
     ensures kinds { OnOk result ((E.view enc.new).maps.def_to_index.entries ≡ (E.view enc.old).maps.def_to_index.entries) }
     ensures held { HoldsMore (kind_count def.now.kind + 1) (E.view enc.old) (E.view enc.new) }
@@ -319,6 +328,7 @@ fn define_own<'a, E: ValtypeEncoder<'a>>(
     ensures ok { OnOk result (LearnsOne (E.view enc.old).maps (E.view enc.new).maps id.0) }
     ensures leaves { Leaves resolve.now (E.view enc.old) (E.view enc.new) }
     ensures around_stays { (E.view enc.new).around ≡ (E.view enc.old).around }
+    ensures imports_stay { (E.view enc.new).imports ≡ (E.view enc.old).imports }
     ensures counts { OnOk result (CountsTypes resolve.now (E.view enc.old) (E.view enc.new)) }
     ensures learns { OnOk result (LearnsParts resolve.now (E.view enc.old) (E.view enc.new)) }
     ensures held { OnOk result (HoldsLearnt resolve.now 0 (E.view enc.old) (E.view enc.new)) }
@@ -354,6 +364,7 @@ fn define_number<'a, E: ValtypeEncoder<'a>>(
     ensures ok { OnOk result (LearnsOne (E.view enc.old).maps (E.view enc.new).maps id.0) }
     ensures leaves { Leaves resolve.now (E.view enc.old) (E.view enc.new) }
     ensures aliases { MakesMet resolve.now (ValueType.Id id ∷ []) (E.view enc.old) (E.view enc.new) }
+    ensures imports { ImportsMet resolve.now (ValueType.Id id ∷ []) (E.view enc.old) (E.view enc.new) }
     ensures counts { OnOk result (CountsTypes resolve.now (E.view enc.old) (E.view enc.new)) }
     ensures learns { OnOk result (LearnsParts resolve.now (E.view enc.old) (E.view enc.new)) }
     ensures held { OnOk result (HoldsLearnt resolve.now 0 (E.view enc.old) (E.view enc.new)) }
@@ -388,6 +399,7 @@ fn import<'a, E: ValtypeEncoder<'a>>(
     ensures ok { OnOk result (LearnsOne (E.view enc.old).maps (E.view enc.new).maps id.0) }
     ensures leaves { Leaves resolve.now (E.view enc.old) (E.view enc.new) }
     ensures reaches { ReachesAround (E.view enc.old).scope.packages id (E.view enc.old).around (E.view enc.new).around }
+    ensures imports { ImportsOne id (E.view enc.old).imports (E.view enc.new).imports }
     ensures counts { OnOk result (CountsTypes resolve.now (E.view enc.old) (E.view enc.new)) }
     ensures kinds { OnOk result ((E.view enc.new).maps.def_to_index.entries ≡ (E.view enc.old).maps.def_to_index.entries) }
     ensures held { HoldsMore 1 (E.view enc.old) (E.view enc.new) }
@@ -412,6 +424,7 @@ pub(crate) fn define_parts<'a, E: ValtypeEncoder<'a>>(
     ensures learns { OnOk result (LearnsFrom resolve.now types.now (E.view enc.old) (E.view enc.new)) }
     ensures leaves { Leaves resolve.now (E.view enc.old) (E.view enc.new) }
     ensures aliases { MakesMet resolve.now types.now (E.view enc.old) (E.view enc.new) }
+    ensures imports { ImportsMet resolve.now types.now (E.view enc.old) (E.view enc.new) }
     ensures counts { OnOk result (CountsTypes resolve.now (E.view enc.old) (E.view enc.new)) }
     ensures held { OnOk result (HoldsLearnt resolve.now 0 (E.view enc.old) (E.view enc.new)) }
     ensures written { OnOk result (WritesLearnt resolve.now 0 (E.view enc.old) (E.view enc.new)) }

@@ -2,7 +2,8 @@
 //!
 //! Each function answers a slot, or a type by it, that stands for the tree asked for. Also after a refusal the old slots stand for
 //! what they did and the maps agree with the slots. An unnamed kind that `encode_valtype` meets, or another function on its way to the
-//! parts, is defined only where the maps lack it, and then it is in the maps. What a function is named after it defines at each call.
+//! parts, is defined only where the maps lack it, and then it is in the maps. What a function is named after it defines at each call. The caches of
+//! a future and a stream without an element are filled by `encode_unit_future` and `encode_unit_stream` alone.
 //!
 //! `Error::Size` comes only from a call of the encoder, for what has no room in the encoder that is left: the definition, the name or the
 //! import of a type that is met from those asked for, or what the function is named after. By then the encoder holds what it held, and less
@@ -27,8 +28,8 @@ ghost use Rattle.encode_types.specs.Fits.{CanEncode, CanImport, is_foreign};
 ghost use Rattle.encode_types.specs.Formed.{IsFormed};
 ghost use Rattle.encode_types.specs.Counts.{one_type_more};
 ghost use Rattle.encode_types.specs.Room.{value_type, import_of};
-ghost use Rattle.encode_types.specs.Aliases.{MakesMet};
-ghost use Rattle.encode_types.specs.View.{Agrees, Grows, HoldsMore, HoldsIf, HoldsLearnt, Refuses, WritesLearnt};
+ghost use Rattle.encode_types.specs.Aliases.{ImportsMet, MakesMet};
+ghost use Rattle.encode_types.specs.View.{Agrees, Grows, ImportsOne, HoldsMore, HoldsIf, HoldsLearnt, Refuses, WritesLearnt};
 ghost use Rattle.encode_types.specs.Leaves.{Leaves, LearnsFrom, CountsTypes, CanDefine, DefinesKind, DefinesValue, DefinesIf, LacksRoom};
 
 use crate::define::{define_parts, define_shape};
@@ -77,6 +78,7 @@ pub fn encode_valtype<'a, E: ValtypeEncoder<'a>>(
     ensures learns { OnOk result (LearnsFrom resolve.now (ty.now ∷ []) (E.view enc.old) (E.view enc.new)) }
     ensures leaves { Leaves resolve.now (E.view enc.old) (E.view enc.new) }
     ensures aliases { MakesMet resolve.now (ty.now ∷ []) (E.view enc.old) (E.view enc.new) }
+    ensures imports { ImportsMet resolve.now (ty.now ∷ []) (E.view enc.old) (E.view enc.new) }
     ensures counts { OnOk result (CountsTypes resolve.now (E.view enc.old) (E.view enc.new)) }
     ensures knows { OnOk result (IsReady (E.view enc.new).maps ty.now) }
     ensures held { OnOk result (HoldsLearnt resolve.now 0 (E.view enc.old) (E.view enc.new)) }
@@ -103,6 +105,7 @@ pub fn encode_optional_valtype<'a, E: ValtypeEncoder<'a>>(
     ensures learns { OnOk result (LearnsFrom resolve.now (option_to_list (option_copied ty.entry)) (E.view enc.old) (E.view enc.new)) }
     ensures leaves { Leaves resolve.now (E.view enc.old) (E.view enc.new) }
     ensures aliases { MakesMet resolve.now (option_to_list (option_copied ty.entry)) (E.view enc.old) (E.view enc.new) }
+    ensures imports { ImportsMet resolve.now (option_to_list (option_copied ty.entry)) (E.view enc.old) (E.view enc.new) }
     ensures counts { OnOk result (CountsTypes resolve.now (E.view enc.old) (E.view enc.new)) }
     ensures knows { OnOk result (AllReady (E.view enc.new).maps (option_to_list (option_copied ty.entry))) }
     ensures held { OnOk result (HoldsLearnt resolve.now 0 (E.view enc.old) (E.view enc.new)) }
@@ -134,6 +137,7 @@ pub fn encode_params<'a, E: ValtypeEncoder<'a>>(
     ensures learns { OnOk result (LearnsFrom resolve.now (map (λ p. p.ty) params.now) (E.view enc.old) (E.view enc.new)) }
     ensures leaves { Leaves resolve.now (E.view enc.old) (E.view enc.new) }
     ensures aliases { MakesMet resolve.now (map (λ p. p.ty) params.now) (E.view enc.old) (E.view enc.new) }
+    ensures imports { ImportsMet resolve.now (map (λ p. p.ty) params.now) (E.view enc.old) (E.view enc.new) }
     ensures counts { OnOk result (CountsTypes resolve.now (E.view enc.old) (E.view enc.new)) }
     ensures knows { OnOk result (AllReady (E.view enc.new).maps (map (λ p. p.ty) params.now)) }
     ensures held { OnOk result (HoldsLearnt resolve.now 0 (E.view enc.old) (E.view enc.new)) }
@@ -262,6 +266,7 @@ fn define<'a, E: ValtypeEncoder<'a>>(
     ensures grows { Grows (E.view enc.old) (E.view enc.new) }
     ensures scope_stays { (E.view enc.new).scope ≡ (E.view enc.old).scope }
     ensures around_stays { (E.view enc.new).around ≡ (E.view enc.old).around }
+    ensures imports_stay { (E.view enc.new).imports ≡ (E.view enc.old).imports }
     ensures maps_stay { (E.view enc.new).maps ≡ (E.view enc.old).maps }
     ensures counts { IfOk result (DefinesValue (E.view enc.old) (E.view enc.new)) }
     ensures held { HoldsMore 1 (E.view enc.old) (E.view enc.new) }
@@ -285,6 +290,7 @@ pub fn encode_flags<'a, E: ValtypeEncoder<'a>>(
     ensures grows { Grows (E.view enc.old) (E.view enc.new) }
     ensures scope_stays { (E.view enc.new).scope ≡ (E.view enc.old).scope }
     ensures around_stays { (E.view enc.new).around ≡ (E.view enc.old).around }
+    ensures imports_stay { (E.view enc.new).imports ≡ (E.view enc.old).imports }
     ensures maps_stay { (E.view enc.new).maps ≡ (E.view enc.old).maps }
     ensures counts { IfOk result (DefinesValue (E.view enc.old) (E.view enc.new)) }
     ensures held { HoldsMore 1 (E.view enc.old) (E.view enc.new) }
@@ -308,6 +314,7 @@ pub fn encode_enum<'a, E: ValtypeEncoder<'a>>(
     ensures grows { Grows (E.view enc.old) (E.view enc.new) }
     ensures scope_stays { (E.view enc.new).scope ≡ (E.view enc.old).scope }
     ensures around_stays { (E.view enc.new).around ≡ (E.view enc.old).around }
+    ensures imports_stay { (E.view enc.new).imports ≡ (E.view enc.old).imports }
     ensures maps_stay { (E.view enc.new).maps ≡ (E.view enc.old).maps }
     ensures counts { IfOk result (DefinesValue (E.view enc.old) (E.view enc.new)) }
     ensures held { HoldsMore 1 (E.view enc.old) (E.view enc.new) }
@@ -333,6 +340,7 @@ pub fn encode_unit_future<'a, E: ValtypeEncoder<'a>>(
     ensures rest { (E.view enc.new).maps ≡ record (E.view enc.old).maps { unit_future = (E.view enc.new).maps.unit_future } }
     ensures leaves { Leaves (E.view enc.old).scope.packages (E.view enc.old) (E.view enc.new) }
     ensures around_stays { (E.view enc.new).around ≡ (E.view enc.old).around }
+    ensures imports_stay { (E.view enc.new).imports ≡ (E.view enc.old).imports }
     ensures counts { IfOk result (DefinesIf (is_none (E.view enc.old).maps.unit_future) (E.view enc.old) (E.view enc.new)) }
     ensures held { HoldsIf (is_none (E.view enc.old).maps.unit_future) (E.view enc.old) (E.view enc.new) }
     ensures size { result ≡ Err Size → Refuses (E.view enc.old) (E.view enc.new) (value_type (future_tree None)) }
@@ -354,6 +362,7 @@ fn define_unit_future<'a, E: ValtypeEncoder<'a>>(enc: &mut E) -> Result<u32, Err
     ensures rest { (E.view enc.new).maps ≡ record (E.view enc.old).maps { unit_future = (E.view enc.new).maps.unit_future } }
     ensures leaves { Leaves (E.view enc.old).scope.packages (E.view enc.old) (E.view enc.new) }
     ensures around_stays { (E.view enc.new).around ≡ (E.view enc.old).around }
+    ensures imports_stay { (E.view enc.new).imports ≡ (E.view enc.old).imports }
     ensures counts { IfOk result (λ i. (E.view enc.new).definitions ≡ one_type_more i (E.view enc.old).definitions) }
     ensures held { HoldsMore 1 (E.view enc.old) (E.view enc.new) }
     ensures size { result ≡ Err Size → Refuses (E.view enc.old) (E.view enc.new) (value_type (future_tree None)) }
@@ -379,6 +388,7 @@ pub fn encode_unit_stream<'a, E: ValtypeEncoder<'a>>(
     ensures rest { (E.view enc.new).maps ≡ record (E.view enc.old).maps { unit_stream = (E.view enc.new).maps.unit_stream } }
     ensures leaves { Leaves (E.view enc.old).scope.packages (E.view enc.old) (E.view enc.new) }
     ensures around_stays { (E.view enc.new).around ≡ (E.view enc.old).around }
+    ensures imports_stay { (E.view enc.new).imports ≡ (E.view enc.old).imports }
     ensures counts { IfOk result (DefinesIf (is_none (E.view enc.old).maps.unit_stream) (E.view enc.old) (E.view enc.new)) }
     ensures held { HoldsIf (is_none (E.view enc.old).maps.unit_stream) (E.view enc.old) (E.view enc.new) }
     ensures size { result ≡ Err Size → Refuses (E.view enc.old) (E.view enc.new) (value_type (stream_tree None)) }
@@ -400,6 +410,7 @@ fn define_unit_stream<'a, E: ValtypeEncoder<'a>>(enc: &mut E) -> Result<u32, Err
     ensures rest { (E.view enc.new).maps ≡ record (E.view enc.old).maps { unit_stream = (E.view enc.new).maps.unit_stream } }
     ensures leaves { Leaves (E.view enc.old).scope.packages (E.view enc.old) (E.view enc.new) }
     ensures around_stays { (E.view enc.new).around ≡ (E.view enc.old).around }
+    ensures imports_stay { (E.view enc.new).imports ≡ (E.view enc.old).imports }
     ensures counts { IfOk result (λ i. (E.view enc.new).definitions ≡ one_type_more i (E.view enc.old).definitions) }
     ensures held { HoldsMore 1 (E.view enc.old) (E.view enc.new) }
     ensures size { result ≡ Err Size → Refuses (E.view enc.old) (E.view enc.new) (value_type (stream_tree None)) }
@@ -427,6 +438,7 @@ pub fn maybe_import_type<'a, E: ValtypeEncoder<'a>>(
     ensures foreign { (def : _) → type_at resolve.now id.0 ≡ Some def → IfOk result (λ o. is_some o ≡ is_foreign (E.view enc.old).scope def) }
     ensures grows { Grows (E.view enc.old) (E.view enc.new) }
     ensures reaches { ReachesAround (E.view enc.old).scope.packages id (E.view enc.old).around (E.view enc.new).around }
+    ensures imports { ImportsOne id (E.view enc.old).imports (E.view enc.new).imports }
     ensures scope_stays { (E.view enc.new).scope ≡ (E.view enc.old).scope }
     ensures maps_stay { (E.view enc.new).maps ≡ (E.view enc.old).maps }
     ensures counts { OnOk result ((E.view enc.new).definitions ≡ (E.view enc.old).definitions) }

@@ -9,7 +9,7 @@ ghost use Rattle.wit_model.specs.Types.{number_tree};
 ghost use Rattle.comp_bytes.specs.RawOf.{raw_name};
 ghost use Rattle.comp_bytes.specs.Refusal.{IsMemoryOrSize};
 ghost use Rattle.encode_types.specs.Slots.{Standing, tree, Follows, FollowsFunction, Defines, DefinesFunction};
-ghost use Rattle.encode_types.specs.View.{View, Grows, AddsSlot, AddsName, Exports, ExportsName, SameRest, HoldsMore, Refuses, LacksDefinition, LacksFunctionType, Writes, WritesDefinition, WritesFunctionType, WritesImport};
+ghost use Rattle.encode_types.specs.View.{View, Grows, ImportsOne, AddsSlot, AddsName, Exports, ExportsName, SameRest, HoldsMore, Refuses, LacksDefinition, LacksFunctionType, Writes, WritesDefinition, WritesFunctionType, WritesImport};
 ghost use Rattle.encode_types.specs.Known.{ReachesAround};
 ghost use Rattle.encode_types.specs.Scope.{DeclaresSlot, DeclaresResource, IsImportable};
 ghost use Rattle.encode_types.specs.Room.{export_name, import_of};
@@ -45,6 +45,7 @@ pub trait LendsMaps<M> {
 /// A slot stands for a tree, which is a type with every index followed, or for the signature of a function.
 /// Old slots stand for what they did after every call, also after one that is refused, and no call changes the maps. Around its scope, a call
 /// of `import_type` makes one alias at most, of the type that it is asked for, where that had none, and no other call changes anything.
+/// It is the same in the scope itself (`View::imports`). What an implementor says of itself besides, each call keeps (`View::own`).
 /// A call answers `Error::Size` only where what it is asked to add has no room in 32 bits: then the view says so of the encoder that
 /// the call leaves (`View::lacks_room`). An implementor says in its view when that is, and how much it holds (`View::held`): a number
 /// of its own, which each call raises by one at most, and one that answers `Error::Size` not at all. It says there how much it has written,
@@ -62,6 +63,7 @@ pub trait ValtypeEncoder<'a>: LendsMaps<TypeEncodingMaps<'a>> {
         ensures grows { Grows (view self.old) (view self.new) }
         ensures scope_stays { (view self.new).scope ≡ (view self.old).scope }
         ensures around_stays { (view self.new).around ≡ (view self.old).around }
+        ensures imports_stay { (view self.new).imports ≡ (view self.old).imports }
         ensures maps_stay { (view self.new).maps ≡ (view self.old).maps }
         ensures counts { IfOk result (λ i. (view self.new).definitions ≡ one_type_more i (view self.old).definitions) }
         ensures held { HoldsMore 1 (view self.old) (view self.new) }
@@ -76,6 +78,7 @@ pub trait ValtypeEncoder<'a>: LendsMaps<TypeEncodingMaps<'a>> {
         ensures grows { Grows (view self.old) (view self.new) }
         ensures scope_stays { (view self.new).scope ≡ (view self.old).scope }
         ensures around_stays { (view self.new).around ≡ (view self.old).around }
+        ensures imports_stay { (view self.new).imports ≡ (view self.old).imports }
         ensures maps_stay { (view self.new).maps ≡ (view self.old).maps }
         ensures counts { IfOk result (λ i. (view self.new).definitions ≡ one_function_more i (view self.old).definitions) }
         ensures held { HoldsMore 1 (view self.old) (view self.new) }
@@ -95,6 +98,7 @@ pub trait ValtypeEncoder<'a>: LendsMaps<TypeEncodingMaps<'a>> {
         ensures grows { Grows (view self.old) (view self.new) }
         ensures scope_stays { (view self.new).scope ≡ (view self.old).scope }
         ensures around_stays { (view self.new).around ≡ (view self.old).around }
+        ensures imports_stay { (view self.new).imports ≡ (view self.old).imports }
         ensures maps_stay { (view self.new).maps ≡ (view self.old).maps }
         ensures counts { OnOk result (ExportsName (view self.old) (view self.new) (Some index) (raw_name name.entry)) }
         ensures held { HoldsMore 1 (view self.old) (view self.new) }
@@ -109,6 +113,7 @@ pub trait ValtypeEncoder<'a>: LendsMaps<TypeEncodingMaps<'a>> {
         ensures grows { Grows (view self.old) (view self.new) }
         ensures scope_stays { (view self.new).scope ≡ (view self.old).scope }
         ensures around_stays { (view self.new).around ≡ (view self.old).around }
+        ensures imports_stay { (view self.new).imports ≡ (view self.old).imports }
         ensures maps_stay { (view self.new).maps ≡ (view self.old).maps }
         ensures counts { OnOk result (ExportsName (view self.old) (view self.new) None (raw_name name.entry)) }
         ensures held { HoldsMore 1 (view self.old) (view self.new) }
@@ -122,6 +127,7 @@ pub trait ValtypeEncoder<'a>: LendsMaps<TypeEncodingMaps<'a>> {
         ensures ok { IfOk result (λ i. (view self.new).stands i (tree (number_tree (view self.old).scope.packages id.0))) }
         ensures grows { Grows (view self.old) (view self.new) }
         ensures reaches { ReachesAround (view self.old).scope.packages id (view self.old).around (view self.new).around }
+        ensures imports { ImportsOne id (view self.old).imports (view self.new).imports }
         ensures scope_stays { (view self.new).scope ≡ (view self.old).scope }
         ensures maps_stay { (view self.new).maps ≡ (view self.old).maps }
         ensures counts { OnOk result ((view self.new).definitions ≡ (view self.old).definitions) }

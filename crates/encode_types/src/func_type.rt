@@ -12,7 +12,7 @@ ghost use Rattle.encode_types.specs.Maps.{AllReady, LacksKey};
 ghost use Rattle.encode_types.specs.Fits.{CanEncode};
 ghost use Rattle.encode_types.specs.Formed.{IsFormedSignature};
 ghost use Rattle.encode_types.specs.Extents.{signature_extent};
-ghost use Rattle.encode_types.specs.Aliases.{MakesMet};
+ghost use Rattle.encode_types.specs.Aliases.{ImportsMet, MakesMet};
 ghost use Rattle.encode_types.specs.View.{Agrees, HoldsLearnt, WritesLearnt};
 ghost use Rattle.encode_types.specs.Leaves.{Leaves, LearnsFrom, CountsTypes, CountsFunction, LacksRoom, FunctionLacksRoom};
 ghost use Rattle.encode_types.specs.declared.key.FunctionKey.{FunctionKey as KeyValue};
@@ -41,6 +41,7 @@ fn function_of<'a, E: ValtypeEncoder<'a>>(
     ensures learns { OnOk result (LearnsFrom resolve.now (function_types func.now) (E.view enc.old) (E.view enc.new)) }
     ensures leaves { Leaves resolve.now (E.view enc.old) (E.view enc.new) }
     ensures aliases { MakesMet resolve.now (function_types func.now) (E.view enc.old) (E.view enc.new) }
+    ensures imports { ImportsMet resolve.now (function_types func.now) (E.view enc.old) (E.view enc.new) }
     ensures counts { OnOk result (CountsTypes resolve.now (E.view enc.old) (E.view enc.new)) }
     ensures knows { OnOk result (AllReady (E.view enc.new).maps (function_types func.now)) }
     ensures held { OnOk result (HoldsLearnt resolve.now 0 (E.view enc.old) (E.view enc.new)) }
@@ -76,6 +77,7 @@ fn define_key<'a, E: ValtypeEncoder<'a>>(
     ensures learns { OnOk result (LearnsFrom resolve.now (function_types func.now) (E.view enc.old) (E.view enc.new)) }
     ensures leaves { Leaves resolve.now (E.view enc.old) (E.view enc.new) }
     ensures aliases { MakesMet resolve.now (function_types func.now) (E.view enc.old) (E.view enc.new) }
+    ensures imports { ImportsMet resolve.now (function_types func.now) (E.view enc.old) (E.view enc.new) }
     ensures counts { IfOk result (CountsFunction resolve.now (E.view enc.old) (E.view enc.new) key.entry) }
     ensures held { OnOk result (HoldsLearnt resolve.now 0 (E.view enc.old) (E.view enc.new)) }
     ensures written { OnOk result (WritesLearnt resolve.now (signature_extent (signature_of resolve.now func.now)) (E.view enc.old) (E.view enc.new)) }
@@ -104,6 +106,7 @@ pub fn encode_func_type<'a, E: ValtypeEncoder<'a>>(
     ensures learns { OnOk result (LearnsFrom resolve.now (function_types func.now) (E.view enc.old) (E.view enc.new)) }
     ensures leaves { Leaves resolve.now (E.view enc.old) (E.view enc.new) }
     ensures aliases { MakesMet resolve.now (function_types func.now) (E.view enc.old) (E.view enc.new) }
+    ensures imports { ImportsMet resolve.now (function_types func.now) (E.view enc.old) (E.view enc.new) }
     ensures counts { IfOk result (λ i. (key : KeyValue) × IsKeyOf key func.now × CountsFunction resolve.now (E.view enc.old) (E.view enc.new) key i) }
     ensures held { OnOk result (HoldsLearnt resolve.now 0 (E.view enc.old) (E.view enc.new)) }
     ensures written { OnOk result (WritesLearnt resolve.now (signature_extent (signature_of resolve.now func.now)) (E.view enc.old) (E.view enc.new)) }

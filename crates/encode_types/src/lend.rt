@@ -126,6 +126,7 @@ pub(crate) fn list_of_key<'a, E: ValtypeEncoder<'a>>(
     ensures list { IfOk result (λ v. IsKeyList (names_of (E.view enc.new).maps.names) key.now v.0.items) }
     ensures leaves { Leaves resolve.now (E.view enc.old) (E.view enc.new) }
     ensures around_stays { (E.view enc.new).around ≡ (E.view enc.old).around }
+    ensures imports_stay { (E.view enc.new).imports ≡ (E.view enc.old).imports }
     ensures counts { (E.view enc.new).definitions ≡ (E.view enc.old).definitions }
     ensures held { (E.view enc.new).held ≡ (E.view enc.old).held }
     ensures written { (E.view enc.new).extent ≡ (E.view enc.old).extent }
@@ -145,6 +146,7 @@ pub(crate) fn remember_id<'a, E: ValtypeEncoder<'a>>(
     ensures ok { OnOk result (LearnsNumber (E.view enc.old).maps (E.view enc.new).maps id index) }
     ensures leaves { Leaves resolve.now (E.view enc.old) (E.view enc.new) }
     ensures around_stays { (E.view enc.new).around ≡ (E.view enc.old).around }
+    ensures imports_stay { (E.view enc.new).imports ≡ (E.view enc.old).imports }
     ensures counts { (E.view enc.new).definitions ≡ (E.view enc.old).definitions }
     ensures held { (E.view enc.new).held ≡ (E.view enc.old).held }
     ensures written { (E.view enc.new).extent ≡ (E.view enc.old).extent }
@@ -166,6 +168,7 @@ pub(crate) fn remember_kind<'a, E: ValtypeEncoder<'a>>(
     ensures ok { OnOk result (LearnsList (E.view enc.old).maps (E.view enc.new).maps list.0.items index) }
     ensures leaves { Leaves resolve.now (E.view enc.old) (E.view enc.new) }
     ensures around_stays { (E.view enc.new).around ≡ (E.view enc.old).around }
+    ensures imports_stay { (E.view enc.new).imports ≡ (E.view enc.old).imports }
     ensures counts { (E.view enc.new).definitions ≡ (E.view enc.old).definitions }
     ensures held { (E.view enc.new).held ≡ (E.view enc.old).held }
     ensures written { (E.view enc.new).extent ≡ (E.view enc.old).extent }
@@ -187,6 +190,7 @@ pub(crate) fn remember_key<'a, E: ValtypeEncoder<'a>>(
     ensures ok { OnOk result (LearnsKeyList (E.view enc.old).maps (E.view enc.new).maps list.0.items index) }
     ensures leaves { Leaves resolve.now (E.view enc.old) (E.view enc.new) }
     ensures around_stays { (E.view enc.new).around ≡ (E.view enc.old).around }
+    ensures imports_stay { (E.view enc.new).imports ≡ (E.view enc.old).imports }
     ensures counts { (E.view enc.new).definitions ≡ (E.view enc.old).definitions }
     ensures held { (E.view enc.new).held ≡ (E.view enc.old).held }
     ensures written { (E.view enc.new).extent ≡ (E.view enc.old).extent }
@@ -203,6 +207,7 @@ pub(crate) fn remember_unit_future<'a, E: ValtypeEncoder<'a>>(enc: &mut E, index
     ensures value { (E.view enc.new).maps ≡ record (E.view enc.old).maps { unit_future = Some index } }
     ensures leaves { Leaves (E.view enc.old).scope.packages (E.view enc.old) (E.view enc.new) }
     ensures around_stays { (E.view enc.new).around ≡ (E.view enc.old).around }
+    ensures imports_stay { (E.view enc.new).imports ≡ (E.view enc.old).imports }
     ensures counts { (E.view enc.new).definitions ≡ (E.view enc.old).definitions }
     ensures held { (E.view enc.new).held ≡ (E.view enc.old).held }
     ensures written { (E.view enc.new).extent ≡ (E.view enc.old).extent }
@@ -217,6 +222,7 @@ pub(crate) fn remember_unit_stream<'a, E: ValtypeEncoder<'a>>(enc: &mut E, index
     ensures value { (E.view enc.new).maps ≡ record (E.view enc.old).maps { unit_stream = Some index } }
     ensures leaves { Leaves (E.view enc.old).scope.packages (E.view enc.old) (E.view enc.new) }
     ensures around_stays { (E.view enc.new).around ≡ (E.view enc.old).around }
+    ensures imports_stay { (E.view enc.new).imports ≡ (E.view enc.old).imports }
     ensures counts { (E.view enc.new).definitions ≡ (E.view enc.old).definitions }
     ensures held { (E.view enc.new).held ≡ (E.view enc.old).held }
     ensures written { (E.view enc.new).extent ≡ (E.view enc.old).extent }

@@ -51,7 +51,7 @@ aliases-placed ds inner outer d is none =
 -- ---- between two imports
 
 -- a type number that is known stays so
-known-kept : (n t m : ℕ) (es : List (ℕ × ℕ)) → known_slot es n ≡ None → (known_slot es m ≡ None → ⊥) → known_slot (insert_entry nat_cmp es n t) m ≡ None → ⊥
+pub known-kept : (n t m : ℕ) (es : List (ℕ × ℕ)) → known_slot es n ≡ None → (known_slot es m ≡ None → ⊥) → known_slot (insert_entry nat_cmp es n t) m ≡ None → ⊥
 known-kept n t m es new known none = by (is_at (nat_cmp m) n) refl
   where
     by : (b : Bool) → is_at (nat_cmp m) n ≡ b → ⊥

@@ -112,7 +112,7 @@ pub at-same : (n m : ℕ) → is_at (nat_cmp n) m ≡ true → n ≡ m
 at-same n m h = nat_cmp-IsAntisymmetric n m (equal-is (nat_cmp n m) h)
 
 -- what stands behind a list, or in it
-behind-cases : {X : Type 0} (xs : List X) (y x : X) (k : ℕ) → slice_get (xs ++ y ∷ []) k ≡ Some x → (slice_get xs k ≡ Some x) ⊎ ((k ≡ length xs) × (x ≡ y))
+pub behind-cases : {X : Type 0} (xs : List X) (y x : X) (k : ℕ) → slice_get (xs ++ y ∷ []) k ≡ Some x → (slice_get xs k ≡ Some x) ⊎ ((k ≡ length xs) × (x ≡ y))
 behind-cases [] y x zero e = inr (refl, sym (same-some y x e))
 behind-cases [] y x (suc k) e = let wrong : ⊥ = cc in absurd wrong
 behind-cases (w ∷ xs) y x zero e = inl e

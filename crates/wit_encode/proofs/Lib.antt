@@ -65,6 +65,8 @@ pub mod WorldHolding
 pub mod PlacedInstances
 pub mod WorldInstances
 pub mod DependencyAliases
+pub mod AliasesKept
+pub mod AliasesPlaced
 pub mod DependencyHolding
 pub mod DependencyWeighing
 pub mod Lengths

@@ -16,7 +16,9 @@ use Rattle.encode_names.specs.WorldSteps.{Entry, Entries}
 use Rattle.wit_encode.specs.declared.interface.Foreign.{Foreign}
 use Rattle.wit_encode.specs.Instance.{around_at}
 use Rattle.wit_encode.specs.Worlds.{WorldEncoder, is_sound_outside, world_around, world_definitions, world_scope, world_view_of}
+use Rattle.wit_encode.specs.WorldAliases.{KeepsAliases}
 use Rattle.wit_encode.specs.WrittenNames.{instance_declarations}
+use Rattle.wit_encode.proofs.AliasesKept.{keeps-aliases}
 use Rattle.wit_encode.specs.WorldItems.{HasShown, types_among}
 use Rattle.wit_encode.proofs.WrittenNames.{instances-left}
 use Rattle.wit_encode.proofs.WorldCalls.{world-imports}
@@ -64,7 +66,7 @@ aliases-shown r w e done h outer foreign g =
     let sound : is_sound_outside q e.world (world_around e) ≡ true = subst (λ (z : Resolve). is_sound_outside z e.world (world_around e) ≡ true) (sym h.packages_) h.sound in
     let leaves : Leaves q e.world e.instances (world_around e) (around_at outer foreign) = subst (Leaves q e.world e.instances (world_around e)) (sym g.is) (aliases-leave q e.world e.instances e.maps (world_around e) g.made sound g.are) in
     let same : done.0 ++ [] ≡ done.0 = append-nil done.0 in
-    let grows : Grows (world_view_of q e) (world_view_of q (with_outer e outer foreign)) = record { kept = leaves.kept; more = leaves.more; around_ = around-same (λ j. record { declared = leaves.instances j; instances = []; known = [] }) } in
+    let grows : Grows (world_view_of q e) (world_view_of q (with_outer e outer foreign)) = record { kept = leaves.kept; more = leaves.more; around_ = around-same (λ j. record { declared = leaves.instances j; instances = []; known = [] }); own_ = λ ns k. subst (λ (z : Around). KeepsAliases q e.instances z ns) (sym g.is) (keeps-aliases q e.instances ns (world_around e) g.made g.are k) } in
     let left : HasShown r w (with_outer e outer foreign) (done.0 ++ [], done.1) = types-shown r w e (with_outer e outer foreign) done h leaves.scope_stays grows []
     (ap (λ d. d.exports) leaves.counted ∙ sym (append-nil (world_definitions e.outer).exports)) [] tt refl
     (record { says = λ k i holds. leaves.kept i _ (h.agree.says k i holds); once = h.agree.once })

@@ -32,6 +32,8 @@ use Rattle.encode_types.specs.Scope.{Scope, IsDeclared, DeclaresSlot, DeclaresRe
 use Rattle.encode_types.specs.Formed.{IsFormed, IsFormedSignature}
 use Rattle.encode_types.specs.Counts.{one_type_more, one_function_more, ExportsOne}
 use Rattle.encode_types.specs.Distinct.{is_value_type, is_function_type, described_slot, target_of}
+use Rattle.wit_encode.specs.DependencyAliases.{alias_in}
+use Rattle.wit_encode.proofs.AliasesKept.{keeps-alias, keeps-plain}
 use Rattle.wit_encode.proofs.ValueSlots.{slots-next, targets-push, instances-kept}
 use Rattle.encode_types.specs.Known.{Around, Aliased, IsAlias, IsSource, ReachesAround, as_before, aliased, alias_declared, are_right, is_slot_for, known_slot, outer_scope, outer_slots, standing_instances, with_alias}
 use Rattle.encode_types.specs.Standing.{SlotsStand, is_slot_of, standing_at}
@@ -128,12 +130,12 @@ module _ {E : Type 0} (res : Result ℕ E) (r : Resolve) (w : WorldId) (count : 
     sound = sound-outside r w a is_sound
 
     -- a call that declares something
-    declares : (d : Declaration) (x : Slot) (types : List Seen) (after : follow.Scope) (P : Standing → Type 0) (counts : Type 0) → component_step sound.scope d ≡ Some after → Extends sound.scope after x types → instance_name d ≡ []
+    declares : (d : Declaration) (x : Slot) (types : List Seen) (after : follow.Scope) (P : Standing → Type 0) (counts : Type 0) → component_step sound.scope d ≡ Some after → Extends sound.scope after x types → instance_name d ≡ [] → alias_in d ≡ []
         → is_slot_of (world_resources r w) x ≡ true → IsOf x P → (Widens r w a next x types → outer ≡ declared_after a.declared d → counts) → Declared d → OnErr res (outer ≡ a.declared) → Leads P counts
-    declares d x types after P counts step extends plain kept is q ok err =
+    declares d x types after P counts step extends plain none kept is q ok err =
         world-calls res r w count a next maps P counts x types is_sound is (each-ok res (λ k h.
         let m = declared-widens r w a sound outer d x types after step extends plain kept h.1 in
-        (h.0 ∙ index-next r w a sound, m, q m h.1)) ok) (same-around err)
+        (h.0 ∙ index-next r w a sound, m, (λ ns. keeps-plain r count ns a outer d h.1 none plain), q m h.1)) ok) (same-around err)
       where
         each-ok : {E : Type 0} {P Q : ℕ → Type 0} (res : Result ℕ E) → ((k : ℕ) → P k → Q k) → IfOk res P → IfOk res Q
         each-ok (Ok k) f h = f k h
@@ -145,7 +147,7 @@ module _ {E : Type 0} (res : Result ℕ E) (r : Resolve) (w : WorldId) (count : 
         let strict : definition sound.scope.slots (raw_defined d) ≡ Some t = ap (λ zs. definition zs (raw_defined d)) (sym (same-slots r w a sound))
         ∙ definition-strict (world_resources r w) (outer_slots a.declared) (slots-sound r w a sound) d t h f.formed in
         declares (Declaration.defined (raw_defined d)) (Slot.value t) [] (in_scope (Slot.value t) sound.scope) _ _
-        (bind (definition sound.scope.slots (raw_defined d)) t (λ u. Some (in_scope (Slot.value u) sound.scope)) strict) (slot-extends sound.scope (Slot.value t) refl) refl (formed-value (world_resources r w) t f.formed)
+        (bind (definition sound.scope.slots (raw_defined d)) t (λ u. Some (in_scope (Slot.value u) sound.scope)) strict) (slot-extends sound.scope (Slot.value t) refl) refl refl (formed-value (world_resources r w) t f.formed)
         (defines-of (outer_slots a.declared) d t h)
         (λ m e. definitions-after r w a sound outer (Declaration.defined (raw_defined d)) (Slot.value t) [] m e ((world_definitions a.declared).types ++ length (outer_slots a.declared) ∷ []) (world_definitions a.declared).exported (world_definitions a.declared).functions
         (ap (λ (k : ℕ). (world_definitions a.declared).types ++ k ∷ []) (index-next r w a sound)) (append-nil (world_definitions a.declared).exported) (append-nil (world_definitions a.declared).functions)
@@ -158,7 +160,7 @@ module _ {E : Type 0} (res : Result ℕ E) (r : Resolve) (w : WorldId) (count : 
         let strict : function_signature sound.scope.slots (raw_function d) ≡ Some s = ap (λ zs. function_signature zs (raw_function d)) (sym (same-slots r w a sound))
         ∙ function-strict (world_resources r w) (outer_slots a.declared) (slots-sound r w a sound) d s h f.params f.result_ in
         declares (Declaration.function (raw_function d)) (Slot.function s) [] (in_scope (Slot.function s) sound.scope) _ _
-        (bind (function_signature sound.scope.slots (raw_function d)) s (λ u. Some (in_scope (Slot.function u) sound.scope)) strict) (slot-extends sound.scope (Slot.function s) refl) refl refl
+        (bind (function_signature sound.scope.slots (raw_function d)) s (λ u. Some (in_scope (Slot.function u) sound.scope)) strict) (slot-extends sound.scope (Slot.function s) refl) refl refl refl
         (function-of (outer_slots a.declared) d s h)
         (λ m e. definitions-after r w a sound outer (Declaration.function (raw_function d)) (Slot.function s) [] m e (world_definitions a.declared).types (world_definitions a.declared).exported ((world_definitions a.declared).functions ++ length (outer_slots a.declared) ∷ [])
         (append-nil (world_definitions a.declared).types) (append-nil (world_definitions a.declared).exported) (ap (λ (k : ℕ). (world_definitions a.declared).functions ++ k ∷ []) (index-next r w a sound))
@@ -192,7 +194,7 @@ module _ {E : Type 0} (res : Result ℕ E) (r : Resolve) (w : WorldId) (count : 
         } in
         let meaning : TypeMeaning = record { declaration = d.1.declaration; external_id = name.external_id } in
         let meant : (name.text, meaning) ≡ d = λ j. (ap (λ (n : ExternName). n.text) is j, record { declaration = d.1.declaration; external_id = ap (λ (n : ExternName). n.external_id) is j }) in
-        declares (Declaration.imported name described) x (seen ∷ []) after _ _ (type-step name described sound.scope d.1.declaration x there (ap is_simple is)) extends plain kept
+        declares (Declaration.imported name described) x (seen ∷ []) after _ _ (type-step name described sound.scope d.1.declaration x there (ap is_simple is)) extends plain refl kept
         (record { gives = λ m e. stands ∙ ap Some (sym e); only = λ m e. some-standing _ m (sym stands ∙ e) })
         (λ m e. record {
           declaration = d;
@@ -287,7 +289,7 @@ module _ (r : Resolve) (w : WorldId) (count : ℕ) (a : Around) (maps : TypeEnco
   was-known : ImportsTo a
   was-known = record {
     stands = λ k e. slot-stands r w id.0 (slice_get (outer_slots a.declared) k) (known-right r a.known (outer_slots a.declared) id.0 k (ap (are_right r a.known) (same-slots r w a importable) ∙ importable.right) e);
-    grows = record { kept = λ i s h. h; more = omega arith; around_ = around-same refl };
+    grows = record { kept = λ i s h. h; more = omega arith; around_ = around-same refl; own_ = λ ns k. k };
     scope_stays = refl;
     counted = refl;
     around_stays = refl;
@@ -323,6 +325,7 @@ module _ (r : Resolve) (w : WorldId) (count : ℕ) (a : Around) (maps : TypeEnco
           kept = λ i q h. subst (λ (zs : List Slot). SlotsStand zs i q) (sym more) (slots-kept x (outer_slots a.declared) i q h);
           more = (let l : length (outer_slots (with_alias a al).declared) ≡ length (outer_slots a.declared ++ x ∷ []) = ap length more in let n = longer (outer_slots a.declared) x in omega (arith, l, n));
           around_ = around-same (λ i. record { declared = wide.instances i; instances = []; known = [] });
+          own_ = λ ns. keeps-alias r count ns a al is;
         };
         scope_stays = scope-stays r w a (with_alias a al) x [] wide s count;
         around_stays = λ i. record { declared = wide.instances i; instances = []; known = [] };

@@ -18,7 +18,8 @@ use Rattle.comp_bytes.specs.Fits.{fits_name}
 use Rattle.comp_bytes.specs.declared.forms.ComponentTypeRef.TheVariants as refs
 use Rattle.comp_meaning.specs.Follow.{Direction, import_, export_}
 use Rattle.encode_types.specs.declared.maps.TypeEncodingMaps.{TypeEncodingMaps}
-use Rattle.encode_types.specs.Known.{Around, GrowsAround, known_instance}
+use Rattle.encode_types.specs.Aliases.{IsMetElsewhere}
+use Rattle.encode_types.specs.Known.{Around, GrowsAround, known_instance, known_slot}
 use Rattle.encode_types.specs.Maps.{IsOnce}
 use Rattle.encode_types.specs.MetKinds.{LearnsFrom}
 use Rattle.encode_types.specs.Room.{limit}
@@ -28,7 +29,8 @@ use Rattle.encode_names.specs.WorldSteps.{Entry, Entries, declared_towards, inte
 use Rattle.wit_encode.specs.Encoders.{InterfaceLacksRoom, declared_after}
 use Rattle.encode_types.specs.Distinct.{is_value_type, is_function_type}
 use Rattle.wit_encode.specs.Instance.{EncodesInterface, LacksInstanceRoom, whole_interface}
-use Rattle.wit_encode.specs.WorldCounts.{DefinesInterface, HasDefined, no_interface}
+use Rattle.wit_encode.specs.WorldAliases.{KeepsAliases}
+use Rattle.wit_encode.specs.WorldCounts.{DefinesInterface, HasDefined, IsAskedByWorld, no_interface}
 use Rattle.wit_encode.specs.WorldHolds.{HoldsFew, LacksDeclaration}
 use Rattle.wit_encode.specs.WorldItems.{IsNext, ListsInstance, all_done}
 use Rattle.wit_encode.specs.WorldRoom.{functions_among, count_among, entries_in, WorldLacksRoom, an_interface, a_name}
@@ -37,10 +39,13 @@ use Rattle.wit_encode.proofs.Counting.{adds-alike, adds-nothing}
 use Rattle.wit_encode.proofs.PlacedInstances.{grown-few, grown-listed, listed-cases, one-behind, placed-few, placed-instances, placed-targets, placed-slots}
 use Rattle.wit_encode.proofs.Referring.{from-none}
 use Rattle.wit_encode.proofs.Refusing.{counts-refused, outer-slots-few}
-use Rattle.wit_encode.proofs.WorldCounting.{defines-behind, interfaces-more, towards-function, towards-target, towards-value}
+use Rattle.wit_encode.proofs.AliasesKept.{keeps-aliases, known-among}
+use Rattle.wit_encode.proofs.AliasesPlaced.{keeps-instance}
+use Rattle.wit_encode.proofs.WrittenNames.{interface-name}
+use Rattle.wit_encode.proofs.WorldCounting.{asked-front, defines-behind, interfaces-more, towards-alias, towards-function, towards-target, towards-value}
 use Rattle.wit_encode.proofs.WorldHolding.{count-both, full, known-number, known-numbers, known-once, met-before, next-among}
 use Rattle.wit_encode.proofs.WorldInterfaces.{among-one}
-use Rattle.base_lemmas.proofs.Elements.{zip-append}
+use Rattle.base_lemmas.proofs.Elements.{contains-one, zip-append}
 
 -- ---- one interface among the entries
 
@@ -99,7 +104,35 @@ module _ (r : Resolve) (e e' e'' : WorldEncoder) (x : Entry) (i : InterfaceId) (
       (subst (λ (ns : List ℕ). AllZip (DefinesInterface r) ns (instances_declared e''.outer)) (sym (interfaces-more es (x ∷ []) ∙ ap (λ (ns : List ℕ). interfaces_among es ++ ns) (among-one x i.0 is)))
       (subst (AllZip (DefinesInterface r) (interfaces_among es ++ i.0 ∷ [])) (sym instances-then)
       (zip-append (DefinesInterface r) (interfaces_among es) (instances_declared e.outer) (i.0 ∷ []) ((before.declared, inner) ∷ []) h.inside (one, tt))))
+      (subst (λ (ns : List ℕ). KeepsAliases r e''.instances (world_around e'') ns) (sym among-then) keeps-then) asked-then
     where
+      among-then : interfaces_among (es ++ x ∷ []) ≡ interfaces_among es ++ i.0 ∷ []
+      among-then = interfaces-more es (x ∷ []) ∙ ap (λ (ns : List ℕ). interfaces_among es ++ ns) (among-one x i.0 is)
+
+      counted : e'.instances ≡ e.instances
+      counted = ap (λ (z : WorldEncoder). z.instances) rest
+
+      keeps-before : KeepsAliases r e.instances before (interfaces_among es)
+      keeps-before = subst (λ (z : Around). KeepsAliases r e.instances z (interfaces_among es)) (sym encodes.part.aliases.grown.is)
+          (keeps-aliases r e.instances (interfaces_among es) (world_around e) encodes.part.aliases.grown.made encodes.part.aliases.grown.are h.keeps)
+
+      keeps-then : KeepsAliases r e''.instances (world_around e'') (interfaces_among es ++ i.0 ∷ [])
+      keeps-then = subst (λ (n : ℕ). KeepsAliases r n (world_around e'') (interfaces_among es ++ i.0 ∷ [])) (sym (ap (λ (z : WorldEncoder). z.instances) lists.rest ∙ ap (λ n. n + 1) counted))
+          (keeps-instance r e.instances (interfaces_among es) i.0 before (world_around e'') inner described outer-then (towards-alias direction name (refs.Instance k)) (ap length (interface-name direction name k))
+          (listed-then ∙ (λ j. insert_entry nat_cmp (sym (grown-listed r (world_around e) before encodes.part.aliases.grown) j) i.0 (counted j))) known-then keeps-before)
+
+      asked-then : (n : ℕ) → is_some (known_slot e''.foreign.known.entries n) ≡ true → IsAskedByWorld r (es ++ x ∷ []) n
+      asked-then n known =
+          elim (known-among (world_around e) encodes.part.aliases.grown.made r encodes.part.aliases.grown.are n
+          (ap (λ (z : Around). is_some (known_slot z.known n)) (sym encodes.part.aliases.grown.is) ∙ ap (λ ks. is_some (known_slot ks n)) (sym known-then) ∙ known)) [
+            | inl old ↦ asked-front r es (x ∷ []) n (h.asked n old)
+            | inr new ↦ inr (
+              i.0,
+              subst (λ (ns : List ℕ). Contains ns i.0) (sym among-then) (Contains-append_right (interfaces_among es) (i.0 ∷ []) i.0 (contains-one i.0)),
+              record { def = def; there = there; met = subst (λ (m : ℕ). IsMetElsewhere r (Some i) (whole_interface def) m) new.2 (encodes.part.aliases.met new.0 new.1) },
+            )
+          ]
+
       one : DefinesInterface r i.0 (before.declared, inner)
       one = record { def = def; there = there; declarations = encodes.part.declared; is = refl; ordered = encodes.part.is_instance; function_types = encodes.part.function_types; value_types = encodes.part.value_types }
 

@@ -19,6 +19,7 @@ use Rattle.encode_names.proofs.Rebuilt.{others-before}
 use Rattle.encode_names.proofs.WorldSteps.{types-appended}
 use Rattle.wit_encode.specs.Instance.{Contents, no_view}
 use Rattle.wit_encode.specs.WrittenNames.{instance_declarations, instances_around}
+use Rattle.wit_encode.specs.WorldAliases.{KeepsAliases}
 use Rattle.wit_encode.specs.Worlds.{declared_type, is_sound_outside, others_of, seen_imports, world_resources, world_scope, world_view, instances_declared}
 use Rattle.wit_encode.proofs.Contents.{IsOf, Grew, grew-adds, grew-grows}
 use Rattle.base_lemmas.proofs.Bools.{left_of as first_true, right_of as second_true}
@@ -165,7 +166,7 @@ pub record WorldCalls {E : Type 0} (res : Result ℕ E) (v v' : View) (P : Stand
   pub counted : OnOk res counts
 
 pub world-calls : {E : Type 0} (res : Result ℕ E) (r : Resolve) (w : WorldId) (count : ℕ) (a a' : Around) (m : TypeEncodingMaps) (P : Standing → Type 0) (counts : Type 0) (x : Slot) (types : List Seen)
-    → is_sound_outside r w a ≡ true → IsOf x P → IfOk res (λ k. (k ≡ length (outer_slots a.declared)) × Widens r w a a' x types × counts) → OnErr res (a' ≡ a)
+    → is_sound_outside r w a ≡ true → IsOf x P → IfOk res (λ k. (k ≡ length (outer_slots a.declared)) × Widens r w a a' x types × ((ns : List ℕ) → KeepsAliases r count a ns → KeepsAliases r count a' ns) × counts) → OnErr res (a' ≡ a)
     → WorldCalls res (world_view r w count a m) (world_view r w count a' m) P counts
 world-calls (Ok k) r w count a a' m P counts x types sound is h e =
     let s = sound-outside r w a sound in
@@ -173,14 +174,14 @@ world-calls (Ok k) r w count a a' m P counts x types sound is h e =
     let q = grew-grows (slots_held a) (slots_held a') x g in
     record {
       ok = grew-adds (slots_held a) (slots_held a') x k P g h.0 is;
-      grows = record { kept = q.kept; more = q.more; around_ = around-same (λ j. record { declared = h.1.instances j; instances = []; known = [] }) };
+      grows = record { kept = q.kept; more = q.more; around_ = around-same (λ j. record { declared = h.1.instances j; instances = []; known = [] }); own_ = h.2 };
       scope_stays = scope-stays r w a a' x types h.1 s count;
       around_stays = λ j. record { declared = h.1.instances j; instances = []; known = [] };
-      counted = h.2;
+      counted = h.3;
     }
 world-calls (Err q) r w count a a' m P counts x types sound is h e = record {
   ok = h;
-  grows = subst (λ (z : Around). Grows (world_view r w count a m) (world_view r w count z m)) (sym e) (record { kept = λ i s k. k; more = omega arith; around_ = around-same refl });
+  grows = subst (λ (z : Around). Grows (world_view r w count a m) (world_view r w count z m)) (sym e) (record { kept = λ i s k. k; more = omega arith; around_ = around-same refl; own_ = λ ns k. k });
   scope_stays = ap (world_scope r w count) e;
   around_stays = ap (λ (z : Around). instances_around z.declared) e;
   counted = h;

@@ -30,13 +30,13 @@ instances-left (Declarations.declares x rest) d plain = ap (if_named (instance_n
 instances-left (Declarations.component inner rest) d plain = instances-left rest d plain
 instances-left (Declarations.instance inner rest) d plain = ap (λ (z : Declarations). Declarations.instance inner z) (instances-left rest d plain)
 
-names-more : (ds : Declarations) (d : Declaration) → instance_names (append ds (Declarations.declares d Declarations.no_more)) ≡ instance_names ds ++ instance_name d
+pub names-more : (ds : Declarations) (d : Declaration) → instance_names (append ds (Declarations.declares d Declarations.no_more)) ≡ instance_names ds ++ instance_name d
 names-more Declarations.no_more d = append-nil (instance_name d)
 names-more (Declarations.declares x rest) d = ap (λ (ns : List ExternName). instance_name x ++ ns) (names-more rest d) ∙ sym (append_assoc (instance_name x) (instance_names rest) (instance_name d))
 names-more (Declarations.component inner rest) d = names-more rest d
 names-more (Declarations.instance inner rest) d = names-more rest d
 
-names-behind : (ds inner : Declarations) → instance_names (append ds (Declarations.instance inner Declarations.no_more)) ≡ instance_names ds
+pub names-behind : (ds inner : Declarations) → instance_names (append ds (Declarations.instance inner Declarations.no_more)) ≡ instance_names ds
 names-behind Declarations.no_more inner = refl
 names-behind (Declarations.declares x rest) inner = ap (λ (ns : List ExternName). instance_name x ++ ns) (names-behind rest inner)
 names-behind (Declarations.component i rest) inner = names-behind rest inner
@@ -71,7 +71,7 @@ pub no-function-name : (direction : Direction) (name : ExternName) (k : ℕ) →
 no-function-name import_ name k = refl
 no-function-name export_ name k = refl
 
-interface-name : (direction : Direction) (name : ExternName) (k : ℕ) → instance_name (declared_towards direction name (refs.Instance k)) ≡ name ∷ []
+pub interface-name : (direction : Direction) (name : ExternName) (k : ℕ) → instance_name (declared_towards direction name (refs.Instance k)) ≡ name ∷ []
 interface-name import_ name k = refl
 interface-name export_ name k = refl
 

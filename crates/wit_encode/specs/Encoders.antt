@@ -1,5 +1,5 @@
 -- An encoder of interfaces as one value, and what its calls ask and leave.
-use Rattle.std.specs.Prelude.{ℕ, ◌≡◌, ◌⊎◌, ◌++◌, ◌∷◌, [], List, String, map, nat_eq, IsSome, Some}
+use Rattle.std.specs.Prelude.{ℕ, ◌≡◌, ◌⊎◌, ◌++◌, false, ◌∷◌, [], List, String, map, nat_eq, IsSome, Some}
 use Rattle.std.specs.List.{Contains}
 use Rattle.std.specs.Set.{distinct_count}
 use Rattle.std.specs.Borrow.{Bor}
@@ -41,6 +41,7 @@ abbrev pub view_of : Resolve → InstanceEncoder → View
 view_of r e = record {
   scope = encoder_scope r e.outer e.inner;
   around = around_of e.outer e.inner;
+  imports = λ n. false;
   slot_count = slots_in r e.outer e.inner;
   stands = stands_in r e.outer e.inner;
   definitions = defined_in r e.outer e.inner;
@@ -48,6 +49,7 @@ view_of r e = record {
   held = held_in e.outer e.inner;
   extent = extent_in e.outer e.inner;
   lacks_room = lacks_room_in r e.outer e.inner;
+  own = λ ns. Unit {0};
 }
 
 -- in its own

@@ -19,6 +19,7 @@ pub mod WorldHolds
 pub mod FunctionRoom
 pub mod DependencyRoom
 pub mod DependencyAliases
+pub mod WorldAliases
 pub mod DependencyCounts
 pub mod PackageRoom
 pub mod Extents

@@ -1,7 +1,7 @@
 -- What the component type of a world defines: each key of a function and each unnamed kind once, and the same in each instance type, which shows
 -- its interface in order.
-use Rattle.std.specs.Prelude.{ℕ, ◌≡◌, List, [], ◌∷◌, ◌++◌, map, length, Some, None}
-use Rattle.std.specs.List.{AllZip, IsDistinct}
+use Rattle.std.specs.Prelude.{ℕ, ◌≡◌, ◌⊎◌, true, List, [], ◌∷◌, ◌++◌, map, length, is_some, Some, None}
+use Rattle.std.specs.List.{AllZip, Contains, IsDistinct}
 use Rattle.std.specs.Set.{is_member}
 use Rattle.indexmap.specs.IndexMap.{values}
 use Rattle.wit_model.specs.Lookup.{interface_at}
@@ -11,18 +11,22 @@ use Rattle.wit_model.specs.declared.model.Interface.{Interface}
 use Rattle.wit_model.specs.declared.model.TypeOwner.TheVariants as owner
 use Rattle.comp_bytes.specs.Raw.{Declaration, Declarations, from_list}
 use Rattle.encode_types.specs.declared.maps.TypeEncodingMaps.{TypeEncodingMaps}
+use Rattle.encode_types.specs.Aliases.{IsMetElsewhere}
 use Rattle.encode_types.specs.Counts.{Definitions}
 use Rattle.encode_types.specs.Distinct.{Key, key_of, are_same, is_function_type, AddsFunctions, DefinesKeys, StandForKeys, DefinesTypes}
+use Rattle.encode_types.specs.Known.{known_slot}
 use Rattle.encode_types.specs.MetKinds.{LearnsFrom}
 use Rattle.encode_types.specs.Scope.{Scope}
 use Rattle.encode_types.specs.Table.{table_scope}
 use Rattle.encode_names.specs.WorldSteps.{Entry, interfaces_among}
 use Rattle.wit_encode.specs.declared.world.Placed.{Placed}
+use Rattle.wit_encode.specs.DependencyAliases.{IsMetByWhole}
+use Rattle.wit_encode.specs.WorldAliases.{HasAliasesBehind, KeepsAliases}
 use Rattle.wit_encode.specs.Instance.{IsInstance, count_declared, meaning_of, stands_inside, SlotsStand, outer_slots}
 use Rattle.wit_encode.specs.Order.{functions_in_order}
 use Rattle.wit_encode.specs.WorldItems.{entry_of}
 use Rattle.wit_encode.specs.WorldRoom.{functions_among, referred_among, type_ids_among}
-use Rattle.wit_encode.specs.Worlds.{WorldEncoder, world_definitions, instances_declared}
+use Rattle.wit_encode.specs.Worlds.{WorldEncoder, world_around, world_definitions, instances_declared}
 
 -- ---- what is defined
 
@@ -37,10 +41,15 @@ pub record DefinesInterface (r : Resolve) (i : ℕ) (declared : Declarations × 
   pub function_types : DefinesKeys r (stands_inside r (record { 0 = i }) declared.0 declarations) (functions_of_interface def) declarations
   pub value_types : DefinesTypes r (Some (record { 0 = i })) (stands_inside r (record { 0 = i }) declared.0 declarations) (values def.types) (functions_of_interface def) (from_list declarations)
 
+-- what a world asks for that has these imports and exports: what its types and functions meet of interfaces, and what each interface among them does
+abbrev pub IsAskedByWorld : Resolve → List Entry → ℕ → Type 0
+IsAskedByWorld r es n = IsMetElsewhere r None (referred_among es) n ⊎ ((i : ℕ) × Contains (interfaces_among es) i × IsMetByWhole r i n)
+
 -- The component type defines one function type for each key of these functions, in a slot of its own that stands for the key's signature, and
 -- one value type for each unnamed kind that these types and functions meet and for each of the types that has a definition of its own, in slots
 -- of their own, and no others. It has an instance type
--- for each interface, in order, which does the same for it.
+-- for each interface, in order, which does the same for it. Aliases stand there of types that these types, functions and interfaces meet, no type
+-- twice, each by the latest instance of its interface that stands before.
 pub record DefinesOnce (r : Resolve) (outer : Declarations) (es : List Entry) : Type 0 where
   pub keys : List Key
   pub function_types : count_declared is_function_type outer ≡ length keys
@@ -49,6 +58,7 @@ pub record DefinesOnce (r : Resolve) (outer : Declarations) (es : List Entry) : 
   pub slots : StandForKeys r (SlotsStand (outer_slots outer)) keys outer
   pub value_types : DefinesTypes r None (SlotsStand (outer_slots outer)) (type_ids_among es) (functions_among es) outer
   pub inside : AllZip (DefinesInterface r) (interfaces_among es) (instances_declared outer)
+  pub aliases : HasAliasesBehind r (interfaces_among es) (IsAskedByWorld r es) outer
 
 -- ---- between two items
 
@@ -60,7 +70,7 @@ abbrev pub no_interface : Resolve → Scope
 no_interface r = table_scope r owner.None
 
 -- What has been defined is what the maps have learnt since they were empty: what these imports and exports meet, and nothing else, and the keys
--- of their functions. Each interface has its instance type.
+-- of their functions. Each interface has its instance type. Aliases are of types that these imports and exports ask for.
 pub record HasDefined (r : Resolve) (e : WorldEncoder) (es : List Entry) : Type 0 where
   pub began : TypeEncodingMaps
   pub no_numbers : began.id_to_index.entries ≡ []
@@ -69,6 +79,8 @@ pub record HasDefined (r : Resolve) (e : WorldEncoder) (es : List Entry) : Type 
   pub adds : AddsFunctions r (no_interface r) began e.maps nothing_defined (world_definitions e.outer) (functions_among es)
   pub learns : LearnsFrom r None (referred_among es) began e.maps
   pub inside : AllZip (DefinesInterface r) (interfaces_among es) (instances_declared e.outer)
+  pub keeps : KeepsAliases r e.instances (world_around e) (interfaces_among es)
+  pub asked : (n : ℕ) → is_some (known_slot e.foreign.known.entries n) ≡ true → IsAskedByWorld r es n
 
 -- Behind whatever had been defined, so is what these entries ask for, or one.
 abbrev pub DefinesAll : Resolve → WorldEncoder → WorldEncoder → List Entry → Type 0

@@ -25,6 +25,7 @@ use Rattle.encode_types.specs.Table.{table_scope}
 use Rattle.encode_types.specs.View.{View}
 use Rattle.encode_names.specs.Rebuilt.{others_seen}
 use Rattle.wit_encode.specs.Instance.{around_at, declared_extent}
+use Rattle.wit_encode.specs.WorldAliases.{KeepsAliases}
 use Rattle.wit_encode.specs.WrittenNames.{instances_around}
 use Rattle.wit_encode.specs.declared.world.WorldEncoderOf.{WorldEncoderOf}
 
@@ -129,11 +130,13 @@ brought_numbers r component = filter (is_brought r component) (below (length r.t
 abbrev pub held_beside : Resolve → Around → ℕ
 held_beside r component = declaration_count component.declared - length (brought_numbers r component)
 
--- a component type with so many instances, and the maps of its scope; around, its instance types and what it imports and exports of instances
+-- a component type with so many instances, and the maps of its scope; around, its instance types and what it imports and exports of instances; of
+-- types of other interfaces stands what has an alias, each by the latest instance of its interface
 abbrev pub world_view : Resolve → WorldId → ℕ → Around → TypeEncodingMaps → View
 world_view r w count component maps = record {
   scope = world_scope r w count component;
   around = instances_around component.declared;
+  imports = λ n. is_some (known_slot component.known n);
   slot_count = length (outer_slots component.declared);
   stands = SlotsStand (outer_slots component.declared);
   definitions = world_definitions component.declared;
@@ -141,6 +144,7 @@ world_view r w count component maps = record {
   held = held_beside r component;
   extent = declared_extent component.declared;
   lacks_room = LacksRoomBehind r (declaration_count component.declared);
+  own = λ ns. KeepsAliases r count component ns;
 }
 
 -- the component type, and what is listed of it

@@ -170,7 +170,7 @@ impl<'a> ValtypeEncoder<'a> for WorldEncoderOf<'a, TypeEncodingMaps<'a>> {
 
     ghost maps_in_view = { λ e. refl };
 
-    ghost view_with_maps = { λ e m. record { scope_ = refl; around_ = refl; slot_count_ = refl; definitions_ = refl; held_ = refl; extent_ = refl; kept = λ i s h. h; back = λ i s h. h } };
+    ghost view_with_maps = { λ e m. record { scope_ = refl; around_ = refl; imports_ = refl; slot_count_ = refl; definitions_ = refl; held_ = refl; extent_ = refl; own_ = λ ns h. h; kept = λ i s h. h; back = λ i s h. h } };
 }
 
 /// An encoder of a world.
@@ -446,7 +446,7 @@ fn encode_entries(
 /// The component type of a world (Component Model WIT.md, "Package Format"): its imports in order, and then its exports. An instance type
 /// takes the slot just before the import or the export of its interface. A type of the world is an import. A type of an interface that the
 /// world or another interface uses gets an alias in the component type when it is first met, of the latest instance by then that is the
-/// interface or implements it.
+/// interface or implements it. No type gets two, and none gets one that nothing meets.
 ///
 /// Paths are written with their whole version, or, with canonical names, with the canonical part of it and an attribute that completes it; the
 /// meaning is the same. Then `CanonicalClash` is answered where two imports, or two exports, have one canonical name, with the first name that

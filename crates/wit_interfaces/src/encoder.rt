@@ -127,7 +127,7 @@ impl<'a> ValtypeEncoder<'a> for InterfaceEncoder<'a> {
 
     ghost maps_in_view = { λ e. refl };
 
-    ghost view_with_maps = { λ e m. record { scope_ = refl; around_ = refl; slot_count_ = refl; definitions_ = refl; held_ = refl; extent_ = refl; kept = λ i s h. h; back = λ i s h. h } };
+    ghost view_with_maps = { λ e m. record { scope_ = refl; around_ = refl; imports_ = refl; slot_count_ = refl; definitions_ = refl; held_ = refl; extent_ = refl; own_ = λ ns h. h; kept = λ i s h. h; back = λ i s h. h } };
 }
 
 impl<'a> InterfaceEncoder<'a> {

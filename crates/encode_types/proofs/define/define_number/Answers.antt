@@ -16,7 +16,7 @@ use Rattle.encode_types.proofs.define.define_number.Goals as goal
 use Rattle.encode_types.proofs.define.define_number.Goals.{After-foreign}
 use Rattle.encode_types.proofs.Writing.{writes-nothing, writes-number, foreign-extent, on-three}
 use Rattle.wit_model.proofs.Elements.{some-from}
-use Rattle.encode_types.proofs.Aliasing.{met-none, met-one}
+use Rattle.encode_types.proofs.Aliasing.{met-none, met-one, imports-none, imports-one}
 use Rattle.base_lemmas.proofs.Options.{on-both}
 
 there : (g : Over) (c : After-foreign g) → type_at c.args.resolve.now c.args.id.0 ≡ Some c.index-def.result.now
@@ -137,3 +137,15 @@ returns-in-Some-clause-aliases g c =
 
 pub returns-clause-aliases : goal.returns-clause-aliases
 returns-clause-aliases g c = met-none (rw c.index_of.ensures.same at c.define_own.ensures.around_stays)
+
+pub returns-then-is_some-clause-imports : goal.returns-then-is_some-clause-imports
+returns-then-is_some-clause-imports g c = rw c.index_of.ensures.same (imports-none refl)
+
+pub returns-in-Some-clause-imports : goal.returns-in-Some-clause-imports
+returns-in-Some-clause-imports g c =
+    let a = (goal.at.returns-in-Some-clause-imports g c).After-foreign in
+    let f : foreign_owner (g.E.ValtypeEncoder.view c.args.enc.now).scope.own_interface c.index-def.result.now.owner ≡ Some c.in-Some.interface = sym (owner_is g a) ∙ c.in-Some.is in
+    imports-one c.index-def.result.now c.in-Some.interface (there g a) f (rw c.index_of.ensures.same at c.import.ensures.imports)
+
+pub returns-clause-imports : goal.returns-clause-imports
+returns-clause-imports g c = imports-none (rw c.index_of.ensures.same at c.define_own.ensures.imports_stay)

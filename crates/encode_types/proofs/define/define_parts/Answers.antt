@@ -15,7 +15,7 @@ use Rattle.encode_types.proofs.define.define_parts.Given.{Over}
 use Rattle.encode_types.proofs.define.define_parts.Goals as goal
 use Rattle.encode_types.proofs.define.define_parts.Goals.{After-deref-n-items}
 use Rattle.encode_types.proofs.Writing.{writes-nothing, writes-then}
-use Rattle.encode_types.proofs.Aliasing.{met-none, makes-number}
+use Rattle.encode_types.proofs.Aliasing.{met-none, makes-number, imports-none, imports-number}
 use Rattle.base_lemmas.proofs.Elements.{last_of as one-contained}
 
 ordered : (g : Over) (c : After-deref-n-items g) → IsOrderOf c.args.resolve.now (g.E.ValtypeEncoder.view c.args.enc.now).scope.own_interface (g.E.ValtypeEncoder.view c.args.enc.now).maps c.args.types.now c.deref-n-items.result.now
@@ -54,6 +54,7 @@ loop-n-preserved g c = record {
   learnt = learns-then (ap (λ (x : Scope). x.own_interface) c.loop-n.invariant.leaves.scope_stays) c.loop-n.invariant.learnt c.in_ok-define_number.ensures.learns;
   leaves = leaves-trans c.loop-n.invariant.leaves c.define_number.ensures.leaves;
   aliases = makes-number (get_or c.deref-n-items.result.now c.loop-n.n-index 0) (ap (λ (x : Scope). x.own_interface) c.loop-n.invariant.leaves.scope_stays) (ordered g (goal.at.loop-n-preserved g c).After-deref-n-items) (Contains-get_or _ _ 0 c.loop-n-test.true) c.loop-n.invariant.aliases c.define_number.ensures.aliases;
+  imports = imports-number (get_or c.deref-n-items.result.now c.loop-n.n-index 0) (ap (λ (x : Scope). x.own_interface) c.loop-n.invariant.leaves.scope_stays) (ordered g (goal.at.loop-n-preserved g c).After-deref-n-items) (Contains-get_or _ _ 0 c.loop-n-test.true) c.loop-n.invariant.imports c.define_number.ensures.imports;
   held = holds-then (ap (λ (x : Scope). x.own_interface) c.loop-n.invariant.leaves.scope_stays) c.loop-n.invariant.leaves.maps_grow c.define_number.ensures.leaves.maps_grow c.loop-n.invariant.held c.in_ok-define_number.ensures.held;
   written = writes-then c.loop-n.invariant.leaves.scope_stays c.loop-n.invariant.written c.in_ok-define_number.ensures.written;
   counts = counts-trans c.loop-n.invariant.leaves.scope_stays c.loop-n.invariant.counts c.in_ok-define_number.ensures.counts;
@@ -75,8 +76,9 @@ loop-n-init g c = rw c.order_of.ensures.same (record {
   known = λ j k. none-in j k;
   learns = learns-nothing _ (g.E.ValtypeEncoder.view c.args.enc.now).maps;
   learnt = learns-none c.args.resolve.now (g.E.ValtypeEncoder.view c.args.enc.now).scope.own_interface (g.E.ValtypeEncoder.view c.args.enc.now).maps;
-  leaves = leaves-kept c.requires.agree (record { kept = λ i s h. h; more = omega arith; around_ = around-same refl }) refl refl;
+  leaves = leaves-kept c.requires.agree (record { kept = λ i s h. h; more = omega arith; around_ = around-same refl; own_ = λ ns h. h }) refl refl;
   aliases = met-none refl;
+  imports = imports-none refl;
   held = holds-none c.args.resolve.now (g.E.ValtypeEncoder.view c.args.enc.now).scope.own_interface (g.E.ValtypeEncoder.view c.args.enc.now).maps (g.E.ValtypeEncoder.view c.args.enc.now).held;
   written = writes-nothing c.args.resolve.now 0 (g.E.ValtypeEncoder.view c.args.enc.now);
   counts = counts-none c.args.resolve.now (g.E.ValtypeEncoder.view c.args.enc.now).scope (g.E.ValtypeEncoder.view c.args.enc.now).maps (g.E.ValtypeEncoder.view c.args.enc.now).definitions;
@@ -109,3 +111,11 @@ returns-in_err-define_number-clause-aliases g c =
 
 pub returns-in_err-order-clause-aliases : goal.returns-in_err-order-clause-aliases
 returns-in_err-order-clause-aliases g c = rw c.order_of.ensures.same (met-none refl)
+
+pub returns-in_err-define_number-clause-imports : goal.returns-in_err-define_number-clause-imports
+returns-in_err-define_number-clause-imports g c =
+    imports-number (get_or c.deref-n-items.result.now c.loop-n.n-index 0) (ap (λ (x : Scope). x.own_interface) c.loop-n.invariant.leaves.scope_stays) (ordered g (goal.at.returns-in_err-define_number-clause-imports g c).After-deref-n-items) (Contains-get_or _ _ 0 c.loop-n-test.true)
+    c.loop-n.invariant.imports c.define_number.ensures.imports
+
+pub returns-in_err-order-clause-imports : goal.returns-in_err-order-clause-imports
+returns-in_err-order-clause-imports g c = rw c.order_of.ensures.same (imports-none refl)

@@ -2,7 +2,7 @@ use Rattle.std.proofs.Common.{ℕ, take}
 use Rattle.std.specs.List.{Contains}
 use Rattle.encode_types.specs.Maps.{IsKnown, LearnsOnly}
 use Rattle.encode_types.specs.View.{HoldsLearnt, WritesLearnt}
-use Rattle.encode_types.specs.Aliases.{MakesMet}
+use Rattle.encode_types.specs.Aliases.{ImportsMet, MakesMet}
 use Rattle.encode_types.specs.Leaves.{Leaves, LearnsParts, CountsTypes}
 use Rattle.encode_types.proofs.define.define_parts.Given as goal
 
@@ -12,6 +12,7 @@ invariant-loop-n g l = record {
   learns : LearnsOnly (λ n. Contains (take l.n-index l.n-items) n) (g.E.ValtypeEncoder.view l.fn.enc).maps (g.E.ValtypeEncoder.view l.enc).maps;
   learnt : LearnsParts l.resolve (g.E.ValtypeEncoder.view l.fn.enc) (g.E.ValtypeEncoder.view l.enc);
   aliases : MakesMet l.resolve l.types (g.E.ValtypeEncoder.view l.fn.enc) (g.E.ValtypeEncoder.view l.enc);
+  imports : ImportsMet l.resolve l.types (g.E.ValtypeEncoder.view l.fn.enc) (g.E.ValtypeEncoder.view l.enc);
   leaves : Leaves l.resolve (g.E.ValtypeEncoder.view l.fn.enc) (g.E.ValtypeEncoder.view l.enc);
   held : HoldsLearnt l.resolve 0 (g.E.ValtypeEncoder.view l.fn.enc) (g.E.ValtypeEncoder.view l.enc);
   written : WritesLearnt l.resolve 0 (g.E.ValtypeEncoder.view l.fn.enc) (g.E.ValtypeEncoder.view l.enc);

@@ -27,3 +27,6 @@ returns-clause-written g c = on_ok c.remember_id.result _ _ (λ l def at. writte
 
 pub returns-clause-reaches : goal.returns-clause-reaches
 returns-clause-reaches g c = rw c.remember_id.ensures.around_stays c.import_type.ensures.reaches
+
+pub returns-clause-imports : goal.returns-clause-imports
+returns-clause-imports g c = rw c.remember_id.ensures.imports_stay c.import_type.ensures.imports

@@ -4,7 +4,7 @@ use Rattle.encode_types.proofs.encode.encode_optional_valtype.Goals as goal
 use Rattle.encode_types.proofs.Writing.{writes-nothing}
 use Rattle.encode_types.proofs.Rooms.{holds-none}
 use Rattle.std.proofs.Common.{refl}
-use Rattle.encode_types.proofs.Aliasing.{met-none}
+use Rattle.encode_types.proofs.Aliasing.{met-none, imports-none}
 
 pub returns-in_ok-value-in-Some-clause-learns : goal.returns-in_ok-value-in-Some-clause-learns
 returns-in_ok-value-in-Some-clause-learns g c = rw c.in-Some.is c.in_ok-value-in-Some.ensures.learns
@@ -35,3 +35,12 @@ returns-in_err-value-in-Some-clause-aliases g c = rw c.in-Some.is c.encode_valty
 
 pub returns-in-None-clause-aliases : goal.returns-in-None-clause-aliases
 returns-in-None-clause-aliases g c = met-none refl
+
+pub returns-in_ok-value-in-Some-clause-imports : goal.returns-in_ok-value-in-Some-clause-imports
+returns-in_ok-value-in-Some-clause-imports g c = rw c.in-Some.is c.encode_valtype.ensures.imports
+
+pub returns-in_err-value-in-Some-clause-imports : goal.returns-in_err-value-in-Some-clause-imports
+returns-in_err-value-in-Some-clause-imports g c = rw c.in-Some.is c.encode_valtype.ensures.imports
+
+pub returns-in-None-clause-imports : goal.returns-in-None-clause-imports
+returns-in-None-clause-imports g c = imports-none refl

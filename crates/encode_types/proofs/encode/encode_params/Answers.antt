@@ -1,7 +1,7 @@
 use Rattle.std.proofs.Common.{refl}
 use Rattle.encode_types.proofs.Defining.{params-stand}
 use Rattle.encode_types.proofs.encode.encode_params.Goals as goal
-use Rattle.encode_types.proofs.Aliasing.{met-none}
+use Rattle.encode_types.proofs.Aliasing.{met-none, imports-none}
 
 pub params_of-requires : goal.params_of-requires
 params_of-requires g c = λ _. ((refl, tt), (rw (c.deref.ensures.value, c.in_ok-types.ensures) at c.in_ok-define_parts.ensures.ready))
@@ -26,3 +26,15 @@ returns-in_err-define_parts-clause-aliases g c = rw (c.deref.ensures.value, c.in
 
 pub returns-in_err-types-clause-aliases : goal.returns-in_err-types-clause-aliases
 returns-in_err-types-clause-aliases g c = met-none refl
+
+pub returns-clause-imports : goal.returns-clause-imports
+returns-clause-imports g c = rw c.params_of.ensures.same (rw (c.deref.ensures.value, c.in_ok-types.ensures) at c.define_parts.ensures.imports)
+
+pub returns-in_err-values-clause-imports : goal.returns-in_err-values-clause-imports
+returns-in_err-values-clause-imports g c = rw c.params_of.ensures.same (rw (c.deref.ensures.value, c.in_ok-types.ensures) at c.define_parts.ensures.imports)
+
+pub returns-in_err-define_parts-clause-imports : goal.returns-in_err-define_parts-clause-imports
+returns-in_err-define_parts-clause-imports g c = rw (c.deref.ensures.value, c.in_ok-types.ensures) at c.define_parts.ensures.imports
+
+pub returns-in_err-types-clause-imports : goal.returns-in_err-types-clause-imports
+returns-in_err-types-clause-imports g c = imports-none refl

@@ -10,10 +10,10 @@ use Rattle.encode_types.specs.Kinds.{parts_of, kind_of, kind_tree}
 use Rattle.encode_types.specs.Scope.{Scope}
 use Rattle.encode_types.specs.Room.{value_type}
 use Rattle.encode_types.specs.View.{View}
-use Rattle.encode_types.specs.Aliases.{MakesMet}
+use Rattle.encode_types.specs.Aliases.{ImportsMet, MakesMet}
 use Rattle.encode_types.specs.Leaves.{Leaves, LacksRoom, LearnsFrom, KindLacksRoom, DefinesKind}
 use Rattle.encode_types.proofs.Around.{around-same}
-use Rattle.encode_types.proofs.Aliasing.{met-none, makes-same}
+use Rattle.encode_types.proofs.Aliasing.{met-none, makes-same, imports-none, imports-same}
 use Rattle.encode_types.proofs.Defining.{leaves-kept, leaves-trans}
 use Rattle.encode_types.proofs.Rooms.{room-more, room-after, only-reached, lacks-request, holds-same}
 use Rattle.encode_types.proofs.encode.encode_shape.Given.{Over}
@@ -36,10 +36,13 @@ leaves g c = leaves-trans c.define_parts.ensures.leaves (leaves-kept {v = g.E.Va
 made : (g : Over) (c : After-define_parts g) → MakesMet c.args.resolve.now (parts_of (kind_of c.args.shape)) (g.E.ValtypeEncoder.view c.args.enc.now) (g.E.ValtypeEncoder.view c.define_parts.new.enc)
 made g c = rw (c.deref.ensures.value, c.in_ok-parts.ensures) at c.define_parts.ensures.aliases
 
+imported : (g : Over) (c : After-define_parts g) → ImportsMet c.args.resolve.now (parts_of (kind_of c.args.shape)) (g.E.ValtypeEncoder.view c.args.enc.now) (g.E.ValtypeEncoder.view c.define_parts.new.enc)
+imported g c = rw (c.deref.ensures.value, c.in_ok-parts.ensures) at c.define_parts.ensures.imports
+
 -- what a refusal leaves
-refused : (r : Resolve) (kind : TypeDefKind) (v v' : View) (res : Result ComponentValType Error) → IsErr res → Leaves r v v' → MakesMet r (parts_of kind) v v' → (res ≡ Err Size → KindLacksRoom r kind v v') → IfErr res IsMemoryOrSize → DefinesKind r kind v v' res
-refused r kind v v' (Ok x) h l a s f = absurd (let z : ⊥ = cc in z)
-refused r kind v v' (Err e) h l a s f = record { ok = tt; learns = tt; leaves = l; aliases = a; counts = tt; held = tt; size = s; refuses = f }
+refused : (r : Resolve) (kind : TypeDefKind) (v v' : View) (res : Result ComponentValType Error) → IsErr res → Leaves r v v' → MakesMet r (parts_of kind) v v' → ImportsMet r (parts_of kind) v v' → (res ≡ Err Size → KindLacksRoom r kind v v') → IfErr res IsMemoryOrSize → DefinesKind r kind v v' res
+refused r kind v v' (Ok x) h l a i s f = absurd (let z : ⊥ = cc in z)
+refused r kind v v' (Err e) h l a i s f = record { ok = tt; learns = tt; leaves = l; aliases = a; imports = i; counts = tt; held = tt; size = s; refuses = f }
 
 pub returns : goal.returns
 returns g c =
@@ -49,6 +52,7 @@ returns g c =
       learns = rw c.define_shape.ensures.maps_stay (learnt g at.In_ok-define_parts);
       leaves = leaves g at.After-branch-index;
       aliases = makes-same c.define_shape.ensures.around_stays (made g at.After-define_parts);
+      imports = imports-same c.define_shape.ensures.imports_stay (imported g at.After-define_parts);
       counts = record {
         slot = c.in_ok-index.index;
         is = refl;
@@ -65,13 +69,13 @@ pub returns-in_err-parts : goal.returns-in_err-parts
 returns-in_err-parts g c =
     let v = g.E.ValtypeEncoder.view c.args.enc.now in
     refused c.args.resolve.now (kind_of c.args.shape) v v c.from_residual.result (search rules)
-    (leaves-kept {v = v} {v' = v} c.requires.agree (record { kept = λ i m h. h; more = omega arith; around_ = around-same refl }) refl refl)
-    (met-none refl)
+    (leaves-kept {v = v} {v' = v} c.requires.agree (record { kept = λ i m h. h; more = omega arith; around_ = around-same refl; own_ = λ ns h. h }) refl refl)
+    (met-none refl) (imports-none refl)
     (λ h. absurd (let z : ⊥ = search rules in z)) (search rules)
 
 pub returns-in_err-define_parts : goal.returns-in_err-define_parts
 returns-in_err-define_parts g c =
-    refused c.args.resolve.now (kind_of c.args.shape) _ _ c.from_residual-in_err-define_parts.result (search rules) c.define_parts.ensures.leaves (made g (goal.at.returns-in_err-define_parts g c).After-define_parts)
+    refused c.args.resolve.now (kind_of c.args.shape) _ _ c.from_residual-in_err-define_parts.result (search rules) c.define_parts.ensures.leaves (made g (goal.at.returns-in_err-define_parts g c).After-define_parts) (imported g (goal.at.returns-in_err-define_parts g c).After-define_parts)
     (λ h.
     let lacks : LacksRoom c.args.resolve.now (parts_of (kind_of c.args.shape)) [] (g.E.ValtypeEncoder.view c.args.enc.now) (g.E.ValtypeEncoder.view c.define_parts.new.enc) = (rw (c.deref.ensures.value, c.in_ok-parts.ensures) at (c.define_parts.ensures.size (search rules))) in
     room-more refl (λ n x. x) (λ q k. none-in q k) (omega arith) lacks)
@@ -83,7 +87,7 @@ returns-in_err-index g c =
     let before = g.E.ValtypeEncoder.view c.args.enc.now in
     let between = g.E.ValtypeEncoder.view c.define_parts.new.enc in
     let after = g.E.ValtypeEncoder.view c.define_shape.new.enc in
-    refused c.args.resolve.now (kind_of c.args.shape) before after c.from_residual-in_err-index.result (search rules) (leaves g at.After-branch-index) (makes-same c.define_shape.ensures.around_stays (made g at.After-define_parts))
+    refused c.args.resolve.now (kind_of c.args.shape) before after c.from_residual-in_err-index.result (search rules) (leaves g at.After-branch-index) (makes-same c.define_shape.ensures.around_stays (made g at.After-define_parts)) (imports-same c.define_shape.ensures.imports_stay (imported g at.After-define_parts))
     (λ h.
     let keys : length between.maps.func_type_map.entries ≡ length before.maps.func_type_map.entries = ap length c.in_ok-define_parts.ensures.counts.keys.lists in
     let lacks = c.define_shape.ensures.size (search rules) in

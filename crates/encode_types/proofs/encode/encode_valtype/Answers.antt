@@ -17,3 +17,6 @@ returns-clause-knows g c = rw c.value_of.ensures.same (ready-one (g.E.ValtypeEnc
 
 pub returns-clause-aliases : goal.returns-clause-aliases
 returns-clause-aliases g c = rw c.value_of.ensures.same c.define_parts.ensures.aliases
+
+pub returns-clause-imports : goal.returns-clause-imports
+returns-clause-imports g c = rw c.value_of.ensures.same c.define_parts.ensures.imports

@@ -19,7 +19,7 @@ use Rattle.encode_types.specs.View.{WritesLearnt}
 use Rattle.encode_types.proofs.Writing.{writes-beside, writes-most}
 use Rattle.std.proofs.Common.{◌≤◌, ◌+◌}
 use Rattle.encode_types.specs.Extents.{signature_extent}
-use Rattle.encode_types.proofs.Aliasing.{makes-same}
+use Rattle.encode_types.proofs.Aliasing.{makes-same, imports-same}
 use Rattle.encode_types.specs.Codes.{names_of, lists_of, ListKey, IsKeyList}
 
 pub function_of-requires : goal.function_of-requires
@@ -124,3 +124,12 @@ returns-in_err-remember_key-clause-aliases g c = makes-same (c.remember_key.ensu
 
 pub returns-in_err-index-clause-aliases : goal.returns-in_err-index-clause-aliases
 returns-in_err-index-clause-aliases g c = makes-same c.define_function_type.ensures.around_stays c.function_of.ensures.aliases
+
+pub returns-clause-imports : goal.returns-clause-imports
+returns-clause-imports g c = imports-same (c.remember_key.ensures.imports_stay ∙ c.define_function_type.ensures.imports_stay) c.function_of.ensures.imports
+
+pub returns-in_err-remember_key-clause-imports : goal.returns-in_err-remember_key-clause-imports
+returns-in_err-remember_key-clause-imports g c = imports-same (c.remember_key.ensures.imports_stay ∙ c.define_function_type.ensures.imports_stay) c.function_of.ensures.imports
+
+pub returns-in_err-index-clause-imports : goal.returns-in_err-index-clause-imports
+returns-in_err-index-clause-imports g c = imports-same c.define_function_type.ensures.imports_stay c.function_of.ensures.imports

@@ -9,7 +9,7 @@ use Rattle.encode_types.specs.Maps.{LacksKey}
 use Rattle.encode_types.specs.Room.{HoldsFor}
 use Rattle.encode_types.specs.View.{WritesLearnt}
 use Rattle.encode_types.proofs.Agree.{on_ok}
-use Rattle.encode_types.proofs.Aliasing.{met-none, makes-then}
+use Rattle.encode_types.proofs.Aliasing.{met-none, makes-then, imports-none, imports-then}
 use Rattle.encode_types.proofs.Defining.{leaves-trans}
 use Rattle.encode_types.proofs.Encoding.{learns-nothing, learns-same}
 use Rattle.encode_types.proofs.Functions.{key-stands, counts-found, counts-behind, knows-more}
@@ -130,3 +130,14 @@ returns-in_err-list-clause-leaves g c = c.list_of_key.ensures.leaves
 
 pub returns-in_err-list-clause-aliases : goal.returns-in_err-list-clause-aliases
 returns-in_err-list-clause-aliases g c = met-none c.list_of_key.ensures.around_stays
+
+-- ---- imports
+
+pub returns-in-Some-clause-imports : goal.returns-in-Some-clause-imports
+returns-in-Some-clause-imports g c = rw c.index_of_key.ensures.same (imports-none c.list_of_key.ensures.imports_stay)
+
+pub returns-clause-imports : goal.returns-clause-imports
+returns-clause-imports g c = imports-then (ap (λ (s : Scope). s.own_interface) c.list_of_key.ensures.leaves.scope_stays) (imports-none c.list_of_key.ensures.imports_stay) (rw c.index_of_key.ensures.same at c.define_key.ensures.imports)
+
+pub returns-in_err-list-clause-imports : goal.returns-in_err-list-clause-imports
+returns-in_err-list-clause-imports g c = imports-none c.list_of_key.ensures.imports_stay

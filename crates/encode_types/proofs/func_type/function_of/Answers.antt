@@ -8,8 +8,8 @@ use Rattle.encode_types.proofs.Functions.{encode-left, encode-right}
 use Rattle.encode_types.proofs.Defining.{leaves-trans, counts-trans, stands-more}
 use Rattle.encode_types.proofs.func_type.function_of.Goals as goal
 use Rattle.encode_types.proofs.Writing.{writes-then}
-use Rattle.encode_types.specs.Aliases.{MakesMet}
-use Rattle.encode_types.proofs.Aliasing.{met-more, makes-then}
+use Rattle.encode_types.specs.Aliases.{ImportsMet, MakesMet}
+use Rattle.encode_types.proofs.Aliasing.{met-more, makes-then, imports-more, imports-then}
 use Rattle.base_lemmas.proofs.Elements.{zip-kept}
 
 pub encode_params-requires : goal.encode_params-requires
@@ -92,3 +92,24 @@ returns-in_err-result-clause-aliases g c =
     let first : MakesMet c.args.resolve.now (map (λ p. p.ty) c.args.func.now.params.items) (g.E.ValtypeEncoder.view c.args.enc.now) (g.E.ValtypeEncoder.view c.encode_params.new.enc) = (rw c.deref.ensures.value at c.encode_params.ensures.aliases) in
     let second : MakesMet c.args.resolve.now (option_to_list c.args.func.now.result) (g.E.ValtypeEncoder.view c.encode_params.new.enc) (g.E.ValtypeEncoder.view c.encode_optional_valtype.new.enc) = (rw c.as_ref.ensures.value at c.encode_optional_valtype.ensures.aliases) in
     makes-then (ap (λ (z : Scope). z.own_interface) c.encode_params.ensures.leaves.scope_stays) (met-more (reached-left params answer) first) (met-more (reached-right params answer) second)
+
+pub returns-in_err-params-clause-imports : goal.returns-in_err-params-clause-imports
+returns-in_err-params-clause-imports g c =
+    let first : ImportsMet c.args.resolve.now (map (λ p. p.ty) c.args.func.now.params.items) (g.E.ValtypeEncoder.view c.args.enc.now) (g.E.ValtypeEncoder.view c.encode_params.new.enc) = (rw c.deref.ensures.value at c.encode_params.ensures.imports) in
+    imports-more (reached-left (map (λ p. p.ty) c.args.func.now.params.items) (option_to_list c.args.func.now.result)) first
+
+pub returns-clause-imports : goal.returns-clause-imports
+returns-clause-imports g c =
+    let params = map (λ p. p.ty) c.args.func.now.params.items in
+    let answer = option_to_list c.args.func.now.result in
+    let first : ImportsMet c.args.resolve.now (map (λ p. p.ty) c.args.func.now.params.items) (g.E.ValtypeEncoder.view c.args.enc.now) (g.E.ValtypeEncoder.view c.encode_params.new.enc) = (rw c.deref.ensures.value at c.encode_params.ensures.imports) in
+    let second : ImportsMet c.args.resolve.now (option_to_list c.args.func.now.result) (g.E.ValtypeEncoder.view c.encode_params.new.enc) (g.E.ValtypeEncoder.view c.encode_optional_valtype.new.enc) = (rw c.as_ref.ensures.value at c.encode_optional_valtype.ensures.imports) in
+    imports-then (ap (λ (z : Scope). z.own_interface) c.encode_params.ensures.leaves.scope_stays) (imports-more (reached-left params answer) first) (imports-more (reached-right params answer) second)
+
+pub returns-in_err-result-clause-imports : goal.returns-in_err-result-clause-imports
+returns-in_err-result-clause-imports g c =
+    let params = map (λ p. p.ty) c.args.func.now.params.items in
+    let answer = option_to_list c.args.func.now.result in
+    let first : ImportsMet c.args.resolve.now (map (λ p. p.ty) c.args.func.now.params.items) (g.E.ValtypeEncoder.view c.args.enc.now) (g.E.ValtypeEncoder.view c.encode_params.new.enc) = (rw c.deref.ensures.value at c.encode_params.ensures.imports) in
+    let second : ImportsMet c.args.resolve.now (option_to_list c.args.func.now.result) (g.E.ValtypeEncoder.view c.encode_params.new.enc) (g.E.ValtypeEncoder.view c.encode_optional_valtype.new.enc) = (rw c.as_ref.ensures.value at c.encode_optional_valtype.ensures.imports) in
+    imports-then (ap (λ (z : Scope). z.own_interface) c.encode_params.ensures.leaves.scope_stays) (imports-more (reached-left params answer) first) (imports-more (reached-right params answer) second)

@@ -2,7 +2,7 @@ use Rattle.std.proofs.Common.{refl}
 use Rattle.encode_types.specs.Known.{as_before}
 use Rattle.std.specs.Prelude.{reverse}
 use Rattle.wit_model.specs.Lookup.{place_of}
-use Rattle.encode_flat.proofs.FlatSteps.{import-ok, imports-once}
+use Rattle.encode_flat.proofs.FlatSteps.{import-alone, import-ok, imports-once}
 use Rattle.encode_flat.proofs.encoder.FlatEncoderOfTypeEncodingMapsValtypeEncoder.import_type.Goals as goal
 
 pub returns-clause-ok : goal.returns-clause-ok
@@ -13,3 +13,6 @@ returns-clause-reaches c = as_before refl
 
 pub returns-clause-once : goal.returns-clause-once
 returns-clause-once c = imports-once c.import.result c.args.self.now c.import.new.self c.args.id.0 c.import.ensures.ok c.import.ensures.once
+
+pub returns-clause-imports : goal.returns-clause-imports
+returns-clause-imports c = record { each = λ k there. import-alone c.import.result c.args.self.now.marks c.import.new.self c.args.id.0 c.import.ensures.once c.import.ensures.err k there }

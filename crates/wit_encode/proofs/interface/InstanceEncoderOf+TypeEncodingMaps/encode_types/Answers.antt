@@ -23,7 +23,7 @@ use Rattle.base_lemmas.proofs.Elements.{contains-map, last_of as one-contained}
 
 pub loop-id-init : goal.loop-id-init
 loop-id-init c = record {
-  leaves = leaves-kept c.requires.begins.agree (record { kept = λ i m h. h; more = omega arith; around_ = around-same refl }) refl refl;
+  leaves = leaves-kept c.requires.begins.agree (record { kept = λ i m h. h; more = omega arith; around_ = around-same refl; own_ = λ ns h. h }) refl refl;
   aliases = met-none refl;
   held = holds-none c.args.resolve.now (own_of c.args.self.now.inner) c.args.self.now.maps (encoder_view c.args.self.now).held;
   written = writes-nothing c.args.resolve.now 0 (encoder_view c.args.self.now);

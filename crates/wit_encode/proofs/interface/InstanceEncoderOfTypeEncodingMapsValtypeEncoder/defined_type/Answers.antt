@@ -12,7 +12,7 @@ pub returns-in-Some-clause-ok : goal.returns-in-Some-clause-ok
 returns-in-Some-clause-ok c = (defined-within c.define_inside.result c.args.self.now.resolve.now c.args.self.now.outer c.args.self.now.inner c.in-Some.current c.define_inside.new.inner c.in-Some.is c.args.def c.requires c.define_inside.ensures.ok c.define_inside.ensures.err).ok
 
 pub returns-in-Some-clause-grows : goal.returns-in-Some-clause-grows
-returns-in-Some-clause-grows c = slots-grow (defined-within c.define_inside.result c.args.self.now.resolve.now c.args.self.now.outer c.args.self.now.inner c.in-Some.current c.define_inside.new.inner c.in-Some.is c.args.def c.requires c.define_inside.ensures.ok c.define_inside.ensures.err).grows (ap (around_of c.args.self.now.outer) (sym c.in-Some.is))
+returns-in-Some-clause-grows c = slots-grow (defined-within c.define_inside.result c.args.self.now.resolve.now c.args.self.now.outer c.args.self.now.inner c.in-Some.current c.define_inside.new.inner c.in-Some.is c.args.def c.requires c.define_inside.ensures.ok c.define_inside.ensures.err).grows (ap (around_of c.args.self.now.outer) (sym c.in-Some.is)) (λ ns h. h)
 
 pub returns-in-Some-clause-scope_stays : goal.returns-in-Some-clause-scope_stays
 returns-in-Some-clause-scope_stays c = (defined-within c.define_inside.result c.args.self.now.resolve.now c.args.self.now.outer c.args.self.now.inner c.in-Some.current c.define_inside.new.inner c.in-Some.is c.args.def c.requires c.define_inside.ensures.ok c.define_inside.ensures.err).scope_stays
@@ -24,7 +24,7 @@ pub returns-clause-ok : goal.returns-clause-ok
 returns-clause-ok c = (defined-without c.define_outside.result c.args.self.now.resolve.now c.args.self.now.outer c.args.self.now.inner c.define_outside.new.outer c.in-None.is c.args.def c.requires c.define_outside.ensures.ok c.define_outside.ensures.err).ok
 
 pub returns-clause-grows : goal.returns-clause-grows
-returns-clause-grows c = slots-grow (defined-without c.define_outside.result c.args.self.now.resolve.now c.args.self.now.outer c.args.self.now.inner c.define_outside.new.outer c.in-None.is c.args.def c.requires c.define_outside.ensures.ok c.define_outside.ensures.err).grows (ap (around_of c.define_outside.new.outer) c.in-None.is ∙ sym (ap (around_of c.args.self.now.outer) c.in-None.is))
+returns-clause-grows c = slots-grow (defined-without c.define_outside.result c.args.self.now.resolve.now c.args.self.now.outer c.args.self.now.inner c.define_outside.new.outer c.in-None.is c.args.def c.requires c.define_outside.ensures.ok c.define_outside.ensures.err).grows (ap (around_of c.define_outside.new.outer) c.in-None.is ∙ sym (ap (around_of c.args.self.now.outer) c.in-None.is)) (λ ns h. h)
 
 pub returns-clause-scope_stays : goal.returns-clause-scope_stays
 returns-clause-scope_stays c = (defined-without c.define_outside.result c.args.self.now.resolve.now c.args.self.now.outer c.args.self.now.inner c.define_outside.new.outer c.in-None.is c.args.def c.requires c.define_outside.ensures.ok c.define_outside.ensures.err).scope_stays

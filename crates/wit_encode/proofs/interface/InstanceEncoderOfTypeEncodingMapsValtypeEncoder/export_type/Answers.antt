@@ -20,7 +20,7 @@ returns-clause-ok c =
 pub returns-clause-grows : goal.returns-clause-grows
 returns-clause-grows c =
     let res : Result ℕ Error = Ok c.in_ok-slot-in-Some.slot in
-    slots-grow (type-within res c.args.self.now.resolve.now c.args.self.now.outer c.args.self.now.inner c.in-Some.current c.export_inside.new.inner c.in-Some.is c.args.index (raw_name c.args.name) c.requires c.in_ok-slot-in-Some.ensures.ok tt).grows (ap (around_of c.args.self.now.outer) (sym c.in-Some.is))
+    slots-grow (type-within res c.args.self.now.resolve.now c.args.self.now.outer c.args.self.now.inner c.in-Some.current c.export_inside.new.inner c.in-Some.is c.args.index (raw_name c.args.name) c.requires c.in_ok-slot-in-Some.ensures.ok tt).grows (ap (around_of c.args.self.now.outer) (sym c.in-Some.is)) (λ ns h. h)
 
 pub returns-clause-scope_stays : goal.returns-clause-scope_stays
 returns-clause-scope_stays c =

@@ -31,7 +31,7 @@ returns-clause-ok c = imported-stands c.alias_inside.result c.args.self.now.reso
 pub returns-clause-grows : goal.returns-clause-grows
 returns-clause-grows c =
     let g = (imports (goal.at.returns-clause-grows c).After-alias_inside).grows in
-    record { kept = g.kept; more = g.more; around_ = subst (λ (o : Option OpenInterface). GrowsAround c.args.self.now.resolve.now (around_of c.args.self.now.outer o) (around_at c.reach.new.outer c.reach.new.foreign)) (sym c.in-Some.is) (reaches-grows c.reach.ensures.reaches) }
+    record { kept = g.kept; more = g.more; around_ = subst (λ (o : Option OpenInterface). GrowsAround c.args.self.now.resolve.now (around_of c.args.self.now.outer o) (around_at c.reach.new.outer c.reach.new.foreign)) (sym c.in-Some.is) (reaches-grows c.reach.ensures.reaches); own_ = λ ns h. h }
 
 pub returns-clause-scope_stays : goal.returns-clause-scope_stays
 returns-clause-scope_stays c = (imports (goal.at.returns-clause-scope_stays c).After-alias_inside).scope_stays
@@ -76,3 +76,9 @@ returns-clause-reaches c =
 pub returns-in_err-slot-in-Some-clause-reaches : goal.returns-in_err-slot-in-Some-clause-reaches
 returns-in_err-slot-in-Some-clause-reaches c =
     subst (λ (o : Option OpenInterface). ReachesAround c.args.self.now.resolve.now c.args.id (around_of c.args.self.now.outer o) (around_at c.reach.new.outer c.reach.new.foreign)) (sym c.in-Some.is) c.reach.ensures.reaches
+
+pub returns-clause-imports : goal.returns-clause-imports
+returns-clause-imports c = record { each = λ n h. inl h }
+
+pub returns-in_err-slot-in-Some-clause-imports : goal.returns-in_err-slot-in-Some-clause-imports
+returns-in_err-slot-in-Some-clause-imports c = record { each = λ n h. inl h }

@@ -42,7 +42,8 @@ returns-clause-ok c = on-each c.declare.result (λ made w done h next.
 pub returns-clause-once : goal.returns-clause-once
 returns-clause-once c = on-each c.declare.result (λ made es h. function-defined c.args.resolve.now c.args.self.now c.encode_func_type.new.enc es (world_encoder_view c.args.self.now).scope refl c.args.placed.key.now c.args.placed.item.now c.args.func.now c.requires.item
     c.in_ok-index.ensures.counts.0 c.in_ok-index.index (towards c.args.placed.direction) _ c.declare.new.outer h c.requires.next.shown.agree.once c.in_ok-index.ensures.counts.1 c.in_ok-index.ensures.counts.2 c.in_ok-index.ensures.learns
-    (ap (λ (s : Scope). s.others.declared) c.encode_func_type.ensures.leaves.scope_stays) made) c.declare.ensures.ok
+    (ap (λ (s : Scope). s.others.declared) c.encode_func_type.ensures.leaves.scope_stays) made
+    (record { packages_ = c.requires.next.shown.packages_; packages_stay = ap (λ (s : Scope). s.packages) c.encode_func_type.ensures.leaves.scope_stays; keeps = c.encode_func_type.ensures.leaves.grows.own_; imports = c.encode_func_type.ensures.imports })) c.declare.ensures.ok
 
 pub returns-clause-few : goal.returns-clause-few
 returns-clause-few c = on-each c.declare.result (λ made es h. function-few c.args.resolve.now c.args.self.now.resolve.now c.encode_func_type.new.enc.resolve.now c.args.self.now c.encode_func_type.new.enc es

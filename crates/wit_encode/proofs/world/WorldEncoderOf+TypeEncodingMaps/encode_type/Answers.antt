@@ -27,6 +27,7 @@ returns-clause-ok c = λ w done h next. type-encoded c.args.resolve.now c.requir
 pub returns-clause-once : goal.returns-clause-once
 returns-clause-once c = λ es h. type-defined c.args.resolve.now c.args.self.now c.encode_valtype.new.enc es (world_encoder_view c.args.self.now).scope refl c.args.placed.key.now c.args.placed.item.now c.args.id c.requires.item h
     c.in_ok-encode_valtype.ensures.counts c.in_ok-encode_valtype.ensures.learns (ap (λ (s : Scope). s.others.declared) c.encode_valtype.ensures.leaves.scope_stays)
+    (record { packages_ = c.requires.next.shown.packages_; packages_stay = ap (λ (s : Scope). s.packages) c.encode_valtype.ensures.leaves.scope_stays; keeps = c.encode_valtype.ensures.leaves.grows.own_; imports = c.encode_valtype.ensures.imports })
 
 pub returns-clause-few : goal.returns-clause-few
 returns-clause-few c = λ es h. type-few c.args.resolve.now c.args.self.now.resolve.now c.encode_valtype.new.enc.resolve.now c.args.self.now c.encode_valtype.new.enc es c.args.placed.key.now c.args.placed.item.now c.args.id c.requires.item

@@ -10,7 +10,7 @@ returns-clause-starts c = λ w there. starts c.args.resolve.now w _ there refl c
     (empty-agrees c.args.resolve.now c.new-maps.result _ c.new-maps.ensures.ids c.new-maps.ensures.kinds c.new-maps.ensures.functions c.new-maps.ensures.names c.new-maps.ensures.unit_future c.new-maps.ensures.unit_stream)
 
 pub returns-clause-defines : goal.returns-clause-defines
-returns-clause-defines c = none-defined c.args.resolve.now _ c.new.ensures c.new-maps.ensures.ids c.new-maps.ensures.kinds c.new-maps.ensures.functions
+returns-clause-defines c = none-defined c.args.resolve.now _ c.new.ensures c.new-maps.ensures.ids c.new-maps.ensures.kinds c.new-maps.ensures.functions refl c.no_foreign.ensures.instances c.no_foreign.ensures.known
 
 pub returns-clause-few : goal.returns-clause-few
 returns-clause-few c = none-held c.args.resolve.now _ c.new.ensures c.no_foreign.ensures.instances

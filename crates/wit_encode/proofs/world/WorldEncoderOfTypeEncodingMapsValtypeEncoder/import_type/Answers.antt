@@ -3,6 +3,7 @@ use Rattle.std.proofs.lemmas.Option.{slice_get_within}
 use Rattle.encode_types.specs.Known.{as_before}
 use Rattle.wit_encode.specs.Instance.{around_at}
 use Rattle.wit_encode.specs.Worlds.{world_around, world_encoder_view, world_view}
+use Rattle.wit_encode.proofs.AliasesKept.{known-reached}
 use Rattle.wit_encode.proofs.Refusing.{alias-behind, on-size}
 use Rattle.wit_encode.proofs.WorldBrought.{reached-beside, reached-kept}
 use Rattle.wit_encode.proofs.WorldCalls.{WorldImports, world-imports, world-source}
@@ -54,3 +55,6 @@ returns-clause-written c = on-ok c.reach.result (λ def at. record { extent = (l
 
 pub returns-clause-reaches : goal.returns-clause-reaches
 returns-clause-reaches c = as_before (imports (goal.at.returns-clause-reaches c).After-reach).around_stays
+
+pub returns-clause-imports : goal.returns-clause-imports
+returns-clause-imports c = record { each = λ n h. known-reached (world_around c.args.self.now) (around_at c.reach.new.outer c.reach.new.foreign) c.reach.ensures.reaches n h }
