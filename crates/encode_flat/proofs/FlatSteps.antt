@@ -51,7 +51,8 @@ module _ (r : Resolve) (place : Place) (ks : List Mark) (old : List Form) (x : F
       rw h.1 (rw (reversed old new x h.2) (record {
         index = h.0;
         one_more = refl;
-        adds = subst (λ (k : ℕ). Adds (FlatReads r place ks (reverse old)) (FlatReads r place (mark.Form ∷ ks) (x ∷ reverse old)) k (ReadsAs place (FlatReads r place ks (reverse old)) x)) (sym h.0) (form-adds r place ks (reverse old) x);
+        adds = subst (λ (k : ℕ). Adds (FlatReads r place ks (reverse old)) (FlatReads r place (mark.Form ∷ ks) (x ∷ reverse old)) k (ReadsAs place (FlatReads r place ks (reverse old)) x)) (sym h.0)
+            (form-adds r place ks (reverse old) x);
       }))
   form-ok (Err e) ks' new h = h
 
@@ -60,20 +61,25 @@ module _ (r : Resolve) (place : Place) (ks : List Mark) (old : List Form) (x : F
   form-grows (Ok i) ks' new h g f = rw h.1 (rw (reversed old new x h.2) (record { kept = λ i m q. inl q; more = omega arith }))
   form-grows (Err e) ks' new h g f = rw g (rw f (record { kept = λ i m q. q; more = omega arith }))
 
-pub definition-added : {E : Type 0} (res : Result ℕ E) (declarations : List (Text × TypeMeaning)) (ks ks' : List Mark) (old new : List Form) (def : ComponentDefinedType) → IfOk res (AddsForm ks old (form.Definition def) ks' new)
+pub definition-added : {E : Type 0} (res : Result ℕ E) (declarations : List (Text × TypeMeaning)) (ks ks' : List Mark) (old new : List Form) (def : ComponentDefinedType)
+    → IfOk res (AddsForm ks old (form.Definition def) ks' new)
     → IfOk res (λ i. flat_definitions declarations ks' (reverse new) ≡ one_type_more i (flat_definitions declarations ks (reverse old)))
-definition-added (Ok i) declarations ks ks' old new def h = rw h.1 (rw (reversed old new (form.Definition def) h.2) (ap (λ (k : ℕ). one_type_more k (flat_definitions declarations ks (reverse old))) (sym h.0)))
+definition-added (Ok i) declarations ks ks' old new def h = rw h.1 (rw (reversed old new (form.Definition def) h.2)
+    (ap (λ (k : ℕ). one_type_more k (flat_definitions declarations ks (reverse old))) (sym h.0)))
 definition-added (Err e) declarations ks ks' old new def h = h
 
-pub function-added : {E : Type 0} (res : Result ℕ E) (declarations : List (Text × TypeMeaning)) (ks ks' : List Mark) (old new : List Form) (def : ComponentFuncType) → IfOk res (AddsForm ks old (form.Function def) ks' new)
+pub function-added : {E : Type 0} (res : Result ℕ E) (declarations : List (Text × TypeMeaning)) (ks ks' : List Mark) (old new : List Form) (def : ComponentFuncType)
+    → IfOk res (AddsForm ks old (form.Function def) ks' new)
     → IfOk res (λ i. flat_definitions declarations ks' (reverse new) ≡ one_function_more i (flat_definitions declarations ks (reverse old)))
-function-added (Ok i) declarations ks ks' old new def h = rw h.1 (rw (reversed old new (form.Function def) h.2) (ap (λ (k : ℕ). one_function_more k (flat_definitions declarations ks (reverse old))) (sym h.0)))
+function-added (Ok i) declarations ks ks' old new def h = rw h.1 (rw (reversed old new (form.Function def) h.2)
+    (ap (λ (k : ℕ). one_function_more k (flat_definitions declarations ks (reverse old))) (sym h.0)))
 function-added (Err e) declarations ks ks' old new def h = h
 
 -- ---- names
 
 -- a slot that stands gets one more name
-pub name-added : (r : Resolve) (place : Place) (ks ks' : List Mark) (old new : List Form) (i : ℕ) (name : ComponentExternName) (m : Standing) → FlatReads r place ks (reverse old) i m → ks' ≡ mark.Name i ∷ ks → new ≡ old ++ form.Export i name ∷ []
+pub name-added : (r : Resolve) (place : Place) (ks ks' : List Mark) (old new : List Form) (i : ℕ) (name : ComponentExternName) (m : Standing) → FlatReads r place ks (reverse old) i m
+    → ks' ≡ mark.Name i ∷ ks → new ≡ old ++ form.Export i name ∷ []
     → NameAdded (FlatReads r place ks (reverse old)) (FlatReads r place ks' (reverse new)) (slot_count ks) (slot_count ks') i (named place (raw_name name).text) None
 name-added r place ks ks' old new i name m h e f =
     let l = flat-in_range r place ks (reverse old) i m h in
@@ -86,7 +92,8 @@ name-added r place ks ks' old new i name m h e f =
       },
     ))
 
-pub name-grows : {T E : Type 0} (res : Result T E) (r : Resolve) (place : Place) (ks ks' : List Mark) (old new : List Form) (i : ℕ) (name : ComponentExternName) → OnOk res (ks' ≡ mark.Name i ∷ ks) → OnOk res (new ≡ old ++ form.Export i name ∷ []) → OnErr res (ks' ≡ ks) → OnErr res (new ≡ old)
+pub name-grows : {T E : Type 0} (res : Result T E) (r : Resolve) (place : Place) (ks ks' : List Mark) (old new : List Form) (i : ℕ) (name : ComponentExternName) → OnOk res (ks' ≡ mark.Name i ∷ ks)
+    → OnOk res (new ≡ old ++ form.Export i name ∷ []) → OnErr res (ks' ≡ ks) → OnErr res (new ≡ old)
     → SlotsGrow (FlatReads r place ks (reverse old)) (FlatReads r place ks' (reverse new)) (slot_count ks) (slot_count ks')
 name-grows (Ok u) r place ks ks' old new i name e f g h = rw e (rw (reversed old new (form.Export i name) f) (record { kept = λ j m q. inl q; more = omega arith }))
 name-grows (Err y) r place ks ks' old new i name e f g h = rw g (rw h (record { kept = λ j m q. q; more = omega arith }))
@@ -103,13 +110,16 @@ exports-one scope before slot name d c e =
       one_more = ap (λ o. exports_more slot (option_to_list o) before) found.is;
     }
 
-pub name-exported : (scope : Scope) (ks ks' : List Mark) (old new : List Form) (i : ℕ) (name : ComponentExternName) (d : Text × TypeMeaning) → Contains scope.declarations d → raw_name name ≡ exported_name d → ks' ≡ mark.Name i ∷ ks → new ≡ old ++ form.Export i name ∷ []
+pub name-exported : (scope : Scope) (ks ks' : List Mark) (old new : List Form) (i : ℕ) (name : ComponentExternName) (d : Text × TypeMeaning) → Contains scope.declarations d
+    → raw_name name ≡ exported_name d → ks' ≡ mark.Name i ∷ ks → new ≡ old ++ form.Export i name ∷ []
     → ExportsOne scope (flat_definitions scope.declarations ks (reverse old)) (flat_definitions scope.declarations ks' (reverse new)) (Some i) (raw_name name)
 name-exported scope ks ks' old new i name d c e h f = rw h (rw (reversed old new (form.Export i name) f) (exports-one scope (flat_definitions scope.declarations ks (reverse old)) (Some i) name d c e))
 
-pub resource-exported : {E : Type 0} (res : Result ℕ E) (scope : Scope) (ks ks' : List Mark) (old new : List Form) (name : ComponentExternName) (d : Text × TypeMeaning) → Contains scope.declarations d → raw_name name ≡ exported_name d → IfOk res (AddsForm ks old (form.Resource name) ks' new)
+pub resource-exported : {E : Type 0} (res : Result ℕ E) (scope : Scope) (ks ks' : List Mark) (old new : List Form) (name : ComponentExternName) (d : Text × TypeMeaning) → Contains scope.declarations d
+    → raw_name name ≡ exported_name d → IfOk res (AddsForm ks old (form.Resource name) ks' new)
     → OnOk res (ExportsOne scope (flat_definitions scope.declarations ks (reverse old)) (flat_definitions scope.declarations ks' (reverse new)) None (raw_name name))
-resource-exported (Ok i) scope ks ks' old new name d c e h = rw h.1 (rw (reversed old new (form.Resource name) h.2) (exports-one scope (flat_definitions scope.declarations ks (reverse old)) None name d c e))
+resource-exported (Ok i) scope ks ks' old new name d c e h = rw h.1 (rw (reversed old new (form.Resource name) h.2)
+    (exports-one scope (flat_definitions scope.declarations ks (reverse old)) None name d c e))
 resource-exported (Err y) scope ks ks' old new name d c e h = h
 
 -- ---- types of other interfaces
@@ -122,16 +132,19 @@ import-reads r place (mark.Name j ∷ ks) [] n i e = import-reads r place ks [] 
 import-reads r place (mark.Name j ∷ ks) (x ∷ xs) n i e = inl (import-reads r place ks xs n i e)
 import-reads r place (mark.Import k ∷ ks) xs n i e = go (import-reads r place ks xs n i) (nat_eq n k) refl e
   where
-    go : (import_slot ks n ≡ Some i → FlatReads r place ks xs i (tree (number_tree r n))) → (b : Bool) → nat_eq n k ≡ b → cond b (Some (slot_count ks)) (import_slot ks n) ≡ Some i → FlatReads r place (mark.Import k ∷ ks) xs i (tree (number_tree r n))
+    go : (import_slot ks n ≡ Some i → FlatReads r place ks xs i (tree (number_tree r n))) → (b : Bool) → nat_eq n k ≡ b → cond b (Some (slot_count ks)) (import_slot ks n) ≡ Some i
+        → FlatReads r place (mark.Import k ∷ ks) xs i (tree (number_tree r n))
     go more true q e = inr (sym (some-is (slot_count ks) i e), ap (λ (m : ℕ). tree (number_tree r m)) (eqb-true n k q))
     go more false q e = inl (more e)
 
-pub import-ok : {E : Type 0} (res : Result ℕ E) (r : Resolve) (place : Place) (ks : List Mark) (xs : List Form) (n : ℕ) → IfOk res (λ i. import_slot ks n ≡ Some i) → IfOk res (λ i. FlatReads r place ks xs i (tree (number_tree r n)))
+pub import-ok : {E : Type 0} (res : Result ℕ E) (r : Resolve) (place : Place) (ks : List Mark) (xs : List Form) (n : ℕ) → IfOk res (λ i. import_slot ks n ≡ Some i)
+    → IfOk res (λ i. FlatReads r place ks xs i (tree (number_tree r n)))
 import-ok (Ok i) r place ks xs n h = import-reads r place ks xs n i h
 import-ok (Err e) r place ks xs n h = h
 
 -- a type that has a slot keeps it, and another one gets the next
-pub imports-once : {E : Type 0} (res : Result ℕ E) (e : FlatEncoderOf TypeEncodingMaps) (ks : List Mark) (n : ℕ) → IfOk res (λ i. import_slot ks n ≡ Some i) → OnOk res (Imports e.marks n ks) → IfOk res (λ i. ImportsOnce n i e (record e { marks = ks }))
+pub imports-once : {E : Type 0} (res : Result ℕ E) (e : FlatEncoderOf TypeEncodingMaps) (ks : List Mark) (n : ℕ) → IfOk res (λ i. import_slot ks n ≡ Some i) → OnOk res (Imports e.marks n ks)
+    → IfOk res (λ i. ImportsOnce n i e (record e { marks = ks }))
 imports-once (Ok i) e ks n is once = by (import_slot e.marks n) refl
   where
     known : (k j : ℕ) → import_slot e.marks n ≡ Some j → (b : Bool) → nat_eq k n ≡ b → is_some (import_slot e.marks k) ≡ (nat_eq k n || is_some (import_slot e.marks k))
@@ -171,7 +184,8 @@ abbrev pub import_known : List Mark → ℕ → Bool
 import_known ks = λ n. is_some (import_slot ks n)
 
 -- a form changes nothing of it, and nor does a name
-pub form-imports : {E : Type 0} (res : Result ℕ E) (ks ks' : List Mark) (old new : List Form) (x : Form) → IfOk res (AddsForm ks old x ks' new) → OnErr res (ks' ≡ ks) → import_known ks' ≡ import_known ks
+pub form-imports : {E : Type 0} (res : Result ℕ E) (ks ks' : List Mark) (old new : List Form) (x : Form) → IfOk res (AddsForm ks old x ks' new) → OnErr res (ks' ≡ ks)
+    → import_known ks' ≡ import_known ks
 form-imports (Ok i) ks ks' old new x h g = ap import_known h.1
 form-imports (Err e) ks ks' old new x h g = ap import_known g
 
@@ -180,7 +194,8 @@ name-imports (Ok u) ks ks' i h g = ap import_known h
 name-imports (Err e) ks ks' i h g = ap import_known g
 
 -- an import adds this one at most
-pub import-alone : {E : Type 0} (res : Result ℕ E) (ks ks' : List Mark) (n : ℕ) → OnOk res (Imports ks n ks') → OnErr res (ks' ≡ ks) → (k : ℕ) → import_known ks' k ≡ true → (import_known ks k ≡ true) ⊎ (k ≡ n)
+pub import-alone : {E : Type 0} (res : Result ℕ E) (ks ks' : List Mark) (n : ℕ) → OnOk res (Imports ks n ks') → OnErr res (ks' ≡ ks) → (k : ℕ) → import_known ks' k ≡ true
+    → (import_known ks k ≡ true) ⊎ (k ≡ n)
 import-alone (Ok i) ks ks' n h g k there = by (import_slot ks n) refl
   where
     new : (b : Bool) → nat_eq k n ≡ b → is_some (cond b (Some (slot_count ks)) (import_slot ks k)) ≡ true → (import_known ks k ≡ true) ⊎ (k ≡ n)

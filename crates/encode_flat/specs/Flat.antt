@@ -60,7 +60,13 @@ exported_slot _ = None
 
 -- one declaration more, from this slot or from none
 abbrev pub exports_more : Option ℕ → List (Text × TypeMeaning) → Definitions → Definitions
-exports_more slot more before = record { types = before.types; exported = before.exported ++ option_to_list slot; functions = before.functions; exports = before.exports ++ more }
+exports_more slot more before = record {
+  types = before.types;
+  exported = before.exported ++ option_to_list slot;
+  functions = before.functions;
+  exports =
+      before.exports ++ more;
+}
 
 -- what a form defines, in this slot, or exports
 abbrev pub defined_by : List (Text × TypeMeaning) → ℕ → Form → Definitions → Definitions

@@ -41,7 +41,11 @@ on_ok (Err e) P Q f p = p
 pub adds-holds : (m m' : TypeEncodingMaps) → AddsNames m m' → (k : Known) (i : ℕ) → Holds m k i → Holds m' k i
 adds-holds m m' s (by_number n) i h = subst (λ (xs : List (ℕ × ℕ)). Contains xs (n, i)) (sym s.rest.numbers) h
 adds-holds m m' s (by_kind k) i h = (h.0, subst (λ (xs : List (ListKey × ℕ)). Contains (map {B = List ℕ × ℕ} (λ e. (e.0.0.items, e.1)) xs) (kind_code k, i)) (sym s.rest.kinds) h.1)
-adds-holds m m' s (by_key k) i h = (h.0, key-grow (names_of m.names) (names_of m'.names) k h.0 s.grow h.1, subst (λ (xs : List (ListKey × ℕ)). Contains (map {B = List ℕ × ℕ} (λ e. (e.0.0.items, e.1)) xs) (h.0, i)) (sym s.rest.keys) h.2)
+adds-holds m m' s (by_key k) i h = (
+  h.0,
+  key-grow (names_of m.names) (names_of m'.names) k h.0 s.grow h.1,
+  subst (λ (xs : List (ListKey × ℕ)). Contains (map {B = List ℕ × ℕ} (λ e. (e.0.0.items, e.1)) xs) (h.0, i)) (sym s.rest.keys) h.2,
+)
 adds-holds m m' s by_unit_future i h = s.rest.unit_future_ ∙ h
 adds-holds m m' s by_unit_stream i h = s.rest.unit_stream_ ∙ h
 
@@ -162,7 +166,8 @@ learns-number r m m' id i fresh l = record { grow = grow; only = λ o. only; onc
       names_ = subst (λ (ns : List (Bor Text × ℕ)). AreNumbered (map {B = Text × ℕ} (λ e. (e.0.now, e.1)) ns)) (sym l.rest.names_) o.names_;
     }
 
-pub learns-kind : (r : Resolve) (m m' : TypeEncodingMaps) (kind : TypeDefKind) (xs : List ℕ) (i : ℕ) → is_named_kind kind ≡ false → xs ≡ kind_code kind → LacksList (lists_of m.def_to_index) xs → LearnsList m m' xs i
+pub learns-kind : (r : Resolve) (m m' : TypeEncodingMaps) (kind : TypeDefKind) (xs : List ℕ) (i : ℕ) → is_named_kind kind ≡ false → xs ≡ kind_code kind → LacksList (lists_of m.def_to_index) xs
+    → LearnsList m m' xs i
     → Learns r m m' i (standing_of r (by_kind kind))
 learns-kind r m m' kind xs i unnamed is lacks l = record { grow = grow; only = λ o. only; once = once }
   where
@@ -208,7 +213,8 @@ learns-kind r m m' kind xs i unnamed is lacks l = record { grow = grow; only = �
       names_ = subst (λ (ns : List (Bor Text × ℕ)). AreNumbered (map {B = Text × ℕ} (λ e. (e.0.now, e.1)) ns)) (sym l.rest.names_) o.names_;
     }
 
-pub learns-key : (r : Resolve) (m m' : TypeEncodingMaps) (key : FunctionKey) (xs : List ℕ) (i : ℕ) → IsKeyList (names_of m.names) key xs → LacksList (lists_of m.func_type_map) xs → LearnsKeyList m m' xs i → Learns r m m' i (standing_of r (by_key key))
+pub learns-key : (r : Resolve) (m m' : TypeEncodingMaps) (key : FunctionKey) (xs : List ℕ) (i : ℕ) → IsKeyList (names_of m.names) key xs → LacksList (lists_of m.func_type_map) xs
+    → LearnsKeyList m m' xs i → Learns r m m' i (standing_of r (by_key key))
 learns-key r m m' key xs i is lacks l = record { grow = grow; only = only; once = once }
   where
     grow : (k : Known) (j : ℕ) → Holds m k j → Holds m' k j
@@ -251,7 +257,8 @@ learns-key r m m' key xs i is lacks l = record { grow = grow; only = only; once 
     }
 
 pub learns-unit_future : (r : Resolve) (m m' : TypeEncodingMaps) (i : ℕ) → m.unit_future ≡ None → m' ≡ record m { unit_future = Some i } → Learns r m m' i (standing_of r by_unit_future)
-learns-unit_future r m m' i none is = subst (λ (z : TypeEncodingMaps). Learns r m z i (standing_of r by_unit_future)) (sym is) (record { grow = grow; only = λ o. only; once = λ o. record { numbers = o.numbers; kinds = o.kinds; keys = o.keys; kind_lists = o.kind_lists; key_lists = o.key_lists; names_ = o.names_ } })
+learns-unit_future r m m' i none is = subst (λ (z : TypeEncodingMaps). Learns r m z i (standing_of r by_unit_future)) (sym is)
+    (record { grow = grow; only = λ o. only; once = λ o. record { numbers = o.numbers; kinds = o.kinds; keys = o.keys; kind_lists = o.kind_lists; key_lists = o.key_lists; names_ = o.names_ } })
   where
     grow : (k : Known) (j : ℕ) → Holds m k j → Holds (record m { unit_future = Some i }) k j
     grow (by_number k) j h = h
@@ -268,7 +275,8 @@ learns-unit_future r m m' i none is = subst (λ (z : TypeEncodingMaps). Learns r
     only by_unit_stream j h = inl h
 
 pub learns-unit_stream : (r : Resolve) (m m' : TypeEncodingMaps) (i : ℕ) → m.unit_stream ≡ None → m' ≡ record m { unit_stream = Some i } → Learns r m m' i (standing_of r by_unit_stream)
-learns-unit_stream r m m' i none is = subst (λ (z : TypeEncodingMaps). Learns r m z i (standing_of r by_unit_stream)) (sym is) (record { grow = grow; only = λ o. only; once = λ o. record { numbers = o.numbers; kinds = o.kinds; keys = o.keys; kind_lists = o.kind_lists; key_lists = o.key_lists; names_ = o.names_ } })
+learns-unit_stream r m m' i none is = subst (λ (z : TypeEncodingMaps). Learns r m z i (standing_of r by_unit_stream)) (sym is)
+    (record { grow = grow; only = λ o. only; once = λ o. record { numbers = o.numbers; kinds = o.kinds; keys = o.keys; kind_lists = o.kind_lists; key_lists = o.key_lists; names_ = o.names_ } })
   where
     grow : (k : Known) (j : ℕ) → Holds m k j → Holds (record m { unit_stream = Some i }) k j
     grow (by_number k) j h = h
@@ -303,17 +311,20 @@ on_err (Err e) P Q f p = f p
 module _ {E : Type 0} (x : Result (Unit {0}) E) (r : Resolve) (m₀ m m₁ m' : TypeEncodingMaps) (S S' : Pairs) (i : ℕ) (e : m₀ ≡ m) (e' : m' ≡ m₁) (keeps : Keeps S S') (a : MapsAgree r m S) where
   pub changes-number : (id : TypeId) → (IsKnown m id.0 → ⊥) → OnOk x (LearnsNumber m₀ m₁ id i) → OnErr x (SameMaps m₀ m₁) → S i (standing_of r (by_number id.0)) → Changes r m m' S'
   changes-number id fresh ok err s = changes-call x r m₀ m m₁ m' S S' i _ e e' keeps
-      (on_ok x _ _ (λ l. subst (λ (z : TypeEncodingMaps). Learns r z m₁ i (standing_of r (by_number id.0))) (sym e) (learns-number r m m₁ id i fresh (subst (λ (z : TypeEncodingMaps). LearnsNumber z m₁ id i) e l))) ok)
+      (on_ok x _ _ (λ l. subst (λ (z : TypeEncodingMaps). Learns r z m₁ i (standing_of r (by_number id.0))) (sym e)
+      (learns-number r m m₁ id i fresh (subst (λ (z : TypeEncodingMaps). LearnsNumber z m₁ id i) e l))) ok)
       (on_err x _ _ (λ l. same-adds m₀ m₁ l) err) a s
 
   pub changes-kind : (xs : List ℕ) → LacksList (lists_of m.def_to_index) xs → OnOk x (LearnsList m₀ m₁ xs i) → OnErr x (SameMaps m₀ m₁) → StandsAsKind r S xs i → Changes r m m' S'
   changes-kind xs fresh ok err s = changes-call x r m₀ m m₁ m' S S' i _ e e' keeps
-      (on_ok x _ _ (λ l. subst (λ (z : TypeEncodingMaps). Learns r z m₁ i (standing_of r (by_kind s.kind))) (sym e) (learns-kind r m m₁ s.kind xs i s.unnamed s.is fresh (subst (λ (z : TypeEncodingMaps). LearnsList z m₁ xs i) e l))) ok)
+      (on_ok x _ _ (λ l. subst (λ (z : TypeEncodingMaps). Learns r z m₁ i (standing_of r (by_kind s.kind))) (sym e)
+      (learns-kind r m m₁ s.kind xs i s.unnamed s.is fresh (subst (λ (z : TypeEncodingMaps). LearnsList z m₁ xs i) e l))) ok)
       (on_err x _ _ (λ l. same-adds m₀ m₁ l) err) a s.stands
 
   pub changes-key : (xs : List ℕ) → LacksList (lists_of m.func_type_map) xs → OnOk x (LearnsKeyList m₀ m₁ xs i) → OnErr x (SameMaps m₀ m₁) → StandsAsKey r (names_of m.names) S xs i → Changes r m m' S'
   changes-key xs fresh ok err s = changes-call x r m₀ m m₁ m' S S' i _ e e' keeps
-      (on_ok x _ _ (λ l. subst (λ (z : TypeEncodingMaps). Learns r z m₁ i (standing_of r (by_key s.key))) (sym e) (learns-key r m m₁ s.key xs i s.is fresh (subst (λ (z : TypeEncodingMaps). LearnsKeyList z m₁ xs i) e l))) ok)
+      (on_ok x _ _ (λ l. subst (λ (z : TypeEncodingMaps). Learns r z m₁ i (standing_of r (by_key s.key))) (sym e)
+      (learns-key r m m₁ s.key xs i s.is fresh (subst (λ (z : TypeEncodingMaps). LearnsKeyList z m₁ xs i) e l))) ok)
       (on_err x _ _ (λ l. same-adds m₀ m₁ l) err) a s.stands
 
 -- a call that adds names alone
@@ -321,11 +332,18 @@ pub changes-listed : (r : Resolve) (m₀ m m₁ m' : TypeEncodingMaps) (S S' : P
 changes-listed r m₀ m m₁ m' S S' e e' keeps l a = subst (λ (z : TypeEncodingMaps). Changes r m z S') (sym e')
     (changes-names r m m₁ S' (subst (λ (z : TypeEncodingMaps). AddsNames z m₁) e l) (record { says = λ k j c. keeps j (standing_of r k) (a.says k j c); once = a.once }))
 
-pub changes-unit : (r : Resolve) (m m' : TypeEncodingMaps) (S S' : Pairs) (k : Known) (i : ℕ) → Keeps S S' → Learns r m m' i (standing_of r k) → MapsAgree r m S → S i (standing_of r k) → Changes r m m' S'
+pub changes-unit : (r : Resolve) (m m' : TypeEncodingMaps) (S S' : Pairs) (k : Known) (i : ℕ) → Keeps S S' → Learns r m m' i (standing_of r k) → MapsAgree r m S → S i (standing_of r k)
+    → Changes r m m' S'
 changes-unit r m m' S S' k i keeps l a s = changes-learns r m m' S' i _ l (record { says = λ k j h. keeps j (standing_of r k) (a.says k j h); once = a.once }) (keeps i (standing_of r k) s)
 
 pub leaves-changed : (r : Resolve) (v v' : View) → SameRest v v' → Changes r v.maps v'.maps v'.stands → Leaves r v v'
-leaves-changed r v v' s c = record { agree = c.agree; maps_grow = c.grow; grows = record { kept = s.kept; more = (let e = s.slot_count_ in omega arith); around_ = around-same s.around_; own_ = s.own_ }; scope_stays = s.scope_ }
+leaves-changed r v v' s c = record {
+  agree = c.agree;
+  maps_grow = c.grow;
+  grows =
+      record { kept = s.kept; more = (let e = s.slot_count_ in omega arith); around_ = around-same s.around_; own_ = s.own_ };
+  scope_stays = s.scope_;
+}
 
 pub known-learnt : (m m' : TypeEncodingMaps) (id : TypeId) (i : ℕ) → LearnsNumber m m' id i → IsKnown m' id.0
 known-learnt m m' id i l = (i, new-in m.id_to_index.entries m'.id_to_index.entries (id.0, i) l.more)
@@ -346,7 +364,8 @@ learnt-one m m₁ m' id i e l = record { known = known-learnt m₁ m' id i l; on
     ]
 
 -- maps that hold nothing agree with any slots
-pub empty-agrees : (r : Resolve) (m : TypeEncodingMaps) (S : Pairs) → m.id_to_index.entries ≡ [] → m.def_to_index.entries ≡ [] → m.func_type_map.entries ≡ [] → m.names.entries ≡ [] → m.unit_future ≡ None → m.unit_stream ≡ None → MapsAgree r m S
+pub empty-agrees : (r : Resolve) (m : TypeEncodingMaps) (S : Pairs) → m.id_to_index.entries ≡ [] → m.def_to_index.entries ≡ [] → m.func_type_map.entries ≡ [] → m.names.entries ≡ []
+    → m.unit_future ≡ None → m.unit_stream ≡ None → MapsAgree r m S
 empty-agrees r m S ids kinds keys names future stream = record {
   says = says;
   once = record {

@@ -36,19 +36,22 @@ met-then {r} {own} {ts} {a} {b} {c} p q = record {
 }
 
 -- of types that are met from others, too
-pub met-more : {r : Resolve} {own : Option InterfaceId} {ts us : List ValueType} {a b : Around} → ((n : ℕ) → ReachedFrom r own ts n → ReachedFrom r own us n) → AliasesMet r own ts a b → AliasesMet r own us a b
+pub met-more : {r : Resolve} {own : Option InterfaceId} {ts us : List ValueType} {a b : Around} → ((n : ℕ) → ReachedFrom r own ts n → ReachedFrom r own us n) → AliasesMet r own ts a b
+    → AliasesMet r own us a b
 met-more f p = record {
   grown = p.grown;
   met = λ x c. let m = p.met x c in record { met = f x.number.0 m.met; def = m.def; there = m.there; interface = m.interface; foreign = m.foreign };
 }
 
 -- one of this type, which is of another interface
-pub met-one : {r : Resolve} {own : Option InterfaceId} {id : TypeId} {a b : Around} (def : TypeDef) (interface : InterfaceId) → type_at r id.0 ≡ Some def → foreign_owner own def.owner ≡ Some interface → ReachesAround r id a b → AliasesMet r own (ty.Id id ∷ []) a b
+pub met-one : {r : Resolve} {own : Option InterfaceId} {id : TypeId} {a b : Around} (def : TypeDef) (interface : InterfaceId) → type_at r id.0 ≡ Some def → foreign_owner own def.owner ≡ Some interface
+    → ReachesAround r id a b → AliasesMet r own (ty.Id id ∷ []) a b
 met-one def interface at f (as_before e) = met-none e
 met-one {r} {own} {id} {a} {b} def interface at f (aliased x is n e) = record {
   grown = record { made = x ∷ []; are = (is, tt); is = e };
   met = λ y c. subst (λ (z : Aliased). IsMetElsewhere r own (ty.Id id ∷ []) z.number.0) (one-contained x y c)
-      (subst (λ (z : TypeId). IsMetElsewhere r own (ty.Id id ∷ []) z.0) (sym n) (record { met = (ty.Id id, contains-one (ty.Id id), itself id); def = def; there = at; interface = interface; foreign = f }));
+      (subst (λ (z : TypeId). IsMetElsewhere r own (ty.Id id ∷ []) z.0) (sym n)
+      (record { met = (ty.Id id, contains-one (ty.Id id), itself id); def = def; there = at; interface = interface; foreign = f }));
 }
 
 -- ---- between two encoders
@@ -61,7 +64,8 @@ pub makes-same : {r : Resolve} {own : Option InterfaceId} {ts : List ValueType} 
 makes-same {r} {own} {ts} {a} {b} {c} e p = subst (λ (z : Around). AliasesMet r own ts a z) (sym e) p
 
 -- from one number of an order
-pub makes-number : {r : Resolve} {own own' : Option InterfaceId} {m : TypeEncodingMaps} {ts : List ValueType} {items : List ℕ} {a b c : Around} (n : ℕ) → own' ≡ own → IsOrderOf r own m ts items → Contains items n
+pub makes-number : {r : Resolve} {own own' : Option InterfaceId} {m : TypeEncodingMaps} {ts : List ValueType} {items : List ℕ} {a b c : Around} (n : ℕ) → own' ≡ own → IsOrderOf r own m ts items
+    → Contains items n
     → AliasesMet r own ts a b → AliasesMet r own' (ty.Id (record { 0 = n }) ∷ []) b c → AliasesMet r own ts a c
 makes-number {r} {own} {own'} {m} {ts} {items} {a} {b} {c} n s o h p q =
     let met = o.added n h in
@@ -83,27 +87,32 @@ imports-none e = record { each = λ n c. inl (subst (λ (zs : ℕ → Bool). zs 
 pub imports-same : {r : Resolve} {own : Option InterfaceId} {ts : List ValueType} {xs ys zs : ℕ → Bool} → zs ≡ ys → NumbersMet r own ts xs ys → NumbersMet r own ts xs zs
 imports-same {r} {own} {ts} {xs} {ys} {zs} e p = subst (λ (us : ℕ → Bool). NumbersMet r own ts xs us) (sym e) p
 
-pub imports-then : {r : Resolve} {own own' : Option InterfaceId} {ts : List ValueType} {xs ys zs : ℕ → Bool} → own' ≡ own → NumbersMet r own ts xs ys → NumbersMet r own' ts ys zs → NumbersMet r own ts xs zs
+pub imports-then : {r : Resolve} {own own' : Option InterfaceId} {ts : List ValueType} {xs ys zs : ℕ → Bool} → own' ≡ own → NumbersMet r own ts xs ys → NumbersMet r own' ts ys zs
+    → NumbersMet r own ts xs zs
 imports-then {r} {own} {own'} {ts} {xs} {ys} {zs} s p q = record {
   each = λ n c. elim ((subst (λ (z : Option InterfaceId). NumbersMet r z ts ys zs) s q).each n c) [ inl old ↦ p.each n old | inr new ↦ inr new ];
 }
 
-pub imports-more : {r : Resolve} {own : Option InterfaceId} {ts us : List ValueType} {xs ys : ℕ → Bool} → ((n : ℕ) → ReachedFrom r own ts n → ReachedFrom r own us n) → NumbersMet r own ts xs ys → NumbersMet r own us xs ys
+pub imports-more : {r : Resolve} {own : Option InterfaceId} {ts us : List ValueType} {xs ys : ℕ → Bool} → ((n : ℕ) → ReachedFrom r own ts n → ReachedFrom r own us n) → NumbersMet r own ts xs ys
+    → NumbersMet r own us xs ys
 imports-more f p = record {
   each = λ n c. elim (p.each n c) [ inl old ↦ inl old | inr m ↦ inr (record { met = f n m.met; def = m.def; there = m.there; interface = m.interface; foreign = m.foreign }) ];
 }
 
 -- one of this type, which is of another interface
-pub imports-one : {r : Resolve} {own : Option InterfaceId} {id : TypeId} {xs ys : ℕ → Bool} (def : TypeDef) (interface : InterfaceId) → type_at r id.0 ≡ Some def → foreign_owner own def.owner ≡ Some interface → ImportsOne id xs ys → NumbersMet r own (ty.Id id ∷ []) xs ys
+pub imports-one : {r : Resolve} {own : Option InterfaceId} {id : TypeId} {xs ys : ℕ → Bool} (def : TypeDef) (interface : InterfaceId) → type_at r id.0 ≡ Some def
+    → foreign_owner own def.owner ≡ Some interface → ImportsOne id xs ys → NumbersMet r own (ty.Id id ∷ []) xs ys
 imports-one {r} {own} {id} {xs} {ys} def interface at f one = record {
   each = λ n c. elim (one.each n c) [
     | inl old ↦ inl old
-    | inr e ↦ inr (subst (λ (m : ℕ). IsMetElsewhere r own (ty.Id id ∷ []) m) (sym e) (record { met = (ty.Id id, contains-one (ty.Id id), itself id); def = def; there = at; interface = interface; foreign = f }))
+    | inr e ↦ inr (subst (λ (m : ℕ). IsMetElsewhere r own (ty.Id id ∷ []) m) (sym e)
+        (record { met = (ty.Id id, contains-one (ty.Id id), itself id); def = def; there = at; interface = interface; foreign = f }))
   ];
 }
 
 -- from one number of an order
-pub imports-number : {r : Resolve} {own own' : Option InterfaceId} {m : TypeEncodingMaps} {ts : List ValueType} {items : List ℕ} {xs ys zs : ℕ → Bool} (n : ℕ) → own' ≡ own → IsOrderOf r own m ts items → Contains items n
+pub imports-number : {r : Resolve} {own own' : Option InterfaceId} {m : TypeEncodingMaps} {ts : List ValueType} {items : List ℕ} {xs ys zs : ℕ → Bool} (n : ℕ) → own' ≡ own → IsOrderOf r own m ts items
+    → Contains items n
     → NumbersMet r own ts xs ys → NumbersMet r own' (ty.Id (record { 0 = n }) ∷ []) ys zs → NumbersMet r own ts xs zs
 imports-number {r} {own} {own'} {m} {ts} {items} {xs} {ys} {zs} n s o h p q =
     let met = o.added n h in

@@ -103,12 +103,21 @@ own-form _ n m = refl
 
 -- ---- counts
 
-pub lists-longer : {K : Type 0} (f : K → List ℕ) (es fs : List (K × ℕ)) (x : List ℕ × ℕ) → IsPermutation (map {B = List ℕ × ℕ} (λ e. (f e.0, e.1)) es ++ x ∷ []) (map {B = List ℕ × ℕ} (λ e. (f e.0, e.1)) fs) → length fs ≡ length es + 1
+pub lists-longer : {K : Type 0} (f : K → List ℕ) (es fs : List (K × ℕ)) (x : List ℕ × ℕ)
+    → IsPermutation (map {B = List ℕ × ℕ} (λ e. (f e.0, e.1)) es ++ x ∷ []) (map {B = List ℕ × ℕ} (λ e. (f e.0, e.1)) fs) → length fs ≡ length es + 1
 lists-longer f es fs x p =
     sym (length-map fs (λ e. (f e.0, e.1))) ∙ length_permutation _ _ p ∙ length-append (map (λ e. (f e.0, e.1)) es) (x ∷ []) ∙ ap (λ n. n + 1) (length-map es (λ e. (f e.0, e.1)))
 
 pub shows-none : (r : Resolve) (scope : Scope) (m m' : TypeEncodingMaps) (d d' : Definitions) → m'.id_to_index.entries ≡ m.id_to_index.entries → d'.exports ≡ d.exports → Shows r scope m m' d d'
-shows-none r scope m m' d d' e f = record { learnt = []; shown = []; numbers = subst (λ (es : List (ℕ × ℕ)). IsPermutation (m.id_to_index.entries ++ []) es) (append-nil m.id_to_index.entries ∙ sym e) (IsPermutation-refl _); exports = f ∙ sym (append-nil d.exports); declared = λ x c. none-in x c; names = refl }
+shows-none r scope m m' d d' e f = record {
+  learnt = [];
+  shown = [];
+  numbers =
+      subst (λ (es : List (ℕ × ℕ)). IsPermutation (m.id_to_index.entries ++ []) es) (append-nil m.id_to_index.entries ∙ sym e) (IsPermutation-refl _);
+  exports = f ∙ sym (append-nil d.exports);
+  declared = λ x c. none-in x c;
+  names = refl;
+}
 
 pub shows-trans : {r : Resolve} {scope : Scope} {a b c : TypeEncodingMaps} {d e f : Definitions} → Shows r scope a b d e → Shows r scope b c e f → Shows r scope a c d f
 shows-trans {r} {scope} {a} {b} {c} {d} {e} {f} p q = record {
@@ -124,7 +133,8 @@ one-name : (o : Option Text) (t : Text) → o ≡ Some t → cons_option o [] �
 one-name o t e = ap (λ x. cons_option x []) e
 
 -- a number that shows nothing
-shows-unshown : (r : Resolve) (scope : Scope) (m m' : TypeEncodingMaps) (d d' : Definitions) (id : TypeId) (i : ℕ) → LearnsNumber m m' id i → own_name r scope id.0 ≡ None → d'.exports ≡ d.exports → Shows r scope m m' d d'
+shows-unshown : (r : Resolve) (scope : Scope) (m m' : TypeEncodingMaps) (d d' : Definitions) (id : TypeId) (i : ℕ) → LearnsNumber m m' id i → own_name r scope id.0 ≡ None → d'.exports ≡ d.exports
+    → Shows r scope m m' d d'
 shows-unshown r scope m m' d d' id i l n e = record {
   learnt = (id.0, i) ∷ [];
   shown = [];
@@ -135,7 +145,8 @@ shows-unshown r scope m m' d d' id i l n e = record {
 }
 
 -- a number that is shown by its name
-shows-shown : (r : Resolve) (scope : Scope) (m m' : TypeEncodingMaps) (d d₁ d' : Definitions) (id : TypeId) (i : ℕ) {slot : Option ℕ} (name : ExternName) → LearnsNumber m m' id i → own_name r scope id.0 ≡ Some name.text → d₁.exports ≡ d.exports → ExportsOne scope d₁ d' slot name → Shows r scope m m' d d'
+shows-shown : (r : Resolve) (scope : Scope) (m m' : TypeEncodingMaps) (d d₁ d' : Definitions) (id : TypeId) (i : ℕ) {slot : Option ℕ} (name : ExternName) → LearnsNumber m m' id i
+    → own_name r scope id.0 ≡ Some name.text → d₁.exports ≡ d.exports → ExportsOne scope d₁ d' slot name → Shows r scope m m' d d'
 shows-shown r scope m m' d d₁ d' id i name l n e x = record {
   learnt = (id.0, i) ∷ [];
   shown = x.declaration ∷ [];
@@ -146,12 +157,30 @@ shows-shown r scope m m' d d₁ d' id i name l n e x = record {
 }
 
 pub counts-none : (r : Resolve) (scope : Scope) (m : TypeEncodingMaps) (d : Definitions) → AddsTypes r scope m m d d
-counts-none r scope m d = record { slots = slots-none r scope m m d d refl refl refl refl; functions = refl; keys = record { lists = refl; names_ = refl; units = record { future_ = refl; stream_ = refl } }; shows = shows-none r scope m m d d refl refl }
+counts-none r scope m d = record {
+  slots = slots-none r scope m m d d refl refl refl refl;
+  functions = refl;
+  keys =
+      record { lists = refl; names_ = refl; units = record { future_ = refl; stream_ = refl } };
+  shows = shows-none r scope m m d d refl refl;
+}
 
-pub counts-trans : {r : Resolve} {scope scope' : Scope} {a b c : TypeEncodingMaps} {d e f : Definitions} → scope' ≡ scope → AddsTypes r scope a b d e → AddsTypes r scope' b c e f → AddsTypes r scope a c d f
+pub counts-trans : {r : Resolve} {scope scope' : Scope} {a b c : TypeEncodingMaps} {d e f : Definitions} → scope' ≡ scope → AddsTypes r scope a b d e → AddsTypes r scope' b c e f
+    → AddsTypes r scope a c d f
 counts-trans {r} {scope} {scope'} {a} {b} {c} {d} {e} {f} s p q =
     let q' : AddsTypes r scope b c e f = subst (λ (z : Scope). AddsTypes r z b c e f) s q in
-    record { slots = slots-then p.slots q'.slots; functions = q'.functions ∙ p.functions; keys = record { lists = q'.keys.lists ∙ p.keys.lists; names_ = q'.keys.names_ ∙ p.keys.names_; units = record { future_ = q'.keys.units.future_ ∙ p.keys.units.future_; stream_ = q'.keys.units.stream_ ∙ p.keys.units.stream_ } }; shows = shows-trans p.shows q'.shows }
+    record {
+      slots = slots-then p.slots q'.slots;
+      functions = q'.functions ∙ p.functions;
+      keys =
+          record {
+            lists = q'.keys.lists ∙ p.keys.lists;
+            names_ = q'.keys.names_ ∙ p.keys.names_;
+            units =
+                record { future_ = q'.keys.units.future_ ∙ p.keys.units.future_; stream_ = q'.keys.units.stream_ ∙ p.keys.units.stream_ };
+          };
+      shows = shows-trans p.shows q'.shows;
+    }
 
 -- an unnamed kind, in slot i
 pub counts-kind : (r : Resolve) (scope : Scope) (m m' : TypeEncodingMaps) (d d' : Definitions) (xs : List ℕ) (i : ℕ) → LearnsList m m' xs i → d' ≡ one_type_more i d → AddsTypes r scope m m' d d'
@@ -163,7 +192,8 @@ counts-kind r scope m m' d d' xs i l e = record {
 }
 
 -- a number that has no definition and is exported under no name
-pub counts-number : (r : Resolve) (scope : Scope) (m m' : TypeEncodingMaps) (d d' : Definitions) (id : TypeId) (i : ℕ) → LearnsNumber m m' id i → own_name r scope id.0 ≡ None → is_defined_by_name r scope id.0 ≡ false → d' ≡ d → AddsTypes r scope m m' d d'
+pub counts-number : (r : Resolve) (scope : Scope) (m m' : TypeEncodingMaps) (d d' : Definitions) (id : TypeId) (i : ℕ) → LearnsNumber m m' id i → own_name r scope id.0 ≡ None
+    → is_defined_by_name r scope id.0 ≡ false → d' ≡ d → AddsTypes r scope m m' d d'
 counts-number r scope m m' d d' id i l n b e = record {
   slots = slots-number r scope m m' d d' id i l b (ap (λ (z : Definitions). z.types) e) (ap (λ (z : Definitions). z.exported) e);
   functions = ap (λ (z : Definitions). z.functions) e;
@@ -172,7 +202,8 @@ counts-number r scope m m' d d' id i l n b e = record {
 }
 
 -- a resource
-pub counts-resource : (r : Resolve) (scope : Scope) (m m' : TypeEncodingMaps) (d d' : Definitions) (id : TypeId) (i : ℕ) (name : ExternName) → LearnsNumber m m' id i → own_name r scope id.0 ≡ Some name.text → is_defined_by_name r scope id.0 ≡ false → ExportsOne scope d d' None name
+pub counts-resource : (r : Resolve) (scope : Scope) (m m' : TypeEncodingMaps) (d d' : Definitions) (id : TypeId) (i : ℕ) (name : ExternName) → LearnsNumber m m' id i
+    → own_name r scope id.0 ≡ Some name.text → is_defined_by_name r scope id.0 ≡ false → ExportsOne scope d d' None name
     → AddsTypes r scope m m' d d'
 counts-resource r scope m m' d d' id i name l n b x = record {
   slots = slots-number r scope m m' d d' id i l b (ap (λ (z : Definitions). z.types) x.one_more) (ap (λ (z : Definitions). z.exported) x.one_more ∙ append-nil d.exported);
@@ -194,10 +225,12 @@ exports-if true i d = refl
 exports-if false i d = refl
 
 -- a number whose name is exported from slot j: that of its definition, or of what it is another name of
-pub counts-named : (r : Resolve) (scope : Scope) (m m' : TypeEncodingMaps) (d d₁ d' : Definitions) (id : TypeId) (i j : ℕ) (b : Bool) (name : ExternName) → LearnsNumber m m' id i → own_name r scope id.0 ≡ Some name.text → is_defined_by_name r scope id.0 ≡ b → d₁ ≡ type_more_if b j d
+pub counts-named : (r : Resolve) (scope : Scope) (m m' : TypeEncodingMaps) (d d₁ d' : Definitions) (id : TypeId) (i j : ℕ) (b : Bool) (name : ExternName) → LearnsNumber m m' id i
+    → own_name r scope id.0 ≡ Some name.text → is_defined_by_name r scope id.0 ≡ b → d₁ ≡ type_more_if b j d
     → ExportsOne scope d₁ d' (Some j) name → (b ≡ false → IsTarget r m j) → AddsTypes r scope m m' d d'
 counts-named r scope m m' d d₁ d' id i j b name l n q e x target = record {
-  slots = slots-named r scope m m' d d' id i j b l q (ap (λ (z : Definitions). z.types) x.one_more ∙ ap (λ (z : Definitions). z.types) e) (ap (λ (z : Definitions). z.exported) x.one_more ∙ ap (λ (z : Definitions). z.exported ++ j ∷ []) e ∙ ap (λ xs. xs ++ j ∷ []) (types-if b j d)) target;
+  slots = slots-named r scope m m' d d' id i j b l q (ap (λ (z : Definitions). z.types) x.one_more ∙ ap (λ (z : Definitions). z.types) e)
+      (ap (λ (z : Definitions). z.exported) x.one_more ∙ ap (λ (z : Definitions). z.exported ++ j ∷ []) e ∙ ap (λ xs. xs ++ j ∷ []) (types-if b j d)) target;
   functions = ap (λ (z : Definitions). z.functions) x.one_more ∙ ap (λ (z : Definitions). z.functions) e ∙ functions-if b j d;
   keys = record { lists = l.rest.keys; names_ = l.rest.names_; units = record { future_ = l.rest.unit_future_; stream_ = l.rest.unit_stream_ } };
   shows = shows-shown r scope m m' d d₁ d' id i name l n (ap (λ (z : Definitions). z.exports) e ∙ exports-if b j d) x;

@@ -33,13 +33,16 @@ tabled r l n def at = ap (λ o. unwrap_or o no_tree) (trees_at r n def at (l.sma
 pub defined-at : (r : Resolve) (scope : Scope) (n : ℕ) (def : TypeDef) → type_at r n ≡ Some def → is_defined_by_name r scope n ≡ is_defined_under_name scope def
 defined-at r scope n def at = ap (λ o. option_map_or (is_defined_under_name scope) o false) at
 
-pub foreign-undefined : (r : Resolve) (scope : Scope) (n : ℕ) (def : TypeDef) (i : InterfaceId) → type_at r n ≡ Some def → foreign_owner scope.own_interface def.owner ≡ Some i → is_defined_by_name r scope n ≡ false
+pub foreign-undefined : (r : Resolve) (scope : Scope) (n : ℕ) (def : TypeDef) (i : InterfaceId) → type_at r n ≡ Some def → foreign_owner scope.own_interface def.owner ≡ Some i
+    → is_defined_by_name r scope n ≡ false
 foreign-undefined r scope n def i at f = defined-at r scope n def at ∙ ap (λ o. is_none o && (is_some def.name && has_definition def.kind)) f
 
-pub unnamed-undefined : (r : Resolve) (scope : Scope) (n : ℕ) (def : TypeDef) → type_at r n ≡ Some def → foreign_owner scope.own_interface def.owner ≡ None → def.name ≡ None → is_defined_by_name r scope n ≡ false
+pub unnamed-undefined : (r : Resolve) (scope : Scope) (n : ℕ) (def : TypeDef) → type_at r n ≡ Some def → foreign_owner scope.own_interface def.owner ≡ None → def.name ≡ None
+    → is_defined_by_name r scope n ≡ false
 unnamed-undefined r scope n def at f e = defined-at r scope n def at ∙ ap (λ o. is_none o && (is_some def.name && has_definition def.kind)) f ∙ ap (λ o. is_some o && has_definition def.kind) e
 
-pub named-defined : (r : Resolve) (scope : Scope) (n : ℕ) (def : TypeDef) (name : String Global) → type_at r n ≡ Some def → foreign_owner scope.own_interface def.owner ≡ None → def.name ≡ Some name → is_defined_by_name r scope n ≡ has_definition def.kind
+pub named-defined : (r : Resolve) (scope : Scope) (n : ℕ) (def : TypeDef) (name : String Global) → type_at r n ≡ Some def → foreign_owner scope.own_interface def.owner ≡ None → def.name ≡ Some name
+    → is_defined_by_name r scope n ≡ has_definition def.kind
 named-defined r scope n def name at f e = defined-at r scope n def at ∙ ap (λ o. is_none o && (is_some def.name && has_definition def.kind)) f ∙ ap (λ o. is_some o && has_definition def.kind) e
 
 -- ---- names that are shown
@@ -47,13 +50,15 @@ named-defined r scope n def name at f e = defined-at r scope n def at ∙ ap (λ
 pub shown-at : (r : Resolve) (scope : Scope) (n : ℕ) (def : TypeDef) → type_at r n ≡ Some def → own_name r scope n ≡ name_of_own scope def
 shown-at r scope n def at = ap (option_and_then (name_of_own scope)) at
 
-pub foreign-unshown : (r : Resolve) (scope : Scope) (n : ℕ) (def : TypeDef) (i : InterfaceId) → type_at r n ≡ Some def → foreign_owner scope.own_interface def.owner ≡ Some i → own_name r scope n ≡ None
+pub foreign-unshown : (r : Resolve) (scope : Scope) (n : ℕ) (def : TypeDef) (i : InterfaceId) → type_at r n ≡ Some def → foreign_owner scope.own_interface def.owner ≡ Some i
+    → own_name r scope n ≡ None
 foreign-unshown r scope n def i at f = shown-at r scope n def at ∙ ap (λ o. cond (is_none o) (option_map text_of def.name) None) f
 
 pub unnamed-unshown : (r : Resolve) (scope : Scope) (n : ℕ) (def : TypeDef) → type_at r n ≡ Some def → foreign_owner scope.own_interface def.owner ≡ None → def.name ≡ None → own_name r scope n ≡ None
 unnamed-unshown r scope n def at f e = shown-at r scope n def at ∙ ap (λ o. cond (is_none o) (option_map text_of def.name) None) f ∙ ap (option_map text_of) e
 
-pub named-shown : (r : Resolve) (scope : Scope) (n : ℕ) (def : TypeDef) (name : String Global) → type_at r n ≡ Some def → foreign_owner scope.own_interface def.owner ≡ None → def.name ≡ Some name → own_name r scope n ≡ Some (text_of name)
+pub named-shown : (r : Resolve) (scope : Scope) (n : ℕ) (def : TypeDef) (name : String Global) → type_at r n ≡ Some def → foreign_owner scope.own_interface def.owner ≡ None → def.name ≡ Some name
+    → own_name r scope n ≡ Some (text_of name)
 named-shown r scope n def name at f e = shown-at r scope n def at ∙ ap (λ o. cond (is_none o) (option_map text_of def.name) None) f ∙ ap (option_map text_of) e
 
 -- what is met is reached
@@ -75,7 +80,8 @@ reaches-in_range r own l _ _ inside (through id def t n at f c re) = reaches-in_
     let below : id'.0 < id.0 = part-smaller r l id.0 def id' at (subst (λ (x : ValueType). Contains (parts_of def.kind) x) e c) in omega arith)
     re
 
-pub ready-now : (r : Resolve) (own : Option InterfaceId) (m₀ m : TypeEncodingMaps) (items : List ℕ) (k : ℕ) → IsOrdered r own m₀ items → k < length items → MapsGrow m₀ m → ((j : ℕ) → Contains (take k items) j → IsKnown m j)
+pub ready-now : (r : Resolve) (own : Option InterfaceId) (m₀ m : TypeEncodingMaps) (items : List ℕ) (k : ℕ) → IsOrdered r own m₀ items → k < length items → MapsGrow m₀ m
+    → ((j : ℕ) → Contains (take k items) j → IsKnown m j)
     → (def : TypeDef) → type_at r (get_or items k 0) ≡ Some def → foreign_owner own def.owner ≡ None → AllReady m (parts_of def.kind)
 ready-now r own m₀ m items k o lt g known def at f t c id e =
     elim (o k lt def id at f (subst (λ (x : ValueType). Contains (parts_of def.kind) x) e c)) [ inl q ↦ known-grow m₀ m id.0 g q | inr q ↦ known id.0 q ]
@@ -88,7 +94,8 @@ known-more m m' items k lt g known here j h =
       | inr e ↦ subst (λ (x : ℕ). IsKnown m' x) e here
     ]
 
-pub ready-at-last : (r : Resolve) (own : Option InterfaceId) (m₀ m : TypeEncodingMaps) (ts : List ValueType) (items : List ℕ) (k : ℕ) → IsOrderOf r own m₀ ts items → length items ≤ k → MapsGrow m₀ m → ((j : ℕ) → Contains (take k items) j → IsKnown m j) → AllReady m ts
+pub ready-at-last : (r : Resolve) (own : Option InterfaceId) (m₀ m : TypeEncodingMaps) (ts : List ValueType) (items : List ℕ) (k : ℕ) → IsOrderOf r own m₀ ts items → length items ≤ k → MapsGrow m₀ m
+    → ((j : ℕ) → Contains (take k items) j → IsKnown m j) → AllReady m ts
 ready-at-last r own m₀ m ts items k p le g known t c id e = elim (p.stands t c id e) [
   | inl q ↦ known-grow m₀ m id.0 g q
   | inr q ↦ known id.0 (subst (λ (xs : List ℕ). Contains xs id.0) (sym (take_all k items le)) q)
@@ -98,18 +105,21 @@ pub learns-nothing : (P : ℕ → Type 0) (m : TypeEncodingMaps) → LearnsOnly 
 learns-nothing P m = record { each = λ id i c. inl c }
 
 -- one turn of the loop
-pub learns-more : (m m' m'' : TypeEncodingMaps) (items : List ℕ) (k : ℕ) → k < length items → LearnsOnly (λ n. Contains (take k items) n) m m' → LearnsOne m' m'' (get_or items k 0) → LearnsOnly (λ n. Contains (take (k + 1) items) n) m m''
+pub learns-more : (m m' m'' : TypeEncodingMaps) (items : List ℕ) (k : ℕ) → k < length items → LearnsOnly (λ n. Contains (take k items) n) m m' → LearnsOne m' m'' (get_or items k 0)
+    → LearnsOnly (λ n. Contains (take (k + 1) items) n) m m''
 learns-more m m' m'' items k lt l o = record {
   each = λ id i c. elim (o.only.each id i c) [
     | inl q ↦ elim (l.each id i q) [
       | inl p ↦ inl p
       | inr p ↦ inr (subst (λ (xs : List ℕ). Contains xs id) (sym (take_more items k 0 lt)) (Contains-append_left _ _ id p))
     ]
-    | inr e ↦ inr (subst (λ (xs : List ℕ). Contains xs id) (sym (take_more items k 0 lt)) (subst (λ (x : ℕ). Contains (take k items ++ get_or items k 0 ∷ []) x) (sym e) (Contains-push _ (get_or items k 0))))
+    | inr e ↦ inr (subst (λ (xs : List ℕ). Contains xs id) (sym (take_more items k 0 lt))
+        (subst (λ (x : ℕ). Contains (take k items ++ get_or items k 0 ∷ []) x) (sym e) (Contains-push _ (get_or items k 0))))
   ];
 }
 
-pub learns-at-last : (r : Resolve) (own : Option InterfaceId) (m m' : TypeEncodingMaps) (ts : List ValueType) (items : List ℕ) (k : ℕ) → IsOrderOf r own m ts items → length items ≤ k → LearnsOnly (λ n. Contains (take k items) n) m m' → LearnsOnly (MetFrom r own m ts) m m'
+pub learns-at-last : (r : Resolve) (own : Option InterfaceId) (m m' : TypeEncodingMaps) (ts : List ValueType) (items : List ℕ) (k : ℕ) → IsOrderOf r own m ts items → length items ≤ k
+    → LearnsOnly (λ n. Contains (take k items) n) m m' → LearnsOnly (MetFrom r own m ts) m m'
 learns-at-last r own m m' ts items k o le l = record {
   each = λ id i c. elim (l.each id i c) [
     | inl q ↦ inl q
@@ -118,7 +128,8 @@ learns-at-last r own m m' ts items k o le l = record {
 }
 
 -- two lists of types, one after the other
-pub learns-both : (r : Resolve) (own own' : Option InterfaceId) (a b c : TypeEncodingMaps) (xs ys : List ValueType) → own' ≡ own → MapsGrow a b → LearnsOnly (MetFrom r own a xs) a b → LearnsOnly (MetFrom r own' b ys) b c → LearnsOnly (MetFrom r own a (xs ++ ys)) a c
+pub learns-both : (r : Resolve) (own own' : Option InterfaceId) (a b c : TypeEncodingMaps) (xs ys : List ValueType) → own' ≡ own → MapsGrow a b → LearnsOnly (MetFrom r own a xs) a b
+    → LearnsOnly (MetFrom r own' b ys) b c → LearnsOnly (MetFrom r own a (xs ++ ys)) a c
 learns-both r own own' a b c xs ys e g p q = record {
   each = λ id i h. elim (q.each id i h) [
     | inl x ↦ elim (p.each id i x) [

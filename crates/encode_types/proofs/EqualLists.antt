@@ -210,7 +210,8 @@ params-of-lists names t (p ∷ ps) (q ∷ qs) (x ∷ a ∷ xs) (y ∷ b ∷ ys) 
     let more = params-of-lists names t ps qs xs ys us vs l.2 k.2 (omega (arith, n)) (tail-same _ _ _ _ r) in
     (both _ _ (both _ _ (subst (λ w. text_eq (text_of p.name) w ≡ true) name (text-refl (text_of p.name))) (same-refl p.ty q.ty value)) more.0, more.1)
 
-lists-of-params : (names : Names) → IsTable names → (ps qs : List Param) (xs ys : List ℕ) → AreListed names ps xs → AreListed names qs ys → pointwise same_param ps qs ≡ true → (xs ≡ ys) × (length ps ≡ length qs)
+lists-of-params : (names : Names) → IsTable names → (ps qs : List Param) (xs ys : List ℕ) → AreListed names ps xs → AreListed names qs ys → pointwise same_param ps qs ≡ true → (xs ≡ ys)
+    × (length ps ≡ length qs)
 lists-of-params names t [] [] [] [] l k e = (refl, refl)
 lists-of-params names t [] [] (x ∷ xs) ys l k e = absurd l
 lists-of-params names t [] [] [] (y ∷ ys) l k e = absurd k
@@ -230,7 +231,8 @@ lists-of-params names t (p ∷ ps) (q ∷ qs) (x ∷ a ∷ xs) (y ∷ b ∷ ys) 
     (λ i. number i ∷ code i ∷ more.0 i, ap suc more.1)
 
 -- A list that is that of parameters in a table, and of others in a smaller one: so it is that of the first in the smaller one.
-listed-shrink : (names names' : Names) → IsTable names' → ((t : Text) (n : ℕ) → Contains names (t, n) → Contains names' (t, n)) → (ps qs : List Param) (xs ys us vs : List ℕ) → AreListed names' ps xs → AreListed names qs ys
+listed-shrink : (names names' : Names) → IsTable names' → ((t : Text) (n : ℕ) → Contains names (t, n) → Contains names' (t, n)) → (ps qs : List Param) (xs ys us vs : List ℕ) → AreListed names' ps xs
+    → AreListed names qs ys
     → length ps ≡ length qs → xs ++ us ≡ ys ++ vs → AreListed names ps xs
 listed-shrink names names' t g [] qs [] ys us vs l k n e = tt
 listed-shrink names names' t g [] qs (x ∷ xs) ys us vs l k n e = absurd l
@@ -245,7 +247,8 @@ listed-shrink names names' t g (p ∷ ps) (q ∷ qs) (x ∷ a ∷ xs) (y ∷ b �
     let name : text_of q.name ≡ text_of p.name = t.one_text _ _ x (g _ x there) l.0 in
     (subst (λ w. Contains names (w, x)) name there, l.1, listed-shrink names names' t g ps qs xs ys us vs l.2 k.2 (omega (arith, n)) (tail-same _ _ _ _ (tail-same _ _ _ _ e)))
 
-pub key-shrink : (names names' : Names) → IsTable names' → ((t : Text) (n : ℕ) → Contains names (t, n) → Contains names' (t, n)) → (a b : FunctionKey) (xs : List ℕ) → IsKeyList names' a xs → IsKeyList names b xs → IsKeyList names a xs
+pub key-shrink : (names names' : Names) → IsTable names' → ((t : Text) (n : ℕ) → Contains names (t, n) → Contains names' (t, n)) → (a b : FunctionKey) (xs : List ℕ) → IsKeyList names' a xs
+    → IsKeyList names b xs → IsKeyList names a xs
 key-shrink names names' t g a b xs l k =
     let w = sym l.is ∙ k.is in
     let r = tail-same _ _ _ _ w in
@@ -273,7 +276,8 @@ keys-of-lists names a b xs ys t l k e =
 pub lists-of-keys : (names : Names) (a b : FunctionKey) (xs ys : List ℕ) → IsTable names → IsKeyList names a xs → IsKeyList names b ys → same_key a b ≡ true → xs ≡ ys
 lists-of-keys names a b xs ys t l k e =
     let rest = second_true (beq a.async_ b.async_) (same_params a.params b.params && option_eq same_type a.result.now b.result.now) e in
-    let m = lists-of-params names t a.params.0.now b.params.0.now l.middle k.middle l.listed k.listed (first_true (same_params a.params b.params) (option_eq same_type a.result.now b.result.now) rest) in
+    let m = lists-of-params names t a.params.0.now b.params.0.now l.middle k.middle l.listed k.listed
+    (first_true (same_params a.params b.params) (option_eq same_type a.result.now b.result.now) rest) in
     let s = async-same a.async_ b.async_ (first_true (beq a.async_ b.async_) (same_params a.params b.params && option_eq same_type a.result.now b.result.now) e) in
     let o = optional_same a.result.now b.result.now (second_true (same_params a.params b.params) (option_eq same_type a.result.now b.result.now) rest) in
     l.is ∙ (λ i. s i ∷ m.1 i ∷ (m.0 i ++ optional_code (o i))) ∙ sym k.is

@@ -52,15 +52,28 @@ key-new m key f is lacks (xs, i, l, c) = lacks i (
 -- ---- what is asked of parameters and results
 
 pub encode-left : (r : Resolve) (scope : Scope) (xs ys : List ValueType) → CanEncode r scope (xs ++ ys) → CanEncode r scope xs
-encode-left r scope xs ys c = record { packages_ = c.packages_; layered = c.layered; in_range = λ t h. c.in_range t (Contains-append_left xs ys t h); fits = λ t h. c.fits t (Contains-append_left xs ys t h) }
+encode-left r scope xs ys c = record {
+  packages_ = c.packages_;
+  layered = c.layered;
+  in_range = λ t h. c.in_range t (Contains-append_left xs ys t h);
+  fits =
+      λ t h. c.fits t (Contains-append_left xs ys t h);
+}
 
 pub encode-right : (r : Resolve) (scope scope' : Scope) (xs ys : List ValueType) → scope' ≡ scope → CanEncode r scope (xs ++ ys) → CanEncode r scope' ys
 encode-right r scope scope' xs ys e c =
-    subst (λ (z : Scope). CanEncode r z ys) (sym e) (record { packages_ = c.packages_; layered = c.layered; in_range = λ t h. c.in_range t (Contains-append_right xs ys t h); fits = λ t h. c.fits t (Contains-append_right xs ys t h) })
+    subst (λ (z : Scope). CanEncode r z ys) (sym e) (record {
+      packages_ = c.packages_;
+      layered = c.layered;
+      in_range = λ t h. c.in_range t (Contains-append_right xs ys t h);
+      fits =
+          λ t h. c.fits t (Contains-append_right xs ys t h);
+    })
 
 -- ---- counts
 
-pub counts-key : (r : Resolve) (scope : Scope) (m m₁ m' : TypeEncodingMaps) (d d₁ d' : Definitions) (key : FunctionKey) (xs : List ℕ) (i : ℕ) → LacksKey m key → AddsTypes r scope m m₁ d d₁ → IsKeyList (names_of m₁.names) key xs → LearnsKeyList m₁ m' xs i → d' ≡ one_function_more i d₁
+pub counts-key : (r : Resolve) (scope : Scope) (m m₁ m' : TypeEncodingMaps) (d d₁ d' : Definitions) (key : FunctionKey) (xs : List ℕ) (i : ℕ) → LacksKey m key → AddsTypes r scope m m₁ d d₁
+    → IsKeyList (names_of m₁.names) key xs → LearnsKeyList m₁ m' xs i → d' ≡ one_function_more i d₁
     → AddsFunction r scope m m' d d' key i
 counts-key r scope m m₁ m' d d₁ d' key xs i lacks a is l e =
     let f : d'.functions ≡ d.functions ++ i ∷ [] = ap (λ (z : Definitions). z.functions) e ∙ ap (λ (xs : List ℕ). xs ++ i ∷ []) a.functions in
@@ -69,10 +82,25 @@ counts-key r scope m m₁ m' d d₁ d' key xs i lacks a is l e =
     subst (λ (es : List (ListKey × ℕ)). IsPermutation (map {B = List ℕ × ℕ} (λ e. (e.0.0.items, e.1)) es ++ (xs, i) ∷ []) (lists_of m'.func_type_map)) a.keys.lists l.more in
     let grow : NamesGrow (names_of m.names) (names_of m'.names) = names-same (names_of m.names) (names_of m'.names) (ap (map (λ (e : Bor Text × ℕ). (e.0.now, e.1))) (l.rest.names_ ∙ a.keys.names_)) in
     let listed : IsKeyList (names_of m'.names) key xs = subst (λ (ns : List (Bor Text × ℕ)). IsKeyList (map {B = Text × ℕ} (λ e. (e.0.now, e.1)) ns) key xs) (sym l.rest.names_) is in
-    record { slots = slots-then a.slots rest; keys = inr (lacks, record { units = record { future_ = l.rest.unit_future_ ∙ a.keys.units.future_; stream_ = l.rest.unit_stream_ ∙ a.keys.units.stream_ }; grow = grow; list = xs; is = listed; more = more }, f); shows = shows-trans a.shows (shows-none r scope m₁ m' d₁ d' l.rest.numbers (ap (λ (z : Definitions). z.exports) e)) }
+    record {
+      slots = slots-then a.slots rest;
+      keys = inr (
+        lacks,
+        record {
+          units = record { future_ = l.rest.unit_future_ ∙ a.keys.units.future_; stream_ = l.rest.unit_stream_ ∙ a.keys.units.stream_ };
+          grow = grow;
+          list = xs;
+          is = listed;
+          more = more;
+        },
+        f,
+      );
+      shows = shows-trans a.shows (shows-none r scope m₁ m' d₁ d' l.rest.numbers (ap (λ (z : Definitions). z.exports) e));
+    }
 
 -- a key whose list is there: its names had numbers, so none was added
-pub counts-found : (r : Resolve) (scope : Scope) (m m' : TypeEncodingMaps) (d d' : Definitions) (key : FunctionKey) (xs : List ℕ) (i : ℕ) → IsOnce m → AddsNames m m' → KeepsKnownNames key m m' → IsKeyList (names_of m'.names) key xs → Contains (lists_of m'.func_type_map) (xs, i) → d' ≡ d
+pub counts-found : (r : Resolve) (scope : Scope) (m m' : TypeEncodingMaps) (d d' : Definitions) (key : FunctionKey) (xs : List ℕ) (i : ℕ) → IsOnce m → AddsNames m m' → KeepsKnownNames key m m'
+    → IsKeyList (names_of m'.names) key xs → Contains (lists_of m'.func_type_map) (xs, i) → d' ≡ d
     → AddsFunction r scope m m' d d' key i
 counts-found r scope m m' d d' key xs i once s keep is c e =
     let has : HasKey m key i = adds-back m m' once s (by_key key) i (xs, is, c) in
@@ -84,7 +112,8 @@ counts-found r scope m m' d d' key xs i once s keep is c e =
     }
 
 -- names have been added before
-pub counts-behind : (r : Resolve) (scope scope' : Scope) (m m₁ m' : TypeEncodingMaps) (d d₁ d' : Definitions) (key : FunctionKey) (i : ℕ) → scope' ≡ scope → AddsNames m m₁ → d₁ ≡ d → LacksKey m₁ key → AddsFunction r scope' m₁ m' d₁ d' key i → AddsFunction r scope m m' d d' key i
+pub counts-behind : (r : Resolve) (scope scope' : Scope) (m m₁ m' : TypeEncodingMaps) (d d₁ d' : Definitions) (key : FunctionKey) (i : ℕ) → scope' ≡ scope → AddsNames m m₁ → d₁ ≡ d → LacksKey m₁ key
+    → AddsFunction r scope' m₁ m' d₁ d' key i → AddsFunction r scope m m' d d' key i
 counts-behind r scope scope' m m₁ m' d d₁ d' key i q s e lacks a' =
     let a : AddsFunction r scope m₁ m' d₁ d' key i = subst (λ (z : Scope). AddsFunction r z m₁ m' d₁ d' key i) q a' in
     record {

@@ -69,7 +69,8 @@ same_tree ts a b n e = absurd (true≢false n)
 
 -- ---- keys of functions
 
-params-same : (trees : List Tree) (xs ys : List Param) → pointwise same_param xs ys ≡ true → map {B = Text × Tree} (λ p. (text_of p.name, tree_of trees p.ty)) xs ≡ map {B = Text × Tree} (λ p. (text_of p.name, tree_of trees p.ty)) ys
+params-same : (trees : List Tree) (xs ys : List Param) → pointwise same_param xs ys ≡ true
+    → map {B = Text × Tree} (λ p. (text_of p.name, tree_of trees p.ty)) xs ≡ map {B = Text × Tree} (λ p. (text_of p.name, tree_of trees p.ty)) ys
 params-same trees [] [] h = refl
 params-same trees [] (y ∷ ys) h = absurd (true≢false (sym h))
 params-same trees (x ∷ xs) [] h = absurd (true≢false (sym h))

@@ -177,7 +177,8 @@ pub met-nothing : (r : Resolve) (own : Option InterfaceId) (ts : List ValueType)
 met-nothing r own ts m = record { only = learns-nothing _ m; learns = learns-none r own m }
 
 -- two lists of types, one after the other
-pub met-both : (r : Resolve) (own own' : Option InterfaceId) (a b c : TypeEncodingMaps) (xs ys : List ValueType) → own' ≡ own → LearnsMet r own xs a b → LearnsMet r own' ys b c → LearnsMet r own (xs ++ ys) a c
+pub met-both : (r : Resolve) (own own' : Option InterfaceId) (a b c : TypeEncodingMaps) (xs ys : List ValueType) → own' ≡ own → LearnsMet r own xs a b → LearnsMet r own' ys b c
+    → LearnsMet r own (xs ++ ys) a c
 met-both r own own' a b c xs ys e p q = record { only = learns-both r own own' a b c xs ys e p.learns.grow p.only q.only; learns = learns-then e p.learns q.learns }
 
 pub ready-both : (m m' : TypeEncodingMaps) (xs ys : List ValueType) → MapsGrow m m' → AllReady m xs → AllReady m' ys → AllReady m' (xs ++ ys)
@@ -194,7 +195,8 @@ ready-single m t h u c = subst (IsReady m) (one-contained t u c) h
 key-types : (key : FunctionKey) (f : Function) → IsKeyOf key f → key_types key ≡ function_types f
 key-types key f k = λ i. map (λ p. p.ty) (k.params i) ++ option_to_list (k.result_ i)
 
-pub met-key : (r : Resolve) (own : Option InterfaceId) (m m₁ m₂ m' : TypeEncodingMaps) (key : FunctionKey) (xs : List ℕ) (i : ℕ) (f : Function) → IsKeyOf key f → LearnsMet r own (function_types f) m m₁ → AllReady m₁ (function_types f)
+pub met-key : (r : Resolve) (own : Option InterfaceId) (m m₁ m₂ m' : TypeEncodingMaps) (key : FunctionKey) (xs : List ℕ) (i : ℕ) (f : Function) → IsKeyOf key f
+    → LearnsMet r own (function_types f) m m₁ → AllReady m₁ (function_types f)
     → m₂ ≡ m₁ → IsKeyList (names_of m₁.names) key xs → LearnsKeyList m₂ m' xs i → MapsGrow m₂ m' → LearnsMet r own (function_types f) m m'
 met-key r own m m₁ m₂ m' key xs i f is met ready e listed l' grow = record {
   only = learns-same m m₁ m' met.only l.rest.numbers;

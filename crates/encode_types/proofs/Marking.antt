@@ -33,7 +33,8 @@ slot-lists [] = refl
 slot-lists (e ∷ es) = ap (λ xs. e.1 ∷ xs) (slot-lists es)
 
 same-kinds : (m m' : TypeEncodingMaps) → m'.def_to_index.entries ≡ m.def_to_index.entries → IsPermutation (kind_slots m ++ []) (kind_slots m')
-same-kinds m m' e = subst (λ (es : List (ListKey × ℕ)). IsPermutation (kind_slots m ++ []) (map (λ e. e.1) es)) (sym e) (subst (λ xs. IsPermutation xs (kind_slots m)) (sym (append-nil (kind_slots m))) (IsPermutation-refl (kind_slots m)))
+same-kinds m m' e = subst (λ (es : List (ListKey × ℕ)). IsPermutation (kind_slots m ++ []) (map (λ e. e.1) es)) (sym e)
+    (subst (λ xs. IsPermutation xs (kind_slots m)) (sym (append-nil (kind_slots m))) (IsPermutation-refl (kind_slots m)))
 
 one-kind-more : (m m' : TypeEncodingMaps) (xs : List ℕ) (i : ℕ) → LearnsList m m' xs i → IsPermutation (kind_slots m ++ i ∷ []) (kind_slots m')
 one-kind-more m m' xs i l =
@@ -43,9 +44,11 @@ one-kind-more m m' xs i l =
 
 -- the keys of functions, likewise
 pub same-keys : (m m' : TypeEncodingMaps) → m'.func_type_map.entries ≡ m.func_type_map.entries → IsPermutation (key_slots m ++ []) (key_slots m')
-same-keys m m' e = subst (λ (es : List (ListKey × ℕ)). IsPermutation (key_slots m ++ []) (map (λ e. e.1) es)) (sym e) (subst (λ xs. IsPermutation xs (key_slots m)) (sym (append-nil (key_slots m))) (IsPermutation-refl (key_slots m)))
+same-keys m m' e = subst (λ (es : List (ListKey × ℕ)). IsPermutation (key_slots m ++ []) (map (λ e. e.1) es)) (sym e)
+    (subst (λ xs. IsPermutation xs (key_slots m)) (sym (append-nil (key_slots m))) (IsPermutation-refl (key_slots m)))
 
-pub one-key-more : (m m' : TypeEncodingMaps) (xs : List ℕ) (i : ℕ) → IsPermutation (lists_of m.func_type_map ++ (xs, i) ∷ []) (lists_of m'.func_type_map) → IsPermutation (key_slots m ++ i ∷ []) (key_slots m')
+pub one-key-more : (m m' : TypeEncodingMaps) (xs : List ℕ) (i : ℕ) → IsPermutation (lists_of m.func_type_map ++ (xs, i) ∷ []) (lists_of m'.func_type_map)
+    → IsPermutation (key_slots m ++ i ∷ []) (key_slots m')
 one-key-more m m' xs i more =
     let p : IsPermutation (map (λ e. e.1) (lists_of m.func_type_map ++ (xs, i) ∷ [])) (map (λ e. e.1) (lists_of m'.func_type_map)) = IsPermutation-map (λ (e : List ℕ × ℕ). e.1) _ _ more in
     subst (λ ys. IsPermutation ys (key_slots m')) (map-append (λ (e : List ℕ × ℕ). e.1) (lists_of m.func_type_map) ((xs, i) ∷ []) ∙ ap (λ ys. ys ++ i ∷ []) (slot-lists m.func_type_map.entries))
@@ -55,8 +58,10 @@ pub count-push : {X : Type 0} (p : X → Bool) (xs : List X) (x : X) → count_b
 count-push p xs x = sum_by-append (λ y. cond (p y) 1 0) xs (x ∷ []) ∙ ap (λ n. count_by p xs + n) (zero-add (cond (p x) 1 0))
 
 -- one number more: a name that is defined, or none
-one-number-more : (r : Resolve) (scope : Scope) (m m' : TypeEncodingMaps) (id : TypeId) (i : ℕ) → LearnsNumber m m' id i → names_defined r scope m' ≡ names_defined r scope m + cond {A = ℕ} (is_defined_by_name r scope id.0) 1 0
-one-number-more r scope m m' id i l = sum_by-IsPermutation (λ (e : ℕ × ℕ). cond (is_defined_by_name r scope e.0) 1 0) _ _ l.more ∙ count-push (λ e. is_defined_by_name r scope e.0) m.id_to_index.entries (id.0, i)
+one-number-more : (r : Resolve) (scope : Scope) (m m' : TypeEncodingMaps) (id : TypeId) (i : ℕ) → LearnsNumber m m' id i
+    → names_defined r scope m' ≡ names_defined r scope m + cond {A = ℕ} (is_defined_by_name r scope id.0) 1 0
+one-number-more r scope m m' id i l = sum_by-IsPermutation (λ (e : ℕ × ℕ). cond (is_defined_by_name r scope e.0) 1 0) _ _ l.more ∙ count-push (λ e. is_defined_by_name r scope e.0)
+    m.id_to_index.entries (id.0, i)
 
 number-stays : (m m' : TypeEncodingMaps) (id : TypeId) (i : ℕ) → LearnsNumber m m' id i → (n j : ℕ) → Contains m.id_to_index.entries (n, j) → Contains m'.id_to_index.entries (n, j)
 number-stays m m' id i l n j c = Contains-permutation _ _ (n, j) l.more (Contains-append_left m.id_to_index.entries ((id.0, i) ∷ []) (n, j) c)
@@ -64,7 +69,8 @@ number-stays m m' id i l n j c = Contains-permutation _ _ (n, j) l.more (Contain
 -- ---- what a call adds
 
 -- nothing
-pub slots-none : (r : Resolve) (scope : Scope) (m m' : TypeEncodingMaps) (d d' : Definitions) → m'.id_to_index.entries ≡ m.id_to_index.entries → m'.def_to_index.entries ≡ m.def_to_index.entries → d'.types ≡ d.types → d'.exported ≡ d.exported → AddsSlots r scope m m' d d'
+pub slots-none : (r : Resolve) (scope : Scope) (m m' : TypeEncodingMaps) (d d' : Definitions) → m'.id_to_index.entries ≡ m.id_to_index.entries → m'.def_to_index.entries ≡ m.def_to_index.entries
+    → d'.types ≡ d.types → d'.exported ≡ d.exported → AddsSlots r scope m m' d d'
 slots-none r scope m m' d d' n k t e = record {
   added = [];
   targets = [];
@@ -85,11 +91,15 @@ pub slots-then : {r : Resolve} {scope : Scope} {a b c : TypeEncodingMaps} {d e f
 slots-then {r} {scope} {a} {b} {c} {d} {e} {f} p q = record {
   added = p.added ++ q.added;
   targets = p.targets ++ q.targets;
-  types = q.types ∙ ap (λ xs. xs ++ slots_of q.added) p.types ∙ append_assoc d.types (slots_of p.added) (slots_of q.added) ∙ ap (λ xs. d.types ++ xs) (sym (map-append (λ (x : Bool × ℕ). x.1) p.added q.added));
-  exported = q.exported ∙ ap (λ xs. xs ++ slots_of q.targets) p.exported ∙ append_assoc d.exported (slots_of p.targets) (slots_of q.targets) ∙ ap (λ xs. d.exported ++ xs) (sym (map-append (λ (x : Bool × ℕ). x.1) p.targets q.targets));
-  kinds = subst (λ xs. IsPermutation (kind_slots a ++ xs) (kind_slots c)) (sym (others-both p.added q.added)) (more-then (kind_slots a) (kind_slots b) (kind_slots c) (other_slots p.added) (other_slots q.added) p.kinds q.kinds);
+  types = q.types ∙ ap (λ xs. xs ++ slots_of q.added) p.types ∙ append_assoc d.types (slots_of p.added) (slots_of q.added) ∙ ap (λ xs. d.types ++ xs)
+      (sym (map-append (λ (x : Bool × ℕ). x.1) p.added q.added));
+  exported = q.exported ∙ ap (λ xs. xs ++ slots_of q.targets) p.exported ∙ append_assoc d.exported (slots_of p.targets) (slots_of q.targets) ∙ ap (λ xs. d.exported ++ xs)
+      (sym (map-append (λ (x : Bool × ℕ). x.1) p.targets q.targets));
+  kinds = subst (λ xs. IsPermutation (kind_slots a ++ xs) (kind_slots c)) (sym (others-both p.added q.added))
+      (more-then (kind_slots a) (kind_slots b) (kind_slots c) (other_slots p.added) (other_slots q.added) p.kinds q.kinds);
   names =
-      (let l : length (named_slots (p.added ++ q.added)) ≡ length (named_slots p.added) + length (named_slots q.added) = ap length (named-both p.added q.added) ∙ length-append (named_slots p.added) (named_slots q.added) in
+      (let l : length (named_slots (p.added ++ q.added)) ≡ length (named_slots p.added) + length (named_slots q.added) =
+      ap length (named-both p.added q.added) ∙ length-append (named_slots p.added) (named_slots q.added) in
       let x = p.names in
       let y = q.names in
       omega arith);
@@ -102,7 +112,8 @@ slots-then {r} {scope} {a} {b} {c} {d} {e} {f} p q = record {
 }
 
 -- an unnamed kind, in slot i
-pub slots-kind : (r : Resolve) (scope : Scope) (m m' : TypeEncodingMaps) (d d' : Definitions) (xs : List ℕ) (i : ℕ) → LearnsList m m' xs i → d'.types ≡ d.types ++ i ∷ [] → d'.exported ≡ d.exported → AddsSlots r scope m m' d d'
+pub slots-kind : (r : Resolve) (scope : Scope) (m m' : TypeEncodingMaps) (d d' : Definitions) (xs : List ℕ) (i : ℕ) → LearnsList m m' xs i → d'.types ≡ d.types ++ i ∷ [] → d'.exported ≡ d.exported
+    → AddsSlots r scope m m' d d'
 slots-kind r scope m m' d d' xs i l t e = record {
   added = (false, i) ∷ [];
   targets = [];
@@ -116,7 +127,8 @@ slots-kind r scope m m' d d' xs i l t e = record {
 }
 
 -- a type number that has no definition under a name, and is exported under none but a resource's
-pub slots-number : (r : Resolve) (scope : Scope) (m m' : TypeEncodingMaps) (d d' : Definitions) (id : TypeId) (i : ℕ) → LearnsNumber m m' id i → is_defined_by_name r scope id.0 ≡ false → d'.types ≡ d.types → d'.exported ≡ d.exported → AddsSlots r scope m m' d d'
+pub slots-number : (r : Resolve) (scope : Scope) (m m' : TypeEncodingMaps) (d d' : Definitions) (id : TypeId) (i : ℕ) → LearnsNumber m m' id i → is_defined_by_name r scope id.0 ≡ false
+    → d'.types ≡ d.types → d'.exported ≡ d.exported → AddsSlots r scope m m' d d'
 slots-number r scope m m' d d' id i l b t e = record {
   added = [];
   targets = [];
@@ -130,7 +142,8 @@ slots-number r scope m m' d d' id i l b t e = record {
 }
 
 -- a named type, whose name is exported from slot j: that of its definition, or of what it is another name of
-pub slots-named : (r : Resolve) (scope : Scope) (m m' : TypeEncodingMaps) (d d' : Definitions) (id : TypeId) (i j : ℕ) (b : Bool) → LearnsNumber m m' id i → is_defined_by_name r scope id.0 ≡ b → d'.types ≡ (type_more_if b j d).types → d'.exported ≡ d.exported ++ j ∷ []
+pub slots-named : (r : Resolve) (scope : Scope) (m m' : TypeEncodingMaps) (d d' : Definitions) (id : TypeId) (i j : ℕ) (b : Bool) → LearnsNumber m m' id i → is_defined_by_name r scope id.0 ≡ b
+    → d'.types ≡ (type_more_if b j d).types → d'.exported ≡ d.exported ++ j ∷ []
     → (b ≡ false → IsTarget r m j) → AddsSlots r scope m m' d d'
 slots-named r scope m m' d d' id i j true l b t e target = record {
   added = (true, j) ∷ [];

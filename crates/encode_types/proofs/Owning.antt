@@ -38,15 +38,18 @@ another-name _ n h = absurd (let z : ⊥ = cc in z)
 pub exported-as : (n : ExternName) (t : Text) (m : TypeMeaning) → n.text ≡ t → n.implements ≡ None → n.version_suffix ≡ None → n.external_id ≡ m.external_id → n ≡ exported_name (t, m)
 exported-as n t m a b c d = λ i. record { text = a i; implements = b i; version_suffix = c i; external_id = d i }
 
-pub named-tree : (r : Resolve) (place : Place) (n : ℕ) (def : TypeDef) (label : String Global) (t : Text) → number_tree r n ≡ tree_of_definition r (trees_of r) def → def.name ≡ Some label → place_of r def.owner ≡ place → t ≡ text_of label → number_tree r n ≡ named place t
+pub named-tree : (r : Resolve) (place : Place) (n : ℕ) (def : TypeDef) (label : String Global) (t : Text) → number_tree r n ≡ tree_of_definition r (trees_of r) def → def.name ≡ Some label
+    → place_of r def.owner ≡ place → t ≡ text_of label → number_tree r n ≡ named place t
 named-tree r place n def label t same is p e =
     same ∙ ap (λ o. option_map_or (λ name. named (place_of r def.owner) (text_of name)) o (tree_of_declaration (declared_by (trees_of r) def.kind))) is
     ∙ (λ i. named (p i) (sym e i))
 
-pub declared-here : (r : Resolve) (scope : Scope) (n : ℕ) (def : TypeDef) (label : String Global) (t : Text) → FitsScope r scope n def → foreign_owner scope.own_interface def.owner ≡ None → def.name ≡ Some label → t ≡ text_of label → IsDeclared scope (t, type_meaning r def)
+pub declared-here : (r : Resolve) (scope : Scope) (n : ℕ) (def : TypeDef) (label : String Global) (t : Text) → FitsScope r scope n def → foreign_owner scope.own_interface def.owner ≡ None
+    → def.name ≡ Some label → t ≡ text_of label → IsDeclared scope (t, type_meaning r def)
 declared-here r scope n def label t f own is e = subst (λ (x : Text). IsDeclared scope (x, type_meaning r def)) (sym e) (f.declared own label is)
 
-pub resource-here : (r : Resolve) (scope : Scope) (def : TypeDef) (name : ExternName) → def.kind ≡ kind.Resource → IsDeclared scope (name.text, type_meaning r def) → name ≡ exported_name (name.text, type_meaning r def) → DeclaresResource scope name
+pub resource-here : (r : Resolve) (scope : Scope) (def : TypeDef) (name : ExternName) → def.kind ≡ kind.Resource → IsDeclared scope (name.text, type_meaning r def)
+    → name ≡ exported_name (name.text, type_meaning r def) → DeclaresResource scope name
 resource-here r scope def name k d e = record {
   declaration = (name.text, type_meaning r def);
   declared = d;

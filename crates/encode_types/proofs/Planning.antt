@@ -98,7 +98,8 @@ found-first (x ∷ xs) n (suc i, l, e) = or-second (nat_eq x n) (list_any (λ y.
     or-second false b h = h
 
 -- what doesn't stand among the first stands where it is met
-pub met-decides : (order : Order) (front : List ℕ) (n : ℕ) → AreMet order → front ≡ take 8 order.numbers.items → list_any (λ y. nat_eq y n) front ≡ false → Decides (contains nat_cmp order.met n) (Contains order.numbers.items n)
+pub met-decides : (order : Order) (front : List ℕ) (n : ℕ) → AreMet order → front ≡ take 8 order.numbers.items → list_any (λ y. nat_eq y n) front ≡ false
+    → Decides (contains nat_cmp order.met n) (Contains order.numbers.items n)
 met-decides order front n met is lacks = (
   λ h. subst (λ xs. Contains xs n) (take-append-drop 8 order.numbers.items) (Contains-append_right (take 8 order.numbers.items) (drop 8 order.numbers.items) n ((met n).0 h)),
   λ c. elim (Contains-append_cases (take 8 order.numbers.items) (drop 8 order.numbers.items) n (subst (λ xs. Contains xs n) (sym (take-append-drop 8 order.numbers.items)) c)) [
@@ -110,11 +111,14 @@ met-decides order front n met is lacks = (
 -- a number more: among the first, or met
 pub met-few : (order after : Order) (n : ℕ) → AreMet order → after.numbers.items ≡ order.numbers.items ++ n ∷ [] → length after.numbers.items ≤ 8 → after.met ≡ order.met → AreMet after
 met-few order after n met is few same q = (
-  λ h. let c = (met q).0 (ap (λ s. contains nat_cmp s q) (sym same) ∙ h) in none-in q (subst (λ xs. Contains xs q) (drop_all 8 order.numbers.items (let l = length-append order.numbers.items (n ∷ []) in let e : length after.numbers.items ≡ length (order.numbers.items ++ n ∷ []) = ap length is in omega (arith, few, l, e))) c),
+  λ h. let c = (met q).0 (ap (λ s. contains nat_cmp s q) (sym same) ∙ h) in
+      none-in q (subst (λ xs. Contains xs q) (drop_all 8 order.numbers.items
+      (let l = length-append order.numbers.items (n ∷ []) in let e : length after.numbers.items ≡ length (order.numbers.items ++ n ∷ []) = ap length is in omega (arith, few, l, e))) c),
   λ c. none-in q (subst (λ xs. Contains xs q) (drop_all 8 after.numbers.items few) c),
 )
 
-pub met-more : (order after : Order) (n : ℕ) → AreMet order → after.numbers.items ≡ order.numbers.items ++ n ∷ [] → 8 < length after.numbers.items → ((q : ℕ) → contains nat_cmp after.met q ≡ cond (is_at (nat_cmp n) q) true (contains nat_cmp order.met q)) → AreMet after
+pub met-more : (order after : Order) (n : ℕ) → AreMet order → after.numbers.items ≡ order.numbers.items ++ n ∷ [] → 8 < length after.numbers.items
+    → ((q : ℕ) → contains nat_cmp after.met q ≡ cond (is_at (nat_cmp n) q) true (contains nat_cmp order.met q)) → AreMet after
 met-more order after n met is many adds q = by (is_at (nat_cmp n) q) refl
   where
     l : 8 ≤ length order.numbers.items
@@ -125,11 +129,13 @@ met-more order after n met is many adds q = by (is_at (nat_cmp n) q) refl
 
     by : (b : Bool) → is_at (nat_cmp n) q ≡ b → Decides (contains nat_cmp after.met q) (Contains (drop 8 after.numbers.items) q)
     by true e = (
-      λ h. subst (λ xs. Contains xs q) (sym rest) (subst (λ (m : ℕ). Contains (drop 8 order.numbers.items ++ n ∷ []) m) (exact_unsigned n q (equal-is _ e)) (Contains-push (drop 8 order.numbers.items) n)),
+      λ h. subst (λ xs. Contains xs q) (sym rest) (subst (λ (m : ℕ). Contains (drop 8 order.numbers.items ++ n ∷ []) m) (exact_unsigned n q (equal-is _ e))
+          (Contains-push (drop 8 order.numbers.items) n)),
       λ c. adds q ∙ ap (λ b. cond b true (contains nat_cmp order.met q)) e,
     )
     by false e = (
-      λ h. subst (λ xs. Contains xs q) (sym rest) (Contains-append_left (drop 8 order.numbers.items) (n ∷ []) q ((met q).0 (sym (adds q ∙ ap (λ b. cond b true (contains nat_cmp order.met q)) e) ∙ h))),
+      λ h. subst (λ xs. Contains xs q) (sym rest) (Contains-append_left (drop 8 order.numbers.items) (n ∷ []) q
+          ((met q).0 (sym (adds q ∙ ap (λ b. cond b true (contains nat_cmp order.met q)) e) ∙ h))),
       λ c. adds q ∙ ap (λ b. cond b true (contains nat_cmp order.met q)) e ∙ elim (Contains-push_cases (drop 8 order.numbers.items) n q (subst (λ xs. Contains xs q) rest c)) [
         | inl a ↦ (met q).1 a
         | inr same ↦ absurd (let t : is_at (nat_cmp n) q ≡ true = subst (λ (m : ℕ). is_at (nat_cmp n) m ≡ true) same (ap is_eq (equal-self nat_cmp_total n)) in let z : ⊥ = cc in z)
@@ -155,7 +161,8 @@ module _ (r : Resolve) (own : Option InterfaceId) (m : TypeEncodingMaps) where
     stands = λ t h. absurd (omega (arith, h.1));
   }
 
-  pub planned-step : (before : List ℕ) (ts : List ValueType) (i : ℕ) (mid after : Order) (d : ValueType) → i < length ts → IsPlanned r own m before ts i mid → IsPlanned r own m mid.numbers.items (get_or ts i d ∷ []) 1 after → IsPlanned r own m before ts (i + 1) after
+  pub planned-step : (before : List ℕ) (ts : List ValueType) (i : ℕ) (mid after : Order) (d : ValueType) → i < length ts → IsPlanned r own m before ts i mid
+      → IsPlanned r own m mid.numbers.items (get_or ts i d ∷ []) 1 after → IsPlanned r own m before ts (i + 1) after
   planned-step before ts i mid after d lt w p = record {
     kept = λ n h. p.kept n (w.kept n h);
     added = λ n h. elim (p.added n h) [
@@ -163,7 +170,12 @@ module _ (r : Resolve) (own : Option InterfaceId) (m : TypeEncodingMaps) where
         | inl q ↦ inl q
         | inr q ↦ inr (q.0, subst (λ (xs : List ValueType). Contains xs q.0) (sym (take_more ts i d lt)) (Contains-append_left _ _ q.0 q.1), q.2)
       ]
-      | inr q ↦ inr (q.0, subst (λ (xs : List ValueType). Contains xs q.0) (sym (take_more ts i d lt)) (subst (λ (x : ValueType). Contains (take i ts ++ get_or ts i d ∷ []) x) (one-contained (get_or ts i d) q.0 q.1) (Contains-push _ (get_or ts i d))), q.2)
+      | inr q ↦ inr (
+        q.0,
+        subst (λ (xs : List ValueType). Contains xs q.0) (sym (take_more ts i d lt))
+            (subst (λ (x : ValueType). Contains (take i ts ++ get_or ts i d ∷ []) x) (one-contained (get_or ts i d) q.0 q.1) (Contains-push _ (get_or ts i d))),
+        q.2,
+      )
     ];
     ordered = p.ordered;
     met = p.met;
@@ -185,7 +197,8 @@ module _ (r : Resolve) (own : Option InterfaceId) (m : TypeEncodingMaps) where
   stands-one : (order : List ℕ) (x : ValueType) → Stands m order x → (t : ValueType) → Contains (x ∷ []) t → Stands m order t
   stands-one order x s t c id e = s id (one-contained x t c ∙ e)
 
-  pub planned-push : (before a : List ℕ) (after : Order) (id : TypeId) → (IsKnown m id.0 → ⊥) → after.numbers.items ≡ a ++ id.0 ∷ [] → AreMet after → ((n : ℕ) → Contains before n → Contains a n) → ((n : ℕ) → Contains a n → Contains before n ⊎ Meets r own m (ty.Id id) n) → IsOrdered r own m a → PartsStand r own m a id.0
+  pub planned-push : (before a : List ℕ) (after : Order) (id : TypeId) → (IsKnown m id.0 → ⊥) → after.numbers.items ≡ a ++ id.0 ∷ [] → AreMet after → ((n : ℕ) → Contains before n → Contains a n)
+      → ((n : ℕ) → Contains a n → Contains before n ⊎ Meets r own m (ty.Id id) n) → IsOrdered r own m a → PartsStand r own m a id.0
       → IsDistinct nat_eq a → (Contains a id.0 → ⊥) → IsPlanned r own m before (ty.Id id ∷ []) 1 after
   planned-push before a after id lacks is met kept added o p once new = record {
     kept = λ n h. subst (λ (xs : List ℕ). Contains xs n) (sym is) (Contains-append_left a _ n (kept n h));
@@ -196,10 +209,12 @@ module _ (r : Resolve) (own : Option InterfaceId) (m : TypeEncodingMaps) where
     ordered = subst (λ (xs : List ℕ). IsOrdered r own m xs) (sym is) (ordered-push a id.0 o p);
     met = met;
     once = subst (λ (xs : List ℕ). IsDistinct nat_eq xs) (sym is) (IsDistinct-push nat_eq_equiv a id.0 once (lacks-member a id.0 new));
-    stands = stands-one after.numbers.items (ty.Id id) (λ id' e. inr (let e' : id ≡ id' = cc in subst (λ (x : TypeId). Contains after.numbers.items x.0) e' (subst (λ (xs : List ℕ). Contains xs id.0) (sym is) (Contains-push a id.0))));
+    stands = stands-one after.numbers.items (ty.Id id) (λ id' e. inr (let e' : id ≡ id' = cc in
+        subst (λ (x : TypeId). Contains after.numbers.items x.0) e' (subst (λ (xs : List ℕ). Contains xs id.0) (sym is) (Contains-push a id.0))));
   }
 
-  pub planned-foreign : (before : List ℕ) (after : Order) (id : TypeId) (def : TypeDef) → (IsKnown m id.0 → ⊥) → after.numbers.items ≡ before ++ id.0 ∷ [] → AreMet after → IsOrdered r own m before → type_at r id.0 ≡ Some def → is_some (foreign_owner own def.owner) ≡ true
+  pub planned-foreign : (before : List ℕ) (after : Order) (id : TypeId) (def : TypeDef) → (IsKnown m id.0 → ⊥) → after.numbers.items ≡ before ++ id.0 ∷ [] → AreMet after → IsOrdered r own m before
+      → type_at r id.0 ≡ Some def → is_some (foreign_owner own def.owner) ≡ true
       → IsDistinct nat_eq before → (Contains before id.0 → ⊥) → IsPlanned r own m before (ty.Id id ∷ []) 1 after
   planned-foreign before after id def lacks is met o at f once new = planned-push before before after id lacks is met (λ n h. h) (λ n h. inl h) o
       (λ def' p at' f' c. let e : def ≡ def' = cc in let bad : true ≡ false = sym f ∙ ap (λ (x : TypeDef). is_some (foreign_owner own x.owner)) e ∙ ap is_some f' in absurd (let z : ⊥ = cc in z))
@@ -213,7 +228,8 @@ module _ (r : Resolve) (own : Option InterfaceId) (m : TypeEncodingMaps) where
       let fall = rank_below id.0 t (λ id' e. part-smaller r l id.0 def id' at (subst (λ (x : ValueType). Contains (parts_of def.kind) x) e c)) in
       omega arith
 
-  pub planned-own : (before : List ℕ) (mid after : Order) (id : TypeId) (def : TypeDef) (ts : List ValueType) (i : ℕ) → (IsKnown m id.0 → ⊥) → after.numbers.items ≡ mid.numbers.items ++ id.0 ∷ [] → AreMet after → type_at r id.0 ≡ Some def → is_some (foreign_owner own def.owner) ≡ false → ts ≡ parts_of def.kind → length ts ≤ i
+  pub planned-own : (before : List ℕ) (mid after : Order) (id : TypeId) (def : TypeDef) (ts : List ValueType) (i : ℕ) → (IsKnown m id.0 → ⊥) → after.numbers.items ≡ mid.numbers.items ++ id.0 ∷ []
+      → AreMet after → type_at r id.0 ≡ Some def → is_some (foreign_owner own def.owner) ≡ false → ts ≡ parts_of def.kind → length ts ≤ i
       → IsLayered r → (Contains before id.0 → ⊥) → IsPlanned r own m before ts i mid → IsPlanned r own m before (ty.Id id ∷ []) 1 after
   planned-own before mid after id def ts i lacks is met at f e le l new w =
       planned-push before mid.numbers.items after id lacks is met w.kept
@@ -235,7 +251,8 @@ module _ (r : Resolve) (own : Option InterfaceId) (m : TypeEncodingMaps) where
       ])
 
   -- nothing has to be added
-  pub planned-there : (order : Order) (before : List ℕ) (t : ValueType) → order.numbers.items ≡ before → IsOrdered r own m before → AreMet order → IsDistinct nat_eq before → Stands m before t → IsPlanned r own m before (t ∷ []) 1 order
+  pub planned-there : (order : Order) (before : List ℕ) (t : ValueType) → order.numbers.items ≡ before → IsOrdered r own m before → AreMet order → IsDistinct nat_eq before → Stands m before t
+      → IsPlanned r own m before (t ∷ []) 1 order
   planned-there order before t is o met once s = record {
     kept = λ n h. subst (λ (xs : List ℕ). Contains xs n) (sym is) h;
     added = λ n h. inl (subst (λ (xs : List ℕ). Contains xs n) is h);
@@ -248,7 +265,8 @@ module _ (r : Resolve) (own : Option InterfaceId) (m : TypeEncodingMaps) where
   pub stands-id : (order : List ℕ) (id : TypeId) → IsKnown m id.0 ⊎ Contains order id.0 → Stands m order (ty.Id id)
   stands-id order id k id' e = let e' : id ≡ id' = cc in subst (λ (x : TypeId). IsKnown m x.0 ⊎ Contains order x.0) e' k
 
-  pub order-done : (before items : List ℕ) (order : Order) (ts : List ValueType) (i : ℕ) → before ≡ [] → items ≡ order.numbers.items → length ts ≤ i → IsPlanned r own m before ts i order → IsOrderOf r own m ts items
+  pub order-done : (before items : List ℕ) (order : Order) (ts : List ValueType) (i : ℕ) → before ≡ [] → items ≡ order.numbers.items → length ts ≤ i → IsPlanned r own m before ts i order
+      → IsOrderOf r own m ts items
   order-done before items order ts i e s le p = record {
     added = λ n h. elim (p.added n (subst (λ (xs : List ℕ). Contains xs n) s h)) [
       | inl q ↦ absurd (let c : Contains [] n = subst (λ (xs : List ℕ). Contains xs n) e q in let l : c.0 < 0 = c.1 in omega arith)

@@ -62,7 +62,8 @@ abbrev LacksItsKind : Resolve → Option InterfaceId → TypeEncodingMaps → �
 LacksItsKind r own m n = (kind : TypeDefKind) → unnamed_kind r own n ≡ Some kind → IsNewKind m kind
 
 -- a number that is known, and one that is new
-known-apart : (r : Resolve) (own : Option InterfaceId) (m : TypeEncodingMaps) (x y : ℕ) → IsKnown m x → HasItsKind r own m x → (IsKnown m y → ⊥) → LacksItsKind r own m y → share_declarations r own x y ≡ false
+known-apart : (r : Resolve) (own : Option InterfaceId) (m : TypeEncodingMaps) (x y : ℕ) → IsKnown m x → HasItsKind r own m x → (IsKnown m y → ⊥) → LacksItsKind r own m y
+    → share_declarations r own x y ≡ false
 known-apart r own m x y known has unknown lacks = neither _ _ (differ (nat_eq x y) refl) (kinds-differ (unnamed_kind r own x) (unnamed_kind r own y) refl refl)
   where
     differ : (b : Bool) → nat_eq x y ≡ b → nat_eq x y ≡ false
@@ -82,10 +83,12 @@ kind-before : (a b : TypeEncodingMaps) (kind : TypeDefKind) → MapsGrow a b →
 kind-before a b kind g h = record { unnamed = h.unnamed; lacks = λ i c. h.lacks i (g.keeps (by_kind kind) i (h.unnamed, c)).1 }
 
 -- numbers that are new, one after the other
-new-both : {r : Resolve} {own : Option InterfaceId} {a b : TypeEncodingMaps} (xs ys : List ℕ) → MapsGrow a b → AreNew r own a xs → ((n : ℕ) → Contains xs n → IsKnown b n) → ((n : ℕ) (kind : TypeDefKind) → Contains xs n → unnamed_kind r own n ≡ Some kind → (i : ℕ) × HasKind b kind i)
+new-both : {r : Resolve} {own : Option InterfaceId} {a b : TypeEncodingMaps} (xs ys : List ℕ) → MapsGrow a b → AreNew r own a xs → ((n : ℕ) → Contains xs n → IsKnown b n)
+    → ((n : ℕ) (kind : TypeDefKind) → Contains xs n → unnamed_kind r own n ≡ Some kind → (i : ℕ) × HasKind b kind i)
     → AreNew r own b ys → AreNew r own a (xs ++ ys)
 new-both {r} {own} {a} {b} xs ys g p known kinds q = record {
-  apart = pairs-both (λ x y. share_declarations r own x y ≡ false) xs ys p.apart q.apart (λ x y c d. known-apart r own b x y (known x c) (λ k e. kinds x k c e) (q.unknown y d) (λ k e. q.kinds y k d e));
+  apart = pairs-both (λ x y. share_declarations r own x y ≡ false) xs ys p.apart q.apart
+      (λ x y c d. known-apart r own b x y (known x c) (λ k e. kinds x k c e) (q.unknown y d) (λ k e. q.kinds y k d e));
   unknown = λ n c. elim (Contains-append_cases xs ys n c) [
     | inl x ↦ p.unknown n x
     | inr x ↦ (λ k. q.unknown n x (known-grow a b n g k))
@@ -134,14 +137,17 @@ counts-named r own n b e = ap (λ (x : Bool). cond {A = ℕ} x 2 1) e ∙ by b
     by false = refl
     by true = refl
 
-unnamed-at : (r : Resolve) (own : Option InterfaceId) (n : ℕ) (d : TypeDef) → type_at r n ≡ Some d → unnamed_kind r own n ≡ cond (is_none d.name && is_none (foreign_owner own d.owner)) (Some d.kind) None
+unnamed-at : (r : Resolve) (own : Option InterfaceId) (n : ℕ) (d : TypeDef) → type_at r n ≡ Some d
+    → unnamed_kind r own n ≡ cond (is_none d.name && is_none (foreign_owner own d.owner)) (Some d.kind) None
 unnamed-at r own n d at = ap (option_and_then (λ (def : TypeDef). cond (is_none def.name && is_none (foreign_owner own def.owner)) (Some def.kind) None)) at
 
 -- a type with a name, or of another interface, has no kind that is looked for
-pub named-unkind : (r : Resolve) (own : Option InterfaceId) (m : TypeEncodingMaps) (n : ℕ) (d : TypeDef) (name : String Global) → type_at r n ≡ Some d → d.name ≡ Some name → unnamed_kind r own n ≡ None
+pub named-unkind : (r : Resolve) (own : Option InterfaceId) (m : TypeEncodingMaps) (n : ℕ) (d : TypeDef) (name : String Global) → type_at r n ≡ Some d → d.name ≡ Some name
+    → unnamed_kind r own n ≡ None
 named-unkind r own m n d name at is = unnamed-at r own n d at ∙ ap (λ o. cond {A = Option TypeDefKind} (is_none o && is_none (foreign_owner own d.owner)) (Some d.kind) None) is
 
-pub foreign-unkind : (r : Resolve) (own : Option InterfaceId) (m : TypeEncodingMaps) (n : ℕ) (d : TypeDef) (i : InterfaceId) → type_at r n ≡ Some d → foreign_owner own d.owner ≡ Some i → unnamed_kind r own n ≡ None
+pub foreign-unkind : (r : Resolve) (own : Option InterfaceId) (m : TypeEncodingMaps) (n : ℕ) (d : TypeDef) (i : InterfaceId) → type_at r n ≡ Some d → foreign_owner own d.owner ≡ Some i
+    → unnamed_kind r own n ≡ None
 foreign-unkind r own m n d i at f = unnamed-at r own n d at ∙ ap (λ o. cond {A = Option TypeDefKind} (is_none d.name && is_none o) (Some d.kind) None) f ∙ by (is_none d.name)
   where
     by : (b : Bool) → cond {A = Option TypeDefKind} (b && false) (Some d.kind) None ≡ None
@@ -166,7 +172,8 @@ new-kind m kind o is unnamed lacks k e = subst (IsNewKind m) (some-same kind k (
 pub holds-none : (r : Resolve) (own : Option InterfaceId) (m : TypeEncodingMaps) (h : ℕ) → HoldsFor r own m m h h 0
 holds-none r own m h = record { numbers = []; new = new-none r own m; known = λ n c. none-in n c; kinds = λ n k c. none-in n c; few = omega arith; held = omega arith }
 
-pub holds-then : {r : Resolve} {own own' : Option InterfaceId} {a b c : TypeEncodingMaps} {h h' h'' k l : ℕ} → own' ≡ own → MapsGrow a b → MapsGrow b c → HoldsFor r own a b h h' k → HoldsFor r own' b c h' h'' l → HoldsFor r own a c h h'' (k + l)
+pub holds-then : {r : Resolve} {own own' : Option InterfaceId} {a b c : TypeEncodingMaps} {h h' h'' k l : ℕ} → own' ≡ own → MapsGrow a b → MapsGrow b c → HoldsFor r own a b h h' k
+    → HoldsFor r own' b c h' h'' l → HoldsFor r own a c h h'' (k + l)
 holds-then {r} {own} {own'} {a} {b} {c} {h} {h'} {h''} {k} {l} e g g' p q' =
     let q : HoldsFor r own b c h' h'' l = subst (λ (o : Option InterfaceId). HoldsFor r o b c h' h'' l) e q' in
     record {
@@ -184,7 +191,8 @@ holds-same {r} {own} {a} {b} {c} {h} {h'} {h''} k n e l p = subst (λ (m : TypeE
     (record { numbers = p.numbers; new = p.new; known = p.known; kinds = p.kinds; few = p.few; held = (let x = p.held in omega (arith, l, x)) })
 
 -- one key of a function more, for which one more is held
-pub holds-key : {r : Resolve} {own : Option InterfaceId} {a b c : TypeEncodingMaps} {h h' h'' : ℕ} → MapsGrow b c → c.id_to_index.entries ≡ b.id_to_index.entries → length c.func_type_map.entries ≡ length b.func_type_map.entries + 1 → h'' ≤ h' + 1
+pub holds-key : {r : Resolve} {own : Option InterfaceId} {a b c : TypeEncodingMaps} {h h' h'' : ℕ} → MapsGrow b c → c.id_to_index.entries ≡ b.id_to_index.entries
+    → length c.func_type_map.entries ≡ length b.func_type_map.entries + 1 → h'' ≤ h' + 1
     → HoldsFor r own a b h h' 0 → HoldsFor r own a c h h'' 0
 holds-key {r} {own} {a} {b} {c} g e k l p = record {
   numbers = p.numbers;
@@ -196,7 +204,8 @@ holds-key {r} {own} {a} {b} {c} g e k l p = record {
 }
 
 -- one number more, for which nothing more is held: its kind was known
-pub holds-shared : {r : Resolve} {own : Option InterfaceId} {a b : TypeEncodingMaps} {h h' : ℕ} → length a.id_to_index.entries ≤ length b.id_to_index.entries → b.func_type_map.entries ≡ a.func_type_map.entries → h' ≤ h → HoldsFor r own a b h h' 0
+pub holds-shared : {r : Resolve} {own : Option InterfaceId} {a b : TypeEncodingMaps} {h h' : ℕ} → length a.id_to_index.entries ≤ length b.id_to_index.entries
+    → b.func_type_map.entries ≡ a.func_type_map.entries → h' ≤ h → HoldsFor r own a b h h' 0
 holds-shared {r} {own} {a} {b} {h} {h'} few keys l = record {
   numbers = [];
   new = new-none r own a;
@@ -207,8 +216,10 @@ holds-shared {r} {own} {a} {b} {h} {h'} few keys l = record {
 }
 
 -- one number more, for which what it takes is held
-pub holds-number : {r : Resolve} {own : Option InterfaceId} {a b : TypeEncodingMaps} {h h' : ℕ} (learnt : List (ℕ × ℕ)) (n : ℕ) → IsPermutation (a.id_to_index.entries ++ learnt) b.id_to_index.entries → b.func_type_map.entries ≡ a.func_type_map.entries
-    → IsKnown b n → (IsKnown a n → ⊥) → ((kind : TypeDefKind) → unnamed_kind r own n ≡ Some kind → IsNewKind a kind) → ((kind : TypeDefKind) → unnamed_kind r own n ≡ Some kind → (i : ℕ) × HasKind b kind i) → h' ≤ h + number_count r own n → HoldsFor r own a b h h' 0
+pub holds-number : {r : Resolve} {own : Option InterfaceId} {a b : TypeEncodingMaps} {h h' : ℕ} (learnt : List (ℕ × ℕ)) (n : ℕ) → IsPermutation (a.id_to_index.entries ++ learnt) b.id_to_index.entries
+    → b.func_type_map.entries ≡ a.func_type_map.entries
+    → IsKnown b n → (IsKnown a n → ⊥) → ((kind : TypeDefKind) → unnamed_kind r own n ≡ Some kind → IsNewKind a kind)
+    → ((kind : TypeDefKind) → unnamed_kind r own n ≡ Some kind → (i : ℕ) × HasKind b kind i) → h' ≤ h + number_count r own n → HoldsFor r own a b h h' 0
 holds-number {r} {own} {a} {b} {h} {h'} learnt n e keys known unknown new has l = record {
   numbers = n ∷ [];
   new = new-one r own a n unknown new;
@@ -219,24 +230,32 @@ holds-number {r} {own} {a} {b} {h} {h'} learnt n e keys known unknown new has l 
 }
   where
     more : (xs : List (ℕ × ℕ)) → IsPermutation (a.id_to_index.entries ++ xs) b.id_to_index.entries → length a.id_to_index.entries + 1 ≤ length b.id_to_index.entries
-    more [] p = absurd (unknown (known.0, subst (λ (es : List (ℕ × ℕ)). Contains es (n, known.0)) (append-nil a.id_to_index.entries) (Contains-permutation _ _ (n, known.0) (IsPermutation-sym _ _ p) known.1)))
+    more [] p = absurd (unknown (
+      known.0,
+      subst (λ (es : List (ℕ × ℕ)). Contains es (n, known.0)) (append-nil a.id_to_index.entries)
+          (Contains-permutation _ _ (n, known.0) (IsPermutation-sym _ _ p) known.1),
+    ))
     more (x ∷ xs) p = let s = length-append a.id_to_index.entries (x ∷ xs) in let t = length_permutation _ _ p in omega (arith, s, t)
 
 pub no-fewer : (a b learnt : List (ℕ × ℕ)) → IsPermutation (a ++ learnt) b → length a ≤ length b
 no-fewer a b learnt p = let s = length-append a learnt in let t = length_permutation _ _ p in omega (arith, s, t)
 
 -- an unnamed number more, whose kind was known, or for which one more is held
-pub holds-unnamed : {r : Resolve} {own : Option InterfaceId} {a b : TypeEncodingMaps} {h h' : ℕ} {kind : TypeDefKind} (learnt : List (ℕ × ℕ)) (n : ℕ) → IsPermutation (a.id_to_index.entries ++ learnt) b.id_to_index.entries → b.func_type_map.entries ≡ a.func_type_map.entries
-    → IsKnown b n → (IsKnown a n → ⊥) → unnamed_kind r own n ≡ Some kind → is_named_kind kind ≡ false → (i : ℕ) × HasKind b kind i → (h' ≤ h + 0) ⊎ (LacksKind a kind × (h' ≤ h + 1)) → HoldsFor r own a b h h' 0
+pub holds-unnamed : {r : Resolve} {own : Option InterfaceId} {a b : TypeEncodingMaps} {h h' : ℕ} {kind : TypeDefKind} (learnt : List (ℕ × ℕ)) (n : ℕ)
+    → IsPermutation (a.id_to_index.entries ++ learnt) b.id_to_index.entries → b.func_type_map.entries ≡ a.func_type_map.entries
+    → IsKnown b n → (IsKnown a n → ⊥) → unnamed_kind r own n ≡ Some kind → is_named_kind kind ≡ false → (i : ℕ) × HasKind b kind i → (h' ≤ h + 0) ⊎ (LacksKind a kind × (h' ≤ h + 1))
+    → HoldsFor r own a b h h' 0
 holds-unnamed {r} {own} {a} {b} learnt n e keys known unknown is unnamed has (inl l) = holds-shared (no-fewer a.id_to_index.entries b.id_to_index.entries learnt e) keys (omega (arith, l))
-holds-unnamed {r} {own} {a} {b} {h} {h'} {kind} learnt n e keys known unknown is unnamed has (inr (lacks, l)) = holds-number learnt n e keys known unknown (new-kind a kind (unnamed_kind r own n) is unnamed lacks)
+holds-unnamed {r} {own} {a} {b} {h} {h'} {kind} learnt n e keys known unknown is unnamed has (inr (lacks, l)) =
+    holds-number learnt n e keys known unknown (new-kind a kind (unnamed_kind r own n) is unnamed lacks)
     (λ k f. subst (λ (z : TypeDefKind). (i : ℕ) × HasKind b z i) (some-same kind k (sym is ∙ f)) has) (let one = counts-one r own n in omega (arith, l, one))
 
 pub holds-most : {r : Resolve} {own : Option InterfaceId} {a b : TypeEncodingMaps} {h h' k n : ℕ} → k ≤ n → HoldsFor r own a b h h' k → HoldsFor r own a b h h' n
 holds-most l p = record { numbers = p.numbers; new = p.new; known = p.known; kinds = p.kinds; few = p.few; held = (let x = p.held in omega (arith, l, x)) }
 
 -- no more than two for each number that is known now and wasn't
-pub holds-few : {r : Resolve} {own : Option InterfaceId} {a b : TypeEncodingMaps} {h h' k : ℕ} (j : ℕ) → length b.func_type_map.entries ≤ length a.func_type_map.entries + j → HoldsFor r own a b h h' k → h' + 2 * length a.id_to_index.entries ≤ h + (2 * length b.id_to_index.entries + (k + j))
+pub holds-few : {r : Resolve} {own : Option InterfaceId} {a b : TypeEncodingMaps} {h h' k : ℕ} (j : ℕ) → length b.func_type_map.entries ≤ length a.func_type_map.entries + j → HoldsFor r own a b h h' k
+    → h' + 2 * length a.id_to_index.entries ≤ h + (2 * length b.id_to_index.entries + (k + j))
 holds-few {r} {own} j l p = let x = p.held in let y = p.few in let z = counts-few r own p.numbers in omega (arith, l, x, y, z)
 
 pub on-pair : {A E : Type 0} (x : Result A E) (P Q : Type 0) → OnOk x P → OnOk x Q → OnOk x (P × Q)
@@ -279,7 +298,8 @@ flat-taken f g (x ∷ xs) (suc i) z c = elim (Contains-append_cases (f (g x)) (f
 ]
 
 -- what stands in an order is reached
-pub learns-reached : (r : Resolve) (own : Option InterfaceId) (m m' : TypeEncodingMaps) (ts : List ValueType) (items : List ℕ) (k : ℕ) → IsOrderOf r own m ts items → LearnsOnly (λ n. Contains (take k items) n) m m' → LearnsOnly (ReachedFrom r own ts) m m'
+pub learns-reached : (r : Resolve) (own : Option InterfaceId) (m m' : TypeEncodingMaps) (ts : List ValueType) (items : List ℕ) (k : ℕ) → IsOrderOf r own m ts items
+    → LearnsOnly (λ n. Contains (take k items) n) m m' → LearnsOnly (ReachedFrom r own ts) m m'
 learns-reached r own m m' ts items k o l = record {
   each = λ id i c. elim (l.each id i c) [
     | inl q ↦ inl q
@@ -296,12 +316,14 @@ learns-reached r own m m' ts items k o l = record {
 
 -- ---- what has no room
 
-lacks-more : {r : Resolve} {own : Option InterfaceId} {N : Refusals} {ns ns' : List ℕ} {qs qs' : List Request} → ((n : ℕ) → Contains ns n → Contains ns' n) → ((q : Request) → Contains qs q → Contains qs' q) → LacksOne r own N ns qs → LacksOne r own N ns' qs'
+lacks-more : {r : Resolve} {own : Option InterfaceId} {N : Refusals} {ns ns' : List ℕ} {qs qs' : List Request} → ((n : ℕ) → Contains ns n → Contains ns' n)
+    → ((q : Request) → Contains qs q → Contains qs' q) → LacksOne r own N ns qs → LacksOne r own N ns' qs'
 lacks-more f g (a_type n def c at part) = a_type n def (f n c) at part
 lacks-more f g (a_request q c l) = a_request q (g q c) l
 
 -- the first number
-pub lacks-number : (r : Resolve) (own : Option InterfaceId) (id : TypeId) (def : TypeDef) (m : TypeEncodingMaps) (h h' : ℕ) (N : Refusals) → type_at r id.0 ≡ Some def → (IsKnown m id.0 → ⊥) → ((kind : TypeDefKind) → unnamed_kind r own id.0 ≡ Some kind → IsNewKind m kind)
+pub lacks-number : (r : Resolve) (own : Option InterfaceId) (id : TypeId) (def : TypeDef) (m : TypeEncodingMaps) (h h' : ℕ) (N : Refusals) → type_at r id.0 ≡ Some def → (IsKnown m id.0 → ⊥)
+    → ((kind : TypeDefKind) → unnamed_kind r own id.0 ≡ Some kind → IsNewKind m kind)
     → h' < h + number_count r own id.0 → LacksPart r own N id.0 def → FindsNoRoom r own (ty.Id id ∷ []) [] 0 m h h' N
 lacks-number r own id def m h h' N at unknown new l part = record {
   numbers = id.0 ∷ [];
@@ -312,7 +334,8 @@ lacks-number r own id def m h h' N at unknown new l part = record {
 }
 
 -- one request
-pub lacks-request : (r : Resolve) (own : Option InterfaceId) (ts : List ValueType) (q : Request) (m : TypeEncodingMaps) (h h' : ℕ) (N : Refusals) → h' ≤ h → N q → FindsNoRoom r own ts (q ∷ []) 1 m h h' N
+pub lacks-request : (r : Resolve) (own : Option InterfaceId) (ts : List ValueType) (q : Request) (m : TypeEncodingMaps) (h h' : ℕ) (N : Refusals) → h' ≤ h → N q
+    → FindsNoRoom r own ts (q ∷ []) 1 m h h' N
 lacks-request r own ts q m h h' N l n = record {
   numbers = [];
   new = new-none r own m;
@@ -323,7 +346,8 @@ lacks-request r own ts q m h h' N l n = record {
 
 -- the same among more, by another measure of what is held
 pub room-more : {r : Resolve} {own own' : Option InterfaceId} {ts ts' : List ValueType} {qs qs' : List Request} {k k' : ℕ} {m : TypeEncodingMaps} {h x y : ℕ} {N : Refusals} → own' ≡ own
-    → ((n : ℕ) → ReachedFrom r own ts' n → ReachedFrom r own ts n) → ((q : Request) → Contains qs' q → Contains qs q) → y + k' ≤ x + k → FindsNoRoom r own' ts' qs' k' m h x N → FindsNoRoom r own ts qs k m h y N
+    → ((n : ℕ) → ReachedFrom r own ts' n → ReachedFrom r own ts n) → ((q : Request) → Contains qs' q → Contains qs q) → y + k' ≤ x + k → FindsNoRoom r own' ts' qs' k' m h x N
+    → FindsNoRoom r own ts qs k m h y N
 room-more {r} {own} {own'} {ts} {ts'} {qs} {qs'} {k} {k'} {m} {h} {x} {y} {N} e reach among count p' =
     let p : FindsNoRoom r own ts' qs' k' m h x N = subst (λ (o : Option InterfaceId). FindsNoRoom r o ts' qs' k' m h x N) e p' in
     record {
@@ -335,7 +359,8 @@ room-more {r} {own} {own'} {ts} {ts'} {qs} {qs'} {k} {k'} {m} {h} {x} {y} {N} e 
     }
 
 -- after calls that have learnt what is met from the same types
-pub room-after : {r : Resolve} {own own' : Option InterfaceId} {ts ts' : List ValueType} {qs qs' : List Request} {a b : TypeEncodingMaps} {h h' x y j k k' : ℕ} {N : Refusals} → own' ≡ own → MapsGrow a b → HoldsFor r own a b h h' j
+pub room-after : {r : Resolve} {own own' : Option InterfaceId} {ts ts' : List ValueType} {qs qs' : List Request} {a b : TypeEncodingMaps} {h h' x y j k k' : ℕ} {N : Refusals} → own' ≡ own
+    → MapsGrow a b → HoldsFor r own a b h h' j
     → LearnsOnly (ReachedFrom r own ts) a b → ((n : ℕ) → ReachedFrom r own ts' n → ReachedFrom r own ts n) → ((q : Request) → Contains qs' q → Contains qs q)
     → y + (length b.func_type_map.entries + (j + k')) ≤ x + (length a.func_type_map.entries + k) → FindsNoRoom r own' ts' qs' k' b h' x N → FindsNoRoom r own ts qs k a h y N
 room-after {r} {own} {own'} {ts} {ts'} {qs} {qs'} {a} {b} {h} {h'} {x} {y} {j} {k} {k'} {N} e g holds only reach among count p' =

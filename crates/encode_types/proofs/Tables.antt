@@ -59,12 +59,14 @@ module _ {K X : Type 0} (cmp : K → K → Ordering) (k : K) (v : X) where
   placed [] h = IsPermutation-refl _
   placed (e ∷ es) h = by (cmp k e.0) refl (λ n. placed es (sym (cond-false _ _ _ n) ∙ h))
     where
-      by : (o : Ordering) → cmp k e.0 ≡ o → (is_eq (cmp k e.0) ≡ false → IsPermutation ((k, v) ∷ es) (insert_entry cmp es k v)) → IsPermutation ((k, v) ∷ e ∷ es) (match_ordering o ((k, v) ∷ e ∷ es) ((e.0, v) ∷ es) (e ∷ insert_entry cmp es k v))
+      by : (o : Ordering) → cmp k e.0 ≡ o → (is_eq (cmp k e.0) ≡ false → IsPermutation ((k, v) ∷ es) (insert_entry cmp es k v))
+          → IsPermutation ((k, v) ∷ e ∷ es) (match_ordering o ((k, v) ∷ e ∷ es) ((e.0, v) ∷ es) (e ∷ insert_entry cmp es k v))
       by Less q more = IsPermutation-refl _
       by Equal q more = absurd (let y : is_eq (cmp k e.0) ≡ true = ap is_eq q in let s : Some e.1 ≡ None = sym (cond-true _ _ _ y) ∙ h in let z : ⊥ = cc in z)
       by Greater q more =
           let n : is_eq (cmp k e.0) ≡ false = ap is_eq q in
-          IsPermutation-trans ((k, v) ∷ e ∷ es) (e ∷ (k, v) ∷ es) (e ∷ insert_entry cmp es k v) (IsPermutation-swap ((k, v) ∷ e ∷ es) (e ∷ (k, v) ∷ es) 0 1 (omega arith) (omega arith) refl) (IsPermutation-cons e _ _ (more n))
+          IsPermutation-trans ((k, v) ∷ e ∷ es) (e ∷ (k, v) ∷ es) (e ∷ insert_entry cmp es k v) (IsPermutation-swap ((k, v) ∷ e ∷ es) (e ∷ (k, v) ∷ es) 0 1 (omega arith) (omega arith) refl)
+          (IsPermutation-cons e _ _ (more n))
 
   pub inserted : (es fs : List (K × X)) → lookup (is_at (cmp k)) es ≡ None → fs ≡ insert_entry cmp es k v → IsPermutation (es ++ (k, v) ∷ []) fs
   inserted es fs h e = subst (IsPermutation (es ++ (k, v) ∷ [])) (sym e) (IsPermutation-trans _ _ _ (IsPermutation-to_front es (k, v)) (placed es h))
@@ -89,7 +91,8 @@ module _ {X : Type 0} (R : X → X → Type 0) (back : (x y : X) → R x y → R
   exchanged xs a b la lb h i j d n li lj =
       let s = swapped_from_swap xs (swap xs a b) a b d la lb refl in
       let m : length (swap xs a b) ≡ length xs = length_permutation xs (swap xs a b) (IsPermutation-swap xs (swap xs a b) a b la lb refl) in
-      let place : (k : ℕ) → k < length xs → (p : ℕ) × (get_or (swap xs a b) k d ≡ get_or xs p d) × (p < length xs) × (((k ≡ a) × (p ≡ b)) ⊎ (((k ≡ b) × (p ≡ a)) ⊎ ((k ≡ a → ⊥) × (k ≡ b → ⊥) × (p ≡ k)))) =
+      let place : (k : ℕ) → k < length xs → (p : ℕ) × (get_or (swap xs a b) k d ≡ get_or xs p d) × (p < length xs)
+      × (((k ≡ a) × (p ≡ b)) ⊎ (((k ≡ b) × (p ≡ a)) ⊎ ((k ≡ a → ⊥) × (k ≡ b → ⊥) × (p ≡ k)))) =
       λ k lk. elim (cases_eq k a) [
         | inl e ↦ (b, ap (λ z. get_or (swap xs a b) z d) e ∙ s.0, lb, inl (e, refl))
         | inr e ↦ elim (cases_eq k b) [
@@ -192,7 +195,8 @@ module _ {K : Type 0} (f : K → List ℕ) where
       let r = contains-unmap (λ (e : K × ℕ). (f e.0, e.1)) es (xs, i) c in
       absent test es h r.0.0 r.0.1 r.1 (finds r.0.0 r.0.1 r.1 (ap (λ (z : List ℕ × ℕ). z.0) r.2))
 
-  pub list-inserted : (cmp : K → K → Ordering) (k : K) → ((j : K) → is_at (cmp k) j ≡ true → f j ≡ f k) → (es fs : List (K × ℕ)) (i : ℕ) → ((j : ℕ) → Contains (read es) (f k, j) → ⊥) → fs ≡ insert_entry cmp es k i
+  pub list-inserted : (cmp : K → K → Ordering) (k : K) → ((j : K) → is_at (cmp k) j ≡ true → f j ≡ f k) → (es fs : List (K × ℕ)) (i : ℕ) → ((j : ℕ) → Contains (read es) (f k, j) → ⊥)
+      → fs ≡ insert_entry cmp es k i
       → IsPermutation (read es ++ (f k, i) ∷ []) (read fs)
   list-inserted cmp k tells es fs i none e =
       let p = inserted cmp k i es fs (none-or (lookup (is_at (cmp k)) es) (λ v h. none v (reads (f k) (is_at (cmp k)) tells es v h))) e in
@@ -210,9 +214,11 @@ pub key-found : (es : List (ListKey × ℕ)) (xs : List ℕ) (o : Option ℕ) �
 key-found es xs o q = some-when o _ (λ v e. reads (λ (k : ListKey). k.0.items) xs (at_list xs) (tells-list xs) es v (sym q ∙ e))
 
 pub key-lacks : (es : List (ListKey × ℕ)) (xs : List ℕ) (o : Option ℕ) → o ≡ lookup (at_list xs) es → IfNone o (LacksList (map {B = List ℕ × ℕ} (λ e. (e.0.0.items, e.1)) es) xs)
-key-lacks es xs o q = none-when o _ (λ e. lacks (λ (k : ListKey). k.0.items) xs (at_list xs) es (λ k v c s. ap (λ ys. is_eq (slice_cmp nat_cmp ys xs)) s ∙ ap is_eq (equal-self nat_list_cmp_total xs)) (sym q ∙ e))
+key-lacks es xs o q = none-when o _ (λ e. lacks (λ (k : ListKey). k.0.items) xs (at_list xs) es (λ k v c s. ap (λ ys. is_eq (slice_cmp nat_cmp ys xs)) s ∙ ap is_eq (equal-self nat_list_cmp_total xs))
+    (sym q ∙ e))
 
-pub key-inserted : (es fs : List (ListKey × ℕ)) (k : ListKey) (i : ℕ) → LacksList (map {B = List ℕ × ℕ} (λ e. (e.0.0.items, e.1)) es) k.0.items → fs ≡ insert_entry (λ a b. slice_cmp nat_cmp b.0.items a.0.items) es k i
+pub key-inserted : (es fs : List (ListKey × ℕ)) (k : ListKey) (i : ℕ) → LacksList (map {B = List ℕ × ℕ} (λ e. (e.0.0.items, e.1)) es) k.0.items
+    → fs ≡ insert_entry (λ a b. slice_cmp nat_cmp b.0.items a.0.items) es k i
     → IsPermutation (map {B = List ℕ × ℕ} (λ e. (e.0.0.items, e.1)) es ++ (k.0.items, i) ∷ []) (map {B = List ℕ × ℕ} (λ e. (e.0.0.items, e.1)) fs)
 key-inserted es fs k i none e = list-inserted (λ (k : ListKey). k.0.items) (λ a b. slice_cmp nat_cmp b.0.items a.0.items) k (λ j h. tells-list k.0.items j h) es fs i none e
 
@@ -230,7 +236,8 @@ text-found es t v h = reads (λ (k : Bor Text). k.now) t (at_text t) (tells-text
 pub text-lacks : (es : List (Bor Text × ℕ)) (t : Text) → lookup (at_text t) es ≡ None → (i : ℕ) → Contains (map {B = Text × ℕ} (λ e. (e.0.now, e.1)) es) (t, i) → ⊥
 text-lacks es t h = lacks (λ (k : Bor Text). k.now) t (at_text t) es (λ k v c s. ap (λ xs. is_eq (slice_cmp nat_cmp t xs)) s ∙ ap is_eq (equal-self nat_list_cmp_total t)) h
 
-pub text-inserted : (es fs : List (Bor Text × ℕ)) (k : Bor Text) (i : ℕ) → ((j : ℕ) → Contains (map {B = Text × ℕ} (λ e. (e.0.now, e.1)) es) (k.now, j) → ⊥) → fs ≡ insert_entry (λ a b. slice_cmp nat_cmp a.now b.now) es k i
+pub text-inserted : (es fs : List (Bor Text × ℕ)) (k : Bor Text) (i : ℕ) → ((j : ℕ) → Contains (map {B = Text × ℕ} (λ e. (e.0.now, e.1)) es) (k.now, j) → ⊥)
+    → fs ≡ insert_entry (λ a b. slice_cmp nat_cmp a.now b.now) es k i
     → IsPermutation (map {B = Text × ℕ} (λ e. (e.0.now, e.1)) es ++ (k.now, i) ∷ []) (map {B = Text × ℕ} (λ e. (e.0.now, e.1)) fs)
 text-inserted es fs k i none e = list-inserted (λ (t : Bor Text). t.now) (λ a b. slice_cmp nat_cmp a.now b.now) k (λ j h. tells-text k.now j h) es fs i none e
 
@@ -286,7 +293,8 @@ names-then p q = record { kept = λ t n h. q.kept t n (p.kept t n h); numbered =
 
 -- ---- lists of parameters
 
-pub listed-more : (names : Names) (ps : List Param) (xs : List ℕ) (p : Param) (n : ℕ) → AreListed names ps xs → Contains names (text_of p.name, n) → AreListed names (ps ++ p ∷ []) (xs ++ n ∷ type_code p.ty ∷ [])
+pub listed-more : (names : Names) (ps : List Param) (xs : List ℕ) (p : Param) (n : ℕ) → AreListed names ps xs → Contains names (text_of p.name, n)
+    → AreListed names (ps ++ p ∷ []) (xs ++ n ∷ type_code p.ty ∷ [])
 listed-more names [] [] p n h c = (c, refl, tt)
 listed-more names [] (x ∷ xs) p n h c = absurd h
 listed-more names (q ∷ ps) [] p n h c = absurd h
@@ -311,11 +319,13 @@ pub key-grow : (names names' : Names) (key : FunctionKey) (xs : List ℕ) → Na
 key-grow names names' key xs g h = record { middle = h.middle; listed = listed-grow names names' key.params.0.now h.middle g h.listed; is = h.is }
 
 -- one more parameter of a loop
-pub adds-next : (names : Names) (ps : List Param) (i : ℕ) (p : Param) (start before after : List ℕ) → i < length ps → p ≡ get_or ps i p → AddsParams names i start before ps → AddsParam names before after p → AddsParams names (i + 1) start after ps
+pub adds-next : (names : Names) (ps : List Param) (i : ℕ) (p : Param) (start before after : List ℕ) → i < length ps → p ≡ get_or ps i p → AddsParams names i start before ps
+    → AddsParam names before after p → AddsParams names (i + 1) start after ps
 adds-next names ps i p start before after l e a b = record {
   middle = a.middle ++ b.number ∷ type_code p.ty ∷ [];
   is = b.is ∙ ap (λ xs. xs ++ b.number ∷ type_code p.ty ∷ []) a.is ∙ append_assoc start a.middle (b.number ∷ type_code p.ty ∷ []);
-  are = subst (λ (xs : List Param). AreListed names xs (a.middle ++ b.number ∷ type_code p.ty ∷ [])) (ap (λ z. take i ps ++ z ∷ []) e ∙ sym (take_more ps i p l)) (listed-more names (take i ps) a.middle p b.number a.are b.there);
+  are = subst (λ (xs : List Param). AreListed names xs (a.middle ++ b.number ∷ type_code p.ty ∷ [])) (ap (λ z. take i ps ++ z ∷ []) e ∙ sym (take_more ps i p l))
+      (listed-more names (take i ps) a.middle p b.number a.are b.there);
   most = omega (arith, l);
 }
 
@@ -327,7 +337,11 @@ pub one-list : (names : Names) (key : FunctionKey) (xs ys : List ℕ) → IsTabl
 one-list names key xs ys t p q = lists-of-keys names key key xs ys t p q (key_equiv.refl key)
 
 pub adds-same-names : (m : TypeEncodingMaps) → AddsNames m m
-adds-same-names m = record { rest = record { numbers = refl; kinds = refl; keys = refl; names_ = refl; unit_future_ = refl; unit_stream_ = refl }; grow = names-same (names_of m.names) (names_of m.names) refl }
+adds-same-names m = record {
+  rest = record { numbers = refl; kinds = refl; keys = refl; names_ = refl; unit_future_ = refl; unit_stream_ = refl };
+  grow =
+      names-same (names_of m.names) (names_of m.names) refl;
+}
 
 pub adds-names-then : {a b c : TypeEncodingMaps} → AddsNames a b → AddsNames b c → AddsNames a c
 adds-names-then p q = record {

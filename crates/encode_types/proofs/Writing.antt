@@ -67,13 +67,15 @@ one-of-all f (y ∷ ys) x (zero, l, e) = let s = sum_by-cons f y ys in let h = a
 one-of-all f (y ∷ ys) x (suc i, l, e) = let s = sum_by-cons f y ys in let h = one-of-all f ys x (i, omega (arith, l), e) in omega (arith, s, h)
 
 -- a number that is new in the maps, and for which so much has been written
-pub writes-number : {r : Resolve} {u v : View} (learnt : List (ℕ × ℕ)) (n : ℕ) → IsPermutation (u.maps.id_to_index.entries ++ learnt) v.maps.id_to_index.entries → IsKnown v.maps n → (IsKnown u.maps n → ⊥)
+pub writes-number : {r : Resolve} {u v : View} (learnt : List (ℕ × ℕ)) (n : ℕ) → IsPermutation (u.maps.id_to_index.entries ++ learnt) v.maps.id_to_index.entries → IsKnown v.maps n
+    → (IsKnown u.maps n → ⊥)
     → v.extent ≤ u.extent + number_extent r u.scope.own_interface n → WritesLearnt r 0 u v
 writes-number {r} {u} {v} learnt n e known unknown l =
     let f : ℕ × ℕ → ℕ = λ e. number_extent r u.scope.own_interface e.0 in
     let all : sum_by f v.maps.id_to_index.entries ≡ sum_by f (u.maps.id_to_index.entries ++ learnt) = sum_by-IsPermutation f _ _ e in
     let both : sum_by f (u.maps.id_to_index.entries ++ learnt) ≡ sum_by f u.maps.id_to_index.entries + sum_by f learnt = sum_by-append f u.maps.id_to_index.entries learnt in
-    let one : number_extent r u.scope.own_interface n ≤ sum_by f learnt = elim (Contains-append_cases u.maps.id_to_index.entries learnt (n, known.0) (Contains-permutation _ _ (n, known.0) (IsPermutation-sym _ _ e) known.1)) [
+    let one : number_extent r u.scope.own_interface n ≤ sum_by f learnt =
+    elim (Contains-append_cases u.maps.id_to_index.entries learnt (n, known.0) (Contains-permutation _ _ (n, known.0) (IsPermutation-sym _ _ e) known.1)) [
       | inl old ↦ absurd (unknown (known.0, old))
       | inr new ↦ one-of-all f learnt (n, known.0) new
     ] in
@@ -85,13 +87,16 @@ extent-is : (r : Resolve) (own : Option InterfaceId) (n : ℕ) (d : TypeDef) →
     → number_extent r own n ≡ (if is_some (foreign_owner own d.owner) then import_extent d else tree_extent (kind_tree r d.kind) + own_name_extent r d)
 extent-is r own n d at = ap (λ t. option_map_or (λ def. if is_some (foreign_owner own def.owner) then import_extent def else tree_extent (kind_tree r def.kind) + own_name_extent r def) t 0) at
 
-pub own-extent : (r : Resolve) (own : Option InterfaceId) (n : ℕ) (d : TypeDef) → type_at r n ≡ Some d → foreign_owner own d.owner ≡ None → number_extent r own n ≡ tree_extent (kind_tree r d.kind) + own_name_extent r d
+pub own-extent : (r : Resolve) (own : Option InterfaceId) (n : ℕ) (d : TypeDef) → type_at r n ≡ Some d → foreign_owner own d.owner ≡ None
+    → number_extent r own n ≡ tree_extent (kind_tree r d.kind) + own_name_extent r d
 own-extent r own n d at f = extent-is r own n d at ∙ ap (λ (o : Option InterfaceId). if is_some o then import_extent d else tree_extent (kind_tree r d.kind) + own_name_extent r d) f
 
-pub foreign-extent : (r : Resolve) (own : Option InterfaceId) (n : ℕ) (d : TypeDef) (i : InterfaceId) → type_at r n ≡ Some d → foreign_owner own d.owner ≡ Some i → number_extent r own n ≡ import_extent d
+pub foreign-extent : (r : Resolve) (own : Option InterfaceId) (n : ℕ) (d : TypeDef) (i : InterfaceId) → type_at r n ≡ Some d → foreign_owner own d.owner ≡ Some i
+    → number_extent r own n ≡ import_extent d
 foreign-extent r own n d i at f = extent-is r own n d at ∙ ap (λ (o : Option InterfaceId). if is_some o then import_extent d else tree_extent (kind_tree r d.kind) + own_name_extent r d) f
 
-pub name-extent : (r : Resolve) (d : TypeDef) (label : String Global) (name : ExternName) → d.name ≡ Some label → name ≡ exported_name (text_of label, type_meaning r d) → own_name_extent r d ≡ name_extent name
+pub name-extent : (r : Resolve) (d : TypeDef) (label : String Global) (name : ExternName) → d.name ≡ Some label → name ≡ exported_name (text_of label, type_meaning r d)
+    → own_name_extent r d ≡ name_extent name
 name-extent r d label name is e = ap (λ (o : Option (String Global)). option_map_or (λ label. name_extent (exported_name (text_of label, type_meaning r d))) o 0) is ∙ sym (ap name_extent e)
 
 -- ---- answers

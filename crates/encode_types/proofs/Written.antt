@@ -45,7 +45,8 @@ written-stands r m x ty.Char w = subst (λ (y : ComponentValType). StandsFor (Sa
 written-stands r m x ty.String w = subst (λ (y : ComponentValType). StandsFor (Says r m) y (primitive Primitive.string)) (sym w) refl
 written-stands r m x ty.ErrorContext w = subst (λ (y : ComponentValType). StandsFor (Says r m) y (primitive Primitive.error_context)) (sym w) refl
 
-pub optional-stands : (r : Resolve) (m : TypeEncodingMaps) (x : Option ComponentValType) (t : Option ValueType) → IsWrittenOptional m x t → StandsForOptional (Says r m) x (option_map (tree_of (trees_of r)) t)
+pub optional-stands : (r : Resolve) (m : TypeEncodingMaps) (x : Option ComponentValType) (t : Option ValueType) → IsWrittenOptional m x t
+    → StandsForOptional (Says r m) x (option_map (tree_of (trees_of r)) t)
 optional-stands r m None None w = w
 optional-stands r m None (Some t) w = w
 optional-stands r m (Some x) None w = w
@@ -56,7 +57,8 @@ optional-stands r m (Some x) (Some t) w = written-stands r m x t w
 pub ready-of : {X : Type 0} (m : TypeEncodingMaps) (f : X → ValueType) (xs : List X) (i : ℕ) (x : X) → AllReady m (map f xs) → i < length xs → x ≡ get_or xs i x → IsReady m (f x)
 ready-of m f xs i x a l e = a (f x) (contains-map f xs x (contains-at xs i x l e))
 
-pub ready-given : {X : Type 0} (m : TypeEncodingMaps) (f : X → Option ValueType) (xs : List X) (i : ℕ) (x : X) → AllReady m (filter_map f xs) → i < length xs → x ≡ get_or xs i x → AllReady m (option_to_list (f x))
+pub ready-given : {X : Type 0} (m : TypeEncodingMaps) (f : X → Option ValueType) (xs : List X) (i : ℕ) (x : X) → AllReady m (filter_map f xs) → i < length xs → x ≡ get_or xs i x
+    → AllReady m (option_to_list (f x))
 ready-given m f xs i x a l e t c = a t (contains-filter_map f xs x t (contains-at xs i x l e) c)
 
 pub ready-one : (m : TypeEncodingMaps) (t : ValueType) → AllReady m (t ∷ []) → IsReady m t

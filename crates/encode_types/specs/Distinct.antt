@@ -151,7 +151,8 @@ value_slots ds = slots_from is_value_type 0 ds
 -- Which value types are defined where the slots stand for this, and what for: in a slot of its own each kind of unnamed types that the types
 -- and functions meet, which is exported under no name; and in a slot of its own each type of the list that has a definition under its name, which
 -- is exported once. There is no other.
-pub record DefinesTypes (r : Resolve) (own : Option InterfaceId) (S : Pairs) (types : List TypeId) (functions : List Function) (declared : Declarations) : Type 0 where
+pub record DefinesTypes (r : Resolve) (own : Option InterfaceId) (S : Pairs) (types : List TypeId) (functions : List Function)
+    (declared : Declarations) : Type 0 where
   pub kinds : List TypeDefKind
   pub met : AreMetKinds r own (referred types functions) kinds
   pub kind_slots : List ℕ

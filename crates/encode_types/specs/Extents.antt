@@ -62,7 +62,8 @@ import_extent def = 32 + given_length (optional_text def.name)
 -- the bytes at most of a type number, in the scope of an interface or of none: a type of another interface gets aliases
 abbrev pub number_extent : Resolve → Option InterfaceId → ℕ → ℕ
 number_extent r own n =
-    option_map_or (λ def. if is_some (foreign_owner own def.owner) then import_extent def else tree_extent (kind_tree r def.kind) + own_name_extent r def) (type_at r n) 0
+    option_map_or (λ def. if is_some (foreign_owner own def.owner) then import_extent def else tree_extent (kind_tree r def.kind) + own_name_extent r def)
+    (type_at r n) 0
 
 -- a function, under its name
 abbrev pub function_extent : Resolve → Text × Function → ℕ

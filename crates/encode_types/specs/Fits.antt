@@ -21,7 +21,8 @@ pub record FitsScope (r : Resolve) (scope : Scope) (n : ℕ) (def : TypeDef) : T
   pub foreign : (i : InterfaceId) → foreign_owner scope.own_interface def.owner ≡ Some i → IsImportable scope i.0 n
   pub unnamed : foreign_owner scope.own_interface def.owner ≡ None → def.name ≡ None → is_named_kind def.kind ≡ false
   pub placed : foreign_owner scope.own_interface def.owner ≡ None → (name : String Global) → def.name ≡ Some name → place_of r def.owner ≡ scope.place
-  pub declared : foreign_owner scope.own_interface def.owner ≡ None → (name : String Global) → def.name ≡ Some name → IsDeclared scope (text_of name, type_meaning r def)
+  pub declared : foreign_owner scope.own_interface def.owner ≡ None → (name : String Global) → def.name ≡ Some name
+      → IsDeclared scope (text_of name, type_meaning r def)
   pub formed : foreign_owner scope.own_interface def.owner ≡ None → has_definition def.kind ≡ true → IsFormed scope (kind_tree r def.kind)
 
 -- whether a type is of another interface
@@ -30,7 +31,8 @@ is_foreign scope def = is_some (foreign_owner scope.own_interface def.owner)
 
 -- a type of another interface can be imported
 abbrev pub CanImport : Resolve → Scope → ℕ → Type 0
-CanImport r scope n = (def : TypeDef) (i : InterfaceId) → type_at r n ≡ Some def → foreign_owner scope.own_interface def.owner ≡ Some i → IsImportable scope i.0 n
+CanImport r scope n = (def : TypeDef) (i : InterfaceId) → type_at r n ≡ Some def → foreign_owner scope.own_interface def.owner ≡ Some i
+    → IsImportable scope i.0 n
 
 -- The type of this number fits the scope.
 abbrev pub Fits : Resolve → Scope → ℕ → Type 0

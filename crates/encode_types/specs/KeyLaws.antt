@@ -28,7 +28,8 @@ pub params_partial_equiv : IsPartialEquivalence same_params
 params_partial_equiv = partial_equiv_from_equiv params_equiv
 
 pub key_equiv : IsEquivalence same_key
-key_equiv = and_equiv (on_equiv (λ k. k.async_) bool_eq_equiv) (and_equiv (on_equiv (λ k. k.params) params_equiv) (on_equiv (λ k. k.result.now) (options_equiv type_equiv)))
+key_equiv = and_equiv (on_equiv (λ k. k.async_) bool_eq_equiv)
+    (and_equiv (on_equiv (λ k. k.params) params_equiv) (on_equiv (λ k. k.result.now) (options_equiv type_equiv)))
 
 pub key_partial_equiv : IsPartialEquivalence same_key
 key_partial_equiv = partial_equiv_from_equiv key_equiv

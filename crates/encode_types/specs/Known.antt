@@ -111,7 +111,8 @@ outer_instances outer = option_map_or (λ s. s.instances) (outer_scope outer) []
 -- the interfaces whose instances stand, where what is listed of aliases is right
 abbrev pub standing_instances : Resolve → Around → List ℕ
 standing_instances r around =
-    if are_right r around.known (outer_slots around.declared) then filter (stands_around r around.instances (outer_instances around.declared)) (below (length r.interfaces.items)) else []
+    if are_right r around.known (outer_slots around.declared) then filter (stands_around r around.instances (outer_instances around.declared))
+    (below (length r.interfaces.items)) else []
 
 -- ---- aliases
 

@@ -112,6 +112,7 @@ pub record LearnsKindOf (m m' : TypeEncodingMaps) (kind : TypeDefKind) : Type 0 
 
 -- Maps that were empty, and have learnt what is met from some types and nothing else, hold the kinds of the unnamed types that are met, each once.
 abbrev pub MetKindsAreHeld : Type 0
-MetKindsAreHeld = (r : Resolve) (own : Option InterfaceId) (ts : List ValueType) (m m' : TypeEncodingMaps) → IsValid r → m.id_to_index.entries ≡ [] → m.def_to_index.entries ≡ []
+MetKindsAreHeld = (r : Resolve) (own : Option InterfaceId) (ts : List ValueType) (m m' : TypeEncodingMaps) → IsValid r → m.id_to_index.entries ≡ []
+    → m.def_to_index.entries ≡ []
     → Learns r own m m' → LearnsOnly (ReachedFrom r own ts) m m' → AllReady m' ts → IsOnce m'
     → (kinds : List TypeDefKind) × (map (λ e. e.0) (lists_of m'.def_to_index) ≡ map kind_code kinds) × AreMetKinds r own ts kinds

@@ -32,12 +32,14 @@ foreign_owner own owner.None = None
 -- n is met on the way down from a type, where types of other interfaces aren't opened
 pub data Reaches (r : Resolve) (own : Option InterfaceId) : ValueType → ℕ → Type 0 where
   itself : (id : TypeId) → Reaches r own (ty.Id id) id.0
-  through : (id : TypeId) (def : TypeDef) (t : ValueType) (n : ℕ) → type_at r id.0 ≡ Some def → foreign_owner own def.owner ≡ None → Contains (parts_of def.kind) t → Reaches r own t n → Reaches r own (ty.Id id) n
+  through : (id : TypeId) (def : TypeDef) (t : ValueType) (n : ℕ) → type_at r id.0 ≡ Some def → foreign_owner own def.owner ≡ None
+      → Contains (parts_of def.kind) t → Reaches r own t n → Reaches r own (ty.Id id) n
 
 -- n is met on the way down from a type, by way of numbers that the maps lack, which lack n too
 pub data Meets (r : Resolve) (own : Option InterfaceId) (m : TypeEncodingMaps) : ValueType → ℕ → Type 0 where
   at_once : (id : TypeId) → (IsKnown m id.0 → ⊥) → Meets r own m (ty.Id id) id.0
-  further : (id : TypeId) (def : TypeDef) (t : ValueType) (n : ℕ) → (IsKnown m id.0 → ⊥) → type_at r id.0 ≡ Some def → foreign_owner own def.owner ≡ None → Contains (parts_of def.kind) t → Meets r own m t n → Meets r own m (ty.Id id) n
+  further : (id : TypeId) (def : TypeDef) (t : ValueType) (n : ℕ) → (IsKnown m id.0 → ⊥) → type_at r id.0 ≡ Some def → foreign_owner own def.owner ≡ None
+      → Contains (parts_of def.kind) t → Meets r own m t n → Meets r own m (ty.Id id) n
 
 -- n is so met from one of these types
 abbrev pub MetFrom : Resolve → Option InterfaceId → TypeEncodingMaps → List ValueType → ℕ → Type 0
@@ -57,7 +59,8 @@ AllInRange r ts = (t : ValueType) → Contains ts t → InRange r t
 
 -- the parts of number n are known, or stand in the list
 abbrev pub PartsStand : Resolve → Option InterfaceId → TypeEncodingMaps → List ℕ → ℕ → Type 0
-PartsStand r own m before n = (def : TypeDef) (id : TypeId) → type_at r n ≡ Some def → foreign_owner own def.owner ≡ None → Contains (parts_of def.kind) (ty.Id id) → IsKnown m id.0 ⊎ Contains before id.0
+PartsStand r own m before n = (def : TypeDef) (id : TypeId) → type_at r n ≡ Some def → foreign_owner own def.owner ≡ None
+    → Contains (parts_of def.kind) (ty.Id id) → IsKnown m id.0 ⊎ Contains before id.0
 
 -- the parts of each number of the list stand before it
 abbrev pub IsOrdered : Resolve → Option InterfaceId → TypeEncodingMaps → List ℕ → Type 0
@@ -72,7 +75,8 @@ abbrev pub Stands : TypeEncodingMaps → List ℕ → ValueType → Type 0
 Stands m order t = (id : TypeId) → t ≡ ty.Id id → IsKnown m id.0 ⊎ Contains order id.0
 
 -- what the first i types need has been added to an order, in which no number stands twice
-pub record IsPlanned (r : Resolve) (own : Option InterfaceId) (m : TypeEncodingMaps) (before : List ℕ) (ts : List ValueType) (i : ℕ) (after : Order) : Type 0 where
+pub record IsPlanned (r : Resolve) (own : Option InterfaceId) (m : TypeEncodingMaps) (before : List ℕ) (ts : List ValueType) (i : ℕ)
+    (after : Order) : Type 0 where
   pub kept : (n : ℕ) → Contains before n → Contains after.numbers.items n
   pub added : (n : ℕ) → Contains after.numbers.items n → Contains before n ⊎ MetFrom r own m (take i ts) n
   pub ordered : IsOrdered r own m after.numbers.items

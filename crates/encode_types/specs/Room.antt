@@ -147,17 +147,20 @@ pub record HoldsFor (r : Resolve) (own : Option InterfaceId) (m m' : TypeEncodin
 -- a part of a type has no room: its definition or its name, or, where it is of another interface, what stands for it
 pub data LacksPart (r : Resolve) (own : Option InterfaceId) (N : Refusals) (number : ℕ) (def : TypeDef) : Type 0 where
   its_definition : foreign_owner own def.owner ≡ None → N (value_type (kind_tree r def.kind)) → LacksPart r own N number def
-  its_name : foreign_owner own def.owner ≡ None → (name : String Global) → def.name ≡ Some name → N (export_name (exported_name (text_of name, type_meaning r def))) → LacksPart r own N number def
+  its_name : foreign_owner own def.owner ≡ None → (name : String Global) → def.name ≡ Some name
+      → N (export_name (exported_name (text_of name, type_meaning r def))) → LacksPart r own N number def
   its_import : (i : InterfaceId) → foreign_owner own def.owner ≡ Some i → N (import_of number) → LacksPart r own N number def
 
 -- a part of one of these types, or one of these requests, has no room
 pub data LacksOne (r : Resolve) (own : Option InterfaceId) (N : Refusals) (numbers : List ℕ) (requests : List Request) : Type 0 where
-  a_type : (number : ℕ) (def : TypeDef) → Contains numbers number → type_at r number ≡ Some def → LacksPart r own N number def → LacksOne r own N numbers requests
+  a_type : (number : ℕ) (def : TypeDef) → Contains numbers number → type_at r number ≡ Some def → LacksPart r own N number def
+      → LacksOne r own N numbers requests
   a_request : (request : Request) → Contains requests request → N request → LacksOne r own N numbers requests
 
 -- One thing that was asked for has no room: a part of a type that is met from these, or one of these requests. What is held is less than what was
 -- held, what some type numbers take that are met and were new, and so many more.
-pub record FindsNoRoom (r : Resolve) (own : Option InterfaceId) (types : List ValueType) (requests : List Request) (more : ℕ) (m : TypeEncodingMaps) (before after : ℕ) (N : Refusals) : Type 0 where
+pub record FindsNoRoom (r : Resolve) (own : Option InterfaceId) (types : List ValueType) (requests : List Request) (more : ℕ) (m : TypeEncodingMaps)
+    (before after : ℕ) (N : Refusals) : Type 0 where
   pub numbers : List ℕ
   pub new : AreNew r own m numbers
   pub met : (n : ℕ) → Contains numbers n → ReachedFrom r own types n

@@ -56,12 +56,14 @@ latest-new ns i = record {
 
 module _ (r : Resolve) (count : ℕ) (ns : List ℕ) (i : ℕ) where
   -- behind the import or the export of an instance, listed as that of its interface
-  pub keeps-instance : (a b : Around) (inner : Declarations) (d : Declaration) → b.declared ≡ declared_after (append a.declared (Declarations.instance inner Declarations.no_more)) d → alias_in d ≡ [] → length (instance_name d) ≡ 1
+  pub keeps-instance : (a b : Around) (inner : Declarations) (d : Declaration) → b.declared ≡ declared_after (append a.declared (Declarations.instance inner Declarations.no_more)) d → alias_in d ≡ []
+      → length (instance_name d) ≡ 1
       → b.instances ≡ insert_entry nat_cmp a.instances i count → b.known ≡ a.known → KeepsAliases r count a ns → KeepsAliases r (count + 1) b (ns ++ i ∷ [])
   keeps-instance a b inner d is none one listed known before = record {
     counted = (let c = before.counted in let m = length-append ns (i ∷ []) in omega (arith, c, m));
     named =
-        (let e : length (instance_names b.declared) ≡ length (instance_names behind.declared ++ instance_name d) = ap (λ (z : Declarations). length (instance_names z)) is ∙ ap length (names-more behind.declared d) in
+        (let e : length (instance_names b.declared) ≡ length (instance_names behind.declared ++ instance_name d) =
+        ap (λ (z : Declarations). length (instance_names z)) is ∙ ap length (names-more behind.declared d) in
         let m = length-append (instance_names behind.declared) (instance_name d) in
         let n = length-append ns (i ∷ []) in
         let h = inside.named in
@@ -71,7 +73,18 @@ module _ (r : Resolve) (count : ℕ) (ns : List ℕ) (i : ℕ) where
       made = inside.has.made;
       are = ap (placed_aliases 0) is ∙ placed-plain behind.declared d none ∙ inside.has.are;
       once = inside.has.once;
-      each = λ x c. (let y = inside.has.each x c in record { def = y.def; name = y.name; interface = y.interface; there = y.there; named_ = y.named_; owned = y.owned; text = y.text; behind = (let m = length-append ns (i ∷ []) in let b = y.behind in omega (arith, m, b)); instance = latest-before ns i x.0 y.interface.0 x.1.instance y.behind y.instance });
+      each = λ x c. (let y = inside.has.each x c in record {
+        def = y.def;
+        name = y.name;
+        interface = y.interface;
+        there = y.there;
+        named_ = y.named_;
+        owned = y.owned;
+        text = y.text;
+        behind =
+            (let m = length-append ns (i ∷ []) in let b = y.behind in omega (arith, m, b));
+        instance = latest-before ns i x.0 y.interface.0 x.1.instance y.behind y.instance;
+      });
       asked = λ x c n. inside.has.asked x c (ap (λ es. known_slot es x.1.number.0) (sym known) ∙ n);
     };
   }

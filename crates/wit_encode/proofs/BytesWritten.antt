@@ -68,7 +68,8 @@ one-taken : (d : Declaration) (rest : Declarations) → declared_extent (Declara
 unfolding declared_extent
 one-taken d rest = length-append (declaration_bytes d) (declarations_bytes rest)
 
-component-taken : (inner rest : Declarations) → declared_extent (Declarations.component inner rest) ≡ (2 + (length (u32_bytes (declaration_count inner)) + declared_extent inner)) + declared_extent rest
+component-taken : (inner rest : Declarations)
+    → declared_extent (Declarations.component inner rest) ≡ (2 + (length (u32_bytes (declaration_count inner)) + declared_extent inner)) + declared_extent rest
 unfolding declared_extent
 component-taken inner rest =
     let a = length-append (u32_bytes (declaration_count inner)) (declarations_bytes inner) in
@@ -98,7 +99,8 @@ one-more outer outer' d n e l =
     omega (arith, same, both, one, z, l)
 
 -- one instance type more
-pub instance-more : (outer outer' inner : Declarations) → outer' ≡ append outer (Declarations.instance inner Declarations.no_more) → declared_extent outer' ≤ declared_extent outer + (8 + declared_extent inner)
+pub instance-more : (outer outer' inner : Declarations) → outer' ≡ append outer (Declarations.instance inner Declarations.no_more)
+    → declared_extent outer' ≤ declared_extent outer + (8 + declared_extent inner)
 instance-more outer outer' inner e =
     let same = ap declared_extent e in
     let both = both-taken outer (Declarations.instance inner Declarations.no_more) in
@@ -112,7 +114,8 @@ listed-more [] d = let a = one-taken d Declarations.no_more in let z = nothing-t
 listed-more (e ∷ ds) d = let h = listed-more ds d in let a = one-taken e (from_list (ds ++ d ∷ [])) in let b = one-taken e (from_list ds) in omega (arith, h, a, b)
 
 -- one declaration more in the instance type that is open, or in the component type
-pub inside-more : (outer : Declarations) (inner : Option OpenInterface) (current : OpenInterface) (ds : List Declaration) (d : Declaration) (n : ℕ) → inner ≡ Some current → ds ≡ current.declared ++ d ∷ [] → length (declaration_bytes d) ≤ n
+pub inside-more : (outer : Declarations) (inner : Option OpenInterface) (current : OpenInterface) (ds : List Declaration) (d : Declaration) (n : ℕ) → inner ≡ Some current
+    → ds ≡ current.declared ++ d ∷ [] → length (declaration_bytes d) ≤ n
     → declared_extent outer + declared_extent (from_list ds) ≤ extent_in outer inner + n
 inside-more outer inner current ds d n is e l =
     let opened = ap (extent_in outer) is in
@@ -120,7 +123,8 @@ inside-more outer inner current ds d n is e l =
     let one = listed-more current.declared d in
     omega (arith, opened, same, one, l)
 
-pub outside-more : (outer outer' : Declarations) (inner : Option OpenInterface) (d : Declaration) (n : ℕ) → inner ≡ None → outer' ≡ declared_after outer d → length (declaration_bytes d) ≤ n → extent_in outer' inner ≤ extent_in outer inner + n
+pub outside-more : (outer outer' : Declarations) (inner : Option OpenInterface) (d : Declaration) (n : ℕ) → inner ≡ None → outer' ≡ declared_after outer d → length (declaration_bytes d) ≤ n
+    → extent_in outer' inner ≤ extent_in outer inner + n
 outside-more outer outer' inner d n none e l =
     let before = ap (extent_in outer) none in
     let after = ap (extent_in outer') none in
@@ -130,7 +134,8 @@ outside-more outer outer' inner d n none e l =
 -- ---- aliases
 
 -- the alias of a type, if one is made
-pub reached-more : {r : Resolve} {id : TypeId} {a a' : Around} → ReachesAround r id a a' → (def : TypeDef) → type_at r id.0 ≡ Some def → declared_extent a'.declared ≤ declared_extent a.declared + (16 + given_length (optional_text def.name))
+pub reached-more : {r : Resolve} {id : TypeId} {a a' : Around} → ReachesAround r id a a' → (def : TypeDef) → type_at r id.0 ≡ Some def
+    → declared_extent a'.declared ≤ declared_extent a.declared + (16 + given_length (optional_text def.name))
 reached-more {r} {id} {a} {a'} (as_before e) def at = let same = ap (λ (z : Around). declared_extent z.declared) e in omega (arith, same)
 reached-more {r} {id} {a} {a'} (aliased x is n e) def at =
     let same : is.def ≡ def = some-same is.def def (sym is.there ∙ ap (λ (t : TypeId). type_at r t.0) n ∙ at) in
@@ -140,7 +145,8 @@ reached-more {r} {id} {a} {a'} (aliased x is n e) def at =
     omega (arith, name, one)
 
 -- with the outer alias that stands for it in the instance type
-pub imported-more : {r : Resolve} {id : TypeId} (a a' : Around) (inner : Option OpenInterface) (current : OpenInterface) (ds : List Declaration) (k : ℕ) (def : TypeDef) → ReachesAround r id a a' → type_at r id.0 ≡ Some def → inner ≡ Some current
+pub imported-more : {r : Resolve} {id : TypeId} (a a' : Around) (inner : Option OpenInterface) (current : OpenInterface) (ds : List Declaration) (k : ℕ) (def : TypeDef) → ReachesAround r id a a'
+    → type_at r id.0 ≡ Some def → inner ≡ Some current
     → ds ≡ current.declared ++ Declaration.alias_of (Alias.of_outer 1 k) ∷ [] → declared_extent a'.declared + declared_extent (from_list ds) ≤ extent_in a.declared inner + import_extent def
 imported-more a a' inner current ds k def reaches at is e =
     let around = reached-more reaches def at in
@@ -150,7 +156,8 @@ imported-more a a' inner current ds k def reaches at is e =
 
 -- ---- functions
 
-pub functions-next : {X : Type 0} (f : Text × Function → ℕ) (view : X → Text × Function) (xs : List X) (i : ℕ) (x : X) → i < length xs → x ≡ get_or xs i x → sum_by f (map view (take (i + 1) xs)) ≡ sum_by f (map view (take i xs)) + f (view x)
+pub functions-next : {X : Type 0} (f : Text × Function → ℕ) (view : X → Text × Function) (xs : List X) (i : ℕ) (x : X) → i < length xs → x ≡ get_or xs i x
+    → sum_by f (map view (take (i + 1) xs)) ≡ sum_by f (map view (take i xs)) + f (view x)
 functions-next f view xs i x l is =
     let more = ap (λ ys. sum_by f (map view ys)) (take_more xs i x l) in
     let both = ap (sum_by f) (map-append view (take i xs) (get_or xs i x ∷ [])) ∙ sum_by-append f (map view (take i xs)) (view (get_or xs i x) ∷ []) in
@@ -173,7 +180,8 @@ with-index (e ∷ es) n (zero, l, q) = (e.1, (0, omega arith, (λ j. (q j, e.1))
 with-index (e ∷ es) n (suc i, l, q) = (let x = with-index es n (i, omega (arith, l), q) in (x.0, (suc x.1.0, (let y = x.1.1 in omega (arith, y)), x.1.2)))
 
 -- what maps that were empty have learnt by the end, and functions
-pub taken : (r : Resolve) (i : InterfaceId) (types : List ValueType) (fs : List (Text × Function)) (m m' : TypeEncodingMaps) (outer outer' : Declarations) (inner : Option OpenInterface) (ds : List Declaration) (current : OpenInterface)
+pub taken : (r : Resolve) (i : InterfaceId) (types : List ValueType) (fs : List (Text × Function)) (m m' : TypeEncodingMaps) (outer outer' : Declarations) (inner : Option OpenInterface)
+    (ds : List Declaration) (current : OpenInterface)
     → m.id_to_index.entries ≡ [] → ds ≡ [] → inner ≡ Some current → IsOnce m' → LearnsOnly (ReachedFrom r (Some i) types) m m'
     → extent_in outer' inner + known_extent r (Some i) m ≤ (declared_extent outer + declared_extent (from_list ds)) + (known_extent r (Some i) m' + sum_by (function_extent r) fs)
     → TakesFew r i types fs (declared_extent outer) (declared_extent outer' + declared_extent (from_list current.declared))
@@ -192,9 +200,16 @@ taken r i types fs m m' outer outer' inner ds current empty none is once only l 
 }
 
 -- closed, in a component type
-pub taken-closed : {r : Resolve} {i : InterfaceId} {types : List ValueType} {fs : List (Text × Function)} {before : ℕ} (outer outer' inner : Declarations) → outer' ≡ append outer (Declarations.instance inner Declarations.no_more)
+pub taken-closed : {r : Resolve} {i : InterfaceId} {types : List ValueType} {fs : List (Text × Function)} {before : ℕ} (outer outer' inner : Declarations)
+    → outer' ≡ append outer (Declarations.instance inner Declarations.no_more)
     → TakesFew r i types fs before (declared_extent outer + declared_extent inner) → TakesFew r i types fs (before + 8) (declared_extent outer')
-taken-closed outer outer' inner e t = record { numbers = t.numbers; different = t.different; met = t.met; few = (let more = instance-more outer outer' inner e in let few = t.few in omega (arith, more, few)) }
+taken-closed outer outer' inner e t = record {
+  numbers = t.numbers;
+  different = t.different;
+  met = t.met;
+  few =
+      (let more = instance-more outer outer' inner e in let few = t.few in omega (arith, more, few));
+}
 
 pub types-few : (r : Resolve) → IsValid r → (i : InterfaceId) (def : Interface) → interface_at r i.0 ≡ Some def → (types : List TypeId) → types ≡ values def.types → (outer outer' : Declarations)
     → TakesFew r i (referred types []) [] (declared_extent outer + 8) (declared_extent outer') → AddsBytes (types_extent r i.0) outer outer'
@@ -203,12 +218,15 @@ types-few r v i def at types e outer outer' t =
     let few = t.few in
     record { few = omega (arith, light, few) }
 
-pub whole-few : (r : Resolve) → IsValid r → (i : InterfaceId) (def : Interface) → interface_at r i.0 ≡ Some def → (types : List TypeId) → types ≡ values def.types → (fs : List Placed) → map placed_function fs ≡ functions_in_order def → (outer outer' : Declarations)
+pub whole-few : (r : Resolve) → IsValid r → (i : InterfaceId) (def : Interface) → interface_at r i.0 ≡ Some def → (types : List TypeId) → types ≡ values def.types → (fs : List Placed)
+    → map placed_function fs ≡ functions_in_order def → (outer outer' : Declarations)
     → TakesFew r i (referred types (map (λ f. f.2.now) fs)) (map placed_function fs) (declared_extent outer + 8) (declared_extent outer') → AddsBytes (whole_extent r i.0) outer outer'
 whole-few r v i def at types e fs order outer outer' t =
-    let own : map (λ f. f.2.now) fs ≡ map (λ (g : Text × Function). g.1) (functions_in_order def) = sym (map-twice (λ (g : Text × Function). g.1) placed_function fs) ∙ ap (map (λ (g : Text × Function). g.1)) order in
+    let own : map (λ f. f.2.now) fs ≡ map (λ (g : Text × Function). g.1) (functions_in_order def) =
+    sym (map-twice (λ (g : Text × Function). g.1) placed_function fs) ∙ ap (map (λ (g : Text × Function). g.1)) order in
     let met : (n : ℕ) → Contains t.numbers n → ReachedFrom r (Some i) (referred (values def.types) (map (λ (g : Text × Function). g.1) (functions_in_order def))) n =
-    λ n c. subst (λ (gs : List Function). ReachedFrom r (Some i) (referred (values def.types) gs) n) own (subst (λ (ts : List TypeId). ReachedFrom r (Some i) (referred ts (map (λ f. f.2.now) fs)) n) e (t.met n c)) in
+    λ n c. subst (λ (gs : List Function). ReachedFrom r (Some i) (referred (values def.types) gs) n) own
+    (subst (λ (ts : List TypeId). ReachedFrom r (Some i) (referred ts (map (λ f. f.2.now) fs)) n) e (t.met n c)) in
     let light = instances-light r i def t.numbers v at t.different met in
     let functions = ap (sum_by (function_extent r)) order in
     let few = t.few in
@@ -220,7 +238,8 @@ pub adds-nothing : (outer : Declarations) → AddsBytes 0 outer outer
 adds-nothing outer = record { few = omega arith }
 
 -- an instance type of so much, and the import or the export that uses it
-pub adds-described : (n : ℕ) (outer between outer' : Declarations) (d : Declaration) (named name : ExternName) → AddsBytes (8 + n) outer between → outer' ≡ declared_after between d → length (declaration_bytes d) ≤ name_extent named → named ≡ name
+pub adds-described : (n : ℕ) (outer between outer' : Declarations) (d : Declaration) (named name : ExternName) → AddsBytes (8 + n) outer between → outer' ≡ declared_after between d
+    → length (declaration_bytes d) ≤ name_extent named → named ≡ name
     → AddsBytes (instance_extent name n) outer outer'
 adds-described n outer between outer' d named name one e l same =
     let before = one.few in
@@ -229,24 +248,29 @@ adds-described n outer between outer' d named name one e l same =
     record { few = omega (arith, before, after, is) }
 
 -- one import more
-pub imports-next : (r q : Resolve) (canonical : Bool) (xs : List InterfaceId) (k : ℕ) (outer between outer' : Declarations) → q ≡ r → k < length xs → AddsBytes (imports_extent r canonical (take k (map (λ id. id.0) xs))) outer between
+pub imports-next : (r q : Resolve) (canonical : Bool) (xs : List InterfaceId) (k : ℕ) (outer between outer' : Declarations) → q ≡ r → k < length xs
+    → AddsBytes (imports_extent r canonical (take k (map (λ id. id.0) xs))) outer between
     → AddsBytes (import-extent q canonical (get_or xs k (record { 0 = 0 })).0) between outer' → AddsBytes (imports_extent r canonical (take (k + 1) (map (λ id. id.0) xs))) outer outer'
 imports-next r q canonical xs k outer between outer' e l before more =
-    let next = ap (sum_by (import-extent r canonical)) (sym (numbers-next xs k l)) ∙ sum_by-append (import-extent r canonical) (take k (map (λ (id : InterfaceId). id.0) xs)) ((get_or xs k (record { 0 = 0 })).0 ∷ []) in
+    let next = ap (sum_by (import-extent r canonical)) (sym (numbers-next xs k l)) ∙ sum_by-append (import-extent r canonical) (take k (map (λ (id : InterfaceId). id.0) xs))
+    ((get_or xs k (record { 0 = 0 })).0 ∷ []) in
     let one = sum_by-cons (import-extent r canonical) (get_or xs k (record { 0 = 0 })).0 [] in
     let same = ap (λ (z : Resolve). import-extent z canonical (get_or xs k (record { 0 = 0 })).0) e in
     let a = before.few in
     let b = more.few in
     record { few = omega (arith, next, one, same, a, b) }
 
-pub imports-whole : (r : Resolve) (canonical : Bool) (xs : List InterfaceId) (k : ℕ) (outer outer' : Declarations) → length xs ≤ k → AddsBytes (imports_extent r canonical (take k (map (λ id. id.0) xs))) outer outer' → AddsBytes (imports_extent r canonical (map (λ id. id.0) xs)) outer outer'
+pub imports-whole : (r : Resolve) (canonical : Bool) (xs : List InterfaceId) (k : ℕ) (outer outer' : Declarations) → length xs ≤ k
+    → AddsBytes (imports_extent r canonical (take k (map (λ id. id.0) xs))) outer outer' → AddsBytes (imports_extent r canonical (map (λ id. id.0) xs)) outer outer'
 imports-whole r canonical xs k outer outer' l h =
     let same : length (map (λ (id : InterfaceId). id.0) xs) ≡ length xs = length-map xs (λ (id : InterfaceId). id.0) in
     subst (λ (ns : List ℕ). AddsBytes (imports_extent r canonical ns) outer outer') (take_all k (map (λ (id : InterfaceId). id.0) xs) (omega (arith, same, l))) h
 
 -- all imports, and the interface itself
-pub component-few : (r q : Resolve) (v : IsValid r) (i : InterfaceId) (reached : List ℕ) (canonical : Bool) → q ≡ r → is_some (interface_path r i.0) ≡ true → AreReached r i.0 reached → (empty outer outer' : Declarations) → empty ≡ Declarations.no_more
-    → AddsBytes (imports_extent q canonical reached) empty outer → AddsBytes (instance_extent (name_of_interface r canonical i.0) (whole_instance_weight q i.0)) outer outer' → declared_extent outer' ≤ interface_weight r i.0
+pub component-few : (r q : Resolve) (v : IsValid r) (i : InterfaceId) (reached : List ℕ) (canonical : Bool) → q ≡ r → is_some (interface_path r i.0) ≡ true → AreReached r i.0 reached
+    → (empty outer outer' : Declarations) → empty ≡ Declarations.no_more
+    → AddsBytes (imports_extent q canonical reached) empty outer → AddsBytes (instance_extent (name_of_interface r canonical i.0) (whole_instance_weight q i.0)) outer outer'
+    → declared_extent outer' ≤ interface_weight r i.0
 component-few r q v i reached canonical e named reaches empty outer outer' none imports own =
     let light = components-light r i reached canonical v named reaches in
     let first = ap (λ (z : Resolve). imports_extent z canonical reached) e in
@@ -272,31 +296,39 @@ pub learnt-beside : {r : Resolve} {n : ℕ} (m : TypeEncodingMaps) (x y : Declar
 learnt-beside m x y p = record { few = (let l = p.few in omega (arith, l)) }
 
 -- one declaration behind what has been learnt
-pub learnt-more : {r : Resolve} {k : ℕ} {a b : TypeEncodingMaps} {x : Declarations} (n : ℕ) (y z : Declarations) (d : Declaration) → AddsLearnt r k a b x y → z ≡ declared_after y d → length (declaration_bytes d) ≤ n → AddsLearnt r (k + n) a b x z
+pub learnt-more : {r : Resolve} {k : ℕ} {a b : TypeEncodingMaps} {x : Declarations} (n : ℕ) (y z : Declarations) (d : Declaration) → AddsLearnt r k a b x y → z ≡ declared_after y d
+    → length (declaration_bytes d) ≤ n → AddsLearnt r (k + n) a b x z
 learnt-more n y z d p e l = record { few = (let before = p.few in let one = one-more y z d n e l in omega (arith, before, one)) }
 
 items-one : (r : Resolve) (canonical : Bool) (x : Entry) → items_extent r canonical (x ∷ []) ≡ item_extent r canonical x
 items-one r canonical x = let a = sum_by-cons (item_extent r canonical) x [] in omega (arith, a)
 
-pub function-item : (r : Resolve) (canonical : Bool) (k : WorldKey) (i : WorldItem) (f : Function) → i ≡ item.Function f → items_extent r canonical ((k, i) ∷ []) ≡ signature_extent (signature_of r f) + name_extent (name_of_item r canonical (k, i))
+pub function-item : (r : Resolve) (canonical : Bool) (k : WorldKey) (i : WorldItem) (f : Function) → i ≡ item.Function f
+    → items_extent r canonical ((k, i) ∷ []) ≡ signature_extent (signature_of r f) + name_extent (name_of_item r canonical (k, i))
 function-item r canonical k i f e =
-    items-one r canonical (k, i) ∙ ap (λ (j : WorldItem). item_extent r canonical (k, j)) e ∙ ap (λ (j : WorldItem). signature_extent (signature_of r f) + name_extent (name_of_item r canonical (k, j))) (sym e)
+    items-one r canonical (k, i) ∙ ap (λ (j : WorldItem). item_extent r canonical (k, j)) e ∙ ap
+    (λ (j : WorldItem). signature_extent (signature_of r f) + name_extent (name_of_item r canonical (k, j))) (sym e)
 
-pub interface-item : (r : Resolve) (canonical : Bool) (k : WorldKey) (i : WorldItem) (n : ℕ) → item_interface i ≡ Some n → items_extent r canonical ((k, i) ∷ []) ≡ instance_extent (name_of_item r canonical (k, i)) (whole_instance_weight r n)
+pub interface-item : (r : Resolve) (canonical : Bool) (k : WorldKey) (i : WorldItem) (n : ℕ) → item_interface i ≡ Some n
+    → items_extent r canonical ((k, i) ∷ []) ≡ instance_extent (name_of_item r canonical (k, i)) (whole_instance_weight r n)
 interface-item r canonical k (item.Interface id stability docs external) n e =
-    items-one r canonical (k, item.Interface id stability docs external) ∙ ap (λ (m : ℕ). instance_extent (name_of_item r canonical (k, item.Interface id stability docs external)) (whole_instance_weight r m)) (some-same id.0 n e)
+    items-one r canonical (k, item.Interface id stability docs external) ∙ ap
+    (λ (m : ℕ). instance_extent (name_of_item r canonical (k, item.Interface id stability docs external)) (whole_instance_weight r m)) (some-same id.0 n e)
 interface-item r canonical k (item.Function f) n e = absurd (let z : ⊥ = cc in z)
 interface-item r canonical k (item.Type_ id) n e = absurd (let z : ⊥ = cc in z)
 
 -- all items of a world
-pub world-few : (r : Resolve) → IsValid r → (w : WorldId) (def : World) → world_at r w.0 ≡ Some def → (canonical : Bool) (began m m' : TypeEncodingMaps) (outer outer' : Declarations) → IsOnce m' → began.id_to_index.entries ≡ [] → LearnsOnly (IsMetAmong r (entries_in def)) began m' → outer ≡ Declarations.no_more
+pub world-few : (r : Resolve) → IsValid r → (w : WorldId) (def : World) → world_at r w.0 ≡ Some def → (canonical : Bool) (began m m' : TypeEncodingMaps) (outer outer' : Declarations) → IsOnce m'
+    → began.id_to_index.entries ≡ [] → LearnsOnly (IsMetAmong r (entries_in def)) began m' → outer ≡ Declarations.no_more
     → AddsLearnt r (items_extent r canonical (entries_in def)) m m' outer outer' → declared_extent outer' ≤ world_weight r w.0
 world-few r v w def at canonical began m m' outer outer' once empty only none adds =
-    let met : (n : ℕ) → Contains (map (λ (e : ℕ × ℕ). e.0) m'.id_to_index.entries) n → IsMetAmong r (entries_in def) n = λ n c. (let x = with-index m'.id_to_index.entries n c in elim (only.each n x.0 x.1) [
+    let met : (n : ℕ) → Contains (map (λ (e : ℕ × ℕ). e.0) m'.id_to_index.entries) n
+    → IsMetAmong r (entries_in def) n = λ n c. (let x = with-index m'.id_to_index.entries n c in elim (only.each n x.0 x.1) [
       | inl old ↦ none-in (n, x.0) (subst (λ (es : List (ℕ × ℕ)). Contains es (n, x.0)) empty old)
       | inr reached ↦ reached
     ]) in
-    let light = worlds-light r w def (map (λ (e : ℕ × ℕ). e.0) m'.id_to_index.entries) canonical v at (pairs-map (λ (e : ℕ × ℕ). e.0) (λ x y. nat_eq x y ≡ false) m'.id_to_index.entries once.numbers) met in
+    let light = worlds-light r w def (map (λ (e : ℕ × ℕ). e.0) m'.id_to_index.entries) canonical v at
+    (pairs-map (λ (e : ℕ × ℕ). e.0) (λ x y. nat_eq x y ≡ false) m'.id_to_index.entries once.numbers) met in
     let sum = sums-mapped (number_extent r None) (λ (e : ℕ × ℕ). e.0) m'.id_to_index.entries in
     let nothing = ap declared_extent none ∙ nothing-taken in
     let few = adds.few in

@@ -85,7 +85,8 @@ record InnerMore (place : Place) (outer : Declarations) (ds : List Declaration) 
   pub types : after.shown.types ≡ at.scope.shown.types ++ shown
   pub functions : after.shown.functions ≡ at.scope.shown.functions
 
-inner-grew : (place : Place) (outer : Declarations) (ds : List Declaration) (d : Declaration) (x : Slot) (shown : List ShownType) → InnerMore place outer ds d x shown → Grew (inner_contents place outer ds) (inner_contents place outer (ds ++ d ∷ [])) x
+inner-grew : (place : Place) (outer : Declarations) (ds : List Declaration) (d : Declaration) (x : Slot) (shown : List ShownType) → InnerMore place outer ds d x shown
+    → Grew (inner_contents place outer ds) (inner_contents place outer (ds ++ d ∷ [])) x
 unfolding inner_contents
 inner-grew place outer ds d x shown m =
     let next = steps.steps-more place (outer_slots outer) new_instance m.at.scope m.after ds d m.at.is m.step in
@@ -98,14 +99,17 @@ inner-grew place outer ds d x shown m =
 abbrev pub shown_meanings : List ShownType → List (Text × TypeMeaning)
 shown_meanings ts = map (λ t. (t.name, t.meaning)) ts
 
-inner-definitions : (place : Place) (outer : Declarations) (ds : List Declaration) (d : Declaration) (x : Slot) (shown : List ShownType) → InnerMore place outer ds d x shown → (types exported functions : List ℕ)
+inner-definitions : (place : Place) (outer : Declarations) (ds : List Declaration) (d : Declaration) (x : Slot) (shown : List ShownType) → InnerMore place outer ds d x shown
+    → (types exported functions : List ℕ)
     → (inner_contents place outer ds).types ++ cond (is_value_type d) (type_slots ds ∷ []) [] ≡ types → (inner_contents place outer ds).exported ++ option_to_list (target_of d) ≡ exported
     → (inner_contents place outer ds).functions ++ cond (is_function_type d) (type_slots ds ∷ []) [] ≡ functions
-    → definitions_with (inner_contents place outer (ds ++ d ∷ [])) ≡ record { types = types; exported = exported; functions = functions; exports = (definitions_with (inner_contents place outer ds)).exports ++ shown_meanings shown }
+    → definitions_with (inner_contents place outer (ds ++ d ∷ [])) ≡ record
+    { types = types; exported = exported; functions = functions; exports = (definitions_with (inner_contents place outer ds)).exports ++ shown_meanings shown }
 unfolding inner_contents
 inner-definitions place outer ds d x shown m types exported functions t u f =
     let next = steps.steps-more place (outer_slots outer) new_instance m.at.scope m.after ds d m.at.is m.step in
-    let exports = ap (λ o. shown_meanings (option_map_or (λ s. s.shown) o no_view).types) next ∙ ap shown_meanings m.types ∙ map-append (λ (t : ShownType). (t.name, t.meaning)) m.at.scope.shown.types shown
+    let exports = ap (λ o. shown_meanings (option_map_or (λ s. s.shown) o no_view).types) next ∙ ap shown_meanings m.types ∙ map-append (λ (t : ShownType). (t.name, t.meaning))
+    m.at.scope.shown.types shown
     ∙ ap (λ xs. xs ++ shown_meanings shown) (sym (ap (λ o. shown_meanings (option_map_or (λ s. s.shown) o no_view).types) m.at.is)) in
     λ i. record { types = (slots-more is_value_type ds d ∙ t) i; exported = (targets-more ds d ∙ u) i; functions = (slots-more is_function_type ds d ∙ f) i; exports = exports i }
 
@@ -197,10 +201,12 @@ module _ {E : Type 0} (res : Result ℕ E) (r : Resolve) (i : InterfaceId) (arou
 
     pub defined-inside : (d : ComponentDefinedType) (t : Tree) → Follows (SlotsStand before.slots) d t → IsFormed (scope_with r here around before) t
         → IfOk res (λ k. (k ≡ type_slots ds) × (ds' ≡ ds ++ Declaration.defined (raw_defined d) ∷ [])) → OnErr res (ds' ≡ ds)
-        → Calls res (scope_with r here around before) (scope_with r here around after) before after (Defines (SlotsStand before.slots) d) (definitions_with after ≡ one_type_more (length before.slots) (definitions_with before))
+        → Calls res (scope_with r here around before) (scope_with r here around after) before after (Defines (SlotsStand before.slots) d)
+        (definitions_with after ≡ one_type_more (length before.slots) (definitions_with before))
     defined-inside d t h f ok err =
         let a = inner-there in
-        let strict : definition a.scope.slots (raw_defined d) ≡ Some t = ap (λ zs. definition zs (raw_defined d)) (sym a.slots) ∙ definition-strict (resources_in r here) before.slots inner-slots d t h f.formed in
+        let strict : definition a.scope.slots (raw_defined d) ≡ Some t = ap (λ zs. definition zs (raw_defined d)) (sym a.slots) ∙ definition-strict (resources_in r here) before.slots inner-slots d t
+        h f.formed in
         let m : InnerMore (place_in r here) outer ds (Declaration.defined (raw_defined d)) (Slot.value t) [] = record {
           at = a;
           after = in_instance (Slot.value t) a.scope;
@@ -211,16 +217,25 @@ module _ {E : Type 0} (res : Result ℕ E) (r : Resolve) (i : InterfaceId) (arou
         } in
         calls-from res r here around before after _ _ (Slot.value t) sound (formed-value (resources_in r here) t f.formed) (defines-of before.slots d t h)
         (more-ok (Declaration.defined (raw_defined d)) (Slot.value t) [] _ m (λ e. ap (λ zs. definitions_with (inner_contents (place_in r here) outer zs)) e
-        ∙ inner-definitions (place_in r here) outer ds (Declaration.defined (raw_defined d)) (Slot.value t) [] m (before.types ++ length before.slots ∷ []) before.exported before.functions (ap (λ (k : ℕ). before.types ++ k ∷ []) (inner-index (place_in r here) outer ds a)) (append-nil before.exported) (append-nil before.functions)
-        ∙ (λ j. record { types = before.types ++ length before.slots ∷ []; exported = before.exported; functions = before.functions; exports = sym (nothing-more (definitions_with before).exports) j })) ok)
+        ∙ inner-definitions (place_in r here) outer ds (Declaration.defined (raw_defined d)) (Slot.value t) [] m (before.types ++ length before.slots ∷ []) before.exported before.functions
+        (ap (λ (k : ℕ). before.types ++ k ∷ []) (inner-index (place_in r here) outer ds a)) (append-nil before.exported) (append-nil before.functions)
+        ∙ (λ j. record {
+          types = before.types ++ length before.slots ∷ [];
+          exported = before.exported;
+          functions = before.functions;
+          exports =
+              sym (nothing-more (definitions_with before).exports) j;
+        })) ok)
         (err-same err)
 
     pub function-inside : (d : ComponentFuncType) (s : Signature) → FollowsFunction (SlotsStand before.slots) d s → IsFormedSignature (scope_with r here around before) s
         → IfOk res (λ k. (k ≡ type_slots ds) × (ds' ≡ ds ++ Declaration.function (raw_function d) ∷ [])) → OnErr res (ds' ≡ ds)
-        → Calls res (scope_with r here around before) (scope_with r here around after) before after (DefinesFunction (SlotsStand before.slots) d) (definitions_with after ≡ one_function_more (length before.slots) (definitions_with before))
+        → Calls res (scope_with r here around before) (scope_with r here around after) before after (DefinesFunction (SlotsStand before.slots) d)
+        (definitions_with after ≡ one_function_more (length before.slots) (definitions_with before))
     function-inside d s h f ok err =
         let a = inner-there in
-        let strict : function_signature a.scope.slots (raw_function d) ≡ Some s = ap (λ zs. function_signature zs (raw_function d)) (sym a.slots) ∙ function-strict (resources_in r here) before.slots inner-slots d s h f.params f.result_ in
+        let strict : function_signature a.scope.slots (raw_function d) ≡ Some s =
+        ap (λ zs. function_signature zs (raw_function d)) (sym a.slots) ∙ function-strict (resources_in r here) before.slots inner-slots d s h f.params f.result_ in
         let m : InnerMore (place_in r here) outer ds (Declaration.function (raw_function d)) (Slot.function s) [] = record {
           at = a;
           after = in_instance (Slot.function s) a.scope;
@@ -231,12 +246,20 @@ module _ {E : Type 0} (res : Result ℕ E) (r : Resolve) (i : InterfaceId) (arou
         } in
         calls-from res r here around before after _ _ (Slot.function s) sound refl (function-of before.slots d s h)
         (more-ok (Declaration.function (raw_function d)) (Slot.function s) [] _ m (λ e. ap (λ zs. definitions_with (inner_contents (place_in r here) outer zs)) e
-        ∙ inner-definitions (place_in r here) outer ds (Declaration.function (raw_function d)) (Slot.function s) [] m before.types before.exported (before.functions ++ length before.slots ∷ []) (append-nil before.types) (append-nil before.exported) (ap (λ (k : ℕ). before.functions ++ k ∷ []) (inner-index (place_in r here) outer ds a))
-        ∙ (λ j. record { types = before.types; exported = before.exported; functions = before.functions ++ length before.slots ∷ []; exports = sym (nothing-more (definitions_with before).exports) j })) ok)
+        ∙ inner-definitions (place_in r here) outer ds (Declaration.function (raw_function d)) (Slot.function s) [] m before.types before.exported (before.functions ++ length before.slots ∷ [])
+        (append-nil before.types) (append-nil before.exported) (ap (λ (k : ℕ). before.functions ++ k ∷ []) (inner-index (place_in r here) outer ds a))
+        ∙ (λ j. record {
+          types = before.types;
+          exported = before.exported;
+          functions = before.functions ++ length before.slots ∷ [];
+          exports =
+              sym (nothing-more (definitions_with before).exports) j;
+        })) ok)
         (err-same err)
 
     -- a type around that is the name of a named interface
-    pub alias-inside : (k : ℕ) (x : Slot) (t : Tree) → slice_get (outer_slots outer) k ≡ Some x → is_foreign_name x ≡ true → is_slot_of (resources_in r here) x ≡ true → standing_at (Some x) ≡ Some (tree t)
+    pub alias-inside : (k : ℕ) (x : Slot) (t : Tree) → slice_get (outer_slots outer) k ≡ Some x → is_foreign_name x ≡ true → is_slot_of (resources_in r here) x ≡ true
+        → standing_at (Some x) ≡ Some (tree t)
         → IfOk res (λ k'. (k' ≡ type_slots ds) × (ds' ≡ ds ++ Declaration.alias_of (Alias.of_outer 1 k) ∷ [])) → OnErr res (ds' ≡ ds)
         → Calls res (scope_with r here around before) (scope_with r here around after) before after (λ m. m ≡ tree t) (definitions_with after ≡ definitions_with before)
     alias-inside k x t at foreign kept stands ok err =
@@ -254,7 +277,8 @@ module _ {E : Type 0} (res : Result ℕ E) (r : Resolve) (i : InterfaceId) (arou
         calls-from res r here around before after _ _ x sound kept
         (record { gives = λ m e. stands ∙ ap Some (sym e); only = λ m e. some-standing _ m (sym stands ∙ e) })
         (more-ok d x [] _ m (λ e. ap (λ zs. definitions_with (inner_contents (place_in r here) outer zs)) e
-        ∙ inner-definitions (place_in r here) outer ds (Declaration.alias_of (Alias.of_outer 1 k)) x [] m before.types before.exported before.functions (append-nil before.types) (append-nil before.exported) (append-nil before.functions)
+        ∙ inner-definitions (place_in r here) outer ds (Declaration.alias_of (Alias.of_outer 1 k)) x [] m before.types before.exported before.functions (append-nil before.types)
+        (append-nil before.exported) (append-nil before.functions)
         ∙ (λ j. record { types = before.types; exported = before.exported; functions = before.functions; exports = sym (nothing-more (definitions_with before).exports) j })) ok)
         (err-same err)
 
@@ -264,8 +288,10 @@ module _ {E : Type 0} (res : Result ℕ E) (r : Resolve) (i : InterfaceId) (arou
     ShownAs slot name = ExportsOne (scope_with r here around before) (definitions_with before) (definitions_with after) slot name
 
     -- a declaration that is followed as it says
-    exported-inside : (described : ComponentTypeRef) {slot : Option ℕ} → described_slot described ≡ slot → (name : ExternName) (d : Text × TypeMeaning) (x : Slot) → IsDeclared (scope_with r here around before) d → name ≡ exported_name d → is_slot_of (resources_in r here) x ≡ true
-        → standing_at (Some x) ≡ Some (tree (named (place_in r here) name.text)) → ((m : InstanceScope) → instance_step (place_in r here) (outer_slots outer) m (Declaration.exported name described) ≡ show_type (place_in r here) name described m)
+    exported-inside : (described : ComponentTypeRef) {slot : Option ℕ} → described_slot described ≡ slot → (name : ExternName) (d : Text × TypeMeaning) (x : Slot)
+        → IsDeclared (scope_with r here around before) d → name ≡ exported_name d → is_slot_of (resources_in r here) x ≡ true
+        → standing_at (Some x) ≡ Some (tree (named (place_in r here) name.text))
+        → ((m : InstanceScope) → instance_step (place_in r here) (outer_slots outer) m (Declaration.exported name described) ≡ show_type (place_in r here) name described m)
         → named_type before.slots (place_in r here) name.text described ≡ Some (d.1.declaration, x)
         → IfOk res (λ k. (k ≡ type_slots ds) × (ds' ≡ ds ++ Declaration.exported name described ∷ [])) → OnErr res (ds' ≡ ds)
         → Calls res (scope_with r here around before) (scope_with r here around after) before after (λ m. m ≡ tree (named (place_in r here) name.text)) (ShownAs slot name)
@@ -290,7 +316,8 @@ module _ {E : Type 0} (res : Result ℕ E) (r : Resolve) (i : InterfaceId) (arou
           there = declared.there;
           named_ = is;
           one_more = ap (λ zs. definitions_with (inner_contents (place_in r here) outer zs)) e
-              ∙ inner-definitions (place_in r here) outer ds (Declaration.exported name described) x (t ∷ []) m before.types (before.exported ++ option_to_list slot) before.functions (append-nil before.types) (ap (λ o. before.exported ++ option_to_list o) from) (append-nil before.functions)
+              ∙ inner-definitions (place_in r here) outer ds (Declaration.exported name described) x (t ∷ []) m before.types (before.exported ++ option_to_list slot) before.functions
+              (append-nil before.types) (ap (λ o. before.exported ++ option_to_list o) from) (append-nil before.functions)
               ∙ (λ j. record { types = before.types; exported = before.exported ++ option_to_list slot; functions = before.functions; exports = (definitions_with before).exports ++ meant j ∷ [] });
         }) ok)
         (err-same err)

@@ -27,9 +27,12 @@ use Rattle.wit_encode.proofs.Opening.{Placed, values-permuted}
 use Rattle.base_lemmas.proofs.Lists.{map_of_map as map-twice}
 
 -- the instance type takes its slot
-pub closes : {E : Type 0} (res : Result ℕ E) (r : Resolve) (a : Around) (outer outer' : Declarations) (foreign foreign' : Foreign) (i : InterfaceId) (def : Interface) (types : List TypeId) (declared : List Declaration) (fs : List Placed) → types ≡ values def.types
-    → AliasesMet r (Some i) (referred types (map (λ f. f.2.now) fs)) a (around_at outer foreign) → foreign' ≡ foreign → DefinesKeys r (stands_inside r i outer declared) (map (λ f. f.2.now) fs) declared → DefinesTypes r (Some i) (stands_inside r i outer declared) types (map (λ f. f.2.now) fs) (from_list declared)
-    → IsInstance r outer i declared (map (λ f. meaning_of r (placed_function f)) fs) → IfOk res (λ k. (k ≡ type_slots_of outer) × (outer' ≡ append outer (Declarations.instance (from_list declared) Declarations.no_more)))
+pub closes : {E : Type 0} (res : Result ℕ E) (r : Resolve) (a : Around) (outer outer' : Declarations) (foreign foreign' : Foreign) (i : InterfaceId) (def : Interface) (types : List TypeId)
+    (declared : List Declaration) (fs : List Placed) → types ≡ values def.types
+    → AliasesMet r (Some i) (referred types (map (λ f. f.2.now) fs)) a (around_at outer foreign) → foreign' ≡ foreign
+    → DefinesKeys r (stands_inside r i outer declared) (map (λ f. f.2.now) fs) declared → DefinesTypes r (Some i) (stands_inside r i outer declared) types (map (λ f. f.2.now) fs) (from_list declared)
+    → IsInstance r outer i declared (map (λ f. meaning_of r (placed_function f)) fs)
+    → IfOk res (λ k. (k ≡ type_slots_of outer) × (outer' ≡ append outer (Declarations.instance (from_list declared) Declarations.no_more)))
     → IfOk res (λ k. EncodesPart r a (around_at outer' foreign') i def (map placed_function fs) (map (λ f. f.2.now) fs) k)
 closes (Err e) r a outer outer' foreign foreign' i def types declared fs l grown o keys kinds is h = h
 closes (Ok k) r a outer outer' foreign foreign' i def types declared fs l grown o keys kinds is h = record {
@@ -44,7 +47,8 @@ closes (Ok k) r a outer outer' foreign foreign' i def types declared fs l grown 
 }
 
 -- with all functions of the interface, in order, it shows the interface
-pub whole : (r : Resolve) → IsValid r → (a a' : Around) (i : InterfaceId) (def : Interface) (fs : List Placed) (k : ℕ) → interface_at r i.0 ≡ Some def → IsPermutation (map keyed def.functions.entries) (map placed_function fs)
+pub whole : (r : Resolve) → IsValid r → (a a' : Around) (i : InterfaceId) (def : Interface) (fs : List Placed) (k : ℕ) → interface_at r i.0 ≡ Some def
+    → IsPermutation (map keyed def.functions.entries) (map placed_function fs)
     → map placed_function fs ≡ functions_in_order def → EncodesPart r a a' i def (map placed_function fs) (map (λ f. f.2.now) fs) k → EncodesInterface r a a' i def k
 whole r v a a' i def fs k there p ordered e = record {
   part = record {
@@ -55,7 +59,8 @@ whole r v a a' i def fs k there p ordered e = record {
     one_more = e.one_more;
     is_instance = record { view = e.is_instance.view; followed = e.is_instance.followed; shows = e.is_instance.shows ∙ ap (map (meaning_of r)) ordered; types = e.is_instance.types };
     function_types = permuted-keys (values def.functions) (map (λ f. f.2.now) fs) e.declared (values-permuted def fs p) e.function_types;
-    value_types = permuted-types r (Some i) (stands_inside r i e.before.declared e.declared) (values def.types) (values def.functions) (map (λ f. f.2.now) fs) (from_list e.declared) (values-permuted def fs p) e.value_types;
+    value_types = permuted-types r (Some i) (stands_inside r i e.before.declared e.declared) (values def.types) (values def.functions) (map (λ f. f.2.now) fs) (from_list e.declared)
+        (values-permuted def fs p) e.value_types;
   };
   shows = shown;
   means = interface-means r v i.0 e.is_instance.view shown;
@@ -65,12 +70,14 @@ whole r v a a' i def fs k there p ordered e = record {
     shown : ShowsInterface r i.0 e.is_instance.view
     shown = record {
       types = e.is_instance.types;
-      functions = subst (λ xs. IsPermutation xs e.is_instance.view.functions) (map-twice (meaning_of r) keyed def.functions.entries ∙ sym (ap (λ (o : Option Interface). option_map_or (functions_of r) o []) there))
+      functions = subst (λ xs. IsPermutation xs e.is_instance.view.functions)
+          (map-twice (meaning_of r) keyed def.functions.entries ∙ sym (ap (λ (o : Option Interface). option_map_or (functions_of r) o []) there))
           (subst (IsPermutation (map (meaning_of r) (map keyed def.functions.entries))) (sym e.is_instance.shows) (IsPermutation-map (meaning_of r) _ _ p));
     }
 
 -- with none, it shows the types alone
-pub types-alone : (r : Resolve) (a a' : Around) (i : InterfaceId) (def : Interface) (fs : List Placed) (k : ℕ) → fs ≡ [] → EncodesPart r a a' i def (map placed_function fs) (map (λ f. f.2.now) fs) k → EncodesDependency r a a' i def k
+pub types-alone : (r : Resolve) (a a' : Around) (i : InterfaceId) (def : Interface) (fs : List Placed) (k : ℕ) → fs ≡ [] → EncodesPart r a a' i def (map placed_function fs) (map (λ f. f.2.now) fs) k
+    → EncodesDependency r a a' i def k
 types-alone r a a' i def [] k none e =
     let shown : ShowsTypes r i.0 e.is_instance.view = record { types = e.is_instance.types; functions = e.is_instance.shows } in
     record { part = e; shows = shown; means = types-mean r i.0 e.is_instance.view shown; function_types = count-keys [] [] e.declared (IsPermutation-refl []) e.function_types }

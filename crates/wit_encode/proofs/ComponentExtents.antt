@@ -84,7 +84,8 @@ implemented-as r name i n at = here (interface_at r n) refl (ap (option_and_then
         by-name (Some y) e = inr e
 
 -- the implemented path, with what completes it
-implemented-short : (r : Resolve) (canonical : Bool) (n : ℕ) (o : Option ℕ) → (o ≡ None) ⊎ (o ≡ Some n) → given_length (option_map (written_path r canonical) o) + given_length (written_suffix r canonical o) ≤ long (interface_path r n)
+implemented-short : (r : Resolve) (canonical : Bool) (n : ℕ) (o : Option ℕ) → (o ≡ None) ⊎ (o ≡ Some n)
+    → given_length (option_map (written_path r canonical) o) + given_length (written_suffix r canonical o) ≤ long (interface_path r n)
 implemented-short r canonical n o (inl none) =
     let path = ap (λ (o : Option ℕ). given_length (option_map (written_path r canonical) o)) none in
     let suffix = ap (λ (o : Option ℕ). given_length (written_suffix r canonical o)) none ∙ ap given_length (no-suffix-written r canonical) in
@@ -131,7 +132,8 @@ pub worlds-light : WorldsAreLight
 worlds-light r w def numbers canonical v home different met =
     let inside = sum-among (number_weight r (owner.World w)) numbers (world.numbers r v w def home) different (λ n c. world.counted r v w def home n (met n c)) in
     let each = each-below (number_extent r None) (number_weight r (owner.World w)) numbers
-    (λ n c. number-light r v (owner.World w) _ _ (world.own r v w def home) (type_ids_among (entries_in def)) (functions_among (entries_in def)) (world.listed r v w def home) (world.among r v w def home) n (met n c)) in
+    (λ n c. number-light r v (owner.World w) _ _ (world.own r v w def home) (type_ids_among (entries_in def)) (functions_among (entries_in def)) (world.listed r v w def home)
+    (world.among r v w def home) n (met n c)) in
     let items = each-below (item_extent r canonical) (λ e. item_weight r e.0 e.1) (entries_in def) (λ e c. item-light r v w def home canonical e.0 e.1 c) in
     let whole = world.weight-is r v w def home in
     omega (arith, inside, each, items, whole)

@@ -27,7 +27,8 @@ none-more : (s s' : Scope) → s.slots ≡ s'.slots → length s'.slots ≡ leng
 none-more s s' e = ap length (sym e) ∙ (let y : length s.slots ≡ length s.slots + 0 = omega arith in y)
 
 seen-as : (direction : Direction) (name : ExternName) (n : ℕ) (s s' : Scope) (key : Key) (o : Option View)
-    → (o >>= λ view. Some (see direction (record { key = key_text key; shown = Shown.instance key view; external_id = name.external_id }) (record s { instances = s.instances ++ record { interface = interface_of key; view = view } ∷ []; used = s.used ++ n ∷ [] }))) ≡ Some s'
+    → (o >>= λ view. Some (see direction (record { key = key_text key; shown = Shown.instance key view; external_id = name.external_id })
+    (record s { instances = s.instances ++ record { interface = interface_of key; view = view } ∷ []; used = s.used ++ n ∷ [] }))) ≡ Some s'
     → length s'.slots ≡ length s.slots + 0
 seen-as direction name n s s' key None e = absurd (let z : ⊥ = cc in z)
 seen-as direction name n s s' key (Some view) e =
@@ -89,7 +90,8 @@ steps-count s s' (Declarations.instance inner rest) e =
 
 -- ---- one declaration more
 
-pub steps-more : (s m n : Scope) (ds : Declarations) (d : Declaration) → component_steps s ds ≡ Some m → component_step m d ≡ Some n → component_steps s (append ds (Declarations.declares d Declarations.no_more)) ≡ Some n
+pub steps-more : (s m n : Scope) (ds : Declarations) (d : Declaration) → component_steps s ds ≡ Some m → component_step m d ≡ Some n
+    → component_steps s (append ds (Declarations.declares d Declarations.no_more)) ≡ Some n
 steps-more s m n Declarations.no_more d e f =
     ap (λ (x : Scope). component_step x d >>= λ next. Some next) (some-same s m e) ∙ ap (λ o. o >>= λ next. Some next) f
 steps-more s m n (Declarations.declares x rest) d e f =
@@ -102,7 +104,8 @@ steps-more s m n (Declarations.instance inner rest) d e f =
     ∙ steps-more (in_scope (Slot.instance b.item (length s.slots)) s) m n rest d b.then f
 
 -- an instance type more
-pub steps-instance : (s m : Scope) (ds : Declarations) (es : List Declaration) → component_steps s ds ≡ Some m → component_steps s (append ds (Declarations.instance (from_list es) Declarations.no_more)) ≡ Some (in_scope (Slot.instance es (length m.slots)) m)
+pub steps-instance : (s m : Scope) (ds : Declarations) (es : List Declaration) → component_steps s ds ≡ Some m
+    → component_steps s (append ds (Declarations.instance (from_list es) Declarations.no_more)) ≡ Some (in_scope (Slot.instance es (length m.slots)) m)
 steps-instance s m Declarations.no_more es e =
     ap (λ o. o >>= λ ds. component_steps (in_scope (Slot.instance ds (length s.slots)) s) Declarations.no_more) (flat-list es)
     ∙ ap (λ (x : Scope). Some (in_scope (Slot.instance es (length x.slots)) x)) (some-same s m e)
@@ -117,13 +120,15 @@ steps-instance s m (Declarations.instance inner rest) es e =
 
 -- ---- how many are such
 
-pub count-more : (test : Declaration → Bool) (ds : Declarations) (d : Declaration) → count_declared test (append ds (Declarations.declares d Declarations.no_more)) ≡ count_declared test ds + cond (test d) 1 0
+pub count-more : (test : Declaration → Bool) (ds : Declarations) (d : Declaration)
+    → count_declared test (append ds (Declarations.declares d Declarations.no_more)) ≡ count_declared test ds + cond (test d) 1 0
 count-more test Declarations.no_more d = let e : count_by test (d ∷ []) ≡ count_by test [] + cond (test d) 1 0 = count-push test [] d in let z : count_by test [] ≡ 0 = refl in omega arith
 count-more test (Declarations.declares x rest) d = let more = count-more test rest d in omega arith
 count-more test (Declarations.component inner rest) d = count-more test rest d
 count-more test (Declarations.instance inner rest) d = count-more test rest d
 
-pub count-instance : (test : Declaration → Bool) (ds : Declarations) (inner : Declarations) → count_declared test (append ds (Declarations.instance inner Declarations.no_more)) ≡ count_declared test ds
+pub count-instance : (test : Declaration → Bool) (ds : Declarations) (inner : Declarations)
+    → count_declared test (append ds (Declarations.instance inner Declarations.no_more)) ≡ count_declared test ds
 count-instance test Declarations.no_more inner = refl
 count-instance test (Declarations.declares x rest) inner = ap (λ n. count_by test (x ∷ []) + n) (count-instance test rest inner)
 count-instance test (Declarations.component i rest) inner = count-instance test rest inner

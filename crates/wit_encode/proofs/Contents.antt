@@ -41,7 +41,8 @@ pub record Grew (c c' : Contents) (x : Slot) : Type 0 where
   pub functions_shown : c'.shown.functions ≡ c.shown.functions
   pub followed : c'.is_followed ≡ c.is_followed
 
-pub grew-adds : (c c' : Contents) (x : Slot) (i : ℕ) (P : Standing → Type 0) → Grew c c' x → i ≡ length c.slots → IsOf x P → SlotAdded (SlotsStand c.slots) (SlotsStand c'.slots) (length c.slots) (length c'.slots) i P
+pub grew-adds : (c c' : Contents) (x : Slot) (i : ℕ) (P : Standing → Type 0) → Grew c c' x → i ≡ length c.slots → IsOf x P
+    → SlotAdded (SlotsStand c.slots) (SlotsStand c'.slots) (length c.slots) (length c'.slots) i P
 grew-adds c c' x i P g e o = record {
   index = e;
   one_more = ap length g.slots ∙ length-append c.slots (x ∷ []);
@@ -62,7 +63,8 @@ pub same-grows : (c c' : Contents) → c' ≡ c → SlotsGrow (SlotsStand c.slot
 same-grows c c' e = subst (λ (z : Contents). SlotsGrow (SlotsStand c.slots) (SlotsStand z.slots) (length c.slots) (length z.slots)) (sym e) (record { kept = λ i m h. h; more = omega arith })
 
 -- the surroundings stay
-pub grew-scope : (r : Resolve) (interface : Option InterfaceId) (around : Around) (c c' : Contents) (x : Slot) → Grew c c' x → is_slot_of (resources_in r interface) x ≡ true → (scope_with r interface around c).is_sound ≡ true → scope_with r interface around c' ≡ scope_with r interface around c
+pub grew-scope : (r : Resolve) (interface : Option InterfaceId) (around : Around) (c c' : Contents) (x : Slot) → Grew c c' x → is_slot_of (resources_in r interface) x ≡ true
+    → (scope_with r interface around c).is_sound ≡ true → scope_with r interface around c' ≡ scope_with r interface around c
 grew-scope r interface around c c' x g o sound =
     let test = is_slot_of (resources_in r interface) in
     let all : list_all test c.slots ≡ true = second_true c.is_followed (list_all test c.slots) sound in

@@ -141,7 +141,16 @@ adds-function {r} {scope} {m} {m'} {d} {d'} key i f is once a = elim a.keys [
 ]
 
 pub adds-nothing : (r : Resolve) (scope : Scope) (m : TypeEncodingMaps) (d : Definitions) → AddsFunctions r scope m m d d []
-adds-nothing r scope m d = record { slots = slots-none r scope m m d d refl refl refl refl; types_added = []; functions_ = sym (append-nil d.functions); keys_ = same-keys m m refl; known = λ q k. inl k; stay = λ q k. k; learnt = λ q h. absurd (none-member q h) }
+adds-nothing r scope m d = record {
+  slots = slots-none r scope m m d d refl refl refl refl;
+  types_added = [];
+  functions_ = sym (append-nil d.functions);
+  keys_ = same-keys m m refl;
+  known =
+      λ q k. inl k;
+  stay = λ q k. k;
+  learnt = λ q h. absurd (none-member q h);
+}
 
 -- what has been defined is the same by a scope of the same interface
 slots-alike : {r : Resolve} {s s' : Scope} {m m' : TypeEncodingMaps} {d d' : Definitions} → s'.own_interface ≡ s.own_interface → AddsSlots r s' m m' d d' → AddsSlots r s m m' d d'
@@ -237,7 +246,8 @@ pub slots-once : (slots : List Slot) (i : ℕ) (s t : Standing) → SlotsStand s
 slots-once slots i s t a b = let e : Some s ≡ Some t = sym a ∙ b in cc
 
 -- where a value type is defined stands a type without a name
-values-plain : (place : Place) (outer : Declarations) (ds : List Declaration) → (inner_contents place outer ds).is_followed ≡ true → (i : ℕ) → Contains (value_slots (from_list ds)) i → (t : Tree) × SlotsStand (inner_contents place outer ds).slots i (tree t) × IsPlain t
+values-plain : (place : Place) (outer : Declarations) (ds : List Declaration) → (inner_contents place outer ds).is_followed ≡ true → (i : ℕ) → Contains (value_slots (from_list ds)) i → (t : Tree)
+    × SlotsStand (inner_contents place outer ds).slots i (tree t) × IsPlain t
 values-plain place outer ds followed i c =
     let a = inner-at place outer ds followed in
     let p = inner-values place (outer_slots outer) new_instance a.scope ds i a.is c in
@@ -247,7 +257,8 @@ pub closed-counts : (r : Resolve) → IsValid r → (outer outer' : Declarations
     (fs : List Function) (ts : List TypeId) → inner' ≡ Some current → Began m → HeldKinds r (Some i) (referred ts fs) m'
     → AddsFunctions r (encoder_scope r outer (opened i known)) m m' (definitions_with (contents_of r outer (opened i known))) (definitions_with (contents_of r outer' inner')) fs
     → MapsAgree r m' (stands_inside r i outer' current.declared) → (inner_contents (place_of r (owner.Interface i)) outer' current.declared).is_followed ≡ true
-    → names_defined r (encoder_scope r outer (opened i known)) m' ≡ distinct_count nat_eq (defined_under_names r (Some i) ts) → Counted r i (stands_inside r i outer' current.declared) fs ts current.declared
+    → names_defined r (encoder_scope r outer (opened i known)) m' ≡ distinct_count nat_eq (defined_under_names r (Some i) ts)
+    → Counted r i (stands_inside r i outer' current.declared) fs ts current.declared
 unfolding inner_contents
 closed-counts r v outer outer' i known inner' current m m' fs ts is b held a agree followed defined = record {
   keys = defines-keys r (stands_inside r i outer' current.declared) (encoder_scope r outer (opened i known)) m m' (definitions_with (contents_of r outer (opened i known)))
@@ -259,7 +270,8 @@ closed-counts r v outer outer' i known inner' current m m' fs ts is b held a agr
 }
 
 -- the keys of functions in another order
-permuted-same : {r : Resolve} {S : Pairs} (fs gs : List Function) (ds : List Declaration) → IsPermutation fs gs → (h : DefinesKeys r S gs ds) (q : Key) → is_member are_same h.keys q ≡ is_member are_same (map key_of fs) q
+permuted-same : {r : Resolve} {S : Pairs} (fs gs : List Function) (ds : List Declaration) → IsPermutation fs gs → (h : DefinesKeys r S gs ds) (q : Key)
+    → is_member are_same h.keys q ≡ is_member are_same (map key_of fs) q
 permuted-same fs gs ds p h q = h.same q ∙ sym (list_any-IsPermutation (are_same q) (map key_of fs) (map key_of gs) (IsPermutation-map key_of fs gs p))
 
 pub permuted-keys : {r : Resolve} {S : Pairs} (fs gs : List Function) (ds : List Declaration) → IsPermutation fs gs → DefinesKeys r S gs ds → DefinesKeys r S fs ds
@@ -287,8 +299,10 @@ pub function-counted : {A E : Type 0} (res : Result A E) (r r₀ r₁ r₂ : Res
 function-counted (Err e) r r₀ r₁ r₂ o₀ o₁ o₂ i₀ i₁ i₂ m₀ m₁ m₂ f g index once e₀ s e₂ em (key, is, a) shown = shown
 function-counted (Ok x) r r₀ r₁ r₂ o₀ o₁ o₂ i₀ i₁ i₂ m₀ m₁ m₂ f g index once e₀ s e₂ em (key, is, a) shown =
     let here : r₂ ≡ r = e₂ ∙ (ap (λ (z : Scope). z.packages) s ∙ e₀) in
-    adds-alike refl em (ap (λ (z : Resolve). (contents_of z o₀ i₀).types) (sym e₀)) (ap (λ (z : Resolve). (contents_of z o₀ i₀).exported) (sym e₀)) (ap (λ (z : Resolve). (contents_of z o₀ i₀).functions) (sym e₀))
-    (ap (λ (z : Resolve). (contents_of z o₂ i₂).types) (sym here) ∙ shown.types) (ap (λ (z : Resolve). (contents_of z o₂ i₂).exported) (sym here) ∙ shown.exported) (ap (λ (z : Resolve). (contents_of z o₂ i₂).functions) (sym here) ∙ shown.functions)
+    adds-alike refl em (ap (λ (z : Resolve). (contents_of z o₀ i₀).types) (sym e₀)) (ap (λ (z : Resolve). (contents_of z o₀ i₀).exported) (sym e₀))
+    (ap (λ (z : Resolve). (contents_of z o₀ i₀).functions) (sym e₀))
+    (ap (λ (z : Resolve). (contents_of z o₂ i₂).types) (sym here) ∙ shown.types) (ap (λ (z : Resolve). (contents_of z o₂ i₂).exported) (sym here) ∙ shown.exported)
+    (ap (λ (z : Resolve). (contents_of z o₂ i₂).functions) (sym here) ∙ shown.functions)
     (adds-function key index f is once a)
 
 -- types, and then functions
@@ -302,8 +316,10 @@ parts-counted (Err e) r r₀ r₁ o₀ o₁ o₂ i₀ i₁ i₂ m₀ m₁ m₂ f
 parts-counted (Ok x) r r₀ r₁ o₀ o₁ o₂ i₀ i₁ i₂ m₀ m₁ m₂ fs e₀ s a b =
     let e₁ : r₁ ≡ r = ap (λ (z : Scope). z.packages) s ∙ e₀ in
     adds-trans [] fs (ap (λ (z : Scope). z.own_interface) s)
-    (adds-alike refl refl (ap (λ (z : Resolve). (contents_of z o₀ i₀).types) (sym e₀)) (ap (λ (z : Resolve). (contents_of z o₀ i₀).exported) (sym e₀)) (ap (λ (z : Resolve). (contents_of z o₀ i₀).functions) (sym e₀))
-    (ap (λ (z : Resolve). (contents_of z o₁ i₁).types) (sym e₁)) (ap (λ (z : Resolve). (contents_of z o₁ i₁).exported) (sym e₁)) (ap (λ (z : Resolve). (contents_of z o₁ i₁).functions) (sym e₁)) (adds-types a))
+    (adds-alike refl refl (ap (λ (z : Resolve). (contents_of z o₀ i₀).types) (sym e₀)) (ap (λ (z : Resolve). (contents_of z o₀ i₀).exported) (sym e₀))
+    (ap (λ (z : Resolve). (contents_of z o₀ i₀).functions) (sym e₀))
+    (ap (λ (z : Resolve). (contents_of z o₁ i₁).types) (sym e₁)) (ap (λ (z : Resolve). (contents_of z o₁ i₁).exported) (sym e₁)) (ap (λ (z : Resolve). (contents_of z o₁ i₁).functions) (sym e₁))
+    (adds-types a))
     b
 
 -- one function more
@@ -402,7 +418,8 @@ names-unchanged r scope m m' d d' s same =
     let test : ℕ × ℕ → Bool = λ e. is_defined_by_name r scope e.0 in
     let none : s.shown ≡ [] = no-more d.exports s.shown (sym s.exports ∙ same) in
     let zero : count_by test s.learnt ≡ 0 = unshown-undefined r scope s.learnt (sym s.names ∙ ap (map (λ (x : Text × TypeMeaning). x.0)) none) in
-    let sum : names_defined r scope m' ≡ names_defined r scope m + count_by test s.learnt = sum_by-IsPermutation (λ e. cond (test e) 1 0) (m.id_to_index.entries ++ s.learnt) m'.id_to_index.entries s.numbers
+    let sum : names_defined r scope m' ≡ names_defined r scope m + count_by test s.learnt =
+    sum_by-IsPermutation (λ e. cond (test e) 1 0) (m.id_to_index.entries ++ s.learnt) m'.id_to_index.entries s.numbers
     ∙ sum_by-append (λ e. cond (test e) 1 0) m.id_to_index.entries s.learnt in
     omega arith
   where

@@ -82,7 +82,8 @@ named-number r v m d at given = go d.name refl given
 target-named : (r : Resolve) → IsValid r → (m : TypeEncodingMaps) (S : Pairs) (i : ℕ) → MapsAgree r m S → IsTarget r m i → (place : Place) × (name : Text) × S i (tree (named place name))
 unfolding named_kinds
 target-named r v m S i agree t =
-    let rule = second_true (not (is_named_kind t.def.kind) || is_some t.def.name) (passes (is_named_number r) (alias_target t.def.kind)) (type_passes named_kinds r v.rules.named_kinds t.number t.def t.there) in
+    let rule = second_true (not (is_named_kind t.def.kind) || is_some t.def.name) (passes (is_named_number r) (alias_target t.def.kind))
+    (type_passes named_kinds r v.rules.named_kinds t.number t.def t.there) in
     let target : is_named_number r t.target.0 ≡ true = ap (λ k. passes (is_named_number r) (alias_target k)) (sym t.alias) ∙ rule in
     let part = part-at r v t.number t.def t.there t.target.0 (subst (λ (k : TypeDefKind). Contains (kind_numbers k) t.target.0) (sym t.alias) (contains-one t.target.0)) in
     let is = named-number r v t.target.0 part.0 part.1 (ap (passes (λ (d : TypeDef). is_some d.name)) (sym part.1) ∙ target) in
@@ -97,7 +98,8 @@ behind [] = []
 behind (y ∷ ys) = ys
 
 -- the slot of each kind that is known
-kinds-stand : (r : Resolve) (m : TypeEncodingMaps) (S : Pairs) → MapsAgree r m S → (es : List (ListKey × ℕ)) (ks : List TypeDefKind) → map (λ e. e.0) (map {B = List ℕ × ℕ} (λ e. (e.0.0.items, e.1)) es) ≡ map kind_code ks
+kinds-stand : (r : Resolve) (m : TypeEncodingMaps) (S : Pairs) → MapsAgree r m S → (es : List (ListKey × ℕ)) (ks : List TypeDefKind)
+    → map (λ e. e.0) (map {B = List ℕ × ℕ} (λ e. (e.0.0.items, e.1)) es) ≡ map kind_code ks
     → ((x : List ℕ × ℕ) → Contains (map {B = List ℕ × ℕ} (λ e. (e.0.0.items, e.1)) es) x → Contains (lists_of m.def_to_index) x) → ((k : TypeDefKind) → Contains ks k → is_named_kind k ≡ false)
     → AllZip (λ k i. S i (tree (kind_tree r k))) ks (map (λ e. e.1) es)
 kinds-stand r m S agree [] [] e known unnamed = tt
@@ -111,7 +113,8 @@ kinds-stand r m S agree (x ∷ es) (k ∷ ks) e known unnamed = (
     head : x.0.0.items ∷ map (λ e. e.0) (map {B = List ℕ × ℕ} (λ e. (e.0.0.items, e.1)) es) ≡ kind_code k ∷ map kind_code ks → x.0.0.items ≡ kind_code k
     head h = ap first h
 
-    tail : x.0.0.items ∷ map (λ e. e.0) (map {B = List ℕ × ℕ} (λ e. (e.0.0.items, e.1)) es) ≡ kind_code k ∷ map kind_code ks → map (λ e. e.0) (map {B = List ℕ × ℕ} (λ e. (e.0.0.items, e.1)) es) ≡ map kind_code ks
+    tail : x.0.0.items ∷ map (λ e. e.0) (map {B = List ℕ × ℕ} (λ e. (e.0.0.items, e.1)) es) ≡ kind_code k ∷ map kind_code ks
+        → map (λ e. e.0) (map {B = List ℕ × ℕ} (λ e. (e.0.0.items, e.1)) es) ≡ map kind_code ks
     tail h = ap behind h
 
 -- ---- the whole
@@ -122,14 +125,16 @@ pub record HeldKinds (r : Resolve) (own : Option InterfaceId) (ts : List ValueTy
   pub lists : map (λ e. e.0) (lists_of m.def_to_index) ≡ map kind_code kinds
   pub met : AreMetKinds r own ts kinds
 
-module _ (r : Resolve) (v : IsValid r) (own : Option InterfaceId) (scope : Scope) (S : Pairs) (m m' : TypeEncodingMaps) (d d' : Definitions) (ts : List TypeId) (fs : List Function) (declared : Declarations)
+module _ (r : Resolve) (v : IsValid r) (own : Option InterfaceId) (scope : Scope) (S : Pairs) (m m' : TypeEncodingMaps) (d d' : Definitions) (ts : List TypeId) (fs : List Function)
+    (declared : Declarations)
     (a : AddsSlots r scope m m' d d') (agree : MapsAgree r m' S) (once : (i : ℕ) (s t : Standing) → S i s → S i t → s ≡ t)
     (plain : (i : ℕ) → Contains (value_slots declared) i → (t : Tree) × S i (tree t) × IsPlain t)
     (values : value_slots declared ≡ slots_of a.added) (targets : targets_of declared ≡ slots_of a.targets) where
   is-value : (i : ℕ) → Contains (named_slots a.targets) i → is_member nat_eq (value_slots declared) i ≡ true
   is-value i c =
       let named_ : Contains (named_slots a.added) i = subst (λ xs. Contains xs i) a.own c in
-      let there : Contains (slots_of a.added) i = Contains-permutation (other_slots a.added ++ named_slots a.added) (slots_of a.added) i (IsPermutation-sym _ _ (split-marked a.added)) (Contains-append_right (other_slots a.added) (named_slots a.added) i named_) in
+      let there : Contains (slots_of a.added) i = Contains-permutation (other_slots a.added ++ named_slots a.added) (slots_of a.added) i (IsPermutation-sym _ _ (split-marked a.added))
+      (Contains-append_right (other_slots a.added) (named_slots a.added) i named_) in
       has-slot (value_slots declared) i (subst (λ xs. Contains xs i) (sym values) there)
 
   no-value : (i : ℕ) → Contains (other_slots a.targets) i → is_member nat_eq (value_slots declared) i ≡ false
@@ -145,15 +150,19 @@ module _ (r : Resolve) (v : IsValid r) (own : Option InterfaceId) (scope : Scope
           let n = target-named r v m' S i agree (a.others i c) in
           absurd (p.2 n.0 n.1 (same-tree p.0 (named n.0 n.1) (once i (tree p.0) (tree (named n.0 n.1)) p.1 n.2)))
 
-  pub defines-types : m.id_to_index.entries ≡ [] → m.def_to_index.entries ≡ [] → HeldKinds r own (referred ts fs) m' → names_defined r scope m' ≡ distinct_count nat_eq (defined_under_names r own ts) → DefinesTypes r own S ts fs declared
+  pub defines-types : m.id_to_index.entries ≡ [] → m.def_to_index.entries ≡ [] → HeldKinds r own (referred ts fs) m' → names_defined r scope m' ≡ distinct_count nat_eq (defined_under_names r own ts)
+      → DefinesTypes r own S ts fs declared
   defines-types no_numbers no_kinds held defined = record {
     kinds = held.kinds;
     met = held.met;
     kind_slots = kind_slots m';
-    stand = kinds-stand r m' S agree m'.def_to_index.entries held.kinds held.lists (λ x c. c) (λ k c. let met = held.met.met k c in subst (λ (z : TypeDefKind). is_named_kind z ≡ false) met.same (valid-unnamed r v met.number met.def met.there met.unnamed));
+    stand = kinds-stand r m' S agree m'.def_to_index.entries held.kinds held.lists (λ x c. c)
+        (λ k c. let met = held.met.met k c in subst (λ (z : TypeDefKind). is_named_kind z ≡ false) met.same (valid-unnamed r v met.number met.def met.there met.unnamed));
     name_slots = named_slots a.added;
     named = ap (filter (is_member nat_eq (value_slots declared))) targets ∙ passes-marked (is_member nat_eq (value_slots declared)) a.targets is-value no-value ∙ a.own;
     count = (let x = a.names in let none : names_defined r scope m ≡ 0 = ap (count_by (λ (e : ℕ × ℕ). is_defined_by_name r scope e.0)) no_numbers in omega arith);
-    all = subst (λ xs. IsPermutation xs (kind_slots m' ++ named_slots a.added)) (sym values) (IsPermutation-trans (slots_of a.added) (other_slots a.added ++ named_slots a.added) (kind_slots m' ++ named_slots a.added) (split-marked a.added)
-        (IsPermutation-append_left (named_slots a.added) (other_slots a.added) (kind_slots m') (subst (λ xs. IsPermutation (xs ++ other_slots a.added) (kind_slots m')) (ap (map (λ (e : ListKey × ℕ). e.1)) no_kinds) a.kinds)));
+    all = subst (λ xs. IsPermutation xs (kind_slots m' ++ named_slots a.added)) (sym values)
+        (IsPermutation-trans (slots_of a.added) (other_slots a.added ++ named_slots a.added) (kind_slots m' ++ named_slots a.added) (split-marked a.added)
+        (IsPermutation-append_left (named_slots a.added) (other_slots a.added) (kind_slots m')
+        (subst (λ xs. IsPermutation (xs ++ other_slots a.added) (kind_slots m')) (ap (map (λ (e : ListKey × ℕ). e.1)) no_kinds) a.kinds)));
   }

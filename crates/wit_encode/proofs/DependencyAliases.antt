@@ -43,9 +43,11 @@ aliases-around (Declarations.component i rest) inner = aliases-around rest inner
 aliases-around (Declarations.instance i rest) inner = aliases-around rest inner
 
 -- an instance type, and what uses it
-aliases-placed : (ds inner outer : Declarations) (d : Declaration) → outer ≡ append (append ds (Declarations.instance inner Declarations.no_more)) (Declarations.declares d Declarations.no_more) → alias_in d ≡ [] → aliases_declared outer ≡ aliases_declared ds
+aliases-placed : (ds inner outer : Declarations) (d : Declaration) → outer ≡ append (append ds (Declarations.instance inner Declarations.no_more)) (Declarations.declares d Declarations.no_more)
+    → alias_in d ≡ [] → aliases_declared outer ≡ aliases_declared ds
 aliases-placed ds inner outer d is none =
-    ap aliases_declared is ∙ aliases-behind (append ds (Declarations.instance inner Declarations.no_more)) d ∙ ap (λ xs. aliases_declared (append ds (Declarations.instance inner Declarations.no_more)) ++ xs) none
+    ap aliases_declared is ∙ aliases-behind (append ds (Declarations.instance inner Declarations.no_more)) d ∙ ap
+    (λ xs. aliases_declared (append ds (Declarations.instance inner Declarations.no_more)) ++ xs) none
     ∙ append-nil (aliases_declared (append ds (Declarations.instance inner Declarations.no_more))) ∙ aliases-around ds inner
 
 -- ---- between two imports
@@ -67,18 +69,21 @@ imported-lists r a ns h i k e =
     subst (λ j. slice_get ns j ≡ Some i) same at.1
 
 module _ (r : Resolve) (ns : List ℕ) (P : ℕ → Type 0) where
-  one-aliased : (a : Around) (x : Aliased) → ((i k : ℕ) → known_instance a.instances i ≡ Some k → slice_get ns k ≡ Some i) → IsAlias r a x → P x.number.0 → HasAliased r ns P a → HasAliased r ns P (with_alias a x)
+  one-aliased : (a : Around) (x : Aliased) → ((i k : ℕ) → known_instance a.instances i ≡ Some k → slice_get ns k ≡ Some i) → IsAlias r a x → P x.number.0 → HasAliased r ns P a
+      → HasAliased r ns P (with_alias a x)
   one-aliased a x lists is p h = record {
     has = record {
       made = h.has.made ++ x ∷ [];
       are = aliases-behind a.declared (alias_declared x) ∙ ap (λ xs. xs ++ export_alias x ∷ []) h.has.are ∙ sym (map-append export_alias h.has.made (x ∷ []));
-      once = subst (IsDistinct nat_eq) (sym (map-append (λ (y : Aliased). y.number.0) h.has.made (x ∷ []))) (IsDistinct-push nat_eq_equiv (map (λ (y : Aliased). y.number.0) h.has.made) x.number.0 h.has.once (lacks-member (map (λ (y : Aliased). y.number.0) h.has.made) x.number.0 new));
+      once = subst (IsDistinct nat_eq) (sym (map-append (λ (y : Aliased). y.number.0) h.has.made (x ∷ [])))
+          (IsDistinct-push nat_eq_equiv (map (λ (y : Aliased). y.number.0) h.has.made) x.number.0 h.has.once (lacks-member (map (λ (y : Aliased). y.number.0) h.has.made) x.number.0 new));
       each = λ y c. elim (Contains-append_cases h.has.made (x ∷ []) y c) [ inl k ↦ h.has.each y k | inr k ↦ subst (IsAliasAmong r ns) (one-contained x y k) among ];
       asked = λ y c. elim (Contains-append_cases h.has.made (x ∷ []) y c) [ inl k ↦ h.has.asked y k | inr k ↦ subst (λ (z : Aliased). P z.number.0) (one-contained x y k) p ];
     };
     known = λ y c. elim (Contains-append_cases h.has.made (x ∷ []) y c) [
       | inl k ↦ known-kept x.number.0 (type_slots_of a.declared) y.number.0 a.known is.first (h.known y k)
-      | inr k ↦ subst (λ (z : Aliased). known_slot (with_alias a x).known z.number.0 ≡ None → ⊥) (one-contained x y k) (λ none. let there = new-slot x.number.0 (type_slots_of a.declared) a.known is.first in let z : ⊥ = cc in z)
+      | inr k ↦ subst (λ (z : Aliased). known_slot (with_alias a x).known z.number.0 ≡ None → ⊥) (one-contained x y k)
+          (λ none. let there = new-slot x.number.0 (type_slots_of a.declared) a.known is.first in let z : ⊥ = cc in z)
     ];
   }
     where
@@ -86,13 +91,25 @@ module _ (r : Resolve) (ns : List ℕ) (P : ℕ → Type 0) where
       new c = let y = from-map (λ (y : Aliased). y.number.0) h.has.made x.number.0 c in h.known y.0 y.1 (ap (known_slot a.known) y.2 ∙ is.first)
 
       among : IsAliasAmong r ns x
-      among = record { def = is.def; name = is.name; interface = is.interface; there = is.there; named_ = is.named_; owned = is.owned; text = is.text; instance = lists is.interface.0 x.instance is.instance }
+      among = record {
+        def = is.def;
+        name = is.name;
+        interface = is.interface;
+        there = is.there;
+        named_ = is.named_;
+        owned = is.owned;
+        text = is.text;
+        instance =
+            lists is.interface.0 x.instance is.instance;
+      }
 
-  all-aliased : (a : Around) (made : List Aliased) → ((i k : ℕ) → known_instance a.instances i ≡ Some k → slice_get ns k ≡ Some i) → AreAliases r a made → ((x : Aliased) → Contains made x → P x.number.0) → HasAliased r ns P a → HasAliased r ns P (with_aliases a made)
+  all-aliased : (a : Around) (made : List Aliased) → ((i k : ℕ) → known_instance a.instances i ≡ Some k → slice_get ns k ≡ Some i) → AreAliases r a made
+      → ((x : Aliased) → Contains made x → P x.number.0) → HasAliased r ns P a → HasAliased r ns P (with_aliases a made)
   all-aliased a [] lists are p h = h
   all-aliased a (x ∷ made) lists are p h = all-aliased (with_alias a x) made lists are.1 (λ y c. p y (contains-later x made y c)) (one-aliased a x lists are.0 (p x (0, omega arith, refl)) h)
 
-  pub met-aliased : {own : Option InterfaceId} {ts : List ValueType} {a b : Around} → ((i k : ℕ) → known_instance a.instances i ≡ Some k → slice_get ns k ≡ Some i) → AliasesMet r own ts a b → ((n : ℕ) → IsMetElsewhere r own ts n → P n) → HasAliased r ns P a → HasAliased r ns P b
+  pub met-aliased : {own : Option InterfaceId} {ts : List ValueType} {a b : Around} → ((i k : ℕ) → known_instance a.instances i ≡ Some k → slice_get ns k ≡ Some i) → AliasesMet r own ts a b
+      → ((n : ℕ) → IsMetElsewhere r own ts n → P n) → HasAliased r ns P a → HasAliased r ns P b
   met-aliased {own} {ts} {a} {b} lists g f h = subst (HasAliased r ns P) (sym g.grown.is) (all-aliased a g.grown.made lists g.grown.are (λ x c. f x.number.0 (g.met x c)) h)
 
 -- where nothing has been declared
@@ -114,29 +131,45 @@ get-left (m ∷ ns) i zero n e = e
 get-left (m ∷ ns) i (suc k) n e = get-left ns i k n e
 
 -- the types of one interface more have been imported
-pub import-aliased : (r : Resolve) (canonical : Bool) (a a' : Around) (ns : List ℕ) (i : InterfaceId) (number : ℕ) → ImportsTypes r canonical a a' i number → HasImported r a ns → HasAliased r ns (IsMetAmong r ns) a → HasAliased r (ns ++ i.0 ∷ []) (IsMetAmong r (ns ++ i.0 ∷ [])) a'
+pub import-aliased : (r : Resolve) (canonical : Bool) (a a' : Around) (ns : List ℕ) (i : InterfaceId) (number : ℕ) → ImportsTypes r canonical a a' i number → HasImported r a ns
+    → HasAliased r ns (IsMetAmong r ns) a → HasAliased r (ns ++ i.0 ∷ []) (IsMetAmong r (ns ++ i.0 ∷ [])) a'
 import-aliased r canonical a a' ns i number t imported h =
     let part = t.encodes.part in
     let wide : (x : Aliased) → IsAliasAmong r ns x → IsAliasAmong r (ns ++ i.0 ∷ []) x =
-    λ x y. record { def = y.def; name = y.name; interface = y.interface; there = y.there; named_ = y.named_; owned = y.owned; text = y.text; instance = get-left ns i.0 x.instance y.interface.0 y.instance } in
+    λ x y. record {
+      def = y.def;
+      name = y.name;
+      interface = y.interface;
+      there = y.there;
+      named_ = y.named_;
+      owned = y.owned;
+      text = y.text;
+      instance =
+          get-left ns i.0 x.instance y.interface.0 y.instance;
+    } in
     let more : (n : ℕ) → IsMetAmong r ns n → IsMetAmong r (ns ++ i.0 ∷ []) n = λ n m. (m.0, Contains-append_left ns (i.0 ∷ []) m.0 m.1, m.2) in
     let first : HasAliased r ns (IsMetAmong r (ns ++ i.0 ∷ [])) a = aliased-along r ns ns (IsMetAmong r ns) (IsMetAmong r (ns ++ i.0 ∷ [])) more (λ x y. y) a a refl refl h in
     let second : HasAliased r ns (IsMetAmong r (ns ++ i.0 ∷ [])) part.before =
-    met-aliased r ns (IsMetAmong r (ns ++ i.0 ∷ [])) (imported-lists r a ns imported) part.aliases (λ n m. (i.0, Contains-append_right ns (i.0 ∷ []) i.0 (contains-one i.0), record { def = t.def; there = t.there; met = m })) first in
+    met-aliased r ns (IsMetAmong r (ns ++ i.0 ∷ [])) (imported-lists r a ns imported) part.aliases
+    (λ n m. (i.0, Contains-append_right ns (i.0 ∷ []) i.0 (contains-one i.0), record { def = t.def; there = t.there; met = m })) first in
     aliased-along r ns (ns ++ i.0 ∷ []) (IsMetAmong r (ns ++ i.0 ∷ [])) (IsMetAmong r (ns ++ i.0 ∷ [])) (λ n m. m) wide part.before a'
     (aliases-placed part.before.declared (from_list part.declared) a'.declared (Declaration.imported (name_of_interface r canonical i.0) (refs.Instance t.slot))
-    (ap (λ (z : Around). z.declared) t.imports ∙ ap (λ (z : Around). append z.declared (Declarations.declares (Declaration.imported (name_of_interface r canonical i.0) (refs.Instance t.slot)) Declarations.no_more)) part.one_more) refl)
+    (ap (λ (z : Around). z.declared) t.imports ∙ ap (λ (z : Around). append z.declared
+    (Declarations.declares (Declaration.imported (name_of_interface r canonical i.0) (refs.Instance t.slot)) Declarations.no_more)) part.one_more) refl)
     (ap (λ (z : Around). z.known) t.imports ∙ ap (λ (z : Around). z.known) part.one_more) second
 
 -- and then the interface itself has been exported
-pub export-aliased : (r : Resolve) (canonical : Bool) (a a' : Around) (ns : List ℕ) (i : InterfaceId) (def : Interface) (k : ℕ) (outer : Declarations) → interface_at r i.0 ≡ Some def → EncodesInterface r a a' i def k → outer ≡ with_export r canonical i k a'.declared
+pub export-aliased : (r : Resolve) (canonical : Bool) (a a' : Around) (ns : List ℕ) (i : InterfaceId) (def : Interface) (k : ℕ) (outer : Declarations) → interface_at r i.0 ≡ Some def
+    → EncodesInterface r a a' i def k → outer ≡ with_export r canonical i k a'.declared
     → ns ≡ reached_in_order r i.0 → HasImported r a ns → HasAliased r ns (IsMetAmong r ns) a → HasAliases r (reached_in_order r i.0) (IsAskedFor r i.0) outer
 export-aliased r canonical a a' ns i def k outer there encodes is order imported h =
     let part = encodes.part in
-    let first : HasAliased r ns (λ n. IsMetAmong r ns n ⊎ IsMetByWhole r i.0 n) a = aliased-along r ns ns (IsMetAmong r ns) (λ n. IsMetAmong r ns n ⊎ IsMetByWhole r i.0 n) (λ n m. inl m) (λ x y. y) a a refl refl h in
+    let first : HasAliased r ns (λ n. IsMetAmong r ns n ⊎ IsMetByWhole r i.0 n) a =
+    aliased-along r ns ns (IsMetAmong r ns) (λ n. IsMetAmong r ns n ⊎ IsMetByWhole r i.0 n) (λ n m. inl m) (λ x y. y) a a refl refl h in
     let second : HasAliased r ns (λ n. IsMetAmong r ns n ⊎ IsMetByWhole r i.0 n) part.before =
     met-aliased r ns (λ n. IsMetAmong r ns n ⊎ IsMetByWhole r i.0 n) (imported-lists r a ns imported) part.aliases (λ n m. inr (record { def = def; there = there; met = m })) first in
     subst (λ (ms : List ℕ). HasAliases r ms (λ n. IsMetAmong r ms n ⊎ IsMetByWhole r i.0 n) outer) order
     (has-along r ns ns (λ n. IsMetAmong r ns n ⊎ IsMetByWhole r i.0 n) (λ n. IsMetAmong r ns n ⊎ IsMetByWhole r i.0 n) (λ n m. m) (λ x y. y) part.before.declared outer
     (aliases-placed part.before.declared (from_list part.declared) outer (Declaration.exported (name_of_interface r canonical i.0) (refs.Instance k))
-    (is ∙ ap (λ (z : Around). append z.declared (Declarations.declares (Declaration.exported (name_of_interface r canonical i.0) (refs.Instance k)) Declarations.no_more)) part.one_more) refl) second.has)
+    (is ∙ ap (λ (z : Around). append z.declared (Declarations.declares (Declaration.exported (name_of_interface r canonical i.0) (refs.Instance k)) Declarations.no_more)) part.one_more)
+    refl) second.has)

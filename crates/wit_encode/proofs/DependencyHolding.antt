@@ -68,7 +68,16 @@ module _ (r : Resolve) (canonical : Bool) (a a' : Around) (i : InterfaceId) (num
   }
     where
       one : DefinesTypesOf r i.0 (before.declared, inner)
-      one = record { def = t.def; there = t.there; declarations = t.encodes.part.declared; is = refl; ordered = t.encodes.part.is_instance; function_types = t.encodes.function_types; value_types = t.encodes.part.value_types }
+      one = record {
+        def = t.def;
+        there = t.there;
+        declarations = t.encodes.part.declared;
+        is = refl;
+        ordered = t.encodes.part.is_instance;
+        function_types = t.encodes.function_types;
+        value_types =
+            t.encodes.part.value_types;
+      }
 
 -- nothing is defined, and nothing is held, where nothing is declared
 pub nothing-held : (r : Resolve) (a : Around) → a.declared ≡ Declarations.no_more → HoldsImports r a []
@@ -88,7 +97,8 @@ module _ (r : Resolve) (canonical : Bool) (a a' : Around) (i : InterfaceId) (def
   made_last : outer ≡ append (append encodes.part.before.declared (Declarations.instance own Declarations.no_more)) (Declarations.declares exported_by Declarations.no_more)
   made_last = is ∙ ap (λ (z : Around). append z.declared (Declarations.declares exported_by Declarations.no_more)) encodes.part.one_more
 
-  pub export-defines : (ns : List ℕ) → interface_at r i.0 ≡ Some def → ns ≡ reached_in_order r i.0 → DefinesImports r a.declared ns → HasImported r a ns → HasImportAliases r a ns → DefinesComponent r i.0 outer
+  pub export-defines : (ns : List ℕ) → interface_at r i.0 ≡ Some def → ns ≡ reached_in_order r i.0 → DefinesImports r a.declared ns → HasImported r a ns → HasImportAliases r a ns
+      → DefinesComponent r i.0 outer
   export-defines ns there order h imported aliased = record {
     beside = record {
       value_types = placed-counted r a encodes.part.before encodes.part.aliases.grown own exported_by outer made_last is_value_type (λ x. refl) refl ∙ h.beside.value_types;
@@ -98,14 +108,24 @@ module _ (r : Resolve) (canonical : Bool) (a a' : Around) (i : InterfaceId) (def
     own = (encodes.part.before.declared, own);
     are = placed-instances r a encodes.part.before encodes.part.aliases.grown own exported_by outer made_last;
     reached = subst (λ (xs : List ℕ). AllZip (DefinesTypesOf r) xs (instances_declared a.declared)) order h.inside;
-    exported = record { def = def; there = there; declarations = encodes.part.declared; is = refl; ordered = encodes.part.is_instance; function_types = encodes.part.function_types; value_types = encodes.part.value_types };
+    exported = record {
+      def = def;
+      there = there;
+      declarations = encodes.part.declared;
+      is = refl;
+      ordered = encodes.part.is_instance;
+      function_types = encodes.part.function_types;
+      value_types =
+          encodes.part.value_types;
+    };
     aliases = export-aliased r canonical a a' ns i def k outer there encodes is order imported aliased;
   }
 
 -- ---- a call that has no room
 
 -- a name doesn't fit, or the component type is full
-by-name : {Q : Type 0} (name : ExternName) (declared : Declarations) → (fits_name name ≡ false → Q) → (limit ≤ declaration_count declared → Q) → (fits_name name && fits_counts (declaration_count declared + 1) (type_slots_of declared + 0)) ≡ false → Q
+by-name : {Q : Type 0} (name : ExternName) (declared : Declarations) → (fits_name name ≡ false → Q) → (limit ≤ declaration_count declared → Q)
+    → (fits_name name && fits_counts (declaration_count declared + 1) (type_slots_of declared + 0)) ≡ false → Q
 by-name {Q} name declared unfit over = go (fits_name name) refl
   where
     go : (b : Bool) → fits_name name ≡ b → (b && fits_counts (declaration_count declared + 1) (type_slots_of declared + 0)) ≡ false → Q
@@ -123,10 +143,13 @@ module _ (r : Resolve) (canonical : Bool) (a : Around) (i : InterfaceId) (def : 
   slot-lacks there (inl l) = its_types def there l
   slot-lacks there (inr l) = a_place l.after (record { def = def; there = there; made = l.grown }) (full-after l)
 
-pub import-lacks : (r : Resolve) (canonical : Bool) (a a' : Around) (i : InterfaceId) (def : Interface) (written : List (Text × Function)) (k : ℕ) → interface_at r i.0 ≡ Some def → (part : EncodesPart r a a' i def written [] k) (name : ExternName) → name ≡ name_of_interface r canonical i.0 → (fits_name name && fits_counts (declaration_count a'.declared + 1) (type_slots_of a'.declared + 0)) ≡ false → LacksImport r canonical a i
+pub import-lacks : (r : Resolve) (canonical : Bool) (a a' : Around) (i : InterfaceId) (def : Interface) (written : List (Text × Function)) (k : ℕ) → interface_at r i.0 ≡ Some def
+    → (part : EncodesPart r a a' i def written [] k) (name : ExternName) → name ≡ name_of_interface r canonical i.0
+    → (fits_name name && fits_counts (declaration_count a'.declared + 1) (type_slots_of a'.declared + 0)) ≡ false → LacksImport r canonical a i
 import-lacks r canonical a a' i def written k there part name named =
     by-name name a'.declared (λ u. its_path (ap fits_name (sym named) ∙ u))
-    (λ over. let one = one-behind part.before (from_list part.declared) a'.declared (ap (λ (z : Around). z.declared) part.one_more) in a_place part.before (record { def = def; there = there; made = part.aliases }) (omega (arith, over, one)))
+    (λ over. let one = one-behind part.before (from_list part.declared) a'.declared (ap (λ (z : Around). z.declared) part.one_more) in
+    a_place part.before (record { def = def; there = there; made = part.aliases }) (omega (arith, over, one)))
 
 -- ---- all of them
 
@@ -134,7 +157,8 @@ import-lacks r canonical a a' i def written k there part name named =
 module _ (r : Resolve) (interfaces front : List ℕ) (among : (n : ℕ) → Contains front n → Contains interfaces n) (few : length front ≤ length interfaces) (a : Around) (h : HasImported r a front) (held : HoldsImports r a front) where
   pub place-lacks : (after : Around) → GrowsAround r a after → limit ≤ declaration_count after.declared + 1 → ImportsLackRoom r interfaces
   place-lacks after g over = too_many (brought_numbers r after)
-      (brought-some r after interfaces (λ m f. let x = some-of (known_instance a.instances m) (ap (λ xs. is_some (known_instance xs m)) (sym (grown-listed r a after g)) ∙ f) in among m (h.alone m x.0 x.1)))
+      (brought-some r after interfaces (λ m f. let x = some-of (known_instance a.instances m) (ap (λ xs. is_some (known_instance xs m)) (sym (grown-listed r a after g)) ∙ f) in
+      among m (h.alone m x.0 x.1)))
       (let c = grown-few r a after g in omega (arith, c, over, held, few))
 
   pub next-lacks : (canonical : Bool) (i : InterfaceId) → Contains interfaces i.0 → LacksImport r canonical a i → ImportsLackRoom r interfaces

@@ -251,4 +251,5 @@ lacking-components-heavy r i ns v named reaches lacks = by-order (nat_lt limit (
   where
     by-order : (b : Bool) → nat_lt limit (interface_weight r i.0) ≡ b → limit < interface_weight r i.0
     by-order true f = ltb-true limit (interface_weight r i.0) f
-    by-order false f = let light = ltb-false limit (interface_weight r i.0) f in let is = weight-is r v i named ns reaches in absurd (component-fits r v i named ns reaches (omega (arith, light, is)) lacks)
+    by-order false f = let light = ltb-false limit (interface_weight r i.0) f in let is = weight-is r v i named ns reaches in
+        absurd (component-fits r v i named ns reaches (omega (arith, light, is)) lacks)

@@ -178,7 +178,8 @@ module _ (r : Resolve) (v : IsValid r) (i : InterfaceId) (home : Interface) (the
   all-deps : list_all (λ id. list_all is_dep (option_to_list (interface_used_by r id.0))) (values home.types) ≡ true
   all-deps = deps_pass (has (direct_deps r i.0)) r i.0 home there ∙ has-all (direct_deps r i.0)
 
-  dep-there : (n : ℕ) (def : TypeDef) (name : String Global) → type_at r n ≡ Some def → def.name ≡ Some name → def.owner ≡ own → (m : ℕ) → used_interface r def ≡ Some m → (m == i.0) ≡ false → Contains (direct_deps r i.0) m
+  dep-there : (n : ℕ) (def : TypeDef) (name : String Global) → type_at r n ≡ Some def → def.name ≡ Some name → def.owner ≡ own → (m : ℕ) → used_interface r def ≡ Some m → (m == i.0) ≡ false
+      → Contains (direct_deps r i.0) m
   dep-there n def name is named here m used other =
       let e = entry-of n def name is named here in
       let listed = contains-map (λ e. e.1) home.types.entries e.entry e.there in

@@ -111,7 +111,8 @@ unfolding owners
 functions-stay r v i interface there = first_true (list_all (function_stays r (as_interface i)) (functions_of_interface interface))
     (list_all (λ m. nat_lt m i) (direct_deps r i)) (interface_passes owners r v.rules.owners i interface there)
 
-members : (r : Resolve) (o : TypeOwner) (es : List (String Global × Function)) → list_all (λ e. text_eq (text_of e.0) (text_of e.1.name) && is_member r o e.1) es ≡ true → list_all (is_member r o) (map (λ e. e.1) es) ≡ true
+members : (r : Resolve) (o : TypeOwner) (es : List (String Global × Function)) → list_all (λ e. text_eq (text_of e.0) (text_of e.1.name) && is_member r o e.1) es ≡ true
+    → list_all (is_member r o) (map (λ e. e.1) es) ≡ true
 members r o [] h = refl
 members r o (e ∷ es) h =
     let named = text_eq (text_of e.0) (text_of e.1.name) in

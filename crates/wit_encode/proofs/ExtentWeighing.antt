@@ -85,7 +85,8 @@ number-light r v o ns all h ts fs listed among n m =
 pub instances-light : InstancesAreLight
 instances-light r i def numbers v home different met =
     let inside = sum-among (number_weight r (owner.Interface i)) numbers (instance_numbers r def (functions_of_interface def)) different (λ n c. weighing.in-numbers r v i def home n (met n c)) in
-    let each = each-below (number_extent r (Some i)) (number_weight r (owner.Interface i)) numbers (λ n c. number-light r v (owner.Interface i) _ _ (weighing.home-owner r v i def home) (values def.types) (map (λ f. f.1) (functions_in_order def))
+    let each = each-below (number_extent r (Some i)) (number_weight r (owner.Interface i)) numbers
+    (λ n c. number-light r v (owner.Interface i) _ _ (weighing.home-owner r v i def home) (values def.types) (map (λ f. f.1) (functions_in_order def))
     (weighing.listed-here r v i def home) (weighing.in-map r v i def home) n (met n c)) in
     let functions = each-below (function_extent r) keyed-weight (functions_in_order def) function-below in
     let sum = weighing.functions-sum r v i def home in
@@ -103,7 +104,8 @@ instances-light r i def numbers v home different met =
 pub dependencies-light : DependenciesAreLight
 dependencies-light r i def numbers v home different met =
     let inside = sum-among (number_weight r (owner.Interface i)) numbers (instance_numbers r def []) different (λ n c. dependency.in-numbers r v i def home n (met n c)) in
-    let each = each-below (number_extent r (Some i)) (number_weight r (owner.Interface i)) numbers (λ n c. number-light r v (owner.Interface i) _ [] (dependency.types-owner r v i def home) (values def.types) []
+    let each = each-below (number_extent r (Some i)) (number_weight r (owner.Interface i)) numbers
+    (λ n c. number-light r v (owner.Interface i) _ [] (dependency.types-owner r v i def home) (values def.types) []
     (dependency.listed-here r v i def home) (λ f c. c) n (met n c)) in
     let whole = dependency.types-weigh r v i def home in
     omega arith

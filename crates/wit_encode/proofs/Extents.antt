@@ -86,7 +86,8 @@ label-extent label = 16 + length label
 next-label : (t : Text) (ts : List Text) → labels_extent (t ∷ ts) ≡ (16 + length t) + labels_extent ts
 next-label t ts = sum_by-cons label-extent t ts
 
-fields-short : (S : Pairs) (xs : List (Bor Text × ComponentValType)) (fs : List (Text × Tree)) → AllZip (NamedStands S) xs fs → length (flat_map field_bytes (map labeled xs)) ≤ labels_extent (map (λ f. f.0) fs)
+fields-short : (S : Pairs) (xs : List (Bor Text × ComponentValType)) (fs : List (Text × Tree)) → AllZip (NamedStands S) xs fs
+    → length (flat_map field_bytes (map labeled xs)) ≤ labels_extent (map (λ f. f.0) fs)
 fields-short S [] [] h = omega arith
 fields-short S [] (f ∷ fs) h = absurd h
 fields-short S (x ∷ xs) [] h = absurd h
@@ -100,7 +101,8 @@ fields-short S (x ∷ xs) (f ∷ fs) h =
     let next = next-label f.0 (map (λ (f : Text × Tree). f.0) fs) in
     omega arith
 
-cases-short : (S : Pairs) (xs : List (Bor Text × Option ComponentValType)) (cs : List (Text × Option Tree)) → AllZip (CaseStands S) xs cs → length (flat_map case_bytes (map labeled xs)) ≤ labels_extent (map (λ c. c.0) cs)
+cases-short : (S : Pairs) (xs : List (Bor Text × Option ComponentValType)) (cs : List (Text × Option Tree)) → AllZip (CaseStands S) xs cs
+    → length (flat_map case_bytes (map labeled xs)) ≤ labels_extent (map (λ c. c.0) cs)
 cases-short S [] [] h = omega arith
 cases-short S [] (c ∷ cs) h = absurd h
 cases-short S (x ∷ xs) [] h = absurd h
@@ -139,7 +141,8 @@ defined-short S (form.Record fields) t h = of-tree _ t _ h.2 (let a = vector-sho
 defined-short S (form.Variant cases) t h = of-tree _ t _ h.2 (
     let a = vector-short case_bytes (map labeled cases.items) in
     let b = cases-short S cases.items h.0 h.1 in
-    let same : labels_extent (map (λ c. c.0) (map (λ (c : Text × Option Tree). (c.0, is_given c.1)) h.0)) ≡ labels_extent (map (λ c. c.0) h.0) = ap labels_extent (map-twice (λ (c : Text × Bool). c.0) (λ (c : Text × Option Tree). (c.0, is_given c.1)) h.0) in
+    let same : labels_extent (map (λ c. c.0) (map (λ (c : Text × Option Tree). (c.0, is_given c.1)) h.0)) ≡ labels_extent (map (λ c. c.0) h.0) =
+    ap labels_extent (map-twice (λ (c : Text × Bool). c.0) (λ (c : Text × Option Tree). (c.0, is_given c.1)) h.0) in
     omega arith)
 defined-short S (form.List x) t h = of-tree _ t _ h.2 (let a = value-short x in omega arith)
 defined-short S (form.FixedLengthList x n) t h = of-tree _ t _ h.2 (let a = value-short x in let b = u32-short n in let c = length-append (value_bytes x) (u32_bytes n) in omega arith)
@@ -153,7 +156,8 @@ defined-short S (form.Tuple xs) t h = of-tree _ t _ h.2 (
 defined-short S (form.Flags names) t h = of-tree _ t _ h (let a = vector-short name_bytes (map raw_text names.items) in let b = names-short names.items in omega arith)
 defined-short S (form.Enum names) t h = of-tree _ t _ h (let a = vector-short name_bytes (map raw_text names.items) in let b = names-short names.items in omega arith)
 defined-short S (form.Option x) t h = of-tree _ t _ h.2 (let a = value-short x in omega arith)
-defined-short S (form.Result x y) t h = of-tree _ t _ h.4 (let a = optional-short x in let b = optional-short y in let c = length-append (optional_bytes value_bytes x) (optional_bytes value_bytes y) in omega arith)
+defined-short S (form.Result x y) t h = of-tree _ t _ h.4 (let a = optional-short x in let b = optional-short y in let c =
+    length-append (optional_bytes value_bytes x) (optional_bytes value_bytes y) in omega arith)
 defined-short S (form.Own i) t h = of-tree _ t _ h.2 (let a = u32-short i in omega arith)
 defined-short S (form.Borrow i) t h = of-tree _ t _ h.2 (let a = u32-short i in omega arith)
 defined-short S (form.Stream x) t h = of-tree _ t _ h.2 (let a = optional-short x in omega arith)
@@ -204,7 +208,8 @@ extern-short name =
     let c = one-attribute 2 name.external_id in
     omega arith
 
-described-under : (name : ExternName) (d : ComponentTypeRef) → length (extern_name_bytes name ++ description_bytes d) ≤ 36 + (length name.text + (given_length name.implements + (given_length name.version_suffix + given_length name.external_id)))
+described-under : (name : ExternName) (d : ComponentTypeRef)
+    → length (extern_name_bytes name ++ description_bytes d) ≤ 36 + (length name.text + (given_length name.implements + (given_length name.version_suffix + given_length name.external_id)))
 described-under name d = let a = extern-short name in let b = described-short d in let c = length-append (extern_name_bytes name) (description_bytes d) in omega arith
 
 pub bytes-few : BytesAreFew
@@ -273,7 +278,8 @@ module _ (r : Resolve) (v : IsValid r) where
   number-short : (m : ℕ) (d : TypeDef) → type_at r m ≡ Some d → is_some d.name ≡ true → tree_extent (number_tree r m) ≡ 16
   number-short m d at given = ap tree_extent (tabled r (valid-layered r v) m d at) ∙ go d.name given
     where
-      go : (name : Option (String Global)) → is_some name ≡ true → tree_extent (option_map_or (λ name. Rattle.wit_model.specs.Tree.named (place_of r d.owner) (text_of name)) name (tree_of_declaration (declared_by (trees_of r) d.kind))) ≡ 16
+      go : (name : Option (String Global)) → is_some name ≡ true
+          → tree_extent (option_map_or (λ name. Rattle.wit_model.specs.Tree.named (place_of r d.owner) (text_of name)) name (tree_of_declaration (declared_by (trees_of r) d.kind))) ≡ 16
       go None e = absurd (let z : ⊥ = cc in z)
       go (Some name) e = refl
 
@@ -312,7 +318,8 @@ types-light r n def v at = by-name def.name refl
         let kind = kind-light r v n def at in
         let own : own_name_extent r def ≡ 40 + (length (text_of name) + (0 + (0 + given_length (optional_text def.external_id)))) =
         ap (λ (o : Option (String Global)). option_map_or (λ name. name_extent (exported_name (text_of name, type_meaning r def))) o 0) e in
-        let text : sum_by length (name_texts def) ≡ given_length (Some (text_of name)) = ap (λ (o : Option (String Global)). sum_by length (option_to_list (optional_text o))) e ∙ given-texts (Some (text_of name)) in
+        let text : sum_by length (name_texts def) ≡ given_length (Some (text_of name)) =
+        ap (λ (o : Option (String Global)). sum_by length (option_to_list (optional_text o))) e ∙ given-texts (Some (text_of name)) in
         let whole = texts-are in
         omega arith
 

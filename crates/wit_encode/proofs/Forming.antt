@@ -36,13 +36,15 @@ field-children : (r : Resolve) (xs : List Field) → child_list (children (map (
 field-children r [] = refl
 field-children r (x ∷ xs) = ap (λ us. type_tree r x.ty ∷ us) (field-children r xs)
 
-case-children : (r : Resolve) (xs : List Case) → child_list (given (map (λ c. c.1) (map {B = Text × Option Tree} (λ c. (text_of c.name, option_map (type_tree r) c.ty)) xs))) ≡ map (type_tree r) (filter_map (λ c. c.ty) xs)
+case-children : (r : Resolve) (xs : List Case)
+    → child_list (given (map (λ c. c.1) (map {B = Text × Option Tree} (λ c. (text_of c.name, option_map (type_tree r) c.ty)) xs))) ≡ map (type_tree r) (filter_map (λ c. c.ty) xs)
 case-children r [] = refl
 case-children r (x ∷ xs) = go x.ty (case-children r xs)
   where
     go : (o : Option ValueType)
         → child_list (given (map (λ c. c.1) (map {B = Text × Option Tree} (λ c. (text_of c.name, option_map (type_tree r) c.ty)) xs))) ≡ map (type_tree r) (filter_map (λ c. c.ty) xs)
-        → child_list (given (option_map (type_tree r) o ∷ map (λ c. c.1) (map {B = Text × Option Tree} (λ c. (text_of c.name, option_map (type_tree r) c.ty)) xs))) ≡ map (type_tree r) (cons_option o (filter_map (λ c. c.ty) xs))
+        → child_list (given (option_map (type_tree r) o ∷ map (λ c. c.1) (map {B = Text × Option Tree} (λ c. (text_of c.name, option_map (type_tree r) c.ty)) xs))) ≡ map (type_tree r)
+        (cons_option o (filter_map (λ c. c.ty) xs))
     go None e = e
     go (Some t) e = ap (λ us. type_tree r t ∷ us) e
 
@@ -63,7 +65,8 @@ module _ (r : Resolve) (resources : Names) where
       (ap not (agree-first t ts a) ∙ first_true (not (is_resource_type r t)) (list_all (λ t. not (is_resource_type r t)) ts) h)
       (values-of ts (second_true (not (is_resource_type r t)) (list_all (λ t. not (is_resource_type r t)) ts) h) (agree-rest t ts a))
 
-  pub optional-values : (o : Option ValueType) → list_all (λ t. not (is_resource_type r t)) (option_to_list o) ≡ true → Agree r resources (option_to_list o) → are_values resources (option_to_list (option_map (type_tree r) o)) ≡ true
+  pub optional-values : (o : Option ValueType) → list_all (λ t. not (is_resource_type r t)) (option_to_list o) ≡ true → Agree r resources (option_to_list o)
+      → are_values resources (option_to_list (option_map (type_tree r) o)) ≡ true
   optional-values None h a = refl
   optional-values (Some t) h a = values-of (t ∷ []) h a
 
@@ -81,7 +84,8 @@ module _ (r : Resolve) (resources : Names) where
   abbrev Values : List ValueType → Type 0
   Values ts = list_all (λ t. not (is_resource_type r t)) ts ≡ true
 
-  pub kind-formed : (k : TypeDefKind) → has_definition k ≡ true → has_shape k ≡ true → Values (member_types k) → passes (is_resource r) (handled k) ≡ true → Agree r resources (parts_of k) → is_formed resources (kind_tree r k) ≡ true
+  pub kind-formed : (k : TypeDefKind) → has_definition k ≡ true → has_shape k ≡ true → Values (member_types k) → passes (is_resource r) (handled k) ≡ true → Agree r resources (parts_of k)
+      → is_formed resources (kind_tree r k) ≡ true
   kind-formed (kind.Record q) d s v h a = both _ _
       (filled-twice (λ f. f.0) (λ f. (text_of f.name, type_tree r f.ty)) q.fields.items s)
       (by-children (map (type_tree r) (map (λ f. f.ty) q.fields.items)) _ (field-children r q.fields.items) (values-of _ v a))
@@ -99,7 +103,8 @@ module _ (r : Resolve) (resources : Names) where
   kind-formed (kind.Map k t) d s v h a = both _ _ (key-tree k s) (values-of (k ∷ t ∷ []) v a)
   kind-formed (kind.Result q) d s v h a = result-values q.ok q.err v a
     where
-      result-values : (x y : Option ValueType) → Values (option_to_list x ++ option_to_list y) → Agree r resources (option_to_list x ++ option_to_list y) → are_values resources (child_list (given (option_map (type_tree r) x ∷ option_map (type_tree r) y ∷ []))) ≡ true
+      result-values : (x y : Option ValueType) → Values (option_to_list x ++ option_to_list y) → Agree r resources (option_to_list x ++ option_to_list y)
+          → are_values resources (child_list (given (option_map (type_tree r) x ∷ option_map (type_tree r) y ∷ []))) ≡ true
       result-values None None v a = refl
       result-values None (Some y) v a = values-of (y ∷ []) v a
       result-values (Some x) None v a = values-of (x ∷ []) v a

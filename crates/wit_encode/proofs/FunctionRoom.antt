@@ -38,7 +38,8 @@ module _ {K : Type 0} {eq : K → K → Bool} (laws : IsEquivalence eq) where
   unique-has [] q h = h
   unique-has (x ∷ xs) q h = by (is_member eq xs x) (eq q x) refl refl (unique-has xs q)
     where
-      by : (b c : Bool) → is_member eq xs x ≡ b → eq q x ≡ c → (is_member eq xs q ≡ true → is_member eq (unique_keys eq xs) q ≡ true) → is_member eq (cond b (unique_keys eq xs) (x ∷ unique_keys eq xs)) q ≡ true
+      by : (b c : Bool) → is_member eq xs x ≡ b → eq q x ≡ c → (is_member eq xs q ≡ true → is_member eq (unique_keys eq xs) q ≡ true)
+          → is_member eq (cond b (unique_keys eq xs) (x ∷ unique_keys eq xs)) q ≡ true
       by true true m e r = r (member-alike xs x q e m)
       by true false m e r = r (sym (ap (λ c. c || is_member eq xs q) e) ∙ h)
       by false true m e r = ap (λ c. c || is_member eq (unique_keys eq xs) q) e
@@ -72,7 +73,8 @@ module _ (r : Resolve) (own : Option InterfaceId) (N : Refusals) (t : Text) (f :
       by true e = absurd (new ((keyed m once).known (key_of f) e))
 
   -- its type has none, or a part of it, where its key is new
-  pub lacks-type : (m : TypeEncodingMaps) (h h' : ℕ) → IsOnce m → (KnowsKey m (key_of f) → ⊥) → FindsNoRoom r own (function_types f) (its-type ∷ []) 1 m h h' N → LacksFunctions r own (function_types f) ((t, f) ∷ []) m h h' N
+  pub lacks-type : (m : TypeEncodingMaps) (h h' : ℕ) → IsOnce m → (KnowsKey m (key_of f) → ⊥) → FindsNoRoom r own (function_types f) (its-type ∷ []) 1 m h h' N
+      → LacksFunctions r own (function_types f) ((t, f) ∷ []) m h h' N
   lacks-type m h h' once new room =
       let ks = (keyed m once).keys in
       record {
@@ -82,7 +84,8 @@ module _ (r : Resolve) (own : Option InterfaceId) (N : Refusals) (t : Text) (f :
           | inl c ↦ inl ((keyed m once).known key (any-at (are_same key) ks found.0 c found.2))
           | inr c ↦ inr (any-at (are_same key) (key_of f ∷ []) found.0 c found.2)
         ]);
-        room = room-more refl (λ n x. x) (λ q c. Contains-append_left (its-type ∷ []) (its-name ∷ []) q c) (let a = entry-keys m once in let b = length-append ks (key_of f ∷ []) in omega (arith, a, b)) room;
+        room = room-more refl (λ n x. x) (λ q c. Contains-append_left (its-type ∷ []) (its-name ∷ []) q c)
+            (let a = entry-keys m once in let b = length-append ks (key_of f ∷ []) in omega (arith, a, b)) room;
       }
 
   -- its name has none, behind its type
@@ -92,22 +95,28 @@ module _ (r : Resolve) (own : Option InterfaceId) (N : Refusals) (t : Text) (f :
     keys = (keyed b once).keys;
     different = (keyed b once).different;
     from = λ key among. learnt key ((keyed b once).known key among);
-    room = room-after refl grow holds only (λ n x. x) (λ q c. Contains-append_right (its-type ∷ []) (its-name ∷ []) q c) (let k = entry-keys b once in omega (arith, k)) (lacks-request r own (function_types f) its-name b h' h'' N low lacks);
+    room = room-after refl grow holds only (λ n x. x) (λ q c. Contains-append_right (its-type ∷ []) (its-name ∷ []) q c) (let k = entry-keys b once in omega (arith, k))
+        (lacks-request r own (function_types f) its-name b h' h'' N low lacks);
   }
 
 -- ---- more functions
 
-module _ {r : Resolve} {own own' : Option InterfaceId} {N : Refusals} {ts ts' : List ValueType} {a b : TypeEncodingMaps} {h h' h'' : ℕ} (e : own' ≡ own) (grow : MapsGrow a b) (only : LearnsOnly (ReachedFrom r own ts) a b)
+module _ {r : Resolve} {own own' : Option InterfaceId} {N : Refusals} {ts ts' : List ValueType} {a b : TypeEncodingMaps} {h h' h'' : ℕ} (e : own' ≡ own) (grow : MapsGrow a b)
+    (only : LearnsOnly (ReachedFrom r own ts) a b)
     (reach : (n : ℕ) → ReachedFrom r own ts' n → ReachedFrom r own ts n) where
   -- one of these functions, behind others
-  pub next-lacks : {i : ℕ} (fs : List Named) (g : Named) (done : List Function) → HoldsFor r own a b h h' i → ((key : Key) → KnowsKey b key → KnowsKey a key ⊎ (is_member are_same (map key_of done) key ≡ true))
-      → ((f : Function) → Contains done f → Contains (map (λ (x : Named). x.1) fs) f) → Contains fs g → i + 1 ≤ length fs → LacksFunctions r own' ts' (g ∷ []) b h' h'' N → LacksFunctions r own ts fs a h h'' N
+  pub next-lacks : {i : ℕ} (fs : List Named) (g : Named) (done : List Function) → HoldsFor r own a b h h' i
+      → ((key : Key) → KnowsKey b key → KnowsKey a key ⊎ (is_member are_same (map key_of done) key ≡ true))
+      → ((f : Function) → Contains done f → Contains (map (λ (x : Named). x.1) fs) f) → Contains fs g → i + 1 ≤ length fs → LacksFunctions r own' ts' (g ∷ []) b h' h'' N
+      → LacksFunctions r own ts fs a h h'' N
   next-lacks {i} fs g done holds known among there many p = record {
     keys = p.keys;
     different = p.different;
     from = λ key m. elim (p.from key m) [
       | inl k ↦ elim (known key k) [ inl x ↦ inl x | inr y ↦ inr (of-done key y) ]
-      | inr y ↦ inr (let found = any-found (are_same key) (key_of g.1 ∷ []) y in any-at (are_same key) (map (λ (x : Named). key_of x.1) fs) found.0 (subst (Contains (map (λ (x : Named). key_of x.1) fs)) (one-contained (key_of g.1) found.0 found.1) (contains-map (λ (x : Named). key_of x.1) fs g there)) found.2)
+      | inr y ↦ inr (let found = any-found (are_same key) (key_of g.1 ∷ []) y in
+          any-at (are_same key) (map (λ (x : Named). key_of x.1) fs) found.0 (subst (Contains (map (λ (x : Named). key_of x.1) fs)) (one-contained (key_of g.1) found.0 found.1)
+          (contains-map (λ (x : Named). key_of x.1) fs g there)) found.2)
     ];
     room = room-after e grow holds only reach (λ q c. contains-flat (function_requests r) fs g q there c) (let l = many in omega (arith, l)) p.room;
   }
@@ -135,7 +144,8 @@ module _ {r : Resolve} {own own' : Option InterfaceId} {N : Refusals} {ts ts' : 
   }
 
 -- types, before all functions
-pub lacks-types : {r : Resolve} {own : Option InterfaceId} {N : Refusals} {ts ts' : List ValueType} {m : TypeEncodingMaps} {h h' : ℕ} (fs : List Named) → IsOnce m → ((n : ℕ) → ReachedFrom r own ts' n → ReachedFrom r own ts n) → FindsNoRoom r own ts' [] 0 m h h' N
+pub lacks-types : {r : Resolve} {own : Option InterfaceId} {N : Refusals} {ts ts' : List ValueType} {m : TypeEncodingMaps} {h h' : ℕ} (fs : List Named) → IsOnce m
+    → ((n : ℕ) → ReachedFrom r own ts' n → ReachedFrom r own ts n) → FindsNoRoom r own ts' [] 0 m h h' N
     → LacksFunctions r own ts fs m h h' N
 lacks-types {r} {own} {N} {ts} {ts'} {m} {h} {h'} fs once reach room = record {
   keys = (keyed m once).keys;

@@ -57,7 +57,8 @@ lists-alike names a b xs ys t l k e = lists-of-keys names (as_key a) (as_key b) 
 pub grown : (names names' : Names) (k : Key) (xs : List ℕ) → NamesGrow names names' → HasList names k xs → HasList names' k xs
 grown names names' k xs g l = key-grow names names' (as_key k) xs g l
 
-pub shrunk : (names names' : Names) → IsTable names' → ((t : Text) (n : ℕ) → Contains names (t, n) → Contains names' (t, n)) → (a b : Key) (xs : List ℕ) → HasList names' a xs → HasList names b xs → HasList names a xs
+pub shrunk : (names names' : Names) → IsTable names' → ((t : Text) (n : ℕ) → Contains names (t, n) → Contains names' (t, n)) → (a b : Key) (xs : List ℕ) → HasList names' a xs → HasList names b xs
+    → HasList names a xs
 shrunk names names' t g a b xs l k = key-shrink names names' t g (as_key a) (as_key b) xs l k
 
 params-alike : (names : Names) (ps qs : List Param) (xs : List ℕ) → pointwise same_param ps qs ≡ true → AreListed names ps xs → AreListed names qs xs × (length ps ≡ length qs)
@@ -130,13 +131,15 @@ key-there : (names : Names) (ks : List Key) (es : List (List ℕ × ℕ)) → Ar
 key-there names [] es h k c = none-in k c
 key-there names (x ∷ ks) [] h k c = absurd h
 key-there names (x ∷ ks) (e ∷ es) h k (zero, l, q) = (e, (0, omega arith, refl), subst (λ (z : Key). HasList names z e.0) q h.0)
-key-there names (x ∷ ks) (e ∷ es) h k (suc i, l, q) = let more = key-there names ks es h.1 k (i, omega (arith, l), q) in (more.0, (suc more.1.0, (let n = more.1.1 in omega (arith, n)), more.1.2), more.2)
+key-there names (x ∷ ks) (e ∷ es) h k (suc i, l, q) = let more = key-there names ks es h.1 k (i, omega (arith, l), q) in
+    (more.0, (suc more.1.0, (let n = more.1.1 in omega (arith, n)), more.1.2), more.2)
 
 list-there : (names : Names) (ks : List Key) (es : List (List ℕ × ℕ)) → AreKeysOf names ks es → (e : List ℕ × ℕ) → Contains es e → (k : Key) × Contains ks k × HasList names k e.0
 list-there names ks [] h e c = none-in e c
 list-there names [] (x ∷ es) h e c = absurd h
 list-there names (k ∷ ks) (x ∷ es) h e (zero, l, q) = (k, (0, omega arith, refl), subst (λ (z : List ℕ × ℕ). HasList names k z.0) q h.0)
-list-there names (k ∷ ks) (x ∷ es) h e (suc i, l, q) = let more = list-there names ks es h.1 e (i, omega (arith, l), q) in (more.0, (suc more.1.0, (let n = more.1.1 in omega (arith, n)), more.1.2), more.2)
+list-there names (k ∷ ks) (x ∷ es) h e (suc i, l, q) = let more = list-there names ks es h.1 e (i, omega (arith, l), q) in
+    (more.0, (suc more.1.0, (let n = more.1.1 in omega (arith, n)), more.1.2), more.2)
 
 keys-apart : (names : Names) → IsTable names → (ks : List Key) (es : List (List ℕ × ℕ)) → AreKeysOf names ks es → AllPairs (λ x y. x.0 ≡ y.0 → ⊥) es → AllPairs (λ x y. are_same x y ≡ false) ks
 keys-apart names t ks es h p i j d l n = go (are_same (get_or ks i d) (get_or ks j d)) refl
@@ -184,7 +187,8 @@ keyed m once =
 -- ---- the slots of keys
 
 -- the slot of each key that is known
-keys-stand : (r : Resolve) (m : TypeEncodingMaps) (S : Pairs) → MapsAgree r m S → (ks : List Key) (es : List (ListKey × ℕ)) → AreKeysOf (names_of m.names) ks (map {B = List ℕ × ℕ} (λ e. (e.0.0.items, e.1)) es)
+keys-stand : (r : Resolve) (m : TypeEncodingMaps) (S : Pairs) → MapsAgree r m S → (ks : List Key) (es : List (ListKey × ℕ))
+    → AreKeysOf (names_of m.names) ks (map {B = List ℕ × ℕ} (λ e. (e.0.0.items, e.1)) es)
     → ((x : List ℕ × ℕ) → Contains (map {B = List ℕ × ℕ} (λ e. (e.0.0.items, e.1)) es) x → Contains (lists_of m.func_type_map) x)
     → AllZip (λ k i. S i (function (signature_of_key r k))) ks (map (λ e. e.1) es)
 keys-stand r m S agree [] [] h known = tt

@@ -164,10 +164,13 @@ few-importable r v ns h =
 -- ---- the same interfaces, as a slice and in their packages
 
 pub moved : (r r' : Resolve) (xs ys : List InterfaceId) (a : Around) → r' ≡ r → ys ≡ xs → HasImported r' a (map (λ (id : InterfaceId). id.0) ys) → HasImported r a (map (λ (id : InterfaceId). id.0) xs)
-moved r r' xs ys a e l h = subst (λ (q : Resolve). HasImported q a (map (λ (id : InterfaceId). id.0) xs)) e (subst (λ (zs : List InterfaceId). HasImported r' a (map (λ (id : InterfaceId). id.0) zs)) l h)
+moved r r' xs ys a e l h = subst (λ (q : Resolve). HasImported q a (map (λ (id : InterfaceId). id.0) xs)) e
+    (subst (λ (zs : List InterfaceId). HasImported r' a (map (λ (id : InterfaceId). id.0) zs)) l h)
 
-pub moved-held : (r r' : Resolve) (xs ys : List InterfaceId) (a : Around) → r' ≡ r → ys ≡ xs → HoldsImports r' a (map (λ (id : InterfaceId). id.0) ys) → HoldsImports r a (map (λ (id : InterfaceId). id.0) xs)
-moved-held r r' xs ys a e l h = subst (λ (q : Resolve). HoldsImports q a (map (λ (id : InterfaceId). id.0) xs)) e (subst (λ (zs : List InterfaceId). HoldsImports r' a (map (λ (id : InterfaceId). id.0) zs)) l h)
+pub moved-held : (r r' : Resolve) (xs ys : List InterfaceId) (a : Around) → r' ≡ r → ys ≡ xs → HoldsImports r' a (map (λ (id : InterfaceId). id.0) ys)
+    → HoldsImports r a (map (λ (id : InterfaceId). id.0) xs)
+moved-held r r' xs ys a e l h = subst (λ (q : Resolve). HoldsImports q a (map (λ (id : InterfaceId). id.0) xs)) e
+    (subst (λ (zs : List InterfaceId). HoldsImports r' a (map (λ (id : InterfaceId). id.0) zs)) l h)
 
 abbrev pub item : List InterfaceId → ℕ → InterfaceId
 item xs k = get_or xs k (record { 0 = 0 })
@@ -185,7 +188,8 @@ pub record IsNext (r : Resolve) (xs : List InterfaceId) (k : ℕ) (a : Around) :
   pub uses : UsedStand r (standing_instances r a) (item xs k).0
   pub then : (canonical : Bool) (a' : Around) → ImportsTypes r canonical a a' (item xs k) k → HasImported r a' (take (k + 1) (numbers xs))
 
-pub is-next : (r r' : Resolve) (xs : List InterfaceId) (k : ℕ) (a : Around) → r' ≡ r → IsValid r → AreImportable r (numbers xs) → k < length xs → HasImported r' a (take k (numbers xs)) → IsNext r' xs k a
+pub is-next : (r r' : Resolve) (xs : List InterfaceId) (k : ℕ) (a : Around) → r' ≡ r → IsValid r → AreImportable r (numbers xs) → k < length xs → HasImported r' a (take k (numbers xs))
+    → IsNext r' xs k a
 is-next r r' xs k a e v can l = subst (λ (q : Resolve). HasImported q a (take k (numbers xs)) → IsNext q xs k a) (sym e)
     (λ h.
     let at = number-at xs k l in
@@ -207,23 +211,28 @@ all-imported r r' xs k a e l h =
 pub numbers-next : (xs : List InterfaceId) (k : ℕ) → k < length xs → take k (numbers xs) ++ (item xs k).0 ∷ [] ≡ take (k + 1) (numbers xs)
 numbers-next xs k l = take-next (numbers xs) k (item xs k).0 (number-at xs k l) ∙ (let more : suc k ≡ k + 1 = omega arith in ap (λ (j : ℕ). take j (numbers xs)) more)
 
-pub defines-next : (r r' : Resolve) (canonical : Bool) (xs : List InterfaceId) (k : ℕ) (a a' : Around) → r' ≡ r → k < length xs → ImportsTypes r' canonical a a' (item xs k) k → DefinesImports r a.declared (take k (numbers xs)) → DefinesImports r a'.declared (take (k + 1) (numbers xs))
+pub defines-next : (r r' : Resolve) (canonical : Bool) (xs : List InterfaceId) (k : ℕ) (a a' : Around) → r' ≡ r → k < length xs → ImportsTypes r' canonical a a' (item xs k) k
+    → DefinesImports r a.declared (take k (numbers xs)) → DefinesImports r a'.declared (take (k + 1) (numbers xs))
 defines-next r r' canonical xs k a a' e l t h =
     let u : ImportsTypes r canonical a a' (item xs k) k = subst (λ (q : Resolve). ImportsTypes q canonical a a' (item xs k) k) e t in
     subst (DefinesImports r a'.declared) (numbers-next xs k l) (import-defines r canonical a a' (item xs k) k u (take k (numbers xs)) h)
 
-pub aliases-next : (r r' : Resolve) (canonical : Bool) (xs : List InterfaceId) (k : ℕ) (a a' : Around) → r' ≡ r → k < length xs → ImportsTypes r' canonical a a' (item xs k) k → HasImported r' a (take k (numbers xs)) → HasImportAliases r a (take k (numbers xs))
+pub aliases-next : (r r' : Resolve) (canonical : Bool) (xs : List InterfaceId) (k : ℕ) (a a' : Around) → r' ≡ r → k < length xs → ImportsTypes r' canonical a a' (item xs k) k
+    → HasImported r' a (take k (numbers xs)) → HasImportAliases r a (take k (numbers xs))
     → HasImportAliases r a' (take (k + 1) (numbers xs))
 aliases-next r r' canonical xs k a a' e l t imported h =
     subst (HasImportAliases r a') (numbers-next xs k l)
-    (import-aliased r canonical a a' (take k (numbers xs)) (item xs k) k (subst (λ (q : Resolve). ImportsTypes q canonical a a' (item xs k) k) e t) (subst (λ (q : Resolve). HasImported q a (take k (numbers xs))) e imported) h)
+    (import-aliased r canonical a a' (take k (numbers xs)) (item xs k) k (subst (λ (q : Resolve). ImportsTypes q canonical a a' (item xs k) k) e t)
+    (subst (λ (q : Resolve). HasImported q a (take k (numbers xs))) e imported) h)
 
-pub held-next : (r r' : Resolve) (canonical : Bool) (xs : List InterfaceId) (k : ℕ) (a a' : Around) → r' ≡ r → k < length xs → ImportsTypes r' canonical a a' (item xs k) k → HoldsImports r a (take k (numbers xs)) → HoldsImports r a' (take (k + 1) (numbers xs))
+pub held-next : (r r' : Resolve) (canonical : Bool) (xs : List InterfaceId) (k : ℕ) (a a' : Around) → r' ≡ r → k < length xs → ImportsTypes r' canonical a a' (item xs k) k
+    → HoldsImports r a (take k (numbers xs)) → HoldsImports r a' (take (k + 1) (numbers xs))
 held-next r r' canonical xs k a a' e l t h =
     subst (HoldsImports r a') (numbers-next xs k l) (import-few r canonical a a' (item xs k) k (subst (λ (q : Resolve). ImportsTypes q canonical a a' (item xs k) k) e t) (take k (numbers xs)) h)
 
 -- the next one has no room
-pub next-refused : (r r' : Resolve) (canonical : Bool) (xs : List InterfaceId) (k : ℕ) (a : Around) → r' ≡ r → k < length xs → HasImported r' a (take k (numbers xs)) → HoldsImports r a (take k (numbers xs)) → LacksImport r' canonical a (item xs k)
+pub next-refused : (r r' : Resolve) (canonical : Bool) (xs : List InterfaceId) (k : ℕ) (a : Around) → r' ≡ r → k < length xs → HasImported r' a (take k (numbers xs))
+    → HoldsImports r a (take k (numbers xs)) → LacksImport r' canonical a (item xs k)
     → ImportsLackRoom r (numbers xs)
 next-refused r r' canonical xs k a e l h held lacks =
     let at = number-at xs k l in
@@ -267,7 +276,8 @@ named-next r r' canonical xs k start a a' e l t named =
     subst (λ (ns : List ℕ). NamesInterfaces r canonical ns start a'.declared) (numbers-next xs k l)
     (imports-named r canonical a a' (item xs k) k (take k (numbers xs)) start (subst (λ (q : Resolve). ImportsTypes q canonical a a' (item xs k) k) e t) named)
 
-pub named-whole : (r : Resolve) (canonical : Bool) (xs : List InterfaceId) (k : ℕ) (start declared : Declarations) → length xs ≤ k → NamesInterfaces r canonical (take k (numbers xs)) start declared → NamesInterfaces r canonical (numbers xs) start declared
+pub named-whole : (r : Resolve) (canonical : Bool) (xs : List InterfaceId) (k : ℕ) (start declared : Declarations) → length xs ≤ k → NamesInterfaces r canonical (take k (numbers xs)) start declared
+    → NamesInterfaces r canonical (numbers xs) start declared
 named-whole r canonical xs k start declared l named =
     let same : length (numbers xs) ≡ length xs = length-map xs (λ (id : InterfaceId). id.0) in
     subst (λ (ns : List ℕ). NamesInterfaces r canonical ns start declared) (take_all k (numbers xs) (omega (arith, same, l))) named

@@ -103,7 +103,8 @@ pub other-slot : (n t m : ℕ) (es : List (ℕ × ℕ)) → is_at (nat_cmp m) n 
 other-slot n t m [] other h = cond-false _ _ _ other
 other-slot n t m (e ∷ es) other h = by (λ q. other-slot n t m es other (sym (cond-false _ _ _ (ap is_eq q)) ∙ h)) (nat_cmp n e.0) refl
   where
-    by : (nat_cmp n e.0 ≡ Greater → known_slot (insert_entry nat_cmp es n t) m ≡ known_slot es m) → (o : Ordering) → nat_cmp n e.0 ≡ o → known_slot (match_ordering o ((n, t) ∷ e ∷ es) ((e.0, t) ∷ es) (e ∷ insert_entry nat_cmp es n t)) m ≡ known_slot (e ∷ es) m
+    by : (nat_cmp n e.0 ≡ Greater → known_slot (insert_entry nat_cmp es n t) m ≡ known_slot es m) → (o : Ordering) → nat_cmp n e.0 ≡ o
+        → known_slot (match_ordering o ((n, t) ∷ e ∷ es) ((e.0, t) ∷ es) (e ∷ insert_entry nat_cmp es n t)) m ≡ known_slot (e ∷ es) m
     by more Less q = cond-false _ _ _ other
     by more Equal q = let y : is_eq (nat_cmp n e.0) ≡ true = ap is_eq q in let s : Some e.1 ≡ None = sym (cond-true _ _ _ y) ∙ h in absurd (let z : ⊥ = cc in z)
     by more Greater q = ap (λ o. cond (is_at (nat_cmp m) e.0) (Some e.1) o) (more q)
@@ -144,7 +145,8 @@ module _ (i : ℕ) (ns : List ℕ) (es : List (ℕ × ℕ)) (first : known_insta
 
 -- ---- one instance type more, and what uses it
 
-module _ (r : Resolve) (v : IsValid r) (canonical : Bool) (a a' : Around) (ns : List ℕ) (i : InterfaceId) (def : Interface) (path : Text) (written : List (Text × Function)) (fs : List Function) (k : ℕ)
+module _ (r : Resolve) (v : IsValid r) (canonical : Bool) (a a' : Around) (ns : List ℕ) (i : InterfaceId) (def : Interface) (path : Text) (written : List (Text × Function))
+    (fs : List Function) (k : ℕ)
     (is : interface_path r i.0 ≡ Some path) (h : HasImported r a ns) (e : EncodesPart r a a' i def written fs k) where
   before : HasImported r e.before ns
   before = aliases_leave_imports r a e.before ns h e.aliases.grown
@@ -223,8 +225,10 @@ module _ (r : Resolve) (v : IsValid r) (canonical : Bool) (a a' : Around) (ns : 
     in_range = all-below;
     right = ap (are_right r imported.known) slots-after
         ∙ ap (λ (z : Around). are_right r z.known (outer_slots e.before.declared ++ x ∷ [])) e.one_more ∙ right-more r e.before.known (outer_slots e.before.declared) x before.right;
-    listed = subst (λ es. (k n : ℕ) → slice_get (ns ++ i.0 ∷ []) k ≡ Some n → known_instance (insert_entry nat_cmp es i.0 (length ns)) n ≡ Some k) same-listed (listed-more i.0 ns e.before.instances missing before.listed);
-    alone = subst (λ es. (n k : ℕ) → known_instance (insert_entry nat_cmp es i.0 (length ns)) n ≡ Some k → Contains (ns ++ i.0 ∷ []) n) same-listed (alone-more i.0 ns e.before.instances missing before.alone);
+    listed = subst (λ es. (k n : ℕ) → slice_get (ns ++ i.0 ∷ []) k ≡ Some n → known_instance (insert_entry nat_cmp es i.0 (length ns)) n ≡ Some k) same-listed
+        (listed-more i.0 ns e.before.instances missing before.listed);
+    alone = subst (λ es. (n k : ℕ) → known_instance (insert_entry nat_cmp es i.0 (length ns)) n ≡ Some k → Contains (ns ++ i.0 ∷ []) n) same-listed
+        (alone-more i.0 ns e.before.instances missing before.alone);
   }
     where
       same-listed : e.before.instances ≡ a'.instances

@@ -88,12 +88,14 @@ pub cut-short : (a b : Bool) → (a && (false && b)) ≡ false
 cut-short true b = refl
 cut-short false b = refl
 
-path-alike : (p : Text) (own : Bool) (path : Option Text) (a b : Bool) → (((own || is_some path) && a) && (same_place (of_interface p) (place_of_path path) && b)) ≡ ((is_some path && a) && (same_place (of_interface p) (place_of_path path) && b))
+path-alike : (p : Text) (own : Bool) (path : Option Text) (a b : Bool)
+    → (((own || is_some path) && a) && (same_place (of_interface p) (place_of_path path) && b)) ≡ ((is_some path && a) && (same_place (of_interface p) (place_of_path path) && b))
 path-alike p true (Some q) a b = refl
 path-alike p false path a b = refl
 path-alike p true None a b = cut-short a b
 
-owner-alike : (r : Resolve) (i : InterfaceId) (p : Text) (o : TypeOwner) (a b : Bool) → ((is_owner_in r (Some i) o && a) && (same_place (of_interface p) (place_of r o) && b)) ≡ ((is_named_interface r o && a) && (same_place (of_interface p) (place_of r o) && b))
+owner-alike : (r : Resolve) (i : InterfaceId) (p : Text) (o : TypeOwner) (a b : Bool)
+    → ((is_owner_in r (Some i) o && a) && (same_place (of_interface p) (place_of r o) && b)) ≡ ((is_named_interface r o && a) && (same_place (of_interface p) (place_of r o) && b))
 owner-alike r i p (owner.Interface j) a b = path-alike p (same_owner (owner.Interface i) (owner.Interface j)) (interface_path r j.0) a b
 owner-alike r i p (owner.World w) a b = refl
 owner-alike r i p owner.None a b = refl
@@ -146,7 +148,8 @@ for-more r slots y n k (Some x) e h = ap (is_slot_for r n) (get-left slots y k x
 pub right-more : (r : Resolve) (known : List (ℕ × ℕ)) (slots : List Slot) (y : Slot) → are_right r known slots ≡ true → are_right r known (slots ++ y ∷ []) ≡ true
 right-more r [] slots y h = refl
 right-more r (x ∷ xs) slots y h =
-    both (is_slot_for r x.0 (slice_get (slots ++ y ∷ []) x.1)) (are_right r xs (slots ++ y ∷ [])) (for-more r slots y x.0 x.1 (slice_get slots x.1) refl (first_true (is_slot_for r x.0 (slice_get slots x.1)) _ h))
+    both (is_slot_for r x.0 (slice_get (slots ++ y ∷ []) x.1)) (are_right r xs (slots ++ y ∷ []))
+    (for-more r slots y x.0 x.1 (slice_get slots x.1) refl (first_true (is_slot_for r x.0 (slice_get slots x.1)) _ h))
     (right-more r xs slots y (second_true (is_slot_for r x.0 (slice_get slots x.1)) _ h))
 
 -- ---- what can be imported
@@ -333,25 +336,30 @@ module _ {E : Type 0} (res : Result ℕ E) (r : Resolve) (outer outer' : Declara
   abbrev new : Aliased
   new = record { number = id; instance = k; name = name }
 
-  pub made-slot : known_slot foreign.known.entries id.0 ≡ None → IfOk res (λ q. q ≡ type_slots_of outer) → OnOk res (known'.entries ≡ insert_entry nat_cmp foreign.known.entries id.0 (type_slots_of outer))
+  pub made-slot : known_slot foreign.known.entries id.0 ≡ None → IfOk res (λ q. q ≡ type_slots_of outer)
+      → OnOk res (known'.entries ≡ insert_entry nat_cmp foreign.known.entries id.0 (type_slots_of outer))
       → IfOk res (λ q. known_slot known'.entries id.0 ≡ Some q)
   made-slot first ok listed = go res ok listed
     where
-      go : {E : Type 0} (res : Result ℕ E) → IfOk res (λ q. q ≡ type_slots_of outer) → OnOk res (known'.entries ≡ insert_entry nat_cmp foreign.known.entries id.0 (type_slots_of outer)) → IfOk res (λ q. known_slot known'.entries id.0 ≡ Some q)
+      go : {E : Type 0} (res : Result ℕ E) → IfOk res (λ q. q ≡ type_slots_of outer) → OnOk res (known'.entries ≡ insert_entry nat_cmp foreign.known.entries id.0 (type_slots_of outer))
+          → IfOk res (λ q. known_slot known'.entries id.0 ≡ Some q)
       go (Ok q) ok listed = ap (λ xs. known_slot xs id.0) listed ∙ new-slot id.0 (type_slots_of outer) foreign.known.entries first ∙ ap Some (sym ok)
       go (Err e) ok listed = ok
 
-  pub made-reaches : IsAlias r (around_at outer foreign) new → OnOk res (outer' ≡ append outer (Declarations.declares (alias_declared new) Declarations.no_more)) → OnOk res (known'.entries ≡ insert_entry nat_cmp foreign.known.entries id.0 (type_slots_of outer))
+  pub made-reaches : IsAlias r (around_at outer foreign) new → OnOk res (outer' ≡ append outer (Declarations.declares (alias_declared new) Declarations.no_more))
+      → OnOk res (known'.entries ≡ insert_entry nat_cmp foreign.known.entries id.0 (type_slots_of outer))
       → OnErr res (outer' ≡ outer) → OnErr res (known'.entries ≡ foreign.known.entries) → ReachesAround r id (around_at outer foreign) (around_at outer' (record foreign { known = known' }))
   made-reaches is made listed err same = go res made listed err same
     where
-      go : {E : Type 0} (res : Result ℕ E) → OnOk res (outer' ≡ append outer (Declarations.declares (alias_declared new) Declarations.no_more)) → OnOk res (known'.entries ≡ insert_entry nat_cmp foreign.known.entries id.0 (type_slots_of outer))
+      go : {E : Type 0} (res : Result ℕ E) → OnOk res (outer' ≡ append outer (Declarations.declares (alias_declared new) Declarations.no_more))
+          → OnOk res (known'.entries ≡ insert_entry nat_cmp foreign.known.entries id.0 (type_slots_of outer))
           → OnErr res (outer' ≡ outer) → OnErr res (known'.entries ≡ foreign.known.entries) → ReachesAround r id (around_at outer foreign) (around_at outer' (record foreign { known = known' }))
       go (Ok q) made listed err same = aliased new is refl (λ j. record { declared = made j; instances = foreign.instances.entries; known = listed j })
       go (Err e) made listed err same = as_before (λ j. record { declared = err j; instances = foreign.instances.entries; known = same j })
 
 -- the alias is one of the type that was asked for
-pub source-alias : (r : Resolve) (a : Around) (j k : ℕ) (id : TypeId) (def : TypeDef) (name : String Global) (shown : Text) → IsSource r a j id.0 → type_at r id.0 ≡ Some def → def.name ≡ Some name → shown ≡ text_of name → known_instance a.instances j ≡ Some k → known_slot a.known id.0 ≡ None
+pub source-alias : (r : Resolve) (a : Around) (j k : ℕ) (id : TypeId) (def : TypeDef) (name : String Global) (shown : Text) → IsSource r a j id.0 → type_at r id.0 ≡ Some def → def.name ≡ Some name
+    → shown ≡ text_of name → known_instance a.instances j ≡ Some k → known_slot a.known id.0 ≡ None
     → IsAlias r a (record { number = id; instance = k; name = shown })
 source-alias r a j k id def name shown m at is text listed first = record {
   def = m.def;
@@ -397,7 +405,8 @@ module _ (r : Resolve) (i : InterfaceId) (a : Around) (ds : List Declaration) (j
 
   was-known : (k : ℕ) → known_slot a.known id.0 ≡ Some k → Reached a k
   was-known k e = record {
-    known = known-slot r i a id.0 k (slice_get (outer_slots a.declared) k) refl (known-right r a.known (outer_slots a.declared) id.0 k (standing r a j id.0 (has-source r i a before j id.0 m)).right e);
+    known = known-slot r i a id.0 k (slice_get (outer_slots a.declared) k) refl
+        (known-right r a.known (outer_slots a.declared) id.0 k (standing r a j id.0 (has-source r i a before j id.0 m)).right e);
     contents = refl;
     standing = refl;
   }
@@ -428,7 +437,8 @@ module _ (r : Resolve) (i : InterfaceId) (a : Around) (ds : List Declaration) (j
       let after = inner_contents (place_in r (Some i)) a'.declared ds' in
       let sound : (scope_with r (Some i) a' (inner_contents (place_in r (Some i)) a'.declared ds)).is_sound ≡ true = ap (λ (s : Scope). s.is_sound) (same-scope a' k h) ∙ is-sound in
       subst (λ (s : Scope). Calls res s (scope_with r (Some i) a' after) before after (λ s. s ≡ tree (number_tree r id.0)) (definitions_with after ≡ definitions_with before)) (same-scope a' k h)
-      (subst (λ (c : Contents). Calls res (scope_with r (Some i) a' (inner_contents (place_in r (Some i)) a'.declared ds)) (scope_with r (Some i) a' after) c after (λ s. s ≡ tree (number_tree r id.0)) (definitions_with after ≡ definitions_with c)) h.contents
+      (subst (λ (c : Contents). Calls res (scope_with r (Some i) a' (inner_contents (place_in r (Some i)) a'.declared ds)) (scope_with r (Some i) a' after) c after (λ s. s ≡ tree (number_tree r id.0))
+      (definitions_with after ≡ definitions_with c)) h.contents
       (alias-inside res r i a' ds ds' sound k h.known.slot (number_tree r id.0) h.known.at h.known.foreign h.known.kept h.known.stands ok err))
 
 -- ---- the call
@@ -440,7 +450,8 @@ module _ {E : Type 0} (res : Result ℕ E) (r : Resolve) (outer outer' : Declara
   abbrev pub ImportsTo : Option OpenInterface → ℕ → Type 0
   ImportsTo o n = CallsTo res r outer o outer' afterwards (λ m. m ≡ tree (number_tree r n)) (definitions_with (contents_of r outer' afterwards) ≡ definitions_with (contents_of r outer o))
 
-  pub imported : (j : ℕ) (id : TypeId) (k : ℕ) → IsImportable (encoder_scope r outer inner) j id.0 → ReachesAround r id (around_at outer current.foreign) (around_at outer' foreign) → known_slot foreign.known.entries id.0 ≡ Some k
+  pub imported : (j : ℕ) (id : TypeId) (k : ℕ) → IsImportable (encoder_scope r outer inner) j id.0 → ReachesAround r id (around_at outer current.foreign) (around_at outer' foreign)
+      → known_slot foreign.known.entries id.0 ≡ Some k
       → IfOk res (λ k'. (k' ≡ type_slots current.declared) × (ds' ≡ current.declared ++ Declaration.alias_of (Alias.of_outer 1 k) ∷ [])) → OnErr res (ds' ≡ current.declared) → ImportsTo inner id.0
   imported j id k m reaches known ok err = subst (λ (o : Option OpenInterface). IsImportable (encoder_scope r outer o) j id.0 → ImportsTo o id.0) (sym is)
       (λ m. alias-reached r current.interface (around_at outer current.foreign) current.declared j id m res (around_at outer' foreign) k ds' reaches known ok err) m
@@ -448,11 +459,14 @@ module _ {E : Type 0} (res : Result ℕ E) (r : Resolve) (outer outer' : Declara
   pub imported-stands : (n : ℕ) → ImportsTo inner n → IfOk res (λ k. SlotsStand (contents_of r outer' afterwards).slots k (tree (number_tree r n)))
   imported-stands n q = go res q.ok
     where
-      go : {E : Type 0} (res : Result ℕ E) → IfOk res (λ k. SlotAdded (SlotsStand (contents_of r outer inner).slots) (SlotsStand (contents_of r outer' afterwards).slots) (length (contents_of r outer inner).slots) (length (contents_of r outer' afterwards).slots) k (λ m. m ≡ tree (number_tree r n)))
+      go : {E : Type 0} (res : Result ℕ E)
+          → IfOk res (λ k. SlotAdded (SlotsStand (contents_of r outer inner).slots) (SlotsStand (contents_of r outer' afterwards).slots) (length (contents_of r outer inner).slots)
+          (length (contents_of r outer' afterwards).slots) k (λ m. m ≡ tree (number_tree r n)))
           → IfOk res (λ k. SlotsStand (contents_of r outer' afterwards).slots k (tree (number_tree r n)))
       go (Ok k) h = h.adds.new (tree (number_tree r n)) refl
       go (Err e) h = h
 
-pub import-source : (r : Resolve) (outer : Declarations) (inner : Option OpenInterface) (current : OpenInterface) → inner ≡ Some current → (j n : ℕ) → IsImportable (encoder_scope r outer inner) j n → IsSource r (around_at outer current.foreign) j n
+pub import-source : (r : Resolve) (outer : Declarations) (inner : Option OpenInterface) (current : OpenInterface) → inner ≡ Some current → (j n : ℕ) → IsImportable (encoder_scope r outer inner) j n
+    → IsSource r (around_at outer current.foreign) j n
 import-source r outer inner current is j n m =
     has-source r current.interface (around_at outer current.foreign) (contents_of r outer (Some current)) j n (subst (λ (o : Option OpenInterface). IsImportable (encoder_scope r outer o) j n) is m)

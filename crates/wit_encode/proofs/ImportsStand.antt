@@ -76,7 +76,8 @@ module _ (r : Resolve) (v : IsValid r) where
         ap (λ p. named_resources r p (text_of name)) (sym home) ∙ ap (λ (o : TypeOwner). named_resources r (place_of r o) (text_of name)) (sym owned)
         ∙ names-agree r v (is_named_interface r) homes n def name at named_ (ap (is_named_interface r) owned ∙ ap is_some is)
 
-    known-as : (b : Bool) → named_resources r (of_interface path) (text_of name) ≡ b → is_known_as (named_resources r) (named (of_interface path) (text_of name)) (name_slot b (of_interface path) (text_of name)) ≡ true
+    known-as : (b : Bool) → named_resources r (of_interface path) (text_of name) ≡ b
+        → is_known_as (named_resources r) (named (of_interface path) (text_of name)) (name_slot b (of_interface path) (text_of name)) ≡ true
     known-as true e = both _ _ e (both _ _ (place-alike (of_interface path)) (nat_list_eq_equiv.refl (text_of name)))
     known-as false e = both _ _ (ap not e) (both _ _ (place-alike (of_interface path)) (nat_list_eq_equiv.refl (text_of name)))
 

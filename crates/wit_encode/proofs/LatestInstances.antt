@@ -47,7 +47,8 @@ module _ (i number : ℕ) where
 
 -- ---- which interfaces stand
 
-module _ (r : Resolve) (a a' : Around) (x : Instance) (i : ℕ) (instances : outer_instances a'.declared ≡ outer_instances a.declared ++ x ∷ []) (listed : a'.instances ≡ insert_entry nat_cmp a.instances i (length (outer_instances a.declared)))
+module _ (r : Resolve) (a a' : Around) (x : Instance) (i : ℕ) (instances : outer_instances a'.declared ≡ outer_instances a.declared ++ x ∷ [])
+    (listed : a'.instances ≡ insert_entry nat_cmp a.instances i (length (outer_instances a.declared)))
     (right : are_right r a.known (outer_slots a.declared) ≡ true) (right-after : are_right r a'.known (outer_slots a'.declared) ≡ true) where
   abbrev number : ℕ
   number = length (outer_instances a.declared)
@@ -61,7 +62,8 @@ module _ (r : Resolve) (a a' : Around) (x : Instance) (i : ℕ) (instances : out
       ap (λ es. at_number (outer_instances a'.declared) i (known_instance es i)) listed ∙ ap (at_number (outer_instances a'.declared) i) (found-new i number a.instances)
       ∙ ap (λ xs. option_map_or (is_standing r i) (slice_get xs number) false) instances ∙ ap (λ o. option_map_or (is_standing r i) o false) (at-length (outer_instances a.declared) [] x) ∙ h
 
-  still-there : (j k : ℕ) (o : Option Instance) → slice_get (outer_instances a.declared) k ≡ o → option_map_or (is_standing r j) o false ≡ true → option_map_or (is_standing r j) (slice_get (outer_instances a.declared ++ x ∷ []) k) false ≡ true
+  still-there : (j k : ℕ) (o : Option Instance) → slice_get (outer_instances a.declared) k ≡ o → option_map_or (is_standing r j) o false ≡ true
+      → option_map_or (is_standing r j) (slice_get (outer_instances a.declared ++ x ∷ []) k) false ≡ true
   still-there j k None e h = absurd (let z : ⊥ = cc in z)
   still-there j k (Some y) e h = ap (λ o. option_map_or (is_standing r j) o false) (get-left (outer_instances a.declared) x k y e) ∙ h
 
@@ -85,7 +87,8 @@ module _ (r : Resolve) (a a' : Around) (x : Instance) (i : ℕ) (instances : out
       (subst (λ (b : Bool). Contains (if b then filter (stands_around r a.instances (outer_instances a.declared)) (below (length r.interfaces.items)) else []) j) right c)).1
 
   -- the interface stands by the new instance, and the others by their own
-  pub stands-then : (j : ℕ) → j < length r.interfaces.items → (j ≡ i → is_standing r i x ≡ true) → (is_at (nat_cmp j) i ≡ false → Contains (standing_instances r a) j) → Contains (standing_instances r a') j
+  pub stands-then : (j : ℕ) → j < length r.interfaces.items → (j ≡ i → is_standing r i x ≡ true) → (is_at (nat_cmp j) i ≡ false → Contains (standing_instances r a) j)
+      → Contains (standing_instances r a') j
   stands-then j inside new old = by (is_at (nat_cmp j) i) refl
     where
       by : (b : Bool) → is_at (nat_cmp j) i ≡ b → Contains (standing_instances r a') j

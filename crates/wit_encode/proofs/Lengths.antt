@@ -30,7 +30,8 @@ pub vector-short : {A : Type 0} (bytes : A → List ℕ) (xs : List A) → lengt
 vector-short bytes xs = let h = u32-short (length xs) in let e = length-append (u32_bytes (length xs)) (flat_map bytes xs) in omega arith
 
 -- a section of items with one more in front
-one-more_item : {A : Type 0} (id : ℕ) (bytes : A → List ℕ) (x : A) (xs : List A) → length (framed id (vector_bytes bytes (x ∷ xs))) ≤ (11 + length (bytes x)) + length (framed id (vector_bytes bytes xs))
+one-more_item : {A : Type 0} (id : ℕ) (bytes : A → List ℕ) (x : A) (xs : List A)
+    → length (framed id (vector_bytes bytes (x ∷ xs))) ≤ (11 + length (bytes x)) + length (framed id (vector_bytes bytes xs))
 one-more_item id bytes x xs =
     let new = framed-short id (vector_bytes bytes (x ∷ xs)) in
     let inner = vector-short bytes (x ∷ xs) in
@@ -58,13 +59,19 @@ in-place new old rest n h = let e = length-append new rest in let f = length-app
 
 part-short : (p : Part) (ss : List Section) → length (flat_map section_bytes (with_part p ss)) ≤ part_extent p + length (flat_map section_bytes ss)
 part-short (Part.top_type t) [] = behind (section_bytes (Section.types (t ∷ []))) [] _ 0 (first-item 7 top_type_bytes t) (same 0)
-part-short (Part.top_type t) (Section.types ts ∷ rest) = in-place (section_bytes (Section.types (t ∷ ts))) (section_bytes (Section.types ts)) (flat_map section_bytes rest) _ (one-more_item 7 top_type_bytes t ts)
-part-short (Part.top_type t) (Section.exports es ∷ rest) = behind (section_bytes (Section.types (t ∷ []))) (flat_map section_bytes (Section.exports es ∷ rest)) _ _ (first-item 7 top_type_bytes t) (same _)
-part-short (Part.top_type t) (Section.custom name contents ∷ rest) = behind (section_bytes (Section.types (t ∷ []))) (flat_map section_bytes (Section.custom name contents ∷ rest)) _ _ (first-item 7 top_type_bytes t) (same _)
+part-short (Part.top_type t) (Section.types ts ∷ rest) = in-place (section_bytes (Section.types (t ∷ ts))) (section_bytes (Section.types ts)) (flat_map section_bytes rest) _
+    (one-more_item 7 top_type_bytes t ts)
+part-short (Part.top_type t) (Section.exports es ∷ rest) = behind (section_bytes (Section.types (t ∷ []))) (flat_map section_bytes (Section.exports es ∷ rest)) _ _
+    (first-item 7 top_type_bytes t) (same _)
+part-short (Part.top_type t) (Section.custom name contents ∷ rest) = behind (section_bytes (Section.types (t ∷ []))) (flat_map section_bytes (Section.custom name contents ∷ rest)) _ _
+    (first-item 7 top_type_bytes t) (same _)
 part-short (Part.top_export e) [] = behind (section_bytes (Section.exports (e ∷ []))) [] _ 0 (first-item 0x0b top_export_bytes e) (same 0)
-part-short (Part.top_export e) (Section.types ts ∷ rest) = behind (section_bytes (Section.exports (e ∷ []))) (flat_map section_bytes (Section.types ts ∷ rest)) _ _ (first-item 0x0b top_export_bytes e) (same _)
-part-short (Part.top_export e) (Section.exports es ∷ rest) = in-place (section_bytes (Section.exports (e ∷ es))) (section_bytes (Section.exports es)) (flat_map section_bytes rest) _ (one-more_item 0x0b top_export_bytes e es)
-part-short (Part.top_export e) (Section.custom name contents ∷ rest) = behind (section_bytes (Section.exports (e ∷ []))) (flat_map section_bytes (Section.custom name contents ∷ rest)) _ _ (first-item 0x0b top_export_bytes e) (same _)
+part-short (Part.top_export e) (Section.types ts ∷ rest) = behind (section_bytes (Section.exports (e ∷ []))) (flat_map section_bytes (Section.types ts ∷ rest)) _ _
+    (first-item 0x0b top_export_bytes e) (same _)
+part-short (Part.top_export e) (Section.exports es ∷ rest) = in-place (section_bytes (Section.exports (e ∷ es))) (section_bytes (Section.exports es)) (flat_map section_bytes rest) _
+    (one-more_item 0x0b top_export_bytes e es)
+part-short (Part.top_export e) (Section.custom name contents ∷ rest) =
+    behind (section_bytes (Section.exports (e ∷ []))) (flat_map section_bytes (Section.custom name contents ∷ rest)) _ _ (first-item 0x0b top_export_bytes e) (same _)
 part-short (Part.custom name contents) ss = behind (section_bytes (Section.custom name contents)) (flat_map section_bytes ss) _ _ (custom-short name contents) (same _)
 
 parts-short : (parts : List Part) → length (flat_map section_bytes (sections_of_parts parts)) ≤ parts_extent parts
@@ -100,4 +107,5 @@ long-parts parts more e = by-order (nat_lt limit (8 + parts_extent (parts ++ mor
     by-order false f = absurd (wrong (ltb-false limit _ f))
 
 pub long-component : (parts : List Part) → fits_component parts ≡ false → limit < 8 + parts_extent parts
-long-component parts e = subst (λ (ps : List Part). limit < 8 + parts_extent ps) (append-nil parts) (long-parts parts [] (rw (append-nil parts) (let z : (fits_component parts && fits_component parts) ≡ false = rw e refl in z)))
+long-component parts e = subst (λ (ps : List Part). limit < 8 + parts_extent ps) (append-nil parts)
+    (long-parts parts [] (rw (append-nil parts) (let z : (fits_component parts && fits_component parts) ≡ false = rw e refl in z)))

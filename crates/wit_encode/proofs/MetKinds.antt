@@ -42,7 +42,8 @@ AreKindsOf r m [] [] = Unit {0}
 AreKindsOf r m (k ∷ ks) (e ∷ es) = IsKindOf r m e.0 k × AreKindsOf r m ks es
 AreKindsOf r m _ _ = ⊥
 
-kinds-at : (r : Resolve) (m : TypeEncodingMaps) (es : List (List ℕ × ℕ)) → ((xs : List ℕ) (i : ℕ) → Contains es (xs, i) → (k : TypeDefKind) × IsKindOf r m xs k) → (ks : List TypeDefKind) × AreKindsOf r m ks es
+kinds-at : (r : Resolve) (m : TypeEncodingMaps) (es : List (List ℕ × ℕ)) → ((xs : List ℕ) (i : ℕ) → Contains es (xs, i) → (k : TypeDefKind) × IsKindOf r m xs k) → (ks : List TypeDefKind)
+    × AreKindsOf r m ks es
 kinds-at r m [] h = ([], tt)
 kinds-at r m (e ∷ es) h =
     let x = h e.0 e.1 (0, omega arith, refl) in
@@ -61,7 +62,8 @@ kinds-long r m [] (e ∷ es) h = absurd h
 kinds-long r m (k ∷ ks) [] h = absurd h
 kinds-long r m (k ∷ ks) (e ∷ es) h = ap suc (kinds-long r m ks es h.1)
 
-kind-at : (r : Resolve) (m : TypeEncodingMaps) (ks : List TypeDefKind) (es : List (List ℕ × ℕ)) → AreKindsOf r m ks es → (i : ℕ) (d : TypeDefKind) (e : List ℕ × ℕ) → i < length ks → IsKindOf r m (get_or es i e).0 (get_or ks i d)
+kind-at : (r : Resolve) (m : TypeEncodingMaps) (ks : List TypeDefKind) (es : List (List ℕ × ℕ)) → AreKindsOf r m ks es → (i : ℕ) (d : TypeDefKind) (e : List ℕ × ℕ) → i < length ks
+    → IsKindOf r m (get_or es i e).0 (get_or ks i d)
 kind-at r m [] es h i d e l = absurd (omega (arith, l))
 kind-at r m (k ∷ ks) [] h i d e l = absurd h
 kind-at r m (k ∷ ks) (x ∷ es) h zero d e l = h.0
@@ -73,13 +75,16 @@ kind-there r m (x ∷ ks) [] h k c = absurd h
 kind-there r m (x ∷ ks) (e ∷ es) h k (zero, l, q) = subst (IsKnownKind r m) q h.0.known
 kind-there r m (x ∷ ks) (e ∷ es) h k (suc i, l, q) = kind-there r m ks es h.1 k (i, omega (arith, l), q)
 
-list-there : (r : Resolve) (m : TypeEncodingMaps) (ks : List TypeDefKind) (es : List (List ℕ × ℕ)) → AreKindsOf r m ks es → (e : List ℕ × ℕ) → Contains es e → (k : TypeDefKind) × Contains ks k × IsKindOf r m e.0 k
+list-there : (r : Resolve) (m : TypeEncodingMaps) (ks : List TypeDefKind) (es : List (List ℕ × ℕ)) → AreKindsOf r m ks es → (e : List ℕ × ℕ) → Contains es e → (k : TypeDefKind) × Contains ks k
+    × IsKindOf r m e.0 k
 list-there r m ks [] h e c = none-in e c
 list-there r m [] (x ∷ es) h e c = absurd h
 list-there r m (k ∷ ks) (x ∷ es) h e (zero, l, q) = (k, (0, omega arith, refl), subst (λ (z : List ℕ × ℕ). IsKindOf r m z.0 k) q h.0)
-list-there r m (k ∷ ks) (x ∷ es) h e (suc i, l, q) = let more = list-there r m ks es h.1 e (i, omega (arith, l), q) in (more.0, (suc more.1.0, (let n = more.1.1 in omega (arith, n)), more.1.2), more.2)
+list-there r m (k ∷ ks) (x ∷ es) h e (suc i, l, q) = let more = list-there r m ks es h.1 e (i, omega (arith, l), q) in
+    (more.0, (suc more.1.0, (let n = more.1.1 in omega (arith, n)), more.1.2), more.2)
 
-kinds-apart : (r : Resolve) (m : TypeEncodingMaps) (ks : List TypeDefKind) (es : List (List ℕ × ℕ)) → AreKindsOf r m ks es → AllPairs (λ x y. x.0 ≡ y.0 → ⊥) es → AllPairs (λ x y. same_kind x y ≡ false) ks
+kinds-apart : (r : Resolve) (m : TypeEncodingMaps) (ks : List TypeDefKind) (es : List (List ℕ × ℕ)) → AreKindsOf r m ks es → AllPairs (λ x y. x.0 ≡ y.0 → ⊥) es
+    → AllPairs (λ x y. same_kind x y ≡ false) ks
 kinds-apart r m ks es h p i j d l n = go (same_kind (get_or ks i d) (get_or ks j d)) refl
   where
     long : length ks ≡ length es

@@ -35,7 +35,8 @@ pub any-numbered : {A : Type 0} (p : ℕ × A → Bool) (j : ℕ) (xs : List A) 
 any-numbered p j [] h = let wrong : ⊥ = cc in absurd wrong
 any-numbered p j (x ∷ xs) h = go (λ e. any-numbered p (j + 1) xs e) (p (j, x)) refl h
   where
-    go : (list_any p (numbered_from (j + 1) xs) ≡ true → (k : ℕ) × (y : _) × (slice_get xs k ≡ Some y) × (p ((j + 1) + k, y) ≡ true)) → (b : Bool) → p (j, x) ≡ b → (b || list_any p (numbered_from (j + 1) xs)) ≡ true
+    go : (list_any p (numbered_from (j + 1) xs) ≡ true → (k : ℕ) × (y : _) × (slice_get xs k ≡ Some y) × (p ((j + 1) + k, y) ≡ true)) → (b : Bool) → p (j, x) ≡ b
+        → (b || list_any p (numbered_from (j + 1) xs)) ≡ true
         → (k : ℕ) × (y : _) × (slice_get (x ∷ xs) k ≡ Some y) × (p (j + k, y) ≡ true)
     go more true e h = let at : j ≡ j + 0 = omega arith in (0, x, refl, subst (λ (m : ℕ). p (m, x) ≡ true) at e)
     go more false e h =
@@ -109,7 +110,8 @@ module _ (r : Resolve) (v : IsValid r) where
   pub valid-listed : (n : ℕ) (def : TypeDef) (name : String Global) → type_at r n ≡ Some def → def.name ≡ Some name → is_listed r n (text_of name) def.owner ≡ true
   unfolding order_of_types
   valid-listed n def name is named =
-      let passed = second_true (list_all (λ m. nat_lt m (0 + n)) (kind_numbers def.kind)) _ (each_from_at (order_of_types.type_ r) 0 r.types.items n def (lists_pass order_of_types r v.rules.order_of_types).3 is) in
+      let passed = second_true (list_all (λ m. nat_lt m (0 + n)) (kind_numbers def.kind)) _
+      (each_from_at (order_of_types.type_ r) 0 r.types.items n def (lists_pass order_of_types r v.rules.order_of_types).3 is) in
       let here : 0 + n ≡ n = omega arith in
       given-test (λ name. is_listed r n (text_of name) def.owner) def.name (same_owner def.owner owner.None) name named
       (subst (λ (m : ℕ). option_map_or (λ name. is_listed r m (text_of name) def.owner) def.name (same_owner def.owner owner.None) ≡ true) here passed)
@@ -118,11 +120,13 @@ module _ (r : Resolve) (v : IsValid r) where
   listed-once owner.None m n t inside e f = let wrong : ⊥ = cc in absurd wrong
   listed-once (owner.Interface id) m n t inside e f =
       let i = found-in r.interfaces.items id.0 inside in
-      let of_entry = λ (k : ℕ) (h : passes (is_listed_in_interface k t) (interface_at r id.0) ≡ true). first_true (is_id k (option_map (λ id. id.0) (get_by_text i.0.types t))) _ (ap (passes (is_listed_in_interface k t)) (sym i.1) ∙ h) in
+      let of_entry = λ (k : ℕ) (h : passes (is_listed_in_interface k t) (interface_at r id.0) ≡ true). first_true (is_id k (option_map (λ id. id.0) (get_by_text i.0.types t))) _
+      (ap (passes (is_listed_in_interface k t)) (sym i.1) ∙ h) in
       one-number m n (option_map (λ id. id.0) (get_by_text i.0.types t)) (of_entry m e) (of_entry n f)
   listed-once (owner.World id) m n t inside e f =
       let w = found-in r.worlds.items id.0 inside in
-      let of_entry = λ (k : ℕ) (h : passes (is_listed_in_world k t) (world_at r id.0) ≡ true). first_true (is_id k (option_and_then item_type (get_by (is_name_key t) w.0.imports))) _ (ap (passes (is_listed_in_world k t)) (sym w.1) ∙ h) in
+      let of_entry = λ (k : ℕ) (h : passes (is_listed_in_world k t) (world_at r id.0) ≡ true). first_true (is_id k (option_and_then item_type (get_by (is_name_key t) w.0.imports))) _
+      (ap (passes (is_listed_in_world k t)) (sym w.1) ∙ h) in
       one-number m n (option_and_then item_type (get_by (is_name_key t) w.0.imports)) (of_entry m e) (of_entry n f)
 
   module _ (o : TypeOwner) where
@@ -144,7 +148,8 @@ module _ (r : Resolve) (v : IsValid r) where
             let wrong : false ≡ true = ap (λ (z : Place). same_place z here) (sym (its-place r a (named-place r a p))) ∙ ap (same_place (place_of r a)) (sym (unnamed-place r b q)) ∙ e in
             let z : ⊥ = cc in absurd z
         go false p true q =
-            let wrong : false ≡ true = ap (λ (z : Place). same_place z (of_interface (named-place r b q).path)) (sym (unnamed-place r a p)) ∙ ap (same_place (place_of r a)) (sym (its-place r b (named-place r b q))) ∙ e in
+            let wrong : false ≡ true = ap (λ (z : Place). same_place z (of_interface (named-place r b q).path)) (sym (unnamed-place r a p)) ∙ ap (same_place (place_of r a))
+            (sym (its-place r b (named-place r b q))) ∙ e in
             let z : ⊥ = cc in absurd z
         go false p false q = sym (own a h p) ∙ own b k q
 
@@ -175,7 +180,8 @@ module _ (r : Resolve) (v : IsValid r) where
             let passed = subst (λ (m : ℕ). is_resource_entry r met (place_of r def.owner) (text_of name) (m, found.1) ≡ true) here found.3 in
             let first = first_true (met found.1.owner && is_resource r found.0) _ passed in
             let second = second_true (met found.1.owner && is_resource r found.0) _ passed in
-            let same = one-type n found.0 def found.1 name at found.2 named is (first_true (met found.1.owner) _ first) (first_true (same_place (place_of r def.owner) (place_of r found.1.owner)) _ second) (second_true (same_place (place_of r def.owner) (place_of r found.1.owner)) _ second) in
+            let same = one-type n found.0 def found.1 name at found.2 named is (first_true (met found.1.owner) _ first)
+            (first_true (same_place (place_of r def.owner) (place_of r found.1.owner)) _ second) (second_true (same_place (place_of r def.owner) (place_of r found.1.owner)) _ second) in
             subst (λ (m : ℕ). is_resource r m ≡ true) (sym same) (second_true (met found.1.owner) _ first)
 
         back : is_resource r n ≡ true → resource_names r met (place_of r def.owner) (text_of name) ≡ true

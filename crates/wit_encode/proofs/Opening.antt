@@ -51,7 +51,8 @@ pub opened-sound : (r : Resolve) (outer : Declarations) (i : InterfaceId) (known
 unfolding inner_contents
 opened-sound r outer i known = refl
 
-pub opened-around : (r : Resolve) (outer : Declarations) (i : InterfaceId) (known : Foreign) (j : ℕ) → Contains (standing_instances r (around_at outer known)) j → Contains (encoder_scope r outer (opened i known)).instances j
+pub opened-around : (r : Resolve) (outer : Declarations) (i : InterfaceId) (known : Foreign) (j : ℕ) → Contains (standing_instances r (around_at outer known)) j
+    → Contains (encoder_scope r outer (opened i known)).instances j
 unfolding inner_contents
 opened-around r outer i known j c = c
 
@@ -63,7 +64,8 @@ pub opened-exports : (r : Resolve) (outer : Declarations) (i : InterfaceId) (kno
 unfolding inner_contents
 opened-exports r outer i known = refl
 
-view-at : (place : Place) (outer : Declarations) (ds : List Declaration) → (inner_contents place outer ds).is_followed ≡ true → instance_view place (outer_slots outer) ds ≡ Some (inner_contents place outer ds).shown
+view-at : (place : Place) (outer : Declarations) (ds : List Declaration) → (inner_contents place outer ds).is_followed ≡ true
+    → instance_view place (outer_slots outer) ds ≡ Some (inner_contents place outer ds).shown
 unfolding inner_contents
 view-at place outer ds e =
     let a = inner-at place outer ds e in
@@ -78,11 +80,13 @@ pub record Closed (r : Resolve) (outer' : Declarations) (i : InterfaceId) (inner
   pub at : contents_of r outer' inner' ≡ inner_contents (place_of r (owner.Interface i)) outer' current.declared
   pub sound : is_sound_in r (Some i) (inner_contents (place_of r (owner.Interface i)) outer' current.declared) ≡ true
 
-pub closed : (r : Resolve) (outer outer' : Declarations) (i : InterfaceId) (known : Foreign) (inner' : Option OpenInterface) (current : OpenInterface) (m m' : TypeEncodingMaps) → inner' ≡ Some current → own_of inner' ≡ Some i → Continues r r outer outer' (opened i known) inner' m m'
+pub closed : (r : Resolve) (outer outer' : Declarations) (i : InterfaceId) (known : Foreign) (inner' : Option OpenInterface) (current : OpenInterface) (m m' : TypeEncodingMaps) → inner' ≡ Some current
+    → own_of inner' ≡ Some i → Continues r r outer outer' (opened i known) inner' m m'
     → Closed r outer' i inner' current
 closed r outer outer' i known inner' current m m' is own c =
     let same : current.interface ≡ i = (let e : Some current.interface ≡ Some i = sym (ap own_of is) ∙ own in let z : current.interface ≡ i = cc in z) in
-    let at : contents_of r outer' inner' ≡ inner_contents (place_of r (owner.Interface i)) outer' current.declared = (λ j. contents_of r outer' (is j)) ∙ ap (λ (k : InterfaceId). inner_contents (place_of r (owner.Interface k)) outer' current.declared) same in
+    let at : contents_of r outer' inner' ≡ inner_contents (place_of r (owner.Interface i)) outer' current.declared =
+    (λ j. contents_of r outer' (is j)) ∙ ap (λ (k : InterfaceId). inner_contents (place_of r (owner.Interface k)) outer' current.declared) same in
     record { at = at; sound = (λ j. is_sound_in r (sym own j) (sym at j)) ∙ (ap (λ (s : Scope). s.is_sound) c.scope_stays ∙ opened-sound r outer i known) }
 
 -- what is closed is an instance type that can be followed
@@ -104,7 +108,8 @@ closed-instance r v outer outer' i def there known inner' current m m' fs is own
       followed = view-at place outer' current.declared followed;
       shows = sym (ap (λ z. z.shown.functions) at) ∙ h ∙ ap (λ zs. zs ++ fs) (opened-shows r outer i known);
       types = ap (λ (w : View). w.types) shown
-          ∙ interface-shown r v i def there (outer_slots outer') current.declared a.scope a.is (ap (list_all (is_slot_of (resources_in r (Some i)))) (sym a.slots) ∙ second_true inside.is_followed _ all)
+          ∙ interface-shown r v i def there (outer_slots outer') current.declared a.scope a.is
+          (ap (list_all (is_slot_of (resources_in r (Some i)))) (sym a.slots) ∙ second_true inside.is_followed _ all)
           (ap (λ (w : View). map (λ t. (t.name, t.meaning)) w.types) (sym shown) ∙ sym (ap (λ z. (definitions_with z).exports) at) ∙ exported);
     }
 
@@ -113,12 +118,14 @@ pub listed-there : (r : Resolve) (i : InterfaceId) (types : List TypeId) (h : Ar
 listed-there r i types h = ap (λ (x : InterfaceId). interface_at r x.0) (some-same i h.id h.is) ∙ h.there
 
 -- around it, nothing has been declared but aliases
-pub closed-around : (r : Resolve) (outer outer' : Declarations) (i : InterfaceId) (known : Foreign) (inner' : Option OpenInterface) (current : OpenInterface) (m m' : TypeEncodingMaps) → inner' ≡ Some current → Continues r r outer outer' (opened i known) inner' m m'
+pub closed-around : (r : Resolve) (outer outer' : Declarations) (i : InterfaceId) (known : Foreign) (inner' : Option OpenInterface) (current : OpenInterface) (m m' : TypeEncodingMaps)
+    → inner' ≡ Some current → Continues r r outer outer' (opened i known) inner' m m'
     → GrowsAround r (around_at outer known) (around_at outer' current.foreign)
 closed-around r outer outer' i known inner' current m m' is c = subst (λ (o : Option OpenInterface). GrowsAround r (around_at outer known) (around_of outer' o)) is c.around_
 
 -- an interface is opened with what is known
-pub opened-with : (i : InterfaceId) (ds : List Declaration) (known known' : Foreign) → ds ≡ [] → known ≡ known' → ◌≡◌ {A = Option OpenInterface} (Some (record { interface = i; declared = ds; foreign = known })) (opened i known')
+pub opened-with : (i : InterfaceId) (ds : List Declaration) (known known' : Foreign) → ds ≡ [] → known ≡ known'
+    → ◌≡◌ {A = Option OpenInterface} (Some (record { interface = i; declared = ds; foreign = known })) (opened i known')
 opened-with i ds known known' e f = λ j. Some (record { interface = i; declared = e j; foreign = f j })
 
 abbrev pub Placed : Type 0
@@ -148,26 +155,31 @@ unfolding outer_contents
 outer-slots outer = refl
 
 -- what old slots stand for stays behind aliases
-grown-slots : (r : Resolve) (a : Around) (outer : Declarations) (foreign : Foreign) → GrowsAround r a (around_at outer foreign) → Keeps (SlotsStand (outer_contents a.declared).slots) (SlotsStand (outer_contents outer).slots)
+grown-slots : (r : Resolve) (a : Around) (outer : Declarations) (foreign : Foreign) → GrowsAround r a (around_at outer foreign)
+    → Keeps (SlotsStand (outer_contents a.declared).slots) (SlotsStand (outer_contents outer).slots)
 grown-slots r a outer foreign grown =
     let aliases : Keeps (SlotsStand (outer_slots a.declared)) (SlotsStand (outer_slots outer)) =
     subst (λ (z : Around). Keeps (SlotsStand (outer_slots a.declared)) (SlotsStand (outer_slots z.declared))) (sym grown.is) (grown-keeps r a grown.made grown.are) in
     λ i m s. subst (λ xs. SlotsStand xs i m) (sym (outer-slots outer)) (aliases i m (subst (λ xs. SlotsStand xs i m) (outer-slots a.declared) s))
 
 -- where no interface is open
-outside-keeps : (r r' : Resolve) (outer outer' : Declarations) (inner inner' : Option OpenInterface) → inner ≡ None → inner' ≡ None → Keeps (SlotsStand (outer_contents outer).slots) (SlotsStand (outer_contents outer').slots)
+outside-keeps : (r r' : Resolve) (outer outer' : Declarations) (inner inner' : Option OpenInterface) → inner ≡ None → inner' ≡ None
+    → Keeps (SlotsStand (outer_contents outer).slots) (SlotsStand (outer_contents outer').slots)
     → Keeps (stands_in r outer inner) (stands_in r' outer' inner')
 outside-keeps r r' outer outer' inner inner' x y keeps =
     subst (λ (o : Option OpenInterface). Keeps (stands_in r outer o) (stands_in r' outer' inner')) (sym x)
     (subst (λ (o : Option OpenInterface). Keeps (stands_in r outer None) (stands_in r' outer' o)) (sym y) keeps)
 
-pub reached-keeps : (r r' : Resolve) (a : Around) (outer : Declarations) (foreign : Foreign) (inner inner' : Option OpenInterface) → inner ≡ None → inner' ≡ None → GrowsAround r a (around_at outer foreign)
+pub reached-keeps : (r r' : Resolve) (a : Around) (outer : Declarations) (foreign : Foreign) (inner inner' : Option OpenInterface) → inner ≡ None → inner' ≡ None
+    → GrowsAround r a (around_at outer foreign)
     → Keeps (stands_in r a.declared inner) (stands_in r' outer inner')
 reached-keeps r r' a outer foreign inner inner' x y grown = outside-keeps r r' a.declared outer inner inner' x y (grown-slots r a outer foreign grown)
 
 -- and behind one instance type more, or none
-pub closed-keeps : {E : Type 0} (res : Result ℕ E) (r r' : Resolve) (a : Around) (outer outer' : Declarations) (foreign : Foreign) (inner inner' : Option OpenInterface) (es : List Declaration) → inner ≡ None → inner' ≡ None → GrowsAround r a (around_at outer foreign)
-    → IfOk res (λ k. (k ≡ type_slots_of outer) × (outer' ≡ append outer (Declarations.instance (from_list es) Declarations.no_more))) → OnErr res (outer' ≡ outer) → Keeps (stands_in r a.declared inner) (stands_in r' outer' inner')
+pub closed-keeps : {E : Type 0} (res : Result ℕ E) (r r' : Resolve) (a : Around) (outer outer' : Declarations) (foreign : Foreign) (inner inner' : Option OpenInterface) (es : List Declaration)
+    → inner ≡ None → inner' ≡ None → GrowsAround r a (around_at outer foreign)
+    → IfOk res (λ k. (k ≡ type_slots_of outer) × (outer' ≡ append outer (Declarations.instance (from_list es) Declarations.no_more))) → OnErr res (outer' ≡ outer)
+    → Keeps (stands_in r a.declared inner) (stands_in r' outer' inner')
 closed-keeps (Err e) r r' a outer outer' foreign inner inner' es x y grown h err =
     subst (λ (z : Declarations). Keeps (stands_in r a.declared inner) (stands_in r' z inner')) (sym err) (reached-keeps r r' a outer foreign inner inner' x y grown)
 closed-keeps (Ok k) r r' a outer outer' foreign inner inner' es x y grown h err =
@@ -189,7 +201,8 @@ module _ (r : Resolve) (foreign : Foreign) (outer : Declarations) (es : List Dec
   one-more = append outer (Declarations.instance (from_list es) Declarations.no_more)
 
   instances-then : (j : ℕ) → (o : Option follow.Scope) → outer_scope outer ≡ o → (b : Bool) → are_right r foreign.known.entries (outer_slots outer) ≡ b
-      → Contains (if b then filter (stands_around r foreign.instances.entries (outer_instances outer)) (below (length r.interfaces.items)) else []) j → Contains (standing_instances r (around_at one-more foreign)) j
+      → Contains (if b then filter (stands_around r foreign.instances.entries (outer_instances outer)) (below (length r.interfaces.items)) else []) j
+      → Contains (standing_instances r (around_at one-more foreign)) j
   instances-then j o q false right (k, l, e) = absurd (omega (arith, l))
   instances-then j None q true right h =
       let test = stands_around r foreign.instances.entries (outer_instances outer) in
@@ -198,7 +211,8 @@ module _ (r : Resolve) (foreign : Foreign) (outer : Declarations) (es : List Dec
   instances-then j (Some s) q true right h =
       let x = Slot.instance es (length s.slots) in
       let next : outer_scope one-more ≡ Some (in_scope x s) = steps-instance new_scope s outer es q in
-      let slots : outer_slots one-more ≡ outer_slots outer ++ x ∷ [] = ap (λ z. option_map_or (λ s. s.slots) z []) next ∙ ap (λ xs. xs ++ x ∷ []) (sym (ap (λ z. option_map_or (λ s. s.slots) z []) q)) in
+      let slots : outer_slots one-more ≡ outer_slots outer ++ x ∷ [] = ap (λ z. option_map_or (λ s. s.slots) z []) next ∙ ap (λ xs. xs ++ x ∷ [])
+      (sym (ap (λ z. option_map_or (λ s. s.slots) z []) q)) in
       let instances : outer_instances one-more ≡ outer_instances outer = ap (λ z. option_map_or (λ s. s.instances) z []) next ∙ sym (ap (λ z. option_map_or (λ s. s.instances) z []) q) in
       let still : are_right r foreign.known.entries (outer_slots one-more) ≡ true = ap (are_right r foreign.known.entries) slots ∙ right-more r foreign.known.entries (outer_slots outer) x right in
       let same : standing_instances r (around_at one-more foreign) ≡ filter (stands_around r foreign.instances.entries (outer_instances outer)) (below (length r.interfaces.items)) =
@@ -209,7 +223,8 @@ module _ (r : Resolve) (foreign : Foreign) (outer : Declarations) (es : List Dec
 pub grown-stay : (r : Resolve) (a a' : Around) → GrowsAround r a a' → (j : ℕ) → Contains (standing_instances r a) j → Contains (standing_instances r a') j
 grown-stay r a a' g j h = subst (λ xs. Contains xs j) (sym (ap (standing_instances r) g.is ∙ grown-stands r a g.made g.are)) h
 
-pub closed-stay : {E : Type 0} (res : Result ℕ E) (r : Resolve) (a : Around) (outer outer' : Declarations) (foreign foreign' : Foreign) (es : List Declaration) → GrowsAround r a (around_at outer foreign) → foreign' ≡ foreign
+pub closed-stay : {E : Type 0} (res : Result ℕ E) (r : Resolve) (a : Around) (outer outer' : Declarations) (foreign foreign' : Foreign) (es : List Declaration)
+    → GrowsAround r a (around_at outer foreign) → foreign' ≡ foreign
     → IfOk res (λ k. (k ≡ type_slots_of outer) × (outer' ≡ append outer (Declarations.instance (from_list es) Declarations.no_more))) → OnErr res (outer' ≡ outer)
     → (j : ℕ) → Contains (standing_instances r a) j → Contains (standing_instances r (around_at outer' foreign')) j
 closed-stay (Ok k) r a outer outer' foreign foreign' es g e ok err j h =

@@ -169,7 +169,8 @@ in-list-order (t ∷ ts) fs h =
 
     others : (fs : List (Text × Function)) → any_of_resource fs ≡ false → filter (λ f. not (is_function_of t f)) fs ≡ fs
     others [] h = refl
-    others (f ∷ fs) h = kept (λ f. not (is_function_of t f)) f fs (opposite (is_function_of t f) (head-without f fs h)) ∙ ap (λ xs. f ∷ xs) (others fs (second_false (is_some (resource_of f.1.kind)) (any_of_resource fs) h))
+    others (f ∷ fs) h = kept (λ f. not (is_function_of t f)) f fs (opposite (is_function_of t f) (head-without f fs h)) ∙ ap (λ xs. f ∷ xs)
+        (others fs (second_false (is_some (resource_of f.1.kind)) (any_of_resource fs) h))
 
 -- ---- functions with their places
 

@@ -49,7 +49,8 @@ outer-index outer a =
     let f : length (outer_contents outer).slots ≡ length a.scope.slots = ap length a.slots in
     omega arith
 
-outer-grew : (outer : Declarations) (d : Declaration) (x : Slot) (a : OuterAt outer) → component_step a.scope d ≡ Some (in_scope x a.scope) → Grew (outer_contents outer) (outer_contents (append outer (Declarations.declares d Declarations.no_more))) x
+outer-grew : (outer : Declarations) (d : Declaration) (x : Slot) (a : OuterAt outer) → component_step a.scope d ≡ Some (in_scope x a.scope)
+    → Grew (outer_contents outer) (outer_contents (append outer (Declarations.declares d Declarations.no_more))) x
 unfolding outer_contents
 outer-grew outer d x a step =
     let next = steps-more new_scope a.scope (in_scope x a.scope) outer d a.is step in
@@ -59,10 +60,18 @@ outer-grew outer d x a step =
       followed = ap is_some next ∙ sym (ap is_some a.is);
     }
 
-outer-definitions : (outer : Declarations) (d : Declaration) (types functions : List ℕ) → (outer_contents outer).types ++ cond (is_value_type d) (type_slots_of outer ∷ []) [] ≡ types → target_of d ≡ None → (outer_contents outer).functions ++ cond (is_function_type d) (type_slots_of outer ∷ []) [] ≡ functions
-    → definitions_with (outer_contents (append outer (Declarations.declares d Declarations.no_more))) ≡ record { types = types; exported = (outer_contents outer).exported; functions = functions; exports = (definitions_with (outer_contents outer)).exports }
+outer-definitions : (outer : Declarations) (d : Declaration) (types functions : List ℕ) → (outer_contents outer).types ++ cond (is_value_type d) (type_slots_of outer ∷ []) [] ≡ types
+    → target_of d ≡ None → (outer_contents outer).functions ++ cond (is_function_type d) (type_slots_of outer ∷ []) [] ≡ functions
+    → definitions_with (outer_contents (append outer (Declarations.declares d Declarations.no_more))) ≡ record
+    { types = types; exported = (outer_contents outer).exported; functions = functions; exports = (definitions_with (outer_contents outer)).exports }
 unfolding outer_contents
-outer-definitions outer d types functions t u f = λ i. record { types = (slots-next is_value_type outer d ∙ t) i; exported = (targets-push outer d ∙ ap (λ o. targets_of outer ++ option_to_list o) u ∙ append-nil (targets_of outer)) i; functions = (slots-next is_function_type outer d ∙ f) i; exports = [] }
+outer-definitions outer d types functions t u f = λ i. record {
+  types = (slots-next is_value_type outer d ∙ t) i;
+  exported =
+      (targets-push outer d ∙ ap (λ o. targets_of outer ++ option_to_list o) u ∙ append-nil (targets_of outer)) i;
+  functions = (slots-next is_function_type outer d ∙ f) i;
+  exports = [];
+}
 
 module _ {E : Type 0} (res : Result ℕ E) (r : Resolve) (outer outer' : Declarations) where
   abbrev before : Contents
@@ -78,7 +87,8 @@ module _ {E : Type 0} (res : Result ℕ E) (r : Resolve) (outer outer' : Declara
     outer-slots : list_all (is_slot_of (resources_in r None)) before.slots ≡ true
     outer-slots = second_true before.is_followed (list_all (is_slot_of (resources_in r None)) before.slots) sound
 
-    more-ok : (d : Declaration) (x : Slot) (counts : Type 0) → component_step outer-there.scope d ≡ Some (in_scope x outer-there.scope) → (outer' ≡ append outer (Declarations.declares d Declarations.no_more) → counts)
+    more-ok : (d : Declaration) (x : Slot) (counts : Type 0) → component_step outer-there.scope d ≡ Some (in_scope x outer-there.scope)
+        → (outer' ≡ append outer (Declarations.declares d Declarations.no_more) → counts)
         → IfOk res (λ k. (k ≡ type_slots_of outer) × (outer' ≡ append outer (Declarations.declares d Declarations.no_more))) → IfOk res (λ k. (k ≡ length before.slots) × Grew before after x × counts)
     more-ok d x counts m q h = ok-each res (λ k w. (
       w.0 ∙ outer-index outer outer-there,
@@ -99,24 +109,32 @@ module _ {E : Type 0} (res : Result ℕ E) (r : Resolve) (outer outer' : Declara
 
     pub defined-outside : (d : ComponentDefinedType) (t : Tree) → Follows (SlotsStand before.slots) d t → IsFormed (scope_with r None no_around before) t
         → IfOk res (λ k. (k ≡ type_slots_of outer) × (outer' ≡ append outer (Declarations.declares (Declaration.defined (raw_defined d)) Declarations.no_more))) → OnErr res (outer' ≡ outer)
-        → Calls res (scope_with r None no_around before) (scope_with r None no_around after) before after (Defines (SlotsStand before.slots) d) (definitions_with after ≡ one_type_more (length before.slots) (definitions_with before))
+        → Calls res (scope_with r None no_around before) (scope_with r None no_around after) before after (Defines (SlotsStand before.slots) d)
+        (definitions_with after ≡ one_type_more (length before.slots) (definitions_with before))
     defined-outside d t h f ok err =
         let a = outer-there in
-        let strict : definition a.scope.slots (raw_defined d) ≡ Some t = ap (λ zs. definition zs (raw_defined d)) (sym a.slots) ∙ definition-strict (resources_in r None) before.slots outer-slots d t h f.formed in
+        let strict : definition a.scope.slots (raw_defined d) ≡ Some t = ap (λ zs. definition zs (raw_defined d)) (sym a.slots) ∙ definition-strict (resources_in r None) before.slots outer-slots d t
+        h f.formed in
         calls-from res r None no_around before after _ _ (Slot.value t) sound (formed-value (resources_in r None) t f.formed) (defines-of before.slots d t h)
-        (more-ok (Declaration.defined (raw_defined d)) (Slot.value t) _ (bind (definition a.scope.slots (raw_defined d)) t (λ u. Some (in_scope (Slot.value u) a.scope)) strict) (λ e. ap (λ zs. definitions_with (outer_contents zs)) e
-        ∙ outer-definitions outer (Declaration.defined (raw_defined d)) (before.types ++ length before.slots ∷ []) before.functions (ap (λ (k : ℕ). before.types ++ k ∷ []) (outer-index outer a)) refl (append-nil before.functions)) ok)
+        (more-ok (Declaration.defined (raw_defined d)) (Slot.value t) _ (bind (definition a.scope.slots (raw_defined d)) t (λ u. Some (in_scope (Slot.value u) a.scope)) strict)
+        (λ e. ap (λ zs. definitions_with (outer_contents zs)) e
+        ∙ outer-definitions outer (Declaration.defined (raw_defined d)) (before.types ++ length before.slots ∷ []) before.functions (ap (λ (k : ℕ). before.types ++ k ∷ []) (outer-index outer a)) refl
+        (append-nil before.functions)) ok)
         (err-same err)
 
     pub function-outside : (d : ComponentFuncType) (s : Signature) → FollowsFunction (SlotsStand before.slots) d s → IsFormedSignature (scope_with r None no_around before) s
         → IfOk res (λ k. (k ≡ type_slots_of outer) × (outer' ≡ append outer (Declarations.declares (Declaration.function (raw_function d)) Declarations.no_more))) → OnErr res (outer' ≡ outer)
-        → Calls res (scope_with r None no_around before) (scope_with r None no_around after) before after (DefinesFunction (SlotsStand before.slots) d) (definitions_with after ≡ one_function_more (length before.slots) (definitions_with before))
+        → Calls res (scope_with r None no_around before) (scope_with r None no_around after) before after (DefinesFunction (SlotsStand before.slots) d)
+        (definitions_with after ≡ one_function_more (length before.slots) (definitions_with before))
     function-outside d s h f ok err =
         let a = outer-there in
-        let strict : function_signature a.scope.slots (raw_function d) ≡ Some s = ap (λ zs. function_signature zs (raw_function d)) (sym a.slots) ∙ function-strict (resources_in r None) before.slots outer-slots d s h f.params f.result_ in
+        let strict : function_signature a.scope.slots (raw_function d) ≡ Some s =
+        ap (λ zs. function_signature zs (raw_function d)) (sym a.slots) ∙ function-strict (resources_in r None) before.slots outer-slots d s h f.params f.result_ in
         calls-from res r None no_around before after _ _ (Slot.function s) sound refl (function-of before.slots d s h)
-        (more-ok (Declaration.function (raw_function d)) (Slot.function s) _ (bind (function_signature a.scope.slots (raw_function d)) s (λ u. Some (in_scope (Slot.function u) a.scope)) strict) (λ e. ap (λ zs. definitions_with (outer_contents zs)) e
-        ∙ outer-definitions outer (Declaration.function (raw_function d)) before.types (before.functions ++ length before.slots ∷ []) (append-nil before.types) refl (ap (λ (k : ℕ). before.functions ++ k ∷ []) (outer-index outer a))) ok)
+        (more-ok (Declaration.function (raw_function d)) (Slot.function s) _ (bind (function_signature a.scope.slots (raw_function d)) s (λ u. Some (in_scope (Slot.function u) a.scope)) strict)
+        (λ e. ap (λ zs. definitions_with (outer_contents zs)) e
+        ∙ outer-definitions outer (Declaration.function (raw_function d)) before.types (before.functions ++ length before.slots ∷ []) (append-nil before.types) refl
+        (ap (λ (k : ℕ). before.functions ++ k ∷ []) (outer-index outer a))) ok)
         (err-same err)
 
 -- a component type in which nothing has been declared yet
@@ -125,7 +143,8 @@ unfolding outer_contents
 fresh-sound r outer e = ap (λ (z : Declarations). (scope_with r None no_around (outer_contents z)).is_sound) e
 
 -- what old slots stand for stays behind one instance type more
-pub instance-keeps : (outer : Declarations) (es : List Declaration) → Keeps (SlotsStand (outer_contents outer).slots) (SlotsStand (outer_contents (append outer (Declarations.instance (from_list es) Declarations.no_more))).slots)
+pub instance-keeps : (outer : Declarations) (es : List Declaration)
+    → Keeps (SlotsStand (outer_contents outer).slots) (SlotsStand (outer_contents (append outer (Declarations.instance (from_list es) Declarations.no_more))).slots)
 unfolding outer_contents
 instance-keeps outer es i m h = go (outer_scope outer) refl
   where
@@ -134,6 +153,7 @@ instance-keeps outer es i m h = go (outer_scope outer) refl
         let old : SlotsStand [] i m = subst (λ (z : Option follow.Scope). SlotsStand (option_map_or (λ s. s.slots) z []) i m) q h in
         absurd (nothing-stands i m old)
     go (Some s) q =
-        let next : outer_slots_of (append outer (Declarations.instance (from_list es) Declarations.no_more)) ≡ s.slots ++ Slot.instance es (length s.slots) ∷ [] = ap (λ o. option_map_or (λ s. s.slots) o []) (steps-instance new_scope s outer es q) in
+        let next : outer_slots_of (append outer (Declarations.instance (from_list es) Declarations.no_more)) ≡ s.slots ++ Slot.instance es (length s.slots) ∷ [] =
+        ap (λ o. option_map_or (λ s. s.slots) o []) (steps-instance new_scope s outer es q) in
         let old : SlotsStand s.slots i m = subst (λ (z : Option follow.Scope). SlotsStand (option_map_or (λ s. s.slots) z []) i m) q h in
         subst (λ (xs : List Slot). SlotsStand xs i m) (sym next) (slots-kept (Slot.instance es (length s.slots)) s.slots i m old)

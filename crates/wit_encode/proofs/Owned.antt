@@ -85,7 +85,8 @@ real-owner r n name (owner.Interface id) h = refl
 real-owner r n name (owner.World id) h = refl
 real-owner r n name owner.None h = let wrong : ⊥ = cc in absurd wrong
 
-pub named-listed : (r : Resolve) → IsValid r → (n : ℕ) (def : TypeDef) → type_at r n ≡ Some def → option_map_or (λ name. is_listed r n (text_of name) def.owner) def.name (same_owner def.owner owner.None) ≡ true
+pub named-listed : (r : Resolve) → IsValid r → (n : ℕ) (def : TypeDef) → type_at r n ≡ Some def
+    → option_map_or (λ name. is_listed r n (text_of name) def.owner) def.name (same_owner def.owner owner.None) ≡ true
 unfolding order_of_types
 named-listed r v n def is =
     let here : 0 + n ≡ n = omega arith in

@@ -195,7 +195,8 @@ module _ (r : Resolve) (v : IsValid r) (o : TypeOwner) where
     pub named_ : has_named_owner r def ≡ true
     pub used : IsUsedBy r o interface.0
 
-  pub use-at : (n : ℕ) (def : TypeDef) → type_at r n ≡ Some def → (id : TypeId) → Contains (parts_of def.kind) (ty.Id id) → is_some def.name ≡ true → same_owner def.owner o ≡ true → is_use r def ≡ true
+  pub use-at : (n : ℕ) (def : TypeDef) → type_at r n ≡ Some def → (id : TypeId) → Contains (parts_of def.kind) (ty.Id id) → is_some def.name ≡ true → same_owner def.owner o ≡ true
+      → is_use r def ≡ true
       → (def' : TypeDef) → type_at r id.0 ≡ Some def' → IsUse def'
   use-at n def is id c named here uses def' is' = go def'.owner refl passed
     where
@@ -231,10 +232,12 @@ module _ (r : Resolve) (v : IsValid r) (o : TypeOwner) where
         };
       }
       go (owner.World w) e h =
-          let wrong : false ≡ true = sym (ap (λ a. option_map_or (λ i. option_map_or (λ other. is_some other.name) (interface_at r i) false) (owner_interface a) false) e) ∙ second_true (not (same_owner def'.owner def.owner)) _ h in
+          let wrong : false ≡ true = sym (ap (λ a. option_map_or (λ i. option_map_or (λ other. is_some other.name) (interface_at r i) false) (owner_interface a) false) e) ∙ second_true
+          (not (same_owner def'.owner def.owner)) _ h in
           let z : ⊥ = cc in absurd z
       go owner.None e h =
-          let wrong : false ≡ true = sym (ap (λ a. option_map_or (λ i. option_map_or (λ other. is_some other.name) (interface_at r i) false) (owner_interface a) false) e) ∙ second_true (not (same_owner def'.owner def.owner)) _ h in
+          let wrong : false ≡ true = sym (ap (λ a. option_map_or (λ i. option_map_or (λ other. is_some other.name) (interface_at r i) false) (owner_interface a) false) e) ∙ second_true
+          (not (same_owner def'.owner def.owner)) _ h in
           let z : ⊥ = cc in absurd z
 
   abbrev Meets : ℕ → Type 0
@@ -304,7 +307,8 @@ module _ (r : Resolve) (v : IsValid r) (o : TypeOwner) where
       one-id e h = subst (λ (n : ℕ). Stay n) (ap (λ x. unwrap_or (number_of x) id.0) e) h
 
   type-inside : (id : TypeId) → IsTypeOf r o id → AllInRange r (ty.Id id ∷ [])
-  type-inside id t u c id' e = subst (λ (n : ℕ). n < length r.types.items) (ap (λ x. unwrap_or (number_of x) id.0) (one-contained (ty.Id id) u c ∙ e)) (slice_get_within r.types.items id.0 t.def t.there)
+  type-inside id t u c id' e = subst (λ (n : ℕ). n < length r.types.items) (ap (λ x. unwrap_or (number_of x) id.0) (one-contained (ty.Id id) u c ∙ e))
+      (slice_get_within r.types.items id.0 t.def t.there)
 
 -- ---- functions
 
@@ -383,7 +387,8 @@ module _ (r : Resolve) (v : IsValid r) where
 
   pub types-stay : (o : TypeOwner) (f : Function) → Contains (functions_of r o) f → AllStay r v o (function_types f)
   types-stay o f c id d = all-contained (stays r v o) (filter_map number_of (function_types f)) id.0
-      (sym (all_flat (has_owner r o) (met_by (met_of r)) (filter_map number_of (function_types f))) ∙ function-stays o f c) (contains-filter_map number_of (function_types f) (ty.Id id) id.0 d (contains-one id.0))
+      (sym (all_flat (has_owner r o) (met_by (met_of r)) (filter_map number_of (function_types f))) ∙ function-stays o f c)
+      (contains-filter_map number_of (function_types f) (ty.Id id) id.0 d (contains-one id.0))
 
 -- ---- laws
 

@@ -100,7 +100,8 @@ module _ (r : Resolve) (v : IsValid r) (n : ℕ) (p : Package) (at : package_at 
       ∙ ap (λ (k : ℕ). path_in_package r k (text_of w.name)) own.1.2
       ∙ ap (λ (o : Option Package). option_map (λ q. path_in (identity_of q.name) (text_of w.name)) o) at
 
-  world-within : (e : ListedWorld) → Contains p.worlds.entries e → (w : World) → world_at r e.1.0 ≡ Some w → length (path_in (identity_of p.name) (text_of w.name)) + world_weight r e.1.0 ≤ package_weight r n
+  world-within : (e : ListedWorld) → Contains p.worlds.entries e → (w : World) → world_at r e.1.0 ≡ Some w
+      → length (path_in (identity_of p.name) (text_of w.name)) + world_weight r e.1.0 ≤ package_weight r n
   world-within e c w there =
       let one = one-of world-weight p.worlds.entries e c in
       let is = weight-is in
@@ -128,7 +129,8 @@ module _ (r : Resolve) (v : IsValid r) (n : ℕ) (p : Package) (at : package_at 
       omega (arith, short, is, label, a, b, text, rest)
 
   -- the same of worlds
-  worlds-light : (canonical : Bool) (es : List ListedWorld) (xs : List (Text × Declarations)) → ((e : ListedWorld) → Contains es e → Contains p.worlds.entries e) → AllZip (IsWrapperOf r canonical (identity_of p.name)) es xs → sum_by type-extent xs ≤ sum_by world-weight es
+  worlds-light : (canonical : Bool) (es : List ListedWorld) (xs : List (Text × Declarations)) → ((e : ListedWorld) → Contains es e → Contains p.worlds.entries e)
+      → AllZip (IsWrapperOf r canonical (identity_of p.name)) es xs → sum_by type-extent xs ≤ sum_by world-weight es
   worlds-light canonical [] [] own h = omega arith
   worlds-light canonical [] (x ∷ xs) own h = absurd h
   worlds-light canonical (e ∷ es) [] own h = absurd h
@@ -142,14 +144,16 @@ module _ (r : Resolve) (v : IsValid r) (n : ℕ) (p : Package) (at : package_at 
       let wrapped = wrapper-short path h.0.wraps.inner in
       let is : length (declarations_bytes x.1) ≡ length (declarations_bytes (wrapper path h.0.wraps.inner)) = ap (λ (ds : Declarations). length (declarations_bytes ds)) h.0.wraps.is in
       let named : unit_of (option_to_list (option_and_then (path_of_world r) (world_at r e.1.0))) ≡ unit_of (path ∷ []) =
-      ap (λ (o : Option World). unit_of (option_to_list (option_and_then (path_of_world r) o))) h.0.there ∙ ap (λ (o : Option Text). unit_of (option_to_list o)) (path-is e listed h.0.world h.0.there) in
+      ap (λ (o : Option World). unit_of (option_to_list (option_and_then (path_of_world r) o))) h.0.there ∙ ap (λ (o : Option Text). unit_of (option_to_list o))
+      (path-is e listed h.0.world h.0.there) in
       let a = sum_by-cons type-extent x xs in
       let b = sum_by-cons world-weight e es in
       let text = one-text (text_of e.0) in
       let long = one-text path in
       omega (arith, short, inner, label, wrapped, is, named, a, b, text, long, rest)
 
-  long-lacks : (canonical : Bool) (interfaces more_interfaces : List Listed) (worlds more_worlds : List ListedWorld) → p.interfaces.entries ≡ interfaces ++ more_interfaces → p.worlds.entries ≡ worlds ++ more_worlds
+  long-lacks : (canonical : Bool) (interfaces more_interfaces : List Listed) (worlds more_worlds : List ListedWorld) → p.interfaces.entries ≡ interfaces ++ more_interfaces
+      → p.worlds.entries ≡ worlds ++ more_worlds
       → AreLong (HoldsMembers r canonical (identity_of p.name) interfaces worlds) → limit < package_weight r n
   long-lacks canonical interfaces more_interfaces worlds more_worlds are those h =
       let a = interfaces-light canonical interfaces h.hold.interface_types h.hold.interfaces_are in
@@ -171,7 +175,8 @@ module _ (r : Resolve) (v : IsValid r) (n : ℕ) (p : Package) (at : package_at 
     long = long.long;
   })
 
-  pub worlds-lack : (canonical : Bool) (before : List Part) → HoldsInterfaces r canonical p.interfaces.entries before → (HoldsMembers r canonical (identity_of p.name) p.interfaces.entries [] before → WorldsLackRoom r canonical (identity_of p.name) p.interfaces.entries p.worlds.entries)
+  pub worlds-lack : (canonical : Bool) (before : List Part) → HoldsInterfaces r canonical p.interfaces.entries before
+      → (HoldsMembers r canonical (identity_of p.name) p.interfaces.entries [] before → WorldsLackRoom r canonical (identity_of p.name) p.interfaces.entries p.worlds.entries)
       → limit < package_weight r n
   worlds-lack canonical before held lacks = by-lack (lacks (no-worlds_yet r v n p at canonical p.interfaces.entries before held))
     where

@@ -28,8 +28,10 @@ pub on-ok : {X E A B : Type 0} (given : Result X E) → OnOk given A → (A → 
 on-ok (Ok x) a f = f a
 on-ok (Err e) a f = tt
 
-pub type-added : (r : Resolve) (canonical : Bool) (e : Listed) (declared : Declarations) (old new : List Part) → ((path : Text) → interface_path r e.1.0 ≡ Some path → ShowsComponent r e.1.0 path declared) → WritesPaths r canonical e.1.0 declared → DefinesComponent r e.1.0 declared
-    → declared_extent declared ≤ interface_weight r e.1.0 → ((types : List (Text × Declarations)) → old ≡ exporting types → new ≡ exporting (types ++ (text_of e.0, declared) ∷ [])) → AddsInterface r canonical e old new
+pub type-added : (r : Resolve) (canonical : Bool) (e : Listed) (declared : Declarations) (old new : List Part)
+    → ((path : Text) → interface_path r e.1.0 ≡ Some path → ShowsComponent r e.1.0 path declared) → WritesPaths r canonical e.1.0 declared → DefinesComponent r e.1.0 declared
+    → declared_extent declared ≤ interface_weight r e.1.0 → ((types : List (Text × Declarations)) → old ≡ exporting types → new ≡ exporting (types ++ (text_of e.0, declared) ∷ []))
+    → AddsInterface r canonical e old new
 type-added r canonical e declared old new shows names once light more = λ entries h. record {
   types = h.types ++ (text_of e.0, declared) ∷ [];
   are = zip-push (IsTypeOf r canonical) entries h.types e (text_of e.0, declared) h.are (record { label = refl; shows = shows; names = names; once = once; light = light });
@@ -43,7 +45,8 @@ paths-added r entries e h one = λ f c. go f (Contains-append_cases entries (e �
     go f (inl c) = h f c
     go f (inr c) = subst (λ (g : Listed). HasNoEqualPaths r g.1.0) (one-contained e f c) one
 
-pub room-refused : {X : Type 0} (r : Resolve) (n : ℕ) (canonical : Bool) (given : Result X Error) → (canonical ≡ true → HasNoEqualPaths r n) → IfErr given IsMemoryOrSize → IfErr given (RefusesInterface r n canonical)
+pub room-refused : {X : Type 0} (r : Resolve) (n : ℕ) (canonical : Bool) (given : Result X Error) → (canonical ≡ true → HasNoEqualPaths r n) → IfErr given IsMemoryOrSize
+    → IfErr given (RefusesInterface r n canonical)
 room-refused r n canonical (Ok x) differ h = tt
 room-refused r n canonical (Err e) differ h = RefusesInterface.of_room differ h
 
@@ -72,7 +75,8 @@ nothing-done r canonical entries parts none = record {
 
 pub next-listed : (r : Resolve) (canonical : Bool) (entries left rest : List Listed) (parts : List Part) (e : Listed) → IsBegun r canonical entries left parts → left ≡ e ∷ rest → Contains entries e
 next-listed r canonical entries left rest parts e h is =
-    subst (λ (es : List Listed). Contains es e) (sym (h.split ∙ ap (λ (es : List Listed). h.done ++ es) is)) (Contains-append_right h.done (e ∷ rest) e (Contains-append_left (e ∷ []) rest e (contains-one e)))
+    subst (λ (es : List Listed). Contains es e) (sym (h.split ∙ ap (λ (es : List Listed). h.done ++ es) is))
+    (Contains-append_right h.done (e ∷ rest) e (Contains-append_left (e ∷ []) rest e (contains-one e)))
 
 pub next-done : (r : Resolve) (canonical : Bool) (entries left rest : List Listed) (parts parts' : List Part) (e : Listed) → IsBegun r canonical entries left parts → left ≡ e ∷ rest
     → AddsInterface r canonical e parts parts' → (canonical ≡ true → HasNoEqualPaths r e.1.0) → IsBegun r canonical entries rest parts'
@@ -89,14 +93,16 @@ next-refused r canonical entries left rest parts e error given h is refuses same
     first-refused r entries h.done rest e canonical error given (h.split ∙ ap (λ (es : List Listed). h.done ++ es) is) h.differ refuses same
 
 pub all-held : (r : Resolve) (canonical : Bool) (entries left : List Listed) (parts : List Part) → IsBegun r canonical entries left parts → left ≡ [] → HoldsInterfaces r canonical entries parts
-all-held r canonical entries left parts h is = subst (λ (es : List Listed). HoldsInterfaces r canonical es parts) (sym (h.split ∙ ap (λ (es : List Listed). h.done ++ es) is ∙ append-nil h.done)) h.holds
+all-held r canonical entries left parts h is = subst (λ (es : List Listed). HoldsInterfaces r canonical es parts)
+    (sym (h.split ∙ ap (λ (es : List Listed). h.done ++ es) is ∙ append-nil h.done)) h.holds
 
 pub all-differ : (r : Resolve) (canonical : Bool) (entries left : List Listed) (parts : List Part) → IsBegun r canonical entries left parts → left ≡ [] → canonical ≡ true → HaveNoEqualPaths r entries
 all-differ r canonical entries left parts h is asked = subst (HaveNoEqualPaths r) (sym (h.split ∙ ap (λ (es : List Listed). h.done ++ es) is ∙ append-nil h.done)) (h.differ asked)
 
 -- ---- worlds
 
-pub world-added : (r : Resolve) (canonical : Bool) (p : PackageIdentity) (e : ListedWorld) (w : World) (declared : Declarations) (old new : List Part) → world_at r e.1.0 ≡ Some w → WrapsWorld r canonical p e.1.0 w declared
+pub world-added : (r : Resolve) (canonical : Bool) (p : PackageIdentity) (e : ListedWorld) (w : World) (declared : Declarations) (old new : List Part) → world_at r e.1.0 ≡ Some w
+    → WrapsWorld r canonical p e.1.0 w declared
     → ((types : List (Text × Declarations)) → old ≡ exporting types → new ≡ exporting (types ++ (text_of e.0, declared) ∷ [])) → AddsWorld r canonical p e old new
 world-added r canonical p e w declared old new there wraps more = λ interfaces worlds h. record {
   interface_types = h.interface_types;
@@ -106,11 +112,13 @@ world-added r canonical p e w declared old new there wraps more = λ interfaces 
   is = more (h.interface_types ++ h.world_types) h.is ∙ ap exporting (append_assoc h.interface_types h.world_types ((text_of e.0, declared) ∷ []));
 }
 
-pub world-room_refused : {X : Type 0} (r : Resolve) (n : ℕ) (canonical : Bool) (given : Result X Error) → (canonical ≡ true → HasNoClashAt r n) → IfErr given IsMemoryOrSize → IfErr given (RefusesWorldAt r n canonical)
+pub world-room_refused : {X : Type 0} (r : Resolve) (n : ℕ) (canonical : Bool) (given : Result X Error) → (canonical ≡ true → HasNoClashAt r n) → IfErr given IsMemoryOrSize
+    → IfErr given (RefusesWorldAt r n canonical)
 world-room_refused r n canonical (Ok x) differ h = tt
 world-room_refused r n canonical (Err e) differ h = λ w there. RefusesWorld.of_room (λ asked. differ asked w there) h
 
-pub world-passed : {X : Type 0} (r : Resolve) (n : ℕ) (canonical : Bool) (e : Error) (given : Result X Error) → RefusesWorldAt r n canonical e → IsErrAnd given (λ d. d ≡ e) → IfErr given (RefusesWorldAt r n canonical)
+pub world-passed : {X : Type 0} (r : Resolve) (n : ℕ) (canonical : Bool) (e : Error) (given : Result X Error) → RefusesWorldAt r n canonical e → IsErrAnd given (λ d. d ≡ e)
+    → IfErr given (RefusesWorldAt r n canonical)
 world-passed r n canonical e (Ok x) h same = tt
 world-passed r n canonical e (Err d) h same = subst (RefusesWorldAt r n canonical) (sym same) h
 
@@ -129,10 +137,12 @@ no-world_done r p canonical entries parts = record {
   differ = λ asked e c. absurd (none-in e c);
 }
 
-pub next-world : (r : Resolve) (p : PackageIdentity) (canonical : Bool) (entries left rest : List ListedWorld) (parts parts' : List Part) (e : ListedWorld) → WorldsBegun r p canonical entries left parts parts'
+pub next-world : (r : Resolve) (p : PackageIdentity) (canonical : Bool) (entries left rest : List ListedWorld) (parts parts' : List Part) (e : ListedWorld)
+    → WorldsBegun r p canonical entries left parts parts'
     → left ≡ e ∷ rest → Contains entries e
 next-world r p canonical entries left rest parts parts' e h is =
-    subst (λ (es : List ListedWorld). Contains es e) (sym (h.split ∙ ap (λ (es : List ListedWorld). h.done ++ es) is)) (Contains-append_right h.done (e ∷ rest) e (Contains-append_left (e ∷ []) rest e (contains-one e)))
+    subst (λ (es : List ListedWorld). Contains es e) (sym (h.split ∙ ap (λ (es : List ListedWorld). h.done ++ es) is))
+    (Contains-append_right h.done (e ∷ rest) e (Contains-append_left (e ∷ []) rest e (contains-one e)))
 
 worlds-apart : (r : Resolve) (entries : List ListedWorld) (e : ListedWorld) → HaveNoClash r entries → HasNoClashAt r e.1.0 → HaveNoClash r (entries ++ e ∷ [])
 worlds-apart r entries e h one = λ f c. go f (Contains-append_cases entries (e ∷ []) f c)
@@ -141,7 +151,8 @@ worlds-apart r entries e h one = λ f c. go f (Contains-append_cases entries (e 
     go f (inl c) = h f c
     go f (inr c) = subst (λ (g : ListedWorld). HasNoClashAt r g.1.0) (one-contained e f c) one
 
-pub world-done : (r : Resolve) (p : PackageIdentity) (canonical : Bool) (entries left rest : List ListedWorld) (parts middle parts' : List Part) (e : ListedWorld) → WorldsBegun r p canonical entries left parts middle
+pub world-done : (r : Resolve) (p : PackageIdentity) (canonical : Bool) (entries left rest : List ListedWorld) (parts middle parts' : List Part) (e : ListedWorld)
+    → WorldsBegun r p canonical entries left parts middle
     → left ≡ e ∷ rest → AddsWorld r canonical p e middle parts' → (canonical ≡ true → HasNoClashAt r e.1.0) → WorldsBegun r p canonical entries rest parts parts'
 world-done r p canonical entries left rest parts middle parts' e h is adds one = record {
   done = h.done ++ e ∷ [];
@@ -150,7 +161,8 @@ world-done r p canonical entries left rest parts middle parts' e h is adds one =
   differ = λ asked. worlds-apart r h.done e (h.differ asked) (one asked);
 }
 
-pub world-refused : {X : Type 0} (r : Resolve) (p : PackageIdentity) (canonical : Bool) (entries left rest : List ListedWorld) (parts middle : List Part) (e : ListedWorld) (error : Error) (given : Result X Error)
+pub world-refused : {X : Type 0} (r : Resolve) (p : PackageIdentity) (canonical : Bool) (entries left rest : List ListedWorld) (parts middle : List Part) (e : ListedWorld) (error : Error)
+    (given : Result X Error)
     → WorldsBegun r p canonical entries left parts middle → left ≡ e ∷ rest → RefusesWorldAt r e.1.0 canonical error → IsErrAnd given (λ d. d ≡ error) → IfErr given (RefusesWorlds r entries canonical)
 world-refused r p canonical entries left rest parts middle e error (Ok x) h is refuses same = tt
 world-refused r p canonical entries left rest parts middle e error (Err d) h is refuses same =
@@ -162,6 +174,7 @@ pub all-added : (r : Resolve) (p : PackageIdentity) (canonical : Bool) (entries 
 all-added r p canonical entries left parts parts' h is =
     subst (λ (es : List ListedWorld). AddsWorlds r canonical p es parts parts') (sym (h.split ∙ ap (λ (es : List ListedWorld). h.done ++ es) is ∙ append-nil h.done)) h.adds
 
-pub all-worlds_apart : (r : Resolve) (p : PackageIdentity) (canonical : Bool) (entries left : List ListedWorld) (parts parts' : List Part) → WorldsBegun r p canonical entries left parts parts' → left ≡ []
+pub all-worlds_apart : (r : Resolve) (p : PackageIdentity) (canonical : Bool) (entries left : List ListedWorld) (parts parts' : List Part)
+    → WorldsBegun r p canonical entries left parts parts' → left ≡ []
     → canonical ≡ true → HaveNoClash r entries
 all-worlds_apart r p canonical entries left parts parts' h is asked = subst (HaveNoClash r) (sym (h.split ∙ ap (λ (es : List ListedWorld). h.done ++ es) is ∙ append-nil h.done)) (h.differ asked)

@@ -85,7 +85,8 @@ aliases-instances : (a : Around) (made : List Aliased) → instances_declared (w
 aliases-instances a [] = refl
 aliases-instances a (x ∷ made) = aliases-instances (with_alias a x) made ∙ instances-kept a.declared (alias_declared x)
 
-aliases-slots : (test : Declaration → Bool) → ((x : Aliased) → test (alias_declared x) ≡ false) → (a : Around) (made : List Aliased) → slots_from test 0 (with_aliases a made).declared ≡ slots_from test 0 a.declared
+aliases-slots : (test : Declaration → Bool) → ((x : Aliased) → test (alias_declared x) ≡ false) → (a : Around) (made : List Aliased)
+    → slots_from test 0 (with_aliases a made).declared ≡ slots_from test 0 a.declared
 aliases-slots test none a [] = refl
 aliases-slots test none a (x ∷ made) = aliases-slots test none (with_alias a x) made ∙ slots-kept test a.declared (alias_declared x) (none x)
 
@@ -93,7 +94,8 @@ aliases-targets : (a : Around) (made : List Aliased) → targets_of (with_aliase
 aliases-targets a [] = refl
 aliases-targets a (x ∷ made) = aliases-targets (with_alias a x) made ∙ targets-kept a.declared (alias_declared x) refl
 
-aliases-counted : (test : Declaration → Bool) → ((x : Aliased) → test (alias_declared x) ≡ false) → (a : Around) (made : List Aliased) → count_declared test (with_aliases a made).declared ≡ count_declared test a.declared
+aliases-counted : (test : Declaration → Bool) → ((x : Aliased) → test (alias_declared x) ≡ false) → (a : Around) (made : List Aliased)
+    → count_declared test (with_aliases a made).declared ≡ count_declared test a.declared
 aliases-counted test none a [] = refl
 aliases-counted test none a (x ∷ made) = aliases-counted test none (with_alias a x) made ∙ counts-declared test a.declared (alias_declared x) (none x)
 
@@ -194,7 +196,8 @@ module _ (r : Resolve) (a before : Around) (g : GrowsAround r a before) (inner :
           subst (λ (ks : List (ℕ × ℕ)). length (brought_numbers r before) ≤ length (brought_numbers r (record { declared = outer; instances = listed; known = ks }))) (sym known-is) h
 
 -- behind an instance type, one declaration more than there were with aliases
-pub one-behind : (before : Around) (inner outer : Declarations) → outer ≡ append before.declared (Declarations.instance inner Declarations.no_more) → declaration_count outer ≤ declaration_count before.declared + 1
+pub one-behind : (before : Around) (inner outer : Declarations) → outer ≡ append before.declared (Declarations.instance inner Declarations.no_more)
+    → declaration_count outer ≤ declaration_count before.declared + 1
 one-behind before inner outer is =
     let c = one-instance before.declared inner in
     let b : declaration_count outer ≡ declaration_count (append before.declared (Declarations.instance inner Declarations.no_more)) = ap declaration_count is in

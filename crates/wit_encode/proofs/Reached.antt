@@ -71,7 +71,8 @@ module _ (r : Resolve) (v : IsValid r) where
   unfolding inside_of
   inside-step n def is =
       ap (λ o. unwrap_or o []) (grow_at inside_at (numbered_from 0 r.types.items) n (n, def) here)
-      ∙ ap (λ xs. n ∷ (if is_some def.name then [] else xs)) (flat-same (met_by (take n (inside_of r))) (met_by (inside_of r)) n (kind_numbers def.kind) (λ m low. ap (λ o. unwrap_or o []) (get-take (inside_of r) n m low)) (below_at r (valid-references r v) n def is))
+      ∙ ap (λ xs. n ∷ (if is_some def.name then [] else xs)) (flat-same (met_by (take n (inside_of r))) (met_by (inside_of r)) n (kind_numbers def.kind)
+      (λ m low. ap (λ o. unwrap_or o []) (get-take (inside_of r) n m low)) (below_at r (valid-references r v) n def is))
     where
       here : slice_get (numbered_from 0 r.types.items) n ≡ Some (n, def)
       here = let zero_n : 0 + n ≡ n = omega arith in subst (λ (m : ℕ). slice_get (numbered_from 0 r.types.items) n ≡ Some (m, def)) zero_n (numbered-at 0 r.types.items n def is)
@@ -92,14 +93,16 @@ module _ (r : Resolve) (v : IsValid r) where
   part-at n def is m c = there-at r.types.items m (let a = smaller n def is m c in let b = within r.types.items n def is in omega (arith, a, b))
 
   -- what a type refers to that stands unnamed inside a number stands inside it too
-  inside-down : (fuel a : ℕ) → a < fuel → (da : TypeDef) → type_at r a ≡ Some da → (k : ℕ) (dk : TypeDef) → type_at r k ≡ Some dk → is_some dk.name ≡ false → (j : ℕ) → Contains (kind_numbers dk.kind) j → Contains (inside_number r a) k → Contains (inside_number r a) j
+  inside-down : (fuel a : ℕ) → a < fuel → (da : TypeDef) → type_at r a ≡ Some da → (k : ℕ) (dk : TypeDef) → type_at r k ≡ Some dk → is_some dk.name ≡ false → (j : ℕ)
+      → Contains (kind_numbers dk.kind) j → Contains (inside_number r a) k → Contains (inside_number r a) j
   inside-down zero a l da is k dk at none j c h = absurd (omega (arith, l))
   inside-down (suc fuel) a l da is k dk at none j c h = go (λ b low d isd inside. inside-down fuel b low d isd k dk at none j c inside) (is_some da.name) refl
     where
       at-head : a ≡ k → da ≡ dk
       at-head e = same-some da dk (sym is ∙ (ap (type_at r) e ∙ at))
 
-      go : ((b : ℕ) → b < fuel → (d : TypeDef) → type_at r b ≡ Some d → Contains (inside_number r b) k → Contains (inside_number r b) j) → (b : Bool) → is_some da.name ≡ b → Contains (inside_number r a) j
+      go : ((b : ℕ) → b < fuel → (d : TypeDef) → type_at r b ≡ Some d → Contains (inside_number r b) k → Contains (inside_number r b) j) → (b : Bool) → is_some da.name ≡ b
+          → Contains (inside_number r a) j
       go down true named = head (subst (λ (xs : List ℕ). Contains xs k) (named-inside a da is named) h)
         where
           head : Contains (a ∷ []) k → Contains (inside_number r a) j
@@ -152,7 +155,8 @@ module _ (r : Resolve) (v : IsValid r) where
         (contains-flat (inside_kind r) ns m j listed (subst (λ (xs : List ℕ). Contains xs j)
         (sym (ap (λ t. option_map_or (λ d. flat_map (inside_number r) (kind_numbers d.kind)) t []) at)) (contains-flat (inside_number r) (kind_numbers def.kind) n j c d))))
 
-    use-foreign : (def : TypeDef) → same_owner def.owner o ≡ true → is_use r def ≡ true → (id : TypeId) → Contains (parts_of def.kind) (ty.Id id) → (d : TypeDef) → type_at r id.0 ≡ Some d → foreign_owner (interface_of_owner o) d.owner ≡ None → ⊥
+    use-foreign : (def : TypeDef) → same_owner def.owner o ≡ true → is_use r def ≡ true → (id : TypeId) → Contains (parts_of def.kind) (ty.Id id) → (d : TypeDef) → type_at r id.0 ≡ Some d
+        → foreign_owner (interface_of_owner o) d.owner ≡ None → ⊥
     use-foreign def owned u id c d is f =
         let at = alias-part _ def.kind id u c in
         let target = sym (ap (λ t. option_map_or (λ target. not (same_owner target.owner def.owner) && option_map_or
@@ -199,7 +203,10 @@ module _ (r : Resolve) (v : IsValid r) where
     -- ---- where it begins
 
     from-type : (t : TypeId) → Contains ns t.0 → IsCounted t.0 × Stays t.0
-    from-type t c = (record { root = t.0; def = own.def; there = own.there; all = alone; inside = inside-itself t.0 own.def own.there; own_def = own.def; own_there = own.there }, λ d is f. type-stays r v o t own t (contains-one (ty.Id t)))
+    from-type t c = (
+      record { root = t.0; def = own.def; there = own.there; all = alone; inside = inside-itself t.0 own.def own.there; own_def = own.def; own_there = own.there },
+      λ d is f. type-stays r v o t own t (contains-one (ty.Id t)),
+    )
       where
         own : IsTypeOf r o t
         own = h.types t.0 c
@@ -227,10 +234,11 @@ module _ (r : Resolve) (v : IsValid r) where
     -- what is met from some types and functions of the owner is one of its numbers
     pub met-counted : (ts : List TypeId) (fs : List Function) → ((t : TypeId) → Contains ts t → Contains ns t.0) → ((f : Function) → Contains fs f → Contains gs f)
         → (n : ℕ) → ReachedFrom r (interface_of_owner o) (referred ts fs) n → IsCounted n × Stays n
-    met-counted ts fs listed among n x = walk x.0 n x.2 (λ id e. elim (Contains-append_cases (map (λ t. ty.Id t) ts) (flat_map function_types fs) (ty.Id id) (subst (λ (t : ValueType). Contains (referred ts fs) t) e x.1)) [
-      | inl a ↦ (let y = from-map (λ (t : TypeId). ty.Id t) ts (ty.Id id) a in from-type id (subst (λ (t : TypeId). Contains ns t.0) (same-id y.0 id y.2) (listed y.0 y.1)))
-      | inr b ↦ (let y = from-flat function_types fs (ty.Id id) b in from-function y.0 (among y.0 y.1) id y.2)
-    ])
+    met-counted ts fs listed among n x = walk x.0 n x.2 (λ id e. elim (Contains-append_cases (map (λ t. ty.Id t) ts) (flat_map function_types fs) (ty.Id id)
+        (subst (λ (t : ValueType). Contains (referred ts fs) t) e x.1)) [
+          | inl a ↦ (let y = from-map (λ (t : TypeId). ty.Id t) ts (ty.Id id) a in from-type id (subst (λ (t : TypeId). Contains ns t.0) (same-id y.0 id y.2) (listed y.0 y.1)))
+          | inr b ↦ (let y = from-flat function_types fs (ty.Id id) b in from-function y.0 (among y.0 y.1) id y.2)
+        ])
       where
         same-id : (a b : TypeId) → ty.Id a ≡ ty.Id b → a ≡ b
         same-id a b e = cc
@@ -244,7 +252,8 @@ module _ (r : Resolve) (v : IsValid r) where
 
   -- ---- interfaces and worlds
 
-  pub interface-owner : (i : InterfaceId) (interface : Interface) → interface_at r i.0 ≡ Some interface → IsOwner (owner.Interface i) (interface_type_numbers interface) (functions_of_interface interface)
+  pub interface-owner : (i : InterfaceId) (interface : Interface) → interface_at r i.0 ≡ Some interface
+      → IsOwner (owner.Interface i) (interface_type_numbers interface) (functions_of_interface interface)
   interface-owner i interface home = record {
     types = λ n c.
         let x = from-map (λ (id : TypeId). id.0) (values interface.types) n c in
@@ -269,7 +278,8 @@ module _ (r : Resolve) (v : IsValid r) where
         let item_there = subst (λ (i : WorldItem). Contains (items_of world) i) t.1 (Contains-append_left (values world.imports) (values world.exports) x.0 x.1) in
         let place = contains-get (items_of world) (item.Type_ t.0) item_there in
         subst (λ (m : ℕ). IsTypeOf r (owner.World w) (record { 0 = m })) t.2 (own-type r v w world home place.0 t.0 place.1);
-    listed = λ n def at named owned. there n def at def.name refl named (subst (λ (a : TypeOwner). option_map_or (λ name. is_listed r n (text_of name) a) def.name (same_owner a owner.None) ≡ true) (same-owner def.owner (owner.World w) owned) (named-listed r v n def at));
+    listed = λ n def at named owned. there n def at def.name refl named (subst (λ (a : TypeOwner). option_map_or (λ name. is_listed r n (text_of name) a) def.name (same_owner a owner.None) ≡ true)
+        (same-owner def.owner (owner.World w) owned) (named-listed r v n def at));
     functions = λ f c. subst (λ (x : Option World). Contains (option_map_or functions_of_world x []) f) (sym home) c;
   }
     where

@@ -59,7 +59,8 @@ from-met r own ts m m' l = record {
   learns = l.learns;
 }
 
-pub from-then : {r : Resolve} {own own' : Option InterfaceId} {xs ys : List ValueType} {a b c : TypeEncodingMaps} → own' ≡ own → LearnsFrom r own xs a b → LearnsFrom r own' ys b c → LearnsFrom r own (xs ++ ys) a c
+pub from-then : {r : Resolve} {own own' : Option InterfaceId} {xs ys : List ValueType} {a b c : TypeEncodingMaps} → own' ≡ own → LearnsFrom r own xs a b → LearnsFrom r own' ys b c
+    → LearnsFrom r own (xs ++ ys) a c
 from-then {r} {own} {own'} {xs} {ys} {a} {b} {c} e p q = record {
   only = record {
     each = λ n i h. elim (q.only.each n i h) [
@@ -87,7 +88,8 @@ pub from-types : (r : Resolve) (own : Option InterfaceId) (types : List TypeId) 
 from-types r own types i a b l p = subst (λ (ts : List TypeId). LearnsFrom r own (map (λ t. ty.Id t) ts) a b) (take_all i types l) p
 
 -- one function more
-pub from-function : {X : Type 0} (view : X → Function) (r : Resolve) (own own' : Option InterfaceId) (xs : List X) (i : ℕ) (x : X) (a b c : TypeEncodingMaps) → i < length xs → x ≡ get_or xs i x → own' ≡ own
+pub from-function : {X : Type 0} (view : X → Function) (r : Resolve) (own own' : Option InterfaceId) (xs : List X) (i : ℕ) (x : X) (a b c : TypeEncodingMaps) → i < length xs → x ≡ get_or xs i x
+    → own' ≡ own
     → LearnsFrom r own (flat_map function_types (map view (take i xs))) a b → LearnsFrom r own' (function_types (view x)) b c
     → LearnsFrom r own (flat_map function_types (map view (take (i + 1) xs))) a c
 from-function view r own own' xs i x a b c l is e p q =
@@ -180,10 +182,12 @@ module _ (r : Resolve) (own : Option InterfaceId) (types : List TypeId) (fs gs :
   pub permuted-kinds : (kinds : List TypeDefKind) → AreMetKinds r own (referred types gs) kinds → AreMetKinds r own (referred types fs) kinds
   permuted-kinds kinds a = record { different = a.different; met = λ k c. met-too gs fs forth k (a.met k c); all = λ k x. a.all k (met-too fs gs back k x) }
 
-pub permuted-aliases : (r : Resolve) (own : Option InterfaceId) (types : List TypeId) (fs gs : List Function) → IsPermutation fs gs → {a a' : Around} → AliasesMet r own (referred types gs) a a' → AliasesMet r own (referred types fs) a a'
+pub permuted-aliases : (r : Resolve) (own : Option InterfaceId) (types : List TypeId) (fs gs : List Function) → IsPermutation fs gs → {a a' : Around} → AliasesMet r own (referred types gs) a a'
+    → AliasesMet r own (referred types fs) a a'
 permuted-aliases r own types fs gs p m = met-more (λ n x. (x.0, refers-too r own types fs gs p gs fs (forth r own types fs gs p) x.0 x.1, x.2)) m
 
-pub permuted-types : (r : Resolve) (own : Option InterfaceId) (S : Pairs) (types : List TypeId) (fs gs : List Function) (ds : Declarations) → IsPermutation fs gs → DefinesTypes r own S types gs ds → DefinesTypes r own S types fs ds
+pub permuted-types : (r : Resolve) (own : Option InterfaceId) (S : Pairs) (types : List TypeId) (fs gs : List Function) (ds : Declarations) → IsPermutation fs gs → DefinesTypes r own S types gs ds
+    → DefinesTypes r own S types fs ds
 permuted-types r own S types fs gs ds p t = record {
   kinds = t.kinds;
   met = permuted-kinds r own types fs gs p t.kinds t.met;

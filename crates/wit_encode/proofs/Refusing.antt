@@ -86,16 +86,19 @@ counts-refused held slots few e = by_order (nat_lt held 4294967295) refl
         let second : nat_lt slots (2 ^ 32) ≡ true = lt-ltb slots (2 ^ 32) (omega arith) in
         absurd (let z : ⊥ = cc in z)
 
-refused-by : (r : Resolve) (fits : Bool) (held slots : ℕ) (request : Request) → slots ≤ held + 1 → (fits ≡ false → IsUnfit r request) → (fits && fits_counts (held + 1) slots) ≡ false → LacksRoomBehind r held request
+refused-by : (r : Resolve) (fits : Bool) (held slots : ℕ) (request : Request) → slots ≤ held + 1 → (fits ≡ false → IsUnfit r request) → (fits && fits_counts (held + 1) slots) ≡ false
+    → LacksRoomBehind r held request
 refused-by r false held slots request few unfit e = inl (unfit refl)
 refused-by r true held slots request few unfit e = inr (counts-refused held slots few e)
 
 -- behind the declarations of an instance type
-pub behind : (r : Resolve) (ds : List Declaration) (d : Declaration) (request : Request) → (fits_declaration d ≡ false → IsUnfit r request) → fits_next ds d ≡ false → LacksRoomBehind r (length ds) request
+pub behind : (r : Resolve) (ds : List Declaration) (d : Declaration) (request : Request) → (fits_declaration d ≡ false → IsUnfit r request) → fits_next ds d ≡ false
+    → LacksRoomBehind r (length ds) request
 behind r ds d request unfit e = refused-by r (fits_declaration d) (length ds) (type_slots ds + declaration_slots d) request (let a = slots-few ds in let b = slots-one d in omega arith) unfit e
 
 -- behind those of a component type
-pub behind-outer : (r : Resolve) (outer : Declarations) (d : Declaration) (request : Request) → (fits_declaration d ≡ false → IsUnfit r request) → (fits_declaration d && fits_added outer 1) ≡ false → LacksRoomBehind r (declaration_count outer) request
+pub behind-outer : (r : Resolve) (outer : Declarations) (d : Declaration) (request : Request) → (fits_declaration d ≡ false → IsUnfit r request) → (fits_declaration d && fits_added outer 1) ≡ false
+    → LacksRoomBehind r (declaration_count outer) request
 behind-outer r outer d request unfit e = refused-by r (fits_declaration d) (declaration_count outer) (type_slots_of outer + 1) request (let a = outer-slots-few outer in omega arith) unfit e
 
 -- ---- forms and trees have the same labels
@@ -110,7 +113,8 @@ all-fit f g (x ∷ xs) [] h = absurd h
 all-fit f g (x ∷ xs) (y ∷ ys) h = λ i. h.0 i && all-fit f g xs ys h.1 i
 
 -- labels that are the same texts
-labels-fit : {T B : Type 0} (R : Bor Text × T → B → Type 0) (label : B → Text) → ((x : Bor Text × T) (y : B) → R x y → x.0.now ≡ label y) → (xs : List (Bor Text × T)) (ys : List B) → AllZip R xs ys → fits_labels (map labeled xs) ≡ fits_names (map label ys)
+labels-fit : {T B : Type 0} (R : Bor Text × T → B → Type 0) (label : B → Text) → ((x : Bor Text × T) (y : B) → R x y → x.0.now ≡ label y) → (xs : List (Bor Text × T)) (ys : List B) → AllZip R xs ys
+    → fits_labels (map labeled xs) ≡ fits_names (map label ys)
 labels-fit {T} {B} R label same xs ys z =
     let labels : map (λ (x : Labeled T). x.label) (map labeled xs) ≡ map label ys = labels-same xs ys z in
     fits-by (map labeled xs) ∙ ap fits_names labels
@@ -136,7 +140,8 @@ labels-fit {T} {B} R label same xs ys z =
 pub tree-fits : (S : Pairs) (d : ComponentDefinedType) (t : Tree) → Follows S d t → fits_defined (raw_defined d) ≡ fits_tree t
 tree-fits S (form.Primitive x) t h = ap fits_tree (sym h)
 tree-fits S (form.Record fields) t h = labels-fit (NamedStands S) (λ f. f.0) (λ x f w. w.0) fields.items h.0 h.1 ∙ ap fits_tree (sym h.2)
-tree-fits S (form.Variant cases) t h = labels-fit (CaseStands S) (λ c. c.0) (λ x c w. w.0) cases.items h.0 h.1 ∙ ap fits_names (sym (map-twice (λ (c : Text × Bool). c.0) _ h.0)) ∙ ap fits_tree (sym h.2)
+tree-fits S (form.Variant cases) t h = labels-fit (CaseStands S) (λ c. c.0) (λ x c w. w.0) cases.items h.0 h.1 ∙ ap fits_names (sym (map-twice (λ (c : Text × Bool). c.0) _ h.0)) ∙ ap
+    fits_tree (sym h.2)
 tree-fits S (form.List x) t h = ap fits_tree (sym h.2)
 tree-fits S (form.FixedLengthList x n) t h = ap fits_tree (sym h.2)
 tree-fits S (form.Map x y) t h = ap fits_tree (sym h.4)
@@ -156,18 +161,22 @@ signature-fits S f s h = labels-fit (NamedStands S) (λ p. p.0) (λ x p w. w.0) 
 -- ---- calls, by whether an interface is open
 
 module _ (r : Resolve) (res : Result ℕ Error) (refused : res ≡ Err errors.Size) where
-  pub value-inside : (S : Pairs) (ds : List Declaration) (d : ComponentDefinedType) → (res ≡ Err errors.Size → fits_next ds (Declaration.defined (raw_defined d)) ≡ false) → (t : Tree) → Follows S d t → LacksRoomBehind r (length ds) (value_type t)
+  pub value-inside : (S : Pairs) (ds : List Declaration) (d : ComponentDefinedType) → (res ≡ Err errors.Size → fits_next ds (Declaration.defined (raw_defined d)) ≡ false) → (t : Tree) → Follows S d t
+      → LacksRoomBehind r (length ds) (value_type t)
   value-inside S ds d size t f = behind r ds (Declaration.defined (raw_defined d)) (value_type t) (λ e. sym (tree-fits S d t f) ∙ e) (size refused)
 
-  pub function-inside : (S : Pairs) (ds : List Declaration) (d : ComponentFuncType) → (res ≡ Err errors.Size → fits_next ds (Declaration.function (raw_function d)) ≡ false) → (s : Signature) → FollowsFunction S d s → LacksRoomBehind r (length ds) (function_type s)
+  pub function-inside : (S : Pairs) (ds : List Declaration) (d : ComponentFuncType) → (res ≡ Err errors.Size → fits_next ds (Declaration.function (raw_function d)) ≡ false) → (s : Signature)
+      → FollowsFunction S d s → LacksRoomBehind r (length ds) (function_type s)
   function-inside S ds d size s f = behind r ds (Declaration.function (raw_function d)) (function_type s) (λ e. sym (signature-fits S d s f) ∙ e) (size refused)
 
   module _ (outer : Declarations) (inner : Option OpenInterface) (is : inner ≡ None) where
-    pub value-outside : (S : Pairs) (d : ComponentDefinedType) → (res ≡ Err errors.Size → (fits_declaration (Declaration.defined (raw_defined d)) && fits_added outer 1) ≡ false) → (t : Tree) → Follows S d t → LacksRoomBehind r (held_in outer inner) (value_type t)
+    pub value-outside : (S : Pairs) (d : ComponentDefinedType) → (res ≡ Err errors.Size → (fits_declaration (Declaration.defined (raw_defined d)) && fits_added outer 1) ≡ false) → (t : Tree)
+        → Follows S d t → LacksRoomBehind r (held_in outer inner) (value_type t)
     value-outside S d size t f = subst (λ (o : Option OpenInterface). LacksRoomBehind r (held_in outer o) (value_type t)) (sym is)
         (behind-outer r outer (Declaration.defined (raw_defined d)) (value_type t) (λ e. sym (tree-fits S d t f) ∙ e) (size refused))
 
-    pub function-outside : (S : Pairs) (d : ComponentFuncType) → (res ≡ Err errors.Size → (fits_declaration (Declaration.function (raw_function d)) && fits_added outer 1) ≡ false) → (s : Signature) → FollowsFunction S d s → LacksRoomBehind r (held_in outer inner) (function_type s)
+    pub function-outside : (S : Pairs) (d : ComponentFuncType) → (res ≡ Err errors.Size → (fits_declaration (Declaration.function (raw_function d)) && fits_added outer 1) ≡ false) → (s : Signature)
+        → FollowsFunction S d s → LacksRoomBehind r (held_in outer inner) (function_type s)
     function-outside S d size s f = subst (λ (o : Option OpenInterface). LacksRoomBehind r (held_in outer o) (function_type s)) (sym is)
         (behind-outer r outer (Declaration.function (raw_function d)) (function_type s) (λ e. sym (signature-fits S d s f) ∙ e) (size refused))
 
@@ -185,28 +194,34 @@ alias-outside r outer inner n e = by (fits_type_name r n) refl
     by false f = inl (inl f)
     by true f = inr (ap (λ b. b && fits_added outer 1) (sym f) ∙ e)
 
-pub name-inside : (r : Resolve) (ds : List Declaration) (name : ExternName) (described : ComponentTypeRef) → fits_next ds (Declaration.exported name described) ≡ false → LacksRoomBehind r (length ds) (export_name name)
+pub name-inside : (r : Resolve) (ds : List Declaration) (name : ExternName) (described : ComponentTypeRef) → fits_next ds (Declaration.exported name described) ≡ false
+    → LacksRoomBehind r (length ds) (export_name name)
 name-inside r ds name described e = behind r ds (Declaration.exported name described) (export_name name) (λ h. h) e
 
-pub name-outside : (r : Resolve) (outer : Declarations) (name : ExternName) (described : ComponentTypeRef) → (fits_declaration (Declaration.imported name described) && fits_added outer 1) ≡ false → LacksRoomBehind r (declaration_count outer) (export_name name)
+pub name-outside : (r : Resolve) (outer : Declarations) (name : ExternName) (described : ComponentTypeRef) → (fits_declaration (Declaration.imported name described) && fits_added outer 1) ≡ false
+    → LacksRoomBehind r (declaration_count outer) (export_name name)
 name-outside r outer name described e = behind-outer r outer (Declaration.imported name described) (export_name name) (λ h. h) e
 
 -- how much is held after a call in an open interface
-pub held-inside : (outer : Declarations) (inner : Option OpenInterface) (current : OpenInterface) (ds : List Declaration) → inner ≡ Some current → length ds ≤ length current.declared + 1 → length ds ≤ held_in outer inner + 1
+pub held-inside : (outer : Declarations) (inner : Option OpenInterface) (current : OpenInterface) (ds : List Declaration) → inner ≡ Some current → length ds ≤ length current.declared + 1
+    → length ds ≤ held_in outer inner + 1
 held-inside outer inner current ds is l = subst (λ (o : Option OpenInterface). length ds ≤ held_in outer o + 1) (sym is) l
 
 pub held-outside : (outer outer' : Declarations) (inner : Option OpenInterface) → inner ≡ None → declaration_count outer' ≤ declaration_count outer + 1 → held_in outer' inner ≤ held_in outer inner + 1
 held-outside outer outer' inner is l = subst (λ (o : Option OpenInterface). held_in outer' o ≤ held_in outer o + 1) (sym is) l
 
 -- what is held after a call that has declared nothing
-pub kept-inside : (outer : Declarations) (inner : Option OpenInterface) (current : OpenInterface) (ds : List Declaration) → inner ≡ Some current → ds ≡ current.declared → length ds ≤ held_in outer inner
-kept-inside outer inner current ds is e = subst (λ (o : Option OpenInterface). length ds ≤ held_in outer o) (sym is) (let same : length ds ≡ length current.declared = ap length e in omega (arith, same))
+pub kept-inside : (outer : Declarations) (inner : Option OpenInterface) (current : OpenInterface) (ds : List Declaration) → inner ≡ Some current → ds ≡ current.declared
+    → length ds ≤ held_in outer inner
+kept-inside outer inner current ds is e = subst (λ (o : Option OpenInterface). length ds ≤ held_in outer o) (sym is)
+    (let same : length ds ≡ length current.declared = ap length e in omega (arith, same))
 
 pub kept-outside : (outer outer' : Declarations) (inner : Option OpenInterface) → inner ≡ None → outer' ≡ outer → held_in outer' inner ≤ held_in outer inner
 kept-outside outer outer' inner is e = let same : held_in outer' inner ≡ held_in outer inner = ap (λ (o : Declarations). held_in o inner) e in omega (arith, same)
 
 -- the name of a function
-pub function-named : (name : ExternName) (f : Text × Function) → name.text ≡ f.0 → name.implements ≡ None → name.version_suffix ≡ None → name.external_id ≡ optional_text f.1.external_id → name ≡ function_name f
+pub function-named : (name : ExternName) (f : Text × Function) → name.text ≡ f.0 → name.implements ≡ None → name.version_suffix ≡ None → name.external_id ≡ optional_text f.1.external_id
+    → name ≡ function_name f
 function-named name f text implements suffix external_id = λ i. record { text = text i; implements = implements i; version_suffix = suffix i; external_id = external_id i }
 
 -- ---- an interface as a whole
@@ -230,12 +245,15 @@ module _ (r : Resolve) (own : Option InterfaceId) (ns : List ℕ) (qs : List Req
   parted (a_type n def c at (its_import i f h)) = by-part (import_of n) (λ u. a_type n def c at (its_import i f u)) h
   parted (a_request q c h) = by-part q (λ u. a_request q c u) h
 
-pub no-room : {r r' : Resolve} {own own' : Option InterfaceId} {ts : List ValueType} {fs : List (Text × Function)} {m : TypeEncodingMaps} {before : ℕ} {Q : Type 0} (outer : Declarations) (inner : Option OpenInterface) → own' ≡ own → before ≡ 0 → m.func_type_map.entries ≡ [] → r' ≡ r → (fits_added outer 1 ≡ false → Q)
+pub no-room : {r r' : Resolve} {own own' : Option InterfaceId} {ts : List ValueType} {fs : List (Text × Function)} {m : TypeEncodingMaps} {before : ℕ} {Q : Type 0} (outer : Declarations)
+    (inner : Option OpenInterface) → own' ≡ own → before ≡ 0 → m.func_type_map.entries ≡ [] → r' ≡ r → (fits_added outer 1 ≡ false → Q)
     → LacksFunctions r own' ts fs m before (held_in outer inner) (lacks_room_in r' outer inner) → HasNoRoom r own ts fs ⊎ Q
 no-room {r} {r'} {own} {own'} {ts} {fs} {m} {before} {Q} outer inner e none fresh packages around p' =
-    let p : LacksFunctions r own ts fs m before (held_in outer inner) (lacks_room_in r outer inner) = subst (λ (o : Option InterfaceId). LacksFunctions r o ts fs m before (held_in outer inner) (lacks_room_in r outer inner)) e
+    let p : LacksFunctions r own ts fs m before (held_in outer inner) (lacks_room_in r outer inner) =
+    subst (λ (o : Option InterfaceId). LacksFunctions r o ts fs m before (held_in outer inner) (lacks_room_in r outer inner)) e
     (subst (λ (x : Resolve). LacksFunctions r own' ts fs m before (held_in outer inner) (lacks_room_in x outer inner)) packages p') in
-    let few : length p.keys ≤ distinct_count are_same (map (λ f. key_of f.1) fs) = keys-few p.keys (map (λ f. key_of f.1) fs) p.different (λ key among. elim (p.from key among) [ inl known ↦ absurd (knows-none m key fresh known) | inr there ↦ there ]) in
+    let few : length p.keys ≤ distinct_count are_same (map (λ f. key_of f.1) fs) =
+    keys-few p.keys (map (λ f. key_of f.1) fs) p.different (λ key among. elim (p.from key among) [ inl known ↦ absurd (knows-none m key fresh known) | inr there ↦ there ]) in
     elim (parted r own p.room.numbers (flat_map (function_requests r) fs) outer inner p.room.lacks) [
       | inl h ↦ inl (record {
         numbers = p.room.numbers;
@@ -258,7 +276,8 @@ one-appended (Declarations.component inner rest) d = let h = one-appended rest d
 one-appended (Declarations.instance inner rest) d = let h = one-appended rest d in omega arith
 
 pub outer-pushed : (outer outer' : Declarations) (d : Declaration) → outer' ≡ append outer (Declarations.declares d Declarations.no_more) → declaration_count outer' ≤ declaration_count outer + 1
-outer-pushed outer outer' d e = let same : declaration_count outer' ≡ declaration_count (append outer (Declarations.declares d Declarations.no_more)) = ap declaration_count e in let one = one-appended outer d in omega arith
+outer-pushed outer outer' d e = let same : declaration_count outer' ≡ declaration_count (append outer (Declarations.declares d Declarations.no_more)) = ap declaration_count e in let one =
+    one-appended outer d in omega arith
 
 abbrev Placed : Type 0
 Placed = ℕ × Bor (String Global) × Bor Function

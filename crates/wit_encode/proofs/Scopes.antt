@@ -19,7 +19,8 @@ refused-by_paths r n canonical found xs e (Err f) same order refuses h =
     subst (RefusesInterface r n canonical) (sym h) (RefusesInterface.of_paths (subst (λ (ns : List ℕ). RefusesPaths r ns canonical e) (ap numbers same ∙ order) refuses))
 
 -- paths that clash aren't too large
-pub paths-fit : {X Q : Type 0} (r : Resolve) (ns : List ℕ) (canonical : Bool) (e : Error) (given : Result X Error) → RefusesPaths r ns canonical e → IsErrAnd given (λ f. f ≡ e) → given ≡ Err errors.Size → Q
+pub paths-fit : {X Q : Type 0} (r : Resolve) (ns : List ℕ) (canonical : Bool) (e : Error) (given : Result X Error) → RefusesPaths r ns canonical e → IsErrAnd given (λ f. f ≡ e)
+    → given ≡ Err errors.Size → Q
 paths-fit r ns canonical e (Ok x) refuses h refused = absurd (let z : ⊥ = cc in z)
 paths-fit r ns canonical e (Err f) (RefusesPaths.memory is) h refused = absurd (let z : ⊥ = cc in z)
 paths-fit r ns canonical e (Err f) (RefusesPaths.clash asked name at is) h refused = absurd (let z : ⊥ = cc in z)

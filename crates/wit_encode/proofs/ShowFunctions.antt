@@ -30,8 +30,10 @@ function-there slots i s h = go (slice_get slots i) h
     go (Some (Slot.instance xs n)) q = absurd (let z : ⊥ = cc in z)
     go None q = absurd (let z : ⊥ = cc in z)
 
-shows-inside : (place : Place) (outer : Declarations) (ds : List Declaration) (name : ExternName) (i : ℕ) (s : Signature) → (inner_contents place outer ds).is_followed ≡ true → is_simple name ≡ true → SlotsStand (inner_contents place outer ds).slots i (function s)
-    → ShowsFunction (inner_contents place outer ds) (inner_contents place outer (ds ++ Declaration.exported name (refs.Func i) ∷ [])) (name.text, record { signature = s; external_id = name.external_id })
+shows-inside : (place : Place) (outer : Declarations) (ds : List Declaration) (name : ExternName) (i : ℕ) (s : Signature) → (inner_contents place outer ds).is_followed ≡ true → is_simple name ≡ true
+    → SlotsStand (inner_contents place outer ds).slots i (function s)
+    → ShowsFunction (inner_contents place outer ds) (inner_contents place outer (ds ++ Declaration.exported name (refs.Func i) ∷ []))
+    (name.text, record { signature = s; external_id = name.external_id })
 unfolding inner_contents
 shows-inside place outer ds name i s followed simple h =
     let a = inner-at place outer ds followed in
@@ -40,7 +42,14 @@ shows-inside place outer ds name i s followed simple h =
     let there : function_in (slice_get a.scope.slots i) ≡ Some s = ap (λ zs. function_in (slice_get zs i)) (sym a.slots) ∙ function-there (inner_contents place outer ds).slots i s h in
     let step : instance_step place (outer_slots outer) a.scope (Declaration.exported name (refs.Func i)) ≡ Some after =
     ap (λ b. follow.when b (show_function name i a.scope)) simple
-    ∙ bind (function_in (slice_get a.scope.slots i)) s (λ g. Some (record { slots = a.scope.slots; shown = record { types = a.scope.shown.types; functions = a.scope.shown.functions ++ (name.text, record { signature = g; external_id = name.external_id }) ∷ [] } })) there in
+    ∙ bind (function_in (slice_get a.scope.slots i)) s (λ g. Some (record {
+      slots = a.scope.slots;
+      shown = record {
+        types = a.scope.shown.types;
+        functions =
+            a.scope.shown.functions ++ (name.text, record { signature = g; external_id = name.external_id }) ∷ [];
+      };
+    })) there in
     let next = steps.steps-more place (outer_slots outer) new_instance a.scope after ds (Declaration.exported name (refs.Func i)) a.is step in
     record {
       slots = ap (λ o. option_map_or (λ s. s.slots) o []) next ∙ sym a.slots;
@@ -52,14 +61,19 @@ shows-inside place outer ds name i s followed simple h =
       functions = slots-more is_function_type ds (Declaration.exported name (refs.Func i)) ∙ append-nil (function_slots (from_list ds));
     }
 
-pub shows-within : {A E : Type 0} (res : Result A E) (r : Resolve) (outer : Declarations) (inner : Option OpenInterface) (current : OpenInterface) (ds' : List Declaration) (name : ExternName) (i : ℕ) (s : Signature)
-    → inner ≡ Some current → (encoder_scope r outer inner).is_sound ≡ true → is_simple name ≡ true → OnOk res (ds' ≡ current.declared ++ Declaration.exported name (refs.Func i) ∷ []) → SlotsStand (contents_of r outer inner).slots i (function s)
+pub shows-within : {A E : Type 0} (res : Result A E) (r : Resolve) (outer : Declarations) (inner : Option OpenInterface) (current : OpenInterface) (ds' : List Declaration) (name : ExternName) (i : ℕ)
+    (s : Signature)
+    → inner ≡ Some current → (encoder_scope r outer inner).is_sound ≡ true → is_simple name ≡ true → OnOk res (ds' ≡ current.declared ++ Declaration.exported name (refs.Func i) ∷ [])
+    → SlotsStand (contents_of r outer inner).slots i (function s)
     → OnOk res (ShowsFunction (contents_of r outer inner) (contents_of r outer (Some (record current { declared = ds' }))) (name.text, record { signature = s; external_id = name.external_id }))
 shows-within (Err e) r outer inner current ds' name i s is sound simple ok h = ok
 shows-within (Ok a) r outer inner current ds' name i s is sound simple ok h =
-    subst (λ (o : Option OpenInterface). (encoder_scope r outer o).is_sound ≡ true → SlotsStand (contents_of r outer o).slots i (function s) → ShowsFunction (contents_of r outer o) (contents_of r outer (Some (record current { declared = ds' }))) (name.text, record { signature = s; external_id = name.external_id }))
+    subst (λ (o : Option OpenInterface). (encoder_scope r outer o).is_sound ≡ true → SlotsStand (contents_of r outer o).slots i (function s)
+    → ShowsFunction (contents_of r outer o) (contents_of r outer (Some (record current { declared = ds' }))) (name.text, record { signature = s; external_id = name.external_id }))
     (sym is)
-    (λ sound h. subst (λ (zs : List Declaration). ShowsFunction (contents_of r outer (Some current)) (contents_of r outer (Some (record current { declared = zs }))) (name.text, record { signature = s; external_id = name.external_id }))
+    (λ sound h. subst (λ (zs : List Declaration). ShowsFunction (contents_of r outer (Some current)) (contents_of r outer (Some (record current { declared = zs })))
+    (name.text, record { signature = s; external_id = name.external_id }))
     (sym ok)
-    (shows-inside _ outer current.declared name i s (first_true (contents_of r outer (Some current)).is_followed (list_all (is_slot_of (resources_in r (Some current.interface))) (contents_of r outer (Some current)).slots) sound) simple h))
+    (shows-inside _ outer current.declared name i s (first_true (contents_of r outer (Some current)).is_followed
+    (list_all (is_slot_of (resources_in r (Some current.interface))) (contents_of r outer (Some current)).slots) sound) simple h))
     sound h

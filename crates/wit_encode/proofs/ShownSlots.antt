@@ -171,7 +171,8 @@ module _ (r : Resolve) (v : IsValid r) (i : InterfaceId) (def : Interface) (ther
       ∙ names-agree r v (is_met_owner r own) (one-home r v own) e.1.0 h.def h.name h.there h.named_ met
 
   -- what is shown with the names and meanings of the interface's types is its types
-  pub interface-shown : (outer : List Slot) (ds : List Declaration) (s : InstanceScope) → instance_steps (place_of r own) outer new_instance ds ≡ Some s → list_all (is_slot_of resources) s.slots ≡ true
+  pub interface-shown : (outer : List Slot) (ds : List Declaration) (s : InstanceScope) → instance_steps (place_of r own) outer new_instance ds ≡ Some s
+      → list_all (is_slot_of resources) s.slots ≡ true
       → map {B = Text × TypeMeaning} (λ (t : ShownType). (t.name, t.meaning)) s.shown.types ≡ (interface_meaning_at r i.0).types
       → s.shown.types ≡ option_map_or (types_of r i.0) (interface_at r i.0) []
   interface-shown outer ds s steps sound same =

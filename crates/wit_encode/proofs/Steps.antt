@@ -78,7 +78,8 @@ steps-count place outer s s' (d ∷ ds) e =
 
 -- ---- one declaration more
 
-pub steps-more : (place : Place) (outer : List Slot) (s m n : InstanceScope) (ds : List Declaration) (d : Declaration) → instance_steps place outer s ds ≡ Some m → instance_step place outer m d ≡ Some n → instance_steps place outer s (ds ++ d ∷ []) ≡ Some n
+pub steps-more : (place : Place) (outer : List Slot) (s m n : InstanceScope) (ds : List Declaration) (d : Declaration) → instance_steps place outer s ds ≡ Some m
+    → instance_step place outer m d ≡ Some n → instance_steps place outer s (ds ++ d ∷ []) ≡ Some n
 steps-more place outer s m n [] d e f = let z : s ≡ m = cc in ap (λ (x : InstanceScope). instance_step place outer x d >>= λ next. Some next) z ∙ ap (λ o. o >>= λ next. Some next) f
 steps-more place outer s m n (x ∷ ds) d e f =
     let b = unbind (instance_step place outer s x) _ m e in

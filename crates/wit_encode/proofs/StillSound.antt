@@ -35,9 +35,11 @@ module _ (r : Resolve) (outer outer' : Declarations) (x : Slot) where
       let test = is_slot_of (resources_in r None) in
       let a : OuterAt outer = outer-at outer (first_true (is_some (outer_scope outer)) (list_all test (outer_slots outer)) h) in
       let followed = next a.scope a.is in
-      let slots : outer_slots outer' ≡ outer_slots outer ++ x ∷ [] = ap (λ o. option_map_or (λ s. s.slots) o []) followed ∙ ap (λ xs. xs ++ x ∷ []) (sym (ap (λ o. option_map_or (λ s. s.slots) o []) a.is)) in
+      let slots : outer_slots outer' ≡ outer_slots outer ++ x ∷ [] = ap (λ o. option_map_or (λ s. s.slots) o []) followed ∙ ap (λ xs. xs ++ x ∷ [])
+      (sym (ap (λ o. option_map_or (λ s. s.slots) o []) a.is)) in
       both (is_some (outer_scope outer')) (list_all test (outer_slots outer')) (ap is_some followed)
-      (ap (list_all test) slots ∙ list_all-append test (outer_slots outer) (x ∷ []) ∙ both (list_all test (outer_slots outer)) (test x && true) (second_true (is_some (outer_scope outer)) (list_all test (outer_slots outer)) h) (both (test x) true fits refl))
+      (ap (list_all test) slots ∙ list_all-append test (outer_slots outer) (x ∷ []) ∙ both (list_all test (outer_slots outer)) (test x && true)
+      (second_true (is_some (outer_scope outer)) (list_all test (outer_slots outer)) h) (both (test x) true fits refl))
 
 alias-sound : (r : Resolve) (a : Around) (x : Aliased) → IsAlias r a x → IsSound r a.declared → IsSound r (with_alias a x).declared
 alias-sound r a x is h =
@@ -64,6 +66,7 @@ instance-sound r outer es h =
 
 -- behind aliases, and an instance type
 pub closed-sound : {E : Type 0} (res : Result ℕ E) (r : Resolve) (a : Around) (outer outer' : Declarations) (foreign : Foreign) (es : List Declaration) → GrowsAround r a (around_at outer foreign)
-    → IfOk res (λ k. (k ≡ type_slots_of outer) × (outer' ≡ append outer (Declarations.instance (from_list es) Declarations.no_more))) → OnErr res (outer' ≡ outer) → IsSound r a.declared → IsSound r outer'
+    → IfOk res (λ k. (k ≡ type_slots_of outer) × (outer' ≡ append outer (Declarations.instance (from_list es) Declarations.no_more))) → OnErr res (outer' ≡ outer) → IsSound r a.declared
+    → IsSound r outer'
 closed-sound (Ok k) r a outer outer' foreign es g ok err h = subst (IsSound r) (sym ok.1) (instance-sound r outer es (grown-sound r a (around_at outer foreign) g h))
 closed-sound (Err x) r a outer outer' foreign es g ok err h = subst (IsSound r) (sym err) (grown-sound r a (around_at outer foreign) g h)

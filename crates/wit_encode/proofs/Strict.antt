@@ -106,22 +106,27 @@ module _ (resources : Names) (slots : List Slot) (sound : list_all (is_slot_of r
   value-strict (v.Primitive y) t h f = ap Some (sym (h ∙ ap primitive (primitive-same y)))
   value-strict (v.Type_ i) t h f = ap value_in (value-there i t h (not-false (is_resource_tree resources t) f))
 
-  pub optional-strict : (x : Option ComponentValType) (t : Option Tree) → StandsForOptional (SlotsStand slots) x t → are_values resources (option_to_list t) ≡ true → follow.given (value_type slots) x ≡ Some t
+  pub optional-strict : (x : Option ComponentValType) (t : Option Tree) → StandsForOptional (SlotsStand slots) x t → are_values resources (option_to_list t) ≡ true
+      → follow.given (value_type slots) x ≡ Some t
   optional-strict None None h f = refl
   optional-strict None (Some t) h f = absurd h
   optional-strict (Some x) None h f = absurd h
   optional-strict (Some x) (Some t) h f = bind (value_type slots x) t (λ y. Some (Some y)) (value-strict x t h (first_true (not (is_resource_tree resources t)) true f))
 
-  pub fields-strict : (xs : List (Bor Text × ComponentValType)) (fs : List (Text × Tree)) → AllZip (NamedStands (SlotsStand slots)) xs fs → are_values resources (map (λ f. f.1) fs) ≡ true → each (field_type slots) (map labeled xs) ≡ Some fs
+  pub fields-strict : (xs : List (Bor Text × ComponentValType)) (fs : List (Text × Tree)) → AllZip (NamedStands (SlotsStand slots)) xs fs → are_values resources (map (λ f. f.1) fs) ≡ true
+      → each (field_type slots) (map labeled xs) ≡ Some fs
   fields-strict [] [] h f = refl
   fields-strict [] (t ∷ ts) h f = absurd h
   fields-strict (x ∷ xs) [] h f = absurd h
   fields-strict (x ∷ xs) (t ∷ ts) h f =
-      let one : field_type slots (labeled x) ≡ Some t = bind (value_type slots x.1) t.1 (λ y. Some (x.0.now, y)) (value-strict x.1 t.1 h.0.1 (first_true (not (is_resource_tree resources t.1)) (are_values resources (map (λ f. f.1) ts)) f)) ∙ ap (λ n. Some (n, t.1)) h.0.0 in
+      let one : field_type slots (labeled x) ≡ Some t = bind (value_type slots x.1) t.1 (λ y. Some (x.0.now, y))
+      (value-strict x.1 t.1 h.0.1 (first_true (not (is_resource_tree resources t.1)) (are_values resources (map (λ f. f.1) ts)) f)) ∙ ap (λ n. Some (n, t.1)) h.0.0 in
       bind (field_type slots (labeled x)) t (λ y. each (field_type slots) (map labeled xs) >>= λ ys. Some (y ∷ ys)) one
-      ∙ bind (each (field_type slots) (map labeled xs)) ts (λ ys. Some (t ∷ ys)) (fields-strict xs ts h.1 (second_true (not (is_resource_tree resources t.1)) (are_values resources (map (λ f. f.1) ts)) f))
+      ∙ bind (each (field_type slots) (map labeled xs)) ts (λ ys. Some (t ∷ ys))
+      (fields-strict xs ts h.1 (second_true (not (is_resource_tree resources t.1)) (are_values resources (map (λ f. f.1) ts)) f))
 
-  pub cases-strict : (xs : List (Bor Text × Option ComponentValType)) (cs : List (Text × Option Tree)) → AllZip (CaseStands (SlotsStand slots)) xs cs → are_values resources (child_list (given (map (λ c. c.1) cs))) ≡ true → each (case_type slots) (map labeled xs) ≡ Some cs
+  pub cases-strict : (xs : List (Bor Text × Option ComponentValType)) (cs : List (Text × Option Tree)) → AllZip (CaseStands (SlotsStand slots)) xs cs
+      → are_values resources (child_list (given (map (λ c. c.1) cs))) ≡ true → each (case_type slots) (map labeled xs) ≡ Some cs
   cases-strict [] [] h f = refl
   cases-strict [] (t ∷ ts) h f = absurd h
   cases-strict (x ∷ xs) [] h f = absurd h
@@ -131,9 +136,13 @@ module _ (resources : Names) (slots : List Slot) (sound : list_all (is_slot_of r
       bind (case_type slots (labeled x)) t (λ y. each (case_type slots) (map labeled xs) >>= λ ys. Some (y ∷ ys)) one
       ∙ bind (each (case_type slots) (map labeled xs)) ts (λ ys. Some (t ∷ ys)) (cases-strict xs ts h.1 both.1)
     where
-      parted : (o : Option Tree) → are_values resources (child_list (given (o ∷ map (λ c. c.1) ts))) ≡ true → (are_values resources (option_to_list o) ≡ true) × (are_values resources (child_list (given (map (λ c. c.1) ts))) ≡ true)
+      parted : (o : Option Tree) → are_values resources (child_list (given (o ∷ map (λ c. c.1) ts))) ≡ true → (are_values resources (option_to_list o) ≡ true)
+          × (are_values resources (child_list (given (map (λ c. c.1) ts))) ≡ true)
       parted None f = (refl, f)
-      parted (Some u) f = (λ i. first_true (not (is_resource_tree resources u)) (are_values resources (child_list (given (map (λ c. c.1) ts)))) f i && true, second_true (not (is_resource_tree resources u)) (are_values resources (child_list (given (map (λ c. c.1) ts)))) f)
+      parted (Some u) f = (
+        λ i. first_true (not (is_resource_tree resources u)) (are_values resources (child_list (given (map (λ c. c.1) ts)))) f i && true,
+        second_true (not (is_resource_tree resources u)) (are_values resources (child_list (given (map (λ c. c.1) ts)))) f,
+      )
 
   pub values-strict : (xs : List ComponentValType) (ts : List Tree) → AllZip (StandsFor (SlotsStand slots)) xs ts → are_values resources ts ≡ true → each (value_type slots) xs ≡ Some ts
   values-strict [] [] h f = refl
@@ -153,27 +162,35 @@ module _ (resources : Names) (slots : List Slot) (sound : list_all (is_slot_of r
   definition-strict (form.Primitive x) t h f = ap Some (sym (h ∙ ap primitive (primitive-same x)))
   definition-strict (form.Record fields) t (fs, z, e) f =
       let g = sym (ap (is_formed resources) e) ∙ f in
-      let values = ap (are_values resources) (sym (children-list (map (λ f. f.1) fs))) ∙ second_true (is_filled (map (λ f. f.0) fs)) (are_values resources (child_list (children (map (λ f. f.1) fs)))) g in
+      let values = ap (are_values resources) (sym (children-list (map (λ f. f.1) fs))) ∙ second_true (is_filled (map (λ f. f.0) fs))
+      (are_values resources (child_list (children (map (λ f. f.1) fs)))) g in
       bind (each (field_type slots) (map labeled fields.items)) fs (λ fs. provided (is_filled (map labeled fields.items)) (record_tree fs)) (fields-strict fields.items fs z values)
-      ∙ provided-true (is_filled (map labeled fields.items)) (record_tree fs) (zip-filled (NamedStands (SlotsStand slots)) labeled (λ f. f.0) fields.items fs z (first_true (is_filled (map (λ f. f.0) fs)) (are_values resources (child_list (children (map (λ f. f.1) fs)))) g))
+      ∙ provided-true (is_filled (map labeled fields.items)) (record_tree fs)
+      (zip-filled (NamedStands (SlotsStand slots)) labeled (λ f. f.0) fields.items fs z
+      (first_true (is_filled (map (λ f. f.0) fs)) (are_values resources (child_list (children (map (λ f. f.1) fs)))) g))
       ∙ ap Some (sym e)
   definition-strict (form.Variant cases) t (cs, z, e) f =
       let g = sym (ap (is_formed resources) e) ∙ f in
       let values = second_true (is_filled (map (λ c. (c.0, is_given c.1)) cs)) (are_values resources (child_list (given (map (λ c. c.1) cs)))) g in
       bind (each (case_type slots) (map labeled cases.items)) cs (λ cs. provided (is_filled (map labeled cases.items)) (variant_tree cs)) (cases-strict cases.items cs z values)
-      ∙ provided-true (is_filled (map labeled cases.items)) (variant_tree cs) (zip-filled (CaseStands (SlotsStand slots)) labeled (λ c. (c.0, is_given c.1)) cases.items cs z (first_true (is_filled (map (λ c. (c.0, is_given c.1)) cs)) (are_values resources (child_list (given (map (λ c. c.1) cs)))) g))
+      ∙ provided-true (is_filled (map labeled cases.items)) (variant_tree cs)
+      (zip-filled (CaseStands (SlotsStand slots)) labeled (λ c. (c.0, is_given c.1)) cases.items cs z
+      (first_true (is_filled (map (λ c. (c.0, is_given c.1)) cs)) (are_values resources (child_list (given (map (λ c. c.1) cs)))) g))
       ∙ ap Some (sym e)
   definition-strict (form.List x) t (u, h, e) f =
       bind (value_type slots x) u (λ y. Some (list_tree y)) (value-strict x u h (first_true (not (is_resource_tree resources u)) true (sym (ap (is_formed resources) e) ∙ f))) ∙ ap Some (sym e)
   definition-strict (form.FixedLengthList x n) t (u, h, e) f =
       let g = sym (ap (is_formed resources) e) ∙ f in
-      bind (value_type slots x) u (λ y. provided (nat_le 1 n) (fixed_list_tree y n)) (value-strict x u h (first_true (not (is_resource_tree resources u)) true (second_true (nat_le 1 n) (are_values resources (u ∷ [])) g)))
+      bind (value_type slots x) u (λ y. provided (nat_le 1 n) (fixed_list_tree y n))
+      (value-strict x u h (first_true (not (is_resource_tree resources u)) true (second_true (nat_le 1 n) (are_values resources (u ∷ [])) g)))
       ∙ provided-true (nat_le 1 n) (fixed_list_tree u n) (first_true (nat_le 1 n) (are_values resources (u ∷ [])) g) ∙ ap Some (sym e)
   definition-strict (form.Map x y) t (a, b, h, k, e) f =
       let g = sym (ap (is_formed resources) e) ∙ f in
       let values = second_true (is_key a) (are_values resources (a ∷ b ∷ [])) g in
-      bind (value_type slots x) a (λ key. value_type slots y >>= λ u. provided (is_key key) (map_tree key u)) (value-strict x a h (first_true (not (is_resource_tree resources a)) (are_values resources (b ∷ [])) values))
-      ∙ bind (value_type slots y) b (λ u. provided (is_key a) (map_tree a u)) (value-strict y b k (first_true (not (is_resource_tree resources b)) true (second_true (not (is_resource_tree resources a)) (are_values resources (b ∷ [])) values)))
+      bind (value_type slots x) a (λ key. value_type slots y >>= λ u. provided (is_key key) (map_tree key u))
+      (value-strict x a h (first_true (not (is_resource_tree resources a)) (are_values resources (b ∷ [])) values))
+      ∙ bind (value_type slots y) b (λ u. provided (is_key a) (map_tree a u))
+      (value-strict y b k (first_true (not (is_resource_tree resources b)) true (second_true (not (is_resource_tree resources a)) (are_values resources (b ∷ [])) values)))
       ∙ provided-true (is_key a) (map_tree a b) (first_true (is_key a) (are_values resources (a ∷ b ∷ [])) g) ∙ ap Some (sym e)
   definition-strict (form.Tuple xs) t (ts, z, e) f =
       let g = sym (ap (is_formed resources) e) ∙ f in
@@ -191,23 +208,30 @@ module _ (resources : Names) (slots : List Slot) (sound : list_all (is_slot_of r
       bind (follow.given (value_type slots) x) a (λ o. follow.given (value_type slots) y >>= λ u. Some (result_tree o u)) (optional-strict x a h parts.0)
       ∙ bind (follow.given (value_type slots) y) b (λ u. Some (result_tree a u)) (optional-strict y b k parts.1) ∙ ap Some (sym e)
     where
-      result-parts : (a b : Option Tree) → are_values resources (child_list (given (a ∷ b ∷ []))) ≡ true → (are_values resources (option_to_list a) ≡ true) × (are_values resources (option_to_list b) ≡ true)
+      result-parts : (a b : Option Tree) → are_values resources (child_list (given (a ∷ b ∷ []))) ≡ true → (are_values resources (option_to_list a) ≡ true)
+          × (are_values resources (option_to_list b) ≡ true)
       result-parts None None g = (refl, refl)
       result-parts None (Some y) g = (refl, g)
       result-parts (Some x) None g = (g, refl)
-      result-parts (Some x) (Some y) g = ((λ i. first_true (not (is_resource_tree resources x)) (are_values resources (y ∷ [])) g i && true), second_true (not (is_resource_tree resources x)) (are_values resources (y ∷ [])) g)
+      result-parts (Some x) (Some y) g = (
+        (λ i. first_true (not (is_resource_tree resources x)) (are_values resources (y ∷ [])) g i && true),
+        second_true (not (is_resource_tree resources x)) (are_values resources (y ∷ [])) g,
+      )
   definition-strict (form.Own i) t (u, h, e) f =
       bind (resource_in (slice_get slots i)) u (λ y. Some (own_tree y)) (resource-there i u h (first_true (is_resource_tree resources u) true (sym (ap (is_formed resources) e) ∙ f))) ∙ ap Some (sym e)
   definition-strict (form.Borrow i) t (u, h, e) f =
-      bind (resource_in (slice_get slots i)) u (λ y. Some (borrow_tree y)) (resource-there i u h (first_true (is_resource_tree resources u) true (sym (ap (is_formed resources) e) ∙ f))) ∙ ap Some (sym e)
+      bind (resource_in (slice_get slots i)) u (λ y. Some (borrow_tree y)) (resource-there i u h (first_true (is_resource_tree resources u) true (sym (ap (is_formed resources) e) ∙ f))) ∙ ap
+      Some (sym e)
   definition-strict (form.Stream x) t (u, h, e) f =
       bind (follow.given (value_type slots) x) u (λ y. Some (stream_tree y)) (optional-strict x u h (one-part u (sym (ap (is_formed resources) e) ∙ f))) ∙ ap Some (sym e)
   definition-strict (form.Future x) t (u, h, e) f =
       bind (follow.given (value_type slots) x) u (λ y. Some (future_tree y)) (optional-strict x u h (one-part u (sym (ap (is_formed resources) e) ∙ f))) ∙ ap Some (sym e)
 
-  pub function-strict : (f : ComponentFuncType) (s : Signature) → FollowsFunction (SlotsStand slots) f s → are_values resources (map (λ q. q.1) s.params) ≡ true → are_values resources (option_to_list s.result) ≡ true → function_signature slots (raw_function f) ≡ Some s
+  pub function-strict : (f : ComponentFuncType) (s : Signature) → FollowsFunction (SlotsStand slots) f s → are_values resources (map (λ q. q.1) s.params) ≡ true
+      → are_values resources (option_to_list s.result) ≡ true → function_signature slots (raw_function f) ≡ Some s
   function-strict f s h ps r =
-      bind (each (field_type slots) (map labeled f.params.items)) s.params (λ ps. follow.given (value_type slots) f.result >>= λ q. Some (record { is_async = f.async_; params = ps; result = q })) (fields-strict f.params.items s.params h.params ps)
+      bind (each (field_type slots) (map labeled f.params.items)) s.params (λ ps. follow.given (value_type slots) f.result >>= λ q. Some (record { is_async = f.async_; params = ps; result = q }))
+      (fields-strict f.params.items s.params h.params ps)
       ∙ bind (follow.given (value_type slots) f.result) s.result (λ q. Some (record { is_async = f.async_; params = s.params; result = q })) (optional-strict f.result s.result h.result_ r)
       ∙ ap (λ a. Some (record { is_async = a; params = s.params; result = s.result })) h.async
 

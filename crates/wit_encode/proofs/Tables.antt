@@ -81,8 +81,10 @@ table-grows r own v v' t scope maps g = record {
 }
 
 -- a type of another interface can be imported into a table
-pub table-imports : (r : Resolve) (own : InterfaceId) (v : View) → IsTableOf r own v → (n : ℕ) (def : TypeDef) (i : InterfaceId) → type_at r n ≡ Some def → foreign_owner v.scope.own_interface def.owner ≡ Some i → IsImportable v.scope i.0 n
-table-imports r own v t n def i is f = subst (λ (s : Scope). IsImportable s i.0 n) (sym t.scope_) (importable r t.valid (owner.Interface own) n def is i (ap (λ (s : Scope). foreign_owner s.own_interface def.owner) (sym t.scope_) ∙ f))
+pub table-imports : (r : Resolve) (own : InterfaceId) (v : View) → IsTableOf r own v → (n : ℕ) (def : TypeDef) (i : InterfaceId) → type_at r n ≡ Some def
+    → foreign_owner v.scope.own_interface def.owner ≡ Some i → IsImportable v.scope i.0 n
+table-imports r own v t n def i is f = subst (λ (s : Scope). IsImportable s i.0 n) (sym t.scope_)
+    (importable r t.valid (owner.Interface own) n def is i (ap (λ (s : Scope). foreign_owner s.own_interface def.owner) (sym t.scope_) ∙ f))
 
 -- the parts of a type are in range
 pub table-parts : (r : Resolve) → IsValid r → (n : ℕ) (def : TypeDef) → n < length r.types.items → type_at r n ≡ Some def → AllInRange r (parts_of def.kind)
@@ -94,7 +96,8 @@ pub both-in_range : (r : Resolve) (xs ys : List ValueType) → AllInRange r xs �
 both-in_range r xs ys p q t c = elim (Contains-append_cases xs ys t c) [ inl h ↦ p t h | inr h ↦ q t h ]
 
 -- one more of a list is in range
-pub more-in_range : (r : Resolve) (ps : List Param) (i : ℕ) (p : Param) → i < length ps → p ≡ get_or ps i p → AllInRange r (map (λ q. q.ty) (take i ps)) → InRange r p.ty → AllInRange r (map (λ q. q.ty) (take (i + 1) ps))
+pub more-in_range : (r : Resolve) (ps : List Param) (i : ℕ) (p : Param) → i < length ps → p ≡ get_or ps i p → AllInRange r (map (λ q. q.ty) (take i ps)) → InRange r p.ty
+    → AllInRange r (map (λ q. q.ty) (take (i + 1) ps))
 more-in_range r ps i p lt is all here =
     subst (λ (xs : List Param). AllInRange r (map (λ q. q.ty) xs)) (ap (λ x. take i ps ++ x ∷ []) is ∙ sym (take_more ps i p lt))
     (subst (AllInRange r) (sym (map-append (λ q. q.ty) (take i ps) (p ∷ []))) (both-in_range r (map (λ q. q.ty) (take i ps)) (p.ty ∷ []) all (λ t c id e. here id (one-contained p.ty t c ∙ e))))
@@ -105,7 +108,8 @@ none-in_range r t c = let l = c.1 in absurd (omega arith)
 -- ---- what is well formed
 
 -- what a type of a table is defined as is well formed
-pub table-formed : (r : Resolve) (own : InterfaceId) (v : View) → IsTableOf r own v → (n : ℕ) (def : TypeDef) → n < length r.types.items → type_at r n ≡ Some def → AllMetBy r (owner.Interface own) (parts_of def.kind) → has_definition def.kind ≡ true → IsFormed v.scope (kind_tree r def.kind)
+pub table-formed : (r : Resolve) (own : InterfaceId) (v : View) → IsTableOf r own v → (n : ℕ) (def : TypeDef) → n < length r.types.items → type_at r n ≡ Some def
+    → AllMetBy r (owner.Interface own) (parts_of def.kind) → has_definition def.kind ≡ true → IsFormed v.scope (kind_tree r def.kind)
 table-formed r own v t n def inside is met d = subst (λ (s : Scope). IsFormed s (kind_tree r def.kind)) (sym t.scope_) (record {
   sound = refl;
   formed = valid-formed r (table_scope r (owner.Interface own)).resources t.valid n def is
@@ -136,8 +140,10 @@ defined-values r v (t ∷ ts) inside d = both _ _ (ap not (defined-value r v t (
     later u (i, l, e) = (suc i, omega (arith, l), e)
 
 -- a function that takes and gives types with definitions of their own
-pub table-signature : (r : Resolve) (own : InterfaceId) (v : View) → IsTableOf r own v → (f : Function) → AllInRange r (function_types f) → AllMetBy r (owner.Interface own) (function_types f) → AllDefined r (function_types f) → IsFormedSignature v.scope (signature_of r f)
-table-signature r own v t f inside met d = subst (λ (s : Scope). IsFormedSignature s (signature_of r f)) (sym t.scope_) (signature-formed r (table_scope r (owner.Interface own)) f.params.items f.result refl (is_async f.kind)
+pub table-signature : (r : Resolve) (own : InterfaceId) (v : View) → IsTableOf r own v → (f : Function) → AllInRange r (function_types f) → AllMetBy r (owner.Interface own) (function_types f)
+    → AllDefined r (function_types f) → IsFormedSignature v.scope (signature_of r f)
+table-signature r own v t f inside met d = subst (λ (s : Scope). IsFormedSignature s (signature_of r f)) (sym t.scope_)
+    (signature-formed r (table_scope r (owner.Interface own)) f.params.items f.result refl (is_async f.kind)
     (defined-values r t.valid (function_types f) inside d)
     (table-agree r t.valid (owner.Interface own) (function_types f) inside (all-met r t.valid (owner.Interface own) (function_types f) met)))
 
@@ -149,7 +155,8 @@ formed-as r scope k k' e d h = subst (λ (x : TypeDefKind). IsFormed scope (kind
 pub both-defined : (r : Resolve) (xs ys : List ValueType) → AllDefined r xs → AllDefined r ys → AllDefined r (xs ++ ys)
 both-defined r xs ys p q t c = elim (Contains-append_cases xs ys t c) [ inl h ↦ p t h | inr h ↦ q t h ]
 
-pub more-defined : (r : Resolve) (ps : List Param) (i : ℕ) (p : Param) → i < length ps → p ≡ get_or ps i p → AllDefined r (map (λ q. q.ty) (take i ps)) → IsDefined r p.ty → AllDefined r (map (λ q. q.ty) (take (i + 1) ps))
+pub more-defined : (r : Resolve) (ps : List Param) (i : ℕ) (p : Param) → i < length ps → p ≡ get_or ps i p → AllDefined r (map (λ q. q.ty) (take i ps)) → IsDefined r p.ty
+    → AllDefined r (map (λ q. q.ty) (take (i + 1) ps))
 more-defined r ps i p lt is all here =
     subst (λ (xs : List Param). AllDefined r (map (λ q. q.ty) xs)) (ap (λ x. take i ps ++ x ∷ []) is ∙ sym (take_more ps i p lt))
     (subst (AllDefined r) (sym (map-append (λ q. q.ty) (take i ps) (p ∷ []))) (both-defined r (map (λ q. q.ty) (take i ps)) (p.ty ∷ []) all (λ t c id e. here id (one-contained p.ty t c ∙ e))))

@@ -52,7 +52,8 @@ module _ (r : Resolve) (v : IsValid r) (n k : ℕ) where
       at-type (Some target) e h = at-owner (owner_interface target.owner) e (second_true (not (same_owner target.owner def.owner)) _ h)
 
       at-target : (o : Option ℕ) → option_and_then (λ t. option_and_then (λ (target : TypeDef). owner_interface target.owner) (type_at r t)) o ≡ Some k
-          → option_map_or (λ t. option_map_or (λ (target : TypeDef). not (same_owner target.owner def.owner) && option_map_or (is_named_at r) (owner_interface target.owner) false) (type_at r t) false) o false ≡ true
+          → option_map_or (λ t. option_map_or (λ (target : TypeDef). not (same_owner target.owner def.owner) && option_map_or (is_named_at r) (owner_interface target.owner) false) (type_at r t) false)
+          o false ≡ true
           → is_named_at r k ≡ true
       at-target None e h = let wrong : ⊥ = cc in absurd wrong
       at-target (Some t) e h = at-type (type_at r t) e h
@@ -86,7 +87,8 @@ module _ (r : Resolve) (v : IsValid r) (n k : ℕ) where
       contains-flat (met_by (met_of r)) (kind_numbers def.kind) h.0 h.0 (alias-number def.kind h.0 h.2) (named-meets r (valid-references r v) h.0 h.1 name.0 h.3 name.1)
 
   -- so it isn't of the interface itself
-  other-owner : (number : ℕ) (def : TypeDef) → type_at r number ≡ Some def → def.owner ≡ owner.Interface (record { 0 = n }) → IsTarget def → (k == n) ≡ false → list_all (has_owner r def.owner) (used_by_type r def) ≡ true → ⊥
+  other-owner : (number : ℕ) (def : TypeDef) → type_at r number ≡ Some def → def.owner ≡ owner.Interface (record { 0 = n }) → IsTarget def → (k == n) ≡ false
+      → list_all (has_owner r def.owner) (used_by_type r def) ≡ true → ⊥
   other-owner number def at owned h other all =
       let stays = all-contained (has_owner r def.owner) (used_by_type r def) h.0 all (target-used number def at h) in
       let same : same_owner h.1.owner def.owner ≡ true = ap (λ o. option_map_or (λ (d : TypeDef). same_owner d.owner def.owner) o false) (sym h.3) ∙ stays in
@@ -95,11 +97,13 @@ module _ (r : Resolve) (v : IsValid r) (n k : ℕ) where
       let wrong : true ≡ false = sym (same-number n) ∙ ap (λ m. m == n) (sym number_) ∙ other in
       let z : ⊥ = cc in z
 
-  listed-use : (def : TypeDef) (number : ℕ) (name : String Global) → type_at r number ≡ Some def → def.name ≡ Some name → def.owner ≡ owner.Interface (record { 0 = n }) → used_interface r def ≡ Some k → (k == n) ≡ false → is_named_at r k ≡ true
+  listed-use : (def : TypeDef) (number : ℕ) (name : String Global) → type_at r number ≡ Some def → def.name ≡ Some name → def.owner ≡ owner.Interface (record { 0 = n }) → used_interface r def ≡ Some k
+      → (k == n) ≡ false → is_named_at r k ≡ true
   listed-use def number name at named owned used other =
       or-cases (is_none def.name) (list_all (has_owner r def.owner) (used_by_type r def) || is_use r def) (owner-kept r v number def at)
       (λ none. let wrong : false ≡ true = ap is_none (sym named) ∙ none in let z : ⊥ = cc in absurd z)
-      (λ rest. or-cases (list_all (has_owner r def.owner) (used_by_type r def)) (is_use r def) rest (λ all. absurd (other-owner number def at owned (target-of def used) other all)) (λ is. of-used def used is))
+      (λ rest. or-cases (list_all (has_owner r def.owner) (used_by_type r def)) (is_use r def) rest (λ all. absurd (other-owner number def at owned (target-of def used) other all))
+      (λ is. of-used def used is))
 
   not-true : (b : Bool) → not b ≡ true → b ≡ false
   not-true true h = sym h

@@ -59,13 +59,17 @@ use Rattle.wit_model.proofs.ValidLemmas.{type_passes}
 abbrev signature_like : Resolve → Bool → List Param → Option ValueType → Signature
 signature_like r a ps o = record { is_async = a; params = map (λ p. (text_of p.name, type_tree r p.ty)) ps; result = option_map (type_tree r) o }
 
-pub signature-formed : (r : Resolve) (scope : Scope) (ps : List Param) (o : Option ValueType) → scope.is_sound ≡ true → (a : Bool) → list_all (λ t. not (is_resource_type r t)) (map (λ p. p.ty) ps ++ option_to_list o) ≡ true → Agree r scope.resources (map (λ p. p.ty) ps ++ option_to_list o) → IsFormedSignature scope (signature_like r a ps o)
+pub signature-formed : (r : Resolve) (scope : Scope) (ps : List Param) (o : Option ValueType) → scope.is_sound ≡ true → (a : Bool)
+    → list_all (λ t. not (is_resource_type r t)) (map (λ p. p.ty) ps ++ option_to_list o) ≡ true → Agree r scope.resources (map (λ p. p.ty) ps ++ option_to_list o)
+    → IsFormedSignature scope (signature_like r a ps o)
 signature-formed r scope ps o sound a h agree =
     let split = sym (list_all-append (λ t. not (is_resource_type r t)) (map (λ p. p.ty) ps) (option_to_list o)) ∙ h in
     record {
       sound = sound;
-      params = ap (are_values scope.resources) (param-trees r ps) ∙ values-of r scope.resources (map (λ p. p.ty) ps) (first_true _ _ split) (λ t c. agree t (Contains-append_left (map (λ p. p.ty) ps) (option_to_list o) t c));
-      result_ = optional-values r scope.resources o (second_true (list_all (λ t. not (is_resource_type r t)) (map (λ p. p.ty) ps)) _ split) (λ t c. agree t (Contains-append_right (map (λ p. p.ty) ps) (option_to_list o) t c));
+      params = ap (are_values scope.resources) (param-trees r ps) ∙ values-of r scope.resources (map (λ p. p.ty) ps) (first_true _ _ split)
+          (λ t c. agree t (Contains-append_left (map (λ p. p.ty) ps) (option_to_list o) t c));
+      result_ = optional-values r scope.resources o (second_true (list_all (λ t. not (is_resource_type r t)) (map (λ p. p.ty) ps)) _ split)
+          (λ t c. agree t (Contains-append_right (map (λ p. p.ty) ps) (option_to_list o) t c));
     }
   where
     param-trees : (r : Resolve) (ps : List Param) → map (λ p. p.1) (map {B = Text × Tree} (λ p. (text_of p.name, type_tree r p.ty)) ps) ≡ map (type_tree r) (map (λ p. p.ty) ps)
@@ -93,7 +97,8 @@ pub valid-resource : (r : Resolve) → IsValid r → (n : ℕ) (def : TypeDef) �
 valid-resource r v n def at = resource_step r (valid-references r v) n def at
 
 -- what a type is defined as is well formed
-pub valid-formed : (r : Resolve) (resources : Names) → IsValid r → (n : ℕ) (def : TypeDef) → type_at r n ≡ Some def → Agree r resources (parts_of def.kind) → has_definition def.kind ≡ true → is_formed resources (kind_tree r def.kind) ≡ true
+pub valid-formed : (r : Resolve) (resources : Names) → IsValid r → (n : ℕ) (def : TypeDef) → type_at r n ≡ Some def → Agree r resources (parts_of def.kind) → has_definition def.kind ≡ true
+    → is_formed resources (kind_tree r def.kind) ≡ true
 unfolding shapes handles
 valid-formed r resources v n def at agree d =
     let parts = type_passes handles r v.rules.handles n def at in
@@ -103,14 +108,17 @@ valid-formed r resources v n def at agree d =
     agree
 
 -- a name stands for a resource where it declares one
-pub valid-alike : (r : Resolve) (resources : Names) → IsValid r → (n : ℕ) (def : TypeDef) → type_at r n ≡ Some def → Agree r resources (parts_of def.kind) → is_resource_declaration resources (declaration_of r def) ≡ is_resource r n
+pub valid-alike : (r : Resolve) (resources : Names) → IsValid r → (n : ℕ) (def : TypeDef) → type_at r n ≡ Some def → Agree r resources (parts_of def.kind)
+    → is_resource_declaration resources (declaration_of r def) ≡ is_resource r n
 valid-alike r resources v n def at agree = kind-alike r resources def.kind agree ∙ sym (valid-resource r v n def at)
 
 -- a function of an interface takes and gives no resource by itself
-pub valid-signature : (r : Resolve) (scope : Scope) → IsValid r → scope.is_sound ≡ true → (n : ℕ) (i : Interface) (f : Function) → interface_at r n ≡ Some i → Contains (functions_of_interface i) f → Agree r scope.resources (function_types f) → IsFormedSignature scope (signature_of r f)
+pub valid-signature : (r : Resolve) (scope : Scope) → IsValid r → scope.is_sound ≡ true → (n : ℕ) (i : Interface) (f : Function) → interface_at r n ≡ Some i → Contains (functions_of_interface i) f
+    → Agree r scope.resources (function_types f) → IsFormedSignature scope (signature_of r f)
 unfolding handles
 valid-signature r scope v sound n i f at c agree =
-    let of_all : list_all (λ t. not (is_resource_type r t)) (function_types f) ≡ true = all-contained (λ f. list_all (λ t. not (is_resource_type r t)) (function_types f)) (functions_of_interface i) f (interface_passes handles r v.rules.handles n i at) c in
+    let of_all : list_all (λ t. not (is_resource_type r t)) (function_types f) ≡ true =
+    all-contained (λ f. list_all (λ t. not (is_resource_type r t)) (function_types f)) (functions_of_interface i) f (interface_passes handles r v.rules.handles n i at) c in
     signature-formed r scope f.params.items f.result sound (is_async f.kind) of_all agree
 
 -- ---- the table of an owner
@@ -119,7 +127,8 @@ valid-signature r scope v sound n i f at c agree =
 pub valid-ownerless : (r : Resolve) → IsValid r → (n : ℕ) (def : TypeDef) → type_at r n ≡ Some def → def.name ≡ None → same_owner def.owner owner.None ≡ true
 unfolding order_of_types
 valid-ownerless r v n def is none =
-    let passed = second_true (list_all (λ m. nat_lt m (0 + n)) (kind_numbers def.kind)) _ (each_from_at (order_of_types.type_ r) 0 r.types.items n def (lists_pass order_of_types r v.rules.order_of_types).3 is) in
+    let passed = second_true (list_all (λ m. nat_lt m (0 + n)) (kind_numbers def.kind)) _
+    (each_from_at (order_of_types.type_ r) 0 r.types.items n def (lists_pass order_of_types r v.rules.order_of_types).3 is) in
     ap (λ o. option_map_or (λ name. is_listed r (0 + n) (text_of name) def.owner) o (same_owner def.owner owner.None)) (sym none) ∙ passed
 
 pub foreign-interface : (own : Option InterfaceId) (a : TypeOwner) (i : InterfaceId) → foreign_owner own a ≡ Some i → a ≡ owner.Interface i
@@ -229,7 +238,8 @@ module _ (r : Resolve) (v : IsValid r) (o : TypeOwner) where
         stands = below-contains (length r.interfaces.items) i.0 (ltb→lt i.0 (length r.interfaces.items) (subst T (sym (ap (owner_in_range r) (sym owned) ∙ valid-owner_in_range r v n def is)) tt));
       }
 
-  pub declared-there : (n : ℕ) (def : TypeDef) → type_at r n ≡ Some def → (name : String Global) → def.name ≡ Some name → same_owner def.owner o ≡ true → Contains (table_scope r o).declarations (text_of name, type_meaning r def)
+  pub declared-there : (n : ℕ) (def : TypeDef) → type_at r n ≡ Some def → (name : String Global) → def.name ≡ Some name → same_owner def.owner o ≡ true
+      → Contains (table_scope r o).declarations (text_of name, type_meaning r def)
   declared-there n def is name e s = contains-flat_map (declaration_in r o) r.types.items n def (text_of name, type_meaning r def) is
       (subst (λ (b : Bool). Contains (cond b (named_declaration r def.name def) []) (text_of name, type_meaning r def)) (sym (same-back def.owner o s))
       (subst (λ (x : Option (String Global)). Contains (named_declaration r x def) (text_of name, type_meaning r def)) (sym e) (contains-one (text_of name, type_meaning r def))))
@@ -250,12 +260,14 @@ module _ (r : Resolve) (v : IsValid r) (o : TypeOwner) where
   table-agree = met-agree r v (is_met_owner r o) (one-home r v o)
 
   -- a named type that may be met is of the owner, or of another interface, which has a name
-  pub named-met : (def : TypeDef) → is_met_by r o def ≡ true → is_some def.name ≡ true → (same_owner def.owner o || (is_some (foreign_owner (interface_of_owner o) def.owner) && has_named_owner r def)) ≡ true
+  pub named-met : (def : TypeDef) → is_met_by r o def ≡ true → is_some def.name ≡ true
+      → (same_owner def.owner o || (is_some (foreign_owner (interface_of_owner o) def.owner) && has_named_owner r def)) ≡ true
   named-met def met named = or-right (is_none def.name) _ (nameless def.name named) met
 
   -- the named types of a list are met, where all that it meets may be
   pub all-met : (ts : List ValueType) → AllMetBy r o ts → AreMet ts
-  all-met ts met t c id e def is named = owner-met def (either-owner (same_owner def.owner o) (is_some (foreign_owner (interface_of_owner o) def.owner)) (has_named_owner r def) (named-met def (met id.0 def (t, c, reached) is) named))
+  all-met ts met t c id e def is named = owner-met def (either-owner (same_owner def.owner o) (is_some (foreign_owner (interface_of_owner o) def.owner)) (has_named_owner r def)
+      (named-met def (met id.0 def (t, c, reached) is) named))
     where
       reached : Reaches r (interface_of_owner o) t id.0
       reached = subst (λ (x : ValueType). Reaches r (interface_of_owner o) x id.0) (sym e) (itself id)

@@ -35,7 +35,8 @@ use Rattle.comp_meaning.proofs.FollowLemmas.{provided_is as unprovided}
 
 -- ---- which they are
 
-pub slots-push : (test : Declaration → Bool) (n : ℕ) (ds : Declarations) (d : Declaration) → slots_from test n (append ds (Declarations.declares d Declarations.no_more)) ≡ slots_from test n ds ++ cond (test d) ((n + type_slots_of ds) ∷ []) []
+pub slots-push : (test : Declaration → Bool) (n : ℕ) (ds : Declarations) (d : Declaration)
+    → slots_from test n (append ds (Declarations.declares d Declarations.no_more)) ≡ slots_from test n ds ++ cond (test d) ((n + type_slots_of ds) ∷ []) []
 slots-push test n Declarations.no_more d = append-nil (cond (test d) (n ∷ []) []) ∙ ap (λ (k : ℕ). cond (test d) (k ∷ []) []) (sym (add-nothing n))
 slots-push test n (Declarations.declares e rest) d =
     let here = cond (test e) (n ∷ []) [] in
@@ -85,7 +86,8 @@ slots-declared test n (Declarations.instance inner rest) = slots-declared test (
 
 pub targets-push : (ds : Declarations) (d : Declaration) → targets_of (append ds (Declarations.declares d Declarations.no_more)) ≡ targets_of ds ++ option_to_list (target_of d)
 targets-push Declarations.no_more d = append-nil (option_to_list (target_of d))
-targets-push (Declarations.declares e rest) d = ap (λ xs. option_to_list (target_of e) ++ xs) (targets-push rest d) ∙ sym (append_assoc (option_to_list (target_of e)) (targets_of rest) (option_to_list (target_of d)))
+targets-push (Declarations.declares e rest) d = ap (λ xs. option_to_list (target_of e) ++ xs) (targets-push rest d) ∙ sym
+    (append_assoc (option_to_list (target_of e)) (targets_of rest) (option_to_list (target_of d)))
 targets-push (Declarations.component inner rest) d = targets-push rest d
 targets-push (Declarations.instance inner rest) d = targets-push rest d
 
@@ -96,11 +98,13 @@ targets-instance (Declarations.component x rest) inner = targets-instance rest i
 targets-instance (Declarations.instance x rest) inner = targets-instance rest inner
 
 -- one declaration more
-pub slots-next : (test : Declaration → Bool) (ds : Declarations) (d : Declaration) → slots_from test 0 (append ds (Declarations.declares d Declarations.no_more)) ≡ slots_from test 0 ds ++ cond (test d) (type_slots_of ds ∷ []) []
+pub slots-next : (test : Declaration → Bool) (ds : Declarations) (d : Declaration)
+    → slots_from test 0 (append ds (Declarations.declares d Declarations.no_more)) ≡ slots_from test 0 ds ++ cond (test d) (type_slots_of ds ∷ []) []
 slots-next test ds d = slots-push test 0 ds d ∙ ap (λ (k : ℕ). slots_from test 0 ds ++ cond (test d) (k ∷ []) []) (let e : 0 + type_slots_of ds ≡ type_slots_of ds = omega arith in e)
 
 -- where nothing is defined, and no type is named
-pub slots-kept : (test : Declaration → Bool) (ds : Declarations) (d : Declaration) → test d ≡ false → slots_from test 0 (append ds (Declarations.declares d Declarations.no_more)) ≡ slots_from test 0 ds
+pub slots-kept : (test : Declaration → Bool) (ds : Declarations) (d : Declaration) → test d ≡ false
+    → slots_from test 0 (append ds (Declarations.declares d Declarations.no_more)) ≡ slots_from test 0 ds
 slots-kept test ds d e = slots-push test 0 ds d ∙ ap (λ (b : Bool). slots_from test 0 ds ++ cond b ((0 + type_slots_of ds) ∷ []) []) e ∙ append-nil (slots_from test 0 ds)
 
 pub targets-kept : (ds : Declarations) (d : Declaration) → target_of d ≡ None → targets_of (append ds (Declarations.declares d Declarations.no_more)) ≡ targets_of ds
@@ -112,7 +116,8 @@ list-slots : (ds : List Declaration) → 0 + type_slots_of (from_list ds) ≡ ty
 list-slots [] = refl
 list-slots (d ∷ ds) = let more = list-slots ds in omega arith
 
-pub slots-more : (test : Declaration → Bool) (ds : List Declaration) (d : Declaration) → slots_from test 0 (from_list (ds ++ d ∷ [])) ≡ slots_from test 0 (from_list ds) ++ cond (test d) (type_slots ds ∷ []) []
+pub slots-more : (test : Declaration → Bool) (ds : List Declaration) (d : Declaration)
+    → slots_from test 0 (from_list (ds ++ d ∷ [])) ≡ slots_from test 0 (from_list ds) ++ cond (test d) (type_slots ds ∷ []) []
 slots-more test ds d = ap (slots_from test 0) (list-push ds d) ∙ slots-push test 0 (from_list ds) d ∙ ap (λ (k : ℕ). slots_from test 0 (from_list ds) ++ cond (test d) (k ∷ []) []) (list-slots ds)
 
 pub targets-more : (ds : List Declaration) (d : Declaration) → targets_of (from_list (ds ++ d ∷ [])) ≡ targets_of (from_list ds) ++ option_to_list (target_of d)
@@ -142,7 +147,8 @@ instances-append before (Declarations.component inner rest) es =
     instances-append here rest es ∙ ap (λ (x : Declarations). instances_from here rest ++ instances_from x es) (append-twice before (Declarations.component inner Declarations.no_more) rest)
 instances-append before (Declarations.instance inner rest) es =
     let here = append before (Declarations.instance inner Declarations.no_more) in
-    ap (λ xs. (before, inner) ∷ xs) (instances-append here rest es ∙ ap (λ (x : Declarations). instances_from here rest ++ instances_from x es) (append-twice before (Declarations.instance inner Declarations.no_more) rest))
+    ap (λ xs. (before, inner) ∷ xs) (instances-append here rest es ∙ ap (λ (x : Declarations). instances_from here rest ++ instances_from x es)
+    (append-twice before (Declarations.instance inner Declarations.no_more) rest))
 
 pub instances-kept : (ds : Declarations) (d : Declaration) → instances_declared (append ds (Declarations.declares d Declarations.no_more)) ≡ instances_declared ds
 instances-kept ds d = instances-append Declarations.no_more ds (Declarations.declares d Declarations.no_more) ∙ append-nil (instances_declared ds)
@@ -177,20 +183,26 @@ provided-plain false t e = refl
 
 definition-plain : (slots : List Slot) (d : DefinedType) → are_plain (definition slots d)
 definition-plain slots (DefinedType.primitive p) = refl
-definition-plain slots (DefinedType.record_of fields) = bound (each (field_type slots) fields) (λ fs. provided (is_filled fields) (trees.record_tree fs)) (λ fs. provided-plain (is_filled fields) (trees.record_tree fs) refl)
-definition-plain slots (DefinedType.variant_of cases) = bound (each (case_type slots) cases) (λ cs. provided (is_filled cases) (trees.variant_tree cs)) (λ cs. provided-plain (is_filled cases) (trees.variant_tree cs) refl)
+definition-plain slots (DefinedType.record_of fields) = bound (each (field_type slots) fields) (λ fs. provided (is_filled fields) (trees.record_tree fs))
+    (λ fs. provided-plain (is_filled fields) (trees.record_tree fs) refl)
+definition-plain slots (DefinedType.variant_of cases) = bound (each (case_type slots) cases) (λ cs. provided (is_filled cases) (trees.variant_tree cs))
+    (λ cs. provided-plain (is_filled cases) (trees.variant_tree cs) refl)
 definition-plain slots (DefinedType.list_of v) = bound (value_type slots v) (λ t. Some (trees.list_tree t)) (λ t. refl)
-definition-plain slots (DefinedType.fixed_length_list_of v n) = bound (value_type slots v) (λ t. provided (nat_le 1 n) (trees.fixed_list_tree t n)) (λ t. provided-plain (nat_le 1 n) (trees.fixed_list_tree t n) refl)
-definition-plain slots (DefinedType.tuple_of vs) = bound (each (value_type slots) vs) (λ ts. provided (is_filled vs) (trees.tuple_tree ts)) (λ ts. provided-plain (is_filled vs) (trees.tuple_tree ts) refl)
+definition-plain slots (DefinedType.fixed_length_list_of v n) = bound (value_type slots v) (λ t. provided (nat_le 1 n) (trees.fixed_list_tree t n))
+    (λ t. provided-plain (nat_le 1 n) (trees.fixed_list_tree t n) refl)
+definition-plain slots (DefinedType.tuple_of vs) = bound (each (value_type slots) vs) (λ ts. provided (is_filled vs) (trees.tuple_tree ts))
+    (λ ts. provided-plain (is_filled vs) (trees.tuple_tree ts) refl)
 definition-plain slots (DefinedType.flags_of names) = provided-plain (is_filled names) (trees.flags_tree names) refl
 definition-plain slots (DefinedType.enum_of names) = provided-plain (is_filled names) (trees.enum_tree names) refl
 definition-plain slots (DefinedType.option_of v) = bound (value_type slots v) (λ t. Some (trees.option_tree t)) (λ t. refl)
-definition-plain slots (DefinedType.result_of ok err) = bound (given (value_type slots) ok) (λ o. given (value_type slots) err >>= λ e. Some (trees.result_tree o e)) (λ o. bound (given (value_type slots) err) (λ e. Some (trees.result_tree o e)) (λ e. refl))
+definition-plain slots (DefinedType.result_of ok err) = bound (given (value_type slots) ok) (λ o. given (value_type slots) err >>= λ e. Some (trees.result_tree o e))
+    (λ o. bound (given (value_type slots) err) (λ e. Some (trees.result_tree o e)) (λ e. refl))
 definition-plain slots (DefinedType.own_of n) = bound (resource_in (slice_get slots n)) (λ r. Some (trees.own_tree r)) (λ r. refl)
 definition-plain slots (DefinedType.borrow_of n) = bound (resource_in (slice_get slots n)) (λ r. Some (trees.borrow_tree r)) (λ r. refl)
 definition-plain slots (DefinedType.stream_of v) = bound (given (value_type slots) v) (λ t. Some (trees.stream_tree t)) (λ t. refl)
 definition-plain slots (DefinedType.future_of v) = bound (given (value_type slots) v) (λ t. Some (trees.future_tree t)) (λ t. refl)
-definition-plain slots (DefinedType.map_of k v) = bound (value_type slots k) (λ key. value_type slots v >>= λ t. provided (is_key key) (trees.map_tree key t)) (λ key. bound (value_type slots v) (λ t. provided (is_key key) (trees.map_tree key t)) (λ t. provided-plain (is_key key) (trees.map_tree key t) refl))
+definition-plain slots (DefinedType.map_of k v) = bound (value_type slots k) (λ key. value_type slots v >>= λ t. provided (is_key key) (trees.map_tree key t))
+    (λ key. bound (value_type slots v) (λ t. provided (is_key key) (trees.map_tree key t)) (λ t. provided-plain (is_key key) (trees.map_tree key t) refl))
 
 defined-plain : (slots : List Slot) (d : DefinedType) (t : Tree) → definition slots d ≡ Some t → IsPlain t
 defined-plain slots d t e = plain-from t (ap (λ o. option_map_or is_name o false) (sym e) ∙ definition-plain slots d)
@@ -226,9 +238,12 @@ then-front xs ys zs f g = (f.0 ++ g.0, g.1 ∙ ap (λ s. s ++ g.0) f.1 ∙ appen
 -- ---- in an instance type
 
 inner-front : (place : Place) (outer : List Slot) (s s' : InstanceScope) (d : Declaration) → instance_step place outer s d ≡ Some s' → Front s.slots s'.slots
-inner-front place outer s s' (Declaration.defined q) e = let b = unbind (definition s.slots q) _ s' e in one-front s.slots s'.slots (Slot.value b.item) (ap (λ (z : InstanceScope). z.slots) (some-same _ s' b.then))
-inner-front place outer s s' (Declaration.function q) e = let b = unbind (function_signature s.slots q) _ s' e in one-front s.slots s'.slots (Slot.function b.item) (ap (λ (z : InstanceScope). z.slots) (some-same _ s' b.then))
-inner-front place outer s s' (Declaration.alias_of (Alias.of_outer scopes n)) e = let b = unbind (slice_get outer n) _ s' e in one-front s.slots s'.slots b.item (ap (λ (z : InstanceScope). z.slots) (unprovided _ _ s' b.then))
+inner-front place outer s s' (Declaration.defined q) e = let b = unbind (definition s.slots q) _ s' e in
+    one-front s.slots s'.slots (Slot.value b.item) (ap (λ (z : InstanceScope). z.slots) (some-same _ s' b.then))
+inner-front place outer s s' (Declaration.function q) e = let b = unbind (function_signature s.slots q) _ s' e in
+    one-front s.slots s'.slots (Slot.function b.item) (ap (λ (z : InstanceScope). z.slots) (some-same _ s' b.then))
+inner-front place outer s s' (Declaration.alias_of (Alias.of_outer scopes n)) e = let b = unbind (slice_get outer n) _ s' e in
+    one-front s.slots s'.slots b.item (ap (λ (z : InstanceScope). z.slots) (unprovided _ _ s' b.then))
 inner-front place outer s s' (Declaration.alias_of (Alias.of_export m n)) e = absurd (let z : ⊥ = cc in z)
 inner-front place outer s s' (Declaration.imported name described) e = absurd (let z : ⊥ = cc in z)
 inner-front place outer s s' (Declaration.exported name described) e = go described (unwhen (is_simple name) _ s' e)
@@ -250,17 +265,24 @@ inner-fronts place outer s s' (d ∷ ds) e =
     then-front s.slots b.item.slots s'.slots (inner-front place outer s b.item d b.is) (inner-fronts place outer b.item s' ds b.then)
 
 -- a value type that has just been defined
-inner-new : (place : Place) (outer : List Slot) (s m : InstanceScope) (d : Declaration) (i : ℕ) → instance_step place outer s d ≡ Some m → Contains (cond (is_value_type d) (length s.slots ∷ []) []) i → HoldsPlain m.slots i
+inner-new : (place : Place) (outer : List Slot) (s m : InstanceScope) (d : Declaration) (i : ℕ) → instance_step place outer s d ≡ Some m → Contains (cond (is_value_type d) (length s.slots ∷ []) []) i
+    → HoldsPlain m.slots i
 inner-new place outer s m (Declaration.defined q) i e c =
     let b = unbind (definition s.slots q) _ m e in
     let made : s.slots ++ Slot.value b.item ∷ [] ≡ m.slots = ap (λ (z : InstanceScope). z.slots) (some-same _ m b.then) in
-    record { type_there = b.item; there = sym (ap (λ zs. slice_get zs i) made) ∙ ap (slice_get (s.slots ++ Slot.value b.item ∷ [])) (sym (one-contained (length s.slots) i c)) ∙ get-end s.slots (Slot.value b.item); plain = defined-plain s.slots q b.item b.is }
+    record {
+      type_there = b.item;
+      there = sym (ap (λ zs. slice_get zs i) made) ∙ ap (slice_get (s.slots ++ Slot.value b.item ∷ [])) (sym (one-contained (length s.slots) i c)) ∙ get-end s.slots
+          (Slot.value b.item);
+      plain = defined-plain s.slots q b.item b.is;
+    }
 inner-new place outer s m (Declaration.function q) i e c = none-in i c
 inner-new place outer s m (Declaration.alias_of a) i e c = none-in i c
 inner-new place outer s m (Declaration.imported name described) i e c = none-in i c
 inner-new place outer s m (Declaration.exported name described) i e c = none-in i c
 
-pub inner-values : (place : Place) (outer : List Slot) (s s' : InstanceScope) (ds : List Declaration) (i : ℕ) → instance_steps place outer s ds ≡ Some s' → Contains (slots_from is_value_type (length s.slots) (from_list ds)) i → HoldsPlain s'.slots i
+pub inner-values : (place : Place) (outer : List Slot) (s s' : InstanceScope) (ds : List Declaration) (i : ℕ) → instance_steps place outer s ds ≡ Some s'
+    → Contains (slots_from is_value_type (length s.slots) (from_list ds)) i → HoldsPlain s'.slots i
 inner-values place outer s s' [] i e c = none-in i c
 inner-values place outer s s' (d ∷ ds) i e c =
     let b = unbind (instance_step place outer s d) _ s' e in
@@ -289,12 +311,15 @@ function-front : (direction : Direction) (name : ExternName) (n : ℕ) (s s' : S
 function-front direction name n s s' e = let a = unbind (function_in (slice_get s.slots n)) _ s' e in front-to s.slots _ s' (unprovided _ _ s' a.then) (seen-front direction _ s s.slots refl)
 
 type-front : (name : ExternName) (described : ComponentTypeRef) (s s' : Scope) → see_type name described s ≡ Some s' → Front s.slots s'.slots
-type-front name described s s' e = let a = unbind (named_type s.slots Place.here name.text described) _ s' e in one-front s.slots s'.slots a.item.1 (ap (λ (z : Scope). z.slots) (unprovided _ _ s' a.then))
+type-front name described s s' e = let a = unbind (named_type s.slots Place.here name.text described) _ s' e in
+    one-front s.slots s'.slots a.item.1 (ap (λ (z : Scope). z.slots) (unprovided _ _ s' a.then))
 
 outer-front : (s s' : Scope) (d : Declaration) → component_step s d ≡ Some s' → Front s.slots s'.slots
 outer-front s s' (Declaration.defined q) e = let b = unbind (definition s.slots q) _ s' e in one-front s.slots s'.slots (Slot.value b.item) (ap (λ (z : Scope). z.slots) (some-same _ s' b.then))
-outer-front s s' (Declaration.function q) e = let b = unbind (function_signature s.slots q) _ s' e in one-front s.slots s'.slots (Slot.function b.item) (ap (λ (z : Scope). z.slots) (some-same _ s' b.then))
-outer-front s s' (Declaration.alias_of (Alias.of_export m name)) e = let b = unbind (exported_slot name (slice_get s.instances m)) _ s' e in one-front s.slots s'.slots b.item (ap (λ (z : Scope). z.slots) (some-same _ s' b.then))
+outer-front s s' (Declaration.function q) e = let b = unbind (function_signature s.slots q) _ s' e in
+    one-front s.slots s'.slots (Slot.function b.item) (ap (λ (z : Scope). z.slots) (some-same _ s' b.then))
+outer-front s s' (Declaration.alias_of (Alias.of_export m name)) e = let b = unbind (exported_slot name (slice_get s.instances m)) _ s' e in
+    one-front s.slots s'.slots b.item (ap (λ (z : Scope). z.slots) (some-same _ s' b.then))
 outer-front s s' (Declaration.alias_of (Alias.of_outer scopes n)) e = absurd (let z : ⊥ = cc in z)
 outer-front s s' (Declaration.imported name (refs.Instance n)) e = instance-front import_ name n s s' e
 outer-front s s' (Declaration.imported name (refs.Func n)) e = function-front import_ name n s s' e
@@ -322,7 +347,12 @@ outer-new : (s m : Scope) (d : Declaration) (i : ℕ) → component_step s d ≡
 outer-new s m (Declaration.defined q) i e c =
     let b = unbind (definition s.slots q) _ m e in
     let made : s.slots ++ Slot.value b.item ∷ [] ≡ m.slots = ap (λ (z : Scope). z.slots) (some-same _ m b.then) in
-    record { type_there = b.item; there = sym (ap (λ zs. slice_get zs i) made) ∙ ap (slice_get (s.slots ++ Slot.value b.item ∷ [])) (sym (one-contained (length s.slots) i c)) ∙ get-end s.slots (Slot.value b.item); plain = defined-plain s.slots q b.item b.is }
+    record {
+      type_there = b.item;
+      there = sym (ap (λ zs. slice_get zs i) made) ∙ ap (slice_get (s.slots ++ Slot.value b.item ∷ [])) (sym (one-contained (length s.slots) i c)) ∙ get-end s.slots
+          (Slot.value b.item);
+      plain = defined-plain s.slots q b.item b.is;
+    }
 outer-new s m (Declaration.function q) i e c = none-in i c
 outer-new s m (Declaration.alias_of a) i e c = none-in i c
 outer-new s m (Declaration.imported name described) i e c = none-in i c

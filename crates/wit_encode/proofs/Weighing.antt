@@ -110,7 +110,8 @@ given-fits None h = refl
 given-fits (Some t) h = let e = sum_by-cons length t [] in let low : length t ≤ limit = omega arith in fits-text t low
 
 -- a name with its external id
-export-fits : (text : Text) (id : Option Text) → length text + sum_by length (option_to_list id) ≤ limit → fits_name (record { text = text; implements = None; version_suffix = None; external_id = id }) ≡ true
+export-fits : (text : Text) (id : Option Text) → length text + sum_by length (option_to_list id) ≤ limit
+    → fits_name (record { text = text; implements = None; version_suffix = None; external_id = id }) ≡ true
 export-fits text id h = both-true _ _ (fits-text text (omega arith)) (given-fits id (omega arith))
 
 -- ---- definitions that don't fit are heavy
@@ -118,8 +119,10 @@ export-fits text id h = both-true _ _ (fits-text text (omega arith)) (given-fits
 abbrev members-weight : TypeDefKind → ℕ
 members-weight k = sum_by named-unit (members_of k)
 
-heavy : (ts : List Tree) (k : TypeDefKind) → ((t : ValueType) → k ≡ kind.Type_ t → fits_tree (tree_of ts t) ≡ true) → fits_tree (tree_of_declaration (declared_by ts k)) ≡ false → limit < members-weight k
-heavy ts (kind.Record x) alias e = names-heavy (map (λ f. text_of f.name) x.fields.items) (ap fits_names (sym (map-twice (λ (f : Text × Tree). f.0) (λ f. (text_of f.name, tree_of ts f.ty)) x.fields.items)) ∙ e)
+heavy : (ts : List Tree) (k : TypeDefKind) → ((t : ValueType) → k ≡ kind.Type_ t → fits_tree (tree_of ts t) ≡ true) → fits_tree (tree_of_declaration (declared_by ts k)) ≡ false
+    → limit < members-weight k
+heavy ts (kind.Record x) alias e = names-heavy (map (λ f. text_of f.name) x.fields.items)
+    (ap fits_names (sym (map-twice (λ (f : Text × Tree). f.0) (λ f. (text_of f.name, tree_of ts f.ty)) x.fields.items)) ∙ e)
 heavy ts (kind.Variant x) alias e = names-heavy (map (λ c. text_of c.name) x.cases.items)
     (ap fits_names (sym (map-twice (λ (c : Text × Bool). c.0) (λ (c : Text × Option Tree). (c.0, is_given c.1)) (map (λ c. (text_of c.name, option_map (tree_of ts) c.ty)) x.cases.items)
     ∙ map-twice (λ (c : Text × Option Tree). c.0) (λ c. (text_of c.name, option_map (tree_of ts) c.ty)) x.cases.items)) ∙ e)
@@ -146,7 +149,8 @@ module _ (r : Resolve) (v : IsValid r) where
   fits-number : (m : ℕ) (d : TypeDef) → type_at r m ≡ Some d → is_some d.name ≡ true → fits_tree (number_tree r m) ≡ true
   fits-number m d at named = ap fits_tree (tabled r (valid-layered r v) m d at) ∙ go d.name named
     where
-      go : (name : Option (String Global)) → is_some name ≡ true → fits_tree (option_map_or (λ name. Rattle.wit_model.specs.Tree.named (place_of r d.owner) (text_of name)) name (tree_of_declaration (declared_by (trees_of r) d.kind))) ≡ true
+      go : (name : Option (String Global)) → is_some name ≡ true
+          → fits_tree (option_map_or (λ name. Rattle.wit_model.specs.Tree.named (place_of r d.owner) (text_of name)) name (tree_of_declaration (declared_by (trees_of r) d.kind))) ≡ true
       go None e = absurd (let z : ⊥ = cc in z)
       go (Some name) e = refl
 
@@ -176,7 +180,8 @@ pub sum-among : (g : ℕ → ℕ) (xs ys : List ℕ) → AllPairs Differ xs → 
 sum-among g [] ys apart among = omega arith
 sum-among g (x ∷ xs) ys apart among =
     let s = split ys x (among x (0, omega arith, refl)) in
-    let rest = sum-among g xs (s.0 ++ s.1) (pairs-tail Differ x xs apart) (λ n c. without s.0 s.1 n (pairs-head Differ x xs n apart c) (subst (λ (zs : List ℕ). Contains zs n) s.2 (among n (contains-later x xs n c)))) in
+    let rest = sum-among g xs (s.0 ++ s.1) (pairs-tail Differ x xs apart)
+    (λ n c. without s.0 s.1 n (pairs-head Differ x xs n apart c) (subst (λ (zs : List ℕ). Contains zs n) s.2 (among n (contains-later x xs n c)))) in
     let whole = ap (sum_by g) s.2 ∙ sum_by-append g s.0 (x ∷ s.1) in
     let parts = sum_by-append g s.0 s.1 in
     let first = sum_by-cons g x xs in
@@ -249,11 +254,13 @@ entries-sum (e ∷ es) = sum_by-cons keyed-weight (with-key e) (map with-key es)
 
 params-sum : (ps : List Param) → sum_by (λ p. unit_of (text_of p.name ∷ [])) ps ≡ sum_by named-unit (map (λ p. text_of p.name) ps)
 params-sum [] = refl
-params-sum (p ∷ ps) = sum_by-cons (λ p. unit_of (text_of p.name ∷ [])) p ps ∙ (ap (λ n. named-unit (text_of p.name) + n) (params-sum ps) ∙ sym (sum_by-cons named-unit (text_of p.name) (map (λ p. text_of p.name) ps)))
+params-sum (p ∷ ps) = sum_by-cons (λ p. unit_of (text_of p.name ∷ [])) p ps
+    ∙ (ap (λ n. named-unit (text_of p.name) + n) (params-sum ps) ∙ sym (sum_by-cons named-unit (text_of p.name) (map (λ p. text_of p.name) ps)))
 
 pub type-heavy : (r : Resolve) (f : Function) → fits_request r (function_type (signature_of r f)) ≡ false → limit < function_weight f
 type-heavy r f e =
-    let names = names-heavy (map (λ p. text_of p.name) f.params.items) (ap fits_names (sym (map-twice (λ (p : Text × Tree). p.0) (λ p. (text_of p.name, tree_of (trees_of r) p.ty)) f.params.items)) ∙ e) in
+    let names = names-heavy (map (λ p. text_of p.name) f.params.items) (ap fits_names
+    (sym (map-twice (λ (p : Text × Tree). p.0) (λ p. (text_of p.name, tree_of (trees_of r) p.ty)) f.params.items)) ∙ e) in
     let same = params-sum f.params.items in
     omega (arith, names, same)
 
@@ -283,7 +290,8 @@ module _ (r : Resolve) (v : IsValid r) (o : TypeOwner) (ns : List ℕ) (all : Li
   pub own-weight : (n : ℕ) (d : TypeDef) → MetBy n → type_at r n ≡ Some d → foreign_owner (interface_of_owner o) d.owner ≡ None → weighs n ≡ definition_weight d
   own-weight n d m at f =
       ap (λ t. option_map_or (λ d. if is_brought r o n then unit_of (name_texts d) else definition_weight d) t 0) at
-      ∙ ap (λ b. if b then unit_of (name_texts d) else definition_weight d) (ap (λ t. option_map_or (λ d. if is_some d.name then not (same_owner d.owner o) else false) t false) at ∙ go (is_some d.name) refl)
+      ∙ ap (λ b. if b then unit_of (name_texts d) else definition_weight d)
+      (ap (λ t. option_map_or (λ d. if is_some d.name then not (same_owner d.owner o) else false) t false) at ∙ go (is_some d.name) refl)
     where
       go : (b : Bool) → is_some d.name ≡ b → (if b then not (same_owner d.owner o) else false) ≡ false
       go false e = refl
@@ -307,7 +315,8 @@ module _ (r : Resolve) (v : IsValid r) (o : TypeOwner) (ns : List ℕ) (all : Li
       let w = own-weight n d m at f in
       let long = over (length (text_of name) + sum_by length (option_to_list (optional_text d.external_id))) _ (export-fits (text_of name) (optional_text d.external_id)) u in
       let texts = sum_by-append length (name_texts d) (option_to_list (optional_text d.external_id)) in
-      let first : sum_by length (name_texts d) ≡ length (text_of name) = ap (λ x. sum_by length (option_to_list (optional_text x))) is ∙ (sum_by-cons length (text_of name) [] ∙ (let z : length (text_of name) + 0 ≡ length (text_of name) = omega arith in z)) in
+      let first : sum_by length (name_texts d) ≡ length (text_of name) = ap (λ x. sum_by length (option_to_list (optional_text x))) is
+      ∙ (sum_by-cons length (text_of name) [] ∙ (let z : length (text_of name) + 0 ≡ length (text_of name) = omega arith in z)) in
       omega (arith, w, long, texts, first)
   part-heavy-of n d m at (its_import j f u) = long-name d.name refl (sym (ap (λ (o : Option TypeDef). option_map_or (λ x. fits_given (optional_text x.name)) o true) at) ∙ u)
     where
@@ -322,7 +331,8 @@ module _ (r : Resolve) (v : IsValid r) (o : TypeOwner) (ns : List ℕ) (all : Li
       long-name None is e = let none : fits_given (optional_text d.name) ≡ true = ap (λ x. fits_given (optional_text x)) is in absurd (let z : ⊥ = cc in z)
       long-name (Some name) is e =
           let long = over (length (text_of name)) (fits_length (text_of name)) (fits-text (text_of name)) (sym (ap (λ x. fits_given (optional_text x)) is) ∙ e) in
-          let first : sum_by length (name_texts d) ≡ length (text_of name) = ap (λ x. sum_by length (option_to_list (optional_text x))) is ∙ (sum_by-cons length (text_of name) [] ∙ (let z : length (text_of name) + 0 ≡ length (text_of name) = omega arith in z)) in
+          let first : sum_by length (name_texts d) ≡ length (text_of name) = ap (λ x. sum_by length (option_to_list (optional_text x))) is
+          ∙ (sum_by-cons length (text_of name) [] ∙ (let z : length (text_of name) + 0 ≡ length (text_of name) = omega arith in z)) in
           let some = either (is_brought r o n) in
           let w = weighs-is in
           omega (arith, w, long, some, first)
@@ -350,7 +360,8 @@ module _ (r : Resolve) (v : IsValid r) (i : InterfaceId) (def : Interface) (home
   key-is : (e : String Global × Function) → Contains def.functions.entries e → text_of e.0 ≡ text_of e.1.name
   unfolding function_names
   key-is e c = text_same (text_of e.0) (text_of e.1.name) (first_true (text_eq (text_of e.0) (text_of e.1.name)) _
-      (all-contained (λ (e : String Global × Function). text_eq (text_of e.0) (text_of e.1.name) && is_member r (as_interface i.0) e.1) def.functions.entries e (interface_passes function_names r v.rules.function_names i.0 def home) c))
+      (all-contained (λ (e : String Global × Function). text_eq (text_of e.0) (text_of e.1.name) && is_member r (as_interface i.0) e.1) def.functions.entries e
+      (interface_passes function_names r v.rules.function_names i.0 def home) c))
 
   pub named-so : (f : Named) → Contains fs f → f.0 ≡ text_of f.1.name
   named-so f c = let e = entry-of f c in subst (λ (x : Named). x.0 ≡ text_of x.1.name) e.2 (key-is e.0 e.1)
@@ -385,7 +396,8 @@ module _ (r : Resolve) (v : IsValid r) (i : InterfaceId) (def : Interface) (home
   at-least-one n m = counted-least r v (owner.Interface i) (interface_type_numbers def) (functions_of_interface def) home-owner (values def.types) (map (λ f. f.1) fs) listed-here in-map n m
 
   part-heavy : (n : ℕ) (d : TypeDef) → Met n → type_at r n ≡ Some d → LacksPart r (Some i) (IsUnfit r) n d → limit < weigh n
-  part-heavy n d m at lacks = part-heavy-of r v (owner.Interface i) (interface_type_numbers def) (functions_of_interface def) home-owner (values def.types) (map (λ f. f.1) fs) listed-here in-map n d m at lacks
+  part-heavy n d m at lacks = part-heavy-of r v (owner.Interface i) (interface_type_numbers def) (functions_of_interface def) home-owner (values def.types) (map (λ f. f.1) fs) listed-here in-map n
+      d m at lacks
 
   request-heavy : (f : Named) → Contains fs f → (q : Request) → Contains (function_requests r f) q → IsUnfit r q → limit < function_weight f.1
   request-heavy f c q (zero, l, e) u = type-heavy r f.1 (ap (fits_request r) e ∙ u)

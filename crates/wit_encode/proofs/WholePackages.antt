@@ -52,7 +52,8 @@ module _ (r : Resolve) (v : IsValid r) (n : ℕ) (p : Package) (at : package_at 
       let s = is.shows _ (own-path r v n p at e c) in
       record { label = is.label; scope = s.scope; follows = s.follows; imports = s.imports; exported = s.exported; shows = s.shows }
 
-  types-of : (canonical : Bool) (entries : List Listed) (types : List (Text × Declarations)) → ((e : Listed) → Contains entries e → Contains p.interfaces.entries e) → AllZip (IsTypeOf r canonical) entries types → AllZip (IsInterfaceType r p) entries types
+  types-of : (canonical : Bool) (entries : List Listed) (types : List (Text × Declarations)) → ((e : Listed) → Contains entries e → Contains p.interfaces.entries e)
+      → AllZip (IsTypeOf r canonical) entries types → AllZip (IsInterfaceType r p) entries types
   types-of canonical [] [] own h = tt
   types-of canonical [] (x ∷ xs) own h = absurd h
   types-of canonical (e ∷ es) [] own h = absurd h
@@ -70,7 +71,8 @@ module _ (r : Resolve) (v : IsValid r) (n : ℕ) (p : Package) (at : package_at 
     shows = is.wraps.shows.shows;
   }
 
-  wrappers-of : (canonical : Bool) (entries : List ListedWorld) (types : List (Text × Declarations)) → AllZip (IsWrapperOf r canonical (identity_of p.name)) entries types → AllZip (IsListedWorldType r p) entries types
+  wrappers-of : (canonical : Bool) (entries : List ListedWorld) (types : List (Text × Declarations)) → AllZip (IsWrapperOf r canonical (identity_of p.name)) entries types
+      → AllZip (IsListedWorldType r p) entries types
   wrappers-of canonical [] [] h = tt
   wrappers-of canonical [] (x ∷ xs) h = absurd h
   wrappers-of canonical (e ∷ es) [] h = absurd h
@@ -85,7 +87,8 @@ module _ (r : Resolve) (v : IsValid r) (n : ℕ) (p : Package) (at : package_at 
     is = h.is ∙ ap exporting (sym (append-nil h.types));
   }
 
-  pub package-held : (canonical : Bool) (before parts : List Part) → HoldsInterfaces r canonical p.interfaces.entries before → AddsWorlds r canonical (identity_of p.name) p.worlds.entries before parts → HoldsPackage r canonical p parts
+  pub package-held : (canonical : Bool) (before parts : List Part) → HoldsInterfaces r canonical p.interfaces.entries before → AddsWorlds r canonical (identity_of p.name) p.worlds.entries before parts
+      → HoldsPackage r canonical p parts
   package-held canonical before parts h adds =
       let all = adds p.interfaces.entries (no-worlds_yet canonical p.interfaces.entries before h) in
       record {
@@ -153,21 +156,25 @@ module _ {X : Type 0} (r : Resolve) (p : Package) (canonical : Bool) (e : Error)
   pub interfaces-refused : RefusesInterfaces r p.interfaces.entries canonical e → IsErrAnd given (λ d. d ≡ e) → IfErr given (RefusesPackage r p canonical)
   interfaces-refused h same = passed (RefusesPackage.of_interfaces h) same
 
-  pub worlds-refused : (canonical ≡ true → HaveNoEqualPaths r p.interfaces.entries) → RefusesWorlds r p.worlds.entries canonical e → IsErrAnd given (λ d. d ≡ e) → IfErr given (RefusesPackage r p canonical)
+  pub worlds-refused : (canonical ≡ true → HaveNoEqualPaths r p.interfaces.entries) → RefusesWorlds r p.worlds.entries canonical e → IsErrAnd given (λ d. d ≡ e)
+      → IfErr given (RefusesPackage r p canonical)
   worlds-refused differ h same = passed (RefusesPackage.of_worlds differ h) same
 
   pub component-refused : RefusesPackage r p canonical e → IsErrAnd given (λ d. d ≡ e) → IfErr given (RefusesPackage r p canonical)
   component-refused = passed
 
 -- the same of the package of a number
-pub package-at : {X : Type 0} (r : Resolve) (n : ℕ) (canonical : Bool) (given : Result X Error) → ((p : Package) → package_at r n ≡ Some p → IfErr given (RefusesPackage r p canonical)) → IfErr given (RefusesPackageAt r n canonical)
+pub package-at : {X : Type 0} (r : Resolve) (n : ℕ) (canonical : Bool) (given : Result X Error) → ((p : Package) → package_at r n ≡ Some p → IfErr given (RefusesPackage r p canonical))
+    → IfErr given (RefusesPackageAt r n canonical)
 package-at r n canonical (Ok x) h = tt
 package-at r n canonical (Err e) h = h
 
-pub package-passed : {X : Type 0} (r : Resolve) (n : ℕ) (canonical : Bool) (e : Error) (given : Result X Error) → RefusesPackageAt r n canonical e → IsErrAnd given (λ d. d ≡ e) → IfErr given (RefusesPackageAt r n canonical)
+pub package-passed : {X : Type 0} (r : Resolve) (n : ℕ) (canonical : Bool) (e : Error) (given : Result X Error) → RefusesPackageAt r n canonical e → IsErrAnd given (λ d. d ≡ e)
+    → IfErr given (RefusesPackageAt r n canonical)
 package-passed r n canonical e (Ok x) h same = tt
 package-passed r n canonical e (Err d) h same = subst (RefusesPackageAt r n canonical) (sym same) h
 
-pub room-refused : {X : Type 0} (r : Resolve) (p : Package) (canonical : Bool) (given : Result X Error) → (canonical ≡ true → HasNoClashes r p) → IfErr given IsMemoryOrSize → IfErr given (RefusesPackage r p canonical)
+pub room-refused : {X : Type 0} (r : Resolve) (p : Package) (canonical : Bool) (given : Result X Error) → (canonical ≡ true → HasNoClashes r p) → IfErr given IsMemoryOrSize
+    → IfErr given (RefusesPackage r p canonical)
 room-refused r p canonical (Ok x) differ h = tt
 room-refused r p canonical (Err e) differ h = RefusesPackage.of_room differ h

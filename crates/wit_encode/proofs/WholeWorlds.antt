@@ -53,6 +53,7 @@ at-any (Ok x) p = p
 at-any (Err e) p = tt
 
 -- the same of the world of a number
-pub world-at : {X : Type 0} (r : Resolve) (n : ℕ) (canonical : Bool) (given : Result X Error) → ((w : World) → world_at r n ≡ Some w → IfErr given (RefusesWorld r w canonical)) → IfErr given (RefusesWorldAt r n canonical)
+pub world-at : {X : Type 0} (r : Resolve) (n : ℕ) (canonical : Bool) (given : Result X Error) → ((w : World) → world_at r n ≡ Some w → IfErr given (RefusesWorld r w canonical))
+    → IfErr given (RefusesWorldAt r n canonical)
 world-at r n canonical (Ok x) h = tt
 world-at r n canonical (Err e) h = h

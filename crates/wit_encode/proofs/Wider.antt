@@ -27,7 +27,8 @@ step-wider place outer x s m (Declaration.alias_of (Alias.of_export k name)) e =
 step-wider place outer x s m (Declaration.imported name described) e = e
 step-wider place outer x s m (Declaration.exported name described) e = e
 
-steps-wider : (place : Place) (outer : List Slot) (x : Slot) (s m : InstanceScope) (ds : List Declaration) → instance_steps place outer s ds ≡ Some m → instance_steps place (outer ++ x ∷ []) s ds ≡ Some m
+steps-wider : (place : Place) (outer : List Slot) (x : Slot) (s m : InstanceScope) (ds : List Declaration) → instance_steps place outer s ds ≡ Some m
+    → instance_steps place (outer ++ x ∷ []) s ds ≡ Some m
 steps-wider place outer x s m [] e = e
 steps-wider place outer x s m (d ∷ ds) e =
     let b = unbind (instance_step place outer s d) _ m e in
@@ -43,7 +44,8 @@ pub record Widened (a : Around) (al : Aliased) (x : Slot) : Type 0 where
   pub new : slice_get (outer_slots (with_alias a al).declared) (type_slots_of a.declared) ≡ Some x
 
 -- the alias takes the slot that the instance shows
-pub alias-step : (s : follow.Scope) (al : Aliased) (x : Slot) (instance : Instance) → slice_get s.instances al.instance ≡ Some instance → is_some instance.interface ≡ true → find_type al.name instance.view.types ≡ Some x
+pub alias-step : (s : follow.Scope) (al : Aliased) (x : Slot) (instance : Instance) → slice_get s.instances al.instance ≡ Some instance → is_some instance.interface ≡ true
+    → find_type al.name instance.view.types ≡ Some x
     → component_step s (alias_declared al) ≡ Some (in_scope x s)
 alias-step s al x instance at path found =
     let shown : exported_slot al.name (Some instance) ≡ Some x = bind (find_type al.name instance.view.types) x _ found ∙ ap (λ b. provided b x) path in

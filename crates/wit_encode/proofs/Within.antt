@@ -30,21 +30,26 @@ abbrev pub CanDefineFunction : Resolve → Declarations → Option OpenInterface
 CanDefineFunction r outer inner d = (s : Signature) × FollowsFunction (SlotsStand (contents_of r outer inner).slots) d s × IsFormedSignature (encoder_scope r outer inner) s
 
 abbrev DefinesTo : {E : Type 0} → Result ℕ E → Resolve → Declarations → Option OpenInterface → Declarations → Option OpenInterface → ComponentDefinedType → Type 0
-DefinesTo res r outer inner outer' inner' d = CallsTo res r outer inner outer' inner' (Defines (SlotsStand (contents_of r outer inner).slots) d) (definitions_with (contents_of r outer' inner') ≡ one_type_more (length (contents_of r outer inner).slots) (definitions_with (contents_of r outer inner)))
+DefinesTo res r outer inner outer' inner' d = CallsTo res r outer inner outer' inner' (Defines (SlotsStand (contents_of r outer inner).slots) d)
+    (definitions_with (contents_of r outer' inner') ≡ one_type_more (length (contents_of r outer inner).slots) (definitions_with (contents_of r outer inner)))
 
 abbrev DefinesFunctionTo : {E : Type 0} → Result ℕ E → Resolve → Declarations → Option OpenInterface → Declarations → Option OpenInterface → ComponentFuncType → Type 0
-DefinesFunctionTo res r outer inner outer' inner' d = CallsTo res r outer inner outer' inner' (DefinesFunction (SlotsStand (contents_of r outer inner).slots) d) (definitions_with (contents_of r outer' inner') ≡ one_function_more (length (contents_of r outer inner).slots) (definitions_with (contents_of r outer inner)))
+DefinesFunctionTo res r outer inner outer' inner' d = CallsTo res r outer inner outer' inner' (DefinesFunction (SlotsStand (contents_of r outer inner).slots) d)
+    (definitions_with (contents_of r outer' inner') ≡ one_function_more (length (contents_of r outer inner).slots) (definitions_with (contents_of r outer inner)))
 
 abbrev ShowsTo : {E : Type 0} → Result ℕ E → Resolve → Declarations → Option OpenInterface → Option OpenInterface → Option ℕ → ExternName → Type 0
-ShowsTo res r outer inner inner' slot name = CallsTo res r outer inner outer inner' (λ m. m ≡ tree (named (encoder_scope r outer inner).place name.text)) (ExportsOne (encoder_scope r outer inner) (definitions_with (contents_of r outer inner)) (definitions_with (contents_of r outer inner')) slot name)
+ShowsTo res r outer inner inner' slot name = CallsTo res r outer inner outer inner' (λ m. m ≡ tree (named (encoder_scope r outer inner).place name.text))
+    (ExportsOne (encoder_scope r outer inner) (definitions_with (contents_of r outer inner)) (definitions_with (contents_of r outer inner')) slot name)
 
 -- a definition, by the slot that is answered for it
-pub slot-defined : {E : Type 0} (res : Result ℕ E) (S S' : Pairs) (n n' : ℕ) (P : Standing → Type 0) (d d' : Definitions) → IfOk res (λ k. SlotAdded S S' n n' k P) → OnOk res (d' ≡ one_type_more n d) → IfOk res (λ k. d' ≡ one_type_more k d)
+pub slot-defined : {E : Type 0} (res : Result ℕ E) (S S' : Pairs) (n n' : ℕ) (P : Standing → Type 0) (d d' : Definitions) → IfOk res (λ k. SlotAdded S S' n n' k P) → OnOk res (d' ≡ one_type_more n d)
+    → IfOk res (λ k. d' ≡ one_type_more k d)
 slot-defined (Ok k) S S' n n' P d d' a e = e ∙ ap (λ (i : ℕ). one_type_more i d) (sym a.index)
 slot-defined (Err q) S S' n n' P d d' a e = e
 
 -- the type of a function, likewise
-pub slot-function : {E : Type 0} (res : Result ℕ E) (S S' : Pairs) (n n' : ℕ) (P : Standing → Type 0) (d d' : Definitions) → IfOk res (λ k. SlotAdded S S' n n' k P) → OnOk res (d' ≡ one_function_more n d) → IfOk res (λ k. d' ≡ one_function_more k d)
+pub slot-function : {E : Type 0} (res : Result ℕ E) (S S' : Pairs) (n n' : ℕ) (P : Standing → Type 0) (d d' : Definitions) → IfOk res (λ k. SlotAdded S S' n n' k P)
+    → OnOk res (d' ≡ one_function_more n d) → IfOk res (λ k. d' ≡ one_function_more k d)
 slot-function (Ok k) S S' n n' P d d' a e = e ∙ ap (λ (i : ℕ). one_function_more i d) (sym a.index)
 slot-function (Err q) S S' n n' P d d' a e = e
 
@@ -54,32 +59,39 @@ module _ {E : Type 0} (res : Result ℕ E) (r : Resolve) (outer : Declarations) 
     next = Some (record current { declared = ds' })
 
     pub defined-within : (d : ComponentDefinedType) → CanDefine r outer inner d
-        → IfOk res (λ k. (k ≡ type_slots current.declared) × (ds' ≡ current.declared ++ Declaration.defined (raw_defined d) ∷ [])) → OnErr res (ds' ≡ current.declared) → DefinesTo res r outer inner outer next d
+        → IfOk res (λ k. (k ≡ type_slots current.declared) × (ds' ≡ current.declared ++ Declaration.defined (raw_defined d) ∷ [])) → OnErr res (ds' ≡ current.declared)
+        → DefinesTo res r outer inner outer next d
     defined-within d q ok err = subst (λ (o : Option OpenInterface). CanDefine r outer o d → DefinesTo res r outer o outer next d) (sym is)
         (λ q. defined-inside res r current.interface (around_at outer current.foreign) current.declared ds' q.2.sound d q.0 q.1 q.2 ok err) q
 
     pub function-within : (d : ComponentFuncType) → CanDefineFunction r outer inner d
-        → IfOk res (λ k. (k ≡ type_slots current.declared) × (ds' ≡ current.declared ++ Declaration.function (raw_function d) ∷ [])) → OnErr res (ds' ≡ current.declared) → DefinesFunctionTo res r outer inner outer next d
+        → IfOk res (λ k. (k ≡ type_slots current.declared) × (ds' ≡ current.declared ++ Declaration.function (raw_function d) ∷ [])) → OnErr res (ds' ≡ current.declared)
+        → DefinesFunctionTo res r outer inner outer next d
     function-within d q ok err = subst (λ (o : Option OpenInterface). CanDefineFunction r outer o d → DefinesFunctionTo res r outer o outer next d) (sym is)
         (λ q. function-inside res r current.interface (around_at outer current.foreign) current.declared ds' q.2.sound d q.0 q.1 q.2 ok err) q
 
     pub type-within : (k : ℕ) (name : ExternName) → DeclaresSlot (encoder_scope r outer inner) (SlotsStand (contents_of r outer inner).slots) name k
-        → IfOk res (λ k'. (k' ≡ type_slots current.declared) × (ds' ≡ current.declared ++ Declaration.exported name (refs.TypeEq k) ∷ [])) → OnErr res (ds' ≡ current.declared) → ShowsTo res r outer inner next (Some k) name
-    type-within k name q ok err = subst (λ (o : Option OpenInterface). DeclaresSlot (encoder_scope r outer o) (SlotsStand (contents_of r outer o).slots) name k → ShowsTo res r outer o next (Some k) name) (sym is)
+        → IfOk res (λ k'. (k' ≡ type_slots current.declared) × (ds' ≡ current.declared ++ Declaration.exported name (refs.TypeEq k) ∷ [])) → OnErr res (ds' ≡ current.declared)
+        → ShowsTo res r outer inner next (Some k) name
+    type-within k name q ok err = subst (λ (o : Option OpenInterface). DeclaresSlot (encoder_scope r outer o) (SlotsStand (contents_of r outer o).slots) name k
+        → ShowsTo res r outer o next (Some k) name) (sym is)
         (λ q. type-inside res r current.interface (around_at outer current.foreign) current.declared ds' q.declared.sound k name q ok err) q
 
     pub resource-within : (name : ExternName) → DeclaresResource (encoder_scope r outer inner) name
-        → IfOk res (λ k'. (k' ≡ type_slots current.declared) × (ds' ≡ current.declared ++ Declaration.exported name refs.SubResource ∷ [])) → OnErr res (ds' ≡ current.declared) → ShowsTo res r outer inner next None name
+        → IfOk res (λ k'. (k' ≡ type_slots current.declared) × (ds' ≡ current.declared ++ Declaration.exported name refs.SubResource ∷ [])) → OnErr res (ds' ≡ current.declared)
+        → ShowsTo res r outer inner next None name
     resource-within name q ok err = subst (λ (o : Option OpenInterface). DeclaresResource (encoder_scope r outer o) name → ShowsTo res r outer o next None name) (sym is)
         (λ q. resource-inside res r current.interface (around_at outer current.foreign) current.declared ds' q.declared.sound name q ok err) q
 
   module _ (outer' : Declarations) (is : inner ≡ None) where
     pub defined-without : (d : ComponentDefinedType) → CanDefine r outer inner d
-        → IfOk res (λ k. (k ≡ type_slots_of outer) × (outer' ≡ append outer (Declarations.declares (Declaration.defined (raw_defined d)) Declarations.no_more))) → OnErr res (outer' ≡ outer) → DefinesTo res r outer inner outer' inner d
+        → IfOk res (λ k. (k ≡ type_slots_of outer) × (outer' ≡ append outer (Declarations.declares (Declaration.defined (raw_defined d)) Declarations.no_more))) → OnErr res (outer' ≡ outer)
+        → DefinesTo res r outer inner outer' inner d
     defined-without d q ok err = subst (λ (o : Option OpenInterface). CanDefine r outer o d → DefinesTo res r outer o outer' o d) (sym is)
         (λ q. defined-outside res r outer outer' q.2.sound d q.0 q.1 q.2 ok err) q
 
     pub function-without : (d : ComponentFuncType) → CanDefineFunction r outer inner d
-        → IfOk res (λ k. (k ≡ type_slots_of outer) × (outer' ≡ append outer (Declarations.declares (Declaration.function (raw_function d)) Declarations.no_more))) → OnErr res (outer' ≡ outer) → DefinesFunctionTo res r outer inner outer' inner d
+        → IfOk res (λ k. (k ≡ type_slots_of outer) × (outer' ≡ append outer (Declarations.declares (Declaration.function (raw_function d)) Declarations.no_more))) → OnErr res (outer' ≡ outer)
+        → DefinesFunctionTo res r outer inner outer' inner d
     function-without d q ok err = subst (λ (o : Option OpenInterface). CanDefineFunction r outer o d → DefinesFunctionTo res r outer o outer' o d) (sym is)
         (λ q. function-outside res r outer outer' q.2.sound d q.0 q.1 q.2 ok err) q

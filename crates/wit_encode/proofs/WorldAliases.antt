@@ -53,20 +53,36 @@ module _ (r : Resolve) (w : WorldId) (count : ℕ) (maps : TypeEncodingMaps) whe
       let rest = aliases-leave (with_alias a x) made (ap (λ (s : Scope). s.is_sound) one.scope_stays ∙ sound) are.1 in
       let low = one.more in
       let high = rest.more in
-      record { scope_stays = rest.scope_stays ∙ one.scope_stays; kept = λ i m h. rest.kept i m (one.kept i m h); more = omega (arith, low, high); counted = rest.counted ∙ one.counted; instances = rest.instances ∙ one.instances }
+      record {
+        scope_stays = rest.scope_stays ∙ one.scope_stays;
+        kept = λ i m h. rest.kept i m (one.kept i m h);
+        more = omega (arith, low, high);
+        counted = rest.counted ∙ one.counted;
+        instances =
+            rest.instances ∙ one.instances;
+      }
 
 -- an encoder that holds another component type
 abbrev pub with_outer : WorldEncoder → Declarations → Foreign → WorldEncoder
 with_outer e outer foreign = record e { outer = outer; foreign = foreign }
 
-pub aliases-shown : (r : Resolve) (w : World) (e : WorldEncoder) (done : Entries) → HasShown r w e done → (outer : Declarations) (foreign : Foreign) → GrowsAround e.resolve.now (world_around e) (around_at outer foreign)
+pub aliases-shown : (r : Resolve) (w : World) (e : WorldEncoder) (done : Entries) → HasShown r w e done → (outer : Declarations) (foreign : Foreign)
+    → GrowsAround e.resolve.now (world_around e) (around_at outer foreign)
     → HasShown r w (with_outer e outer foreign) done
 aliases-shown r w e done h outer foreign g =
     let q : Resolve = e.resolve.now in
     let sound : is_sound_outside q e.world (world_around e) ≡ true = subst (λ (z : Resolve). is_sound_outside z e.world (world_around e) ≡ true) (sym h.packages_) h.sound in
-    let leaves : Leaves q e.world e.instances (world_around e) (around_at outer foreign) = subst (Leaves q e.world e.instances (world_around e)) (sym g.is) (aliases-leave q e.world e.instances e.maps (world_around e) g.made sound g.are) in
+    let leaves : Leaves q e.world e.instances (world_around e) (around_at outer foreign) =
+    subst (Leaves q e.world e.instances (world_around e)) (sym g.is) (aliases-leave q e.world e.instances e.maps (world_around e) g.made sound g.are) in
     let same : done.0 ++ [] ≡ done.0 = append-nil done.0 in
-    let grows : Grows (world_view_of q e) (world_view_of q (with_outer e outer foreign)) = record { kept = leaves.kept; more = leaves.more; around_ = around-same (λ j. record { declared = leaves.instances j; instances = []; known = [] }); own_ = λ ns k. subst (λ (z : Around). KeepsAliases q e.instances z ns) (sym g.is) (keeps-aliases q e.instances ns (world_around e) g.made g.are k) } in
+    let grows : Grows (world_view_of q e) (world_view_of q (with_outer e outer foreign)) =
+    record {
+      kept = leaves.kept;
+      more = leaves.more;
+      around_ = around-same (λ j. record { declared = leaves.instances j; instances = []; known = [] });
+      own_ =
+          λ ns k. subst (λ (z : Around). KeepsAliases q e.instances z ns) (sym g.is) (keeps-aliases q e.instances ns (world_around e) g.made g.are k);
+    } in
     let left : HasShown r w (with_outer e outer foreign) (done.0 ++ [], done.1) = types-shown r w e (with_outer e outer foreign) done h leaves.scope_stays grows []
     (ap (λ d. d.exports) leaves.counted ∙ sym (append-nil (world_definitions e.outer).exports)) [] tt refl
     (record { says = λ k i holds. leaves.kept i _ (h.agree.says k i holds); once = h.agree.once })

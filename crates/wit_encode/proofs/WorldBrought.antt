@@ -21,7 +21,8 @@ use Rattle.base_lemmas.proofs.Bools.{left_of as first_true, right_of as second_t
 pub filters-more : {X : Type 0} (p q : X → Bool) → ((x : X) → p x ≡ true → q x ≡ true) → (xs : List X) → length (filter p xs) ≤ length (filter q xs)
 filters-more p q h [] = omega arith
 filters-more p q h (x ∷ xs) = elim (cases_Bool (p x)) [
-  | inl e ↦ (let rest = filters-more p q h xs in let a = ap length (cond-true (p x) (x ∷ filter p xs) (filter p xs) e) in let b = ap length (cond-true (q x) (x ∷ filter q xs) (filter q xs) (h x e)) in omega (arith, rest, a, b))
+  | inl e ↦ (let rest = filters-more p q h xs in let a = ap length (cond-true (p x) (x ∷ filter p xs) (filter p xs) e) in let b = ap length (cond-true (q x) (x ∷ filter q xs) (filter q xs) (h x e)) in
+      omega (arith, rest, a, b))
   | inr e ↦ (let rest = filters-more p q h xs in let a = ap length (cond-false (p x) (x ∷ filter p xs) (filter p xs) e) in elim (cases_Bool (q x)) [
     | inl f ↦ (let b = ap length (cond-true (q x) (x ∷ filter q xs) (filter q xs) f) in omega (arith, rest, a, b))
     | inr f ↦ (let b = ap length (cond-false (q x) (x ∷ filter q xs) (filter q xs) f) in omega (arith, rest, a, b))
@@ -46,7 +47,8 @@ pub reached-beside : {r : Resolve} {id : TypeId} {a a' : Around} → ReachesArou
 reached-beside {r} {id} {a} {a'} (as_before e) = let same = ap (held_beside r) e in omega (arith, same)
 reached-beside {r} {id} {a} {a'} (aliased x is n e) =
     let held : declaration_count a'.declared ≤ declaration_count a.declared + 1 = reached-held (aliased x is n e) in
-    let more : length (brought_numbers r a) ≤ length (brought_numbers r (with_alias a x)) = filters-more (is_brought r a) (is_brought r (with_alias a x)) (brought-kept r a x is) (below (length r.types.items)) in
+    let more : length (brought_numbers r a) ≤ length (brought_numbers r (with_alias a x)) =
+    filters-more (is_brought r a) (is_brought r (with_alias a x)) (brought-kept r a x is) (below (length r.types.items)) in
     let same : length (brought_numbers r a') ≡ length (brought_numbers r (with_alias a x)) = ap (λ z. length (brought_numbers r z)) e in
     omega (arith, held, more, same)
 

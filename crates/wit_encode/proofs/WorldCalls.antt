@@ -95,7 +95,8 @@ module _ (r : Resolve) (w : WorldId) (a : Around) (sound : SoundOutside r w a) w
   -- what has been defined afterwards
   definitions-after : (outer : Declarations) (d : Declaration) (x : Slot) (types : List Seen) → Widens r w a (after_declaring a outer) x types → outer ≡ declared_after a.declared d → (n u k : List ℕ)
       → (world_definitions a.declared).types ++ cond (is_value_type d) (type_slots_of a.declared ∷ []) [] ≡ n → (world_definitions a.declared).exported ++ option_to_list (target_of d) ≡ u
-      → (world_definitions a.declared).functions ++ cond (is_function_type d) (type_slots_of a.declared ∷ []) [] ≡ k → world_definitions outer ≡ record { types = n; exported = u; functions = k; exports = (world_definitions a.declared).exports ++ filter_map declared_type types }
+      → (world_definitions a.declared).functions ++ cond (is_function_type d) (type_slots_of a.declared ∷ []) [] ≡ k
+      → world_definitions outer ≡ record { types = n; exported = u; functions = k; exports = (world_definitions a.declared).exports ++ filter_map declared_type types }
   definitions-after outer d x types m e n u k t q f = λ i. record {
     types = (ap (λ z. (world_definitions z).types) e ∙ slots-next is_value_type a.declared d ∙ t) i;
     exported = (ap (λ z. (world_definitions z).exported) e ∙ targets-push a.declared d ∙ q) i;
@@ -130,8 +131,10 @@ module _ {E : Type 0} (res : Result ℕ E) (r : Resolve) (w : WorldId) (count : 
     sound = sound-outside r w a is_sound
 
     -- a call that declares something
-    declares : (d : Declaration) (x : Slot) (types : List Seen) (after : follow.Scope) (P : Standing → Type 0) (counts : Type 0) → component_step sound.scope d ≡ Some after → Extends sound.scope after x types → instance_name d ≡ [] → alias_in d ≡ []
-        → is_slot_of (world_resources r w) x ≡ true → IsOf x P → (Widens r w a next x types → outer ≡ declared_after a.declared d → counts) → Declared d → OnErr res (outer ≡ a.declared) → Leads P counts
+    declares : (d : Declaration) (x : Slot) (types : List Seen) (after : follow.Scope) (P : Standing → Type 0) (counts : Type 0) → component_step sound.scope d ≡ Some after
+        → Extends sound.scope after x types → instance_name d ≡ [] → alias_in d ≡ []
+        → is_slot_of (world_resources r w) x ≡ true → IsOf x P → (Widens r w a next x types → outer ≡ declared_after a.declared d → counts) → Declared d → OnErr res (outer ≡ a.declared)
+        → Leads P counts
     declares d x types after P counts step extends plain none kept is q ok err =
         world-calls res r w count a next maps P counts x types is_sound is (each-ok res (λ k h.
         let m = declared-widens r w a sound outer d x types after step extends plain kept h.1 in
@@ -141,20 +144,31 @@ module _ {E : Type 0} (res : Result ℕ E) (r : Resolve) (w : WorldId) (count : 
         each-ok (Ok k) f h = f k h
         each-ok (Err e) f h = h
 
-    pub defines-value : (d : ComponentDefinedType) (t : Tree) → Follows (SlotsStand (outer_slots a.declared)) d t → IsFormed scope t → Declared (Declaration.defined (raw_defined d)) → OnErr res (outer ≡ a.declared)
+    pub defines-value : (d : ComponentDefinedType) (t : Tree) → Follows (SlotsStand (outer_slots a.declared)) d t → IsFormed scope t → Declared (Declaration.defined (raw_defined d))
+        → OnErr res (outer ≡ a.declared)
         → Leads (Defines (SlotsStand (outer_slots a.declared)) d) (world_definitions outer ≡ one_type_more (length (outer_slots a.declared)) (world_definitions a.declared))
     defines-value d t h f ok err =
         let strict : definition sound.scope.slots (raw_defined d) ≡ Some t = ap (λ zs. definition zs (raw_defined d)) (sym (same-slots r w a sound))
         ∙ definition-strict (world_resources r w) (outer_slots a.declared) (slots-sound r w a sound) d t h f.formed in
         declares (Declaration.defined (raw_defined d)) (Slot.value t) [] (in_scope (Slot.value t) sound.scope) _ _
-        (bind (definition sound.scope.slots (raw_defined d)) t (λ u. Some (in_scope (Slot.value u) sound.scope)) strict) (slot-extends sound.scope (Slot.value t) refl) refl refl (formed-value (world_resources r w) t f.formed)
+        (bind (definition sound.scope.slots (raw_defined d)) t (λ u. Some (in_scope (Slot.value u) sound.scope)) strict) (slot-extends sound.scope (Slot.value t) refl) refl refl
+        (formed-value (world_resources r w) t f.formed)
         (defines-of (outer_slots a.declared) d t h)
-        (λ m e. definitions-after r w a sound outer (Declaration.defined (raw_defined d)) (Slot.value t) [] m e ((world_definitions a.declared).types ++ length (outer_slots a.declared) ∷ []) (world_definitions a.declared).exported (world_definitions a.declared).functions
-        (ap (λ (k : ℕ). (world_definitions a.declared).types ++ k ∷ []) (index-next r w a sound)) (append-nil (world_definitions a.declared).exported) (append-nil (world_definitions a.declared).functions)
-        ∙ (λ i. record { types = (world_definitions a.declared).types ++ length (outer_slots a.declared) ∷ []; exported = (world_definitions a.declared).exported; functions = (world_definitions a.declared).functions; exports = append-nil (world_definitions a.declared).exports i }))
+        (λ m e. definitions-after r w a sound outer (Declaration.defined (raw_defined d)) (Slot.value t) [] m e ((world_definitions a.declared).types ++ length (outer_slots a.declared) ∷ [])
+        (world_definitions a.declared).exported (world_definitions a.declared).functions
+        (ap (λ (k : ℕ). (world_definitions a.declared).types ++ k ∷ []) (index-next r w a sound)) (append-nil (world_definitions a.declared).exported)
+        (append-nil (world_definitions a.declared).functions)
+        ∙ (λ i. record {
+          types = (world_definitions a.declared).types ++ length (outer_slots a.declared) ∷ [];
+          exported = (world_definitions a.declared).exported;
+          functions =
+              (world_definitions a.declared).functions;
+          exports = append-nil (world_definitions a.declared).exports i;
+        }))
         ok err
 
-    pub defines-function : (d : ComponentFuncType) (s : Signature) → FollowsFunction (SlotsStand (outer_slots a.declared)) d s → IsFormedSignature scope s → Declared (Declaration.function (raw_function d)) → OnErr res (outer ≡ a.declared)
+    pub defines-function : (d : ComponentFuncType) (s : Signature) → FollowsFunction (SlotsStand (outer_slots a.declared)) d s → IsFormedSignature scope s
+        → Declared (Declaration.function (raw_function d)) → OnErr res (outer ≡ a.declared)
         → Leads (DefinesFunction (SlotsStand (outer_slots a.declared)) d) (world_definitions outer ≡ one_function_more (length (outer_slots a.declared)) (world_definitions a.declared))
     defines-function d s h f ok err =
         let strict : function_signature sound.scope.slots (raw_function d) ≡ Some s = ap (λ zs. function_signature zs (raw_function d)) (sym (same-slots r w a sound))
@@ -162,9 +176,17 @@ module _ {E : Type 0} (res : Result ℕ E) (r : Resolve) (w : WorldId) (count : 
         declares (Declaration.function (raw_function d)) (Slot.function s) [] (in_scope (Slot.function s) sound.scope) _ _
         (bind (function_signature sound.scope.slots (raw_function d)) s (λ u. Some (in_scope (Slot.function u) sound.scope)) strict) (slot-extends sound.scope (Slot.function s) refl) refl refl refl
         (function-of (outer_slots a.declared) d s h)
-        (λ m e. definitions-after r w a sound outer (Declaration.function (raw_function d)) (Slot.function s) [] m e (world_definitions a.declared).types (world_definitions a.declared).exported ((world_definitions a.declared).functions ++ length (outer_slots a.declared) ∷ [])
-        (append-nil (world_definitions a.declared).types) (append-nil (world_definitions a.declared).exported) (ap (λ (k : ℕ). (world_definitions a.declared).functions ++ k ∷ []) (index-next r w a sound))
-        ∙ (λ i. record { types = (world_definitions a.declared).types; exported = (world_definitions a.declared).exported; functions = (world_definitions a.declared).functions ++ length (outer_slots a.declared) ∷ []; exports = append-nil (world_definitions a.declared).exports i }))
+        (λ m e. definitions-after r w a sound outer (Declaration.function (raw_function d)) (Slot.function s) [] m e (world_definitions a.declared).types (world_definitions a.declared).exported
+        ((world_definitions a.declared).functions ++ length (outer_slots a.declared) ∷ [])
+        (append-nil (world_definitions a.declared).types) (append-nil (world_definitions a.declared).exported)
+        (ap (λ (k : ℕ). (world_definitions a.declared).functions ++ k ∷ []) (index-next r w a sound))
+        ∙ (λ i. record {
+          types = (world_definitions a.declared).types;
+          exported = (world_definitions a.declared).exported;
+          functions =
+              (world_definitions a.declared).functions ++ length (outer_slots a.declared) ∷ [];
+          exports = append-nil (world_definitions a.declared).exports i;
+        }))
         ok err
 
     -- ---- types of the world, which are imported
@@ -176,8 +198,10 @@ module _ {E : Type 0} (res : Result ℕ E) (r : Resolve) (w : WorldId) (count : 
     some-standing u m e = cc
 
     -- a declaration that is followed as it says
-    imports-declared : (described : ComponentTypeRef) {slot : Option ℕ} → described_slot described ≡ slot → (name : ExternName) (d : Text × TypeMeaning) (x : Slot) → described_name name described ≡ [] → IsDeclared scope d → name ≡ exported_name d → is_slot_of (world_resources r w) x ≡ true
-        → standing_at (Some x) ≡ Some (tree (named here name.text)) → named_type (outer_slots a.declared) here name.text described ≡ Some (d.1.declaration, x) → Declared (Declaration.imported name described)
+    imports-declared : (described : ComponentTypeRef) {slot : Option ℕ} → described_slot described ≡ slot → (name : ExternName) (d : Text × TypeMeaning) (x : Slot) → described_name name described ≡ []
+        → IsDeclared scope d → name ≡ exported_name d → is_slot_of (world_resources r w) x ≡ true
+        → standing_at (Some x) ≡ Some (tree (named here name.text)) → named_type (outer_slots a.declared) here name.text described ≡ Some (d.1.declaration, x)
+        → Declared (Declaration.imported name described)
         → OnErr res (outer ≡ a.declared) → Leads (λ m. m ≡ tree (named here name.text)) (ShownAs slot name)
     imports-declared described {slot} from name d x plain declared is kept stands found ok err =
         let there : named_type sound.scope.slots here name.text described ≡ Some (d.1.declaration, x) = ap (λ zs. named_type zs here name.text described) (sym (same-slots r w a sound)) ∙ found in
@@ -200,13 +224,21 @@ module _ {E : Type 0} (res : Result ℕ E) (r : Resolve) (w : WorldId) (count : 
           declaration = d;
           there = declared.there;
           named_ = is;
-          one_more = definitions-after r w a sound outer (Declaration.imported name described) x (seen ∷ []) m e (world_definitions a.declared).types ((world_definitions a.declared).exported ++ option_to_list slot) (world_definitions a.declared).functions
+          one_more = definitions-after r w a sound outer (Declaration.imported name described) x (seen ∷ []) m e (world_definitions a.declared).types
+              ((world_definitions a.declared).exported ++ option_to_list slot) (world_definitions a.declared).functions
               (append-nil (world_definitions a.declared).types) (ap (λ o. (world_definitions a.declared).exported ++ option_to_list o) from) (append-nil (world_definitions a.declared).functions)
-              ∙ (λ j. record { types = (world_definitions a.declared).types; exported = (world_definitions a.declared).exported ++ option_to_list slot; functions = (world_definitions a.declared).functions; exports = (world_definitions a.declared).exports ++ meant j ∷ [] });
+              ∙ (λ j. record {
+                types = (world_definitions a.declared).types;
+                exported = (world_definitions a.declared).exported ++ option_to_list slot;
+                functions =
+                    (world_definitions a.declared).functions;
+                exports = (world_definitions a.declared).exports ++ meant j ∷ [];
+              });
         })
         ok err
 
-    pub imports-type : (k : ℕ) (name : ExternName) → DeclaresSlot scope (SlotsStand (outer_slots a.declared)) name k → Declared (Declaration.imported name (refs.TypeEq k)) → OnErr res (outer ≡ a.declared)
+    pub imports-type : (k : ℕ) (name : ExternName) → DeclaresSlot scope (SlotsStand (outer_slots a.declared)) name k → Declared (Declaration.imported name (refs.TypeEq k))
+        → OnErr res (outer ≡ a.declared)
         → Leads (λ m. m ≡ tree (named here name.text)) (ShownAs (Some k) name)
     imports-type k name s ok err =
         let its : DeclaredAs scope (outer_slots a.declared) name (refs.TypeEq k) s.declaration = declared-slot scope (outer_slots a.declared) (slots-sound r w a sound) name k s in
@@ -220,7 +252,8 @@ module _ {E : Type 0} (res : Result ℕ E) (r : Resolve) (w : WorldId) (count : 
 
 -- ---- types of other interfaces
 
-owner-alike : (r : Resolve) (w : WorldId) (p : Text) (o : TypeOwner) (a b : Bool) → ((is_met_owner r (owner.World w) o && a) && (same_place (of_interface p) (place_of r o) && b)) ≡ ((is_named_interface r o && a) && (same_place (of_interface p) (place_of r o) && b))
+owner-alike : (r : Resolve) (w : WorldId) (p : Text) (o : TypeOwner) (a b : Bool)
+    → ((is_met_owner r (owner.World w) o && a) && (same_place (of_interface p) (place_of r o) && b)) ≡ ((is_named_interface r o && a) && (same_place (of_interface p) (place_of r o) && b))
 owner-alike r w p (owner.Interface j) a b = refl
 owner-alike r w p (owner.World v) a b = cut-short ((same_owner (owner.World w) (owner.World v) || false) && a) b
 owner-alike r w p owner.None a b = refl
@@ -288,7 +321,8 @@ module _ (r : Resolve) (w : WorldId) (count : ℕ) (a : Around) (maps : TypeEnco
 
   was-known : ImportsTo a
   was-known = record {
-    stands = λ k e. slot-stands r w id.0 (slice_get (outer_slots a.declared) k) (known-right r a.known (outer_slots a.declared) id.0 k (ap (are_right r a.known) (same-slots r w a importable) ∙ importable.right) e);
+    stands = λ k e. slot-stands r w id.0 (slice_get (outer_slots a.declared) k)
+        (known-right r a.known (outer_slots a.declared) id.0 k (ap (are_right r a.known) (same-slots r w a importable) ∙ importable.right) e);
     grows = record { kept = λ i s h. h; more = omega arith; around_ = around-same refl; own_ = λ ns k. k };
     scope_stays = refl;
     counted = refl;
@@ -303,7 +337,8 @@ module _ (r : Resolve) (w : WorldId) (count : ℕ) (a : Around) (maps : TypeEnco
       let foreign = foreign-slot r w al.number.0 x source.fits in
       let instance_there : slice_get s.scope.instances source.number ≡ Some source.instance = sym (ap (λ o. slice_get (option_map_or (λ z. z.instances) o []) source.number) s.followed) ∙ source.at in
       let same_number : al.instance ≡ source.number = one-some al.instance source.number (sym is.instance ∙ source.listed) in
-      let step = alias-step s.scope al x source.instance (ap (slice_get s.scope.instances) same_number ∙ instance_there) source.path (ap (λ t. follow.find_type t source.instance.view.types) is.text ∙ source.found) in
+      let step = alias-step s.scope al x source.instance (ap (slice_get s.scope.instances) same_number ∙ instance_there) source.path
+      (ap (λ t. follow.find_type t source.instance.view.types) is.text ∙ source.found) in
       let followed : outer_scope (with_alias a al).declared ≡ Some (in_scope x s.scope) = steps-more new_scope s.scope (in_scope x s.scope) a.declared (alias_declared al) s.followed step in
       let right : are_right r (with_alias a al).known (outer_slots (with_alias a al).declared) ≡ true = still-right r a al is in
       let wide : Widens r w a (with_alias a al) x [] = record {
@@ -323,7 +358,8 @@ module _ (r : Resolve) (w : WorldId) (count : ℕ) (a : Around) (maps : TypeEnco
         stands = λ k e. slot-stands r w id.0 (slice_get (outer_slots (with_alias a al).declared) k) (known-right r (with_alias a al).known (outer_slots (with_alias a al).declared) id.0 k right e);
         grows = record {
           kept = λ i q h. subst (λ (zs : List Slot). SlotsStand zs i q) (sym more) (slots-kept x (outer_slots a.declared) i q h);
-          more = (let l : length (outer_slots (with_alias a al).declared) ≡ length (outer_slots a.declared ++ x ∷ []) = ap length more in let n = longer (outer_slots a.declared) x in omega (arith, l, n));
+          more = (let l : length (outer_slots (with_alias a al).declared) ≡ length (outer_slots a.declared ++ x ∷ []) = ap length more in let n = longer (outer_slots a.declared) x in
+              omega (arith, l, n));
           around_ = around-same (λ i. record { declared = wide.instances i; instances = []; known = [] });
           own_ = λ ns. keeps-alias r count ns a al is;
         };
@@ -331,8 +367,15 @@ module _ (r : Resolve) (w : WorldId) (count : ℕ) (a : Around) (maps : TypeEnco
         around_stays = λ i. record { declared = wide.instances i; instances = []; known = [] };
         counted = definitions-after r w a s (with_alias a al).declared (alias_declared al) x []
             (declared-widens r w a s (with_alias a al).declared (alias_declared al) x [] (in_scope x s.scope) step (slot-extends s.scope x foreign.plain) refl foreign.kept refl) refl
-            (world_definitions a.declared).types (world_definitions a.declared).exported (world_definitions a.declared).functions (append-nil (world_definitions a.declared).types) (append-nil (world_definitions a.declared).exported) (append-nil (world_definitions a.declared).functions)
-            ∙ (λ i. record { types = (world_definitions a.declared).types; exported = (world_definitions a.declared).exported; functions = (world_definitions a.declared).functions; exports = append-nil (world_definitions a.declared).exports i });
+            (world_definitions a.declared).types (world_definitions a.declared).exported (world_definitions a.declared).functions (append-nil (world_definitions a.declared).types)
+            (append-nil (world_definitions a.declared).exported) (append-nil (world_definitions a.declared).functions)
+            ∙ (λ i. record {
+              types = (world_definitions a.declared).types;
+              exported = (world_definitions a.declared).exported;
+              functions = (world_definitions a.declared).functions;
+              exports =
+                  append-nil (world_definitions a.declared).exports i;
+            });
       }
     where
       one-some : (x y : ℕ) → Some x ≡ Some y → x ≡ y

@@ -70,17 +70,21 @@ types-more es fs = ap (map _) (filter_map-append _ es fs) ∙ map-append _ (type
 -- what some of them refer to
 pub referred-front : (es fs : List Entry) (t : ValueType) → Contains (referred_among es) t → Contains (referred_among (es ++ fs)) t
 referred-front es fs t c = elim (Contains-append_cases (map (λ x. ty.Id x) (type_ids_among es)) (flat_map function_types (functions_among es)) t c) [
-  | inl a ↦ Contains-append_left (map (λ x. ty.Id x) (type_ids_among (es ++ fs))) _ t (subst (λ xs. Contains xs t) (sym (ap (map (λ x. ty.Id x)) (types-more es fs) ∙ map-append (λ x. ty.Id x) (type_ids_among es) (type_ids_among fs)))
+  | inl a ↦ Contains-append_left (map (λ x. ty.Id x) (type_ids_among (es ++ fs))) _ t
+      (subst (λ xs. Contains xs t) (sym (ap (map (λ x. ty.Id x)) (types-more es fs) ∙ map-append (λ x. ty.Id x) (type_ids_among es) (type_ids_among fs)))
       (Contains-append_left (map (λ x. ty.Id x) (type_ids_among es)) (map (λ x. ty.Id x) (type_ids_among fs)) t a))
-  | inr b ↦ Contains-append_right (map (λ x. ty.Id x) (type_ids_among (es ++ fs))) _ t (subst (λ xs. Contains xs t) (sym (ap (flat_map function_types) (functions-more es fs) ∙ flat_map-append function_types (functions_among es) (functions_among fs)))
+  | inr b ↦ Contains-append_right (map (λ x. ty.Id x) (type_ids_among (es ++ fs))) _ t
+      (subst (λ xs. Contains xs t) (sym (ap (flat_map function_types) (functions-more es fs) ∙ flat_map-append function_types (functions_among es) (functions_among fs)))
       (Contains-append_left (flat_map function_types (functions_among es)) (flat_map function_types (functions_among fs)) t b))
 ]
 
 pub referred-behind : (es fs : List Entry) (t : ValueType) → Contains (referred_among fs) t → Contains (referred_among (es ++ fs)) t
 referred-behind es fs t c = elim (Contains-append_cases (map (λ x. ty.Id x) (type_ids_among fs)) (flat_map function_types (functions_among fs)) t c) [
-  | inl a ↦ Contains-append_left (map (λ x. ty.Id x) (type_ids_among (es ++ fs))) _ t (subst (λ xs. Contains xs t) (sym (ap (map (λ x. ty.Id x)) (types-more es fs) ∙ map-append (λ x. ty.Id x) (type_ids_among es) (type_ids_among fs)))
+  | inl a ↦ Contains-append_left (map (λ x. ty.Id x) (type_ids_among (es ++ fs))) _ t
+      (subst (λ xs. Contains xs t) (sym (ap (map (λ x. ty.Id x)) (types-more es fs) ∙ map-append (λ x. ty.Id x) (type_ids_among es) (type_ids_among fs)))
       (Contains-append_right (map (λ x. ty.Id x) (type_ids_among es)) (map (λ x. ty.Id x) (type_ids_among fs)) t a))
-  | inr b ↦ Contains-append_right (map (λ x. ty.Id x) (type_ids_among (es ++ fs))) _ t (subst (λ xs. Contains xs t) (sym (ap (flat_map function_types) (functions-more es fs) ∙ flat_map-append function_types (functions_among es) (functions_among fs)))
+  | inr b ↦ Contains-append_right (map (λ x. ty.Id x) (type_ids_among (es ++ fs))) _ t
+      (subst (λ xs. Contains xs t) (sym (ap (flat_map function_types) (functions-more es fs) ∙ flat_map-append function_types (functions_among es) (functions_among fs)))
       (Contains-append_right (flat_map function_types (functions_among es)) (flat_map function_types (functions_among fs)) t b))
 ]
 
@@ -103,7 +107,8 @@ from-wider h l = record { only = only-more (λ n x. (x.0, h x.0 x.1, x.2)) l.onl
 module _ (r : Resolve) (e e' : WorldEncoder) (es : List Entry) (h : HasDefined r e es) (x : Entry) (fs : List Function) (ts : List ValueType)
     (brings : functions_among (x ∷ []) ≡ fs) (refers : (t : ValueType) → Contains ts t → Contains (referred_among (x ∷ [])) t) where
   learns-more : LearnsFrom r None ts e.maps e'.maps → LearnsFrom r None (referred_among (es ++ x ∷ [])) h.began e'.maps
-  learns-more l = from-wider (λ t c. elim (Contains-append_cases (referred_among es) ts t c) [ inl a ↦ referred-front es (x ∷ []) t a | inr b ↦ referred-behind es (x ∷ []) t (refers t b) ]) (from-then refl h.learns l)
+  learns-more l = from-wider (λ t c. elim (Contains-append_cases (referred_among es) ts t c) [ inl a ↦ referred-front es (x ∷ []) t a | inr b ↦ referred-behind es (x ∷ []) t (refers t b) ])
+      (from-then refl h.learns l)
 
   -- an item, with the instance type of its interface, if it is one
   pub defines-behind : AddsFunctions r (no_interface r) e.maps e'.maps (world_definitions e.outer) (world_definitions e'.outer) fs → LearnsFrom r None ts e.maps e'.maps
@@ -123,10 +128,18 @@ module _ (r : Resolve) (e e' : WorldEncoder) (es : List Entry) (h : HasDefined r
   }
 
   -- the aliases of an item without an interface
-  asks-more : NumbersMet r None ts (λ n. is_some (known_slot e.foreign.known.entries n)) (λ n. is_some (known_slot e'.foreign.known.entries n)) → (n : ℕ) → is_some (known_slot e'.foreign.known.entries n) ≡ true → IsAskedByWorld r (es ++ x ∷ []) n
+  asks-more : NumbersMet r None ts (λ n. is_some (known_slot e.foreign.known.entries n)) (λ n. is_some (known_slot e'.foreign.known.entries n)) → (n : ℕ)
+      → is_some (known_slot e'.foreign.known.entries n) ≡ true → IsAskedByWorld r (es ++ x ∷ []) n
   asks-more m n known = elim (m.each n known) [
     | inl old ↦ asked-front r es (x ∷ []) n (h.asked n old)
-    | inr new ↦ inl (record { met = (new.met.0, referred-behind es (x ∷ []) new.met.0 (refers new.met.0 new.met.1), new.met.2); def = new.def; there = new.there; interface = new.interface; foreign = new.foreign })
+    | inr new ↦ inl (record {
+      met = (new.met.0, referred-behind es (x ∷ []) new.met.0 (refers new.met.0 new.met.1), new.met.2);
+      def = new.def;
+      there = new.there;
+      interface = new.interface;
+      foreign =
+          new.foreign;
+    })
   ]
 
   -- an item without an interface
@@ -172,14 +185,18 @@ pub record GoesOnMet (r : Resolve) (e e' : WorldEncoder) (ts : List ValueType) :
   pub keeps : (ns : List ℕ) → KeepsAliases e.resolve.now e.instances (world_around e) ns → KeepsAliases e'.resolve.now e'.instances (world_around e') ns
   pub imports : NumbersMet r None ts (λ n. is_some (known_slot e.foreign.known.entries n)) (λ n. is_some (known_slot e'.foreign.known.entries n))
 
-keeps-on : (r : Resolve) (e e' : WorldEncoder) (ts : List ValueType) → GoesOnMet r e e' ts → (ns : List ℕ) → KeepsAliases r e.instances (world_around e) ns → KeepsAliases r e'.instances (world_around e') ns
-keeps-on r e e' ts g ns k = subst (λ (q : Resolve). KeepsAliases q e'.instances (world_around e') ns) (g.packages_stay ∙ g.packages_) (g.keeps ns (subst (λ (q : Resolve). KeepsAliases q e.instances (world_around e) ns) (sym g.packages_) k))
+keeps-on : (r : Resolve) (e e' : WorldEncoder) (ts : List ValueType) → GoesOnMet r e e' ts → (ns : List ℕ) → KeepsAliases r e.instances (world_around e) ns
+    → KeepsAliases r e'.instances (world_around e') ns
+keeps-on r e e' ts g ns k = subst (λ (q : Resolve). KeepsAliases q e'.instances (world_around e') ns) (g.packages_stay ∙ g.packages_)
+    (g.keeps ns (subst (λ (q : Resolve). KeepsAliases q e.instances (world_around e) ns) (sym g.packages_) k))
 
 -- a function: its type, and then its import or export
-pub function-defined : (r : Resolve) (e e' : WorldEncoder) (es : List Entry) (scope : Scope) → scope.own_interface ≡ None → (k : WorldKey) (i : WorldItem) (f : Function) → i ≡ item.Function f → (key : FunctionKey) (n : ℕ)
+pub function-defined : (r : Resolve) (e e' : WorldEncoder) (es : List Entry) (scope : Scope) → scope.own_interface ≡ None → (k : WorldKey) (i : WorldItem) (f : Function) → i ≡ item.Function f
+    → (key : FunctionKey) (n : ℕ)
     → (direction : Direction) (name : ExternName) (outer : Declarations) → HasDefined r e es → IsOnce e.maps → IsKeyOf key f
     → AddsFunction r scope e.maps e'.maps (world_definitions e.outer) (world_definitions e'.outer) key n → LearnsMet r None (function_types f) e.maps e'.maps
-    → instances_declared e'.outer ≡ instances_declared e.outer → outer ≡ declared_after e'.outer (declared_towards direction name (refs.Func n)) → GoesOnMet r e e' (function_types f) → HasDefined r (record e' { outer = outer }) (es ++ (k, i) ∷ [])
+    → instances_declared e'.outer ≡ instances_declared e.outer → outer ≡ declared_after e'.outer (declared_towards direction name (refs.Func n)) → GoesOnMet r e e' (function_types f)
+    → HasDefined r (record e' { outer = outer }) (es ++ (k, i) ∷ [])
 function-defined r e e' es scope own k i f is key n direction name outer h once is_key a learns stays made goes =
     let x : Entry = (k, item.Function f) in
     let next : WorldEncoder = record e' { outer = outer } in
@@ -191,15 +208,19 @@ function-defined r e e' es scope own k i f is key n direction name outer h once 
     (defines-more r e next es h x (f ∷ []) (function_types f) refl (function-referred k f)
     (adds-alike (sym own) refl refl refl refl values_ targets_ functions_ (adds-function key n f is_key once a))
     (from-met r None (function_types f) e.maps e'.maps learns) refl (ap instances_declared made ∙ (instances-kept e'.outer d ∙ stays))
-    (keeps-plain r e'.instances (interfaces_among es) (world_around e') outer d made (towards-alias direction name (refs.Func n)) (no-function-name direction name n) (keeps-on r e e' (function_types f) goes (interfaces_among es) h.keeps)) goes.imports)
+    (keeps-plain r e'.instances (interfaces_among es) (world_around e') outer d made (towards-alias direction name (refs.Func n)) (no-function-name direction name n)
+    (keeps-on r e e' (function_types f) goes (interfaces_among es) h.keeps)) goes.imports)
 
 -- a type
-pub type-defined : (r : Resolve) (e e' : WorldEncoder) (es : List Entry) (scope : Scope) → scope.own_interface ≡ None → (k : WorldKey) (i : WorldItem) (id : TypeId) → i ≡ item.Type_ id → HasDefined r e es
-    → AddsTypes r scope e.maps e'.maps (world_definitions e.outer) (world_definitions e'.outer) → LearnsMet r None (ty.Id id ∷ []) e.maps e'.maps → instances_declared e'.outer ≡ instances_declared e.outer
+pub type-defined : (r : Resolve) (e e' : WorldEncoder) (es : List Entry) (scope : Scope) → scope.own_interface ≡ None → (k : WorldKey) (i : WorldItem) (id : TypeId) → i ≡ item.Type_ id
+    → HasDefined r e es
+    → AddsTypes r scope e.maps e'.maps (world_definitions e.outer) (world_definitions e'.outer) → LearnsMet r None (ty.Id id ∷ []) e.maps e'.maps
+    → instances_declared e'.outer ≡ instances_declared e.outer
     → GoesOnMet r e e' (ty.Id id ∷ []) → HasDefined r e' (es ++ (k, i) ∷ [])
 type-defined r e e' es scope own k i id is h a learns stays goes =
     subst (λ (j : WorldItem). HasDefined r e' (es ++ (k, j) ∷ [])) (sym is)
-    (defines-more r e e' es h (k, item.Type_ id) [] (ty.Id id ∷ []) refl (type-referred k id) (adds-alike (sym own) refl refl refl refl refl refl refl (adds-types a)) (from-met r None (ty.Id id ∷ []) e.maps e'.maps learns) refl stays
+    (defines-more r e e' es h (k, item.Type_ id) [] (ty.Id id ∷ []) refl (type-referred k id) (adds-alike (sym own) refl refl refl refl refl refl refl (adds-types a))
+    (from-met r None (ty.Id id ∷ []) e.maps e'.maps learns) refl stays
     (keeps-on r e e' (ty.Id id ∷ []) goes (interfaces_among es) h.keeps) goes.imports)
 
 -- nothing has been defined by a new encoder

@@ -56,7 +56,8 @@ use Rattle.wit_encode.proofs.Components.{see-slots}
 
 -- ---- nothing has been encoded
 
-pub starts : (r : Resolve) (w : World) (e : WorldEncoder) → world_at r e.world.0 ≡ Some w → e.resolve.now ≡ r → e.outer ≡ Declarations.no_more → e.foreign.instances.entries ≡ [] → e.foreign.known.entries ≡ [] → e.instances ≡ 0
+pub starts : (r : Resolve) (w : World) (e : WorldEncoder) → world_at r e.world.0 ≡ Some w → e.resolve.now ≡ r → e.outer ≡ Declarations.no_more → e.foreign.instances.entries ≡ []
+    → e.foreign.known.entries ≡ [] → e.instances ≡ 0
     → e.maps.id_to_index.entries ≡ [] → Agrees r (world_view_of r e) → HasShown r w e ([], [])
 starts r w e there packages outer instances known count ids agree = record {
   packages_ = packages;
@@ -94,13 +95,15 @@ pub next-item : (r : Resolve) (w : World) (direction : Direction) (done : Entrie
 next-item r w import_ done e n =
     let behind : List WorldItem = map second n.rest in
     let one : map second w.imports.entries ≡ map second done.0 ++ (e.1 ∷ behind) = ap (map second) n.next ∙ map-append second done.0 (e ∷ n.rest) in
-    let two : map second w.imports.entries ++ values w.exports ≡ map second done.0 ++ (e.1 ∷ (behind ++ values w.exports)) = ap (λ (xs : List WorldItem). xs ++ values w.exports) one ∙ append_assoc (map second done.0) (e.1 ∷ behind) (values w.exports) in
+    let two : map second w.imports.entries ++ values w.exports ≡ map second done.0 ++ (e.1 ∷ (behind ++ values w.exports)) =
+    ap (λ (xs : List WorldItem). xs ++ values w.exports) one ∙ append_assoc (map second done.0) (e.1 ∷ behind) (values w.exports) in
     let same : map second done.0 ≡ done_items done = ap (map second) (sym (append-nil done.0) ∙ ap (λ (ys : List Entry). done.0 ++ ys) (sym n.begun)) in
     (behind ++ values w.exports, two ∙ ap (λ (xs : List WorldItem). xs ++ (e.1 ∷ (behind ++ values w.exports))) same)
 next-item r w export_ done e n =
     let behind : List WorldItem = map second n.rest in
     let one : map second w.exports.entries ≡ map second done.1 ++ (e.1 ∷ behind) = ap (map second) n.next ∙ map-append second done.1 (e ∷ n.rest) in
-    let two : values w.imports ++ map second w.exports.entries ≡ (values w.imports ++ map second done.1) ++ (e.1 ∷ behind) = ap (λ (xs : List WorldItem). values w.imports ++ xs) one ∙ sym (append_assoc (values w.imports) (map second done.1) (e.1 ∷ behind)) in
+    let two : values w.imports ++ map second w.exports.entries ≡ (values w.imports ++ map second done.1) ++ (e.1 ∷ behind) =
+    ap (λ (xs : List WorldItem). values w.imports ++ xs) one ∙ sym (append_assoc (values w.imports) (map second done.1) (e.1 ∷ behind)) in
     let same : values w.imports ++ map second done.1 ≡ done_items done = sym (map-append second w.imports.entries done.1) ∙ ap (λ (es : List Entry). map second (es ++ done.1)) (sym n.begun) in
     (behind, two ∙ ap (λ (xs : List WorldItem). xs ++ (e.1 ∷ behind)) same)
 
@@ -112,8 +115,10 @@ before-next r w direction done e n = let m = next-item r w direction done e n in
 
 -- the next entry is one of the world
 pub next-entry : (r : Resolve) (w : World) (direction : Direction) (done : Entries) (e : Entry) → IsNext r w direction done e → Contains (w.imports.entries ++ w.exports.entries) e
-next-entry r w import_ done e n = Contains-append_left w.imports.entries w.exports.entries e (subst (λ (es : List Entry). Contains es e) (sym n.next) (Contains-append_right done.0 (e ∷ n.rest) e (zero, omega arith, refl)))
-next-entry r w export_ done e n = Contains-append_right w.imports.entries w.exports.entries e (subst (λ (es : List Entry). Contains es e) (sym n.next) (Contains-append_right done.1 (e ∷ n.rest) e (zero, omega arith, refl)))
+next-entry r w import_ done e n = Contains-append_left w.imports.entries w.exports.entries e
+    (subst (λ (es : List Entry). Contains es e) (sym n.next) (Contains-append_right done.0 (e ∷ n.rest) e (zero, omega arith, refl)))
+next-entry r w export_ done e n = Contains-append_right w.imports.entries w.exports.entries e
+    (subst (λ (es : List Entry). Contains es e) (sym n.next) (Contains-append_right done.1 (e ∷ n.rest) e (zero, omega arith, refl)))
 
 -- the interfaces, and the types, among entries are those among their items
 interfaces-given : (es : List Entry) → filter_map item_interface (map (λ x. x.1) es) ≡ interfaces_among es
@@ -136,7 +141,8 @@ module _ (r : Resolve) (v : IsValid r) (w : World) (e : WorldEncoder) (done : En
 
   pub stand-before : StandBefore r w place (world_view_of r e).scope.instances
   stand-before j c p =
-      let among : Contains (interfaces_among (all_done done)) j = subst (λ (ns : List ℕ). Contains ns j) (ap (filter_map item_interface) (before-next r w direction done x n) ∙ interfaces-given (all_done done)) c in
+      let among : Contains (interfaces_among (all_done done)) j = subst (λ (ns : List ℕ). Contains ns j)
+      (ap (filter_map item_interface) (before-next r w direction done x n) ∙ interfaces-given (all_done done)) c in
       subst (λ (b : Bool). Contains (if b then standing_instances r (world_around e) else []) j) (sym h.sound) (h.stand j among p)
 
   pub scope-of : IsScopeOf r (owner.World e.world) (world_view_of r e).scope
@@ -184,7 +190,8 @@ see-instances import_ seen s = refl
 see-instances export_ seen s = refl
 
 -- what a function brings
-pub nothing-brought : {A : Type 0} (given : List Entry → List A) → ((es gs : List Entry) → given (es ++ gs) ≡ given es ++ given gs) → (direction : Direction) (done : Entries) (x : Entry) → given (x ∷ []) ≡ []
+pub nothing-brought : {A : Type 0} (given : List Entry → List A) → ((es gs : List Entry) → given (es ++ gs) ≡ given es ++ given gs) → (direction : Direction) (done : Entries) (x : Entry)
+    → given (x ∷ []) ≡ []
     → given (all_done (with_entry direction done x)) ≡ given (all_done done)
 nothing-brought given split import_ done x none =
     split (done.0 ++ x ∷ []) done.1 ∙ ap (λ xs. xs ++ given done.1) (split done.0 (x ∷ []) ∙ ap (λ xs. given done.0 ++ xs) none ∙ append-nil (given done.0)) ∙ sym (split done.0 done.1)
@@ -198,20 +205,25 @@ signature-at (Some (Slot.resource p t)) s h = absurd (let z : ⊥ = cc in z)
 signature-at (Some (Slot.instance ds n)) s h = absurd (let z : ⊥ = cc in z)
 signature-at None s h = absurd (let z : ⊥ = cc in z)
 
-pub function-behind : (r : Resolve) → IsValid r → (w : World) (e : WorldEncoder) (done : Entries) → HasShown r w e done → (direction : Direction) (canonical : Bool) (k : WorldKey) (f : Function) (n : ℕ) (outer : Declarations)
+pub function-behind : (r : Resolve) → IsValid r → (w : World) (e : WorldEncoder) (done : Entries) → HasShown r w e done
+    → (direction : Direction) (canonical : Bool) (k : WorldKey) (f : Function) (n : ℕ) (outer : Declarations)
     → IsNext r w direction done (k, item.Function f) → SlotsStand (outer_slots e.outer) n (function (signature_of r f))
-    → outer ≡ declared_after e.outer (declared_towards direction (name_of_item r canonical (k, item.Function f)) (refs.Func n)) → HasShown r w (record e { outer = outer }) (with_entry direction done (k, item.Function f))
+    → outer ≡ declared_after e.outer (declared_towards direction (name_of_item r canonical (k, item.Function f)) (refs.Func n))
+    → HasShown r w (record e { outer = outer }) (with_entry direction done (k, item.Function f))
 function-behind r v w e done h direction canonical k f n outer next stands is =
     let x : Entry = (k, item.Function f) in
     let entry : IsEntryOf r x = record { number = e.world.0; world = w; there = h.world_; listed = next-entry r w direction done x next } in
     let slots_there : outer_slots e.outer ≡ h.scope.slots = ap (λ o. option_map_or (λ s. s.slots) o []) h.followed in
-    let signature : function_in (slice_get h.scope.slots n) ≡ Some (signature_of r f) = signature-at (slice_get h.scope.slots n) (signature_of r f) (subst (λ (xs : List Slot). SlotsStand xs n (function (signature_of r f))) slots_there stands) in
+    let signature : function_in (slice_get h.scope.slots n) ≡ Some (signature_of r f) =
+    signature-at (slice_get h.scope.slots n) (signature_of r f) (subst (λ (xs : List Slot). SlotsStand xs n (function (signature_of r f))) slots_there stands) in
     let steps = functions_are_shown r canonical direction done h.scope k f n v entry h.shows signature in
     let seen : Seen = seen_function (name_of_item r canonical x) (signature_of r f) in
     let after : follow.Scope = see direction seen h.scope in
-    let followed : outer_scope outer ≡ Some after = ap outer_scope is ∙ steps-more new_scope h.scope after e.outer (declared_towards direction (name_of_item r canonical x) (refs.Func n)) h.followed steps.step in
+    let followed : outer_scope outer ≡ Some after = ap outer_scope is ∙ steps-more new_scope h.scope after e.outer (declared_towards direction (name_of_item r canonical x) (refs.Func n)) h.followed
+    steps.step in
     let slots : outer_slots outer ≡ outer_slots e.outer = ap (λ o. option_map_or (λ s. s.slots) o []) followed ∙ see-slots direction seen h.scope ∙ sym slots_there in
-    let instances : outer_instances outer ≡ outer_instances e.outer = ap (λ o. option_map_or (λ s. s.instances) o []) followed ∙ see-instances direction seen h.scope ∙ sym (ap (λ o. option_map_or (λ s. s.instances) o []) h.followed) in
+    let instances : outer_instances outer ≡ outer_instances e.outer = ap (λ o. option_map_or (λ s. s.instances) o []) followed ∙ see-instances direction seen h.scope ∙ sym
+    (ap (λ o. option_map_or (λ s. s.instances) o []) h.followed) in
     let interfaces : interfaces_among (all_done (with_entry direction done x)) ≡ interfaces_among (all_done done) = nothing-brought interfaces_among (flat_map-append _) direction done x refl in
     let types : types_among (all_done (with_entry direction done x)) ≡ types_among (all_done done) = nothing-brought types_among (filter_map-append _) direction done x refl in
     let a = world_around e in
@@ -233,13 +245,16 @@ function-behind r v w e done h direction canonical k f n outer next stands is =
 
 -- ---- the function is encoded
 
-pub function-encoded : (r : Resolve) → IsValid r → (w : World) (e e' : WorldEncoder) (done : Entries) → HasShown r w e done → (direction : Direction) (canonical : Bool) (k : WorldKey) (f : Function) (n : ℕ) (outer : Declarations)
+pub function-encoded : (r : Resolve) → IsValid r → (w : World) (e e' : WorldEncoder) (done : Entries) → HasShown r w e done
+    → (direction : Direction) (canonical : Bool) (k : WorldKey) (f : Function) (n : ℕ) (outer : Declarations)
     → IsNext r w direction done (k, item.Function f) → Leaves r (world_encoder_view e) (world_encoder_view e') → LearnsOnly (MetFrom r None e.maps (function_types f)) e.maps e'.maps
     → Shows r (world_encoder_view e).scope e.maps e'.maps (world_definitions e.outer) (world_definitions e'.outer) → SlotsStand (outer_slots e'.outer) n (function (signature_of r f))
-    → outer ≡ declared_after e'.outer (declared_towards direction (name_of_item r canonical (k, item.Function f)) (refs.Func n)) → HasShown r w (record e' { outer = outer }) (with_entry direction done (k, item.Function f))
+    → outer ≡ declared_after e'.outer (declared_towards direction (name_of_item r canonical (k, item.Function f)) (refs.Func n))
+    → HasShown r w (record e' { outer = outer }) (with_entry direction done (k, item.Function f))
 function-encoded r v w e e' done h direction canonical k f n outer next leaves only shows stands is =
     let none : (m : ℕ) → MetFrom r None e.maps (function_types f) m → own_name r (world_view_of r e).scope m ≡ None = meets-none r v w e done h direction (k, item.Function f) next f refl in
-    let exported = shows-nothing r (world_encoder_view e).scope e.maps e'.maps (world_definitions e.outer) (world_definitions e'.outer) (MetFrom r None e.maps (function_types f)) leaves.agree.once only none shows ∙ sym (append-nil (world_definitions e.outer).exports) in
+    let exported = shows-nothing r (world_encoder_view e).scope e.maps e'.maps (world_definitions e.outer) (world_definitions e'.outer) (MetFrom r None e.maps (function_types f)) leaves.agree.once
+    only none shows ∙ sym (append-nil (world_definitions e.outer).exports) in
     let same : done.0 ++ [] ≡ done.0 = append-nil done.0 in
     let left : HasShown r w e' (done.0 ++ [], done.1) = types-shown r w e e' done h leaves.scope_stays leaves.grows [] exported [] tt refl leaves.agree
     (λ m c. let old = h.known m (subst (λ (es : List Entry). Contains (types_among (es ++ done.1)) m) same c) in (old.0, leaves.maps_grow.keeps (by_number m) old.0 old.1))

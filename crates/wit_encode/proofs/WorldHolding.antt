@@ -62,8 +62,10 @@ use Rattle.encode_types.specs.Codes.{ListKey}
 
 pub count-both : (es fs : List Entry) → count_among (es ++ fs) ≡ count_among es + count_among fs
 count-both es fs =
-    let a : length (functions_among (es ++ fs)) ≡ length (functions_among es) + length (functions_among fs) = ap length (filter_map-append _ es fs) ∙ length-append (functions_among es) (functions_among fs) in
-    let b : length (interfaces_among (es ++ fs)) ≡ length (interfaces_among es) + length (interfaces_among fs) = ap length (flat_map-append _ es fs) ∙ length-append (interfaces_among es) (interfaces_among fs) in
+    let a : length (functions_among (es ++ fs)) ≡ length (functions_among es) + length (functions_among fs) =
+    ap length (filter_map-append _ es fs) ∙ length-append (functions_among es) (functions_among fs) in
+    let b : length (interfaces_among (es ++ fs)) ≡ length (interfaces_among es) + length (interfaces_among fs) =
+    ap length (flat_map-append _ es fs) ∙ length-append (interfaces_among es) (interfaces_among fs) in
     omega (arith, a, b)
 
 -- the entries of the world are those that have been encoded, the next one, and others
@@ -119,7 +121,8 @@ module _ (r : Resolve) (a : Around) (interfaces : List ℕ) (listed : (i : ℕ) 
   brought-type : (n : ℕ) → is_brought r a n ≡ true → IsNamedTypeOf r interfaces n
   brought-type n h = go (type_at r n) refl (second_true _ _ h)
     where
-      of-owner : (d : TypeDef) → type_at r n ≡ Some d → is_some d.name ≡ true → (o : TypeOwner) → d.owner ≡ o → option_map_or (λ i. is_some (known_instance a.instances i)) (owner_interface o) false ≡ true → IsNamedTypeOf r interfaces n
+      of-owner : (d : TypeDef) → type_at r n ≡ Some d → is_some d.name ≡ true → (o : TypeOwner) → d.owner ≡ o
+          → option_map_or (λ i. is_some (known_instance a.instances i)) (owner_interface o) false ≡ true → IsNamedTypeOf r interfaces n
       of-owner d at named (owner.Interface i) q f = record { interface = i; among = listed i.0 f; def = d; there = at; named_ = named; owned = q }
       of-owner d at named (owner.World w) q f = absurd (let z : ⊥ = cc in z)
       of-owner d at named owner.None q f = absurd (let z : ⊥ = cc in z)
@@ -159,7 +162,8 @@ known-met r e es h n known = elim (h.learns.only.each n known.0 known.1) [
 -- ---- one item more
 
 -- a call leaves the interfaces that are listed
-same-listed : (e e' : WorldEncoder) (es : List Entry) → e'.foreign.instances.entries ≡ e.foreign.instances.entries → ((i : ℕ) → is_some (known_instance e.foreign.instances.entries i) ≡ true → Contains (interfaces_among es) i)
+same-listed : (e e' : WorldEncoder) (es : List Entry) → e'.foreign.instances.entries ≡ e.foreign.instances.entries
+    → ((i : ℕ) → is_some (known_instance e.foreign.instances.entries i) ≡ true → Contains (interfaces_among es) i)
     → (i : ℕ) → is_some (known_instance e'.foreign.instances.entries i) ≡ true → Contains (interfaces_among es) i
 same-listed e e' es same listed i h = listed i (ap (λ xs. is_some (known_instance xs i)) (sym same) ∙ h)
 
@@ -179,16 +183,20 @@ held-after r p p' e e' es n q q' h keys f =
     omega (arith, before, after, few, more)
 
 -- the type of a function brings one key at most
-pub one-key : {r : Resolve} {scope : Scope} {m m' : TypeEncodingMaps} {d d' : Definitions} {key : FunctionKey} {i : ℕ} → AddsFunction r scope m m' d d' key i → length m'.func_type_map.entries ≤ length m.func_type_map.entries + 1
+pub one-key : {r : Resolve} {scope : Scope} {m m' : TypeEncodingMaps} {d d' : Definitions} {key : FunctionKey} {i : ℕ} → AddsFunction r scope m m' d d' key i
+    → length m'.func_type_map.entries ≤ length m.func_type_map.entries + 1
 one-key {r} {scope} {m} {m'} a = elim a.keys [
   | inl same ↦ (let l : length m'.func_type_map.entries ≡ length m.func_type_map.entries = ap length same.1.lists in omega (arith, l))
   | inr more ↦ (let l = lists-longer (λ (v : ListKey). v.0.items) m.func_type_map.entries m'.func_type_map.entries (more.1.list, _) more.1.more in omega (arith, l))
 ]
 
 -- a function: its type, and then its import or export
-pub function-few : (r p p' : Resolve) (e e' : WorldEncoder) (es : List Entry) (k : WorldKey) (i : WorldItem) (f : Function) (direction : Direction) (name : ExternName) (described : ComponentTypeRef) (outer : Declarations)
-    → i ≡ item.Function f → p ≡ r → p' ≡ r → e'.foreign.instances.entries ≡ e.foreign.instances.entries → HoldsFew r e es → length e'.maps.func_type_map.entries ≤ length e.maps.func_type_map.entries + 1
-    → HoldsFor r None e.maps e'.maps (held_beside p (world_around e)) (held_beside p' (world_around e')) 0 → outer ≡ declared_after e'.outer (declared_towards direction name described) → HoldsFew r (record e' { outer = outer }) (es ++ (k, i) ∷ [])
+pub function-few : (r p p' : Resolve) (e e' : WorldEncoder) (es : List Entry) (k : WorldKey) (i : WorldItem) (f : Function) (direction : Direction) (name : ExternName) (described : ComponentTypeRef)
+    (outer : Declarations)
+    → i ≡ item.Function f → p ≡ r → p' ≡ r → e'.foreign.instances.entries ≡ e.foreign.instances.entries → HoldsFew r e es
+    → length e'.maps.func_type_map.entries ≤ length e.maps.func_type_map.entries + 1
+    → HoldsFor r None e.maps e'.maps (held_beside p (world_around e)) (held_beside p' (world_around e')) 0 → outer ≡ declared_after e'.outer (declared_towards direction name described)
+    → HoldsFew r (record e' { outer = outer }) (es ++ (k, i) ∷ [])
 function-few r p p' e e' es k i f direction name described outer is q q' same h keys held made =
     subst (λ (j : WorldItem). HoldsFew r (record e' { outer = outer }) (es ++ (k, j) ∷ [])) (sym is) (record {
       listed = listed-front e' es ((k, item.Function f) ∷ []) (same-listed e e' es same h.listed);
@@ -200,8 +208,10 @@ function-few r p p' e e' es k i f direction name described outer is q q' same h 
     })
 
 -- a type
-pub type-few : (r p p' : Resolve) (e e' : WorldEncoder) (es : List Entry) (k : WorldKey) (i : WorldItem) (id : TypeId) → i ≡ item.Type_ id → p ≡ r → p' ≡ r → e'.foreign.instances.entries ≡ e.foreign.instances.entries
-    → HoldsFew r e es → e'.maps.func_type_map.entries ≡ e.maps.func_type_map.entries → HoldsFor r None e.maps e'.maps (held_beside p (world_around e)) (held_beside p' (world_around e')) 0 → HoldsFew r e' (es ++ (k, i) ∷ [])
+pub type-few : (r p p' : Resolve) (e e' : WorldEncoder) (es : List Entry) (k : WorldKey) (i : WorldItem) (id : TypeId) → i ≡ item.Type_ id → p ≡ r → p' ≡ r
+    → e'.foreign.instances.entries ≡ e.foreign.instances.entries
+    → HoldsFew r e es → e'.maps.func_type_map.entries ≡ e.maps.func_type_map.entries → HoldsFor r None e.maps e'.maps (held_beside p (world_around e)) (held_beside p' (world_around e')) 0
+    → HoldsFew r e' (es ++ (k, i) ∷ [])
 type-few r p p' e e' es k i id is q q' same h keys held =
     subst (λ (j : WorldItem). HoldsFew r e' (es ++ (k, j) ∷ [])) (sym is) (record {
       listed = listed-front e' es ((k, item.Type_ id) ∷ []) (same-listed e e' es same h.listed);
@@ -264,12 +274,14 @@ module _ (r : Resolve) (w : World) (e : WorldEncoder) (done : Entries) (directio
     -- what is asked for doesn't fit, or the component type is full
     module _ (once : IsOnce e.maps) (p p' : Resolve) (q : p ≡ r) (q' : p' ≡ r) (ts : List ValueType) (refers : (t : ValueType) → Contains ts t → Contains (referred_among (x ∷ [])) t)
         (requests : List Request) (j : ℕ) (fits : j ≤ 2 * count_among (x ∷ [])) (unfit : (a : Request) → Contains requests a → IsUnfit r a → WorldLacksRoom r w) where
-      pub call-lacks : FindsNoRoom r None ts requests j e.maps (held_beside p (world_around e)) (held_beside p' (world_around e')) (LacksRoomBehind p' (declaration_count e'.outer)) → WorldLacksRoom r w
+      pub call-lacks : FindsNoRoom r None ts requests j e.maps (held_beside p (world_around e)) (held_beside p' (world_around e')) (LacksRoomBehind p' (declaration_count e'.outer))
+          → WorldLacksRoom r w
       call-lacks f = by f.lacks
         where
           overfull : limit ≤ declaration_count e'.outer → WorldLacksRoom r w
           overfull over = full (world_around e') same (known-numbers e.maps ++ f.numbers)
-              (pairs-both (λ x y. nat_eq x y ≡ false) (known-numbers e.maps) f.numbers (known-once e.maps once) (are-different r None f.numbers f.new.apart) (λ a b c g. unknown-apart e.maps a b (known-number e.maps a c) (f.new.unknown b g)))
+              (pairs-both (λ x y. nat_eq x y ≡ false) (known-numbers e.maps) f.numbers (known-once e.maps once) (are-different r None f.numbers f.new.apart)
+              (λ a b c g. unknown-apart e.maps a b (known-number e.maps a c) (f.new.unknown b g)))
               (λ m c. elim (Contains-append_cases (known-numbers e.maps) f.numbers m c) [
                 | inl a ↦ met-before m (known-number e.maps m a)
                 | inr b ↦ met-here ts refers m (f.met m b)
@@ -298,8 +310,10 @@ module _ (r : Resolve) (w : World) (e : WorldEncoder) (done : Entries) (directio
           by (a_request a c l) = either a (unfit a c) l
 
     -- a name doesn't fit, or the component type is full behind what a call has left
-    pub name-lacks : (p p' : Resolve) → p ≡ r → p' ≡ r → (ts : List ValueType) → ((t : ValueType) → Contains ts t → Contains (referred_among (x ∷ [])) t) → (k : ℕ) → k ≤ 2 * count_among (x ∷ []) → length e'.maps.func_type_map.entries ≤ length e.maps.func_type_map.entries + k → IsOnce e'.maps
-        → LearnsMet r None ts e.maps e'.maps → HoldsFor r None e.maps e'.maps (held_beside p (world_around e)) (held_beside p' (world_around e')) 0 → (fits : Bool) (slots : ℕ) → slots ≤ declaration_count e'.outer + 1
+    pub name-lacks : (p p' : Resolve) → p ≡ r → p' ≡ r → (ts : List ValueType) → ((t : ValueType) → Contains ts t → Contains (referred_among (x ∷ [])) t) → (k : ℕ) → k ≤ 2 * count_among (x ∷ [])
+        → length e'.maps.func_type_map.entries ≤ length e.maps.func_type_map.entries + k → IsOnce e'.maps
+        → LearnsMet r None ts e.maps e'.maps → HoldsFor r None e.maps e'.maps (held_beside p (world_around e)) (held_beside p' (world_around e')) 0 → (fits : Bool) (slots : ℕ)
+        → slots ≤ declaration_count e'.outer + 1
         → (fits ≡ false → WorldLacksRoom r w) → (fits && fits_counts (declaration_count e'.outer + 1) slots) ≡ false → WorldLacksRoom r w
     name-lacks p p' q q' ts refers k few keys once learns held fits slots low unfit refused = by fits refl refused
       where
@@ -322,41 +336,49 @@ module _ (r : Resolve) (w : World) (e : WorldEncoder) (done : Entries) (directio
 
 -- ---- the calls
 
-pub function-lacks : (r p p' : Resolve) (w : World) (e e' : WorldEncoder) (done : Entries) (direction : Direction) (k : WorldKey) (i : WorldItem) (f : Function) → i ≡ item.Function f → IsNext r w direction done (k, i)
+pub function-lacks : (r p p' : Resolve) (w : World) (e e' : WorldEncoder) (done : Entries) (direction : Direction) (k : WorldKey) (i : WorldItem) (f : Function) → i ≡ item.Function f
+    → IsNext r w direction done (k, i)
     → HasDefined r e (all_done done) → HoldsFew r e (all_done done) → e'.foreign.instances.entries ≡ e.foreign.instances.entries → IsOnce e.maps → p ≡ r → p' ≡ r
-    → FindsNoRoom r None (function_types f) (function_type (signature_of r f) ∷ []) 1 e.maps (held_beside p (world_around e)) (held_beside p' (world_around e')) (LacksRoomBehind p' (declaration_count e'.outer)) → WorldLacksRoom r w
+    → FindsNoRoom r None (function_types f) (function_type (signature_of r f) ∷ []) 1 e.maps (held_beside p (world_around e)) (held_beside p' (world_around e'))
+    (LacksRoomBehind p' (declaration_count e'.outer)) → WorldLacksRoom r w
 function-lacks r p p' w e e' done direction k i f is n d h same once q q' lacks =
     let m : IsNext r w direction done (k, item.Function f) = subst (λ (j : WorldItem). IsNext r w direction done (k, j)) is n in
     let among = next-among r w direction done (k, item.Function f) m in
     call-lacks r w e done direction (k, item.Function f) m d h e' same once p p' q q' (function_types f) (function-referred k f) (function_type (signature_of r f) ∷ []) 1 (omega arith)
-    (λ a c u. a_function f (subst (λ (ys : List Entry). Contains (functions_among ys) f) (sym among.1) (functions-there (all_done done) among.0)) (subst (IsUnfit r) (sym (one-contained (function_type (signature_of r f)) a c)) u))
+    (λ a c u. a_function f (subst (λ (ys : List Entry). Contains (functions_among ys) f) (sym among.1) (functions-there (all_done done) among.0))
+    (subst (IsUnfit r) (sym (one-contained (function_type (signature_of r f)) a c)) u))
     lacks
   where
     functions-there : (es rest : List Entry) → Contains (functions_among (es ++ (k, item.Function f) ∷ rest)) f
     functions-there es rest = subst (λ (fs : List Function). Contains fs f) (sym (filter_map-append _ es ((k, item.Function f) ∷ rest)))
         (Contains-append_right (functions_among es) (f ∷ functions_among rest) f (0, omega arith, refl))
 
-pub function-name-lacks : (r p p' : Resolve) (w : World) (e e' : WorldEncoder) (done : Entries) (direction : Direction) (canonical : Bool) (k : WorldKey) (i : WorldItem) (f : Function) (name : ExternName) (index : ℕ) → i ≡ item.Function f
+pub function-name-lacks : (r p p' : Resolve) (w : World) (e e' : WorldEncoder) (done : Entries) (direction : Direction) (canonical : Bool) (k : WorldKey) (i : WorldItem) (f : Function)
+    (name : ExternName) (index : ℕ) → i ≡ item.Function f
     → IsNext r w direction done (k, i) → HasDefined r e (all_done done) → HoldsFew r e (all_done done) → e'.foreign.instances.entries ≡ e.foreign.instances.entries → IsOnce e'.maps → p ≡ r → p' ≡ r
-    → length e'.maps.func_type_map.entries ≤ length e.maps.func_type_map.entries + 1 → LearnsMet r None (function_types f) e.maps e'.maps → HoldsFor r None e.maps e'.maps (held_beside p (world_around e)) (held_beside p' (world_around e')) 0 → name ≡ name_of_item r canonical (k, i)
+    → length e'.maps.func_type_map.entries ≤ length e.maps.func_type_map.entries + 1 → LearnsMet r None (function_types f) e.maps e'.maps
+    → HoldsFor r None e.maps e'.maps (held_beside p (world_around e)) (held_beside p' (world_around e')) 0 → name ≡ name_of_item r canonical (k, i)
     → (fits_declaration (declared_towards direction name (refs.Func index)) && fits_added e'.outer (declaration_slots (declared_towards direction name (refs.Func index)))) ≡ false → WorldLacksRoom r w
 function-name-lacks r p p' w e e' done direction canonical k i f name index is n d h same once q q' keys learns held named refused =
     let m : IsNext r w direction done (k, item.Function f) = subst (λ (j : WorldItem). IsNext r w direction done (k, j)) is n in
     let among = next-among r w direction done (k, item.Function f) m in
     let few = outer-slots-few e'.outer in
-    name-lacks r w e done direction (k, item.Function f) m d h e' same p p' q q' (function_types f) (function-referred k f) 1 (omega arith) keys once learns held (fits_name name) (type_slots_of e'.outer + 0) (omega (arith, few))
+    name-lacks r w e done direction (k, item.Function f) m d h e' same p p' q q' (function_types f) (function-referred k f) 1 (omega arith) keys once learns held (fits_name name)
+    (type_slots_of e'.outer + 0) (omega (arith, few))
     (λ u. a_name canonical (k, item.Function f) (subst (λ (ys : List Entry). Contains ys (k, item.Function f)) (sym among.1) (there (all_done done) among.0)) refl
     (ap fits_name (sym (named ∙ ap (λ (j : WorldItem). name_of_item r canonical (k, j)) is)) ∙ u)) (towards direction refused)
   where
     there : (es rest : List Entry) → Contains (es ++ (k, item.Function f) ∷ rest) (k, item.Function f)
     there es rest = Contains-append_right es ((k, item.Function f) ∷ rest) (k, item.Function f) (0, omega arith, refl)
 
-    towards : (direction : Direction) → (fits_declaration (declared_towards direction name (refs.Func index)) && fits_added e'.outer (declaration_slots (declared_towards direction name (refs.Func index)))) ≡ false
+    towards : (direction : Direction)
+        → (fits_declaration (declared_towards direction name (refs.Func index)) && fits_added e'.outer (declaration_slots (declared_towards direction name (refs.Func index)))) ≡ false
         → (fits_name name && fits_counts (declaration_count e'.outer + 1) (type_slots_of e'.outer + 0)) ≡ false
     towards import_ g = g
     towards export_ g = g
 
-pub type-lacks : (r p p' : Resolve) (w : World) (e e' : WorldEncoder) (done : Entries) (direction : Direction) (k : WorldKey) (i : WorldItem) (id : TypeId) → i ≡ item.Type_ id → IsNext r w direction done (k, i)
+pub type-lacks : (r p p' : Resolve) (w : World) (e e' : WorldEncoder) (done : Entries) (direction : Direction) (k : WorldKey) (i : WorldItem) (id : TypeId) → i ≡ item.Type_ id
+    → IsNext r w direction done (k, i)
     → HasDefined r e (all_done done) → HoldsFew r e (all_done done) → e'.foreign.instances.entries ≡ e.foreign.instances.entries → IsOnce e.maps → p ≡ r → p' ≡ r
     → FindsNoRoom r None (ty.Id id ∷ []) [] 0 e.maps (held_beside p (world_around e)) (held_beside p' (world_around e')) (LacksRoomBehind p' (declaration_count e'.outer)) → WorldLacksRoom r w
 type-lacks r p p' w e e' done direction k i id is n d h same once q q' lacks =

@@ -67,7 +67,8 @@ count-one x n e =
 
 -- ---- the instance type and its import or export, listed
 
-module _ (r : Resolve) (e e' e'' : WorldEncoder) (x : Entry) (i : InterfaceId) (def : Interface) (k : ℕ) (direction : Direction) (name : ExternName) (outer : Declarations) (is : item_interface x.1 ≡ Some i.0) (there : interface_at r i.0 ≡ Some def)
+module _ (r : Resolve) (e e' e'' : WorldEncoder) (x : Entry) (i : InterfaceId) (def : Interface) (k : ℕ) (direction : Direction) (name : ExternName) (outer : Declarations)
+    (is : item_interface x.1 ≡ Some i.0) (there : interface_at r i.0 ≡ Some def)
     (rest : e' ≡ record e { outer = e'.outer; foreign = e'.foreign }) (encodes : EncodesInterface r (world_around e) (world_around e') i def k)
     (made : outer ≡ declared_after e'.outer (declared_towards direction name (refs.Instance k))) (lists : ListsInstance (record e' { outer = outer }) e'' i) where
   abbrev before : Around
@@ -89,7 +90,8 @@ module _ (r : Resolve) (e e' e'' : WorldEncoder) (x : Entry) (i : InterfaceId) (
   known-then = ap (λ (z : WorldEncoder). z.foreign.known.entries) lists.rest ∙ ap (λ (z : Around). z.known) encodes.part.one_more
 
   listed-then : e''.foreign.instances.entries ≡ insert_entry nat_cmp e.foreign.instances.entries i.0 e'.instances
-  listed-then = lists.listed ∙ ap (λ (es : List (ℕ × ℕ)). insert_entry nat_cmp es i.0 e'.instances) (ap (λ (z : Around). z.instances) encodes.part.one_more ∙ grown-listed r (world_around e) before encodes.part.aliases.grown)
+  listed-then = lists.listed ∙ ap (λ (es : List (ℕ × ℕ)). insert_entry nat_cmp es i.0 e'.instances)
+      (ap (λ (z : Around). z.instances) encodes.part.one_more ∙ grown-listed r (world_around e) before encodes.part.aliases.grown)
 
   instances-then : instances_declared e''.outer ≡ instances_declared e.outer ++ (before.declared, inner) ∷ []
   instances-then = placed-instances r (world_around e) before encodes.part.aliases.grown inner described e''.outer outer-then
@@ -97,8 +99,10 @@ module _ (r : Resolve) (e e' e'' : WorldEncoder) (x : Entry) (i : InterfaceId) (
   -- nothing is defined beside the instance type
   pub interface-defined : (es : List Entry) → HasDefined r e es → HasDefined r e'' (es ++ x ∷ [])
   interface-defined es h = defines-behind r e e'' es h x [] [] (no-function x i.0 is) (λ t c. none-in t c)
-      (adds-alike refl same-maps refl refl refl (placed-slots r (world_around e) before encodes.part.aliases.grown inner described e''.outer outer-then is_value_type (λ a. refl) (towards-value direction name (refs.Instance k)))
-      (placed-targets r (world_around e) before encodes.part.aliases.grown inner described e''.outer outer-then (towards-target direction name (refs.Instance k) refl)) (placed-slots r (world_around e) before encodes.part.aliases.grown inner described e''.outer outer-then is_function_type (λ a. refl) (towards-function direction name (refs.Instance k)))
+      (adds-alike refl same-maps refl refl refl (placed-slots r (world_around e) before encodes.part.aliases.grown inner described e''.outer outer-then is_value_type (λ a. refl)
+      (towards-value direction name (refs.Instance k)))
+      (placed-targets r (world_around e) before encodes.part.aliases.grown inner described e''.outer outer-then (towards-target direction name (refs.Instance k) refl))
+      (placed-slots r (world_around e) before encodes.part.aliases.grown inner described e''.outer outer-then is_function_type (λ a. refl) (towards-function direction name (refs.Instance k)))
       (adds-nothing r (no_interface r) e.maps (world_definitions e.outer)))
       (subst (λ (m : TypeEncodingMaps). LearnsFrom r None [] e.maps m) (sym same-maps) (from-none r None [] e.maps))
       (subst (λ (ns : List ℕ). AllZip (DefinesInterface r) ns (instances_declared e''.outer)) (sym (interfaces-more es (x ∷ []) ∙ ap (λ (ns : List ℕ). interfaces_among es ++ ns) (among-one x i.0 is)))
@@ -118,7 +122,8 @@ module _ (r : Resolve) (e e' e'' : WorldEncoder) (x : Entry) (i : InterfaceId) (
 
       keeps-then : KeepsAliases r e''.instances (world_around e'') (interfaces_among es ++ i.0 ∷ [])
       keeps-then = subst (λ (n : ℕ). KeepsAliases r n (world_around e'') (interfaces_among es ++ i.0 ∷ [])) (sym (ap (λ (z : WorldEncoder). z.instances) lists.rest ∙ ap (λ n. n + 1) counted))
-          (keeps-instance r e.instances (interfaces_among es) i.0 before (world_around e'') inner described outer-then (towards-alias direction name (refs.Instance k)) (ap length (interface-name direction name k))
+          (keeps-instance r e.instances (interfaces_among es) i.0 before (world_around e'') inner described outer-then (towards-alias direction name (refs.Instance k))
+          (ap length (interface-name direction name k))
           (listed-then ∙ (λ j. insert_entry nat_cmp (sym (grown-listed r (world_around e) before encodes.part.aliases.grown) j) i.0 (counted j))) known-then keeps-before)
 
       asked-then : (n : ℕ) → is_some (known_slot e''.foreign.known.entries n) ≡ true → IsAskedByWorld r (es ++ x ∷ []) n
@@ -134,7 +139,16 @@ module _ (r : Resolve) (e e' e'' : WorldEncoder) (x : Entry) (i : InterfaceId) (
           ]
 
       one : DefinesInterface r i.0 (before.declared, inner)
-      one = record { def = def; there = there; declarations = encodes.part.declared; is = refl; ordered = encodes.part.is_instance; function_types = encodes.part.function_types; value_types = encodes.part.value_types }
+      one = record {
+        def = def;
+        there = there;
+        declarations = encodes.part.declared;
+        is = refl;
+        ordered = encodes.part.is_instance;
+        function_types = encodes.part.function_types;
+        value_types =
+            encodes.part.value_types;
+      }
 
   pub interface-few : (es : List Entry) → HoldsFew r e es → HoldsFew r e'' (es ++ x ∷ [])
   interface-few es h = record {
@@ -145,7 +159,8 @@ module _ (r : Resolve) (e e' e'' : WorldEncoder) (x : Entry) (i : InterfaceId) (
     held =
         (let few = h.held in
         let a : declaration_count e''.outer + length (brought_numbers r (world_around e)) ≤ declaration_count e.outer + (length (brought_numbers r (world_around e'')) + 2) =
-        placed-few r (world_around e) before encodes.part.aliases.grown inner described e''.outer outer-then i.0 e'.instances e''.foreign.instances.entries e''.foreign.known.entries listed-then known-then in
+        placed-few r (world_around e) before encodes.part.aliases.grown inner described e''.outer outer-then i.0 e'.instances e''.foreign.instances.entries e''.foreign.known.entries listed-then
+        known-then in
         let o : length e''.maps.id_to_index.entries ≡ length e.maps.id_to_index.entries = ap (λ (z : TypeEncodingMaps). length z.id_to_index.entries) same-maps in
         let p = count-both es (x ∷ []) in
         let q = count-one x i.0 is in
@@ -158,13 +173,15 @@ module _ (r : Resolve) (e e' e'' : WorldEncoder) (x : Entry) (i : InterfaceId) (
 
 -- ---- no room
 
-module _ (r : Resolve) (w : World) (e : WorldEncoder) (done : Entries) (direction : Direction) (x : Entry) (n : IsNext r w direction done x) (d : HasDefined r e (all_done done)) (h : HoldsFew r e (all_done done))
+module _ (r : Resolve) (w : World) (e : WorldEncoder) (done : Entries) (direction : Direction) (x : Entry) (n : IsNext r w direction done x) (d : HasDefined r e (all_done done))
+    (h : HoldsFew r e (all_done done))
     (once : IsOnce e.maps) (i : InterfaceId) (is : item_interface x.1 ≡ Some i.0) where
   abbrev known : List ℕ
   known = known-numbers e.maps
 
   -- behind aliases, and one declaration more, the component type is full
-  over-behind : (a : Around) → GrowsAround r (world_around e) a → (more : Declarations) → declaration_count more ≤ declaration_count a.declared + 1 → limit ≤ declaration_count more → WorldLacksRoom r w
+  over-behind : (a : Around) → GrowsAround r (world_around e) a → (more : Declarations) → declaration_count more ≤ declaration_count a.declared + 1 → limit ≤ declaration_count more
+      → WorldLacksRoom r w
   over-behind a g more one over =
       full r w e done direction x n d h (record a { declared = more }) (grown-listed r (world_around e) a g) known (known-once e.maps once)
       (λ m c. met-before r w e done direction x n d h m (known-number e.maps m c))
@@ -199,7 +216,8 @@ module _ (r : Resolve) (w : World) (e : WorldEncoder) (done : Entries) (directio
       there : (es rest : List Entry) → Contains (es ++ x ∷ rest) x
       there es rest = Contains-append_right es (x ∷ rest) x (0, omega arith, refl)
 
-      towards : (direction : Direction) → LacksDeclaration a.declared (declared_towards direction name (refs.Instance k)) → (fits_name name && fits_counts (declaration_count a.declared + 1) (type_slots_of a.declared + 0)) ≡ false
+      towards : (direction : Direction) → LacksDeclaration a.declared (declared_towards direction name (refs.Instance k))
+          → (fits_name name && fits_counts (declaration_count a.declared + 1) (type_slots_of a.declared + 0)) ≡ false
       towards import_ g = g
       towards export_ g = g
 

@@ -71,7 +71,8 @@ key-path (key.Interface id) path = refl
 
 -- ---- entries
 
-one-more : {A : Type 0} (given : List Entry → List A) → ((es gs : List Entry) → given (es ++ gs) ≡ given es ++ given gs) → (direction : Direction) (done : Entries) (x : Entry) (y : A) → given (x ∷ []) ≡ y ∷ []
+one-more : {A : Type 0} (given : List Entry → List A) → ((es gs : List Entry) → given (es ++ gs) ≡ given es ++ given gs) → (direction : Direction) (done : Entries) (x : Entry) (y : A)
+    → given (x ∷ []) ≡ y ∷ []
     → length (given (all_done (with_entry direction done x))) ≡ length (given (all_done done)) + 1
 one-more given split import_ done x y one =
     let a = ap length (split (done.0 ++ x ∷ []) done.1) ∙ length-append (given (done.0 ++ x ∷ [])) (given done.1) in
@@ -87,7 +88,8 @@ one-more given split export_ done x y one =
     omega (arith, a, b, c, d)
 
 -- an entry that is done is an old one or the new one
-done-cases : (direction : Direction) (done : Entries) (x : Entry) (j : ℕ) → Contains (interfaces_among (all_done (with_entry direction done x))) j → Contains (interfaces_among (all_done done)) j ⊎ Contains (interfaces_among (x ∷ [])) j
+done-cases : (direction : Direction) (done : Entries) (x : Entry) (j : ℕ) → Contains (interfaces_among (all_done (with_entry direction done x))) j → Contains (interfaces_among (all_done done)) j
+    ⊎ Contains (interfaces_among (x ∷ [])) j
 done-cases direction done x j c = by direction c
   where
     split : (es gs : List Entry) → interfaces_among (es ++ gs) ≡ interfaces_among es ++ interfaces_among gs
@@ -101,12 +103,14 @@ done-cases direction done x j c = by direction c
 
     by : (direction : Direction) → Contains (interfaces_among (all_done (with_entry direction done x))) j → Contains (interfaces_among (all_done done)) j ⊎ Contains (interfaces_among (x ∷ [])) j
     by import_ c = elim (Contains-append_cases (interfaces_among (done.0 ++ x ∷ [])) (interfaces_among done.1) j (subst (λ (ns : List ℕ). Contains ns j) (split (done.0 ++ x ∷ []) done.1) c)) [
-      | inl d ↦ elim (Contains-append_cases (interfaces_among done.0) (interfaces_among (x ∷ [])) j (subst (λ (ns : List ℕ). Contains ns j) (split done.0 (x ∷ [])) d)) [ inl old ↦ inl (left old) | inr new ↦ inr new ]
+      | inl d ↦ elim (Contains-append_cases (interfaces_among done.0) (interfaces_among (x ∷ [])) j (subst (λ (ns : List ℕ). Contains ns j) (split done.0 (x ∷ [])) d))
+          [ inl old ↦ inl (left old) | inr new ↦ inr new ]
       | inr d ↦ inl (right d)
     ]
     by export_ c = elim (Contains-append_cases (interfaces_among done.0) (interfaces_among (done.1 ++ x ∷ [])) j (subst (λ (ns : List ℕ). Contains ns j) (split done.0 (done.1 ++ x ∷ [])) c)) [
       | inl d ↦ inl (left d)
-      | inr d ↦ elim (Contains-append_cases (interfaces_among done.1) (interfaces_among (x ∷ [])) j (subst (λ (ns : List ℕ). Contains ns j) (split done.1 (x ∷ [])) d)) [ inl old ↦ inl (right old) | inr new ↦ inr new ]
+      | inr d ↦ elim (Contains-append_cases (interfaces_among done.1) (interfaces_among (x ∷ [])) j (subst (λ (ns : List ℕ). Contains ns j) (split done.1 (x ∷ [])) d))
+          [ inl old ↦ inl (right old) | inr new ↦ inr new ]
     ]
 
 -- the interface among one entry
@@ -122,7 +126,8 @@ turn r w import_ done x n = n.begun
 turn r w export_ done x n = tt
 
 -- what has been done is of the world
-done-entry : (r : Resolve) (w : World) (direction : Direction) (done : Entries) (x : Entry) → IsNext r w direction done x → (y : Entry) → Contains (all_done done) y → Contains (w.imports.entries ++ w.exports.entries) y
+done-entry : (r : Resolve) (w : World) (direction : Direction) (done : Entries) (x : Entry) → IsNext r w direction done x → (y : Entry) → Contains (all_done done) y
+    → Contains (w.imports.entries ++ w.exports.entries) y
 done-entry r w direction done x n y c = by direction n (Contains-append_cases done.0 done.1 y c)
   where
     front : (es : List Entry) (ds : List Entry) (rest : List Entry) → es ≡ ds ++ x ∷ rest → Contains ds y → Contains es y
@@ -160,7 +165,8 @@ module _ (r : Resolve) (v : IsValid r) (w : World) (e : WorldEncoder) (done : En
       importable-stands (is_sound_outside r e.world (world_around e)) (standing_instances r (world_around e)) j
       (stand-before r v w e done h direction x n j (interfaces-ready r v e.world w h.world_ place x.1 (next-place r w direction done x n) j (uses-of r x.1 i.0 j is c)) (used-path r v i.0 j c))
 
-  module _ (canonical : Bool) (ds : List Declaration) (view : View) (k : ℕ) (outer : Declarations) (followed : instance_view (home_of r i.0) (outer_slots e.outer) ds ≡ Some view) (shows : ShowsInterface r i.0 view)
+  module _ (canonical : Bool) (ds : List Declaration) (view : View) (k : ℕ) (outer : Declarations) (followed : instance_view (home_of r i.0) (outer_slots e.outer) ds ≡ Some view)
+      (shows : ShowsInterface r i.0 view)
       (index : k ≡ type_slots_of e.outer)
       (declared : outer ≡ declared_after (append e.outer (Declarations.instance (from_list ds) Declarations.no_more)) (declared_towards direction (name_of_item r canonical x) (refs.Instance k))) where
     abbrev s : follow.Scope
@@ -196,13 +202,16 @@ module _ (r : Resolve) (v : IsValid r) (w : World) (e : WorldEncoder) (done : En
         index ∙ (let same : type_slots_of e.outer ≡ length s.slots = omega (arith, count) in same)
 
     steps : StepsTo r (with_entry direction done x) (in_scope slot s) after (declared_towards direction (name_of_item r canonical x) (refs.Instance (length s.slots)))
-    steps = interfaces_are_shown r canonical direction done s x i.0 ds view v (record { number = e.world.0; world = w; there = h.world_; listed = next-entry r w direction done x n }) is h.shows (turn r w direction done x n)
+    steps = interfaces_are_shown r canonical direction done s x i.0 ds view v (record { number = e.world.0; world = w; there = h.world_; listed = next-entry r w direction done x n }) is h.shows
+        (turn r w direction done x n)
         (subst (λ (zs : List Slot). instance_view (home_of r i.0) zs ds ≡ Some view) slots-there followed) shows
 
     next : outer_scope outer ≡ Some after
     next =
-        ap outer_scope (declared ∙ ap (λ m. declared_after (append e.outer (Declarations.instance (from_list ds) Declarations.no_more)) (declared_towards direction (name_of_item r canonical x) (refs.Instance m))) number)
-        ∙ steps-more new_scope (in_scope slot s) after (append e.outer (Declarations.instance (from_list ds) Declarations.no_more)) (declared_towards direction (name_of_item r canonical x) (refs.Instance (length s.slots)))
+        ap outer_scope (declared ∙ ap (λ m. declared_after (append e.outer (Declarations.instance (from_list ds) Declarations.no_more))
+        (declared_towards direction (name_of_item r canonical x) (refs.Instance m))) number)
+        ∙ steps-more new_scope (in_scope slot s) after (append e.outer (Declarations.instance (from_list ds) Declarations.no_more))
+        (declared_towards direction (name_of_item r canonical x) (refs.Instance (length s.slots)))
         (steps-instance new_scope s e.outer ds h.followed) steps.step
 
     after-slots : after.slots ≡ s.slots ++ slot ∷ []
@@ -242,13 +251,15 @@ module _ (r : Resolve) (v : IsValid r) (w : World) (e : WorldEncoder) (done : En
       sound-then = sound-again r e.world (world_around e') (record {
         scope = after;
         followed = next;
-        slots = ap (list_all (is_slot_of (world_resources r e.world))) (sym (ap (λ o. option_map_or (λ z. z.slots) o []) next) ∙ slots-more) ∙ all-more (outer_slots e.outer) (ap (list_all (is_slot_of (world_resources r e.world))) (sym same-slots) ∙ sound-before.slots);
+        slots = ap (list_all (is_slot_of (world_resources r e.world))) (sym (ap (λ o. option_map_or (λ z. z.slots) o []) next) ∙ slots-more) ∙ all-more (outer_slots e.outer)
+            (ap (list_all (is_slot_of (world_resources r e.world))) (sym same-slots) ∙ sound-before.slots);
         right = ap (are_right r (world_around e').known) (sym (ap (λ o. option_map_or (λ z. z.slots) o []) next)) ∙ right-after;
       })
         where
           all-more : (zs : List Slot) → list_all (is_slot_of (world_resources r e.world)) zs ≡ true → list_all (is_slot_of (world_resources r e.world)) (zs ++ slot ∷ []) ≡ true
           all-more [] all = refl
-          all-more (z ∷ zs) all = both (is_slot_of (world_resources r e.world) z) _ (first_true (is_slot_of (world_resources r e.world) z) _ all) (all-more zs (second_true (is_slot_of (world_resources r e.world) z) _ all))
+          all-more (z ∷ zs) all = both (is_slot_of (world_resources r e.world) z) _ (first_true (is_slot_of (world_resources r e.world) z) _ all)
+              (all-more zs (second_true (is_slot_of (world_resources r e.world) z) _ all))
 
       -- the instances that were there are those of the interfaces among what has been done
       counted : e.instances ≡ length (outer_instances e.outer)
@@ -277,15 +288,21 @@ module _ (r : Resolve) (v : IsValid r) (w : World) (e : WorldEncoder) (done : En
         scope = after;
         followed = next;
         shows = steps.shows;
-        agree = record { says = λ q m holds. subst (λ (zs : List Slot). SlotsStand zs m (standing_of r q)) (sym slots-more) (slots-kept slot (outer_slots e.outer) m (standing_of r q) (h.agree.says q m holds)); once = h.agree.once };
+        agree = record {
+          says = λ q m holds. subst (λ (zs : List Slot). SlotsStand zs m (standing_of r q)) (sym slots-more)
+              (slots-kept slot (outer_slots e.outer) m (standing_of r q) (h.agree.says q m holds));
+          once = h.agree.once;
+        };
         sound = sound-then;
-        stand = λ j c p. stands-then r (world_around e) (world_around e') new_instance i.0 instances-more (listed ∙ ap (insert_entry nat_cmp e.foreign.instances.entries i.0) counted) right-before right-after j (path-in-range r j p)
+        stand = λ j c p. stands-then r (world_around e) (world_around e') new_instance i.0 instances-more (listed ∙ ap (insert_entry nat_cmp e.foreign.instances.entries i.0) counted) right-before
+            right-after j (path-in-range r j p)
             (λ same. let path = some-of (interface_path r j) p in stands-itself path.0 (ap (interface_path r) (sym same) ∙ path.1))
             (λ other. elim (done-cases direction done x j c) [
               | inl old ↦ h.stand j old p
               | inr new ↦ absurd (old-key j other (only-one i.0 j (subst (λ (ns : List ℕ). Contains ns j) (among-one x i.0 is) new)))
             ]);
-        count = (let c : e.instances ≡ length (interfaces_among (all_done done)) = h.count in let more = one-more interfaces_among (flat_map-append _) direction done x i.0 (among-one x i.0 is) in let same : e.instances + 1 ≡ length (interfaces_among (all_done (with_entry direction done x))) = omega (arith, c, more) in same);
+        count = (let c : e.instances ≡ length (interfaces_among (all_done done)) = h.count in let more = one-more interfaces_among (flat_map-append _) direction done x i.0 (among-one x i.0 is) in
+            let same : e.instances + 1 ≡ length (interfaces_among (all_done (with_entry direction done x))) = omega (arith, c, more) in same);
         typed = (let before = h.typed in let l : length after.slots ≡ length s.slots + 1 = ap length after-slots ∙ length-append s.slots (slot ∷ []) in omega (arith, before, l));
         known = λ m c. h.known m (subst (λ (ns : List ℕ). Contains ns m) types-same c);
         alone = λ m q. elim (h.alone m q) [ inl none ↦ inl none | inr c ↦ inr (subst (λ (ns : List ℕ). Contains ns m) (sym types-same) c) ];
@@ -293,7 +310,8 @@ module _ (r : Resolve) (v : IsValid r) (w : World) (e : WorldEncoder) (done : En
 
 -- ---- the call
 
-module _ (r : Resolve) (v : IsValid r) (w : World) (e e' : WorldEncoder) (done : Entries) (h : HasShown r w e done) (direction : Direction) (canonical : Bool) (x : Entry) (n : IsNext r w direction done x) (i : InterfaceId) (is : item_interface x.1 ≡ Some i.0) (k : ℕ)
+module _ (r : Resolve) (v : IsValid r) (w : World) (e e' : WorldEncoder) (done : Entries) (h : HasShown r w e done) (direction : Direction) (canonical : Bool) (x : Entry)
+    (n : IsNext r w direction done x) (i : InterfaceId) (is : item_interface x.1 ≡ Some i.0) (k : ℕ)
     (rest : e' ≡ record e { outer = e'.outer; foreign = e'.foreign }) (defines : DefinesInstance e e' i k) (outer : Declarations)
     (declared : outer ≡ declared_after e'.outer (declared_towards direction (name_of_item r canonical x) (refs.Instance k))) where
   there : (def : Interface) × (interface_at r i.0 ≡ Some def)
@@ -312,13 +330,16 @@ module _ (r : Resolve) (v : IsValid r) (w : World) (e e' : WorldEncoder) (done :
   between = with_outer e before.declared e'.foreign
 
   shown-between : HasShown r w between done
-  shown-between = aliases-shown r w e done h before.declared e'.foreign (subst (λ (q : Resolve). GrowsAround q (world_around e) (around_at before.declared e'.foreign)) (sym h.packages_) (subst (GrowsAround r (world_around e)) (sym same-around) encodes.part.aliases.grown))
+  shown-between = aliases-shown r w e done h before.declared e'.foreign (subst (λ (q : Resolve). GrowsAround q (world_around e) (around_at before.declared e'.foreign)) (sym h.packages_)
+      (subst (GrowsAround r (world_around e)) (sym same-around) encodes.part.aliases.grown))
 
-  declared-then : outer ≡ declared_after (append before.declared (Declarations.instance (from_list encodes.part.declared) Declarations.no_more)) (declared_towards direction (name_of_item r canonical x) (refs.Instance k))
+  declared-then : outer ≡ declared_after (append before.declared (Declarations.instance (from_list encodes.part.declared) Declarations.no_more))
+      (declared_towards direction (name_of_item r canonical x) (refs.Instance k))
   declared-then = declared ∙ ap (λ (z : Around). declared_after z.declared (declared_towards direction (name_of_item r canonical x) (refs.Instance k))) encodes.part.one_more
 
   pub room : e'.instances < type_slots_of outer
-  room = subst (λ (c : ℕ). c < type_slots_of outer) (sym (ap (λ (z : WorldEncoder). z.instances) rest)) (room-behind r v w between done shown-between direction x n i is canonical encodes.part.declared encodes.part.is_instance.view k outer
+  room = subst (λ (c : ℕ). c < type_slots_of outer) (sym (ap (λ (z : WorldEncoder). z.instances) rest))
+      (room-behind r v w between done shown-between direction x n i is canonical encodes.part.declared encodes.part.is_instance.view k outer
       encodes.part.is_instance.followed encodes.shows encodes.part.index declared-then)
 
   pub interface-encoded : (e'' : WorldEncoder) → ListsInstance (record e' { outer = outer }) e'' i → HasShown r w e'' (with_entry direction done x)
@@ -328,4 +349,5 @@ module _ (r : Resolve) (v : IsValid r) (w : World) (e e' : WorldEncoder) (done :
       ∙ (λ j. record (rest j) { outer = outer; foreign = record e'.foreign { instances = e''.foreign.instances }; instances = (rest j).instances + 1 }) in
       subst (λ (z : WorldEncoder). HasShown r w z (with_entry direction done x)) (sym all)
       (interface-behind r v w between done shown-between direction x n i is canonical encodes.part.declared encodes.part.is_instance.view k outer
-      encodes.part.is_instance.followed encodes.shows encodes.part.index declared-then (record e'.foreign { instances = e''.foreign.instances }) refl (lists.listed ∙ ap (insert_entry nat_cmp e'.foreign.instances.entries i.0) same))
+      encodes.part.is_instance.followed encodes.shows encodes.part.index declared-then (record e'.foreign { instances = e''.foreign.instances }) refl
+      (lists.listed ∙ ap (insert_entry nat_cmp e'.foreign.instances.entries i.0) same))

@@ -54,7 +54,8 @@ pub record NextEntry (r : Resolve) (e' : WorldEncoder) (direction : Direction) (
   pub shown : HasShown r world e' done
   pub next : IsNext r world direction done x
 
-pub goes-next : (r : Resolve) (canonical : Bool) (e e' : WorldEncoder) (direction : Direction) (entries rest more : List Entry) (x : Entry) → AwaitsAll r e direction entries → Goes r canonical e e' direction entries rest → rest ≡ x ∷ more → NextEntry r e' direction x
+pub goes-next : (r : Resolve) (canonical : Bool) (e e' : WorldEncoder) (direction : Direction) (entries rest more : List Entry) (x : Entry) → AwaitsAll r e direction entries
+    → Goes r canonical e e' direction entries rest → rest ≡ x ∷ more → NextEntry r e' direction x
 goes-next r canonical e e' direction entries rest more x a g is = by direction a.world (g.shown a.world a.shown) (sym a.are ∙ g.split ∙ ap (λ (xs : List Entry). g.front ++ xs) is)
   where
     by : (direction : Direction) (w : World) → HasShown r w e' (so_far direction w g.front) → entries_of direction w ≡ g.front ++ x ∷ more → NextEntry r e' direction x
@@ -67,7 +68,8 @@ world-of r e w v d d' h k = some-same (sym k.world_ ∙ h.world_)
     some-same : {x y : World} → ◌≡◌ {A = Option World} (Some x) (Some y) → x ≡ y
     some-same e = cc
 
-pub goes-on : (r : Resolve) (canonical : Bool) (e e' e'' : WorldEncoder) (direction : Direction) (entries rest more : List Entry) (x : Entry) → AwaitsAll r e direction entries → Goes r canonical e e' direction entries rest → rest ≡ x ∷ more
+pub goes-on : (r : Resolve) (canonical : Bool) (e e' e'' : WorldEncoder) (direction : Direction) (entries rest more : List Entry) (x : Entry) → AwaitsAll r e direction entries
+    → Goes r canonical e e' direction entries rest → rest ≡ x ∷ more
     → ((w : World) (done : Entries) → HasShown r w e' done → IsNext r w direction done x → HasShown r w e'' (with_entry direction done x)) → NamesMore r canonical (x ∷ []) e'.outer e''.outer
     → DefinesAll r e' e'' (x ∷ []) → HoldsAll r e' e'' (x ∷ []) → AddsLearnt r (items_extent r canonical (x ∷ [])) e'.maps e''.maps e'.outer e''.outer → Goes r canonical e e'' direction entries more
 goes-on r canonical e e' e'' direction entries rest more x a g is encodes named defines holds written = record {
@@ -81,13 +83,16 @@ goes-on r canonical e e' e'' direction entries rest more x a g is encodes named 
 }
   where
     by : (direction : Direction) (w : World) → HasShown r w e' (so_far direction w g.front) → entries_of direction w ≡ g.front ++ x ∷ more
-        → ((w : World) (done : Entries) → HasShown r w e' done → IsNext r w direction done x → HasShown r w e'' (with_entry direction done x)) → HasShown r w e'' (so_far direction w (g.front ++ x ∷ []))
+        → ((w : World) (done : Entries) → HasShown r w e' done → IsNext r w direction done x → HasShown r w e'' (with_entry direction done x))
+        → HasShown r w e'' (so_far direction w (g.front ++ x ∷ []))
     by import_ w h q encodes = encodes w (g.front, []) h (record { rest = more; next = q; begun = refl })
     by export_ w h q encodes = encodes w (w.imports.entries, g.front) h (record { rest = more; next = q; begun = refl })
 
-pub goes-whole : (r : Resolve) (canonical : Bool) (e e' : WorldEncoder) (direction : Direction) (entries rest : List Entry) → AwaitsAll r e direction entries → Goes r canonical e e' direction entries rest → rest ≡ [] → EncodesAll r e e' direction
+pub goes-whole : (r : Resolve) (canonical : Bool) (e e' : WorldEncoder) (direction : Direction) (entries rest : List Entry) → AwaitsAll r e direction entries
+    → Goes r canonical e e' direction entries rest → rest ≡ [] → EncodesAll r e e' direction
 goes-whole r canonical e e' direction entries rest a g none w h =
-    let all : entries_of direction w ≡ g.front = ap (entries_of direction) (world-of r e a.world w _ _ a.shown h) ∙ sym a.are ∙ g.split ∙ ap (λ (xs : List Entry). g.front ++ xs) none ∙ append-nil g.front in
+    let all : entries_of direction w ≡ g.front = ap (entries_of direction) (world-of r e a.world w _ _ a.shown h) ∙ sym a.are ∙ g.split ∙ ap (λ (xs : List Entry). g.front ++ xs) none
+    ∙ append-nil g.front in
     by direction (g.shown w h) all
   where
     by : (direction : Direction) → HasShown r w e' (so_far direction w g.front) → entries_of direction w ≡ g.front → HasShown r w e' (ended direction w)
@@ -95,28 +100,38 @@ goes-whole r canonical e e' direction entries rest a g none w h =
     by export_ h q = subst (λ (es : List Entry). HasShown r w e' (w.imports.entries, es)) (sym q) h
 
 -- the next one has no room
-pub goes-lacks : (r : Resolve) (canonical : Bool) (e e' : WorldEncoder) (direction : Direction) (entries rest more : List Entry) (x : Entry) → AwaitsAll r e direction entries → Goes r canonical e e' direction entries rest → rest ≡ x ∷ more
-    → ((w : World) (done : Entries) → HasShown r w e' done → IsNext r w direction done x → HasDefined r e' (all_done done) → HoldsFew r e' (all_done done) → WorldLacksRoom r w) → LacksRoomTowards r e direction
+pub goes-lacks : (r : Resolve) (canonical : Bool) (e e' : WorldEncoder) (direction : Direction) (entries rest more : List Entry) (x : Entry) → AwaitsAll r e direction entries
+    → Goes r canonical e e' direction entries rest → rest ≡ x ∷ more
+    → ((w : World) (done : Entries) → HasShown r w e' done → IsNext r w direction done x → HasDefined r e' (all_done done) → HoldsFew r e' (all_done done) → WorldLacksRoom r w)
+    → LacksRoomTowards r e direction
 goes-lacks r canonical e e' direction entries rest more x a g is lacks = λ w h d few.
     by direction w (g.shown w h) (sym (a.are ∙ ap (entries_of direction) (sym (world-of r e a.world w _ _ a.shown h))) ∙ g.split ∙ ap (λ (xs : List Entry). g.front ++ xs) is)
     (g.defines (all_done (begun direction w)) d) (g.holds (all_done (begun direction w)) few) lacks
   where
-    by : (direction : Direction) (w : World) → HasShown r w e' (so_far direction w g.front) → entries_of direction w ≡ g.front ++ x ∷ more → HasDefined r e' (all_done (begun direction w) ++ g.front) → HoldsFew r e' (all_done (begun direction w) ++ g.front)
-        → ((w : World) (done : Entries) → HasShown r w e' done → IsNext r w direction done x → HasDefined r e' (all_done done) → HoldsFew r e' (all_done done) → WorldLacksRoom r w) → WorldLacksRoom r w
-    by import_ w h q d few lacks = lacks w (g.front, []) h (record { rest = more; next = q; begun = refl }) (subst (HasDefined r e') (sym (append-nil g.front)) d) (subst (HoldsFew r e') (sym (append-nil g.front)) few)
+    by : (direction : Direction) (w : World) → HasShown r w e' (so_far direction w g.front) → entries_of direction w ≡ g.front ++ x ∷ more → HasDefined r e' (all_done (begun direction w) ++ g.front)
+        → HoldsFew r e' (all_done (begun direction w) ++ g.front)
+        → ((w : World) (done : Entries) → HasShown r w e' done → IsNext r w direction done x → HasDefined r e' (all_done done) → HoldsFew r e' (all_done done) → WorldLacksRoom r w)
+        → WorldLacksRoom r w
+    by import_ w h q d few lacks = lacks w (g.front, []) h (record { rest = more; next = q; begun = refl }) (subst (HasDefined r e') (sym (append-nil g.front)) d)
+        (subst (HoldsFew r e') (sym (append-nil g.front)) few)
     by export_ w h q d few lacks = lacks w (w.imports.entries, g.front) h (record { rest = more; next = q; begun = refl })
         (subst (λ (es : List Entry). HasDefined r e' (es ++ g.front)) (append-nil w.imports.entries) d) (subst (λ (es : List Entry). HoldsFew r e' (es ++ g.front)) (append-nil w.imports.entries) few)
 
-pub names-whole : (r : Resolve) (canonical : Bool) (e e' : WorldEncoder) (direction : Direction) (entries rest : List Entry) → Goes r canonical e e' direction entries rest → rest ≡ [] → NamesMore r canonical entries e.outer e'.outer
+pub names-whole : (r : Resolve) (canonical : Bool) (e e' : WorldEncoder) (direction : Direction) (entries rest : List Entry) → Goes r canonical e e' direction entries rest → rest ≡ []
+    → NamesMore r canonical entries e.outer e'.outer
 names-whole r canonical e e' direction entries rest g none =
     subst (λ (es : List Entry). NamesMore r canonical es e.outer e'.outer) (sym (g.split ∙ ap (λ (xs : List Entry). g.front ++ xs) none ∙ append-nil g.front)) g.names
 
-pub defines-whole : (r : Resolve) (canonical : Bool) (e e' : WorldEncoder) (direction : Direction) (entries rest : List Entry) → Goes r canonical e e' direction entries rest → rest ≡ [] → DefinesAll r e e' entries
+pub defines-whole : (r : Resolve) (canonical : Bool) (e e' : WorldEncoder) (direction : Direction) (entries rest : List Entry) → Goes r canonical e e' direction entries rest → rest ≡ []
+    → DefinesAll r e e' entries
 defines-whole r canonical e e' direction entries rest g none = subst (DefinesAll r e e') (sym (g.split ∙ ap (λ (xs : List Entry). g.front ++ xs) none ∙ append-nil g.front)) g.defines
 
-pub holds-whole : (r : Resolve) (canonical : Bool) (e e' : WorldEncoder) (direction : Direction) (entries rest : List Entry) → Goes r canonical e e' direction entries rest → rest ≡ [] → HoldsAll r e e' entries
+pub holds-whole : (r : Resolve) (canonical : Bool) (e e' : WorldEncoder) (direction : Direction) (entries rest : List Entry) → Goes r canonical e e' direction entries rest → rest ≡ []
+    → HoldsAll r e e' entries
 holds-whole r canonical e e' direction entries rest g none = subst (HoldsAll r e e') (sym (g.split ∙ ap (λ (xs : List Entry). g.front ++ xs) none ∙ append-nil g.front)) g.holds
 
-pub written-whole : (r : Resolve) (canonical : Bool) (e e' : WorldEncoder) (direction : Direction) (entries rest : List Entry) → Goes r canonical e e' direction entries rest → rest ≡ [] → AddsLearnt r (items_extent r canonical entries) e.maps e'.maps e.outer e'.outer
+pub written-whole : (r : Resolve) (canonical : Bool) (e e' : WorldEncoder) (direction : Direction) (entries rest : List Entry) → Goes r canonical e e' direction entries rest → rest ≡ []
+    → AddsLearnt r (items_extent r canonical entries) e.maps e'.maps e.outer e'.outer
 written-whole r canonical e e' direction entries rest g none =
-    subst (λ (es : List Entry). AddsLearnt r (items_extent r canonical es) e.maps e'.maps e.outer e'.outer) (sym (g.split ∙ ap (λ (xs : List Entry). g.front ++ xs) none ∙ append-nil g.front)) g.written
+    subst (λ (es : List Entry). AddsLearnt r (items_extent r canonical es) e.maps e'.maps e.outer e'.outer)
+    (sym (g.split ∙ ap (λ (xs : List Entry). g.front ++ xs) none ∙ append-nil g.front)) g.written

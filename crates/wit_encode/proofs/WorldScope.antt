@@ -80,7 +80,8 @@ pub sound-again : (r : Resolve) (w : WorldId) (a : Around) → SoundOutside r w 
 sound-again r w a s =
     let same : outer_slots a.declared ≡ s.scope.slots = ap (λ o. option_map_or (λ z. z.slots) o []) s.followed in
     both (is_some (outer_scope a.declared)) _ (ap is_some s.followed)
-    (both (list_all (is_slot_of (world_resources r w)) (outer_slots a.declared)) (are_right r a.known (outer_slots a.declared)) (ap (list_all (is_slot_of (world_resources r w))) same ∙ s.slots) (ap (are_right r a.known) same ∙ s.right))
+    (both (list_all (is_slot_of (world_resources r w)) (outer_slots a.declared)) (are_right r a.known (outer_slots a.declared)) (ap (list_all (is_slot_of (world_resources r w))) same ∙ s.slots)
+    (ap (are_right r a.known) same ∙ s.right))
 
 -- ---- the scope stays
 
@@ -165,8 +166,10 @@ pub record WorldCalls {E : Type 0} (res : Result ℕ E) (v v' : View) (P : Stand
   pub around_stays : v'.around ≡ v.around
   pub counted : OnOk res counts
 
-pub world-calls : {E : Type 0} (res : Result ℕ E) (r : Resolve) (w : WorldId) (count : ℕ) (a a' : Around) (m : TypeEncodingMaps) (P : Standing → Type 0) (counts : Type 0) (x : Slot) (types : List Seen)
-    → is_sound_outside r w a ≡ true → IsOf x P → IfOk res (λ k. (k ≡ length (outer_slots a.declared)) × Widens r w a a' x types × ((ns : List ℕ) → KeepsAliases r count a ns → KeepsAliases r count a' ns) × counts) → OnErr res (a' ≡ a)
+pub world-calls : {E : Type 0} (res : Result ℕ E) (r : Resolve) (w : WorldId) (count : ℕ) (a a' : Around) (m : TypeEncodingMaps) (P : Standing → Type 0) (counts : Type 0) (x : Slot)
+    (types : List Seen)
+    → is_sound_outside r w a ≡ true → IsOf x P → IfOk res (λ k. (k ≡ length (outer_slots a.declared)) × Widens r w a a' x types
+    × ((ns : List ℕ) → KeepsAliases r count a ns → KeepsAliases r count a' ns) × counts) → OnErr res (a' ≡ a)
     → WorldCalls res (world_view r w count a m) (world_view r w count a' m) P counts
 world-calls (Ok k) r w count a a' m P counts x types sound is h e =
     let s = sound-outside r w a sound in

@@ -82,11 +82,15 @@ module _ (r : Resolve) (w : World) (e e' : WorldEncoder) (done : Entries) (h : H
           more_types = ap (λ o. types_seen (option_map_or (λ s. s.imports) o [])) (sym sound-there.followed) ∙ types-back (seen_imports e'.outer) ∙ ap (map type_seen) exported
               ∙ map-append type_seen (filter_map declared_type (seen_imports e.outer)) types
               ∙ ap (λ xs. xs ++ map type_seen types) (sym (types-back (seen_imports e.outer)) ∙ ap (λ o. types_seen (option_map_or (λ s. s.imports) o [])) h.followed);
-          others_stay = ap (λ o. others_seen 0 (option_map_or (λ s. s.imports) o [])) (sym sound-there.followed) ∙ ap (λ (o : Others). o.imports) others-same ∙ ap (λ o. others_seen 0 (option_map_or (λ s. s.imports) o [])) h.followed;
-          exports_stay = ap (λ o. option_map_or (λ s. s.exports) o []) (sym sound-there.followed) ∙ ap (λ (o : Others). o.exports) others-same ∙ ap (λ o. option_map_or (λ s. s.exports) o []) h.followed;
-          instances_stay = ap (λ o. option_map_or (λ s. s.instances) o []) (sym sound-there.followed) ∙ ap (λ (o : Others). o.instances) others-same ∙ ap (λ o. option_map_or (λ s. s.instances) o []) h.followed;
+          others_stay = ap (λ o. others_seen 0 (option_map_or (λ s. s.imports) o [])) (sym sound-there.followed) ∙ ap (λ (o : Others). o.imports) others-same ∙ ap
+              (λ o. others_seen 0 (option_map_or (λ s. s.imports) o [])) h.followed;
+          exports_stay = ap (λ o. option_map_or (λ s. s.exports) o []) (sym sound-there.followed) ∙ ap (λ (o : Others). o.exports) others-same ∙ ap
+              (λ o. option_map_or (λ s. s.exports) o []) h.followed;
+          instances_stay = ap (λ o. option_map_or (λ s. s.instances) o []) (sym sound-there.followed) ∙ ap (λ (o : Others). o.instances) others-same ∙ ap
+              (λ o. option_map_or (λ s. s.instances) o []) h.followed;
           used_stay = ap (λ o. option_map_or (λ s. s.used) o []) (sym sound-there.followed) ∙ ap (λ (o : Others). o.used) others-same ∙ ap (λ o. option_map_or (λ s. s.used) o []) h.followed;
-          same_instance_types = ap (λ o. instance_types (option_map_or (λ s. s.slots) o [])) (sym sound-there.followed) ∙ ap (λ (o : Others). o.instance_types) others-same ∙ ap (λ o. instance_types (option_map_or (λ s. s.slots) o [])) h.followed;
+          same_instance_types = ap (λ o. instance_types (option_map_or (λ s. s.slots) o [])) (sym sound-there.followed) ∙ ap (λ (o : Others). o.instance_types) others-same ∙ ap
+              (λ o. instance_types (option_map_or (λ s. s.slots) o [])) h.followed;
           more_slots = omega (arith, more, before, after);
         }
 

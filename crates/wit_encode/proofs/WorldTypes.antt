@@ -91,7 +91,8 @@ module _ (r : Resolve) (v : IsValid r) (w : World) (e : WorldEncoder) (done : En
 
   listed-at : (m : ℕ) (def : TypeDef) (x : String Global) → type_at r m ≡ Some def → def.name ≡ Some x → def.owner ≡ home → is_listed_in_world m (text_of x) w ≡ true
   listed-at m def x there named owned =
-      let listed : is_listed r m (text_of x) home ≡ true = sym (λ i. option_map_or (λ y. is_listed r m (text_of y) (owned i)) (named i) (same_owner (owned i) owner.None)) ∙ named-listed r v m def there in
+      let listed : is_listed r m (text_of x) home ≡ true = sym (λ i. option_map_or (λ y. is_listed r m (text_of y) (owned i)) (named i) (same_owner (owned i) owner.None)) ∙ named-listed r v m
+      def there in
       subst (λ (o : Option World). passes (is_listed_in_world m (text_of x)) o ≡ true) h.world_ listed
 
   two-ids : (a b : ℕ) (o : Option ℕ) → is_id a o ≡ true → is_id b o ≡ true → a ≡ b
@@ -105,7 +106,8 @@ module _ (r : Resolve) (v : IsValid r) (w : World) (e : WorldEncoder) (done : En
       let spot = contains-get r.types.items found.0 found.1 in
       by-owner found.0 spot.0 spot.1 (same_owner home found.0.owner) refl found.2
     where
-      by-name : (def : TypeDef) (m : ℕ) → type_at r m ≡ Some def → def.owner ≡ home → (o : Option (String Global)) → def.name ≡ o → Contains (named_declaration r o def) y → y ≡ (text_of name, type_meaning r own.def)
+      by-name : (def : TypeDef) (m : ℕ) → type_at r m ≡ Some def → def.owner ≡ home → (o : Option (String Global)) → def.name ≡ o → Contains (named_declaration r o def) y
+          → y ≡ (text_of name, type_meaning r own.def)
       by-name def m there owned None named c = none-in y c
       by-name def m there owned (Some x) named c =
           let is : (text_of x, type_meaning r def) ≡ y = one-contained (text_of x, type_meaning r def) y c in
@@ -116,7 +118,8 @@ module _ (r : Resolve) (v : IsValid r) (w : World) (e : WorldEncoder) (done : En
           let def_same : def ≡ own.def = same-some def own.def (sym there ∙ ap (type_at r) one ∙ own.there) in
           sym is ∙ (λ i. (text i, type_meaning r (def_same i)))
 
-      by-owner : (def : TypeDef) (m : ℕ) → type_at r m ≡ Some def → (b : Bool) → same_owner home def.owner ≡ b → Contains (cond b (named_declaration r def.name def) []) y → y ≡ (text_of name, type_meaning r own.def)
+      by-owner : (def : TypeDef) (m : ℕ) → type_at r m ≡ Some def → (b : Bool) → same_owner home def.owner ≡ b → Contains (cond b (named_declaration r def.name def) []) y
+          → y ≡ (text_of name, type_meaning r own.def)
       by-owner def m there false q c = none-in y c
       by-owner def m there true q c = by-name def m there (sym (same-owner home def.owner q)) def.name refl c
 
@@ -153,7 +156,8 @@ module _ (r : Resolve) (v : IsValid r) (w : World) (e : WorldEncoder) (done : En
 
       parts : AllMeetKnown r (valid-references r v) (world_view_of r e).scope e.maps t
       parts part q' def' at' at_home y met = h.known y (subst (λ (ns : List ℕ). Contains ns y) (ap (filter_map item_type) (before-next r w import_ done entry n) ∙ types-given (all_done done))
-          (parts-listed r v e.world w h.world_ place id at own part (subst (λ (z : TypeDef). Contains (parts_of z.kind) (ty.Id part)) its (subst (λ (u : ValueType). Contains (parts_of def.kind) u) q' c)) def' at' at_home y met))
+          (parts-listed r v e.world w h.world_ place id at own part (subst (λ (z : TypeDef). Contains (parts_of z.kind) (ty.Id part)) its
+          (subst (λ (u : ValueType). Contains (parts_of def.kind) u) q' c)) def' at' at_home y met))
 
   met-no-other : (m : ℕ) → MetFrom r None e.maps (ty.Id id ∷ []) m → (m ≡ id.0 → ⊥) → own_name r (world_view_of r e).scope m ≡ None
   met-no-other m (t, c, met) other = meets-no-other t m (sym (one-contained (ty.Id id) t c)) met other
@@ -188,7 +192,8 @@ module _ (r : Resolve) (v : IsValid r) (w : World) (e : WorldEncoder) (done : En
       | inr c ↦ absurd (no-type-exported r v e.world w h.world_ k id c)
     ]
 
-    seen-right : type_seen (text_of name, type_meaning r own.def) ≡ record { key = key_text r k; shown = Shown.declares (type_meaning_at r id.0).declaration; external_id = (type_meaning_at r id.0).external_id }
+    seen-right : type_seen (text_of name, type_meaning r own.def) ≡ record
+        { key = key_text r k; shown = Shown.declares (type_meaning_at r id.0).declaration; external_id = (type_meaning_at r id.0).external_id }
     seen-right =
         let meaning : type_meaning r own.def ≡ type_meaning_at r id.0 = ap (λ (o : Option TypeDef). option_map_or (type_meaning r) o no_type) (sym own.there) in
         let text : text_of name ≡ key_text r k = type-key r v e.world w h.world_ k id imported own name name-is in
@@ -210,39 +215,53 @@ module _ (r : Resolve) (v : IsValid r) (w : World) (e : WorldEncoder) (done : En
     types-then = ap types_among done-same ∙ old-or-new (all_done done)
 
     pub type-imported : HasShown r w e' (done.0 ++ entry ∷ [], done.1)
-    type-imported = types-shown r w e e' done h leaves.scope_stays leaves.grows ((text_of name, type_meaning r own.def) ∷ []) (shows.exports ∙ ap (λ ys. (world_definitions e.outer).exports ++ ys) one-shown)
+    type-imported = types-shown r w e e' done h leaves.scope_stays leaves.grows ((text_of name, type_meaning r own.def) ∷ [])
+        (shows.exports ∙ ap (λ ys. (world_definitions e.outer).exports ++ ys) one-shown)
         (entry ∷ []) (record { view = nothing_viewed; is_view = tt; is = seen-right }, tt) refl leaves.agree
         (λ m c. elim (Contains-append_cases (types_among (all_done done)) (id.0 ∷ []) m (subst (λ (ns : List ℕ). Contains ns m) types-then c)) [
           | inl q ↦ (let old = h.known m q in (old.0, leaves.maps_grow.keeps (by_number m) old.0 old.1))
           | inr q ↦ subst (λ (x : ℕ). IsKnown e'.maps x) (one-contained id.0 m q) (ready id refl)
         ])
         (λ m q. elim (only.each m q.0 q.1) [
-          | inl old ↦ elim (h.alone m (q.0, old)) [ inl nothing ↦ inl nothing | inr c ↦ inr (subst (λ (ns : List ℕ). Contains ns m) (sym types-then) (Contains-append_left (types_among (all_done done)) (id.0 ∷ []) m c)) ]
+          | inl old ↦ elim (h.alone m (q.0, old)) [
+            | inl nothing ↦ inl nothing
+            | inr c ↦
+                inr (subst (λ (ns : List ℕ). Contains ns m) (sym types-then) (Contains-append_left (types_among (all_done done)) (id.0 ∷ []) m c))
+          ]
           | inr met ↦ by-number m met (m == id.0) refl
         ])
       where
-        by-number : (m : ℕ) → MetFrom r None e.maps (ty.Id id ∷ []) m → (b : Bool) → (m == id.0) ≡ b → (own_name r (world_view_of r e).scope m ≡ None) ⊎ Contains (types_among (all_done (done.0 ++ entry ∷ [], done.1))) m
-        by-number m met true q = inr (subst (λ (ns : List ℕ). Contains ns m) (sym types-then) (Contains-append_right (types_among (all_done done)) (id.0 ∷ []) m (subst (λ (x : ℕ). Contains (id.0 ∷ []) x) (sym (equal m id.0 q)) (contains-one id.0))))
+        by-number : (m : ℕ) → MetFrom r None e.maps (ty.Id id ∷ []) m → (b : Bool) → (m == id.0) ≡ b → (own_name r (world_view_of r e).scope m ≡ None)
+            ⊎ Contains (types_among (all_done (done.0 ++ entry ∷ [], done.1))) m
+        by-number m met true q = inr (subst (λ (ns : List ℕ). Contains ns m) (sym types-then)
+            (Contains-append_right (types_among (all_done done)) (id.0 ∷ []) m (subst (λ (x : ℕ). Contains (id.0 ∷ []) x) (sym (equal m id.0 q)) (contains-one id.0))))
         by-number m met false q = inl (met-no-other m met (λ same. let wrong : true ≡ false = sym (subst (λ (x : ℕ). (m == x) ≡ true) same (same-number m)) ∙ q in let z : ⊥ = cc in z))
 
 -- ---- the call, by the item and the list that it stands in
 
 -- a type is no export
-type-next : (r : Resolve) → IsValid r → (w : World) (e : WorldEncoder) (done : Entries) → HasShown r w e done → (k : WorldKey) (id : TypeId) (direction : Direction) → IsNext r w direction done (k, item.Type_ id) → direction ≡ import_
+type-next : (r : Resolve) → IsValid r → (w : World) (e : WorldEncoder) (done : Entries) → HasShown r w e done → (k : WorldKey) (id : TypeId) (direction : Direction)
+    → IsNext r w direction done (k, item.Type_ id) → direction ≡ import_
 type-next r v w e done h k id import_ n = refl
-type-next r v w e done h k id export_ n = absurd (no-type-exported r v e.world w h.world_ k id (subst (λ (es : List Entry). Contains es (k, item.Type_ id)) (sym n.next) (Contains-append_right done.1 ((k, item.Type_ id) ∷ n.rest) (k, item.Type_ id) (contains-first (k, item.Type_ id) n.rest))))
+type-next r v w e done h k id export_ n = absurd (no-type-exported r v e.world w h.world_ k id
+    (subst (λ (es : List Entry). Contains es (k, item.Type_ id)) (sym n.next)
+    (Contains-append_right done.1 ((k, item.Type_ id) ∷ n.rest) (k, item.Type_ id) (contains-first (k, item.Type_ id) n.rest))))
 
-pub type-encodable : (r : Resolve) → IsValid r → (w : World) (e : WorldEncoder) (done : Entries) → HasShown r w e done → (k : WorldKey) (id : TypeId) (i : WorldItem) → i ≡ item.Type_ id → (direction : Direction) → IsNext r w direction done (k, i)
+pub type-encodable : (r : Resolve) → IsValid r → (w : World) (e : WorldEncoder) (done : Entries) → HasShown r w e done → (k : WorldKey) (id : TypeId) (i : WorldItem) → i ≡ item.Type_ id
+    → (direction : Direction) → IsNext r w direction done (k, i)
     → CanEncode r (world_view_of r e).scope (ty.Id id ∷ [])
 type-encodable r v w e done h k id i is direction n =
     let m : IsNext r w direction done (k, item.Type_ id) = subst (λ (j : WorldItem). IsNext r w direction done (k, j)) is n in
     can-encode-type r v w e done h k id (subst (λ (z : Direction). IsNext r w z done (k, item.Type_ id)) (type-next r v w e done h k id direction m) m)
 
-pub type-encoded : (r : Resolve) → IsValid r → (w : World) (e e' : WorldEncoder) (done : Entries) → HasShown r w e done → (k : WorldKey) (id : TypeId) (i : WorldItem) → i ≡ item.Type_ id → (direction : Direction) → IsNext r w direction done (k, i)
-    → Leaves r (world_encoder_view e) (world_encoder_view e') → LearnsOnly (MetFrom r None e.maps (ty.Id id ∷ [])) e.maps e'.maps → Shows r (world_encoder_view e).scope e.maps e'.maps (world_definitions e.outer) (world_definitions e'.outer)
+pub type-encoded : (r : Resolve) → IsValid r → (w : World) (e e' : WorldEncoder) (done : Entries) → HasShown r w e done → (k : WorldKey) (id : TypeId) (i : WorldItem) → i ≡ item.Type_ id
+    → (direction : Direction) → IsNext r w direction done (k, i)
+    → Leaves r (world_encoder_view e) (world_encoder_view e') → LearnsOnly (MetFrom r None e.maps (ty.Id id ∷ [])) e.maps e'.maps
+    → Shows r (world_encoder_view e).scope e.maps e'.maps (world_definitions e.outer) (world_definitions e'.outer)
     → IsReady e'.maps (ty.Id id) → HasShown r w e' (with_entry direction done (k, i))
 type-encoded r v w e e' done h k id i is direction n leaves only shows ready =
     let m : IsNext r w direction done (k, item.Type_ id) = subst (λ (j : WorldItem). IsNext r w direction done (k, j)) is n in
     let d : direction ≡ import_ = type-next r v w e done h k id direction m in
-    let made : HasShown r w e' (with_entry import_ done (k, item.Type_ id)) = type-imported r v w e done h k id (subst (λ (z : Direction). IsNext r w z done (k, item.Type_ id)) d m) e' leaves only shows ready in
+    let made : HasShown r w e' (with_entry import_ done (k, item.Type_ id)) =
+    type-imported r v w e done h k id (subst (λ (z : Direction). IsNext r w z done (k, item.Type_ id)) d m) e' leaves only shows ready in
     subst (λ (j : WorldItem). HasShown r w e' (with_entry direction done (k, j))) (sym is) (subst (λ (z : Direction). HasShown r w e' (with_entry z done (k, item.Type_ id))) (sym d) made)

@@ -83,7 +83,8 @@ given-later f xs p k y l c =
 -- ---- a use of another interface
 
 -- the interface that an alias of a part uses
-used-of : (r : Resolve) (def : TypeDef) (id : TypeId) (def' : TypeDef) (i : InterfaceId) → is_use r def ≡ true → Contains (parts_of def.kind) (ty.Id id) → type_at r id.0 ≡ Some def' → def'.owner ≡ owner.Interface i → used_interface r def ≡ Some i.0
+used-of : (r : Resolve) (def : TypeDef) (id : TypeId) (def' : TypeDef) (i : InterfaceId) → is_use r def ≡ true → Contains (parts_of def.kind) (ty.Id id) → type_at r id.0 ≡ Some def'
+    → def'.owner ≡ owner.Interface i → used_interface r def ≡ Some i.0
 used-of r def id def' i uses c is owns =
     let given = some-of (alias_target def.kind) (given-some _ (alias_target def.kind) uses) in
     let target : alias_target def.kind ≡ Some id.0 = target-is def.kind given.0 id given.1 c in
@@ -106,10 +107,12 @@ module _ (r : Resolve) (v : IsValid r) (id : WorldId) (w : World) (there : world
 
   -- the interfaces, and the types of the world, that an item uses
   pub interfaces-ready : (k : ℕ) (i : WorldItem) → slice_get items k ≡ Some i → (j : ℕ) → Contains (used_interfaces r i) j → Contains (interfaces_before w k) j
-  interfaces-ready k i at j c = has-contains (interfaces_before w k) j (all-contained (has (interfaces_before w k)) (used_interfaces r i) j (first_true (list_all (has (interfaces_before w k)) (used_interfaces r i)) _ (ready k i at)) c)
+  interfaces-ready k i at j c = has-contains (interfaces_before w k) j (all-contained (has (interfaces_before w k)) (used_interfaces r i) j
+      (first_true (list_all (has (interfaces_before w k)) (used_interfaces r i)) _ (ready k i at)) c)
 
   types-ready : (k : ℕ) (i : WorldItem) → slice_get items k ≡ Some i → (x : ℕ) → Contains (used_types r id.0 i) x → Contains (types_before k) x
-  types-ready k i at x c = has-contains (types_before k) x (all-contained (has (types_before k)) (used_types r id.0 i) x (second_true (list_all (has (interfaces_before w k)) (used_interfaces r i)) _ (ready k i at)) c)
+  types-ready k i at x c = has-contains (types_before k) x (all-contained (has (types_before k)) (used_types r id.0 i) x
+      (second_true (list_all (has (interfaces_before w k)) (used_interfaces r i)) _ (ready k i at)) c)
 
   -- the item of a type of the world before a place
   record TypeItem (k x : ℕ) : Type 0 where
@@ -143,9 +146,11 @@ module _ (r : Resolve) (v : IsValid r) (id : WorldId) (w : World) (there : world
     Meets n = Among n ⊎ ((def : TypeDef) → type_at r n ≡ Some def → StandingUse def)
 
     -- the parts of a type of the world that stands before place k, or there
-    use-stands : (n : ℕ) (def : TypeDef) → type_at r n ≡ Some def → TypeItem (suc k) n → (id' : TypeId) → Contains (parts_of def.kind) (ty.Id id') → (def' : TypeDef) → type_at r id'.0 ≡ Some def' → is_use r def ≡ true → IsUse r v home def' → StandingUse def'
+    use-stands : (n : ℕ) (def : TypeDef) → type_at r n ≡ Some def → TypeItem (suc k) n → (id' : TypeId) → Contains (parts_of def.kind) (ty.Id id') → (def' : TypeDef) → type_at r id'.0 ≡ Some def'
+        → is_use r def ≡ true → IsUse r v home def' → StandingUse def'
     use-stands n def is t id' c def' is' uses u =
-        let used : interface_used_by r t.id'.0 ≡ Some u.interface.0 = ap (λ m. option_and_then (used_interface r) (type_at r m)) t.same ∙ ap (option_and_then (used_interface r)) is ∙ used-of r def id' def' u.interface uses c is' u.owns in
+        let used : interface_used_by r t.id'.0 ≡ Some u.interface.0 = ap (λ m. option_and_then (used_interface r) (type_at r m)) t.same ∙ ap (option_and_then (used_interface r)) is ∙ used-of r def id'
+        def' u.interface uses c is' u.owns in
         let low = t.before in
         record {
           interface = u.interface;
@@ -155,13 +160,16 @@ module _ (r : Resolve) (v : IsValid r) (id : WorldId) (w : World) (there : world
               (subst (λ (o : TypeOwner). is_named_interface r o ≡ true) u.owns (named-owner r v def' u.named_));
         }
 
-    part-listed : (n : ℕ) (def : TypeDef) → type_at r n ≡ Some def → Among n → (name : Option (String Global)) → def.name ≡ name → (id' : TypeId) → Contains (parts_of def.kind) (ty.Id id') → Stay r v home id'.0
+    part-listed : (n : ℕ) (def : TypeDef) → type_at r n ≡ Some def → Among n → (name : Option (String Global)) → def.name ≡ name → (id' : TypeId) → Contains (parts_of def.kind) (ty.Id id')
+        → Stay r v home id'.0
         → (x : ℕ) → Contains (met_by (met_of r) id'.0) x → Contains (types_before (suc k)) x
-    part-listed n def is a None e id' c stay x d = a.listed x (subst (λ (ns : List ℕ). Contains ns x) (sym (unnamed-meets r (valid-references r v) n def is e)) (part-uses r (valid-references r v) def id' x c d))
+    part-listed n def is a None e id' c stay x d = a.listed x (subst (λ (ns : List ℕ). Contains ns x) (sym (unnamed-meets r (valid-references r v) n def is e))
+        (part-uses r (valid-references r v) def id' x c d))
     part-listed n def is a (Some name) e id' c stay x d =
         let t = type-item (suc k) n (a.listed n (named-meets r (valid-references r v) n def name is e)) in
         let low = t.before in
-        let used : Contains (used_by_number r t.id'.0) x = subst (λ (o : Option TypeDef). Contains (option_map_or (used_by_type r) o []) x) (sym (ap (type_at r) t.same ∙ is)) (part-uses r (valid-references r v) def id' x c d) in
+        let used : Contains (used_by_number r t.id'.0) x = subst (λ (o : Option TypeDef). Contains (option_map_or (used_by_type r) o []) x) (sym (ap (type_at r) t.same ∙ is))
+        (part-uses r (valid-references r v) def id' x c d) in
         given-later item_type items t.place (suc k) x (omega (arith, low))
         (types-ready t.place (item.Type_ t.id') t.at x (contains-filter (has_owner r home) (used_by_number r t.id'.0) x (all-contained (has_owner r home) (met_by (met_of r) id'.0) x stay d) used))
 
@@ -233,7 +241,8 @@ module _ (r : Resolve) (v : IsValid r) (id : WorldId) (w : World) (there : world
   own-type k id' at = elim (Contains-append_cases (values w.imports) (values w.exports) (item.Type_ id') (get-contains items k (item.Type_ id') at)) [
     | inl c ↦ (let e = contains-mapped (λ (e : WorldKey × WorldItem). e.1) w.imports.entries (item.Type_ id') c in
         let stands = all-contained (λ e. import_stands r id.0 e.0 e.1) w.imports.entries e.0 (first_true (list_all (λ e. import_stands r id.0 e.0 e.1) w.imports.entries) _ entries-stand) e.1 in
-        let range = second_true (key_in_range r e.0.0) _ (all-contained (λ e. key_in_range r e.0 && item_in_range r e.1) w.imports.entries e.0 (first_true (entries_in_range r w.imports.entries) _ entries-range) e.1) in
+        let range = second_true (key_in_range r e.0.0) _ (all-contained (λ e. key_in_range r e.0 && item_in_range r e.1) w.imports.entries e.0
+        (first_true (entries_in_range r w.imports.entries) _ entries-range) e.1) in
         imported e.0.0 (subst (λ (i : WorldItem). import_stands r id.0 e.0.0 i ≡ true) e.2 stands) (subst (λ (i : WorldItem). item_in_range r i ≡ true) e.2 range))
     | inr c ↦ (let e = contains-mapped (λ (e : WorldKey × WorldItem). e.1) w.exports.entries (item.Type_ id') c in
         let stands = all-contained (λ e. export_stands r e.0 e.1) w.exports.entries e.0 (second_true (list_all (λ e. import_stands r id.0 e.0 e.1) w.imports.entries) _ entries-stand) e.1 in
@@ -252,7 +261,8 @@ module _ (r : Resolve) (v : IsValid r) (id : WorldId) (w : World) (there : world
       imported (key.Interface i) h range = absurd (let z : ⊥ = cc in z)
       imported (key.Name name) h range =
           let found = found-in r.types.items id'.0 range in
-          let test : (text_is found.0.name (text_of name) && same_owner found.0.owner home) ≡ true = subst (λ (o : Option TypeDef). passes (λ def. text_is def.name (text_of name) && same_owner def.owner home) o ≡ true) found.1 h in
+          let test : (text_is found.0.name (text_of name) && same_owner found.0.owner home) ≡ true =
+          subst (λ (o : Option TypeDef). passes (λ def. text_is def.name (text_of name) && same_owner def.owner home) o ≡ true) found.1 h in
           record {
             def = found.0;
             there = found.1;
@@ -269,13 +279,15 @@ module _ (r : Resolve) (v : IsValid r) (id : WorldId) (w : World) (there : world
   function-stays f k at = types-stay r v home f (function-there f k at)
 
   -- the named types that it meets stand before it
-  pub function-listed : (f : Function) (k : ℕ) → slice_get items k ≡ Some (item.Function f) → (id' : TypeId) → Contains (function_types f) (ty.Id id') → (x : ℕ) → Contains (met_by (met_of r) id'.0) x → Contains (types_before k) x
+  pub function-listed : (f : Function) (k : ℕ) → slice_get items k ≡ Some (item.Function f) → (id' : TypeId) → Contains (function_types f) (ty.Id id') → (x : ℕ) → Contains (met_by (met_of r) id'.0) x
+      → Contains (types_before k) x
   function-listed f k at id' c x d =
       types-ready k (item.Function f) at x (contains-filter (has_owner r home) (used_by_function r f) x (all-contained (has_owner r home) (met_by (met_of r) id'.0) x (function-stays f k at id' c) d)
       (contains-flat (met_by (met_of r)) (function_numbers f) id'.0 x (function-refers r v f id' c) d))
 
   -- the named types that the parts of a type meet stand before it, but for those of other interfaces
-  pub parts-listed : (k : ℕ) (t : TypeId) → slice_get items k ≡ Some (item.Type_ t) → (own : IsTypeOf r home t) → (id' : TypeId) → Contains (parts_of own.def.kind) (ty.Id id') → (def' : TypeDef) → type_at r id'.0 ≡ Some def' → foreign_owner None def'.owner ≡ None
+  pub parts-listed : (k : ℕ) (t : TypeId) → slice_get items k ≡ Some (item.Type_ t) → (own : IsTypeOf r home t) → (id' : TypeId) → Contains (parts_of own.def.kind) (ty.Id id') → (def' : TypeDef)
+      → type_at r id'.0 ≡ Some def' → foreign_owner None def'.owner ≡ None
       → (x : ℕ) → Contains (met_by (met_of r) id'.0) x → Contains (types_before k) x
   parts-listed k t at own id' c def' at' f x d = part-met r v home t.0 own.def own.there id' c (type-stays r v home t own t (contains-one (ty.Id t)))
       (λ stay. types-ready k (item.Type_ t) at x (contains-filter (has_owner r home) (used_by_number r t.0) x (all-contained (has_owner r home) (met_by (met_of r) id'.0) x stay d)
@@ -284,7 +296,8 @@ module _ (r : Resolve) (v : IsValid r) (id : WorldId) (w : World) (there : world
 
   -- no export is a type
   pub no-type-exported : (k : WorldKey) (t : TypeId) → Contains w.exports.entries (k, item.Type_ t) → ⊥
-  no-type-exported k t c = wrong k (all-contained (λ e. export_stands r e.0 e.1) w.exports.entries (k, item.Type_ t) (second_true (list_all (λ e. import_stands r id.0 e.0 e.1) w.imports.entries) _ entries-stand) c)
+  no-type-exported k t c = wrong k (all-contained (λ e. export_stands r e.0 e.1) w.exports.entries (k, item.Type_ t)
+      (second_true (list_all (λ e. import_stands r id.0 e.0 e.1) w.imports.entries) _ entries-stand) c)
     where
       wrong : (k : WorldKey) → export_stands r k (item.Type_ t) ≡ true → ⊥
       wrong (key.Name name) h = let z : ⊥ = cc in z
@@ -292,12 +305,14 @@ module _ (r : Resolve) (v : IsValid r) (id : WorldId) (w : World) (there : world
 
   -- a type is imported under its name
   pub type-key : (k : WorldKey) (t : TypeId) → Contains w.imports.entries (k, item.Type_ t) → (own : IsTypeOf r home t) (name : String Global) → own.def.name ≡ Some name → text_of name ≡ key_text r k
-  type-key k t c own name named = of k (all-contained (λ e. import_stands r id.0 e.0 e.1) w.imports.entries (k, item.Type_ t) (first_true (list_all (λ e. import_stands r id.0 e.0 e.1) w.imports.entries) _ entries-stand) c)
+  type-key k t c own name named = of k (all-contained (λ e. import_stands r id.0 e.0 e.1) w.imports.entries (k, item.Type_ t)
+      (first_true (list_all (λ e. import_stands r id.0 e.0 e.1) w.imports.entries) _ entries-stand) c)
     where
       of : (k : WorldKey) → import_stands r id.0 k (item.Type_ t) ≡ true → text_of name ≡ key_text r k
       of (key.Interface i) h = absurd (let z : ⊥ = cc in z)
       of (key.Name n) h =
-          let test : (text_is own.def.name (text_of n) && same_owner own.def.owner home) ≡ true = subst (λ (o : Option TypeDef). passes (λ def. text_is def.name (text_of n) && same_owner def.owner home) o ≡ true) own.there h in
+          let test : (text_is own.def.name (text_of n) && same_owner own.def.owner home) ≡ true =
+          subst (λ (o : Option TypeDef). passes (λ def. text_is def.name (text_of n) && same_owner def.owner home) o ≡ true) own.there h in
           text_same (text_of name) (text_of n) (ap (λ o. text_is o (text_of n)) (sym named) ∙ first_true (text_is own.def.name (text_of n)) _ test)
 
   module _ (k : ℕ) (scope : Scope) (s : IsScopeOf r home scope) (stand : StandBefore r w k scope.instances) where
@@ -311,11 +326,13 @@ module _ (r : Resolve) (v : IsValid r) (id : WorldId) (w : World) (there : world
         own = own-type k id' at
 
         itself-before : Contains (types_before (suc k)) id'.0
-        itself-before = contains-filter_map item_type (take (suc k) items) (item.Type_ id') id'.0 (get-contains (take (suc k) items) k (item.Type_ id') (at-taken items (suc k) k (item.Type_ id') at (omega arith))) (contains-one id'.0)
+        itself-before = contains-filter_map item_type (take (suc k) items) (item.Type_ id') id'.0
+            (get-contains (take (suc k) items) k (item.Type_ id') (at-taken items (suc k) k (item.Type_ id') at (omega arith))) (contains-one id'.0)
 
         met-alone : (name : Option (String Global)) → own.def.name ≡ name → (x : ℕ) → Contains (met_by (met_of r) id'.0) x → id'.0 ≡ x
         met-alone None e x d = absurd (let wrong : false ≡ true = sym (ap is_some e) ∙ own.named_ in let z : ⊥ = cc in z)
-        met-alone (Some name) e x d = one-contained id'.0 x (subst (λ (ns : List ℕ). Contains ns x) (met_step r (valid-references r v) id'.0 own.def own.there ∙ ap (λ o. option_map_or (λ x. id'.0 ∷ []) o (used_by_type r own.def)) e) d)
+        met-alone (Some name) e x d = one-contained id'.0 x (subst (λ (ns : List ℕ). Contains ns x)
+            (met_step r (valid-references r v) id'.0 own.def own.there ∙ ap (λ o. option_map_or (λ x. id'.0 ∷ []) o (used_by_type r own.def)) e) d)
 
         alone : (id'' : TypeId) → ty.Id id' ≡ ty.Id id'' → (x : ℕ) → Contains (met_by (met_of r) id''.0) x → id'.0 ≡ x
         alone id'' e x d =

@@ -67,7 +67,8 @@ long t = sum_by length (option_to_list t)
 some-long : (t : Text) → long (Some t) ≡ length t
 some-long t = sum_by-cons length t [] ∙ (let z : length t + 0 ≡ length t = omega arith in z)
 
-pub name-fits : (name : ExternName) (total : ℕ) → length name.text ≤ total → long name.implements ≤ total → long name.version_suffix ≤ total → long name.external_id ≤ total → total ≤ limit → fits_name name ≡ true
+pub name-fits : (name : ExternName) (total : ℕ) → length name.text ≤ total → long name.implements ≤ total → long name.version_suffix ≤ total → long name.external_id ≤ total → total ≤ limit
+    → fits_name name ≡ true
 name-fits name total a b c d l =
     both-true _ _ (fits-text name.text (omega (arith, a, l))) (both-true _ _ (given-fits name.implements (omega (arith, b, l)))
     (both-true _ _ (given-fits name.version_suffix (omega (arith, c, l))) (given-fits name.external_id (omega (arith, d, l)))))
@@ -83,7 +84,8 @@ module _ (r : Resolve) (n : ℕ) where
       named f g (Some name) None e = refl
       named f g (Some name) (Some q) e = absurd (let z : ⊥ = cc in z)
 
-      go : (f : Package → String Global → Text) (g : Package → Option Text) (i : Option Interface) (p : Option Package) → option_and_then (λ (i : Interface). option_and_then (λ name. option_map (λ q. f q name) p) i.name) i ≡ None
+      go : (f : Package → String Global → Text) (g : Package → Option Text) (i : Option Interface) (p : Option Package)
+          → option_and_then (λ (i : Interface). option_and_then (λ name. option_map (λ q. f q name) p) i.name) i ≡ None
           → option_and_then (λ (i : Interface). option_and_then (λ name. option_and_then g p) i.name) i ≡ None
       go f g None p e = refl
       go f g (Some i) p e = named f g i.name p e
@@ -111,7 +113,8 @@ module _ (r : Resolve) (n : ℕ) where
       suffix None = refl
       suffix (Some t) = some-long t
 
-      go : (c s : Option Text) → canonical_path r n ≡ c → interface_path r n ≡ option_map (λ path. path ++ unwrap_or s []) c → (c ≡ None → s ≡ None) → length (unwrap_or c []) + long s ≤ long (interface_path r n)
+      go : (c s : Option Text) → canonical_path r n ≡ c → interface_path r n ≡ option_map (λ path. path ++ unwrap_or s []) c → (c ≡ None → s ≡ None)
+          → length (unwrap_or c []) + long s ≤ long (interface_path r n)
       go None s is e none = let z = ap long (none refl) in omega (arith, z)
       go (Some p) s is e none =
           let whole = ap long e ∙ (some-long (p ++ unwrap_or s []) ∙ length-append p (unwrap_or s [])) in
@@ -155,7 +158,8 @@ interface-name r canonical (key.Name name) i id external texts at given sum low 
     implemented-here : (o : Option Interface) → interface_at r id.0 ≡ o → (implemented r (key.Name name) i ≡ None) ⊎ (implemented r (key.Name name) i ≡ Some id.0)
     implemented-here o is = named o is (ap (option_and_then (named_interface r)) at)
       where
-        named : (o : Option Interface) → interface_at r id.0 ≡ o → implemented r (key.Name name) i ≡ named_interface r id.0 → (implemented r (key.Name name) i ≡ None) ⊎ (implemented r (key.Name name) i ≡ Some id.0)
+        named : (o : Option Interface) → interface_at r id.0 ≡ o → implemented r (key.Name name) i ≡ named_interface r id.0 → (implemented r (key.Name name) i ≡ None)
+            ⊎ (implemented r (key.Name name) i ≡ Some id.0)
         named None is e = inl (e ∙ ap (option_and_then (λ (i : Interface). option_map (λ name. id.0) i.name)) is)
         named (Some x) is e = go x.name (e ∙ ap (option_and_then (λ (i : Interface). option_map (λ name. id.0) i.name)) is)
           where
@@ -163,7 +167,8 @@ interface-name r canonical (key.Name name) i id external texts at given sum low 
             go None e = inl e
             go (Some y) e = inr e
 
-    by : (o : Option ℕ) → implemented r (key.Name name) i ≡ o → (implemented r (key.Name name) i ≡ None) ⊎ (implemented r (key.Name name) i ≡ Some id.0) → fits_name (name_of_item r canonical (key.Name name, i)) ≡ true
+    by : (o : Option ℕ) → implemented r (key.Name name) i ≡ o → (implemented r (key.Name name) i ≡ None) ⊎ (implemented r (key.Name name) i ≡ Some id.0)
+        → fits_name (name_of_item r canonical (key.Name name, i)) ≡ true
     by o q (inl none) = name-fits (name_of_item r canonical (key.Name name, i)) texts
         (omega (arith, sum))
         (let a = ap (λ o. long (option_map (written_path r canonical) o)) none in omega (arith, a))
@@ -197,7 +202,9 @@ number-least r o n d at =
 whole-least : (r : Resolve) (j : ℕ) → sum_by (number_weight r (as_interface j)) (numbers-of-interface r j) ≤ whole_instance_weight r j
 whole-least r j = go (interface_at r j)
   where
-    go : (o : Option Interface) → sum_by (number_weight r (as_interface j)) (option_map_or (λ d. instance_numbers r d (functions_of_interface d)) o []) ≤ option_map_or (λ i. instance_weight r j i (functions_of_interface i)) o 0
+    go : (o : Option Interface)
+        → sum_by (number_weight r (as_interface j)) (option_map_or (λ d. instance_numbers r d (functions_of_interface d)) o []) ≤ option_map_or
+        (λ i. instance_weight r j i (functions_of_interface i)) o 0
     go None = omega arith
     go (Some d) = omega arith
 
@@ -245,7 +252,8 @@ module _ (r : Resolve) where
     where
       later : (n : ℕ) → Contains (filter (λ n. not (has (numbers-of-interface r id.0) n)) ns) n → StandsAmong r ((k, item.Interface id stability docs external) ∷ es) n → StandsAmong r es n
       later n c (d, at, j, (zero, l, e), there) =
-          let out = All-contains (λ n. not (has (numbers-of-interface r id.0) n) ≡ true) (filter (λ n. not (has (numbers-of-interface r id.0) n)) ns) n (filter_passes (λ n. not (has (numbers-of-interface r id.0) n)) ns) c in
+          let out = All-contains (λ n. not (has (numbers-of-interface r id.0) n) ≡ true) (filter (λ n. not (has (numbers-of-interface r id.0) n)) ns) n
+          (filter_passes (λ n. not (has (numbers-of-interface r id.0) n)) ns) c in
           let in_ = contains-has (numbers-of-interface r id.0) n (subst (λ (m : ℕ). Contains (numbers-of-interface r m) n) (sym e) there) in
           absurd (let z : ⊥ = cc in z)
       later n c (d, at, j, (suc p, l, e), there) = (d, at, j, (p, omega (arith, l), e), there)
@@ -267,7 +275,8 @@ module _ (r : Resolve) (v : IsValid r) (w : WorldId) (def : World) (home : world
 
   pub weight-is : world_weight r w.0 ≡ total
   unfolding world_weight
-  weight-is = ap (λ t. option_map_or (λ x. 64 + (sum_by weigh (once (world_numbers r x ++ flat_map (brought_into r) (filter_map item_interface (items_of x)))) + sum_by (entry-weight r) (entries_in x))) t 0) home
+  weight-is = ap (λ t. option_map_or (λ x. 64 + (sum_by weigh (once (world_numbers r x ++ flat_map (brought_into r) (filter_map item_interface (items_of x)))) + sum_by (entry-weight r)
+      (entries_in x))) t 0) home
 
   item-of : (e : Entry) → Contains es e → Contains (items_of def) e.1
   item-of e c = elim (Contains-append_cases def.imports.entries def.exports.entries e c) [
@@ -286,7 +295,8 @@ module _ (r : Resolve) (v : IsValid r) (w : WorldId) (def : World) (home : world
 
       imported : (n : ℕ) (e : Entry) → Contains es e → item_type e.1 ≡ Some n → Contains (world_type_numbers def) n
       imported n e c is = elim (Contains-append_cases def.imports.entries def.exports.entries e c) [
-        | inl a ↦ contains-filter_map item_type (values def.imports) e.1 n (contains-map (λ (x : Entry). x.1) def.imports.entries e a) (subst (λ (o : Option ℕ). Contains (option_to_list o) n) (sym is) (contains-one n))
+        | inl a ↦ contains-filter_map item_type (values def.imports) e.1 n (contains-map (λ (x : Entry). x.1) def.imports.entries e a)
+            (subst (λ (o : Option ℕ). Contains (option_to_list o) n) (sym is) (contains-one n))
         | inr b ↦ (let t = typed-item e.1 n is in absurd (no-type-exported r v w def home e.0 t.0 (subst (λ (i : WorldItem). Contains def.exports.entries (e.0, i)) t.1 b)))
       ]
 
@@ -299,7 +309,8 @@ module _ (r : Resolve) (v : IsValid r) (w : WorldId) (def : World) (home : world
   own = world-owner r v w def home
 
   pub counted : (n : ℕ) → IsMetAmong r es n → Contains numbers n
-  counted n m = contains-once _ n (Contains-append_left (world_numbers r def) _ n (counted-once r v (owner.World w) (world_type_numbers def) (functions_of_world def) own (type_ids_among es) (functions_among es) listed among n m))
+  counted n m = contains-once _ n (Contains-append_left (world_numbers r def) _ n
+      (counted-once r v (owner.World w) (world_type_numbers def) (functions_of_world def) own (type_ids_among es) (functions_among es) listed among n m))
 
   entry-within : (e : Entry) → Contains es e → entry-weight r e ≤ total
   entry-within e c = let one = one-of (entry-weight r) es e c in omega (arith, one)
@@ -340,7 +351,14 @@ module _ (r : Resolve) (v : IsValid r) (w : WorldId) (def : World) (home : world
   owner-there n d at = second_true _ _ (second_true _ _ (type_passes numbers_in_range r v.rules.numbers_in_range n d at))
 
   stands-among : (n : ℕ) → IsTypeAmong r es n → StandsAmong r es n
-  stands-among n t = (t.def, t.there, t.interface.0, t.among, subst (λ (o : Option Interface). Contains (option_map_or (λ d. instance_numbers r d (functions_of_interface d)) o []) n) (sym found.1) inside)
+  stands-among n t = (
+    t.def,
+    t.there,
+    t.interface.0,
+    t.among,
+    subst (λ (o : Option Interface). Contains (option_map_or (λ d. instance_numbers r d (functions_of_interface d)) o []) n)
+        (sym found.1) inside,
+  )
     where
       found : (d : Interface) × (interface_at r t.interface.0 ≡ Some d)
       found = found-in r.interfaces.items t.interface.0 (subst (λ (o : TypeOwner). owner_in_range r o ≡ true) t.owned (owner-there n t.def t.there))
@@ -387,7 +405,8 @@ module _ (r : Resolve) (v : IsValid r) (w : WorldId) (def : World) (home : world
       of-function (k, item.Type_ id) e = absurd (let z : ⊥ = cc in z)
   no-lack light (too_many m) =
       let met = sum-among weigh m.met numbers m.are_met.different (λ n c. counted n (m.are_met.all n c)) in
-      let met-each = at-least weigh m.met (λ n c. counted-least r v (owner.World w) (world_type_numbers def) (functions_of_world def) own (type_ids_among es) (functions_among es) listed among n (m.are_met.all n c)) in
+      let met-each = at-least weigh m.met (λ n c. counted-least r v (owner.World w) (world_type_numbers def) (functions_of_world def) own (type_ids_among es) (functions_among es) listed among n
+      (m.are_met.all n c)) in
       let brought = entries-weigh r es m.brought m.are_brought.different (λ n c. stands-among n (m.are_brought.all n c)) in
       let brought-each = at-least (λ (n : ℕ). 64) m.brought (λ n c. omega arith) in
       let many = m.many in

@@ -52,7 +52,8 @@ named-alone : (ds : Declarations) → instance_names (instance_declarations ds) 
 named-alone Declarations.no_more = refl
 named-alone (Declarations.declares d rest) = by (instance_name d) refl (named-alone rest)
   where
-    by : (ns : List ExternName) → instance_name d ≡ ns → instance_names (instance_declarations rest) ≡ instance_names rest → instance_names (if_named ns d (instance_declarations rest)) ≡ instance_name d ++ instance_names rest
+    by : (ns : List ExternName) → instance_name d ≡ ns → instance_names (instance_declarations rest) ≡ instance_names rest
+        → instance_names (if_named ns d (instance_declarations rest)) ≡ instance_name d ++ instance_names rest
     by [] e more = more ∙ ap (λ (ns : List ExternName). ns ++ instance_names rest) (sym e)
     by (n ∷ ns) e more = ap (λ (ms : List ExternName). instance_name d ++ ms) more
 named-alone (Declarations.component inner rest) = named-alone rest
@@ -81,23 +82,30 @@ none-among r canonical x e = ap (λ (o : Option ℕ). (if is_some o then name_of
 one-among : (r : Resolve) (canonical : Bool) (x : Entry) (n : ℕ) → item_interface x.1 ≡ Some n → names_among r canonical (x ∷ []) ≡ name_of_item r canonical x ∷ []
 one-among r canonical x n e = ap (λ (o : Option ℕ). (if is_some o then name_of_item r canonical x ∷ [] else []) ++ []) e
 
-pub type-names : (r q : Resolve) (canonical : Bool) (x : Entry) (id : TypeId) (ds es : Declarations) → x.1 ≡ item.Type_ id → GrowsAround q (instances_around ds) (instances_around es) → NamesMore r canonical (x ∷ []) ds es
+pub type-names : (r q : Resolve) (canonical : Bool) (x : Entry) (id : TypeId) (ds es : Declarations) → x.1 ≡ item.Type_ id → GrowsAround q (instances_around ds) (instances_around es)
+    → NamesMore r canonical (x ∷ []) ds es
 type-names r q canonical x id ds es is g =
     names-stay q ds es g ∙ sym (append-nil (instance_names ds)) ∙ ap (λ (ns : List ExternName). instance_names ds ++ ns) (sym (none-among r canonical x (ap item_interface is)))
 
-pub function-names : (r q : Resolve) (canonical : Bool) (x : Entry) (f : Function) (ds es outer : Declarations) (direction : Direction) (name : ExternName) (k : ℕ) → x.1 ≡ item.Function f → GrowsAround q (instances_around ds) (instances_around es)
+pub function-names : (r q : Resolve) (canonical : Bool) (x : Entry) (f : Function) (ds es outer : Declarations) (direction : Direction) (name : ExternName) (k : ℕ) → x.1 ≡ item.Function f
+    → GrowsAround q (instances_around ds) (instances_around es)
     → outer ≡ declared_after es (declared_towards direction name (refs.Func k)) → NamesMore r canonical (x ∷ []) ds outer
 function-names r q canonical x f ds es outer direction name k is g declared =
     ap instance_names declared ∙ names-more es (declared_towards direction name (refs.Func k)) ∙ ap (λ (ns : List ExternName). instance_names es ++ ns) (no-function-name direction name k)
-    ∙ append-nil (instance_names es) ∙ names-stay q ds es g ∙ sym (append-nil (instance_names ds)) ∙ ap (λ (ns : List ExternName). instance_names ds ++ ns) (sym (none-among r canonical x (ap item_interface is)))
+    ∙ append-nil (instance_names es) ∙ names-stay q ds es g ∙ sym (append-nil (instance_names ds)) ∙ ap (λ (ns : List ExternName). instance_names ds ++ ns)
+    (sym (none-among r canonical x (ap item_interface is)))
 
 -- an instance type has no name
-part-names : (q : Resolve) (a a' : Around) (i : InterfaceId) (def : Interface) (written : List (Text × Function)) (functions : List Function) (k : ℕ) → EncodesPart q a a' i def written functions k → instance_names a'.declared ≡ instance_names a.declared
+part-names : (q : Resolve) (a a' : Around) (i : InterfaceId) (def : Interface) (written : List (Text × Function)) (functions : List Function) (k : ℕ) → EncodesPart q a a' i def written functions k
+    → instance_names a'.declared ≡ instance_names a.declared
 part-names q a a' i def written functions k part =
-    ap (λ (z : Around). instance_names z.declared) part.one_more ∙ names-behind part.before.declared _ ∙ ap (λ (z : Around). instance_names z.declared) part.aliases.grown.is ∙ names-aliased a part.aliases.grown.made
+    ap (λ (z : Around). instance_names z.declared) part.one_more ∙ names-behind part.before.declared _ ∙ ap (λ (z : Around). instance_names z.declared) part.aliases.grown.is ∙ names-aliased a
+    part.aliases.grown.made
 
-pub interface-names : (r q : Resolve) (canonical : Bool) (x : Entry) (i : InterfaceId) (a a' : Around) (def : Interface) (outer : Declarations) (direction : Direction) (name : ExternName) (k : ℕ) → item_interface x.1 ≡ Some i.0
-    → EncodesInterface q a a' i def k → outer ≡ declared_after a'.declared (declared_towards direction name (refs.Instance k)) → name ≡ name_of_item r canonical x → NamesMore r canonical (x ∷ []) a.declared outer
+pub interface-names : (r q : Resolve) (canonical : Bool) (x : Entry) (i : InterfaceId) (a a' : Around) (def : Interface) (outer : Declarations) (direction : Direction) (name : ExternName) (k : ℕ)
+    → item_interface x.1 ≡ Some i.0
+    → EncodesInterface q a a' i def k → outer ≡ declared_after a'.declared (declared_towards direction name (refs.Instance k)) → name ≡ name_of_item r canonical x
+    → NamesMore r canonical (x ∷ []) a.declared outer
 interface-names r q canonical x i a a' def outer direction name k is encodes declared named =
     ap instance_names declared ∙ names-more a'.declared (declared_towards direction name (refs.Instance k))
     ∙ (λ j. part-names q a a' i def _ _ k encodes.part j
@@ -108,7 +116,8 @@ interface-names r q canonical x i a a' def outer direction name k is encodes dec
 pub names-nothing : (r : Resolve) (canonical : Bool) (ds : Declarations) → NamesMore r canonical [] ds ds
 names-nothing r canonical ds = sym (append-nil (instance_names ds))
 
-pub names-then : (r : Resolve) (canonical : Bool) (xs ys : List Entry) (ds es fs : Declarations) → NamesMore r canonical xs ds es → NamesMore r canonical ys es fs → NamesMore r canonical (xs ++ ys) ds fs
+pub names-then : (r : Resolve) (canonical : Bool) (xs ys : List Entry) (ds es fs : Declarations) → NamesMore r canonical xs ds es → NamesMore r canonical ys es fs
+    → NamesMore r canonical (xs ++ ys) ds fs
 names-then r canonical xs ys ds es fs one more =
     more ∙ ap (λ (ns : List ExternName). ns ++ names_among r canonical ys) one ∙ append_assoc (instance_names ds) (names_among r canonical xs) (names_among r canonical ys)
     ∙ ap (λ (ns : List ExternName). instance_names ds ++ ns) (sym (flat_map-append _ xs ys))
@@ -125,14 +134,17 @@ module _ (r : Resolve) (canonical : Bool) where
       ap (λ (z : Around). instance_names z.declared) t.imports ∙ names-more t.encoded.declared (Declaration.imported (name i.0) (refs.Instance t.slot))
       ∙ ap (λ (ns : List ExternName). ns ++ name i.0 ∷ []) (part-names r a t.encoded i t.def _ _ t.slot t.encodes.part)
 
-  pub imports-named : (a a' : Around) (i : InterfaceId) (number : ℕ) (ns : List ℕ) (start : Declarations) → ImportsTypes r canonical a a' i number → NamesInterfaces r canonical ns start a.declared → NamesInterfaces r canonical (ns ++ i.0 ∷ []) start a'.declared
+  pub imports-named : (a a' : Around) (i : InterfaceId) (number : ℕ) (ns : List ℕ) (start : Declarations) → ImportsTypes r canonical a a' i number → NamesInterfaces r canonical ns start a.declared
+      → NamesInterfaces r canonical (ns ++ i.0 ∷ []) start a'.declared
   imports-named a a' i number ns start t named =
       import-named a a' i number t ∙ ap (λ (xs : List ExternName). xs ++ name i.0 ∷ []) named ∙ append_assoc (instance_names start) (map name ns) (name i.0 ∷ [])
       ∙ ap (λ (xs : List ExternName). instance_names start ++ xs) (sym (map-append name ns (i.0 ∷ [])))
 
   -- behind all that it reaches, the interface itself
-  pub all-named : (a a' : Around) (ns : List ℕ) (i : InterfaceId) (def : Interface) (k : ℕ) (start outer : Declarations) → start ≡ Declarations.no_more → NamesInterfaces r canonical ns start a.declared → ns ≡ reached_in_order r i.0
-      → EncodesInterface r a a' i def k → outer ≡ append a'.declared (Declarations.declares (Declaration.exported (name i.0) (refs.Instance k)) Declarations.no_more) → WritesPaths r canonical i.0 outer
+  pub all-named : (a a' : Around) (ns : List ℕ) (i : InterfaceId) (def : Interface) (k : ℕ) (start outer : Declarations) → start ≡ Declarations.no_more
+      → NamesInterfaces r canonical ns start a.declared → ns ≡ reached_in_order r i.0
+      → EncodesInterface r a a' i def k → outer ≡ append a'.declared (Declarations.declares (Declaration.exported (name i.0) (refs.Instance k)) Declarations.no_more)
+      → WritesPaths r canonical i.0 outer
   all-named a a' ns i def k start outer nothing named order encodes is =
       ap instance_names is ∙ names-more a'.declared (Declaration.exported (name i.0) (refs.Instance k))
       ∙ ap (λ (xs : List ExternName). xs ++ name i.0 ∷ []) (part-names r a a' i def _ _ k encodes.part ∙ named ∙ ap (λ (ds : Declarations). instance_names ds ++ map name ns) nothing)

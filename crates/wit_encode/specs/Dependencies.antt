@@ -52,7 +52,8 @@ with_import r canonical i k number around = record around {
 
 -- behind an instance type in slot k, the export that uses it
 abbrev pub with_export : Resolve → Bool → InterfaceId → ℕ → Declarations → Declarations
-with_export r canonical i k declared = append declared (Declarations.declares (Declaration.exported (name_of_interface r canonical i.0) (refs.Instance k)) Declarations.no_more)
+with_export r canonical i k declared = append declared (Declarations.declares (Declaration.exported (name_of_interface r canonical i.0) (refs.Instance k))
+    Declarations.no_more)
 
 -- the types of an interface have been encoded, and imported as the instance of this number
 pub record ImportsTypes (r : Resolve) (canonical : Bool) (around around' : Around) (i : InterfaceId) (number : ℕ) : Type 0 where
@@ -89,20 +90,25 @@ NothingIsImported = (r : Resolve) → HasImported r no_around []
 
 -- Aliases leave what has been imported.
 abbrev pub AliasesLeaveImports : Type 0
-AliasesLeaveImports = (r : Resolve) (around around' : Around) (numbers : List ℕ) → HasImported r around numbers → GrowsAround r around around' → HasImported r around' numbers
+AliasesLeaveImports = (r : Resolve) (around around' : Around) (numbers : List ℕ) → HasImported r around numbers → GrowsAround r around around'
+    → HasImported r around' numbers
 
 -- Instances of the interfaces that have been imported stand, so an interface that uses no others can be encoded.
 abbrev pub ImportsStand : Type 0
-ImportsStand = (r : Resolve) (around : Around) (numbers : List ℕ) (i : ℕ) → IsValid r → HasImported r around numbers → ((m : ℕ) → Contains (direct_deps r i) m → Contains numbers m)
+ImportsStand = (r : Resolve) (around : Around) (numbers : List ℕ) (i : ℕ) → IsValid r → HasImported r around numbers
+    → ((m : ℕ) → Contains (direct_deps r i) m → Contains numbers m)
     → UsedStand r (standing_instances r around) i
 
 -- A dependency that is encoded and then imported is one import more.
 abbrev pub ImportsGrow : Type 0
-ImportsGrow = (r : Resolve) (canonical : Bool) (around around' : Around) (numbers : List ℕ) (i : InterfaceId) (def : Interface) (path : Text) (k : ℕ) → IsValid r → interface_path r i.0 ≡ Some path
+ImportsGrow = (r : Resolve) (canonical : Bool) (around around' : Around) (numbers : List ℕ) (i : InterfaceId) (def : Interface) (path : Text) (k : ℕ)
+    → IsValid r → interface_path r i.0 ≡ Some path
     → HasImported r around numbers → known_instance around.instances i.0 ≡ None → EncodesDependency r around around' i def k
     → HasImported r (with_import r canonical i k (length numbers) around') (numbers ++ i.0 ∷ [])
 
 -- The interface itself, encoded and then exported, ends its component type.
 abbrev pub ExportsEnd : Type 0
-ExportsEnd = (r : Resolve) (canonical : Bool) (around around' : Around) (numbers : List ℕ) (i : InterfaceId) (def : Interface) (path : Text) (k : ℕ) → IsValid r → interface_path r i.0 ≡ Some path
-    → HasImported r around numbers → AreReached r i.0 numbers → EncodesInterface r around around' i def k → ShowsComponent r i.0 path (with_export r canonical i k around'.declared)
+ExportsEnd = (r : Resolve) (canonical : Bool) (around around' : Around) (numbers : List ℕ) (i : InterfaceId) (def : Interface) (path : Text) (k : ℕ) → IsValid r
+    → interface_path r i.0 ≡ Some path
+    → HasImported r around numbers → AreReached r i.0 numbers → EncodesInterface r around around' i def k
+    → ShowsComponent r i.0 path (with_export r canonical i k around'.declared)

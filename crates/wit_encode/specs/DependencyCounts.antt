@@ -23,7 +23,8 @@ pub record DefinesTypesOf (r : Resolve) (i : ℕ) (declared : Declarations × De
   pub is : declared.1 ≡ from_list declarations
   pub ordered : IsInstance r declared.0 (record { 0 = i }) declarations []
   pub function_types : count_by is_function_type declarations ≡ 0
-  pub value_types : DefinesTypes r (Some (record { 0 = i })) (stands_inside r (record { 0 = i }) declared.0 declarations) (values def.types) [] (from_list declarations)
+  pub value_types : DefinesTypes r (Some (record { 0 = i })) (stands_inside r (record { 0 = i }) declared.0 declarations) (values def.types) []
+      (from_list declarations)
 
 -- no type is defined beside the instance types
 pub record DefinesNothing (outer : Declarations) : Type 0 where

@@ -43,9 +43,11 @@ pub data LacksImport (r : Resolve) (canonical : Bool) (around : Around) (i : Int
 -- The types of one of these interfaces have no room in an instance type, or the path of one doesn't fit. Or there are too many declarations:
 -- one for each named type of the interfaces, each once, two for each of them, and two more.
 pub data ImportsLackRoom (r : Resolve) (interfaces : List ℕ) : Type 0 where
-  an_interface : (i : InterfaceId) (def : Interface) → Contains interfaces i.0 → interface_at r i.0 ≡ Some def → TypesLackRoom r i def → ImportsLackRoom r interfaces
+  an_interface : (i : InterfaceId) (def : Interface) → Contains interfaces i.0 → interface_at r i.0 ≡ Some def → TypesLackRoom r i def
+      → ImportsLackRoom r interfaces
   a_path : (canonical : Bool) (n : ℕ) → Contains interfaces n → fits_name (name_of_interface r canonical n) ≡ false → ImportsLackRoom r interfaces
-  too_many : (brought : List ℕ) → AreSome (IsNamedTypeOf r interfaces) brought → limit ≤ length brought + 2 * (length interfaces + 1) → ImportsLackRoom r interfaces
+  too_many : (brought : List ℕ) → AreSome (IsNamedTypeOf r interfaces) brought → limit ≤ length brought + 2 * (length interfaces + 1)
+      → ImportsLackRoom r interfaces
 
 -- The imports have none, or the interface itself, or its path.
 pub data ComponentLacksRoom (r : Resolve) (i : InterfaceId) (reached : List ℕ) : Type 0 where
@@ -57,5 +59,6 @@ pub data ComponentLacksRoom (r : Resolve) (i : InterfaceId) (reached : List ℕ)
 
 -- An interface that has no room in a component type of its own weighs, with what it reaches, more than the largest number of 32 bits.
 abbrev pub LackingComponentsAreHeavy : Type 0
-LackingComponentsAreHeavy = (r : Resolve) (i : InterfaceId) (reached : List ℕ) → IsValid r → is_some (interface_path r i.0) ≡ true → AreReached r i.0 reached → ComponentLacksRoom r i reached
+LackingComponentsAreHeavy = (r : Resolve) (i : InterfaceId) (reached : List ℕ) → IsValid r → is_some (interface_path r i.0) ≡ true → AreReached r i.0 reached
+    → ComponentLacksRoom r i reached
     → limit < interface_weight r i.0

@@ -184,7 +184,8 @@ EncodesTypesAs e e' i k = (def : Interface) → interface_at e.resolve.now i.0 �
 
 -- it stands for the interface's types and these functions
 abbrev pub EncodesPlaced : InstanceEncoder → InstanceEncoder → InterfaceId → List Placed → ℕ → Type 0
-EncodesPlaced e e' i fs k = (def : Interface) → interface_at e.resolve.now i.0 ≡ Some def → EncodesPart e.resolve.now (outside e) (outside e') i def (map placed_function fs) (plain fs) k
+EncodesPlaced e e' i fs k = (def : Interface) → interface_at e.resolve.now i.0 ≡ Some def
+    → EncodesPart e.resolve.now (outside e) (outside e') i def (map placed_function fs) (plain fs) k
 
 -- an instance type has no room for the types and functions of an interface
 abbrev pub InterfaceLacksRoom : Resolve → InterfaceId → Interface → Type 0
@@ -193,12 +194,15 @@ InterfaceLacksRoom r i def = HasNoRoom r (Some i) (referred (values def.types) (
 -- An instance type has no room for the types and functions of the interface. Or the component type, after aliases have been made, has none
 -- for one more alias or instance type.
 abbrev pub LacksInstance : InstanceEncoder → InterfaceId → Type 0
-LacksInstance e i = (def : Interface) → interface_at e.resolve.now i.0 ≡ Some def → InterfaceLacksRoom e.resolve.now i def ⊎ LacksInstanceRoom e.resolve.now i (whole_interface def) (outside e)
+LacksInstance e i = (def : Interface) → interface_at e.resolve.now i.0 ≡ Some def → InterfaceLacksRoom e.resolve.now i def
+    ⊎ LacksInstanceRoom e.resolve.now i (whole_interface def) (outside e)
 
 -- the same of the interface's types alone
 abbrev pub LacksDependency : InstanceEncoder → InterfaceId → Type 0
-LacksDependency e i = (def : Interface) → interface_at e.resolve.now i.0 ≡ Some def → HasNoRoom e.resolve.now (Some i) (types_alone_of def) [] ⊎ LacksInstanceRoom e.resolve.now i (types_alone_of def) (outside e)
+LacksDependency e i = (def : Interface) → interface_at e.resolve.now i.0 ≡ Some def → HasNoRoom e.resolve.now (Some i) (types_alone_of def) []
+    ⊎ LacksInstanceRoom e.resolve.now i (types_alone_of def) (outside e)
 
 -- the same of these types and functions of the interface
 abbrev pub LacksWithin : InstanceEncoder → InterfaceId → List TypeId → List Placed → Type 0
-LacksWithin e i types fs = HasNoRoom e.resolve.now (Some i) (referred types (plain fs)) (map placed_function fs) ⊎ LacksInstanceRoom e.resolve.now i (referred types (plain fs)) (outside e)
+LacksWithin e i types fs = HasNoRoom e.resolve.now (Some i) (referred types (plain fs)) (map placed_function fs)
+    ⊎ LacksInstanceRoom e.resolve.now i (referred types (plain fs)) (outside e)

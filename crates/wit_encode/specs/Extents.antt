@@ -43,8 +43,10 @@ pub use Rattle.encode_types.specs.Extents.{labels_extent, tree_extent, signature
 -- A definition that, followed, is a tree, takes no more bytes than its tree says; the type of a function, and an import or an export, no more
 -- than the signature and the name say. An alias takes sixteen bytes and those of its name.
 pub record BytesAreFew : Type 0 where
-  pub definitions : (slots : List Slot) (d : ComponentDefinedType) (t : Tree) → Follows (SlotsStand slots) d t → length (declaration_bytes (Declaration.defined (raw_defined d))) ≤ tree_extent t
-  pub functions : (slots : List Slot) (f : ComponentFuncType) (s : Signature) → FollowsFunction (SlotsStand slots) f s → length (declaration_bytes (Declaration.function (raw_function f))) ≤ signature_extent s
+  pub definitions : (slots : List Slot) (d : ComponentDefinedType) (t : Tree) → Follows (SlotsStand slots) d t
+      → length (declaration_bytes (Declaration.defined (raw_defined d))) ≤ tree_extent t
+  pub functions : (slots : List Slot) (f : ComponentFuncType) (s : Signature) → FollowsFunction (SlotsStand slots) f s
+      → length (declaration_bytes (Declaration.function (raw_function f))) ≤ signature_extent s
   pub imports : (name : ExternName) (described : ComponentTypeRef) → length (declaration_bytes (Declaration.imported name described)) ≤ name_extent name
   pub exports : (name : ExternName) (described : ComponentTypeRef) → length (declaration_bytes (Declaration.exported name described)) ≤ name_extent name
   pub aliases : (k : ℕ) (name : Text) → length (declaration_bytes (Declaration.alias_of (Alias.of_export k name))) ≤ 16 + length name
@@ -52,7 +54,8 @@ pub record BytesAreFew : Type 0 where
 
 -- The definition of a type, and its export where it has a name, take no more bytes than the type weighs.
 abbrev pub TypesAreLight : Type 0
-TypesAreLight = (r : Resolve) (n : ℕ) (def : TypeDef) → IsValid r → type_at r n ≡ Some def → tree_extent (kind_tree r def.kind) + own_name_extent r def ≤ definition_weight def
+TypesAreLight = (r : Resolve) (n : ℕ) (def : TypeDef) → IsValid r → type_at r n ≡ Some def
+    → tree_extent (kind_tree r def.kind) + own_name_extent r def ≤ definition_weight def
 
 -- The type of a function and its export take no more bytes than the function weighs.
 abbrev pub FunctionsAreLight : Type 0
@@ -63,14 +66,17 @@ FunctionsAreLight = (r : Resolve) (f : Function) → signature_extent (signature
 -- Type numbers that the types and functions of an interface meet, each once, and its functions, take with 64 bytes no more than the interface
 -- weighs.
 abbrev pub InstancesAreLight : Type 0
-InstancesAreLight = (r : Resolve) (i : InterfaceId) (def : Interface) (numbers : List ℕ) → IsValid r → interface_at r i.0 ≡ Some def → AllPairs (λ x y. nat_eq x y ≡ false) numbers
+InstancesAreLight = (r : Resolve) (i : InterfaceId) (def : Interface) (numbers : List ℕ) → IsValid r → interface_at r i.0 ≡ Some def
+    → AllPairs (λ x y. nat_eq x y ≡ false) numbers
     → ((n : ℕ) → Contains numbers n → ReachedFrom r (Some i) (referred (values def.types) (map (λ f. f.1) (functions_in_order def))) n)
     → 64 + (sum_by (number_extent r (Some i)) numbers + sum_by (function_extent r) (functions_in_order def)) ≤ whole_instance_weight r i.0
 
 -- The same of the types alone.
 abbrev pub DependenciesAreLight : Type 0
-DependenciesAreLight = (r : Resolve) (i : InterfaceId) (def : Interface) (numbers : List ℕ) → IsValid r → interface_at r i.0 ≡ Some def → AllPairs (λ x y. nat_eq x y ≡ false) numbers
-    → ((n : ℕ) → Contains numbers n → ReachedFrom r (Some i) (referred (values def.types) []) n) → 64 + sum_by (number_extent r (Some i)) numbers ≤ types_instance_weight r i.0
+DependenciesAreLight = (r : Resolve) (i : InterfaceId) (def : Interface) (numbers : List ℕ) → IsValid r → interface_at r i.0 ≡ Some def
+    → AllPairs (λ x y. nat_eq x y ≡ false) numbers
+    → ((n : ℕ) → Contains numbers n → ReachedFrom r (Some i) (referred (values def.types) []) n)
+    → 64 + sum_by (number_extent r (Some i)) numbers ≤ types_instance_weight r i.0
 
 -- the import of the types of an interface, or the import or the export of an interface, whose instance type weighs so much
 abbrev pub instance_extent : ExternName → ℕ → ℕ
@@ -79,16 +85,21 @@ instance_extent name weight = 8 + (name_extent name + weight)
 -- The imports of the interfaces that an interface reaches, and its own export, take with 64 bytes no more than it weighs with what it reaches, where
 -- each instance type takes no more than its interface weighs.
 abbrev pub ComponentsAreLight : Type 0
-ComponentsAreLight = (r : Resolve) (i : InterfaceId) (reached : List ℕ) (canonical : Bool) → IsValid r → is_some (interface_path r i.0) ≡ true → AreReached r i.0 reached
-    → 64 + (sum_by (λ n. instance_extent (name_of_interface r canonical n) (types_instance_weight r n)) reached + instance_extent (name_of_interface r canonical i.0) (whole_instance_weight r i.0)) ≤ interface_weight r i.0
+ComponentsAreLight = (r : Resolve) (i : InterfaceId) (reached : List ℕ) (canonical : Bool) → IsValid r → is_some (interface_path r i.0) ≡ true
+    → AreReached r i.0 reached
+    → 64 + (sum_by (λ n. instance_extent (name_of_interface r canonical n) (types_instance_weight r n)) reached + instance_extent
+    (name_of_interface r canonical i.0) (whole_instance_weight r i.0)) ≤ interface_weight r i.0
 
 -- an import or an export of a world: a type counts by its number alone
 abbrev pub item_extent : Resolve → Bool → WorldKey × WorldItem → ℕ
-item_extent r canonical (k, item.Interface id stability docs external_id) = instance_extent (name_of_item r canonical (k, item.Interface id stability docs external_id)) (whole_instance_weight r id.0)
+item_extent r canonical (k, item.Interface id stability docs external_id) =
+    instance_extent (name_of_item r canonical (k, item.Interface id stability docs external_id)) (whole_instance_weight r id.0)
 item_extent r canonical (k, item.Function f) = signature_extent (signature_of r f) + name_extent (name_of_item r canonical (k, item.Function f))
 item_extent r canonical (k, item.Type_ id) = 0
 
 -- Type numbers that a world meets, each once, and its imports and exports, take with 64 bytes no more than the world weighs.
 abbrev pub WorldsAreLight : Type 0
-WorldsAreLight = (r : Resolve) (w : WorldId) (def : World) (numbers : List ℕ) (canonical : Bool) → IsValid r → world_at r w.0 ≡ Some def → AllPairs (λ x y. nat_eq x y ≡ false) numbers
-    → ((n : ℕ) → Contains numbers n → IsMetAmong r (entries_in def) n) → 64 + (sum_by (number_extent r None) numbers + sum_by (item_extent r canonical) (entries_in def)) ≤ world_weight r w.0
+WorldsAreLight = (r : Resolve) (w : WorldId) (def : World) (numbers : List ℕ) (canonical : Bool) → IsValid r → world_at r w.0 ≡ Some def
+    → AllPairs (λ x y. nat_eq x y ≡ false) numbers
+    → ((n : ℕ) → Contains numbers n → IsMetAmong r (entries_in def) n)
+    → 64 + (sum_by (number_extent r None) numbers + sum_by (item_extent r canonical) (entries_in def)) ≤ world_weight r w.0

@@ -13,7 +13,8 @@ use Rattle.encode_types.specs.Room.{Refusals, function_requests, FindsNoRoom}
 
 -- A part of a type that is met from these, or one of these functions, has no room. What is held is less than what was held, what some type
 -- numbers take that are met and were new, one for each key that was known or is that of a function, and wasn't known, and one for each function.
-pub record LacksFunctions (r : Resolve) (own : Option InterfaceId) (ts : List ValueType) (fs : List (Text × Function)) (m : TypeEncodingMaps) (before after : ℕ) (N : Refusals) : Type 0 where
+pub record LacksFunctions (r : Resolve) (own : Option InterfaceId) (ts : List ValueType) (fs : List (Text × Function)) (m : TypeEncodingMaps) (before after : ℕ)
+    (N : Refusals) : Type 0 where
   pub keys : List Key
   pub different : IsDistinct are_same keys
   pub from : (key : Key) → is_member are_same keys key ≡ true → KnowsKey m key ⊎ (is_member are_same (map (λ f. key_of f.1) fs) key ≡ true)

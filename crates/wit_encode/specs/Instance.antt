@@ -161,7 +161,13 @@ abbrev pub encoder_scope : Resolve → Declarations → Option OpenInterface →
 encoder_scope r outer inner = scope_with r (own_of inner) (around_of outer inner) (contents_of r outer inner)
 
 abbrev pub definitions_with : Contents → Definitions
-definitions_with contents = record { types = contents.types; exported = contents.exported; functions = contents.functions; exports = map (λ t. (t.name, t.meaning)) contents.shown.types }
+definitions_with contents = record {
+  types = contents.types;
+  exported = contents.exported;
+  functions = contents.functions;
+  exports =
+      map (λ t. (t.name, t.meaning)) contents.shown.types;
+}
 
 -- ---- what an encoder holds: what its slots stand for, how many there are, what has been defined, and what is shown
 
@@ -296,8 +302,10 @@ stands_inside r i outer ds = SlotsStand (inner_contents (place_of r (owner.Inter
 
 -- Slot k of the component type is new: an instance type that can be followed, and that shows the types of the interface, in order, and these
 -- functions, in order, with what they mean. Before it, nothing has been declared but aliases of types that had none and that the interface's
--- types and these functions meet. Types of functions and value types are defined as the interface's types and these functions, in any order, ask for, each once, and no others.
-pub record EncodesPart (r : Resolve) (around around' : Around) (i : InterfaceId) (def : Interface) (written : List (Text × Function)) (functions : List Function) (k : ℕ) : Type 0 where
+-- types and these functions meet. Types of functions and value types are defined as the interface's types and these functions, in any order, ask for, each
+-- once, and no others.
+pub record EncodesPart (r : Resolve) (around around' : Around) (i : InterfaceId) (def : Interface) (written : List (Text × Function))
+    (functions : List Function) (k : ℕ) : Type 0 where
   pub before : Around
   pub aliases : AliasesMet r (Some i) (referred (values def.types) functions) around before
   pub declared : List Declaration

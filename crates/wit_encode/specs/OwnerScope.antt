@@ -59,11 +59,13 @@ pub record IsOfInstance (r : Resolve) (scope : Scope) (def : TypeDef) : Type 0 w
 
 -- Each name that is met is of the place, or of a named interface whose instance stands.
 abbrev pub NamesStand : Resolve → TypeOwner → Scope → List ValueType → Type 0
-NamesStand r o scope ts = (n : ℕ) (def : TypeDef) → IsMet r scope ts n → type_at r n ≡ Some def → is_some def.name ≡ true → (def.owner ≡ o) ⊎ IsOfInstance r scope def
+NamesStand r o scope ts = (n : ℕ) (def : TypeDef) → IsMet r scope ts n → type_at r n ≡ Some def → is_some def.name ≡ true → (def.owner ≡ o)
+    ⊎ IsOfInstance r scope def
 
 -- Of each other interface whose types are met, an instance stands.
 abbrev pub InstancesStand : Resolve → Scope → List ValueType → Type 0
-InstancesStand r scope ts = (n : ℕ) (def : TypeDef) (i : InterfaceId) → IsMet r scope ts n → type_at r n ≡ Some def → foreign_owner scope.own_interface def.owner ≡ Some i → Contains scope.instances i.0
+InstancesStand r scope ts = (n : ℕ) (def : TypeDef) (i : InterfaceId) → IsMet r scope ts n → type_at r n ≡ Some def
+    → foreign_owner scope.own_interface def.owner ≡ Some i → Contains scope.instances i.0
 
 -- ---- what an owner uses
 
@@ -103,7 +105,8 @@ NamesEncode = (r : Resolve) (o : TypeOwner) (scope : Scope) (ts : List ValueType
 
 -- The named types of an owner can be encoded, where an instance stands of each other interface whose types are met.
 abbrev pub TypesEncode : Type 0
-TypesEncode = (r : Resolve) (o : TypeOwner) (scope : Scope) (id : TypeId) → IsValid r → IsScopeOf r o scope → IsTypeOf r o id → InstancesStand r scope (ty.Id id ∷ [])
+TypesEncode = (r : Resolve) (o : TypeOwner) (scope : Scope) (id : TypeId) → IsValid r → IsScopeOf r o scope → IsTypeOf r o id
+    → InstancesStand r scope (ty.Id id ∷ [])
     → CanEncode r scope (ty.Id id ∷ [])
 
 -- The functions of an owner can be encoded, where an instance stands of each other interface whose types are met.
@@ -118,12 +121,14 @@ TypesUse = (r : Resolve) (o : TypeOwner) (scope : Scope) (id : TypeId) → IsVal
 
 -- The functions of an owner meet no other interfaces than those that it uses.
 abbrev pub FunctionsUse : Type 0
-FunctionsUse = (r : Resolve) (o : TypeOwner) (scope : Scope) (f : Function) → IsValid r → IsScopeOf r o scope → Contains (functions_of r o) f → UsesStand r o scope
+FunctionsUse = (r : Resolve) (o : TypeOwner) (scope : Scope) (f : Function) → IsValid r → IsScopeOf r o scope → Contains (functions_of r o) f
+    → UsesStand r o scope
     → InstancesStand r scope (function_types f)
 
 -- An interface that the types of an interface use is one of its direct dependencies.
 abbrev pub InterfaceUses : Type 0
-InterfaceUses = (r : Resolve) (i : InterfaceId) (j : ℕ) → IsValid r → i.0 < length r.interfaces.items → IsUsedBy r (owner.Interface i) j → Contains (direct_deps r i.0) j
+InterfaceUses = (r : Resolve) (i : InterfaceId) (j : ℕ) → IsValid r → i.0 < length r.interfaces.items → IsUsedBy r (owner.Interface i) j
+    → Contains (direct_deps r i.0) j
 
 -- The scope of a table is that of its owner.
 abbrev pub TableScope : Type 0

@@ -1,4 +1,5 @@
--- Which interfaces and worlds have no room in the component of a package, where every length is a number of 32 bits, that of the component too (Component Model Binary.md,
+-- Which interfaces and worlds have no room in the component of a package, where every length is a number of 32 bits, that of the component too (Component Model
+-- Binary.md,
 -- "Component Definitions" and the numbers of "Core WebAssembly").
 use Rattle.std.specs.Prelude.{ℕ, ◌≡◌, ◌<◌, ◌+◌, ◌⊎◌, Bool, List, [], ◌∷◌, ◌++◌, length, sum_by, Some}
 use Rattle.std.specs.List.{Contains}
@@ -34,7 +35,8 @@ pub record AreLong (P : List Part → Type 0) : Type 0 where
 
 -- Behind the component types of other interfaces, the interface has no room: it is too heavy by itself, or too long behind them.
 abbrev pub LacksInterface : Resolve → Bool → Listed → List Part → Type 0
-LacksInterface r canonical e old = (limit < interface_weight r e.1.0) ⊎ ((entries : List Listed) → HoldsInterfaces r canonical entries old → AreLong (HoldsInterfaces r canonical (entries ++ e ∷ [])))
+LacksInterface r canonical e old = (limit < interface_weight r e.1.0)
+    ⊎ ((entries : List Listed) → HoldsInterfaces r canonical entries old → AreLong (HoldsInterfaces r canonical (entries ++ e ∷ [])))
 
 -- One of these interfaces is too heavy, or the component types of the first of them are too long together.
 pub data InterfacesLackRoom (r : Resolve) (canonical : Bool) (entries : List Listed) : Type 0 where
@@ -49,13 +51,16 @@ IsHeavyWorld r p n = (w : World) → world_at r n ≡ Some w → limit < length 
 
 abbrev pub LacksWorld : Resolve → Bool → PackageIdentity → ListedWorld → List Part → Type 0
 LacksWorld r canonical p e old =
-    IsHeavyWorld r p e.1.0 ⊎ ((interfaces : List Listed) (worlds : List ListedWorld) → HoldsMembers r canonical p interfaces worlds old → AreLong (HoldsMembers r canonical p interfaces (worlds ++ e ∷ [])))
+    IsHeavyWorld r p e.1.0 ⊎ ((interfaces : List Listed) (worlds : List ListedWorld) → HoldsMembers r canonical p interfaces worlds old
+    → AreLong (HoldsMembers r canonical p interfaces (worlds ++ e ∷ [])))
 
 -- One of these worlds is too heavy, or the component types of the interfaces and of the first of these worlds are too long together.
 pub data WorldsLackRoom (r : Resolve) (canonical : Bool) (p : PackageIdentity) (interfaces : List Listed) (entries : List ListedWorld) : Type 0 where
   too_heavy : (e : ListedWorld) → Contains entries e → IsHeavyWorld r p e.1.0 → WorldsLackRoom r canonical p interfaces entries
-  too_long : (first rest : List ListedWorld) → entries ≡ first ++ rest → AreLong (HoldsMembers r canonical p interfaces first) → WorldsLackRoom r canonical p interfaces entries
+  too_long : (first rest : List ListedWorld) → entries ≡ first ++ rest → AreLong (HoldsMembers r canonical p interfaces first)
+      → WorldsLackRoom r canonical p interfaces entries
 
 -- so it is behind whichever interfaces these parts hold
 abbrev pub WorldsLackRoomBehind : Resolve → Bool → PackageIdentity → List Part → List ListedWorld → Type 0
-WorldsLackRoomBehind r canonical p parts entries = (interfaces : List Listed) → HoldsMembers r canonical p interfaces [] parts → WorldsLackRoom r canonical p interfaces entries
+WorldsLackRoomBehind r canonical p parts entries = (interfaces : List Listed) → HoldsMembers r canonical p interfaces [] parts
+    → WorldsLackRoom r canonical p interfaces entries

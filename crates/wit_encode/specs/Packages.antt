@@ -98,7 +98,8 @@ pub record IsWrapperOf (r : Resolve) (canonical : Bool) (p : PackageIdentity) (e
   pub wraps : WrapsWorld r canonical p e.1.0 world x.1
 
 -- a component that exports the component types of these interfaces, in order, then the wrappers of these worlds, in order, and nothing else
-pub record HoldsMembers (r : Resolve) (canonical : Bool) (p : PackageIdentity) (interfaces : List Listed) (worlds : List ListedWorld) (parts : List Part) : Type 0 where
+pub record HoldsMembers (r : Resolve) (canonical : Bool) (p : PackageIdentity) (interfaces : List Listed) (worlds : List ListedWorld)
+    (parts : List Part) : Type 0 where
   pub interface_types : List (Text × Declarations)
   pub world_types : List (Text × Declarations)
   pub interfaces_are : AllZip (IsTypeOf r canonical) interfaces interface_types
@@ -107,11 +108,13 @@ pub record HoldsMembers (r : Resolve) (canonical : Bool) (p : PackageIdentity) (
 
 -- behind what is exported already, the wrapper of a world, exported under its name
 abbrev pub AddsWorld : Resolve → Bool → PackageIdentity → ListedWorld → List Part → List Part → Type 0
-AddsWorld r canonical p e old new = (interfaces : List Listed) (worlds : List ListedWorld) → HoldsMembers r canonical p interfaces worlds old → HoldsMembers r canonical p interfaces (worlds ++ e ∷ []) new
+AddsWorld r canonical p e old new = (interfaces : List Listed) (worlds : List ListedWorld) → HoldsMembers r canonical p interfaces worlds old
+    → HoldsMembers r canonical p interfaces (worlds ++ e ∷ []) new
 
 -- behind the component types of some interfaces, the wrappers of these worlds
 abbrev pub AddsWorlds : Resolve → Bool → PackageIdentity → List ListedWorld → List Part → List Part → Type 0
-AddsWorlds r canonical p worlds old new = (interfaces : List Listed) → HoldsMembers r canonical p interfaces [] old → HoldsMembers r canonical p interfaces worlds new
+AddsWorlds r canonical p worlds old new = (interfaces : List Listed) → HoldsMembers r canonical p interfaces [] old
+    → HoldsMembers r canonical p interfaces worlds new
 
 -- each of these worlds is in range
 abbrev pub AreWorlds : Resolve → List ListedWorld → Type 0
@@ -201,7 +204,8 @@ is_custom (Part.custom name contents) = true
 
 -- The bytes of a component with these parts, and custom sections behind them or none, are read as exactly what package n means.
 abbrev pub PartsMean : Resolve → ℕ → List Part → Type 0
-PartsMean r n parts = (more : List Part) → list_all is_custom more ≡ true → (bytes : List ℕ) → IsComponent (sections_of_parts (parts ++ more)) bytes → MeansPackage r n bytes
+PartsMean r n parts = (more : List Part) → list_all is_custom more ≡ true → (bytes : List ℕ) → IsComponent (sections_of_parts (parts ++ more)) bytes
+    → MeansPackage r n bytes
 
 -- ---- package n
 

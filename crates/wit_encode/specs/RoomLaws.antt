@@ -11,4 +11,5 @@ use Rattle.wit_encode.specs.Encoders.{InterfaceLacksRoom}
 
 -- An interface that has no room in an instance type weighs more than the largest number of 32 bits.
 abbrev pub LackingInterfacesAreHeavy : Type 0
-LackingInterfacesAreHeavy = (r : Resolve) (i : InterfaceId) (def : Interface) → IsValid r → interface_at r i.0 ≡ Some def → InterfaceLacksRoom r i def → limit < whole_instance_weight r i.0
+LackingInterfacesAreHeavy = (r : Resolve) (i : InterfaceId) (def : Interface) → IsValid r → interface_at r i.0 ≡ Some def → InterfaceLacksRoom r i def
+    → limit < whole_instance_weight r i.0

@@ -39,7 +39,8 @@ pub record DefinesInterface (r : Resolve) (i : ℕ) (declared : Declarations × 
   pub is : declared.1 ≡ from_list declarations
   pub ordered : IsInstance r declared.0 (record { 0 = i }) declarations (map (meaning_of r) (functions_in_order def))
   pub function_types : DefinesKeys r (stands_inside r (record { 0 = i }) declared.0 declarations) (functions_of_interface def) declarations
-  pub value_types : DefinesTypes r (Some (record { 0 = i })) (stands_inside r (record { 0 = i }) declared.0 declarations) (values def.types) (functions_of_interface def) (from_list declarations)
+  pub value_types : DefinesTypes r (Some (record { 0 = i })) (stands_inside r (record { 0 = i }) declared.0 declarations) (values def.types)
+      (functions_of_interface def) (from_list declarations)
 
 -- what a world asks for that has these imports and exports: what its types and functions meet of interfaces, and what each interface among them does
 abbrev pub IsAskedByWorld : Resolve → List Entry → ℕ → Type 0

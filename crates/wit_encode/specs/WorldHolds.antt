@@ -36,21 +36,25 @@ HoldsOn r e e' x = HoldsAll r e e' (entry_of x ∷ [])
 
 -- The world of which the entry is next has no room in a component type.
 abbrev pub LacksWorldRoom : Resolve → WorldEncoder → Placed → Type 0
-LacksWorldRoom r e x = (w : World) (done : Entries) → HasShown r w e done → IsNext r w (towards x.direction) done (entry_of x) → HasDefined r e (all_done done) → HoldsFew r e (all_done done)
+LacksWorldRoom r e x = (w : World) (done : Entries) → HasShown r w e done → IsNext r w (towards x.direction) done (entry_of x) → HasDefined r e (all_done done)
+    → HoldsFew r e (all_done done)
     → WorldLacksRoom r w
 
 -- The same of the world whose imports, or whose exports, are next.
 abbrev pub LacksRoomTowards : Resolve → WorldEncoder → Direction → Type 0
-LacksRoomTowards r e direction = (w : World) → HasShown r w e (begun direction w) → HasDefined r e (all_done (begun direction w)) → HoldsFew r e (all_done (begun direction w)) → WorldLacksRoom r w
+LacksRoomTowards r e direction = (w : World) → HasShown r w e (begun direction w) → HasDefined r e (all_done (begun direction w))
+    → HoldsFew r e (all_done (begun direction w)) → WorldLacksRoom r w
 
 -- An instance type has no room for the interface. Or the component type, after aliases have been made, has none for one more alias or instance
 -- type.
 abbrev pub LacksInstanceHere : WorldEncoder → InterfaceId → Type 0
-LacksInstanceHere e i = (def : Interface) → interface_at e.resolve.now i.0 ≡ Some def → InterfaceLacksRoom e.resolve.now i def ⊎ LacksInstanceRoom e.resolve.now i (whole_interface def) (world_around e)
+LacksInstanceHere e i = (def : Interface) → interface_at e.resolve.now i.0 ≡ Some def → InterfaceLacksRoom e.resolve.now i def
+    ⊎ LacksInstanceRoom e.resolve.now i (whole_interface def) (world_around e)
 
 -- So it is with its types alone.
 abbrev pub LacksDependencyHere : WorldEncoder → InterfaceId → Type 0
-LacksDependencyHere e i = (def : Interface) → interface_at e.resolve.now i.0 ≡ Some def → HasNoRoom e.resolve.now (Some i) (types_alone_of def) [] ⊎ LacksInstanceRoom e.resolve.now i (types_alone_of def) (world_around e)
+LacksDependencyHere e i = (def : Interface) → interface_at e.resolve.now i.0 ≡ Some def → HasNoRoom e.resolve.now (Some i) (types_alone_of def) []
+    ⊎ LacksInstanceRoom e.resolve.now i (types_alone_of def) (world_around e)
 
 -- The declaration doesn't fit behind those of a component type, or a count doesn't with it.
 abbrev pub LacksDeclaration : Declarations → Declaration → Type 0

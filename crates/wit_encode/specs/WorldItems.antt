@@ -83,17 +83,20 @@ pub record AwaitsNext (r : Resolve) (e : WorldEncoder) (x : Placed) : Type 0 whe
 
 -- Behind whatever had been encoded, the entry has been encoded.
 abbrev pub Encodes : Resolve → WorldEncoder → WorldEncoder → Placed → Type 0
-Encodes r e e' x = (w : World) (done : Entries) → HasShown r w e done → IsNext r w (towards x.direction) done (entry_of x) → HasShown r w e' (with_entry (towards x.direction) done (entry_of x))
+Encodes r e e' x = (w : World) (done : Entries) → HasShown r w e done → IsNext r w (towards x.direction) done (entry_of x)
+    → HasShown r w e' (with_entry (towards x.direction) done (entry_of x))
 
 -- ---- interfaces
 
 -- Slot k of the component type is new: an instance type that shows the interface, behind aliases alone.
 abbrev pub DefinesInstance : WorldEncoder → WorldEncoder → InterfaceId → ℕ → Type 0
-DefinesInstance e e' i k = (def : Interface) → interface_at e.resolve.now i.0 ≡ Some def → EncodesInterface e.resolve.now (world_around e) (world_around e') i def k
+DefinesInstance e e' i k = (def : Interface) → interface_at e.resolve.now i.0 ≡ Some def
+    → EncodesInterface e.resolve.now (world_around e) (world_around e') i def k
 
 -- So it is with its types alone.
 abbrev pub DefinesDependency : WorldEncoder → WorldEncoder → InterfaceId → ℕ → Type 0
-DefinesDependency e e' i k = (def : Interface) → interface_at e.resolve.now i.0 ≡ Some def → EncodesDependency e.resolve.now (world_around e) (world_around e') i def k
+DefinesDependency e e' i k = (def : Interface) → interface_at e.resolve.now i.0 ≡ Some def
+    → EncodesDependency e.resolve.now (world_around e) (world_around e') i def k
 
 -- The latest instance is that of the interface, and has the next number. One more has been counted.
 pub record ListsInstance (e e' : WorldEncoder) (i : InterfaceId) : Type 0 where

@@ -82,8 +82,10 @@ entries_in w = w.imports.entries ++ w.exports.entries
 -- Something of the world doesn't fit in 32 bits by itself: an interface in its instance type, the name of a function or an interface, a part
 -- of a type, the type of a function. Or there are too many declarations.
 pub data WorldLacksRoom (r : Resolve) (w : World) : Type 0 where
-  an_interface : (i : InterfaceId) (def : Interface) → Contains (interfaces_among (entries_in w)) i.0 → interface_at r i.0 ≡ Some def → InterfaceLacksRoom r i def → WorldLacksRoom r w
-  a_name : (canonical : Bool) (e : Entry) → Contains (entries_in w) e → item_type e.1 ≡ None → fits_name (name_of_item r canonical e) ≡ false → WorldLacksRoom r w
+  an_interface : (i : InterfaceId) (def : Interface) → Contains (interfaces_among (entries_in w)) i.0 → interface_at r i.0 ≡ Some def
+      → InterfaceLacksRoom r i def → WorldLacksRoom r w
+  a_name : (canonical : Bool) (e : Entry) → Contains (entries_in w) e → item_type e.1 ≡ None → fits_name (name_of_item r canonical e) ≡ false
+      → WorldLacksRoom r w
   a_type : (n : ℕ) (def : TypeDef) → IsMetAmong r (entries_in w) n → type_at r n ≡ Some def → LacksPart r None (IsUnfit r) n def → WorldLacksRoom r w
   a_function : (f : Function) → Contains (functions_among (entries_in w)) f → IsUnfit r (function_type (signature_of r f)) → WorldLacksRoom r w
   too_many : AreMany r (entries_in w) limit → WorldLacksRoom r w

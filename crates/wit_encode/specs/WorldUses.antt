@@ -33,5 +33,6 @@ StandBefore r w k standing = (j : ℕ) → Contains (interfaces_before w k) j �
 -- Where an instance stands of each named interface before an item of a valid world, one stands of each other interface whose types the item
 -- meets.
 abbrev pub ItemsMeetStanding : Type 0
-ItemsMeetStanding = (r : Resolve) (id : WorldId) (w : World) (k : ℕ) (i : WorldItem) (scope : Scope) → IsValid r → world_at r id.0 ≡ Some w → slice_get (items_of w) k ≡ Some i
+ItemsMeetStanding = (r : Resolve) (id : WorldId) (w : World) (k : ℕ) (i : WorldItem) (scope : Scope) → IsValid r → world_at r id.0 ≡ Some w
+    → slice_get (items_of w) k ≡ Some i
     → IsScopeOf r (owner.World id) scope → StandBefore r w k scope.instances → InstancesStand r scope (item_types i)

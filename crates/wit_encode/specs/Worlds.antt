@@ -62,7 +62,8 @@ abbrev pub instances_from : Declarations → Declarations → List (Declarations
 instances_from before Declarations.no_more = []
 instances_from before (Declarations.declares d rest) = instances_from (append before (Declarations.declares d Declarations.no_more)) rest
 instances_from before (Declarations.component inner rest) = instances_from (append before (Declarations.component inner Declarations.no_more)) rest
-instances_from before (Declarations.instance inner rest) = (before, inner) ∷ instances_from (append before (Declarations.instance inner Declarations.no_more)) rest
+instances_from before (Declarations.instance inner rest) =
+    (before, inner) ∷ instances_from (append before (Declarations.instance inner Declarations.no_more)) rest
 
 -- the instance types of a component type, each with what was declared before it
 abbrev pub instances_declared : Declarations → List (Declarations × Declarations)

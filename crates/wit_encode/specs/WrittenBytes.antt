@@ -37,10 +37,12 @@ pub record TakesFew (r : Resolve) (i : InterfaceId) (types : List ValueType) (fu
 -- So it is with these types and functions of interface i, in the component type and an instance type in it, or in the component type with the
 -- instance type behind it.
 abbrev pub TakesInside : InstanceEncoder → InstanceEncoder → InterfaceId → List TypeId → List Placed → List Declaration → Type 0
-TakesInside e e' i types fs ds = TakesFew e.resolve.now i (referred types (plain fs)) (map placed_function fs) (declared_extent e.outer) (declared_extent e'.outer + declared_extent (from_list ds))
+TakesInside e e' i types fs ds = TakesFew e.resolve.now i (referred types (plain fs)) (map placed_function fs) (declared_extent e.outer)
+    (declared_extent e'.outer + declared_extent (from_list ds))
 
 abbrev pub TakesPart : InstanceEncoder → InstanceEncoder → InterfaceId → List TypeId → List Placed → Type 0
-TakesPart e e' i types fs = TakesFew e.resolve.now i (referred types (plain fs)) (map placed_function fs) (declared_extent e.outer + 8) (declared_extent e'.outer)
+TakesPart e e' i types fs = TakesFew e.resolve.now i (referred types (plain fs)) (map placed_function fs) (declared_extent e.outer + 8)
+    (declared_extent e'.outer)
 
 -- the instance type of an interface, or of its types alone, with what stands before it
 abbrev pub whole_extent : Resolve → ℕ → ℕ

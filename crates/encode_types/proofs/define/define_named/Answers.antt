@@ -14,7 +14,8 @@ use Rattle.encode_types.proofs.define.define_named.Goals as goal
 use Rattle.encode_types.proofs.Writing.{written-more, written-on}
 
 pub returns-clause-ok : goal.returns-clause-ok
-returns-clause-ok g c = on_ok c.remember_id.result _ _ (λ l. learnt-one (g.E.ValtypeEncoder.view c.args.enc.now).maps _ _ c.args.id _ (ap (λ (z : TypeEncodingMaps). z.id_to_index.entries) (c.export.ensures.maps_stay ∙ c.define_kind.ensures.maps_stay)) l) c.remember_id.ensures.ok
+returns-clause-ok g c = on_ok c.remember_id.result _ _ (λ l. learnt-one (g.E.ValtypeEncoder.view c.args.enc.now).maps _ _ c.args.id _
+    (ap (λ (z : TypeEncodingMaps). z.id_to_index.entries) (c.export.ensures.maps_stay ∙ c.define_kind.ensures.maps_stay)) l) c.remember_id.ensures.ok
 
 target : (g : Over) (c : In_ok-slot g) → has_definition c.args.def.now.kind ≡ false → IsTarget c.args.resolve.now (g.E.ValtypeEncoder.view c.args.enc.now).maps c.in_ok-index.index
 target g c e =
@@ -23,26 +24,39 @@ target g c e =
 
 pub returns-clause-counts : goal.returns-clause-counts
 returns-clause-counts g c = on_ok c.remember_id.result _ _
-    (λ l. counts-named c.args.resolve.now (g.E.ValtypeEncoder.view c.args.enc.now).scope (g.E.ValtypeEncoder.view c.args.enc.now).maps _ (g.E.ValtypeEncoder.view c.args.enc.now).definitions (g.E.ValtypeEncoder.view c.define_kind.new.enc).definitions _ c.args.id c.in_ok-slot.slot c.in_ok-index.index
+    (λ l. counts-named c.args.resolve.now (g.E.ValtypeEncoder.view c.args.enc.now).scope (g.E.ValtypeEncoder.view c.args.enc.now).maps _ (g.E.ValtypeEncoder.view c.args.enc.now).definitions
+    (g.E.ValtypeEncoder.view c.define_kind.new.enc).definitions _ c.args.id c.in_ok-slot.slot c.in_ok-index.index
     (has_definition c.args.def.now.kind) (raw_name c.args.name)
     (subst (λ (z : TypeEncodingMaps). LearnsNumber z (g.E.ValtypeEncoder.view c.remember_id.new.enc).maps c.args.id c.in_ok-slot.slot) (c.export.ensures.maps_stay ∙ c.define_kind.ensures.maps_stay) l)
     c.requires.shown c.requires.by_name c.in_ok-index.ensures.counts
-    (subst (λ (z : Definitions). ExportsOne (g.E.ValtypeEncoder.view c.args.enc.now).scope (g.E.ValtypeEncoder.view c.define_kind.new.enc).definitions z (Some c.in_ok-index.index) (raw_name c.args.name)) (sym c.remember_id.ensures.counts)
-    (subst (λ (z : Scope). ExportsOne z (g.E.ValtypeEncoder.view c.define_kind.new.enc).definitions (g.E.ValtypeEncoder.view c.export.new.enc).definitions (Some c.in_ok-index.index) (raw_name c.args.name)) c.define_kind.ensures.scope_stays c.in_ok-slot.ensures.counts))
+    (subst (λ (z : Definitions). ExportsOne (g.E.ValtypeEncoder.view c.args.enc.now).scope (g.E.ValtypeEncoder.view c.define_kind.new.enc).definitions z (Some c.in_ok-index.index)
+    (raw_name c.args.name)) (sym c.remember_id.ensures.counts)
+    (subst (λ (z : Scope). ExportsOne z (g.E.ValtypeEncoder.view c.define_kind.new.enc).definitions (g.E.ValtypeEncoder.view c.export.new.enc).definitions (Some c.in_ok-index.index)
+    (raw_name c.args.name)) c.define_kind.ensures.scope_stays c.in_ok-slot.ensures.counts))
     (target g (goal.at.returns-clause-counts g c).In_ok-slot))
     c.remember_id.ensures.ok
 
 pub returns-clause-kinds : goal.returns-clause-kinds
-returns-clause-kinds g c = on_ok c.remember_id.result _ _ (λ l. l.rest.kinds ∙ ap (λ (z : TypeEncodingMaps). z.def_to_index.entries) (c.export.ensures.maps_stay ∙ c.define_kind.ensures.maps_stay)) c.remember_id.ensures.ok
+returns-clause-kinds g c = on_ok c.remember_id.result _ _ (λ l. l.rest.kinds ∙ ap (λ (z : TypeEncodingMaps). z.def_to_index.entries) (c.export.ensures.maps_stay ∙ c.define_kind.ensures.maps_stay))
+    c.remember_id.ensures.ok
 
 pub returns-clause-leaves : goal.returns-clause-leaves
-returns-clause-leaves g c = leaves-trans (leaves-kept {v = g.E.ValtypeEncoder.view c.args.enc.now} {v' = g.E.ValtypeEncoder.view c.define_kind.new.enc} c.requires.agree c.define_kind.ensures.grows c.define_kind.ensures.scope_stays c.define_kind.ensures.maps_stay) (leaves-trans (leaves-kept {v = g.E.ValtypeEncoder.view c.define_kind.new.enc} {v' = g.E.ValtypeEncoder.view c.export.new.enc} (leaves-kept {v = g.E.ValtypeEncoder.view c.args.enc.now} {v' = g.E.ValtypeEncoder.view c.define_kind.new.enc} c.requires.agree c.define_kind.ensures.grows c.define_kind.ensures.scope_stays c.define_kind.ensures.maps_stay).agree c.export.ensures.grows c.export.ensures.scope_stays c.export.ensures.maps_stay) c.remember_id.ensures.leaves)
+returns-clause-leaves g c = leaves-trans (leaves-kept {v = g.E.ValtypeEncoder.view c.args.enc.now} {v' = g.E.ValtypeEncoder.view c.define_kind.new.enc} c.requires.agree c.define_kind.ensures.grows
+    c.define_kind.ensures.scope_stays c.define_kind.ensures.maps_stay) (leaves-trans
+    (leaves-kept {v = g.E.ValtypeEncoder.view c.define_kind.new.enc} {v' = g.E.ValtypeEncoder.view c.export.new.enc}
+    (leaves-kept {v = g.E.ValtypeEncoder.view c.args.enc.now} {v' = g.E.ValtypeEncoder.view c.define_kind.new.enc} c.requires.agree c.define_kind.ensures.grows c.define_kind.ensures.scope_stays
+    c.define_kind.ensures.maps_stay).agree c.export.ensures.grows c.export.ensures.scope_stays c.export.ensures.maps_stay) c.remember_id.ensures.leaves)
 
 pub returns-in_err-slot-clause-leaves : goal.returns-in_err-slot-clause-leaves
-returns-in_err-slot-clause-leaves g c = leaves-trans (leaves-kept {v = g.E.ValtypeEncoder.view c.args.enc.now} {v' = g.E.ValtypeEncoder.view c.define_kind.new.enc} c.requires.agree c.define_kind.ensures.grows c.define_kind.ensures.scope_stays c.define_kind.ensures.maps_stay) (leaves-kept {v = g.E.ValtypeEncoder.view c.define_kind.new.enc} {v' = g.E.ValtypeEncoder.view c.export.new.enc} (leaves-kept {v = g.E.ValtypeEncoder.view c.args.enc.now} {v' = g.E.ValtypeEncoder.view c.define_kind.new.enc} c.requires.agree c.define_kind.ensures.grows c.define_kind.ensures.scope_stays c.define_kind.ensures.maps_stay).agree c.export.ensures.grows c.export.ensures.scope_stays c.export.ensures.maps_stay)
+returns-in_err-slot-clause-leaves g c = leaves-trans (leaves-kept {v = g.E.ValtypeEncoder.view c.args.enc.now} {v' = g.E.ValtypeEncoder.view c.define_kind.new.enc} c.requires.agree
+    c.define_kind.ensures.grows c.define_kind.ensures.scope_stays c.define_kind.ensures.maps_stay)
+    (leaves-kept {v = g.E.ValtypeEncoder.view c.define_kind.new.enc} {v' = g.E.ValtypeEncoder.view c.export.new.enc}
+    (leaves-kept {v = g.E.ValtypeEncoder.view c.args.enc.now} {v' = g.E.ValtypeEncoder.view c.define_kind.new.enc} c.requires.agree c.define_kind.ensures.grows c.define_kind.ensures.scope_stays
+    c.define_kind.ensures.maps_stay).agree c.export.ensures.grows c.export.ensures.scope_stays c.export.ensures.maps_stay)
 
 pub returns-clause-written : goal.returns-clause-written
-returns-clause-written g c = on_ok c.remember_id.result _ _ (λ l. written-on (written-more c.in_ok-index.ensures.written c.in_ok-slot.ensures.written) c.remember_id.ensures.written) c.remember_id.ensures.ok
+returns-clause-written g c = on_ok c.remember_id.result _ _ (λ l. written-on (written-more c.in_ok-index.ensures.written c.in_ok-slot.ensures.written) c.remember_id.ensures.written)
+    c.remember_id.ensures.ok
 
 pub returns-in_err-slot-clause-size : goal.returns-in_err-slot-clause-size
 returns-in_err-slot-clause-size g c = λ h.

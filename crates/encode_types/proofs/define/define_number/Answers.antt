@@ -35,7 +35,13 @@ import-requires g c = λ _. (
       let f : foreign_owner (g.E.ValtypeEncoder.view c.args.enc.now).scope.own_interface c.index-def.result.now.owner ≡ Some c.in-Some.interface = sym (owner_is g a) ∙ c.in-Some.is in
       rw c.index_of.ensures.same (
         c.requires.packages,
-        ((c.requires.fits c.index-def.result.now (there g a)).foreign c.in-Some.interface f, (foreign-undefined c.args.resolve.now (g.E.ValtypeEncoder.view c.args.enc.now).scope c.args.id.0 c.index-def.result.now c.in-Some.interface (there g a) f, (foreign-unshown c.args.resolve.now (g.E.ValtypeEncoder.view c.args.enc.now).scope c.args.id.0 c.index-def.result.now c.in-Some.interface (there g a) f, (unknown g a, c.requires.agree)))),
+        (
+          (c.requires.fits c.index-def.result.now (there g a)).foreign c.in-Some.interface f,
+          (
+            foreign-undefined c.args.resolve.now (g.E.ValtypeEncoder.view c.args.enc.now).scope c.args.id.0 c.index-def.result.now c.in-Some.interface (there g a) f,
+            (foreign-unshown c.args.resolve.now (g.E.ValtypeEncoder.view c.args.enc.now).scope c.args.id.0 c.index-def.result.now c.in-Some.interface (there g a) f, (unknown g a, c.requires.agree)),
+          ),
+        ),
       )),
 )
 
@@ -57,7 +63,8 @@ define_own-requires g c = λ _. (
 )
 
 pub returns-then-is_some-clause-counts : goal.returns-then-is_some-clause-counts
-returns-then-is_some-clause-counts g c = rw c.index_of.ensures.same (counts-none c.args.resolve.now (g.E.ValtypeEncoder.view c.args.enc.now).scope (g.E.ValtypeEncoder.view c.args.enc.now).maps (g.E.ValtypeEncoder.view c.args.enc.now).definitions)
+returns-then-is_some-clause-counts g c = rw c.index_of.ensures.same (counts-none c.args.resolve.now (g.E.ValtypeEncoder.view c.args.enc.now).scope (g.E.ValtypeEncoder.view c.args.enc.now).maps
+    (g.E.ValtypeEncoder.view c.args.enc.now).definitions)
 
 pub returns-then-is_some-clause-ok : goal.returns-then-is_some-clause-ok
 returns-then-is_some-clause-ok g c =
@@ -65,7 +72,8 @@ returns-then-is_some-clause-ok g c =
     rw c.index_of.ensures.same (record { known = k; only = learns-nothing _ _ })
 
 pub returns-then-is_some-clause-learns : goal.returns-then-is_some-clause-learns
-returns-then-is_some-clause-learns g c = rw c.index_of.ensures.same (learns-none c.args.resolve.now (g.E.ValtypeEncoder.view c.args.enc.now).scope.own_interface (g.E.ValtypeEncoder.view c.args.enc.now).maps)
+returns-then-is_some-clause-learns g c = rw c.index_of.ensures.same (learns-none c.args.resolve.now (g.E.ValtypeEncoder.view c.args.enc.now).scope.own_interface
+    (g.E.ValtypeEncoder.view c.args.enc.now).maps)
 
 pub returns-in-Some-clause-learns : goal.returns-in-Some-clause-learns
 returns-in-Some-clause-learns g c =
@@ -73,13 +81,17 @@ returns-in-Some-clause-learns g c =
     let f : foreign_owner (g.E.ValtypeEncoder.view c.args.enc.now).scope.own_interface c.index-def.result.now.owner ≡ Some c.in-Some.interface = sym (owner_is g a) ∙ c.in-Some.is in
     learns-call-foreign c.import.result c.args.resolve.now (g.E.ValtypeEncoder.view c.args.enc.now).scope (g.E.ValtypeEncoder.view c.args.enc.now).maps (g.E.ValtypeEncoder.view c.import.new.enc).maps
     (g.E.ValtypeEncoder.view c.args.enc.now).definitions (g.E.ValtypeEncoder.view c.import.new.enc).definitions c.args.id.0 c.index-def.result.now (there g a)
-    (rw c.index_of.ensures.same at c.import.ensures.ok) (rw c.index_of.ensures.same at c.import.ensures.leaves.maps_grow) (rw c.index_of.ensures.same at c.import.ensures.counts) (rw c.index_of.ensures.same at c.import.ensures.kinds) c.in-Some.interface f
+    (rw c.index_of.ensures.same at c.import.ensures.ok) (rw c.index_of.ensures.same at c.import.ensures.leaves.maps_grow) (rw c.index_of.ensures.same at c.import.ensures.counts)
+    (rw c.index_of.ensures.same at c.import.ensures.kinds) c.in-Some.interface f
 
 pub returns-then-is_some-clause-held : goal.returns-then-is_some-clause-held
-returns-then-is_some-clause-held g c = rw c.index_of.ensures.same (holds-none c.args.resolve.now (g.E.ValtypeEncoder.view c.args.enc.now).scope.own_interface (g.E.ValtypeEncoder.view c.args.enc.now).maps (g.E.ValtypeEncoder.view c.args.enc.now).held)
+returns-then-is_some-clause-held g c = rw c.index_of.ensures.same (holds-none c.args.resolve.now (g.E.ValtypeEncoder.view c.args.enc.now).scope.own_interface
+    (g.E.ValtypeEncoder.view c.args.enc.now).maps (g.E.ValtypeEncoder.view c.args.enc.now).held)
 
-unkind : (g : Over) (c : After-foreign g) (i : InterfaceId) → c.foreign.result ≡ Some i → unnamed_kind c.args.resolve.now (g.E.ValtypeEncoder.view c.args.enc.now).scope.own_interface c.args.id.0 ≡ None
-unkind g c i e = foreign-unkind c.args.resolve.now (g.E.ValtypeEncoder.view c.args.enc.now).scope.own_interface (g.E.ValtypeEncoder.view c.args.enc.now).maps c.args.id.0 c.index-def.result.now i (there g c) (sym (owner_is g c) ∙ e)
+unkind : (g : Over) (c : After-foreign g) (i : InterfaceId) → c.foreign.result ≡ Some i
+    → unnamed_kind c.args.resolve.now (g.E.ValtypeEncoder.view c.args.enc.now).scope.own_interface c.args.id.0 ≡ None
+unkind g c i e = foreign-unkind c.args.resolve.now (g.E.ValtypeEncoder.view c.args.enc.now).scope.own_interface (g.E.ValtypeEncoder.view c.args.enc.now).maps c.args.id.0 c.index-def.result.now i
+    (there g c) (sym (owner_is g c) ∙ e)
 
 pub returns-in-Some-clause-held : goal.returns-in-Some-clause-held
 returns-in-Some-clause-held g c =
@@ -88,7 +100,8 @@ returns-in-Some-clause-held g c =
     let held : (g.E.ValtypeEncoder.view c.import.new.enc).held ≤ (g.E.ValtypeEncoder.view c.args.enc.now).held + 1 = (rw c.index_of.ensures.same at c.import.ensures.held) in
     let count = counts-one c.args.resolve.now (g.E.ValtypeEncoder.view c.args.enc.now).scope.own_interface c.args.id.0 in
     on-both c.import.result _ _ _
-    (λ one counts. holds-number counts.shows.learnt c.args.id.0 counts.shows.numbers counts.keys.lists one.known (unknown g a) (none-new (g.E.ValtypeEncoder.view c.args.enc.now).maps _ none) (none-has (g.E.ValtypeEncoder.view c.import.new.enc).maps _ none) (omega (arith, held, count)))
+    (λ one counts. holds-number counts.shows.learnt c.args.id.0 counts.shows.numbers counts.keys.lists one.known (unknown g a) (none-new (g.E.ValtypeEncoder.view c.args.enc.now).maps _ none)
+    (none-has (g.E.ValtypeEncoder.view c.import.new.enc).maps _ none) (omega (arith, held, count)))
     c.import.ensures.ok (rw c.index_of.ensures.same at c.import.ensures.counts)
 
 pub returns-clause-held : goal.returns-clause-held

@@ -18,7 +18,8 @@ use Rattle.encode_types.proofs.Writing.{writes-nothing, writes-then}
 use Rattle.encode_types.proofs.Aliasing.{met-none, makes-number, imports-none, imports-number}
 use Rattle.base_lemmas.proofs.Elements.{last_of as one-contained}
 
-ordered : (g : Over) (c : After-deref-n-items g) → IsOrderOf c.args.resolve.now (g.E.ValtypeEncoder.view c.args.enc.now).scope.own_interface (g.E.ValtypeEncoder.view c.args.enc.now).maps c.args.types.now c.deref-n-items.result.now
+ordered : (g : Over) (c : After-deref-n-items g)
+    → IsOrderOf c.args.resolve.now (g.E.ValtypeEncoder.view c.args.enc.now).scope.own_interface (g.E.ValtypeEncoder.view c.args.enc.now).maps c.args.types.now c.deref-n-items.result.now
 ordered g c = rw c.deref-n-items.ensures.value c.in_ok-order.ensures.order
 
 pub define_number-requires : goal.define_number-requires
@@ -28,7 +29,8 @@ define_number-requires g c = λ _. (
       let s : (g.E.ValtypeEncoder.view c.loop-n.enc).scope ≡ (g.E.ValtypeEncoder.view c.args.enc.now).scope = c.loop-n.invariant.leaves.scope_stays in
       let n = get_or c.deref-n-items.result.now c.loop-n.n-index 0 in
       let met = o.added n (Contains-get_or _ _ 0 c.loop-n-test.true) in
-      let fits : Fits c.args.resolve.now (g.E.ValtypeEncoder.view c.args.enc.now).scope (get_or c.deref-n-items.result.now c.loop-n.n-index 0) = c.requires.encodable.fits met.0 met.1 n (meets-reaches c.args.resolve.now _ _ met.0 n met.2) in (
+      let fits : Fits c.args.resolve.now (g.E.ValtypeEncoder.view c.args.enc.now).scope (get_or c.deref-n-items.result.now c.loop-n.n-index 0) =
+      c.requires.encodable.fits met.0 met.1 n (meets-reaches c.args.resolve.now _ _ met.0 n met.2) in (
         ap (λ (x : Scope). x.packages) s ∙ c.requires.encodable.packages_,
         (
           c.requires.encodable.layered,
@@ -37,7 +39,8 @@ define_number-requires g c = λ _. (
             (
               subst (λ (x : Scope). Fits c.args.resolve.now x (get_or c.deref-n-items.result.now c.loop-n.n-index 0)) (sym s) fits,
               (
-                (λ def at f. ready-now c.args.resolve.now (g.E.ValtypeEncoder.view c.args.enc.now).scope.own_interface (g.E.ValtypeEncoder.view c.args.enc.now).maps (g.E.ValtypeEncoder.view c.loop-n.enc).maps _ c.loop-n.n-index o.ordered c.loop-n-test.true c.loop-n.invariant.leaves.maps_grow c.loop-n.invariant.known def at
+                (λ def at f. ready-now c.args.resolve.now (g.E.ValtypeEncoder.view c.args.enc.now).scope.own_interface (g.E.ValtypeEncoder.view c.args.enc.now).maps
+                    (g.E.ValtypeEncoder.view c.loop-n.enc).maps _ c.loop-n.n-index o.ordered c.loop-n-test.true c.loop-n.invariant.leaves.maps_grow c.loop-n.invariant.known def at
                     (sym (ap (λ (x : Scope). foreign_owner x.own_interface def.owner) s) ∙ f)),
                 c.loop-n.invariant.leaves.agree,
               ),
@@ -49,25 +52,32 @@ define_number-requires g c = λ _. (
 
 pub loop-n-preserved : goal.loop-n-preserved
 loop-n-preserved g c = record {
-  known = known-more (g.E.ValtypeEncoder.view c.loop-n.enc).maps (g.E.ValtypeEncoder.view c.define_number.new.enc).maps c.deref-n-items.result.now c.loop-n.n-index c.loop-n-test.true c.define_number.ensures.leaves.maps_grow c.loop-n.invariant.known c.in_ok-define_number.ensures.ok.known;
-  learns = learns-more (g.E.ValtypeEncoder.view c.args.enc.now).maps (g.E.ValtypeEncoder.view c.loop-n.enc).maps (g.E.ValtypeEncoder.view c.define_number.new.enc).maps c.deref-n-items.result.now c.loop-n.n-index c.loop-n-test.true c.loop-n.invariant.learns c.in_ok-define_number.ensures.ok;
+  known = known-more (g.E.ValtypeEncoder.view c.loop-n.enc).maps (g.E.ValtypeEncoder.view c.define_number.new.enc).maps c.deref-n-items.result.now c.loop-n.n-index c.loop-n-test.true
+      c.define_number.ensures.leaves.maps_grow c.loop-n.invariant.known c.in_ok-define_number.ensures.ok.known;
+  learns = learns-more (g.E.ValtypeEncoder.view c.args.enc.now).maps (g.E.ValtypeEncoder.view c.loop-n.enc).maps (g.E.ValtypeEncoder.view c.define_number.new.enc).maps c.deref-n-items.result.now
+      c.loop-n.n-index c.loop-n-test.true c.loop-n.invariant.learns c.in_ok-define_number.ensures.ok;
   learnt = learns-then (ap (λ (x : Scope). x.own_interface) c.loop-n.invariant.leaves.scope_stays) c.loop-n.invariant.learnt c.in_ok-define_number.ensures.learns;
   leaves = leaves-trans c.loop-n.invariant.leaves c.define_number.ensures.leaves;
-  aliases = makes-number (get_or c.deref-n-items.result.now c.loop-n.n-index 0) (ap (λ (x : Scope). x.own_interface) c.loop-n.invariant.leaves.scope_stays) (ordered g (goal.at.loop-n-preserved g c).After-deref-n-items) (Contains-get_or _ _ 0 c.loop-n-test.true) c.loop-n.invariant.aliases c.define_number.ensures.aliases;
-  imports = imports-number (get_or c.deref-n-items.result.now c.loop-n.n-index 0) (ap (λ (x : Scope). x.own_interface) c.loop-n.invariant.leaves.scope_stays) (ordered g (goal.at.loop-n-preserved g c).After-deref-n-items) (Contains-get_or _ _ 0 c.loop-n-test.true) c.loop-n.invariant.imports c.define_number.ensures.imports;
-  held = holds-then (ap (λ (x : Scope). x.own_interface) c.loop-n.invariant.leaves.scope_stays) c.loop-n.invariant.leaves.maps_grow c.define_number.ensures.leaves.maps_grow c.loop-n.invariant.held c.in_ok-define_number.ensures.held;
+  aliases = makes-number (get_or c.deref-n-items.result.now c.loop-n.n-index 0) (ap (λ (x : Scope). x.own_interface) c.loop-n.invariant.leaves.scope_stays)
+      (ordered g (goal.at.loop-n-preserved g c).After-deref-n-items) (Contains-get_or _ _ 0 c.loop-n-test.true) c.loop-n.invariant.aliases c.define_number.ensures.aliases;
+  imports = imports-number (get_or c.deref-n-items.result.now c.loop-n.n-index 0) (ap (λ (x : Scope). x.own_interface) c.loop-n.invariant.leaves.scope_stays)
+      (ordered g (goal.at.loop-n-preserved g c).After-deref-n-items) (Contains-get_or _ _ 0 c.loop-n-test.true) c.loop-n.invariant.imports c.define_number.ensures.imports;
+  held = holds-then (ap (λ (x : Scope). x.own_interface) c.loop-n.invariant.leaves.scope_stays) c.loop-n.invariant.leaves.maps_grow c.define_number.ensures.leaves.maps_grow c.loop-n.invariant.held
+      c.in_ok-define_number.ensures.held;
   written = writes-then c.loop-n.invariant.leaves.scope_stays c.loop-n.invariant.written c.in_ok-define_number.ensures.written;
   counts = counts-trans c.loop-n.invariant.leaves.scope_stays c.loop-n.invariant.counts c.in_ok-define_number.ensures.counts;
 }
 
 pub returns-clause-ready : goal.returns-clause-ready
-returns-clause-ready g c = ready-at-last c.args.resolve.now (g.E.ValtypeEncoder.view c.args.enc.now).scope.own_interface (g.E.ValtypeEncoder.view c.args.enc.now).maps (g.E.ValtypeEncoder.view c.loop-n.enc).maps c.args.types.now c.deref-n-items.result.now c.loop-n.n-index
+returns-clause-ready g c = ready-at-last c.args.resolve.now (g.E.ValtypeEncoder.view c.args.enc.now).scope.own_interface (g.E.ValtypeEncoder.view c.args.enc.now).maps
+    (g.E.ValtypeEncoder.view c.loop-n.enc).maps c.args.types.now c.deref-n-items.result.now c.loop-n.n-index
     (ordered g (goal.at.returns-clause-ready g c).After-deref-n-items) c.loop-n-test.false c.loop-n.invariant.leaves.maps_grow c.loop-n.invariant.known
 
 pub returns-clause-learns : goal.returns-clause-learns
 returns-clause-learns g c = record {
   learns = c.loop-n.invariant.learnt;
-  only = learns-at-last c.args.resolve.now (g.E.ValtypeEncoder.view c.args.enc.now).scope.own_interface (g.E.ValtypeEncoder.view c.args.enc.now).maps (g.E.ValtypeEncoder.view c.loop-n.enc).maps c.args.types.now c.deref-n-items.result.now c.loop-n.n-index
+  only = learns-at-last c.args.resolve.now (g.E.ValtypeEncoder.view c.args.enc.now).scope.own_interface (g.E.ValtypeEncoder.view c.args.enc.now).maps (g.E.ValtypeEncoder.view c.loop-n.enc).maps
+      c.args.types.now c.deref-n-items.result.now c.loop-n.n-index
       (ordered g (goal.at.returns-clause-learns g c).After-deref-n-items) c.loop-n-test.false c.loop-n.invariant.learns;
 }
 
@@ -93,9 +103,11 @@ returns-in_err-define_number-clause-size g c = λ h.
     let before = g.E.ValtypeEncoder.view c.args.enc.now in
     let n = get_or c.deref-n-items.result.now c.loop-n.n-index 0 in
     let met = o.added n (Contains-get_or _ _ 0 c.loop-n-test.true) in
-    let keys : length (g.E.ValtypeEncoder.view c.loop-n.enc).maps.func_type_map.entries ≡ length (g.E.ValtypeEncoder.view c.args.enc.now).maps.func_type_map.entries = ap length c.loop-n.invariant.counts.keys.lists in
+    let keys : length (g.E.ValtypeEncoder.view c.loop-n.enc).maps.func_type_map.entries ≡ length (g.E.ValtypeEncoder.view c.args.enc.now).maps.func_type_map.entries =
+    ap length c.loop-n.invariant.counts.keys.lists in
     room-after (ap (λ (x : Scope). x.own_interface) c.loop-n.invariant.leaves.scope_stays) c.loop-n.invariant.leaves.maps_grow c.loop-n.invariant.held
-    (learns-reached c.args.resolve.now before.scope.own_interface before.maps (g.E.ValtypeEncoder.view c.loop-n.enc).maps c.args.types.now c.deref-n-items.result.now c.loop-n.n-index o c.loop-n.invariant.learns)
+    (learns-reached c.args.resolve.now before.scope.own_interface before.maps (g.E.ValtypeEncoder.view c.loop-n.enc).maps c.args.types.now c.deref-n-items.result.now c.loop-n.n-index o
+    c.loop-n.invariant.learns)
     (λ k reached. (
       met.0,
       met.1,
@@ -106,7 +118,8 @@ returns-in_err-define_number-clause-size g c = λ h.
 
 pub returns-in_err-define_number-clause-aliases : goal.returns-in_err-define_number-clause-aliases
 returns-in_err-define_number-clause-aliases g c =
-    makes-number (get_or c.deref-n-items.result.now c.loop-n.n-index 0) (ap (λ (x : Scope). x.own_interface) c.loop-n.invariant.leaves.scope_stays) (ordered g (goal.at.returns-in_err-define_number-clause-aliases g c).After-deref-n-items) (Contains-get_or _ _ 0 c.loop-n-test.true)
+    makes-number (get_or c.deref-n-items.result.now c.loop-n.n-index 0) (ap (λ (x : Scope). x.own_interface) c.loop-n.invariant.leaves.scope_stays)
+    (ordered g (goal.at.returns-in_err-define_number-clause-aliases g c).After-deref-n-items) (Contains-get_or _ _ 0 c.loop-n-test.true)
     c.loop-n.invariant.aliases c.define_number.ensures.aliases
 
 pub returns-in_err-order-clause-aliases : goal.returns-in_err-order-clause-aliases
@@ -114,7 +127,8 @@ returns-in_err-order-clause-aliases g c = rw c.order_of.ensures.same (met-none r
 
 pub returns-in_err-define_number-clause-imports : goal.returns-in_err-define_number-clause-imports
 returns-in_err-define_number-clause-imports g c =
-    imports-number (get_or c.deref-n-items.result.now c.loop-n.n-index 0) (ap (λ (x : Scope). x.own_interface) c.loop-n.invariant.leaves.scope_stays) (ordered g (goal.at.returns-in_err-define_number-clause-imports g c).After-deref-n-items) (Contains-get_or _ _ 0 c.loop-n-test.true)
+    imports-number (get_or c.deref-n-items.result.now c.loop-n.n-index 0) (ap (λ (x : Scope). x.own_interface) c.loop-n.invariant.leaves.scope_stays)
+    (ordered g (goal.at.returns-in_err-define_number-clause-imports g c).After-deref-n-items) (Contains-get_or _ _ 0 c.loop-n-test.true)
     c.loop-n.invariant.imports c.define_number.ensures.imports
 
 pub returns-in_err-order-clause-imports : goal.returns-in_err-order-clause-imports

@@ -15,14 +15,16 @@ returns-clause-counts g c =
     let s = c.define_unnamed_kind.ensures.leaves.scope_stays in
     on_ok c.remember_id.result _ _
     (λ l. counts-trans s c.in_ok-index.ensures.counts
-    (counts-number c.args.resolve.now (g.E.ValtypeEncoder.view c.define_unnamed_kind.new.enc).scope (g.E.ValtypeEncoder.view c.define_unnamed_kind.new.enc).maps _ (g.E.ValtypeEncoder.view c.define_unnamed_kind.new.enc).definitions _ c.args.id c.in_ok-index.index l
+    (counts-number c.args.resolve.now (g.E.ValtypeEncoder.view c.define_unnamed_kind.new.enc).scope (g.E.ValtypeEncoder.view c.define_unnamed_kind.new.enc).maps _
+    (g.E.ValtypeEncoder.view c.define_unnamed_kind.new.enc).definitions _ c.args.id c.in_ok-index.index l
     (ap (λ (z : Scope). own_name c.args.resolve.now z c.args.id.0) s ∙ c.requires.not_shown)
     (ap (λ (z : Scope). is_defined_by_name c.args.resolve.now z c.args.id.0) s ∙ c.requires.no_name)
     c.remember_id.ensures.counts))
     c.remember_id.ensures.ok
 
 pub returns-clause-kinds : goal.returns-clause-kinds
-returns-clause-kinds g c = on_ok c.remember_id.result _ _ (λ l. kind-same (g.E.ValtypeEncoder.view c.args.enc.now).maps _ (g.E.ValtypeEncoder.view c.remember_id.new.enc).maps c.args.kind.now l.rest.kinds c.in_ok-index.ensures.kinds) c.remember_id.ensures.ok
+returns-clause-kinds g c = on_ok c.remember_id.result _ _ (λ l. kind-same (g.E.ValtypeEncoder.view c.args.enc.now).maps _ (g.E.ValtypeEncoder.view c.remember_id.new.enc).maps c.args.kind.now
+    l.rest.kinds c.in_ok-index.ensures.kinds) c.remember_id.ensures.ok
 
 pub returns-clause-leaves : goal.returns-clause-leaves
 returns-clause-leaves g c = leaves-trans c.define_unnamed_kind.ensures.leaves c.remember_id.ensures.leaves

@@ -11,10 +11,15 @@ use Rattle.encode_types.proofs.Writing.{written-none}
 use Rattle.base_lemmas.proofs.Options.{at_ok}
 
 had : (g : Over) (c : In-Some g) → HasKind (g.E.ValtypeEncoder.view c.args.enc.now).maps c.args.kind.now c.in-Some.index
-had g c = (c.requires.unnamed, subst (λ (xs : List ℕ). Contains (lists_of (g.E.ValtypeEncoder.view c.args.enc.now).maps.def_to_index) (xs, c.in-Some.index)) c.in_ok-kind_list.ensures c.in-Some.ensures.some)
+had g c = (
+  c.requires.unnamed,
+  subst (λ (xs : List ℕ). Contains (lists_of (g.E.ValtypeEncoder.view c.args.enc.now).maps.def_to_index) (xs, c.in-Some.index)) c.in_ok-kind_list.ensures
+      c.in-Some.ensures.some,
+)
 
 pub returns-in-Some-clause-ok : goal.returns-in-Some-clause-ok
-returns-in-Some-clause-ok g c = rw c.index_of_kind.ensures.same (kind-stands c.args.resolve.now (g.E.ValtypeEncoder.view c.args.enc.now).maps (g.E.ValtypeEncoder.view c.args.enc.now).stands c.args.kind.now c.in-Some.index c.requires.agree (had g (goal.at.returns-in-Some-clause-ok g c).In-Some))
+returns-in-Some-clause-ok g c = rw c.index_of_kind.ensures.same (kind-stands c.args.resolve.now (g.E.ValtypeEncoder.view c.args.enc.now).maps (g.E.ValtypeEncoder.view c.args.enc.now).stands
+    c.args.kind.now c.in-Some.index c.requires.agree (had g (goal.at.returns-in-Some-clause-ok g c).In-Some))
 
 lacks : (g : Over) (c : In_default g) → LacksKind (g.E.ValtypeEncoder.view c.args.enc.now).maps c.args.kind.now
 lacks g c = subst (LacksList (lists_of (g.E.ValtypeEncoder.view c.args.enc.now).maps.def_to_index)) c.in_ok-kind_list.ensures (rw c.in_default.is at c.index_of_kind.ensures.none)
@@ -35,10 +40,12 @@ define_new_kind-requires g c = λ _. (
 )
 
 pub returns-in-Some-clause-counts : goal.returns-in-Some-clause-counts
-returns-in-Some-clause-counts g c = rw c.index_of_kind.ensures.same (counts-none c.args.resolve.now (g.E.ValtypeEncoder.view c.args.enc.now).scope (g.E.ValtypeEncoder.view c.args.enc.now).maps (g.E.ValtypeEncoder.view c.args.enc.now).definitions)
+returns-in-Some-clause-counts g c = rw c.index_of_kind.ensures.same (counts-none c.args.resolve.now (g.E.ValtypeEncoder.view c.args.enc.now).scope (g.E.ValtypeEncoder.view c.args.enc.now).maps
+    (g.E.ValtypeEncoder.view c.args.enc.now).definitions)
 
 pub returns-in-Some-clause-kinds : goal.returns-in-Some-clause-kinds
-returns-in-Some-clause-kinds g c = rw c.index_of_kind.ensures.same (kind-had (g.E.ValtypeEncoder.view c.args.enc.now).maps c.args.kind.now c.in-Some.index (had g (goal.at.returns-in-Some-clause-kinds g c).In-Some))
+returns-in-Some-clause-kinds g c = rw c.index_of_kind.ensures.same (kind-had (g.E.ValtypeEncoder.view c.args.enc.now).maps c.args.kind.now c.in-Some.index
+    (had g (goal.at.returns-in-Some-clause-kinds g c).In-Some))
 
 pub returns-in-Some-clause-written : goal.returns-in-Some-clause-written
 returns-in-Some-clause-written g c = rw c.index_of_kind.ensures.same (written-none _ (g.E.ValtypeEncoder.view c.args.enc.now))

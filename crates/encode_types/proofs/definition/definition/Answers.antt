@@ -42,13 +42,16 @@ pub handle_in-requires : goal.handle_in-requires
 handle_in-requires c = rw c.in-Handle.is at c.requires
 
 pub returns-in_ok-fields-in-Record : goal.returns-in_ok-fields-in-Record
-returns-in_ok-fields-in-Record c = rw c.in-Record.is (record-follows c.args.maps.now c.in-Record.record.now c.in_ok-fields-in-Record.fields (rw c.deref.ensures.value at c.in_ok-fields-in-Record.ensures))
+returns-in_ok-fields-in-Record c = rw c.in-Record.is (record-follows c.args.maps.now c.in-Record.record.now c.in_ok-fields-in-Record.fields
+    (rw c.deref.ensures.value at c.in_ok-fields-in-Record.ensures))
 
 pub returns-in_ok-values-in-Tuple : goal.returns-in_ok-values-in-Tuple
-returns-in_ok-values-in-Tuple c = rw c.in-Tuple.is (tuple-follows c.args.maps.now c.in-Tuple.tuple.now c.in_ok-values-in-Tuple.values (rw c.deref-in-Tuple.ensures.value at c.in_ok-values-in-Tuple.ensures))
+returns-in_ok-values-in-Tuple c = rw c.in-Tuple.is (tuple-follows c.args.maps.now c.in-Tuple.tuple.now c.in_ok-values-in-Tuple.values
+    (rw c.deref-in-Tuple.ensures.value at c.in_ok-values-in-Tuple.ensures))
 
 pub returns-in_ok-cases-in-Variant : goal.returns-in_ok-cases-in-Variant
-returns-in_ok-cases-in-Variant c = rw c.in-Variant.is (variant-follows c.args.maps.now c.in-Variant.variant.now c.in_ok-cases-in-Variant.cases (rw c.deref-in-Variant.ensures.value at c.in_ok-cases-in-Variant.ensures))
+returns-in_ok-cases-in-Variant c = rw c.in-Variant.is (variant-follows c.args.maps.now c.in-Variant.variant.now c.in_ok-cases-in-Variant.cases
+    (rw c.deref-in-Variant.ensures.value at c.in_ok-cases-in-Variant.ensures))
 
 pub returns-in-Option : goal.returns-in-Option
 returns-in-Option c = rw c.in-Option.is (option-follows c.args.maps.now c.in-Option.ty _ c.value_in.ensures)

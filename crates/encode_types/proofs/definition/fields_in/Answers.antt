@@ -8,4 +8,5 @@ pub value_in-value-requires : goal.value_in-value-requires
 value_in-value-requires c = ready-of c.args.maps.now (λ (x : Field). x.ty) c.args.fields.now c.loop-field.field-index c.field-item.result c.requires c.loop-field-test.true c.field-item.is
 
 pub loop-field-preserved : goal.loop-field-preserved
-loop-field-preserved c = rw c.in_ok-push.ensures.items (zip-more (IsWrittenField c.args.maps.now) c.loop-field.all.items c.args.fields.now c.loop-field.field-index _ c.field-item.result c.loop-field-test.true c.field-item.is c.loop-field.invariant (c.as_str.ensures.value, c.value_in-value.ensures))
+loop-field-preserved c = rw c.in_ok-push.ensures.items (zip-more (IsWrittenField c.args.maps.now) c.loop-field.all.items c.args.fields.now c.loop-field.field-index _ c.field-item.result
+    c.loop-field-test.true c.field-item.is c.loop-field.invariant (c.as_str.ensures.value, c.value_in-value.ensures))

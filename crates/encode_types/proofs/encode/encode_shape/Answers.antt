@@ -25,22 +25,32 @@ pub define_parts-requires : goal.define_parts-requires
 define_parts-requires g c = λ _. ((refl, tt), (rw (c.deref.ensures.value, c.in_ok-parts.ensures) c.requires.encodable, c.requires.agree))
 
 pub define_shape-requires : goal.define_shape-requires
-define_shape-requires g c = λ _. ((refl, tt), ((rw (c.deref.ensures.value, c.in_ok-parts.ensures) at c.in_ok-define_parts.ensures.ready), (rw c.define_parts.ensures.leaves.scope_stays c.requires.formed, c.define_parts.ensures.leaves.agree)))
+define_shape-requires g c = λ _. (
+  (refl, tt),
+  (
+    (rw (c.deref.ensures.value, c.in_ok-parts.ensures) at c.in_ok-define_parts.ensures.ready),
+    (rw c.define_parts.ensures.leaves.scope_stays c.requires.formed, c.define_parts.ensures.leaves.agree),
+  ),
+)
 
-learnt : (g : Over) (c : In_ok-define_parts g) → LearnsFrom c.args.resolve.now (parts_of (kind_of c.args.shape)) (g.E.ValtypeEncoder.view c.args.enc.now) (g.E.ValtypeEncoder.view c.define_parts.new.enc)
+learnt : (g : Over) (c : In_ok-define_parts g)
+    → LearnsFrom c.args.resolve.now (parts_of (kind_of c.args.shape)) (g.E.ValtypeEncoder.view c.args.enc.now) (g.E.ValtypeEncoder.view c.define_parts.new.enc)
 learnt g c = rw (c.deref.ensures.value, c.in_ok-parts.ensures) at c.in_ok-define_parts.ensures.learns
 
 leaves : (g : Over) (c : After-branch-index g) → Leaves c.args.resolve.now (g.E.ValtypeEncoder.view c.args.enc.now) (g.E.ValtypeEncoder.view c.define_shape.new.enc)
-leaves g c = leaves-trans c.define_parts.ensures.leaves (leaves-kept {v = g.E.ValtypeEncoder.view c.define_parts.new.enc} {v' = g.E.ValtypeEncoder.view c.define_shape.new.enc} c.define_parts.ensures.leaves.agree c.define_shape.ensures.grows c.define_shape.ensures.scope_stays c.define_shape.ensures.maps_stay)
+leaves g c = leaves-trans c.define_parts.ensures.leaves (leaves-kept {v = g.E.ValtypeEncoder.view c.define_parts.new.enc} {v' = g.E.ValtypeEncoder.view c.define_shape.new.enc}
+    c.define_parts.ensures.leaves.agree c.define_shape.ensures.grows c.define_shape.ensures.scope_stays c.define_shape.ensures.maps_stay)
 
 made : (g : Over) (c : After-define_parts g) → MakesMet c.args.resolve.now (parts_of (kind_of c.args.shape)) (g.E.ValtypeEncoder.view c.args.enc.now) (g.E.ValtypeEncoder.view c.define_parts.new.enc)
 made g c = rw (c.deref.ensures.value, c.in_ok-parts.ensures) at c.define_parts.ensures.aliases
 
-imported : (g : Over) (c : After-define_parts g) → ImportsMet c.args.resolve.now (parts_of (kind_of c.args.shape)) (g.E.ValtypeEncoder.view c.args.enc.now) (g.E.ValtypeEncoder.view c.define_parts.new.enc)
+imported : (g : Over) (c : After-define_parts g)
+    → ImportsMet c.args.resolve.now (parts_of (kind_of c.args.shape)) (g.E.ValtypeEncoder.view c.args.enc.now) (g.E.ValtypeEncoder.view c.define_parts.new.enc)
 imported g c = rw (c.deref.ensures.value, c.in_ok-parts.ensures) at c.define_parts.ensures.imports
 
 -- what a refusal leaves
-refused : (r : Resolve) (kind : TypeDefKind) (v v' : View) (res : Result ComponentValType Error) → IsErr res → Leaves r v v' → MakesMet r (parts_of kind) v v' → ImportsMet r (parts_of kind) v v' → (res ≡ Err Size → KindLacksRoom r kind v v') → IfErr res IsMemoryOrSize → DefinesKind r kind v v' res
+refused : (r : Resolve) (kind : TypeDefKind) (v v' : View) (res : Result ComponentValType Error) → IsErr res → Leaves r v v' → MakesMet r (parts_of kind) v v' → ImportsMet r (parts_of kind) v v'
+    → (res ≡ Err Size → KindLacksRoom r kind v v') → IfErr res IsMemoryOrSize → DefinesKind r kind v v' res
 refused r kind v v' (Ok x) h l a i s f = absurd (let z : ⊥ = cc in z)
 refused r kind v v' (Err e) h l a i s f = record { ok = tt; learns = tt; leaves = l; aliases = a; imports = i; counts = tt; held = tt; size = s; refuses = f }
 
@@ -75,9 +85,11 @@ returns-in_err-parts g c =
 
 pub returns-in_err-define_parts : goal.returns-in_err-define_parts
 returns-in_err-define_parts g c =
-    refused c.args.resolve.now (kind_of c.args.shape) _ _ c.from_residual-in_err-define_parts.result (search rules) c.define_parts.ensures.leaves (made g (goal.at.returns-in_err-define_parts g c).After-define_parts) (imported g (goal.at.returns-in_err-define_parts g c).After-define_parts)
+    refused c.args.resolve.now (kind_of c.args.shape) _ _ c.from_residual-in_err-define_parts.result (search rules) c.define_parts.ensures.leaves
+    (made g (goal.at.returns-in_err-define_parts g c).After-define_parts) (imported g (goal.at.returns-in_err-define_parts g c).After-define_parts)
     (λ h.
-    let lacks : LacksRoom c.args.resolve.now (parts_of (kind_of c.args.shape)) [] (g.E.ValtypeEncoder.view c.args.enc.now) (g.E.ValtypeEncoder.view c.define_parts.new.enc) = (rw (c.deref.ensures.value, c.in_ok-parts.ensures) at (c.define_parts.ensures.size (search rules))) in
+    let lacks : LacksRoom c.args.resolve.now (parts_of (kind_of c.args.shape)) [] (g.E.ValtypeEncoder.view c.args.enc.now) (g.E.ValtypeEncoder.view c.define_parts.new.enc) =
+    (rw (c.deref.ensures.value, c.in_ok-parts.ensures) at (c.define_parts.ensures.size (search rules))) in
     room-more refl (λ n x. x) (λ q k. none-in q k) (omega arith) lacks)
     (search rules)
 
@@ -87,11 +99,13 @@ returns-in_err-index g c =
     let before = g.E.ValtypeEncoder.view c.args.enc.now in
     let between = g.E.ValtypeEncoder.view c.define_parts.new.enc in
     let after = g.E.ValtypeEncoder.view c.define_shape.new.enc in
-    refused c.args.resolve.now (kind_of c.args.shape) before after c.from_residual-in_err-index.result (search rules) (leaves g at.After-branch-index) (makes-same c.define_shape.ensures.around_stays (made g at.After-define_parts)) (imports-same c.define_shape.ensures.imports_stay (imported g at.After-define_parts))
+    refused c.args.resolve.now (kind_of c.args.shape) before after c.from_residual-in_err-index.result (search rules) (leaves g at.After-branch-index)
+    (makes-same c.define_shape.ensures.around_stays (made g at.After-define_parts)) (imports-same c.define_shape.ensures.imports_stay (imported g at.After-define_parts))
     (λ h.
     let keys : length between.maps.func_type_map.entries ≡ length before.maps.func_type_map.entries = ap length c.in_ok-define_parts.ensures.counts.keys.lists in
     let lacks = c.define_shape.ensures.size (search rules) in
     room-after (ap (λ (s : Scope). s.own_interface) c.define_parts.ensures.leaves.scope_stays) c.define_parts.ensures.leaves.maps_grow c.in_ok-define_parts.ensures.held
     (only-reached c.args.resolve.now before.scope.own_interface (parts_of (kind_of c.args.shape)) (learnt g at.In_ok-define_parts).only) (λ n x. x) (λ q k. k) (omega (arith, keys))
-    (lacks-request c.args.resolve.now between.scope.own_interface (parts_of (kind_of c.args.shape)) (value_type (kind_tree c.args.resolve.now (kind_of c.args.shape))) between.maps between.held after.held after.lacks_room lacks.held lacks.lacks))
+    (lacks-request c.args.resolve.now between.scope.own_interface (parts_of (kind_of c.args.shape)) (value_type (kind_tree c.args.resolve.now (kind_of c.args.shape))) between.maps between.held
+    after.held after.lacks_room lacks.held lacks.lacks))
     (search rules)

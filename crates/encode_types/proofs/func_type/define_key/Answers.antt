@@ -36,7 +36,8 @@ listed : (g : Over) (c : In_ok-index g) → IsKeyList (names_of (g.E.ValtypeEnco
 listed g c = list-same (g.E.ValtypeEncoder.view c.args.enc.now).maps (g.E.ValtypeEncoder.view c.function_of.new.enc).maps c.args.key c.args.list.0.items c.in_ok-def.ensures.counts.keys c.requires.list
 
 new-list : (g : Over) (c : In_ok-index g) → LacksList (lists_of (g.E.ValtypeEncoder.view c.function_of.new.enc).maps.func_type_map) c.args.list.0.items
-new-list g c i h = lacks-same (g.E.ValtypeEncoder.view c.args.enc.now).maps (g.E.ValtypeEncoder.view c.function_of.new.enc).maps c.args.key c.in_ok-def.ensures.counts.keys c.requires.lacks i (c.args.list.0.items, listed g c, h)
+new-list g c i h = lacks-same (g.E.ValtypeEncoder.view c.args.enc.now).maps (g.E.ValtypeEncoder.view c.function_of.new.enc).maps c.args.key c.in_ok-def.ensures.counts.keys c.requires.lacks i
+    (c.args.list.0.items, listed g c, h)
 
 pub remember_key-requires : goal.remember_key-requires
 remember_key-requires g c = λ _. (
@@ -45,11 +46,13 @@ remember_key-requires g c = λ _. (
     record {
       key = c.args.key;
       is = rw c.define_function_type.ensures.maps_stay (listed g (goal.at.remember_key-requires g c).In_ok-index);
-      stands = subst (λ (s : Signature). (g.E.ValtypeEncoder.view c.define_function_type.new.self).stands c.in_ok-index.index (function s)) (sym (key-signature c.args.resolve.now c.args.key c.args.func.now c.requires.is_key)) (stands g (goal.at.remember_key-requires g c).In_ok-index);
+      stands = subst (λ (s : Signature). (g.E.ValtypeEncoder.view c.define_function_type.new.self).stands c.in_ok-index.index (function s))
+          (sym (key-signature c.args.resolve.now c.args.key c.args.func.now c.requires.is_key)) (stands g (goal.at.remember_key-requires g c).In_ok-index);
     },
     (
       rw c.define_function_type.ensures.maps_stay (new-list g (goal.at.remember_key-requires g c).In_ok-index),
-      (leaves-kept {v = g.E.ValtypeEncoder.view c.function_of.new.enc} {v' = g.E.ValtypeEncoder.view c.define_function_type.new.self} c.function_of.ensures.leaves.agree c.define_function_type.ensures.grows c.define_function_type.ensures.scope_stays c.define_function_type.ensures.maps_stay).agree,
+      (leaves-kept {v = g.E.ValtypeEncoder.view c.function_of.new.enc} {v' = g.E.ValtypeEncoder.view c.define_function_type.new.self} c.function_of.ensures.leaves.agree
+          c.define_function_type.ensures.grows c.define_function_type.ensures.scope_stays c.define_function_type.ensures.maps_stay).agree,
     ),
   ),
 )
@@ -58,24 +61,35 @@ pub returns-clause-ok : goal.returns-clause-ok
 returns-clause-ok g c = c.remember_key.ensures.leaves.grows.kept c.in_ok-index.index _ (stands g (goal.at.returns-clause-ok g c).In_ok-index)
 
 pub returns-clause-leaves : goal.returns-clause-leaves
-returns-clause-leaves g c = leaves-trans c.function_of.ensures.leaves (leaves-trans (leaves-kept {v = g.E.ValtypeEncoder.view c.function_of.new.enc} {v' = g.E.ValtypeEncoder.view c.define_function_type.new.self} c.function_of.ensures.leaves.agree c.define_function_type.ensures.grows c.define_function_type.ensures.scope_stays c.define_function_type.ensures.maps_stay) c.remember_key.ensures.leaves)
+returns-clause-leaves g c = leaves-trans c.function_of.ensures.leaves (leaves-trans
+    (leaves-kept {v = g.E.ValtypeEncoder.view c.function_of.new.enc} {v' = g.E.ValtypeEncoder.view c.define_function_type.new.self} c.function_of.ensures.leaves.agree
+    c.define_function_type.ensures.grows c.define_function_type.ensures.scope_stays c.define_function_type.ensures.maps_stay) c.remember_key.ensures.leaves)
 
 pub returns-clause-counts : goal.returns-clause-counts
 returns-clause-counts g c =
-    counts-key c.args.resolve.now (g.E.ValtypeEncoder.view c.args.enc.now).scope (g.E.ValtypeEncoder.view c.args.enc.now).maps (g.E.ValtypeEncoder.view c.function_of.new.enc).maps (g.E.ValtypeEncoder.view c.remember_key.new.enc).maps (g.E.ValtypeEncoder.view c.args.enc.now).definitions (g.E.ValtypeEncoder.view c.function_of.new.enc).definitions (g.E.ValtypeEncoder.view c.remember_key.new.enc).definitions c.args.key c.args.list.0.items c.in_ok-index.index
+    counts-key c.args.resolve.now (g.E.ValtypeEncoder.view c.args.enc.now).scope (g.E.ValtypeEncoder.view c.args.enc.now).maps (g.E.ValtypeEncoder.view c.function_of.new.enc).maps
+    (g.E.ValtypeEncoder.view c.remember_key.new.enc).maps (g.E.ValtypeEncoder.view c.args.enc.now).definitions (g.E.ValtypeEncoder.view c.function_of.new.enc).definitions
+    (g.E.ValtypeEncoder.view c.remember_key.new.enc).definitions c.args.key c.args.list.0.items c.in_ok-index.index
     c.requires.lacks c.in_ok-def.ensures.counts (listed g (goal.at.returns-clause-counts g c).In_ok-index)
-    (subst (λ (z : TypeEncodingMaps). LearnsKeyList z (g.E.ValtypeEncoder.view c.remember_key.new.enc).maps c.args.list.0.items c.in_ok-index.index) c.define_function_type.ensures.maps_stay c.in_ok-remember_key.ensures.ok)
+    (subst (λ (z : TypeEncodingMaps). LearnsKeyList z (g.E.ValtypeEncoder.view c.remember_key.new.enc).maps c.args.list.0.items c.in_ok-index.index) c.define_function_type.ensures.maps_stay
+    c.in_ok-remember_key.ensures.ok)
     (c.remember_key.ensures.counts ∙ c.in_ok-index.ensures.counts)
 
 pub returns-clause-learns : goal.returns-clause-learns
-returns-clause-learns g c = met-key c.args.resolve.now (g.E.ValtypeEncoder.view c.args.enc.now).scope.own_interface (g.E.ValtypeEncoder.view c.args.enc.now).maps (g.E.ValtypeEncoder.view c.function_of.new.enc).maps _ (g.E.ValtypeEncoder.view c.remember_key.new.enc).maps
-    c.args.key c.args.list.0.items c.in_ok-index.index c.args.func.now c.requires.is_key c.in_ok-def.ensures.learns c.in_ok-def.ensures.knows c.define_function_type.ensures.maps_stay (listed g (goal.at.returns-clause-learns g c).In_ok-index) c.in_ok-remember_key.ensures.ok c.remember_key.ensures.leaves.maps_grow
+returns-clause-learns g c = met-key c.args.resolve.now (g.E.ValtypeEncoder.view c.args.enc.now).scope.own_interface (g.E.ValtypeEncoder.view c.args.enc.now).maps
+    (g.E.ValtypeEncoder.view c.function_of.new.enc).maps _ (g.E.ValtypeEncoder.view c.remember_key.new.enc).maps
+    c.args.key c.args.list.0.items c.in_ok-index.index c.args.func.now c.requires.is_key c.in_ok-def.ensures.learns c.in_ok-def.ensures.knows c.define_function_type.ensures.maps_stay
+    (listed g (goal.at.returns-clause-learns g c).In_ok-index) c.in_ok-remember_key.ensures.ok c.remember_key.ensures.leaves.maps_grow
 
 pub returns-in_err-index-clause-leaves : goal.returns-in_err-index-clause-leaves
-returns-in_err-index-clause-leaves g c = leaves-trans c.function_of.ensures.leaves (leaves-kept {v = g.E.ValtypeEncoder.view c.function_of.new.enc} {v' = g.E.ValtypeEncoder.view c.define_function_type.new.self} c.function_of.ensures.leaves.agree c.define_function_type.ensures.grows c.define_function_type.ensures.scope_stays c.define_function_type.ensures.maps_stay)
+returns-in_err-index-clause-leaves g c = leaves-trans c.function_of.ensures.leaves
+    (leaves-kept {v = g.E.ValtypeEncoder.view c.function_of.new.enc} {v' = g.E.ValtypeEncoder.view c.define_function_type.new.self} c.function_of.ensures.leaves.agree
+    c.define_function_type.ensures.grows c.define_function_type.ensures.scope_stays c.define_function_type.ensures.maps_stay)
 
 pub returns-in_err-remember_key-clause-leaves : goal.returns-in_err-remember_key-clause-leaves
-returns-in_err-remember_key-clause-leaves g c = leaves-trans c.function_of.ensures.leaves (leaves-trans (leaves-kept {v = g.E.ValtypeEncoder.view c.function_of.new.enc} {v' = g.E.ValtypeEncoder.view c.define_function_type.new.self} c.function_of.ensures.leaves.agree c.define_function_type.ensures.grows c.define_function_type.ensures.scope_stays c.define_function_type.ensures.maps_stay) c.remember_key.ensures.leaves)
+returns-in_err-remember_key-clause-leaves g c = leaves-trans c.function_of.ensures.leaves
+    (leaves-trans (leaves-kept {v = g.E.ValtypeEncoder.view c.function_of.new.enc} {v' = g.E.ValtypeEncoder.view c.define_function_type.new.self} c.function_of.ensures.leaves.agree
+    c.define_function_type.ensures.grows c.define_function_type.ensures.scope_stays c.define_function_type.ensures.maps_stay) c.remember_key.ensures.leaves)
 
 pub returns-clause-held : goal.returns-clause-held
 returns-clause-held g c =
@@ -85,7 +99,8 @@ returns-clause-held g c =
     let grow = subst (λ (z : TypeEncodingMaps). MapsGrow z (g.E.ValtypeEncoder.view c.remember_key.new.enc).maps) same c.remember_key.ensures.leaves.maps_grow in
     let first = c.define_function_type.ensures.held in
     let second = c.remember_key.ensures.held in
-    holds-key grow learns.rest.numbers (lists-longer (λ (v : ListKey). v.0.items) (g.E.ValtypeEncoder.view c.function_of.new.enc).maps.func_type_map.entries after.func_type_map.entries (c.args.list.0.items, c.in_ok-index.index) learns.more)
+    holds-key grow learns.rest.numbers (lists-longer (λ (v : ListKey). v.0.items) (g.E.ValtypeEncoder.view c.function_of.new.enc).maps.func_type_map.entries after.func_type_map.entries
+    (c.args.list.0.items, c.in_ok-index.index) learns.more)
     (omega (arith, first, second)) c.in_ok-def.ensures.held
 
 pub returns-in_err-def-clause-size : goal.returns-in_err-def-clause-size
@@ -105,15 +120,19 @@ returns-in_err-index-clause-size g c = λ h.
       new_key = key-new before.maps c.args.key c.args.func.now c.requires.is_key c.requires.lacks;
       room = room-after (ap (λ (s : Scope). s.own_interface) c.function_of.ensures.leaves.scope_stays) c.function_of.ensures.leaves.maps_grow c.in_ok-def.ensures.held
           (only-reached c.args.resolve.now before.scope.own_interface (function_types c.args.func.now) c.in_ok-def.ensures.learns.only) (λ n x. x) (λ q k. k) (omega (arith, keys))
-          (lacks-request c.args.resolve.now between.scope.own_interface (function_types c.args.func.now) (function_type (signature_of c.args.resolve.now c.args.func.now)) between.maps between.held after.held after.lacks_room lacks.held lacks.lacks);
+          (lacks-request c.args.resolve.now between.scope.own_interface (function_types c.args.func.now) (function_type (signature_of c.args.resolve.now c.args.func.now)) between.maps between.held
+          after.held after.lacks_room lacks.held lacks.lacks);
     }
 
 pub returns-clause-written : goal.returns-clause-written
 returns-clause-written g c =
     let one = (c.in_ok-index.ensures.written (signature_of c.args.resolve.now c.args.func.now) c.in_ok-def.ensures.ok).extent in
-    let all : (g.E.ValtypeEncoder.view c.remember_key.new.enc).extent ≤ (g.E.ValtypeEncoder.view c.function_of.new.enc).extent + signature_extent (signature_of c.args.resolve.now c.args.func.now) = (let e = c.remember_key.ensures.written in omega (arith, one, e)) in
-    let w : WritesLearnt c.args.resolve.now (0 + signature_extent (signature_of c.args.resolve.now c.args.func.now)) (g.E.ValtypeEncoder.view c.args.enc.now) (g.E.ValtypeEncoder.view c.remember_key.new.enc) =
-    writes-beside (signature_extent (signature_of c.args.resolve.now c.args.func.now)) c.in_ok-def.ensures.written all (c.in_ok-remember_key.ensures.ok.rest.numbers ∙ ap (λ (z : TypeEncodingMaps). z.id_to_index.entries) c.define_function_type.ensures.maps_stay) in
+    let all : (g.E.ValtypeEncoder.view c.remember_key.new.enc).extent ≤ (g.E.ValtypeEncoder.view c.function_of.new.enc).extent + signature_extent (signature_of c.args.resolve.now c.args.func.now) =
+    (let e = c.remember_key.ensures.written in omega (arith, one, e)) in
+    let w : WritesLearnt c.args.resolve.now (0 + signature_extent (signature_of c.args.resolve.now c.args.func.now)) (g.E.ValtypeEncoder.view c.args.enc.now)
+    (g.E.ValtypeEncoder.view c.remember_key.new.enc) =
+    writes-beside (signature_extent (signature_of c.args.resolve.now c.args.func.now)) c.in_ok-def.ensures.written all
+    (c.in_ok-remember_key.ensures.ok.rest.numbers ∙ ap (λ (z : TypeEncodingMaps). z.id_to_index.entries) c.define_function_type.ensures.maps_stay) in
     writes-most (omega arith) w
 
 pub returns-clause-aliases : goal.returns-clause-aliases

@@ -24,35 +24,46 @@ use Rattle.std.proofs.lemmas.Result.{IfOk-weaker as ok-map}
 
 -- ---- names may have been added
 
-held : (g : Over) (c : In_ok-list g) → HoldsFor c.args.resolve.now (g.E.ValtypeEncoder.view c.args.enc.now).scope.own_interface (g.E.ValtypeEncoder.view c.args.enc.now).maps (g.E.ValtypeEncoder.view c.list_of_key.new.enc).maps (g.E.ValtypeEncoder.view c.args.enc.now).held (g.E.ValtypeEncoder.view c.list_of_key.new.enc).held 0
+held : (g : Over) (c : In_ok-list g)
+    → HoldsFor c.args.resolve.now (g.E.ValtypeEncoder.view c.args.enc.now).scope.own_interface (g.E.ValtypeEncoder.view c.args.enc.now).maps (g.E.ValtypeEncoder.view c.list_of_key.new.enc).maps
+    (g.E.ValtypeEncoder.view c.args.enc.now).held (g.E.ValtypeEncoder.view c.list_of_key.new.enc).held 0
 held g c =
-    let few : length (g.E.ValtypeEncoder.view c.list_of_key.new.enc).maps.id_to_index.entries ≡ length (g.E.ValtypeEncoder.view c.args.enc.now).maps.id_to_index.entries = ap length c.list_of_key.ensures.names.rest.numbers in
+    let few : length (g.E.ValtypeEncoder.view c.list_of_key.new.enc).maps.id_to_index.entries ≡ length (g.E.ValtypeEncoder.view c.args.enc.now).maps.id_to_index.entries =
+    ap length c.list_of_key.ensures.names.rest.numbers in
     let same = c.list_of_key.ensures.held in
     holds-shared (omega (arith, few)) c.list_of_key.ensures.names.rest.keys (omega (arith, same))
 
 written : (g : Over) (c : In_ok-list g) → WritesLearnt c.args.resolve.now 0 (g.E.ValtypeEncoder.view c.args.enc.now) (g.E.ValtypeEncoder.view c.list_of_key.new.enc)
 written g c =
     let same = c.list_of_key.ensures.written in
-    let w : WritesLearnt c.args.resolve.now (0 + 0) (g.E.ValtypeEncoder.view c.args.enc.now) (g.E.ValtypeEncoder.view c.list_of_key.new.enc) = writes-beside 0 (writes-nothing c.args.resolve.now 0 (g.E.ValtypeEncoder.view c.args.enc.now)) (omega (arith, same)) c.list_of_key.ensures.names.rest.numbers in
+    let w : WritesLearnt c.args.resolve.now (0 + 0) (g.E.ValtypeEncoder.view c.args.enc.now) (g.E.ValtypeEncoder.view c.list_of_key.new.enc) =
+    writes-beside 0 (writes-nothing c.args.resolve.now 0 (g.E.ValtypeEncoder.view c.args.enc.now)) (omega (arith, same)) c.list_of_key.ensures.names.rest.numbers in
     writes-most (omega arith) w
 
 lacks : (g : Over) (c : In_default g) → LacksKey (g.E.ValtypeEncoder.view c.list_of_key.new.enc).maps c.key_of-key.result
-lacks g c = key-lacking (g.E.ValtypeEncoder.view c.list_of_key.new.enc).maps c.key_of-key.result c.in_ok-list.list.0.items c.list_of_key.ensures.leaves.agree.once c.in_ok-list.ensures.list (at-none c.index_of_key.result _ c.in_default.is c.index_of_key.ensures.none)
+lacks g c = key-lacking (g.E.ValtypeEncoder.view c.list_of_key.new.enc).maps c.key_of-key.result c.in_ok-list.list.0.items c.list_of_key.ensures.leaves.agree.once c.in_ok-list.ensures.list
+    (at-none c.index_of_key.result _ c.in_default.is c.index_of_key.ensures.none)
 
 -- ---- where the key is known
 
 pub returns-in-Some-clause-ok : goal.returns-in-Some-clause-ok
-returns-in-Some-clause-ok g c = rw c.index_of_key.ensures.same (key-stands c.args.resolve.now (g.E.ValtypeEncoder.view c.list_of_key.new.enc).maps (g.E.ValtypeEncoder.view c.list_of_key.new.enc).stands c.key_of-key.result c.args.func.now c.in-Some.index c.list_of_key.ensures.leaves.agree c.key_of-key.ensures (c.in_ok-list.list.0.items, c.in_ok-list.ensures.list, c.in-Some.ensures.some))
+returns-in-Some-clause-ok g c = rw c.index_of_key.ensures.same (key-stands c.args.resolve.now (g.E.ValtypeEncoder.view c.list_of_key.new.enc).maps
+    (g.E.ValtypeEncoder.view c.list_of_key.new.enc).stands c.key_of-key.result c.args.func.now c.in-Some.index c.list_of_key.ensures.leaves.agree c.key_of-key.ensures
+    (c.in_ok-list.list.0.items, c.in_ok-list.ensures.list, c.in-Some.ensures.some))
 
 pub returns-in-Some-clause-counts : goal.returns-in-Some-clause-counts
 returns-in-Some-clause-counts g c = (
   c.key_of-key.result,
   c.key_of-key.ensures,
-  rw c.index_of_key.ensures.same (counts-found c.args.resolve.now (g.E.ValtypeEncoder.view c.args.enc.now).scope (g.E.ValtypeEncoder.view c.args.enc.now).maps (g.E.ValtypeEncoder.view c.list_of_key.new.enc).maps (g.E.ValtypeEncoder.view c.args.enc.now).definitions (g.E.ValtypeEncoder.view c.list_of_key.new.enc).definitions c.key_of-key.result c.in_ok-list.list.0.items c.in-Some.index c.requires.agree.once c.list_of_key.ensures.names c.list_of_key.ensures.known c.in_ok-list.ensures.list c.in-Some.ensures.some c.list_of_key.ensures.counts),
+  rw c.index_of_key.ensures.same (counts-found c.args.resolve.now (g.E.ValtypeEncoder.view c.args.enc.now).scope (g.E.ValtypeEncoder.view c.args.enc.now).maps
+      (g.E.ValtypeEncoder.view c.list_of_key.new.enc).maps (g.E.ValtypeEncoder.view c.args.enc.now).definitions (g.E.ValtypeEncoder.view c.list_of_key.new.enc).definitions c.key_of-key.result
+      c.in_ok-list.list.0.items c.in-Some.index c.requires.agree.once c.list_of_key.ensures.names c.list_of_key.ensures.known c.in_ok-list.ensures.list c.in-Some.ensures.some
+      c.list_of_key.ensures.counts),
 )
 
 pub returns-in-Some-clause-learns : goal.returns-in-Some-clause-learns
-returns-in-Some-clause-learns g c = rw c.index_of_key.ensures.same (met-names c.args.resolve.now (g.E.ValtypeEncoder.view c.args.enc.now).scope.own_interface (function_types c.args.func.now) (g.E.ValtypeEncoder.view c.args.enc.now).maps (g.E.ValtypeEncoder.view c.list_of_key.new.enc).maps c.list_of_key.ensures.names)
+returns-in-Some-clause-learns g c = rw c.index_of_key.ensures.same (met-names c.args.resolve.now (g.E.ValtypeEncoder.view c.args.enc.now).scope.own_interface (function_types c.args.func.now)
+    (g.E.ValtypeEncoder.view c.args.enc.now).maps (g.E.ValtypeEncoder.view c.list_of_key.new.enc).maps c.list_of_key.ensures.names)
 
 pub returns-in-Some-clause-leaves : goal.returns-in-Some-clause-leaves
 returns-in-Some-clause-leaves g c = rw c.index_of_key.ensures.same c.list_of_key.ensures.leaves
@@ -79,7 +90,10 @@ define_key-requires g c = λ _. (
         c.in_ok-list.ensures.list,
         (
           lacks g (goal.at.define_key-requires g c).In_default,
-          (subst (λ (s : Scope). IsFormedSignature s (signature_of c.args.resolve.now c.args.func.now)) (sym c.list_of_key.ensures.leaves.scope_stays) c.requires.formed, c.list_of_key.ensures.leaves.agree),
+          (
+            subst (λ (s : Scope). IsFormedSignature s (signature_of c.args.resolve.now c.args.func.now)) (sym c.list_of_key.ensures.leaves.scope_stays) c.requires.formed,
+            c.list_of_key.ensures.leaves.agree,
+          ),
         ),
       ),
     ),
@@ -91,36 +105,48 @@ returns-clause-counts g c = ok-map c.define_key.result _ _
     (λ i h. (
       c.key_of-key.result,
       c.key_of-key.ensures,
-      counts-behind c.args.resolve.now (g.E.ValtypeEncoder.view c.args.enc.now).scope (g.E.ValtypeEncoder.view c.list_of_key.new.enc).scope (g.E.ValtypeEncoder.view c.args.enc.now).maps (g.E.ValtypeEncoder.view c.list_of_key.new.enc).maps (g.E.ValtypeEncoder.view c.define_key.new.enc).maps (g.E.ValtypeEncoder.view c.args.enc.now).definitions (g.E.ValtypeEncoder.view c.list_of_key.new.enc).definitions (g.E.ValtypeEncoder.view c.define_key.new.enc).definitions c.key_of-key.result i
+      counts-behind c.args.resolve.now (g.E.ValtypeEncoder.view c.args.enc.now).scope (g.E.ValtypeEncoder.view c.list_of_key.new.enc).scope (g.E.ValtypeEncoder.view c.args.enc.now).maps
+          (g.E.ValtypeEncoder.view c.list_of_key.new.enc).maps (g.E.ValtypeEncoder.view c.define_key.new.enc).maps (g.E.ValtypeEncoder.view c.args.enc.now).definitions
+          (g.E.ValtypeEncoder.view c.list_of_key.new.enc).definitions (g.E.ValtypeEncoder.view c.define_key.new.enc).definitions c.key_of-key.result i
           c.list_of_key.ensures.leaves.scope_stays c.list_of_key.ensures.names c.list_of_key.ensures.counts (lacks g (goal.at.returns-clause-counts g c).In_default) h,
     )) (rw c.index_of_key.ensures.same at c.define_key.ensures.counts)
 
 pub returns-clause-learns : goal.returns-clause-learns
 returns-clause-learns g c = on_ok c.define_key.result _ _
-    (λ h. met-both c.args.resolve.now (g.E.ValtypeEncoder.view c.args.enc.now).scope.own_interface (g.E.ValtypeEncoder.view c.list_of_key.new.enc).scope.own_interface (g.E.ValtypeEncoder.view c.args.enc.now).maps (g.E.ValtypeEncoder.view c.list_of_key.new.enc).maps (g.E.ValtypeEncoder.view c.define_key.new.enc).maps [] (function_types c.args.func.now) (ap (λ (s : Scope). s.own_interface) c.list_of_key.ensures.leaves.scope_stays)
-    (met-names c.args.resolve.now (g.E.ValtypeEncoder.view c.args.enc.now).scope.own_interface [] (g.E.ValtypeEncoder.view c.args.enc.now).maps (g.E.ValtypeEncoder.view c.list_of_key.new.enc).maps c.list_of_key.ensures.names) h) (rw c.index_of_key.ensures.same at c.define_key.ensures.learns)
+    (λ h. met-both c.args.resolve.now (g.E.ValtypeEncoder.view c.args.enc.now).scope.own_interface (g.E.ValtypeEncoder.view c.list_of_key.new.enc).scope.own_interface
+    (g.E.ValtypeEncoder.view c.args.enc.now).maps (g.E.ValtypeEncoder.view c.list_of_key.new.enc).maps (g.E.ValtypeEncoder.view c.define_key.new.enc).maps [] (function_types c.args.func.now)
+    (ap (λ (s : Scope). s.own_interface) c.list_of_key.ensures.leaves.scope_stays)
+    (met-names c.args.resolve.now (g.E.ValtypeEncoder.view c.args.enc.now).scope.own_interface [] (g.E.ValtypeEncoder.view c.args.enc.now).maps (g.E.ValtypeEncoder.view c.list_of_key.new.enc).maps
+    c.list_of_key.ensures.names) h) (rw c.index_of_key.ensures.same at c.define_key.ensures.learns)
 
 pub returns-clause-leaves : goal.returns-clause-leaves
 returns-clause-leaves g c = leaves-trans c.list_of_key.ensures.leaves (rw c.index_of_key.ensures.same at c.define_key.ensures.leaves)
 
 pub returns-clause-aliases : goal.returns-clause-aliases
-returns-clause-aliases g c = makes-then (ap (λ (s : Scope). s.own_interface) c.list_of_key.ensures.leaves.scope_stays) (met-none c.list_of_key.ensures.around_stays) (rw c.index_of_key.ensures.same at c.define_key.ensures.aliases)
+returns-clause-aliases g c = makes-then (ap (λ (s : Scope). s.own_interface) c.list_of_key.ensures.leaves.scope_stays) (met-none c.list_of_key.ensures.around_stays)
+    (rw c.index_of_key.ensures.same at c.define_key.ensures.aliases)
 
 pub returns-clause-held : goal.returns-clause-held
 returns-clause-held g c = on_ok c.define_key.result _ _
-    (λ h. holds-then (ap (λ (s : Scope). s.own_interface) c.list_of_key.ensures.leaves.scope_stays) c.list_of_key.ensures.leaves.maps_grow (rw c.index_of_key.ensures.same at c.define_key.ensures.leaves.maps_grow) (held g (goal.at.returns-clause-held g c).In_ok-list) h) (rw c.index_of_key.ensures.same at c.define_key.ensures.held)
+    (λ h. holds-then (ap (λ (s : Scope). s.own_interface) c.list_of_key.ensures.leaves.scope_stays) c.list_of_key.ensures.leaves.maps_grow
+    (rw c.index_of_key.ensures.same at c.define_key.ensures.leaves.maps_grow) (held g (goal.at.returns-clause-held g c).In_ok-list) h) (rw c.index_of_key.ensures.same at c.define_key.ensures.held)
 
 pub returns-clause-written : goal.returns-clause-written
 returns-clause-written g c = on_ok c.define_key.result _ _
-    (λ h. (let w : WritesLearnt c.args.resolve.now (0 + signature_extent (signature_of c.args.resolve.now c.args.func.now)) (g.E.ValtypeEncoder.view c.args.enc.now) (g.E.ValtypeEncoder.view c.define_key.new.enc) = writes-then c.list_of_key.ensures.leaves.scope_stays (written g (goal.at.returns-clause-written g c).In_ok-list) h in writes-most (omega arith) w)) (rw c.index_of_key.ensures.same at c.define_key.ensures.written)
+    (λ h. (let w : WritesLearnt c.args.resolve.now (0 + signature_extent (signature_of c.args.resolve.now c.args.func.now)) (g.E.ValtypeEncoder.view c.args.enc.now)
+    (g.E.ValtypeEncoder.view c.define_key.new.enc) = writes-then c.list_of_key.ensures.leaves.scope_stays (written g (goal.at.returns-clause-written g c).In_ok-list) h in
+    writes-most (omega arith) w)) (rw c.index_of_key.ensures.same at c.define_key.ensures.written)
 
 pub returns-clause-size : goal.returns-clause-size
 returns-clause-size g c = λ e.
     let q = (rw c.index_of_key.ensures.same at (c.define_key.ensures.size e)) in
-    let keys : length (g.E.ValtypeEncoder.view c.list_of_key.new.enc).maps.func_type_map.entries ≡ length (g.E.ValtypeEncoder.view c.args.enc.now).maps.func_type_map.entries = ap length c.list_of_key.ensures.names.rest.keys in
+    let keys : length (g.E.ValtypeEncoder.view c.list_of_key.new.enc).maps.func_type_map.entries ≡ length (g.E.ValtypeEncoder.view c.args.enc.now).maps.func_type_map.entries =
+    ap length c.list_of_key.ensures.names.rest.keys in
     record {
       new_key = λ k. q.new_key (knows-more (g.E.ValtypeEncoder.view c.args.enc.now).maps (g.E.ValtypeEncoder.view c.list_of_key.new.enc).maps c.args.func.now c.list_of_key.ensures.names k);
-      room = room-after (ap (λ (s : Scope). s.own_interface) c.list_of_key.ensures.leaves.scope_stays) c.list_of_key.ensures.leaves.maps_grow (held g (goal.at.returns-clause-size g c).In_ok-list) (learns-same (g.E.ValtypeEncoder.view c.args.enc.now).maps (g.E.ValtypeEncoder.view c.args.enc.now).maps (g.E.ValtypeEncoder.view c.list_of_key.new.enc).maps (learns-nothing _ (g.E.ValtypeEncoder.view c.args.enc.now).maps) c.list_of_key.ensures.names.rest.numbers) (λ n x. x) (λ q k. k) (omega (arith, keys)) q.room;
+      room = room-after (ap (λ (s : Scope). s.own_interface) c.list_of_key.ensures.leaves.scope_stays) c.list_of_key.ensures.leaves.maps_grow (held g (goal.at.returns-clause-size g c).In_ok-list)
+          (learns-same (g.E.ValtypeEncoder.view c.args.enc.now).maps (g.E.ValtypeEncoder.view c.args.enc.now).maps (g.E.ValtypeEncoder.view c.list_of_key.new.enc).maps
+          (learns-nothing _ (g.E.ValtypeEncoder.view c.args.enc.now).maps) c.list_of_key.ensures.names.rest.numbers) (λ n x. x) (λ q k. k) (omega (arith, keys)) q.room;
     }
 
 -- ---- where there is no memory for the list
@@ -137,7 +163,8 @@ pub returns-in-Some-clause-imports : goal.returns-in-Some-clause-imports
 returns-in-Some-clause-imports g c = rw c.index_of_key.ensures.same (imports-none c.list_of_key.ensures.imports_stay)
 
 pub returns-clause-imports : goal.returns-clause-imports
-returns-clause-imports g c = imports-then (ap (λ (s : Scope). s.own_interface) c.list_of_key.ensures.leaves.scope_stays) (imports-none c.list_of_key.ensures.imports_stay) (rw c.index_of_key.ensures.same at c.define_key.ensures.imports)
+returns-clause-imports g c = imports-then (ap (λ (s : Scope). s.own_interface) c.list_of_key.ensures.leaves.scope_stays) (imports-none c.list_of_key.ensures.imports_stay)
+    (rw c.index_of_key.ensures.same at c.define_key.ensures.imports)
 
 pub returns-in_err-list-clause-imports : goal.returns-in_err-list-clause-imports
 returns-in_err-list-clause-imports g c = imports-none c.list_of_key.ensures.imports_stay

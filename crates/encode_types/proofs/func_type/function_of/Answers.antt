@@ -13,13 +13,21 @@ use Rattle.encode_types.proofs.Aliasing.{met-more, makes-then, imports-more, imp
 use Rattle.base_lemmas.proofs.Elements.{zip-kept}
 
 pub encode_params-requires : goal.encode_params-requires
-encode_params-requires g c = λ _. ((refl, tt), (rw c.deref.ensures.value (encode-left c.args.resolve.now (g.E.ValtypeEncoder.view c.args.enc.now).scope (map (λ p. p.ty) c.args.func.now.params.items) (option_to_list c.args.func.now.result) c.requires.encodable), c.requires.agree))
+encode_params-requires g c = λ _. (
+  (refl, tt),
+  (
+    rw c.deref.ensures.value
+        (encode-left c.args.resolve.now (g.E.ValtypeEncoder.view c.args.enc.now).scope (map (λ p. p.ty) c.args.func.now.params.items) (option_to_list c.args.func.now.result) c.requires.encodable),
+    c.requires.agree,
+  ),
+)
 
 pub encode_optional_valtype-requires : goal.encode_optional_valtype-requires
 encode_optional_valtype-requires g c = λ _. (
   (refl, tt),
   (
-    rw c.as_ref.ensures.value (encode-right c.args.resolve.now (g.E.ValtypeEncoder.view c.args.enc.now).scope (g.E.ValtypeEncoder.view c.encode_params.new.enc).scope (map (λ p. p.ty) c.args.func.now.params.items) (option_to_list c.args.func.now.result) c.encode_params.ensures.leaves.scope_stays c.requires.encodable),
+    rw c.as_ref.ensures.value (encode-right c.args.resolve.now (g.E.ValtypeEncoder.view c.args.enc.now).scope (g.E.ValtypeEncoder.view c.encode_params.new.enc).scope
+        (map (λ p. p.ty) c.args.func.now.params.items) (option_to_list c.args.func.now.result) c.encode_params.ensures.leaves.scope_stays c.requires.encodable),
     c.encode_params.ensures.leaves.agree,
   ),
 )
@@ -27,7 +35,8 @@ encode_optional_valtype-requires g c = λ _. (
 pub returns-clause-ok : goal.returns-clause-ok
 returns-clause-ok g c = record {
   async = c.requires.asynchronous;
-  params = zip-kept (NamedStands (g.E.ValtypeEncoder.view c.encode_params.new.enc).stands) (NamedStands (g.E.ValtypeEncoder.view c.encode_optional_valtype.new.enc).stands) (λ x f w. (w.0, stands-more _ _ c.encode_optional_valtype.ensures.leaves.grows.kept x.1 f.1 w.1)) _ _ (rw c.deref.ensures.value at c.in_ok-params.ensures.ok);
+  params = zip-kept (NamedStands (g.E.ValtypeEncoder.view c.encode_params.new.enc).stands) (NamedStands (g.E.ValtypeEncoder.view c.encode_optional_valtype.new.enc).stands)
+      (λ x f w. (w.0, stands-more _ _ c.encode_optional_valtype.ensures.leaves.grows.kept x.1 f.1 w.1)) _ _ (rw c.deref.ensures.value at c.in_ok-params.ensures.ok);
   result_ = rw c.as_ref.ensures.value at c.in_ok-result.ensures.ok;
 }
 
@@ -39,12 +48,15 @@ returns-clause-counts g c = counts-trans c.encode_params.ensures.leaves.scope_st
 
 pub returns-clause-learns : goal.returns-clause-learns
 returns-clause-learns g c =
-    met-both c.args.resolve.now (g.E.ValtypeEncoder.view c.args.enc.now).scope.own_interface (g.E.ValtypeEncoder.view c.encode_params.new.enc).scope.own_interface (g.E.ValtypeEncoder.view c.args.enc.now).maps (g.E.ValtypeEncoder.view c.encode_params.new.enc).maps (g.E.ValtypeEncoder.view c.encode_optional_valtype.new.enc).maps
+    met-both c.args.resolve.now (g.E.ValtypeEncoder.view c.args.enc.now).scope.own_interface (g.E.ValtypeEncoder.view c.encode_params.new.enc).scope.own_interface
+    (g.E.ValtypeEncoder.view c.args.enc.now).maps (g.E.ValtypeEncoder.view c.encode_params.new.enc).maps (g.E.ValtypeEncoder.view c.encode_optional_valtype.new.enc).maps
     (map (λ p. p.ty) c.args.func.now.params.items) (option_to_list c.args.func.now.result)
-    (ap (λ (z : Scope). z.own_interface) c.encode_params.ensures.leaves.scope_stays) (rw c.deref.ensures.value at c.in_ok-params.ensures.learns) (rw c.as_ref.ensures.value at c.in_ok-result.ensures.learns)
+    (ap (λ (z : Scope). z.own_interface) c.encode_params.ensures.leaves.scope_stays) (rw c.deref.ensures.value at c.in_ok-params.ensures.learns)
+    (rw c.as_ref.ensures.value at c.in_ok-result.ensures.learns)
 
 pub returns-clause-knows : goal.returns-clause-knows
-returns-clause-knows g c = ready-both (g.E.ValtypeEncoder.view c.encode_params.new.enc).maps (g.E.ValtypeEncoder.view c.encode_optional_valtype.new.enc).maps (map (λ p. p.ty) c.args.func.now.params.items) (option_to_list c.args.func.now.result)
+returns-clause-knows g c = ready-both (g.E.ValtypeEncoder.view c.encode_params.new.enc).maps (g.E.ValtypeEncoder.view c.encode_optional_valtype.new.enc).maps
+    (map (λ p. p.ty) c.args.func.now.params.items) (option_to_list c.args.func.now.result)
     c.encode_optional_valtype.ensures.leaves.maps_grow (rw c.deref.ensures.value at c.in_ok-params.ensures.knows) (rw c.as_ref.ensures.value at c.in_ok-result.ensures.knows)
 
 pub returns-in_err-result-clause-leaves : goal.returns-in_err-result-clause-leaves
@@ -52,7 +64,8 @@ returns-in_err-result-clause-leaves g c = leaves-trans c.encode_params.ensures.l
 
 pub returns-in_err-params-clause-size : goal.returns-in_err-params-clause-size
 returns-in_err-params-clause-size g c = λ h.
-    let lacks : LacksRoom c.args.resolve.now (map (λ p. p.ty) c.args.func.now.params.items) [] (g.E.ValtypeEncoder.view c.args.enc.now) (g.E.ValtypeEncoder.view c.encode_params.new.enc) = (rw c.deref.ensures.value at (c.encode_params.ensures.size (search rules))) in
+    let lacks : LacksRoom c.args.resolve.now (map (λ p. p.ty) c.args.func.now.params.items) [] (g.E.ValtypeEncoder.view c.args.enc.now) (g.E.ValtypeEncoder.view c.encode_params.new.enc) =
+    (rw c.deref.ensures.value at (c.encode_params.ensures.size (search rules))) in
     room-more refl (reached-left (map (λ p. p.ty) c.args.func.now.params.items) (option_to_list c.args.func.now.result)) (λ q k. k) (omega arith) lacks
 
 pub returns-in_err-result-clause-size : goal.returns-in_err-result-clause-size
@@ -60,56 +73,70 @@ returns-in_err-result-clause-size g c = λ h.
     let between = g.E.ValtypeEncoder.view c.encode_params.new.enc in
     let params = map (λ p. p.ty) c.args.func.now.params.items in
     let answer = option_to_list c.args.func.now.result in
-    let learns : LearnsFrom c.args.resolve.now (map (λ p. p.ty) c.args.func.now.params.items) (g.E.ValtypeEncoder.view c.args.enc.now) (g.E.ValtypeEncoder.view c.encode_params.new.enc) = (rw c.deref.ensures.value at c.in_ok-params.ensures.learns) in
-    let lacks : LacksRoom c.args.resolve.now (option_to_list c.args.func.now.result) [] (g.E.ValtypeEncoder.view c.encode_params.new.enc) (g.E.ValtypeEncoder.view c.encode_optional_valtype.new.enc) = (rw c.as_ref.ensures.value at (c.encode_optional_valtype.ensures.size (search rules))) in
+    let learns : LearnsFrom c.args.resolve.now (map (λ p. p.ty) c.args.func.now.params.items) (g.E.ValtypeEncoder.view c.args.enc.now) (g.E.ValtypeEncoder.view c.encode_params.new.enc) =
+    (rw c.deref.ensures.value at c.in_ok-params.ensures.learns) in
+    let lacks : LacksRoom c.args.resolve.now (option_to_list c.args.func.now.result) [] (g.E.ValtypeEncoder.view c.encode_params.new.enc) (g.E.ValtypeEncoder.view c.encode_optional_valtype.new.enc) =
+    (rw c.as_ref.ensures.value at (c.encode_optional_valtype.ensures.size (search rules))) in
     let keys : length between.maps.func_type_map.entries ≡ length (g.E.ValtypeEncoder.view c.args.enc.now).maps.func_type_map.entries = ap length c.in_ok-params.ensures.counts.keys.lists in
-    room-after (ap (λ (z : Scope). z.own_interface) c.encode_params.ensures.leaves.scope_stays) c.encode_params.ensures.leaves.maps_grow c.in_ok-params.ensures.held (only-more (reached-left params answer) (only-reached c.args.resolve.now (g.E.ValtypeEncoder.view c.args.enc.now).scope.own_interface params learns.only))
+    room-after (ap (λ (z : Scope). z.own_interface) c.encode_params.ensures.leaves.scope_stays) c.encode_params.ensures.leaves.maps_grow c.in_ok-params.ensures.held
+    (only-more (reached-left params answer) (only-reached c.args.resolve.now (g.E.ValtypeEncoder.view c.args.enc.now).scope.own_interface params learns.only))
     (reached-right params answer) (λ q k. k) (omega (arith, keys)) lacks
 
 pub returns-clause-held : goal.returns-clause-held
-returns-clause-held g c = holds-then (ap (λ (z : Scope). z.own_interface) c.encode_params.ensures.leaves.scope_stays) c.encode_params.ensures.leaves.maps_grow c.encode_optional_valtype.ensures.leaves.maps_grow c.in_ok-params.ensures.held c.in_ok-result.ensures.held
+returns-clause-held g c = holds-then (ap (λ (z : Scope). z.own_interface) c.encode_params.ensures.leaves.scope_stays) c.encode_params.ensures.leaves.maps_grow
+    c.encode_optional_valtype.ensures.leaves.maps_grow c.in_ok-params.ensures.held c.in_ok-result.ensures.held
 
 pub returns-clause-written : goal.returns-clause-written
 returns-clause-written g c = writes-then c.encode_params.ensures.leaves.scope_stays c.in_ok-params.ensures.written c.in_ok-result.ensures.written
 
 pub returns-in_err-params-clause-aliases : goal.returns-in_err-params-clause-aliases
 returns-in_err-params-clause-aliases g c =
-    let first : MakesMet c.args.resolve.now (map (λ p. p.ty) c.args.func.now.params.items) (g.E.ValtypeEncoder.view c.args.enc.now) (g.E.ValtypeEncoder.view c.encode_params.new.enc) = (rw c.deref.ensures.value at c.encode_params.ensures.aliases) in
+    let first : MakesMet c.args.resolve.now (map (λ p. p.ty) c.args.func.now.params.items) (g.E.ValtypeEncoder.view c.args.enc.now) (g.E.ValtypeEncoder.view c.encode_params.new.enc) =
+    (rw c.deref.ensures.value at c.encode_params.ensures.aliases) in
     met-more (reached-left (map (λ p. p.ty) c.args.func.now.params.items) (option_to_list c.args.func.now.result)) first
 
 pub returns-clause-aliases : goal.returns-clause-aliases
 returns-clause-aliases g c =
     let params = map (λ p. p.ty) c.args.func.now.params.items in
     let answer = option_to_list c.args.func.now.result in
-    let first : MakesMet c.args.resolve.now (map (λ p. p.ty) c.args.func.now.params.items) (g.E.ValtypeEncoder.view c.args.enc.now) (g.E.ValtypeEncoder.view c.encode_params.new.enc) = (rw c.deref.ensures.value at c.encode_params.ensures.aliases) in
-    let second : MakesMet c.args.resolve.now (option_to_list c.args.func.now.result) (g.E.ValtypeEncoder.view c.encode_params.new.enc) (g.E.ValtypeEncoder.view c.encode_optional_valtype.new.enc) = (rw c.as_ref.ensures.value at c.encode_optional_valtype.ensures.aliases) in
+    let first : MakesMet c.args.resolve.now (map (λ p. p.ty) c.args.func.now.params.items) (g.E.ValtypeEncoder.view c.args.enc.now) (g.E.ValtypeEncoder.view c.encode_params.new.enc) =
+    (rw c.deref.ensures.value at c.encode_params.ensures.aliases) in
+    let second : MakesMet c.args.resolve.now (option_to_list c.args.func.now.result) (g.E.ValtypeEncoder.view c.encode_params.new.enc) (g.E.ValtypeEncoder.view c.encode_optional_valtype.new.enc) =
+    (rw c.as_ref.ensures.value at c.encode_optional_valtype.ensures.aliases) in
     makes-then (ap (λ (z : Scope). z.own_interface) c.encode_params.ensures.leaves.scope_stays) (met-more (reached-left params answer) first) (met-more (reached-right params answer) second)
 
 pub returns-in_err-result-clause-aliases : goal.returns-in_err-result-clause-aliases
 returns-in_err-result-clause-aliases g c =
     let params = map (λ p. p.ty) c.args.func.now.params.items in
     let answer = option_to_list c.args.func.now.result in
-    let first : MakesMet c.args.resolve.now (map (λ p. p.ty) c.args.func.now.params.items) (g.E.ValtypeEncoder.view c.args.enc.now) (g.E.ValtypeEncoder.view c.encode_params.new.enc) = (rw c.deref.ensures.value at c.encode_params.ensures.aliases) in
-    let second : MakesMet c.args.resolve.now (option_to_list c.args.func.now.result) (g.E.ValtypeEncoder.view c.encode_params.new.enc) (g.E.ValtypeEncoder.view c.encode_optional_valtype.new.enc) = (rw c.as_ref.ensures.value at c.encode_optional_valtype.ensures.aliases) in
+    let first : MakesMet c.args.resolve.now (map (λ p. p.ty) c.args.func.now.params.items) (g.E.ValtypeEncoder.view c.args.enc.now) (g.E.ValtypeEncoder.view c.encode_params.new.enc) =
+    (rw c.deref.ensures.value at c.encode_params.ensures.aliases) in
+    let second : MakesMet c.args.resolve.now (option_to_list c.args.func.now.result) (g.E.ValtypeEncoder.view c.encode_params.new.enc) (g.E.ValtypeEncoder.view c.encode_optional_valtype.new.enc) =
+    (rw c.as_ref.ensures.value at c.encode_optional_valtype.ensures.aliases) in
     makes-then (ap (λ (z : Scope). z.own_interface) c.encode_params.ensures.leaves.scope_stays) (met-more (reached-left params answer) first) (met-more (reached-right params answer) second)
 
 pub returns-in_err-params-clause-imports : goal.returns-in_err-params-clause-imports
 returns-in_err-params-clause-imports g c =
-    let first : ImportsMet c.args.resolve.now (map (λ p. p.ty) c.args.func.now.params.items) (g.E.ValtypeEncoder.view c.args.enc.now) (g.E.ValtypeEncoder.view c.encode_params.new.enc) = (rw c.deref.ensures.value at c.encode_params.ensures.imports) in
+    let first : ImportsMet c.args.resolve.now (map (λ p. p.ty) c.args.func.now.params.items) (g.E.ValtypeEncoder.view c.args.enc.now) (g.E.ValtypeEncoder.view c.encode_params.new.enc) =
+    (rw c.deref.ensures.value at c.encode_params.ensures.imports) in
     imports-more (reached-left (map (λ p. p.ty) c.args.func.now.params.items) (option_to_list c.args.func.now.result)) first
 
 pub returns-clause-imports : goal.returns-clause-imports
 returns-clause-imports g c =
     let params = map (λ p. p.ty) c.args.func.now.params.items in
     let answer = option_to_list c.args.func.now.result in
-    let first : ImportsMet c.args.resolve.now (map (λ p. p.ty) c.args.func.now.params.items) (g.E.ValtypeEncoder.view c.args.enc.now) (g.E.ValtypeEncoder.view c.encode_params.new.enc) = (rw c.deref.ensures.value at c.encode_params.ensures.imports) in
-    let second : ImportsMet c.args.resolve.now (option_to_list c.args.func.now.result) (g.E.ValtypeEncoder.view c.encode_params.new.enc) (g.E.ValtypeEncoder.view c.encode_optional_valtype.new.enc) = (rw c.as_ref.ensures.value at c.encode_optional_valtype.ensures.imports) in
+    let first : ImportsMet c.args.resolve.now (map (λ p. p.ty) c.args.func.now.params.items) (g.E.ValtypeEncoder.view c.args.enc.now) (g.E.ValtypeEncoder.view c.encode_params.new.enc) =
+    (rw c.deref.ensures.value at c.encode_params.ensures.imports) in
+    let second : ImportsMet c.args.resolve.now (option_to_list c.args.func.now.result) (g.E.ValtypeEncoder.view c.encode_params.new.enc) (g.E.ValtypeEncoder.view c.encode_optional_valtype.new.enc) =
+    (rw c.as_ref.ensures.value at c.encode_optional_valtype.ensures.imports) in
     imports-then (ap (λ (z : Scope). z.own_interface) c.encode_params.ensures.leaves.scope_stays) (imports-more (reached-left params answer) first) (imports-more (reached-right params answer) second)
 
 pub returns-in_err-result-clause-imports : goal.returns-in_err-result-clause-imports
 returns-in_err-result-clause-imports g c =
     let params = map (λ p. p.ty) c.args.func.now.params.items in
     let answer = option_to_list c.args.func.now.result in
-    let first : ImportsMet c.args.resolve.now (map (λ p. p.ty) c.args.func.now.params.items) (g.E.ValtypeEncoder.view c.args.enc.now) (g.E.ValtypeEncoder.view c.encode_params.new.enc) = (rw c.deref.ensures.value at c.encode_params.ensures.imports) in
-    let second : ImportsMet c.args.resolve.now (option_to_list c.args.func.now.result) (g.E.ValtypeEncoder.view c.encode_params.new.enc) (g.E.ValtypeEncoder.view c.encode_optional_valtype.new.enc) = (rw c.as_ref.ensures.value at c.encode_optional_valtype.ensures.imports) in
+    let first : ImportsMet c.args.resolve.now (map (λ p. p.ty) c.args.func.now.params.items) (g.E.ValtypeEncoder.view c.args.enc.now) (g.E.ValtypeEncoder.view c.encode_params.new.enc) =
+    (rw c.deref.ensures.value at c.encode_params.ensures.imports) in
+    let second : ImportsMet c.args.resolve.now (option_to_list c.args.func.now.result) (g.E.ValtypeEncoder.view c.encode_params.new.enc) (g.E.ValtypeEncoder.view c.encode_optional_valtype.new.enc) =
+    (rw c.as_ref.ensures.value at c.encode_optional_valtype.ensures.imports) in
     imports-then (ap (λ (z : Scope). z.own_interface) c.encode_params.ensures.leaves.scope_stays) (imports-more (reached-left params answer) first) (imports-more (reached-right params answer) second)

@@ -9,4 +9,5 @@ returns-clause-leaves g c =
     let after : (g.E.ValtypeEncoder.view (g.E.LendsMaps.with_maps c.args.enc.now c.remember_id.new.self)).maps ≡ c.remember_id.new.self = search rules in
     let rest : SameRest (g.E.ValtypeEncoder.view c.args.enc.now) (g.E.ValtypeEncoder.view (g.E.LendsMaps.with_maps c.args.enc.now c.remember_id.new.self)) = search rules in
     leaves-changed _ _ _ rest
-    (changes-number c.remember_id.result c.args.resolve.now c.type_encoding_maps.result.now _ c.remember_id.new.self _ _ _ c.args.index before after rest.kept c.requires.agree c.args.id c.requires.fresh c.remember_id.ensures.ok c.remember_id.ensures.err c.requires.stands)
+    (changes-number c.remember_id.result c.args.resolve.now c.type_encoding_maps.result.now _ c.remember_id.new.self _ _ _ c.args.index before after rest.kept c.requires.agree c.args.id
+    c.requires.fresh c.remember_id.ensures.ok c.remember_id.ensures.err c.requires.stands)

@@ -9,7 +9,8 @@ returns-clause-leaves g c =
     let after : (g.E.ValtypeEncoder.view (g.E.LendsMaps.with_maps c.args.enc.now c.remember_key.new.self)).maps ≡ c.remember_key.new.self = search rules in
     let rest : SameRest (g.E.ValtypeEncoder.view c.args.enc.now) (g.E.ValtypeEncoder.view (g.E.LendsMaps.with_maps c.args.enc.now c.remember_key.new.self)) = search rules in
     leaves-changed _ _ _ rest
-    (changes-key c.remember_key.result c.args.resolve.now c.type_encoding_maps.result.now _ c.remember_key.new.self _ _ _ c.args.index before after rest.kept c.requires.agree c.args.list.0.items c.requires.fresh c.remember_key.ensures.ok c.remember_key.ensures.err c.requires.stands)
+    (changes-key c.remember_key.result c.args.resolve.now c.type_encoding_maps.result.now _ c.remember_key.new.self _ _ _ c.args.index before after rest.kept c.requires.agree c.args.list.0.items
+    c.requires.fresh c.remember_key.ensures.ok c.remember_key.ensures.err c.requires.stands)
 
 pub remember_key-requires : goal.remember_key-requires
 remember_key-requires g c = let same : c.type_encoding_maps.result.now ≡ (g.E.ValtypeEncoder.view c.args.enc.now).maps = search rules in rw same c.requires.fresh

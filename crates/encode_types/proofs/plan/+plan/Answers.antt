@@ -30,7 +30,9 @@ returns-then-is_some-2 t c =
     let f : is_some (foreign_owner c.args.own c.index-def.result.now.owner) ≡ true = search rules in
     let lacks : is_some c.index_of.result ≡ false = search rules in
     let out : c.has.result ≡ false = search rules in
-    rw c.in-Id.is (planned-foreign c.args.resolve.now c.args.own c.args.maps.now c.args.order.now.numbers.items c.push.new.self c.in-Id.id c.index-def.result.now (λ k. not-known c.index_of.result lacks (c.index_of.ensures.none k)) c.in_ok-push.ensures.numbers c.in_ok-push.ensures.met c.requires.ordered at f c.requires.once (lacks-now _ _ _ c.has.ensures out))
+    rw c.in-Id.is (planned-foreign c.args.resolve.now c.args.own c.args.maps.now c.args.order.now.numbers.items c.push.new.self c.in-Id.id c.index-def.result.now
+    (λ k. not-known c.index_of.result lacks (c.index_of.ensures.none k)) c.in_ok-push.ensures.numbers c.in_ok-push.ensures.met c.requires.ordered at f c.requires.once
+    (lacks-now _ _ _ c.has.ensures out))
 
 only : (t : ℕ) (c : In-Some t) → parts_of c.index-def.result.now.kind ≡ c.in-Some.part ∷ []
 only t c = at-some c.only_part.result (λ t. parts_of c.index-def.result.now.kind ≡ t ∷ []) c.in-Some.part c.in-Some.is c.only_part.ensures
@@ -38,7 +40,8 @@ only t c = at-some c.only_part.result (λ t. parts_of c.index-def.result.now.kin
 pub plan-requires : goal.plan-requires
 plan-requires t c =
     let at : type_at c.args.resolve.now c.in-Id.id.0 ≡ Some c.index-def.result.now = slice_get_read _ _ _ _ refl (c.requires.in_range c.in-Id.id c.in-Id.is) c.index-def.ensures in
-    let here : Contains (parts_of c.index-def.result.now.kind) c.in-Some.part = subst (λ (xs : List ValueType). Contains xs c.in-Some.part) (sym (only t (goal.at.plan-requires t c).In-Some)) (contains-one c.in-Some.part) in
+    let here : Contains (parts_of c.index-def.result.now.kind) c.in-Some.part =
+    subst (λ (xs : List ValueType). Contains xs c.in-Some.part) (sym (only t (goal.at.plan-requires t c).In-Some)) (contains-one c.in-Some.part) in
     let below : (id : TypeId) → c.in-Some.part ≡ ty.Id id → id.0 < c.in-Id.id.0 =
     (λ id q. part-smaller c.args.resolve.now c.requires.layered c.in-Id.id.0 c.index-def.result.now id at (subst (λ (x : ValueType). Contains (parts_of c.index-def.result.now.kind) x) q here)) in
     let fall : rank c.in-Some.part < c.in-Id.id.0 + 1 = rank_below c.in-Id.id.0 _ below in
@@ -52,7 +55,8 @@ returns-in-Some t c =
     let f : is_some (foreign_owner c.args.own c.index-def.result.now.owner) ≡ false = search rules in
     let lacks : is_some c.index_of.result ≡ false = search rules in
     let out : c.has.result ≡ false = search rules in
-    rw c.in-Id.is (planned-own c.args.resolve.now c.args.own c.args.maps.now c.args.order.now.numbers.items c.plan.new.order c.push-in-Some.new.self c.in-Id.id c.index-def.result.now (c.in-Some.part ∷ []) 1 (λ k. not-known c.index_of.result lacks (c.index_of.ensures.none k)) c.in_ok-push-2.ensures.numbers c.in_ok-push-2.ensures.met at f
+    rw c.in-Id.is (planned-own c.args.resolve.now c.args.own c.args.maps.now c.args.order.now.numbers.items c.plan.new.order c.push-in-Some.new.self c.in-Id.id c.index-def.result.now
+    (c.in-Some.part ∷ []) 1 (λ k. not-known c.index_of.result lacks (c.index_of.ensures.none k)) c.in_ok-push-2.ensures.numbers c.in_ok-push-2.ensures.met at f
     (sym (only t (goal.at.returns-in-Some t c).In-Some)) (omega arith) c.requires.layered (lacks-now _ _ _ c.has.ensures out) c.in_ok-plan.ensures)
 
 pub plan-requires-in-loop-part : goal.plan-requires-in-loop-part
@@ -65,11 +69,20 @@ plan-requires-in-loop-part t c =
     (λ id q. part-smaller c.args.resolve.now c.requires.layered c.in-Id.id.0 c.index-def.result.now id at (subst (λ (x : ValueType). Contains (parts_of c.index-def.result.now.kind) x) q here)) in
     let fall : rank (get_or c.deref-part-items.result.now c.loop-part.part-index ty.Bool) < c.in-Id.id.0 + 1 = rank_below c.in-Id.id.0 _ below in
     let inside : c.in-Id.id.0 < length c.args.resolve.now.types.items = c.requires.in_range c.in-Id.id c.in-Id.is in
-    let m : rank c.args.ty.now ≡ t = c.decreases in
-    (rw (← m, c.in-Id.is) fall, (c.requires.layered, ((λ id q. let l : id.0 < c.in-Id.id.0 = below id q in omega arith), (c.loop-part.invariant.ordered, (c.loop-part.invariant.met, c.loop-part.invariant.once)))))
+    let m : rank c.args.ty.now ≡ t = c.decreases in (
+      rw (← m, c.in-Id.is) fall,
+      (
+        c.requires.layered,
+        (
+          (λ id q. let l : id.0 < c.in-Id.id.0 = below id q in omega arith),
+          (c.loop-part.invariant.ordered, (c.loop-part.invariant.met, c.loop-part.invariant.once)),
+        ),
+      ),
+    )
 
 pub loop-part-preserved : goal.loop-part-preserved
-loop-part-preserved t c = planned-step c.args.resolve.now c.args.own c.args.maps.now c.args.order.now.numbers.items c.deref-part-items.result.now c.loop-part.part-index c.loop-part.order c.plan-in-loop-part.new.order ty.Bool c.loop-part-test.true c.loop-part.invariant c.in_ok-plan-2.ensures
+loop-part-preserved t c = planned-step c.args.resolve.now c.args.own c.args.maps.now c.args.order.now.numbers.items c.deref-part-items.result.now c.loop-part.part-index c.loop-part.order
+    c.plan-in-loop-part.new.order ty.Bool c.loop-part-test.true c.loop-part.invariant c.in_ok-plan-2.ensures
 
 pub returns : goal.returns
 returns t c =
@@ -78,4 +91,6 @@ returns t c =
     let lacks : is_some c.index_of.result ≡ false = search rules in
     let out : c.has.result ≡ false = search rules in
     let e = c.deref-part-items.ensures.value ∙ c.in_ok-parts.ensures in
-    rw c.in-Id.is (planned-own c.args.resolve.now c.args.own c.args.maps.now c.args.order.now.numbers.items c.loop-part.order c.push-2.new.self c.in-Id.id c.index-def.result.now _ _ (λ k. not-known c.index_of.result lacks (c.index_of.ensures.none k)) c.in_ok-push-3.ensures.numbers c.in_ok-push-3.ensures.met at f e c.loop-part-test.false c.requires.layered (lacks-now _ _ _ c.has.ensures out) c.loop-part.invariant)
+    rw c.in-Id.is (planned-own c.args.resolve.now c.args.own c.args.maps.now c.args.order.now.numbers.items c.loop-part.order c.push-2.new.self c.in-Id.id c.index-def.result.now _ _
+    (λ k. not-known c.index_of.result lacks (c.index_of.ensures.none k)) c.in_ok-push-3.ensures.numbers c.in_ok-push-3.ensures.met at f e c.loop-part-test.false c.requires.layered
+    (lacks-now _ _ _ c.has.ensures out) c.loop-part.invariant)

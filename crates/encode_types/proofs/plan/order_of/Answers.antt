@@ -11,7 +11,9 @@ pub plan-requires-clause-in_range : goal.plan-requires-clause-in_range
 plan-requires-clause-in_range c = c.requires.in_range _ (Contains-get_or _ _ ty.Bool c.loop-ty-test.true)
 
 pub loop-ty-preserved : goal.loop-ty-preserved
-loop-ty-preserved c = planned-step c.args.resolve.now c.args.own c.args.maps.now [] c.args.types.now c.loop-ty.ty-index c.loop-ty.order c.plan.new.order ty.Bool c.loop-ty-test.true c.loop-ty.invariant c.in_ok-plan.ensures
+loop-ty-preserved c = planned-step c.args.resolve.now c.args.own c.args.maps.now [] c.args.types.now c.loop-ty.ty-index c.loop-ty.order c.plan.new.order ty.Bool c.loop-ty-test.true c.loop-ty.invariant
+    c.in_ok-plan.ensures
 
 pub returns : goal.returns
-returns c = order-done c.args.resolve.now c.args.own c.args.maps.now [] c.loop-ty.order.numbers.items c.loop-ty.order c.args.types.now c.loop-ty.ty-index refl refl c.loop-ty-test.false c.loop-ty.invariant
+returns c = order-done c.args.resolve.now c.args.own c.args.maps.now [] c.loop-ty.order.numbers.items c.loop-ty.order c.args.types.now c.loop-ty.ty-index refl refl c.loop-ty-test.false
+    c.loop-ty.invariant

@@ -24,7 +24,8 @@ returns-clause-imports c =
       encoded = outside after;
       encodes = c.in_ok-slot.ensures.ok found.0 found.1;
       imports = λ j. record {
-        declared = (c.in_ok-import.ensures.ok ∙ ap (λ n. append after.outer (Declarations.declares (Declaration.imported n (refs.Instance c.in_ok-slot.slot)) Declarations.no_more)) c.in_ok-name.ensures.ok) j;
+        declared = (c.in_ok-import.ensures.ok ∙ ap (λ n. append after.outer (Declarations.declares (Declaration.imported n (refs.Instance c.in_ok-slot.slot)) Declarations.no_more))
+            c.in_ok-name.ensures.ok) j;
         instances = c.in_ok-insert.ensures.entries j;
         known = after.foreign.known.entries;
       };
@@ -43,9 +44,11 @@ returns-in_err-import-clause-size c = λ h.
     let r = c.args.encoder.now.resolve.now in
     let found = found-in r.interfaces.items c.args.interface.0 (lt-ltb c.args.interface.0 (length r.interfaces.items) c.requires.in_range) in
     let encodes = c.in_ok-slot.ensures.ok found.0 found.1 in
-    import-lacks r c.args.canonical_names (outside c.args.encoder.now) (outside c.encode_dependency.new.self) c.args.interface found.0 [] c.in_ok-slot.slot found.1 encodes.part _ c.in_ok-name.ensures.ok refused
+    import-lacks r c.args.canonical_names (outside c.args.encoder.now) (outside c.encode_dependency.new.self) c.args.interface found.0 [] c.in_ok-slot.slot found.1 encodes.part _
+    c.in_ok-name.ensures.ok refused
 
 pub returns-clause-written : goal.returns-clause-written
 returns-clause-written c =
-    adds-described (types_instance_weight c.args.encoder.now.resolve.now c.args.interface.0) c.args.encoder.now.outer c.encode_dependency.new.self.outer c.import.new.self _ _ (name_of_interface c.args.encoder.now.resolve.now c.args.canonical_names c.args.interface.0) c.in_ok-slot.ensures.written c.in_ok-import.ensures.ok
+    adds-described (types_instance_weight c.args.encoder.now.resolve.now c.args.interface.0) c.args.encoder.now.outer c.encode_dependency.new.self.outer c.import.new.self _ _
+    (name_of_interface c.args.encoder.now.resolve.now c.args.canonical_names c.args.interface.0) c.in_ok-slot.ensures.written c.in_ok-import.ensures.ok
     (bytes-few.imports _ (refs.Instance c.in_ok-slot.slot)) c.in_ok-name.ensures.ok

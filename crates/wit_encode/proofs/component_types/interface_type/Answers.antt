@@ -40,7 +40,8 @@ returns-in_err-refuse_equal_paths-clause-refuses c =
 pub import_dependencies-requires-clause-nothing : goal.import_dependencies-requires-clause-nothing
 import_dependencies-requires-clause-nothing c =
     let new = c.new-encoder in
-    subst (λ (z : Around). HasImported new.result.resolve.now z []) (λ j. record { declared = sym new.ensures.outer j; instances = sym new.ensures.instances j; known = sym new.ensures.known j }) (nothing_is_imported new.result.resolve.now)
+    subst (λ (z : Around). HasImported new.result.resolve.now z []) (λ j. record { declared = sym new.ensures.outer j; instances = sym new.ensures.instances j; known = sym new.ensures.known j })
+    (nothing_is_imported new.result.resolve.now)
 
 pub import_dependencies-requires-clause-importable : goal.import_dependencies-requires-clause-importable
 import_dependencies-requires-clause-importable c =
@@ -51,19 +52,22 @@ import_dependencies-requires-clause-importable c =
 pub import_dependencies-requires-clause-few : goal.import_dependencies-requires-clause-few
 import_dependencies-requires-clause-few c =
     let ns = map (λ (id : InterfaceId). id.0) c.in_ok-reached.reached.items in
-    let few : length ns ≤ 4294967295 = few-importable c.args.resolve.now c.requires.valid ns (reached-importable c.args.resolve.now c.requires.valid c.args.interface.0 ns c.in_ok-reached.ensures.reached) in
+    let few : length ns ≤ 4294967295 = few-importable c.args.resolve.now c.requires.valid ns
+    (reached-importable c.args.resolve.now c.requires.valid c.args.interface.0 ns c.in_ok-reached.ensures.reached) in
     let same : length ns ≡ length c.in_ok-reached.reached.items = length-map c.in_ok-reached.reached.items (λ (id : InterfaceId). id.0) in
     let value : length c.deref-2.result.now ≡ length c.in_ok-reached.reached.items = ap length c.deref-2.ensures.value in
     omega (arith, few, same, value)
 
 pub encode_instance-requires-clause-in_range : goal.encode_instance-requires-clause-in_range
 encode_instance-requires-clause-in_range c =
-    subst (λ (q : Resolve). c.args.interface.0 < length q.interfaces.items) (sym (c.import_dependencies.ensures.resolve ∙ c.new-encoder.ensures.resolve)) (path-in-range c.args.resolve.now c.args.interface.0 c.requires.named)
+    subst (λ (q : Resolve). c.args.interface.0 < length q.interfaces.items) (sym (c.import_dependencies.ensures.resolve ∙ c.new-encoder.ensures.resolve))
+    (path-in-range c.args.resolve.now c.args.interface.0 c.requires.named)
 
 pub encode_instance-requires-clause-around : goal.encode_instance-requires-clause-around
 encode_instance-requires-clause-around c =
     let after = c.import_dependencies.new.encoder in
-    let imported = moved c.args.resolve.now c.new-encoder.result.resolve.now c.in_ok-reached.reached.items c.deref-2.result.now (outside after) c.new-encoder.ensures.resolve c.deref-2.ensures.value c.in_ok-import_dependencies.ensures.imported in
+    let imported = moved c.args.resolve.now c.new-encoder.result.resolve.now c.in_ok-reached.reached.items c.deref-2.result.now (outside after) c.new-encoder.ensures.resolve c.deref-2.ensures.value
+    c.in_ok-import_dependencies.ensures.imported in
     subst (λ (q : Resolve). UsedStand q (standing_instances q (outside after)) c.args.interface.0) (sym (c.import_dependencies.ensures.resolve ∙ c.new-encoder.ensures.resolve))
     (imports_stand c.args.resolve.now (outside after) (map (λ (id : InterfaceId). id.0) c.in_ok-reached.reached.items) c.args.interface.0 c.requires.valid imported
     (reached-used c.args.resolve.now c.args.interface.0 (map (λ (id : InterfaceId). id.0) c.in_ok-reached.reached.items) c.in_ok-reached.ensures.reached))
@@ -75,11 +79,14 @@ returns-clause-shows c = λ path is.
     let after = c.encode_instance.new.self in
     let same = c.import_dependencies.ensures.resolve ∙ c.new-encoder.ensures.resolve in
     let found = found-in r.interfaces.items c.args.interface.0 (lt-ltb c.args.interface.0 (length r.interfaces.items) (path-in-range r c.args.interface.0 c.requires.named)) in
-    let imported = moved r c.new-encoder.result.resolve.now c.in_ok-reached.reached.items c.deref-2.result.now (outside before) c.new-encoder.ensures.resolve c.deref-2.ensures.value c.in_ok-import_dependencies.ensures.imported in
-    let encodes = subst (λ (q : Resolve). EncodesInterface q (outside before) (outside after) c.args.interface found.0 c.in_ok-slot.slot) same (c.in_ok-slot.ensures.ok found.0 (ap (λ (q : Resolve). interface_at q c.args.interface.0) same ∙ found.1)) in
+    let imported = moved r c.new-encoder.result.resolve.now c.in_ok-reached.reached.items c.deref-2.result.now (outside before) c.new-encoder.ensures.resolve c.deref-2.ensures.value
+    c.in_ok-import_dependencies.ensures.imported in
+    let encodes = subst (λ (q : Resolve). EncodesInterface q (outside before) (outside after) c.args.interface found.0 c.in_ok-slot.slot) same
+    (c.in_ok-slot.ensures.ok found.0 (ap (λ (q : Resolve). interface_at q c.args.interface.0) same ∙ found.1)) in
     subst (ShowsComponent r c.args.interface.0 path)
     (sym (c.in_ok-export.ensures.ok ∙ ap (λ n. append after.outer (Declarations.declares (Declaration.exported n (refs.Instance c.in_ok-slot.slot)) Declarations.no_more)) c.in_ok-name.ensures.ok))
-    (exports_end r c.args.canonical_names (outside before) (outside after) (map (λ (id : InterfaceId). id.0) c.in_ok-reached.reached.items) c.args.interface found.0 path c.in_ok-slot.slot c.requires.valid is imported c.in_ok-reached.ensures.reached encodes)
+    (exports_end r c.args.canonical_names (outside before) (outside after) (map (λ (id : InterfaceId). id.0) c.in_ok-reached.reached.items) c.args.interface found.0 path c.in_ok-slot.slot
+    c.requires.valid is imported c.in_ok-reached.ensures.reached encodes)
 
 pub returns-clause-once : goal.returns-clause-once
 returns-clause-once c =
@@ -89,7 +96,8 @@ returns-clause-once c =
     let after = c.encode_instance.new.self in
     let same = c.import_dependencies.ensures.resolve ∙ c.new-encoder.ensures.resolve in
     let found = found-in r.interfaces.items c.args.interface.0 (lt-ltb c.args.interface.0 (length r.interfaces.items) (path-in-range r c.args.interface.0 c.requires.named)) in
-    let encodes = subst (λ (q : Resolve). EncodesInterface q (outside before) (outside after) c.args.interface found.0 c.in_ok-slot.slot) same (c.in_ok-slot.ensures.ok found.0 (ap (λ (q : Resolve). interface_at q c.args.interface.0) same ∙ found.1)) in
+    let encodes = subst (λ (q : Resolve). EncodesInterface q (outside before) (outside after) c.args.interface found.0 c.in_ok-slot.slot) same
+    (c.in_ok-slot.ensures.ok found.0 (ap (λ (q : Resolve). interface_at q c.args.interface.0) same ∙ found.1)) in
     let defined = subst (λ (q : Resolve). DefinesImports q before.outer (map (λ (id : InterfaceId). id.0) c.deref-2.result.now)) c.new-encoder.ensures.resolve
     (c.in_ok-import_dependencies.ensures.once (nothing-defined q c.new-encoder.result.outer c.new-encoder.ensures.outer)) in
     export-defines r c.args.canonical_names (outside before) (outside after) c.args.interface found.0 c.in_ok-slot.slot c.export.new.self encodes
@@ -100,7 +108,8 @@ returns-clause-once c =
     (c.in_ok-import_dependencies.ensures.aliases (nothing-aliased q (IsMetAmong q []) (outside c.new-encoder.result) c.new-encoder.ensures.outer)))
 
 pub returns-in_err-refuse_equal_paths-clause-size : goal.returns-in_err-refuse_equal_paths-clause-size
-returns-in_err-refuse_equal_paths-clause-size c = λ refused. paths-fit c.args.resolve.now (map (λ (id : InterfaceId). id.0) c.deref.result.now) c.args.canonical_names c.in_err-refuse_equal_paths.field-0.0
+returns-in_err-refuse_equal_paths-clause-size c = λ refused. paths-fit c.args.resolve.now (map (λ (id : InterfaceId). id.0) c.deref.result.now) c.args.canonical_names
+    c.in_err-refuse_equal_paths.field-0.0
     c.from_residual-in_err-refuse_equal_paths.result c.in_err-refuse_equal_paths.ensures.refuses c.from_residual-in_err-refuse_equal_paths.ensures.1 refused
 
 pub returns-in_err-import_dependencies-clause-size : goal.returns-in_err-import_dependencies-clause-size
@@ -143,7 +152,8 @@ returns-in_err-export-clause-size c = λ h.
     let imported = moved r q c.in_ok-reached.reached.items c.deref-2.result.now (outside before) c.new-encoder.ensures.resolve c.deref-2.ensures.value c.in_ok-import_dependencies.ensures.imported in
     let held = moved-held r q c.in_ok-reached.reached.items c.deref-2.result.now (outside before) c.new-encoder.ensures.resolve c.deref-2.ensures.value
     (c.in_ok-import_dependencies.ensures.held (nothing-held q (outside c.new-encoder.result) c.new-encoder.ensures.outer)) in
-    let encodes = subst (λ (q : Resolve). EncodesInterface q (outside before) (outside after) c.args.interface found.0 c.in_ok-slot.slot) same (c.in_ok-slot.ensures.ok found.0 (ap (λ (q : Resolve). interface_at q c.args.interface.0) same ∙ found.1)) in
+    let encodes = subst (λ (q : Resolve). EncodesInterface q (outside before) (outside after) c.args.interface found.0 c.in_ok-slot.slot) same
+    (c.in_ok-slot.ensures.ok found.0 (ap (λ (q : Resolve). interface_at q c.args.interface.0) same ∙ found.1)) in
     lacking-components-heavy r c.args.interface ns c.requires.valid c.requires.named c.in_ok-reached.ensures.reached
     (export-lacks r ns (outside before) imported held c.args.interface found.0 c.args.canonical_names (outside after) c.in_ok-slot.slot encodes _ c.in_ok-name.ensures.ok refused)
 
@@ -154,11 +164,14 @@ returns-clause-light c =
     let before = c.import_dependencies.new.encoder in
     let after = c.encode_instance.new.self in
     let ns = map (λ (id : InterfaceId). id.0) c.in_ok-reached.reached.items in
-    let imports = subst (λ (xs : List InterfaceId). AddsBytes (imports_extent q c.args.canonical_names (map (λ (id : InterfaceId). id.0) xs)) c.new-encoder.result.outer before.outer) c.deref-2.ensures.value c.in_ok-import_dependencies.ensures.written in
-    component-few r before.resolve.now c.requires.valid c.args.interface ns c.args.canonical_names (c.import_dependencies.ensures.resolve ∙ c.new-encoder.ensures.resolve) c.requires.named c.in_ok-reached.ensures.reached c.new-encoder.result.outer before.outer c.export.new.self
+    let imports = subst (λ (xs : List InterfaceId). AddsBytes (imports_extent q c.args.canonical_names (map (λ (id : InterfaceId). id.0) xs)) c.new-encoder.result.outer before.outer)
+    c.deref-2.ensures.value c.in_ok-import_dependencies.ensures.written in
+    component-few r before.resolve.now c.requires.valid c.args.interface ns c.args.canonical_names (c.import_dependencies.ensures.resolve ∙ c.new-encoder.ensures.resolve) c.requires.named
+    c.in_ok-reached.ensures.reached c.new-encoder.result.outer before.outer c.export.new.self
     c.new-encoder.ensures.outer
     (subst (λ (z : Resolve). AddsBytes (imports_extent z c.args.canonical_names ns) c.new-encoder.result.outer before.outer) (sym c.import_dependencies.ensures.resolve) imports)
-    (adds-described (whole_instance_weight before.resolve.now c.args.interface.0) before.outer after.outer c.export.new.self _ _ (name_of_interface r c.args.canonical_names c.args.interface.0) c.in_ok-slot.ensures.written c.in_ok-export.ensures.ok (bytes-few.exports _ (refs.Instance c.in_ok-slot.slot)) c.in_ok-name.ensures.ok)
+    (adds-described (whole_instance_weight before.resolve.now c.args.interface.0) before.outer after.outer c.export.new.self _ _ (name_of_interface r c.args.canonical_names c.args.interface.0)
+    c.in_ok-slot.ensures.written c.in_ok-export.ensures.ok (bytes-few.exports _ (refs.Instance c.in_ok-slot.slot)) c.in_ok-name.ensures.ok)
 
 pub returns-clause-names : goal.returns-clause-names
 returns-clause-names c =
@@ -169,8 +182,11 @@ returns-clause-names c =
     let after = c.encode_instance.new.self in
     let same = c.import_dependencies.ensures.resolve ∙ c.new-encoder.ensures.resolve in
     let found = found-in r.interfaces.items c.args.interface.0 (lt-ltb c.args.interface.0 (length r.interfaces.items) (path-in-range r c.args.interface.0 c.requires.named)) in
-    let encodes = subst (λ (q : Resolve). EncodesInterface q (outside before) (outside after) c.args.interface found.0 c.in_ok-slot.slot) same (c.in_ok-slot.ensures.ok found.0 (ap (λ (q : Resolve). interface_at q c.args.interface.0) same ∙ found.1)) in
-    let named = subst (λ (q : Resolve). NamesInterfaces q c.args.canonical_names (map (λ (id : InterfaceId). id.0) c.deref-2.result.now) start before.outer) c.new-encoder.ensures.resolve c.in_ok-import_dependencies.ensures.named in
-    all-named r c.args.canonical_names (outside before) (outside after) (map (λ (id : InterfaceId). id.0) c.deref-2.result.now) c.args.interface found.0 c.in_ok-slot.slot start c.export.new.self c.new-encoder.ensures.outer named
+    let encodes = subst (λ (q : Resolve). EncodesInterface q (outside before) (outside after) c.args.interface found.0 c.in_ok-slot.slot) same
+    (c.in_ok-slot.ensures.ok found.0 (ap (λ (q : Resolve). interface_at q c.args.interface.0) same ∙ found.1)) in
+    let named = subst (λ (q : Resolve). NamesInterfaces q c.args.canonical_names (map (λ (id : InterfaceId). id.0) c.deref-2.result.now) start before.outer) c.new-encoder.ensures.resolve
+    c.in_ok-import_dependencies.ensures.named in
+    all-named r c.args.canonical_names (outside before) (outside after) (map (λ (id : InterfaceId). id.0) c.deref-2.result.now) c.args.interface found.0 c.in_ok-slot.slot start c.export.new.self
+    c.new-encoder.ensures.outer named
     (ap (map (λ (id : InterfaceId). id.0)) c.deref-2.ensures.value ∙ c.in_ok-reached.ensures.order) encodes
     (c.in_ok-export.ensures.ok ∙ ap (λ n. append after.outer (Declarations.declares (Declaration.exported n (refs.Instance c.in_ok-slot.slot)) Declarations.no_more)) c.in_ok-name.ensures.ok)

@@ -32,16 +32,20 @@ first : (c : After-make_alias) → known_slot c.args.foreign.now.known.entries c
 first c = sym c.slot_around.ensures ∙ c.in-None.is
 
 pub returns-in-Some-name-clause-slot : goal.returns-in-Some-name-clause-slot
-returns-in-Some-name-clause-slot c = made-slot c.make_alias.result c.args.resolve.now c.args.outer.now c.make_alias.new.outer c.args.foreign.now c.make_alias.new.known c.args.id c.in-Some-instance_around.instance c.deref.result.now
+returns-in-Some-name-clause-slot c = made-slot c.make_alias.result c.args.resolve.now c.args.outer.now c.make_alias.new.outer c.args.foreign.now c.make_alias.new.known c.args.id
+    c.in-Some-instance_around.instance c.deref.result.now
     (first (goal.at.returns-in-Some-name-clause-slot c).After-make_alias) c.make_alias.ensures.ok c.make_alias.ensures.listed
 
-is-alias : (c : After-make_alias) → IsAlias c.args.resolve.now (around_at c.args.outer.now c.args.foreign.now) (record { number = c.args.id; instance = c.in-Some-instance_around.instance; name = c.deref.result.now })
-is-alias c = source-alias c.args.resolve.now (around_at c.args.outer.now c.args.foreign.now) c.args.interface.0 c.in-Some-instance_around.instance c.args.id c.index.result.now c.in-Some-name.name c.deref.result.now c.requires.source
+is-alias : (c : After-make_alias)
+    → IsAlias c.args.resolve.now (around_at c.args.outer.now c.args.foreign.now) (record { number = c.args.id; instance = c.in-Some-instance_around.instance; name = c.deref.result.now })
+is-alias c = source-alias c.args.resolve.now (around_at c.args.outer.now c.args.foreign.now) c.args.interface.0 c.in-Some-instance_around.instance c.args.id c.index.result.now c.in-Some-name.name
+    c.deref.result.now c.requires.source
     (slice_get_read _ _ _ _ refl c.requires.in_range c.index.ensures) c.in-Some-name.is c.deref.ensures
     (sym c.instance_around.ensures ∙ c.in-Some-instance_around.is) (first c)
 
 pub returns-in-Some-name-clause-reaches : goal.returns-in-Some-name-clause-reaches
-returns-in-Some-name-clause-reaches c = made-reaches c.make_alias.result c.args.resolve.now c.args.outer.now c.make_alias.new.outer c.args.foreign.now c.make_alias.new.known c.args.id c.in-Some-instance_around.instance c.deref.result.now
+returns-in-Some-name-clause-reaches c = made-reaches c.make_alias.result c.args.resolve.now c.args.outer.now c.make_alias.new.outer c.args.foreign.now c.make_alias.new.known c.args.id
+    c.in-Some-instance_around.instance c.deref.result.now
     (is-alias (goal.at.returns-in-Some-name-clause-reaches c).After-make_alias) c.make_alias.ensures.made c.make_alias.ensures.listed c.make_alias.ensures.err c.make_alias.ensures.same
 
 pub returns-in-Some-name-clause-size : goal.returns-in-Some-name-clause-size

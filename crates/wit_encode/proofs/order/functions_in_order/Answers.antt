@@ -29,4 +29,6 @@ returns-clause-order c =
     ∙ (λ i. by_resource (c.in_ok-types.ensures i) (c.in_ok-all.ensures.functions i))
 
 pub returns-then-not-has_resource-clause-order : goal.returns-then-not-has_resource-clause-order
-returns-then-not-has_resource-clause-order c = IfOk-weaker c.placed.result _ _ (λ v h. h ∙ sym (in-list-order (values c.args.interface.now.types) (map keyed c.args.interface.now.functions.entries) (sym c.has_resource.ensures ∙ c.if-not-has_resource.true))) c.placed.ensures.functions
+returns-then-not-has_resource-clause-order c = IfOk-weaker c.placed.result _ _
+    (λ v h. h ∙ sym (in-list-order (values c.args.interface.now.types) (map keyed c.args.interface.now.functions.entries) (sym c.has_resource.ensures ∙ c.if-not-has_resource.true)))
+    c.placed.ensures.functions

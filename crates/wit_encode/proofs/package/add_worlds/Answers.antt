@@ -33,5 +33,6 @@ returns-clause-differ c =
 pub returns-in_err-add_world-clause-size : goal.returns-in_err-add_world-clause-size
 returns-in_err-add_world-clause-size c = λ h.
     let next = rest_more deref_pair c.loop-name.name-iterator c.next.new.self c.next.result (c.in-Some.name, c.in-Some.world) c.in-Some.is c.next.ensures.steps in
-    next-world_lacks c.args.resolve.now (identity_of c.args.package.now) c.args.canonical_names c.args.worlds.now.entries c.loop-name.name-iterator c.next.new.self c.args.builder.now c.loop-name.builder
+    next-world_lacks c.args.resolve.now (identity_of c.args.package.now) c.args.canonical_names c.args.worlds.now.entries c.loop-name.name-iterator c.next.new.self c.args.builder.now
+    c.loop-name.builder
     (c.in-Some.name.now, c.in-Some.world.now) c.loop-name.invariant next (c.add_world.ensures.size (search rules))

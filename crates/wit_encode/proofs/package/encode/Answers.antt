@@ -27,9 +27,11 @@ returns-clause-holds c =
     let r = c.args.resolve.now in
     let n = c.args.package.0 in
     let parts = c.in_ok-encode_component.field-0 in
-    IfOk-weaker c.finish.result (λ bytes. (bytes.items ≡ component_bytes (sections_of_parts parts)) × IsComponent (sections_of_parts parts) bytes.items) (λ bytes. SpellsPackageAt r c.args.canonical_names n bytes.items)
+    IfOk-weaker c.finish.result (λ bytes. (bytes.items ≡ component_bytes (sections_of_parts parts)) × IsComponent (sections_of_parts parts) bytes.items)
+    (λ bytes. SpellsPackageAt r c.args.canonical_names n bytes.items)
     (λ bytes written p is. record { parts = parts; holds = c.in_ok-encode_component.ensures.holds p is; are = written.0; spells = written.1 })
-    (both-of (λ bytes. bytes.items ≡ component_bytes (sections_of_parts parts)) (λ bytes. IsComponent (sections_of_parts parts) bytes.items) c.finish.result c.finish.ensures.ok c.finish.ensures.spelled)
+    (both-of (λ bytes. bytes.items ≡ component_bytes (sections_of_parts parts)) (λ bytes. IsComponent (sections_of_parts parts) bytes.items) c.finish.result c.finish.ensures.ok
+    c.finish.ensures.spelled)
 
 pub returns-clause-empty : goal.returns-clause-empty
 returns-clause-empty c =
@@ -41,7 +43,8 @@ returns-clause-empty c =
 
 pub returns-in_err-encode_component-clause-refuses : goal.returns-in_err-encode_component-clause-refuses
 returns-in_err-encode_component-clause-refuses c =
-    package-passed c.args.resolve.now c.args.package.0 c.args.canonical_names c.in_err-encode_component.field-0.0 c.from_residual.result c.in_err-encode_component.ensures.refuses c.from_residual.ensures.1
+    package-passed c.args.resolve.now c.args.package.0 c.args.canonical_names c.in_err-encode_component.field-0.0 c.from_residual.result c.in_err-encode_component.ensures.refuses
+    c.from_residual.ensures.1
 
 pub returns-clause-refuses : goal.returns-clause-refuses
 returns-clause-refuses c = package-at c.args.resolve.now c.args.package.0 c.args.canonical_names c.finish.result
@@ -54,4 +57,5 @@ pub returns-clause-size : goal.returns-clause-size
 returns-clause-size c = λ h.
     let r = c.args.resolve.now in
     let found = found-in r.packages.items c.args.package.0 (lt-ltb c.args.package.0 (length r.packages.items) c.requires.in_range) in
-    all-lack r c.requires.valid c.args.package.0 found.0 found.1 c.args.canonical_names c.in_ok-encode_component.field-0 (c.in_ok-encode_component.ensures.holds found.0 found.1) (c.finish.ensures.size h)
+    all-lack r c.requires.valid c.args.package.0 found.0 found.1 c.args.canonical_names c.in_ok-encode_component.field-0 (c.in_ok-encode_component.ensures.holds found.0 found.1)
+    (c.finish.ensures.size h)

@@ -51,7 +51,8 @@ returns-clause-means c = λ p is some.
     let same = some-same own p (sym at ∙ is) in
     parts-mean r c.requires.valid c.args.package.0 p is c.args.canonical_names c.add_worlds.new.builder
     (subst (λ (q : Package). HoldsPackage r c.args.canonical_names q c.add_worlds.new.builder) same
-    (package-held r c.requires.valid c.args.package.0 own at c.args.canonical_names c.in_ok-builder.builder c.add_worlds.new.builder c.in_ok-builder.ensures.holds c.in_ok-add_worlds.ensures.adds)) some
+    (package-held r c.requires.valid c.args.package.0 own at c.args.canonical_names c.in_ok-builder.builder c.add_worlds.new.builder c.in_ok-builder.ensures.holds
+    c.in_ok-add_worlds.ensures.adds)) some
 
 pub returns-clause-differ : goal.returns-clause-differ
 returns-clause-differ c = λ asked p is.
@@ -62,9 +63,11 @@ returns-clause-differ c = λ asked p is.
 
 pub returns-in_err-builder-clause-size : goal.returns-in_err-builder-clause-size
 returns-in_err-builder-clause-size c = λ h.
-    interfaces-lack c.args.resolve.now c.requires.valid c.args.package.0 c.index-own.result.now (slice_get_read _ _ _ _ refl c.requires.in_range c.index-own.ensures) c.args.canonical_names (c.interfaces_component.ensures.size (search rules))
+    interfaces-lack c.args.resolve.now c.requires.valid c.args.package.0 c.index-own.result.now (slice_get_read _ _ _ _ refl c.requires.in_range c.index-own.ensures) c.args.canonical_names
+    (c.interfaces_component.ensures.size (search rules))
 
 pub returns-in_err-add_worlds-clause-size : goal.returns-in_err-add_worlds-clause-size
 returns-in_err-add_worlds-clause-size c = λ h.
     let own = c.index-own.result.now in
-    worlds-lack c.args.resolve.now c.requires.valid c.args.package.0 own (slice_get_read _ _ _ _ refl c.requires.in_range c.index-own.ensures) c.args.canonical_names c.in_ok-builder.builder c.in_ok-builder.ensures.holds (c.add_worlds.ensures.size (search rules) own.interfaces.entries)
+    worlds-lack c.args.resolve.now c.requires.valid c.args.package.0 own (slice_get_read _ _ _ _ refl c.requires.in_range c.index-own.ensures) c.args.canonical_names c.in_ok-builder.builder
+    c.in_ok-builder.ensures.holds (c.add_worlds.ensures.size (search rules) own.interfaces.entries)

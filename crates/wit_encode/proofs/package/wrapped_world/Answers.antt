@@ -21,7 +21,8 @@ returns-clause-wraps c =
     let p = identity_of c.args.package.now in
     let inner = c.in_ok-component.component in
     let at : world_at r c.args.world.0 ≡ Some c.index.result.now = slice_get_read _ _ _ _ refl c.requires.in_range c.index.ensures in
-    IfOk-weaker c.wrapper_of.result (λ wrapped. wrapped ≡ wrapper (path_in p c.deref.result.now) inner) (λ declared. (w : World) → world_at r c.args.world.0 ≡ Some w → WrapsWorld r c.args.canonical_names p c.args.world.0 w declared)
+    IfOk-weaker c.wrapper_of.result (λ wrapped. wrapped ≡ wrapper (path_in p c.deref.result.now) inner)
+    (λ declared. (w : World) → world_at r c.args.world.0 ≡ Some w → WrapsWorld r c.args.canonical_names p c.args.world.0 w declared)
     (λ declared is w there. record {
       inner = inner;
       is = is ∙ ap (λ t. wrapper (path_in p t) inner) (c.deref.ensures ∙ ap (λ (z : World). text_of z.name) (some-same c.index.result.now w (sym at ∙ there)));

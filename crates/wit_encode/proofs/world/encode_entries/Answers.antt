@@ -37,14 +37,17 @@ encode_items-requires-2-clause-begins c = record {
 }
 
 pub returns-clause-shows : goal.returns-clause-shows
-returns-clause-shows c = λ w is. world-shown c.args.resolve.now c.requires.valid w c.encode_items-2.new.self (c.in_ok-encode_items-2.ensures.ok w (c.in_ok-encode_items.ensures.ok w (c.new-encoder.ensures.starts w is)))
+returns-clause-shows c = λ w is. world-shown c.args.resolve.now c.requires.valid w c.encode_items-2.new.self
+    (c.in_ok-encode_items-2.ensures.ok w (c.in_ok-encode_items.ensures.ok w (c.new-encoder.ensures.starts w is)))
 
 pub returns-clause-names : goal.returns-clause-names
 returns-clause-names c = λ w is.
     let same : c.index-def.result.now ≡ w = some-same c.index-def.result.now w (sym (there (goal.at.returns-clause-names c).After-index-def) ∙ is) in
     subst (λ (z : World). WritesNames c.args.resolve.now c.args.canonical_names z c.encode_items-2.new.self.outer) same
-    (subst (λ (ds : Declarations). NamesMore c.args.resolve.now c.args.canonical_names (c.index-def.result.now.imports.entries ++ c.index-def.result.now.exports.entries) ds c.encode_items-2.new.self.outer) c.new-encoder.ensures.empty
-    (names-then c.args.resolve.now c.args.canonical_names c.index-def.result.now.imports.entries c.index-def.result.now.exports.entries c.new-encoder.result.outer c.encode_items.new.self.outer c.encode_items-2.new.self.outer c.in_ok-encode_items.ensures.names c.in_ok-encode_items-2.ensures.names))
+    (subst (λ (ds : Declarations). NamesMore c.args.resolve.now c.args.canonical_names (c.index-def.result.now.imports.entries ++ c.index-def.result.now.exports.entries) ds
+    c.encode_items-2.new.self.outer) c.new-encoder.ensures.empty
+    (names-then c.args.resolve.now c.args.canonical_names c.index-def.result.now.imports.entries c.index-def.result.now.exports.entries c.new-encoder.result.outer c.encode_items.new.self.outer
+    c.encode_items-2.new.self.outer c.in_ok-encode_items.ensures.names c.in_ok-encode_items-2.ensures.names))
 
 pub returns-clause-once : goal.returns-clause-once
 returns-clause-once c = λ w is.
@@ -79,7 +82,9 @@ returns-clause-light c =
     let at = there (goal.at.returns-clause-light c).After-index-def in
     let after = c.encode_items-2.new.self in
     let shown = c.in_ok-encode_items-2.ensures.ok w (c.in_ok-encode_items.ensures.ok w (c.new-encoder.ensures.starts w at)) in
-    let exported : HasDefined r after (w.imports.entries ++ w.exports.entries) = c.in_ok-encode_items-2.ensures.once w.imports.entries (c.in_ok-encode_items.ensures.once [] c.new-encoder.ensures.defines) in
+    let exported : HasDefined r after (w.imports.entries ++ w.exports.entries) =
+    c.in_ok-encode_items-2.ensures.once w.imports.entries (c.in_ok-encode_items.ensures.once [] c.new-encoder.ensures.defines) in
     let both = sum_by-append (item_extent r c.args.canonical_names) w.imports.entries w.exports.entries in
-    world-few r c.requires.valid c.args.world w at c.args.canonical_names exported.began c.new-encoder.result.maps after.maps c.new-encoder.result.outer after.outer shown.agree.once exported.no_numbers exported.learns.only c.new-encoder.ensures.empty
+    world-few r c.requires.valid c.args.world w at c.args.canonical_names exported.began c.new-encoder.result.maps after.maps c.new-encoder.result.outer after.outer shown.agree.once
+    exported.no_numbers exported.learns.only c.new-encoder.ensures.empty
     (learnt-most (omega (arith, both)) (learnt-then c.in_ok-encode_items.ensures.written c.in_ok-encode_items-2.ensures.written))

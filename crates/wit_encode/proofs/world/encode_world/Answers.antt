@@ -16,11 +16,14 @@ returns-clause-clashes c = λ canonical. at-any c.encode_entries.result
 
 pub returns-clause-refuses : goal.returns-clause-refuses
 returns-clause-refuses c = world-at c.args.resolve.now c.args.world.0 c.args.canonical_names c.encode_entries.result (λ w is. room-refused c.args.resolve.now w c.args.canonical_names
-    (λ canonical. subst (HasNoClash c.args.resolve.now) (there (goal.at.returns-clause-refuses c).After-index-def w is) (c.in_ok-refuse_clashes.ensures.ok canonical)) c.encode_entries.result c.encode_entries.ensures.refuses)
+    (λ canonical. subst (HasNoClash c.args.resolve.now) (there (goal.at.returns-clause-refuses c).After-index-def w is) (c.in_ok-refuse_clashes.ensures.ok canonical)) c.encode_entries.result
+    c.encode_entries.ensures.refuses)
 
 pub returns-in_err-refuse_clashes-clause-refuses : goal.returns-in_err-refuse_clashes-clause-refuses
-returns-in_err-refuse_clashes-clause-refuses c = world-at c.args.resolve.now c.args.world.0 c.args.canonical_names c.from_residual.result (λ w is. names-refused c.args.resolve.now w c.args.canonical_names c.in_err-refuse_clashes.field-0.0 c.from_residual.result
-    (subst (λ (z : World). RefusesNames c.args.resolve.now z c.args.canonical_names c.in_err-refuse_clashes.field-0.0) (there (goal.at.returns-in_err-refuse_clashes-clause-refuses c).After-index-def w is) c.in_err-refuse_clashes.ensures.refuses)
+returns-in_err-refuse_clashes-clause-refuses c = world-at c.args.resolve.now c.args.world.0 c.args.canonical_names c.from_residual.result
+    (λ w is. names-refused c.args.resolve.now w c.args.canonical_names c.in_err-refuse_clashes.field-0.0 c.from_residual.result
+    (subst (λ (z : World). RefusesNames c.args.resolve.now z c.args.canonical_names c.in_err-refuse_clashes.field-0.0)
+    (there (goal.at.returns-in_err-refuse_clashes-clause-refuses c).After-index-def w is) c.in_err-refuse_clashes.ensures.refuses)
     c.from_residual.ensures.1)
 
 pub returns-in_err-refuse_clashes-clause-size : goal.returns-in_err-refuse_clashes-clause-size

@@ -4,7 +4,9 @@ use Rattle.encode_flat.proofs.FlatSteps.{form-imports, resource-exported}
 use Rattle.encode_flat.proofs.encoder.FlatEncoderOfTypeEncodingMapsValtypeEncoder.export_resource.Goals as goal
 
 pub returns-clause-counts : goal.returns-clause-counts
-returns-clause-counts c = resource-exported c.add_form.result (table_scope c.args.self.now.resolve.now c.args.self.now.owner) c.args.self.now.marks c.add_form.new.marks c.args.self.now.forms.items c.add_form.new.forms.items c.args.name c.requires.declaration c.requires.declared.there c.requires.named_ c.add_form.ensures.ok
+returns-clause-counts c = resource-exported c.add_form.result (table_scope c.args.self.now.resolve.now c.args.self.now.owner) c.args.self.now.marks c.add_form.new.marks c.args.self.now.forms.items
+    c.add_form.new.forms.items c.args.name c.requires.declaration c.requires.declared.there c.requires.named_ c.add_form.ensures.ok
 
 pub returns-clause-imports_stay : goal.returns-clause-imports_stay
-returns-clause-imports_stay c = form-imports c.add_form.result c.args.self.now.marks c.add_form.new.marks c.args.self.now.forms.items c.add_form.new.forms.items (form.Resource c.args.name) c.add_form.ensures.ok c.add_form.ensures.err
+returns-clause-imports_stay c = form-imports c.add_form.result c.args.self.now.marks c.add_form.new.marks c.args.self.now.forms.items c.add_form.new.forms.items (form.Resource c.args.name)
+    c.add_form.ensures.ok c.add_form.ensures.err

@@ -6,7 +6,8 @@ use Rattle.encode_flat.proofs.FlatSteps.{import-alone, import-ok, imports-once}
 use Rattle.encode_flat.proofs.encoder.FlatEncoderOfTypeEncodingMapsValtypeEncoder.import_type.Goals as goal
 
 pub returns-clause-ok : goal.returns-clause-ok
-returns-clause-ok c = import-ok c.import.result c.args.self.now.resolve.now (place_of c.args.self.now.resolve.now c.args.self.now.owner) c.import.new.self (reverse c.args.self.now.forms.items) c.args.id.0 c.import.ensures.ok
+returns-clause-ok c = import-ok c.import.result c.args.self.now.resolve.now (place_of c.args.self.now.resolve.now c.args.self.now.owner) c.import.new.self (reverse c.args.self.now.forms.items)
+    c.args.id.0 c.import.ensures.ok
 
 pub returns-clause-reaches : goal.returns-clause-reaches
 returns-clause-reaches c = as_before refl

@@ -44,7 +44,8 @@ encode_part-requires-clause-listed c = record {
 pub returns-clause-ok : goal.returns-clause-ok
 returns-clause-ok c =
     let r = c.args.self.now.resolve.now in
-    ok-then c.encode_part.result (λ k. (def : Interface) → interface_at r c.args.interface.0 ≡ Some def → EncodesPart r (outside c.args.self.now) (outside c.encode_part.new.self) c.args.interface def [] [] k)
+    ok-then c.encode_part.result (λ k. (def : Interface) → interface_at r c.args.interface.0 ≡ Some def
+    → EncodesPart r (outside c.args.self.now) (outside c.encode_part.new.self) c.args.interface def [] [] k)
     (λ k. (def : Interface) → interface_at r c.args.interface.0 ≡ Some def → EncodesDependency r (outside c.args.self.now) (outside c.encode_part.new.self) c.args.interface def k)
     (λ k all def is. types-alone r (outside c.args.self.now) (outside c.encode_part.new.self) c.args.interface def [] k refl (all def is)) c.encode_part.ensures.ok
 
@@ -56,14 +57,16 @@ returns-clause-size c = λ h def is.
       | inl room ↦ inl (room-listed c.args.self.now.resolve.now c.args.interface _ _ [] [] (c.deref.ensures.value ∙ c.in_ok-types.ensures ∙ ap (λ (z : Interface). values z.types) is_def) refl room)
       | inr around ↦ inr (record {
         after = around.after;
-        grown = subst (λ (ts : List TypeId). AliasesMet c.args.self.now.resolve.now (Some c.args.interface) (referred ts []) (outside c.args.self.now) around.after) (c.deref.ensures.value ∙ c.in_ok-types.ensures ∙ ap (λ (z : Interface). values z.types) is_def) around.grown;
+        grown = subst (λ (ts : List TypeId). AliasesMet c.args.self.now.resolve.now (Some c.args.interface) (referred ts []) (outside c.args.self.now) around.after)
+            (c.deref.ensures.value ∙ c.in_ok-types.ensures ∙ ap (λ (z : Interface). values z.types) is_def) around.grown;
         full = around.full;
       })
     ]
 
 pub returns-clause-written : goal.returns-clause-written
 returns-clause-written c = on_ok c.encode_part.result _ _
-    (λ t. types-few c.args.self.now.resolve.now c.requires.valid c.args.interface c.index-def.result.now (there (goal.at.returns-clause-written c).After-index-def) c.deref.result.now (c.deref.ensures.value ∙ c.in_ok-types.ensures)
+    (λ t. types-few c.args.self.now.resolve.now c.requires.valid c.args.interface c.index-def.result.now (there (goal.at.returns-clause-written c).After-index-def) c.deref.result.now
+    (c.deref.ensures.value ∙ c.in_ok-types.ensures)
     c.args.self.now.outer c.encode_part.new.self.outer t) c.encode_part.ensures.written
 
 nothing-new : (c : After-index-def) → AliasesForTypes c.args.self.now.resolve.now c.args.interface (outside c.args.self.now) (outside c.args.self.now)
@@ -77,5 +80,6 @@ returns-clause-err c = err-then c.encode_part.result
     (λ made. record {
       def = c.index-def.result.now;
       there = there (goal.at.returns-clause-err c).After-index-def;
-      made = subst (λ (ts : List TypeId). AliasesMet c.args.self.now.resolve.now (Some c.args.interface) (referred ts []) (outside c.args.self.now) (outside c.encode_part.new.self)) (c.deref.ensures.value ∙ c.in_ok-types.ensures) made;
+      made = subst (λ (ts : List TypeId). AliasesMet c.args.self.now.resolve.now (Some c.args.interface) (referred ts []) (outside c.args.self.now) (outside c.encode_part.new.self))
+          (c.deref.ensures.value ∙ c.in_ok-types.ensures) made;
     }) c.encode_part.ensures.err

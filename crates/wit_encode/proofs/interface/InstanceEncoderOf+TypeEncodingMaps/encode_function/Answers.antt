@@ -37,10 +37,16 @@ export_function-requires-clause-sound c =
     ap (λ (s : Scope). s.is_sound) c.encode_func_type.ensures.leaves.scope_stays
     ∙ ap (λ (r : Resolve). (encoder_scope r c.args.self.now.outer c.args.self.now.inner).is_sound) c.requires.open.packages_ ∙ c.requires.encodable.formed.sound
 
-showed : (c : After-export_function) → Showed c.export_function.result c.args.resolve.now c.args.self.now.outer c.export_function.new.self.outer c.args.self.now.inner c.export_function.new.self.inner c.args.self.now.maps c.export_function.new.self.maps (text_of c.args.name.now, function_meaning c.args.resolve.now c.args.func.now)
-showed c = function-showed c.export_function.result c.args.resolve.now c.args.self.now.resolve.now c.encode_func_type.new.enc.resolve.now c.export_function.new.self.resolve.now c.args.self.now.outer c.encode_func_type.new.enc.outer c.export_function.new.self.outer c.args.self.now.inner c.encode_func_type.new.enc.inner c.export_function.new.self.inner c.args.self.now.maps c.encode_func_type.new.enc.maps c.export_function.new.self.maps
-    (text_of c.args.name.now, function_meaning c.args.resolve.now c.args.func.now) ((raw_name c.name_of.result).text, record { signature = signature_of c.args.resolve.now c.args.func.now; external_id = (raw_name c.name_of.result).external_id })
-    c.requires.open.packages_ c.encode_func_type.ensures.leaves.scope_stays c.encode_func_type.ensures.leaves.agree c.encode_func_type.ensures.leaves.grows.around_ (λ i. (c.export_function.ensures.resolve i).now) c.export_function.ensures.outer c.export_function.ensures.own c.export_function.ensures.around c.export_function.ensures.maps
+showed : (c : After-export_function)
+    → Showed c.export_function.result c.args.resolve.now c.args.self.now.outer c.export_function.new.self.outer c.args.self.now.inner c.export_function.new.self.inner c.args.self.now.maps
+    c.export_function.new.self.maps (text_of c.args.name.now, function_meaning c.args.resolve.now c.args.func.now)
+showed c = function-showed c.export_function.result c.args.resolve.now c.args.self.now.resolve.now c.encode_func_type.new.enc.resolve.now c.export_function.new.self.resolve.now c.args.self.now.outer
+    c.encode_func_type.new.enc.outer c.export_function.new.self.outer c.args.self.now.inner c.encode_func_type.new.enc.inner c.export_function.new.self.inner c.args.self.now.maps
+    c.encode_func_type.new.enc.maps c.export_function.new.self.maps
+    (text_of c.args.name.now, function_meaning c.args.resolve.now c.args.func.now)
+    ((raw_name c.name_of.result).text, record { signature = signature_of c.args.resolve.now c.args.func.now; external_id = (raw_name c.name_of.result).external_id })
+    c.requires.open.packages_ c.encode_func_type.ensures.leaves.scope_stays c.encode_func_type.ensures.leaves.agree c.encode_func_type.ensures.leaves.grows.around_
+    (λ i. (c.export_function.ensures.resolve i).now) c.export_function.ensures.outer c.export_function.ensures.own c.export_function.ensures.around c.export_function.ensures.maps
     (λ i. (c.name_of.ensures.text i, record { signature = signature_of c.args.resolve.now c.args.func.now; external_id = c.name_of.ensures.external_id i }))
     (c.export_function.ensures.ok (signature_of c.args.resolve.now c.args.func.now) c.in_ok-index.ensures.ok) c.export_function.ensures.err
 
@@ -65,11 +71,15 @@ returns-clause-counts c =
     c.requires.open.packages_ c.encode_func_type.ensures.leaves.scope_stays (λ i. (c.export_function.ensures.resolve i).now) c.export_function.ensures.maps
     c.in_ok-index.ensures.counts (c.export_function.ensures.ok (signature_of c.args.resolve.now c.args.func.now) c.in_ok-index.ensures.ok)
 
-stays : (c : After-export_function) → OnOk c.export_function.result (exports_in c.args.resolve.now c.export_function.new.self.outer c.export_function.new.self.inner ≡ exports_in c.args.resolve.now c.args.self.now.outer c.args.self.now.inner)
-stays c = function-stays c.export_function.result c.args.resolve.now c.args.self.now.resolve.now c.encode_func_type.new.enc.resolve.now c.export_function.new.self.resolve.now c.args.self.now.outer c.encode_func_type.new.enc.outer c.export_function.new.self.outer
+stays : (c : After-export_function)
+    → OnOk c.export_function.result (exports_in c.args.resolve.now c.export_function.new.self.outer c.export_function.new.self.inner ≡ exports_in c.args.resolve.now c.args.self.now.outer
+    c.args.self.now.inner)
+stays c = function-stays c.export_function.result c.args.resolve.now c.args.self.now.resolve.now c.encode_func_type.new.enc.resolve.now c.export_function.new.self.resolve.now c.args.self.now.outer
+    c.encode_func_type.new.enc.outer c.export_function.new.self.outer
     c.args.self.now.inner c.encode_func_type.new.enc.inner c.export_function.new.self.inner c.args.self.now.maps c.encode_func_type.new.enc.maps c.args.func.now
     ((raw_name c.name_of.result).text, record { signature = signature_of c.args.resolve.now c.args.func.now; external_id = (raw_name c.name_of.result).external_id })
-    c.requires.open.valid c.requires.used c.requires.open.packages_ c.encode_func_type.ensures.leaves.scope_stays (λ i. (c.export_function.ensures.resolve i).now) c.encode_func_type.ensures.leaves.agree.once c.in_ok-index.ensures.learns.only c.in_ok-index.ensures.counts.2.shows
+    c.requires.open.valid c.requires.used c.requires.open.packages_ c.encode_func_type.ensures.leaves.scope_stays (λ i. (c.export_function.ensures.resolve i).now)
+    c.encode_func_type.ensures.leaves.agree.once c.in_ok-index.ensures.learns.only c.in_ok-index.ensures.counts.2.shows
     (c.export_function.ensures.ok (signature_of c.args.resolve.now c.args.func.now) c.in_ok-index.ensures.ok)
 
 pub returns-clause-types_stay : goal.returns-clause-types_stay
@@ -94,12 +104,15 @@ pub returns-in_err-index-clause-continues : goal.returns-in_err-index-clause-con
 returns-in_err-index-clause-continues c = record {
   packages_ = search rules;
   inside = search rules;
-  continues = after-types c.args.resolve.now c.args.self.now.resolve.now c.encode_func_type.new.enc.resolve.now c.args.self.now.outer c.encode_func_type.new.enc.outer c.args.self.now.inner c.encode_func_type.new.enc.inner
-      c.args.self.now.maps c.encode_func_type.new.enc.maps c.requires.open.packages_ c.encode_func_type.ensures.leaves.scope_stays c.encode_func_type.ensures.leaves.agree c.encode_func_type.ensures.leaves.grows.around_;
+  continues = after-types c.args.resolve.now c.args.self.now.resolve.now c.encode_func_type.new.enc.resolve.now c.args.self.now.outer c.encode_func_type.new.enc.outer c.args.self.now.inner
+      c.encode_func_type.new.enc.inner
+      c.args.self.now.maps c.encode_func_type.new.enc.maps c.requires.open.packages_ c.encode_func_type.ensures.leaves.scope_stays c.encode_func_type.ensures.leaves.agree
+      c.encode_func_type.ensures.leaves.grows.around_;
 }
 
 pub returns-clause-learns : goal.returns-clause-learns
-returns-clause-learns c = on-any c.export_function.result (subst (λ (m : TypeEncodingMaps). LearnsFrom c.args.resolve.now (own_of c.args.self.now.inner) (function_types c.args.func.now) c.args.self.now.maps m) (sym c.export_function.ensures.maps)
+returns-clause-learns c = on-any c.export_function.result (subst (λ (m : TypeEncodingMaps). LearnsFrom c.args.resolve.now (own_of c.args.self.now.inner) (function_types c.args.func.now)
+    c.args.self.now.maps m) (sym c.export_function.ensures.maps)
     (from-met c.args.resolve.now (own_of c.args.self.now.inner) (function_types c.args.func.now) c.args.self.now.maps c.encode_func_type.new.enc.maps c.in_ok-index.ensures.learns))
 
 pub returns-clause-held : goal.returns-clause-held
@@ -110,7 +123,8 @@ returns-in_err-index-clause-size c = λ h.
     let before = encoder_view c.args.self.now in
     let after = encoder_view c.encode_func_type.new.enc in
     let refused = c.encode_func_type.ensures.size (search rules) in
-    lacks-type c.args.resolve.now (own_of c.args.self.now.inner) after.lacks_room (text_of c.args.name.now) c.args.func.now c.args.self.now.maps before.held after.held c.requires.open.agree.once refused.new_key refused.room
+    lacks-type c.args.resolve.now (own_of c.args.self.now.inner) after.lacks_room (text_of c.args.name.now) c.args.func.now c.args.self.now.maps before.held after.held c.requires.open.agree.once
+    refused.new_key refused.room
 
 pub returns-clause-size : goal.returns-clause-size
 returns-clause-size c = λ h.
@@ -120,20 +134,24 @@ returns-clause-size c = λ h.
     let counts = c.in_ok-index.ensures.counts in
     let adds = adds-function counts.0 c.in_ok-index.index c.args.func.now counts.1 c.requires.open.agree.once counts.2 in
     let refused = c.export_function.ensures.size h in
-    lacks-name c.args.resolve.now (own_of c.args.self.now.inner) after.lacks_room (text_of c.args.name.now) c.args.func.now c.args.self.now.maps c.encode_func_type.new.enc.maps before.held between.held after.held
+    lacks-name c.args.resolve.now (own_of c.args.self.now.inner) after.lacks_room (text_of c.args.name.now) c.args.func.now c.args.self.now.maps c.encode_func_type.new.enc.maps before.held
+    between.held after.held
     c.encode_func_type.ensures.leaves.agree.once c.encode_func_type.ensures.leaves.maps_grow c.in_ok-index.ensures.held
     (only-reached c.args.resolve.now (own_of c.args.self.now.inner) (function_types c.args.func.now) c.in_ok-index.ensures.learns.only) adds.known refused.held
-    (subst after.lacks_room (ap export_name (function-named (raw_name c.name_of.result) (text_of c.args.name.now, c.args.func.now) c.name_of.ensures.text c.name_of.ensures.implements c.name_of.ensures.version_suffix c.name_of.ensures.external_id)) refused.lacks)
+    (subst after.lacks_room (ap export_name (function-named (raw_name c.name_of.result) (text_of c.args.name.now, c.args.func.now) c.name_of.ensures.text c.name_of.ensures.implements
+    c.name_of.ensures.version_suffix c.name_of.ensures.external_id)) refused.lacks)
 
 pub returns-clause-written : goal.returns-clause-written
 returns-clause-written c =
-    let named = ap name_extent (function-named (raw_name c.name_of.result) (text_of c.args.name.now, c.args.func.now) c.name_of.ensures.text c.name_of.ensures.implements c.name_of.ensures.version_suffix c.name_of.ensures.external_id) in
+    let named = ap name_extent (function-named (raw_name c.name_of.result) (text_of c.args.name.now, c.args.func.now) c.name_of.ensures.text c.name_of.ensures.implements
+    c.name_of.ensures.version_suffix c.name_of.ensures.external_id) in
     let between = encoder_view c.encode_func_type.new.enc in
     let after = encoder_view c.export_function.new.self in
     on_ok c.export_function.result _ _
     (λ w.
     let more : after.extent ≤ between.extent + name_extent (function_name (text_of c.args.name.now, c.args.func.now)) = (let l = w.extent in omega (arith, named, l)) in
-    writes-beside (name_extent (function_name (text_of c.args.name.now, c.args.func.now))) c.in_ok-index.ensures.written more (ap (λ (m : TypeEncodingMaps). m.id_to_index.entries) c.export_function.ensures.maps)) c.export_function.ensures.written
+    writes-beside (name_extent (function_name (text_of c.args.name.now, c.args.func.now))) c.in_ok-index.ensures.written more
+    (ap (λ (m : TypeEncodingMaps). m.id_to_index.entries) c.export_function.ensures.maps)) c.export_function.ensures.written
 
 pub returns-clause-aliases : goal.returns-clause-aliases
 returns-clause-aliases c = makes-same c.export_function.ensures.around c.encode_func_type.ensures.aliases

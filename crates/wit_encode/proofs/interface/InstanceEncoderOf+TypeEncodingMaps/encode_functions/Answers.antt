@@ -26,7 +26,8 @@ use Rattle.base_lemmas.proofs.Elements.{contains-at, contains-map}
 use Rattle.base_lemmas.proofs.Lists.{map_of_map as map-twice}
 
 pub encode_function-requires-clause-encodable : goal.encode_function-requires-clause-encodable
-encode_function-requires-clause-encodable c = function-continues _ c.loop-entry.invariant.continues (c.requires.encodable c.entry-item.result (contains-at c.args.functions.now c.loop-entry.entry-index c.entry-item.result c.loop-entry-test.true c.entry-item.is))
+encode_function-requires-clause-encodable c = function-continues _ c.loop-entry.invariant.continues
+    (c.requires.encodable c.entry-item.result (contains-at c.args.functions.now c.loop-entry.entry-index c.entry-item.result c.loop-entry-test.true c.entry-item.is))
 
 pub loop-entry-preserved : goal.loop-entry-preserved
 loop-entry-preserved c = record {
@@ -46,14 +47,17 @@ loop-entry-preserved c = record {
       functions-counted (λ (f : ℕ × Bor (String Global) × Bor Function). f.2.now)
       c.args.functions.now c.loop-entry.entry-index c.entry-item.result c.loop-entry-test.true c.entry-item.is c.loop-entry.invariant.own c.loop-entry.invariant.counts
       c.in_ok-encode_function.ensures.counts;
-  learns = from-function (λ (f : ℕ × Bor (String Global) × Bor Function). f.2.now) c.args.resolve.now (own_of c.args.self.now.inner) (own_of c.loop-entry.self.inner) c.args.functions.now c.loop-entry.entry-index c.entry-item.result
-      c.args.self.now.maps c.loop-entry.self.maps c.encode_function.new.self.maps c.loop-entry-test.true c.entry-item.is c.loop-entry.invariant.own c.loop-entry.invariant.learns c.in_ok-encode_function.ensures.learns;
+  learns = from-function (λ (f : ℕ × Bor (String Global) × Bor Function). f.2.now) c.args.resolve.now (own_of c.args.self.now.inner) (own_of c.loop-entry.self.inner) c.args.functions.now
+      c.loop-entry.entry-index c.entry-item.result
+      c.args.self.now.maps c.loop-entry.self.maps c.encode_function.new.self.maps c.loop-entry-test.true c.entry-item.is c.loop-entry.invariant.own c.loop-entry.invariant.learns
+      c.in_ok-encode_function.ensures.learns;
   names =
       names-after c.args.resolve.now (encoder_scope c.args.resolve.now c.args.self.now.outer c.args.self.now.inner)
       (encoder_scope c.args.resolve.now c.loop-entry.self.outer c.loop-entry.self.inner) c.args.self.now.maps c.loop-entry.self.maps c.encode_function.new.self.maps
       c.loop-entry.invariant.own c.loop-entry.invariant.names c.in_ok-encode_function.ensures.names_stay;
   within = omega arith;
-  held = holds-most (omega arith) (holds-then c.loop-entry.invariant.own c.loop-entry.invariant.grow c.encode_function.ensures.maps_grow c.loop-entry.invariant.held c.in_ok-encode_function.ensures.held);
+  held = holds-most (omega arith) (holds-then c.loop-entry.invariant.own c.loop-entry.invariant.grow c.encode_function.ensures.maps_grow c.loop-entry.invariant.held
+      c.in_ok-encode_function.ensures.held);
   written =
       let next = functions-next (function_extent c.args.resolve.now) placed_function c.args.functions.now c.loop-entry.entry-index c.entry-item.result c.loop-entry-test.true c.entry-item.is in
       writes-most (omega (arith, next)) (writes-along c.loop-entry.invariant.own c.loop-entry.invariant.written c.in_ok-encode_function.ensures.written);
@@ -67,16 +71,23 @@ encode_function-requires-clause-used c = used-kept c.args.resolve.now c.args.sel
 
 pub returns-clause-shows : goal.returns-clause-shows
 returns-clause-shows c = c.loop-entry.invariant.shows
-    ∙ ap (λ fs. (contents_of c.args.resolve.now c.args.self.now.outer c.args.self.now.inner).shown.functions ++ map (λ f. meaning_of c.args.resolve.now (placed_function f)) fs) (take_all c.loop-entry.entry-index c.args.functions.now c.loop-entry-test.false)
+    ∙ ap (λ fs. (contents_of c.args.resolve.now c.args.self.now.outer c.args.self.now.inner).shown.functions ++ map (λ f. meaning_of c.args.resolve.now (placed_function f)) fs)
+    (take_all c.loop-entry.entry-index c.args.functions.now c.loop-entry-test.false)
 
 pub returns-clause-counts : goal.returns-clause-counts
 returns-clause-counts c = functions-all (λ (f : ℕ × Bor (String Global) × Bor Function). f.2.now) c.args.functions.now c.loop-entry.entry-index c.loop-entry-test.false c.loop-entry.invariant.counts
 
 pub returns-in_err-encode_function-clause-continues : goal.returns-in_err-encode_function-clause-continues
-returns-in_err-encode_function-clause-continues c = record { packages_ = search rules; inside = search rules; continues = continues-trans c.loop-entry.invariant.continues c.encode_function.ensures.continues.continues refl }
+returns-in_err-encode_function-clause-continues c = record {
+  packages_ = search rules;
+  inside = search rules;
+  continues =
+      continues-trans c.loop-entry.invariant.continues c.encode_function.ensures.continues.continues refl;
+}
 
 pub returns-clause-learns : goal.returns-clause-learns
-returns-clause-learns c = from-functions (λ (f : ℕ × Bor (String Global) × Bor Function). f.2.now) c.args.resolve.now (own_of c.args.self.now.inner) c.args.functions.now c.loop-entry.entry-index c.args.self.now.maps c.loop-entry.self.maps
+returns-clause-learns c = from-functions (λ (f : ℕ × Bor (String Global) × Bor Function). f.2.now) c.args.resolve.now (own_of c.args.self.now.inner) c.args.functions.now c.loop-entry.entry-index
+    c.args.self.now.maps c.loop-entry.self.maps
     c.loop-entry-test.false c.loop-entry.invariant.learns
 
 pub returns-clause-held : goal.returns-clause-held
@@ -88,10 +99,18 @@ returns-in_err-encode_function-clause-size c = λ h.
     let length-is = length-map c.args.functions.now placed_function in
     let before = c.loop-entry-test.true in
     next-lacks c.loop-entry.invariant.own c.loop-entry.invariant.grow
-    (only-more (λ n x. (x.0, flat-taken function_types (λ (f : ℕ × Bor (String Global) × Bor Function). f.2.now) c.args.functions.now c.loop-entry.entry-index x.0 x.1, x.2)) c.loop-entry.invariant.learns.only)
-    (λ n x. (x.0, contains-flat function_types _ c.entry-item.result.2.now x.0 (contains-map (λ (f : ℕ × Bor (String Global) × Bor Function). f.2.now) c.args.functions.now c.entry-item.result at) x.1, x.2))
-    (map placed_function c.args.functions.now) (placed_function c.entry-item.result) (map (λ f. f.2.now) (take c.loop-entry.entry-index c.args.functions.now)) c.loop-entry.invariant.held c.loop-entry.invariant.counts.known
-    (λ f k. subst (λ (fs : List Function). Contains fs f) (sym (map-twice (λ (g : Text × Function). g.1) placed_function c.args.functions.now)) (map-taken (λ (f : ℕ × Bor (String Global) × Bor Function). f.2.now) c.args.functions.now c.loop-entry.entry-index f k))
+    (only-more (λ n x. (x.0, flat-taken function_types (λ (f : ℕ × Bor (String Global) × Bor Function). f.2.now) c.args.functions.now c.loop-entry.entry-index x.0 x.1, x.2))
+    c.loop-entry.invariant.learns.only)
+    (λ n x. (
+      x.0,
+      contains-flat function_types _ c.entry-item.result.2.now x.0
+          (contains-map (λ (f : ℕ × Bor (String Global) × Bor Function). f.2.now) c.args.functions.now c.entry-item.result at) x.1,
+      x.2,
+    ))
+    (map placed_function c.args.functions.now) (placed_function c.entry-item.result) (map (λ f. f.2.now) (take c.loop-entry.entry-index c.args.functions.now)) c.loop-entry.invariant.held
+    c.loop-entry.invariant.counts.known
+    (λ f k. subst (λ (fs : List Function). Contains fs f) (sym (map-twice (λ (g : Text × Function). g.1) placed_function c.args.functions.now))
+    (map-taken (λ (f : ℕ × Bor (String Global) × Bor Function). f.2.now) c.args.functions.now c.loop-entry.entry-index f k))
     (contains-map placed_function c.args.functions.now c.entry-item.result at) (omega (arith, before, length-is)) (c.encode_function.ensures.size (search rules))
 
 pub loop-entry-init : goal.loop-entry-init
@@ -101,7 +120,8 @@ loop-entry-init c = record {
   continues = search rules;
   aliases = met-none refl;
   shows = search rules;
-  counts = adds-nothing c.args.resolve.now (encoder_scope c.args.resolve.now c.args.self.now.outer c.args.self.now.inner) c.args.self.now.maps (definitions_with (contents_of c.args.resolve.now c.args.self.now.outer c.args.self.now.inner));
+  counts = adds-nothing c.args.resolve.now (encoder_scope c.args.resolve.now c.args.self.now.outer c.args.self.now.inner) c.args.self.now.maps
+      (definitions_with (contents_of c.args.resolve.now c.args.self.now.outer c.args.self.now.inner));
   learns = search rules;
   names = search rules;
   within = omega arith;

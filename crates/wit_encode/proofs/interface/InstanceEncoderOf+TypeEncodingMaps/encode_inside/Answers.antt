@@ -18,28 +18,36 @@ use Rattle.wit_encode.proofs.interface.InstanceEncoderOf+TypeEncodingMaps.encode
 use Rattle.wit_encode.proofs.BytesWritten.{taken}
 use Rattle.base_lemmas.proofs.Bools.{left_of as first_true}
 
-begun : (c : After-new-2) → ◌≡◌ {A = Option OpenInterface} (Some (record { interface = c.args.interface; declared = c.new-2.result; foreign = c.replace-foreign.result })) (opened c.args.interface c.args.self.now.foreign)
+begun : (c : After-new-2)
+    → ◌≡◌ {A = Option OpenInterface} (Some (record { interface = c.args.interface; declared = c.new-2.result; foreign = c.replace-foreign.result })) (opened c.args.interface c.args.self.now.foreign)
 begun c = opened-with c.args.interface c.new-2.result c.replace-foreign.result c.args.self.now.foreign c.new-2.ensures c.replace-foreign.ensures.value
 
 pub encode_parts-outcome-requires-clause-types : goal.encode_parts-outcome-requires-clause-types
-encode_parts-outcome-requires-clause-types c = λ t h. subst (λ (o : Option OpenInterface). CanEncode c.args.self.now.resolve.now (encoder_scope c.args.self.now.resolve.now c.args.self.now.outer o) (ty.Id t ∷ []))
+encode_parts-outcome-requires-clause-types c = λ t h. subst (λ (o : Option OpenInterface). CanEncode c.args.self.now.resolve.now (encoder_scope c.args.self.now.resolve.now c.args.self.now.outer o)
+    (ty.Id t ∷ []))
     (sym (begun (goal.at.encode_parts-outcome-requires-clause-types c).After-new-2)) (c.requires.types t h)
 
 pub encode_parts-outcome-requires-clause-functions : goal.encode_parts-outcome-requires-clause-functions
-encode_parts-outcome-requires-clause-functions c = λ f h. subst (λ (o : Option OpenInterface). CanEncodeFunction c.args.self.now.resolve.now (encoder_scope c.args.self.now.resolve.now c.args.self.now.outer o) f.2.now)
+encode_parts-outcome-requires-clause-functions c = λ f h. subst (λ (o : Option OpenInterface). CanEncodeFunction c.args.self.now.resolve.now
+    (encoder_scope c.args.self.now.resolve.now c.args.self.now.outer o) f.2.now)
     (sym (begun (goal.at.encode_parts-outcome-requires-clause-functions c).After-new-2)) (c.requires.functions f h)
 
-continued : (c : In-Some) → Continues c.args.self.now.resolve.now c.args.self.now.resolve.now c.args.self.now.outer c.encode_parts-outcome.new.self.outer (opened c.args.interface c.args.self.now.foreign) c.encode_parts-outcome.new.self.inner c.replace-saved.new.dest c.encode_parts-outcome.new.self.maps
+continued : (c : In-Some)
+    → Continues c.args.self.now.resolve.now c.args.self.now.resolve.now c.args.self.now.outer c.encode_parts-outcome.new.self.outer (opened c.args.interface c.args.self.now.foreign)
+    c.encode_parts-outcome.new.self.inner c.replace-saved.new.dest c.encode_parts-outcome.new.self.maps
 continued c =
     let after = c.encode_parts-outcome.new.self in
     subst (λ (o : Option OpenInterface). Continues c.args.self.now.resolve.now c.args.self.now.resolve.now c.args.self.now.outer after.outer o after.inner c.replace-saved.new.dest after.maps)
     (opened-with c.args.interface c.new-2.result c.replace-foreign.result c.args.self.now.foreign c.new-2.ensures c.replace-foreign.ensures.value) c.encode_parts-outcome.ensures.continues.continues
 
-around-grown : (c : In-Some) → AliasesMet c.args.self.now.resolve.now (Some c.args.interface) (referred c.args.types.now (map (λ f. f.2.now) c.args.functions.now)) (around_at c.args.self.now.outer c.args.self.now.foreign) (around_at c.encode_parts-outcome.new.self.outer c.in-Some.current.foreign)
+around-grown : (c : In-Some)
+    → AliasesMet c.args.self.now.resolve.now (Some c.args.interface) (referred c.args.types.now (map (λ f. f.2.now) c.args.functions.now)) (around_at c.args.self.now.outer c.args.self.now.foreign)
+    (around_at c.encode_parts-outcome.new.self.outer c.in-Some.current.foreign)
 around-grown c =
     let after = c.encode_parts-outcome.new.self in
     let ts = referred c.args.types.now (map (λ f. f.2.now) c.args.functions.now) in
-    subst (λ (o : Option OpenInterface). AliasesMet c.args.self.now.resolve.now (Some c.args.interface) ts (around_at c.args.self.now.outer c.args.self.now.foreign) (around_of after.outer o)) (sym c.replace-inner.ensures.value ∙ c.in-Some.is)
+    subst (λ (o : Option OpenInterface). AliasesMet c.args.self.now.resolve.now (Some c.args.interface) ts (around_at c.args.self.now.outer c.args.self.now.foreign) (around_of after.outer o))
+    (sym c.replace-inner.ensures.value ∙ c.in-Some.is)
     (subst (λ (o : Option OpenInterface). AliasesMet c.args.self.now.resolve.now (own_of o) ts (around_of c.args.self.now.outer o) (around_of after.outer after.inner))
     (opened-with c.args.interface c.new-2.result c.replace-foreign.result c.args.self.now.foreign c.new-2.ensures c.replace-foreign.ensures.value) c.encode_parts-outcome.ensures.aliases)
 
@@ -55,9 +63,11 @@ returns-clause-ok c =
     let after = c.encode_parts-outcome.new.self in
     let known = c.args.self.now.foreign in
     let continues = continued (goal.at.returns-clause-ok c).In-Some in
-    let shows = subst (λ (o : Option OpenInterface). (contents_of c.args.self.now.resolve.now after.outer after.inner).shown.functions ≡ (contents_of c.args.self.now.resolve.now c.args.self.now.outer o).shown.functions ++ map (λ f. meaning_of c.args.self.now.resolve.now (placed_function f)) c.args.functions.now)
+    let shows = subst (λ (o : Option OpenInterface). (contents_of c.args.self.now.resolve.now after.outer after.inner).shown.functions
+    ≡ (contents_of c.args.self.now.resolve.now c.args.self.now.outer o).shown.functions ++ map (λ f. meaning_of c.args.self.now.resolve.now (placed_function f)) c.args.functions.now)
     (begun (goal.at.returns-clause-ok c).After-new-2) c.in_ok-outcome-in-Some.ensures.shows in
-    closed-instance r c.requires.valid c.args.self.now.outer after.outer c.args.interface c.requires.listed.def (listed-there r c.args.interface c.args.types.now c.requires.listed) known after.inner c.in-Some.current _ _ _ (sym c.replace-inner.ensures.value ∙ c.in-Some.is) c.encode_parts-outcome.ensures.continues.inside continues shows c.in_ok-outcome-in-Some.ensures.exported
+    closed-instance r c.requires.valid c.args.self.now.outer after.outer c.args.interface c.requires.listed.def (listed-there r c.args.interface c.args.types.now c.requires.listed) known after.inner
+    c.in-Some.current _ _ _ (sym c.replace-inner.ensures.value ∙ c.in-Some.is) c.encode_parts-outcome.ensures.continues.inside continues shows c.in_ok-outcome-in-Some.ensures.exported
 
 began : (c : In-Some) → Began c.replace-saved.new.dest
 began c =
@@ -68,13 +78,17 @@ began c =
       keys = ap (λ (m : TypeEncodingMaps). m.func_type_map.entries) same ∙ c.new.ensures.functions;
     }
 
-counted : (c : In_ok-outcome-in-Some) → Began c.replace-saved.new.dest → Continues c.args.self.now.resolve.now c.args.self.now.resolve.now c.args.self.now.outer c.encode_parts-outcome.new.self.outer (opened c.args.interface c.args.self.now.foreign) c.encode_parts-outcome.new.self.inner c.replace-saved.new.dest c.encode_parts-outcome.new.self.maps
-    → Counted c.args.self.now.resolve.now c.args.interface (stands_inside c.args.self.now.resolve.now c.args.interface c.encode_parts-outcome.new.self.outer c.in-Some.current.declared) (map (λ f. f.2.now) c.args.functions.now) c.args.types.now c.in-Some.current.declared
+counted : (c : In_ok-outcome-in-Some) → Began c.replace-saved.new.dest
+    → Continues c.args.self.now.resolve.now c.args.self.now.resolve.now c.args.self.now.outer c.encode_parts-outcome.new.self.outer (opened c.args.interface c.args.self.now.foreign)
+    c.encode_parts-outcome.new.self.inner c.replace-saved.new.dest c.encode_parts-outcome.new.self.maps
+    → Counted c.args.self.now.resolve.now c.args.interface (stands_inside c.args.self.now.resolve.now c.args.interface c.encode_parts-outcome.new.self.outer c.in-Some.current.declared)
+    (map (λ f. f.2.now) c.args.functions.now) c.args.types.now c.in-Some.current.declared
 counted c new continues =
     let r = c.args.self.now.resolve.now in
     let after = c.encode_parts-outcome.new.self in
     let fs : List Function = map (λ f. f.2.now) c.args.functions.now in
-    let there = closed r c.args.self.now.outer after.outer c.args.interface c.args.self.now.foreign after.inner c.in-Some.current _ _ (sym c.replace-inner.ensures.value ∙ c.in-Some.is) c.encode_parts-outcome.ensures.continues.inside continues in
+    let there = closed r c.args.self.now.outer after.outer c.args.interface c.args.self.now.foreign after.inner c.in-Some.current _ _ (sym c.replace-inner.ensures.value ∙ c.in-Some.is)
+    c.encode_parts-outcome.ensures.continues.inside continues in
     closed-counts r c.requires.valid c.args.self.now.outer after.outer c.args.interface c.args.self.now.foreign after.inner c.in-Some.current _ _ fs c.args.types.now
     (sym c.replace-inner.ensures.value ∙ c.in-Some.is) new
     (interface-kinds r _ (Some c.args.interface) c.replace-saved.new.dest after.maps _ _ c.args.types.now fs new c.in_ok-outcome-in-Some.ensures.counts c.in_ok-outcome-in-Some.ensures.learns
@@ -83,7 +97,8 @@ counted c new continues =
     (encoder_scope c.args.self.now.resolve.now c.args.self.now.outer o)
     c.replace-saved.new.dest after.maps
     (definitions_with (contents_of c.args.self.now.resolve.now c.args.self.now.outer o))
-    (definitions_with (contents_of c.args.self.now.resolve.now after.outer after.inner)) fs) (opened-with c.args.interface c.new-2.result c.replace-foreign.result c.args.self.now.foreign c.new-2.ensures c.replace-foreign.ensures.value) c.in_ok-outcome-in-Some.ensures.counts)
+    (definitions_with (contents_of c.args.self.now.resolve.now after.outer after.inner)) fs)
+    (opened-with c.args.interface c.new-2.result c.replace-foreign.result c.args.self.now.foreign c.new-2.ensures c.replace-foreign.ensures.value) c.in_ok-outcome-in-Some.ensures.counts)
     (subst (λ (z : Contents). MapsAgree r after.maps (SlotsStand z.slots)) there.at continues.agree) (first_true _ _ there.sound) c.in_ok-outcome-in-Some.ensures.defined
 
 pub returns-clause-function_types : goal.returns-clause-function_types
@@ -107,11 +122,17 @@ pub returns-in_err-outcome-in-Some-clause-size : goal.returns-in_err-outcome-in-
 returns-in_err-outcome-in-Some-clause-size c = λ h.
     let after = c.encode_parts-outcome.new.self in
     no-room after.outer after.inner refl (ap length c.new-2.ensures) (began (goal.at.returns-in_err-outcome-in-Some-clause-size c).In-Some).keys c.encode_parts-outcome.ensures.continues.packages_
-    (λ full. record { after = around_at c.encode_parts-outcome.new.self.outer c.in-Some.current.foreign; grown = around-grown (goal.at.returns-in_err-outcome-in-Some-clause-size c).In-Some; full = full })
+    (λ full. record {
+      after = around_at c.encode_parts-outcome.new.self.outer c.in-Some.current.foreign;
+      grown = around-grown (goal.at.returns-in_err-outcome-in-Some-clause-size c).In-Some;
+      full = full;
+    })
     (c.encode_parts-outcome.ensures.size (search rules))
 
 pub returns-clause-written : goal.returns-clause-written
 returns-clause-written c =
     let after = c.encode_parts-outcome.new.self in
-    taken c.args.self.now.resolve.now c.args.interface _ _ c.replace-saved.new.dest after.maps c.args.self.now.outer after.outer after.inner c.new-2.result c.in-Some.current (began (goal.at.returns-clause-written c).In-Some).numbers c.new-2.ensures
-    (sym c.replace-inner.ensures.value ∙ c.in-Some.is) c.encode_parts-outcome.ensures.continues.continues.agree.once c.in_ok-outcome-in-Some.ensures.learns.only c.in_ok-outcome-in-Some.ensures.written.extent
+    taken c.args.self.now.resolve.now c.args.interface _ _ c.replace-saved.new.dest after.maps c.args.self.now.outer after.outer after.inner c.new-2.result c.in-Some.current
+    (began (goal.at.returns-clause-written c).In-Some).numbers c.new-2.ensures
+    (sym c.replace-inner.ensures.value ∙ c.in-Some.is) c.encode_parts-outcome.ensures.continues.continues.agree.once c.in_ok-outcome-in-Some.ensures.learns.only
+    c.in_ok-outcome-in-Some.ensures.written.extent

@@ -61,7 +61,8 @@ encode_part-requires-clause-listed c = record {
 pub encode_part-requires-clause-uses : goal.encode_part-requires-clause-uses
 encode_part-requires-clause-uses c = λ f h. subst (λ (xs : List TypeId). UsesListed c.args.self.now.resolve.now xs f.2.now) (sym (c.deref.ensures.value ∙ c.in_ok-types.ensures))
     (uses-listed c.args.self.now.resolve.now c.requires.valid c.args.interface.0 c.index-def.result.now (there (goal.at.encode_part-requires-clause-uses c).After-index-def) f.2.now
-    (keyed-value c.index-def.result.now.functions.entries (placed_function f) (permuted-contains _ _ (placed_function f) c.in_ok-functions.ensures.all (contains-map placed_function c.in_ok-functions.functions.items f (rw c.deref-2.ensures.value at h)))))
+    (keyed-value c.index-def.result.now.functions.entries (placed_function f)
+    (permuted-contains _ _ (placed_function f) c.in_ok-functions.ensures.all (contains-map placed_function c.in_ok-functions.functions.items f (rw c.deref-2.ensures.value at h)))))
 
 some-same : (a b : Interface) → Some a ≡ Some b → a ≡ b
 some-same a b e = cc
@@ -71,7 +72,8 @@ returns-clause-ok c =
     let at = there (goal.at.returns-clause-ok c).After-index-def in
     let r = c.args.self.now.resolve.now in
     let fs = c.deref-2.result.now in
-    ok-then c.encode_part.result (λ k. (def : Interface) → interface_at r c.args.interface.0 ≡ Some def → EncodesPart r (outside c.args.self.now) (outside c.encode_part.new.self) c.args.interface def (map placed_function fs) (map (λ f. f.2.now) fs) k)
+    ok-then c.encode_part.result (λ k. (def : Interface) → interface_at r c.args.interface.0 ≡ Some def
+    → EncodesPart r (outside c.args.self.now) (outside c.encode_part.new.self) c.args.interface def (map placed_function fs) (map (λ f. f.2.now) fs) k)
     (λ k. (def : Interface) → interface_at r c.args.interface.0 ≡ Some def → EncodesInterface r (outside c.args.self.now) (outside c.encode_part.new.self) c.args.interface def k)
     (λ k all def is.
     let is_def = some-same c.index-def.result.now def (sym at ∙ is) in
@@ -82,14 +84,16 @@ returns-clause-ok c =
     c.encode_part.ensures.ok
 
 -- what is met from all that the interface refers to
-whole-met : (c : After-encode_part) (a : Around) → AliasesMet c.args.self.now.resolve.now (Some c.args.interface) (referred c.deref.result.now (map (λ f. f.2.now) c.deref-2.result.now)) (outside c.args.self.now) a
+whole-met : (c : After-encode_part) (a : Around)
+    → AliasesMet c.args.self.now.resolve.now (Some c.args.interface) (referred c.deref.result.now (map (λ f. f.2.now) c.deref-2.result.now)) (outside c.args.self.now) a
     → AliasesMet c.args.self.now.resolve.now (Some c.args.interface) (whole_interface c.index-def.result.now) (outside c.args.self.now) a
 whole-met c a made =
     let def = c.index-def.result.now in
     let fs = c.deref-2.result.now in
     permuted-aliases c.args.self.now.resolve.now (Some c.args.interface) (values def.types) (values def.functions) (map (λ f. f.2.now) fs)
     (values-permuted def fs (subst (λ xs. IsPermutation (map keyed def.functions.entries) (map placed_function xs)) (sym c.deref-2.ensures.value) c.in_ok-functions.ensures.all))
-    (subst (λ (ts : List TypeId). AliasesMet c.args.self.now.resolve.now (Some c.args.interface) (referred ts (map (λ f. f.2.now) fs)) (outside c.args.self.now) a) (c.deref.ensures.value ∙ c.in_ok-types.ensures) made)
+    (subst (λ (ts : List TypeId). AliasesMet c.args.self.now.resolve.now (Some c.args.interface) (referred ts (map (λ f. f.2.now) fs)) (outside c.args.self.now) a)
+    (c.deref.ensures.value ∙ c.in_ok-types.ensures) made)
 
 pub returns-clause-size : goal.returns-clause-size
 returns-clause-size c = λ h def is.
@@ -98,17 +102,20 @@ returns-clause-size c = λ h def is.
     let same : map placed_function c.deref-2.result.now ≡ functions_in_order def =
     ap (map placed_function) c.deref-2.ensures.value ∙ c.in_ok-functions.ensures.order ∙ ap functions_in_order is_def in
     elim (c.encode_part.ensures.size h) [
-      | inl room ↦ inl (room-listed c.args.self.now.resolve.now c.args.interface _ _ c.deref-2.result.now _ (c.deref.ensures.value ∙ c.in_ok-types.ensures ∙ ap (λ (z : Interface). values z.types) is_def) same room)
+      | inl room ↦ inl (room-listed c.args.self.now.resolve.now c.args.interface _ _ c.deref-2.result.now _
+          (c.deref.ensures.value ∙ c.in_ok-types.ensures ∙ ap (λ (z : Interface). values z.types) is_def) same room)
       | inr around ↦ inr (record {
         after = around.after;
-        grown = subst (λ (d : Interface). AliasesMet c.args.self.now.resolve.now (Some c.args.interface) (whole_interface d) (outside c.args.self.now) around.after) is_def (whole-met (goal.at.returns-clause-size c).After-encode_part around.after around.grown);
+        grown = subst (λ (d : Interface). AliasesMet c.args.self.now.resolve.now (Some c.args.interface) (whole_interface d) (outside c.args.self.now) around.after) is_def
+            (whole-met (goal.at.returns-clause-size c).After-encode_part around.after around.grown);
         full = around.full;
       })
     ]
 
 pub returns-clause-written : goal.returns-clause-written
 returns-clause-written c = on_ok c.encode_part.result _ _
-    (λ t. whole-few c.args.self.now.resolve.now c.requires.valid c.args.interface c.index-def.result.now (there (goal.at.returns-clause-written c).After-index-def) c.deref.result.now (c.deref.ensures.value ∙ c.in_ok-types.ensures)
+    (λ t. whole-few c.args.self.now.resolve.now c.requires.valid c.args.interface c.index-def.result.now (there (goal.at.returns-clause-written c).After-index-def) c.deref.result.now
+    (c.deref.ensures.value ∙ c.in_ok-types.ensures)
     c.deref-2.result.now (ap (map placed_function) c.deref-2.ensures.value ∙ c.in_ok-functions.ensures.order) c.args.self.now.outer c.encode_part.new.self.outer t) c.encode_part.ensures.written
 
 nothing-new : (c : After-index-def) → AliasesFor c.args.self.now.resolve.now c.args.interface (outside c.args.self.now) (outside c.args.self.now)
@@ -122,4 +129,9 @@ returns-in_err-functions-clause-err c = when-err _ (nothing-new (goal.at.returns
 
 pub returns-clause-err : goal.returns-clause-err
 returns-clause-err c = err-then c.encode_part.result
-    (λ made. record { def = c.index-def.result.now; there = there (goal.at.returns-clause-err c).After-index-def; made = whole-met (goal.at.returns-clause-err c).After-encode_part (outside c.encode_part.new.self) made }) c.encode_part.ensures.err
+    (λ made. record {
+      def = c.index-def.result.now;
+      there = there (goal.at.returns-clause-err c).After-index-def;
+      made =
+          whole-met (goal.at.returns-clause-err c).After-encode_part (outside c.encode_part.new.self) made;
+    }) c.encode_part.ensures.err

@@ -20,7 +20,8 @@ use Rattle.encode_types.proofs.Aliasing.{met-more, makes-then}
 
 pub encode_functions-requires-clause-encodable : goal.encode_functions-requires-clause-encodable
 encode_functions-requires-clause-encodable c = λ f h. subst (λ (s : Scope). CanEncodeFunction c.args.resolve.now s f.2.now)
-    (same-scope c.args.resolve.now c.args.self.now.resolve.now c.encode_types.new.self.resolve.now c.args.self.now.outer c.encode_types.new.self.outer c.args.self.now.inner c.encode_types.new.self.inner c.requires.begins.packages_ c.encode_types.ensures.leaves.scope_stays)
+    (same-scope c.args.resolve.now c.args.self.now.resolve.now c.encode_types.new.self.resolve.now c.args.self.now.outer c.encode_types.new.self.outer c.args.self.now.inner
+    c.encode_types.new.self.inner c.requires.begins.packages_ c.encode_types.ensures.leaves.scope_stays)
     (c.requires.functions f h)
 
 pub returns-clause-counts : goal.returns-clause-counts
@@ -35,8 +36,10 @@ pub encode_functions-requires-clause-used : goal.encode_functions-requires-claus
 encode_functions-requires-clause-used c = λ f h. listed-used c.args.resolve.now c.encode_types.new.self.maps c.args.types.now f.2.now c.in_ok-encode_types.ensures.known (c.requires.uses f h)
 
 pub returns-clause-exported : goal.returns-clause-exported
-returns-clause-exported c = exported-after c.encode_functions.result c.args.resolve.now c.args.self.now.resolve.now c.encode_types.new.self.resolve.now c.args.self.now.outer c.encode_types.new.self.outer c.encode_functions.new.self.outer
-    c.args.self.now.inner c.encode_types.new.self.inner c.encode_functions.new.self.inner (declarations_in c.args.resolve.now (own_of c.args.self.now.inner)) c.requires.begins.packages_ c.encode_types.ensures.leaves.scope_stays c.in_ok-encode_types.ensures.exported c.encode_functions.ensures.types_stay
+returns-clause-exported c = exported-after c.encode_functions.result c.args.resolve.now c.args.self.now.resolve.now c.encode_types.new.self.resolve.now c.args.self.now.outer
+    c.encode_types.new.self.outer c.encode_functions.new.self.outer
+    c.args.self.now.inner c.encode_types.new.self.inner c.encode_functions.new.self.inner (declarations_in c.args.resolve.now (own_of c.args.self.now.inner)) c.requires.begins.packages_
+    c.encode_types.ensures.leaves.scope_stays c.in_ok-encode_types.ensures.exported c.encode_functions.ensures.types_stay
 
 pub returns-clause-defined : goal.returns-clause-defined
 returns-clause-defined c =
@@ -44,24 +47,41 @@ returns-clause-defined c =
     c.encode_types.new.self.outer c.args.self.now.inner c.encode_types.new.self.inner c.encode_types.new.self.maps c.encode_functions.new.self.maps _
     c.encode_types.ensures.leaves.scope_stays c.in_ok-encode_types.ensures.defined c.encode_functions.ensures.names_stay
 
-types-continue : (c : After-encode_types) → Continues c.args.resolve.now c.args.resolve.now c.args.self.now.outer c.encode_types.new.self.outer c.args.self.now.inner c.encode_types.new.self.inner c.args.self.now.maps c.encode_types.new.self.maps
-types-continue c = after-types c.args.resolve.now c.args.self.now.resolve.now c.encode_types.new.self.resolve.now c.args.self.now.outer c.encode_types.new.self.outer c.args.self.now.inner c.encode_types.new.self.inner
-    c.args.self.now.maps c.encode_types.new.self.maps c.requires.begins.packages_ c.encode_types.ensures.leaves.scope_stays c.encode_types.ensures.leaves.agree c.encode_types.ensures.leaves.grows.around_
+types-continue : (c : After-encode_types)
+    → Continues c.args.resolve.now c.args.resolve.now c.args.self.now.outer c.encode_types.new.self.outer c.args.self.now.inner c.encode_types.new.self.inner c.args.self.now.maps
+    c.encode_types.new.self.maps
+types-continue c = after-types c.args.resolve.now c.args.self.now.resolve.now c.encode_types.new.self.resolve.now c.args.self.now.outer c.encode_types.new.self.outer c.args.self.now.inner
+    c.encode_types.new.self.inner
+    c.args.self.now.maps c.encode_types.new.self.maps c.requires.begins.packages_ c.encode_types.ensures.leaves.scope_stays c.encode_types.ensures.leaves.agree
+    c.encode_types.ensures.leaves.grows.around_
 
 pub returns-in_err-encode_types-clause-continues : goal.returns-in_err-encode_types-clause-continues
-returns-in_err-encode_types-clause-continues c = record { packages_ = search rules; inside = search rules; continues = types-continue (goal.at.returns-in_err-encode_types-clause-continues c).After-encode_types }
+returns-in_err-encode_types-clause-continues c = record {
+  packages_ = search rules;
+  inside = search rules;
+  continues =
+      types-continue (goal.at.returns-in_err-encode_types-clause-continues c).After-encode_types;
+}
 
 pub returns-clause-continues : goal.returns-clause-continues
-returns-clause-continues c = record { packages_ = search rules; inside = search rules; continues = continues-trans (types-continue (goal.at.returns-clause-continues c).After-encode_types) c.encode_functions.ensures.continues.continues refl }
+returns-clause-continues c = record {
+  packages_ = search rules;
+  inside = search rules;
+  continues =
+      continues-trans (types-continue (goal.at.returns-clause-continues c).After-encode_types) c.encode_functions.ensures.continues.continues refl;
+}
 
 pub returns-clause-learns : goal.returns-clause-learns
-returns-clause-learns c = on_ok c.encode_functions.result _ _ (λ l. from-then (ap (λ (s : Scope). s.own_interface) c.encode_types.ensures.leaves.scope_stays) c.in_ok-encode_types.ensures.learns l) c.encode_functions.ensures.learns
+returns-clause-learns c = on_ok c.encode_functions.result _ _ (λ l. from-then (ap (λ (s : Scope). s.own_interface) c.encode_types.ensures.leaves.scope_stays) c.in_ok-encode_types.ensures.learns l)
+    c.encode_functions.ensures.learns
 
 pub returns-clause-known : goal.returns-clause-known
-returns-clause-known c = on_ok c.encode_functions.result _ _ (λ l. λ t h. known-grow c.encode_types.new.self.maps c.encode_functions.new.self.maps t.0 l.learns.grow (c.in_ok-encode_types.ensures.known t h)) c.encode_functions.ensures.learns
+returns-clause-known c = on_ok c.encode_functions.result _ _ (λ l. λ t h. known-grow c.encode_types.new.self.maps c.encode_functions.new.self.maps t.0 l.learns.grow
+    (c.in_ok-encode_types.ensures.known t h)) c.encode_functions.ensures.learns
 
 pub returns-in_err-encode_types-clause-size : goal.returns-in_err-encode_types-clause-size
-returns-in_err-encode_types-clause-size c = λ h. lacks-types (map placed_function c.args.functions.now) c.requires.begins.agree.once (reached-left (map (λ t. ty.Id t) c.args.types.now) (flat_map function_types (map (λ f. f.2.now) c.args.functions.now))) (c.encode_types.ensures.size (search rules))
+returns-in_err-encode_types-clause-size c = λ h. lacks-types (map placed_function c.args.functions.now) c.requires.begins.agree.once
+    (reached-left (map (λ t. ty.Id t) c.args.types.now) (flat_map function_types (map (λ f. f.2.now) c.args.functions.now))) (c.encode_types.ensures.size (search rules))
 
 pub returns-clause-size : goal.returns-clause-size
 returns-clause-size c = λ h.
@@ -73,13 +93,16 @@ returns-clause-size c = λ h.
     (knows-along c.encode_types.new.self.maps c.args.self.now.maps (sym same.lists) (sym same.names_)) (c.encode_functions.ensures.size h)
 
 pub returns-clause-written : goal.returns-clause-written
-returns-clause-written c = on_ok c.encode_functions.result _ _ (λ w. writes-most (omega arith) (writes-then c.encode_types.ensures.leaves.scope_stays c.in_ok-encode_types.ensures.written w)) c.encode_functions.ensures.written
+returns-clause-written c = on_ok c.encode_functions.result _ _ (λ w. writes-most (omega arith) (writes-then c.encode_types.ensures.leaves.scope_stays c.in_ok-encode_types.ensures.written w))
+    c.encode_functions.ensures.written
 
 pub returns-in_err-encode_types-clause-aliases : goal.returns-in_err-encode_types-clause-aliases
-returns-in_err-encode_types-clause-aliases c = met-more (reached-left (map (λ t. ty.Id t) c.args.types.now) (flat_map function_types (map (λ f. f.2.now) c.args.functions.now))) c.encode_types.ensures.aliases
+returns-in_err-encode_types-clause-aliases c = met-more (reached-left (map (λ t. ty.Id t) c.args.types.now) (flat_map function_types (map (λ f. f.2.now) c.args.functions.now)))
+    c.encode_types.ensures.aliases
 
 pub returns-clause-aliases : goal.returns-clause-aliases
 returns-clause-aliases c =
     let types = map (λ t. ty.Id t) c.args.types.now in
     let others = flat_map function_types (map (λ f. f.2.now) c.args.functions.now) in
-    makes-then (ap (λ (s : Scope). s.own_interface) c.encode_types.ensures.leaves.scope_stays) (met-more (reached-left types others) c.encode_types.ensures.aliases) (met-more (reached-right types others) c.encode_functions.ensures.aliases)
+    makes-then (ap (λ (s : Scope). s.own_interface) c.encode_types.ensures.leaves.scope_stays) (met-more (reached-left types others) c.encode_types.ensures.aliases)
+    (met-more (reached-right types others) c.encode_functions.ensures.aliases)

@@ -10,16 +10,20 @@ use Rattle.wit_encode.proofs.Extents.{bytes-few}
 use Rattle.wit_encode.proofs.BytesWritten.{inside-more, when-ok}
 
 pub returns-clause-ok : goal.returns-clause-ok
-returns-clause-ok c = (resource-within c.export_inside.result c.args.self.now.resolve.now c.args.self.now.outer c.args.self.now.inner c.in-Some.current c.export_inside.new.inner c.in-Some.is _ c.requires c.export_inside.ensures.ok c.export_inside.ensures.err).ok
+returns-clause-ok c = (resource-within c.export_inside.result c.args.self.now.resolve.now c.args.self.now.outer c.args.self.now.inner c.in-Some.current c.export_inside.new.inner c.in-Some.is _
+    c.requires c.export_inside.ensures.ok c.export_inside.ensures.err).ok
 
 pub returns-clause-grows : goal.returns-clause-grows
-returns-clause-grows c = slots-grow (resource-within c.export_inside.result c.args.self.now.resolve.now c.args.self.now.outer c.args.self.now.inner c.in-Some.current c.export_inside.new.inner c.in-Some.is _ c.requires c.export_inside.ensures.ok c.export_inside.ensures.err).grows (ap (around_of c.args.self.now.outer) (sym c.in-Some.is)) (λ ns h. h)
+returns-clause-grows c = slots-grow (resource-within c.export_inside.result c.args.self.now.resolve.now c.args.self.now.outer c.args.self.now.inner c.in-Some.current c.export_inside.new.inner
+    c.in-Some.is _ c.requires c.export_inside.ensures.ok c.export_inside.ensures.err).grows (ap (around_of c.args.self.now.outer) (sym c.in-Some.is)) (λ ns h. h)
 
 pub returns-clause-scope_stays : goal.returns-clause-scope_stays
-returns-clause-scope_stays c = (resource-within c.export_inside.result c.args.self.now.resolve.now c.args.self.now.outer c.args.self.now.inner c.in-Some.current c.export_inside.new.inner c.in-Some.is _ c.requires c.export_inside.ensures.ok c.export_inside.ensures.err).scope_stays
+returns-clause-scope_stays c = (resource-within c.export_inside.result c.args.self.now.resolve.now c.args.self.now.outer c.args.self.now.inner c.in-Some.current c.export_inside.new.inner c.in-Some.is
+    _ c.requires c.export_inside.ensures.ok c.export_inside.ensures.err).scope_stays
 
 pub returns-clause-counts : goal.returns-clause-counts
-returns-clause-counts c = (resource-within c.export_inside.result c.args.self.now.resolve.now c.args.self.now.outer c.args.self.now.inner c.in-Some.current c.export_inside.new.inner c.in-Some.is _ c.requires c.export_inside.ensures.ok c.export_inside.ensures.err).counted
+returns-clause-counts c = (resource-within c.export_inside.result c.args.self.now.resolve.now c.args.self.now.outer c.args.self.now.inner c.in-Some.current c.export_inside.new.inner c.in-Some.is _
+    c.requires c.export_inside.ensures.ok c.export_inside.ensures.err).counted
 
 pub returns-clause-size : goal.returns-clause-size
 returns-clause-size c = λ h. record {
@@ -35,4 +39,7 @@ returns-clause-around_stays c = ap (around_of c.args.self.now.outer) (sym c.in-S
 
 pub returns-clause-written : goal.returns-clause-written
 returns-clause-written c = when-ok c.export_inside.result _ _
-    (λ i made. record { extent = inside-more c.args.self.now.outer c.args.self.now.inner c.in-Some.current c.export_inside.new.inner _ _ c.in-Some.is made.1 (bytes-few.exports (raw_name c.args.name) refs.SubResource) }) c.export_inside.ensures.ok
+    (λ i made. record {
+      extent = inside-more c.args.self.now.outer c.args.self.now.inner c.in-Some.current c.export_inside.new.inner _ _ c.in-Some.is made.1
+          (bytes-few.exports (raw_name c.args.name) refs.SubResource);
+    }) c.export_inside.ensures.ok

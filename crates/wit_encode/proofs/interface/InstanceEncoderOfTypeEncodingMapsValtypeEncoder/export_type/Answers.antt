@@ -15,25 +15,30 @@ use Rattle.wit_encode.proofs.BytesWritten.{inside-more}
 pub returns-clause-ok : goal.returns-clause-ok
 returns-clause-ok c =
     let res : Result ℕ Error = Ok c.in_ok-slot-in-Some.slot in
-    (type-within res c.args.self.now.resolve.now c.args.self.now.outer c.args.self.now.inner c.in-Some.current c.export_inside.new.inner c.in-Some.is c.args.index (raw_name c.args.name) c.requires c.in_ok-slot-in-Some.ensures.ok tt).ok
+    (type-within res c.args.self.now.resolve.now c.args.self.now.outer c.args.self.now.inner c.in-Some.current c.export_inside.new.inner c.in-Some.is c.args.index (raw_name c.args.name) c.requires
+    c.in_ok-slot-in-Some.ensures.ok tt).ok
 
 pub returns-clause-grows : goal.returns-clause-grows
 returns-clause-grows c =
     let res : Result ℕ Error = Ok c.in_ok-slot-in-Some.slot in
-    slots-grow (type-within res c.args.self.now.resolve.now c.args.self.now.outer c.args.self.now.inner c.in-Some.current c.export_inside.new.inner c.in-Some.is c.args.index (raw_name c.args.name) c.requires c.in_ok-slot-in-Some.ensures.ok tt).grows (ap (around_of c.args.self.now.outer) (sym c.in-Some.is)) (λ ns h. h)
+    slots-grow (type-within res c.args.self.now.resolve.now c.args.self.now.outer c.args.self.now.inner c.in-Some.current c.export_inside.new.inner c.in-Some.is c.args.index (raw_name c.args.name)
+    c.requires c.in_ok-slot-in-Some.ensures.ok tt).grows (ap (around_of c.args.self.now.outer) (sym c.in-Some.is)) (λ ns h. h)
 
 pub returns-clause-scope_stays : goal.returns-clause-scope_stays
 returns-clause-scope_stays c =
     let res : Result ℕ Error = Ok c.in_ok-slot-in-Some.slot in
-    (type-within res c.args.self.now.resolve.now c.args.self.now.outer c.args.self.now.inner c.in-Some.current c.export_inside.new.inner c.in-Some.is c.args.index (raw_name c.args.name) c.requires c.in_ok-slot-in-Some.ensures.ok tt).scope_stays
+    (type-within res c.args.self.now.resolve.now c.args.self.now.outer c.args.self.now.inner c.in-Some.current c.export_inside.new.inner c.in-Some.is c.args.index (raw_name c.args.name) c.requires
+    c.in_ok-slot-in-Some.ensures.ok tt).scope_stays
 
 pub returns-clause-counts : goal.returns-clause-counts
 returns-clause-counts c =
     let res : Result ℕ Error = Ok c.in_ok-slot-in-Some.slot in
-    (type-within res c.args.self.now.resolve.now c.args.self.now.outer c.args.self.now.inner c.in-Some.current c.export_inside.new.inner c.in-Some.is c.args.index (raw_name c.args.name) c.requires c.in_ok-slot-in-Some.ensures.ok tt).counted
+    (type-within res c.args.self.now.resolve.now c.args.self.now.outer c.args.self.now.inner c.in-Some.current c.export_inside.new.inner c.in-Some.is c.args.index (raw_name c.args.name) c.requires
+    c.in_ok-slot-in-Some.ensures.ok tt).counted
 
 pub returns-in_err-slot-in-Some-clause-scope_stays : goal.returns-in_err-slot-in-Some-clause-scope_stays
-returns-in_err-slot-in-Some-clause-scope_stays c = ap (encoder_scope c.args.self.now.resolve.now c.args.self.now.outer) ((λ i. Some (record c.in-Some.current { declared = c.in_err-slot-in-Some.ensures.err i })) ∙ sym c.in-Some.is)
+returns-in_err-slot-in-Some-clause-scope_stays c = ap (encoder_scope c.args.self.now.resolve.now c.args.self.now.outer)
+    ((λ i. Some (record c.in-Some.current { declared = c.in_err-slot-in-Some.ensures.err i })) ∙ sym c.in-Some.is)
 
 pub returns-in_err-slot-in-Some-clause-size : goal.returns-in_err-slot-in-Some-clause-size
 returns-in_err-slot-in-Some-clause-size c = λ h.
@@ -57,5 +62,6 @@ returns-in_err-slot-in-Some-clause-around_stays c = ap (around_of c.args.self.no
 
 pub returns-clause-written : goal.returns-clause-written
 returns-clause-written c = record {
-  extent = inside-more c.args.self.now.outer c.args.self.now.inner c.in-Some.current c.export_inside.new.inner _ _ c.in-Some.is c.in_ok-slot-in-Some.ensures.ok.1 (bytes-few.exports (raw_name c.args.name) (refs.TypeEq c.args.index));
+  extent = inside-more c.args.self.now.outer c.args.self.now.inner c.in-Some.current c.export_inside.new.inner _ _ c.in-Some.is c.in_ok-slot-in-Some.ensures.ok.1
+      (bytes-few.exports (raw_name c.args.name) (refs.TypeEq c.args.index));
 }

@@ -21,17 +21,27 @@ pub unreachable-requires : goal.unreachable-requires
 unreachable-requires c = none-outside c.args.self.now.resolve.now c.args.self.now.outer c.args.interface.0 c.args.id.0
     (subst (λ (o : Option OpenInterface). IsImportable (encoder_scope c.args.self.now.resolve.now c.args.self.now.outer o) c.args.interface.0 c.args.id.0) c.in-None.is c.requires)
 
-imports : (c : After-alias_inside) → ImportsTo c.alias_inside.result c.args.self.now.resolve.now c.args.self.now.outer c.reach.new.outer c.args.self.now.inner c.in-Some.current c.reach.new.foreign c.alias_inside.new.inner c.in-Some.is c.args.self.now.inner c.args.id.0
-imports c = imported c.alias_inside.result c.args.self.now.resolve.now c.args.self.now.outer c.reach.new.outer c.args.self.now.inner c.in-Some.current c.reach.new.foreign c.alias_inside.new.inner c.in-Some.is c.args.interface.0 c.args.id c.in_ok-slot-in-Some.slot c.requires
+imports : (c : After-alias_inside)
+    → ImportsTo c.alias_inside.result c.args.self.now.resolve.now c.args.self.now.outer c.reach.new.outer c.args.self.now.inner c.in-Some.current c.reach.new.foreign c.alias_inside.new.inner
+    c.in-Some.is c.args.self.now.inner c.args.id.0
+imports c = imported c.alias_inside.result c.args.self.now.resolve.now c.args.self.now.outer c.reach.new.outer c.args.self.now.inner c.in-Some.current c.reach.new.foreign c.alias_inside.new.inner
+    c.in-Some.is c.args.interface.0 c.args.id c.in_ok-slot-in-Some.slot c.requires
     c.reach.ensures.reaches c.in_ok-slot-in-Some.ensures.slot c.alias_inside.ensures.ok c.alias_inside.ensures.err
 
 pub returns-clause-ok : goal.returns-clause-ok
-returns-clause-ok c = imported-stands c.alias_inside.result c.args.self.now.resolve.now c.args.self.now.outer c.reach.new.outer c.args.self.now.inner c.in-Some.current c.reach.new.foreign c.alias_inside.new.inner c.in-Some.is c.args.id.0 (imports c)
+returns-clause-ok c = imported-stands c.alias_inside.result c.args.self.now.resolve.now c.args.self.now.outer c.reach.new.outer c.args.self.now.inner c.in-Some.current c.reach.new.foreign
+    c.alias_inside.new.inner c.in-Some.is c.args.id.0 (imports c)
 
 pub returns-clause-grows : goal.returns-clause-grows
 returns-clause-grows c =
     let g = (imports (goal.at.returns-clause-grows c).After-alias_inside).grows in
-    record { kept = g.kept; more = g.more; around_ = subst (λ (o : Option OpenInterface). GrowsAround c.args.self.now.resolve.now (around_of c.args.self.now.outer o) (around_at c.reach.new.outer c.reach.new.foreign)) (sym c.in-Some.is) (reaches-grows c.reach.ensures.reaches); own_ = λ ns h. h }
+    record {
+      kept = g.kept;
+      more = g.more;
+      around_ = subst (λ (o : Option OpenInterface). GrowsAround c.args.self.now.resolve.now (around_of c.args.self.now.outer o)
+          (around_at c.reach.new.outer c.reach.new.foreign)) (sym c.in-Some.is) (reaches-grows c.reach.ensures.reaches);
+      own_ = λ ns h. h;
+    }
 
 pub returns-clause-scope_stays : goal.returns-clause-scope_stays
 returns-clause-scope_stays c = (imports (goal.at.returns-clause-scope_stays c).After-alias_inside).scope_stays
@@ -53,7 +63,8 @@ returns-in_err-slot-in-Some-clause-held c = held-inside c.args.self.now.outer c.
 
 pub returns-in_err-slot-in-Some-clause-scope_stays : goal.returns-in_err-slot-in-Some-clause-scope_stays
 returns-in_err-slot-in-Some-clause-scope_stays c =
-    ap (λ (z : Around). scope_with c.args.self.now.resolve.now (Some c.in-Some.current.interface) z (inner_contents (place_in c.args.self.now.resolve.now (Some c.in-Some.current.interface)) z.declared c.in-Some.current.declared)) c.in_err-slot-in-Some.ensures.err
+    ap (λ (z : Around). scope_with c.args.self.now.resolve.now (Some c.in-Some.current.interface) z
+    (inner_contents (place_in c.args.self.now.resolve.now (Some c.in-Some.current.interface)) z.declared c.in-Some.current.declared)) c.in_err-slot-in-Some.ensures.err
     ∙ ap (encoder_scope c.args.self.now.resolve.now c.args.self.now.outer) (sym c.in-Some.is)
 
 pub returns-in_err-slot-in-Some-clause-size : goal.returns-in_err-slot-in-Some-clause-size
@@ -65,17 +76,20 @@ returns-in_err-slot-in-Some-clause-size c = λ h. record {
 pub returns-clause-written : goal.returns-clause-written
 returns-clause-written c = when-ok c.alias_inside.result _ _
     (λ i made def at. record {
-      extent = imported-more (around_at c.args.self.now.outer c.in-Some.current.foreign) (around_at c.reach.new.outer c.reach.new.foreign) c.args.self.now.inner c.in-Some.current c.alias_inside.new.inner c.in_ok-slot-in-Some.slot def
+      extent = imported-more (around_at c.args.self.now.outer c.in-Some.current.foreign) (around_at c.reach.new.outer c.reach.new.foreign) c.args.self.now.inner c.in-Some.current
+          c.alias_inside.new.inner c.in_ok-slot-in-Some.slot def
           c.reach.ensures.reaches at c.in-Some.is made.1;
     }) c.alias_inside.ensures.ok
 
 pub returns-clause-reaches : goal.returns-clause-reaches
 returns-clause-reaches c =
-    subst (λ (o : Option OpenInterface). ReachesAround c.args.self.now.resolve.now c.args.id (around_of c.args.self.now.outer o) (around_at c.reach.new.outer c.reach.new.foreign)) (sym c.in-Some.is) c.reach.ensures.reaches
+    subst (λ (o : Option OpenInterface). ReachesAround c.args.self.now.resolve.now c.args.id (around_of c.args.self.now.outer o) (around_at c.reach.new.outer c.reach.new.foreign)) (sym c.in-Some.is)
+    c.reach.ensures.reaches
 
 pub returns-in_err-slot-in-Some-clause-reaches : goal.returns-in_err-slot-in-Some-clause-reaches
 returns-in_err-slot-in-Some-clause-reaches c =
-    subst (λ (o : Option OpenInterface). ReachesAround c.args.self.now.resolve.now c.args.id (around_of c.args.self.now.outer o) (around_at c.reach.new.outer c.reach.new.foreign)) (sym c.in-Some.is) c.reach.ensures.reaches
+    subst (λ (o : Option OpenInterface). ReachesAround c.args.self.now.resolve.now c.args.id (around_of c.args.self.now.outer o) (around_at c.reach.new.outer c.reach.new.foreign)) (sym c.in-Some.is)
+    c.reach.ensures.reaches
 
 pub returns-clause-imports : goal.returns-clause-imports
 returns-clause-imports c = record { each = λ n h. inl h }

@@ -28,54 +28,68 @@ use Rattle.std.proofs.lemmas.Result.{on_ok_weaker as on-each}
 pub define_instance-requires-clause-in_range : goal.define_instance-requires-clause-in_range
 define_instance-requires-clause-in_range c =
     let next = c.requires.next in
-    let there = interface-there c.args.resolve.now c.requires.valid next.world c.args.self.now next.done next.shown (towards c.args.placed.direction) (entry_of c.args.placed) next.next c.args.interface c.requires.item in
+    let there = interface-there c.args.resolve.now c.requires.valid next.world c.args.self.now next.done next.shown (towards c.args.placed.direction) (entry_of c.args.placed) next.next
+    c.args.interface c.requires.item in
     subst (λ (q : Resolve). c.args.interface.0 < length q.interfaces.items) (sym next.shown.packages_) (slice_get_within c.args.resolve.now.interfaces.items c.args.interface.0 there.0 there.1)
 
 pub define_instance-requires-clause-around : goal.define_instance-requires-clause-around
 define_instance-requires-clause-around c =
     let next = c.requires.next in
     subst (λ (q : Resolve). UsedStand q (standing_instances q (world_around c.args.self.now)) c.args.interface.0) (sym next.shown.packages_)
-    (used-stand c.args.resolve.now c.requires.valid next.world c.args.self.now next.done next.shown (towards c.args.placed.direction) (entry_of c.args.placed) next.next c.args.interface c.requires.item)
+    (used-stand c.args.resolve.now c.requires.valid next.world c.args.self.now next.done next.shown (towards c.args.placed.direction) (entry_of c.args.placed) next.next c.args.interface
+    c.requires.item)
 
 pub list_instance-requires : goal.list_instance-requires
 list_instance-requires c =
     let next = c.requires.next in
-    room c.args.resolve.now c.requires.valid next.world c.args.self.now c.define_instance.new.self next.done next.shown (towards c.args.placed.direction) c.args.placed.canonical_names (entry_of c.args.placed) next.next c.args.interface
+    room c.args.resolve.now c.requires.valid next.world c.args.self.now c.define_instance.new.self next.done next.shown (towards c.args.placed.direction) c.args.placed.canonical_names
+    (entry_of c.args.placed) next.next c.args.interface
     c.requires.item c.in_ok-slot.slot c.define_instance.ensures.rest c.in_ok-slot.ensures.ok c.declare.new.outer
-    (c.in_ok-declare.ensures.ok ∙ ap (λ n. declared_after c.define_instance.new.self.outer (declared_towards (towards c.args.placed.direction) n (refs.Instance c.in_ok-slot.slot))) c.in_ok-name.ensures.ok)
+    (c.in_ok-declare.ensures.ok ∙ ap (λ n. declared_after c.define_instance.new.self.outer (declared_towards (towards c.args.placed.direction) n (refs.Instance c.in_ok-slot.slot)))
+    c.in_ok-name.ensures.ok)
 
 pub returns-clause-ok : goal.returns-clause-ok
 returns-clause-ok c = on-each c.list_instance.result (λ lists w done h next.
-    interface-encoded c.args.resolve.now c.requires.valid w c.args.self.now c.define_instance.new.self done h (towards c.args.placed.direction) c.args.placed.canonical_names (entry_of c.args.placed) next c.args.interface
+    interface-encoded c.args.resolve.now c.requires.valid w c.args.self.now c.define_instance.new.self done h (towards c.args.placed.direction) c.args.placed.canonical_names (entry_of c.args.placed)
+    next c.args.interface
     c.requires.item c.in_ok-slot.slot c.define_instance.ensures.rest c.in_ok-slot.ensures.ok c.declare.new.outer
-    (c.in_ok-declare.ensures.ok ∙ ap (λ n. declared_after c.define_instance.new.self.outer (declared_towards (towards c.args.placed.direction) n (refs.Instance c.in_ok-slot.slot))) c.in_ok-name.ensures.ok)
+    (c.in_ok-declare.ensures.ok ∙ ap (λ n. declared_after c.define_instance.new.self.outer (declared_towards (towards c.args.placed.direction) n (refs.Instance c.in_ok-slot.slot)))
+    c.in_ok-name.ensures.ok)
     c.list_instance.new.self lists) c.list_instance.ensures.ok
 
 pub returns-clause-names : goal.returns-clause-names
 returns-clause-names c = on-each c.list_instance.result (λ lists.
     let next = c.requires.next in
     let q = c.args.self.now.resolve.now in
-    let there = interface-there c.args.resolve.now c.requires.valid next.world c.args.self.now next.done next.shown (towards c.args.placed.direction) (entry_of c.args.placed) next.next c.args.interface c.requires.item in
-    let named = interface-names c.args.resolve.now q c.args.placed.canonical_names (entry_of c.args.placed) c.args.interface (world_around c.args.self.now) (world_around c.define_instance.new.self) there.0 c.declare.new.outer
-    (towards c.args.placed.direction) _ c.in_ok-slot.slot c.requires.item (c.in_ok-slot.ensures.ok there.0 (ap (λ (z : Resolve). interface_at z c.args.interface.0) next.shown.packages_ ∙ there.1)) c.in_ok-declare.ensures.ok c.in_ok-name.ensures.ok in
-    subst (λ (z : WorldEncoder). NamesMore c.args.resolve.now c.args.placed.canonical_names (entry_of c.args.placed ∷ []) c.args.self.now.outer z.outer) (sym lists.rest) named) c.list_instance.ensures.ok
+    let there = interface-there c.args.resolve.now c.requires.valid next.world c.args.self.now next.done next.shown (towards c.args.placed.direction) (entry_of c.args.placed) next.next
+    c.args.interface c.requires.item in
+    let named = interface-names c.args.resolve.now q c.args.placed.canonical_names (entry_of c.args.placed) c.args.interface (world_around c.args.self.now) (world_around c.define_instance.new.self)
+    there.0 c.declare.new.outer
+    (towards c.args.placed.direction) _ c.in_ok-slot.slot c.requires.item (c.in_ok-slot.ensures.ok there.0 (ap (λ (z : Resolve). interface_at z c.args.interface.0) next.shown.packages_ ∙ there.1))
+    c.in_ok-declare.ensures.ok c.in_ok-name.ensures.ok in
+    subst (λ (z : WorldEncoder). NamesMore c.args.resolve.now c.args.placed.canonical_names (entry_of c.args.placed ∷ []) c.args.self.now.outer z.outer) (sym lists.rest) named)
+    c.list_instance.ensures.ok
 
 pub returns-clause-once : goal.returns-clause-once
 returns-clause-once c = on-each c.list_instance.result (λ lists es h.
     let next = c.requires.next in
-    let there = interface-there c.args.resolve.now c.requires.valid next.world c.args.self.now next.done next.shown (towards c.args.placed.direction) (entry_of c.args.placed) next.next c.args.interface c.requires.item in
+    let there = interface-there c.args.resolve.now c.requires.valid next.world c.args.self.now next.done next.shown (towards c.args.placed.direction) (entry_of c.args.placed) next.next
+    c.args.interface c.requires.item in
     let encodes = subst (λ (q : Resolve). EncodesInterface q (world_around c.args.self.now) (world_around c.define_instance.new.self) c.args.interface there.0 c.in_ok-slot.slot) next.shown.packages_
     (c.in_ok-slot.ensures.ok there.0 (ap (λ (q : Resolve). interface_at q c.args.interface.0) next.shown.packages_ ∙ there.1)) in
-    interface-defined c.args.resolve.now c.args.self.now c.define_instance.new.self c.list_instance.new.self (entry_of c.args.placed) c.args.interface there.0 c.in_ok-slot.slot (towards c.args.placed.direction) _ c.declare.new.outer
+    interface-defined c.args.resolve.now c.args.self.now c.define_instance.new.self c.list_instance.new.self (entry_of c.args.placed) c.args.interface there.0 c.in_ok-slot.slot
+    (towards c.args.placed.direction) _ c.declare.new.outer
     c.requires.item there.1 c.define_instance.ensures.rest encodes c.in_ok-declare.ensures.ok lists es h) c.list_instance.ensures.ok
 
 pub returns-clause-few : goal.returns-clause-few
 returns-clause-few c = on-each c.list_instance.result (λ lists es h.
     let next = c.requires.next in
-    let there = interface-there c.args.resolve.now c.requires.valid next.world c.args.self.now next.done next.shown (towards c.args.placed.direction) (entry_of c.args.placed) next.next c.args.interface c.requires.item in
+    let there = interface-there c.args.resolve.now c.requires.valid next.world c.args.self.now next.done next.shown (towards c.args.placed.direction) (entry_of c.args.placed) next.next
+    c.args.interface c.requires.item in
     let encodes = subst (λ (q : Resolve). EncodesInterface q (world_around c.args.self.now) (world_around c.define_instance.new.self) c.args.interface there.0 c.in_ok-slot.slot) next.shown.packages_
     (c.in_ok-slot.ensures.ok there.0 (ap (λ (q : Resolve). interface_at q c.args.interface.0) next.shown.packages_ ∙ there.1)) in
-    interface-few c.args.resolve.now c.args.self.now c.define_instance.new.self c.list_instance.new.self (entry_of c.args.placed) c.args.interface there.0 c.in_ok-slot.slot (towards c.args.placed.direction) _ c.declare.new.outer
+    interface-few c.args.resolve.now c.args.self.now c.define_instance.new.self c.list_instance.new.self (entry_of c.args.placed) c.args.interface there.0 c.in_ok-slot.slot
+    (towards c.args.placed.direction) _ c.declare.new.outer
     c.requires.item there.1 c.define_instance.ensures.rest encodes c.in_ok-declare.ensures.ok lists es h) c.list_instance.ensures.ok
 
 pub returns-clause-size : goal.returns-clause-size
@@ -97,17 +111,22 @@ returns-in_err-declare-clause-size c = λ h.
     let there = interface-there c.args.resolve.now c.requires.valid w c.args.self.now done shown (towards c.args.placed.direction) (entry_of c.args.placed) next c.args.interface c.requires.item in
     let encodes = subst (λ (q : Resolve). EncodesInterface q (world_around c.args.self.now) (world_around c.define_instance.new.self) c.args.interface there.0 c.in_ok-slot.slot) shown.packages_
     (c.in_ok-slot.ensures.ok there.0 (ap (λ (q : Resolve). interface_at q c.args.interface.0) shown.packages_ ∙ there.1)) in
-    placed-lacks c.args.resolve.now w c.args.self.now done (towards c.args.placed.direction) (entry_of c.args.placed) next d few shown.agree.once c.args.interface c.requires.item c.args.placed.canonical_names _ c.in_ok-slot.slot
+    placed-lacks c.args.resolve.now w c.args.self.now done (towards c.args.placed.direction) (entry_of c.args.placed) next d few shown.agree.once c.args.interface c.requires.item
+    c.args.placed.canonical_names _ c.in_ok-slot.slot
     (world_around c.define_instance.new.self) there.0 encodes c.in_ok-name.ensures.ok refused
 
 pub returns-clause-written : goal.returns-clause-written
 returns-clause-written c = on-each c.list_instance.result (λ lists.
     let r = c.args.resolve.now in
     let whole = interface-item r c.args.placed.canonical_names c.args.placed.key.now c.args.placed.item.now c.args.interface.0 c.requires.item in
-    let one = subst (λ (q : Resolve). AddsBytes (whole_extent q c.args.interface.0) c.args.self.now.outer c.define_instance.new.self.outer) c.requires.next.shown.packages_ c.in_ok-slot.ensures.written in
-    let both = adds-described (whole_instance_weight r c.args.interface.0) c.args.self.now.outer c.define_instance.new.self.outer c.declare.new.outer _ _ (name_of_item r c.args.placed.canonical_names (entry_of c.args.placed)) one c.in_ok-declare.ensures.ok
+    let one = subst (λ (q : Resolve). AddsBytes (whole_extent q c.args.interface.0) c.args.self.now.outer c.define_instance.new.self.outer) c.requires.next.shown.packages_
+    c.in_ok-slot.ensures.written in
+    let both = adds-described (whole_instance_weight r c.args.interface.0) c.args.self.now.outer c.define_instance.new.self.outer c.declare.new.outer _ _
+    (name_of_item r c.args.placed.canonical_names (entry_of c.args.placed)) one c.in_ok-declare.ensures.ok
     (declared-few (towards c.args.placed.direction) _ (refs.Instance c.in_ok-slot.slot)) c.in_ok-name.ensures.ok in
-    let here : AddsLearnt r (items_extent r c.args.placed.canonical_names (entry_of c.args.placed ∷ [])) c.args.self.now.maps c.args.self.now.maps c.args.self.now.outer c.declare.new.outer = learnt-most (omega (arith, whole)) (learnt-beside c.args.self.now.maps _ _ both) in
+    let here : AddsLearnt r (items_extent r c.args.placed.canonical_names (entry_of c.args.placed ∷ [])) c.args.self.now.maps c.args.self.now.maps c.args.self.now.outer c.declare.new.outer =
+    learnt-most (omega (arith, whole)) (learnt-beside c.args.self.now.maps _ _ both) in
     subst (λ (z : WorldEncoder). AddsLearnt r (items_extent r c.args.placed.canonical_names (entry_of c.args.placed ∷ [])) c.args.self.now.maps z.maps c.args.self.now.outer z.outer) (sym lists.rest)
-    (subst (λ (z : WorldEncoder). AddsLearnt r (items_extent r c.args.placed.canonical_names (entry_of c.args.placed ∷ [])) c.args.self.now.maps z.maps c.args.self.now.outer c.declare.new.outer) (sym c.define_instance.ensures.rest) here))
+    (subst (λ (z : WorldEncoder). AddsLearnt r (items_extent r c.args.placed.canonical_names (entry_of c.args.placed ∷ [])) c.args.self.now.maps z.maps c.args.self.now.outer c.declare.new.outer)
+    (sym c.define_instance.ensures.rest) here))
     c.list_instance.ensures.ok

@@ -11,40 +11,49 @@ loop-key-init c = record { going = goes-first c.args.resolve.now c.args.canonica
 pub encode_item-requires-clause-next : goal.encode_item-requires-clause-next
 encode_item-requires-clause-next c =
     let is = rest_more deref_pair c.loop-key.key-iterator c.next.new.self c.next.result (c.in-Some.key, c.in-Some.item) c.in-Some.is c.next.ensures.steps in
-    let n = goes-next c.args.resolve.now c.args.canonical_names c.args.self.now c.loop-key.self (towards c.args.direction) c.args.items.now.entries c.loop-key.key-iterator c.next.new.self (c.in-Some.key.now, c.in-Some.item.now) c.requires.begins c.loop-key.invariant.going is in
+    let n = goes-next c.args.resolve.now c.args.canonical_names c.args.self.now c.loop-key.self (towards c.args.direction) c.args.items.now.entries c.loop-key.key-iterator c.next.new.self
+    (c.in-Some.key.now, c.in-Some.item.now) c.requires.begins c.loop-key.invariant.going is in
     record { world = n.world; done = n.done; shown = n.shown; next = n.next }
 
 pub loop-key-preserved : goal.loop-key-preserved
 loop-key-preserved c =
     let is = rest_more deref_pair c.loop-key.key-iterator c.next.new.self c.next.result (c.in-Some.key, c.in-Some.item) c.in-Some.is c.next.ensures.steps in
     record {
-      going = goes-on c.args.resolve.now c.args.canonical_names c.args.self.now c.loop-key.self c.encode_item.new.self (towards c.args.direction) c.args.items.now.entries c.loop-key.key-iterator c.next.new.self (c.in-Some.key.now, c.in-Some.item.now)
-          c.requires.begins c.loop-key.invariant.going is c.in_ok-encode_item.ensures.ok c.in_ok-encode_item.ensures.names c.in_ok-encode_item.ensures.once c.in_ok-encode_item.ensures.few c.in_ok-encode_item.ensures.written;
+      going = goes-on c.args.resolve.now c.args.canonical_names c.args.self.now c.loop-key.self c.encode_item.new.self (towards c.args.direction) c.args.items.now.entries c.loop-key.key-iterator
+          c.next.new.self (c.in-Some.key.now, c.in-Some.item.now)
+          c.requires.begins c.loop-key.invariant.going is c.in_ok-encode_item.ensures.ok c.in_ok-encode_item.ensures.names c.in_ok-encode_item.ensures.once c.in_ok-encode_item.ensures.few
+          c.in_ok-encode_item.ensures.written;
     }
 
 pub returns-clause-ok : goal.returns-clause-ok
-returns-clause-ok c = goes-whole c.args.resolve.now c.args.canonical_names c.args.self.now c.loop-key.self (towards c.args.direction) c.args.items.now.entries c.loop-key.key-iterator c.requires.begins c.loop-key.invariant.going
+returns-clause-ok c = goes-whole c.args.resolve.now c.args.canonical_names c.args.self.now c.loop-key.self (towards c.args.direction) c.args.items.now.entries c.loop-key.key-iterator c.requires.begins
+    c.loop-key.invariant.going
     (rest_all deref_pair c.loop-key.key-iterator c.next.new.self c.next.result c.in-None.is c.next.ensures.steps)
 
 pub returns-clause-names : goal.returns-clause-names
-returns-clause-names c = names-whole c.args.resolve.now c.args.canonical_names c.args.self.now c.loop-key.self (towards c.args.direction) c.args.items.now.entries c.loop-key.key-iterator c.loop-key.invariant.going
+returns-clause-names c = names-whole c.args.resolve.now c.args.canonical_names c.args.self.now c.loop-key.self (towards c.args.direction) c.args.items.now.entries c.loop-key.key-iterator
+    c.loop-key.invariant.going
     (rest_all deref_pair c.loop-key.key-iterator c.next.new.self c.next.result c.in-None.is c.next.ensures.steps)
 
 pub returns-clause-once : goal.returns-clause-once
-returns-clause-once c = defines-whole c.args.resolve.now c.args.canonical_names c.args.self.now c.loop-key.self (towards c.args.direction) c.args.items.now.entries c.loop-key.key-iterator c.loop-key.invariant.going
+returns-clause-once c = defines-whole c.args.resolve.now c.args.canonical_names c.args.self.now c.loop-key.self (towards c.args.direction) c.args.items.now.entries c.loop-key.key-iterator
+    c.loop-key.invariant.going
     (rest_all deref_pair c.loop-key.key-iterator c.next.new.self c.next.result c.in-None.is c.next.ensures.steps)
 
 pub returns-clause-few : goal.returns-clause-few
-returns-clause-few c = holds-whole c.args.resolve.now c.args.canonical_names c.args.self.now c.loop-key.self (towards c.args.direction) c.args.items.now.entries c.loop-key.key-iterator c.loop-key.invariant.going
+returns-clause-few c = holds-whole c.args.resolve.now c.args.canonical_names c.args.self.now c.loop-key.self (towards c.args.direction) c.args.items.now.entries c.loop-key.key-iterator
+    c.loop-key.invariant.going
     (rest_all deref_pair c.loop-key.key-iterator c.next.new.self c.next.result c.in-None.is c.next.ensures.steps)
 
 pub returns-in_err-encode_item-clause-size : goal.returns-in_err-encode_item-clause-size
 returns-in_err-encode_item-clause-size c = λ h.
     let refused = c.encode_item.ensures.size (search rules) in
     let is = rest_more deref_pair c.loop-key.key-iterator c.next.new.self c.next.result (c.in-Some.key, c.in-Some.item) c.in-Some.is c.next.ensures.steps in
-    goes-lacks c.args.resolve.now c.args.canonical_names c.args.self.now c.loop-key.self (towards c.args.direction) c.args.items.now.entries c.loop-key.key-iterator c.next.new.self (c.in-Some.key.now, c.in-Some.item.now)
+    goes-lacks c.args.resolve.now c.args.canonical_names c.args.self.now c.loop-key.self (towards c.args.direction) c.args.items.now.entries c.loop-key.key-iterator c.next.new.self
+    (c.in-Some.key.now, c.in-Some.item.now)
     c.requires.begins c.loop-key.invariant.going is refused
 
 pub returns-clause-written : goal.returns-clause-written
-returns-clause-written c = written-whole c.args.resolve.now c.args.canonical_names c.args.self.now c.loop-key.self (towards c.args.direction) c.args.items.now.entries c.loop-key.key-iterator c.loop-key.invariant.going
+returns-clause-written c = written-whole c.args.resolve.now c.args.canonical_names c.args.self.now c.loop-key.self (towards c.args.direction) c.args.items.now.entries c.loop-key.key-iterator
+    c.loop-key.invariant.going
     (rest_all deref_pair c.loop-key.key-iterator c.next.new.self c.next.result c.in-None.is c.next.ensures.steps)

@@ -16,8 +16,10 @@ use Rattle.wit_encode.proofs.BytesWritten.{one-more, when-ok}
 
 calls : (c : After-define_outside) → WorldCalls c.define_outside.result (world_encoder_view c.args.self.now)
     (world_view c.args.self.now.resolve.now c.args.self.now.world c.args.self.now.instances (after_declaring (world_around c.args.self.now) c.define_outside.new.outer) c.args.self.now.maps)
-    (Defines (SlotsStand (outer_slots c.args.self.now.outer)) c.args.def) (world_definitions c.define_outside.new.outer ≡ one_type_more (length (outer_slots c.args.self.now.outer)) (world_definitions c.args.self.now.outer))
-calls c = defines-value c.define_outside.result c.args.self.now.resolve.now c.args.self.now.world c.args.self.now.instances (world_around c.args.self.now) c.define_outside.new.outer c.args.self.now.maps
+    (Defines (SlotsStand (outer_slots c.args.self.now.outer)) c.args.def)
+    (world_definitions c.define_outside.new.outer ≡ one_type_more (length (outer_slots c.args.self.now.outer)) (world_definitions c.args.self.now.outer))
+calls c = defines-value c.define_outside.result c.args.self.now.resolve.now c.args.self.now.world c.args.self.now.instances (world_around c.args.self.now) c.define_outside.new.outer
+    c.args.self.now.maps
     c.requires.2.sound c.args.def c.requires.0 c.requires.1 c.requires.2 c.define_outside.ensures.ok c.define_outside.ensures.err
 
 pub returns-clause-ok : goal.returns-clause-ok
@@ -34,7 +36,8 @@ returns-clause-counts c = let made = calls (goal.at.returns-clause-counts c).Aft
 
 pub returns-clause-size : goal.returns-clause-size
 returns-clause-size c = λ h s f. record {
-  lacks = value-outside c.args.self.now.resolve.now c.define_outside.result h c.define_outside.new.outer None refl (SlotsStand (outer_slots c.args.self.now.outer)) c.args.def c.define_outside.ensures.size s f;
+  lacks = value-outside c.args.self.now.resolve.now c.define_outside.result h c.define_outside.new.outer None refl (SlotsStand (outer_slots c.args.self.now.outer)) c.args.def
+      c.define_outside.ensures.size s f;
   held = beside-kept c.args.self.now.resolve.now (world_around c.args.self.now) c.define_outside.new.outer (on-size c.define_outside.result _ c.define_outside.ensures.err h);
 }
 

@@ -15,9 +15,12 @@ use Rattle.wit_encode.proofs.Extents.{bytes-few}
 use Rattle.wit_encode.proofs.BytesWritten.{one-more, when-ok}
 
 calls : (c : After-import_type_outside) → WorldCalls c.import_type_outside.result (world_encoder_view c.args.self.now)
-    (world_view c.args.self.now.resolve.now c.args.self.now.world c.args.self.now.instances (after_declaring (world_around c.args.self.now) c.import_type_outside.new.outer) c.args.self.now.maps) (λ m. m ≡ tree (named here (raw_name c.args.name).text))
-    (ExportsOne (world_scope c.args.self.now.resolve.now c.args.self.now.world c.args.self.now.instances (world_around c.args.self.now)) (world_definitions c.args.self.now.outer) (world_definitions c.import_type_outside.new.outer) None (raw_name c.args.name))
-calls c = imports-resource c.import_type_outside.result c.args.self.now.resolve.now c.args.self.now.world c.args.self.now.instances (world_around c.args.self.now) c.import_type_outside.new.outer c.args.self.now.maps
+    (world_view c.args.self.now.resolve.now c.args.self.now.world c.args.self.now.instances (after_declaring (world_around c.args.self.now) c.import_type_outside.new.outer) c.args.self.now.maps)
+    (λ m. m ≡ tree (named here (raw_name c.args.name).text))
+    (ExportsOne (world_scope c.args.self.now.resolve.now c.args.self.now.world c.args.self.now.instances (world_around c.args.self.now)) (world_definitions c.args.self.now.outer)
+    (world_definitions c.import_type_outside.new.outer) None (raw_name c.args.name))
+calls c = imports-resource c.import_type_outside.result c.args.self.now.resolve.now c.args.self.now.world c.args.self.now.instances (world_around c.args.self.now) c.import_type_outside.new.outer
+    c.args.self.now.maps
     c.requires.declared.sound (raw_name c.args.name) c.requires c.import_type_outside.ensures.ok c.import_type_outside.ensures.err
 
 pub returns-clause-ok : goal.returns-clause-ok
@@ -46,4 +49,5 @@ returns-clause-held c = beside-more c.args.self.now.resolve.now (world_around c.
 
 pub returns-clause-written : goal.returns-clause-written
 returns-clause-written c = when-ok c.import_type_outside.result _ _
-    (λ i made. record { extent = one-more c.args.self.now.outer c.import_type_outside.new.outer _ _ made.1 (bytes-few.imports (raw_name c.args.name) refs.SubResource) }) c.import_type_outside.ensures.ok
+    (λ i made. record { extent = one-more c.args.self.now.outer c.import_type_outside.new.outer _ _ made.1 (bytes-few.imports (raw_name c.args.name) refs.SubResource) })
+    c.import_type_outside.ensures.ok

@@ -19,10 +19,14 @@ use Rattle.wit_encode.proofs.world.WorldEncoderOfTypeEncodingMapsValtypeEncoder.
 use Rattle.wit_encode.proofs.Extents.{bytes-few}
 use Rattle.wit_encode.proofs.BytesWritten.{one-more}
 
-calls : (c : After-import_type_outside) (res : Result ℕ Error) → IfOk res (λ k. (k ≡ type_slots_of c.args.self.now.outer) × (c.import_type_outside.new.outer ≡ declared_after c.args.self.now.outer (Declaration.imported (raw_name c.args.name) (refs.TypeEq c.args.index))))
+calls : (c : After-import_type_outside) (res : Result ℕ Error)
+    → IfOk res (λ k. (k ≡ type_slots_of c.args.self.now.outer) × (c.import_type_outside.new.outer ≡ declared_after c.args.self.now.outer
+    (Declaration.imported (raw_name c.args.name) (refs.TypeEq c.args.index))))
     → OnErr res (c.import_type_outside.new.outer ≡ c.args.self.now.outer) → WorldCalls res (world_encoder_view c.args.self.now)
-    (world_view c.args.self.now.resolve.now c.args.self.now.world c.args.self.now.instances (after_declaring (world_around c.args.self.now) c.import_type_outside.new.outer) c.args.self.now.maps) (λ m. m ≡ tree (named here (raw_name c.args.name).text))
-    (ExportsOne (world_scope c.args.self.now.resolve.now c.args.self.now.world c.args.self.now.instances (world_around c.args.self.now)) (world_definitions c.args.self.now.outer) (world_definitions c.import_type_outside.new.outer) (Some c.args.index) (raw_name c.args.name))
+    (world_view c.args.self.now.resolve.now c.args.self.now.world c.args.self.now.instances (after_declaring (world_around c.args.self.now) c.import_type_outside.new.outer) c.args.self.now.maps)
+    (λ m. m ≡ tree (named here (raw_name c.args.name).text))
+    (ExportsOne (world_scope c.args.self.now.resolve.now c.args.self.now.world c.args.self.now.instances (world_around c.args.self.now)) (world_definitions c.args.self.now.outer)
+    (world_definitions c.import_type_outside.new.outer) (Some c.args.index) (raw_name c.args.name))
 calls c res ok err = imports-type res c.args.self.now.resolve.now c.args.self.now.world c.args.self.now.instances (world_around c.args.self.now) c.import_type_outside.new.outer c.args.self.now.maps
     c.requires.declared.sound c.args.index (raw_name c.args.name) c.requires ok err
 
@@ -53,4 +57,7 @@ pub returns-clause-held : goal.returns-clause-held
 returns-clause-held c = beside-more c.args.self.now.resolve.now (world_around c.args.self.now) c.import_type_outside.new.outer c.import_type_outside.ensures.held
 
 pub returns-clause-written : goal.returns-clause-written
-returns-clause-written c = record { extent = one-more c.args.self.now.outer c.import_type_outside.new.outer _ _ c.in_ok-slot.ensures.ok.1 (bytes-few.imports (raw_name c.args.name) (refs.TypeEq c.args.index)) }
+returns-clause-written c = record {
+  extent = one-more c.args.self.now.outer c.import_type_outside.new.outer _ _ c.in_ok-slot.ensures.ok.1
+      (bytes-few.imports (raw_name c.args.name) (refs.TypeEq c.args.index));
+}

@@ -12,8 +12,12 @@ use Rattle.wit_encode.proofs.world.WorldEncoderOfTypeEncodingMapsValtypeEncoder.
 use Rattle.wit_encode.proofs.BytesWritten.{reached-more}
 use Rattle.std.proofs.Common.{arith}
 
-imports : (c : After-reach) → WorldImports c.args.self.now.resolve.now (world_encoder_view c.args.self.now) (world_view c.args.self.now.resolve.now c.args.self.now.world c.args.self.now.instances (around_at c.reach.new.outer c.reach.new.foreign) c.args.self.now.maps) c.args.id.0 c.reach.new.foreign.known.entries
-imports c = world-imports c.args.self.now.resolve.now c.args.self.now.world c.args.self.now.instances (world_around c.args.self.now) c.args.self.now.maps c.args.interface.0 c.args.id c.requires (around_at c.reach.new.outer c.reach.new.foreign) c.reach.ensures.reaches
+imports : (c : After-reach)
+    → WorldImports c.args.self.now.resolve.now (world_encoder_view c.args.self.now)
+    (world_view c.args.self.now.resolve.now c.args.self.now.world c.args.self.now.instances (around_at c.reach.new.outer c.reach.new.foreign) c.args.self.now.maps) c.args.id.0
+    c.reach.new.foreign.known.entries
+imports c = world-imports c.args.self.now.resolve.now c.args.self.now.world c.args.self.now.instances (world_around c.args.self.now) c.args.self.now.maps c.args.interface.0 c.args.id c.requires
+    (around_at c.reach.new.outer c.reach.new.foreign) c.reach.ensures.reaches
 
 on-ok : {E P : Type 0} (res : Result ℕ E) → P → OnOk res P
 on-ok (Ok k) p = p
@@ -24,7 +28,8 @@ each-ok (Ok k) f h = f k h
 each-ok (Err e) f h = h
 
 pub reach-requires-clause-source : goal.reach-requires-clause-source
-reach-requires-clause-source c = world-source c.args.self.now.resolve.now c.args.self.now.world c.args.self.now.instances (world_around c.args.self.now) c.args.self.now.maps c.args.interface.0 c.args.id c.requires
+reach-requires-clause-source c = world-source c.args.self.now.resolve.now c.args.self.now.world c.args.self.now.instances (world_around c.args.self.now) c.args.self.now.maps c.args.interface.0
+    c.args.id c.requires
 
 pub reach-requires-clause-in_range : goal.reach-requires-clause-in_range
 reach-requires-clause-in_range c = slice_get_within c.args.self.now.resolve.now.types.items c.args.id.0 c.requires.def c.requires.there
