@@ -1,0 +1,3 @@
+pub mod Adds
+pub mod Listed
+pub mod Spelled
