@@ -1,1 +1,4 @@
 pub mod Adding
+pub mod Codes
+pub mod KindsRead
+pub mod Told

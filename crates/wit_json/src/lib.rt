@@ -7,6 +7,7 @@
 mod functions;
 mod items;
 mod kinds;
+pub mod laws;
 mod listing;
 pub mod lists;
 mod packages;

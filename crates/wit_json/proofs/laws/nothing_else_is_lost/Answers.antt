@@ -1,0 +1,8 @@
+use Rattle.wit_json.proofs.Told.{nothing_else, texts_tell}
+use Rattle.wit_json.proofs.laws.nothing_else_is_lost.Goals as goal
+
+pub returns-clause-tokens : goal.returns-clause-tokens
+returns-clause-tokens c = nothing_else
+
+pub returns-clause-texts : goal.returns-clause-texts
+returns-clause-texts c = texts_tell

@@ -1,0 +1,10 @@
+//! Laws about the definitions.
+
+ghost use Rattle.wit_json.specs.Small.{NothingElseIsLost, TextsTell};
+
+/// A listing loses nothing but documentation and stability: two `Resolve`s whose listings are of the same tokens, or of the same text, say the same
+/// without these.
+pub fn nothing_else_is_lost()
+    ensures tokens { NothingElseIsLost }
+    ensures texts { TextsTell }
+{}
