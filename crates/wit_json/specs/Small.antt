@@ -22,6 +22,7 @@ use Rattle.wit_model.specs.declared.model.Function.{Function}
 use Rattle.wit_model.specs.declared.model.FunctionKind.{FunctionKind}
 use Rattle.wit_model.specs.declared.model.FunctionKind.TheVariants as call
 use Rattle.wit_model.specs.Text.{Text}
+use Rattle.wit_model.specs.Valid.{IsValid}
 use Rattle.wit_json.specs.Listed.{member, number_token, tokens_of, whole_listing}
 use Rattle.wit_json.specs.Spelled.{Spells}
 use Rattle.wit_json.specs.Bare.{bare}
@@ -127,3 +128,7 @@ NothingElseIsLost = (r s : Resolve) → HasSmallNumbers r → HasSmallNumbers s 
 abbrev pub TextsTell : Type 0
 TextsTell = (text subject : Text) (r s : Resolve) (n m : ℕ) → HasSmallNumbers r → HasSmallNumbers s → IsSmall n → IsSmall m
     → Spells text (whole_listing r (member subject (number_token n))) → Spells text (whole_listing s (member subject (number_token m))) → (bare r ≡ bare s) × (n ≡ m)
+
+-- The numbers of a valid `Resolve` are of 32 bits.
+abbrev pub ValidAreSmall : Type 0
+ValidAreSmall = (r : Resolve) → IsValid r → HasSmallNumbers r
