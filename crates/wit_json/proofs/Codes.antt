@@ -1,6 +1,7 @@
 -- Tokens from whose front it can be told what they say.
 use Rattle.std.proofs.Common.{◌≡◌, ◌∙◌, sym, ap, List, [], ◌∷◌, ◌++◌, map, append_assoc, refl}
 use Rattle.std.specs.List.{flat_map, AllByRecursion}
+use Rattle.base_lemmas.proofs.Lists.{heads_equal, tails_equal}
 use Rattle.json.specs.Token.{Token, begin_object, end_array}
 
 -- Where f and g begin tokens in the same way, the same is said, as v and as w, and the same tokens follow.
@@ -11,12 +12,6 @@ pub record Tells {X V : Type 0} (D : X → Type 0) (f g : X → List Token) (v w
 pub record TellsToken {X V : Type 0} (D : X → Type 0) (f g : X → Token) (v w : X → V) : Type 0 where
   pub same : (x y : X) → D x → D y → f x ≡ g y → v x ≡ w y
 
-head_same : {A : Type 0} {x y : A} {s t : List A} → x ∷ s ≡ y ∷ t → x ≡ y
-head_same e = cc
-
-tail_same : {A : Type 0} {x y : A} {s t : List A} → x ∷ s ≡ y ∷ t → s ≡ t
-tail_same e = cc
-
 pair_same : {V W : Type 0} {a b : V} {c d : W} → a ≡ b → c ≡ d → ◌≡◌ {A = V × W} (a, c) (b, d)
 pair_same p q = cc
 
@@ -24,11 +19,11 @@ cons_same : {A : Type 0} {a c : A} {xs ys : List A} → a ≡ c → xs ≡ ys �
 cons_same p q = cc
 
 pub tells_token : {X V : Type 0} {D : X → Type 0} {f g : X → Token} {v w : X → V} → TellsToken D f g v w → Tells D (λ x. f x ∷ []) (λ x. g x ∷ []) v w
-tells_token h = record { told = λ x y s t p q e. (h.same x y p q (head_same e), tail_same e) }
+tells_token h = record { told = λ x y s t p q e. (h.same x y p q (heads_equal _ _ _ _ e), tails_equal _ _ _ _ e) }
 
 -- behind a token
 pub tells_behind : {X V : Type 0} {D : X → Type 0} {f g : X → List Token} {v w : X → V} (c : Token) → Tells D f g v w → Tells D (λ x. c ∷ f x) (λ x. c ∷ g x) v w
-tells_behind c h = record { told = λ x y s t p q e. h.told x y s t p q (tail_same e) }
+tells_behind c h = record { told = λ x y s t p q e. h.told x y s t p q (tails_equal _ _ _ _ e) }
 
 -- one behind the other
 pub tells_two : {X V W : Type 0} {D E : X → Type 0} {f g h k : X → List Token} {v w : X → V} {u z : X → W} → Tells D f g v w → Tells E h k u z → Tells {V = V × W} (λ x. D x × E x) (λ x. f x ++ h x) (λ x. g x ++ k x) (λ x. (v x, u x)) (λ x. (w x, z x))
@@ -44,7 +39,7 @@ pub tells_before : {X V : Type 0} {D : X → Type 0} {f g : X → List Token} {v
 tells_before {f = f} {g = g} c h = record {
   told = λ x y s t p q e.
       let first = h.told x y (c ∷ s) (c ∷ t) p q (sym (append_assoc (f x) (c ∷ []) s) ∙ e ∙ append_assoc (g y) (c ∷ []) t) in
-      (first.0, tail_same first.1);
+      (first.0, tails_equal _ _ _ _ first.1);
 }
 
 -- of what is made of it, under another condition
@@ -78,11 +73,11 @@ begins_object rest is = record { first = λ x. begin_object; rest = rest; is = i
     object_no_end e = cc
 
 ends_not : {X : Type 0} {f : X → List Token} (b : Begins f) (x : X) (s t u : List Token) → (f x ++ s) ++ t ≡ end_array ∷ u → ⊥
-ends_not b x s t u e = b.no_end x (head_same (ap (λ l. (l ++ s) ++ t) (sym (b.is x)) ∙ e))
+ends_not b x s t u e = b.no_end x (heads_equal _ _ _ _ (ap (λ l. (l ++ s) ++ t) (sym (b.is x)) ∙ e))
 
 module _ {X V : Type 0} {D : X → Type 0} {f g : X → List Token} {v w : X → V} (h : Tells D f g v w) (b : Begins f) (c : Begins g) where
   all_told : (xs ys : List X) (s t : List Token) → AllByRecursion D xs → AllByRecursion D ys → flat_map f xs ++ end_array ∷ s ≡ flat_map g ys ++ end_array ∷ t → (map v xs ≡ map w ys) × (s ≡ t)
-  all_told [] [] s t p q e = (refl, tail_same e)
+  all_told [] [] s t p q e = (refl, tails_equal _ _ _ _ e)
   all_told [] (y ∷ ys) s t p q e = absurd (ends_not c y (flat_map g ys) (end_array ∷ t) s (sym e))
   all_told (x ∷ xs) [] s t p q e = absurd (ends_not b x (flat_map f xs) (end_array ∷ s) t e)
   all_told (x ∷ xs) (y ∷ ys) s t p q e =

@@ -1,7 +1,7 @@
 -- The numbers of a valid `Resolve` are of 32 bits.
 use Rattle.std.proofs.Common.{◌≡◌, ◌∙◌, sym, refl, ℕ, suc, ◌≤◌, Bool, true, ◌&&◌, List, [], ◌∷◌, ◌++◌, map, filter_map, length, slice_get, option_to_list, Option, Some, None, arith, nat_lt, inl, inr}
 use Rattle.std.specs.List.{AllByRecursion, list_all}
-use Rattle.std.proofs.lemmas.Bool.{ltb-true, false≢true}
+use Rattle.std.proofs.lemmas.Bool.{ltb-true, false≢true, and_from}
 use Rattle.std.proofs.lemmas.List.Folds.{list_all-append, list_all-map}
 use Rattle.std.proofs.lemmas.Option.{slice_get_cases}
 use Rattle.indexmap.specs.IndexMap.{values}
@@ -28,7 +28,7 @@ use Rattle.wit_model.specs.Types.{number_of}
 use Rattle.wit_model.specs.Uses.{alias_target}
 use Rattle.wit_model.specs.Parts.{function_numbers, function_types, handled, kind_numbers, member_types}
 use Rattle.wit_model.specs.Rules.{entries_in_range, function_in_range, has_shape, in_list, item_in_range, key_in_range, owner_in_range, package_number, passes}
-use Rattle.wit_model.specs.Lookup.{interface_at, package_at, resource_of, type_at, world_at}
+use Rattle.wit_model.specs.Lookup.{resource_of}
 use Rattle.wit_model.specs.Valid.{IsValid, is_place, numbers_in_range, shapes}
 use Rattle.wit_model.proofs.Lists.{list_all_filter_map, list_all_given, list_all_mapped}
 use Rattle.wit_model.proofs.OnePath.{interface-passes, package-passes}
@@ -37,17 +37,23 @@ use Rattle.wit_json.specs.Small.{HasSmallFunction, HasSmallInterface, HasSmallIt
 
 -- ---- lists
 
-all_by_number : {A : Type 0} {P : A → Type 0} (xs : List A) → ((n : ℕ) (x : A) → slice_get xs n ≡ Some x → P x) → AllByRecursion P xs
-all_by_number [] h = tt
-all_by_number (x ∷ xs) h = (h 0 x refl, all_by_number xs (λ n y e. h (suc n) y e))
-
 all_of : {A : Type 0} {P : A → Type 0} (p : A → Bool) → ((x : A) → p x ≡ true → P x) → (xs : List A) → list_all p xs ≡ true → AllByRecursion P xs
 all_of p h [] e = tt
 all_of p h (x ∷ xs) e = (h x (first_true (p x) (list_all p xs) e), all_of p h xs (second_true (p x) (list_all p xs) e))
 
--- a list whose places all may be
-few : {A : Type 0} (xs : List A) → ((n : ℕ) (x : A) → slice_get xs n ≡ Some x → is_place n ≡ true) → length xs ≤ 4294967295
-few xs h = elim (slice_get_cases xs 4294967295).1 [ inl w ↦ absurd (false≢true (h 4294967295 w.0 w.2)) | inr w ↦ w.0 ]
+-- what each entry of a list keeps, by the entry's number
+abbrev Keeps : {A : Type 0} → (A → Bool) → List A → Type 0
+Keeps {A} q xs = (n : ℕ) (x : A) → slice_get xs n ≡ Some x → (is_place n && q x) ≡ true
+
+few : {A : Type 0} (q : A → Bool) (xs : List A) → Keeps q xs → length xs ≤ 4294967295
+few q xs h = elim (slice_get_cases xs 4294967295).1 [ inl w ↦ absurd (false≢true (first_true (is_place 4294967295) (q w.0) (h 4294967295 w.0 w.2))) | inr w ↦ w.0 ]
+
+all_kept : {A : Type 0} {P : A → Type 0} (q : A → Bool) (xs : List A) → Keeps q xs → ((x : A) → q x ≡ true → P x) → AllByRecursion P xs
+all_kept q xs h k = passing q xs (λ n x e. second_true (is_place n) (q x) (h n x e)) k
+  where
+    passing : {A : Type 0} {P : A → Type 0} (q : A → Bool) (xs : List A) → ((n : ℕ) (x : A) → slice_get xs n ≡ Some x → q x ≡ true) → ((x : A) → q x ≡ true → P x) → AllByRecursion P xs
+    passing q [] h k = tt
+    passing q (x ∷ xs) h k = (k x (h 0 x refl), passing q xs (λ n y e. h (suc n) y e) k)
 
 -- ---- numbers below the length of a list
 
@@ -154,88 +160,105 @@ module _ {A : Type 0} (T : List A) (short : length T ≤ 4294967295) where
 
 -- ---- entries
 
+-- how many entries the lists have
+record FewEntries (r : Resolve) : Type 0 where
+  packages : length r.packages.items ≤ 4294967295
+  interfaces : length r.interfaces.items ≤ 4294967295
+  worlds : length r.worlds.items ≤ 4294967295
+  types : length r.types.items ≤ 4294967295
+
+module _ (r : Resolve) where
+  package_test : Package → Bool
+  package_test p = list_all (λ id. in_list r.interfaces.items id.0) (values p.interfaces) && list_all (λ id. in_list r.worlds.items id.0) (values p.worlds)
+
+  interface_test : Interface → Bool
+  interface_test i = passes (in_list r.packages.items) (package_number i.package) && (list_all (λ id. in_list r.types.items id.0) (values i.types) && list_all (function_in_range r) (values i.functions))
+
+  world_test : World → Bool
+  world_test w = passes (in_list r.packages.items) (package_number w.package) && (entries_in_range r w.imports.entries && entries_in_range r w.exports.entries)
+
+  range_test : TypeDef → Bool
+  range_test def = list_all (in_list r.types.items) (kind_numbers def.kind) && owner_in_range r def.owner
+
 module _ (r : Resolve) (v : IsValid r) where
-  package_kept : (n : ℕ) (p : Package) → package_at r n ≡ Some p → (is_place n && (list_all (λ id. in_list r.interfaces.items id.0) (values p.interfaces) && list_all (λ id. in_list r.worlds.items id.0) (values p.worlds))) ≡ true
-  unfolding numbers_in_range
-  package_kept n p at = package-passes numbers_in_range r v.rules.numbers_in_range n p at
+  packages_keep : Keeps (package_test r) r.packages.items
+  unfolding numbers_in_range package_test
+  packages_keep n p at = package-passes numbers_in_range r v.rules.numbers_in_range n p at
 
-  interface_kept : (n : ℕ) (i : Interface) → interface_at r n ≡ Some i → (is_place n && (passes (in_list r.packages.items) (package_number i.package) && (list_all (λ id. in_list r.types.items id.0) (values i.types) && list_all (function_in_range r) (values i.functions)))) ≡ true
-  unfolding numbers_in_range
-  interface_kept n i at = interface-passes numbers_in_range r v.rules.numbers_in_range n i at
+  interfaces_keep : Keeps (interface_test r) r.interfaces.items
+  unfolding numbers_in_range interface_test
+  interfaces_keep n i at = interface-passes numbers_in_range r v.rules.numbers_in_range n i at
 
-  world_kept : (n : ℕ) (w : World) → world_at r n ≡ Some w → (is_place n && (passes (in_list r.packages.items) (package_number w.package) && (entries_in_range r w.imports.entries && entries_in_range r w.exports.entries))) ≡ true
-  unfolding numbers_in_range
-  world_kept n w at = world_passes numbers_in_range r v.rules.numbers_in_range n w at
+  worlds_keep : Keeps (world_test r) r.worlds.items
+  unfolding numbers_in_range world_test
+  worlds_keep n w at = world_passes numbers_in_range r v.rules.numbers_in_range n w at
 
-  type_kept : (n : ℕ) (def : TypeDef) → type_at r n ≡ Some def → (is_place n && (list_all (in_list r.types.items) (kind_numbers def.kind) && owner_in_range r def.owner)) ≡ true
-  unfolding numbers_in_range
-  type_kept n def at = type_passes numbers_in_range r v.rules.numbers_in_range n def at
+  types_keep : Keeps (λ def. range_test r def && has_shape def.kind) r.types.items
+  unfolding numbers_in_range shapes range_test
+  types_keep n def at =
+      let range = type_passes numbers_in_range r v.rules.numbers_in_range n def at in
+      and_from (is_place n) _ (first_true (is_place n) (range_test r def) range) (and_from (range_test r def) _ (second_true (is_place n) (range_test r def) range) (type_passes shapes r v.rules.shapes n def at))
 
-  shape_kept : (n : ℕ) (def : TypeDef) → type_at r n ≡ Some def → has_shape def.kind ≡ true
-  unfolding shapes
-  shape_kept n def at = type_passes shapes r v.rules.shapes n def at
+  few_entries : FewEntries r
+  few_entries = record {
+    packages = few (package_test r) r.packages.items packages_keep;
+    interfaces = few (interface_test r) r.interfaces.items interfaces_keep;
+    worlds = few (world_test r) r.worlds.items worlds_keep;
+    types = few (λ def. range_test r def && has_shape def.kind) r.types.items types_keep;
+  }
 
-  few_packages : length r.packages.items ≤ 4294967295
-  few_packages = few r.packages.items (λ n p at. first_true (is_place n) _ (package_kept n p at))
+module _ (r : Resolve) (f : FewEntries r) where
+  package_small : (p : Package) → package_test r p ≡ true → HasSmallPackage p
+  unfolding package_test
+  package_small p lists = record {
+    interfaces = all_of _ (λ id h. below r.interfaces.items f.interfaces id.0 h) (values p.interfaces) (first_true _ (list_all (λ id. in_list r.worlds.items id.0) (values p.worlds)) lists);
+    worlds = all_of _ (λ id h. below r.worlds.items f.worlds id.0 h) (values p.worlds) (second_true (list_all (λ id. in_list r.interfaces.items id.0) (values p.interfaces)) _ lists);
+  }
 
-  few_interfaces : length r.interfaces.items ≤ 4294967295
-  few_interfaces = few r.interfaces.items (λ n i at. first_true (is_place n) _ (interface_kept n i at))
-
-  few_worlds : length r.worlds.items ≤ 4294967295
-  few_worlds = few r.worlds.items (λ n w at. first_true (is_place n) _ (world_kept n w at))
-
-  few_types : length r.types.items ≤ 4294967295
-  few_types = few r.types.items (λ n def at. first_true (is_place n) _ (type_kept n def at))
-
-  package_small : (n : ℕ) (p : Package) → package_at r n ≡ Some p → HasSmallPackage p
-  package_small n p at =
-      let lists = second_true (is_place n) _ (package_kept n p at) in
-      record {
-        interfaces = all_of _ (λ id h. below r.interfaces.items few_interfaces id.0 h) (values p.interfaces) (first_true _ (list_all (λ id. in_list r.worlds.items id.0) (values p.worlds)) lists);
-        worlds = all_of _ (λ id h. below r.worlds.items few_worlds id.0 h) (values p.worlds) (second_true (list_all (λ id. in_list r.interfaces.items id.0) (values p.interfaces)) _ lists);
-      }
-
-  interface_small : (n : ℕ) (i : Interface) → interface_at r n ≡ Some i → HasSmallInterface i
-  interface_small n i at =
-      let all = second_true (is_place n) _ (interface_kept n i at) in
+  interface_small : (i : Interface) → interface_test r i ≡ true → HasSmallInterface i
+  unfolding interface_test
+  interface_small i all =
       let lists = second_true (passes (in_list r.packages.items) (package_number i.package)) _ all in
       record {
-        home = home_small r.packages.items few_packages i.package (first_true (passes (in_list r.packages.items) (package_number i.package)) _ all);
-        types = all_of _ (λ id h. below r.types.items few_types id.0 h) (values i.types) (first_true _ (list_all (function_in_range r) (values i.functions)) lists);
-        functions = all_of _ (function_small r.types.items few_types) (values i.functions) (second_true (list_all (λ id. in_list r.types.items id.0) (values i.types)) _ lists);
+        home = home_small r.packages.items f.packages i.package (first_true (passes (in_list r.packages.items) (package_number i.package)) _ all);
+        types = all_of _ (λ id h. below r.types.items f.types id.0 h) (values i.types) (first_true _ (list_all (function_in_range r) (values i.functions)) lists);
+        functions = all_of _ (function_small r.types.items f.types) (values i.functions) (second_true (list_all (λ id. in_list r.types.items id.0) (values i.types)) _ lists);
       }
 
   item_small : (i : WorldItem) → item_in_range r i ≡ true → HasSmallItem i
-  item_small (item.Interface id stability docs external_id) e = below r.interfaces.items few_interfaces id.0 e
-  item_small (item.Function f) e = function_small r.types.items few_types f e
-  item_small (item.Type_ id) e = below r.types.items few_types id.0 e
+  item_small (item.Interface id stability docs external_id) e = below r.interfaces.items f.interfaces id.0 e
+  item_small (item.Function g) e = function_small r.types.items f.types g e
+  item_small (item.Type_ id) e = below r.types.items f.types id.0 e
 
-  world_small : (n : ℕ) (w : World) → world_at r n ≡ Some w → HasSmallWorld w
-  world_small n w at =
-      let all = second_true (is_place n) _ (world_kept n w at) in
+  world_small : (w : World) → world_test r w ≡ true → HasSmallWorld w
+  unfolding world_test
+  world_small w all =
       let lists = second_true (passes (in_list r.packages.items) (package_number w.package)) _ all in
       record {
-        home = home_small r.packages.items few_packages w.package (first_true (passes (in_list r.packages.items) (package_number w.package)) _ all);
+        home = home_small r.packages.items f.packages w.package (first_true (passes (in_list r.packages.items) (package_number w.package)) _ all);
         imports = all_of _ (λ e h. item_small e.1 (second_true (key_in_range r e.0) _ h)) w.imports.entries (first_true _ (entries_in_range r w.exports.entries) lists);
         exports = all_of _ (λ e h. item_small e.1 (second_true (key_in_range r e.0) _ h)) w.exports.entries (second_true (entries_in_range r w.imports.entries) _ lists);
       }
 
   owner_small : (o : TypeOwner) → owner_in_range r o ≡ true → IsSmallOwner o
-  owner_small (owner.World id) e = below r.worlds.items few_worlds id.0 e
-  owner_small (owner.Interface id) e = below r.interfaces.items few_interfaces id.0 e
+  owner_small (owner.World id) e = below r.worlds.items f.worlds id.0 e
+  owner_small (owner.Interface id) e = below r.interfaces.items f.interfaces id.0 e
   owner_small owner.None e = tt
 
-  def_small : (n : ℕ) (def : TypeDef) → type_at r n ≡ Some def → HasSmallType def
-  def_small n def at =
-      let all = second_true (is_place n) _ (type_kept n def at) in (
-        kind_small r.types.items few_types def.kind (first_true _ (owner_in_range r def.owner) all) (shape_kept n def at),
-        owner_small def.owner (second_true (list_all (in_list r.types.items) (kind_numbers def.kind)) _ all),
+  def_small : (def : TypeDef) → (range_test r def && has_shape def.kind) ≡ true → HasSmallType def
+  unfolding range_test
+  def_small def all =
+      let range = first_true (range_test r def) (has_shape def.kind) all in (
+        kind_small r.types.items f.types def.kind (first_true _ (owner_in_range r def.owner) range) (second_true (range_test r def) (has_shape def.kind) all),
+        owner_small def.owner (second_true (list_all (in_list r.types.items) (kind_numbers def.kind)) _ range),
       )
 
 pub valid_are_small : ValidAreSmall
-valid_are_small r v = record {
-  packages = all_by_number r.packages.items (package_small r v);
-  worlds = all_by_number r.worlds.items (world_small r v);
-  interfaces = all_by_number r.interfaces.items (interface_small r v);
-  types = all_by_number r.types.items (def_small r v);
-}
+valid_are_small r v =
+    let f = few_entries r v in
+    record {
+      packages = all_kept (package_test r) r.packages.items (packages_keep r v) (package_small r f);
+      worlds = all_kept (world_test r) r.worlds.items (worlds_keep r v) (world_small r f);
+      interfaces = all_kept (interface_test r) r.interfaces.items (interfaces_keep r v) (interface_small r f);
+      types = all_kept (λ def. range_test r def && has_shape def.kind) r.types.items (types_keep r v) (def_small r f);
+    }

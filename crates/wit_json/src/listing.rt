@@ -14,7 +14,10 @@ use json::Writer;
 use std::alloc::Global;
 use wit_model::{Error, PackageId, Resolve, WorldId};
 
-/// Begins a listing: the number of its format, and the four lists. What it is a listing of follows. Refuses `Memory` alone.
+/// Begins a listing: the number of its format, and the four lists. What it is a listing of follows, and the end of its object. The `Resolve` need not be
+/// valid.
+///
+/// Takes time and memory linear in what it writes. Refuses `Memory` alone; then the writer has some first tokens of it.
 pub fn begin_listing(alloc: Global, w: &mut Writer<Global>, resolve: &Resolve) -> Result<(), Error>
     ensures ok { OnOk result (Adds w.old w.new (listing_begun resolve.now)) }
     ensures refuses { IfErr result IsMemory }
@@ -24,8 +27,8 @@ pub fn begin_listing(alloc: Global, w: &mut Writer<Global>, resolve: &Resolve) -
     put_lists(alloc, w, resolve)
 }
 
-// The text of what was written.
-fn text_of_tokens(w: Writer<Global>) -> String
+/// The text of what was written by a writer that began with nothing. Takes constant time and no memory.
+pub fn text_of_tokens(w: Writer<Global>) -> String
     requires { w.before ≡ [] }
     ensures { Spells (text_of result) w.tokens }
 {

@@ -1,6 +1,4 @@
-//! The four lists of a `Resolve`, written into a listing that its caller begins and ends.
-//!
-//! Each call takes time and memory linear in what it writes. After a refusal the writer has some first tokens of what was to be written.
+//! The four lists of a `Resolve`, written into a listing that is begun.
 #![tactic(auto, using(crate::proofs::Adding::adding, crate::proofs::Adding::listing))]
 
 ghost use Rattle.std.specs.Prelude.{◌≡◌, ◌∷◌, ◌++◌, [], codes, IfErr, OnOk};
@@ -72,7 +70,9 @@ fn put_types(w: &mut Writer<Global>, types: &[TypeDef]) -> Result<(), AllocError
     w.end_array()
 }
 
-/// The four lists of a `Resolve`, each under its name, in an object that has been begun. The `Resolve` need not be valid. Refuses `Memory` alone.
+/// The four lists of a `Resolve`, each under its name, in an object that has been begun. The `Resolve` need not be valid.
+///
+/// Takes time and memory linear in what it writes. Refuses `Memory` alone; then the writer has some first tokens of it.
 #[tactic(auto, using(crate::proofs::Adding::adding), unfolding(crate::specs::Listed::tokens_of))]
 pub fn put_lists(alloc: Global, w: &mut Writer<Global>, resolve: &Resolve) -> Result<(), Error>
     ensures ok { OnOk result (Adds w.old w.new (tokens_of resolve.now)) }

@@ -12,7 +12,7 @@ use std::alloc::{AllocError, Global};
 use wit_model::{PackageId, Type};
 
 /// A member whose value is a text.
-pub(crate) fn put_text(w: &mut Writer<Global>, key: &str, text: &str) -> Result<(), AllocError>
+pub fn put_text(w: &mut Writer<Global>, key: &str, text: &str) -> Result<(), AllocError>
     ensures { OnOk result (Adds w.old w.new (member key.now (string text.now))) }
 {
     w.key(key)?;
@@ -29,7 +29,7 @@ fn put_text_or_null(w: &mut Writer<Global>, text: &Option<String>) -> Result<(),
 }
 
 /// A member whose value is a text, or null.
-pub(crate) fn put_optional_text(
+pub fn put_optional_text(
     w: &mut Writer<Global>,
     key: &str,
     text: &Option<String>,
@@ -51,7 +51,7 @@ pub(crate) fn put_external_id(
 }
 
 /// A member whose value is a number.
-pub(crate) fn put_number(w: &mut Writer<Global>, key: &str, n: u32) -> Result<(), AllocError>
+pub fn put_number(w: &mut Writer<Global>, key: &str, n: u32) -> Result<(), AllocError>
     ensures { OnOk result (Adds w.old w.new (member key.now (number_token n))) }
 {
     w.key(key)?;
