@@ -1,5 +1,6 @@
 -- What a `Resolve` says without documentation and stability: four lists, each entry with its names, its numbers and its parts in order.
--- An entry that belongs to another stands there by its number, and an import or an export under its label or its path.
+-- An entry that belongs to another stands there by its number, and an import or an export under its label or its path. The keys of other maps are left
+-- out: in a valid `Resolve` the key of an entry is its name.
 use Rattle.std.specs.Prelude.{ℕ, List, [], ◌∷◌, map, codes, Option, Some, None}
 use Rattle.indexmap.specs.IndexMap.{values}
 use Rattle.wit_model.specs.declared.model.Resolve.{Resolve}
@@ -68,6 +69,7 @@ pub record BareType : Type 0 where
   pub owner : TypeOwner
   pub external_id : Option Text
 
+-- what a type of the list of types says
 abbrev pub bare_type : TypeDef → BareType
 bare_type def = record { name = optional_text def.name; kind = bare_kind def.kind; owner = def.owner; external_id = optional_text def.external_id }
 
@@ -79,6 +81,7 @@ pub record BareFunction : Type 0 where
   pub result : Option ValueType
   pub external_id : Option Text
 
+-- what a function says
 abbrev pub bare_function : Function → BareFunction
 bare_function f = record {
   name = text_of f.name;
@@ -95,6 +98,7 @@ pub record BareInterface : Type 0 where
   pub types : List ℕ
   pub functions : List BareFunction
 
+-- what an interface says
 abbrev pub bare_interface : Interface → BareInterface
 bare_interface i = record {
   name = optional_text i.name;
@@ -109,6 +113,7 @@ pub data BareItem : Type 0 where
   function : BareFunction → BareItem
   type_ : ℕ → BareItem
 
+-- what an import or an export says without its key
 abbrev pub bare_item : WorldItem → BareItem
 bare_item (item.Interface id stability docs external_id) = interface id.0 (optional_text external_id)
 bare_item (item.Function f) = function (bare_function f)
@@ -125,6 +130,7 @@ pub record BareWorld : Type 0 where
   pub imports : List (Text × BareItem)
   pub exports : List (Text × BareItem)
 
+-- what a world says
 abbrev pub bare_world : Resolve → World → BareWorld
 bare_world r w = record {
   name = text_of w.name;
@@ -139,6 +145,7 @@ pub record BarePackage : Type 0 where
   pub interfaces : List ℕ
   pub worlds : List ℕ
 
+-- what a package says
 abbrev pub bare_package : Package → BarePackage
 bare_package p = record {
   identity = identity_of p.name;
@@ -153,6 +160,7 @@ pub record BareResolve : Type 0 where
   pub interfaces : List BareInterface
   pub types : List BareType
 
+-- what a `Resolve` says
 abbrev pub bare : Resolve → BareResolve
 bare r = record {
   packages = map bare_package r.packages.items;
