@@ -17,7 +17,7 @@ use wit_model::{Error, PackageId, Resolve, WorldId};
 /// Begins a listing: the number of its format, and the four lists. What it is a listing of follows, and the end of its object. The `Resolve` need not be
 /// valid.
 ///
-/// Takes time and memory linear in what it writes. Refuses `Memory` alone; then the writer has some first tokens of it.
+/// Takes time and memory linear in what it writes. Refuses `Memory` alone; what the writer has then isn't said.
 pub fn begin_listing(alloc: Global, w: &mut Writer<Global>, resolve: &Resolve) -> Result<(), Error>
     ensures ok { OnOk result (Adds w.old w.new (listing_begun resolve.now)) }
     ensures refuses { IfErr result IsMemory }
@@ -27,13 +27,15 @@ pub fn begin_listing(alloc: Global, w: &mut Writer<Global>, resolve: &Resolve) -
     put_lists(alloc, w, resolve)
 }
 
-/// The text of what was written by a writer that began with nothing. Takes constant time and no memory.
+/// The text of what was written by a writer that began with nothing. Takes one pass over the text, and no memory.
 pub fn text_of_tokens(w: Writer<Global>) -> String
     requires { w.before ≡ [] }
     ensures { Spells (text_of result) w.tokens }
 {
-    let bytes = w.into_inner();
-    unsafe { String::from_utf8_unchecked(bytes) }
+    match String::from_utf8(w.into_inner()) {
+        Ok(text) => text,
+        Err(_) => unreachable!(),
+    }
 }
 
 fn listing_of(alloc: Global, resolve: &Resolve, subject: &str, number: u32) -> Result<String, Error>

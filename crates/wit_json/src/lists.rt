@@ -72,7 +72,7 @@ fn put_types(w: &mut Writer<Global>, types: &[TypeDef]) -> Result<(), AllocError
 
 /// The four lists of a `Resolve`, each under its name, in an object that has been begun. The `Resolve` need not be valid.
 ///
-/// Takes time and memory linear in what it writes. Refuses `Memory` alone; then the writer has some first tokens of it.
+/// Takes time and memory linear in what it writes. Refuses `Memory` alone; what the writer has then isn't said.
 #[tactic(auto, using(crate::proofs::Adding::adding), unfolding(crate::specs::Listed::tokens_of))]
 pub fn put_lists(alloc: Global, w: &mut Writer<Global>, resolve: &Resolve) -> Result<(), Error>
     ensures ok { OnOk result (Adds w.old w.new (tokens_of resolve.now)) }
