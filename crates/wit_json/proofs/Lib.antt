@@ -1,0 +1,5 @@
+pub mod Adding
+pub mod Codes
+pub mod Held
+pub mod KindsRead
+pub mod Told

@@ -1,0 +1,13 @@
+-- A text that spells tokens of JSON.
+use Rattle.std.specs.Prelude.{◌≡◌, List}
+use Rattle.std.specs.Str.{IsUtf8}
+use Rattle.json.specs.Lex.{tokens}
+use Rattle.json.specs.Print.{print}
+use Rattle.json.specs.Token.{Token}
+use Rattle.wit_model.specs.Text.{Text}
+
+-- The text is printed of these tokens, and reads back as them and no others.
+pub record Spells (text : Text) (ts : List Token) : Type 0 where
+  pub printed : text ≡ print ts
+  pub reads_back : tokens text ≡ ts
+  pub utf8 : IsUtf8 text

@@ -1,0 +1,7 @@
+//! Tests of listings: texts of small `Resolve`s.
+#![tactic(auto)]
+
+#[cfg(test)]
+mod listings;
+#[cfg(test)]
+mod worlds;
