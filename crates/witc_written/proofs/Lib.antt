@@ -1,0 +1,2 @@
+mod HomeLaws
+mod WrittenLaws
