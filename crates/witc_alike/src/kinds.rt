@@ -5,6 +5,7 @@ ghost use Rattle.wit_model.specs.declared.error.Error.TheVariants.{Memory, Size}
 ghost use Rattle.witc_alike.specs.Kinds.{AreKinds, IsUnknown, TellsRead, bit as bit_of};
 
 use std::alloc::Global;
+use wit_component::laws::bound_once;
 use wit_component::{Error, decode, decode_world, metadata};
 
 /// Whether a reading is there. Want of memory is no answer, and neither is what may be read where there is more room.
@@ -31,6 +32,7 @@ pub fn kinds(alloc: Global, bytes: &[u8]) -> Result<u8, Error>
     ensures kinds { IfOk result (AreKinds bytes.now) }
     ensures unknown { IfErr result (IsUnknown bytes.now) }
 {
+    bound_once();
     let package = is_read(decode(alloc, bytes))?;
     let world = is_read(decode_world(alloc, bytes))?;
     let module = is_read(metadata::decode(alloc, bytes))?;
