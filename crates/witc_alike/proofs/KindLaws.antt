@@ -54,7 +54,7 @@ LeavesOpen _ = ⊥
 refused-told : {T : Type 0} (b : Bool) (e : Error) → (let x : Result T Error = Err e in TellsRead x (Ok b)) → (let r : Result Bool Error = Ok b in r ≡ Ok false) × (LeavesOpen e → ⊥)
 refused-told b errors.Memory told = let never : ⊥ = cc in absurd never
 refused-told b errors.Size told = let never : ⊥ = cc in absurd never
-refused-told b _ told = (told, λ open. open)
+refused-told b _ told = (told, λ x. x)
 
 -- such a refusal is one of the module
 is-refused : (bytes : List ℕ) (e : Error) → (LeavesOpen e → ⊥) → RefusesBindings bytes e → IsRefused bytes e

@@ -15,25 +15,25 @@ use Rattle.witc_written.proofs.WorldLaws.{has-world, no-memory}
 use Rattle.witc_written.proofs.worlds.world_text.Goals as goal
 use Rattle.base_lemmas.proofs.Options.{err_said, if_ok}
 
-pub home_of-requires-clause-in_range : goal.home_of-requires-clause-in_range
-home_of-requires-clause-in_range c =
+pub home_of-home-requires-clause-in_range : goal.home_of-home-requires-clause-in_range
+home_of-home-requires-clause-in_range c =
     let is = c.in_ok-resolve.ensures.decoded in
     slice_get_within c.in_ok-resolve.resolve.worlds.items c.in_ok-resolve.world.0 is.world is.stands
 
 pub text_of_package-requires-clause-nested : goal.text_of_package-requires-clause-nested
 text_of_package-requires-clause-nested c =
     let r = c.in_ok-resolve.resolve in
-    subst (λ ids. list_all (λ (id : PackageId). in_list r.packages.items id.0) ids ≡ true) (sym (c.deref.ensures.value ∙ c.in_ok-others.ensures)) (others-in-range r c.home_of.result.0)
+    subst (λ ids. list_all (λ (id : PackageId). in_list r.packages.items id.0) ids ≡ true) (sym (c.deref.ensures.value ∙ c.in_ok-others.ensures)) (others-in-range r c.home_of-home.result.0)
 
 pub returns-clause-printed : goal.returns-clause-printed
 returns-clause-printed c =
     let r = c.in_ok-resolve.resolve in
-    let home = c.home_of.result in
+    let home = c.home_of-home.result in
     if_ok (λ (text : Vec ℕ Global). IsTextOf r home c.deref.result.now text.items) (λ (text : Vec ℕ Global). PrintsWorld c.args.bytes.now text.items)
     (λ text is. record {
       resolve = r;
       home = home;
-      has = has-world c.args.bytes.now r c.in_ok-resolve.world.0 home c.in_ok-resolve.ensures.decoded c.home_of.ensures.home;
+      has = has-world c.args.bytes.now r c.in_ok-resolve.world.0 home c.in_ok-resolve.ensures.decoded c.home_of-home.ensures.home;
       is_text = subst (λ ids. IsTextOf r home ids text.items) (c.deref.ensures.value ∙ c.in_ok-others.ensures) is;
     }) c.text_of_package.result c.text_of_package.ensures.text
 

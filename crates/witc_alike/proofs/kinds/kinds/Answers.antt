@@ -1,0 +1,18 @@
+use Rattle.std.proofs.Common.{◌≡◌}
+use Rattle.wit_model.specs.declared.error.Error.{Error}
+use Rattle.wit_model.specs.declared.error.Error.TheVariants.{Size}
+use Rattle.wit_component.specs.Bindings.{binding_of}
+use Rattle.wit_component.specs.Decoded.{RefusesBytes}
+use Rattle.wit_component.specs.DecodedWorlds.{RefusesWorldBytes}
+use Rattle.wit_component.specs.Reached.{OutgrowsLists}
+use Rattle.witc_alike.specs.Kinds.{IsUnknown}
+use Rattle.witc_alike.proofs.KindLaws.{module-told, open-told, package-fits, package-told, world-fits, world-told}
+use Rattle.witc_alike.proofs.kinds.kinds.Goals as goal
+use Rattle.base_lemmas.proofs.Options.{err_said, passed}
+
+pub returns-in_err-package-clause-unknown : goal.returns-in_err-package-clause-unknown
+returns-in_err-package-clause-unknown c =
+    let bytes = c.args.bytes.now in
+    let e = c.in_err-package.field-0.0 in
+    passed (IsUnknown bytes) c.from_residual.result e c.from_residual.ensures.1
+    (open-told bytes c.decode.result e c.in_err-package.ensures (err_said (RefusesBytes bytes) (λ (d : Error). d ≡ Size → OutgrowsLists bytes) (package-fits bytes (OutgrowsLists bytes)) c.decode.result c.decode.ensures.refuses))
