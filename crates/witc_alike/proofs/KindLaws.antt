@@ -1,7 +1,7 @@
 -- What readings tell.
 use Rattle.std.proofs.Common.{◌≡◌, ◌∙◌, sym, subst, ℕ, Bool, true, false, List, Result, Ok, Err, IfOk}
-use Rattle.std.specs.Prelude.{◌↔◌, IfErr, IsTrue, Option, Vec}
-use Rattle.std.specs.declared.alloc.Global.{Global}
+use Rattle.std.specs.Prelude.{◌↔◌, IfErr, IsTrue}
+use Rattle.std.proofs.lemmas.Bool.{true≢false}
 use Rattle.wit_model.specs.declared.error.Error.{Error}
 use Rattle.wit_model.specs.declared.error.Error.TheVariants as errors
 use Rattle.wit_model.specs.declared.model.PackageId.{PackageId}
@@ -21,10 +21,10 @@ use Rattle.witc_alike.specs.Kinds.{IsUnknown, TellsRead}
 
 module _ (X : Type 0) (b : Bool) where
   yes : X → (let r : Result Bool Error = Ok b in r ≡ Ok true) → IsTrue b ↔ X
-  yes x is = (λ t. x, λ y. (let so : b ≡ true = cc in subst IsTrue (sym so) tt))
+  yes x is = (λ t. x, λ y. (let so : b ≡ true = cc in so))
 
   no : (X → ⊥) → (let r : Result Bool Error = Ok b in r ≡ Ok false) → IsTrue b ↔ X
-  no none is = (λ t. (let so : b ≡ false = cc in absurd (subst IsTrue so t)), λ y. absurd (none y))
+  no none is = (λ t. (let so : b ≡ false = cc in absurd (true≢false (sym t ∙ so))), λ y. absurd (none y))
 
   lost : (Y : Type 0) (e : Error) → (let r : Result Bool Error = Ok b in r ≡ Err e) → Y
   lost Y e is = let never : ⊥ = cc in absurd never
@@ -51,10 +51,10 @@ LeavesOpen errors.Size = Unit {0}
 LeavesOpen _ = ⊥
 
 -- what is told of a refusal that doesn't
-refused-told : {T : Type 0} (b : Bool) (e : Error) → (let x : Result T Error = Err e in TellsRead x (Ok b)) → (let r : Result Bool Error = Ok b in r ≡ Ok false) × (LeavesOpen e → ⊥)
-refused-told b errors.Memory told = let never : ⊥ = cc in absurd never
-refused-told b errors.Size told = let never : ⊥ = cc in absurd never
-refused-told b _ told = (told, λ x. x)
+refused-told : (T : Type 0) (b : Bool) (e : Error) → (let x : Result T Error = Err e in TellsRead x (Ok b)) → (let r : Result Bool Error = Ok b in r ≡ Ok false) × (LeavesOpen e → ⊥)
+refused-told T b errors.Memory told = let never : ⊥ = cc in absurd never
+refused-told T b errors.Size told = let never : ⊥ = cc in absurd never
+refused-told T b _ told = (told, λ x. x)
 
 -- such a refusal is one of the module
 is-refused : (bytes : List ℕ) (e : Error) → (LeavesOpen e → ⊥) → RefusesBindings bytes e → IsRefused bytes e
@@ -68,8 +68,8 @@ closed-memory e closed is = closed (subst LeavesOpen (sym is) tt)
 pub module-told : {T : Type 0} (of : T → Binding) (law : BoundIsNotRefused) (bytes : List ℕ) (b : Bool) (x : Result T Error)
     → IfOk x (λ y. IsBound bytes (of y)) → IfErr x (RefusesBindings bytes) → TellsRead x (Ok b) → IsTrue b ↔ ((c : Binding) × IsBound bytes c)
 module-told of law bytes b (Ok y) bound refused told = yes ((c : Binding) × IsBound bytes c) b (of y, bound) told
-module-told of law bytes b (Err e) bound refused told =
-    let it = refused-told b e told in
+module-told {T = T} of law bytes b (Err e) bound refused told =
+    let it = refused-told T b e told in
     no ((c : Binding) × IsBound bytes c) b (λ x. closed-memory e it.1 (law bytes x.0 e x.1 (is-refused bytes e it.1 refused))) it.0
 
 -- ---- what is left open

@@ -1,5 +1,5 @@
 -- Sections of a module, read one after the other.
-use Rattle.std.proofs.Common.{◌≡◌, ◌∙◌, ◌<◌, ◌≤◌, ◌+◌, ◌-◌, refl, sym, ap, subst, arith, ℕ, suc, List, [], ◌∷◌, ◌++◌, append_assoc, length, Option, Some, None}
+use Rattle.std.proofs.Common.{◌≡◌, ◌∙◌, ◌<◌, ◌≤◌, ◌+◌, ◌-◌, refl, sym, ap, subst, arith, ℕ, zero, suc, List, [], ◌∷◌, ◌++◌, append_assoc, length, Option, Some, None}
 use Rattle.std.specs.Prelude.{Vec, slice_get}
 use Rattle.std.specs.Borrow.{Bor}
 use Rattle.std.specs.declared.alloc.Global.{Global}
@@ -45,6 +45,11 @@ fewer bytes front rest parts some = let whole = ap length parts ∙ length-appen
 
 -- ---- the walk
 
+-- a number that isn't 0 is one more than the one below it
+pub one-less : (left : ℕ) → (left ≡ 0 → ⊥) → left ≡ left - 1 + 1
+one-less zero some = absurd (some refl)
+one-less (suc left) some = omega arith
+
 -- Some sections have been read, this is left behind them, and so many of those that carry worlds are to be passed over.
 pub record Walks (bytes : List ℕ) (n : ℕ) (rest : List ℕ) (left : ℕ) : Type 0 where
   pub data_ : List (List ℕ)
@@ -65,10 +70,13 @@ module _ (bytes : List ℕ) (n : ℕ) (rest : List ℕ) (left : ℕ) (h : Walks 
       less a whole front k e = omega (arith, e)
 
   -- a section that carries no world
-  pub other-walked : (behind : List ℕ) (o : Option (Bor (List ℕ))) → o ≡ None → IsFrontData rest o behind → Walks bytes n behind left
-  other-walked behind o none h2 =
-      let at : IsFrontData rest None behind = subst (λ (p : Option (Bor (List ℕ))). IsFrontData rest p behind) none h2 in
-      record { data_ = h.data_; begins = further bytes rest behind h.data_ h.begins at.0 at.1 h.data_ (other-end h.begins.sections h.data_ h.begins.carry at.0 at.2); counted = h.counted }
+  pub other-walked : (behind : List ℕ) (o : Option (Bor (List ℕ))) → ((found : Bor (List ℕ)) → o ≡ Some found → ⊥) → IsFrontData rest o behind → Walks bytes n behind left
+  other-walked behind None none at = record {
+    data_ = h.data_;
+    begins = further bytes rest behind h.data_ h.begins at.0 at.1 h.data_ (other-end h.begins.sections h.data_ h.begins.carry at.0 at.2);
+    counted = h.counted;
+  }
+  other-walked behind (Some found) none at = absurd (none found refl)
 
   module _ (behind : List ℕ) (o : Option (Bor (List ℕ))) (found : Bor (List ℕ)) (some : o ≡ Some found) (front : IsFrontData rest o behind) where
     here : IsFrontData rest (Some found) behind

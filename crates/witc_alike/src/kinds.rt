@@ -28,7 +28,7 @@ fn bit(holds: bool, number: u8) -> u8
 }
 
 /// What the bytes are: 1 for a package, 2 for one world, 4 for a core module whose bindings are read; their sum, or 0.
-pub fn kinds(alloc: Global, bytes: &[u8]) -> Result<u8, Error>
+pub fn kinds_of(alloc: Global, bytes: &[u8]) -> Result<u8, Error>
     ensures kinds { IfOk result (AreKinds bytes.now) }
     ensures unknown { IfErr result (IsUnknown bytes.now) }
 {

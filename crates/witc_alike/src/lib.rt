@@ -6,5 +6,5 @@ mod kinds;
 mod likeness;
 
 pub use carried::section_data;
-pub use kinds::kinds;
-pub use likeness::{Alike, alike};
+pub use kinds::kinds_of;
+pub use likeness::{Alike, liken};

@@ -19,7 +19,7 @@ pub enum Alike {
 }
 
 /// Whether the world of this name in one package has the sense of the other's.
-pub fn alike(
+pub fn liken(
     alloc: Global,
     bytes: &[u8],
     name: &str,

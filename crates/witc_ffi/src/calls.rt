@@ -13,7 +13,7 @@ ghost use Rattle.witc_texts.specs.Stripped.{StripsBytes};
 use crate::outcome::{Outcome, bad, done, no_world, of_world, refusal};
 use std::alloc::{AllocError, Global};
 use wit_component::{Error, StringEncoding};
-use witc_alike::{Alike, alike, kinds, section_data};
+use witc_alike::{Alike, kinds_of, liken, section_data};
 use witc_texts::{Compared, compat, strip};
 use witc_written::{attach, embed};
 
@@ -216,7 +216,7 @@ fn likened_names(
     requires { AreTexts name.now other_name.now }
     ensures { IfOk result (Tells (AreAlike bytes.now name.now other.now other_name.now) (RefusesAlike bytes.now name.now other.now other_name.now) (LacksEither bytes.now name.now other.now other_name.now)) }
 {
-    match alike(alloc, bytes, name, other, other_name) {
+    match liken(alloc, bytes, name, other, other_name) {
         Ok(Alike::Same) => Ok(done(Vec::new(alloc))),
         Ok(Alike::Other) => refusal(alloc, Error::Differs(String::from_str(alloc, name)?)),
         Ok(Alike::NoFirst) => no_world(alloc, name),
@@ -229,7 +229,7 @@ fn likened_names(
 pub fn known_kinds(alloc: Global, bytes: &[u8]) -> u8
     ensures { KindsAnswers bytes.now result }
 {
-    match kinds(alloc, bytes) {
+    match kinds_of(alloc, bytes) {
         Ok(sum) => sum,
         Err(error) => unknown(error),
     }
