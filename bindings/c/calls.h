@@ -19,7 +19,35 @@ static uint8_t compat_of_no_names(const uint8_t *bytes, size_t length, witc_answ
     return witc_compat(bytes, length, "\xff", 1, NULL, 0, answer);
 }
 
-static plain_call *const CALLS[] = {witc_package_text, witc_module_text, witc_module_strip, compat_of_services, compat_with_nobody, compat_of_no_names};
+static uint8_t canonical_bytes(const uint8_t *bytes, size_t length, witc_answer *answer) { return witc_package_bytes(bytes, length, 1, answer); }
+
+static uint8_t first_section(const uint8_t *bytes, size_t length, witc_answer *answer) { return witc_module_section(bytes, length, 0, answer); }
+
+static uint8_t service_embedded(const uint8_t *bytes, size_t length, witc_answer *answer) {
+    return witc_embed(bytes, length, "service", 7, WITC_UTF16, 0, answer);
+}
+
+static uint8_t nobody_embedded(const uint8_t *bytes, size_t length, witc_answer *answer) {
+    return witc_embed(bytes, length, "nobody", 6, WITC_UTF8, 0, answer);
+}
+
+static uint8_t service_attached(const uint8_t *bytes, size_t length, witc_answer *answer) {
+    static const uint8_t empty[8] = {0, 0x61, 0x73, 0x6d, 1, 0, 0, 0};
+    return witc_attach(empty, 8, bytes, length, "service", 7, WITC_UTF8, 0, answer);
+}
+
+static uint8_t same_service(const uint8_t *bytes, size_t length, witc_answer *answer) {
+    return witc_same_world(bytes, length, "service", 7, bytes, length, "service", 7, answer);
+}
+
+static uint8_t other_service(const uint8_t *bytes, size_t length, witc_answer *answer) {
+    return witc_same_world(bytes, length, "service", 7, bytes, length, "service-next", 12, answer);
+}
+
+static plain_call *const CALLS[] = {
+    witc_package_text, canonical_bytes,  witc_world_text,    witc_world_package,   witc_module_text,   witc_module_package, witc_module_strip, first_section,
+    service_embedded,  nobody_embedded,  service_attached,   same_service,         other_service,      compat_of_services,  compat_with_nobody, compat_of_no_names,
+};
 enum { CALLS_COUNT = sizeof CALLS / sizeof *CALLS };
 
 typedef struct input {
@@ -40,7 +68,7 @@ static input read_file(const char *name) {
     return it;
 }
 
-/* Whether two answers have the same bytes. */
+/* Whether two answers have the same bytes and numbers. */
 static int are_equal(const witc_answer *a, const witc_answer *b) {
-    return a->length == b->length && (a->length == 0 || !memcmp(a->at, b->at, a->length));
+    return a->why.code == b->why.code && a->why.detail == b->why.detail && a->why.offset == b->why.offset && a->why.subject == b->why.subject && a->length == b->length && (a->length == 0 || !memcmp(a->at, b->at, a->length));
 }

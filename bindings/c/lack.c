@@ -1,6 +1,6 @@
 /* Want of memory at each request of each call: ./lack FILE.. Linked with -Wl,--wrap=malloc,--wrap=realloc and the static archive.
  *
- * The request of number N fails, with all behind it, or alone. A call has to answer WITC_LACKING and no bytes, or what it answers undisturbed; and after it
+ * The request of number N fails, with all behind it, or alone. A call has to answer WITC_NO_MEMORY and no bytes, or what it answers undisturbed; and after it
  * nothing is left, which a count of blocks says. */
 #include "calls.h"
 
@@ -46,7 +46,7 @@ static long tried(plain_call *call, input it, long *calls) {
         uint8_t status = call(it.at, it.length, &answer);
         failing = -1;
         reached = requests > n;
-        if (status == WITC_LACKING ? !reached || answer.length || answer.at || answer.owner : status != said || !are_equal(&answer, &wanted)) wrong++;
+        if (status == WITC_NO_MEMORY ? !reached || answer.why.code != WITC_OUT_OF_MEMORY || answer.length || answer.at || answer.owner : status != said || !are_equal(&answer, &wanted)) wrong++;
         witc_free(&answer);
         witc_free(&answer);
         if (blocks != before || answer.length || answer.at || answer.owner) wrong++;

@@ -24,12 +24,12 @@ static void want(bool holds, std::string_view what) {
     std::exit(1);
 }
 
-template <class Call> static std::string refusal_of(std::uint8_t status, Call call) {
+template <class Call> static std::string refusal_of(std::uint32_t code, Call call) {
     try {
         call();
     } catch (const witc::refusal &r) {
-        want(r.status() == status, r.what());
-        return r.what();
+        want(r.code() == code, r.what());
+        return r.subject();
     }
     want(false, "not refused");
     return {};
@@ -56,15 +56,25 @@ int main(int count, char **words) {
     want(witc::module_text(module).view() == sample("modules/service.wit"), "the text of a module");
     want(witc::module_strip(module).view() == stripped, "a module stripped");
     want(witc::module_strip(stripped).view() == stripped && witc::module_strip(empty).view() == empty, "a module that has nothing to strip");
-    witc::compat(package, "service", "service-next");
-    want(refusal_of(WITC_REFUSED, [&] { witc::compat(package, "service", "service-bytes"); }) == "differs: handle", "a world that differs");
-    want(refusal_of(WITC_NO_WORLD, [&] { witc::compat(package, "nobody", "service"); }) == "no such world: nobody", "a world that isn't there");
-    refusal_of(WITC_NO_WORLD, [&] { witc::compat(package, "service", "\xff"); });
-    refusal_of(WITC_NO_WORLD, [&] { witc::compat(package, "service", {}); });
+    witc::require_compatible(package, "service", "service-next");
+    want(refusal_of(WITC_DIFFERS, [&] { witc::require_compatible(package, "service", "service-bytes"); }) == "handle", "a world that differs");
+    want(refusal_of(WITC_NO_SUCH_WORLD, [&] { witc::require_compatible(package, "nobody", "service"); }) == "nobody", "a world that isn't there");
+    refusal_of(WITC_NOT_UTF8, [&] { witc::require_compatible(package, "service", "\xff"); });
+    refusal_of(WITC_NO_SUCH_WORLD, [&] { witc::require_compatible(package, "service", {}); });
     for (std::string_view bad : {std::string_view(), std::string_view("no package"), std::string_view(empty), std::string_view(package).substr(0, 40)}) {
-        want(refusal_of(WITC_REFUSED, [&] { witc::package_text(bad); }).rfind("no reading: ", 0) == 0, "bytes that are no package");
+        refusal_of(WITC_NO_READING, [&] { witc::package_text(bad); });
+        want(witc::kinds(bad) == (bad == empty ? WITC_IS_MODULE : 0), "what bytes are");
     }
-    refusal_of(WITC_REFUSED, [&] { witc::module_text(package); });
-    refusal_of(WITC_REFUSED, [&] { witc::module_strip({}); });
+    refusal_of(WITC_NOT_A_MODULE, [&] { witc::module_text(package); });
+    refusal_of(WITC_NOT_A_MODULE, [&] { witc::module_strip({}); });
+    witc::bytes data = witc::embed(package, "service");
+    witc::bytes alone = witc::world_package(data);
+    want(witc::embed(alone, "service").view() == data.view(), "a world, taken out and put in again");
+    want(witc::same_world(package, "service", alone, "service") && !witc::same_world(package, "service", package, "service-next"), "senses of worlds");
+    witc::bytes made = witc::attach(empty, package, "service");
+    want(witc::module_section(made, 0).view() == data.view() && witc::module_strip(made).view() == empty, "a section attached");
+    refusal_of(WITC_NO_SUCH_SECTION, [&] { witc::module_section(made, 1); });
+    want(witc::package_bytes(witc::module_package(made)).view() == witc::module_package(made).view(), "a package encoded anew");
+    want(witc::world_text(data).view().find("world service {") != std::string::npos, "the text of a world");
     std::cout << "c++: passed\n";
 }

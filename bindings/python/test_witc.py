@@ -1,7 +1,7 @@
 """The samples of this repository, and bad input. With WITC_CALLS in the environment also the calls that this file lists, one a line: the input's file, the file of what
 is answered, the status and the words, with a tab between each and the next.
 
-    WITC_LIBRARY=PREFIX/lib/libwitc.so.1 python3 bindings/python/test_witc.py
+    WITC_LIBRARY=PREFIX/lib/libwitc.so.2 python3 bindings/python/test_witc.py
 """
 
 import os
@@ -26,10 +26,10 @@ def sample(name):
 
 
 class Calls(unittest.TestCase):
-    def refused(self, status, message, call, *words):
+    def refused(self, code, subject, call, *words):
         with self.assertRaises(witc.Refusal) as raised:
             call(*words)
-        self.assertEqual((raised.exception.status, str(raised.exception)), (status, message))
+        self.assertEqual((raised.exception.code, raised.exception.subject), (code, subject))
 
     def test_packages(self):
         for name in "clock", "files", "services":
@@ -45,18 +45,41 @@ class Calls(unittest.TestCase):
     def test_worlds(self):
         package = sample("packages/services.wasm")
         self.assertIsNone(witc.compat(package, "service", b"service-next"))
-        self.refused(witc.REFUSED, "differs: handle", witc.compat, package, "service", "service-bytes")
+        self.refused("DIFFERS", "handle", witc.compat, package, "service", "service-bytes")
         for prev, new, name in ("nobody", "service", "nobody"), ("service", "caf\u00e9", "caf\u00e9"), ("", "service", ""):
-            self.refused(witc.NO_WORLD, f"no such world: {name}", witc.compat, package, prev, new)
+            self.refused("NO_SUCH_WORLD", name or None, witc.compat, package, prev, new)
+        self.refused("NOT_UTF8", None, witc.compat, package, b"\xff", "service")
+        self.assertFalse(witc.same_world(package, "service", package, "service-next"))
+
+    def test_worlds_by_themselves(self):
+        package = sample("packages/services.wasm")
+        for encoding in witc.ENCODINGS:
+            for canonical in False, True:
+                data = witc.embed(package, "service", encoding, canonical)
+                alone = witc.world_package(data)
+                self.assertIn("world service {", witc.world_text(data))
+                self.assertEqual(witc.embed(alone, "service", encoding, canonical), data)
+                self.assertTrue(witc.same_world(package, "service", alone, "service"))
+                self.assertEqual(witc.kinds(data) & {"world"}, {"world"})
+                self.assertIn("package", witc.kinds(alone))
+                made = witc.attach(EMPTY, package, "service", encoding, canonical)
+                self.assertEqual(witc.module_sections(made), [data])
+                self.assertEqual((witc.module_strip(made), witc.kinds(made)), (EMPTY, {"module"}))
+        made = witc.attach(EMPTY, package, "service", "utf8")
         with self.assertRaises(witc.Refusal) as raised:
-            witc.compat(package, b"\xff", "service")
-        self.assertEqual(raised.exception.status, witc.NO_WORLD)
+            witc.attach(made, package, "service")
+        self.assertEqual((raised.exception.code, raised.exception.detail, raised.exception.subject), ("CLASH", "EXPORT", "handle"))
+        self.refused("NO_SUCH_WORLD", "nobody", witc.embed, package, "nobody")
+        self.refused("NO_SUCH_WORLD", "nobody", witc.attach, EMPTY, package, "nobody")
+        self.refused("NOT_UTF8", None, witc.embed, package, b"\xff")
 
     def test_bad_bytes(self):
         package = sample("packages/clock.wasm")
         for given in b"", b"\0", EMPTY, b"no package", package[: len(package) // 2]:
-            with self.assertRaisesRegex(witc.Refusal, "^no reading: "):
+            with self.assertRaises(witc.Refusal) as raised:
                 witc.package_text(given)
+            self.assertEqual(raised.exception.code, "NO_READING")
+            self.assertLessEqual(raised.exception.offset, len(given))
         for call in witc.module_text, witc.module_strip:
             for given in b"", package, EMPTY + b"\1":
                 self.assertRaises(witc.Refusal, call, given)
@@ -71,11 +94,11 @@ class Calls(unittest.TestCase):
         package = sample("packages/files.wasm")
         for at in range(len(package)):
             for given in package[:at], package[:at] + bytes([package[at] ^ 0x81]) + package[at + 1 :]:
-                for call in witc.package_text, witc.module_text, witc.module_strip:
+                for call in witc.package_text, witc.package_bytes, witc.world_text, witc.world_package, witc.module_text, witc.module_package, witc.module_strip:
                     try:
                         self.assertGreater(len(call(given)), 0)
                     except witc.Refusal as refusal:
-                        self.assertEqual(refusal.status, witc.REFUSED)
+                        self.assertLessEqual(refusal.offset or 0, len(given))
 
     def test_threads(self):
         module, text, wrong = sample("modules/service.wasm"), sample("modules/service.wit"), []

@@ -1,4 +1,4 @@
-/* Does what `witc print`, `module`, `strip` and `compat PREV NEW` do, by the library. Behind `./install PREFIX`, with PREFIX/lib/pkgconfig in PKG_CONFIG_PATH:
+/* Does what `witc print`, `module`, `strip` and `compat PREV NEW` do, by the library; a refusal goes to standard error. Behind `./install PREFIX`, with PREFIX/lib/pkgconfig in PKG_CONFIG_PATH:
  *
  *     cc examples/c/print.c $(pkg-config --cflags --libs witc) -o print
  *     ./print print < package.wasm
@@ -61,8 +61,14 @@ int main(int count, char **words) {
         status = witc_compat(bytes, length, words[2], strlen(words[2]), words[3], strlen(words[3]), &answer);
     }
     free(bytes);
-    if (status == WITC_LACKING) fputs("want of memory\n", stderr);
-    if (answer.length > 0 && fwrite(answer.at, 1, answer.length, stdout) < answer.length) status = WITC_REFUSED;
+    if (status == WITC_DONE) {
+        if (answer.length > 0 && fwrite(answer.at, 1, answer.length, stdout) < answer.length) status = WITC_REFUSED;
+        if (compares) puts("compatible");
+    } else if (status == WITC_NO_MEMORY) {
+        fputs("want of memory\n", stderr);
+    } else {
+        fprintf(stderr, "%.*s [code %u, detail %u]\n", (int)answer.length, (const char *)answer.at, (unsigned)answer.why.code, (unsigned)answer.why.detail);
+    }
     witc_free(&answer);
     return status;
 }

@@ -1,4 +1,4 @@
-// Does what `witc print`, `module`, `strip` and `compat PREV NEW` do, by the library. Behind `./install PREFIX`, with PREFIX/lib/pkgconfig in PKG_CONFIG_PATH:
+// Does what `witc print`, `module`, `strip` and `compat PREV NEW` do, by the library; a refusal goes to standard error. Behind `./install PREFIX`, with PREFIX/lib/pkgconfig in PKG_CONFIG_PATH:
 //
 //     c++ -std=c++17 examples/cpp/print.cpp $(pkg-config --cflags --libs witc) -o print
 //     ./print print < package.wasm
@@ -18,7 +18,7 @@ static void answer(const std::vector<std::string_view> &words, std::string_view 
     } else if (words[0] == "strip") {
         std::cout << witc::module_strip(bytes).view();
     } else {
-        witc::compat(bytes, words[1], words[2]);
+        witc::require_compatible(bytes, words[1], words[2]);
         std::cout << "compatible\n";
     }
 }
@@ -35,11 +35,11 @@ int main(int count, char **given) {
     try {
         answer(words, bytes);
     } catch (const witc::refusal &r) {
-        std::cout << (r.status() == WITC_REFUSED ? "refused: " : "") << r.what() << '\n';
-        status = r.status();
+        std::cerr << r.what() << " [code " << r.code() << ", detail " << r.detail() << "]\n";
+        status = r.code() < WITC_NO_SUCH_WORLD ? WITC_REFUSED : WITC_BAD_ARGUMENT;
     } catch (const std::bad_alloc &) {
         std::cerr << "want of memory\n";
-        status = WITC_LACKING;
+        status = WITC_NO_MEMORY;
     }
     return std::cout.flush() ? status : WITC_REFUSED;
 }

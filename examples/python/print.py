@@ -21,7 +21,8 @@ def told(words, data):
         witc.compat(data, os.fsencode(words[1]), os.fsencode(words[2]))
         return b"compatible\n", witc.DONE
     except witc.Refusal as refusal:
-        return f"{'refused: ' if refusal.status == witc.REFUSED else ''}{refusal}\n".encode(), refusal.status
+        print(refusal, file=sys.stderr)
+        return b"", witc.BAD_ARGUMENT if refusal.code in ("NO_SUCH_WORLD", "NOT_UTF8") else witc.REFUSED
 
 
 def main(words):

@@ -7,20 +7,13 @@ use std::env;
 use std::io::{self, Read, Write};
 use std::process::ExitCode;
 
-use witc::{Kind, Refusal};
+use witc::{Code, Refusal};
 
-/// What a call answers, and what it is refused for as the line and the status that `witc` answers.
-fn told(answer: Result<Vec<u8>, Refusal>) -> (Vec<u8>, u8) {
-    match answer {
-        Ok(bytes) => (bytes, 0),
-        Err(Refusal {
-            kind: Kind::Refused,
-            message,
-        }) => (format!("refused: {message}\n").into_bytes(), 1),
-        Err(Refusal {
-            kind: Kind::NoWorld,
-            message,
-        }) => (format!("{message}\n").into_bytes(), 2),
+/// The status that `witc` answers where a call is refused.
+fn status_of(refusal: &Refusal) -> u8 {
+    match refusal.code {
+        Code::NoSuchWorld => 2,
+        _ => 1,
     }
 }
 
@@ -40,14 +33,18 @@ fn main() -> ExitCode {
         eprintln!("the input can't be read");
         return ExitCode::FAILURE;
     }
-    let (answer, status) = told(match words[..] {
+    let answer = match words[..] {
         [_, prev, next] => witc::compat(&bytes, prev, next).map(|()| b"compatible\n".to_vec()),
-        ["module"] => witc::module_text(&bytes),
+        ["module"] => witc::module_text(&bytes).map(String::into_bytes),
         ["strip"] => witc::module_strip(&bytes),
-        _ => witc::package_text(&bytes),
-    });
-    if io::stdout().write_all(&answer).is_err() {
-        return ExitCode::FAILURE;
+        _ => witc::package_text(&bytes).map(String::into_bytes),
+    };
+    match answer {
+        Ok(answer) if io::stdout().write_all(&answer).is_err() => ExitCode::FAILURE,
+        Ok(_) => ExitCode::SUCCESS,
+        Err(refusal) => {
+            eprintln!("{refusal}");
+            ExitCode::from(status_of(&refusal))
+        }
     }
-    ExitCode::from(status)
 }

@@ -3,7 +3,7 @@
 use std::path::Path;
 use std::{fs, thread};
 
-use witc::{Kind, compat, module_strip, module_text, package_text};
+use witc::{Cause, Code, Encoding, compat, module_strip, module_text, package_text};
 
 const EMPTY: &[u8] = b"\0asm\x01\0\0\0";
 
@@ -20,11 +20,11 @@ fn sample(name: &str) -> Vec<u8> {
 fn packages_to_text() {
     for name in ["clock", "files", "services"] {
         let package = sample(&format!("packages/{name}.wasm"));
-        assert_eq!(
-            package_text(&package).unwrap(),
-            sample(&format!("packages/{name}.wit")),
-            "{name}"
-        );
+        let text = sample(&format!("packages/{name}.wit"));
+        assert_eq!(package_text(&package).unwrap().as_bytes(), text, "{name}");
+        let again = witc::package_bytes(&package, false).unwrap();
+        assert_eq!(witc::package_bytes(&again, false).unwrap(), again);
+        assert_eq!(package_text(&again).unwrap().as_bytes(), text);
     }
 }
 
@@ -32,10 +32,15 @@ fn packages_to_text() {
 fn modules_to_text_and_stripped() {
     let module = sample("modules/service.wasm");
     let stripped = sample("modules/service.stripped.wasm");
-    assert_eq!(module_text(&module).unwrap(), sample("modules/service.wit"));
+    assert_eq!(
+        module_text(&module).unwrap().as_bytes(),
+        sample("modules/service.wit")
+    );
     assert_eq!(module_strip(&module).unwrap(), stripped);
     assert_eq!(module_strip(&stripped).unwrap(), stripped);
     assert_eq!(module_strip(EMPTY).unwrap(), EMPTY);
+    let root = witc::module_package(&module).unwrap();
+    assert!(package_text(&root).unwrap().contains("world root {"));
 }
 
 #[test]
@@ -44,20 +49,50 @@ fn worlds_compared() {
     assert_eq!(compat(&package, "service", "service-next"), Ok(()));
     let refusal = compat(&package, "service", "service-bytes").unwrap_err();
     assert_eq!(
-        (refusal.kind, refusal.message.as_str()),
-        (Kind::Refused, "differs: handle")
+        (refusal.code, refusal.subject.as_deref()),
+        (Code::Differs, Some("handle"))
     );
     for (prev, next, missing) in [
-        ("nobody", "service", "nobody"),
-        ("service", "caf\u{e9}", "caf\u{e9}"),
-        ("", "service", ""),
+        ("nobody", "service", Some("nobody")),
+        ("service", "caf\u{e9}", Some("caf\u{e9}")),
+        ("", "service", None),
     ] {
         let refusal = compat(&package, prev, next).unwrap_err();
         assert_eq!(
-            (refusal.kind, refusal.message),
-            (Kind::NoWorld, format!("no such world: {missing}"))
+            (refusal.code, refusal.subject.as_deref()),
+            (Code::NoSuchWorld, missing)
         );
     }
+    assert!(!witc::same_world(&package, "service", &package, "service-next").unwrap());
+}
+
+#[test]
+fn worlds_embedded_and_attached() {
+    let package = sample("packages/services.wasm");
+    for encoding in [Encoding::Utf8, Encoding::Utf16, Encoding::Latin1Utf16] {
+        let data = witc::embed(&package, "service", encoding, false).unwrap();
+        let alone = witc::world_package(&data).unwrap();
+        assert_eq!(
+            witc::embed(&alone, "service", encoding, false).unwrap(),
+            data
+        );
+        assert!(witc::same_world(&package, "service", &alone, "service").unwrap());
+        assert!(witc::world_text(&data).unwrap().contains("world service {"));
+        assert!(witc::kinds(&data).world && witc::kinds(&alone).package);
+        let made = witc::attach(EMPTY, &package, "service", encoding, false).unwrap();
+        assert_eq!(witc::module_section(&made, 0).unwrap(), data);
+        assert_eq!(
+            witc::module_section(&made, 1).unwrap_err().code,
+            Code::NoSuchSection
+        );
+        assert_eq!(module_strip(&made).unwrap(), EMPTY);
+        assert!(witc::kinds(&made).module);
+    }
+    let refusal = witc::embed(&package, "nobody", Encoding::Utf8, false).unwrap_err();
+    assert_eq!(
+        (refusal.code, refusal.subject.as_deref()),
+        (Code::NoSuchWorld, Some("nobody"))
+    );
 }
 
 #[test]
@@ -71,20 +106,21 @@ fn bad_bytes_are_refused() {
         &package[..package.len() / 2],
     ] {
         let refusal = package_text(bytes).unwrap_err();
-        assert_eq!(refusal.kind, Kind::Refused);
-        assert!(refusal.to_string().starts_with("no reading: "), "{refusal}");
-    }
-    assert_eq!(compat(&[], "a", "b").unwrap_err().kind, Kind::Refused);
-    for call in [module_text, module_strip] {
-        assert_eq!(
-            call(&package).unwrap_err().to_string(),
-            call(&[]).unwrap_err().to_string()
-        );
-        assert_eq!(
-            call(&[EMPTY, &[1]].concat()).unwrap_err().kind,
-            Kind::Refused
+        assert!(
+            matches!(refusal.code, Code::NoReading(_)) && refusal.offset.unwrap() <= bytes.len(),
+            "{refusal}"
         );
     }
+    assert_eq!(
+        package_text(EMPTY).unwrap_err().code,
+        Code::NoReading(Cause::BadPreamble)
+    );
+    assert_eq!(module_text(&package).unwrap_err().code, Code::NotAModule);
+    assert_eq!(module_strip(&[]).unwrap_err().code, Code::NotAModule);
+    assert_eq!(
+        module_strip(&[EMPTY, &[1]].concat()).unwrap_err().code,
+        Code::BadModule
+    );
 }
 
 /// Each beginning of a package, and a package with each byte changed: an answer or a refusal.
@@ -95,9 +131,19 @@ fn damaged_bytes() {
         let mut damaged = package.clone();
         damaged[at] ^= 0x81;
         for bytes in [&package[..at], &damaged] {
-            let answers = [package_text(bytes), module_text(bytes), module_strip(bytes)];
+            let texts = [
+                package_text(bytes),
+                witc::world_text(bytes),
+                module_text(bytes),
+            ];
+            assert!(texts.iter().flatten().all(|text| !text.is_empty()), "{at}");
+            let answers = [
+                module_strip(bytes),
+                witc::package_bytes(bytes, true),
+                witc::world_package(bytes),
+            ];
             assert!(
-                answers.iter().flatten().all(|text| !text.is_empty()),
+                answers.iter().flatten().all(|bytes| !bytes.is_empty()),
                 "{at}"
             );
         }
@@ -110,7 +156,9 @@ fn calls_side_by_side() {
     let text = sample("modules/service.wit");
     thread::scope(|scope| {
         for _ in 0..4 {
-            scope.spawn(|| (0..20).for_each(|_| assert_eq!(module_text(&module).unwrap(), text)));
+            scope.spawn(|| {
+                (0..20).for_each(|_| assert_eq!(module_text(&module).unwrap().as_bytes(), text))
+            });
         }
     });
 }

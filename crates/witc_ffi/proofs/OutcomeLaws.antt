@@ -1,80 +1,103 @@
 -- What C is given of what comes of a call.
-use Rattle.std.proofs.Common.{◌≡◌, ◌&&◌, ℕ, List, [], Bool, true, false, refl, sym, subst, Result, Ok, Err, IfOk, MatchResult}
+use Rattle.std.proofs.Common.{◌≡◌, ◌&&◌, ℕ, List, [], Bool, true, false, refl, sym, subst, Option, Some, None, Result, Ok, Err, IfOk, MatchResult}
+use Rattle.std.specs.Prelude.{Vec, IfErr}
 use Rattle.std.specs.Str.{is_utf8}
 use Rattle.std.specs.declared.alloc.AllocError.{AllocError}
-use Rattle.wit_model.specs.declared.error.Error.{Error}
-use Rattle.wit_model.specs.declared.error.Error.TheVariants as errors
-use Rattle.wit_component.specs.Bound.{RefusesBindings}
-use Rattle.wit_component.specs.Decoded.{MeansNothing, RefusesBytes}
-use Rattle.wit_component.specs.Reached.{OutgrowsLists}
-use Rattle.witc_texts.specs.Worlds.{RefusesCompared}
-use Rattle.witc_ffi.specs.Answers.{AreTexts, CompatAnswers, ModuleAnswers, PrintAnswers, StripAnswers, compat_refused, module_refused, print_refused, strip_refused}
-use Rattle.witc_ffi.specs.Outcomes.{HandsOut, IsNoLack, IsOutcome, handed, lacking}
-use Rattle.witc_ffi.specs.declared.outcome.Outcome.{Outcome}
+use Rattle.std.specs.declared.alloc.Global.{Global}
 use Rattle.std.proofs.lemmas.Bool.{and_from as both-good}
+use Rattle.wit_model.specs.declared.error.Error.{Error}
+use Rattle.witc_refusals.specs.Messages.{message_of}
+use Rattle.witc_refusals.specs.Numbers.{plain_why, why_of}
+use Rattle.witc_refusals.specs.declared.why.Why.{Why}
+use Rattle.witc_ffi.specs.Answers.{Answers, AreAlike, AreTexts, IsCompatible, IsOutcomeIfThere, LacksEither, LacksWorld, RefusesAlike, RefusesWorlds, Tells, bad, done, lacking as answers_lacking, no_such_world, refused, world_why}
+use Rattle.witc_ffi.specs.Outcomes.{HandsOut, IsOutcome, IsOutcomeOf, IsRefusal, handed, lacking}
+use Rattle.witc_ffi.specs.declared.outcome.Outcome.{Outcome}
 
 -- no bytes, where memory is wanting
-pub lacks : (outcome : Result Outcome AllocError) (text : List ℕ) → text ≡ [] → HandsOut outcome 3 text
-lacks outcome text is = subst (HandsOut outcome 3) (sym is) lacking
+pub lacks : (outcome : Result Outcome AllocError) (text : List ℕ) (why : Why) → text ≡ [] → why ≡ plain_why 1 → HandsOut outcome 3 text why
+lacks outcome text why is numbers = subst (λ (t : List ℕ). HandsOut outcome 3 t why) (sym is) (subst (HandsOut outcome 3 []) (sym numbers) lacking)
 
--- the outcome's status and bytes
-pub hands : (outcome : Result Outcome AllocError) (status : ℕ) (text : List ℕ) → MatchResult outcome (λ o. (status ≡ o.status) × (text ≡ o.text.items)) (λ e. ⊥) → HandsOut outcome status text
-hands (Ok o) status text is = subst (λ (n : ℕ). HandsOut (Ok o) n text) (sym is.0) (subst (HandsOut (Ok o) o.status) (sym is.1) (handed o refl))
-hands (Err e) status text is = absurd is
+-- the outcome's status, bytes and numbers
+pub hands : (outcome : Result Outcome AllocError) (status : ℕ) (text : List ℕ) (why : Why)
+    → MatchResult outcome (λ o. (status ≡ o.status) × (text ≡ o.text.items) × (why ≡ o.why)) (λ e. ⊥) → HandsOut outcome status text why
+hands (Ok o) status text why is = subst (λ (n : ℕ). HandsOut (Ok o) n text why) (sym is.0)
+    (subst (λ (t : List ℕ). HandsOut (Ok o) o.status t why) (sym is.1) (subst (HandsOut (Ok o) o.status o.text.items) (sym is.2) (handed o refl)))
+hands (Err e) status text why is = absurd is
 
-module _ (P : ℕ → List ℕ → Type 0) where
-  -- what is true of an outcome, and of no bytes, is true of what C is given
-  pub passes : P 3 [] → (outcome : Result Outcome AllocError) (status : ℕ) (text : List ℕ) → IfOk outcome (λ o. P o.status o.text.items) → HandsOut outcome status text → P status text
-  passes lack outcome status text ok lacking = lack
-  passes lack outcome status text ok (handed o is) = go outcome ok is
+module _ (Done : List ℕ → Type 0) (Refused : Error → Type 0) (Bad : List ℕ → Why → Type 0) where
+  -- what an outcome tells, C is told; and it is told when memory is wanting
+  pub passes : (outcome : Result Outcome AllocError) (status : ℕ) (text : List ℕ) (why : Why)
+      → IfOk outcome (Tells Done Refused Bad) → HandsOut outcome status text why → Answers Done Refused Bad status text why
+  passes outcome status text why tells lacking = answers_lacking
+  passes outcome status text why tells (handed o is) = go outcome tells is
     where
-      go : (outcome : Result Outcome AllocError) → IfOk outcome (λ o. P o.status o.text.items) → MatchResult outcome (λ given. given ≡ o) (λ e. ⊥) → P o.status o.text.items
-      go (Ok given) ok is = subst (λ (x : Outcome). P x.status x.text.items) is ok
-      go (Err e) ok is = absurd is
+      go : (outcome : Result Outcome AllocError) → IfOk outcome (Tells Done Refused Bad) → MatchResult outcome (λ given. given ≡ o) (λ e. ⊥) → Answers Done Refused Bad o.status o.text.items o.why
+      go (Ok given) tells is = subst (Tells Done Refused Bad) is tells
+      go (Err e) tells is = absurd is
 
-  -- what is true of a status and a text is true of the outcome of them
-  pub of-known : (status : ℕ) (text : List ℕ) → P status text → (r : Result Outcome AllocError) → IfOk r (IsOutcome status text) → IfOk r (λ o. P o.status o.text.items)
-  of-known status text holds (Ok o) is = subst (λ (n : ℕ). P n o.text.items) (sym is.0) (subst (P status) (sym is.1) holds)
-  of-known status text holds (Err e) is = tt
+  -- what is true of a status, a text and numbers is true of the outcome of them
+  pub known : (status : ℕ) (text : List ℕ) (why : Why) (o : Outcome) → Answers Done Refused Bad status text why → IsOutcome status text why o → Tells Done Refused Bad o
+  known status text why o holds is =
+      subst (λ (n : ℕ). Answers Done Refused Bad n o.text.items o.why) (sym is.status_is)
+      (subst (λ (t : List ℕ). Answers Done Refused Bad status t o.why) (sym is.text_is) (subst (Answers Done Refused Bad status text) (sym is.why_is) holds))
 
-means-nothing : (bytes : List ℕ) (e : Error) → RefusesBytes bytes e → IsNoLack e → MeansNothing bytes
-means-nothing bytes (errors.NoReading cause offset) refuses some = refuses.1
-means-nothing bytes errors.Memory refuses some = absurd some
-means-nothing bytes _ refuses some = absurd refuses
+  -- the outcome of a call that is done
+  pub of-done : (text : List ℕ) (o : Outcome) → Done text → IsOutcome 0 text (plain_why 0) o → Tells Done Refused Bad o
+  of-done text o holds is = known 0 text (plain_why 0) o (done text holds) is
 
--- a refusal of bytes that were to be printed
-pub refused-print : (bytes : List ℕ) (e : Error) → RefusesBytes bytes e → (r : Result Outcome AllocError) → IfOk r (λ o. (o.status ≡ 1) × IsNoLack e) → IfOk r (λ o. PrintAnswers bytes o.status o.text.items)
-refused-print bytes e refuses (Ok o) is = subst (λ (n : ℕ). PrintAnswers bytes n o.text.items) (sym is.0) (print_refused o.text.items (means-nothing bytes e refuses is.1))
-refused-print bytes e refuses (Err lack) is = tt
+  -- the outcome of a refusal
+  pub of-refused : (e : Error) (r : Result Outcome AllocError) → Refused e → IfOk r (IsRefusal e) → IfOk r (Tells Done Refused Bad)
+  of-refused e (Ok o) holds is = known 1 (message_of e) (why_of e) o (refused e holds is.no_lack) is.is
+  of-refused e (Err lack) holds is = tt
 
--- a refusal of bytes and names
-pub refused-compat : (bytes prev new : List ℕ) (e : Error) → AreTexts prev new → RefusesCompared bytes prev new e → (r : Result Outcome AllocError) → IfOk r (λ o. (o.status ≡ 1) × IsNoLack e)
-    → IfOk r (λ o. CompatAnswers bytes prev new o.status o.text.items)
-refused-compat bytes prev new e texts refuses (Ok o) is = subst (λ (n : ℕ). CompatAnswers bytes prev new n o.text.items) (sym is.0) (compat_refused o.text.items e texts refuses is.1)
-refused-compat bytes prev new e texts refuses (Err lack) is = tt
+  -- the outcome of an argument that is bad
+  pub of-bad : (text : List ℕ) (why : Why) (r : Result Outcome AllocError) → Bad text why → IfOk r (IsOutcome 2 text why) → IfOk r (Tells Done Refused Bad)
+  of-bad text why (Ok o) holds is = known 2 text why o (bad text why holds) is
+  of-bad text why (Err lack) holds is = tt
 
--- a refusal of a module
-pub refused-module : (bytes : List ℕ) (e : Error) → RefusesBindings bytes e → (e ≡ errors.Size → OutgrowsLists bytes) → (r : Result Outcome AllocError) → IfOk r (λ o. (o.status ≡ 1) × IsNoLack e)
-    → IfOk r (λ o. ModuleAnswers bytes o.status o.text.items)
-refused-module bytes e refuses size (Ok o) is = subst (λ (n : ℕ). ModuleAnswers bytes n o.text.items) (sym is.0) (module_refused o.text.items e refuses size is.1)
-refused-module bytes e refuses size (Err lack) is = tt
+  -- the outcome of bytes, or of a refusal
+  pub of-bytes : (given : Result (Vec ℕ Global) Error) (r : Result Outcome AllocError) → IfOk given (λ text. Done text.items) → IfErr given Refused → IfOk r (IsOutcomeOf given) → IfOk r (Tells Done Refused Bad)
+  of-bytes (Ok text) (Ok o) ok err is = of-done text.items o ok is
+  of-bytes (Err e) (Ok o) ok err is = known 1 (message_of e) (why_of e) o (refused e err is.no_lack) is.is
+  of-bytes given (Err lack) ok err is = tt
 
-pub refused-strip : (bytes : List ℕ) (e : Error) → RefusesBindings bytes e → (e ≡ errors.Size → OutgrowsLists bytes) → (r : Result Outcome AllocError) → IfOk r (λ o. (o.status ≡ 1) × IsNoLack e)
-    → IfOk r (λ o. StripAnswers bytes o.status o.text.items)
-refused-strip bytes e refuses size (Ok o) is = subst (λ (n : ℕ). StripAnswers bytes n o.text.items) (sym is.0) (strip_refused o.text.items e refuses size is.1)
-refused-strip bytes e refuses size (Err lack) is = tt
+  -- the outcome of bytes that are there only where a world is
+  pub if-there : (name : List ℕ) (There : Option (Vec ℕ Global) → Type 0) (given : Result (Option (Vec ℕ Global)) Error) (r : Result Outcome AllocError)
+      → ((text : Vec ℕ Global) → There (Some text) → Done text.items) → (There None → Bad (no_such_world name) (world_why name))
+      → IfOk given There → IfErr given Refused → IfOk r (IsOutcomeIfThere name given) → IfOk r (Tells Done Refused Bad)
+  if-there name There (Ok (Some text)) (Ok o) some none ok err is = of-done text.items o (some text ok) is
+  if-there name There (Ok None) (Ok o) some none ok err is = known 2 (no_such_world name) (world_why name) o (bad (no_such_world name) (world_why name) (none ok)) is
+  if-there name There (Err e) (Ok o) some none ok err is = known 1 (message_of e) (why_of e) o (refused e err is.no_lack) is.is
+  if-there name There given (Err lack) some none ok err is = tt
+
+-- both of two things that are said of a refusal
+pub both-said : (P Q : Error → Type 0) (given : Result (Vec ℕ Global) Error) → IfErr given P → IfErr given Q → IfErr given (λ e. P e × Q e)
+both-said P Q (Ok text) p q = tt
+both-said P Q (Err e) p q = (p, q)
 
 -- texts that are the bytes of names which are UTF-8
-pub are-texts : (xs ys prev new : List ℕ) → (xs ≡ prev) × (is_utf8 prev ≡ true) → (ys ≡ new) × (is_utf8 new ≡ true) → AreTexts xs ys
-are-texts xs ys prev new one other =
+pub are-texts : (xs ys prev next : List ℕ) → (xs ≡ prev) × (is_utf8 prev ≡ true) → (ys ≡ next) × (is_utf8 next ≡ true) → AreTexts xs ys
+are-texts xs ys prev next one other =
     both-good (is_utf8 xs) (is_utf8 ys) (subst (λ (t : List ℕ). is_utf8 t ≡ true) (sym one.0) one.1) (subst (λ (t : List ℕ). is_utf8 t ≡ true) (sym other.0) other.1)
 
 pub second-bad : (a b : Bool) → a ≡ true → b ≡ false → (a && b) ≡ false
 second-bad a b good is = subst (λ (x : Bool). (x && b) ≡ false) (sym good) is
 
+-- what an outcome tells of two names
+abbrev pub TellsWorlds : List ℕ → List ℕ → List ℕ → Outcome → Type 0
+TellsWorlds bytes prev next = Tells (IsCompatible bytes prev next) (RefusesWorlds bytes prev next) (LacksWorld bytes prev next)
+
 -- names as texts are the names
-pub named : (bytes prev new prev' new' : List ℕ) → prev' ≡ prev → new' ≡ new → (r : Result Outcome AllocError) → IfOk r (λ o. CompatAnswers bytes prev' new' o.status o.text.items)
-    → IfOk r (λ o. CompatAnswers bytes prev new o.status o.text.items)
-named bytes prev new prev' new' p n r is =
-    subst (λ (xs : List ℕ). IfOk r (λ (o : Outcome). CompatAnswers bytes xs new o.status o.text.items)) p
-    (subst (λ (ys : List ℕ). IfOk r (λ (o : Outcome). CompatAnswers bytes prev' ys o.status o.text.items)) n is)
+pub named : (bytes prev next prev' next' : List ℕ) → prev' ≡ prev → next' ≡ next → (r : Result Outcome AllocError) → IfOk r (TellsWorlds bytes prev' next') → IfOk r (TellsWorlds bytes prev next)
+named bytes prev next prev' next' p n r is =
+    subst (λ (xs : List ℕ). IfOk r (TellsWorlds bytes xs next)) p (subst (λ (ys : List ℕ). IfOk r (TellsWorlds bytes prev' ys)) n is)
+
+-- what an outcome tells of two worlds
+abbrev pub TellsAlike : List ℕ → List ℕ → List ℕ → List ℕ → Outcome → Type 0
+TellsAlike bytes name other other_name = Tells (AreAlike bytes name other other_name) (RefusesAlike bytes name other other_name) (LacksEither bytes name other other_name)
+
+-- names as texts are the names
+pub named-alike : (bytes name other other_name name' other_name' : List ℕ) → name' ≡ name → other_name' ≡ other_name → (r : Result Outcome AllocError)
+    → IfOk r (TellsAlike bytes name' other other_name') → IfOk r (TellsAlike bytes name other other_name)
+named-alike bytes name other other_name name' other_name' p n r is =
+    subst (λ (xs : List ℕ). IfOk r (TellsAlike bytes xs other other_name)) p (subst (λ (ys : List ℕ). IfOk r (TellsAlike bytes name' other ys)) n is)

@@ -1,50 +1,167 @@
--- What the status of each call and its bytes say, of the bytes and names handed in.
-use Rattle.std.specs.Prelude.{◌≡◌, ◌&&◌, ℕ, List, [], true, false}
+-- What the status of each call, its bytes and its numbers say, of the bytes and names handed in.
+use Rattle.std.specs.Prelude.{◌≡◌, ◌&&◌, ◌++◌, ℕ, nat_eq, nat_lt, Bool, if◌then◌else◌, List, [], codes, length, true, false, Option, Some, None, Result, Ok, Err, Vec}
+use Rattle.std.specs.Prelude.{String}
 use Rattle.std.specs.Str.{is_utf8}
+use Rattle.std.specs.declared.alloc.Global.{Global}
 use Rattle.wit_model.specs.declared.error.Error.{Error}
+use Rattle.wit_model.specs.declared.error.Error.TheVariants as errors
 use Rattle.wit_model.specs.declared.error.Error.TheVariants.{Size}
+use Rattle.wit_model.specs.declared.model.StringEncoding.{StringEncoding}
+use Rattle.wit_model.specs.declared.model.StringEncoding.TheVariants as encodings
 use Rattle.wit_component.specs.Bound.{RefusesBindings}
-use Rattle.wit_component.specs.Decoded.{MeansNothing}
 use Rattle.wit_component.specs.Reached.{OutgrowsLists}
-use Rattle.witc_texts.specs.Bindings.{PrintsModule}
-use Rattle.witc_texts.specs.Lines.{compatible, no_such_world, usage}
-use Rattle.witc_texts.specs.Printed.{PrintsBytes}
-use Rattle.witc_texts.specs.Stripped.{StripsBytes}
+use Rattle.witc_refusals.specs.Messages.{message_of}
+use Rattle.witc_refusals.specs.Numbers.{nowhere, plain_why, why_of}
+use Rattle.witc_refusals.specs.declared.why.Why.{Why}
 use Rattle.witc_texts.specs.Worlds.{ComparesBytes, RefusesCompared}
 use Rattle.witc_texts.specs.declared.comparison.Compared.TheVariants as compared
-use Rattle.witc_ffi.specs.Outcomes.{IsNoLack}
+use Rattle.witc_alike.specs.Carried.{HasNumber}
+use Rattle.witc_alike.specs.Kinds.{AreKinds, IsUnknown}
+use Rattle.witc_alike.specs.Likeness.{ComparesTwo, RefusesTwo}
+use Rattle.witc_alike.specs.declared.likeness.Alike.TheVariants as alike
+use Rattle.witc_written.specs.Carried.{AttachesWorld, EmbedsWorld, HasNoWorld, RefusesAttached, RefusesEmbedded}
+use Rattle.witc_ffi.specs.Outcomes.{IsNoLack, IsOutcome, IsRefusal}
+use Rattle.witc_ffi.specs.declared.outcome.Outcome.{Outcome}
 
--- The text of the package that the bytes mean; or they mean none; or memory was wanting, and there are no bytes. What a refusal's text says is
--- left open.
-pub data PrintAnswers (bytes : List ℕ) : ℕ → List ℕ → Type 0 where
-  print_done : (text : List ℕ) → PrintsBytes bytes text → PrintAnswers bytes 0 text
-  print_refused : (text : List ℕ) → MeansNothing bytes → PrintAnswers bytes 1 text
-  print_lacking : PrintAnswers bytes 3 []
+-- A call is done, with bytes of which this is true; or refused with an error of which that is true, and the bytes are its message; or an argument is
+-- bad, with this text and these numbers; or memory was wanting, and there are no bytes.
+pub data Answers (Done : List ℕ → Type 0) (Refused : Error → Type 0) (Bad : List ℕ → Why → Type 0) : ℕ → List ℕ → Why → Type 0 where
+  done : (text : List ℕ) → Done text → Answers Done Refused Bad 0 text (plain_why 0)
+  refused : (e : Error) → Refused e → IsNoLack e → Answers Done Refused Bad 1 (message_of e) (why_of e)
+  bad : (text : List ℕ) (why : Why) → Bad text why → Answers Done Refused Bad 2 text why
+  lacking : Answers Done Refused Bad 3 [] (plain_why 1)
 
--- The text of what the module binds that the bytes are; or they are no module, or one whose bindings are refused, for size only where a list would get too
--- long; or memory was wanting, and there are no bytes.
-pub data ModuleAnswers (bytes : List ℕ) : ℕ → List ℕ → Type 0 where
-  module_done : (text : List ℕ) → PrintsModule bytes text → ModuleAnswers bytes 0 text
-  module_refused : (text : List ℕ) (e : Error) → RefusesBindings bytes e → (e ≡ Size → OutgrowsLists bytes) → IsNoLack e → ModuleAnswers bytes 1 text
-  module_lacking : ModuleAnswers bytes 3 []
+-- the same of an outcome
+abbrev pub Tells : (List ℕ → Type 0) → (Error → Type 0) → (List ℕ → Why → Type 0) → Outcome → Type 0
+Tells Done Refused Bad o = Answers Done Refused Bad o.status o.text.items o.why
 
--- The module that the bytes are without the sections that carry worlds, or the bytes where it has none; or it is refused in the same way; or memory was
--- wanting, and there are no bytes.
-pub data StripAnswers (bytes : List ℕ) : ℕ → List ℕ → Type 0 where
-  strip_done : (text : List ℕ) → StripsBytes bytes text → StripAnswers bytes 0 text
-  strip_refused : (text : List ℕ) (e : Error) → RefusesBindings bytes e → (e ≡ Size → OutgrowsLists bytes) → IsNoLack e → StripAnswers bytes 1 text
-  strip_lacking : StripAnswers bytes 3 []
+-- no argument of the call can be bad
+abbrev pub NeverBad : List ℕ → Why → Type 0
+NeverBad text why = ⊥
+
+-- A module, or its bindings, are refused, for size only where a list would get too long.
+abbrev pub RefusesBound : List ℕ → Error → Type 0
+RefusesBound bytes e = RefusesBindings bytes e × (e ≡ Size → OutgrowsLists bytes)
 
 -- both names are UTF-8
 abbrev pub AreTexts : List ℕ → List ℕ → Type 0
-AreTexts prev new = (is_utf8 prev && is_utf8 new) ≡ true
+AreTexts prev next = (is_utf8 prev && is_utf8 next) ≡ true
 
--- Of names that are UTF-8: the second world may take the place of the first; or the bytes, or the worlds, are refused; or a world isn't there. Where a name
--- isn't UTF-8, the bytes don't matter, and there is the usage line. Or memory was wanting, and there are no bytes.
-pub data CompatAnswers (bytes prev new : List ℕ) : ℕ → List ℕ → Type 0 where
-  compat_done : AreTexts prev new → ComparesBytes bytes prev new compared.Compatible → CompatAnswers bytes prev new 0 compatible
-  compat_refused : (text : List ℕ) (e : Error) → AreTexts prev new → RefusesCompared bytes prev new e → IsNoLack e → CompatAnswers bytes prev new 1 text
-  no_prev : AreTexts prev new → ComparesBytes bytes prev new compared.NoPrev → CompatAnswers bytes prev new 2 (no_such_world prev)
-  no_new : AreTexts prev new → ComparesBytes bytes prev new compared.NoNew → CompatAnswers bytes prev new 2 (no_such_world new)
-  no_names : (is_utf8 prev && is_utf8 new) ≡ false → CompatAnswers bytes prev new 2 usage
-  compat_lacking : CompatAnswers bytes prev new 3 []
+abbrev pub no_such_world : List ℕ → List ℕ
+no_such_world name = codes "the package has no world of the name " ++ name
+
+-- the numbers where a world of this name isn't there
+abbrev pub world_why : List ℕ → Why
+world_why name = record { offset = nowhere; subject = length name; code = 17; detail = 0 }
+
+abbrev pub not_utf8 : List ℕ
+not_utf8 = codes "the name of a world isn't UTF-8"
+
+-- the outcome of bytes, or of a world of this name that isn't there, or of a refusal
+abbrev pub IsOutcomeIfThere : List ℕ → Result (Option (Vec ℕ Global)) Error → Outcome → Type 0
+IsOutcomeIfThere name (Ok (Some text)) o = IsOutcome 0 text.items (plain_why 0) o
+IsOutcomeIfThere name (Ok None) o = IsOutcome 2 (no_such_world name) (world_why name) o
+IsOutcomeIfThere name (Err e) o = IsRefusal e o
+
+-- The names are UTF-8, and the second world may take the place of the first. There are no bytes.
+pub record IsCompatible (bytes prev next text : List ℕ) : Type 0 where
+  pub none : text ≡ []
+  pub texts : AreTexts prev next
+  pub compares : ComparesBytes bytes prev next compared.Compatible
+
+-- The names are UTF-8, and the bytes, or the worlds, are refused.
+pub record RefusesWorlds (bytes prev next : List ℕ) (e : Error) : Type 0 where
+  pub texts : AreTexts prev next
+  pub refuses : RefusesCompared bytes prev next e
+
+-- A world isn't there, the first before the second; or a name isn't UTF-8, whatever the bytes are.
+pub data LacksWorld (bytes prev next : List ℕ) : List ℕ → Why → Type 0 where
+  no_prev : AreTexts prev next → ComparesBytes bytes prev next compared.NoPrev → LacksWorld bytes prev next (no_such_world prev) (world_why prev)
+  no_next : AreTexts prev next → ComparesBytes bytes prev next compared.NoNew → LacksWorld bytes prev next (no_such_world next) (world_why next)
+  no_names : (is_utf8 prev && is_utf8 next) ≡ false → LacksWorld bytes prev next not_utf8 (plain_why 18)
+
+-- ---- one name and a string encoding
+
+-- a flag of C: any number but 0
+abbrev pub is_asked : ℕ → Bool
+is_asked n = nat_lt 0 n
+
+-- the string encoding of a number
+abbrev pub encoding_of : ℕ → Option StringEncoding
+encoding_of n = if nat_eq n 0 then Some encodings.UTF8 else (if nat_eq n 1 then Some encodings.UTF16 else (if nat_eq n 2 then Some encodings.CompactUTF16 else None))
+
+abbrev pub no_encoding : List ℕ
+no_encoding = codes "no string encoding has this number: they are 0 for UTF-8, 1 for UTF-16 and 2 for Latin-1 with UTF-16"
+
+-- A name isn't UTF-8, or no string encoding has the number; or, where neither is so, the package has no world of this name.
+pub data LacksPart (bytes name : List ℕ) (encoding : ℕ) : List ℕ → Why → Type 0 where
+  no_name : is_utf8 name ≡ false → LacksPart bytes name encoding not_utf8 (plain_why 18)
+  no_number : is_utf8 name ≡ true → encoding_of encoding ≡ None → LacksPart bytes name encoding no_encoding (plain_why 19)
+  no_world : is_utf8 name ≡ true → (e : StringEncoding) → encoding_of encoding ≡ Some e → HasNoWorld bytes name → LacksPart bytes name encoding (no_such_world name) (world_why name)
+
+-- The name is UTF-8, the number is of a string encoding, and these are the data of a section that carries the package's world of this name.
+pub record IsEmbedded (bytes name : List ℕ) (encoding : ℕ) (canonical : Bool) (text : List ℕ) : Type 0 where
+  pub is_text : is_utf8 name ≡ true
+  pub said : StringEncoding
+  pub is : encoding_of encoding ≡ Some said
+  pub embeds : EmbedsWorld bytes name said canonical text
+
+-- The same, and these are the module with that section.
+pub record IsAttached (module_ bytes name : List ℕ) (encoding : ℕ) (canonical : Bool) (text : List ℕ) : Type 0 where
+  pub is_text : is_utf8 name ≡ true
+  pub said : StringEncoding
+  pub is : encoding_of encoding ≡ Some said
+  pub attaches : AttachesWorld module_ bytes name said canonical text
+
+pub record RefusesAttachedTo (module_ bytes name : List ℕ) (encoding : ℕ) (canonical : Bool) (e : Error) : Type 0 where
+  pub said : StringEncoding
+  pub is : encoding_of encoding ≡ Some said
+  pub refuses : RefusesAttached module_ bytes name said canonical e
+
+-- what an outcome tells of a package, a name and the number of an encoding
+abbrev pub TellsEmbedded : List ℕ → List ℕ → ℕ → Bool → Outcome → Type 0
+TellsEmbedded bytes name encoding canonical = Tells (IsEmbedded bytes name encoding canonical) (RefusesEmbedded bytes name canonical) (LacksPart bytes name encoding)
+
+-- and of a module beside them
+abbrev pub TellsAttached : List ℕ → List ℕ → List ℕ → ℕ → Bool → Outcome → Type 0
+TellsAttached module_ bytes name encoding canonical =
+    Tells (IsAttached module_ bytes name encoding canonical) (RefusesAttachedTo module_ bytes name encoding canonical) (LacksPart bytes name encoding)
+
+-- ---- the sections of a module
+
+abbrev pub no_section : List ℕ
+no_section = codes "the module has no section of this number that carries a world"
+
+-- The data of the section of this number.
+pub record IsSection (bytes : List ℕ) (n : ℕ) (text : List ℕ) : Type 0 where
+  pub data_ : Vec ℕ Global
+  pub is : data_.items ≡ text
+  pub has : HasNumber bytes n (Some data_)
+
+-- The module has fewer such sections.
+pub data LacksSection (bytes : List ℕ) (n : ℕ) : List ℕ → Why → Type 0 where
+  fewer : HasNumber bytes n None → LacksSection bytes n no_section (plain_why 20)
+
+-- ---- two packages
+
+-- The names are UTF-8, and the two worlds have one sense. There are no bytes.
+pub record AreAlike (bytes name other other_name text : List ℕ) : Type 0 where
+  pub none : text ≡ []
+  pub texts : AreTexts name other_name
+  pub compares : ComparesTwo bytes name other other_name alike.Same
+
+-- The names are UTF-8, and the bytes are refused; or the worlds differ in sense, and the first one's name is told.
+pub data RefusesAlike (bytes name other other_name : List ℕ) : Error → Type 0 where
+  refused_alike : (e : Error) → AreTexts name other_name → RefusesTwo bytes other e → RefusesAlike bytes name other other_name e
+  differ : (told : String Global) → told.bytes.items ≡ name → AreTexts name other_name → ComparesTwo bytes name other other_name alike.Other → RefusesAlike bytes name other other_name (errors.Differs told)
+
+-- A world isn't there, the first before the second; or a name isn't UTF-8, whatever the bytes are.
+pub data LacksEither (bytes name other other_name : List ℕ) : List ℕ → Why → Type 0 where
+  no_first : AreTexts name other_name → ComparesTwo bytes name other other_name alike.NoFirst → LacksEither bytes name other other_name (no_such_world name) (world_why name)
+  no_second : AreTexts name other_name → ComparesTwo bytes name other other_name alike.NoSecond → LacksEither bytes name other other_name (no_such_world other_name) (world_why other_name)
+  no_texts : (is_utf8 name && is_utf8 other_name) ≡ false → LacksEither bytes name other other_name not_utf8 (plain_why 18)
+
+-- What the bytes are; or 128, where memory was wanting or a list would get too long.
+pub data KindsAnswers (bytes : List ℕ) : ℕ → Type 0 where
+  kinds : (sum : ℕ) → AreKinds bytes sum → KindsAnswers bytes sum
+  unknown : (e : Error) → IsUnknown bytes e → KindsAnswers bytes 128

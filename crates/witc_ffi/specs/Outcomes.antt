@@ -1,8 +1,12 @@
 -- What comes of a call, and what C is given of it.
-use Rattle.std.specs.Prelude.{◌≡◌, ℕ, List, [], Result, MatchResult}
+use Rattle.std.specs.Prelude.{◌≡◌, ℕ, List, [], Result, Ok, Err, MatchResult, Vec}
 use Rattle.std.specs.declared.alloc.AllocError.{AllocError}
+use Rattle.std.specs.declared.alloc.Global.{Global}
 use Rattle.wit_model.specs.declared.error.Error.{Error}
 use Rattle.wit_model.specs.declared.error.Error.TheVariants.{Memory}
+use Rattle.witc_refusals.specs.Messages.{message_of}
+use Rattle.witc_refusals.specs.Numbers.{plain_why, why_of}
+use Rattle.witc_refusals.specs.declared.why.Why.{Why}
 use Rattle.witc_ffi.specs.declared.outcome.Outcome.{Outcome}
 
 -- the refusal is no want of memory
@@ -10,11 +14,23 @@ abbrev pub IsNoLack : Error → Type 0
 IsNoLack Memory = ⊥
 IsNoLack _ = Unit {0}
 
--- the outcome of this status with this text
-abbrev pub IsOutcome : ℕ → List ℕ → Outcome → Type 0
-IsOutcome status text o = (o.status ≡ status) × (o.text.items ≡ text)
+-- the outcome of this status with this text and these numbers
+pub record IsOutcome (status : ℕ) (text : List ℕ) (why : Why) (o : Outcome) : Type 0 where
+  pub status_is : o.status ≡ status
+  pub text_is : o.text.items ≡ text
+  pub why_is : o.why ≡ why
 
--- Memory was wanting, and there are no bytes; or there is an outcome, and C has its status and its bytes.
-pub data HandsOut (outcome : Result Outcome AllocError) : ℕ → List ℕ → Type 0 where
-  lacking : HandsOut outcome 3 []
-  handed : (o : Outcome) → MatchResult outcome (λ given. given ≡ o) (λ e. ⊥) → HandsOut outcome o.status o.text.items
+-- the outcome of a refusal that is no want of memory: its message and its numbers
+pub record IsRefusal (e : Error) (o : Outcome) : Type 0 where
+  pub no_lack : IsNoLack e
+  pub is : IsOutcome 1 (message_of e) (why_of e) o
+
+-- the outcome of bytes, or of a refusal
+abbrev pub IsOutcomeOf : Result (Vec ℕ Global) Error → Outcome → Type 0
+IsOutcomeOf (Ok text) o = IsOutcome 0 text.items (plain_why 0) o
+IsOutcomeOf (Err e) o = IsRefusal e o
+
+-- Memory was wanting, and there are no bytes; or there is an outcome, and C has its status, its bytes and its numbers.
+pub data HandsOut (outcome : Result Outcome AllocError) : ℕ → List ℕ → Why → Type 0 where
+  lacking : HandsOut outcome 3 [] (plain_why 1)
+  handed : (o : Outcome) → MatchResult outcome (λ given. given ≡ o) (λ e. ⊥) → HandsOut outcome o.status o.text.items o.why

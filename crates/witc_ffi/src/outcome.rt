@@ -1,97 +1,145 @@
-//! What comes of a call: a status and its bytes, or want of memory.
+//! What comes of a call: a status, its bytes and its numbers, or want of memory.
 
 ghost use Rattle.std.specs.Prelude.{◌≡◌, MatchResult, IfOk};
-ghost use Rattle.witc_ffi.specs.Outcomes.{HandsOut, IsNoLack, IsOutcome};
-ghost use Rattle.witc_texts.specs.Lines.{no_such_world};
+ghost use Rattle.witc_ffi.specs.Answers.{IsOutcomeIfThere, no_such_world, world_why};
+ghost use Rattle.witc_ffi.specs.Outcomes.{HandsOut, IsOutcome, IsOutcomeOf, IsRefusal};
+ghost use Rattle.witc_refusals.specs.Messages.{message_of};
+ghost use Rattle.witc_refusals.specs.Numbers.{plain_why, why_of as numbers_of};
 
 use crate::answer::Answer;
 use std::alloc::{AllocError, Global};
 use wit_component::Error;
+use witc_refusals::{Why, message, why_of};
 
 /// The call is done.
 pub const DONE: u8 = 0;
-/// The bytes are refused.
+/// The bytes, or what would come of them, are refused.
 pub const REFUSED: u8 = 1;
 /// A world isn't there, or a name isn't UTF-8.
-pub const NO_WORLD: u8 = 2;
+pub const BAD_ARGUMENT: u8 = 2;
 /// Memory was wanting.
-pub const LACKING: u8 = 3;
+pub const NO_MEMORY: u8 = 3;
 
-/// A status, and the bytes that go with it.
+/// There is no such world.
+const NO_SUCH_WORLD: u32 = 17;
+
+/// A status, the bytes that go with it, and the numbers of a refusal.
 #[derive(Drop)]
 pub struct Outcome {
     pub status: u8,
     pub text: Vec<u8>,
+    pub why: Why,
 }
 
-/// The outcome of a refusal: its text. Want of memory has none.
-pub fn refusal(alloc: Global, error: Error) -> Result<Outcome, AllocError>
-    ensures { IfOk result (λ o. (o.status ≡ 1) × IsNoLack error) }
+/// The outcome of a call that is done.
+pub fn done(text: Vec<u8>) -> Outcome
+    ensures { IsOutcome 0 text.items (plain_why 0) result }
 {
-    match error {
-        Error::Memory => Err(AllocError),
-        error => Ok(Outcome {
-            status: REFUSED,
-            text: refusal_line(alloc, &error)?,
-        }),
+    Outcome {
+        status: DONE,
+        text,
+        why: Why::plain(0),
     }
 }
 
-fn refusal_line(alloc: Global, error: &Error) -> Result<Vec<u8>, AllocError> {
-    let line = format!(in alloc; "refused: {error}\n")?;
-    Ok(line.into_bytes())
+/// The outcome of a refusal: its message and its numbers. Want of memory has none.
+pub fn refusal(alloc: Global, error: Error) -> Result<Outcome, AllocError>
+    ensures { IfOk result (IsRefusal error) }
+{
+    match error {
+        Error::Memory => Err(AllocError),
+        error => told(alloc, error),
+    }
+}
+
+fn told(alloc: Global, error: Error) -> Result<Outcome, AllocError>
+    ensures { IfOk result (IsOutcome 1 (message_of error) (numbers_of error)) }
+{
+    let text = message(alloc, &error)?.into_bytes();
+    Ok(Outcome {
+        status: REFUSED,
+        text,
+        why: why_of(&error),
+    })
+}
+
+/// The outcome of bytes, or of a refusal.
+pub fn of_bytes(alloc: Global, given: Result<Vec<u8>, Error>) -> Result<Outcome, AllocError>
+    ensures { IfOk result (IsOutcomeOf given) }
+{
+    match given {
+        Ok(text) => Ok(done(text)),
+        Err(error) => refusal(alloc, error),
+    }
+}
+
+/// The outcome of bytes, or of a world of this name that isn't there, or of a refusal.
+pub fn of_world(
+    alloc: Global,
+    name: &str,
+    given: Result<Option<Vec<u8>>, Error>,
+) -> Result<Outcome, AllocError>
+    ensures { IfOk result (IsOutcomeIfThere name.now given) }
+{
+    match given {
+        Ok(Some(text)) => Ok(done(text)),
+        Ok(None) => no_world(alloc, name),
+        Err(error) => refusal(alloc, error),
+    }
 }
 
 /// The outcome where a world of this name isn't there.
 pub fn no_world(alloc: Global, name: &str) -> Result<Outcome, AllocError>
-    ensures { IfOk result (IsOutcome 2 (no_such_world name.now)) }
+    ensures { IfOk result (IsOutcome 2 (no_such_world name.now) (world_why name.now)) }
 {
-    let line = format!(in alloc; "no such world: {name}\n")?;
+    let text = format!(in alloc; "the package has no world of the name {name}")?;
     Ok(Outcome {
-        status: NO_WORLD,
-        text: line.into_bytes(),
+        status: BAD_ARGUMENT,
+        text: text.into_bytes(),
+        why: Why::about(NO_SUCH_WORLD, 0, name),
     })
 }
 
-/// The outcome of this status with a text that is known.
-pub fn known(alloc: Global, status: u8, text: &str) -> Result<Outcome, AllocError>
-    ensures { IfOk result (IsOutcome status text.now) }
+/// The outcome where an argument is bad that has no name: a text and a code.
+pub fn bad(alloc: Global, code: u32, text: &str) -> Result<Outcome, AllocError>
+    ensures { IfOk result (IsOutcome 2 text.now (plain_why code)) }
 {
     Ok(Outcome {
-        status,
+        status: BAD_ARGUMENT,
         text: Vec::from_slice(alloc, text.as_bytes())?,
+        why: Why::plain(code),
     })
 }
 
-/// The outcome of a call that is done and leaves the bytes as they are.
-pub fn copied(alloc: Global, bytes: &[u8]) -> Result<Outcome, AllocError>
-    ensures { IfOk result (IsOutcome 0 bytes.now) }
-{
-    Ok(Outcome {
-        status: DONE,
-        text: Vec::from_slice(alloc, bytes)?,
-    })
-}
-
-/// Gives C the bytes of an outcome, and answers its status. Where memory is wanting, there are no bytes.
-pub fn hand_out(alloc: Global, outcome: Result<Outcome, AllocError>, answer: &mut Answer) -> u8
-    ensures { HandsOut outcome result answer.new.text }
+/// Gives C the bytes of an outcome and its numbers, and answers its status. Where memory is wanting, there are no bytes.
+pub fn hand_out(
+    alloc: Global,
+    outcome: Result<Outcome, AllocError>,
+    answer: &mut Answer,
+    why: &mut Why,
+) -> u8
+    ensures { HandsOut outcome result answer.new.text why.new }
 {
     match answered(alloc, outcome) {
-        Ok((status, new)) => {
+        Ok((status, new, numbers)) => {
             *answer = new;
+            *why = numbers;
             status
         }
         Err(_) => {
             *answer = Answer::none();
-            LACKING
+            *why = Why::plain(1);
+            NO_MEMORY
         }
     }
 }
 
-fn answered(alloc: Global, outcome: Result<Outcome, AllocError>) -> Result<(u8, Answer), AllocError>
-    ensures { IfOk result (λ a. MatchResult outcome (λ o. (a.0 ≡ o.status) × (a.1.text ≡ o.text.items)) (λ e. ⊥)) }
+fn answered(
+    alloc: Global,
+    outcome: Result<Outcome, AllocError>,
+) -> Result<(u8, Answer, Why), AllocError>
+    ensures { IfOk result (λ a. MatchResult outcome (λ o. (a.0 ≡ o.status) × (a.1.text ≡ o.text.items) × (a.2 ≡ o.why)) (λ e. ⊥)) }
 {
-    let Outcome { status, text } = outcome?;
-    Ok((status, Answer::of(alloc, text)?))
+    let Outcome { status, text, why } = outcome?;
+    Ok((status, Answer::of(alloc, text)?, why))
 }

@@ -1,4 +1,4 @@
-mod BindingsLaws
+pub mod BindingsLaws
 mod NamedLaws
 mod PassedLaws
 mod PrintedLaws

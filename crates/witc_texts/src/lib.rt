@@ -12,3 +12,4 @@ pub use comparison::{Compared, compat};
 pub use lines::{COMPATIBLE, USAGE};
 pub use modules::{module_text, strip};
 pub use packages::{print, text_of_package};
+pub use worlds::world_of;

@@ -1,0 +1,3 @@
+mod KindLaws
+mod LikeLaws
+mod WalkLaws

@@ -1,0 +1,27 @@
+-- The sections of a module that carry worlds, one by one (wit-component README, "Custom Section Format").
+use Rattle.std.specs.Prelude.{◌≡◌, ◌<◌, ◌≤◌, ◌+◌, ◌++◌, ℕ, List, [], Option, Some, None, Vec, length, slice_get}
+use Rattle.std.specs.declared.alloc.Global.{Global}
+use Rattle.wit_model.specs.declared.error.Error.{Error}
+use Rattle.wit_model.specs.declared.error.Error.TheVariants as errors
+use Rattle.wit_component.specs.Bound.{CarryData, HasSections}
+use Rattle.wit_component.specs.Modules.{AreSections, Framed, IsFrontless, module_preamble}
+
+-- The bytes begin as a module with these sections, in which worlds are carried by these data; and this is what is left behind them.
+pub record BeginsWith (bytes : List ℕ) (data_ : List (List ℕ)) (left : List ℕ) : Type 0 where
+  pub sections : List Framed
+  pub front : List ℕ
+  pub parts : bytes ≡ module_preamble ++ (front ++ left)
+  pub are : AreSections sections front
+  pub carry : CarryData sections data_
+
+-- The data of that number, whatever stands behind their section; or the module has fewer such sections, to its end.
+abbrev pub HasNumber : List ℕ → ℕ → Option (Vec ℕ Global) → Type 0
+HasNumber bytes n None = (data_ : List (List ℕ)) × BeginsWith bytes data_ [] × (length data_ ≤ n)
+HasNumber bytes n (Some found) = (data_ : List (List ℕ)) × (left : List ℕ) × BeginsWith bytes data_ left × (slice_get data_ n ≡ Some found.items)
+
+-- The bytes are no module; or at this offset no section begins, and in front of it are no more such sections than that number; or memory was wanting.
+abbrev pub RefusesWalk : List ℕ → ℕ → Error → Type 0
+RefusesWalk bytes n errors.NotAModule = (rest : List ℕ) → bytes ≡ module_preamble ++ rest → ⊥
+RefusesWalk bytes n (errors.BadModule offset) = (data_ : List (List ℕ)) × (left : List ℕ) × BeginsWith bytes data_ left × (length data_ ≤ n) × IsFrontless left × (offset + length left ≡ length bytes)
+RefusesWalk bytes n errors.Memory = Unit {0}
+RefusesWalk bytes n _ = ⊥

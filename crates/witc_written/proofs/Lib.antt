@@ -1,0 +1,3 @@
+mod HomeLaws
+mod WorldLaws
+mod WrittenLaws

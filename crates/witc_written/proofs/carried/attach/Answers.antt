@@ -1,0 +1,48 @@
+use Rattle.std.proofs.Common.{◌≡◌, ◌∙◌, ap, subst, ℕ, List}
+use Rattle.base_lemmas.proofs.Options.{passed}
+use Rattle.wit_model.specs.declared.error.Error.TheVariants.{Size}
+use Rattle.wit_component.specs.Bindings.{binding_of}
+use Rattle.wit_component.specs.Bound.{IsBound, RefusesBindings}
+use Rattle.wit_component.specs.Reached.{OutgrowsLists}
+use Rattle.witc_written.specs.Carried.{EmbedsIfThere, RefusesAttached, unbound, unembedded, unjoined, with_section}
+use Rattle.witc_written.proofs.carried.attach.Goals as goal
+
+pub returns-in_err-data-clause-refused : goal.returns-in_err-data-clause-refused
+returns-in_err-data-clause-refused c =
+    let e = c.in_err-data.field-0.0 in
+    passed (RefusesAttached c.args.«module».now c.args.«package».now c.args.name.now c.args.encoding c.args.canonical_names) c.from_residual.result e c.from_residual.ensures.1
+    (unembedded e c.in_err-data.ensures.refused)
+
+pub returns-in_err-out-clause-refused : goal.returns-in_err-out-clause-refused
+returns-in_err-out-clause-refused c =
+    let e = c.in_err-out.field-0.0 in
+    passed (RefusesAttached c.args.«module».now c.args.«package».now c.args.name.now c.args.encoding c.args.canonical_names) c.from_residual-in_err-out.result e c.from_residual-in_err-out.ensures.1
+    (unjoined e c.in_err-out.ensures.refused)
+
+pub returns-in_err-_stripped-clause-refused : goal.returns-in_err-_stripped-clause-refused
+returns-in_err-_stripped-clause-refused c =
+    let module_ = c.args.«module».now in
+    let bytes = c.args.«package».now in
+    let name = c.args.name.now in
+    let e = c.args.encoding in
+    let canonical = c.args.canonical_names in
+    let text = c.in-Some.data.items in
+    let error = c.in_err-_stripped.field-0.0 in
+    let is : c.deref-2.result.now ≡ with_section module_ name text = c.deref-2.ensures.value ∙ (c.in_ok-out.ensures.joined ∙ ap (λ (d : List ℕ). with_section module_ name d) c.deref.ensures.value) in
+    passed (RefusesAttached module_ bytes name e canonical) c.from_residual-in_err-_stripped.result error c.from_residual-in_err-_stripped.ensures.1
+    (unbound text error (subst (EmbedsIfThere bytes name e canonical) c.in-Some.is c.in_ok-data.ensures.embedded)
+    (subst (λ (out : List ℕ). RefusesBindings out error) is c.in_err-_stripped.ensures.refuses) (subst (λ (out : List ℕ). error ≡ Size → OutgrowsLists out) is c.in_err-_stripped.ensures.size))
+
+pub returns-clause-attached : goal.returns-clause-attached
+returns-clause-attached c =
+    let module_ = c.args.«module».now in
+    let bytes = c.args.«package».now in
+    let name = c.args.name.now in
+    let e = c.args.encoding in
+    let canonical = c.args.canonical_names in record {
+      data_ = c.in-Some.data.items;
+      embeds = subst (EmbedsIfThere bytes name e canonical) c.in-Some.is c.in_ok-data.ensures.embedded;
+      is = c.in_ok-out.ensures.joined ∙ ap (λ (d : List ℕ). with_section module_ name d) c.deref.ensures.value;
+      bound = binding_of c.in_ok-_stripped._bound;
+      binds = subst (λ (out : List ℕ). IsBound out (binding_of c.in_ok-_stripped._bound)) c.deref-2.ensures.value c.in_ok-_stripped.ensures.bound;
+    }
