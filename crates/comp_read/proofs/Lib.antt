@@ -25,6 +25,9 @@ pub mod WorldInput
 pub mod WorldLabels
 pub mod WorldPackage
 pub mod WorldWhole
+pub mod CountedUp
+pub mod ShownScopes
+pub mod PackageOrder
 pub mod ReadOrder
 pub mod BuildLaws
 pub mod DecodedLaws

@@ -1,5 +1,5 @@
 -- What is built of a plan stands in the order of what was followed.
-use Rattle.std.proofs.Common.{◌≡◌, refl, sym, ap, subst, ◌∙◌, ℕ, zero, suc, true, List, [], ◌∷◌, ◌++◌, map, Option, Some, None, slice_get, option_map, append-nil}
+use Rattle.std.proofs.Common.{◌≡◌, refl, sym, ap, subst, ◌∙◌, ℕ, true, List, [], ◌∷◌, ◌++◌, map, Option, Some, slice_get, option_map, append-nil}
 use Rattle.std.proofs.lemmas.Option.{slice_get-map, same_Some as same-some}
 use Rattle.std.specs.List.{AllByRecursion, AllZip, Contains, filter, flat_map}
 use Rattle.wit_model.specs.declared.model.Interface.{Interface}
@@ -38,22 +38,12 @@ use Rattle.plan_laws.proofs.OneWorld.{functions_shown as functions_in_world, one
 use Rattle.plan_laws.proofs.Planned.{first_there, interface_there}
 use Rattle.plan_laws.proofs.WholeTypes.{packages_are_ruled, path_planned}
 use Rattle.plan_type_laws.specs.ShownMarks.{has_no_path}
-use Rattle.comp_read.specs.Order.{FollowsParts, function_names, once_by_path, shown_under, worlds_shown}
+use Rattle.comp_read.specs.Order.{FollowsParts, function_names, once_by_path, packages_shown, shown_under, worlds_shown}
+use Rattle.comp_read.proofs.PackageOrder.{built_identities}
 use Rattle.comp_read.proofs.ShownOrder.{members_paths, names_alike, paths_once, scope_paths}
 use Rattle.comp_read.proofs.WorldOrder.{joined_behind}
-use Rattle.base_lemmas.proofs.Elements.{get-contains, zip_each, zip_map as zip_names}
+use Rattle.base_lemmas.proofs.Elements.{get-contains, zip_at_right, zip_each, zip_map as zip_names}
 use Rattle.base_lemmas.proofs.Lists.{append_of_map as map_append, map_of_map, same_map as map_each}
-
--- ---- lists
-
--- what holds of the elements of each number
-
--- what stands beside the element of this number
-zip_back : {A B : Type 0} (R : A → B → Type 0) (xs : List A) (ys : List B) → AllZip R xs ys → (k : ℕ) (y : B) → slice_get ys k ≡ Some y → (x : A) × (slice_get xs k ≡ Some x)
-zip_back R xs [] zip k y e = let wrong : None ≡ Some y = e in absurd cc
-zip_back R [] (z ∷ ys) zip k y e = absurd zip
-zip_back R (x ∷ xs) (z ∷ ys) zip zero y e = (x, refl)
-zip_back R (x ∷ xs) (z ∷ ys) zip (suc k) y e = zip_back R xs ys zip.1 k y e
 
 -- ---- what is shown, in numbers
 
@@ -113,7 +103,7 @@ module _ (t : Tables) (h : Homes) (known : ℕ → Fact) (n : ℕ) (ms : List Me
 
     pub functions_planned : (k : ℕ) (i : PlannedInterface) (path : Text) → slice_get p.interfaces k ≡ Some i → path_of_planned p i ≡ Some path → map (λ f. f.0) i.functions ≡ map (λ f. f.0) (reads.functions_of path shown)
     functions_planned k i path there at_path =
-        let back = zip_back (PlansPlace t planned.kept n (home_at h) (views_of_members (numbered_members ms))) (places_in ms) p.interfaces planned.interfaces k i there in
+        let back = zip_at_right (PlansPlace t planned.kept n (home_at h) (views_of_members (numbered_members ms))) (places_in ms) p.interfaces planned.interfaces k i there in
         let q = back.0 in
         let has : HasPath t q = (path, sym (path_there k q i back.1 there) ∙ at_path) in
         let found = interface_there t h ms members given.input n p planned k q back.1 in
@@ -173,14 +163,15 @@ module _ (p : Plan) (r : Resolve) (built : IsBuilt p r) where
   pub worlds_built : map (λ w. text_of w.name) r.worlds.items ≡ map (λ w. w.name) p.worlds
   worlds_built = sym (map_of_map (λ (w : PlannedWorld). w.name) planned_world r.worlds.items) ∙ ap (map (λ w. w.name)) built.worlds
 
-pub package_follows : (t : Tables) (h : Homes) (known : ℕ → Fact) (n : ℕ) (ms : List Member) (members : List reads.Member) → IsPackageInput t h known n ms members → StandAlone t ms
+pub package_follows : (t : Tables) (h : Homes) (known : ℕ → Fact) (n : ℕ) (ms : List Member) (members : List reads.Member) → IsPackageInput t h known n ms members → StandAlone t ms → h.packages ≡ packages_shown members
     → (p : Plan) → PlansWhole t h.packages (home_at h) n ms p → (r : Resolve) → IsBuilt p r → FollowsParts members r
-package_follows t h known n ms members given alone p planned r built =
+package_follows t h known n ms members given alone packages p planned r built =
     let are = package_shown t h known n ms members given alone in
     let seen = sights_of_members t (numbered_members ms) in
     let shown = flat_map reads.sights members in
     let under = flat_map shown_under members in
     record {
+      packages = built_identities t h.packages (home_at h) n ms p planned r built ∙ packages;
       interfaces = paths_built p r built ∙ paths_planned t h known n ms members given p planned seen shown under are;
       functions = functions_built p r built shown (functions_planned t h known n ms members given p planned seen shown under are);
       worlds = worlds_built p r built ∙ (worlds_planned t h known n ms members given p planned seen shown under are ∙ worlds_meant t h ms members given.input.shown);
@@ -221,8 +212,9 @@ module _ (t : Tables) (h : Homes) (known : ℕ → Fact) (n : ℕ) (m : Member) 
       ap (map (λ (v : Text × Scope). v.0)) (one_world t h n m own w is own_are)
       ∙ (sym (ap (λ a. map (λ (v : Text × Scope). v.0) (world_in_part m.label.now a ++ [])) is) ∙ worlds_meant t h (m ∷ []) ones zip)
 
-  pub world_follows : (p : Plan) → PlansWhole t h.packages (home_at h) n (m ∷ own) p → (r : Resolve) → IsBuilt p r → FollowsParts ones r
-  world_follows p planned r built = record {
+  pub world_follows : h.packages ≡ packages_shown ones → (p : Plan) → PlansWhole t h.packages (home_at h) n (m ∷ own) p → (r : Resolve) → IsBuilt p r → FollowsParts ones r
+  world_follows packages p planned r built = record {
+    packages = built_identities t h.packages (home_at h) n (m ∷ own) p planned r built ∙ packages;
     interfaces = paths_built p r built ∙ paths_planned t h known n (m ∷ own) members given p planned world_seen world_views (flat_map shown_under ones) world_shown;
     functions = functions_built p r built world_views (functions_planned t h known n (m ∷ own) members given p planned world_seen world_views (flat_map shown_under ones) world_shown);
     worlds = worlds_built p r built ∙ (worlds_planned t h known n (m ∷ own) members given p planned world_seen world_views (flat_map shown_under ones) world_shown ∙ one_label);

@@ -18,6 +18,8 @@ use Rattle.plan_meaning.specs.NumberedViews.{Tables}
 use Rattle.plan_meaning.specs.Plan.{Plan}
 use Rattle.plan_package.specs.PlanWhole.{PlansWhole}
 use Rattle.plan_laws.specs.Whole.{IsPackageInput}
+use Rattle.plan_laws.proofs.WholePlacesTop.{one_package}
+use Rattle.base_lemmas.proofs.Elements.{last_of}
 use Rattle.read_exports.specs.Members.{numbered_members, numbered_part}
 use Rattle.read_exports.specs.declared.members.Member.{Member}
 use Rattle.read_exports.specs.declared.members.Part.{Part}
@@ -33,13 +35,14 @@ use Rattle.comp_read.specs.MembersRead.{AreReadOf}
 use Rattle.comp_read.specs.Order.{FollowsBytes, FollowsLevels}
 use Rattle.comp_read.specs.OwnMembers.{StandAsShown}
 use Rattle.comp_read.specs.Planned.{CanBeBuilt, IsBuiltOf}
-use Rattle.comp_read.specs.ReadInput.{IsReadInput}
+use Rattle.comp_read.specs.ReadInput.{AreHomesOf, IsReadInput}
 use Rattle.comp_read.specs.ReadWorlds.{AreBeside, IsReadWorld}
 use Rattle.comp_read.specs.WorldsRead.{IsWorldReadOf}
 use Rattle.comp_read.proofs.ByScopes.{members_by_scopes}
 use Rattle.comp_read.proofs.MetPlaces.{HavePaths, all_have, stand_alone}
 use Rattle.comp_read.proofs.PlanOrder.{StandAlone, package_follows, world_follows}
-use Rattle.comp_read.proofs.ReadPackages.{read_members_are_input}
+use Rattle.comp_read.proofs.PackageOrder.{packages_are}
+use Rattle.comp_read.proofs.ReadPackages.{read_members_are_input, read_packages_have_sources}
 use Rattle.comp_read.proofs.Whole.{read_is_package_input}
 use Rattle.comp_read.proofs.WorldOrder.{places_are}
 use Rattle.comp_read.proofs.WorldReadLaws.{is_world}
@@ -66,7 +69,8 @@ module _ (x : Followed) (facts : List KeptFact) (h : Homes) (n : ℕ) (ms : List
     exported = exported pieces x h ms package_read.0 package_read.1;
     follows =
         package_follows (tables_of x) h (known_by facts) n ms package_read.0
-        packaged (stand_alone pieces x h ms package_read.0 package_read.1 (all_have (tables_of x) (numbered_members ms) packaged.input.numbers)) p planned r built;
+        packaged (stand_alone pieces x h ms package_read.0 package_read.1 (all_have (tables_of x) (numbered_members ms) packaged.input.numbers))
+        (packages_are pieces x h ms package_read.0 package_read.1 read.homes read.order (read_packages_have_sources read.first h.packages h.homes ms read.reasons read.members) n (one_package (tables_of x) h (known_by facts) n ms package_read.0 packaged)) p planned r built;
   }
 
 module _ (x : Followed) (t : Tables) (facts : List KeptFact) (h : Homes) (n : ℕ) (ms : List Member) (read : AreReadOf x t facts h (map lent_member ms)) (pieces : List Piece) (followed : IsFollowed pieces x)
@@ -98,12 +102,15 @@ module _ (x : Followed) (t : Tables) (facts : List KeptFact) (h : Homes) (m : Me
       let whole = read_world_is_whole pieces x t facts h m w world_is_read own are in
       let zip = over_tables (λ (u : Tables). AllZip (IsMember u h) (numbered_members (m ∷ [])) world_read.0) world_read.1.shown in
       let alone = stand_alone pieces x h (m ∷ []) world_read.0 world_read.1 (subst (λ (a : Part). HavePaths (tables_of x) (numbered_part a)) (sym given.is) tt, tt) in
+      let homes = subst (λ (u : Tables). AreHomesOf u h) given.read.tables given.read.homes in
+      let sources = read_packages_have_sources given.read.first h.packages h.homes (m ∷ []) given.read.reasons given.read.members in
+      let packages = packages_are pieces x h (m ∷ []) world_read.0 world_read.1 homes given.read.order sources m.package_number (λ k c. ap (λ (z : Member). z.package_number) (sym (last_of m k c))) in
       let met = places_are t h given.read.homes m.package_number m w given.is own are order in
       record {
         members = world_read.0;
         exported = exported pieces x h (m ∷ []) world_read.0 world_read.1;
         follows =
-            world_follows t h (known_by facts) m.package_number m own whole.members whole.input w given.is are met world_read.0 zip (over_tables (λ (u : Tables). StandAlone u (m ∷ [])) alone) is.plan is.planned r
+            world_follows t h (known_by facts) m.package_number m own whole.members whole.input w given.is are met world_read.0 zip (over_tables (λ (u : Tables). StandAlone u (m ∷ [])) alone) packages is.plan is.planned r
             (is.built (can is.plan is.planned is.fits));
       }
 

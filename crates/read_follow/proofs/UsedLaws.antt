@@ -36,7 +36,7 @@ use Rattle.read_follow.proofs.DefiningLaws.{all_at, longer}
 use Rattle.read_follow.proofs.PlacedLaws.{stands_on, stood}
 use Rattle.read_follow.proofs.PlacedScopes.{added_seen, both_pass, extended_placed, import_passes, imported_many, one_counted, only_last, seen_passes}
 use Rattle.read_follow.proofs.Refusing.{refused}
-use Rattle.read_follow.proofs.ScopeLaws.{exported, extended, extended_world, goes_on, imported, plus, plus_instance, waiting_used}
+use Rattle.read_follow.proofs.ScopeLaws.{exported, extended, extended_world, goes_on, imported, one_behind, plus, plus_instance, waiting_used}
 use Rattle.read_follow.proofs.SlotLaws.{at_slot, no_slot}
 use Rattle.read_follow.proofs.SeeLaws.{added_exports, added_imports, all_exported, all_imported, exports_are, imports_are, seen_plus}
 use Rattle.read_follow.proofs.FollowingLaws.{name_part}
@@ -297,6 +297,7 @@ module _ (old : World) (st : IsWorld old) (b : Bool) (name : ExternName) (n : �
         | inl below ↦ inl below
         | inr same ↦ inr (record { number = length old.instances; one = x; at = at_last old.instances x; place = sym same })
       ])
+      (one_behind (length old.paths) paths x (λ q path at less. elim (only q path at) [ inl below ↦ below | inr same ↦ absurd (omega (arith, less, same)) ]))
       (let same = ap (λ zs. waiting (old.used ++ n ∷ []) 0 zs) (append-nil old.slots) in
       let few = subst (λ k. waiting (old.used ++ k ∷ []) 0 old.slots + u.body.count ≤ waiting old.used 0 old.slots) (none_before n) (waiting_used old.used n 0 old.slots (slots.Instance u.body u.around) u.slot (ap (λ k. list_any (λ m. m == k) old.used) (none_before n) ∙ u.unused)) in
       let count = u.view.count in

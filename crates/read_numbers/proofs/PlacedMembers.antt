@@ -28,9 +28,10 @@ use Rattle.read_follow.specs.Scopes as scopes
 use Rattle.read_follow.specs.Scopes.{seen_in, world_of, AreSeenIn, IsCountedAs, IsImportNamed, IsInlinePlace, IsInstanceIn, IsInstanceSeen, IsKeyPlaced, IsPlacedAmong, IsShownAs, IsShownBy, IsWorld, ShownOver}
 use Rattle.read_follow.proofs.DefiningLaws.{all_at}
 use Rattle.read_parts.specs.declared.members.Member.{Member}
-use Rattle.read_parts.specs.Members.{scope_of, AreFormed, AreMembersPlaced, AreNamesShown, ArePlacesMet, MembersStand, StandsIn}
+use Rattle.read_parts.specs.Members as followed
+use Rattle.read_parts.specs.Members.{scope_of, AreFormed, AreMembersPlaced, AreNamesShown, ArePlacesInOrder, ArePlacesMet, MembersStand, StandsIn}
 use Rattle.read_numbers.specs.NumberedParts.{instance_view, name_in, no_view, numbered_function, numbered_instance, numbered_key, numbered_scope, numbered_seen, numbered_shown, numbered_type, numbered_view, tables_in}
-use Rattle.read_numbers.specs.PlacedNumbers.{ArePlacedScopes, IsCounted, IsCountedItem, IsFirstSeen, IsInstanceAt, IsLastType, IsPlacedItem, IsPlacedScope, IsPlacedView, IsRisingView, IsSeenAs, as_export, as_import, PlacesAreKept, ShowsName, by_instance, by_import}
+use Rattle.read_numbers.specs.PlacedNumbers.{ArePlacedScopes, IsCounted, IsCountedItem, IsFirstSeen, IsInstanceAt, IsLastType, IsMetBefore, in_earlier, in_same, IsPlacedItem, IsPlacedScope, IsPlacedView, IsRisingView, IsSeenAs, as_export, as_import, PlacesAreKept, ShowsName, by_instance, by_import}
 use Rattle.read_numbers.proofs.PlacedViews.{all_of, declared_met, function_met, placed_view, rising_view, slot_number}
 use Rattle.read_numbers.proofs.ScopeNumbers.{keys_in_numbers}
 use Rattle.read_numbers.proofs.TableNumbers.{path_there}
@@ -314,8 +315,12 @@ module _ (shapes : List Shape) (fs : List FunctionShape) (paths : List (Option T
       ]
     ]
 
-    pub placed_scopes : AreNamesShown shapes fs paths ms → ArePlacesMet paths ms → AreFormed shapes → ArePlacedScopes t ws
-    placed_scopes names met formed = record {
+    met_before : (m j q : ℕ) → followed.IsMetBefore ms m j q → IsMetBefore ws m j q
+    met_before m j q (followed.in_earlier k y less at h) = in_earlier k h.number (numbered_instance h.one) less (instance_there k h.number y h.one at h.at) h.place
+    met_before m j q (followed.in_same y at h) = in_same h.number (numbered_instance h.one) h.earlier (instance_there m h.number y h.one at h.at) h.place
+
+    pub placed_scopes : AreNamesShown shapes fs paths ms → ArePlacesMet paths ms → ArePlacesInOrder paths ms → AreFormed shapes → ArePlacedScopes t ws
+    placed_scopes names met order formed = record {
       each = λ m w at. (let y = at_mapped scope_in ms m w at in subst (λ (v : NumberedScope). IsPlacedScope t v) y.2 (scope_placed m y.0 y.1));
       names = λ n q name at.
           let s = names n q name at in
@@ -335,6 +340,10 @@ module _ (shapes : List Shape) (fs : List FunctionShape) (paths : List (Option T
             at = instance_there m.number m.met.number m.member m.met.one m.at m.met.at;
             place = m.met.place;
           };
+      order = λ m j i h q path less.
+          let k = instance_of m j i h in
+          let same : k.one.place ≡ i.place = ap (λ (z : NumberedInstance). z.place) k.same in
+          met_before m j q (order m k.member k.at j k.one k.one_at q path.0 (path_there paths q path.0 path.1) (omega (arith, less, same)));
       formed = formed;
       firsts = λ m j i h.
           let k = instance_of m j i h in
@@ -357,4 +366,4 @@ module _ (shapes : List Shape) (fs : List FunctionShape) (paths : List (Option T
     }
 
 pub places_are_kept : PlacesAreKept
-places_are_kept pieces x f = placed_scopes x.table x.functions x.places f.followed.tables x.members.items f.followed.stand f.followed.placed f.followed.names f.followed.met f.followed.formed
+places_are_kept pieces x f = placed_scopes x.table x.functions x.places f.followed.tables x.members.items f.followed.stand f.followed.placed f.followed.names f.followed.met f.followed.order f.followed.formed

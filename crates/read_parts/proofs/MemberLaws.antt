@@ -14,7 +14,7 @@ use Rattle.read_follow.specs.Found.{Refuses}
 use Rattle.read_follow.specs.Functions.{FunctionShape}
 use Rattle.read_follow.specs.PartTypes.{raw_part_type}
 use Rattle.read_follow.specs.Places.{ArePlacesOf}
-use Rattle.read_follow.specs.Scopes.{meant_at, world_of, IsInstanceIn, IsPlacedAmong, IsShownBy, by_instance, by_import, IsWorld, World}
+use Rattle.read_follow.specs.Scopes.{meant_at, world_of, ArePathsInOrder, IsInstanceIn, IsPlacedAmong, IsShownBy, by_instance, by_import, IsWorld, World}
 use Rattle.plan_meaning.specs.Shapes.{Shape, named_shape, node_shape}
 use Rattle.read_follow.proofs.ComponentLaws.{place_in, places_are}
 use Rattle.read_follow.proofs.DefiningLaws.{all_at, longer}
@@ -28,7 +28,7 @@ use Rattle.read_parts.specs.declared.members.FollowedPart.TheVariants as followe
 use Rattle.read_parts.specs.declared.members.Member.{Member}
 use Rattle.read_parts.specs.Exported.{raw_exported}
 use Rattle.read_parts.specs.Followed.{PartScope, world, interface, labelled_scope, part_scope}
-use Rattle.read_parts.specs.Members.{member_meant, part_meant, parts_weight, scope_of, with_front, AreFollowedTo, AreMembersPlaced, ArePlacesBelow, IsMetBySome, IsPartFollowed, IsPlacedMember, IsShownBySome, MembersStand, StandsIn}
+use Rattle.read_parts.specs.Members.{member_meant, part_meant, parts_weight, scope_of, with_front, AreFollowedTo, AreMembersPlaced, ArePlacesBelow, ArePlacesInOrder, ArePlacesMet, IsMetBefore, in_earlier, in_same, IsMetBySome, IsPartFollowed, IsPlacedMember, IsShownBySome, MembersStand, StandsIn}
 use Rattle.read_parts.proofs.ExportLaws.{each_more, each_none}
 use Rattle.base_lemmas.proofs.Elements.{all_end}
 use Rattle.base_lemmas.proofs.Lists.{at_last, last_or, slice_front}
@@ -137,6 +137,29 @@ module _ (shapes : List Shape) (fs : List FunctionShape) (paths : Paths) (ms : L
   met_more : (q : ℕ) → IsMetBySome ms q → IsMetBySome more_members q
   met_more q h = record { number = h.number; member = h.member; at = stands_on ms more_members front h.number h.member h.at; met = h.met }
 
+  met_before_more : (i j q : ℕ) → IsMetBefore ms i j q → IsMetBefore more_members i j q
+  met_before_more i j q (in_earlier k x less at met) = in_earlier k x less (stands_on ms more_members front k x at) met
+  met_before_more i j q (in_same x at met) = in_same x (stands_on ms more_members front i x at) met
+
+  -- places in their order, and those that one part more shows
+  pub order_more : (wide : Paths) → Grows paths wide → MembersStand shapes fs paths ms → ArePlacesMet paths ms → ArePlacesInOrder paths ms → ArePathsInOrder (length paths) wide (scope_of m.part).instances.items → ArePlacesInOrder wide more_members
+  order_more wide grows stand met order here i y at j x there q path at_path less = elim (last_or ms m i y at) [
+    | inl h ↦
+        let low = (places_below shapes fs paths y.part (all_at (λ (z : Member). StandsIn shapes fs paths z.part) ms i y stand h.1)).instances j x there in
+        met_before_more i j q (order i y h.1 j x there q path (stood paths wide grows q (Some path) (omega (arith, less, low)) at_path) less)
+    | inr h ↦
+        let last : m ≡ y = h.1 in
+        let x_there : slice_get (scope_of m.part).instances.items j ≡ Some x = ap (λ (z : Member). slice_get (scope_of z.part).instances.items j) last ∙ there in
+        elim (here j x x_there q path at_path less) [
+          | inl below ↦
+              let by = met q path (stood paths wide grows q (Some path) below at_path) in
+              let low = found_below ms by.number by.member by.at in
+              let number = h.0 in
+              in_earlier by.number by.member (omega (arith, low, number)) (stands_on ms more_members front by.number by.member by.at) by.met
+          | inr before ↦ in_same m (subst (λ (n : ℕ). slice_get more_members n ≡ Some m) (sym h.0) (at_last ms m)) before
+        ]
+  ]
+
   placed_before : (i : ℕ) (x : Member) → i < length ms → IsPlacedMember shapes fs paths ms i x → IsPlacedMember shapes fs paths more_members i x
   placed_before i x below h = record {
     base = h.base;
@@ -192,6 +215,7 @@ module _ (before : ℕ) (xs : List ExportedPart) where
               | inl below ↦ met_more shapes' fs' paths' ms m q (f.met q path (stood paths paths' s.paths_grow q (Some path) below at))
               | inr met ↦ record { number = length ms; member = m; at = at_last ms m; met = met }
             ];
+            order = order_more shapes fs paths ms m paths' s.paths_grow f.stand f.met f.order s.order;
             formed = λ n form parts at. elim (s.placed.formed n form parts (found_below shapes' n (node_shape form parts) at) at) [
               | inl below ↦ f.formed n form parts (stood shapes shapes' s.shapes_grow n (node_shape form parts) below at)
               | inr formed ↦ formed

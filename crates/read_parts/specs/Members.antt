@@ -12,7 +12,7 @@ use Rattle.read_follow.specs.Defining.{Grows}
 use Rattle.read_follow.specs.Following.{AreTables}
 use Rattle.read_follow.specs.Functions.{FunctionShape}
 use Rattle.read_follow.specs.Places.{ArePlacesOf}
-use Rattle.read_follow.specs.Scopes.{meant_at, weights, world_of, ArePathsMet, IsPlacedAmong, IsPlacedWorld, IsPlaceMet, IsShownBy, IsWorld}
+use Rattle.read_follow.specs.Scopes.{meant_at, weights, world_of, ArePathsInOrder, ArePathsMet, IsPlacedAmong, IsPlacedWorld, IsPlaceMet, IsPlaceMetBefore, IsShownBy, IsWorld}
 use Rattle.plan_meaning.specs.PlanRules.{is_form}
 use Rattle.plan_meaning.specs.Shapes.{Shape, named_shape, node_shape}
 use Rattle.read_parts.specs.declared.members.FollowedPart.{FollowedPart}
@@ -39,6 +39,17 @@ pub record IsMetBySome (ms : List Member) (q : ℕ) : Type 0 where
 -- each place with a path is met
 abbrev pub ArePlacesMet : List (Option Text) → List Member → Type 0
 ArePlacesMet paths ms = (q : ℕ) (path : Text) → slice_get paths q ≡ Some (Some path) → IsMetBySome ms q
+
+-- an instance of an earlier part, or an earlier one of this part, is of the place
+pub data IsMetBefore (ms : List Member) (i j q : ℕ) : Type 0 where
+  in_earlier : (k : ℕ) (m : Member) → k < i → slice_get ms k ≡ Some m → IsPlaceMet (scope_of m.part).instances.items q → IsMetBefore ms i j q
+  in_same : (m : Member) → slice_get ms i ≡ Some m → IsPlaceMetBefore (scope_of m.part).instances.items j q → IsMetBefore ms i j q
+
+-- Each instance stands behind one of each place that has a path and a smaller number than its own.
+abbrev pub ArePlacesInOrder : List (Option Text) → List Member → Type 0
+ArePlacesInOrder paths ms =
+    (i : ℕ) (m : Member) → slice_get ms i ≡ Some m → (j : ℕ) (x : Instance) → slice_get (scope_of m.part).instances.items j ≡ Some x
+    → (q : ℕ) (path : Text) → slice_get paths q ≡ Some (Some path) → q < x.place → IsMetBefore ms i j q
 
 -- each form of the table is one that a definition may have
 abbrev pub AreFormed : List Shape → Type 0
@@ -98,8 +109,8 @@ module _ (shapes : List Shape) (fs : List FunctionShape) (paths : List (Option T
 
 -- ---- one part
 
--- The tables and the places grow, by no more types than its entries make, names stand in their places, new places with a path are met, and the part
--- stands for what its type at the top does.
+-- The tables and the places grow, by no more types than its entries make, names stand in their places, new places with a path are met, in their order, and
+-- the part stands for what its type at the top does.
 pub record IsPartFollowed (shapes : List Shape) (fs : List FunctionShape) (paths : List (Option Text)) (raw : PartType)
     (more : List Shape) (more_fs : List FunctionShape) (more_paths : List (Option Text)) (p : FollowedPart) : Type 0 where
   pub stands : StandsIn more more_fs more_paths p
@@ -109,6 +120,7 @@ pub record IsPartFollowed (shapes : List Shape) (fs : List FunctionShape) (paths
   pub count : length more ≤ length shapes + part_weight raw
   pub placed : IsPlacedWorld shapes (length paths) (world_of more more_fs more_paths (scope_of p))
   pub met : ArePathsMet (length paths) more_paths (scope_of p).instances.items
+  pub order : ArePathsInOrder (length paths) more_paths (scope_of p).instances.items
   pub shows : (place : ℕ → Place) → ArePlacesOf more_paths place → part_scope raw ≡ Some (part_meant more more_fs more_paths place p)
 
 -- ---- all parts
@@ -118,7 +130,7 @@ abbrev pub with_front : {A : Type 0} → List A → Option (List A) → Option (
 with_front front found = found >>= λ rest. Some (front ++ rest)
 
 -- Some parts have been followed, over so many types that were there before. Names stand in their places, and each is shown; each place with a path is
--- met; forms are as definitions have them. Those that are left decide what all stand for.
+-- met, in their order; forms are as definitions have them. Those that are left decide what all stand for.
 pub record AreFollowedTo (before : ℕ) (raws left : List (Text × PartType)) (shapes : List Shape) (fs : List FunctionShape) (paths : List (Option Text)) (ms : List Member) : Type 0 where
   pub tables : AreTables (length paths) shapes fs
   pub stand : MembersStand shapes fs paths ms
@@ -126,6 +138,7 @@ pub record AreFollowedTo (before : ℕ) (raws left : List (Text × PartType)) (s
   pub placed : AreMembersPlaced shapes fs paths ms
   pub names : AreNamesShown shapes fs paths ms
   pub met : ArePlacesMet paths ms
+  pub order : ArePlacesInOrder paths ms
   pub formed : AreFormed shapes
   pub shows : (place : ℕ → Place) → ArePlacesOf paths place → with_front (map (member_meant shapes fs paths place) ms) (each labelled_scope left) ≡ each labelled_scope raws
 
