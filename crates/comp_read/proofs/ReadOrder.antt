@@ -2,6 +2,7 @@
 use Rattle.std.proofs.Common.{◌≡◌, refl, sym, ap, subst, ◌∙◌, ℕ, true, List, [], ◌∷◌, map, IfOk, Option, Some, None, Result, Ok, Err}
 use Rattle.std.specs.List.{AllZip}
 use Rattle.wit_model.specs.declared.model.Resolve.{Resolve}
+use Rattle.wit_model.specs.Meaning.{PackageMeaning, WorldPackage}
 use Rattle.wit_model.specs.Text.{Text}
 use Rattle.comp_bytes.specs.Levels.{PartType, Piece, levels_of}
 use Rattle.comp_bytes.specs.Reading.{◌>>=◌, component_of}
@@ -16,6 +17,8 @@ use Rattle.plan_meaning.specs.Built.{IsBuilt}
 use Rattle.plan_meaning.specs.NumberedMembers.{Homes, HomesStand, IsMember, are_package, home_at}
 use Rattle.plan_meaning.specs.NumberedViews.{Tables}
 use Rattle.plan_meaning.specs.Plan.{Plan}
+use Rattle.plan_meaning.specs.PlanRules.{IsPlan}
+use Rattle.plan_build.proofs.BuildableLaws.{plans_are_buildable}
 use Rattle.plan_package.specs.PlanWhole.{PlansWhole}
 use Rattle.plan_laws.specs.Whole.{IsPackageInput}
 use Rattle.plan_laws.proofs.WholePlacesTop.{one_package}
@@ -34,7 +37,7 @@ use Rattle.read_rules.specs.declared.tables.Fact.{Fact as KeptFact}
 use Rattle.comp_read.specs.MembersRead.{AreReadOf}
 use Rattle.comp_read.specs.Order.{FollowsBytes, FollowsLevels}
 use Rattle.comp_read.specs.OwnMembers.{StandAsShown}
-use Rattle.comp_read.specs.Planned.{CanBeBuilt, IsBuiltOf}
+use Rattle.comp_read.specs.Planned.{IsBuiltOf, PlansMean, WorldPlansMean}
 use Rattle.comp_read.specs.ReadInput.{AreHomesOf, IsReadInput}
 use Rattle.comp_read.specs.ReadWorlds.{AreBeside, IsReadWorld}
 use Rattle.comp_read.specs.WorldsRead.{IsWorldReadOf}
@@ -63,23 +66,24 @@ module _ (x : Followed) (facts : List KeptFact) (h : Homes) (n : ℕ) (ms : List
   packaged : IsPackageInput (tables_of x) h (known_by facts) n ms package_read.0
   packaged = read_is_package_input pieces x h ms package_read.0 package_read.1 facts read.known read.homes n obeys
 
-  follows_package : (p : Plan) → PlansWhole (tables_of x) h.packages (home_at h) n ms p → (r : Resolve) → IsBuilt p r → FollowsLevels (Some pieces) r
-  follows_package p planned r built = record {
+  follows_package : (p : Plan) → PlansWhole (tables_of x) h.packages (home_at h) n ms p → IsPlan p → (r : Resolve) → IsBuilt p r → FollowsLevels (Some pieces) r
+  follows_package p planned is r built = record {
     members = package_read.0;
     exported = exported pieces x h ms package_read.0 package_read.1;
     follows =
         package_follows (tables_of x) h (known_by facts) n ms package_read.0
         packaged (stand_alone pieces x h ms package_read.0 package_read.1 (all_have (tables_of x) (numbered_members ms) packaged.input.numbers))
-        (packages_are pieces x h ms package_read.0 package_read.1 read.homes read.order (read_packages_have_sources read.first h.packages h.homes ms read.reasons read.members) n (one_package (tables_of x) h (known_by facts) n ms package_read.0 packaged)) p planned r built;
+        (packages_are pieces x h ms package_read.0 package_read.1 read.homes read.order (read_packages_have_sources read.first h.packages h.homes ms read.reasons read.members) n (one_package (tables_of x) h (known_by facts) n ms package_read.0 packaged)) p planned is r built;
   }
 
 module _ (x : Followed) (t : Tables) (facts : List KeptFact) (h : Homes) (n : ℕ) (ms : List Member) (read : AreReadOf x t facts h (map lent_member ms)) (pieces : List Piece) (followed : IsFollowed pieces x)
-    (obeys : are_package t h (known_by facts) n (numbered_members ms) ≡ true) (can : CanBeBuilt t h.packages (home_at h) n ms) (r : Resolve) (main : ℕ) where
+    (obeys : are_package t h (known_by facts) n (numbered_members ms) ≡ true) (found : Option PackageMeaning) (mean : PlansMean t h.packages (home_at h) n ms found) (r : Resolve) (main : ℕ) where
   pub package_in_order : IsBuiltOf t h.packages (home_at h) n ms r main → FollowsLevels (Some pieces) r
   package_in_order is =
+      let plan = (mean is.plan is.planned is.fits).plan.plan in
       follows_package x facts h n ms (subst (λ (u : Tables). AreReadOf x u facts h (map lent_member ms)) read.tables read) pieces followed
       (subst (λ (u : Tables). are_package u h (known_by facts) n (numbered_members ms) ≡ true) read.tables obeys)
-      is.plan (subst (λ (u : Tables). PlansWhole u h.packages (home_at h) n ms is.plan) read.tables is.planned) r (is.built (can is.plan is.planned is.fits))
+      is.plan (subst (λ (u : Tables). PlansWhole u h.packages (home_at h) n ms is.plan) read.tables is.planned) plan r (is.built (plans_are_buildable is.plan plan))
 
 -- ---- one world
 
@@ -97,8 +101,9 @@ module _ (x : Followed) (t : Tables) (facts : List KeptFact) (h : Homes) (m : Me
       read_members_are_input pieces x followed facts given.read.known h (subst (λ (u : Tables). HomesStand u h) given.read.tables given.read.stand) (m ∷ [])
       (subst (λ (u : Tables). AreRead u (known_by facts) h x.members.items (map lent_member (m ∷ []))) given.read.tables given.read.read)
 
-  pub world_in_order : CanBeBuilt t h.packages (home_at h) m.package_number (m ∷ own) → (r : Resolve) (main : ℕ) → IsBuiltOf t h.packages (home_at h) m.package_number (m ∷ own) r main → FollowsLevels (Some pieces) r
-  world_in_order can r main is =
+  pub world_in_order : (found : Option WorldPackage) → WorldPlansMean t h.packages (home_at h) m.package_number (m ∷ own) found → (r : Resolve) (main : ℕ) → IsBuiltOf t h.packages (home_at h) m.package_number (m ∷ own) r main → FollowsLevels (Some pieces) r
+  world_in_order found mean r main is =
+      let plan = (mean is.plan is.planned is.fits).plan.plan in
       let whole = read_world_is_whole pieces x t facts h m w world_is_read own are in
       let zip = over_tables (λ (u : Tables). AllZip (IsMember u h) (numbered_members (m ∷ [])) world_read.0) world_read.1.shown in
       let alone = stand_alone pieces x h (m ∷ []) world_read.0 world_read.1 (subst (λ (a : Part). HavePaths (tables_of x) (numbered_part a)) (sym given.is) tt, tt) in
@@ -110,8 +115,8 @@ module _ (x : Followed) (t : Tables) (facts : List KeptFact) (h : Homes) (m : Me
         members = world_read.0;
         exported = exported pieces x h (m ∷ []) world_read.0 world_read.1;
         follows =
-            world_follows t h (known_by facts) m.package_number m own whole.members whole.input w given.is are met world_read.0 zip (over_tables (λ (u : Tables). StandAlone u (m ∷ [])) alone) packages is.plan is.planned r
-            (is.built (can is.plan is.planned is.fits));
+            world_follows t h (known_by facts) m.package_number m own whole.members whole.input w given.is are met world_read.0 zip (over_tables (λ (u : Tables). StandAlone u (m ∷ [])) alone) packages is.plan is.planned plan r
+            (is.built (plans_are_buildable is.plan plan));
       }
 
 -- ---- bytes

@@ -6,8 +6,10 @@ use Rattle.indexmap.specs.IndexMap.{values}
 use Rattle.wit_model.specs.declared.model.Interface.{Interface}
 use Rattle.wit_model.specs.declared.model.Package.{Package}
 use Rattle.wit_model.specs.declared.model.Resolve.{Resolve}
-use Rattle.wit_model.specs.Lookup.{identity_of, interface_at, package_at, path_of_interface}
+use Rattle.wit_model.specs.declared.model.World.{World}
+use Rattle.wit_model.specs.Lookup.{identity_of, interface_at, package_at, path_of_interface, world_at}
 use Rattle.wit_model.specs.Names.{PackageIdentity, path_in, read_path}
+use Rattle.wit_model.specs.Rules.{interface_type_numbers, world_type_numbers}
 use Rattle.wit_model.specs.Text.{Text, text_eq, text_of}
 use Rattle.comp_bytes.specs.Levels.{Piece}
 use Rattle.comp_bytes.specs.Raw.{Section}
@@ -99,6 +101,11 @@ worlds_shown members = map (λ w. w.0) (flat_map worlds_of members)
 abbrev pub function_names : Interface → List Text
 function_names i = map (λ e. text_of e.0) i.functions.entries
 
+-- The types of each interface are numbered in its order, and those of each world in the order of its imports.
+pub record TypesRise (r : Resolve) : Type 0 where
+  pub interfaces : (k : ℕ) (i : Interface) → interface_at r k ≡ Some i → rise (interface_type_numbers i) ≡ true
+  pub worlds : (k : ℕ) (w : World) → world_at r k ≡ Some w → rise (world_type_numbers w) ≡ true
+
 -- Packages are numbered in the order in which the parts show an interface of theirs first; that of the parts comes last if they show none of it.
 -- Interfaces are numbered in the order in which the parts show them first, inline ones too, and worlds in the order in which they are exported. The functions
 -- of an interface with a path stand in the order of the first view that shows them.
@@ -107,6 +114,7 @@ pub record FollowsParts (members : List Member) (r : Resolve) : Type 0 where
   pub interfaces : map (path_of_interface r) r.interfaces.items ≡ paths_shown members
   pub functions : (k : ℕ) (i : Interface) (path : Text) → interface_at r k ≡ Some i → path_of_interface r i ≡ Some path → function_names i ≡ functions_shown members path
   pub worlds : map (λ w. text_of w.name) r.worlds.items ≡ worlds_shown members
+  pub types : TypesRise r
 
 -- What the bytes export, the `Resolve` follows: its packages, interfaces, functions and worlds stand in that order.
 pub record FollowsBytes (bytes : List ℕ) (r : Resolve) : Type 0 where

@@ -30,7 +30,7 @@ use Rattle.read_follow.specs.Following.{declared_in, shown_function, shown_type,
 use Rattle.read_follow.specs.InstanceScopes.{IsViewOf}
 use Rattle.read_follow.specs.Found.{Refuses}
 use Rattle.read_follow.specs.Functions.{functions_in, FunctionShape, IsFunctionIn}
-use Rattle.read_follow.specs.Placed.{apart, DeclarationOver, HasNoNames, IsNameAs, IsShownAmong, IsTypeNamed, MayMeet, Rise, SignatureOver, SlotOver, ViewOver}
+use Rattle.read_follow.specs.Placed.{apart, ComeBefore, DeclarationOver, HasNoNames, IsNameAs, IsShownAmong, IsTypeNamed, MayMeet, Rise, SignatureOver, SlotOver, ViewOver}
 use Rattle.read_follow.specs.Places.{has_path, key_at, place_number, ArePlacesOf, IsKeyIn}
 use Rattle.read_follow.specs.Slots.{no_signature, slots_in}
 use Rattle.plan_meaning.specs.PlanRules.{is_form}
@@ -186,12 +186,13 @@ pub record IsInlinePlace (count : ℕ) (w : World) (j : ℕ) (x : Instance) : Ty
   pub first : IsFirstOf w.instances j x
 
 -- An instance of the scope: what it shows is over its own place and those with a path, and stands for its name. If its place had no names before
--- the scope, and it is the first of it, then its names came behind what they are over.
+-- the scope, and it is the first of it, then its names came behind what they are over, and behind those of earlier instances.
 pub record IsPlacedInstance (base : List Shape) (count : ℕ) (w : World) (j : ℕ) (x : Instance) : Type 0 where
   pub shown : ViewOver (MayMeet (map has_path w.paths) x.place) (view_in (world_trees apart w) (world_signatures apart w) x.view)
   pub named : AllByRecursion (IsTypeNamed w.shapes x.place) x.view.types.items
   pub own : ((path : Text) × (slice_get w.paths x.place ≡ Some (Some path))) ⊎ IsInlinePlace count w j x
   pub rise : HasNoNames x.place base → IsFirstOf w.instances j x → Rise x.view.types.items
+  pub later : HasNoNames x.place base → IsFirstOf w.instances j x → (i : ℕ) (y : Instance) → slice_get w.instances i ≡ Some y → i < j → ComeBefore y.view.types.items x.view.types.items
 
 -- an earlier import of a type has the name
 pub record IsImportRepeated (imports : List Seen) (j : ℕ) (name : Text) : Type 0 where

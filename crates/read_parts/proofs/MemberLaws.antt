@@ -13,6 +13,7 @@ use Rattle.read_follow.specs.Following.{AreTables}
 use Rattle.read_follow.specs.Found.{Refuses}
 use Rattle.read_follow.specs.Functions.{FunctionShape}
 use Rattle.read_follow.specs.PartTypes.{raw_part_type}
+use Rattle.read_follow.specs.Placed.{IsTypeNamed}
 use Rattle.read_follow.specs.Places.{ArePlacesOf}
 use Rattle.read_follow.specs.Scopes.{meant_at, world_of, ArePathsInOrder, IsInstanceIn, IsPlacedAmong, IsShownBy, by_instance, by_import, IsWorld, World}
 use Rattle.plan_meaning.specs.Shapes.{Shape, named_shape, node_shape}
@@ -28,7 +29,7 @@ use Rattle.read_parts.specs.declared.members.FollowedPart.TheVariants as followe
 use Rattle.read_parts.specs.declared.members.Member.{Member}
 use Rattle.read_parts.specs.Exported.{raw_exported}
 use Rattle.read_parts.specs.Followed.{PartScope, world, interface, labelled_scope, part_scope}
-use Rattle.read_parts.specs.Members.{member_meant, part_meant, parts_weight, scope_of, with_front, AreFollowedTo, AreMembersPlaced, ArePlacesBelow, ArePlacesInOrder, ArePlacesMet, IsMetBefore, in_earlier, in_same, IsMetBySome, IsPartFollowed, IsPlacedMember, IsShownBySome, MembersStand, StandsIn}
+use Rattle.read_parts.specs.Members.{member_meant, part_meant, parts_weight, scope_of, with_front, AreFollowedTo, AreMembersPlaced, ArePlacesBelow, AreTypesBelow, ArePlacesInOrder, ArePlacesMet, IsMetBefore, in_earlier, in_same, IsMetBySome, IsPartFollowed, IsPlacedMember, IsShownBySome, MembersStand, StandsIn}
 use Rattle.read_parts.proofs.ExportLaws.{each_more, each_none}
 use Rattle.base_lemmas.proofs.Elements.{all_end}
 use Rattle.base_lemmas.proofs.Lists.{at_last, last_or, slice_front}
@@ -104,6 +105,7 @@ module _ (shapes : List Shape) (fs : List FunctionShape) (paths : Paths) (more :
         placed = placed_still (scope_of m.part) (all_at (λ (x : Member). StandsIn shapes fs paths x.part) ms i m stand at) h.base h.count h.till h.placed;
         names = λ n q name e. some_still ms i q name (14 + n) (h.names n q name e);
         earlier = h.earlier;
+        types_below = h.types_below;
       }
 
   pub members_stand : (ms : List Member) → MembersStand shapes fs paths ms → MembersStand more more_fs more_paths ms
@@ -121,6 +123,14 @@ places_below shapes fs paths p st = record {
   home = found_below paths (scope_of p).home None st.own;
   instances = λ j x at. (all_at (IsInstanceIn shapes fs paths) (scope_of p).instances.items j x st.instances at).place;
 }
+
+types_below : (shapes : List Shape) (fs : List FunctionShape) (paths : Paths) (p : FollowedPart) (base : List Shape) (count till : ℕ) → IsPlacedAmong base count till (world_of shapes fs paths (scope_of p))
+    → AreTypesBelow (length shapes) p
+types_below shapes fs paths p base count till placed j x at n t t_at =
+    let name = all_at (IsTypeNamed shapes x.place) x.view.types.items n t (placed.instances j x at).named t_at in
+    let low = found_below shapes name.number (named_shape x.place t.name.now) name.at in
+    let number = name.is in
+    omega (arith, low, number)
 
 module _ (shapes : List Shape) (fs : List FunctionShape) (paths : Paths) (ms : List Member) (m : Member) where
   abbrev more_members : List Member
@@ -168,6 +178,7 @@ module _ (shapes : List Shape) (fs : List FunctionShape) (paths : Paths) (ms : L
     placed = h.placed;
     names = λ n q name e. some_more i i q name (14 + n) (omega arith) (h.names n q name e);
     earlier = λ k y e less. h.earlier k y (stood ms more_members front k y (omega (arith, less, below)) e) less;
+    types_below = λ k y e less. h.types_below k y (stood ms more_members front k y (omega (arith, less, below)) e) less;
   }
 
   pub placed_more : AreMembersPlaced shapes fs paths ms → IsPlacedMember shapes fs paths more_members (length ms) m → AreMembersPlaced shapes fs paths more_members
@@ -210,6 +221,9 @@ module _ (before : ℕ) (xs : List ExportedPart) where
                   some_more shapes' fs' paths' ms m (length ms) (length ms) q name (14 + n) (omega arith)
                   (some_still shapes fs paths shapes' fs' paths' s.shapes_grow s.signatures_grow s.paths_grow tables ms (length ms) q name (14 + n) (f.names n q name e));
               earlier = λ k x e less. places_below shapes fs paths x.part (all_at (λ (y : Member). StandsIn shapes fs paths y.part) ms k x f.stand (stood ms (ms ++ m ∷ []) (record { more = m ∷ []; is = refl }) k x less e));
+              types_below = λ k x e less.
+                  let h = f.placed k x (stood ms (ms ++ m ∷ []) (record { more = m ∷ []; is = refl }) k x less e) in
+                  types_below shapes fs paths x.part h.base h.count h.till h.placed;
             });
             met = λ q path at. elim (s.met q path at) [
               | inl below ↦ met_more shapes' fs' paths' ms m q (f.met q path (stood paths paths' s.paths_grow q (Some path) below at))

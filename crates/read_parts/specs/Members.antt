@@ -8,9 +8,11 @@ use Rattle.comp_bytes.specs.Reading.{◌>>=◌}
 use Rattle.comp_meaning.specs.Follow.{each}
 use Rattle.read_follow.specs.declared.scopes.Instance.{Instance}
 use Rattle.read_follow.specs.declared.scopes.Scope.{Scope}
+use Rattle.read_follow.specs.declared.views.ShownType.{ShownType}
 use Rattle.read_follow.specs.Defining.{Grows}
 use Rattle.read_follow.specs.Following.{AreTables}
 use Rattle.read_follow.specs.Functions.{FunctionShape}
+use Rattle.read_follow.specs.Placed.{slot_part}
 use Rattle.read_follow.specs.Places.{ArePlacesOf}
 use Rattle.read_follow.specs.Scopes.{meant_at, weights, world_of, ArePathsInOrder, ArePathsMet, IsPlacedAmong, IsPlacedWorld, IsPlaceMet, IsPlaceMetBefore, IsShownBy, IsWorld}
 use Rattle.plan_meaning.specs.PlanRules.{is_form}
@@ -28,6 +30,11 @@ scope_of (followed.Interface scope) = scope
 pub record ArePlacesBelow (count : ℕ) (p : FollowedPart) : Type 0 where
   pub home : (scope_of p).home < count
   pub instances : (j : ℕ) (x : Instance) → slice_get (scope_of p).instances.items j ≡ Some x → x.place < count
+
+-- the names that its instances show are among the first so many types
+abbrev pub AreTypesBelow : ℕ → FollowedPart → Type 0
+AreTypesBelow many p =
+    (j : ℕ) (x : Instance) → slice_get (scope_of p).instances.items j ≡ Some x → (n : ℕ) (t : ShownType) → slice_get x.view.types.items n ≡ Some t → slot_part t.slot < 14 + many
 
 -- an instance of one of the parts is of the place
 pub record IsMetBySome (ms : List Member) (q : ℕ) : Type 0 where
@@ -91,7 +98,7 @@ module _ (shapes : List Shape) (fs : List FunctionShape) (paths : List (Option T
     pub by : IsShownBy (world_of shapes fs paths (scope_of member.part)) q name part
 
   -- A member behind so many others. Names stand in their places; those that stood in the table before it, in its first types, are shown by the others,
-  -- and the places of these are among the first so many.
+  -- and the places and the types of these are among the first so many.
   pub record IsPlacedMember (ms : List Member) (i : ℕ) (m : Member) : Type 0 where
     pub base : List Shape
     pub count : ℕ
@@ -99,6 +106,7 @@ module _ (shapes : List Shape) (fs : List FunctionShape) (paths : List (Option T
     pub placed : IsPlacedAmong base count till (world_of shapes fs paths (scope_of m.part))
     pub names : (n q : ℕ) (name : Text) → slice_get base n ≡ Some (named_shape q name) → IsShownBySome ms i q name (14 + n)
     pub earlier : (k : ℕ) (x : Member) → slice_get ms k ≡ Some x → k < i → ArePlacesBelow count x.part
+    pub types_below : (k : ℕ) (x : Member) → slice_get ms k ≡ Some x → k < i → AreTypesBelow (length base) x.part
 
   abbrev pub AreMembersPlaced : List Member → Type 0
   AreMembersPlaced ms = (i : ℕ) (m : Member) → slice_get ms i ≡ Some m → IsPlacedMember ms i m
