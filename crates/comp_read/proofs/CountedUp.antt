@@ -19,6 +19,11 @@ use Rattle.std.proofs.lemmas.Option.{same_Some as same-some}
 abbrev pub IsBefore : List ℕ → ℕ → ℕ → Type 0
 IsBefore ns j c = (i : ℕ) × (i < j) × (slice_get ns i ≡ Some c)
 
+-- numbers of several items: one of an earlier item, or an earlier one of the same item
+pub data IsBeforeIn {A : Type 0} (f : A → List ℕ) (xs : List A) (m j c : ℕ) : Type 0 where
+  in_earlier : (k : ℕ) (y : A) → k < m → slice_get xs k ≡ Some y → Contains (f y) c → IsBeforeIn f xs m j c
+  in_same : (l : ℕ) (y : A) → l < j → slice_get xs m ≡ Some y → slice_get (f y) l ≡ Some c → IsBeforeIn f xs m j c
+
 module _ (P : ℕ → Type 0) where
   -- each number stands behind all smaller ones of this kind, which these in front begin
   abbrev pub StandBehind : List ℕ → List ℕ → Type 0
@@ -55,11 +60,6 @@ module _ (P : ℕ → Type 0) where
 
       later : (j m : ℕ) → slice_get ns j ≡ Some m → (c : ℕ) → c < m → P c → Contains (front ++ n ∷ []) c ⊎ IsBefore ns j c
       later j m at c less p = next j c (given (suc j) m at c less p)
-
-  -- numbers of several items: one of an earlier item, or an earlier one of the same item
-  pub data IsBeforeIn {A : Type 0} (f : A → List ℕ) (xs : List A) (m j c : ℕ) : Type 0 where
-    in_earlier : (k : ℕ) (y : A) → k < m → slice_get xs k ≡ Some y → Contains (f y) c → IsBeforeIn f xs m j c
-    in_same : (l : ℕ) (y : A) → l < j → slice_get xs m ≡ Some y → slice_get (f y) l ≡ Some c → IsBeforeIn f xs m j c
 
   pub behind_flat : {A : Type 0} (f : A → List ℕ) (front : List ℕ) (xs : List A)
       → ((m : ℕ) (x : A) → slice_get xs m ≡ Some x → (j n : ℕ) → slice_get (f x) j ≡ Some n → (c : ℕ) → c < n → P c → Contains front c ⊎ IsBeforeIn f xs m j c) → StandBehind front (flat_map f xs)

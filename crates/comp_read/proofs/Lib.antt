@@ -28,6 +28,8 @@ pub mod WorldWhole
 pub mod CountedUp
 pub mod ShownScopes
 pub mod PackageOrder
+pub mod NewNumbers
+pub mod TypeNumbers
 pub mod ReadOrder
 pub mod BuildLaws
 pub mod DecodedLaws

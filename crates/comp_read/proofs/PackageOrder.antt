@@ -141,12 +141,12 @@ module _ (pieces : List Piece) (x : Followed) (h : Homes) (ms : List Member) (me
   places_behind : StandBehind (HasPath t) [] places
   places_behind = behind_flat (HasPath t) scope_places [] ws given
     where
-      before : (m j c : ℕ) → IsMetBefore ws m j c → Contains [] c ⊎ IsBeforeIn (HasPath t) scope_places ws m j c
+      before : (m j c : ℕ) → IsMetBefore ws m j c → Contains [] c ⊎ IsBeforeIn scope_places ws m j c
       before m j c (placed_numbers.in_earlier k l i low at place) =
           inr (counted.in_earlier k at.scope low at.at (subst (Contains (scope_places at.scope)) place (contains-map (λ (y : NumberedInstance). y.place) at.scope.instances i (get-contains at.scope.instances l i at.instance_at))))
       before m j c (placed_numbers.in_same l i low at place) = inr (counted.in_same l at.scope low at.at (mapped_get (λ (y : NumberedInstance). y.place) at.scope.instances l i at.instance_at ∙ ap Some place))
 
-      given : (m : ℕ) (w : NumberedScope) → slice_get ws m ≡ Some w → (j q : ℕ) → slice_get (scope_places w) j ≡ Some q → (c : ℕ) → c < q → HasPath t c → Contains [] c ⊎ IsBeforeIn (HasPath t) scope_places ws m j c
+      given : (m : ℕ) (w : NumberedScope) → slice_get ws m ≡ Some w → (j q : ℕ) → slice_get (scope_places w) j ≡ Some q → (c : ℕ) → c < q → HasPath t c → Contains [] c ⊎ IsBeforeIn scope_places ws m j c
       given m w at j q e c less path =
           let i = get_back (λ (y : NumberedInstance). y.place) w.instances j q e in
           before m j c (scopes_placed.order m j i.0 (record { scope = w; at = at; instance_at = i.1 }) c path (subst (λ (k : ℕ). c < k) (sym i.2) less))

@@ -47,7 +47,7 @@ use Rattle.comp_read.proofs.PackageOrder.{built_identities}
 use Rattle.comp_read.proofs.ShownOrder.{members_paths, names_alike, paths_once, scope_paths}
 use Rattle.comp_read.proofs.WorldOrder.{joined_behind}
 use Rattle.base_lemmas.proofs.Elements.{all_get, get-contains, zip_at_right, zip_each, zip_map as zip_names}
-use Rattle.base_lemmas.proofs.Lists.{append_of_map as map_append, map_of_map, same_map as map_each}
+use Rattle.base_lemmas.proofs.Lists.{append_of_map as map_append, flat_mapped, map_of_map, same_map as map_each}
 
 -- ---- what is shown, in numbers
 
@@ -172,23 +172,26 @@ module _ (p : Plan) (r : Resolve) (built : IsBuilt p r) where
   worlds_built = sym (map_of_map (λ (w : PlannedWorld). w.name) planned_world r.worlds.items) ∙ ap (map (λ w. w.name)) built.worlds
 
   -- the types of a plan that was read
-  module _ (is : IsPlan p) where
+  module _ (is : IsPlan p) (rises : are_rising (flat_map (λ (i : PlannedInterface). numbers_of i.types) p.interfaces) ≡ true) where
+    numbers_built : flat_map interface_type_numbers r.interfaces.items ≡ flat_map (λ (i : PlannedInterface). numbers_of i.types) p.interfaces
+    numbers_built =
+        (λ j. flat_map (λ (i : Interface). sym (type_numbers_are i) j) r.interfaces.items)
+        ∙ (flat_mapped (λ (i : PlannedInterface). numbers_of i.types) planned_interface r.interfaces.items ∙ ap (flat_map (λ (i : PlannedInterface). numbers_of i.types)) built.interfaces)
+
     world_built_at : (k : ℕ) (w : World) → world_at r k ≡ Some w → slice_get p.worlds k ≡ Some (planned_world w)
     world_built_at k w at = ap (λ ks. slice_get ks k) (sym built.worlds) ∙ (slice_get-map planned_world r.worlds.items k ∙ ap (option_map planned_world) at)
 
     pub types_built : TypesRise r
     types_built = record {
-      interfaces = λ k i at.
-          same_rise (interface_type_numbers i)
-          ∙ (ap are_rising (sym (type_numbers_are i)) ∙ all_get (λ x. are_rising (numbers_of x.types)) p.interfaces k (planned_interface i) is.types_rise (built_at k i at));
+      interfaces = same_rise (flat_map interface_type_numbers r.interfaces.items) ∙ (ap are_rising numbers_built ∙ rises);
       worlds = λ k w at.
           same_rise (world_type_numbers w)
           ∙ (ap are_rising (sym (world_types_are w)) ∙ all_get (λ x. are_rising (world_types x)) p.worlds k (planned_world w) is.world_types_rise (world_built_at k w at));
     }
 
 pub package_follows : (t : Tables) (h : Homes) (known : ℕ → Fact) (n : ℕ) (ms : List Member) (members : List reads.Member) → IsPackageInput t h known n ms members → StandAlone t ms → h.packages ≡ packages_shown members
-    → (p : Plan) → PlansWhole t h.packages (home_at h) n ms p → IsPlan p → (r : Resolve) → IsBuilt p r → FollowsParts members r
-package_follows t h known n ms members given alone packages p planned is r built =
+    → (p : Plan) → PlansWhole t h.packages (home_at h) n ms p → (r : Resolve) → IsBuilt p r → TypesRise r → FollowsParts members r
+package_follows t h known n ms members given alone packages p planned r built types =
     let are = package_shown t h known n ms members given alone in
     let seen = sights_of_members t (numbered_members ms) in
     let shown = flat_map reads.sights members in
@@ -198,7 +201,7 @@ package_follows t h known n ms members given alone packages p planned is r built
       interfaces = paths_built p r built ∙ paths_planned t h known n ms members given p planned seen shown under are;
       functions = functions_built p r built shown (functions_planned t h known n ms members given p planned seen shown under are);
       worlds = worlds_built p r built ∙ (worlds_planned t h known n ms members given p planned seen shown under are ∙ worlds_meant t h ms members given.input.shown);
-      types = types_built p r built is;
+      types = types;
     }
 
 -- One world beside the interfaces of its package that it shows.
@@ -236,11 +239,11 @@ module _ (t : Tables) (h : Homes) (known : ℕ → Fact) (n : ℕ) (m : Member) 
       ap (map (λ (v : Text × Scope). v.0)) (one_world t h n m own w is own_are)
       ∙ (sym (ap (λ a. map (λ (v : Text × Scope). v.0) (world_in_part m.label.now a ++ [])) is) ∙ worlds_meant t h (m ∷ []) ones zip)
 
-  pub world_follows : h.packages ≡ packages_shown ones → (p : Plan) → PlansWhole t h.packages (home_at h) n (m ∷ own) p → IsPlan p → (r : Resolve) → IsBuilt p r → FollowsParts ones r
-  world_follows packages p planned plan r built = record {
+  pub world_follows : h.packages ≡ packages_shown ones → (p : Plan) → PlansWhole t h.packages (home_at h) n (m ∷ own) p → (r : Resolve) → IsBuilt p r → TypesRise r → FollowsParts ones r
+  world_follows packages p planned r built types = record {
     packages = built_identities t h.packages (home_at h) n (m ∷ own) p planned r built ∙ packages;
     interfaces = paths_built p r built ∙ paths_planned t h known n (m ∷ own) members given p planned world_seen world_views (flat_map shown_under ones) world_shown;
     functions = functions_built p r built world_views (functions_planned t h known n (m ∷ own) members given p planned world_seen world_views (flat_map shown_under ones) world_shown);
     worlds = worlds_built p r built ∙ (worlds_planned t h known n (m ∷ own) members given p planned world_seen world_views (flat_map shown_under ones) world_shown ∙ one_label);
-    types = types_built p r built plan;
+    types = types;
   }

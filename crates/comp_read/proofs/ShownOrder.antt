@@ -125,7 +125,7 @@ module _ (t : Tables) where
     imported_paths [] all = refl
     imported_paths (i ∷ imports) all = λ j. (ap Some (path_is t i.0 all.0.0) ∙ sym all.0.0.1) j ∷ imported_paths imports all.1 j
 
-    part_paths : (h : Homes) → HomesStand t h → (m : NumberedMember) (x : reads.Member) → slice_get h.packages m.package_ ≡ Some x.package_ → x.label ≡ m.label → (a : NumberedPart) (b : reads.Part) → ShowsPart t h m a b → IsPartIn t a
+    pub part_paths : (h : Homes) → HomesStand t h → (m : NumberedMember) (x : reads.Member) → slice_get h.packages m.package_ ≡ Some x.package_ → x.label ≡ m.label → (a : NumberedPart) (b : reads.Part) → ShowsPart t h m a b → IsPartIn t a
         → map (path_at t) (places_of_part a) ≡ shown_under (record { label = x.label; package_ = x.package_; part = b })
     part_paths h stand m x package_ under (world w) (reads.Part.world scope) shows is =
         map_of_map (path_at t) (λ (i : NumberedInstance). i.place) w.instances

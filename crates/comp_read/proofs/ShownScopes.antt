@@ -59,7 +59,7 @@ part_stands (shows es) p e =
     let scope = bind_some (entry_scope es) (λ scope. Some (interface scope)) p e in
     subst (λ (q : PartScope). Stands (meant_scope q)) (some_is (interface scope.0) p scope.2) (entry_scope_stands es scope.0 scope.1)
 
-one_stands : (x : Text × PartType) (y : Text × PartScope) → labelled_scope x ≡ Some y → Stands (meant_scope y.1)
+pub one_stands : (x : Text × PartType) (y : Text × PartScope) → labelled_scope x ≡ Some y → Stands (meant_scope y.1)
 one_stands x y e =
     let p = bind_some (part_scope x.1) (λ p. let z : Text × PartScope = (x.0, p) in Some z) y e in
     subst (λ (z : Text × PartScope). Stands (meant_scope z.1)) (some_is (x.0, p.0) y p.2) (part_stands x.1 p.0 p.1)
@@ -91,7 +91,7 @@ world_paths label path scope p e =
     let w = when_some (is_world scope) (Some (package_.0, Part.world scope)) p package_.2 in
     subst (λ (q : PackageIdentity × Part). paths_in scope ≡ shown_under (member_of label q)) (some_is (package_.0, Part.world scope) p w.1) refl
 
-one_paths : (y : Text × PartScope) (m : Member) → Stands (meant_scope y.1) → member_of_scope y ≡ Some m → paths_in (meant_scope y.1) ≡ shown_under m
+pub one_paths : (y : Text × PartScope) (m : Member) → Stands (meant_scope y.1) → member_of_scope y ≡ Some m → paths_in (meant_scope y.1) ≡ shown_under m
 one_paths y m st e =
     let p = bind_some (part_of_scope y.0 y.1) (λ p. Some (member_of y.0 p)) m e in
     subst (λ (z : Member). paths_in (meant_scope y.1) ≡ shown_under z) (some_is (member_of y.0 p.0) m p.2) (by y.1 st p.0 p.1)
@@ -116,7 +116,7 @@ abbrev pub scope_places : NumberedScope → List ℕ
 scope_places w = map (λ (i : NumberedInstance). i.place) w.instances
 
 module _ (t : Tables) where
-  abbrev scope_in : FollowedMember → NumberedScope
+  abbrev pub scope_in : FollowedMember → NumberedScope
   scope_in m = numbered_scope t.paths (scope_of m.part)
 
   places_named : (w : NumberedScope) (scope : Scope) → Shows t w scope → map (path_at t) (scope_places w) ≡ paths_in scope
@@ -124,7 +124,7 @@ module _ (t : Tables) where
       map_of_map (path_at t) (λ (i : NumberedInstance). i.place) w.instances
       ∙ (sym (map_of_map (λ (i : Instance). i.interface) (instance_of t) w.instances) ∙ sym (ap (map (λ (i : Instance). i.interface)) is.instances))
 
-  part_named : (a : FollowedPart) (p : PartScope) → PartShown t a p → map (path_at t) (scope_places (numbered_scope t.paths (scope_of a))) ≡ paths_in (meant_scope p)
+  pub part_named : (a : FollowedPart) (p : PartScope) → PartShown t a p → map (path_at t) (scope_places (numbered_scope t.paths (scope_of a))) ≡ paths_in (meant_scope p)
   part_named (followed.World path s) (world text meant) is = places_named (numbered_scope t.paths s) meant is.1
   part_named (followed.Interface s) (interface meant) is = places_named (numbered_scope t.paths s) meant is
   part_named (followed.World path s) (interface meant) is = absurd is

@@ -101,9 +101,9 @@ worlds_shown members = map (λ w. w.0) (flat_map worlds_of members)
 abbrev pub function_names : Interface → List Text
 function_names i = map (λ e. text_of e.0) i.functions.entries
 
--- The types of each interface are numbered in its order, and those of each world in the order of its imports.
+-- The types of interfaces are numbered in the order of these, and in that of each interface; and the types that a world declares in the order of its imports.
 pub record TypesRise (r : Resolve) : Type 0 where
-  pub interfaces : (k : ℕ) (i : Interface) → interface_at r k ≡ Some i → rise (interface_type_numbers i) ≡ true
+  pub interfaces : rise (flat_map interface_type_numbers r.interfaces.items) ≡ true
   pub worlds : (k : ℕ) (w : World) → world_at r k ≡ Some w → rise (world_type_numbers w) ≡ true
 
 -- Packages are numbered in the order in which the parts show an interface of theirs first; that of the parts comes last if they show none of it.
