@@ -102,8 +102,8 @@ module _ (R : ℕ → ℕ → Type 0) where
         (λ c d. elim (Contains-append_cases front (z ∷ []) c d) [ inl f ↦ is.1 c f | inr f ↦ subst (Contains met) (last_of z c f) (has-contains met z e) ]),
       )
 
-      wider : (as bs : List ℕ) → ((c : ℕ) → Contains as c → Contains bs c) → (c : ℕ) → Contains (as ++ z ∷ []) c → Contains (bs ++ z ∷ []) c
-      wider as bs all c d = elim (Contains-append_cases as (z ∷ []) c d) [ inl f ↦ Contains-append_left bs (z ∷ []) c (all c f) | inr f ↦ Contains-append_right bs (z ∷ []) c f ]
+      wider : (us vs : List ℕ) → ((c : ℕ) → Contains us c → Contains vs c) → (c : ℕ) → Contains (us ++ z ∷ []) c → Contains (vs ++ z ∷ []) c
+      wider us vs all c d = elim (Contains-append_cases us (z ∷ []) c d) [ inl f ↦ Contains-append_left vs (z ∷ []) c (all c f) | inr f ↦ Contains-append_right vs (z ∷ []) c f ]
 
       absent : has met z ≡ false → Contains front z → ⊥
       absent e c = let wrong : false ≡ true = sym e ∙ contains-has met z (is.1 z c) in cc

@@ -7,7 +7,7 @@ use Rattle.comp_bytes.specs.Levels.{PartType, Piece, shows, wraps}
 use Rattle.comp_bytes.specs.Reading.{◌>>=◌}
 use Rattle.comp_bytes.proofs.Readers.{bind_some, when_some}
 use Rattle.comp_meaning.specs.ByLevels.{entry_scope}
-use Rattle.comp_meaning.specs.Follow.{Instance, Scope, each, provided}
+use Rattle.comp_meaning.specs.Follow.{Instance, Scope, View, each, provided}
 use Rattle.comp_meaning.specs.Reads.{Member, Part, are_reached, exported_view, imported_view, labelled_path}
 use Rattle.comp_meaning.specs.Rules.{distinct, is_world}
 use Rattle.read_shown.specs.Instances.{InstancesAreSeen}
@@ -67,6 +67,13 @@ one_stands x y e =
 abbrev member_of : Text → PackageIdentity × Part → Member
 member_of label p = record { label = label; package_ = p.0; part = p.1 }
 
+-- the paths of imports, and of one more
+named_paths : (is : List Instance) (imports : List (Text × View)) (last : Text × View) → is ≡ map named_instance imports ++ named_instance last ∷ [] → map (λ (i : Instance). i.interface) is ≡ map (λ (i : Text × View). Some i.0) imports ++ Some last.0 ∷ []
+named_paths is imports last all =
+    ap (map (λ (i : Instance). i.interface)) all
+    ∙ (append_of_map (λ (i : Instance). i.interface) (map named_instance imports) (named_instance last ∷ [])
+    ∙ ap (λ (os : List (Option Text)). os ++ Some last.0 ∷ []) (map_of_map (λ (i : Instance). i.interface) named_instance imports))
+
 interface_paths : (label : Text) (scope : Scope) → Stands scope → (p : PackageIdentity × Part) → part_of_scope label (interface scope) ≡ Some p → paths_in scope ≡ shown_under (member_of label p)
 interface_paths label scope st p e =
     let exported = bind_some (exported_view scope.exports) (λ exported. each imported_view scope.imports >>= λ imports. labelled_path label exported.0 >>= λ package_.
@@ -78,12 +85,9 @@ interface_paths label scope st p e =
     let w = when_some (distinct (exported.0.0 ∷ map (λ i. i.0) imports.0) && are_reached imports.0 exported.0.1) (Some (package_.0, Part.interface exported.0.1 imports.0)) p package_.2 in
     let apart = first_true (distinct (exported.0.0 ∷ map (λ i. i.0) imports.0)) (are_reached imports.0 exported.0.1) w.0 in
     let reached = second_true (distinct (exported.0.0 ∷ map (λ i. i.0) imports.0)) (are_reached imports.0 exported.0.1) w.0 in
-    let last : Instance = named_instance (path_in package_.0 label, exported.0.1) in
-    let all : scope.instances ≡ map named_instance imports.0 ++ last ∷ [] = interface_shows label scope st.0 st.1 exported.0 exported.1 imports.0 imports.1 package_.0 package_.1 apart reached in
+    let all : scope.instances ≡ map named_instance imports.0 ++ named_instance (path_in package_.0 label, exported.0.1) ∷ [] = interface_shows label scope st.0 st.1 exported.0 exported.1 imports.0 imports.1 package_.0 package_.1 apart reached in
     subst (λ (q : PackageIdentity × Part). paths_in scope ≡ shown_under (member_of label q)) (some_is (package_.0, Part.interface exported.0.1 imports.0) p w.1)
-    (ap (map (λ (i : Instance). i.interface)) all
-    ∙ (append_of_map (λ (i : Instance). i.interface) (map named_instance imports.0) (last ∷ [])
-    ∙ ap (λ (os : List (Option Text)). os ++ Some (path_in package_.0 label) ∷ []) (map_of_map (λ (i : Instance). i.interface) named_instance imports.0)))
+    (named_paths scope.instances imports.0 (path_in package_.0 label, exported.0.1) all)
 
 world_paths : (label path : Text) (scope : Scope) (p : PackageIdentity × Part) → part_of_scope label (world path scope) ≡ Some p → paths_in scope ≡ shown_under (member_of label p)
 world_paths label path scope p e =

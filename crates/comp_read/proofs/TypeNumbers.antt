@@ -66,16 +66,16 @@ use Rattle.base_lemmas.proofs.Options.{some_is}
 
 -- ---- numbers that rise
 
-rising_both : (as bs : List ℕ) → are_rising as ≡ true → are_rising bs ≡ true → ((c d : ℕ) → Contains as c → Contains bs d → c < d) → are_rising (as ++ bs) ≡ true
-rising_both [] bs a b less = b
-rising_both (n ∷ as) bs a b less =
-    both (list_all (nat_lt n) (as ++ bs)) (are_rising (as ++ bs)) (all_pass (nat_lt n) (as ++ bs) front)
-    (rising_both as bs (second_true (list_all (nat_lt n) as) (are_rising as) a) b (λ c d at. less c d (contains-later n as c at)))
+rising_both : (us vs : List ℕ) → are_rising us ≡ true → are_rising vs ≡ true → ((c d : ℕ) → Contains us c → Contains vs d → c < d) → are_rising (us ++ vs) ≡ true
+rising_both [] vs a b less = b
+rising_both (n ∷ us) vs a b less =
+    both (list_all (nat_lt n) (us ++ vs)) (are_rising (us ++ vs)) (all_pass (nat_lt n) (us ++ vs) front)
+    (rising_both us vs (second_true (list_all (nat_lt n) us) (are_rising us) a) b (λ c d at. less c d (contains-later n us c at)))
   where
-    front : (e : ℕ) → Contains (as ++ bs) e → nat_lt n e ≡ true
-    front e c = elim (Contains-append_cases as bs e c) [
-      | inl d ↦ all-contained (nat_lt n) as e (first_true (list_all (nat_lt n) as) (are_rising as) a) d
-      | inr d ↦ lt-ltb n e (less n e (first-contained n as) d)
+    front : (e : ℕ) → Contains (us ++ vs) e → nat_lt n e ≡ true
+    front e c = elim (Contains-append_cases us vs e c) [
+      | inl d ↦ all-contained (nat_lt n) us e (first_true (list_all (nat_lt n) us) (are_rising us) a) d
+      | inr d ↦ lt-ltb n e (less n e (first-contained n us) d)
     ]
 
 rises_flat : {A : Type 0} (f : A → List ℕ) (xs : List A) → list_all (λ x. are_rising (f x)) xs ≡ true
@@ -204,15 +204,15 @@ module _ (pieces : List Piece) (x : Followed) (h : Homes) (ms : List Member) (me
   imports_have (i ∷ is) all = (all.0.0, imports_have is all.1)
 
   -- places with the same paths are the same
-  pathed : (as bs : List ℕ) → AllByRecursion (HasPath t) bs → map (path_at t) as ≡ map (path_at t) bs → as ≡ bs
+  pathed : (us vs : List ℕ) → AllByRecursion (HasPath t) vs → map (path_at t) us ≡ map (path_at t) vs → us ≡ vs
   pathed [] [] all e = refl
-  pathed [] (b ∷ bs) all e = let wrong : ⊥ = cc in absurd wrong
-  pathed (a ∷ as) [] all e = let wrong : ⊥ = cc in absurd wrong
-  pathed (a ∷ as) (b ∷ bs) all e =
+  pathed [] (b ∷ vs) all e = let wrong : ⊥ = cc in absurd wrong
+  pathed (a ∷ us) [] all e = let wrong : ⊥ = cc in absurd wrong
+  pathed (a ∷ us) (b ∷ vs) all e =
       let first : path_at t a ≡ path_at t b = cc in
-      let more : map (path_at t) as ≡ map (path_at t) bs = cc in
+      let more : map (path_at t) us ≡ map (path_at t) vs = cc in
       let one : a ≡ b = (tables pieces x h ms members input).paths a b all.0.0 (first ∙ all.0.1) all.0.1 in
-      let rest = pathed as bs all.1 more in
+      let rest = pathed us vs all.1 more in
       λ i. one i ∷ rest i
 
   part_alike : (a : FollowedPart) (b : Part) → IsPartOf t a b → IsPartIn t (numbered_part b) → map (path_at t) (scope_places (followed_scope t.paths (scope_of a))) ≡ map (path_at t) (places_of_part (numbered_part b))
@@ -301,9 +301,9 @@ world_views t h m w is own are s c =
     (view_among t h m.package_number (numbered_scope w) (numbered_members own) are m.label.now s (subst (λ (a : Part). Contains (views_of_part (numbered_part a) ++ views_of_members (numbered_members own)) s) is c)))
 
 -- and its places are those of what was followed
-pub world_places : (m : Member) (w : Scope) → m.part ≡ parts.World w → (ps places : List ℕ) → ps ≡ once (map (λ (i : NumberedInstance). i.place) (numbered_scope w).instances)
-    → places ≡ flat_map (λ (k : NumberedMember). places_of_part k.part) (numbered_members (m ∷ [])) → ps ≡ joined_all [] places
-world_places m w is ps places met alike =
+pub world_places : (m : Member) (w : Scope) → m.part ≡ parts.World w → (ps qs : List ℕ) → ps ≡ once (map (λ (i : NumberedInstance). i.place) (numbered_scope w).instances)
+    → qs ≡ flat_map (λ (k : NumberedMember). places_of_part k.part) (numbered_members (m ∷ [])) → ps ≡ joined_all [] qs
+world_places m w is ps qs met same =
     met
     ∙ (sym (joined_behind [] (map (λ (i : NumberedInstance). i.place) (numbered_scope w).instances))
-    ∙ ap (joined_all []) (sym (alike ∙ (ap (λ (a : Part). places_of_part (numbered_part a) ++ []) is ∙ append-nil (map (λ (i : NumberedInstance). i.place) (numbered_scope w).instances)))))
+    ∙ ap (joined_all []) (sym (same ∙ (ap (λ (a : Part). places_of_part (numbered_part a) ++ []) is ∙ append-nil (map (λ (i : NumberedInstance). i.place) (numbered_scope w).instances)))))
