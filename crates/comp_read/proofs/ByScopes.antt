@@ -1,16 +1,14 @@
 -- What the rules of reading make of the parts at the top is what they make of the scopes that were followed.
 use Rattle.std.proofs.Common.{◌≡◌, refl, sym, ap, ◌∙◌, true, List, [], ◌∷◌, Option, Some, None}
-use Rattle.wit_model.specs.Names.{PackageIdentity}
 use Rattle.wit_model.specs.Text.{Text}
-use Rattle.comp_bytes.specs.Levels.{PartType, Piece, wraps, shows}
+use Rattle.comp_bytes.specs.Levels.{PartType, Piece}
 use Rattle.comp_bytes.specs.Reading.{◌>>=◌}
 use Rattle.comp_bytes.proofs.Readers.{bind_some}
-use Rattle.comp_meaning.specs.ByLevels.{entry_scope, exported_parts, member_by_levels, part_by_levels}
-use Rattle.comp_meaning.specs.Follow.{Scope, each, is_filled, provided}
-use Rattle.comp_meaning.specs.Reads.{Member, Part, labelled_path}
-use Rattle.comp_meaning.specs.Rules.{is_world}
-use Rattle.read_parts.specs.Followed.{PartScope, world, interface, labelled_scope, member_of_scope, part_of_scope, part_scope, scopes_in, scopes_of, world_path}
-use Rattle.read_parts.proofs.ScopeMeaning.{each_both, part_law, member_law}
+use Rattle.comp_meaning.specs.ByLevels.{exported_parts, member_by_levels}
+use Rattle.comp_meaning.specs.Follow.{each, is_filled}
+use Rattle.comp_meaning.specs.Reads.{Member}
+use Rattle.read_parts.specs.Followed.{PartScope, labelled_scope, member_of_scope, scopes_in, scopes_of}
+use Rattle.read_parts.proofs.ScopeMeaning.{each_both, member_law}
 
 -- the scopes of these parts are the items of the sections' parts
 pub scopes_found : (pieces : List Piece) (parts : List (Text × PartType)) → exported_parts pieces ≡ Some parts → (scopes : List (Text × PartScope)) → scopes_of pieces ≡ Some scopes → each labelled_scope parts ≡ Some scopes

@@ -25,6 +25,11 @@ pub mod WorldInput
 pub mod WorldLabels
 pub mod WorldPackage
 pub mod WorldWhole
+pub mod CountedUp
+pub mod ShownScopes
+pub mod PackageOrder
+pub mod NewNumbers
+pub mod TypeNumbers
 pub mod ReadOrder
 pub mod BuildLaws
 pub mod DecodedLaws

@@ -62,7 +62,7 @@ module _ (pieces : List Piece) (x : Followed) (h : Homes) (ms : List Member) (me
   among : (y : NumberedMember) → Contains nms y → (m : ℕ) × IsNumberedAt pieces x h ms members input m y
   among y c = let at = contains-get nms y c in (at.0, numbered_at pieces x h ms members input at.0 y at.1)
 
-  instance_of_any : (s : NumberedSight) → Contains views s → (m : ℕ) × IsInstance pieces x h ms members input m s
+  pub instance_of_any : (s : NumberedSight) → Contains views s → (m : ℕ) × IsInstance pieces x h ms members input m s
   instance_of_any s c =
       let from = flat_cases (λ (y : NumberedMember). views_of_part y.part) nms s c in
       let y = among from.0 from.1 in

@@ -1,10 +1,12 @@
 -- What is built of a plan stands in the order of what was followed.
-use Rattle.std.proofs.Common.{◌≡◌, refl, sym, ap, subst, ◌∙◌, ℕ, zero, suc, true, List, [], ◌∷◌, ◌++◌, map, Option, Some, None, slice_get, option_map, append-nil}
+use Rattle.std.proofs.Common.{◌≡◌, refl, sym, ap, subst, ◌∙◌, ℕ, true, ◌&&◌, nat_lt, List, [], ◌∷◌, ◌++◌, map, Option, Some, slice_get, option_map, append-nil}
 use Rattle.std.proofs.lemmas.Option.{slice_get-map, same_Some as same-some}
-use Rattle.std.specs.List.{AllByRecursion, AllZip, Contains, filter, flat_map}
+use Rattle.std.specs.List.{AllByRecursion, AllZip, Contains, filter, flat_map, list_all}
 use Rattle.wit_model.specs.declared.model.Interface.{Interface}
 use Rattle.wit_model.specs.declared.model.Resolve.{Resolve}
-use Rattle.wit_model.specs.Lookup.{interface_at, path_of_interface}
+use Rattle.wit_model.specs.declared.model.World.{World}
+use Rattle.wit_model.specs.Lookup.{interface_at, path_of_interface, world_at}
+use Rattle.wit_model.specs.Rules.{interface_type_numbers, world_type_numbers}
 use Rattle.wit_model.specs.Text.{Text, text_of}
 use Rattle.wit_model.specs.Uses.{once}
 use Rattle.comp_meaning.specs.Reads as reads
@@ -14,7 +16,9 @@ use Rattle.plan_meaning.specs.NumberedMembers.{Homes, IsKnownSight, IsMember, Nu
 use Rattle.plan_meaning.specs.NumberedRules.{Fact}
 use Rattle.plan_meaning.specs.NumberedViews.{NumberedSight, Tables, path_at, sight_of}
 use Rattle.plan_meaning.specs.NumberedWorlds.{HasPath, NumberedInstance, are_once, sights_of_scope}
-use Rattle.plan_meaning.specs.Plan.{Plan, PlannedInterface, PlannedWorld, path_of_planned}
+use Rattle.plan_meaning.specs.Plan.{Plan, PlannedInterface, PlannedWorld, numbers_of, path_of_planned, world_types}
+use Rattle.plan_meaning.specs.PlanRules.{are_rising, IsPlan}
+use Rattle.plan_meaning.proofs.TypeOrder.{type_numbers_are, world_types_are}
 use Rattle.plan_meaning.proofs.NumberedMembers.{all_sights}
 use Rattle.plan_meaning.proofs.NumberedWorlds.{path_is}
 use Rattle.plan_meaning.proofs.Words.{path_of_planned_is, plan_of}
@@ -38,22 +42,12 @@ use Rattle.plan_laws.proofs.OneWorld.{functions_shown as functions_in_world, one
 use Rattle.plan_laws.proofs.Planned.{first_there, interface_there}
 use Rattle.plan_laws.proofs.WholeTypes.{packages_are_ruled, path_planned}
 use Rattle.plan_type_laws.specs.ShownMarks.{has_no_path}
-use Rattle.comp_read.specs.Order.{FollowsParts, function_names, once_by_path, shown_under, worlds_shown}
+use Rattle.comp_read.specs.Order.{rise, FollowsParts, TypesRise, function_names, once_by_path, packages_shown, shown_under, worlds_shown}
+use Rattle.comp_read.proofs.PackageOrder.{built_identities}
 use Rattle.comp_read.proofs.ShownOrder.{members_paths, names_alike, paths_once, scope_paths}
 use Rattle.comp_read.proofs.WorldOrder.{joined_behind}
-use Rattle.base_lemmas.proofs.Elements.{get-contains, zip_each, zip_map as zip_names}
-use Rattle.base_lemmas.proofs.Lists.{append_of_map as map_append, map_of_map, same_map as map_each}
-
--- ---- lists
-
--- what holds of the elements of each number
-
--- what stands beside the element of this number
-zip_back : {A B : Type 0} (R : A → B → Type 0) (xs : List A) (ys : List B) → AllZip R xs ys → (k : ℕ) (y : B) → slice_get ys k ≡ Some y → (x : A) × (slice_get xs k ≡ Some x)
-zip_back R xs [] zip k y e = let wrong : None ≡ Some y = e in absurd cc
-zip_back R [] (z ∷ ys) zip k y e = absurd zip
-zip_back R (x ∷ xs) (z ∷ ys) zip zero y e = (x, refl)
-zip_back R (x ∷ xs) (z ∷ ys) zip (suc k) y e = zip_back R xs ys zip.1 k y e
+use Rattle.base_lemmas.proofs.Elements.{all_get, get-contains, zip_at_right, zip_each, zip_map as zip_names}
+use Rattle.base_lemmas.proofs.Lists.{append_of_map as map_append, flat_mapped, map_of_map, same_map as map_each}
 
 -- ---- what is shown, in numbers
 
@@ -113,7 +107,7 @@ module _ (t : Tables) (h : Homes) (known : ℕ → Fact) (n : ℕ) (ms : List Me
 
     pub functions_planned : (k : ℕ) (i : PlannedInterface) (path : Text) → slice_get p.interfaces k ≡ Some i → path_of_planned p i ≡ Some path → map (λ f. f.0) i.functions ≡ map (λ f. f.0) (reads.functions_of path shown)
     functions_planned k i path there at_path =
-        let back = zip_back (PlansPlace t planned.kept n (home_at h) (views_of_members (numbered_members ms))) (places_in ms) p.interfaces planned.interfaces k i there in
+        let back = zip_at_right (PlansPlace t planned.kept n (home_at h) (views_of_members (numbered_members ms))) (places_in ms) p.interfaces planned.interfaces k i there in
         let q = back.0 in
         let has : HasPath t q = (path, sym (path_there k q i back.1 there) ∙ at_path) in
         let found = interface_there t h ms members given.input n p planned k q back.1 in
@@ -149,6 +143,10 @@ worlds_meant t h (m ∷ ms) (x ∷ xs) zip =
 
 -- ---- what is built
 
+same_rise : (ns : List ℕ) → rise ns ≡ are_rising ns
+same_rise [] = refl
+same_rise (n ∷ ns) = ap (λ b. list_all (nat_lt n) ns && b) (same_rise ns)
+
 module _ (p : Plan) (r : Resolve) (built : IsBuilt p r) where
   is_plan : p ≡ plan_of r p.main
   is_plan = λ i. record { packages = sym built.packages i; interfaces = sym built.interfaces i; worlds = sym built.worlds i; types = sym built.types i; main = p.main }
@@ -173,17 +171,37 @@ module _ (p : Plan) (r : Resolve) (built : IsBuilt p r) where
   pub worlds_built : map (λ w. text_of w.name) r.worlds.items ≡ map (λ w. w.name) p.worlds
   worlds_built = sym (map_of_map (λ (w : PlannedWorld). w.name) planned_world r.worlds.items) ∙ ap (map (λ w. w.name)) built.worlds
 
-pub package_follows : (t : Tables) (h : Homes) (known : ℕ → Fact) (n : ℕ) (ms : List Member) (members : List reads.Member) → IsPackageInput t h known n ms members → StandAlone t ms
-    → (p : Plan) → PlansWhole t h.packages (home_at h) n ms p → (r : Resolve) → IsBuilt p r → FollowsParts members r
-package_follows t h known n ms members given alone p planned r built =
+  -- the types of a plan that was read
+  module _ (is : IsPlan p) (rises : are_rising (flat_map (λ (i : PlannedInterface). numbers_of i.types) p.interfaces) ≡ true) where
+    numbers_built : flat_map interface_type_numbers r.interfaces.items ≡ flat_map (λ (i : PlannedInterface). numbers_of i.types) p.interfaces
+    numbers_built =
+        (λ j. flat_map (λ (i : Interface). sym (type_numbers_are i) j) r.interfaces.items)
+        ∙ (flat_mapped (λ (i : PlannedInterface). numbers_of i.types) planned_interface r.interfaces.items ∙ ap (flat_map (λ (i : PlannedInterface). numbers_of i.types)) built.interfaces)
+
+    world_built_at : (k : ℕ) (w : World) → world_at r k ≡ Some w → slice_get p.worlds k ≡ Some (planned_world w)
+    world_built_at k w at = ap (λ ks. slice_get ks k) (sym built.worlds) ∙ (slice_get-map planned_world r.worlds.items k ∙ ap (option_map planned_world) at)
+
+    pub types_built : TypesRise r
+    types_built = record {
+      interfaces = same_rise (flat_map interface_type_numbers r.interfaces.items) ∙ (ap are_rising numbers_built ∙ rises);
+      worlds = λ k w at.
+          same_rise (world_type_numbers w)
+          ∙ (ap are_rising (sym (world_types_are w)) ∙ all_get (λ x. are_rising (world_types x)) p.worlds k (planned_world w) is.world_types_rise (world_built_at k w at));
+    }
+
+pub package_follows : (t : Tables) (h : Homes) (known : ℕ → Fact) (n : ℕ) (ms : List Member) (members : List reads.Member) → IsPackageInput t h known n ms members → StandAlone t ms → h.packages ≡ packages_shown members
+    → (p : Plan) → PlansWhole t h.packages (home_at h) n ms p → (r : Resolve) → IsBuilt p r → TypesRise r → FollowsParts members r
+package_follows t h known n ms members given alone packages p planned r built types =
     let are = package_shown t h known n ms members given alone in
     let seen = sights_of_members t (numbered_members ms) in
     let shown = flat_map reads.sights members in
     let under = flat_map shown_under members in
     record {
+      packages = built_identities t h.packages (home_at h) n ms p planned r built ∙ packages;
       interfaces = paths_built p r built ∙ paths_planned t h known n ms members given p planned seen shown under are;
       functions = functions_built p r built shown (functions_planned t h known n ms members given p planned seen shown under are);
       worlds = worlds_built p r built ∙ (worlds_planned t h known n ms members given p planned seen shown under are ∙ worlds_meant t h ms members given.input.shown);
+      types = types;
     }
 
 -- One world beside the interfaces of its package that it shows.
@@ -221,9 +239,11 @@ module _ (t : Tables) (h : Homes) (known : ℕ → Fact) (n : ℕ) (m : Member) 
       ap (map (λ (v : Text × Scope). v.0)) (one_world t h n m own w is own_are)
       ∙ (sym (ap (λ a. map (λ (v : Text × Scope). v.0) (world_in_part m.label.now a ++ [])) is) ∙ worlds_meant t h (m ∷ []) ones zip)
 
-  pub world_follows : (p : Plan) → PlansWhole t h.packages (home_at h) n (m ∷ own) p → (r : Resolve) → IsBuilt p r → FollowsParts ones r
-  world_follows p planned r built = record {
+  pub world_follows : h.packages ≡ packages_shown ones → (p : Plan) → PlansWhole t h.packages (home_at h) n (m ∷ own) p → (r : Resolve) → IsBuilt p r → TypesRise r → FollowsParts ones r
+  world_follows packages p planned r built types = record {
+    packages = built_identities t h.packages (home_at h) n (m ∷ own) p planned r built ∙ packages;
     interfaces = paths_built p r built ∙ paths_planned t h known n (m ∷ own) members given p planned world_seen world_views (flat_map shown_under ones) world_shown;
     functions = functions_built p r built world_views (functions_planned t h known n (m ∷ own) members given p planned world_seen world_views (flat_map shown_under ones) world_shown);
     worlds = worlds_built p r built ∙ (worlds_planned t h known n (m ∷ own) members given p planned world_seen world_views (flat_map shown_under ones) world_shown ∙ one_label);
+    types = types;
   }

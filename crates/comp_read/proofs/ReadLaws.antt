@@ -9,7 +9,7 @@ use Rattle.comp_meaning.specs.Follow.{provided}
 use Rattle.plan_meaning.specs.NumberedMembers.{Homes, HomesStand, NumberedMember, are_package, home_at, package_shown}
 use Rattle.plan_meaning.specs.NumberedRules.{Fact}
 use Rattle.plan_meaning.specs.NumberedViews.{Tables}
-use Rattle.read_homes.specs.Homes.{ArePackages, HaveReasons, IsHomeOf, given_home}
+use Rattle.read_homes.specs.Homes.{given_home, ArePackages, ComeInOrder, HaveReasons, IsHomeOf}
 use Rattle.read_parts.specs.declared.following.Followed.{Followed}
 use Rattle.read_parts.specs.declared.members.Member.{Member as FollowedMember}
 use Rattle.read_parts.specs.Input.{IsFollowed}
@@ -86,7 +86,7 @@ module _ (x : Followed) (t : Tables) (facts : List KeptFact) (h : Homes) (ms : L
 -- ---- members as they are read
 
 module _ (x : Followed) (t : Tables) (tables : t ≡ tables_of x) (facts : List KeptFact) (known : AreKnown x facts) (old first packages : List PackageIdentity) (empty : old ≡ []) (homes : Given)
-    (are_homes : AllZip (IsHomeOf first) t.paths (map given_home homes)) (reasons : HaveReasons old first (map given_home homes)) (stand : HomesStand (tables_of x) (homes_in packages homes)) (are : ArePackages packages)
+    (are_homes : AllZip (IsHomeOf first) t.paths (map given_home homes)) (reasons : HaveReasons old first (map given_home homes)) (order : ComeInOrder old (map given_home homes)) (stand : HomesStand (tables_of x) (homes_in packages homes)) (are : ArePackages packages)
     (rs : List ReadMember) (sources : AreForMembers first packages (map read_member rs)) (lent : Given) (lent_is : lent ≡ homes) (members : List FollowedMember) (all : members ≡ x.members.items)
     (read : AreRead t (known_by facts) (homes_in packages lent) members (map read_member rs)) where
   read_here : AreReadOf x t facts (homes_in packages homes) (map read_member rs)
@@ -98,6 +98,7 @@ module _ (x : Followed) (t : Tables) (tables : t ≡ tables_of x) (facts : List 
     packages = are;
     first = first;
     reasons = subst (λ (ps : List PackageIdentity). HaveReasons ps first (map given_home homes)) empty reasons;
+    order = subst (λ (ps : List PackageIdentity). ComeInOrder ps (map given_home homes)) empty order;
     members = sources;
     read =
         subst (λ (hs : Given). AreRead t (known_by facts) (homes_in packages hs) x.members.items (map read_member rs)) lent_is

@@ -2,7 +2,7 @@
 use Rattle.std.proofs.Common.{◌≡◌, refl, sym, ap, ◌∙◌, ℕ, Bool, true, false, not, ◌&&◌, ◌||◌, ◌==◌, cond, List, [], ◌∷◌, ◌++◌, map, Option, Some, None, is_none, slice_get}
 use Rattle.std.specs.List.{AllByRecursion, AllZip, filter, flat_map}
 use Rattle.std.specs.Option.{option_map_or}
-use Rattle.std.proofs.lemmas.Bool.{eqb-true}
+use Rattle.std.proofs.lemmas.Bool.{eqb-true, not-true}
 use Rattle.wit_model.specs.Text.{Text, text_eq}
 use Rattle.wit_model.specs.Names.{path_in}
 use Rattle.wit_model.specs.Uses.{has, once}
@@ -79,10 +79,6 @@ module _ (t : Tables) where
         by false f rest = ap (λ ms. n ∷ ms) (rest f)
         by true f rest = let wrong : true ≡ false = f in absurd cc
 
-    not_true : (b : Bool) → not b ≡ true → b ≡ false
-    not_true false f = refl
-    not_true true f = let wrong : false ≡ true = f in absurd cc
-
     -- places are told apart by their paths, where those without one stand once
     pub paths_once : (ns : List ℕ) → are_once (filter (has_no_path t) ns) ≡ true → map (path_at t) (once ns) ≡ once_by_path (map (path_at t) ns)
     paths_once [] alone = refl
@@ -94,7 +90,7 @@ module _ (t : Tables) where
         by : (o : Option Text) → path_at t n ≡ o → are_once (rest_of (is_none o)) ≡ true → (are_once (filter (has_no_path t) ns) ≡ true → map (path_at t) (once ns) ≡ once_by_path (map (path_at t) ns))
             → path_at t n ∷ map (path_at t) (filter (λ m. not (m == n)) (once ns)) ≡ once_by_path (o ∷ map (path_at t) ns)
         by None e alone more =
-            let new : has (filter (has_no_path t) ns) n ≡ false = not_true (has (filter (has_no_path t) ns) n) (first_true (not (has (filter (has_no_path t) ns) n)) (are_once (filter (has_no_path t) ns)) alone) in
+            let new : has (filter (has_no_path t) ns) n ≡ false = not-true (has (filter (has_no_path t) ns) n) (first_true (not (has (filter (has_no_path t) ns) n)) (are_once (filter (has_no_path t) ns)) alone) in
             let left = none_left n (once ns) (has_once n ns ∙ (pathless n e ns ∙ new)) in
             λ i. e i ∷ (ap (map (path_at t)) left ∙ more (second_true (not (has (filter (has_no_path t) ns) n)) (are_once (filter (has_no_path t) ns)) alone)) i
         by (Some path) e alone more = λ i. e i ∷ (others n path e (once ns) ∙ ap (filter (λ o. not (is_under path o))) (more alone)) i
@@ -129,7 +125,7 @@ module _ (t : Tables) where
     imported_paths [] all = refl
     imported_paths (i ∷ imports) all = λ j. (ap Some (path_is t i.0 all.0.0) ∙ sym all.0.0.1) j ∷ imported_paths imports all.1 j
 
-    part_paths : (h : Homes) → HomesStand t h → (m : NumberedMember) (x : reads.Member) → slice_get h.packages m.package_ ≡ Some x.package_ → x.label ≡ m.label → (a : NumberedPart) (b : reads.Part) → ShowsPart t h m a b → IsPartIn t a
+    pub part_paths : (h : Homes) → HomesStand t h → (m : NumberedMember) (x : reads.Member) → slice_get h.packages m.package_ ≡ Some x.package_ → x.label ≡ m.label → (a : NumberedPart) (b : reads.Part) → ShowsPart t h m a b → IsPartIn t a
         → map (path_at t) (places_of_part a) ≡ shown_under (record { label = x.label; package_ = x.package_; part = b })
     part_paths h stand m x package_ under (world w) (reads.Part.world scope) shows is =
         map_of_map (path_at t) (λ (i : NumberedInstance). i.place) w.instances

@@ -71,7 +71,7 @@ number_names t known p v h =
 
 module _ (t : Tables) (tables : AreTables t) (p : ℕ) where
   -- one name has one number
-  same_numbers : (xs ys : List NumberedType) → map told xs ≡ map told ys → (ms ns : List ℕ) → AllZip (IsNumbered t p) xs ms → AllZip (IsNumbered t p) ys ns → ms ≡ ns
+  pub same_numbers : (xs ys : List NumberedType) → map told xs ≡ map told ys → (ms ns : List ℕ) → AllZip (IsNumbered t p) xs ms → AllZip (IsNumbered t p) ys ns → ms ≡ ns
   same_numbers [] [] e [] [] a b = refl
   same_numbers [] [] e (m ∷ ms) ns a b = absurd a
   same_numbers [] [] e [] (n ∷ ns) a b = absurd b
@@ -217,7 +217,7 @@ module _ (pieces : List Piece) (x : Followed) (h : Homes) (ms : List Member) (me
       (of.viewed.whole, sight_there t (numbered_members ms) (sight i of.viewed.whole) (view_among pieces x h ms members input m of.member of.there (sight i of.viewed.whole) of.viewed.there) path)
 
   -- instances of one place tell the same of types
-  told_same : (m j : ℕ) (i : NumberedInstance) → IsInstanceAt ws m j i → (n k : ℕ) (l : NumberedInstance) → IsInstanceAt ws n k l → i.place ≡ l.place → map told i.view.types ≡ map told l.view.types
+  pub told_same : (m j : ℕ) (i : NumberedInstance) → IsInstanceAt ws m j i → (n k : ℕ) (l : NumberedInstance) → IsInstanceAt ws n k l → i.place ≡ l.place → map told i.view.types ≡ map told l.view.types
   told_same m j i at n k l there same = by (path_at t i.place) refl
     where
       by : (o : Option Text) → path_at t i.place ≡ o → map told i.view.types ≡ map told l.view.types

@@ -125,7 +125,7 @@ numbers_of_places (m ∷ ms) = by m.part (numbers_of_places ms)
     by (parts.World w) rest = rest
     by (parts.Interface p v imports) rest = ap (λ ps. p ∷ ps) rest
 
-homeless : (packages : List PackageIdentity) (paths : List (Option Text)) (homes : List (Option Home)) → AllZip (IsHomeOf packages) paths homes → (p : ℕ) → unwrap_or (slice_get paths p) None ≡ None → unwrap_or (slice_get homes p) None ≡ None
+pub homeless : (packages : List PackageIdentity) (paths : List (Option Text)) (homes : List (Option Home)) → AllZip (IsHomeOf packages) paths homes → (p : ℕ) → unwrap_or (slice_get paths p) None ≡ None → unwrap_or (slice_get homes p) None ≡ None
 homeless packages [] [] z p e = none p
   where
     none : (k : ℕ) → ◌≡◌ {A = Option Home} (unwrap_or (slice_get {X = Option Home} [] k) None) None

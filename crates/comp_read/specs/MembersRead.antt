@@ -4,7 +4,7 @@ use Rattle.wit_model.specs.Names.{PackageIdentity}
 use Rattle.plan_meaning.specs.NumberedMembers.{Homes, HomesStand, NumberedMember, are_package}
 use Rattle.plan_meaning.specs.NumberedRules.{Fact}
 use Rattle.plan_meaning.specs.NumberedViews.{Tables}
-use Rattle.read_homes.specs.Homes.{ArePackages, HaveReasons}
+use Rattle.read_homes.specs.Homes.{ArePackages, ComeInOrder, HaveReasons}
 use Rattle.read_rules.specs.declared.tables.Fact.{Fact as KeptFact}
 use Rattle.read_parts.specs.declared.following.Followed.{Followed}
 use Rattle.read_numbers.specs.FactLaws.{known_by}
@@ -14,7 +14,8 @@ use Rattle.read_members.specs.Decided.{are_one_package}
 use Rattle.read_members.specs.ReadMembers.{AreForMembers, AreRead}
 use Rattle.comp_read.specs.ReadInput.{AreHomesOf}
 
--- Members were read of what was followed, over tables whose types are known, and over packages, each of which is that of a place or of a member.
+-- Members were read of what was followed, over tables whose types are known, and over packages, each of which is that of a place or of a member. Those of places
+-- are numbered in the order of these.
 pub record AreReadOf (x : Followed) (t : Tables) (facts : List KeptFact) (h : Homes) (ns : List (NumberedMember × List (Option ℕ))) : Type 0 where
   pub tables : t ≡ tables_of x
   pub known : AreKnown x facts
@@ -23,6 +24,7 @@ pub record AreReadOf (x : Followed) (t : Tables) (facts : List KeptFact) (h : Ho
   pub packages : ArePackages h.packages
   pub first : List PackageIdentity
   pub reasons : HaveReasons [] first h.homes
+  pub order : ComeInOrder [] h.homes
   pub members : AreForMembers first h.packages ns
   pub read : AreRead t (known_by facts) h x.members.items ns
 

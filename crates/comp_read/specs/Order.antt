@@ -1,13 +1,15 @@
 -- The order in which what is decoded stands in a `Resolve` (Component Model WIT.md, "Package Format").
-use Rattle.std.specs.Prelude.{◌≡◌, ℕ, Bool, true, not, ◌&&◌, false, nat_lt, List, [], ◌∷◌, ◌++◌, filter, flat_map, map, Option, Some, None, slice_get}
+use Rattle.std.specs.Prelude.{◌≡◌, ℕ, Bool, true, not, ◌&&◌, false, nat_lt, List, [], ◌∷◌, ◌++◌, filter, flat_map, map, Option, Some, None, option_to_list, slice_get}
 use Rattle.std.specs.List.{list_all}
 use Rattle.std.specs.Option.{option_map_or}
 use Rattle.indexmap.specs.IndexMap.{values}
 use Rattle.wit_model.specs.declared.model.Interface.{Interface}
 use Rattle.wit_model.specs.declared.model.Package.{Package}
 use Rattle.wit_model.specs.declared.model.Resolve.{Resolve}
-use Rattle.wit_model.specs.Lookup.{interface_at, package_at, path_of_interface}
-use Rattle.wit_model.specs.Names.{path_in}
+use Rattle.wit_model.specs.declared.model.World.{World}
+use Rattle.wit_model.specs.Lookup.{identity_of, interface_at, package_at, path_of_interface, world_at}
+use Rattle.wit_model.specs.Names.{PackageIdentity, path_in, read_path}
+use Rattle.wit_model.specs.Rules.{interface_type_numbers, world_type_numbers}
 use Rattle.wit_model.specs.Text.{Text, text_eq, text_of}
 use Rattle.comp_bytes.specs.Levels.{Piece}
 use Rattle.comp_bytes.specs.Raw.{Section}
@@ -15,6 +17,7 @@ use Rattle.comp_bytes.specs.Reading.{◌>>=◌}
 use Rattle.comp_bytes.specs.Spelling.{IsComponent}
 use Rattle.comp_meaning.specs.ByLevels.{exported_parts, member_by_levels}
 use Rattle.comp_meaning.specs.Follow.{each}
+use Rattle.comp_meaning.specs.Same.{same_identity}
 use Rattle.comp_meaning.specs.Reads.{Member, Part, exported_types, functions_of, interface, member, sights, world, worlds_of}
 use Rattle.plan_meaning.specs.Plan.{Plan, PlannedPackage, numbers_of}
 
@@ -72,6 +75,20 @@ once_by_path (Some path ∷ os) = Some path ∷ filter (λ o. not (is_under path
 abbrev pub paths_shown : List Member → List (Option Text)
 paths_shown members = once_by_path (flat_map shown_under members)
 
+-- the package of a path, if it is one
+abbrev pub package_of_path : Option Text → List PackageIdentity
+package_of_path None = []
+package_of_path (Some path) = map (λ p. p.0) (option_to_list (read_path path))
+
+-- each package once, where it stands first
+abbrev pub once_by_identity : List PackageIdentity → List PackageIdentity
+once_by_identity [] = []
+once_by_identity (p ∷ ps) = p ∷ filter (λ q. not (same_identity p q)) (once_by_identity ps)
+
+-- the packages of the interfaces that parts show, and behind them those of the parts, each where it stands first
+abbrev pub packages_shown : List Member → List PackageIdentity
+packages_shown members = once_by_identity (flat_map package_of_path (flat_map shown_under members) ++ map (λ m. m.package_) members)
+
 -- the names of the functions of a path, in the order of the first view that shows them
 abbrev pub functions_shown : List Member → Text → List Text
 functions_shown members path = map (λ f. f.0) (functions_of path (flat_map sights members))
@@ -84,14 +101,22 @@ worlds_shown members = map (λ w. w.0) (flat_map worlds_of members)
 abbrev pub function_names : Interface → List Text
 function_names i = map (λ e. text_of e.0) i.functions.entries
 
+-- The types of interfaces are numbered in the order of these, and in that of each interface; and the types that a world declares in the order of its imports.
+pub record TypesRise (r : Resolve) : Type 0 where
+  pub interfaces : rise (flat_map interface_type_numbers r.interfaces.items) ≡ true
+  pub worlds : (k : ℕ) (w : World) → world_at r k ≡ Some w → rise (world_type_numbers w) ≡ true
+
+-- Packages are numbered in the order in which the parts show an interface of theirs first; that of the parts comes last if they show none of it.
 -- Interfaces are numbered in the order in which the parts show them first, inline ones too, and worlds in the order in which they are exported. The functions
 -- of an interface with a path stand in the order of the first view that shows them.
 pub record FollowsParts (members : List Member) (r : Resolve) : Type 0 where
+  pub packages : map (λ k. identity_of k.name) r.packages.items ≡ packages_shown members
   pub interfaces : map (path_of_interface r) r.interfaces.items ≡ paths_shown members
   pub functions : (k : ℕ) (i : Interface) (path : Text) → interface_at r k ≡ Some i → path_of_interface r i ≡ Some path → function_names i ≡ functions_shown members path
   pub worlds : map (λ w. text_of w.name) r.worlds.items ≡ worlds_shown members
+  pub types : TypesRise r
 
--- What the bytes export, the `Resolve` follows: its interfaces, functions and worlds stand in that order.
+-- What the bytes export, the `Resolve` follows: its packages, interfaces, functions and worlds stand in that order.
 pub record FollowsBytes (bytes : List ℕ) (r : Resolve) : Type 0 where
   pub members : List Member
   pub exported : ExportParts bytes members

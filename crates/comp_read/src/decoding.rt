@@ -40,7 +40,8 @@ fn error_of(refusal: Refusal, length: usize) -> Error
 ///
 /// The `Resolve` is valid, has no documentation and no known stability, and nothing beyond what the package means: its own interfaces and
 /// worlds in the order of the exports at the top, and of other packages the interfaces that are seen, in the order of their numbers, with the functions
-/// of the first view that shows some. Interfaces are numbered in the order in which the bytes show them first, worlds in that of the exports.
+/// of the first view that shows some. Packages and interfaces are numbered in the order in which the bytes show them first, types of interfaces in
+/// that of these, and worlds in that of the exports.
 /// It has no more types than there are bytes.
 ///
 /// Takes time linear in the bytes, expected, or n log n where types are used of an interface that shows more than a few, and memory linear in what is
@@ -64,7 +65,7 @@ pub fn decode(alloc: Global, bytes: &[u8]) -> Result<(Resolve, PackageId), Error
 ///
 /// The `Resolve` is valid, has no documentation and no known stability, and nothing beyond what the world means: the world, the interfaces that it
 /// imports and exports, each as the world shows it, and their packages. Those of its own package are the package's, in the order in which the world
-/// shows them first, and all interfaces are numbered in that order. It has no more types than there are bytes.
+/// shows them first, and all packages and interfaces are numbered in that order. It has no more types than there are bytes.
 ///
 /// Takes time linear in the bytes, expected, or n log n where types are used of an interface that shows more than a few, and memory linear in what is
 /// declared. Refuses with `NoReading` exactly where the bytes mean no one world, at an offset that is at most their length: with the cause of

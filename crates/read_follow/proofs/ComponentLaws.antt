@@ -36,7 +36,7 @@ use Rattle.read_follow.proofs.PlaceLaws.{below_pathless}
 use Rattle.read_follow.proofs.PlacedLaws.{stood}
 use Rattle.read_follow.proofs.PlacedScopes.{extended_placed, found_over, none_past, path_marked, path_met}
 use Rattle.read_follow.proofs.Refusing.{refused}
-use Rattle.read_follow.proofs.ScopeLaws.{all_before, extended_world, goes_on, plus_slot, waiting_push, waits}
+use Rattle.read_follow.proofs.ScopeLaws.{all_before, extended_world, goes_on, none_behind, plus_slot, waiting_push, waits}
 use Rattle.read_follow.proofs.SlotLaws.{mapped_none}
 use Rattle.read_follow.proofs.StepLaws.{after_first, grow_on, guarded, headed, none_left, none_less, peeled, sequence_more, unread}
 use Rattle.base_lemmas.proofs.Lists.{mapped_get, slice_front}
@@ -54,6 +54,7 @@ goes_as few f g old new same s = record {
   count = s.count;
   placed = s.placed;
   met = s.met;
+  order = s.order;
   follows = λ place of. same (meant_at place old) ∙ s.follows place of;
 }
 
@@ -107,7 +108,7 @@ module _ (old : World) (st : IsWorld old) where
       (λ base places p.
       extended_placed old st more more_fs old.paths gs gf (same_list old.paths) tables (s ∷ []) [] [] [] [] base places (length old.shapes) p [] (length more) (omega arith) (over base places p, tt) (λ j x at past. absurd (none_past old.instances j x at past)) tt tt tt (tt, tt)
       (λ j x at past. absurd (none_past old.instances j x at past)) (λ n q name low at. inl (forms.names n q name at)) (λ n form parts low at. forms.formed n form parts at) refl (λ j x c at here past. absurd (none_past old.imports j x at past)))
-      (all_before old.paths (old.instances ++ []))
+      (all_before old.paths (old.instances ++ [])) (none_behind (length old.paths) old.paths)
       (let same = ap (λ us. waiting us 0 (old.slots ++ s ∷ [])) (append-nil old.used) in
       let push = waiting_push old.used 0 old.slots s in
       omega (arith, same, push, count))
@@ -327,6 +328,7 @@ module _ (start : World) (b : Body) where
             paths_grow = grow_on start.paths now.paths next.paths f.paths_grow g.paths_grow;
             placed = g.placed start.shapes start.home f.placed;
             met = g.met (length start.paths) f.met;
+            order = g.order (length start.paths) f.met f.order;
             es = p.0;
             left = p.1;
             count = omega (arith, before, step, split);
@@ -374,6 +376,7 @@ followed_none home shapes fs paths b tables own fresh whole new e = subst (λ (w
     counted = λ j s c at here. absurd cc;
   };
   met = all_before paths [];
+  order = λ j x at. absurd cc;
   es = items_in entry_at b;
   left = ap (λ n. sequence_at entry_at n b.bytes.now) (none_less b.count) ∙ whole;
   count = omega arith;
@@ -416,6 +419,10 @@ module _ (home : ℕ) (shapes : List Shape) (fs : List FunctionShape) (before pa
     placed = subst (λ (n : ℕ). IsPlacedWorld shapes n now) new_home f.placed;
     met = λ q path at. elim (f.met q path at) [
       | inl below ↦ inl (below_pathless before paths own q path (stood paths now.paths f.paths_grow q (Some path) below at))
+      | inr met ↦ inr met
+    ];
+    order = λ j x at q path there less. elim (f.order j x at q path there less) [
+      | inl below ↦ inl (below_pathless before paths own q path (stood paths now.paths f.paths_grow q (Some path) below there))
       | inr met ↦ inr met
     ];
     shows = λ place of. scope_is place of true e;

@@ -166,6 +166,7 @@ module _ (old : World) (st : IsWorld old) (more : List Shape) (more_fs : List Fu
           named = types_named_wider old.shapes more gs x.place x.view.types.items h.named;
           own = own_still j x below h.own;
           rise = λ none first. h.rise none (first_then j x first);
+          later = λ none first i y there less. h.later none (first_then j x first) i y (stood old.instances (old.instances ++ xs) instances_grow i y (omega (arith, less, below)) there) less;
         }
 
     module _ (cs : List ℕ) where

@@ -20,14 +20,14 @@ use Rattle.read_follow.specs.Defining.{Grows}
 use Rattle.read_follow.specs.Following.{AreSlotsIn, AreTables, IsShownFunctionIn, IsShownIn, IsSlotIn}
 use Rattle.read_follow.specs.Functions.{functions_in, FunctionShape}
 use Rattle.read_follow.specs.Places.{key_at, ArePlacesOf, IsKeyIn}
-use Rattle.read_follow.specs.Scopes.{direction, instance_in, meant_at, seen_in, shown_in, view_in, viewed, waiting, ArePathsMet, AreSeenIn, Goes, IsInstanceIn, IsPlaceMet, IsPlacedWorld, IsShownAs, IsWorld, World}
+use Rattle.read_follow.specs.Scopes.{direction, instance_in, meant_at, seen_in, shown_in, view_in, viewed, waiting, ArePathsInOrder, ArePathsMet, AreSeenIn, Goes, IsInstanceIn, IsPlaceMet, IsPlaceMetBefore, IsPlacedWorld, IsShownAs, IsWorld, World}
 use Rattle.read_follow.specs.Slots.{no_signature, slot_in, slots_in}
 use Rattle.plan_meaning.specs.Shapes.{Shape, shape_trees}
 use Rattle.read_follow.proofs.DefiningLaws.{all_at, longer}
 use Rattle.read_follow.proofs.FollowingLaws.{declared_stays, functions_stay, signature_stays, slots_stay, types_stay, wider_declared, wider_functions, wider_number, wider_part, wider_slots, wider_types}
 use Rattle.read_follow.proofs.PlacedLaws.{stands_on, stood}
 use Rattle.base_lemmas.proofs.Elements.{all_both}
-use Rattle.base_lemmas.proofs.Lists.{slice_front}
+use Rattle.base_lemmas.proofs.Lists.{slice_front, split_at}
 use Rattle.std.proofs.lemmas.Option.{slice_get_within as found_below}
 
 -- ---- what is well-formed stays so
@@ -87,6 +87,48 @@ paths_met old more gp is all gi new before h q path at = elim (new q path at) [
   | inl below ↦ elim (h q path (stood old more gp q (Some path) below at)) [ inl first ↦ inl first | inr met ↦ inr (met_still is all gi q met) ]
   | inr met ↦ inr met
 ]
+
+-- each of these instances stands behind all places with a path and a smaller number than its own: these are among the first so many
+abbrev pub StandBehind : ℕ → List (Option (List ℕ)) → List Instance → Type 0
+StandBehind many paths xs = (k : ℕ) (x : Instance) → slice_get xs k ≡ Some x → (q : ℕ) (path : List ℕ) → slice_get paths q ≡ Some (Some path) → q < x.place → q < many
+
+pub none_behind : (many : ℕ) (paths : List (Option (List ℕ))) → StandBehind many paths []
+none_behind many paths k x at q path there less = absurd cc
+
+pub one_behind : (many : ℕ) (paths : List (Option (List ℕ))) (x : Instance) → ((q : ℕ) (path : List ℕ) → slice_get paths q ≡ Some (Some path) → q < x.place → q < many) → StandBehind many paths (x ∷ [])
+one_behind many paths x behind zero y at q path there less = let same : x ≡ y = cc in behind q path there (subst (λ (z : Instance). q < z.place) (sym same) less)
+one_behind many paths x behind (suc k) y at q path there less = absurd cc
+
+-- places in their order, and more of them
+module _ (old more : List (Option (List ℕ))) (gp : Grows old more) (is xs : List Instance) (inside : (j : ℕ) (x : Instance) → slice_get is j ≡ Some x → x.place < length old)
+    (new : StandBehind (length old) more xs) (before : ℕ) (met : ArePathsMet before old is) where
+  abbrev all : List Instance
+  all = is ++ xs
+
+  gi : Grows is all
+  gi = record { more = xs; is = refl }
+
+  met_before : (j q : ℕ) → length is ≤ j → IsPlaceMet is q → IsPlaceMetBefore all j q
+  met_before j q past h = record {
+    number = h.number;
+    earlier = (let low = found_below is h.number h.one h.at in omega (arith, low, past));
+    one = h.one;
+    at = stands_on is all gi h.number h.one h.at;
+    place = h.place;
+  }
+
+  before_still : (j q : ℕ) → IsPlaceMetBefore is j q → IsPlaceMetBefore all j q
+  before_still j q h = record { number = h.number; earlier = h.earlier; one = h.one; at = stands_on is all gi h.number h.one h.at; place = h.place }
+
+  pub paths_in_order : ArePathsInOrder before old is → ArePathsInOrder before more all
+  paths_in_order order j x at q path there less = elim (split_at is xs j x at) [
+    | inl was ↦
+        let low = inside j x was in
+        elim (order j x was q path (stood old more gp q (Some path) (omega (arith, less, low)) there) less) [ inl first ↦ inl first | inr h ↦ inr (before_still j q h) ]
+    | inr came ↦
+        let number = came.1 in
+        elim (met q path (stood old more gp q (Some path) (new came.0 x came.2 q path there less) there)) [ inl first ↦ inl first | inr h ↦ inr (met_before j q (omega (arith, number)) h) ]
+  ]
 
 -- ---- a scope with something more
 
@@ -205,12 +247,13 @@ module _ (old : World) (st : IsWorld old) (more : List Shape) (more_fs : List Fu
   -- the step of the definition makes the scope that stands for it
   pub goes_on : (few : ℕ) (step : MeantScope → Option MeantScope) (new : World) → new ≡ extended → IsWorld extended → ((base : List Shape) (places : ℕ) → IsPlacedWorld base places old → IsPlacedWorld base places extended)
       → ((q : ℕ) (path : List ℕ) → slice_get more_paths q ≡ Some (Some path) → (q < length old.paths) ⊎ IsPlaceMet (old.instances ++ xs) q)
+      → StandBehind (length old.paths) more_paths xs
       → length more + waiting (old.used ++ us) 0 (old.slots ++ ss) ≤ length old.shapes + waiting old.used 0 old.slots + few
       → ((place : ℕ → Place) → ArePlacesOf more_paths place
       → step (meant_at place old) ≡ Some (plus (meant_at place old) (slots_in (U place) (G place) ss) (map (instance_in place (U place) (G place)) xs)
       (map (seen_in place (U place) (G place) (old.instances ++ xs)) im) (map (seen_in place (U place) (G place) (old.instances ++ xs)) ex) us))
       → Goes few step old new
-  goes_on few step new e world placed met count follows = subst (λ (w : World). Goes few step old w) (sym e) (record {
+  goes_on few step new e world placed met behind count follows = subst (λ (w : World). Goes few step old w) (sym e) (record {
     world = world;
     shapes_grow = gs;
     signatures_grow = gf;
@@ -218,6 +261,7 @@ module _ (old : World) (st : IsWorld old) (more : List Shape) (more_fs : List Fu
     count = count;
     placed = placed;
     met = paths_met old.paths more_paths gp old.instances (old.instances ++ xs) (record { more = xs; is = refl }) met;
+    order = λ before was. paths_in_order old.paths more_paths gp old.instances xs (λ j x at. (all_at (IsInstanceIn old.shapes old.signatures old.paths) old.instances j x st.instances at).place) behind before was;
     follows = λ place of. follows place of ∙ ap Some (sym (extended_meant place));
   })
 

@@ -37,7 +37,7 @@ use Rattle.read_follow.proofs.OverLaws.{named_over}
 use Rattle.read_follow.proofs.PlacedLaws.{stands_on, stood}
 use Rattle.read_follow.proofs.PlacedScopes.{both_pass, counts_below, extended_placed, import_passes, imported_many, none_past, one_counted, seen_passes}
 use Rattle.read_follow.proofs.Refusing.{refused}
-use Rattle.read_follow.proofs.ScopeLaws.{all_before, exported, extended, extended_world, goes_on, imported, plus, plus_seen, plus_type, waiting_push, waits}
+use Rattle.read_follow.proofs.ScopeLaws.{all_before, exported, extended, extended_world, goes_on, imported, none_behind, plus, plus_seen, plus_type, waiting_push, waits}
 use Rattle.read_follow.proofs.ShowLaws.{declared_range, name_in, name_stands, old_range, own_over}
 use Rattle.read_follow.proofs.SlotLaws.{at_slot}
 use Rattle.base_lemmas.proofs.Lists.{at_last, last_or}
@@ -128,7 +128,7 @@ module _ (old : World) (st : IsWorld old) (b : Bool) (name : ExternName) (n : �
       (λ j x at past. absurd (none_past old.instances j x at past)) (λ j q x low e. inl (found_below old.shapes j (named_shape q x) e)) (λ j form parts low e. inl (found_below old.shapes j (node_shape form parts) e)) (imported_many b c s)
       (one_counted base places (length old.shapes) old p (extended old st old.shapes old.signatures old.paths gs gf gp st.tables [] [] (imported b s) (exported b s) []) b s c refl (omega arith) (omega arith)
       (λ g here. all_at (IsFunctionIn (length old.shapes)) old.signatures k g st.tables.signatures here)))
-      (all_before old.paths (old.instances ++ []))
+      (all_before old.paths (old.instances ++ [])) (none_behind (length old.paths) old.paths)
       (let same : waiting (old.used ++ []) 0 (old.slots ++ []) ≡ waiting old.used 0 old.slots = (λ i. waiting (append-nil old.used i) 0 (append-nil old.slots i)) in omega (arith, same))
       (λ place of.
       let T = world_trees place old in
@@ -282,7 +282,7 @@ module _ (old : World) (st : IsWorld old) (name : ExternName) (kind : ComponentT
       (type_names first places p more number at new seen made.declared refl refl refl adds table) (λ n form parts low e. adds_name old.shapes more old.home name.text.now adds n form parts e) refl
       (one_counted first places (length old.shapes) old p new true seen c refl le (omega arith)
       (type_counted first places p more number at new seen made.declared refl gs (adds_one old.shapes more (named_shape old.home name.text.now) adds) (old_range marks (base old) bs name old.home kind made.declared range))))
-      (all_before old.paths (old.instances ++ []))
+      (all_before old.paths (old.instances ++ [])) (none_behind (length old.paths) old.paths)
       (let same = ap (λ us. waiting us 0 (old.slots ++ s ∷ [])) (append-nil old.used) in
       let push = waiting_push old.used 0 old.slots s in
       let light : waits s ≡ 0 = ap waits is ∙ no_wait made.is_resource (14 + number) in

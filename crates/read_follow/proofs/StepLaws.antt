@@ -7,7 +7,6 @@ use Rattle.comp_bytes.specs.Reading.{◌>>=◌, Reader, sequence_at}
 use Rattle.comp_meaning.specs.Follow.{InstanceScope as MeantScope, in_instance, instance_step, instance_steps, instance_view, is_foreign_name, new_instance, provided}
 use Rattle.read_follow.specs.declared.bodies.Body.{Body}
 use Rattle.read_follow.specs.declared.refusal.Refusal.{Refusal}
-use Rattle.read_follow.specs.declared.refusal.Refusal.TheVariants as refusals
 use Rattle.read_follow.specs.declared.slots.Slot.{Slot}
 use Rattle.read_follow.specs.declared.views.InstanceScope.{InstanceScope}
 use Rattle.read_follow.specs.declared.views.ShownFunction.{ShownFunction}

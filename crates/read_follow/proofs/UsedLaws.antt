@@ -2,7 +2,7 @@
 use Rattle.std.proofs.Common.{◌≡◌, ◌⊎◌, inl, inr, refl, sym, ap, ◌∙◌, subst, ℕ, zero, suc, ◌+◌, ◌<◌, ◌≤◌, ◌==◌, arith, Bool, true, false, not, ◌||◌, eqb, List, [], ◌∷◌, ◌++◌, map, length, length-append, take, Option, Some, None, slice_get, Result, Ok, Err, IfOk, IfErr}
 use Rattle.std.specs.List.{list_any}
 use Rattle.std.proofs.Math.ListN.{length-map}
-use Rattle.std.proofs.lemmas.Bool.{eqb-true, eq-eqb}
+use Rattle.std.proofs.lemmas.Bool.{cases_lt, eqb-true, eq-eqb}
 use Rattle.std.proofs.lemmas.List.{append-nil, take-map}
 use Rattle.wit_model.specs.Meaning.{Signature}
 use Rattle.wit_model.specs.Text.{Text}
@@ -27,7 +27,7 @@ use Rattle.read_follow.specs.ExternNames.{raw_name}
 use Rattle.read_follow.specs.Following.{is_path, slots_at, AreMarked, AreSlotsIn, AreTables, IsSlotIn, State}
 use Rattle.read_follow.specs.Functions.{functions_in, FunctionShape}
 use Rattle.read_follow.specs.InstanceScopes.{tables_of, IsViewOf, ShowsNothing}
-use Rattle.read_follow.specs.Placed.{apart, MayMeet}
+use Rattle.read_follow.specs.Placed.{apart, ComeBefore, HasNoNames, IsTypeNamed, MayMeet}
 use Rattle.read_follow.specs.Places.{has_path, key_at, path_text, place_number, ArePlacesOf, IsFreshKey, IsKeyIn, IsKeyOf, IsOnlyNew}
 use Rattle.read_follow.specs.Scopes.{direction, instance_in, meant_at, path_of, seen_in, view_in, viewed, waiting, Goes, HasNoUsedView, IsFirstOf, IsImportNamed, IsInstanceIn, IsInstanceSeen, IsKeyPlaced, IsPlacedInstance, IsPlacedWorld, IsShownAs, IsShownBy, by_instance, by_import, IsUsedView, IsWorld, ShownOver, Stops, World}
 use Rattle.read_follow.specs.Slots.{resource_slot, slot_in}
@@ -36,7 +36,7 @@ use Rattle.read_follow.proofs.DefiningLaws.{all_at, longer}
 use Rattle.read_follow.proofs.PlacedLaws.{stands_on, stood}
 use Rattle.read_follow.proofs.PlacedScopes.{added_seen, both_pass, extended_placed, import_passes, imported_many, one_counted, only_last, seen_passes}
 use Rattle.read_follow.proofs.Refusing.{refused}
-use Rattle.read_follow.proofs.ScopeLaws.{exported, extended, extended_world, goes_on, imported, plus, plus_instance, waiting_used}
+use Rattle.read_follow.proofs.ScopeLaws.{exported, extended, extended_world, goes_on, imported, one_behind, plus, plus_instance, waiting_used}
 use Rattle.read_follow.proofs.SlotLaws.{at_slot, no_slot}
 use Rattle.read_follow.proofs.SeeLaws.{added_exports, added_imports, all_exported, all_imported, exports_are, imports_are, seen_plus}
 use Rattle.read_follow.proofs.FollowingLaws.{name_part}
@@ -217,6 +217,28 @@ module _ (old : World) (st : IsWorld old) (b : Bool) (name : ExternName) (n : �
         let there = (all_at (IsInstanceIn old.shapes old.signatures old.paths) old.instances i y st.instances (stood old.instances (old.instances ++ x ∷ []) instances_front i y less e)).place in
         omega (arith, there, past, same)
 
+    -- where it is the first of its place, that has no names yet
+    no_names : HasNoNames here base → IsFirstOf (old.instances ++ x ∷ []) (length old.instances) x → HasNoNames here old.shapes
+    no_names none first m label at = elim (p.names m here label (found_below old.shapes m (named_shape here label) at) at) [
+      | inl below ↦ none m label (stood base old.shapes p.grows m (named_shape here label) below at)
+      | inr by ↦ not_shown here label (14 + m) (λ i y e is. first i y (stands_on old.instances (old.instances ++ x ∷ []) instances_front i y e) (found_below old.instances i y e) is) not_home by
+    ]
+
+    -- and its names come behind all that there are
+    comes_later : HasNoNames here base → IsFirstOf (old.instances ++ x ∷ []) (length old.instances) x → (i : ℕ) (y : Instance) → slice_get (old.instances ++ x ∷ []) i ≡ Some y → i < length old.instances
+        → ComeBefore y.view.types.items v.types.items
+    comes_later none first i y at less j k t z t_at z_at =
+        let before = (p.instances i y (stood old.instances (old.instances ++ x ∷ []) instances_front i y less at)).named in
+        let old_name = all_at (IsTypeNamed old.shapes y.place) y.view.types.items j t before t_at in
+        let old_number = old_name.is in
+        let low = found_below old.shapes old_name.number (named_shape y.place t.name.now) old_name.at in
+        let new_name = all_at (IsTypeNamed more here) v.types.items k z u.view.placed.named z_at in
+        let new_number = new_name.is in
+        elim (cases_lt new_name.number (length old.shapes)) [
+          | inl below ↦ absurd (no_names none first new_name.number z.name.now (stood old.shapes more u.view.shapes_grow new_name.number (named_shape here z.name.now) below new_name.at))
+          | inr past ↦ omega (arith, low, old_number, new_number, past)
+        ]
+
     instance_placed : IsPlacedInstance base places world (length old.instances) x
     instance_placed = record {
       shown = u.view.placed.shown;
@@ -230,10 +252,8 @@ module _ (old : World) (st : IsWorld old) (b : Bool) (name : ExternName) (n : �
           first = first_of_all inline.1;
         })
       ];
-      rise = λ none first. u.view.placed.rise (λ m label at. elim (p.names m here label (found_below old.shapes m (named_shape here label) at) at) [
-        | inl below ↦ none m label (stood base old.shapes p.grows m (named_shape here label) below at)
-        | inr by ↦ not_shown here label (14 + m) (λ i y e is. first i y (stands_on old.instances (old.instances ++ x ∷ []) instances_front i y e) (found_below old.instances i y e) is) not_home by
-      ]);
+      rise = λ none first. u.view.placed.rise (no_names none first);
+      later = comes_later;
     }
 
   pub instance_goes : Grows old.paths paths → IsFreshKey old.paths key → IsOnlyNew old.paths (place_number key) paths → (v : View) (more : List Shape) (more_fs : List FunctionShape)
@@ -297,6 +317,7 @@ module _ (old : World) (st : IsWorld old) (b : Bool) (name : ExternName) (n : �
         | inl below ↦ inl below
         | inr same ↦ inr (record { number = length old.instances; one = x; at = at_last old.instances x; place = sym same })
       ])
+      (one_behind (length old.paths) paths x (λ q path at less. elim (only q path at) [ inl below ↦ below | inr same ↦ absurd (omega (arith, less, same)) ]))
       (let same = ap (λ zs. waiting (old.used ++ n ∷ []) 0 zs) (append-nil old.slots) in
       let few = subst (λ k. waiting (old.used ++ k ∷ []) 0 old.slots + u.body.count ≤ waiting old.used 0 old.slots) (none_before n) (waiting_used old.used n 0 old.slots (slots.Instance u.body u.around) u.slot (ap (λ k. list_any (λ m. m == k) old.used) (none_before n) ∙ u.unused)) in
       let count = u.view.count in

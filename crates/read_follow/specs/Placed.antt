@@ -102,6 +102,10 @@ pub record ComesBehind (ts : List ShownType) (j : ℕ) (t : ShownType) : Type 0 
   pub declared : IfSome t.declared (λ k. k < slot_part t.slot)
   pub others : (i : ℕ) (u : ShownType) → slice_get ts i ≡ Some u → i < j → slot_part u.slot < slot_part t.slot
 
+-- each name of the first view came in front of each of the other
+abbrev pub ComeBefore : List ShownType → List ShownType → Type 0
+ComeBefore ts us = (i j : ℕ) (t u : ShownType) → slice_get ts i ≡ Some t → slice_get us j ≡ Some u → slot_part t.slot < slot_part u.slot
+
 -- each name comes behind, unless it was shown before
 abbrev pub Rise : List ShownType → Type 0
 Rise ts = (j : ℕ) (t : ShownType) → slice_get ts j ≡ Some t → IsRepeated ts j t ⊎ ComesBehind ts j t

@@ -30,7 +30,7 @@ use Rattle.read_follow.specs.Following.{declared_in, shown_function, shown_type,
 use Rattle.read_follow.specs.InstanceScopes.{IsViewOf}
 use Rattle.read_follow.specs.Found.{Refuses}
 use Rattle.read_follow.specs.Functions.{functions_in, FunctionShape, IsFunctionIn}
-use Rattle.read_follow.specs.Placed.{apart, DeclarationOver, HasNoNames, IsNameAs, IsShownAmong, IsTypeNamed, MayMeet, Rise, SignatureOver, SlotOver, ViewOver}
+use Rattle.read_follow.specs.Placed.{apart, ComeBefore, DeclarationOver, HasNoNames, IsNameAs, IsShownAmong, IsTypeNamed, MayMeet, Rise, SignatureOver, SlotOver, ViewOver}
 use Rattle.read_follow.specs.Places.{has_path, key_at, place_number, ArePlacesOf, IsKeyIn}
 use Rattle.read_follow.specs.Slots.{no_signature, slots_in}
 use Rattle.plan_meaning.specs.PlanRules.{is_form}
@@ -156,6 +156,19 @@ pub record IsPlaceMet (is : List Instance) (q : ℕ) : Type 0 where
 abbrev pub ArePathsMet : ℕ → List (Option Text) → List Instance → Type 0
 ArePathsMet before paths is = (q : ℕ) (path : Text) → slice_get paths q ≡ Some (Some path) → (q < before) ⊎ IsPlaceMet is q
 
+-- an earlier instance than this is of the place
+pub record IsPlaceMetBefore (is : List Instance) (j q : ℕ) : Type 0 where
+  pub number : ℕ
+  pub earlier : number < j
+  pub one : Instance
+  pub at : slice_get is number ≡ Some one
+  pub place : one.place ≡ q
+
+-- Behind so many places that were there before, each instance stands behind one of each place that has a path and a smaller number than its own.
+abbrev pub ArePathsInOrder : ℕ → List (Option Text) → List Instance → Type 0
+ArePathsInOrder before paths is =
+    (j : ℕ) (x : Instance) → slice_get is j ≡ Some x → (q : ℕ) (path : Text) → slice_get paths q ≡ Some (Some path) → q < x.place → (q < before) ⊎ IsPlaceMetBefore is j q
+
 -- The name of this place, which is this part, is shown: by an instance of the place, or as an import of the scope itself.
 pub data IsShownBy (w : World) (q : ℕ) (name : Text) (part : ℕ) : Type 0 where
   by_instance : (j : ℕ) (x : Instance) → slice_get w.instances j ≡ Some x → x.place ≡ q → IsShownAmong x.view.types.items name part → IsShownBy w q name part
@@ -173,12 +186,13 @@ pub record IsInlinePlace (count : ℕ) (w : World) (j : ℕ) (x : Instance) : Ty
   pub first : IsFirstOf w.instances j x
 
 -- An instance of the scope: what it shows is over its own place and those with a path, and stands for its name. If its place had no names before
--- the scope, and it is the first of it, then its names came behind what they are over.
+-- the scope, and it is the first of it, then its names came behind what they are over, and behind those of earlier instances.
 pub record IsPlacedInstance (base : List Shape) (count : ℕ) (w : World) (j : ℕ) (x : Instance) : Type 0 where
   pub shown : ViewOver (MayMeet (map has_path w.paths) x.place) (view_in (world_trees apart w) (world_signatures apart w) x.view)
   pub named : AllByRecursion (IsTypeNamed w.shapes x.place) x.view.types.items
   pub own : ((path : Text) × (slice_get w.paths x.place ≡ Some (Some path))) ⊎ IsInlinePlace count w j x
   pub rise : HasNoNames x.place base → IsFirstOf w.instances j x → Rise x.view.types.items
+  pub later : HasNoNames x.place base → IsFirstOf w.instances j x → (i : ℕ) (y : Instance) → slice_get w.instances i ≡ Some y → i < j → ComeBefore y.view.types.items x.view.types.items
 
 -- an earlier import of a type has the name
 pub record IsImportRepeated (imports : List Seen) (j : ℕ) (name : Text) : Type 0 where
@@ -255,8 +269,8 @@ weights (e ∷ es) = weight e + weights es
 
 -- ---- steps
 
--- The tables grow, by this many types at most if all that waits is counted, names stay in their places, new places with a path are met, and the scope
--- becomes what the step of the definition makes of it.
+-- The tables grow, by this many types at most if all that waits is counted, names stay in their places, new places with a path are met, in their order, and
+-- the scope becomes what the step of the definition makes of it.
 pub record Goes (few : ℕ) (step : MeantScope → Option MeantScope) (old new : World) : Type 0 where
   pub world : IsWorld new
   pub shapes_grow : Grows old.shapes new.shapes
@@ -265,6 +279,7 @@ pub record Goes (few : ℕ) (step : MeantScope → Option MeantScope) (old new :
   pub count : length new.shapes + waiting new.used 0 new.slots ≤ length old.shapes + waiting old.used 0 old.slots + few
   pub placed : (base : List Shape) (places : ℕ) → IsPlacedWorld base places old → IsPlacedWorld base places new
   pub met : (before : ℕ) → ArePathsMet before old.paths old.instances → ArePathsMet before new.paths new.instances
+  pub order : (before : ℕ) → ArePathsMet before old.paths old.instances → ArePathsInOrder before old.paths old.instances → ArePathsInOrder before new.paths new.instances
   pub follows : (place : ℕ → Place) → ArePlacesOf new.paths place → step (meant_at place old) ≡ Some (meant_at place new)
 
 -- the step of the definition makes nothing of it, unless memory ran out
@@ -300,6 +315,7 @@ pub record IsFollowedTo (start : World) (b : Body) (i : ℕ) (rest : List ℕ) (
   pub paths_grow : Grows start.paths now.paths
   pub placed : IsPlacedWorld start.shapes start.home now
   pub met : ArePathsMet (length start.paths) now.paths now.instances
+  pub order : ArePathsInOrder (length start.paths) now.paths now.instances
   pub es : List RawEntry
   pub left : sequence_at entry_at (b.count - i) rest ≡ Some (es, [])
   pub count : length now.shapes + waiting now.used 0 now.slots + weights es ≤ length start.shapes + weights (items_in entry_at b)
@@ -356,7 +372,7 @@ abbrev pub start_of : ℕ → List Shape → List FunctionShape → List (Option
 start_of home shapes fs paths = record { home = home; shapes = shapes; signatures = fs; paths = paths; slots = []; instances = []; imports = []; exports = []; used = [] }
 
 -- The tables grow, by no more types than the entries and the instance types among them declare, names stand in their places, new places with a path are
--- met, and the scope stands for what they show.
+-- met, in their order, and the scope stands for what they show.
 pub record IsScopeOf (shapes : List Shape) (fs : List FunctionShape) (paths : List (Option Text)) (b : Body) (now : World) : Type 0 where
   pub world : IsWorld now
   pub shapes_grow : Grows shapes now.shapes
@@ -365,4 +381,5 @@ pub record IsScopeOf (shapes : List Shape) (fs : List FunctionShape) (paths : Li
   pub count : length now.shapes ≤ length shapes + weights (items_in entry_at b)
   pub placed : IsPlacedWorld shapes (length paths) now
   pub met : ArePathsMet (length paths) now.paths now.instances
+  pub order : ArePathsInOrder (length paths) now.paths now.instances
   pub shows : (place : ℕ → Place) → ArePlacesOf now.paths place → entry_scope (items_in entry_at b) ≡ Some (meant_at place now)

@@ -10,9 +10,11 @@ use Rattle.wit_model.proofs.Elements.{zip-push}
 use Rattle.plan_meaning.specs.NumberedViews.{Tables}
 use Rattle.plan_meaning.specs.NumberedMembers.{HomesStand}
 use Rattle.plan_meaning.specs.NumberedMembers as members
-use Rattle.read_homes.specs.Homes.{given_home, given_text, package_read, ArePackages, ArePaths, Grows, HaveReasons, IsHomeOf, IsReadAs, IsReason, Joins, stays, comes, Takes}
+use Rattle.read_homes.specs.Homes.{given_home, given_text, package_read, ArePackages, ArePaths, ComeInOrder, Grows, HaveReasons, IsHomeOf, IsReadAs, IsReason, Joins, stays, comes, Takes}
 use Rattle.read_homes.proofs.PackageLaws.{homes_on}
 use Rattle.base_lemmas.proofs.Lists.{at_last as last_there, front_more, last_or, within_there as at_number}
+use Rattle.base_lemmas.proofs.Options.{some_is}
+use Rattle.std.proofs.lemmas.Option.{slice_get_within as found_below}
 
 -- ---- why a package is there
 
@@ -51,6 +53,38 @@ pub more_reasons : (first old new : List PackageIdentity) (homes : List (Option 
     → HaveReasons first old (map given_home homes) → IsReason old new (given_home home) → HaveReasons first new (map given_home after)
 more_reasons first old new homes home after added have reason =
     subst (λ (hs : List (Option (ℕ × Text))). HaveReasons first new hs) (sym (ap (map given_home) added ∙ map-append given_home homes (home ∷ []))) (reasons_more first old new (map given_home homes) (given_home home) have reason)
+
+-- the package of a place is one of the packages
+home_below : (packages : List PackageIdentity) (path : Option Text) (n : ℕ) (name : Text) → IsHomeOf packages path (Some (n, name)) → n < length packages
+home_below packages None n name is = absurd cc
+home_below packages (Some path) n name is = found_below packages n is.0 is.1
+
+in_order_more : (first old new : List PackageIdentity) (path : Option Text) (homes : List (Option (ℕ × Text))) (home : Option (ℕ × Text)) → IsHomeOf new path home → HaveReasons first old homes → IsReason old new home → ComeInOrder first homes
+    → ComeInOrder first (homes ++ home ∷ [])
+in_order_more first old new path homes home is have reason order p n name at c less = elim (last_or homes home p (Some (n, name)) at) [
+  | inl h ↦ elim (order p n name h.1 c less) [ inl before ↦ inl before | inr b ↦ inr (record { number = b.number; earlier = b.earlier; name = b.name; home = front_more homes home b.number (Some (c, b.name)) b.home }) ]
+  | inr h ↦
+      let below = home_below new path n name (subst (λ (o : Option (ℕ × Text)). IsHomeOf new path o) h.1 is) in
+      let last = h.0 in
+      elim (reason c (omega (arith, less, below))) [
+        | inl low ↦ elim (have c low) [
+          | inl before ↦ inl before
+          | inr b ↦
+              let inside = found_below homes b.place (Some (c, b.name)) b.home in
+              inr (record { number = b.place; earlier = omega (arith, inside, last); name = b.name; home = front_more homes home b.place (Some (c, b.name)) b.home })
+        ]
+        | inr own ↦
+            let same : ◌≡◌ {A = ℕ × Text} (c, own.0) (n, name) = some_is (c, own.0) (n, name) (sym own.1 ∙ h.1) in
+            let one : c ≡ n = ap (λ (y : ℕ × Text). y.0) same in
+            absurd (omega (arith, less, one))
+      ]
+]
+
+pub more_in_order : (first old new : List PackageIdentity) (path : Option Text) (homes : List (Option (ℕ × Bor (List ℕ)))) (home : Option (ℕ × Bor (List ℕ))) (after : List (Option (ℕ × Bor (List ℕ)))) → after ≡ homes ++ home ∷ []
+    → IsHomeOf new path (given_home home) → HaveReasons first old (map given_home homes) → IsReason old new (given_home home) → ComeInOrder first (map given_home homes) → ComeInOrder first (map given_home after)
+more_in_order first old new path homes home after added is have reason order =
+    subst (λ (hs : List (Option (ℕ × Text))). ComeInOrder first hs) (sym (ap (map given_home) added ∙ map-append given_home homes (home ∷ [])))
+    (in_order_more first old new path (map given_home homes) (given_home home) is have reason order)
 
 pub more_homes : (old new : List PackageIdentity) → Grows old new → (paths : List (Option (Bor (List ℕ)))) (i : ℕ) (d : Option (Bor (List ℕ))) → i < length paths → (homes : List (Option (ℕ × Bor (List ℕ)))) (home : Option (ℕ × Bor (List ℕ))) (after : List (Option (ℕ × Bor (List ℕ)))) → after ≡ homes ++ home ∷ []
     → AllZip (IsHomeOf old) (map given_text (take i paths)) (map given_home homes) → IsHomeOf new (given_text (get_or paths i d)) (given_home home) → AllZip (IsHomeOf new) (map given_text (take (i + 1) paths)) (map given_home after)

@@ -110,6 +110,17 @@ IsReason old new home = (n : ℕ) → n < length new → (n < length old) ⊎ ((
 abbrev pub HaveReasons : List PackageIdentity → List PackageIdentity → List (Option (ℕ × Text)) → Type 0
 HaveReasons old new homes = (n : ℕ) → n < length new → (n < length old) ⊎ HasPlace homes n
 
+-- an earlier place than this is of the package of this number
+pub record HasPlaceBefore (homes : List (Option (ℕ × Text))) (place n : ℕ) : Type 0 where
+  pub number : ℕ
+  pub earlier : number < place
+  pub name : Text
+  pub home : slice_get homes number ≡ Some (Some (n, name))
+
+-- Each place stands behind one of each package that is new and has a smaller number than its own.
+abbrev pub ComeInOrder : List PackageIdentity → List (Option (ℕ × Text)) → Type 0
+ComeInOrder old homes = (p n : ℕ) (name : Text) → slice_get homes p ≡ Some (Some (n, name)) → (c : ℕ) → c < n → (c < length old) ⊎ HasPlaceBefore homes p c
+
 -- what stands as it is known of the packages of places stands where there are more packages
 abbrev pub KeepsHomes : List PackageIdentity → List PackageIdentity → Type 0
 KeepsHomes old new = (t : Tables) (homes : List (Option (ℕ × Text))) → HomesStand t (record { packages = old; homes = homes }) → HomesStand t (record { packages = new; homes = homes })

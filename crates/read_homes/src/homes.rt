@@ -2,7 +2,7 @@
 
 ghost use Rattle.std.specs.List.{AllZip};
 ghost use Rattle.std.specs.Prelude.{map, IfOk};
-ghost use Rattle.read_homes.specs.Homes.{given_home, given_text, ArePackages, Grows, HaveReasons, IsHomeOf, IsReason, KeepsHomes, StandInTables};
+ghost use Rattle.read_homes.specs.Homes.{given_home, given_text, ArePackages, ComeInOrder, Grows, HaveReasons, IsHomeOf, IsReason, KeepsHomes, StandInTables};
 
 use crate::packages::Packages;
 use std::alloc::{AllocError, Global};
@@ -29,7 +29,7 @@ fn home_at<'a>(
 }
 
 /// Of each place with a path, the package by the number that it has from now on, and the name of its interface. It has none where the text is
-/// no path.
+/// no path. New packages are numbered in the order of their first places.
 ///
 /// Takes time and memory linear in the paths. Refuses for want of memory alone.
 pub fn homes_of<'a>(
@@ -41,6 +41,7 @@ pub fn homes_of<'a>(
     ensures grows { Grows packages.old packages.new }
     ensures packages { ArePackages packages.new }
     ensures reasons { IfOk result (λ homes. HaveReasons packages.old packages.new (map given_home homes.items)) }
+    ensures order { IfOk result (λ homes. ComeInOrder packages.old (map given_home homes.items)) }
     ensures stand { IfOk result (λ homes. StandInTables (map given_text paths.now) packages.new (map given_home homes.items)) }
 {
     let _count = packages.count();

@@ -1,5 +1,5 @@
 -- The scopes of an input in numbers: what they are over, and in which order their names came into the table.
-use Rattle.std.proofs.Common.{◌≡◌, inl, inr, refl, sym, ap, ◌∙◌, subst, ℕ, ◌+◌, ◌<◌, arith, true, List, [], ◌∷◌, map, length, Option, Some, None, IfSome, slice_get, unwrap_or}
+use Rattle.std.proofs.Common.{◌≡◌, ◌⊎◌, inl, inr, refl, sym, ap, ◌∙◌, subst, ℕ, ◌+◌, ◌<◌, arith, true, List, [], ◌∷◌, map, length, Option, Some, None, IfSome, slice_get, unwrap_or}
 use Rattle.std.specs.List.{AllByRecursion}
 use Rattle.std.proofs.Math.ListN.{length-map}
 use Rattle.std.proofs.lemmas.Bool.{cases_lt}
@@ -22,15 +22,17 @@ use Rattle.read_follow.specs.declared.scopes.Shown.{Shown}
 use Rattle.read_follow.specs.declared.scopes.Shown.TheVariants as shown
 use Rattle.read_follow.specs.Following.{AreTables}
 use Rattle.read_follow.specs.Functions.{functions_in, FunctionShape, IsFunctionIn}
-use Rattle.read_follow.specs.Placed.{apart, HasNoNames, MayMeet, Rise}
+use Rattle.read_follow.specs.Placed.{apart, slot_part, ComeBefore, HasNoNames, IsTypeNamed, MayMeet, Rise}
 use Rattle.read_follow.specs.Places.{has_path, place_number}
 use Rattle.read_follow.specs.Scopes as scopes
 use Rattle.read_follow.specs.Scopes.{seen_in, world_of, AreSeenIn, IsCountedAs, IsImportNamed, IsInlinePlace, IsInstanceIn, IsInstanceSeen, IsKeyPlaced, IsPlacedAmong, IsShownAs, IsShownBy, IsWorld, ShownOver}
 use Rattle.read_follow.proofs.DefiningLaws.{all_at}
+use Rattle.read_follow.proofs.PlacedLaws.{stood}
 use Rattle.read_parts.specs.declared.members.Member.{Member}
-use Rattle.read_parts.specs.Members.{scope_of, AreFormed, AreMembersPlaced, AreNamesShown, ArePlacesMet, MembersStand, StandsIn}
+use Rattle.read_parts.specs.Members as followed
+use Rattle.read_parts.specs.Members.{scope_of, AreFormed, AreMembersPlaced, AreNamesShown, ArePlacesInOrder, ArePlacesMet, MembersStand, StandsIn}
 use Rattle.read_numbers.specs.NumberedParts.{instance_view, name_in, no_view, numbered_function, numbered_instance, numbered_key, numbered_scope, numbered_seen, numbered_shown, numbered_type, numbered_view, tables_in}
-use Rattle.read_numbers.specs.PlacedNumbers.{ArePlacedScopes, IsCounted, IsCountedItem, IsFirstSeen, IsInstanceAt, IsLastType, IsPlacedItem, IsPlacedScope, IsPlacedView, IsRisingView, IsSeenAs, as_export, as_import, PlacesAreKept, ShowsName, by_instance, by_import}
+use Rattle.read_numbers.specs.PlacedNumbers.{part_of, ArePlacedScopes, AreTypesBefore, IsCounted, IsCountedItem, IsFirstSeen, IsInstanceAt, IsLastType, IsMetBefore, in_earlier, in_same, IsPlacedItem, IsPlacedScope, IsPlacedView, IsRisingView, IsSeenAs, as_export, as_import, PlacesAreKept, ShowsName, by_instance, by_import}
 use Rattle.read_numbers.proofs.PlacedViews.{all_of, declared_met, function_met, placed_view, rising_view, slot_number}
 use Rattle.read_numbers.proofs.ScopeNumbers.{keys_in_numbers}
 use Rattle.read_numbers.proofs.TableNumbers.{path_there}
@@ -237,18 +239,49 @@ module _ (shapes : List Shape) (fs : List FunctionShape) (paths : List (Option T
           absurd (omega (arith, low, new, same))
     ]
 
+    -- what is the first of its place had no names before its scope
+    no_names : (m j : ℕ) (y : Member) (x : Instance) → (at : slice_get ms m ≡ Some y) → slice_get (scope_of y.part).instances.items j ≡ Some x → IsFirstSeen ws m j x.place → HasNoNames x.place (placed m y at).base
+    no_names m j y x at one_at first n name e = let s = (placed m y at).names n x.place name e in nothing s.number s.member name (14 + n) s.at s.below s.by
+      where
+        nothing : (k : ℕ) (z : Member) (name : Text) (part : ℕ) → slice_get ms k ≡ Some z → k < m → IsShownBy (world_of shapes fs paths (scope_of z.part)) x.place name part → ⊥
+        nothing k z name part there less (scopes.by_instance l u u_at of among) = first.scopes k l (numbered_instance u) less (instance_there k l z u there u_at) of
+        nothing k z name part there less (scopes.by_import l s label d s_at same named own) = not_earlier k m z y j x there at less one_at own
+
     first_view : (m j : ℕ) (y : Member) (x : Instance) → slice_get ms m ≡ Some y → slice_get (scope_of y.part).instances.items j ≡ Some x → IsFirstSeen ws m j x.place
         → distinct (map (λ (z : NumberedType). z.name) (map numbered_type x.view.types.items)) ≡ true → IsRisingView t x.place (numbered_view x.view)
     first_view m j y x at one_at first names =
         let h = placed m y at in
         let one = h.placed.instances j x one_at in
-        let none : HasNoNames x.place h.base = λ n name e. (let s = h.names n x.place name e in nothing s.number s.member name (14 + n) s.at s.below s.by) in
+        let none = no_names m j y x at one_at first in
         let rise : Rise x.view.types.items = one.rise none (λ l z there less same. first.instances l (numbered_instance z) less (instance_there m l y z at there) same) in
         rising_view shapes fs paths x.place x.view.types.items one.named rise names x.view refl
-      where
-        nothing : (k : ℕ) (z : Member) (name : Text) (part : ℕ) → slice_get ms k ≡ Some z → k < m → IsShownBy (world_of shapes fs paths (scope_of z.part)) x.place name part → ⊥
-        nothing k z name part there less (scopes.by_instance l u u_at of among) = first.scopes k l (numbered_instance u) less (instance_there k l z u there u_at) of
-        nothing k z name part there less (scopes.by_import l s label d s_at same named own) = not_earlier k m z y j x there at less one_at own
+
+    -- its names come behind those of all earlier instances
+    first_later : (m j : ℕ) (y : Member) (x : Instance) → (at : slice_get ms m ≡ Some y) → slice_get (scope_of y.part).instances.items j ≡ Some x → IsFirstSeen ws m j x.place
+        → (n k : ℕ) (z : Member) (o : Instance) → slice_get ms n ≡ Some z → slice_get (scope_of z.part).instances.items k ≡ Some o → (n < m) ⊎ ((n ≡ m) × (k < j)) → ComeBefore o.view.types.items x.view.types.items
+    first_later m j y x at one_at first n k z o there o_at (inl less) a b t u t_at u_at =
+        let h = placed m y at in
+        let low = h.types_below n z there less k o o_at a t t_at in
+        let name = all_at (IsTypeNamed shapes x.place) x.view.types.items b u (h.placed.instances j x one_at).named u_at in
+        let number = name.is in
+        elim (cases_lt name.number (length h.base)) [
+          | inl below ↦ absurd (no_names m j y x at one_at first name.number u.name.now (stood h.base shapes h.placed.grows name.number (named_shape x.place u.name.now) below name.at))
+          | inr past ↦ omega (arith, low, number, past)
+        ]
+    first_later m j y x at one_at first n k z o there o_at (inr same) a b t u t_at u_at =
+        let one : z ≡ y = one_item ms m z y (subst (λ i. slice_get ms i ≡ Some z) same.0 there) at in
+        let here : slice_get (scope_of y.part).instances.items k ≡ Some o = subst (λ (v : Member). slice_get (scope_of v.part).instances.items k ≡ Some o) one o_at in
+        ((placed m y at).placed.instances j x one_at).later (no_names m j y x at one_at first) (λ l w w_at less equal. first.instances l (numbered_instance w) less (instance_there m l y w at w_at) equal)
+        k o here same.1 a b t u t_at u_at
+
+    types_before : (o x : Instance) → ComeBefore o.view.types.items x.view.types.items → AreTypesBefore (instance_view o) (instance_view x)
+    types_before o x before a b u v u_at v_at =
+        let t = at_mapped numbered_type o.view.types.items a u u_at in
+        let w = at_mapped numbered_type x.view.types.items b v v_at in
+        let less = before a b t.0 w.0 t.1 w.1 in
+        subst (λ (z : NumberedType). part_of z.slot < part_of v.slot) t.2
+        (subst (λ (z : NumberedType). part_of (numbered_type t.0).slot < part_of z.slot) w.2
+        (subst (λ (k : ℕ). k < part_of (numbered_type w.0).slot) (sym (slot_number t.0.slot)) (subst (λ (k : ℕ). slot_part t.0.slot < k) (sym (slot_number w.0.slot)) less)))
 
     pathless : (m j : ℕ) (y : Member) (x : Instance) → (at : slice_get ms m ≡ Some y) → slice_get (scope_of y.part).instances.items j ≡ Some x → path_at t x.place ≡ None → IsInlinePlace (placed m y at).count (world_of shapes fs paths (scope_of y.part)) j x
     pathless m j y x at one_at none = elim ((placed m y at).placed.instances j x one_at).own [
@@ -314,8 +347,12 @@ module _ (shapes : List Shape) (fs : List FunctionShape) (paths : List (Option T
       ]
     ]
 
-    pub placed_scopes : AreNamesShown shapes fs paths ms → ArePlacesMet paths ms → AreFormed shapes → ArePlacedScopes t ws
-    placed_scopes names met formed = record {
+    met_before : (m j q : ℕ) → followed.IsMetBefore ms m j q → IsMetBefore ws m j q
+    met_before m j q (followed.in_earlier k y less at h) = in_earlier k h.number (numbered_instance h.one) less (instance_there k h.number y h.one at h.at) h.place
+    met_before m j q (followed.in_same y at h) = in_same h.number (numbered_instance h.one) h.earlier (instance_there m h.number y h.one at h.at) h.place
+
+    pub placed_scopes : AreNamesShown shapes fs paths ms → ArePlacesMet paths ms → ArePlacesInOrder paths ms → AreFormed shapes → ArePlacedScopes t ws
+    placed_scopes names met order formed = record {
       each = λ m w at. (let y = at_mapped scope_in ms m w at in subst (λ (v : NumberedScope). IsPlacedScope t v) y.2 (scope_placed m y.0 y.1));
       names = λ n q name at.
           let s = names n q name at in
@@ -335,11 +372,22 @@ module _ (shapes : List Shape) (fs : List FunctionShape) (paths : List (Option T
             at = instance_there m.number m.met.number m.member m.met.one m.at m.met.at;
             place = m.met.place;
           };
+      order = λ m j i h q path less.
+          let k = instance_of m j i h in
+          let same : k.one.place ≡ i.place = ap (λ (z : NumberedInstance). z.place) k.same in
+          met_before m j q (order m k.member k.at j k.one k.one_at q path.0 (path_there paths q path.0 path.1) (omega (arith, less, same)));
       formed = formed;
       firsts = λ m j i h.
           let k = instance_of m j i h in
           subst (λ (z : NumberedInstance). IsFirstSeen ws m j z.place → distinct (map (λ (x : NumberedType). x.name) z.view.types) ≡ true → IsRisingView t z.place z.view) k.same
           (first_view m j k.member k.one k.at k.one_at);
+      later = λ m j i h first n k o there before.
+          let f = instance_of m j i h in
+          let g = instance_of n k o there in
+          subst (λ (v : NumberedView). AreTypesBefore o.view v) (ap (λ (z : NumberedInstance). z.view) f.same)
+          (subst (λ (v : NumberedView). AreTypesBefore v (instance_view f.one)) (ap (λ (z : NumberedInstance). z.view) g.same)
+          (types_before g.one f.one
+          (first_later m j f.member f.one f.at f.one_at (subst (IsFirstSeen ws m j) (sym (ap (λ (z : NumberedInstance). z.place) f.same)) first) n k g.member g.one g.at g.one_at before)));
       homes = λ m n w v at there same.
           let y = at_mapped scope_in ms m w at in
           let z = at_mapped scope_in ms n v there in
@@ -357,4 +405,4 @@ module _ (shapes : List Shape) (fs : List FunctionShape) (paths : List (Option T
     }
 
 pub places_are_kept : PlacesAreKept
-places_are_kept pieces x f = placed_scopes x.table x.functions x.places f.followed.tables x.members.items f.followed.stand f.followed.placed f.followed.names f.followed.met f.followed.formed
+places_are_kept pieces x f = placed_scopes x.table x.functions x.places f.followed.tables x.members.items f.followed.stand f.followed.placed f.followed.names f.followed.met f.followed.order f.followed.formed

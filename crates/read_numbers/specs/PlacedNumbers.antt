@@ -145,21 +145,33 @@ pub record IsMetInSome (ws : List NumberedScope) (q : ℕ) : Type 0 where
   pub at : IsInstanceAt ws scope number one
   pub place : one.place ≡ q
 
+-- an instance of an earlier scope, or an earlier one of this scope, is of the place
+pub data IsMetBefore (ws : List NumberedScope) (m j q : ℕ) : Type 0 where
+  in_earlier : (k l : ℕ) (i : NumberedInstance) → k < m → IsInstanceAt ws k l i → i.place ≡ q → IsMetBefore ws m j q
+  in_same : (l : ℕ) (i : NumberedInstance) → l < j → IsInstanceAt ws m l i → i.place ≡ q → IsMetBefore ws m j q
+
 -- no instance before this one is of the place
 pub record IsFirstSeen (ws : List NumberedScope) (m j p : ℕ) : Type 0 where
   pub scopes : (k l : ℕ) (i : NumberedInstance) → k < m → IsInstanceAt ws k l i → i.place ≡ p → ⊥
   pub instances : (l : ℕ) (i : NumberedInstance) → l < j → IsInstanceAt ws m l i → i.place ≡ p → ⊥
 
+-- each type of the first view came into the table in front of each of the other
+abbrev pub AreTypesBefore : NumberedView → NumberedView → Type 0
+AreTypesBefore v u = (i j : ℕ) (x y : NumberedType) → slice_get v.types i ≡ Some x → slice_get u.types j ≡ Some y → part_of x.slot < part_of y.slot
+
 -- ---- all scopes of an input
 
--- Each scope is placed, each name of the table is shown, each place with a path is met, and each form is one that a definition may have. Where the names of
--- a view differ, and it is the first of its place, they came into the table in its order. Each scope and each inline interface has a place of its own.
+-- Each scope is placed, each name of the table is shown, each place with a path is met, behind those with a path and a smaller number, and each form is one
+-- that a definition may have. The names of the first view of a place came into the table behind those of earlier views, and in its order if they differ.
+-- Each scope and each inline interface has a place of its own.
 pub record ArePlacedScopes (t : Tables) (ws : List NumberedScope) : Type 0 where
   pub each : (m : ℕ) (w : NumberedScope) → slice_get ws m ≡ Some w → IsPlacedScope t w
   pub names : (n q : ℕ) (name : Text) → slice_get t.shapes n ≡ Some (named_shape q name) → IsShownInSome ws q n name
   pub met : (q : ℕ) → HasPath t q → IsMetInSome ws q
+  pub order : (m j : ℕ) (i : NumberedInstance) → IsInstanceAt ws m j i → (q : ℕ) → HasPath t q → q < i.place → IsMetBefore ws m j q
   pub formed : (n : ℕ) (form : Form) (parts : List ℕ) → slice_get t.shapes n ≡ Some (node_shape form parts) → is_form form parts ≡ true
   pub firsts : (m j : ℕ) (i : NumberedInstance) → IsInstanceAt ws m j i → IsFirstSeen ws m j i.place → distinct (map (λ (x : NumberedType). x.name) i.view.types) ≡ true → IsRisingView t i.place i.view
+  pub later : (m j : ℕ) (i : NumberedInstance) → IsInstanceAt ws m j i → IsFirstSeen ws m j i.place → (n k : ℕ) (o : NumberedInstance) → IsInstanceAt ws n k o → (n < m) ⊎ ((n ≡ m) × (k < j)) → AreTypesBefore o.view i.view
   pub homes : (m n : ℕ) (w v : NumberedScope) → slice_get ws m ≡ Some w → slice_get ws n ≡ Some v → w.home ≡ v.home → m ≡ n
   pub inline : (m n j k : ℕ) (i l : NumberedInstance) → IsInstanceAt ws m j i → IsInstanceAt ws n k l → path_at t i.place ≡ None → i.place ≡ l.place → (m ≡ n) × (j ≡ k)
   pub not_home : (m n j : ℕ) (i : NumberedInstance) (w : NumberedScope) → IsInstanceAt ws m j i → slice_get ws n ≡ Some w → path_at t i.place ≡ None → i.place ≡ w.home → ⊥

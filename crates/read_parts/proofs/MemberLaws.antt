@@ -13,8 +13,9 @@ use Rattle.read_follow.specs.Following.{AreTables}
 use Rattle.read_follow.specs.Found.{Refuses}
 use Rattle.read_follow.specs.Functions.{FunctionShape}
 use Rattle.read_follow.specs.PartTypes.{raw_part_type}
+use Rattle.read_follow.specs.Placed.{IsTypeNamed}
 use Rattle.read_follow.specs.Places.{ArePlacesOf}
-use Rattle.read_follow.specs.Scopes.{meant_at, world_of, IsInstanceIn, IsPlacedAmong, IsShownBy, by_instance, by_import, IsWorld, World}
+use Rattle.read_follow.specs.Scopes.{meant_at, world_of, ArePathsInOrder, IsInstanceIn, IsPlacedAmong, IsShownBy, by_instance, by_import, IsWorld, World}
 use Rattle.plan_meaning.specs.Shapes.{Shape, named_shape, node_shape}
 use Rattle.read_follow.proofs.ComponentLaws.{place_in, places_are}
 use Rattle.read_follow.proofs.DefiningLaws.{all_at, longer}
@@ -28,7 +29,7 @@ use Rattle.read_parts.specs.declared.members.FollowedPart.TheVariants as followe
 use Rattle.read_parts.specs.declared.members.Member.{Member}
 use Rattle.read_parts.specs.Exported.{raw_exported}
 use Rattle.read_parts.specs.Followed.{PartScope, world, interface, labelled_scope, part_scope}
-use Rattle.read_parts.specs.Members.{member_meant, part_meant, parts_weight, scope_of, with_front, AreFollowedTo, AreMembersPlaced, ArePlacesBelow, IsMetBySome, IsPartFollowed, IsPlacedMember, IsShownBySome, MembersStand, StandsIn}
+use Rattle.read_parts.specs.Members.{member_meant, part_meant, parts_weight, scope_of, with_front, AreFollowedTo, AreMembersPlaced, ArePlacesBelow, AreTypesBelow, ArePlacesInOrder, ArePlacesMet, IsMetBefore, in_earlier, in_same, IsMetBySome, IsPartFollowed, IsPlacedMember, IsShownBySome, MembersStand, StandsIn}
 use Rattle.read_parts.proofs.ExportLaws.{each_more, each_none}
 use Rattle.base_lemmas.proofs.Elements.{all_end}
 use Rattle.base_lemmas.proofs.Lists.{at_last, last_or, slice_front}
@@ -104,6 +105,7 @@ module _ (shapes : List Shape) (fs : List FunctionShape) (paths : Paths) (more :
         placed = placed_still (scope_of m.part) (all_at (λ (x : Member). StandsIn shapes fs paths x.part) ms i m stand at) h.base h.count h.till h.placed;
         names = λ n q name e. some_still ms i q name (14 + n) (h.names n q name e);
         earlier = h.earlier;
+        types_below = h.types_below;
       }
 
   pub members_stand : (ms : List Member) → MembersStand shapes fs paths ms → MembersStand more more_fs more_paths ms
@@ -122,6 +124,14 @@ places_below shapes fs paths p st = record {
   instances = λ j x at. (all_at (IsInstanceIn shapes fs paths) (scope_of p).instances.items j x st.instances at).place;
 }
 
+types_below : (shapes : List Shape) (fs : List FunctionShape) (paths : Paths) (p : FollowedPart) (base : List Shape) (count till : ℕ) → IsPlacedAmong base count till (world_of shapes fs paths (scope_of p))
+    → AreTypesBelow (length shapes) p
+types_below shapes fs paths p base count till placed j x at n t t_at =
+    let name = all_at (IsTypeNamed shapes x.place) x.view.types.items n t (placed.instances j x at).named t_at in
+    let low = found_below shapes name.number (named_shape x.place t.name.now) name.at in
+    let number = name.is in
+    omega (arith, low, number)
+
 module _ (shapes : List Shape) (fs : List FunctionShape) (paths : Paths) (ms : List Member) (m : Member) where
   abbrev more_members : List Member
   more_members = ms ++ m ∷ []
@@ -137,6 +147,29 @@ module _ (shapes : List Shape) (fs : List FunctionShape) (paths : Paths) (ms : L
   met_more : (q : ℕ) → IsMetBySome ms q → IsMetBySome more_members q
   met_more q h = record { number = h.number; member = h.member; at = stands_on ms more_members front h.number h.member h.at; met = h.met }
 
+  met_before_more : (i j q : ℕ) → IsMetBefore ms i j q → IsMetBefore more_members i j q
+  met_before_more i j q (in_earlier k x less at met) = in_earlier k x less (stands_on ms more_members front k x at) met
+  met_before_more i j q (in_same x at met) = in_same x (stands_on ms more_members front i x at) met
+
+  -- places in their order, and those that one part more shows
+  pub order_more : (wide : Paths) → Grows paths wide → MembersStand shapes fs paths ms → ArePlacesMet paths ms → ArePlacesInOrder paths ms → ArePathsInOrder (length paths) wide (scope_of m.part).instances.items → ArePlacesInOrder wide more_members
+  order_more wide grows stand met order here i y at j x there q path at_path less = elim (last_or ms m i y at) [
+    | inl h ↦
+        let low = (places_below shapes fs paths y.part (all_at (λ (z : Member). StandsIn shapes fs paths z.part) ms i y stand h.1)).instances j x there in
+        met_before_more i j q (order i y h.1 j x there q path (stood paths wide grows q (Some path) (omega (arith, less, low)) at_path) less)
+    | inr h ↦
+        let last : m ≡ y = h.1 in
+        let x_there : slice_get (scope_of m.part).instances.items j ≡ Some x = ap (λ (z : Member). slice_get (scope_of z.part).instances.items j) last ∙ there in
+        elim (here j x x_there q path at_path less) [
+          | inl below ↦
+              let by = met q path (stood paths wide grows q (Some path) below at_path) in
+              let low = found_below ms by.number by.member by.at in
+              let number = h.0 in
+              in_earlier by.number by.member (omega (arith, low, number)) (stands_on ms more_members front by.number by.member by.at) by.met
+          | inr before ↦ in_same m (subst (λ (n : ℕ). slice_get more_members n ≡ Some m) (sym h.0) (at_last ms m)) before
+        ]
+  ]
+
   placed_before : (i : ℕ) (x : Member) → i < length ms → IsPlacedMember shapes fs paths ms i x → IsPlacedMember shapes fs paths more_members i x
   placed_before i x below h = record {
     base = h.base;
@@ -145,6 +178,7 @@ module _ (shapes : List Shape) (fs : List FunctionShape) (paths : Paths) (ms : L
     placed = h.placed;
     names = λ n q name e. some_more i i q name (14 + n) (omega arith) (h.names n q name e);
     earlier = λ k y e less. h.earlier k y (stood ms more_members front k y (omega (arith, less, below)) e) less;
+    types_below = λ k y e less. h.types_below k y (stood ms more_members front k y (omega (arith, less, below)) e) less;
   }
 
   pub placed_more : AreMembersPlaced shapes fs paths ms → IsPlacedMember shapes fs paths more_members (length ms) m → AreMembersPlaced shapes fs paths more_members
@@ -187,11 +221,15 @@ module _ (before : ℕ) (xs : List ExportedPart) where
                   some_more shapes' fs' paths' ms m (length ms) (length ms) q name (14 + n) (omega arith)
                   (some_still shapes fs paths shapes' fs' paths' s.shapes_grow s.signatures_grow s.paths_grow tables ms (length ms) q name (14 + n) (f.names n q name e));
               earlier = λ k x e less. places_below shapes fs paths x.part (all_at (λ (y : Member). StandsIn shapes fs paths y.part) ms k x f.stand (stood ms (ms ++ m ∷ []) (record { more = m ∷ []; is = refl }) k x less e));
+              types_below = λ k x e less.
+                  let h = f.placed k x (stood ms (ms ++ m ∷ []) (record { more = m ∷ []; is = refl }) k x less e) in
+                  types_below shapes fs paths x.part h.base h.count h.till h.placed;
             });
             met = λ q path at. elim (s.met q path at) [
               | inl below ↦ met_more shapes' fs' paths' ms m q (f.met q path (stood paths paths' s.paths_grow q (Some path) below at))
               | inr met ↦ record { number = length ms; member = m; at = at_last ms m; met = met }
             ];
+            order = order_more shapes fs paths ms m paths' s.paths_grow f.stand f.met f.order s.order;
             formed = λ n form parts at. elim (s.placed.formed n form parts (found_below shapes' n (node_shape form parts) at) at) [
               | inl below ↦ f.formed n form parts (stood shapes shapes' s.shapes_grow n (node_shape form parts) below at)
               | inr formed ↦ formed

@@ -9,10 +9,10 @@ use Rattle.read_follow.specs.Functions.{AreApart}
 use Rattle.read_follow.specs.Places.{ArePathsApart, ArePathsRead, ArePlacesOf}
 use Rattle.read_parts.specs.declared.following.Followed.{Followed}
 use Rattle.read_parts.specs.Followed.{scopes_in, scopes_of}
-use Rattle.read_parts.specs.Members.{member_meant, parts_weight, AreFormed, AreMembersPlaced, AreNamesShown, ArePlacesMet, MembersStand}
+use Rattle.read_parts.specs.Members.{member_meant, parts_weight, AreFormed, AreMembersPlaced, AreNamesShown, ArePlacesInOrder, ArePlacesMet, MembersStand}
 
 -- The tables are well-formed, with forms as definitions have them, each path is read, names stand in their places and each is shown, each place with a
--- path is met, and the members stand in the tables for what the parts do, over no more types than the parts' entries make.
+-- path is met, in their order, and the members stand in the tables for what the parts do, over no more types than the parts' entries make.
 pub record ArePartsFollowed (parts : List (Text × PartType)) (x : Followed) : Type 0 where
   pub tables : AreTables (length x.places) x.table x.functions
   pub functions_apart : AreApart x.functions
@@ -23,6 +23,7 @@ pub record ArePartsFollowed (parts : List (Text × PartType)) (x : Followed) : T
   pub placed : AreMembersPlaced x.table x.functions x.places x.members.items
   pub names : AreNamesShown x.table x.functions x.places x.members.items
   pub met : ArePlacesMet x.places x.members.items
+  pub order : ArePlacesInOrder x.places x.members.items
   pub formed : AreFormed x.table
   pub shows : (place : ℕ → Place) → ArePlacesOf x.places place → scopes_in parts ≡ Some (map (member_meant x.table x.functions x.places place) x.members.items)
 

@@ -8,11 +8,13 @@ use Rattle.comp_bytes.specs.Reading.{◌>>=◌}
 use Rattle.comp_meaning.specs.Follow.{each}
 use Rattle.read_follow.specs.declared.scopes.Instance.{Instance}
 use Rattle.read_follow.specs.declared.scopes.Scope.{Scope}
+use Rattle.read_follow.specs.declared.views.ShownType.{ShownType}
 use Rattle.read_follow.specs.Defining.{Grows}
 use Rattle.read_follow.specs.Following.{AreTables}
 use Rattle.read_follow.specs.Functions.{FunctionShape}
+use Rattle.read_follow.specs.Placed.{slot_part}
 use Rattle.read_follow.specs.Places.{ArePlacesOf}
-use Rattle.read_follow.specs.Scopes.{meant_at, weights, world_of, ArePathsMet, IsPlacedAmong, IsPlacedWorld, IsPlaceMet, IsShownBy, IsWorld}
+use Rattle.read_follow.specs.Scopes.{meant_at, weights, world_of, ArePathsInOrder, ArePathsMet, IsPlacedAmong, IsPlacedWorld, IsPlaceMet, IsPlaceMetBefore, IsShownBy, IsWorld}
 use Rattle.plan_meaning.specs.PlanRules.{is_form}
 use Rattle.plan_meaning.specs.Shapes.{Shape, named_shape, node_shape}
 use Rattle.read_parts.specs.declared.members.FollowedPart.{FollowedPart}
@@ -29,6 +31,11 @@ pub record ArePlacesBelow (count : ℕ) (p : FollowedPart) : Type 0 where
   pub home : (scope_of p).home < count
   pub instances : (j : ℕ) (x : Instance) → slice_get (scope_of p).instances.items j ≡ Some x → x.place < count
 
+-- the names that its instances show are among the first so many types
+abbrev pub AreTypesBelow : ℕ → FollowedPart → Type 0
+AreTypesBelow many p =
+    (j : ℕ) (x : Instance) → slice_get (scope_of p).instances.items j ≡ Some x → (n : ℕ) (t : ShownType) → slice_get x.view.types.items n ≡ Some t → slot_part t.slot < 14 + many
+
 -- an instance of one of the parts is of the place
 pub record IsMetBySome (ms : List Member) (q : ℕ) : Type 0 where
   pub number : ℕ
@@ -39,6 +46,17 @@ pub record IsMetBySome (ms : List Member) (q : ℕ) : Type 0 where
 -- each place with a path is met
 abbrev pub ArePlacesMet : List (Option Text) → List Member → Type 0
 ArePlacesMet paths ms = (q : ℕ) (path : Text) → slice_get paths q ≡ Some (Some path) → IsMetBySome ms q
+
+-- an instance of an earlier part, or an earlier one of this part, is of the place
+pub data IsMetBefore (ms : List Member) (i j q : ℕ) : Type 0 where
+  in_earlier : (k : ℕ) (m : Member) → k < i → slice_get ms k ≡ Some m → IsPlaceMet (scope_of m.part).instances.items q → IsMetBefore ms i j q
+  in_same : (m : Member) → slice_get ms i ≡ Some m → IsPlaceMetBefore (scope_of m.part).instances.items j q → IsMetBefore ms i j q
+
+-- Each instance stands behind one of each place that has a path and a smaller number than its own.
+abbrev pub ArePlacesInOrder : List (Option Text) → List Member → Type 0
+ArePlacesInOrder paths ms =
+    (i : ℕ) (m : Member) → slice_get ms i ≡ Some m → (j : ℕ) (x : Instance) → slice_get (scope_of m.part).instances.items j ≡ Some x
+    → (q : ℕ) (path : Text) → slice_get paths q ≡ Some (Some path) → q < x.place → IsMetBefore ms i j q
 
 -- each form of the table is one that a definition may have
 abbrev pub AreFormed : List Shape → Type 0
@@ -80,7 +98,7 @@ module _ (shapes : List Shape) (fs : List FunctionShape) (paths : List (Option T
     pub by : IsShownBy (world_of shapes fs paths (scope_of member.part)) q name part
 
   -- A member behind so many others. Names stand in their places; those that stood in the table before it, in its first types, are shown by the others,
-  -- and the places of these are among the first so many.
+  -- and the places and the types of these are among the first so many.
   pub record IsPlacedMember (ms : List Member) (i : ℕ) (m : Member) : Type 0 where
     pub base : List Shape
     pub count : ℕ
@@ -88,6 +106,7 @@ module _ (shapes : List Shape) (fs : List FunctionShape) (paths : List (Option T
     pub placed : IsPlacedAmong base count till (world_of shapes fs paths (scope_of m.part))
     pub names : (n q : ℕ) (name : Text) → slice_get base n ≡ Some (named_shape q name) → IsShownBySome ms i q name (14 + n)
     pub earlier : (k : ℕ) (x : Member) → slice_get ms k ≡ Some x → k < i → ArePlacesBelow count x.part
+    pub types_below : (k : ℕ) (x : Member) → slice_get ms k ≡ Some x → k < i → AreTypesBelow (length base) x.part
 
   abbrev pub AreMembersPlaced : List Member → Type 0
   AreMembersPlaced ms = (i : ℕ) (m : Member) → slice_get ms i ≡ Some m → IsPlacedMember ms i m
@@ -98,8 +117,8 @@ module _ (shapes : List Shape) (fs : List FunctionShape) (paths : List (Option T
 
 -- ---- one part
 
--- The tables and the places grow, by no more types than its entries make, names stand in their places, new places with a path are met, and the part
--- stands for what its type at the top does.
+-- The tables and the places grow, by no more types than its entries make, names stand in their places, new places with a path are met, in their order, and
+-- the part stands for what its type at the top does.
 pub record IsPartFollowed (shapes : List Shape) (fs : List FunctionShape) (paths : List (Option Text)) (raw : PartType)
     (more : List Shape) (more_fs : List FunctionShape) (more_paths : List (Option Text)) (p : FollowedPart) : Type 0 where
   pub stands : StandsIn more more_fs more_paths p
@@ -109,6 +128,7 @@ pub record IsPartFollowed (shapes : List Shape) (fs : List FunctionShape) (paths
   pub count : length more ≤ length shapes + part_weight raw
   pub placed : IsPlacedWorld shapes (length paths) (world_of more more_fs more_paths (scope_of p))
   pub met : ArePathsMet (length paths) more_paths (scope_of p).instances.items
+  pub order : ArePathsInOrder (length paths) more_paths (scope_of p).instances.items
   pub shows : (place : ℕ → Place) → ArePlacesOf more_paths place → part_scope raw ≡ Some (part_meant more more_fs more_paths place p)
 
 -- ---- all parts
@@ -118,7 +138,7 @@ abbrev pub with_front : {A : Type 0} → List A → Option (List A) → Option (
 with_front front found = found >>= λ rest. Some (front ++ rest)
 
 -- Some parts have been followed, over so many types that were there before. Names stand in their places, and each is shown; each place with a path is
--- met; forms are as definitions have them. Those that are left decide what all stand for.
+-- met, in their order; forms are as definitions have them. Those that are left decide what all stand for.
 pub record AreFollowedTo (before : ℕ) (raws left : List (Text × PartType)) (shapes : List Shape) (fs : List FunctionShape) (paths : List (Option Text)) (ms : List Member) : Type 0 where
   pub tables : AreTables (length paths) shapes fs
   pub stand : MembersStand shapes fs paths ms
@@ -126,6 +146,7 @@ pub record AreFollowedTo (before : ℕ) (raws left : List (Text × PartType)) (s
   pub placed : AreMembersPlaced shapes fs paths ms
   pub names : AreNamesShown shapes fs paths ms
   pub met : ArePlacesMet paths ms
+  pub order : ArePlacesInOrder paths ms
   pub formed : AreFormed shapes
   pub shows : (place : ℕ → Place) → ArePlacesOf paths place → with_front (map (member_meant shapes fs paths place) ms) (each labelled_scope left) ≡ each labelled_scope raws
 

@@ -159,6 +159,14 @@ interface_instances scope st are exported out imports in_ apart reached =
     let before : map named_instance imports ≡ around.0 = seen ∙ (ap (λ xs. around.0 ++ xs) none ∙ append-nil around.0) in
     all ∙ (λ i. sym before i ++ named_instance exported ∷ none i)
 
+-- so they are its imports, and then the interface of its label in the package
+pub interface_shows : (label : Text) (scope : Scope) → ScopeStands scope → InstancesAreSeen scope → (exported : Text × View) → exported_view scope.exports ≡ Some exported
+    → (imports : List (Text × View)) → each imported_view scope.imports ≡ Some imports → (package_ : PackageIdentity) → labelled_path label exported.0 ≡ Some package_
+    → distinct (exported.0 ∷ map (λ i. i.0) imports) ≡ true → are_reached imports exported.1 ≡ true → scope.instances ≡ map named_instance imports ++ named_instance (path_in package_ label, exported.1) ∷ []
+interface_shows label scope st seen exported out imports in_ package_ path apart reached =
+    interface_instances scope st seen exported (exports_found scope.exports exported out) imports (imports_found scope.imports imports in_) apart reached
+    ∙ ap (λ q. map named_instance imports ++ named_instance (q, exported.1) ∷ []) (path_is label exported.0 package_ path)
+
 interface_read : (label : Text) (ds : Declarations) (p : PackageIdentity × Part) (scope : Scope) → component_scope ds ≡ Some scope → (exported : Text × View) → exported_view scope.exports ≡ Some exported
     → (imports : List (Text × View)) → each imported_view scope.imports ≡ Some imports → (package_ : PackageIdentity) → labelled_path label exported.0 ≡ Some package_
     → provided (distinct (exported.0 ∷ map (λ i. i.0) imports) && are_reached imports exported.1) (package_, Part.interface exported.1 imports) ≡ Some p → MemberStands (member_of label p)
@@ -168,8 +176,7 @@ interface_read label ds p scope follows exported out imports in_ package_ path e
     let reached = second_true (distinct (exported.0 ∷ map (λ i. i.0) imports)) (are_reached imports exported.1) w.0 in
     let st = scope_stands ds scope follows in
     let same : scope.instances ≡ map named_instance imports ++ named_instance (path_in package_ label, exported.1) ∷ [] =
-    interface_instances scope st (instances_seen ds scope follows) exported (exports_found scope.exports exported out) imports (imports_found scope.imports imports in_) apart reached
-    ∙ ap (λ q. map named_instance imports ++ named_instance (q, exported.1) ∷ []) (path_is label exported.0 package_ path) in
+    interface_shows label scope st (instances_seen ds scope follows) exported out imports in_ package_ path apart reached in
     subst (λ (q : PackageIdentity × Part). MemberStands (member_of label q)) (some_is (package_, Part.interface exported.1 imports) p w.1) (record {
       views = subst (λ (xs : List Instance). AllAt (λ n (x : Instance). ViewStands (IsShownBefore xs n) (place_of x.interface) x.view) xs) same st.instances;
       part = tt;

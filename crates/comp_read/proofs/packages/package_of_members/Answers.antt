@@ -45,9 +45,9 @@ returns-in-Some-clause-follows c = λ pieces followed.
     let ms = c.args.members.now in
     let facts = c.args.tables.now.facts.now in
     let obeys = main_is t h (known_in c.args.tables.now) ms ms refl c.in_ok-main.field-0 c.in-Some.main c.in-Some.is (c.in_ok-main.ensures c.args.packages.now) in
-    let can = can_be_built c.args.followed.now t facts h ms c.requires.read pieces followed c.in-Some.main obeys in
+    let mean = plans_mean c.args.followed.now t facts h ms c.requires.read pieces followed c.in-Some.main obeys in
     if_ok c.built.result (λ x. IsBuiltOf t c.args.packages.now (home_at h) c.in-Some.main ms x.0 x.1.0) (λ x. FollowsLevels (Some pieces) x.0)
-    (λ x is. package_in_order c.args.followed.now t facts h c.in-Some.main ms c.requires.read pieces followed obeys can x.0 x.1.0 is) c.built.ensures.built
+    (λ x is. package_in_order c.args.followed.now t facts h c.in-Some.main ms c.requires.read pieces followed obeys (package_of_pieces pieces) mean x.0 x.1.0 is) c.built.ensures.built
 
 pub returns-in-Some-clause-few : goal.returns-in-Some-clause-few
 returns-in-Some-clause-few c =

@@ -53,9 +53,9 @@ returns-clause-follows c = λ pieces followed.
     let facts = c.args.tables.now.facts.now in
     let all = c.deref-2.ensures.value ∙ (c.in_ok-members.ensures ∙ ap (λ (ms : List Member). c.args.world ∷ ms) c.deref.ensures.value) in
     let beside = c.in_ok-own.ensures.own c.args.packages.now in
-    let can = world_can_be_built c.args.followed.now t facts h c.args.world c.args.scope c.requires.read pieces followed own beside in
+    let mean = world_plans_mean c.args.followed.now t facts h c.args.world c.args.scope c.requires.read pieces followed own beside in
     if_ok c.built.result (λ x. IsBuiltOf t c.args.packages.now (home_at h) n c.deref-2.result.now x.0 x.1.0) (λ x. FollowsLevels (Some pieces) x.0)
-    (λ x is. world_in_order c.args.followed.now t facts h c.args.world c.args.scope c.requires.read pieces followed own beside (c.in_ok-own.ensures.order c.args.packages.now) can x.0 x.1.0
+    (λ x is. world_in_order c.args.followed.now t facts h c.args.world c.args.scope c.requires.read pieces followed own beside (c.in_ok-own.ensures.order c.args.packages.now) (world_of_pieces pieces) mean x.0 x.1.0
     (subst (λ (ms : List Member). IsBuiltOf t c.args.packages.now (home_at h) n ms x.0 x.1.0) all is)) c.built.ensures.built
 
 pub returns-clause-few : goal.returns-clause-few

@@ -1,4 +1,4 @@
-use Rattle.read_homes.proofs.HomeLaws.{all_homes, more_homes, more_reasons}
+use Rattle.read_homes.proofs.HomeLaws.{all_homes, more_homes, more_in_order, more_reasons}
 use Rattle.read_homes.proofs.PackageLaws.{grows_on}
 use Rattle.read_homes.proofs.homes.homes_of.Goals as goal
 
@@ -14,6 +14,7 @@ loop-path-preserved c =
       grows = grows_on first old new before.grows is.grows;
       packages = is.packages;
       reasons = more_reasons first old new c.loop-path.homes.items c.in_ok-home.home c.push.new.self.items c.in_ok-push.ensures.items before.reasons is.reason;
+      order = more_in_order first old new _ c.loop-path.homes.items c.in_ok-home.home c.push.new.self.items c.in_ok-push.ensures.items is.home before.reasons is.reason before.order;
       keeps = λ t homes stand. is.homes t homes (before.keeps t homes stand);
     }
 

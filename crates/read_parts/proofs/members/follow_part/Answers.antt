@@ -25,6 +25,7 @@ returns-in-Ok-follow_component-clause-followed c =
       count = s.count;
       placed = s.placed;
       met = s.met;
+      order = s.order;
       shows = λ place of.
           ap (λ (o : Option Text). o >>= λ path. entry_scope es >>= λ scope. Some (world path scope)) c.in-Ok.ensures
           ∙ ap (λ (o : Option MeantScope). o >>= λ scope. Some (world (text_of c.in-Ok.path) scope)) (s.shows place of);

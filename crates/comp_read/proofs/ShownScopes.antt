@@ -1,0 +1,157 @@
+-- The instances of what was followed stand under the paths that the parts show, in their order.
+use Rattle.std.proofs.Common.{◌≡◌, refl, sym, ap, subst, ◌∙◌, ℕ, ◌&&◌, List, [], ◌∷◌, ◌++◌, map, Option, Some}
+use Rattle.std.specs.List.{AllZip, flat_map}
+use Rattle.wit_model.specs.Text.{Text}
+use Rattle.wit_model.specs.Names.{PackageIdentity, path_in}
+use Rattle.comp_bytes.specs.Levels.{PartType, Piece, shows, wraps}
+use Rattle.comp_bytes.specs.Reading.{◌>>=◌}
+use Rattle.comp_bytes.proofs.Readers.{bind_some, when_some}
+use Rattle.comp_meaning.specs.ByLevels.{entry_scope}
+use Rattle.comp_meaning.specs.Follow.{Instance, Scope, View, each, provided}
+use Rattle.comp_meaning.specs.Reads.{Member, Part, are_reached, exported_view, imported_view, labelled_path}
+use Rattle.comp_meaning.specs.Rules.{distinct, is_world}
+use Rattle.read_shown.specs.Instances.{InstancesAreSeen}
+use Rattle.read_shown.specs.Parts.{named_instance}
+use Rattle.read_shown.specs.Scopes.{ScopeStands}
+use Rattle.read_shown.proofs.ByLevels.{entry_scope_stands}
+use Rattle.read_shown.proofs.Parts.{interface_shows}
+use Rattle.plan_meaning.specs.NumberedMembers.{Homes}
+use Rattle.plan_meaning.specs.NumberedViews.{Tables, path_at}
+use Rattle.plan_meaning.specs.NumberedWorlds.{NumberedInstance, NumberedScope, Shows, instance_of}
+use Rattle.read_exports.specs.declared.members.Member.{Member as KeptMember}
+use Rattle.read_parts.specs.declared.following.Followed.{Followed}
+use Rattle.read_parts.specs.declared.members.FollowedPart.{FollowedPart}
+use Rattle.read_parts.specs.declared.members.FollowedPart.TheVariants as followed
+use Rattle.read_parts.specs.declared.members.Member.{Member as FollowedMember}
+use Rattle.read_parts.specs.Followed.{PartScope, interface, labelled_scope, member_of_scope, part_of_scope, part_scope, scopes_of, world, world_path}
+use Rattle.read_parts.specs.Members.{scope_of}
+use Rattle.read_numbers.specs.NumberedInput.{MemberShown, PartShown, tables_of}
+use Rattle.read_numbers.specs.NumberedParts.{numbered_scope}
+use Rattle.read_numbers.specs.PlacedNumbers.{scopes_in}
+use Rattle.read_numbers.proofs.InputNumbers.{input_in_numbers}
+use Rattle.comp_read.specs.Order.{shown_under}
+use Rattle.comp_read.specs.ReadInput.{IsReadInput}
+use Rattle.comp_read.proofs.ByScopes.{scopes_found}
+use Rattle.comp_read.proofs.InterfaceViews.{each_beside}
+use Rattle.base_lemmas.proofs.Bools.{left_of as first_true, right_of as second_true}
+use Rattle.base_lemmas.proofs.Lists.{append_of_map, flat_mapped, map_of_map}
+use Rattle.base_lemmas.proofs.Options.{some_is}
+
+-- ---- one part
+
+abbrev meant_scope : PartScope → Scope
+meant_scope (world path scope) = scope
+meant_scope (interface scope) = scope
+
+-- the paths of its instances, in order
+abbrev paths_in : Scope → List (Option Text)
+paths_in scope = map (λ i. i.interface) scope.instances
+
+abbrev Stands : Scope → Type 0
+Stands scope = ScopeStands scope × InstancesAreSeen scope
+
+part_stands : (a : PartType) (p : PartScope) → part_scope a ≡ Some p → Stands (meant_scope p)
+part_stands (wraps es name) p e =
+    let path = bind_some (world_path name) (λ path. entry_scope es >>= λ scope. Some (world path scope)) p e in
+    let scope = bind_some (entry_scope es) (λ scope. Some (world path.0 scope)) p path.2 in
+    subst (λ (q : PartScope). Stands (meant_scope q)) (some_is (world path.0 scope.0) p scope.2) (entry_scope_stands es scope.0 scope.1)
+part_stands (shows es) p e =
+    let scope = bind_some (entry_scope es) (λ scope. Some (interface scope)) p e in
+    subst (λ (q : PartScope). Stands (meant_scope q)) (some_is (interface scope.0) p scope.2) (entry_scope_stands es scope.0 scope.1)
+
+pub one_stands : (x : Text × PartType) (y : Text × PartScope) → labelled_scope x ≡ Some y → Stands (meant_scope y.1)
+one_stands x y e =
+    let p = bind_some (part_scope x.1) (λ p. let z : Text × PartScope = (x.0, p) in Some z) y e in
+    subst (λ (z : Text × PartScope). Stands (meant_scope z.1)) (some_is (x.0, p.0) y p.2) (part_stands x.1 p.0 p.1)
+
+abbrev member_of : Text → PackageIdentity × Part → Member
+member_of label p = record { label = label; package_ = p.0; part = p.1 }
+
+-- the paths of imports, and of one more
+named_paths : (is : List Instance) (imports : List (Text × View)) (last : Text × View) → is ≡ map named_instance imports ++ named_instance last ∷ [] → map (λ (i : Instance). i.interface) is ≡ map (λ (i : Text × View). Some i.0) imports ++ Some last.0 ∷ []
+named_paths is imports last all =
+    ap (map (λ (i : Instance). i.interface)) all
+    ∙ (append_of_map (λ (i : Instance). i.interface) (map named_instance imports) (named_instance last ∷ [])
+    ∙ ap (λ (os : List (Option Text)). os ++ Some last.0 ∷ []) (map_of_map (λ (i : Instance). i.interface) named_instance imports))
+
+interface_paths : (label : Text) (scope : Scope) → Stands scope → (p : PackageIdentity × Part) → part_of_scope label (interface scope) ≡ Some p → paths_in scope ≡ shown_under (member_of label p)
+interface_paths label scope st p e =
+    let exported = bind_some (exported_view scope.exports) (λ exported. each imported_view scope.imports >>= λ imports. labelled_path label exported.0 >>= λ package_.
+    provided (distinct (exported.0 ∷ map (λ i. i.0) imports) && are_reached imports exported.1) (package_, Part.interface exported.1 imports)) p e in
+    let imports = bind_some (each imported_view scope.imports) (λ imports. labelled_path label exported.0.0 >>= λ package_.
+    provided (distinct (exported.0.0 ∷ map (λ i. i.0) imports) && are_reached imports exported.0.1) (package_, Part.interface exported.0.1 imports)) p exported.2 in
+    let package_ = bind_some (labelled_path label exported.0.0) (λ package_.
+    provided (distinct (exported.0.0 ∷ map (λ i. i.0) imports.0) && are_reached imports.0 exported.0.1) (package_, Part.interface exported.0.1 imports.0)) p imports.2 in
+    let w = when_some (distinct (exported.0.0 ∷ map (λ i. i.0) imports.0) && are_reached imports.0 exported.0.1) (Some (package_.0, Part.interface exported.0.1 imports.0)) p package_.2 in
+    let apart = first_true (distinct (exported.0.0 ∷ map (λ i. i.0) imports.0)) (are_reached imports.0 exported.0.1) w.0 in
+    let reached = second_true (distinct (exported.0.0 ∷ map (λ i. i.0) imports.0)) (are_reached imports.0 exported.0.1) w.0 in
+    let all : scope.instances ≡ map named_instance imports.0 ++ named_instance (path_in package_.0 label, exported.0.1) ∷ [] = interface_shows label scope st.0 st.1 exported.0 exported.1 imports.0 imports.1 package_.0 package_.1 apart reached in
+    subst (λ (q : PackageIdentity × Part). paths_in scope ≡ shown_under (member_of label q)) (some_is (package_.0, Part.interface exported.0.1 imports.0) p w.1)
+    (named_paths scope.instances imports.0 (path_in package_.0 label, exported.0.1) all)
+
+world_paths : (label path : Text) (scope : Scope) (p : PackageIdentity × Part) → part_of_scope label (world path scope) ≡ Some p → paths_in scope ≡ shown_under (member_of label p)
+world_paths label path scope p e =
+    let package_ = bind_some (labelled_path label path) (λ package_. provided (is_world scope) (package_, Part.world scope)) p e in
+    let w = when_some (is_world scope) (Some (package_.0, Part.world scope)) p package_.2 in
+    subst (λ (q : PackageIdentity × Part). paths_in scope ≡ shown_under (member_of label q)) (some_is (package_.0, Part.world scope) p w.1) refl
+
+pub one_paths : (y : Text × PartScope) (m : Member) → Stands (meant_scope y.1) → member_of_scope y ≡ Some m → paths_in (meant_scope y.1) ≡ shown_under m
+one_paths y m st e =
+    let p = bind_some (part_of_scope y.0 y.1) (λ p. Some (member_of y.0 p)) m e in
+    subst (λ (z : Member). paths_in (meant_scope y.1) ≡ shown_under z) (some_is (member_of y.0 p.0) m p.2) (by y.1 st p.0 p.1)
+  where
+    by : (a : PartScope) → Stands (meant_scope a) → (p : PackageIdentity × Part) → part_of_scope y.0 a ≡ Some p → paths_in (meant_scope a) ≡ shown_under (member_of y.0 p)
+    by (world path scope) good p found = world_paths y.0 path scope p found
+    by (interface scope) good p found = interface_paths y.0 scope good p found
+
+-- ---- all parts
+
+all_paths : (xs : List (Text × PartType)) (ys : List (Text × PartScope)) (ms : List Member) → AllZip (λ x y. labelled_scope x ≡ Some y) xs ys → AllZip (λ y m. member_of_scope y ≡ Some m) ys ms
+    → flat_map (λ (y : Text × PartScope). paths_in (meant_scope y.1)) ys ≡ flat_map shown_under ms
+all_paths [] [] [] a b = refl
+all_paths (x ∷ xs) (y ∷ ys) (m ∷ ms) a b = λ i. one_paths y m (one_stands x y a.0) b.0 i ++ all_paths xs ys ms a.1 b.1 i
+all_paths [] [] (m ∷ ms) a b = absurd b
+all_paths [] (y ∷ ys) ms a b = absurd a
+all_paths (x ∷ xs) [] ms a b = absurd a
+all_paths (x ∷ xs) (y ∷ ys) [] a b = absurd b
+
+-- the places of the instances of a scope, in order
+abbrev pub scope_places : NumberedScope → List ℕ
+scope_places w = map (λ (i : NumberedInstance). i.place) w.instances
+
+module _ (t : Tables) where
+  abbrev pub scope_in : FollowedMember → NumberedScope
+  scope_in m = numbered_scope t.paths (scope_of m.part)
+
+  places_named : (w : NumberedScope) (scope : Scope) → Shows t w scope → map (path_at t) (scope_places w) ≡ paths_in scope
+  places_named w scope is =
+      map_of_map (path_at t) (λ (i : NumberedInstance). i.place) w.instances
+      ∙ (sym (map_of_map (λ (i : Instance). i.interface) (instance_of t) w.instances) ∙ sym (ap (map (λ (i : Instance). i.interface)) is.instances))
+
+  pub part_named : (a : FollowedPart) (p : PartScope) → PartShown t a p → map (path_at t) (scope_places (numbered_scope t.paths (scope_of a))) ≡ paths_in (meant_scope p)
+  part_named (followed.World path s) (world text meant) is = places_named (numbered_scope t.paths s) meant is.1
+  part_named (followed.Interface s) (interface meant) is = places_named (numbered_scope t.paths s) meant is
+  part_named (followed.World path s) (interface meant) is = absurd is
+  part_named (followed.Interface s) (world text meant) is = absurd is
+
+  members_named : (ms : List FollowedMember) (ys : List (Text × PartScope)) → AllZip (MemberShown t) ms ys
+      → map (path_at t) (flat_map (λ (m : FollowedMember). scope_places (scope_in m)) ms) ≡ flat_map (λ (y : Text × PartScope). paths_in (meant_scope y.1)) ys
+  members_named [] [] all = refl
+  members_named [] (y ∷ ys) all = absurd all
+  members_named (m ∷ ms) [] all = absurd all
+  members_named (m ∷ ms) (y ∷ ys) all =
+      append_of_map (path_at t) (scope_places (scope_in m)) (flat_map (λ (k : FollowedMember). scope_places (scope_in k)) ms) ∙ (λ i. part_named m.part y.1 all.0.1 i ++ members_named ms ys all.1 i)
+
+-- the places of all instances of an input, in order, are those of the paths that its parts show
+pub places_shown_under : (pieces : List Piece) (x : Followed) (h : Homes) (ms : List KeptMember) (members : List Member) → IsReadInput pieces x h ms members
+    → map (path_at (tables_of x)) (flat_map scope_places (scopes_in x)) ≡ flat_map shown_under members
+places_shown_under pieces x h ms members input =
+    let t = tables_of x in
+    let parts = input.followed.parts in
+    let found = input.followed.exported in
+    let scopes = bind_some (scopes_of pieces) (each member_of_scope) members input.reads in
+    let numbers = input_in_numbers pieces x input.followed in
+    let same : numbers.scopes ≡ scopes.0 = some_is numbers.scopes scopes.0 (sym numbers.found ∙ scopes.1) in
+    ap (map (path_at t)) (sym (flat_mapped scope_places (scope_in t) x.members.items))
+    ∙ (members_named t x.members.items scopes.0 (subst (λ (ys : List (Text × PartScope)). AllZip (MemberShown t) x.members.items ys) same numbers.shown)
+    ∙ all_paths parts scopes.0 members (each_beside labelled_scope parts scopes.0 (scopes_found pieces parts found scopes.0 scopes.1)) (each_beside member_of_scope scopes.0 members scopes.2))

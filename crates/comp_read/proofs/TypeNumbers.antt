@@ -1,0 +1,309 @@
+-- Types are numbered in the order of the interfaces that show them.
+use Rattle.std.proofs.Common.{◌≡◌, refl, sym, ap, subst, ◌∙◌, ℕ, zero, suc, ◌+◌, ◌<◌, ◌⊎◌, inl, inr, arith, Bool, true, nat_lt, List, [], ◌∷◌, ◌++◌, map, Option, Some, slice_get}
+use Rattle.std.specs.List.{AllByRecursion, AllZip, Contains, flat_map, list_all}
+use Rattle.std.proofs.lemmas.Bool.{and_from as both, lt-ltb}
+use Rattle.std.proofs.lemmas.List.{append-nil}
+use Rattle.std.proofs.lemmas.List.Elements.{Contains-append_cases, Contains-append_left}
+use Rattle.wit_model.specs.Text.{Text}
+use Rattle.wit_model.specs.Uses.{once}
+use Rattle.wit_model.proofs.Elements.{contains-get, none-in}
+use Rattle.comp_bytes.specs.Levels.{Piece}
+use Rattle.comp_bytes.proofs.Readers.{bind_some}
+use Rattle.comp_meaning.specs.Follow.{each}
+use Rattle.comp_meaning.specs.Reads as reads
+use Rattle.plan_meaning.specs.FollowedNumbers.{AreMembersIn, IsPartIn, IsViewIn}
+use Rattle.plan_meaning.specs.NumberedMembers.{Homes, IsMember, NumberedMember}
+use Rattle.plan_meaning.specs.NumberedRules.{Fact}
+use Rattle.plan_meaning.specs.NumberedViews.{NumberedSight, NumberedSlot, NumberedType, NumberedView, Tables, first_at, path_at, resource, value}
+use Rattle.plan_meaning.specs.NumberedWorlds.{HasPath, NumberedInstance, NumberedScope}
+use Rattle.plan_meaning.specs.Plan.{PlannedInterface, numbers_of}
+use Rattle.plan_meaning.specs.PlanRules.{are_rising}
+use Rattle.plan_meaning.specs.Renumbering.{IsPart, a_primitive, a_shape}
+use Rattle.plan_parts.specs.Interfaces.{slot_part}
+use Rattle.plan_parts.specs.Kept.{AreMarked}
+use Rattle.plan_types.specs.Orders.{joined_all, places_of_part}
+use Rattle.plan_package.specs.Views.{views_of_members, views_of_part, whole_view}
+use Rattle.plan_package.specs.WholeInterfaces.{Home, ListsNumber, PlansPlace}
+use Rattle.plan_laws.specs.OneWorld.{AreOwnInterfaces}
+use Rattle.plan_laws.proofs.FirstViews.{first_is}
+use Rattle.plan_laws.proofs.Inside.{flat_cases}
+use Rattle.read_exports.specs.Members.{numbered_member, numbered_members, numbered_part}
+use Rattle.read_exports.specs.declared.members.Member.{Member}
+use Rattle.read_exports.specs.declared.members.Part.{Part}
+use Rattle.read_exports.specs.declared.members.Part.TheVariants as parts
+use Rattle.read_rules.specs.Reached.{numbered_import}
+use Rattle.read_rules.specs.Scopes.{numbered_scope}
+use Rattle.read_rules.specs.declared.scopes.Scope.{Scope}
+use Rattle.read_members.specs.PartMembers.{IsMemberOf, IsPartOf}
+use Rattle.read_parts.specs.declared.following.Followed.{Followed}
+use Rattle.read_parts.specs.declared.members.FollowedPart.{FollowedPart}
+use Rattle.read_parts.specs.declared.members.FollowedPart.TheVariants as followed
+use Rattle.read_parts.specs.declared.members.Member.{Member as FollowedMember}
+use Rattle.read_parts.specs.Followed.{labelled_scope, member_of_scope, scopes_of}
+use Rattle.read_parts.specs.Members.{scope_of}
+use Rattle.read_numbers.specs.NumberedInput.{MemberShown, tables_of}
+use Rattle.read_numbers.specs.NumberedParts.{numbered_scope as followed_scope}
+use Rattle.read_numbers.specs.PlacedNumbers.{part_of, IsFirstSeen, IsInstanceAt, IsNumbered, scopes_in}
+use Rattle.read_numbers.proofs.InputNumbers.{input_in_numbers}
+use Rattle.comp_read.specs.Order.{shown_under}
+use Rattle.comp_read.specs.ReadInput.{IsReadInput, ViewsObey}
+use Rattle.comp_read.proofs.ByScopes.{scopes_found}
+use Rattle.comp_read.proofs.CountedUp.{IsBeforeIn, in_earlier, in_same}
+use Rattle.comp_read.proofs.Inputs.{read_members_are_in}
+use Rattle.comp_read.proofs.InterfaceViews.{each_beside}
+use Rattle.comp_read.proofs.Members.{instance_shown, placed, tables}
+use Rattle.comp_read.proofs.NewNumbers.{Pairs, StandNew, joined_pairs, new_flat}
+use Rattle.comp_read.proofs.Ordered.{instance_of_any}
+use Rattle.comp_read.proofs.OwnViews.{view_among}
+use Rattle.comp_read.proofs.ShownOrder.{part_paths}
+use Rattle.comp_read.proofs.ShownScopes.{one_paths, one_stands, part_named, scope_in, scope_places}
+use Rattle.comp_read.proofs.Views.{instance_placed, same_numbers, told_same}
+use Rattle.comp_read.proofs.WorldOrder.{joined_behind}
+use Rattle.base_lemmas.proofs.Bools.{left_of as first_true, right_of as second_true}
+use Rattle.base_lemmas.proofs.Elements.{all-contained, all_at, all_both, all_pass, contains-later, contains-map, first-contained, get-contains, map_from, zip_at, zip_at_right, zip_each}
+use Rattle.base_lemmas.proofs.Lists.{flat_mapped, get_back, mapped_get, one_item}
+use Rattle.base_lemmas.proofs.Options.{some_is}
+
+-- ---- numbers that rise
+
+rising_both : (us vs : List ℕ) → are_rising us ≡ true → are_rising vs ≡ true → ((c d : ℕ) → Contains us c → Contains vs d → c < d) → are_rising (us ++ vs) ≡ true
+rising_both [] vs a b less = b
+rising_both (n ∷ us) vs a b less =
+    both (list_all (nat_lt n) (us ++ vs)) (are_rising (us ++ vs)) (all_pass (nat_lt n) (us ++ vs) front)
+    (rising_both us vs (second_true (list_all (nat_lt n) us) (are_rising us) a) b (λ c d at. less c d (contains-later n us c at)))
+  where
+    front : (e : ℕ) → Contains (us ++ vs) e → nat_lt n e ≡ true
+    front e c = elim (Contains-append_cases us vs e c) [
+      | inl d ↦ all-contained (nat_lt n) us e (first_true (list_all (nat_lt n) us) (are_rising us) a) d
+      | inr d ↦ lt-ltb n e (less n e (first-contained n us) d)
+    ]
+
+rises_flat : {A : Type 0} (f : A → List ℕ) (xs : List A) → list_all (λ x. are_rising (f x)) xs ≡ true
+    → ((k l : ℕ) (x y : A) → slice_get xs k ≡ Some x → slice_get xs l ≡ Some y → k < l → (c d : ℕ) → Contains (f x) c → Contains (f y) d → c < d) → are_rising (flat_map f xs) ≡ true
+rises_flat f [] own between = refl
+rises_flat f (x ∷ xs) own between =
+    rising_both (f x) (flat_map f xs) (first_true (are_rising (f x)) (list_all (λ y. are_rising (f y)) xs) own)
+    (rises_flat f xs (second_true (are_rising (f x)) (list_all (λ y. are_rising (f y)) xs) own) (λ k l y z at_y at_z less. between (suc k) (suc l) y z at_y at_z (omega (arith, less))))
+    (λ c d c_in d_in.
+    let from = flat_cases f xs d d_in in
+    let at = contains-get xs from.0 from.1 in
+    between zero (suc at.0) x from.0 refl at.1 (omega arith) c d c_in from.2)
+
+-- lists that are made of items that are alike
+zip_flat : {A B : Type 0} (f : A → List ℕ) (g : B → List ℕ) (xs : List A) (ys : List B) → AllZip (λ x y. f x ≡ g y) xs ys → flat_map f xs ≡ flat_map g ys
+zip_flat f g [] [] zip = refl
+zip_flat f g [] (y ∷ ys) zip = absurd zip
+zip_flat f g (x ∷ xs) [] zip = absurd zip
+zip_flat f g (x ∷ xs) (y ∷ ys) zip = λ i. zip.0 i ++ zip_flat f g xs ys zip.1 i
+
+-- ---- parts
+
+-- the parts that the types of a view stand for
+abbrev part_numbers : NumberedView → List ℕ
+part_numbers v = map (λ (y : NumberedType). part_of y.slot) v.types
+
+numbered_parts : (t : Tables) (p : ℕ) (xs : List NumberedType) (ns : List ℕ) → AllZip (IsNumbered t p) xs ns → map (λ (y : NumberedType). part_of y.slot) xs ≡ map (λ n. 14 + n) ns
+numbered_parts t p [] [] z = refl
+numbered_parts t p [] (n ∷ ns) z = absurd z
+numbered_parts t p (x ∷ xs) [] z = absurd z
+numbered_parts t p (x ∷ xs) (n ∷ ns) z = λ i. z.0.0 i ∷ numbered_parts t p xs ns z.1 i
+
+same_part : (s : NumberedSlot) → slot_part s ≡ part_of s
+same_part (value k) = refl
+same_part (resource k) = refl
+
+-- a smaller part that is kept gets a smaller number
+kept_less : (marks : List Bool) (kept : List ℕ) → AreMarked marks kept → (o p c d : ℕ) → IsPart kept o (14 + c) → IsPart kept p (14 + d) → o < p → c < d
+kept_less marks kept marked o p c d (a_primitive low same) b less = absurd (omega (arith, low, same))
+kept_less marks kept marked o p c d (a_shape n j is at new) (a_primitive low same) less = absurd (omega (arith, low, same))
+kept_less marks kept marked o p c d (a_shape n j is at new) (a_shape m k other there newer) less =
+    let rises = marked.rise j k n m at there (omega (arith, is, other, less)) in
+    omega (arith, new, newer, rises)
+
+-- the type of a number of the plan
+shown_number : (kept : List ℕ) (v : NumberedView) (es : List (Text × ℕ)) → AllZip (ListsNumber kept) v.types es → (c : ℕ) → Contains (numbers_of es) c → (y : NumberedType) × Contains v.types y × IsPart kept (slot_part y.slot) (14 + c)
+shown_number kept v es zip c c_in =
+    let e = map_from (λ (e : Text × ℕ). e.1) es c c_in in
+    let at = contains-get es e.0 e.1 in
+    let y = zip_at_right (ListsNumber kept) v.types es zip at.0 e.0 at.1 in
+    (y.0, get-contains v.types at.0 y.0 y.1, subst (λ (m : ℕ). IsPart kept (slot_part y.0.slot) (14 + m)) e.2 y.2.1)
+
+-- ---- what was followed
+
+module _ (pieces : List Piece) (x : Followed) (h : Homes) (ms : List Member) (members : List reads.Member) (input : IsReadInput pieces x h ms members) (known : ℕ → Fact) (obey : ViewsObey (tables_of x) known ms) where
+  abbrev t : Tables
+  t = tables_of x
+
+  abbrev ws : List NumberedScope
+  ws = scopes_in x
+
+  -- instances of one place show the same parts
+  told_parts : (m j : ℕ) (i : NumberedInstance) → IsInstanceAt ws m j i → (n k : ℕ) (l : NumberedInstance) → IsInstanceAt ws n k l → i.place ≡ l.place → part_numbers i.view ≡ part_numbers l.view
+  told_parts m j i at n k l there same =
+      let a = instance_placed pieces x h ms members input m j i at in
+      let b = instance_placed pieces x h ms members input n k l there in
+      let named : AllZip (IsNumbered t i.place) l.view.types b.numbers = subst (λ (q : ℕ). AllZip (IsNumbered t q) l.view.types b.numbers) (sym same) b.named in
+      let one = same_numbers t (tables pieces x h ms members input) i.place i.view.types l.view.types (told_same pieces x h ms members input known obey m j i at n k l there same) a.numbers b.numbers a.named named in
+      numbered_parts t i.place i.view.types a.numbers a.named ∙ (ap (map (λ n. 14 + n)) one ∙ sym (numbered_parts t i.place l.view.types b.numbers named))
+
+  -- all types of the one place stand in front of all of the other
+  abbrev Before : ℕ → ℕ → Type 0
+  Before a b =
+      (m j : ℕ) (i : NumberedInstance) → IsInstanceAt ws m j i → i.place ≡ a → (n k : ℕ) (l : NumberedInstance) → IsInstanceAt ws n k l → l.place ≡ b
+      → (c d : ℕ) → Contains (part_numbers i.view) c → Contains (part_numbers l.view) d → c < d
+
+  before_first : (m j : ℕ) (u : NumberedInstance) → IsInstanceAt ws m j u → IsFirstSeen ws m j u.place → (n k : ℕ) (o : NumberedInstance) → IsInstanceAt ws n k o → (n < m) ⊎ ((n ≡ m) × (k < j)) → Before o.place u.place
+  before_first m j u there first n k o o_there earlier ma ja i at same nb kb l l_at l_same c d c_in d_in =
+      let old = map_from (λ (y : NumberedType). part_of y.slot) o.view.types c (subst (λ (ps : List ℕ). Contains ps c) (told_parts ma ja i at n k o o_there same) c_in) in
+      let new = map_from (λ (y : NumberedType). part_of y.slot) u.view.types d (subst (λ (ps : List ℕ). Contains ps d) (told_parts nb kb l l_at m j u there l_same) d_in) in
+      let old_at = contains-get o.view.types old.0 old.1 in
+      let new_at = contains-get u.view.types new.0 new.1 in
+      let less = (placed pieces x h ms members input).later m j u there first n k o o_there earlier old_at.0 new_at.0 old.0 new.0 old_at.1 new_at.1 in
+      subst (λ (p : ℕ). p < d) old.2 (subst (λ (p : ℕ). part_of old.0.slot < p) new.2 less)
+
+  -- the places of all instances, in order
+  abbrev places : List ℕ
+  places = flat_map scope_places ws
+
+  there_in : (k : ℕ) (w : NumberedScope) → slice_get ws k ≡ Some w → (l : ℕ) (o : NumberedInstance) → slice_get w.instances l ≡ Some o → IsInstanceAt ws k l o
+  there_in k w at l o o_at = record { scope = w; at = at; instance_at = o_at }
+
+  places_new : StandNew Before [] places
+  places_new = new_flat Before scope_places [] ws given
+    where
+      from_before : (m j a : ℕ) (u : NumberedInstance) → IsInstanceAt ws m j u → IsFirstSeen ws m j u.place → Contains [] a ⊎ IsBeforeIn scope_places ws m j a → Before a u.place
+      from_before m j a u there first (inl c) = none-in a c
+      from_before m j a u there first (inr (in_earlier k y low at c)) =
+          let o = map_from (λ (z : NumberedInstance). z.place) y.instances a c in
+          let o_at = contains-get y.instances o.0 o.1 in
+          subst (λ (q : ℕ). Before q u.place) o.2 (before_first m j u there first k o_at.0 o.0 (there_in k y at o_at.0 o.0 o_at.1) (inl low))
+      from_before m j a u there first (inr (in_same l y low at c)) =
+          let o = get_back (λ (z : NumberedInstance). z.place) y.instances l a c in
+          subst (λ (q : ℕ). Before q u.place) o.2 (before_first m j u there first m l o.0 (there_in m y at l o.0 o.1) (inr (refl, low)))
+
+      given : (m : ℕ) (w : NumberedScope) → slice_get ws m ≡ Some w → (j q : ℕ) → slice_get (scope_places w) j ≡ Some q → (Contains [] q → ⊥) → ((k : ℕ) (y : NumberedScope) → k < m → slice_get ws k ≡ Some y → Contains (scope_places y) q → ⊥)
+          → ((l : ℕ) → l < j → slice_get (scope_places w) l ≡ Some q → ⊥) → (a : ℕ) → Contains [] a ⊎ IsBeforeIn scope_places ws m j a → Before a q
+      given m w at j q e none earlier first a from =
+          let u = get_back (λ (z : NumberedInstance). z.place) w.instances j q e in
+          let seen : IsFirstSeen ws m j u.0.place = record {
+            scopes = λ k l o low there same.
+                earlier k there.scope low there.at (subst (Contains (scope_places there.scope)) (same ∙ u.2) (contains-map (λ (z : NumberedInstance). z.place) there.scope.instances o (get-contains there.scope.instances l o there.instance_at)));
+            instances = λ l o low there same.
+                let one = one_item ws m there.scope w there.at at in
+                first l low (mapped_get (λ (z : NumberedInstance). z.place) w.instances l o (subst (λ (z : NumberedScope). slice_get z.instances l ≡ Some o) one there.instance_at) ∙ ap Some (same ∙ u.2));
+          } in
+          subst (λ (p : ℕ). Before a p) u.2 (from_before m j a u.0 (there_in m w at j u.0 u.1) seen from)
+
+  places_paired : Pairs Before (joined_all [] places)
+  places_paired = joined_pairs Before [] [] places ((λ c d. d), (λ c d. d)) (λ k l a b at there less. absurd cc) places_new
+
+  -- ---- the places of what is read
+
+  imports_have : (is : List (ℕ × NumberedView)) → AllByRecursion (λ (i : ℕ × NumberedView). HasPath t i.0 × IsViewIn t i.0 i.1) is → AllByRecursion (HasPath t) (map (λ (i : ℕ × NumberedView). i.0) is)
+  imports_have [] all = tt
+  imports_have (i ∷ is) all = (all.0.0, imports_have is all.1)
+
+  -- places with the same paths are the same
+  pathed : (us vs : List ℕ) → AllByRecursion (HasPath t) vs → map (path_at t) us ≡ map (path_at t) vs → us ≡ vs
+  pathed [] [] all e = refl
+  pathed [] (b ∷ vs) all e = let wrong : ⊥ = cc in absurd wrong
+  pathed (a ∷ us) [] all e = let wrong : ⊥ = cc in absurd wrong
+  pathed (a ∷ us) (b ∷ vs) all e =
+      let first : path_at t a ≡ path_at t b = cc in
+      let more : map (path_at t) us ≡ map (path_at t) vs = cc in
+      let one : a ≡ b = (tables pieces x h ms members input).paths a b all.0.0 (first ∙ all.0.1) all.0.1 in
+      let rest = pathed us vs all.1 more in
+      λ i. one i ∷ rest i
+
+  part_alike : (a : FollowedPart) (b : Part) → IsPartOf t a b → IsPartIn t (numbered_part b) → map (path_at t) (scope_places (followed_scope t.paths (scope_of a))) ≡ map (path_at t) (places_of_part (numbered_part b))
+      → scope_places (followed_scope t.paths (scope_of a)) ≡ places_of_part (numbered_part b)
+  part_alike (followed.World path s) (parts.World w) is own same = ap scope_places (sym is.shows)
+  part_alike (followed.Interface s) (parts.Interface p v imports) is own same =
+      pathed (scope_places (followed_scope t.paths s)) (map (λ (i : ℕ × NumberedView). i.0) (map numbered_import imports.now) ++ p ∷ [])
+      (all_both (HasPath t) (map (λ (i : ℕ × NumberedView). i.0) (map numbered_import imports.now)) (p ∷ []) (imports_have (map numbered_import imports.now) own.1) (own.0.0, tt)) same
+  part_alike (followed.World path s) (parts.Interface p v imports) is own same = absurd is
+  part_alike (followed.Interface s) (parts.World w) is own same = absurd is
+
+  alike : (n : ℕ) (f : FollowedMember) (k : Member) → slice_get x.members.items n ≡ Some f → slice_get ms n ≡ Some k → scope_places (scope_in t f) ≡ places_of_part (numbered_part k.part)
+  alike n f k f_at k_at =
+      let found = input.followed.exported in
+      let scopes = bind_some (scopes_of pieces) (each member_of_scope) members input.reads in
+      let numbers = input_in_numbers pieces x input.followed in
+      let same : numbers.scopes ≡ scopes.0 = some_is numbers.scopes scopes.0 (sym numbers.found ∙ scopes.1) in
+      let y = zip_at (MemberShown t) x.members.items numbers.scopes numbers.shown n f f_at in
+      let y_at = ap (λ ys. slice_get ys n) (sym same) ∙ y.1 in
+      let z = zip_at (λ y m. member_of_scope y ≡ Some m) scopes.0 members (each_beside member_of_scope scopes.0 members scopes.2) n y.0 y_at in
+      let parts_beside = each_beside labelled_scope input.followed.parts scopes.0 (scopes_found pieces input.followed.parts found scopes.0 scopes.1) in
+      let p = zip_at_right (λ u v. labelled_scope u ≡ Some v) input.followed.parts scopes.0 parts_beside n y.0 y_at in
+      let kept_at = mapped_get numbered_member ms n k k_at in
+      let i = zip_at (IsMember t h) (numbered_members ms) members input.shown n (numbered_member k) kept_at in
+      let one : i.0 ≡ z.0 = one_item members n i.0 z.0 i.1 z.1 in
+      let numbers_in : AreMembersIn t (numbered_members ms) = read_members_are_in pieces x h ms members input known obey in
+      let own = all_at (λ (y : NumberedMember). IsPartIn t y.part) (numbered_members ms) numbers_in (numbered_member k) (get-contains (numbered_members ms) n (numbered_member k) kept_at) in
+      let both_read = zip_at (IsMemberOf t) x.members.items ms input.are n f f_at in
+      let is : IsPartOf t f.part k.part = subst (λ (m : Member). IsPartOf t f.part m.part) (one_item ms n both_read.0 k both_read.1 k_at) both_read.2.1 in
+      let shown : map (path_at t) (scope_places (scope_in t f)) ≡ shown_under z.0 = part_named t f.part y.0.1 y.2.1 ∙ one_paths y.0 z.0 (one_stands p.0 y.0 p.2) z.2 in
+      let kept : map (path_at t) (places_of_part (numbered_part k.part)) ≡ shown_under i.0 = part_paths t (tables pieces x h ms members input) h input.homes (numbered_member k) i.0 i.2.package_ i.2.label (numbered_part k.part) i.0.part i.2.part own in
+      part_alike f.part k.part is own (shown ∙ (ap shown_under (sym one) ∙ sym kept))
+
+  pub places_alike : places ≡ flat_map (λ (k : NumberedMember). places_of_part k.part) (numbered_members ms)
+  places_alike =
+      sym (flat_mapped scope_places (scope_in t) x.members.items)
+      ∙ (zip_flat (λ (f : FollowedMember). scope_places (scope_in t f)) (λ (k : Member). places_of_part (numbered_part k.part)) x.members.items ms
+      (zip_each (IsMemberOf t) (λ f k. scope_places (scope_in t f) ≡ places_of_part (numbered_part k.part)) x.members.items ms input.are alike)
+      ∙ flat_mapped (λ (k : NumberedMember). places_of_part k.part) numbered_member ms)
+
+  -- ---- the plan
+
+  module _ (marks : List Bool) (kept : List ℕ) (marked : AreMarked marks kept) (n : ℕ) (homes : ℕ → Option Home) (seen : List NumberedSight) (within : (s : NumberedSight) → Contains seen s → Contains (views_of_members (numbered_members ms)) s)
+      (ps : List ℕ) (met : ps ≡ joined_all [] places) (is : List PlannedInterface) (planned : AllZip (PlansPlace t kept n homes seen) ps is)
+      (firsts : (k q : ℕ) → slice_get ps k ≡ Some q → (s : NumberedSight) × (first_at q seen ≡ Some s)) where
+    -- the instance of the first view of a place
+    record IsShownAt (q : ℕ) (s : NumberedSight) : Type 0 where
+      scope : ℕ
+      number : ℕ
+      at : IsInstanceAt ws scope number (instance_shown s)
+      place : s.place ≡ q
+
+    shown_at : (q : ℕ) (s : NumberedSight) → first_at q seen ≡ Some s → IsShownAt q s
+    shown_at q s e =
+        let first = first_is q seen s e in
+        let i = instance_of_any pieces x h ms members input s (within s first.0) in
+        record { scope = i.0; number = i.1.number; at = i.1.at; place = first.1 }
+
+    between : (k l : ℕ) (i j : PlannedInterface) → slice_get is k ≡ Some i → slice_get is l ≡ Some j → k < l → (c d : ℕ) → Contains (numbers_of i.types) c → Contains (numbers_of j.types) d → c < d
+    between k l i j i_at j_at less c d c_in d_in =
+        let a = zip_at_right (PlansPlace t kept n homes seen) ps is planned k i i_at in
+        let b = zip_at_right (PlansPlace t kept n homes seen) ps is planned l j j_at in
+        let u = firsts k a.0 a.1 in
+        let v = firsts l b.0 b.1 in
+        let y = shown_number kept u.0.view i.types (a.2 u.0 u.1).types c c_in in
+        let z = shown_number kept v.0.view j.types (b.2 v.0 v.1).types d d_in in
+        let first = shown_at a.0 u.0 u.1 in
+        let second = shown_at b.0 v.0 v.1 in
+        let pair : Before a.0 b.0 = subst (λ (qs : List ℕ). Pairs Before qs) (sym met) places_paired k l a.0 b.0 a.1 b.1 less in
+        let parts_less =
+        pair first.scope first.number (instance_shown u.0) first.at first.place second.scope second.number (instance_shown v.0) second.at second.place (part_of y.0.slot) (part_of z.0.slot)
+        (contains-map (λ (w : NumberedType). part_of w.slot) u.0.view.types y.0 y.1) (contains-map (λ (w : NumberedType). part_of w.slot) v.0.view.types z.0 z.1) in
+        kept_less marks kept marked (part_of y.0.slot) (part_of z.0.slot) c d (subst (λ (p : ℕ). IsPart kept p (14 + c)) (same_part y.0.slot) y.2) (subst (λ (p : ℕ). IsPart kept p (14 + d)) (same_part z.0.slot) z.2) parts_less
+
+    pub all_rise : list_all (λ (i : PlannedInterface). are_rising (numbers_of i.types)) is ≡ true → are_rising (flat_map (λ (i : PlannedInterface). numbers_of i.types) is) ≡ true
+    all_rise own = rises_flat (λ (i : PlannedInterface). numbers_of i.types) is own between
+
+-- ---- one world
+
+-- the views beside a world are views of it
+pub world_views : (t : Tables) (h : Homes) (m : Member) (w : Scope) → m.part ≡ parts.World w → (own : List Member) → AreOwnInterfaces t h m.package_number (numbered_scope w) (numbered_members own)
+    → (s : NumberedSight) → Contains (views_of_members (numbered_members (m ∷ own))) s → Contains (views_of_members (numbered_members (m ∷ []))) s
+world_views t h m w is own are s c =
+    subst (λ (a : Part). Contains (views_of_part (numbered_part a) ++ []) s) (sym is)
+    (Contains-append_left (map whole_view (numbered_scope w).instances) [] s
+    (view_among t h m.package_number (numbered_scope w) (numbered_members own) are m.label.now s (subst (λ (a : Part). Contains (views_of_part (numbered_part a) ++ views_of_members (numbered_members own)) s) is c)))
+
+-- and its places are those of what was followed
+pub world_places : (m : Member) (w : Scope) → m.part ≡ parts.World w → (ps qs : List ℕ) → ps ≡ once (map (λ (i : NumberedInstance). i.place) (numbered_scope w).instances)
+    → qs ≡ flat_map (λ (k : NumberedMember). places_of_part k.part) (numbered_members (m ∷ [])) → ps ≡ joined_all [] qs
+world_places m w is ps qs met same =
+    met
+    ∙ (sym (joined_behind [] (map (λ (i : NumberedInstance). i.place) (numbered_scope w).instances))
+    ∙ ap (joined_all []) (sym (same ∙ (ap (λ (a : Part). places_of_part (numbered_part a) ++ []) is ∙ append-nil (map (λ (i : NumberedInstance). i.place) (numbered_scope w).instances)))))
