@@ -58,7 +58,8 @@ data-in-front bytes rest found (f, front, carries) =
     record { frame = f; front = front; carry = CarryData.carrying f [] (carries.name, found.now) [] carries.custom carries.named_ carries.begins CarryData.none }
 
 -- it was merged
-pub merged : (input bytes rest d : List ℕ) (own b new : Bindgen) (answer : List WorldKey) → IsBoundTo input own bytes → IsDataInFront bytes d rest → IsBoundBy d b → IsMerge own b new answer → IsBoundTo input new rest
+pub merged : (input bytes rest d : List ℕ) (own b new : Bindgen) (answer : List WorldKey) → IsBoundTo input own bytes → IsDataInFront bytes d rest → IsBoundBy d b → IsMerge own b new answer
+    → IsBoundTo input new rest
 merged input bytes rest d own b new answer h x bound is = record {
   read = section-merged input bytes rest d own h.read x b bound new is.united is.union;
   bindgen = is.valid;
@@ -115,7 +116,8 @@ ends-reached input rest b h none = subst (IsReached input b) (no-bytes rest none
 pub no-module : (input : List ℕ) (e : Error) → e ≡ errors.NotAModule → IsNoModule input → RefusesBindings input e
 no-module input e is none = subst (RefusesBindings input) (sym is) (IsRefused.no_module none refl)
 
-pub left-over : (input bytes : List ℕ) (b : Bindgen) (offset : ℕ) (e : Error) → IsBoundTo input b bytes → bytes ≢ [] → IsFrontless bytes → offset + length bytes ≡ length input → e ≡ errors.BadModule offset → RefusesBindings input e
+pub left-over : (input bytes : List ℕ) (b : Bindgen) (offset : ℕ) (e : Error) → IsBoundTo input b bytes → bytes ≢ [] → IsFrontless bytes → offset + length bytes ≡ length input
+    → e ≡ errors.BadModule offset → RefusesBindings input e
 left-over input bytes b offset e h some none at is =
     subst (RefusesBindings input) (sym is) (left_overs_end input bytes (binding_of b) (errors.BadModule offset) h.read none (some, at))
 

@@ -44,7 +44,8 @@ pub section-otherwise : (d : List ℕ) (e : Error) → RefusesSection d e → e 
 section-otherwise d e (RefusesSection.empty none is) so = cc
 section-otherwise d e (RefusesSection.historical rest begins is) so = cc
 section-otherwise d e (RefusesSection.unread some other cause offset is within none) so = cc
-section-otherwise d e (RefusesSection.unsaid m reads says) so = said-otherwise (last_of (contents_under section_name reads.sections)) (ap (λ x. let y : Answer = Err x in y) (sym so) ∙ says reads.sections reads.spelled)
+section-otherwise d e (RefusesSection.unsaid m reads says) so = said-otherwise (last_of (contents_under section_name reads.sections))
+    (ap (λ x. let y : Answer = Err x in y) (sym so) ∙ says reads.sections reads.spelled)
 section-otherwise d e (RefusesSection.memory is) so = cc
 
 -- nor a module that is stripped
@@ -53,7 +54,8 @@ strip-otherwise input e r so = subst (RefusesModule input) so r
 
 -- ---- merges
 
-pub outgrown : (input bytes rest d : List ℕ) (own b : Bindgen) → IsBoundTo input own bytes → IsDataInFront bytes d rest → IsBoundBy d b → (e : Error) → IsMergeRefusal own b e → e ≡ errors.Size → OutgrowsLists input
+pub outgrown : (input bytes rest d : List ℕ) (own b : Bindgen) → IsBoundTo input own bytes → IsDataInFront bytes d rest → IsBoundBy d b → (e : Error) → IsMergeRefusal own b e → e ≡ errors.Size
+    → OutgrowsLists input
 outgrown input bytes rest d own b h x bound e why so = record {
   own = own;
   bytes = bytes;

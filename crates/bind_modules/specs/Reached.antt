@@ -14,7 +14,8 @@ use Rattle.bind_sections.specs.Steps.{IsDataInFront}
 pub data IsReached (input : List ℕ) : Bindgen → List ℕ → Type 0 where
   begun : (b : Bindgen) (rest : List ℕ) → input ≡ module_preamble ++ rest → IsRoot b → IsReached input b rest
   passed : (b : Bindgen) (bytes rest : List ℕ) (f : Framed) → IsReached input b bytes → IsInFront bytes f rest → (Carries f → ⊥) → IsReached input b rest
-  merged : (own other new : Bindgen) (answer : List WorldKey) (bytes d rest : List ℕ) → IsReached input own bytes → IsDataInFront bytes d rest → IsBoundBy d other → IsMerge own other new answer → IsReached input new rest
+  merged : (own other new : Bindgen) (answer : List WorldKey) (bytes d rest : List ℕ) → IsReached input own bytes → IsDataInFront bytes d rest
+      → IsBoundBy d other → IsMerge own other new answer → IsReached input new rest
 
 -- Behind some first sections stands one that carries a world, and a list of what has been reached would pass the longest with what comes of what it binds.
 pub record OutgrowsLists (input : List ℕ) : Type 0 where

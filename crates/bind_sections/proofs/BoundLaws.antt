@@ -192,7 +192,8 @@ section-refused-once d e f a b (RefusesSection.historical rest begins is) (Refus
 section-refused-once d e f a b (RefusesSection.historical rest begins is) (RefusesSection.unread some other cause offset is_too within none) = absurd (other rest begins)
 section-refused-once d e f a b (RefusesSection.historical rest begins is) (RefusesSection.unsaid m read says) = absurd (begins-otherwise d rest m read begins)
 section-refused-once d e f a b (RefusesSection.unread some other cause offset is within none) (RefusesSection.historical rest begins is_too) = absurd (other rest begins)
-section-refused-once d e f a b (RefusesSection.unread some other cause offset is within none) (RefusesSection.unread some_too other_too cause_too offset_too is_too within_too none_too) = SameRefusal.unread cause cause_too offset offset_too is is_too
+section-refused-once d e f a b (RefusesSection.unread some other cause offset is within none) (RefusesSection.unread some_too other_too cause_too offset_too is_too within_too none_too) =
+    SameRefusal.unread cause cause_too offset offset_too is is_too
 section-refused-once d e f a b (RefusesSection.unread some other cause offset is within none) (RefusesSection.unsaid m read says) = absurd (none m read)
 section-refused-once d e f a b (RefusesSection.unsaid m read says) (RefusesSection.historical rest begins is) = absurd (begins-otherwise d rest m read begins)
 section-refused-once d e f a b (RefusesSection.unsaid m read says) (RefusesSection.unread some other cause offset is within none) = absurd (none m read)
@@ -211,7 +212,8 @@ left-once input left (errors.BadModule o) (errors.BadModule p) x y =
 left-once input left (errors.BadModule o) _ x y = absurd y
 left-once input left _ f x y = absurd x
 
-refuses-once : (input left : List ℕ) (a : Binding) (ds : List (List ℕ)) (e f : Error) → e ≢ errors.Memory → f ≢ errors.Memory → Refuses (IsLeftOver input left) a ds e → Refuses (IsLeftOver input left) a ds f → SameRefusal e f
+refuses-once : (input left : List ℕ) (a : Binding) (ds : List (List ℕ)) (e f : Error) → e ≢ errors.Memory → f ≢ errors.Memory → Refuses (IsLeftOver input left) a ds e
+    → Refuses (IsLeftOver input left) a ds f → SameRefusal e f
 refuses-once input left a [] e f p q x y = left-once input left e f x y
 refuses-once input left a (d ∷ ds) e f p q (inl x) (inl y) = section-refused-once d e f p q x y
 refuses-once input left a (d ∷ ds) e f p q (inl x) (inr (m, g, means, rest)) = absurd (p (means-is-let-through d m g e means x))

@@ -104,7 +104,8 @@ sections_bind_their_worlds d b m e bound means =
     let h = has-meaning b.resolve b.world.0 m ((bound.decoded.meant m).1 means.reads) in
     let one : bound.decoded.world ≡ h.world = some-same bound.decoded.world h.world (sym bound.decoded.stands ∙ h.stands) in
     let home : bound.decoded.package_ ≡ h.home.0
-    = some-same bound.decoded.package_ h.home.0 (sym bound.decoded.home ∙ (ap (λ (x : World). option_map (λ (id : PackageId). id.0) x.package) one ∙ ap (option_map (λ (id : PackageId). id.0)) h.in_package)) in
+    = some-same bound.decoded.package_ h.home.0 (sym bound.decoded.home ∙ (ap (λ (x : World). option_map (λ (id : PackageId). id.0) x.package) one ∙ ap (option_map (λ (id : PackageId). id.0))
+    h.in_package)) in
     let alone : HoldsWorldAlone b.resolve h.home.0 h.world = subst (λ n. HoldsWorldAlone b.resolve n h.world) home (subst (HoldsWorldAlone b.resolve bound.decoded.package_) one bound.decoded.alone) in
     let said : bound.encoding ≡ e = ok-same bound.encoding e (read-back e d (Ok bound.encoding) means.says bound.says) in
     let same : binding_of b ≡ binding_of_world (world_package b.resolve h.package_ h.world) bound.encoding

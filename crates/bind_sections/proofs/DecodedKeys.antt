@@ -88,11 +88,13 @@ module _ (r : Resolve) where
   name-there owner name f c =
       let found = contains-find (map named_function owner.functions.entries) (text_of name) (function_meaning r f) (contains-map named_function owner.functions.entries (name, f) c) in
       Contains-from_any by_tie (text_of name) (keys (interface_meaning r owner).functions)
-      (sym (contains_key-keys (interface_meaning r owner).functions (text_of name)) ∙ ap is_some (get-from_entries nat_list_cmp_total (map named_function owner.functions.entries) (text_of name) ∙ found.1))
+      (sym (contains_key-keys (interface_meaning r owner).functions (text_of name)) ∙ ap is_some
+      (get-from_entries nat_list_cmp_total (map named_function owner.functions.entries) (text_of name) ∙ found.1))
 
   pub name-of : (owner : Interface) (t : Text) → Contains (keys (interface_meaning r owner).functions) t → (e : String Global × Function) × Contains owner.functions.entries e × (text_of e.0 ≡ t)
   name-of owner t c =
-      let there : is_some (get (interface_meaning r owner).functions t) ≡ true = contains_key-keys (interface_meaning r owner).functions t ∙ list_any-from_Contains (eq_by_cmp_equiv nat_list_cmp_total) t (keys (interface_meaning r owner).functions) c in
+      let there : is_some (get (interface_meaning r owner).functions t) ≡ true =
+      contains_key-keys (interface_meaning r owner).functions t ∙ list_any-from_Contains (eq_by_cmp_equiv nat_list_cmp_total) t (keys (interface_meaning r owner).functions) c in
       let x = some-of (get (interface_meaning r owner).functions t) there in
       let found = find-contains (map named_function owner.functions.entries) t x.0 (sym (get-from_entries nat_list_cmp_total (map named_function owner.functions.entries) t) ∙ x.1) in
       let e = from-map named_function owner.functions.entries (t, x.0) found in
@@ -100,7 +102,8 @@ module _ (r : Resolve) where
 
 none-named : (t : Text) → Contains (keys {X = FunctionMeaning} {R = text_cmp} empty) t → ⊥
 none-named t c =
-    let there : is_some (get {X = FunctionMeaning} {R = text_cmp} empty t) ≡ true = contains_key-keys empty t ∙ list_any-from_Contains (eq_by_cmp_equiv nat_list_cmp_total) t (keys {X = FunctionMeaning} {R = text_cmp} empty) c in
+    let there : is_some (get {X = FunctionMeaning} {R = text_cmp} empty t) ≡ true =
+    contains_key-keys empty t ∙ list_any-from_Contains (eq_by_cmp_equiv nat_list_cmp_total) t (keys {X = FunctionMeaning} {R = text_cmp} empty) c in
     let wrong : false ≡ true = sym (ap is_some (get-empty {X = FunctionMeaning} text_cmp t)) ∙ there in
     let no : ⊥ = cc in no
 
@@ -161,10 +164,13 @@ module _ (r : Resolve) (v : IsValid r) where
     keys_meant = entry_keys shown_here (entries_meaning r items)
 
     -- the keys of the functions of an interface, named or not
-    keys-of-shown : (front : Text) (n : ℕ) (external_id : Option Text) → keys_of_entry shown_here (front, record { item = interface_item r n; external_id = external_id }) ≡ map (text_under (scope_under front)) (keys (interface_meaning_at r n).functions)
+    keys-of-shown : (front : Text) (n : ℕ) (external_id : Option Text)
+        → keys_of_entry shown_here (front, record { item = interface_item r n; external_id = external_id }) ≡ map (text_under (scope_under front)) (keys (interface_meaning_at r n).functions)
     keys-of-shown front n external_id = by (interface_path r n) refl
       where
-        by : (o : Option Text) → interface_path r n ≡ o → keys_of_entry shown_here (front, record { item = option_map_or interface o (inline (interface_meaning_at r n)); external_id = external_id }) ≡ map (text_under (scope_under front)) (keys (interface_meaning_at r n).functions)
+        by : (o : Option Text) → interface_path r n ≡ o
+            → keys_of_entry shown_here (front, record { item = option_map_or interface o (inline (interface_meaning_at r n)); external_id = external_id }) ≡ map (text_under (scope_under front))
+            (keys (interface_meaning_at r n).functions)
         by None is = refl
         by (Some path) is = ap (λ o. map (text_under (scope_under front)) (functions_by_name o)) (shown-at r v w alone n path is)
 
@@ -213,12 +219,14 @@ module _ (r : Resolve) (v : IsValid r) where
           is = ap (function_key r scope) e.2 ∙ (scope-key scope shown n owner of (stands scope shown c) at t ∙ ap Some is);
         })
 
-    of-entry : (scope : WorldKey) (shown : WorldItem) (k : Text) → Contains items (scope, shown) → Stands scope shown → Contains (keys_of_entry shown_here (meant_entry (scope, shown))) k → IsFunctionKey r items k
+    of-entry : (scope : WorldKey) (shown : WorldItem) (k : Text) → Contains items (scope, shown) → Stands scope shown → Contains (keys_of_entry shown_here (meant_entry (scope, shown))) k
+        → IsFunctionKey r items k
     of-entry scope (item.Interface id stability docs external_id) k c stood listed =
         let t = from-map (text_under (scope_under (key_text r scope))) (keys (interface_meaning_at r id.0).functions) k
         (subst (λ ks. Contains ks k) (keys-of-shown (key_text r scope) id.0 (entry_meaning r (item.Interface id stability docs external_id)).external_id) listed) in
         of-owner scope (item.Interface id stability docs external_id) id.0 refl c t.0 k t.1.1 (interface_at r id.0) refl t.1.0
-    of-entry (key.Name name) (item.Function f) k c stood listed = of_item (record { name = name; function = f; stands = c; is = sym (one-contained (text_under (text_of name) (text_of name)) k listed) })
+    of-entry (key.Name name) (item.Function f) k c stood listed = of_item
+        (record { name = name; function = f; stands = c; is = sym (one-contained (text_under (text_of name) (text_of name)) k listed) })
     of-entry (key.Interface id) (item.Function f) k c stood listed = let no : ⊥ = cc in absurd no
     of-entry scope (item.Type_ id) k c stood listed = none-in k listed
 

@@ -63,8 +63,10 @@ module _ (r : Resolve) (v : IsValid r) where
   pub listed-in : (j : ℕ) (p : Package) → package_at r j ≡ Some p → (e : String Global × InterfaceId) → Contains p.interfaces.entries e → IsListedIn p
   unfolding places numbers_in_range names_in_packages
   listed-in j p at e c =
-      let range = first_true (list_all (λ id. in_list r.interfaces.items id.0) (values p.interfaces)) _ (second_true (is_place j) _ (package-passes numbers_in_range r v.rules.numbers_in_range j p at)) in
-      let there = found-in r.interfaces.items e.1.0 (all-contained (λ (id : InterfaceId). in_list r.interfaces.items id.0) (values p.interfaces) e.1 range (contains-map (λ (x : String Global × InterfaceId). x.1) p.interfaces.entries e c)) in
+      let range = first_true (list_all (λ id. in_list r.interfaces.items id.0) (values p.interfaces)) _
+      (second_true (is_place j) _ (package-passes numbers_in_range r v.rules.numbers_in_range j p at)) in
+      let there = found-in r.interfaces.items e.1.0 (all-contained (λ (id : InterfaceId). in_list r.interfaces.items id.0) (values p.interfaces) e.1 range
+      (contains-map (λ (x : String Global × InterfaceId). x.1) p.interfaces.entries e c)) in
       let names = all-contained (λ x. passes (λ i. text_is i.name (text_of x.0)) (interface_at r x.1.0)) p.interfaces.entries e
       (first_true (list_all (λ x. passes (λ i. text_is i.name (text_of x.0)) (interface_at r x.1.0)) p.interfaces.entries) _ (package-passes names_in_packages r v.rules.names_in_packages j p at)) c in
       let belongs = all-contained (interface_belongs r j) p.interfaces.entries e

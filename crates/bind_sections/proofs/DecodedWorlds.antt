@@ -54,7 +54,8 @@ module _ (r : Resolve) (v : IsValid r) (w : World)
       (has-contains (filter_map item_interface (items_of w)) n (alone n i.0 i.1)) (ap is_some is)
 
   pub shown-entry : (n : ℕ) (path : Text) → interface_path r n ≡ Some path → Contains shown_entries (path, interface_meaning_at r n)
-  shown-entry n path is = subst (Contains shown_entries) (λ i. (ap (λ (o : Option Text). unwrap_or o []) is i, interface_meaning_at r n)) (contains-map path_entry (shown_by r w) n (is-shown n path is))
+  shown-entry n path is = subst (Contains shown_entries) (λ i. (ap (λ (o : Option Text). unwrap_or o []) is i, interface_meaning_at r n))
+      (contains-map path_entry (shown_by r w) n (is-shown n path is))
 
   -- what stands under a path
   pub record IsEntryOf (e : Text × InterfaceMeaning) : Type 0 where

@@ -35,7 +35,8 @@ pub sections_fold : SectionsFold
 sections_fold a c ds = (to-fold a c ds, λ h. from-fold a c ds h.0 h.1 h.2)
 
 -- what is put in among data is put in among what they mean
-put-in : (d : List ℕ) (b : Binding) (es fs : List (List ℕ)) (cs : List Binding) → AreBindingsOf (d ∷ []) (b ∷ []) → AreBindingsOf es cs → IsDataPutInto d es fs → (gs : List Binding) × AreBindingsOf fs gs × IsPutInto b cs gs
+put-in : (d : List ℕ) (b : Binding) (es fs : List (List ℕ)) (cs : List Binding) → AreBindingsOf (d ∷ []) (b ∷ []) → AreBindingsOf es cs → IsDataPutInto d es fs → (gs : List Binding)
+    × AreBindingsOf fs gs × IsPutInto b cs gs
 put-in d b es fs cs is are (sections.here ds) = (b ∷ cs, (is.0, are), orders.here cs)
 put-in d b es fs [] is are (sections.later x ds hs p) = absurd are
 put-in d b es fs (c ∷ cs) is are (sections.later x ds hs p) =

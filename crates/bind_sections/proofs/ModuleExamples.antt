@@ -57,7 +57,8 @@ no_bytes : IsRefused [] errors.NotAModule
 no_bytes = IsRefused.no_module (λ rest is. let wrong : count [] ≡ count (module_preamble ++ rest) = ap count is in let no : ⊥ = cc in no) refl
 
 component_bytes : (rest : List ℕ) → IsRefused (preamble ++ rest) errors.NotAModule
-component_bytes more = IsRefused.no_module (λ rest is. let fifth : slice_get (preamble ++ more) 4 ≡ slice_get (module_preamble ++ rest) 4 = ap (λ (bytes : List ℕ). slice_get bytes 4) is in let no : ⊥ = omega (arith, ap (λ o. unwrap_or o 0) fifth) in no) refl
+component_bytes more = IsRefused.no_module (λ rest is. let fifth : slice_get (preamble ++ more) 4 ≡ slice_get (module_preamble ++ rest) 4 = ap (λ (bytes : List ℕ). slice_get bytes 4) is in
+    let no : ⊥ = omega (arith, ap (λ o. unwrap_or o 0) fifth) in no) refl
 
 -- a byte behind the preamble that begins no section
 one_byte : IsFrontless (0 ∷ [])
@@ -67,7 +68,8 @@ one_byte f rest h =
     none-some {A = Framed × List ℕ} (f, rest) found
 
 left_over : IsRefused (module_preamble ++ 0 ∷ []) (errors.BadModule 8)
-left_over = IsRefused.first [] (0 ∷ []) [] (record { front = []; parts = refl; sections = (refl, tt); ends = one_byte }) CarryData.none ((λ is. let wrong : count (0 ∷ []) ≡ count [] = ap count is in let no : ⊥ = cc in no), refl)
+left_over = IsRefused.first [] (0 ∷ []) [] (record { front = []; parts = refl; sections = (refl, tt); ends = one_byte }) CarryData.none
+    ((λ is. let wrong : count (0 ∷ []) ≡ count [] = ap count is in let no : ⊥ = cc in no), refl)
 
 -- ---- a section in the format of before there were versions
 

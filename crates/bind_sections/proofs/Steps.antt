@@ -38,7 +38,8 @@ no-name f custom none named =
 front-of : (bytes : List ℕ) → ((f : Framed) × (rest : List ℕ) × IsInFront bytes f rest) ⊎ IsFrontless bytes
 front-of bytes = by (frame_at bytes) refl
   where
-    by-name : (f : Framed) (rest : List ℕ) → frame_at bytes ≡ Some (f, rest) → f.0 ≡ 0 → (o : Option (List ℕ × List ℕ)) → name_at f.1 ≡ o → ((g : Framed) × (more : List ℕ) × IsInFront bytes g more) ⊎ IsFrontless bytes
+    by-name : (f : Framed) (rest : List ℕ) → frame_at bytes ≡ Some (f, rest) → f.0 ≡ 0 → (o : Option (List ℕ × List ℕ)) → name_at f.1 ≡ o → ((g : Framed) × (more : List ℕ) × IsInFront bytes g more)
+        ⊎ IsFrontless bytes
     by-name f rest at custom None none = inr (λ g more h.
         let same : (let x : Framed × List ℕ = (f, rest) in x) ≡ (g, more) = some-same (f, rest) (g, more) (sym at ∙ (ap frame_at h.parts ∙ frame_law.again g h.front more h.framed_)) in
         no-name f custom none (subst IsNamed (sym (ap (λ (x : Framed × List ℕ). x.0) same)) h.named_))
@@ -98,7 +99,8 @@ has-more bytes = more-within (length bytes) bytes (omega arith)
 told-carrying : (f : Framed) → ((d : List ℕ) × CarryData (f ∷ []) (d ∷ [])) ⊎ (Carries f → ⊥)
 told-carrying f = by (f.0 == 0) refl
   where
-    with-name : (custom : f.0 ≡ 0) (name text : List ℕ) → IsCustom (name, text) f.1 → (b : Bool) → starts_with nat_eq name carrying_name ≡ b → ((d : List ℕ) × CarryData (f ∷ []) (d ∷ [])) ⊎ (Carries f → ⊥)
+    with-name : (custom : f.0 ≡ 0) (name text : List ℕ) → IsCustom (name, text) f.1 → (b : Bool) → starts_with nat_eq name carrying_name ≡ b → ((d : List ℕ) × CarryData (f ∷ []) (d ∷ []))
+        ⊎ (Carries f → ⊥)
     with-name custom name text is true begins = inl (text, CarryData.carrying f [] (name, text) [] custom is begins CarryData.none)
     with-name custom name text is false begins = inr (λ c.
         let same = one-custom f.1 (name, text) c.1.0 is c.1.1 in
@@ -106,7 +108,8 @@ told-carrying f = by (f.0 == 0) refl
 
     by-name : (custom : f.0 ≡ 0) (o : Option (List ℕ × List ℕ)) → name_at f.1 ≡ o → ((d : List ℕ) × CarryData (f ∷ []) (d ∷ [])) ⊎ (Carries f → ⊥)
     by-name custom None none = inr (λ c. no-name f custom none (λ e. (c.1.0, c.1.1)))
-    by-name custom (Some name) is = let named = name_law.takes f.1 name.0 name.1 is in with-name custom name.0 name.1 (named.front, name.1, named.parts, named.spelled, refl) (starts_with nat_eq name.0 carrying_name) refl
+    by-name custom (Some name) is = let named = name_law.takes f.1 name.0 name.1 is in
+        with-name custom name.0 name.1 (named.front, name.1, named.parts, named.spelled, refl) (starts_with nat_eq name.0 carrying_name) refl
 
     by : (b : Bool) → (f.0 == 0) ≡ b → ((d : List ℕ) × CarryData (f ∷ []) (d ∷ [])) ⊎ (Carries f → ⊥)
     by true is = by-name (equal f.0 0 is) (name_at f.1) refl
@@ -128,7 +131,8 @@ carried-by (f ∷ fs) = by (told-carrying f) (carried-by fs)
 
 -- ---- bound
 
-binds-end : (ds : List (List ℕ)) (a c : Binding) (d : List ℕ) (m : WorldPackage) (e : StringEncoding) → Binds a ds c → SectionMeans d m e → CanUnite c (binding_of_world m e) → Binds a (ds ++ d ∷ []) (union c (binding_of_world m e))
+binds-end : (ds : List (List ℕ)) (a c : Binding) (d : List ℕ) (m : WorldPackage) (e : StringEncoding) → Binds a ds c → SectionMeans d m e → CanUnite c (binding_of_world m e)
+    → Binds a (ds ++ d ∷ []) (union c (binding_of_world m e))
 binds-end [] a c d m e same means u = (m, e, means, subst (λ x. CanUnite x (binding_of_world m e)) (sym same) u, ap (λ x. union x (binding_of_world m e)) same)
 binds-end (x ∷ ds) a c d m e (n, f, meant, v, rest) means u = (n, f, meant, v, binds-end ds (union a (binding_of_world n f)) c d m e rest means u)
 
@@ -163,7 +167,8 @@ module _ (input bytes : List ℕ) (c : Binding) (h : IsReadTo input c bytes) whe
 
   sequence-both : (fs gs : List Framed) (a b : List ℕ) → Sequence IsFrame fs a → Sequence IsFrame gs b → Sequence IsFrame (fs ++ gs) (a ++ b)
   sequence-both [] gs a b ended more = subst (Sequence IsFrame gs) (ap (λ (t : List ℕ). t ++ b) (sym ended)) more
-  sequence-both (f ∷ fs) gs a b (here, rest, parts, spelled, others) more = (here, rest ++ b, ap (λ (t : List ℕ). t ++ b) parts ∙ append_assoc here rest b, spelled, sequence-both fs gs rest b others more)
+  sequence-both (f ∷ fs) gs a b (here, rest, parts, spelled, others) more =
+      (here, rest ++ b, ap (λ (t : List ℕ). t ++ b) parts ∙ append_assoc here rest b, spelled, sequence-both fs gs rest b others more)
 
   whole : (more : HasMore bytes) → HasSections input (h.sections ++ more.sections) more.left
   whole more = record {
@@ -214,7 +219,8 @@ refusals_end input bytes rest d c error h x why =
     let others = carried-by more.sections in
     refused input bytes c h error (more-behind bytes d rest x more) (d ∷ others.0) (carry-both (x.frame ∷ []) more.sections (d ∷ []) others.0 x.carry others.1) (by more.left others.0 why)
   where
-    by : (left : List ℕ) (es : List (List ℕ)) → RefusesSection d error ⊎ ((m : WorldPackage) × (e : StringEncoding) × SectionMeans d m e × IsClashError c (binding_of_world m e) error) → Refuses (IsLeftOver input left) c (d ∷ es) error
+    by : (left : List ℕ) (es : List (List ℕ)) → RefusesSection d error ⊎ ((m : WorldPackage) × (e : StringEncoding) × SectionMeans d m e × IsClashError c (binding_of_world m e) error)
+        → Refuses (IsLeftOver input left) c (d ∷ es) error
     by left es (inl is) = inl is
     by left es (inr (m, e, means, clash)) = inr (m, e, means, inl clash)
 

@@ -31,7 +31,8 @@ pub record HasSections (bytes : List ℕ) (fs : List Framed) (left : List ℕ) :
 -- the data of the sections that carry worlds, in order
 pub data CarryData : List Framed → List (List ℕ) → Type 0 where
   none : CarryData [] []
-  carrying : (f : Framed) (fs : List Framed) (c : List ℕ × List ℕ) (ds : List (List ℕ)) → f.0 ≡ 0 → IsCustom c f.1 → starts_with nat_eq c.0 carrying_name ≡ true → CarryData fs ds → CarryData (f ∷ fs) (c.1 ∷ ds)
+  carrying : (f : Framed) (fs : List Framed) (c : List ℕ × List ℕ) (ds : List (List ℕ)) → f.0 ≡ 0 → IsCustom c f.1 → starts_with nat_eq c.0 carrying_name ≡ true
+      → CarryData fs ds → CarryData (f ∷ fs) (c.1 ∷ ds)
   other : (f : Framed) (fs : List Framed) (ds : List (List ℕ)) → (Carries f → ⊥) → CarryData fs ds → CarryData (f ∷ fs) ds
 
 -- ---- a section
@@ -46,7 +47,8 @@ pub record SectionMeans (data_ : List ℕ) (m : WorldPackage) (e : StringEncodin
 -- Onto this binding, the sections with these data bind that one.
 abbrev pub Binds : Binding → List (List ℕ) → Binding → Type 0
 Binds a [] c = a ≡ c
-Binds a (d ∷ ds) c = (m : WorldPackage) × (e : StringEncoding) × SectionMeans d m e × CanUnite a (binding_of_world m e) × Binds (union a (binding_of_world m e)) ds c
+Binds a (d ∷ ds) c = (m : WorldPackage) × (e : StringEncoding) × SectionMeans d m e × CanUnite a (binding_of_world m e)
+    × Binds (union a (binding_of_world m e)) ds c
 
 -- the clash of two bindings, as it is answered
 abbrev pub IsClashError : Binding → Binding → Error → Type 0
@@ -79,7 +81,8 @@ pub record IsBound (input : List ℕ) (c : Binding) : Type 0 where
 -- The bytes are refused so: they don't begin as a module, or this is the first refusal.
 pub data IsRefused (input : List ℕ) (error : Error) : Type 0 where
   no_module : ((rest : List ℕ) → input ≡ module_preamble ++ rest → ⊥) → error ≡ errors.NotAModule → IsRefused input error
-  first : (fs : List Framed) (left : List ℕ) (ds : List (List ℕ)) → HasSections input fs left → CarryData fs ds → Refuses (IsLeftOver input left) root_binding ds error → IsRefused input error
+  first : (fs : List Framed) (left : List ℕ) (ds : List (List ℕ)) → HasSections input fs left → CarryData fs ds
+      → Refuses (IsLeftOver input left) root_binding ds error → IsRefused input error
 
 -- The bytes are refused so, or for want of memory, or with `Size`, which another promise limits to lists that would be too long.
 abbrev pub RefusesBindings : List ℕ → Error → Type 0

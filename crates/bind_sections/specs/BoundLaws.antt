@@ -54,7 +54,8 @@ OneRefusal = (input : List ℕ) (e f : Error) → e ≢ errors.Memory → f ≢ 
 
 -- What is bound of the data of a section is the binding of the world that it means, with the encoding that it says.
 abbrev pub SectionsBindTheirWorlds : Type 0
-SectionsBindTheirWorlds = (d : List ℕ) (b : Bindgen) (m : WorldPackage) (e : StringEncoding) → IsBoundBy d b → SectionMeans d m e → IsBindgen b × (binding_of b ≡ binding_of_world m e)
+SectionsBindTheirWorlds = (d : List ℕ) (b : Bindgen) (m : WorldPackage) (e : StringEncoding) → IsBoundBy d b → SectionMeans d m e → IsBindgen b
+    × (binding_of b ≡ binding_of_world m e)
 
 -- Data that binds something means a world, and says an encoding.
 abbrev pub BoundSectionsMean : Type 0
@@ -70,4 +71,5 @@ pub record BindsItsWorld (d : List ℕ) (m : WorldPackage) (e : StringEncoding) 
 -- Data that means just what a world of a `Resolve` does, and carries an encoding, as `metadata::encode` answers it, binds that world as the one section
 -- of a module, unless the world shows an interface at the root world's path.
 abbrev pub OneSectionBinds : Type 0
-OneSectionBinds = (r : Resolve) (n : ℕ) (m : WorldPackage) (e : StringEncoding) (d : List ℕ) → MeantWorld r n m → MeansWorld r n d → CarriesEncoding e d → get m.shown root_path ≡ None → BindsItsWorld d m e
+OneSectionBinds = (r : Resolve) (n : ℕ) (m : WorldPackage) (e : StringEncoding) (d : List ℕ) → MeantWorld r n m → MeansWorld r n d → CarriesEncoding e d
+    → get m.shown root_path ≡ None → BindsItsWorld d m e

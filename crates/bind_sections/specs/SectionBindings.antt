@@ -28,12 +28,14 @@ pub record IsBoundBy (bytes : List ℕ) (b : Bindgen) : Type 0 where
 pub data RefusesSection (bytes : List ℕ) (e : Error) : Type 0 where
   empty : bytes ≡ [] → e ≡ errors.NoReading Truncated 0 → RefusesSection bytes e
   historical : (rest : List ℕ) → bytes ≡ 3 ∷ rest → e ≡ errors.Historical → RefusesSection bytes e
-  unread : (bytes ≡ [] → ⊥) → ((rest : List ℕ) → bytes ≡ 3 ∷ rest → ⊥) → (cause : Cause) (offset : ℕ) → e ≡ errors.NoReading cause offset → offset ≤ length bytes → MeansNoWorld bytes → RefusesSection bytes e
+  unread : (bytes ≡ [] → ⊥) → ((rest : List ℕ) → bytes ≡ 3 ∷ rest → ⊥) → (cause : Cause) (offset : ℕ) → e ≡ errors.NoReading cause offset
+      → offset ≤ length bytes → MeansNoWorld bytes → RefusesSection bytes e
   unsaid : (m : WorldPackage) → ReadsWorld bytes m → AnswersSaid bytes (Err e) → RefusesSection bytes e
   memory : e ≡ errors.Memory → RefusesSection bytes e
 
 -- Data that means just what world n means, and carries an encoding, as `metadata::encode` answers it: what it binds is a world that means the same, with
 -- that encoding.
 abbrev pub CarriedWorldsAreBound : Type 0
-CarriedWorldsAreBound = (r : Resolve) (n : ℕ) (e : StringEncoding) (bytes : List ℕ) (b : Bindgen) → MeansWorld r n bytes → CarriesEncoding e bytes → (bound : IsBoundBy bytes b)
+CarriedWorldsAreBound = (r : Resolve) (n : ℕ) (e : StringEncoding) (bytes : List ℕ) (b : Bindgen) → MeansWorld r n bytes → CarriesEncoding e bytes
+    → (bound : IsBoundBy bytes b)
     → ((m : WorldPackage) → MeantWorld r n m ↔ MeantWorld b.resolve b.world.0 m) × (bound.encoding ≡ e)

@@ -34,11 +34,13 @@ ReadingBegins = (input rest : List ℕ) → input ≡ module_preamble ++ rest �
 
 -- A section that carries no world is passed over.
 abbrev pub OthersArePassed : Type 0
-OthersArePassed = (input bytes rest : List ℕ) (c : Binding) (f : Framed) → IsReadTo input c bytes → IsInFront bytes f rest → (Carries f → ⊥) → IsReadTo input c rest
+OthersArePassed = (input bytes rest : List ℕ) (c : Binding) (f : Framed) → IsReadTo input c bytes → IsInFront bytes f rest → (Carries f → ⊥)
+    → IsReadTo input c rest
 
 -- One that carries a world is bound, where what it means unites with what was bound before.
 abbrev pub WorldsAreBound : Type 0
-WorldsAreBound = (input bytes rest d : List ℕ) (c : Binding) (m : WorldPackage) (e : StringEncoding) → IsReadTo input c bytes → IsDataInFront bytes d rest → SectionMeans d m e → CanUnite c (binding_of_world m e)
+WorldsAreBound = (input bytes rest d : List ℕ) (c : Binding) (m : WorldPackage) (e : StringEncoding) → IsReadTo input c bytes → IsDataInFront bytes d rest
+    → SectionMeans d m e → CanUnite c (binding_of_world m e)
     → IsReadTo input (union c (binding_of_world m e)) rest
 
 -- Where nothing is left, that is what the module binds.
@@ -48,8 +50,10 @@ ReadingEnds = (input : List ℕ) (c : Binding) → IsReadTo input c [] → IsBou
 -- The first refusal of a section, or its clash with what was bound before it, is that of the module, whatever follows.
 abbrev pub RefusalsEnd : Type 0
 RefusalsEnd = (input bytes rest d : List ℕ) (c : Binding) (error : Error) → IsReadTo input c bytes → IsDataInFront bytes d rest
-    → RefusesSection d error ⊎ ((m : WorldPackage) × (e : StringEncoding) × SectionMeans d m e × IsClashError c (binding_of_world m e) error) → IsRefused input error
+    → RefusesSection d error ⊎ ((m : WorldPackage) × (e : StringEncoding) × SectionMeans d m e × IsClashError c (binding_of_world m e) error)
+    → IsRefused input error
 
 -- Where something is left, and no section stands in front of it, the module is refused for that.
 abbrev pub LeftOversEnd : Type 0
-LeftOversEnd = (input bytes : List ℕ) (c : Binding) (error : Error) → IsReadTo input c bytes → IsFrontless bytes → IsLeftOver input bytes error → IsRefused input error
+LeftOversEnd = (input bytes : List ℕ) (c : Binding) (error : Error) → IsReadTo input c bytes → IsFrontless bytes → IsLeftOver input bytes error
+    → IsRefused input error

@@ -68,7 +68,8 @@ pub record MergesModules (first second : List ℕ) (b : Bindgen) : Type 0 where
 pub data RefusesModules (first second : List ℕ) (error : Error) : Type 0 where
   no_first : RefusesBindings first error → RefusesModules first second error
   no_second : RefusesBindings second error → RefusesModules first second error
-  apart : (own other : Bindgen) → IsBound first (binding_of own) → IsBound second (binding_of other) → IsMergeRefusal own other error → RefusesModules first second error
+  apart : (own other : Bindgen) → IsBound first (binding_of own) → IsBound second (binding_of other) → IsMergeRefusal own other error
+      → RefusesModules first second error
 
 -- The text is of the first package of the union.
 pub record PrintsModules (first second text : List ℕ) : Type 0 where

@@ -43,7 +43,8 @@ means_some : (p : Plan) (k : PlannedPackage) → package_in p p.main ≡ Some k 
 unfolding plan_meaning
 means_some p k at = ap (option_map (package_meaning p)) at
 
-both : (r : Resolve) (n : ℕ) (m : PackageMeaning) (a b : Option PackageMeaning) → a ≡ b → (Meant r n m → a ≡ Some m) × ((a ≡ Some m) → Meant r n m) → (Meant r n m → b ≡ Some m) × ((b ≡ Some m) → Meant r n m)
+both : (r : Resolve) (n : ℕ) (m : PackageMeaning) (a b : Option PackageMeaning) → a ≡ b → (Meant r n m → a ≡ Some m) × ((a ≡ Some m) → Meant r n m) → (Meant r n m → b ≡ Some m)
+    × ((b ≡ Some m) → Meant r n m)
 both r n m a b same is = subst (λ (o : Option PackageMeaning). (Meant r n m → o ≡ Some m) × ((o ≡ Some m) → Meant r n m)) same is
 
 module _ (p : Plan) (r : Resolve) (found : Option PackageMeaning) (is : MeansFound found p) (built : IsBuildable p → IsBuilt p r) (valid : IsPlan p → IsValid r) (meant : MeansPlan p r) (others : OthersRise p p.main) where

@@ -11,7 +11,8 @@ use Rattle.read_parts.specs.Followed.{PartScope, labelled_scope, member_of_scope
 use Rattle.read_parts.proofs.ScopeMeaning.{each_both, member_law}
 
 -- the scopes of these parts are the items of the sections' parts
-pub scopes_found : (pieces : List Piece) (parts : List (Text × PartType)) → exported_parts pieces ≡ Some parts → (scopes : List (Text × PartScope)) → scopes_of pieces ≡ Some scopes → each labelled_scope parts ≡ Some scopes
+pub scopes_found : (pieces : List Piece) (parts : List (Text × PartType)) → exported_parts pieces ≡ Some parts → (scopes : List (Text × PartScope)) → scopes_of pieces ≡ Some scopes
+    → each labelled_scope parts ≡ Some scopes
 unfolding scopes_of
 scopes_found pieces parts found scopes e = by parts (ap (λ o. o >>= scopes_in) (sym found) ∙ e)
   where
@@ -20,7 +21,8 @@ scopes_found pieces parts found scopes e = by parts (ap (λ o. o >>= scopes_in) 
     by (p ∷ ps) g = g
 
 -- there is a part
-pub parts_filled : (pieces : List Piece) (parts : List (Text × PartType)) → exported_parts pieces ≡ Some parts → (scopes : List (Text × PartScope)) → scopes_of pieces ≡ Some scopes → is_filled parts ≡ true
+pub parts_filled : (pieces : List Piece) (parts : List (Text × PartType)) → exported_parts pieces ≡ Some parts → (scopes : List (Text × PartScope)) → scopes_of pieces ≡ Some scopes
+    → is_filled parts ≡ true
 unfolding scopes_of
 parts_filled pieces parts found scopes e = by parts (ap (λ o. o >>= scopes_in) (sym found) ∙ e)
   where
@@ -28,7 +30,8 @@ parts_filled pieces parts found scopes e = by parts (ap (λ o. o >>= scopes_in) 
     by [] g = let wrong : ◌≡◌ {A = Option (List (Text × PartScope))} None (Some scopes) = g in absurd cc
     by (p ∷ ps) g = refl
 
-pub members_by_scopes : (pieces : List Piece) (parts : List (Text × PartType)) → exported_parts pieces ≡ Some parts → (members : List Member) → (scopes_of pieces >>= each member_of_scope) ≡ Some members → each member_by_levels parts ≡ Some members
+pub members_by_scopes : (pieces : List Piece) (parts : List (Text × PartType)) → exported_parts pieces ≡ Some parts → (members : List Member)
+    → (scopes_of pieces >>= each member_of_scope) ≡ Some members → each member_by_levels parts ≡ Some members
 members_by_scopes pieces parts found members reads =
     let scopes = bind_some (scopes_of pieces) (each member_of_scope) members reads in
     each_both labelled_scope member_of_scope member_by_levels member_law parts ∙ (ap (λ o. o >>= each member_of_scope) (scopes_found pieces parts found scopes.0 scopes.1) ∙ scopes.2)

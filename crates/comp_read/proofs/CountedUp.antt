@@ -96,7 +96,8 @@ pub record IsOfSmaller (P : ℕ → Type 0) (g : ℕ → List ℕ) (n c : ℕ) :
   pub kind : P one
   pub there : Contains (g one) c
 
-pub behind_mapped : (P : ℕ → Type 0) (g : ℕ → List ℕ) → ((n d : ℕ) → Contains (g n) d → (c : ℕ) → c < d → IsOfSmaller P g n c) → (front ns : List ℕ) → StandBehind P front ns → StandBehind Any (flat_map g front) (flat_map g ns)
+pub behind_mapped : (P : ℕ → Type 0) (g : ℕ → List ℕ) → ((n d : ℕ) → Contains (g n) d → (c : ℕ) → c < d → IsOfSmaller P g n c) → (front ns : List ℕ) → StandBehind P front ns
+    → StandBehind Any (flat_map g front) (flat_map g ns)
 behind_mapped P g given front [] is = tt
 behind_mapped P g given front (n ∷ ns) is =
     behind_both Any (flat_map g front) (g n) (flat_map g ns) (behind_numbered Any (flat_map g front) (g n) here)
@@ -118,7 +119,10 @@ behind_mapped P g given front (n ∷ ns) is =
 -- all that are smaller than one of these stand in front of them all
 pub behind_low : (front ns : List ℕ) → ((n : ℕ) → Contains ns n → (c : ℕ) → c < n → Contains front c) → StandBehind Any front ns
 behind_low front [] low = tt
-behind_low front (n ∷ ns) low = ((λ c less p. low n (first-contained n ns) c less), behind_low (front ++ n ∷ []) ns (λ m d c less. Contains-append_left front (n ∷ []) c (low m (contains-later n ns m d) c less)))
+behind_low front (n ∷ ns) low = (
+  (λ c less p. low n (first-contained n ns) c less),
+  behind_low (front ++ n ∷ []) ns (λ m d c less. Contains-append_left front (n ∷ []) c (low m (contains-later n ns m d) c less)),
+)
 
 -- ---- all numbers below one
 

@@ -71,7 +71,8 @@ module _ (t : Tables) where
   under_key vs (shown.Function name f) is = tt
   under_key vs (shown.Type name part d) is = tt
 
-  all_under : (vs : List NumberedView) (ss : List FollowedSeen) → AllByRecursion (λ (s : follow.Seen). HasLabel s.shown) (map (seen_of t) (map (followed_seen t.paths vs) ss)) → AllByRecursion (λ (s : NumberedSeen). IsUnderKey t s.key s.shown) (map (followed_seen t.paths vs) ss)
+  all_under : (vs : List NumberedView) (ss : List FollowedSeen) → AllByRecursion (λ (s : follow.Seen). HasLabel s.shown) (map (seen_of t) (map (followed_seen t.paths vs) ss))
+      → AllByRecursion (λ (s : NumberedSeen). IsUnderKey t s.key s.shown) (map (followed_seen t.paths vs) ss)
   all_under vs [] all = tt
   all_under vs (s ∷ ss) all = (under_key vs s.shown all.0, all_under vs ss all.1)
 
@@ -116,7 +117,8 @@ module _ (pieces : List Piece) (x : Followed) (h : Homes) (ms : List Member) (me
       let numbers = input_in_numbers pieces x input.followed in
       let s = zip_there (MemberShown t) x.members.items numbers.scopes numbers.shown m one there in
       let parts_all = input.followed.parts in
-      let y = zip_at (λ y z. labelled_scope y ≡ Some z) parts_all numbers.scopes (each_beside labelled_scope parts_all numbers.scopes (scopes_found pieces parts_all input.followed.exported numbers.scopes numbers.found)) m s.0 s.1 in
+      let y = zip_at (λ y z. labelled_scope y ≡ Some z) parts_all numbers.scopes
+      (each_beside labelled_scope parts_all numbers.scopes (scopes_found pieces parts_all input.followed.exported numbers.scopes numbers.found)) m s.0 s.1 in
       record { scope = meant_in s.0.1; shows = part_shows t one.part s.0.1 s.2.1; labels = labelled_labels y.0 s.0 y.2 }
 
   -- ---- one world
@@ -160,12 +162,15 @@ module _ (pieces : List Piece) (x : Followed) (h : Homes) (ms : List Member) (me
         let same : scope_in pieces x h ms members input b.one ≡ W = sym (world_scope pieces x h ms members input m member b w is).shows in
         let vs = map instance_view (scope_of b.one.part).instances.items in
         record {
-          imports = subst (λ (z : NumberedScope). AllByRecursion (λ (s : NumberedSeen). IsUnderKey t s.key s.shown) z.imports) same (all_under t vs (scope_of b.one.part).imports.items (subst (AllByRecursion (λ (s : follow.Seen). HasLabel s.shown)) meant.shows.imports meant.labels.imports));
-          exports = subst (λ (z : NumberedScope). AllByRecursion (λ (s : NumberedSeen). IsUnderKey t s.key s.shown) z.exports) same (all_under t vs (scope_of b.one.part).exports.items (subst (AllByRecursion (λ (s : follow.Seen). HasLabel s.shown)) meant.shows.exports meant.labels.exports));
+          imports = subst (λ (z : NumberedScope). AllByRecursion (λ (s : NumberedSeen). IsUnderKey t s.key s.shown) z.imports) same
+              (all_under t vs (scope_of b.one.part).imports.items (subst (AllByRecursion (λ (s : follow.Seen). HasLabel s.shown)) meant.shows.imports meant.labels.imports));
+          exports = subst (λ (z : NumberedScope). AllByRecursion (λ (s : NumberedSeen). IsUnderKey t s.key s.shown) z.exports) same
+              (all_under t vs (scope_of b.one.part).exports.items (subst (AllByRecursion (λ (s : follow.Seen). HasLabel s.shown)) meant.shows.exports meant.labels.exports));
           counted = counted;
         }
 
-  part_followed : (m : ℕ) (member : Member) → IsBoth pieces x h ms members input m member → (a : Part) → member.part ≡ a → AllByRecursion (λ (w : Text × Scope). WorldIsFollowed t (numbered_scope w.1)) (world_in_part member.label.now a)
+  part_followed : (m : ℕ) (member : Member) → IsBoth pieces x h ms members input m member → (a : Part) → member.part ≡ a
+      → AllByRecursion (λ (w : Text × Scope). WorldIsFollowed t (numbered_scope w.1)) (world_in_part member.label.now a)
   part_followed m member b (parts.World w) e = (world_followed m member b w e, tt)
   part_followed m member b (parts.Interface p v imports) e = tt
 
@@ -228,4 +233,5 @@ read_places_are_met pieces x h ms members input q path =
     let y = both_there pieces x h ms members input is.scope is.at.scope is.at.at in
     let viewed = part_viewed pieces x h ms members input is.scope y.0 y.1 is.number is.one (ap (λ (z : NumberedScope). slice_get z.instances is.number) y.2 ∙ is.at.instance_at) in
     subst (Contains (places_in ms)) is.place
-    (view_met ms (numbered_member y.0) (contains-map numbered_member ms y.0 (get-contains ms is.scope y.0 y.1.at)) (record { place = is.one.place; view = is.one.view; whole = viewed.whole }) viewed.there)
+    (view_met ms (numbered_member y.0) (contains-map numbered_member ms y.0 (get-contains ms is.scope y.0 y.1.at)) (record { place = is.one.place; view = is.one.view; whole = viewed.whole })
+    viewed.there)

@@ -76,21 +76,24 @@ module _ (pieces : List Piece) (x : Followed) (h : Homes) (ms : List Member) (me
     keys_differ =
         ap distinct (sym (map_of_map (λ (s : follow.Seen). s.key) (seen_of t) W.imports))
         ∙ (ap (λ (ss : List follow.Seen). distinct (map (λ (s : follow.Seen). s.key) ss)) (sym read.shows.imports)
-        ∙ third_of (rules.are_imports [] read.scope.imports) (list_all (λ (s : follow.Seen). rules.is_item [] s.key s.shown) read.scope.exports) (distinct (map (λ (s : follow.Seen). s.key) read.scope.imports)) (distinct (map (λ (s : follow.Seen). s.key) read.scope.exports))
+        ∙ third_of (rules.are_imports [] read.scope.imports) (list_all (λ (s : follow.Seen). rules.is_item [] s.key s.shown) read.scope.exports)
+        (distinct (map (λ (s : follow.Seen). s.key) read.scope.imports)) (distinct (map (λ (s : follow.Seen). s.key) read.scope.exports))
         (rules.stand_earlier [] (read.scope.imports ++ read.scope.exports)) read.stands.obeys)
 
     -- no type is exported
     no_types : AllByRecursion HasNoType W.exports
     no_types =
         all_unmapped (λ (s : follow.Seen). scopes.is_type s.shown ≡ false) (seen_of t) W.exports
-        (subst (AllByRecursion (λ (s : follow.Seen). scopes.is_type s.shown ≡ false)) read.shows.exports (all_given (λ (s : follow.Seen). scopes.is_type s.shown ≡ false) read.scope.exports (λ n s e. read.stands.stands.no_types n s e)))
+        (subst (AllByRecursion (λ (s : follow.Seen). scopes.is_type s.shown ≡ false)) read.shows.exports
+        (all_given (λ (s : follow.Seen). scopes.is_type s.shown ≡ false) read.scope.exports (λ n s e. read.stands.stands.no_types n s e)))
 
   -- ---- names of imports
 
   names_are : (home : ℕ) (c : Seen) → IsSeenNamed t home c → DeclaresName t home c
   names_are home c named = by c.key c.external_id c.shown named
     where
-      by : (key : Bor (List ℕ)) (id : Option (Bor (List ℕ))) (s : Shown) → IsSeenNamed t home (record { key = key; shown = s; external_id = id }) → DeclaresName t home (record { key = key; shown = s; external_id = id })
+      by : (key : Bor (List ℕ)) (id : Option (Bor (List ℕ))) (s : Shown) → IsSeenNamed t home (record { key = key; shown = s; external_id = id })
+          → DeclaresName t home (record { key = key; shown = s; external_id = id })
       by key id (shown.Instance k v) name = tt
       by key id (shown.Function n) name = tt
       by key id (shown.Declares part d) name = let is = name part refl in (is.number, is.is, is.shape)
@@ -104,7 +107,8 @@ module _ (pieces : List Piece) (x : Followed) (h : Homes) (ms : List Member) (me
           let home : (scope_in pieces x h ms members input b.one).home ≡ w.home = ap (λ (z : NumberedScope). z.home) (sym scope.shows) in
           recursion_weaker (IsSeenNamed t w.home) (DeclaresName t w.home) (names_are w.home) w.imports.now
           (subst (λ q. AllByRecursion (IsSeenNamed t q) w.imports.now) home
-          (imports_are_named pieces x input.followed m b.one b.there (map instance_view (scope_of b.one.part).instances.items) w.imports.now (ap (λ (z : NumberedScope). z.imports) scope.shows) scope.imports))
+          (imports_are_named pieces x input.followed m b.one b.there (map instance_view (scope_of b.one.part).instances.items) w.imports.now (ap (λ (z : NumberedScope). z.imports) scope.shows)
+          scope.imports))
       by (parts.Interface p v imports) e = tt
 
   pub members_named : AllByRecursion (λ (m : Member). PartDeclaresNames t m.part) ms
@@ -120,7 +124,8 @@ module _ (pieces : List Piece) (x : Followed) (h : Homes) (ms : List Member) (me
       viewed_in i c = let there = contains-get w.instances i c in instance_in pieces x h ms members input known obey m there.0 i (record { scope = w; at = at; instance_at = there.1 })
 
       import_in : (j : ℕ) (s : NumberedSeen) → slice_get w.imports j ≡ Some s → IsSeenIn t w.home s
-      import_in j s e = by s.shown refl (all_at (λ (y : NumberedSeen). IsPlacedItem t w.home y.shown) w.imports good.imports s among) (all_at (λ (y : NumberedSeen). IsOneOf t w.instances y.shown) w.imports good.imported s among)
+      import_in j s e = by s.shown refl (all_at (λ (y : NumberedSeen). IsPlacedItem t w.home y.shown) w.imports good.imports s among)
+          (all_at (λ (y : NumberedSeen). IsOneOf t w.instances y.shown) w.imports good.imported s among)
         where
           among : Contains w.imports s
           among = get-contains w.imports j s e
@@ -136,9 +141,11 @@ module _ (pieces : List Piece) (x : Followed) (h : Homes) (ms : List Member) (me
               (last.number, record { named = last.shape; behind = last.declared; met = all_met t (tables pieces x h ms members input) w.home d item })
 
       export_in : (s : NumberedSeen) → Contains w.exports s → IsSeenIn t w.home s
-      export_in s c = by s.shown (all_at (λ (y : NumberedSeen). IsPlacedItem t w.home y.shown) w.exports good.exports s c) (all_at (λ (y : NumberedSeen). IsOneOf t w.instances y.shown) w.exports good.exported s c) (all_at HasNoType w.exports none s c)
+      export_in s c = by s.shown (all_at (λ (y : NumberedSeen). IsPlacedItem t w.home y.shown) w.exports good.exports s c)
+          (all_at (λ (y : NumberedSeen). IsOneOf t w.instances y.shown) w.exports good.exported s c) (all_at HasNoType w.exports none s c)
         where
-          by : (y : NumberedShown) → IsPlacedItem t w.home y → IsOneOf t w.instances y → scopes.is_type (shown_of t y) ≡ false → IsSeenIn t w.home (record { key = s.key; shown = y; external_id = s.external_id })
+          by : (y : NumberedShown) → IsPlacedItem t w.home y → IsOneOf t w.instances y → scopes.is_type (shown_of t y) ≡ false
+              → IsSeenIn t w.home (record { key = s.key; shown = y; external_id = s.external_id })
           by (worlds.instance key v) item one free = (item.0, viewed_in (record { place = place_of_key key; view = v }) one)
           by (worlds.function n) item one free = function_in t (tables pieces x h ms members input) w.home n item
           by (worlds.declares d) item one free = let wrong : true ≡ false = free in absurd cc
@@ -158,7 +165,8 @@ module _ (pieces : List Piece) (x : Followed) (h : Homes) (ms : List Member) (me
       world_in w e =
           let read = world_read pieces x h ms members input member (get-contains ms m member b.at) w e in
           let same : scope_in pieces x h ms members input b.one ≡ numbered_scope w = sym (world_scope pieces x h ms members input m member b w e).shows in
-          scope_is_in m (numbered_scope w) (scope_at pieces x h ms members input m member b ∙ ap Some same) (subst (IsPlacedScope t) same (scope_placed pieces x h ms members input m member b)) (keys_differ w read) (no_types w read)
+          scope_is_in m (numbered_scope w) (scope_at pieces x h ms members input m member b ∙ ap Some same) (subst (IsPlacedScope t) same (scope_placed pieces x h ms members input m member b))
+          (keys_differ w read) (no_types w read)
 
       view_in : (s : NumberedSight) → Contains (views_of_part (numbered_part member.part)) s → IsViewIn t s.place s.view
       view_in s c =
@@ -168,7 +176,9 @@ module _ (pieces : List Piece) (x : Followed) (h : Homes) (ms : List Member) (me
       interface_in : (p : ℕ) (v : View) (imports : Bor (List ImportedView)) → member.part ≡ parts.Interface p v imports → IsPartIn t (numbered_part (parts.Interface p v imports))
       interface_in p v imports e = (
         view own own_there,
-        all_of (λ (i : ℕ × NumberedView). HasPath t i.0 × IsViewIn t i.0 i.1) (map numbered_import imports.now) (λ i c. view (types_alone i) (Contains-append_left (map types_alone (map numbered_import imports.now)) (own ∷ []) (types_alone i) (contains-map types_alone (map numbered_import imports.now) i c))),
+        all_of (λ (i : ℕ × NumberedView). HasPath t i.0 × IsViewIn t i.0 i.1) (map numbered_import imports.now)
+            (λ i c. view (types_alone i) (Contains-append_left (map types_alone (map numbered_import imports.now)) (own ∷ []) (types_alone i)
+            (contains-map types_alone (map numbered_import imports.now) i c))),
       )
         where
           own : NumberedSight
@@ -196,7 +206,14 @@ module _ (pieces : List Piece) (x : Followed) (h : Homes) (ms : List Member) (me
         subst (λ (m : NumberedMember). IsPartIn t m.part) from.2 (part_in there.0 from.0 (both_at pieces x h ms members input there.0 from.0 there.1)))
 
     pub is_input : IsInput t h ms members
-    is_input = record { tables = tables pieces x h ms members input; homes = input.homes; shown = input.shown; stand = members_stand_together members (members_stand pieces x h ms members input); numbers = members_in; declared = members_named }
+    is_input = record {
+      tables = tables pieces x h ms members input;
+      homes = input.homes;
+      shown = input.shown;
+      stand = members_stand_together members (members_stand pieces x h ms members input);
+      numbers = members_in;
+      declared = members_named;
+    }
 
 pub read_members_stand : ReadMembersStand
 read_members_stand pieces x h ms members input = members_stand pieces x h ms members input

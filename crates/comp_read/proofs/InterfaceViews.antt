@@ -28,7 +28,8 @@ each_beside f [] [] e = tt
 each_beside {B = B} f [] (y ∷ ys) e = let none : ◌≡◌ {A = List B} [] (y ∷ ys) = same-some [] (y ∷ ys) e in let wrong : ⊥ = cc in absurd wrong
 each_beside {A = A} {B = B} f (x ∷ xs) ys e = by (f x) refl (each f xs) (each_beside f xs) ys e
   where
-    by : (o : Option B) → f x ≡ o → (rest : Option (List B)) → ((zs : List B) → rest ≡ Some zs → AllZip (λ x y. f x ≡ Some y) xs zs) → (zs : List B) → (o >>= λ z. rest >>= λ more. Some (z ∷ more)) ≡ Some zs → AllZip (λ x y. f x ≡ Some y) (x ∷ xs) zs
+    by : (o : Option B) → f x ≡ o → (rest : Option (List B)) → ((zs : List B) → rest ≡ Some zs → AllZip (λ x y. f x ≡ Some y) xs zs) → (zs : List B)
+        → (o >>= λ z. rest >>= λ more. Some (z ∷ more)) ≡ Some zs → AllZip (λ x y. f x ≡ Some y) (x ∷ xs) zs
     by None is rest later zs g = no_some zs g
     by (Some z) is None later zs g = no_some zs g
     by (Some z) is (Some more) later zs g = subst (AllZip (λ x y. f x ≡ Some y) (x ∷ xs)) (same-some (z ∷ more) zs g) (is, later more refl)
@@ -95,7 +96,8 @@ shown_as t w e is h = by (exported_view w.exports) refl (each imported_view w.im
         let found = when_some (are_once (x.0 ∷ map (λ i. i.0) ys) && are_reached t ys x.1) (Some pair) (e, is) k in
         let once = first_true (are_once (x.0 ∷ map (λ i. i.0) ys)) (are_reached t ys x.1) found.0 in
         let reached = second_true (are_once (x.0 ∷ map (λ i. i.0) ys)) (are_reached t ys x.1) found.0 in
-        subst (λ (z : Placed × List Placed). IsShownAs t w z.0 z.1) (same-some {A = Placed × List Placed} pair (e, is) found.1) (record { export_found = f; imports_found = g; once = once; reached = reached })
+        subst (λ (z : Placed × List Placed). IsShownAs t w z.0 z.1) (same-some {A = Placed × List Placed} pair (e, is) found.1)
+        (record { export_found = f; imports_found = g; once = once; reached = reached })
 
 pub of_views : (t : Tables) (w : NumberedScope) (e : Placed) (is : List Placed) → shown_interface t w ≡ Some (e, is) → IsOfViews w e is
 of_views t w e is h =
@@ -156,9 +158,12 @@ module _ (t : Tables) (w : NumberedScope) (e : Placed) (is : List Placed) (of : 
     pub path_there : HasPath t s.place
     pub there : Contains w.instances (record { place = s.place; view = s.view })
 
-  module _ (imports_placed : AllByRecursion (λ (s : NumberedSeen). IsPlacedItem t w.home s.shown) w.imports) (exports_placed : AllByRecursion (λ (s : NumberedSeen). IsPlacedItem t w.home s.shown) w.exports)
-      (imports_one : AllByRecursion (λ (s : NumberedSeen). IsOneOf t w.instances s.shown) w.imports) (exports_one : AllByRecursion (λ (s : NumberedSeen). IsOneOf t w.instances s.shown) w.exports) where
-    placed_view : (y : Placed) (x : NumberedShown) → x ≡ instance (path y.0) y.1 → IsPlacedItem t w.home x → IsOneOf t w.instances x → HasPath t y.0 × Contains w.instances (record { place = y.0; view = y.1 })
+  module _ (imports_placed : AllByRecursion (λ (s : NumberedSeen). IsPlacedItem t w.home s.shown) w.imports)
+      (exports_placed : AllByRecursion (λ (s : NumberedSeen). IsPlacedItem t w.home s.shown) w.exports)
+      (imports_one : AllByRecursion (λ (s : NumberedSeen). IsOneOf t w.instances s.shown) w.imports)
+      (exports_one : AllByRecursion (λ (s : NumberedSeen). IsOneOf t w.instances s.shown) w.exports) where
+    placed_view : (y : Placed) (x : NumberedShown) → x ≡ instance (path y.0) y.1 → IsPlacedItem t w.home x → IsOneOf t w.instances x → HasPath t y.0
+        × Contains w.instances (record { place = y.0; view = y.1 })
     placed_view y x f item one = by (subst (IsPlacedItem t w.home) f item) (subst (IsOneOf t w.instances) f one)
       where
         by : IsPlacedItem t w.home (instance (path y.0) y.1) → IsOneOf t w.instances (instance (path y.0) y.1) → HasPath t y.0 × Contains w.instances (record { place = y.0; view = y.1 })
@@ -169,12 +174,14 @@ module _ (t : Tables) (w : NumberedScope) (e : Placed) (is : List Placed) (of : 
         let at = contains-get is y c in
         let s = zip_at IsPlacedAs w.imports is of.imports at.0 y at.1 in
         let among = get-contains w.imports at.0 s.0 s.1 in
-        placed_view y s.0.shown s.2 (all_at (λ (z : NumberedSeen). IsPlacedItem t w.home z.shown) w.imports imports_placed s.0 among) (all_at (λ (z : NumberedSeen). IsOneOf t w.instances z.shown) w.imports imports_one s.0 among)
+        placed_view y s.0.shown s.2 (all_at (λ (z : NumberedSeen). IsPlacedItem t w.home z.shown) w.imports imports_placed s.0 among)
+        (all_at (λ (z : NumberedSeen). IsOneOf t w.instances z.shown) w.imports imports_one s.0 among)
 
     export_view : HasPath t e.0 × Contains w.instances (record { place = e.0; view = e.1 })
     export_view =
         let among : Contains w.exports of.one = subst (λ ss. Contains ss of.one) (sym of.alone) (contains-one of.one) in
-        placed_view e of.one.shown of.exported (all_at (λ (z : NumberedSeen). IsPlacedItem t w.home z.shown) w.exports exports_placed of.one among) (all_at (λ (z : NumberedSeen). IsOneOf t w.instances z.shown) w.exports exports_one of.one among)
+        placed_view e of.one.shown of.exported (all_at (λ (z : NumberedSeen). IsPlacedItem t w.home z.shown) w.exports exports_placed of.one among)
+        (all_at (λ (z : NumberedSeen). IsOneOf t w.instances z.shown) w.exports exports_one of.one among)
 
     pub instance_viewed : (s : NumberedSight) → Contains views s → IsInstanceView s
     instance_viewed s c = by (Contains-append_cases (map types_alone is) (own ∷ []) s c)

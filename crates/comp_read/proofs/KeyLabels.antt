@@ -30,7 +30,8 @@ IsLabelled (Key.implementing l p) = is_label l ≡ true
 plain_labelled : (text : Text) (suffix : Option Text) (key : Key) → plain_key text suffix ≡ Some key → IsLabelled key
 plain_labelled text suffix key e = by (chosen (is_label text && not (is_some suffix)) (Some (Key.label text)) (complete_path text suffix >>= λ whole. Some (Key.path whole)) (Some key) e)
   where
-    by : (((is_label text && not (is_some suffix)) ≡ true) × (Some (Key.label text) ≡ Some key)) ⊎ (((is_label text && not (is_some suffix)) ≡ false) × ((complete_path text suffix >>= λ whole. Some (Key.path whole)) ≡ Some key)) → IsLabelled key
+    by : (((is_label text && not (is_some suffix)) ≡ true) × (Some (Key.label text) ≡ Some key))
+        ⊎ (((is_label text && not (is_some suffix)) ≡ false) × ((complete_path text suffix >>= λ whole. Some (Key.path whole)) ≡ Some key)) → IsLabelled key
     by (inl (passes, same)) = subst IsLabelled (same-some (Key.label text) key same) (first_true (is_label text) (not (is_some suffix)) passes)
     by (inr (fails, found)) = let whole = bind_some (complete_path text suffix) (λ p. Some (Key.path p)) key found in subst IsLabelled (same-some (Key.path whole.0) key whole.2) tt
 
@@ -88,7 +89,8 @@ instance_seen direction name n scope next e h =
     subst HaveLabels {x = see direction (seen k.0 v.0) (used k.0 v.0)} (same-some (see direction (seen k.0 v.0) (used k.0 v.0)) next v.2)
     (one_seen direction (seen k.0 v.0) (used k.0 v.0) (key_labelled name k.0 k.1) (record { imports = h.imports; exports = h.exports }))
 
-described_seen : (direction : Direction) (name : ExternName) (described : ComponentTypeRef) (scope next : Scope) → see_described direction name described scope ≡ Some next → HaveLabels scope → HaveLabels next
+described_seen : (direction : Direction) (name : ExternName) (described : ComponentTypeRef) (scope next : Scope) → see_described direction name described scope ≡ Some next → HaveLabels scope
+    → HaveLabels next
 described_seen import_ name (refs.Instance n) scope next e h = instance_seen import_ name n scope next e h
 described_seen export_ name (refs.Instance n) scope next e h = instance_seen export_ name n scope next e h
 described_seen import_ name (refs.Func n) scope next e h = function_seen import_ name n scope next e h

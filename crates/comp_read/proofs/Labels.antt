@@ -49,7 +49,8 @@ export_keeps top next y e is = by (bind_some (slice_get top.slots y.type_index) 
     by found =
         let n = found.0 in
         let w = when_some (test n) (Some (more n)) next found.2 in
-        let label = first_true (is_label y.exported_as.text) (not (list_any (λ x. x.1 == n) top.exported)) (second_true (is_bare y.exported_as) (is_label y.exported_as.text && not (list_any (λ x. x.1 == n) top.exported)) w.0) in
+        let label = first_true (is_label y.exported_as.text) (not (list_any (λ x. x.1 == n) top.exported))
+        (second_true (is_bare y.exported_as) (is_label y.exported_as.text && not (list_any (λ x. x.1 == n) top.exported)) w.0) in
         subst AreLabelled (same-some (more n) next w.1) (one_more (λ (z : Text × ℕ). is_label z.0 ≡ true) top.exported (y.exported_as.text, n) is label)
 
 piece_keeps : (top next : Top) (p : Piece) → top_piece top p ≡ Some next → AreLabelled top → AreLabelled next
@@ -66,7 +67,8 @@ record AreNamedParts (parts : List (Text × PartType)) : Type 0 where
 abbrev part_of : Top → Text × ℕ → Option (Text × PartType)
 part_of top y = slice_get top.types y.1 >>= λ p. Some (y.0, p)
 
-same_labels : (top : Top) (ys : List (Text × ℕ)) (parts : List (Text × PartType)) → AllZip (λ y p. part_of top y ≡ Some p) ys parts → map (λ (y : Text × ℕ). y.0) ys ≡ map (λ (p : Text × PartType). p.0) parts
+same_labels : (top : Top) (ys : List (Text × ℕ)) (parts : List (Text × PartType)) → AllZip (λ y p. part_of top y ≡ Some p) ys parts
+    → map (λ (y : Text × ℕ). y.0) ys ≡ map (λ (p : Text × PartType). p.0) parts
 same_labels top [] [] all = refl
 same_labels top [] (p ∷ parts) all = absurd all
 same_labels top (y ∷ ys) [] all = absurd all
@@ -101,7 +103,8 @@ parts_named pieces parts e = by (bind_some (steps top_piece start pieces) (λ to
 
 -- ---- members
 
-scope_labels : (parts : List (Text × PartType)) (scopes : List (Text × PartScope)) → AllZip (λ y s. labelled_scope y ≡ Some s) parts scopes → map (λ (p : Text × PartType). p.0) parts ≡ map (λ (s : Text × PartScope). s.0) scopes
+scope_labels : (parts : List (Text × PartType)) (scopes : List (Text × PartScope)) → AllZip (λ y s. labelled_scope y ≡ Some s) parts scopes
+    → map (λ (p : Text × PartType). p.0) parts ≡ map (λ (s : Text × PartScope). s.0) scopes
 scope_labels [] [] all = refl
 scope_labels [] (s ∷ scopes) all = absurd all
 scope_labels (y ∷ parts) [] all = absurd all
@@ -111,7 +114,8 @@ scope_labels (y ∷ parts) (s ∷ scopes) all = λ i. one i ∷ scope_labels par
     one = let found = bind_some (part_scope y.1) (λ p. let z : Text × PartScope = (y.0, p) in Some z) s all.0 in ap (λ (z : Text × PartScope). z.0) (same-some (y.0, found.0) s found.2)
 
 module _ (t : Tables) where
-  shown_labels : (fs : List FollowedMember) (scopes : List (Text × PartScope)) → AllZip (MemberShown t) fs scopes → map (λ (s : Text × PartScope). s.0) scopes ≡ map (λ (y : FollowedMember). y.label.now) fs
+  shown_labels : (fs : List FollowedMember) (scopes : List (Text × PartScope)) → AllZip (MemberShown t) fs scopes
+      → map (λ (s : Text × PartScope). s.0) scopes ≡ map (λ (y : FollowedMember). y.label.now) fs
   shown_labels [] [] all = refl
   shown_labels [] (s ∷ scopes) all = absurd all
   shown_labels (y ∷ fs) [] all = absurd all

@@ -55,7 +55,8 @@ pub of_one : {A B : Type 0} (f : A → List B) (xs : List A) (i : ℕ) (y : B) �
 of_one f [] i y e = let wrong : None ≡ Some y = e in absurd cc
 of_one {A = A} {B = B} f (x ∷ xs) i y e = by (λ j at. of_one f xs j y at) (append_at (f x) (flat_map f xs) i y e)
   where
-    by : ((j : ℕ) → slice_get (flat_map f xs) j ≡ Some y → IsOfOne f xs j y) → (slice_get (f x) i ≡ Some y) ⊎ ((j : ℕ) × (i ≡ length (f x) + j) × (slice_get (flat_map f xs) j ≡ Some y)) → IsOfOne f (x ∷ xs) i y
+    by : ((j : ℕ) → slice_get (flat_map f xs) j ≡ Some y → IsOfOne f xs j y) → (slice_get (f x) i ≡ Some y) ⊎ ((j : ℕ) × (i ≡ length (f x) + j) × (slice_get (flat_map f xs) j ≡ Some y))
+        → IsOfOne f (x ∷ xs) i y
     by deeper (inl here) = record { number = 0; one = x; at = refl; inner = i; there = here; is = omega arith }
     by deeper (inr (j, is, later)) =
         let found = deeper j later in

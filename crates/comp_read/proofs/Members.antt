@@ -128,7 +128,8 @@ module _ (pieces : List Piece) (x : Followed) (h : Homes) (ms : List Member) (me
           there = contains-map whole_view (numbered_scope w).instances i (get-contains (numbered_scope w).instances j i (ap (λ (z : NumberedScope). slice_get z.instances j) is.shows ∙ there));
         }
         by (followed.Interface s) (parts.Interface p v imports) is there seen =
-            seen_viewed t (followed_scope x.places s) (p, numbered_view v) (map numbered_import imports.now) (of_views t (followed_scope x.places s) (p, numbered_view v) (map numbered_import imports.now) is) i seen
+            seen_viewed t (followed_scope x.places s) (p, numbered_view v) (map numbered_import imports.now)
+            (of_views t (followed_scope x.places s) (p, numbered_view v) (map numbered_import imports.now) is) i seen
         by (followed.World path s) (parts.Interface p v imports) is there seen = absurd is
         by (followed.Interface s) (parts.World w) is there seen = absurd is
 
@@ -149,19 +150,22 @@ module _ (pieces : List Piece) (x : Followed) (h : Homes) (ms : List Member) (me
             subst (λ (z : NumberedScope). Contains z.instances (instance_shown s)) is.shows
             (subst (Contains (numbered_scope w).instances) (ap instance_shown from.2) from.1)
         by (followed.Interface f) (parts.Interface p v imports) is good among =
-            (instance_viewed t (followed_scope x.places f) (p, numbered_view v) (map numbered_import imports.now) (of_views t (followed_scope x.places f) (p, numbered_view v) (map numbered_import imports.now) is)
+            (instance_viewed t (followed_scope x.places f) (p, numbered_view v) (map numbered_import imports.now)
+            (of_views t (followed_scope x.places f) (p, numbered_view v) (map numbered_import imports.now) is)
             good.imports good.exports good.imported good.exported s among).there
         by (followed.World path f) (parts.Interface p v imports) is good among = absurd is
         by (followed.Interface f) (parts.World w) is good among = absurd is
 
     -- the views of an interface have paths
-    pub interface_path : (p : ℕ) (v : NumberedView) (imports : List (ℕ × NumberedView)) → numbered_part member.part ≡ interface p v imports → (s : NumberedSight) → Contains (views_of_part (numbered_part member.part)) s → HasPath t s.place
+    pub interface_path : (p : ℕ) (v : NumberedView) (imports : List (ℕ × NumberedView)) → numbered_part member.part ≡ interface p v imports → (s : NumberedSight)
+        → Contains (views_of_part (numbered_part member.part)) s → HasPath t s.place
     interface_path p v imports same s c = by b.one.part member.part b.part scope_placed same c
       where
         by : (a : FollowedPart) (q : Part) → IsPartOf t a q → IsPlacedScope t (part_in a) → numbered_part q ≡ interface p v imports → Contains (views_of_part (numbered_part q)) s → HasPath t s.place
         by (followed.World path f) (parts.World w) is good e among = let wrong : ⊥ = cc in absurd wrong
         by (followed.Interface f) (parts.Interface r u others) is good e among =
-            (instance_viewed t (followed_scope x.places f) (r, numbered_view u) (map numbered_import others.now) (of_views t (followed_scope x.places f) (r, numbered_view u) (map numbered_import others.now) is)
+            (instance_viewed t (followed_scope x.places f) (r, numbered_view u) (map numbered_import others.now)
+            (of_views t (followed_scope x.places f) (r, numbered_view u) (map numbered_import others.now) is)
             good.imports good.exports good.imported good.exported s among).path_there
         by (followed.World path f) (parts.Interface r u others) is good e among = absurd is
         by (followed.Interface f) (parts.World w) is good e among = absurd is
@@ -177,7 +181,8 @@ module _ (pieces : List Piece) (x : Followed) (h : Homes) (ms : List Member) (me
   -- ---- all views
 
   -- the view is in the list of all
-  pub view_among : (m : ℕ) (member : Member) → slice_get ms m ≡ Some member → (s : NumberedSight) → Contains (views_of_part (numbered_part member.part)) s → Contains (views_of_members (numbered_members ms)) s
+  pub view_among : (m : ℕ) (member : Member) → slice_get ms m ≡ Some member → (s : NumberedSight) → Contains (views_of_part (numbered_part member.part)) s
+      → Contains (views_of_members (numbered_members ms)) s
   view_among m member at s c =
       contains-flat (λ (y : NumberedMember). views_of_part y.part) (numbered_members ms) (numbered_member member) s (contains-map numbered_member ms member (get-contains ms m member at)) c
 

@@ -38,7 +38,8 @@ module _ (t : Tables) where
   passed_over : (q : ℕ) (qs : List ℕ) → HasPath t q → cond (has_no_path t q) (q ∷ qs) qs ≡ qs
   passed_over q qs path = ap (λ (o : Option Text). cond (is_none o) (q ∷ qs) qs) path.1
 
-  imports_have : (imports : List (ℕ × NumberedView)) → AllByRecursion (λ (i : ℕ × NumberedView). HasPath t i.0 × IsViewIn t i.0 i.1) imports → filter (has_no_path t) (map (λ (i : ℕ × NumberedView). i.0) imports) ≡ []
+  imports_have : (imports : List (ℕ × NumberedView)) → AllByRecursion (λ (i : ℕ × NumberedView). HasPath t i.0 × IsViewIn t i.0 i.1) imports
+      → filter (has_no_path t) (map (λ (i : ℕ × NumberedView). i.0) imports) ≡ []
   imports_have [] all = refl
   imports_have (i ∷ imports) all = passed_over i.0 (filter (has_no_path t) (map (λ (j : ℕ × NumberedView). j.0) imports)) all.0.0 ∙ imports_have imports all.1
 
@@ -83,19 +84,22 @@ module _ (pieces : List Piece) (x : Followed) (h : Homes) (ms : List Member) (me
   one_owner : (m n q : ℕ) → path_at t q ≡ None → HasInstance m q → HasInstance n q → m ≡ n
   one_owner m n q none i l = ((placed pieces x h ms members input).inline m n i.number l.number i.one l.one i.at l.at (ap (path_at t) i.place ∙ none) (i.place ∙ sym l.place)).0
 
-  differ : (m : ℕ) (member : Member) → IsBoth pieces x h ms members input m member → (a : Part) → member.part ≡ a → HavePaths t (numbered_part a) → AreDifferent (filter (has_no_path t) (places_of_part (numbered_part a)))
+  differ : (m : ℕ) (member : Member) → IsBoth pieces x h ms members input m member → (a : Part) → member.part ≡ a → HavePaths t (numbered_part a)
+      → AreDifferent (filter (has_no_path t) (places_of_part (numbered_part a)))
   differ m member b (parts.World w) e paths =
       let here = world_at pieces x h ms members input m member b w e in
       subst (λ (qs : List ℕ). AreDifferent qs) (sym (scope_left t (numbered_scope w).instances))
       (places_differ t (numbered_scope w).instances (λ j k i l at_j at_k none equal.
-      ((placed pieces x h ms members input).inline m m j k i l (record { scope = numbered_scope w; at = here; instance_at = at_j }) (record { scope = numbered_scope w; at = here; instance_at = at_k }) none equal).1))
+      ((placed pieces x h ms members input).inline m m j k i l (record { scope = numbered_scope w; at = here; instance_at = at_j }) (record { scope = numbered_scope w; at = here; instance_at = at_k })
+      none equal).1))
   differ m member b (parts.Interface p v imports) e paths = subst (λ (qs : List ℕ). AreDifferent qs) (sym paths) tt
 
   owns : (m : ℕ) (member : Member) → IsBoth pieces x h ms members input m member → (a : Part) → member.part ≡ a → HavePaths t (numbered_part a)
       → (q : ℕ) → Contains (filter (has_no_path t) (places_of_part (numbered_part a))) q → HasInstance m q
   owns m member b (parts.World w) e paths q c =
       let here = world_at pieces x h ms members input m member b w e in
-      let from = from_map (λ (i : NumberedInstance). i.place) (numbered_scope w).instances q (filter_from (has_no_path t) (map (λ (i : NumberedInstance). i.place) (numbered_scope w).instances) q c).0 in
+      let from = from_map (λ (i : NumberedInstance). i.place) (numbered_scope w).instances q
+      (filter_from (has_no_path t) (map (λ (i : NumberedInstance). i.place) (numbered_scope w).instances) q c).0 in
       let at = contains-get (numbered_scope w).instances from.0 from.1 in
       record { number = at.0; one = from.0; at = record { scope = numbered_scope w; at = here; instance_at = at.1 }; place = from.2 }
   owns m member b (parts.Interface p v imports) e paths q c = none-in q (subst (λ (qs : List ℕ). Contains qs q) paths c)
@@ -106,12 +110,14 @@ module _ (pieces : List Piece) (x : Followed) (h : Homes) (ms : List Member) (me
   owner_at : (m : ℕ) (y : NumberedMember) → slice_get (numbered_members ms) m ≡ Some y → (q : ℕ) → Contains (left y) q → HasInstance m q
   owner_at m y e q c =
       let from = numbered_at pieces x h ms members input m y e in
-      owns m from.member from.both from.member.part refl (subst (λ (z : NumberedMember). HavePaths t z.part) (sym from.is) (paths_at m y e)) q (subst (λ (z : NumberedMember). Contains (left z) q) (sym from.is) c)
+      owns m from.member from.both from.member.part refl (subst (λ (z : NumberedMember). HavePaths t z.part) (sym from.is) (paths_at m y e)) q
+      (subst (λ (z : NumberedMember). Contains (left z) q) (sym from.is) c)
 
   differ_at : (m : ℕ) (y : NumberedMember) → slice_get (numbered_members ms) m ≡ Some y → AreDifferent (left y)
   differ_at m y e =
       let from = numbered_at pieces x h ms members input m y e in
-      subst (λ (z : NumberedMember). AreDifferent (left z)) from.is (differ m from.member from.both from.member.part refl (subst (λ (z : NumberedMember). HavePaths t z.part) (sym from.is) (paths_at m y e)))
+      subst (λ (z : NumberedMember). AreDifferent (left z)) from.is (differ m from.member from.both from.member.part refl
+      (subst (λ (z : NumberedMember). HavePaths t z.part) (sym from.is) (paths_at m y e)))
 
   pub stand_alone : StandAlone t ms
   stand_alone =
@@ -124,7 +130,8 @@ module _ (pieces : List Piece) (x : Followed) (h : Homes) (ms : List Member) (me
           let none = no_place (path_at t q) (filter_from (has_no_path t) (places_of_part a.one.part) q among).1 in
           let one : a.number ≡ b.number = one_owner a.number b.number q none (owner_at a.number a.one a.at q among) (owner_at b.number b.one b.at q (get-contains (left b.one) b.inner q b.there)) in
           let same : a.one ≡ b.one = one_item (numbered_members ms) b.number a.one b.one (subst (λ k. slice_get (numbered_members ms) k ≡ Some a.one) one a.at) b.at in
-          let inner : a.inner ≡ b.inner = once_different (left b.one) (differ_at b.number b.one b.at) a.inner b.inner q (subst (λ (z : NumberedMember). slice_get (left z) a.inner ≡ Some q) same a.there) b.there in
+          let inner : a.inner ≡ b.inner = once_different (left b.one) (differ_at b.number b.one b.at) a.inner b.inner q
+          (subst (λ (z : NumberedMember). slice_get (left z) a.inner ≡ Some q) same a.there) b.there in
           let front : before_of left (numbered_members ms) a.number ≡ before_of left (numbered_members ms) b.number = ap (before_of left (numbered_members ms)) one in
           let ai = a.is in
           let bi = b.is in

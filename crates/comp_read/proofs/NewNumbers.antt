@@ -49,7 +49,8 @@ module _ (R : ℕ → ℕ → Type 0) where
   IsNewIn {A = A} f xs m n = (k : ℕ) (y : A) → k < m → slice_get xs k ≡ Some y → Contains (f y) n → ⊥
 
   pub new_flat : {A : Type 0} (f : A → List ℕ) (front : List ℕ) (xs : List A)
-      → ((m : ℕ) (x : A) → slice_get xs m ≡ Some x → (j n : ℕ) → slice_get (f x) j ≡ Some n → (Contains front n → ⊥) → IsNewIn f xs m n → IsNew (f x) j n → (a : ℕ) → Contains front a ⊎ IsBeforeIn f xs m j a → R a n)
+      → ((m : ℕ) (x : A) → slice_get xs m ≡ Some x → (j n : ℕ) → slice_get (f x) j ≡ Some n → (Contains front n → ⊥) → IsNewIn f xs m n → IsNew (f x) j n → (a : ℕ) → Contains front a
+      ⊎ IsBeforeIn f xs m j a → R a n)
       → StandNew front (flat_map f xs)
   new_flat f front [] given = tt
   new_flat {A = A} f front (x ∷ xs) given = new_both front (f x) (flat_map f xs) (new_numbered front (f x) here) (new_flat f (front ++ f x) xs later)

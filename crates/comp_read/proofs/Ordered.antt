@@ -74,14 +74,17 @@ module _ (pieces : List Piece) (x : Followed) (h : Homes) (ms : List Member) (me
     abbrev known : ℕ → Fact
     known = known_by facts
 
-    part_known : (m : ℕ) (member : Member) → IsBoth pieces x h ms members input m member → AllByRecursion (IsKnownSight t known) (sights_of_part t (numbered_part member.part)) × PartIsKnown t known (numbered_part member.part)
+    part_known : (m : ℕ) (member : Member) → IsBoth pieces x h ms members input m member → AllByRecursion (IsKnownSight t known) (sights_of_part t (numbered_part member.part))
+        × PartIsKnown t known (numbered_part member.part)
     part_known m member b = by member.part refl
       where
-        interface_known : (p : ℕ) (v : View) (imports : Bor (List ImportedView)) → member.part ≡ parts.Interface p v imports → (s : NumberedSight) → Contains (views_of_part (numbered_part (parts.Interface p v imports))) s → IsKnownSight t known s
+        interface_known : (p : ℕ) (v : View) (imports : Bor (List ImportedView)) → member.part ≡ parts.Interface p v imports → (s : NumberedSight)
+            → Contains (views_of_part (numbered_part (parts.Interface p v imports))) s → IsKnownSight t known s
         interface_known p v imports e s c =
             let there : Contains (views_of_part (numbered_part member.part)) s = subst (λ (a : Part). Contains (views_of_part (numbered_part a)) s) (sym e) c in
             let i = instance_of_view pieces x h ms members input m member b s there in
-            views_are_known pieces x input.followed facts are_known s.place (interface_path pieces x h ms members input m member b p (numbered_view v) (map numbered_import imports.now) (ap numbered_part e) s there) s.view
+            views_are_known pieces x input.followed facts are_known s.place (interface_path pieces x h ms members input m member b p (numbered_view v) (map numbered_import imports.now)
+            (ap numbered_part e) s there) s.view
             (instance_placed pieces x h ms members input m i.number (instance_shown s) i.at) s.whole
 
         by : (a : Part) → member.part ≡ a → AllByRecursion (IsKnownSight t known) (sights_of_part t (numbered_part a)) × PartIsKnown t known (numbered_part a)
@@ -89,10 +92,12 @@ module _ (pieces : List Piece) (x : Followed) (h : Homes) (ms : List Member) (me
         by (parts.Interface p v imports) e = (all_of (IsKnownSight t known) (views_of_part (numbered_part (parts.Interface p v imports))) (interface_known p v imports e), tt)
 
     member_known : (y : NumberedMember) → Contains nms y → AllByRecursion (IsKnownSight t known) (sights_of_part t y.part) × PartIsKnown t known y.part
-    member_known y c = let at = among y c in subst (λ (z : NumberedMember). AllByRecursion (IsKnownSight t known) (sights_of_part t z.part) × PartIsKnown t known z.part) at.1.is (part_known at.0 at.1.member at.1.both)
+    member_known y c = let at = among y c in subst (λ (z : NumberedMember). AllByRecursion (IsKnownSight t known) (sights_of_part t z.part) × PartIsKnown t known z.part) at.1.is
+        (part_known at.0 at.1.member at.1.both)
 
     pub sights_known : AllByRecursion (IsKnownSight t known) (sights_of_members t nms)
-    sights_known = all_flat (IsKnownSight t known) (λ (y : NumberedMember). sights_of_part t y.part) nms (all_of (λ (y : NumberedMember). AllByRecursion (IsKnownSight t known) (sights_of_part t y.part)) nms (λ y c. (member_known y c).0))
+    sights_known = all_flat (IsKnownSight t known) (λ (y : NumberedMember). sights_of_part t y.part) nms
+        (all_of (λ (y : NumberedMember). AllByRecursion (IsKnownSight t known) (sights_of_part t y.part)) nms (λ y c. (member_known y c).0))
 
     pub parts_known : AllByRecursion (λ (y : NumberedMember). PartIsKnown t known y.part) nms
     parts_known = all_of (λ (y : NumberedMember). PartIsKnown t known y.part) nms (λ y c. (member_known y c).1)

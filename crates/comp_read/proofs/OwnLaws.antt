@@ -87,7 +87,8 @@ once_behind (r ∷ ps) p once none =
 
 -- ---- the first view of a place
 
-first_behind : (q : ℕ) (done : List NumberedSight) (s : NumberedSight) (rest : List NumberedSight) → ((u : NumberedSight) → Contains done u → u.place ≡ q → ⊥) → s.place ≡ q → first_at q (done ++ s ∷ rest) ≡ Some s
+first_behind : (q : ℕ) (done : List NumberedSight) (s : NumberedSight) (rest : List NumberedSight) → ((u : NumberedSight) → Contains done u → u.place ≡ q → ⊥) → s.place ≡ q
+    → first_at q (done ++ s ∷ rest) ≡ Some s
 first_behind q [] s rest none same = ap (λ b. cond b (Some s) (find (λ (y : NumberedSight). q == y.place) rest)) (eq-eqb q s.place (sym same))
 first_behind q (u ∷ done) s rest none same = by (q == u.place) refl (first_behind q done s rest (λ v c. none v (later v c)) same)
   where
@@ -105,7 +106,8 @@ module _ (n : ℕ) (label : Text) (s : NumberedSight) (places later : List ℕ) 
   chosen : (b : Bool) → list_any (λ k. s.place == k) places ≡ b → later ≡ (if b then places else places ++ s.place ∷ [])
   chosen b e = inserts ∙ ap (λ c. if c then places else places ++ s.place ∷ []) e
 
-  pub adds_new : added ≡ true → (ms : List Member) (m : Member) (more : List Member) → more ≡ ms ++ m ∷ [] → IsOfView n label s (numbered_member m) → AddsInterface n label s places (numbered_members ms) later (numbered_members more)
+  pub adds_new : added ≡ true → (ms : List Member) (m : Member) (more : List Member) → more ≡ ms ++ m ∷ [] → IsOfView n label s (numbered_member m)
+      → AddsInterface n label s places (numbered_members ms) later (numbered_members more)
   adds_new e ms m more pushed is =
       let none : list_any (λ k. s.place == k) places ≡ false = off (list_any (λ k. s.place == k) places) (sym is_added ∙ e) in
       let all : numbered_members more ≡ numbered_members ms ++ numbered_member m ∷ [] = ap numbered_members pushed ∙ append_of_map numbered_member ms (m ∷ []) in
@@ -125,7 +127,8 @@ module _ (n : ℕ) (label : Text) (s : NumberedSight) (places later : List ℕ) 
       on true h = refl
       on false h = no_true (sym h)
 
-pub adds_own : {R E : Type 0} (r : Result R E) (h : Homes) (n : ℕ) (s : NumberedSight) (places : List ℕ) (ms : List NumberedMember) (label : Text) → home_at h s.place ≡ Some (n, label) → (later : List ℕ) (more : List NumberedMember)
+pub adds_own : {R E : Type 0} (r : Result R E) (h : Homes) (n : ℕ) (s : NumberedSight) (places : List ℕ) (ms : List NumberedMember) (label : Text) → home_at h s.place ≡ Some (n, label)
+    → (later : List ℕ) (more : List NumberedMember)
     → OnOk r (AddsInterface n label s places ms later more) → OnOk r (AddsView h n s places ms later more)
 adds_own (Ok x) h n s places ms label home later more adds = own label later more home adds
 adds_own (Err e) h n s places ms label home later more adds = tt
@@ -204,17 +207,21 @@ module _ (h : Homes) (n : ℕ) (done rest : List NumberedSight) (s : NumberedSig
       of = flat_more (λ (k : NumberedMember). place_of_part k.part) ms m s.place (ap place_of_part is.part) ∙ ap (λ ps. ps ++ s.place ∷ []) g.of;
       all = λ u c of. elim (next_view u c) [
         | inl among ↦ contains-has (places ++ s.place ∷ []) u.place (Contains-append_left places (s.place ∷ []) u.place (has-contains places u.place (g.all u among of)))
-        | inr same ↦ contains-has (places ++ s.place ∷ []) u.place (Contains-append_right places (s.place ∷ []) u.place (subst (λ (v : NumberedSight). Contains (s.place ∷ []) v.place) same (contains-one s.place)))
+        | inr same ↦ contains-has (places ++ s.place ∷ []) u.place (Contains-append_right places (s.place ∷ []) u.place
+            (subst (λ (v : NumberedSight). Contains (s.place ∷ []) v.place) same (contains-one s.place)))
       ];
       once = once_behind places s.place g.once none;
-      order = ap (λ ps. ps ++ s.place ∷ []) g.order ∙ sym (filter_new (is_of_package h n) (λ (u : NumberedSight). u.place) done s (home_is_of h n s.place label home) (subst (λ (ps : List ℕ). has ps s.place ≡ false) g.order none));
+      order = ap (λ ps. ps ++ s.place ∷ []) g.order ∙ sym (filter_new (is_of_package h n) (λ (u : NumberedSight). u.place) done s (home_is_of h n s.place label home)
+          (subst (λ (ps : List ℕ). has ps s.place ≡ false) g.order none));
     }
 
-  interface_step : (places : List ℕ) (ms : List NumberedMember) → IsGathered h n seen done places ms → (label : Text) → home_at h s.place ≡ Some (n, label) → (later : List ℕ) (more : List NumberedMember) → AddsInterface n label s places ms later more → Next later more
+  interface_step : (places : List ℕ) (ms : List NumberedMember) → IsGathered h n seen done places ms → (label : Text) → home_at h s.place ≡ Some (n, label)
+      → (later : List ℕ) (more : List NumberedMember) → AddsInterface n label s places ms later more → Next later more
   interface_step places ms g label home later more (known there) = known_step places ms g (home_is_of h n s.place label home) there
   interface_step places ms g label home later more (new m none is) = new_step places ms g label home m none is
 
-  pub one_gathered : (places : List ℕ) (ms : List NumberedMember) → IsGathered h n seen done places ms → (later : List ℕ) (more : List NumberedMember) → AddsView h n s places ms later more → Next later more
+  pub one_gathered : (places : List ℕ) (ms : List NumberedMember) → IsGathered h n seen done places ms → (later : List ℕ) (more : List NumberedMember) → AddsView h n s places ms later more
+      → Next later more
   one_gathered places ms g later more (another foreign) = foreign_step places ms g foreign
   one_gathered places ms g later more (own label all others home adds) = interface_step places ms g label home later more adds
 
@@ -249,7 +256,8 @@ module _ {A : Type 0} (f : A → NumberedSight) (xs : List A) (h : Homes) (n i :
       let split = split_more f xs i d low in
       let next = one_gathered h n done rest s places ms (subst (λ (seen : List NumberedSight). IsGathered h n seen done places ms) split g) later more adds in
       let so_far : map f (take (i + 1) xs) ≡ done ++ s ∷ [] = ap (λ (k : ℕ). map f (take k xs)) (one_more i) ∙ taken_more f xs i d low in
-      subst (λ (seen : List NumberedSight). IsGathered h n seen (map f (take (i + 1) xs)) later more) (sym split) (subst (λ (those : List NumberedSight). IsGathered h n (done ++ s ∷ rest) those later more) (sym so_far) next)
+      subst (λ (seen : List NumberedSight). IsGathered h n seen (map f (take (i + 1) xs)) later more) (sym split)
+      (subst (λ (those : List NumberedSight). IsGathered h n (done ++ s ∷ rest) those later more) (sym so_far) next)
 
   pub own_gathered : length xs ≤ i → (places : List ℕ) (ms : List NumberedMember) → IsGathered h n (map f xs) (map f (take i xs)) places ms → AreOwnAmong h n (map f xs) ms
   own_gathered past places ms g = all_gathered h n (map f xs) places ms (subst (λ (ys : List A). IsGathered h n (map f xs) (map f ys) places ms) (taken_all xs i past) g)
@@ -261,7 +269,8 @@ module _ (t : Tables) (packages : List PackageIdentity) (homes : List (Option (�
   own_is : (m : NumberedMember) → IsOwnAmong (homes_alone homes) n (sights_of_scope t w) m → IsOwnInterface t (homes_in packages homes) n w m
   own_is m is = record { place = is.place; view = is.view; part = is.part; package_ = is.package_; home = is.home; first = is.first; shown = is.shown; is = is.is }
 
-  pub own_are : (views : List NumberedSight) → views ≡ sights_of_scope t w → (ms : List NumberedMember) → AreOwnAmong (homes_alone homes) n views ms → AreOwnInterfaces t (homes_in packages homes) n w ms
+  pub own_are : (views : List NumberedSight) → views ≡ sights_of_scope t w → (ms : List NumberedMember) → AreOwnAmong (homes_alone homes) n views ms
+      → AreOwnInterfaces t (homes_in packages homes) n w ms
   own_are views same ms are =
       let here = subst (λ (ss : List NumberedSight). AreOwnAmong (homes_alone homes) n ss ms) same are in
       record { each = recursion_weaker (IsOwnAmong (homes_alone homes) n (sights_of_scope t w)) (IsOwnInterface t (homes_in packages homes) n w) own_is ms here.each; all = here.all; once = here.once }

@@ -49,7 +49,8 @@ module _ (t : Tables) (tables : AreTables t) (h : Homes) (stand : HomesStand t h
   own_shows : (k : NumberedMember) → Contains ms k → ShowsPart t h k k.part (tree_of_part t k.part)
   own_shows k c =
       let is = own_at t h n w ms are k c in
-      subst (λ (a : NumberedPart). ShowsPart t h k a (tree_of_part t a)) (sym is.part) (record { path = is.path; home = is.home ∙ ap (λ (x : ℕ). Some (x, k.label)) (sym is.package_); shown = refl; imported = refl })
+      subst (λ (a : NumberedPart). ShowsPart t h k a (tree_of_part t a)) (sym is.part)
+      (record { path = is.path; home = is.home ∙ ap (λ (x : ℕ). Some (x, k.label)) (sym is.package_); shown = refl; imported = refl })
 
   pub own_members : AllZip (IsMember t h) ms trees
   own_members =
@@ -76,7 +77,8 @@ module _ (t : Tables) (tables : AreTables t) (h : Homes) (stand : HomesStand t h
         let who : spelled.identity ≡ identity = same-some spelled.identity identity (sym spelled.there ∙ there) in
         let path : path_at t is.place ≡ Some (path_in identity k.label) = spelled.path ∙ ap (λ (i : PackageIdentity). Some (path_in i k.label)) who in
         subst (Contains scope.instances) (λ i. record { interface = path i; view = view_of t is.view })
-        (subst (λ (xs : List Instance). Contains xs (instance_of t (record { place = is.place; view = is.view }))) (sym shows.instances) (contains-map (instance_of t) w.instances (record { place = is.place; view = is.view }) is.among))
+        (subst (λ (xs : List Instance). Contains xs (instance_of t (record { place = is.place; view = is.view }))) (sym shows.instances)
+        (contains-map (instance_of t) w.instances (record { place = is.place; view = is.view }) is.among))
 
     abbrev alone : NumberedMember → NumberedView → reads.Member
     alone k v = record { label = k.label; package_ = identity; part = reads.Part.interface (view_of t v) [] }
@@ -103,12 +105,14 @@ module _ (t : Tables) (tables : AreTables t) (h : Homes) (stand : HomesStand t h
       ordered j k = omega arith
 
       view_stands : (j k : ℕ) → j ≤ k → (x : Instance) → ViewStands (IsShownBefore scope.instances j) (place_of x.interface) x.view → ViewStands (IsShownBefore all k) (place_of x.interface) x.view
-      view_stands j k le x is = view_wider (IsShownBefore scope.instances j) (IsShownBefore all k) (shown_wider scope.instances all (front_more scope.instances (all_instances trees)) j k le) (place_of x.interface) x.view is
+      view_stands j k le x is = view_wider (IsShownBefore scope.instances j) (IsShownBefore all k) (shown_wider scope.instances all (front_more scope.instances (all_instances trees)) j k le)
+          (place_of x.interface) x.view is
 
       views_stand : AllAt (λ k (x : Instance). ViewStands (IsShownBefore all k) (place_of x.interface) x.view) all
       views_stand k x e = by (split_at scope.instances (all_instances trees) k x e)
         where
-          by : (slice_get scope.instances k ≡ Some x) ⊎ ((j : ℕ) × (k ≡ length scope.instances + j) × (slice_get (all_instances trees) j ≡ Some x)) → ViewStands (IsShownBefore all k) (place_of x.interface) x.view
+          by : (slice_get scope.instances k ≡ Some x) ⊎ ((j : ℕ) × (k ≡ length scope.instances + j) × (slice_get (all_instances trees) j ≡ Some x))
+              → ViewStands (IsShownBefore all k) (place_of x.interface) x.view
           by (inl here) = view_stands k k (omega arith) x (stands.views k x here)
           by (inr later) =
               let at = contains-get scope.instances x (own_instance x (get-contains (all_instances trees) later.0 x later.2)) in

@@ -143,10 +143,13 @@ module _ (pieces : List Piece) (x : Followed) (h : Homes) (ms : List Member) (me
     where
       before : (m j c : ℕ) → IsMetBefore ws m j c → Contains [] c ⊎ IsBeforeIn scope_places ws m j c
       before m j c (placed_numbers.in_earlier k l i low at place) =
-          inr (counted.in_earlier k at.scope low at.at (subst (Contains (scope_places at.scope)) place (contains-map (λ (y : NumberedInstance). y.place) at.scope.instances i (get-contains at.scope.instances l i at.instance_at))))
-      before m j c (placed_numbers.in_same l i low at place) = inr (counted.in_same l at.scope low at.at (mapped_get (λ (y : NumberedInstance). y.place) at.scope.instances l i at.instance_at ∙ ap Some place))
+          inr (counted.in_earlier k at.scope low at.at (subst (Contains (scope_places at.scope)) place
+          (contains-map (λ (y : NumberedInstance). y.place) at.scope.instances i (get-contains at.scope.instances l i at.instance_at))))
+      before m j c (placed_numbers.in_same l i low at place) = inr (counted.in_same l at.scope low at.at
+          (mapped_get (λ (y : NumberedInstance). y.place) at.scope.instances l i at.instance_at ∙ ap Some place))
 
-      given : (m : ℕ) (w : NumberedScope) → slice_get ws m ≡ Some w → (j q : ℕ) → slice_get (scope_places w) j ≡ Some q → (c : ℕ) → c < q → HasPath t c → Contains [] c ⊎ IsBeforeIn scope_places ws m j c
+      given : (m : ℕ) (w : NumberedScope) → slice_get ws m ≡ Some w → (j q : ℕ) → slice_get (scope_places w) j ≡ Some q → (c : ℕ) → c < q → HasPath t c → Contains [] c
+          ⊎ IsBeforeIn scope_places ws m j c
       given m w at j q e c less path =
           let i = get_back (λ (y : NumberedInstance). y.place) w.instances j q e in
           before m j c (scopes_placed.order m j i.0 (record { scope = w; at = at; instance_at = i.1 }) c path (subst (λ (k : ℕ). c < k) (sym i.2) less))
@@ -201,7 +204,8 @@ module _ (pieces : List Piece) (x : Followed) (h : Homes) (ms : List Member) (me
       let home : home_at h p.place ≡ Some (c, p.name) = ap (λ o. unwrap_or o None) p.home in
       let met = scopes_placed.met p.place (path_of_home p.place (c, p.name) home) in
       let at = met.at in
-      let among = subst (Contains (scope_places at.scope)) met.place (contains-map (λ (y : NumberedInstance). y.place) at.scope.instances met.one (get-contains at.scope.instances met.number met.one at.instance_at)) in
+      let among = subst (Contains (scope_places at.scope)) met.place (contains-map (λ (y : NumberedInstance). y.place) at.scope.instances met.one
+      (get-contains at.scope.instances met.number met.one at.instance_at)) in
       contains-flat package_at places p.place c (contains-flat scope_places ws at.scope p.place (get-contains ws met.scope at.scope at.at) among) (at_home p.place (c, p.name) home)
 
   -- a number among those of the members is that of one of them
@@ -269,7 +273,8 @@ module _ (pieces : List Piece) (x : Followed) (h : Homes) (ms : List Member) (me
 
   members_named : map (λ (y : reads.Member). y.package_) members ≡ map name of_members
   members_named =
-      zip_map (IsMember t h) (λ (m : NumberedMember). name m.package_) (λ (y : reads.Member). y.package_) (λ m y is. sym (ap (λ (o : Option PackageIdentity). unwrap_or o nobody) is.package_)) nms members input.shown
+      zip_map (IsMember t h) (λ (m : NumberedMember). name m.package_) (λ (y : reads.Member). y.package_) (λ m y is. sym (ap (λ (o : Option PackageIdentity). unwrap_or o nobody) is.package_)) nms
+      members input.shown
       ∙ sym (map_of_map name (λ (m : NumberedMember). m.package_) nms)
 
   shown_named : flat_map package_of_path (flat_map shown_under members) ++ map (λ (y : reads.Member). y.package_) members ≡ map name (of_places ++ of_members)
@@ -284,7 +289,8 @@ module _ (pieces : List Piece) (x : Followed) (h : Homes) (ms : List Member) (me
 
 -- ---- what is planned and built
 
-planned_identities : (t : Tables) (packages : List PackageIdentity) (homes : ℕ → Option Home) (n : ℕ) (ms : List Member) (p : Plan) → PlansWhole t packages homes n ms p → map (λ (k : PlannedPackage). k.identity) p.packages ≡ packages
+planned_identities : (t : Tables) (packages : List PackageIdentity) (homes : ℕ → Option Home) (n : ℕ) (ms : List Member) (p : Plan) → PlansWhole t packages homes n ms p
+    → map (λ (k : PlannedPackage). k.identity) p.packages ≡ packages
 planned_identities t packages homes n ms p planned =
     same_items (map (λ (k : PlannedPackage). k.identity) p.packages) packages (length_of_map (λ (k : PlannedPackage). k.identity) p.packages ∙ planned.packages.many) (λ c y at.
     let k = get_back (λ (z : PlannedPackage). z.identity) p.packages c y at in
@@ -294,6 +300,8 @@ planned_identities t packages homes n ms p planned =
     by c k y same (the_main identity number there is) = there ∙ ap Some (sym is.is ∙ same)
     by c k y same (another identity differ there is) = there ∙ ap Some (sym is.is ∙ same)
 
-pub built_identities : (t : Tables) (packages : List PackageIdentity) (homes : ℕ → Option Home) (n : ℕ) (ms : List Member) (p : Plan) → PlansWhole t packages homes n ms p → (r : Resolve) → IsBuilt p r → map (λ k. identity_of k.name) r.packages.items ≡ packages
+pub built_identities : (t : Tables) (packages : List PackageIdentity) (homes : ℕ → Option Home) (n : ℕ) (ms : List Member) (p : Plan) → PlansWhole t packages homes n ms p → (r : Resolve) → IsBuilt p r
+    → map (λ k. identity_of k.name) r.packages.items ≡ packages
 built_identities t packages homes n ms p planned r built =
-    sym (map_of_map (λ (k : PlannedPackage). k.identity) planned_package r.packages.items) ∙ (ap (map (λ (k : PlannedPackage). k.identity)) built.packages ∙ planned_identities t packages homes n ms p planned)
+    sym (map_of_map (λ (k : PlannedPackage). k.identity) planned_package r.packages.items)
+    ∙ (ap (map (λ (k : PlannedPackage). k.identity)) built.packages ∙ planned_identities t packages homes n ms p planned)

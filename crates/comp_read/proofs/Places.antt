@@ -58,7 +58,8 @@ module _ (t : Tables) where
           let wrong = apart 0 (suc there.0) i from.0 refl there.1 (no_place (path_at t i.place) e) (sym from.2) in
           omega (arith, wrong)
 
-      by : (b : Bool) → no_path t i ≡ b → AreDifferent (map (λ (z : NumberedInstance). z.place) (filter (no_path t) is)) → AreDifferent (map (λ (z : NumberedInstance). z.place) (if b then i ∷ filter (no_path t) is else filter (no_path t) is))
+      by : (b : Bool) → no_path t i ≡ b → AreDifferent (map (λ (z : NumberedInstance). z.place) (filter (no_path t) is))
+          → AreDifferent (map (λ (z : NumberedInstance). z.place) (if b then i ∷ filter (no_path t) is else filter (no_path t) is))
       by true e rest = (new e, rest)
       by false e rest = rest
 
@@ -107,7 +108,8 @@ module _ (pieces : List Piece) (x : Followed) (h : Homes) (ms : List Member) (me
   one_owner m n q none (a_home w at e) (a_home v there f) = (placed pieces x h ms members input).homes m n w v at there (e ∙ sym f)
   one_owner m n q none (a_home w at e) (an_instance i) = absurd (home_instance n m w q none at e i)
   one_owner m n q none (an_instance i) (a_home w there f) = absurd (home_instance m n w q none there f i)
-  one_owner m n q none (an_instance i) (an_instance l) = ((placed pieces x h ms members input).inline m n i.number l.number i.one l.one i.at l.at (ap (path_at t) i.place ∙ none) (i.place ∙ sym l.place)).0
+  one_owner m n q none (an_instance i) (an_instance l) = ((placed pieces x h ms members input).inline m n i.number l.number i.one l.one i.at l.at (ap (path_at t) i.place ∙ none)
+      (i.place ∙ sym l.place)).0
 
   module _ (known : ℕ → Fact) (obey : ViewsObey (tables_of x) known ms) where
     -- one world
@@ -168,9 +170,11 @@ module _ (pieces : List Piece) (x : Followed) (h : Homes) (ms : List Member) (me
           let seen = seen_at pieces x h ms members input m member b at.0 from.0 (ap (λ (z : NumberedScope). slice_get z.instances at.0) same ∙ at.1) in
           subst (Contains without) from.2 (in_filter (has_no_path t) P from.0.place (of_seen from.0 (subst (λ (z : NumberedScope). IsSeen z from.0) same seen)) kept.1)
         where
-          place_there : (i : NumberedInstance) (ss : List NumberedSeen) (s : NumberedSeen) → Contains ss s → (key : worlds.NumberedKey) → s.shown ≡ worlds.instance key i.view → place_of_key key ≡ i.place → Contains (places_of_seen ss) i.place
+          place_there : (i : NumberedInstance) (ss : List NumberedSeen) (s : NumberedSeen) → Contains ss s → (key : worlds.NumberedKey) → s.shown ≡ worlds.instance key i.view
+              → place_of_key key ≡ i.place → Contains (places_of_seen ss) i.place
           place_there i ss s among key e place =
-              contains-flat (λ (y : NumberedSeen). places_of_shown y.shown) ss s i.place among (subst (λ (y : NumberedShown). Contains (places_of_shown y) i.place) (sym e) (subst (λ z. Contains (z ∷ []) i.place) (sym place) (contains-one i.place)))
+              contains-flat (λ (y : NumberedSeen). places_of_shown y.shown) ss s i.place among
+              (subst (λ (y : NumberedShown). Contains (places_of_shown y) i.place) (sym e) (subst (λ z. Contains (z ∷ []) i.place) (sym place) (contains-one i.place)))
 
           of_seen : (i : NumberedInstance) → IsSeen W i → Contains P i.place
           of_seen i seen = by seen.among
@@ -180,7 +184,8 @@ module _ (pieces : List Piece) (x : Followed) (h : Homes) (ms : List Member) (me
               by (inr among) = Contains-append_right (places_of_seen W.imports) (places_of_seen W.exports) i.place (place_there i W.exports seen.seen among seen.is.key seen.is.shown seen.is.place)
 
       instances_apart : (j k : ℕ) (i l : NumberedInstance) → slice_get W.instances j ≡ Some i → slice_get W.instances k ≡ Some l → path_at t i.place ≡ None → i.place ≡ l.place → j ≡ k
-      instances_apart j k i l e f none equal = ((placed pieces x h ms members input).inline m m j k i l (record { scope = W; at = here; instance_at = e }) (record { scope = W; at = here; instance_at = f }) none equal).1
+      instances_apart j k i l e f none equal = ((placed pieces x h ms members input).inline m m j k i l (record { scope = W; at = here; instance_at = e })
+          (record { scope = W; at = here; instance_at = f }) none equal).1
 
       as_many : length without ≡ length (map (λ (i : NumberedInstance). i.place) (filter (no_path t) W.instances))
       as_many =
@@ -193,10 +198,13 @@ module _ (pieces : List Piece) (x : Followed) (h : Homes) (ms : List Member) (me
           let g : nones t (going export_ read.stands.seen.seen) ≡ nones t (instances_in read.scope.exports) = ap (nones t) read.stands.seen.exported in
           let i : nones t (instances_in read.scope.imports) ≡ length (inlines t W.imports) = ap (λ ss. nones t (instances_in ss)) read.shows.imports ∙ seen_nones t W.imports in
           let k : nones t (instances_in read.scope.exports) ≡ length (inlines t W.exports) = ap (λ ss. nones t (instances_in ss)) read.shows.exports ∙ seen_nones t W.exports in
-          let l : length (filter (has_no_path t) (places_of_seen W.imports)) ≡ length (inlines t W.imports) = ap length (sym (inline_places t W good W.imports good.imports)) ∙ length_of_map (λ (z : NumberedInstance). z.place) (inlines t W.imports) in
-          let n : length (filter (has_no_path t) (places_of_seen W.exports)) ≡ length (inlines t W.exports) = ap length (sym (inline_places t W good W.exports good.exports)) ∙ length_of_map (λ (z : NumberedInstance). z.place) (inlines t W.exports) in
+          let l : length (filter (has_no_path t) (places_of_seen W.imports)) ≡ length (inlines t W.imports) =
+          ap length (sym (inline_places t W good W.imports good.imports)) ∙ length_of_map (λ (z : NumberedInstance). z.place) (inlines t W.imports) in
+          let n : length (filter (has_no_path t) (places_of_seen W.exports)) ≡ length (inlines t W.exports) =
+          ap length (sym (inline_places t W good W.exports good.exports)) ∙ length_of_map (λ (z : NumberedInstance). z.place) (inlines t W.exports) in
           let o : length without ≡ length (filter (has_no_path t) (places_of_seen W.imports)) + length (filter (has_no_path t) (places_of_seen W.exports)) =
-          ap length (filter-append (has_no_path t) (places_of_seen W.imports) (places_of_seen W.exports)) ∙ length-append (filter (has_no_path t) (places_of_seen W.imports)) (filter (has_no_path t) (places_of_seen W.exports)) in
+          ap length (filter-append (has_no_path t) (places_of_seen W.imports) (places_of_seen W.exports)) ∙ length-append (filter (has_no_path t) (places_of_seen W.imports))
+          (filter (has_no_path t) (places_of_seen W.exports)) in
           omega (arith, places, a, c, d, e, f, g, i, k, l, n, o)
 
       without_differ : AreDifferent without
@@ -229,18 +237,22 @@ module _ (pieces : List Piece) (x : Followed) (h : Homes) (ms : List Member) (me
     part_differ m member b (parts.World w) e = world_differ m member b w e
     part_differ m member b (parts.Interface p v imports) e = tt
 
-    part_owns : (m : ℕ) (member : Member) → IsBoth pieces x h ms members input m member → (a : Part) → member.part ≡ a → (q : ℕ) → Contains (filter (has_no_path t) (places_of_part (numbered_part a))) q → Owns m q
+    part_owns : (m : ℕ) (member : Member) → IsBoth pieces x h ms members input m member → (a : Part) → member.part ≡ a → (q : ℕ)
+        → Contains (filter (has_no_path t) (places_of_part (numbered_part a))) q → Owns m q
     part_owns m member b (parts.World w) e q c = world_owns m member b w e q c
     part_owns m member b (parts.Interface p v imports) e q c = none-in q c
 
     owner_at : (m : ℕ) (y : NumberedMember) → slice_get (numbered_members ms) m ≡ Some y → (q : ℕ) → Contains (own y) q → Owns m q
-    owner_at m y e q c = let from = numbered_at pieces x h ms members input m y e in part_owns m from.member from.both from.member.part refl q (subst (λ (z : NumberedMember). Contains (own z) q) (sym from.is) c)
+    owner_at m y e q c = let from = numbered_at pieces x h ms members input m y e in
+        part_owns m from.member from.both from.member.part refl q (subst (λ (z : NumberedMember). Contains (own z) q) (sym from.is) c)
 
     differ_at : (m : ℕ) (y : NumberedMember) → slice_get (numbered_members ms) m ≡ Some y → AreDifferent (own y)
-    differ_at m y e = let from = numbered_at pieces x h ms members input m y e in subst (λ (z : NumberedMember). AreDifferent (own z)) from.is (part_differ m from.member from.both from.member.part refl)
+    differ_at m y e = let from = numbered_at pieces x h ms members input m y e in
+        subst (λ (z : NumberedMember). AreDifferent (own z)) from.is (part_differ m from.member from.both from.member.part refl)
 
     places_once : are_once (own_places t (numbered_members ms)) ≡ true
-    places_once = ap are_once (filter_flat (has_no_path t) (λ (y : NumberedMember). places_of_part y.part) (numbered_members ms)) ∙ once_given (flat_map own (numbered_members ms)) (λ i j q e f. one_of i j q (of_one own (numbered_members ms) i q e) (of_one own (numbered_members ms) j q f))
+    places_once = ap are_once (filter_flat (has_no_path t) (λ (y : NumberedMember). places_of_part y.part) (numbered_members ms)) ∙ once_given (flat_map own (numbered_members ms))
+        (λ i j q e f. one_of i j q (of_one own (numbered_members ms) i q e) (of_one own (numbered_members ms) j q f))
       where
         one_of : (i j q : ℕ) → IsOfOne own (numbered_members ms) i q → IsOfOne own (numbered_members ms) j q → i ≡ j
         one_of i j q a b =
@@ -248,7 +260,8 @@ module _ (pieces : List Piece) (x : Followed) (h : Homes) (ms : List Member) (me
             let none = no_place (path_at t q) (filter_from (has_no_path t) (places_of_part a.one.part) q among).1 in
             let one : a.number ≡ b.number = one_owner a.number b.number q none (owner_at a.number a.one a.at q among) (owner_at b.number b.one b.at q (get-contains (own b.one) b.inner q b.there)) in
             let same : a.one ≡ b.one = one_item (numbered_members ms) b.number a.one b.one (subst (λ k. slice_get (numbered_members ms) k ≡ Some a.one) one a.at) b.at in
-            let inner : a.inner ≡ b.inner = once_different (own b.one) (differ_at b.number b.one b.at) a.inner b.inner q (subst (λ (z : NumberedMember). slice_get (own z) a.inner ≡ Some q) same a.there) b.there in
+            let inner : a.inner ≡ b.inner = once_different (own b.one) (differ_at b.number b.one b.at) a.inner b.inner q
+            (subst (λ (z : NumberedMember). slice_get (own z) a.inner ≡ Some q) same a.there) b.there in
             let front : before_of own (numbered_members ms) a.number ≡ before_of own (numbered_members ms) b.number = ap (before_of own (numbered_members ms)) one in
             let ai = a.is in
             let bi = b.is in

@@ -102,10 +102,12 @@ module _ (t : Tables) (h : Homes) (known : ℕ → Fact) (n : ℕ) (ms : List Me
     pub paths_planned : map (path_of_planned p) p.interfaces ≡ once_by_path under
     paths_planned =
         zip_names (λ q i. path_of_planned p i ≡ path_at t q) (path_at t) (path_of_planned p) (λ q i e. e) (places_in ms) p.interfaces
-        (zip_each (PlansPlace t planned.kept n (home_at h) (views_of_members (numbered_members ms))) (λ q i. path_of_planned p i ≡ path_at t q) (places_in ms) p.interfaces planned.interfaces (λ k q i at there. path_there k q i at there))
+        (zip_each (PlansPlace t planned.kept n (home_at h) (views_of_members (numbered_members ms))) (λ q i. path_of_planned p i ≡ path_at t q) (places_in ms) p.interfaces planned.interfaces
+        (λ k q i at there. path_there k q i at there))
         ∙ are.order
 
-    pub functions_planned : (k : ℕ) (i : PlannedInterface) (path : Text) → slice_get p.interfaces k ≡ Some i → path_of_planned p i ≡ Some path → map (λ f. f.0) i.functions ≡ map (λ f. f.0) (reads.functions_of path shown)
+    pub functions_planned : (k : ℕ) (i : PlannedInterface) (path : Text) → slice_get p.interfaces k ≡ Some i → path_of_planned p i ≡ Some path
+        → map (λ f. f.0) i.functions ≡ map (λ f. f.0) (reads.functions_of path shown)
     functions_planned k i path there at_path =
         let back = zip_at_right (PlansPlace t planned.kept n (home_at h) (views_of_members (numbered_members ms))) (places_in ms) p.interfaces planned.interfaces k i there in
         let q = back.0 in
@@ -115,7 +117,8 @@ module _ (t : Tables) (h : Homes) (known : ℕ → Fact) (n : ℕ) (ms : List Me
         let made = found.2 first.0 first.1 in
         let same : found.0 ≡ i = same-some found.0 i (sym found.1 ∙ there) in
         ap (λ (j : PlannedInterface). map (λ f. f.0) j.functions) (sym same)
-        ∙ (zip_names (IsPlannedFunction t planned.kept made.find) (λ f. f.0) (λ e. e.0) (λ f e is. is.under) (functions_seen q (views_of_members (numbered_members ms))) found.0.functions made.functions
+        ∙ (zip_names (IsPlannedFunction t planned.kept made.find) (λ f. f.0) (λ e. e.0) (λ f e is. is.under) (functions_seen q (views_of_members (numbered_members ms))) found.0.functions
+        made.functions
         ∙ (ap (map (λ f. f.0)) (seen_same t q has (numbered_members ms) ∙ are.functions q (get-contains (places_in ms) k q back.1) has)
         ∙ (sym (names_alike t given.input.tables q has seen are.paths)
         ∙ (λ j. map (λ f. f.0) (reads.functions_of (path_is t q has j) (sym are.are j))))))
@@ -125,20 +128,23 @@ module _ (t : Tables) (h : Homes) (known : ℕ → Fact) (n : ℕ) (ms : List Me
 
 -- ---- worlds
 
-part_worlds : (t : Tables) (h : Homes) (m : NumberedMember) (x : reads.Member) → x.label ≡ m.label → (label : Text) → label ≡ m.label → (a : Part) (b : reads.Part) → ShowsPart t h m (numbered_part a) b
+part_worlds : (t : Tables) (h : Homes) (m : NumberedMember) (x : reads.Member) → x.label ≡ m.label → (label : Text) → label ≡ m.label → (a : Part) (b : reads.Part)
+    → ShowsPart t h m (numbered_part a) b
     → map (λ w. w.0) (world_in_part label a) ≡ map (λ w. w.0) (reads.worlds_of (record { label = x.label; package_ = x.package_; part = b }))
 part_worlds t h m x under label same (parts.World w) (reads.Part.world scope) is = λ i. (same ∙ sym under) i ∷ []
 part_worlds t h m x under label same (parts.Interface p v imports) (reads.Part.interface view views) is = refl
 part_worlds t h m x under label same (parts.World w) (reads.Part.interface view views) is = absurd is
 part_worlds t h m x under label same (parts.Interface p v imports) (reads.Part.world scope) is = absurd is
 
-pub worlds_meant : (t : Tables) (h : Homes) (ms : List Member) (members : List reads.Member) → AllZip (IsMember t h) (numbered_members ms) members → map (λ w. w.0) (worlds_in ms) ≡ worlds_shown members
+pub worlds_meant : (t : Tables) (h : Homes) (ms : List Member) (members : List reads.Member) → AllZip (IsMember t h) (numbered_members ms) members
+    → map (λ w. w.0) (worlds_in ms) ≡ worlds_shown members
 worlds_meant t h [] [] zip = refl
 worlds_meant t h [] (x ∷ xs) zip = absurd zip
 worlds_meant t h (m ∷ ms) [] zip = absurd zip
 worlds_meant t h (m ∷ ms) (x ∷ xs) zip =
     map_append (λ w. w.0) (world_in_part m.label.now m.part) (worlds_in ms)
-    ∙ ((λ i. part_worlds t h (record { label = m.label.now; package_ = m.package_number; part = numbered_part m.part }) x zip.0.label m.label.now refl m.part x.part zip.0.part i ++ worlds_meant t h ms xs zip.1 i)
+    ∙ ((λ i. part_worlds t h (record { label = m.label.now; package_ = m.package_number; part = numbered_part m.part }) x zip.0.label m.label.now refl m.part x.part zip.0.part i ++ worlds_meant t h
+    ms xs zip.1 i)
     ∙ sym (map_append (λ w. w.0) (reads.worlds_of x) (flat_map reads.worlds_of xs)))
 
 -- ---- what is built
@@ -163,7 +169,8 @@ module _ (p : Plan) (r : Resolve) (built : IsBuilt p r) where
   built_at k i at = ap (λ ks. slice_get ks k) (sym built.interfaces) ∙ (slice_get-map planned_interface r.interfaces.items k ∙ ap (option_map planned_interface) at)
 
   pub functions_built : (shown : List reads.Sight)
-      → ((k : ℕ) (i : PlannedInterface) (path : Text) → slice_get p.interfaces k ≡ Some i → path_of_planned p i ≡ Some path → map (λ f. f.0) i.functions ≡ map (λ f. f.0) (reads.functions_of path shown))
+      → ((k : ℕ) (i : PlannedInterface) (path : Text) → slice_get p.interfaces k ≡ Some i → path_of_planned p i ≡ Some path
+      → map (λ f. f.0) i.functions ≡ map (λ f. f.0) (reads.functions_of path shown))
       → (k : ℕ) (i : Interface) (path : Text) → interface_at r k ≡ Some i → path_of_interface r i ≡ Some path → function_names i ≡ map (λ f. f.0) (reads.functions_of path shown)
   functions_built shown planned k i path at under =
       sym (map_of_map (λ f. f.0) (λ e. (text_of e.0, planned_function e.1)) i.functions.entries) ∙ planned k (planned_interface i) path (built_at k i at) (path_built i ∙ under)
@@ -189,7 +196,8 @@ module _ (p : Plan) (r : Resolve) (built : IsBuilt p r) where
           ∙ (ap are_rising (sym (world_types_are w)) ∙ all_get (λ x. are_rising (world_types x)) p.worlds k (planned_world w) is.world_types_rise (world_built_at k w at));
     }
 
-pub package_follows : (t : Tables) (h : Homes) (known : ℕ → Fact) (n : ℕ) (ms : List Member) (members : List reads.Member) → IsPackageInput t h known n ms members → StandAlone t ms → h.packages ≡ packages_shown members
+pub package_follows : (t : Tables) (h : Homes) (known : ℕ → Fact) (n : ℕ) (ms : List Member) (members : List reads.Member) → IsPackageInput t h known n ms members → StandAlone t ms
+    → h.packages ≡ packages_shown members
     → (p : Plan) → PlansWhole t h.packages (home_at h) n ms p → (r : Resolve) → IsBuilt p r → TypesRise r → FollowsParts members r
 package_follows t h known n ms members given alone packages p planned r built types =
     let are = package_shown t h known n ms members given alone in
@@ -205,7 +213,8 @@ package_follows t h known n ms members given alone packages p planned r built ty
     }
 
 -- One world beside the interfaces of its package that it shows.
-module _ (t : Tables) (h : Homes) (known : ℕ → Fact) (n : ℕ) (m : Member) (own : List Member) (members : List reads.Member) (given : IsPackageInput t h known n (m ∷ own) members) (w : Scope) (is : m.part ≡ parts.World w)
+module _ (t : Tables) (h : Homes) (known : ℕ → Fact) (n : ℕ) (m : Member) (own : List Member) (members : List reads.Member) (given : IsPackageInput t h known n (m ∷ own) members) (w : Scope)
+    (is : m.part ≡ parts.World w)
     (own_are : AreOwnInterfaces t h n (numbered_scope w) (numbered_members own)) (met : places_in (m ∷ own) ≡ once (map (λ (i : NumberedInstance). i.place) (numbered_scope w).instances))
     (ones : List reads.Member) (zip : AllZip (IsMember t h) (numbered_members (m ∷ [])) ones) (alone : StandAlone t (m ∷ [])) where
   abbrev world_seen : List NumberedSight

@@ -36,7 +36,8 @@ use Rattle.base_lemmas.proofs.Lists.{map_of_map}
 abbrev Given : Type 0
 Given = List (Option (ℕ × Bor (List ℕ)))
 
-pub of_first : (t : Tables) (h : Homes) (known : ℕ → Fact) (ms : List Member) (m : Member) → Some m ≡ slice_get ms 0 → are_package t h known m.package_number (numbered_members ms) ≡ are_one_package t h known (numbered_members ms)
+pub of_first : (t : Tables) (h : Homes) (known : ℕ → Fact) (ms : List Member) (m : Member) → Some m ≡ slice_get ms 0
+    → are_package t h known m.package_number (numbered_members ms) ≡ are_one_package t h known (numbered_members ms)
 of_first t h known [] m e = absurd cc
 of_first t h known (x ∷ ms) m e = let same : m ≡ x = cc in ap (λ (y : Member). are_package t h known y.package_number (numbered_members (x ∷ ms))) same
 
@@ -79,14 +80,17 @@ module _ (x : Followed) (t : Tables) (facts : List KeptFact) (h : Homes) (ms : L
 
   pub no_package : are_one_package t h (known_by facts) (numbered_members ms) ≡ false → package_of_pieces pieces ≡ None
   no_package none =
-      let decided = packages_are_decided pieces x followed facts read.known h (over_followed (λ (u : Tables). HomesStand u h) read.stand) (map lent_member ms) (over_followed (λ (u : Tables). AreRead u (known_by facts) h x.members.items (map lent_member ms)) read.read) in
-      none_decided (tables_of x) (numbered_members ms) (subst (ArePackageDecided pieces (tables_of x) h (known_by facts)) (map_of_map (λ (m : NumberedMember × List (Option ℕ)). m.0) lent_member ms) decided)
+      let decided = packages_are_decided pieces x followed facts read.known h (over_followed (λ (u : Tables). HomesStand u h) read.stand) (map lent_member ms)
+      (over_followed (λ (u : Tables). AreRead u (known_by facts) h x.members.items (map lent_member ms)) read.read) in
+      none_decided (tables_of x) (numbered_members ms) (subst (ArePackageDecided pieces (tables_of x) h (known_by facts))
+      (map_of_map (λ (m : NumberedMember × List (Option ℕ)). m.0) lent_member ms) decided)
       (over_followed (λ (u : Tables). are_one_package u h (known_by facts) (numbered_members ms) ≡ false) none)
 
 -- ---- members as they are read
 
 module _ (x : Followed) (t : Tables) (tables : t ≡ tables_of x) (facts : List KeptFact) (known : AreKnown x facts) (old first packages : List PackageIdentity) (empty : old ≡ []) (homes : Given)
-    (are_homes : AllZip (IsHomeOf first) t.paths (map given_home homes)) (reasons : HaveReasons old first (map given_home homes)) (order : ComeInOrder old (map given_home homes)) (stand : HomesStand (tables_of x) (homes_in packages homes)) (are : ArePackages packages)
+    (are_homes : AllZip (IsHomeOf first) t.paths (map given_home homes)) (reasons : HaveReasons old first (map given_home homes)) (order : ComeInOrder old (map given_home homes))
+    (stand : HomesStand (tables_of x) (homes_in packages homes)) (are : ArePackages packages)
     (rs : List ReadMember) (sources : AreForMembers first packages (map read_member rs)) (lent : Given) (lent_is : lent ≡ homes) (members : List FollowedMember) (all : members ≡ x.members.items)
     (read : AreRead t (known_by facts) (homes_in packages lent) members (map read_member rs)) where
   read_here : AreReadOf x t facts (homes_in packages homes) (map read_member rs)

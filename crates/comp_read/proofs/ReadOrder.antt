@@ -60,13 +60,15 @@ use Rattle.comp_read.proofs.WorldReadLaws.{is_world}
 use Rattle.comp_read.proofs.WorldWhole.{read_world_is_whole}
 
 -- what is exported was read of the sections
-exported : (pieces : List Piece) (x : Followed) (h : Homes) (ms : List Member) (members : List reads.Member) → IsReadInput pieces x h ms members → (exported_parts pieces >>= each member_by_levels) ≡ Some members
+exported : (pieces : List Piece) (x : Followed) (h : Homes) (ms : List Member) (members : List reads.Member) → IsReadInput pieces x h ms members
+    → (exported_parts pieces >>= each member_by_levels) ≡ Some members
 exported pieces x h ms members input =
     ap (λ o. o >>= each member_by_levels) input.followed.exported ∙ members_by_scopes pieces input.followed.parts input.followed.exported members input.reads
 
 -- ---- a package
 
-module _ (x : Followed) (facts : List KeptFact) (h : Homes) (n : ℕ) (ms : List Member) (read : AreReadOf x (tables_of x) facts h (map lent_member ms)) (pieces : List Piece) (followed : IsFollowed pieces x)
+module _ (x : Followed) (facts : List KeptFact) (h : Homes) (n : ℕ) (ms : List Member) (read : AreReadOf x (tables_of x) facts h (map lent_member ms)) (pieces : List Piece)
+    (followed : IsFollowed pieces x)
     (obeys : are_package (tables_of x) h (known_by facts) n (numbered_members ms) ≡ true) where
   package_read : (members : List reads.Member) × IsReadInput pieces x h ms members
   package_read = read_members_are_input pieces x followed facts read.known h read.stand ms read.read
@@ -77,8 +79,10 @@ module _ (x : Followed) (facts : List KeptFact) (h : Homes) (n : ℕ) (ms : List
   types_rise : (p : Plan) → PlansWhole (tables_of x) h.packages (home_at h) n ms p → IsPlan p → are_rising (flat_map (λ (i : PlannedInterface). numbers_of i.types) p.interfaces) ≡ true
   types_rise p planned is =
       let obey = package_views_obey (tables_of x) h (known_by facts) n ms obeys in
-      all_rise pieces x h ms package_read.0 package_read.1 (known_by facts) obey planned.kept_for.marks planned.kept planned.kept_for.marked n (home_at h) (views_of_members (numbered_members ms)) (λ s c. c) (places_in ms)
-      (ap (joined_all []) (sym (places_alike pieces x h ms package_read.0 package_read.1 (known_by facts) obey))) p.interfaces planned.interfaces (first_there (tables_of x) h ms package_read.0 packaged.input n p planned) is.types_rise
+      all_rise pieces x h ms package_read.0 package_read.1 (known_by facts) obey planned.kept_for.marks planned.kept planned.kept_for.marked n (home_at h) (views_of_members (numbered_members ms))
+      (λ s c. c) (places_in ms)
+      (ap (joined_all []) (sym (places_alike pieces x h ms package_read.0 package_read.1 (known_by facts) obey))) p.interfaces planned.interfaces
+      (first_there (tables_of x) h ms package_read.0 packaged.input n p planned) is.types_rise
 
   follows_package : (p : Plan) → PlansWhole (tables_of x) h.packages (home_at h) n ms p → IsPlan p → (r : Resolve) → IsBuilt p r → FollowsLevels (Some pieces) r
   follows_package p planned is r built = record {
@@ -87,11 +91,13 @@ module _ (x : Followed) (facts : List KeptFact) (h : Homes) (n : ℕ) (ms : List
     follows =
         package_follows (tables_of x) h (known_by facts) n ms package_read.0
         packaged (stand_alone pieces x h ms package_read.0 package_read.1 (all_have (tables_of x) (numbered_members ms) packaged.input.numbers))
-        (packages_are pieces x h ms package_read.0 package_read.1 read.homes read.order (read_packages_have_sources read.first h.packages h.homes ms read.reasons read.members) n (one_package (tables_of x) h (known_by facts) n ms package_read.0 packaged)) p planned r built
+        (packages_are pieces x h ms package_read.0 package_read.1 read.homes read.order (read_packages_have_sources read.first h.packages h.homes ms read.reasons read.members) n
+        (one_package (tables_of x) h (known_by facts) n ms package_read.0 packaged)) p planned r built
         (types_built p r built is (types_rise p planned is));
   }
 
-module _ (x : Followed) (t : Tables) (facts : List KeptFact) (h : Homes) (n : ℕ) (ms : List Member) (read : AreReadOf x t facts h (map lent_member ms)) (pieces : List Piece) (followed : IsFollowed pieces x)
+module _ (x : Followed) (t : Tables) (facts : List KeptFact) (h : Homes) (n : ℕ) (ms : List Member) (read : AreReadOf x t facts h (map lent_member ms)) (pieces : List Piece)
+    (followed : IsFollowed pieces x)
     (obeys : are_package t h (known_by facts) n (numbered_members ms) ≡ true) (found : Option PackageMeaning) (mean : PlansMean t h.packages (home_at h) n ms found) (r : Resolve) (main : ℕ) where
   pub package_in_order : IsBuiltOf t h.packages (home_at h) n ms r main → FollowsLevels (Some pieces) r
   package_in_order is =
@@ -118,10 +124,12 @@ module _ (x : Followed) (t : Tables) (facts : List KeptFact) (h : Homes) (m : Me
 
   -- the views of the world obey the rules
   world_obeys : (a : Part) → a ≡ parts.World w → IsReadWorld pieces x (tables_of x) facts h (record { label = m.label; package_number = m.package_number; part = a }) w
-      → AreBeside (tables_of x) h (record { label = m.label; package_number = m.package_number; part = a }) w own → ViewsObey (tables_of x) (known_by facts) (record { label = m.label; package_number = m.package_number; part = a } ∷ [])
+      → AreBeside (tables_of x) h (record { label = m.label; package_number = m.package_number; part = a }) w own
+      → ViewsObey (tables_of x) (known_by facts) (record { label = m.label; package_number = m.package_number; part = a } ∷ [])
   world_obeys a e read beside =
       subst (λ (b : Part). ViewsObey (tables_of x) (known_by facts) (record { label = m.label; package_number = m.package_number; part = b } ∷ [])) (sym e)
-      (views_obey pieces x facts h m.label m.package_number w (subst (λ (b : Part). IsReadWorld pieces x (tables_of x) facts h (record { label = m.label; package_number = m.package_number; part = b }) w) e read) own beside)
+      (views_obey pieces x facts h m.label m.package_number w (subst (λ (b : Part). IsReadWorld pieces x (tables_of x) facts h (record { label = m.label; package_number = m.package_number; part = b })
+      w) e read) own beside)
 
   obey : ViewsObey (tables_of x) (known_by facts) (m ∷ [])
   obey =
@@ -133,10 +141,12 @@ module _ (x : Followed) (t : Tables) (facts : List KeptFact) (h : Homes) (m : Me
       let here = subst (λ (u : Tables). PlansWhole u h.packages (home_at h) m.package_number (m ∷ own) p) given.read.tables planned in
       let met = world_places m w given.is (places_in (m ∷ own)) (flat_map scope_places (scopes_in x)) (places_are t h given.read.homes m.package_number m w given.is own are order)
       (places_alike pieces x h (m ∷ []) world_read.0 world_read.1 (known_by facts) obey) in
-      all_rise pieces x h (m ∷ []) world_read.0 world_read.1 (known_by facts) obey here.kept_for.marks here.kept here.kept_for.marked m.package_number (home_at h) (views_of_members (numbered_members (m ∷ own)))
+      all_rise pieces x h (m ∷ []) world_read.0 world_read.1 (known_by facts) obey here.kept_for.marks here.kept here.kept_for.marked m.package_number (home_at h)
+      (views_of_members (numbered_members (m ∷ own)))
       (world_views t h m w given.is own are) (places_in (m ∷ own)) met p.interfaces here.interfaces (first_there t h (m ∷ own) whole.members whole.input.input m.package_number p planned) is.types_rise
 
-  pub world_in_order : (found : Option WorldPackage) → WorldPlansMean t h.packages (home_at h) m.package_number (m ∷ own) found → (r : Resolve) (main : ℕ) → IsBuiltOf t h.packages (home_at h) m.package_number (m ∷ own) r main → FollowsLevels (Some pieces) r
+  pub world_in_order : (found : Option WorldPackage) → WorldPlansMean t h.packages (home_at h) m.package_number (m ∷ own) found → (r : Resolve) (main : ℕ)
+      → IsBuiltOf t h.packages (home_at h) m.package_number (m ∷ own) r main → FollowsLevels (Some pieces) r
   world_in_order found mean r main is =
       let plan = (mean is.plan is.planned is.fits).plan.plan in
       let built = is.built (plans_are_buildable is.plan plan) in
@@ -151,7 +161,8 @@ module _ (x : Followed) (t : Tables) (facts : List KeptFact) (h : Homes) (m : Me
         members = world_read.0;
         exported = exported pieces x h (m ∷ []) world_read.0 world_read.1;
         follows =
-            world_follows t h (known_by facts) m.package_number m own whole.members whole.input w given.is are met world_read.0 zip (over_tables (λ (u : Tables). StandAlone u (m ∷ [])) alone) packages is.plan is.planned r
+            world_follows t h (known_by facts) m.package_number m own whole.members whole.input w given.is are met world_read.0 zip (over_tables (λ (u : Tables). StandAlone u (m ∷ [])) alone) packages
+            is.plan is.planned r
             built (types_built is.plan r built plan (world_types_rise is.plan is.planned plan));
       }
 
@@ -178,11 +189,13 @@ follows_bytes bytes r is =
       follows = is.follows;
     }
   where
-    parts_by : (o : Option (List (Text × PartType))) → (members : List reads.Member) → (o >>= each member_by_levels) ≡ Some members → (o >>= λ parts. each member_by_levels parts >>= λ ms. Some ms) ≡ Some members
+    parts_by : (o : Option (List (Text × PartType))) → (members : List reads.Member) → (o >>= each member_by_levels) ≡ Some members
+        → (o >>= λ parts. each member_by_levels parts >>= λ ms. Some ms) ≡ Some members
     parts_by None members e = let wrong : ◌≡◌ {A = Option (List reads.Member)} None (Some members) = e in absurd cc
     parts_by (Some parts) members e = bound (each member_by_levels parts) ∙ e
 
-    by : (o : Option (List Piece)) → (o >>= λ pieces. exported_parts pieces >>= each member_by_levels) ≡ Some is.members → (o >>= λ ps. exported_parts ps >>= λ parts. each member_by_levels parts >>= λ ms. Some ms) ≡ Some is.members
+    by : (o : Option (List Piece)) → (o >>= λ pieces. exported_parts pieces >>= each member_by_levels) ≡ Some is.members
+        → (o >>= λ ps. exported_parts ps >>= λ parts. each member_by_levels parts >>= λ ms. Some ms) ≡ Some is.members
     by None e = let wrong : ◌≡◌ {A = Option (List reads.Member)} None (Some is.members) = e in absurd cc
     by (Some pieces) e = parts_by (exported_parts pieces) is.members e
 

@@ -45,7 +45,8 @@ use Rattle.std.proofs.lemmas.Option.{same_Some as same-some}
 
 -- ---- members that were read
 
-module _ (pieces : List Piece) (x : Followed) (followed : IsFollowed pieces x) (facts : List KeptFact) (are_known : AreKnown x facts) (h : Homes) (stand : HomesStand (tables_of x) h) (ms : List Member)
+module _ (pieces : List Piece) (x : Followed) (followed : IsFollowed pieces x) (facts : List KeptFact) (are_known : AreKnown x facts) (h : Homes) (stand : HomesStand (tables_of x) h)
+    (ms : List Member)
     (read : AreRead (tables_of x) (known_by facts) h x.members.items (map lent_member ms)) where
   meant : AreMeant pieces (tables_of x) h (map (λ (m : NumberedMember × List (Option ℕ)). m.0) (map lent_member ms))
   meant = read_members_are_meant pieces x followed facts are_known h stand (map lent_member ms) read
@@ -73,7 +74,8 @@ first_package : (members : List reads.Member) (first : reads.Member) → slice_g
 first_package [] first e = let wrong : ◌≡◌ {A = Option reads.Member} None (Some first) = e in absurd cc
 first_package (m ∷ members) first e = ap (λ (y : reads.Member). package_with y.package_ (m ∷ members)) (same-some m first e)
 
-same_package : (t : Tables) (h : Homes) (m : Member) (n : NumberedMember) (meaning : reads.Member) → numbered_member m ≡ n → IsMember t h n meaning → slice_get h.packages m.package_number ≡ Some meaning.package_
+same_package : (t : Tables) (h : Homes) (m : Member) (n : NumberedMember) (meaning : reads.Member) → numbered_member m ≡ n → IsMember t h n meaning
+    → slice_get h.packages m.package_number ≡ Some meaning.package_
 same_package t h m n meaning same is = ap (λ (y : NumberedMember). slice_get h.packages y.package_) same ∙ is.package_
 
 -- the first member, and what it stands for
@@ -165,7 +167,8 @@ module _ (pieces : List Piece) (x : Followed) (facts : List KeptFact) (h : Homes
       }
 
 -- the same, over what was followed
-over_followed : (pieces : List Piece) (x : Followed) (t : Tables) (facts : List KeptFact) (h : Homes) (n : ℕ) (ms : List Member) → IsReadPackage pieces x t facts h n ms → IsReadPackage pieces x (tables_of x) facts h n ms
+over_followed : (pieces : List Piece) (x : Followed) (t : Tables) (facts : List KeptFact) (h : Homes) (n : ℕ) (ms : List Member) → IsReadPackage pieces x t facts h n ms
+    → IsReadPackage pieces x (tables_of x) facts h n ms
 over_followed pieces x t facts h n ms given = subst (λ (u : Tables). IsReadPackage pieces x u facts h n ms) given.tables given
 
 pub read_package_is_whole : ReadPackageIsWhole

@@ -34,7 +34,8 @@ module _ (homes : ℕ → Option Home) (q : ℕ) where
   above m n less [] = refl
   above m n less (p ∷ ps) =
       let rest = above m (n + 1) (omega (arith, less)) ps in
-      one_more (λ (ns : List ℕ). list_all (ltb m) ns ≡ true) n p (entries_from homes q (n + 1) ps) rest (both (ltb m n) (list_all (ltb m) (numbers (entries_from homes q (n + 1) ps))) (lt-ltb m n less) rest)
+      one_more (λ (ns : List ℕ). list_all (ltb m) ns ≡ true) n p (entries_from homes q (n + 1) ps) rest
+      (both (ltb m n) (list_all (ltb m) (numbers (entries_from homes q (n + 1) ps))) (lt-ltb m n less) rest)
 
   pub entries_rise : (n : ℕ) (ps : List ℕ) → rise (numbers (entries_from homes q n ps)) ≡ true
   entries_rise n [] = refl
@@ -96,12 +97,14 @@ module _ (P : ℕ → Bool) where
       here : n ≡ n + 0
       here = omega arith
 
-      by : (b : Bool) → AllZip (IsThere n (p ∷ ps)) (filter P ps) (indices (n + 1) ps) → AllZip (IsThere n (p ∷ ps)) (cond b (p ∷ filter P ps) (filter P ps)) (cond b (n ∷ indices (n + 1) ps) (indices (n + 1) ps))
+      by : (b : Bool) → AllZip (IsThere n (p ∷ ps)) (filter P ps) (indices (n + 1) ps)
+          → AllZip (IsThere n (p ∷ ps)) (cond b (p ∷ filter P ps) (filter P ps)) (cond b (n ∷ indices (n + 1) ps) (indices (n + 1) ps))
       by true rest = ((0, here, refl), rest)
       by false rest = rest
 
 -- where each is found once, its number is where it stands
-same_numbers : (places : List ℕ) → IsOnce places → (qs es fs : List ℕ) → AllZip (λ q e. slice_get places e ≡ Some q) qs es → AllZip (λ q f. (k : ℕ) × (f ≡ 0 + k) × (slice_get places k ≡ Some q)) qs fs → es ≡ fs
+same_numbers : (places : List ℕ) → IsOnce places → (qs es fs : List ℕ) → AllZip (λ q e. slice_get places e ≡ Some q) qs es
+    → AllZip (λ q f. (k : ℕ) × (f ≡ 0 + k) × (slice_get places k ≡ Some q)) qs fs → es ≡ fs
 same_numbers places once [] [] [] a b = refl
 same_numbers places once (q ∷ qs) (e ∷ es) (f ∷ fs) a b =
     let one : e ≡ b.0.0 = once e b.0.0 q a.0 b.0.2 in

@@ -30,7 +30,8 @@ module _ (t : Tables) where
   scope_paths (i ∷ is) = by (path_at t i.place) refl (scope_paths is)
     where
       by : (o : Option Text) → path_at t i.place ≡ o → AllByRecursion (λ (s : NumberedSight). HasPath t s.place) (flat_map (sights_of_instance t) is)
-          → AllByRecursion (λ (s : NumberedSight). HasPath t s.place) (option_map_or (λ (path : Text). record { place = i.place; view = i.view; whole = true } ∷ []) o [] ++ flat_map (sights_of_instance t) is)
+          → AllByRecursion (λ (s : NumberedSight). HasPath t s.place) (option_map_or (λ (path : Text). record { place = i.place; view = i.view; whole = true } ∷ []) o [] ++ flat_map
+          (sights_of_instance t) is)
       by None e rest = rest
       by (Some path) e rest = ((path, e), rest)
 
@@ -65,7 +66,8 @@ module _ (t : Tables) where
     pathless q e [] = refl
     pathless q e (n ∷ ns) = by (n == q) refl (has_no_path t n) refl (pathless q e ns)
       where
-        by : (b : Bool) → (n == q) ≡ b → (c : Bool) → has_no_path t n ≡ c → has ns q ≡ has (filter (has_no_path t) ns) q → (b || has ns q) ≡ has (cond c (n ∷ filter (has_no_path t) ns) (filter (has_no_path t) ns)) q
+        by : (b : Bool) → (n == q) ≡ b → (c : Bool) → has_no_path t n ≡ c → has ns q ≡ has (filter (has_no_path t) ns) q
+            → (b || has ns q) ≡ has (cond c (n ∷ filter (has_no_path t) ns) (filter (has_no_path t) ns)) q
         by true f true g rest = sym (ap (λ d. d || has (filter (has_no_path t) ns) q) f)
         by false f true g rest = rest ∙ sym (ap (λ d. d || has (filter (has_no_path t) ns) q) f)
         by false f false g rest = rest
@@ -90,7 +92,8 @@ module _ (t : Tables) where
         by : (o : Option Text) → path_at t n ≡ o → are_once (rest_of (is_none o)) ≡ true → (are_once (filter (has_no_path t) ns) ≡ true → map (path_at t) (once ns) ≡ once_by_path (map (path_at t) ns))
             → path_at t n ∷ map (path_at t) (filter (λ m. not (m == n)) (once ns)) ≡ once_by_path (o ∷ map (path_at t) ns)
         by None e alone more =
-            let new : has (filter (has_no_path t) ns) n ≡ false = not-true (has (filter (has_no_path t) ns) n) (first_true (not (has (filter (has_no_path t) ns) n)) (are_once (filter (has_no_path t) ns)) alone) in
+            let new : has (filter (has_no_path t) ns) n ≡ false = not-true (has (filter (has_no_path t) ns) n)
+            (first_true (not (has (filter (has_no_path t) ns) n)) (are_once (filter (has_no_path t) ns)) alone) in
             let left = none_left n (once ns) (has_once n ns ∙ (pathless n e ns ∙ new)) in
             λ i. e i ∷ (ap (map (path_at t)) left ∙ more (second_true (not (has (filter (has_no_path t) ns) n)) (are_once (filter (has_no_path t) ns)) alone)) i
         by (Some path) e alone more = λ i. e i ∷ (others n path e (once ns) ∙ ap (filter (λ o. not (is_under path o))) (more alone)) i
@@ -99,10 +102,12 @@ module _ (t : Tables) where
     pub names_alike : (q : ℕ) → HasPath t q → (seen : List NumberedSight) → AllByRecursion (λ (s : NumberedSight). HasPath t s.place) seen
         → map (λ f. f.0) (reads.functions_of (path_text t q) (map (sight_of t) seen)) ≡ map (λ (f : Text × NumberedFunction). f.0) (functions_seen q seen)
     names_alike q path [] all = refl
-    names_alike q path (s ∷ seen) all = by (text_eq (path_text t q) (path_text t s.place) && s.whole) (s.place == q && s.whole) (ap (λ b. b && s.whole) (path_number t tables q s.place path all.0)) (names_alike q path seen all.1)
+    names_alike q path (s ∷ seen) all = by (text_eq (path_text t q) (path_text t s.place) && s.whole) (s.place == q && s.whole) (ap (λ b. b && s.whole) (path_number t tables q s.place path all.0))
+        (names_alike q path seen all.1)
       where
         by : (a b : Bool) → a ≡ b → map (λ f. f.0) (reads.functions_of (path_text t q) (map (sight_of t) seen)) ≡ map (λ (f : Text × NumberedFunction). f.0) (functions_seen q seen)
-            → map (λ f. f.0) (cond a (map (shown_function t) s.view.functions) (reads.functions_of (path_text t q) (map (sight_of t) seen))) ≡ map (λ (f : Text × NumberedFunction). f.0) (cond b s.view.functions (functions_seen q seen))
+            → map (λ f. f.0) (cond a (map (shown_function t) s.view.functions) (reads.functions_of (path_text t q) (map (sight_of t) seen))) ≡ map (λ (f : Text × NumberedFunction). f.0)
+            (cond b s.view.functions (functions_seen q seen))
         by true true e more = map_of_map (λ f. f.0) (shown_function t) s.view.functions
         by false false e more = more
         by true false e more = absurd cc
@@ -111,7 +116,8 @@ module _ (t : Tables) where
     -- ---- members
 
     -- the path of an interface that is exported
-    exported_path : (h : Homes) → HomesStand t h → (m : NumberedMember) (x : reads.Member) → slice_get h.packages m.package_ ≡ Some x.package_ → x.label ≡ m.label → (p : ℕ) → HasPath t p → home_at h p ≡ Some (m.package_, m.label)
+    exported_path : (h : Homes) → HomesStand t h → (m : NumberedMember) (x : reads.Member) → slice_get h.packages m.package_ ≡ Some x.package_ → x.label ≡ m.label → (p : ℕ) → HasPath t p
+        → home_at h p ≡ Some (m.package_, m.label)
         → Some (path_in x.package_ x.label) ≡ path_at t p
     exported_path h stand m x package_ under p path at_home =
         let home = stand.homes p path.0 path.1 in
@@ -125,7 +131,8 @@ module _ (t : Tables) where
     imported_paths [] all = refl
     imported_paths (i ∷ imports) all = λ j. (ap Some (path_is t i.0 all.0.0) ∙ sym all.0.0.1) j ∷ imported_paths imports all.1 j
 
-    pub part_paths : (h : Homes) → HomesStand t h → (m : NumberedMember) (x : reads.Member) → slice_get h.packages m.package_ ≡ Some x.package_ → x.label ≡ m.label → (a : NumberedPart) (b : reads.Part) → ShowsPart t h m a b → IsPartIn t a
+    pub part_paths : (h : Homes) → HomesStand t h → (m : NumberedMember) (x : reads.Member) → slice_get h.packages m.package_ ≡ Some x.package_ → x.label ≡ m.label
+        → (a : NumberedPart) (b : reads.Part) → ShowsPart t h m a b → IsPartIn t a
         → map (path_at t) (places_of_part a) ≡ shown_under (record { label = x.label; package_ = x.package_; part = b })
     part_paths h stand m x package_ under (world w) (reads.Part.world scope) shows is =
         map_of_map (path_at t) (λ (i : NumberedInstance). i.place) w.instances
@@ -133,7 +140,8 @@ module _ (t : Tables) where
     part_paths h stand m x package_ under (interface p v imports) (reads.Part.interface view views) shows is =
         let front : map (path_at t) (map (λ (i : ℕ × NumberedView). i.0) imports) ≡ map (λ i. Some i.0) views =
         map_of_map (path_at t) (λ (i : ℕ × NumberedView). i.0) imports
-        ∙ (sym (imported_paths imports is.1) ∙ (sym (map_of_map (λ i. Some i.0) (λ (i : ℕ × NumberedView). (path_text t i.0, view_of t i.1)) imports) ∙ sym (ap (map (λ i. Some i.0)) shows.imported))) in
+        ∙ (sym (imported_paths imports is.1) ∙ (sym (map_of_map (λ i. Some i.0) (λ (i : ℕ × NumberedView). (path_text t i.0, view_of t i.1)) imports) ∙ sym
+        (ap (map (λ i. Some i.0)) shows.imported))) in
         append_of_map (path_at t) (map (λ (i : ℕ × NumberedView). i.0) imports) (p ∷ []) ∙ (λ i. front i ++ sym (exported_path h stand m x package_ under p shows.path shows.home) i ∷ [])
     part_paths h stand m x package_ under (world w) (reads.Part.interface view views) shows is = absurd shows
     part_paths h stand m x package_ under (interface p v imports) (reads.Part.world scope) shows is = absurd shows

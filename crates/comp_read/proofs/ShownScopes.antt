@@ -68,7 +68,8 @@ abbrev member_of : Text → PackageIdentity × Part → Member
 member_of label p = record { label = label; package_ = p.0; part = p.1 }
 
 -- the paths of imports, and of one more
-named_paths : (is : List Instance) (imports : List (Text × View)) (last : Text × View) → is ≡ map named_instance imports ++ named_instance last ∷ [] → map (λ (i : Instance). i.interface) is ≡ map (λ (i : Text × View). Some i.0) imports ++ Some last.0 ∷ []
+named_paths : (is : List Instance) (imports : List (Text × View)) (last : Text × View) → is ≡ map named_instance imports ++ named_instance last ∷ []
+    → map (λ (i : Instance). i.interface) is ≡ map (λ (i : Text × View). Some i.0) imports ++ Some last.0 ∷ []
 named_paths is imports last all =
     ap (map (λ (i : Instance). i.interface)) all
     ∙ (append_of_map (λ (i : Instance). i.interface) (map named_instance imports) (named_instance last ∷ [])
@@ -85,7 +86,8 @@ interface_paths label scope st p e =
     let w = when_some (distinct (exported.0.0 ∷ map (λ i. i.0) imports.0) && are_reached imports.0 exported.0.1) (Some (package_.0, Part.interface exported.0.1 imports.0)) p package_.2 in
     let apart = first_true (distinct (exported.0.0 ∷ map (λ i. i.0) imports.0)) (are_reached imports.0 exported.0.1) w.0 in
     let reached = second_true (distinct (exported.0.0 ∷ map (λ i. i.0) imports.0)) (are_reached imports.0 exported.0.1) w.0 in
-    let all : scope.instances ≡ map named_instance imports.0 ++ named_instance (path_in package_.0 label, exported.0.1) ∷ [] = interface_shows label scope st.0 st.1 exported.0 exported.1 imports.0 imports.1 package_.0 package_.1 apart reached in
+    let all : scope.instances ≡ map named_instance imports.0 ++ named_instance (path_in package_.0 label, exported.0.1) ∷ [] =
+    interface_shows label scope st.0 st.1 exported.0 exported.1 imports.0 imports.1 package_.0 package_.1 apart reached in
     subst (λ (q : PackageIdentity × Part). paths_in scope ≡ shown_under (member_of label q)) (some_is (package_.0, Part.interface exported.0.1 imports.0) p w.1)
     (named_paths scope.instances imports.0 (path_in package_.0 label, exported.0.1) all)
 

@@ -121,7 +121,8 @@ kept_less marks kept marked o p c d (a_shape n j is at new) (a_shape m k other t
     omega (arith, new, newer, rises)
 
 -- the type of a number of the plan
-shown_number : (kept : List ℕ) (v : NumberedView) (es : List (Text × ℕ)) → AllZip (ListsNumber kept) v.types es → (c : ℕ) → Contains (numbers_of es) c → (y : NumberedType) × Contains v.types y × IsPart kept (slot_part y.slot) (14 + c)
+shown_number : (kept : List ℕ) (v : NumberedView) (es : List (Text × ℕ)) → AllZip (ListsNumber kept) v.types es → (c : ℕ) → Contains (numbers_of es) c → (y : NumberedType) × Contains v.types y
+    × IsPart kept (slot_part y.slot) (14 + c)
 shown_number kept v es zip c c_in =
     let e = map_from (λ (e : Text × ℕ). e.1) es c c_in in
     let at = contains-get es e.0 e.1 in
@@ -143,7 +144,8 @@ module _ (pieces : List Piece) (x : Followed) (h : Homes) (ms : List Member) (me
       let a = instance_placed pieces x h ms members input m j i at in
       let b = instance_placed pieces x h ms members input n k l there in
       let named : AllZip (IsNumbered t i.place) l.view.types b.numbers = subst (λ (q : ℕ). AllZip (IsNumbered t q) l.view.types b.numbers) (sym same) b.named in
-      let one = same_numbers t (tables pieces x h ms members input) i.place i.view.types l.view.types (told_same pieces x h ms members input known obey m j i at n k l there same) a.numbers b.numbers a.named named in
+      let one = same_numbers t (tables pieces x h ms members input) i.place i.view.types l.view.types (told_same pieces x h ms members input known obey m j i at n k l there same) a.numbers b.numbers
+      a.named named in
       numbered_parts t i.place i.view.types a.numbers a.named ∙ (ap (map (λ n. 14 + n)) one ∙ sym (numbered_parts t i.place l.view.types b.numbers named))
 
   -- all types of the one place stand in front of all of the other
@@ -152,7 +154,8 @@ module _ (pieces : List Piece) (x : Followed) (h : Homes) (ms : List Member) (me
       (m j : ℕ) (i : NumberedInstance) → IsInstanceAt ws m j i → i.place ≡ a → (n k : ℕ) (l : NumberedInstance) → IsInstanceAt ws n k l → l.place ≡ b
       → (c d : ℕ) → Contains (part_numbers i.view) c → Contains (part_numbers l.view) d → c < d
 
-  before_first : (m j : ℕ) (u : NumberedInstance) → IsInstanceAt ws m j u → IsFirstSeen ws m j u.place → (n k : ℕ) (o : NumberedInstance) → IsInstanceAt ws n k o → (n < m) ⊎ ((n ≡ m) × (k < j)) → Before o.place u.place
+  before_first : (m j : ℕ) (u : NumberedInstance) → IsInstanceAt ws m j u → IsFirstSeen ws m j u.place → (n k : ℕ) (o : NumberedInstance) → IsInstanceAt ws n k o → (n < m) ⊎ ((n ≡ m) × (k < j))
+      → Before o.place u.place
   before_first m j u there first n k o o_there earlier ma ja i at same nb kb l l_at l_same c d c_in d_in =
       let old = map_from (λ (y : NumberedType). part_of y.slot) o.view.types c (subst (λ (ps : List ℕ). Contains ps c) (told_parts ma ja i at n k o o_there same) c_in) in
       let new = map_from (λ (y : NumberedType). part_of y.slot) u.view.types d (subst (λ (ps : List ℕ). Contains ps d) (told_parts nb kb l l_at m j u there l_same) d_in) in
@@ -181,16 +184,19 @@ module _ (pieces : List Piece) (x : Followed) (h : Homes) (ms : List Member) (me
           let o = get_back (λ (z : NumberedInstance). z.place) y.instances l a c in
           subst (λ (q : ℕ). Before q u.place) o.2 (before_first m j u there first m l o.0 (there_in m y at l o.0 o.1) (inr (refl, low)))
 
-      given : (m : ℕ) (w : NumberedScope) → slice_get ws m ≡ Some w → (j q : ℕ) → slice_get (scope_places w) j ≡ Some q → (Contains [] q → ⊥) → ((k : ℕ) (y : NumberedScope) → k < m → slice_get ws k ≡ Some y → Contains (scope_places y) q → ⊥)
+      given : (m : ℕ) (w : NumberedScope) → slice_get ws m ≡ Some w → (j q : ℕ) → slice_get (scope_places w) j ≡ Some q → (Contains [] q → ⊥)
+          → ((k : ℕ) (y : NumberedScope) → k < m → slice_get ws k ≡ Some y → Contains (scope_places y) q → ⊥)
           → ((l : ℕ) → l < j → slice_get (scope_places w) l ≡ Some q → ⊥) → (a : ℕ) → Contains [] a ⊎ IsBeforeIn scope_places ws m j a → Before a q
       given m w at j q e none earlier first a from =
           let u = get_back (λ (z : NumberedInstance). z.place) w.instances j q e in
           let seen : IsFirstSeen ws m j u.0.place = record {
             scopes = λ k l o low there same.
-                earlier k there.scope low there.at (subst (Contains (scope_places there.scope)) (same ∙ u.2) (contains-map (λ (z : NumberedInstance). z.place) there.scope.instances o (get-contains there.scope.instances l o there.instance_at)));
+                earlier k there.scope low there.at (subst (Contains (scope_places there.scope)) (same ∙ u.2)
+                (contains-map (λ (z : NumberedInstance). z.place) there.scope.instances o (get-contains there.scope.instances l o there.instance_at)));
             instances = λ l o low there same.
                 let one = one_item ws m there.scope w there.at at in
-                first l low (mapped_get (λ (z : NumberedInstance). z.place) w.instances l o (subst (λ (z : NumberedScope). slice_get z.instances l ≡ Some o) one there.instance_at) ∙ ap Some (same ∙ u.2));
+                first l low (mapped_get (λ (z : NumberedInstance). z.place) w.instances l o (subst (λ (z : NumberedScope). slice_get z.instances l ≡ Some o) one there.instance_at) ∙ ap Some
+                (same ∙ u.2));
           } in
           subst (λ (p : ℕ). Before a p) u.2 (from_before m j a u.0 (there_in m w at j u.0 u.1) seen from)
 
@@ -215,7 +221,8 @@ module _ (pieces : List Piece) (x : Followed) (h : Homes) (ms : List Member) (me
       let rest = pathed us vs all.1 more in
       λ i. one i ∷ rest i
 
-  part_alike : (a : FollowedPart) (b : Part) → IsPartOf t a b → IsPartIn t (numbered_part b) → map (path_at t) (scope_places (followed_scope t.paths (scope_of a))) ≡ map (path_at t) (places_of_part (numbered_part b))
+  part_alike : (a : FollowedPart) (b : Part) → IsPartOf t a b → IsPartIn t (numbered_part b)
+      → map (path_at t) (scope_places (followed_scope t.paths (scope_of a))) ≡ map (path_at t) (places_of_part (numbered_part b))
       → scope_places (followed_scope t.paths (scope_of a)) ≡ places_of_part (numbered_part b)
   part_alike (followed.World path s) (parts.World w) is own same = ap scope_places (sym is.shows)
   part_alike (followed.Interface s) (parts.Interface p v imports) is own same =
@@ -243,7 +250,8 @@ module _ (pieces : List Piece) (x : Followed) (h : Homes) (ms : List Member) (me
       let both_read = zip_at (IsMemberOf t) x.members.items ms input.are n f f_at in
       let is : IsPartOf t f.part k.part = subst (λ (m : Member). IsPartOf t f.part m.part) (one_item ms n both_read.0 k both_read.1 k_at) both_read.2.1 in
       let shown : map (path_at t) (scope_places (scope_in t f)) ≡ shown_under z.0 = part_named t f.part y.0.1 y.2.1 ∙ one_paths y.0 z.0 (one_stands p.0 y.0 p.2) z.2 in
-      let kept : map (path_at t) (places_of_part (numbered_part k.part)) ≡ shown_under i.0 = part_paths t (tables pieces x h ms members input) h input.homes (numbered_member k) i.0 i.2.package_ i.2.label (numbered_part k.part) i.0.part i.2.part own in
+      let kept : map (path_at t) (places_of_part (numbered_part k.part)) ≡ shown_under i.0 =
+      part_paths t (tables pieces x h ms members input) h input.homes (numbered_member k) i.0 i.2.package_ i.2.label (numbered_part k.part) i.0.part i.2.part own in
       part_alike f.part k.part is own (shown ∙ (ap shown_under (sym one) ∙ sym kept))
 
   pub places_alike : places ≡ flat_map (λ (k : NumberedMember). places_of_part k.part) (numbered_members ms)
@@ -255,7 +263,8 @@ module _ (pieces : List Piece) (x : Followed) (h : Homes) (ms : List Member) (me
 
   -- ---- the plan
 
-  module _ (marks : List Bool) (kept : List ℕ) (marked : AreMarked marks kept) (n : ℕ) (homes : ℕ → Option Home) (seen : List NumberedSight) (within : (s : NumberedSight) → Contains seen s → Contains (views_of_members (numbered_members ms)) s)
+  module _ (marks : List Bool) (kept : List ℕ) (marked : AreMarked marks kept) (n : ℕ) (homes : ℕ → Option Home) (seen : List NumberedSight)
+      (within : (s : NumberedSight) → Contains seen s → Contains (views_of_members (numbered_members ms)) s)
       (ps : List ℕ) (met : ps ≡ joined_all [] places) (is : List PlannedInterface) (planned : AllZip (PlansPlace t kept n homes seen) ps is)
       (firsts : (k q : ℕ) → slice_get ps k ≡ Some q → (s : NumberedSight) × (first_at q seen ≡ Some s)) where
     -- the instance of the first view of a place
@@ -285,7 +294,8 @@ module _ (pieces : List Piece) (x : Followed) (h : Homes) (ms : List Member) (me
         let parts_less =
         pair first.scope first.number (instance_shown u.0) first.at first.place second.scope second.number (instance_shown v.0) second.at second.place (part_of y.0.slot) (part_of z.0.slot)
         (contains-map (λ (w : NumberedType). part_of w.slot) u.0.view.types y.0 y.1) (contains-map (λ (w : NumberedType). part_of w.slot) v.0.view.types z.0 z.1) in
-        kept_less marks kept marked (part_of y.0.slot) (part_of z.0.slot) c d (subst (λ (p : ℕ). IsPart kept p (14 + c)) (same_part y.0.slot) y.2) (subst (λ (p : ℕ). IsPart kept p (14 + d)) (same_part z.0.slot) z.2) parts_less
+        kept_less marks kept marked (part_of y.0.slot) (part_of z.0.slot) c d (subst (λ (p : ℕ). IsPart kept p (14 + c)) (same_part y.0.slot) y.2)
+        (subst (λ (p : ℕ). IsPart kept p (14 + d)) (same_part z.0.slot) z.2) parts_less
 
     pub all_rise : list_all (λ (i : PlannedInterface). are_rising (numbers_of i.types)) is ≡ true → are_rising (flat_map (λ (i : PlannedInterface). numbers_of i.types) is) ≡ true
     all_rise own = rises_flat (λ (i : PlannedInterface). numbers_of i.types) is own between
@@ -298,7 +308,8 @@ pub world_views : (t : Tables) (h : Homes) (m : Member) (w : Scope) → m.part �
 world_views t h m w is own are s c =
     subst (λ (a : Part). Contains (views_of_part (numbered_part a) ++ []) s) (sym is)
     (Contains-append_left (map whole_view (numbered_scope w).instances) [] s
-    (view_among t h m.package_number (numbered_scope w) (numbered_members own) are m.label.now s (subst (λ (a : Part). Contains (views_of_part (numbered_part a) ++ views_of_members (numbered_members own)) s) is c)))
+    (view_among t h m.package_number (numbered_scope w) (numbered_members own) are m.label.now s
+    (subst (λ (a : Part). Contains (views_of_part (numbered_part a) ++ views_of_members (numbered_members own)) s) is c)))
 
 -- and its places are those of what was followed
 pub world_places : (m : Member) (w : Scope) → m.part ≡ parts.World w → (ps qs : List ℕ) → ps ≡ once (map (λ (i : NumberedInstance). i.place) (numbered_scope w).instances)

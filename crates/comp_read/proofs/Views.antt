@@ -57,7 +57,8 @@ tree_names t place v h =
     ap distinct (sym (map_of_map (λ (x : follow.ShownType). x.name) (shown_type t) v.types))
     ∙ distinct_front (map (λ (x : follow.ShownType). x.name) (view_of t v).types) (map (λ (f : Text × FunctionMeaning). f.0) (view_of t v).functions)
     (second_true
-    (list_all (λ (x : follow.ShownType). is_label x.name && rules.is_declared place x.meaning.declaration) (view_of t v).types && list_all (λ (f : Text × FunctionMeaning). rules.is_function place (rules.resources_of (view_of t v).types) f.0 f.1.signature) (view_of t v).functions)
+    (list_all (λ (x : follow.ShownType). is_label x.name && rules.is_declared place x.meaning.declaration) (view_of t v).types && list_all
+    (λ (f : Text × FunctionMeaning). rules.is_function place (rules.resources_of (view_of t v).types) f.0 f.1.signature) (view_of t v).functions)
     (distinct (map (λ (x : follow.ShownType). x.name) (view_of t v).types ++ map (λ (f : Text × FunctionMeaning). f.0) (view_of t v).functions)) h)
 
 -- and in numbers
@@ -87,7 +88,8 @@ module _ (t : Tables) (tables : AreTables t) (p : ℕ) where
       let rest = same_numbers xs ys more ms ns a.1 b.1 in
       λ i. one i ∷ rest i
 
-  same_behind : (xs ys : List NumberedType) → map told xs ≡ map told ys → (ns : List ℕ) → AllZip (λ (x : NumberedType) n. AllOf (λ k. k < 14 + n) x.declared) ys ns → AllZip (λ (x : NumberedType) n. AllOf (λ k. k < 14 + n) x.declared) xs ns
+  same_behind : (xs ys : List NumberedType) → map told xs ≡ map told ys → (ns : List ℕ) → AllZip (λ (x : NumberedType) n. AllOf (λ k. k < 14 + n) x.declared) ys ns
+      → AllZip (λ (x : NumberedType) n. AllOf (λ k. k < 14 + n) x.declared) xs ns
   same_behind [] [] e ns a = a
   same_behind [] (y ∷ ys) e ns a = let wrong : ⊥ = cc in absurd wrong
   same_behind (x ∷ xs) [] e ns a = let wrong : ⊥ = cc in absurd wrong
@@ -121,7 +123,8 @@ module _ (t : Tables) (tables : AreTables t) (p : ℕ) where
   slot_of (value k) n e = e
   slot_of (resource k) n e = e
 
-  types_in : (xs : List NumberedType) (ns : List ℕ) → AllZip (IsNumbered t p) xs ns → AllZip (λ (x : NumberedType) n. AllOf (λ k. k < 14 + n) x.declared) xs ns → AllByRecursion (TypePasses (IsMetPart t p)) xs → AllByRecursion (IsShownIn t p) xs
+  types_in : (xs : List NumberedType) (ns : List ℕ) → AllZip (IsNumbered t p) xs ns → AllZip (λ (x : NumberedType) n. AllOf (λ k. k < 14 + n) x.declared) xs ns
+      → AllByRecursion (TypePasses (IsMetPart t p)) xs → AllByRecursion (IsShownIn t p) xs
   types_in [] ns named behind met = tt
   types_in (x ∷ xs) [] named behind met = absurd named
   types_in (x ∷ xs) (n ∷ ns) named behind met = (
@@ -135,7 +138,8 @@ module _ (t : Tables) (tables : AreTables t) (p : ℕ) where
   view_is_in : (v : NumberedView) → IsPlacedView t p v → IsRisingView t p v → IsViewIn t p v
   view_is_in v placed rising = record {
     types = types_in v.types rising.numbers rising.named rising.behind placed.parts.types;
-    functions = recursion_weaker (FunctionPasses t (IsMetPart t p)) (λ (f : Text × NumberedFunction). IsCalledIn t p f.1.signature) (λ f h. function_in f.1.signature h) v.functions placed.parts.functions;
+    functions = recursion_weaker (FunctionPasses t (IsMetPart t p)) (λ (f : Text × NumberedFunction). IsCalledIn t p f.1.signature) (λ f h. function_in f.1.signature h) v.functions
+        placed.parts.functions;
   }
 
 -- ---- the first instance of a place
@@ -217,7 +221,8 @@ module _ (pieces : List Piece) (x : Followed) (h : Homes) (ms : List Member) (me
       (of.viewed.whole, sight_there t (numbered_members ms) (sight i of.viewed.whole) (view_among pieces x h ms members input m of.member of.there (sight i of.viewed.whole) of.viewed.there) path)
 
   -- instances of one place tell the same of types
-  pub told_same : (m j : ℕ) (i : NumberedInstance) → IsInstanceAt ws m j i → (n k : ℕ) (l : NumberedInstance) → IsInstanceAt ws n k l → i.place ≡ l.place → map told i.view.types ≡ map told l.view.types
+  pub told_same : (m j : ℕ) (i : NumberedInstance) → IsInstanceAt ws m j i → (n k : ℕ) (l : NumberedInstance) → IsInstanceAt ws n k l → i.place ≡ l.place
+      → map told i.view.types ≡ map told l.view.types
   told_same m j i at n k l there same = by (path_at t i.place) refl
     where
       by : (o : Option Text) → path_at t i.place ≡ o → map told i.view.types ≡ map told l.view.types
@@ -228,7 +233,8 @@ module _ (pieces : List Piece) (x : Followed) (h : Homes) (ms : List Member) (me
       by None e =
           let one = (placed pieces x h ms members input).inline m n j k i l at there e same in
           let scope : at.scope ≡ there.scope = one_item ws n at.scope there.scope (subst (λ a. slice_get ws a ≡ Some at.scope) one.0 at.at) there.at in
-          let here : slice_get there.scope.instances k ≡ Some i = subst (λ (z : NumberedScope). slice_get z.instances k ≡ Some i) scope (subst (λ a. slice_get at.scope.instances a ≡ Some i) one.1 at.instance_at) in
+          let here : slice_get there.scope.instances k ≡ Some i = subst (λ (z : NumberedScope). slice_get z.instances k ≡ Some i) scope
+          (subst (λ a. slice_get at.scope.instances a ≡ Some i) one.1 at.instance_at) in
           ap (λ (z : NumberedInstance). map told z.view.types) (one_item there.scope.instances k i l here there.instance_at)
 
   -- the names of its types differ
@@ -248,21 +254,25 @@ module _ (pieces : List Piece) (x : Followed) (h : Homes) (ms : List Member) (me
           let read = world_read pieces x h ms members input b.0 (get-contains ms m b.0 b.1.at) w e in
           let scope = world_scope pieces x h ms members input m b.0 b.1 w e in
           let here : slice_get (numbered_scope w).instances j ≡ Some i = ap (λ (z : NumberedScope). slice_get z.instances j) (scope.shows ∙ b.2) ∙ there.instance_at in
-          let among : Contains read.scope.instances (instance_of t i) = subst (λ is. Contains is (instance_of t i)) (sym read.shows.instances) (contains-map (instance_of t) (numbered_scope w).instances i (get-contains (numbered_scope w).instances j i here)) in
+          let among : Contains read.scope.instances (instance_of t i) = subst (λ is. Contains is (instance_of t i)) (sym read.shows.instances)
+          (contains-map (instance_of t) (numbered_scope w).instances i (get-contains (numbered_scope w).instances j i here)) in
           tree_names t (follow.place_of (path_at t i.place)) i.view (instances_obey read.scope read.stands (instance_of t i) among)
       of_part (parts.Interface p v imports) e =
           let of = of_member m j i there in
           let same : of.member ≡ b.0 = one_item ms m of.member b.0 of.there b.1.at in
           with_path
-          (interface_path pieces x h ms members input m b.0 b.1 p (numbered_view v) (map numbered_import imports.now) (ap numbered_part e) (sight i of.viewed.whole) (subst (λ (y : Member). Contains (views_of_part (numbered_part y.part)) (sight i of.viewed.whole)) same of.viewed.there))
+          (interface_path pieces x h ms members input m b.0 b.1 p (numbered_view v) (map numbered_import imports.now) (ap numbered_part e) (sight i of.viewed.whole)
+          (subst (λ (y : Member). Contains (views_of_part (numbered_part y.part)) (sight i of.viewed.whole)) same of.viewed.there))
 
   -- ---- all names rise
 
   pub instance_rises : (m j : ℕ) (i : NumberedInstance) → IsInstanceAt ws m j i → IsRisingView t i.place i.view
   instance_rises m j i there =
       let first = first_of_place ws m j i there in
-      let rising = (placed pieces x h ms members input).firsts first.scope_number first.number first.one first.at (subst (IsFirstSeen ws first.scope_number first.number) (sym first.place) first.first) (names_apart first.scope_number first.number first.one first.at) in
-      rises_too t (tables pieces x h ms members input) i.place i.view first.one.view (told_same m j i there first.scope_number first.number first.one first.at (sym first.place)) (instance_placed pieces x h ms members input m j i there)
+      let rising = (placed pieces x h ms members input).firsts first.scope_number first.number first.one first.at (subst (IsFirstSeen ws first.scope_number first.number) (sym first.place) first.first)
+      (names_apart first.scope_number first.number first.one first.at) in
+      rises_too t (tables pieces x h ms members input) i.place i.view first.one.view (told_same m j i there first.scope_number first.number first.one first.at (sym first.place))
+      (instance_placed pieces x h ms members input m j i there)
       (subst (λ q. IsRisingView t q first.one.view) first.place rising)
 
   pub instance_in : (m j : ℕ) (i : NumberedInstance) → IsInstanceAt ws m j i → IsViewIn t i.place i.view

@@ -52,7 +52,8 @@ lengths_fit pieces x h ms members input n l parts at = ltb-true l 4294967296 (se
 -- ---- homes
 
 -- a place without a path has none
-pub alone : (packages : List PackageIdentity) (paths : List (Option Text)) (homes : List (Option (ℕ × Text))) → AllZip (IsHomeOf packages) paths homes → (q : ℕ) → unwrap_or (slice_get paths q) None ≡ None → unwrap_or (slice_get homes q) None ≡ None
+pub alone : (packages : List PackageIdentity) (paths : List (Option Text)) (homes : List (Option (ℕ × Text))) → AllZip (IsHomeOf packages) paths homes → (q : ℕ)
+    → unwrap_or (slice_get paths q) None ≡ None → unwrap_or (slice_get homes q) None ≡ None
 alone packages [] [] all q e = refl
 alone packages [] (home ∷ homes) all q e = absurd all
 alone packages (o ∷ paths) [] all q e = absurd all
@@ -80,7 +81,8 @@ module _ (t : Tables) (h : Homes) (known : ℕ → Fact) (n : ℕ) (ms : List Me
   one_package : list_all (λ (m : NumberedMember). n == m.package_) nms ≡ true
   one_package = first_true (list_all (λ (m : NumberedMember). n == m.package_) nms) (list_all (stands_at_top h n nms) seen && (agree_in_numbers seen && are_interfaces t known seen)) obeys
 
-module _ (pieces : List Piece) (x : Followed) (h : Homes) (ms : List Member) (members : List reads.Member) (input : IsReadInput pieces x h ms members) (facts : List KeptFact) (are_known : AreKnown x facts)
+module _ (pieces : List Piece) (x : Followed) (h : Homes) (ms : List Member) (members : List reads.Member) (input : IsReadInput pieces x h ms members) (facts : List KeptFact)
+    (are_known : AreKnown x facts)
     (n : ℕ) (obeys : are_package (tables_of x) h (known_by facts) n (numbered_members ms) ≡ true) where
   abbrev t : Tables
   t = tables_of x
@@ -104,7 +106,8 @@ module _ (pieces : List Piece) (x : Followed) (h : Homes) (ms : List Member) (me
           let first : n ≡ m.package_ = eqb-true n m.package_ (first_true (n == m.package_) (list_all (λ (z : NumberedMember). n == z.package_) ns) one) in
           let there : slice_get h.packages n ≡ Some y.package_ = ap (slice_get h.packages) first ∙ all.0.package_ in
           let means : reads.package_with y.package_ (y ∷ ys) ≡ Some (package_shown y.package_ (y ∷ ys)) =
-          packages_in_numbers t (tables pieces x h ms members input) h input.homes known n y.package_ there (m ∷ ns) (y ∷ ys) all all_known ∙ ap (λ b. provided b (package_shown y.package_ (y ∷ ys))) is in
+          packages_in_numbers t (tables pieces x h ms members input) h input.homes known n y.package_ there (m ∷ ns) (y ∷ ys) all all_known ∙ ap
+          (λ b. provided b (package_shown y.package_ (y ∷ ys))) is in
           packages_have_kinds (y ∷ ys) (package_shown y.package_ (y ∷ ys)) stand means
 
   pub package_input : AreHomesOf t h → IsPackageInput t h known n ms members
@@ -132,11 +135,13 @@ module _ (t : Tables) where
   part_reached (followed.World path s) (parts.World w) is = tt
   part_reached (followed.World path s) (parts.Interface p v imports) is = absurd is
   part_reached (followed.Interface s) (parts.World w) is = absurd is
-  part_reached (followed.Interface s) (parts.Interface p v imports) is = let shown = shown_as t (followed_scope t.paths s) (p, numbered_view v) (map numbered_import imports.now) is in (shown.reached, shown.once)
+  part_reached (followed.Interface s) (parts.Interface p v imports) is = let shown = shown_as t (followed_scope t.paths s) (p, numbered_view v) (map numbered_import imports.now) is in
+      (shown.reached, shown.once)
 
 pub read_parts_are_reached : ReadPartsAreReached
 read_parts_are_reached pieces x h ms members input =
-    all_beside (IsMemberOf (tables_of x)) (λ (m : NumberedMember). PartIsReached (tables_of x) m.part) numbered_member (λ y m is. part_reached (tables_of x) y.part m.part is.1) x.members.items ms input.are
+    all_beside (IsMemberOf (tables_of x)) (λ (m : NumberedMember). PartIsReached (tables_of x) m.part) numbered_member (λ y m is. part_reached (tables_of x) y.part m.part is.1) x.members.items
+    ms input.are
 
 pub read_is_package_input : ReadIsPackageInput
 read_is_package_input pieces x h ms members input facts are_known homes n obeys = package_input pieces x h ms members input facts are_known n obeys homes

@@ -77,7 +77,8 @@ pub record IsOneTree (t : Tables) (h : Homes) (label : Text) (n : ℕ) (w : Numb
   pub there : slice_get h.packages n ≡ Some identity
   pub shows : Shows t w scope
 
-one_tree : (t : Tables) (h : Homes) (label : Text) (n : ℕ) (w : NumberedScope) (members : List reads.Member) → AllZip (IsMember t h) (record { label = label; package_ = n; part = world w } ∷ []) members → IsOneTree t h label n w members
+one_tree : (t : Tables) (h : Homes) (label : Text) (n : ℕ) (w : NumberedScope) (members : List reads.Member)
+    → AllZip (IsMember t h) (record { label = label; package_ = n; part = world w } ∷ []) members → IsOneTree t h label n w members
 one_tree t h label n w [] zip = absurd zip
 one_tree t h label n w (z ∷ y ∷ zs) zip = absurd zip.1
 one_tree t h label n w (z ∷ []) zip = by z.part refl zip.0.part
@@ -164,13 +165,15 @@ module _ (pieces : List Piece) (x : Followed) (facts : List KeptFact) (h : Homes
     all_trees = one ∷ map (own_tree t tree.identity) nms
 
     -- a property of the world and of the interfaces of which nothing is imported
-    own_part : (P : NumberedPart → Type 0) → ((k : NumberedMember) → Contains nms k → (p : ℕ) (v : NumberedView) → k.part ≡ interface p v [] → P (interface p v [])) → AllByRecursion (λ (k : NumberedMember). P k.part) nms
+    own_part : (P : NumberedPart → Type 0) → ((k : NumberedMember) → Contains nms k → (p : ℕ) (v : NumberedView) → k.part ≡ interface p v [] → P (interface p v []))
+        → AllByRecursion (λ (k : NumberedMember). P k.part) nms
     own_part P each = all_of (λ (k : NumberedMember). P k.part) nms (λ k c. let is = own_at t h n W nms are k c in subst P (sym is.part) (each k c is.place is.view is.part))
 
     numbers : AllByRecursion (λ (k : NumberedMember). IsPartIn t k.part) nms
     numbers = all_of (λ (k : NumberedMember). IsPartIn t k.part) nms (λ k c.
         let is = own_at t h n W nms are k c in
-        let view : IsViewIn t is.place is.view = all_at (λ (i : NumberedInstance). IsViewIn t i.place i.view) W.instances base.numbers.0.instances (record { place = is.place; view = is.view }) is.among in
+        let view : IsViewIn t is.place is.view = all_at (λ (i : NumberedInstance). IsViewIn t i.place i.view) W.instances base.numbers.0.instances
+        (record { place = is.place; view = is.view }) is.among in
         subst (IsPartIn t) (sym is.part) ((is.path, view), tt))
 
     -- a property of each part that is an interface of which nothing is imported
@@ -193,7 +196,8 @@ module _ (pieces : List Piece) (x : Followed) (facts : List KeptFact) (h : Homes
     no_places [] within = refl
     no_places (k ∷ ks) within =
         let is = own_at t h n W nms are k (within k (0, omega arith, refl)) in
-        ap (λ (a : NumberedPart). places_of_part a ++ flat_map (λ (y : NumberedMember). places_of_part y.part) ks) is.part ∙ no_places ks (λ y at. within y (suc at.0, (let low = at.1 in omega (arith, low)), at.2))
+        ap (λ (a : NumberedPart). places_of_part a ++ flat_map (λ (y : NumberedMember). places_of_part y.part) ks) is.part ∙ no_places ks
+        (λ y at. within y (suc at.0, (let low = at.1 in omega (arith, low)), at.2))
 
     placed : ArePlaced t (m ∷ own)
     placed =
@@ -206,7 +210,8 @@ module _ (pieces : List Piece) (x : Followed) (facts : List KeptFact) (h : Homes
     -- ---- what is known
 
     known_sight : (s : NumberedSight) → Contains (sights_of_scope t W) s → IsKnownSight t known s
-    known_sight s c = all_at (IsKnownSight t known) (sights_of_scope t W ++ []) (sights_known pieces x h (m ∷ []) read_members input facts given.known) s (Contains-append_left (sights_of_scope t W) [] s c)
+    known_sight s c = all_at (IsKnownSight t known) (sights_of_scope t W ++ []) (sights_known pieces x h (m ∷ []) read_members input facts given.known) s
+        (Contains-append_left (sights_of_scope t W) [] s c)
 
     pub packaged : IsPackageInput t h known n (m ∷ own) all_trees
     packaged = record {

@@ -81,7 +81,8 @@ module _ (t : Tables) (tables : AreTables t) (h : Homes) (stand : HomesStand t h
         let from = from_map (λ (x : NumberedMember). x.label) ms l c in
         let other = own_at t h n w all are from.0 (within from.0 (contains-later k ms from.0 from.1)) in
         let one : is.place ≡ other.place = one_place is.place other.place k.label from.0.label is.path other.path is.home other.home (same ∙ sym from.2) in
-        let place : Contains (place_of_part from.0.part) is.place = subst (λ (ps : List ℕ). Contains ps is.place) (sym (ap place_of_part other.part)) (subst (λ (p : ℕ). Contains (other.place ∷ []) p) (sym one) (contains-one other.place)) in
+        let place : Contains (place_of_part from.0.part) is.place = subst (λ (ps : List ℕ). Contains ps is.place) (sym (ap place_of_part other.part))
+        (subst (λ (p : ℕ). Contains (other.place ∷ []) p) (sym one) (contains-one other.place)) in
         let there : has (places ms) is.place ≡ true = contains-has (places ms) is.place (contains-flat (λ (x : NumberedMember). place_of_part x.part) ms from.0 is.place from.1 place) in
         no_true (sym (ap not there) ∙ first_true (not (has (places ms) is.place)) (are_once (places ms)) split)))
         (own_differ ms (λ x c. within x (contains-later k ms x c)) (second_true (not (has (places ms) is.place)) (are_once (places ms)) split))
@@ -93,7 +94,8 @@ module _ (t : Tables) (tables : AreTables t) (h : Homes) (stand : HomesStand t h
         let from = from_map (λ (x : NumberedMember). x.label) all l c in
         let is = own_at t h n w all are from.0 from.1 in
         let named : is_named_in h n label is.place ≡ true =
-        ap (λ o. option_map_or (λ (x : ℕ × Text). x.0 == n && text_eq x.1 label) o false) is.home ∙ both (n == n) (text_eq from.0.label label) (same-number n) (ap (λ (a : Text). text_eq a label) (from.2 ∙ sym same) ∙ same_text label) in
+        ap (λ o. option_map_or (λ (x : ℕ × Text). x.0 == n && text_eq x.1 label) o false) is.home ∙ both (n == n) (text_eq from.0.label label) (same-number n)
+        (ap (λ (a : Text). text_eq a label) (from.2 ∙ sym same) ∙ same_text label) in
         let at = contains-get (sights_of_scope t w) (record { place = is.place; view = is.view; whole = true }) is.seen in
         let taken = get_any (λ (s : NumberedSight). is_named_in h n label s.place) (sights_of_scope t w) at.0 (record { place = is.place; view = is.view; whole = true }) at.1 named in
         no_true (sym (ap not taken) ∙ not_taken t h known n label w obeys all are))

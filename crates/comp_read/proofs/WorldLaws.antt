@@ -28,7 +28,8 @@ use Rattle.comp_read.proofs.WorldOrder.{built_rise}
 use Rattle.base_lemmas.proofs.Lists.{get_back}
 use Rattle.wit_model.proofs.RulesLemmas.{is_id_some as id_is}
 
-both : (r : Resolve) (m : WorldPackage) (a b : Option WorldPackage) → a ≡ b → (MeantWorld r 0 m → a ≡ Some m) × ((a ≡ Some m) → MeantWorld r 0 m) → (MeantWorld r 0 m → b ≡ Some m) × ((b ≡ Some m) → MeantWorld r 0 m)
+both : (r : Resolve) (m : WorldPackage) (a b : Option WorldPackage) → a ≡ b → (MeantWorld r 0 m → a ≡ Some m) × ((a ≡ Some m) → MeantWorld r 0 m) → (MeantWorld r 0 m → b ≡ Some m)
+    × ((b ≡ Some m) → MeantWorld r 0 m)
 both r m a b same is = subst (λ (o : Option WorldPackage). (MeantWorld r 0 m → o ≡ Some m) × ((o ≡ Some m) → MeantWorld r 0 m)) same is
 
 module _ (p : Plan) (r : Resolve) (found : Option WorldPackage) (is : MeansWorldFound found p) (built : IsBuildable p → IsBuilt p r) (valid : IsPlan p → IsValid r) (meant : MeansPlan p r) (rises : PackagesRise p) where

@@ -46,8 +46,10 @@ module _ (P : ℕ → Bool) where
   swap N [] = refl
   swap N (z ∷ zs) = by (P z) refl (N z) refl (swap N zs)
     where
-      by : (b : Bool) → P z ≡ b → (c : Bool) → N z ≡ c → filter P (filter N zs) ≡ filter N (filter P zs) → filter P (cond c (z ∷ filter N zs) (filter N zs)) ≡ filter N (cond b (z ∷ filter P zs) (filter P zs))
-      by true p true q rest = ap (λ b. cond b (z ∷ filter P (filter N zs)) (filter P (filter N zs))) p ∙ (ap (λ ys. z ∷ ys) rest ∙ sym (ap (λ b. cond b (z ∷ filter N (filter P zs)) (filter N (filter P zs))) q))
+      by : (b : Bool) → P z ≡ b → (c : Bool) → N z ≡ c → filter P (filter N zs) ≡ filter N (filter P zs)
+          → filter P (cond c (z ∷ filter N zs) (filter N zs)) ≡ filter N (cond b (z ∷ filter P zs) (filter P zs))
+      by true p true q rest = ap (λ b. cond b (z ∷ filter P (filter N zs)) (filter P (filter N zs))) p
+          ∙ (ap (λ ys. z ∷ ys) rest ∙ sym (ap (λ b. cond b (z ∷ filter N (filter P zs)) (filter N (filter P zs))) q))
       by false p true q rest = ap (λ b. cond b (z ∷ filter P (filter N zs)) (filter P (filter N zs))) p ∙ rest
       by true p false q rest = rest ∙ sym (ap (λ b. cond b (z ∷ filter N (filter P zs)) (filter N (filter P zs))) q)
       by false p false q rest = rest
@@ -70,7 +72,8 @@ module _ (P : ℕ → Bool) where
       others : ℕ → Bool
       others m = not (m == x)
 
-      by : (b : Bool) → P x ≡ b → filter P (once xs) ≡ once (filter P xs) → cond b (x ∷ filter P (filter others (once xs))) (filter P (filter others (once xs))) ≡ once (cond b (x ∷ filter P xs) (filter P xs))
+      by : (b : Bool) → P x ≡ b → filter P (once xs) ≡ once (filter P xs)
+          → cond b (x ∷ filter P (filter others (once xs))) (filter P (filter others (once xs))) ≡ once (cond b (x ∷ filter P xs) (filter P xs))
       by true e rest = ap (λ ys. x ∷ ys) (swap others (once xs) ∙ ap (filter others) rest)
       by false e rest = passed_over x e (once xs) ∙ rest
 
@@ -121,11 +124,13 @@ numbers_of_places : (ms : List Member) → numbers (interfaces_in ms) ≡ places
 numbers_of_places [] = refl
 numbers_of_places (m ∷ ms) = by m.part (numbers_of_places ms)
   where
-    by : (a : Part) → numbers (interfaces_in ms) ≡ places_of (numbered_members ms) → numbers (interface_in_part m.label.now a ++ interfaces_in ms) ≡ place_of_part (numbered_part a) ++ places_of (numbered_members ms)
+    by : (a : Part) → numbers (interfaces_in ms) ≡ places_of (numbered_members ms)
+        → numbers (interface_in_part m.label.now a ++ interfaces_in ms) ≡ place_of_part (numbered_part a) ++ places_of (numbered_members ms)
     by (parts.World w) rest = rest
     by (parts.Interface p v imports) rest = ap (λ ps. p ∷ ps) rest
 
-pub homeless : (packages : List PackageIdentity) (paths : List (Option Text)) (homes : List (Option Home)) → AllZip (IsHomeOf packages) paths homes → (p : ℕ) → unwrap_or (slice_get paths p) None ≡ None → unwrap_or (slice_get homes p) None ≡ None
+pub homeless : (packages : List PackageIdentity) (paths : List (Option Text)) (homes : List (Option Home)) → AllZip (IsHomeOf packages) paths homes → (p : ℕ)
+    → unwrap_or (slice_get paths p) None ≡ None → unwrap_or (slice_get homes p) None ≡ None
 homeless packages [] [] z p e = none p
   where
     none : (k : ℕ) → ◌≡◌ {A = Option Home} (unwrap_or (slice_get {X = Option Home} [] k) None) None
@@ -140,16 +145,19 @@ module _ (t : Tables) (h : Homes) (are_homes : AreHomesOf t h) (n : ℕ) where
   outside : (p : ℕ) → path_at t p ≡ None → is_of_package h n p ≡ false
   outside p e = ap (λ (o : Option Home). option_map_or (λ x. x.0 == n) o false) (homeless are_homes.0 t.paths h.homes are_homes.1 p e)
 
-  sights_filtered : (is : List NumberedInstance) → filter (is_of_package h n) (map (λ (s : NumberedSight). s.place) (flat_map (sights_of_instance t) is)) ≡ filter (is_of_package h n) (map (λ (i : NumberedInstance). i.place) is)
+  sights_filtered : (is : List NumberedInstance)
+      → filter (is_of_package h n) (map (λ (s : NumberedSight). s.place) (flat_map (sights_of_instance t) is)) ≡ filter (is_of_package h n) (map (λ (i : NumberedInstance). i.place) is)
   sights_filtered [] = refl
   sights_filtered (i ∷ is) = by (path_at t i.place) refl (sights_filtered is)
     where
       by : (o : Option Text) → path_at t i.place ≡ o
           → filter (is_of_package h n) (map (λ (s : NumberedSight). s.place) (flat_map (sights_of_instance t) is)) ≡ filter (is_of_package h n) (map (λ (j : NumberedInstance). j.place) is)
-          → filter (is_of_package h n) (map (λ (s : NumberedSight). s.place) (option_map_or (λ (path : Text). record { place = i.place; view = i.view; whole = true } ∷ []) o [] ++ flat_map (sights_of_instance t) is))
+          → filter (is_of_package h n) (map (λ (s : NumberedSight). s.place) (option_map_or (λ (path : Text). record { place = i.place; view = i.view; whole = true } ∷ []) o [] ++ flat_map
+          (sights_of_instance t) is))
           ≡ filter (is_of_package h n) (map (λ (j : NumberedInstance). j.place) (i ∷ is))
       by (Some path) e rest = ap (λ ys. cond (is_of_package h n i.place) (i.place ∷ ys) ys) rest
-      by None e rest = rest ∙ sym (ap (λ b. cond b (i.place ∷ filter (is_of_package h n) (map (λ (j : NumberedInstance). j.place) is)) (filter (is_of_package h n) (map (λ (j : NumberedInstance). j.place) is))) (outside i.place e))
+      by None e rest = rest ∙ sym (ap (λ b. cond b (i.place ∷ filter (is_of_package h n) (map (λ (j : NumberedInstance). j.place) is))
+          (filter (is_of_package h n) (map (λ (j : NumberedInstance). j.place) is))) (outside i.place e))
 
   module _ (m : Member) (w : Scope) (is : m.part ≡ parts.World w) (own : List Member) (are : AreOwnInterfaces t h n (numbered_scope w) (numbered_members own)) (order : StandAsShown t h n (numbered_scope w) (numbered_members own)) where
     abbrev met : List ℕ

@@ -51,7 +51,8 @@ module _ (t : Tables) (h : Homes) (known : ℕ → Fact) (n : ℕ) (label : Text
   -- ---- all views
 
   all_interfaces : are_interfaces t known all_seen ≡ true
-  all_interfaces = all_pass (λ (s : NumberedSight). is_interface t known s.place s.view) all_seen (λ s c. all-contained (λ (x : NumberedSight). is_interface t known x.place x.view) seen s interfaces (sight_among t h n w ms are label s c))
+  all_interfaces = all_pass (λ (s : NumberedSight). is_interface t known s.place s.view) all_seen
+      (λ s c. all-contained (λ (x : NumberedSight). is_interface t known x.place x.view) seen s interfaces (sight_among t h n w ms are label s c))
 
   each_first : list_all (agrees_with_first seen) seen ≡ true
   each_first =
@@ -63,8 +64,10 @@ module _ (t : Tables) (h : Homes) (known : ℕ → Fact) (n : ℕ) (label : Text
       let whole : s.whole ≡ true = ap (λ (x : NumberedSight). x.whole) (sym (scope_sight t w s c).is) in
       let more = sights_of_members t ms in
       let first : first_at s.place all_seen ≡ first_at s.place seen = found_first (λ (x : NumberedSight). s.place == x.place) seen more s c (same-number s.place) in
-      let first_whole : first_whole_at s.place all_seen ≡ first_whole_at s.place seen = found_first (λ (x : NumberedSight). s.place == x.place && x.whole) seen more s c (both (s.place == s.place) s.whole (same-number s.place) whole) in
-      (λ i. option_map_or (λ f. same_types f s) (first i) true && (not s.whole || option_map_or (λ f. same_whole f s) (first_whole i) true)) ∙ all-contained (agrees_with_first seen) seen s each_first c
+      let first_whole : first_whole_at s.place all_seen ≡ first_whole_at s.place seen =
+      found_first (λ (x : NumberedSight). s.place == x.place && x.whole) seen more s c (both (s.place == s.place) s.whole (same-number s.place) whole) in
+      (λ i. option_map_or (λ f. same_types f s) (first i) true && (not s.whole || option_map_or (λ f. same_whole f s) (first_whole i) true)) ∙ all-contained (agrees_with_first seen) seen s
+      each_first c
 
   all_agree : agree_in_numbers all_seen ≡ true
   all_agree =
@@ -92,4 +95,5 @@ module _ (t : Tables) (h : Homes) (known : ℕ → Fact) (n : ℕ) (label : Text
   pub obeys_package : are_package t h known n (m ∷ ms) ≡ true
   obeys_package =
       both (list_all (λ (k : NumberedMember). n == k.package_) (m ∷ ms)) (list_all stands all_seen && (agree_in_numbers all_seen && are_interfaces t known all_seen)) packages
-      (both (list_all stands all_seen) (agree_in_numbers all_seen && are_interfaces t known all_seen) stand (both (agree_in_numbers all_seen) (are_interfaces t known all_seen) all_agree all_interfaces))
+      (both (list_all stands all_seen) (agree_in_numbers all_seen && are_interfaces t known all_seen) stand
+      (both (agree_in_numbers all_seen) (are_interfaces t known all_seen) all_agree all_interfaces))

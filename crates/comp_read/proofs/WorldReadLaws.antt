@@ -49,12 +49,15 @@ one_of (x ∷ y ∷ ms) m many e = absurd cc
 module _ (t : Tables) (h : Homes) (known : ℕ → Fact) (ms : List Member) (m : Member) (one : ms ≡ m ∷ []) where
   -- an interface is no world
   pub no_interface : (p : ℕ) (v : View) (imports : Bor (List ImportedView)) → m.part ≡ parts.Interface p v imports → are_one_world t h known (numbered_members ms) ≡ false
-  no_interface p v imports e = ap (λ (ks : List Member). are_one_world t h known (numbered_members ks)) one ∙ ap (λ (a : Part). are_one_world t h known (numbered_members (record { label = m.label; package_number = m.package_number; part = a } ∷ []))) e
+  no_interface p v imports e = ap (λ (ks : List Member). are_one_world t h known (numbered_members ks)) one ∙ ap
+      (λ (a : Part). are_one_world t h known (numbered_members (record { label = m.label; package_number = m.package_number; part = a } ∷ []))) e
 
   -- and a world is one where it stands by itself
-  pub alone_by : (w : Scope) → m.part ≡ parts.World w → (b : Bool) → members.is_one_world t h known m.package_number m.label.now (numbered_scope w) ≡ b → are_one_world t h known (numbered_members ms) ≡ b
+  pub alone_by : (w : Scope) → m.part ≡ parts.World w → (b : Bool) → members.is_one_world t h known m.package_number m.label.now (numbered_scope w) ≡ b
+      → are_one_world t h known (numbered_members ms) ≡ b
   alone_by w e b is =
-      ap (λ (ks : List Member). are_one_world t h known (numbered_members ks)) one ∙ (ap (λ (a : Part). are_one_world t h known (numbered_members (record { label = m.label; package_number = m.package_number; part = a } ∷ []))) e ∙ is)
+      ap (λ (ks : List Member). are_one_world t h known (numbered_members ks)) one
+      ∙ (ap (λ (a : Part). are_one_world t h known (numbered_members (record { label = m.label; package_number = m.package_number; part = a } ∷ []))) e ∙ is)
 
 -- ---- a world that stands by itself
 
@@ -98,8 +101,10 @@ module _ (x : Followed) (t : Tables) (facts : List KeptFact) (h : Homes) (ms : L
 
   pub no_world : are_one_world t h (known_by facts) (numbered_members ms) ≡ false → world_of_pieces pieces ≡ None
   no_world none =
-      let decided = worlds_are_decided pieces x followed facts read.known h (subst (λ (u : Tables). HomesStand u h) read.tables read.stand) (map lent_member ms) (subst (λ (u : Tables). AreRead u (known_by facts) h x.members.items (map lent_member ms)) read.tables read.read) in
-      none_decided (tables_of x) (numbered_members ms) (subst (AreWorldDecided pieces (tables_of x) h (known_by facts)) (map_of_map (λ (m : NumberedMember × List (Option ℕ)). m.0) lent_member ms) decided)
+      let decided = worlds_are_decided pieces x followed facts read.known h (subst (λ (u : Tables). HomesStand u h) read.tables read.stand) (map lent_member ms)
+      (subst (λ (u : Tables). AreRead u (known_by facts) h x.members.items (map lent_member ms)) read.tables read.read) in
+      none_decided (tables_of x) (numbered_members ms) (subst (AreWorldDecided pieces (tables_of x) h (known_by facts))
+      (map_of_map (λ (m : NumberedMember × List (Option ℕ)). m.0) lent_member ms) decided)
       (subst (λ (u : Tables). are_one_world u h (known_by facts) (numbered_members ms) ≡ false) read.tables none)
 
   -- the world that they are was read so

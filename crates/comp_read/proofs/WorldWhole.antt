@@ -56,7 +56,8 @@ no_worlds : (label : Text) (a : Part) (p : ℕ) (v : NumberedView) → numbered_
 no_worlds label (parts.World w) p v e = let wrong : ⊥ = cc in absurd wrong
 no_worlds label (parts.Interface q u imports) p v e = refl
 
-module _ (pieces : List Piece) (x : Followed) (facts : List KeptFact) (h : Homes) (label : Bor (List ℕ)) (n : ℕ) (w : Scope) (given : IsReadWorld pieces x (tables_of x) facts h (one_world label n w) w)
+module _ (pieces : List Piece) (x : Followed) (facts : List KeptFact) (h : Homes) (label : Bor (List ℕ)) (n : ℕ) (w : Scope)
+    (given : IsReadWorld pieces x (tables_of x) facts h (one_world label n w) w)
     (own : List Member) (are : AreBeside (tables_of x) h (one_world label n w) w own) where
   abbrev t : Tables
   t = tables_of x
@@ -79,7 +80,12 @@ module _ (pieces : List Piece) (x : Followed) (facts : List KeptFact) (h : Homes
   -- ---- where packages are from
 
   sources : (c : ℕ) → IsOfMember (m ∷ []) c ⊎ HasPlace h.homes c → IsOfMember (m ∷ own) c ⊎ HasPlace h.homes c
-  sources c (inl of) = inl (record { member = m; among = Contains-append_left (m ∷ []) own m (contains-one m); is = ap (λ (k : Member). k.package_number) (one-contained m of.member of.among) ∙ of.is })
+  sources c (inl of) = inl (record {
+    member = m;
+    among = Contains-append_left (m ∷ []) own m (contains-one m);
+    is =
+        ap (λ (k : Member). k.package_number) (one-contained m of.member of.among) ∙ of.is;
+  })
   sources c (inr place) = inr place
 
   -- ---- labels
@@ -107,7 +113,8 @@ module _ (pieces : List Piece) (x : Followed) (facts : List KeptFact) (h : Homes
   rise : FirstsRise t (m ∷ own)
   rise q s e =
       let first = first_is q (views_of_members (numbered_members (m ∷ own))) s e in
-      subst (λ (p : ℕ). IsRisingView t p s.view) first.1 (view_rises pieces x h (m ∷ []) (read_members pieces x facts h label n w given) (input pieces x facts h label n w given) known (views_obey pieces x facts h label n w given own are) s (view_one s first.0))
+      subst (λ (p : ℕ). IsRisingView t p s.view) first.1 (view_rises pieces x h (m ∷ []) (read_members pieces x facts h label n w given) (input pieces x facts h label n w given) known
+      (views_obey pieces x facts h label n w given own are) s (view_one s first.0))
 
   -- ---- worlds and places
 
@@ -125,7 +132,8 @@ module _ (pieces : List Piece) (x : Followed) (facts : List KeptFact) (h : Homes
   met : (q : ℕ) → HasPath t q → Contains (places_in (m ∷ own)) q
   met q path =
       let there = read_places_are_met pieces x h (m ∷ []) (read_members pieces x facts h label n w given) (input pieces x facts h label n w given) q path in
-      all_joined [] (flat_map (λ (k : NumberedMember). places_of_part k.part) (numbered_members (m ∷ own))) q (inr (by (from_joined [] (flat_map (λ (k : NumberedMember). places_of_part k.part) (numbered_members (m ∷ []))) q there)))
+      all_joined [] (flat_map (λ (k : NumberedMember). places_of_part k.part) (numbered_members (m ∷ own))) q
+      (inr (by (from_joined [] (flat_map (λ (k : NumberedMember). places_of_part k.part) (numbered_members (m ∷ []))) q there)))
     where
       world_places : List ℕ
       world_places = places_of_part (world W)
@@ -178,8 +186,10 @@ module _ (pieces : List Piece) (x : Followed) (facts : List KeptFact) (h : Homes
 -- ---- laws
 
 -- over what was followed, where the part is the world
-by_part : (pieces : List Piece) (x : Followed) (facts : List KeptFact) (h : Homes) (label : Bor (List ℕ)) (n : ℕ) (a : Part) (w : Scope) → a ≡ parts.World w → IsReadWorld pieces x (tables_of x) facts h (record { label = label; package_number = n; part = a }) w
-    → (own : List Member) → AreBeside (tables_of x) h (record { label = label; package_number = n; part = a }) w own → IsWholeWorld pieces (tables_of x) facts h (record { label = label; package_number = n; part = a }) own
+by_part : (pieces : List Piece) (x : Followed) (facts : List KeptFact) (h : Homes) (label : Bor (List ℕ)) (n : ℕ) (a : Part) (w : Scope) → a ≡ parts.World w
+    → IsReadWorld pieces x (tables_of x) facts h (record { label = label; package_number = n; part = a }) w
+    → (own : List Member) → AreBeside (tables_of x) h (record { label = label; package_number = n; part = a }) w own
+    → IsWholeWorld pieces (tables_of x) facts h (record { label = label; package_number = n; part = a }) own
 by_part pieces x facts h label n a w e given own are =
     subst (λ (b : Part). IsWholeWorld pieces (tables_of x) facts h (record { label = label; package_number = n; part = b }) own) (sym e)
     (is_whole pieces x facts h label n w (subst (λ (b : Part). IsReadWorld pieces x (tables_of x) facts h (record { label = label; package_number = n; part = b }) w) e given) own are)
@@ -187,7 +197,8 @@ by_part pieces x facts h label n a w e given own are =
 pub read_world_is_whole : ReadWorldIsWhole
 read_world_is_whole pieces x t facts h m w given own are =
     subst (λ (u : Tables). IsWholeWorld pieces u facts h m own) (sym given.tables)
-    (by_part pieces x facts h m.label m.package_number m.part w given.is (subst (λ (u : Tables). IsReadWorld pieces x u facts h m w) given.tables given) own (subst (λ (u : Tables). AreBeside u h m w own) given.tables are))
+    (by_part pieces x facts h m.label m.package_number m.part w given.is (subst (λ (u : Tables). IsReadWorld pieces x u facts h m w) given.tables given) own
+    (subst (λ (u : Tables). AreBeside u h m w own) given.tables are))
 
 pub read_world_plans_are_meant : ReadWorldPlansAreMeant
 read_world_plans_are_meant pieces x t facts h m w given own are p planned fits =

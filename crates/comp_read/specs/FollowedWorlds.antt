@@ -15,11 +15,14 @@ use Rattle.plan_laws.specs.WholeWorlds.{WorldsAreFollowed}
 use Rattle.comp_read.specs.ReadInput.{IsReadInput}
 
 abbrev pub ReadWorldsAreFollowed : Type 0
-ReadWorldsAreFollowed = (pieces : List Piece) (x : Followed) (h : Homes) (ms : List Member) (members : List reads.Member) → IsReadInput pieces x h ms members → WorldsAreFollowed (tables_of x) ms
+ReadWorldsAreFollowed = (pieces : List Piece) (x : Followed) (h : Homes) (ms : List Member) (members : List reads.Member) → IsReadInput pieces x h ms members
+    → WorldsAreFollowed (tables_of x) ms
 
 abbrev pub ReadImportsAreBare : Type 0
-ReadImportsAreBare = (pieces : List Piece) (x : Followed) (h : Homes) (ms : List Member) (members : List reads.Member) → IsReadInput pieces x h ms members → ImportsAreBare ms
+ReadImportsAreBare = (pieces : List Piece) (x : Followed) (h : Homes) (ms : List Member) (members : List reads.Member) → IsReadInput pieces x h ms members
+    → ImportsAreBare ms
 
 -- Each place with a path is that of a view.
 abbrev pub ReadPlacesAreMet : Type 0
-ReadPlacesAreMet = (pieces : List Piece) (x : Followed) (h : Homes) (ms : List Member) (members : List reads.Member) → IsReadInput pieces x h ms members → (q : ℕ) → HasPath (tables_of x) q → Contains (places_in ms) q
+ReadPlacesAreMet = (pieces : List Piece) (x : Followed) (h : Homes) (ms : List Member) (members : List reads.Member) → IsReadInput pieces x h ms members
+    → (q : ℕ) → HasPath (tables_of x) q → Contains (places_in ms) q

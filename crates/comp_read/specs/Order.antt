@@ -112,7 +112,8 @@ pub record TypesRise (r : Resolve) : Type 0 where
 pub record FollowsParts (members : List Member) (r : Resolve) : Type 0 where
   pub packages : map (λ k. identity_of k.name) r.packages.items ≡ packages_shown members
   pub interfaces : map (path_of_interface r) r.interfaces.items ≡ paths_shown members
-  pub functions : (k : ℕ) (i : Interface) (path : Text) → interface_at r k ≡ Some i → path_of_interface r i ≡ Some path → function_names i ≡ functions_shown members path
+  pub functions : (k : ℕ) (i : Interface) (path : Text) → interface_at r k ≡ Some i → path_of_interface r i ≡ Some path
+      → function_names i ≡ functions_shown members path
   pub worlds : map (λ w. text_of w.name) r.worlds.items ≡ worlds_shown members
   pub types : TypesRise r
 

@@ -67,7 +67,8 @@ pub data AddsInterface (n : ℕ) (label : Text) (s : NumberedSight) (places : Li
 -- So it is for a view of the package, and one of another adds nothing.
 pub data AddsView (h : Homes) (n : ℕ) (s : NumberedSight) (places : List ℕ) (ms : List NumberedMember) : List ℕ → List NumberedMember → Type 0 where
   another : is_of_package h n s.place ≡ false → AddsView h n s places ms places ms
-  own : (label : Text) (later : List ℕ) (more : List NumberedMember) → home_at h s.place ≡ Some (n, label) → AddsInterface n label s places ms later more → AddsView h n s places ms later more
+  own : (label : Text) (later : List ℕ) (more : List NumberedMember) → home_at h s.place ≡ Some (n, label) → AddsInterface n label s places ms later more
+      → AddsView h n s places ms later more
 
 -- the members that were read are the interfaces of its own package that a world shows,
 abbrev pub AreReadOwn : KeptTables → Homes → ℕ → Scope → List Member → Type 0

@@ -44,7 +44,8 @@ abbrev pub CanBeBuilt : Tables → List PackageIdentity → (ℕ → Option Home
 CanBeBuilt t identities homes n ms = (p : Plan) → PlansWhole t identities homes n ms p → FitsInput p → IsBuildable p
 
 -- The `Resolve` is built of a plan of the members, whose main package has this number: it is the plan's, valid where that was read, and means what it does.
-pub record IsBuiltOf (t : Tables) (identities : List PackageIdentity) (homes : ℕ → Option Home) (n : ℕ) (ms : List Member) (r : Resolve) (main : ℕ) : Type 0 where
+pub record IsBuiltOf (t : Tables) (identities : List PackageIdentity) (homes : ℕ → Option Home) (n : ℕ) (ms : List Member) (r : Resolve)
+    (main : ℕ) : Type 0 where
   pub plan : Plan
   pub planned : PlansWhole t identities homes n ms plan
   pub fits : FitsInput plan

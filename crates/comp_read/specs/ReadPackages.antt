@@ -53,19 +53,25 @@ pub record IsPlanOf (pieces : List Piece) (p : Plan) : Type 0 where
 
 -- Members that are read are those of what was followed, for what the rules of reading make of it.
 abbrev pub ReadMembersAreInput : Type 0
-ReadMembersAreInput = (pieces : List Piece) (x : Followed) → IsFollowed pieces x → (facts : List KeptFact) → AreKnown x facts → (h : Homes) → HomesStand (tables_of x) h
-    → (ms : List Member) → AreRead (tables_of x) (known_by facts) h x.members.items (map lent_member ms) → (members : List reads.Member) × IsReadInput pieces x h ms members
+ReadMembersAreInput = (pieces : List Piece) (x : Followed) → IsFollowed pieces x → (facts : List KeptFact) → AreKnown x facts → (h : Homes)
+    → HomesStand (tables_of x) h
+    → (ms : List Member) → AreRead (tables_of x) (known_by facts) h x.members.items (map lent_member ms) → (members : List reads.Member)
+    × IsReadInput pieces x h ms members
 
 -- Packages that are numbered as places are looked up, and then as members are read, have their sources.
 abbrev pub ReadPackagesHaveSources : Type 0
-ReadPackagesHaveSources = (first packages : List PackageIdentity) (homes : List (Option (ℕ × Text))) (ms : List Member) → HaveReasons [] first homes → AreForMembers first packages (map lent_member ms) → HaveSources packages homes ms
+ReadPackagesHaveSources = (first packages : List PackageIdentity) (homes : List (Option (ℕ × Text))) (ms : List Member) → HaveReasons [] first homes
+    → AreForMembers first packages (map lent_member ms) → HaveSources packages homes ms
 
 abbrev pub ReadPackageIsWhole : Type 0
-ReadPackageIsWhole = (pieces : List Piece) (x : Followed) (t : Tables) (facts : List KeptFact) (h : Homes) (n : ℕ) (ms : List Member) → IsReadPackage pieces x t facts h n ms → IsWholeInput t h n ms
+ReadPackageIsWhole = (pieces : List Piece) (x : Followed) (t : Tables) (facts : List KeptFact) (h : Homes) (n : ℕ) (ms : List Member)
+    → IsReadPackage pieces x t facts h n ms → IsWholeInput t h n ms
 
 abbrev pub ReadMayBePlanned : Type 0
-ReadMayBePlanned = (pieces : List Piece) (x : Followed) (t : Tables) (facts : List KeptFact) (h : Homes) (n : ℕ) (ms : List Member) → IsReadPackage pieces x t facts h n ms → MayBeWhole t ms
+ReadMayBePlanned = (pieces : List Piece) (x : Followed) (t : Tables) (facts : List KeptFact) (h : Homes) (n : ℕ) (ms : List Member)
+    → IsReadPackage pieces x t facts h n ms → MayBeWhole t ms
 
 abbrev pub ReadPlansAreMeant : Type 0
-ReadPlansAreMeant = (pieces : List Piece) (x : Followed) (t : Tables) (facts : List KeptFact) (h : Homes) (n : ℕ) (ms : List Member) → IsReadPackage pieces x t facts h n ms
+ReadPlansAreMeant = (pieces : List Piece) (x : Followed) (t : Tables) (facts : List KeptFact) (h : Homes) (n : ℕ) (ms : List Member)
+    → IsReadPackage pieces x t facts h n ms
     → (p : Plan) → PlansWhole t h.packages (home_at h) n ms p → FitsInput p → IsPlanOf pieces p

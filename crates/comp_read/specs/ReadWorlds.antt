@@ -75,10 +75,13 @@ pub record IsWorldPlanOf (pieces : List Piece) (p : Plan) : Type 0 where
 -- ---- laws
 
 abbrev pub ReadWorldIsWhole : Type 0
-ReadWorldIsWhole = (pieces : List Piece) (x : Followed) (t : Tables) (facts : List KeptFact) (h : Homes) (m : Member) (w : Scope) → IsReadWorld pieces x t facts h m w
+ReadWorldIsWhole = (pieces : List Piece) (x : Followed) (t : Tables) (facts : List KeptFact) (h : Homes) (m : Member) (w : Scope)
+    → IsReadWorld pieces x t facts h m w
     → (own : List Member) → AreBeside t h m w own → IsWholeWorld pieces t facts h m own
 
 -- Each plan of the world and of these interfaces that fits in numbers of 32 bits.
 abbrev pub ReadWorldPlansAreMeant : Type 0
-ReadWorldPlansAreMeant = (pieces : List Piece) (x : Followed) (t : Tables) (facts : List KeptFact) (h : Homes) (m : Member) (w : Scope) → IsReadWorld pieces x t facts h m w
-    → (own : List Member) → AreBeside t h m w own → (p : Plan) → PlansWhole t h.packages (home_at h) m.package_number (m ∷ own) p → FitsInput p → IsWorldPlanOf pieces p
+ReadWorldPlansAreMeant = (pieces : List Piece) (x : Followed) (t : Tables) (facts : List KeptFact) (h : Homes) (m : Member) (w : Scope)
+    → IsReadWorld pieces x t facts h m w
+    → (own : List Member) → AreBeside t h m w own → (p : Plan) → PlansWhole t h.packages (home_at h) m.package_number (m ∷ own) p → FitsInput p
+    → IsWorldPlanOf pieces p

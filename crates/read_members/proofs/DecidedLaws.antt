@@ -33,7 +33,8 @@ by_members pieces = package_by_scopes pieces ∙ by (scopes_of pieces)
     by (Some scopes) = refl
 
 module _ (pieces : List Piece) (x : Followed) (f : IsFollowed pieces x) (facts : List KeptFact) (are : AreKnown x facts) (h : Homes) (stand : HomesStand (tables_of x) h) where
-  decided : (ms : List (NumberedMember × List (Option ℕ))) → AreRead (tables_of x) (known_by facts) h x.members.items ms → (members : List reads.Member) → members_meant pieces ≡ Some members → AllZip (IsMember (tables_of x) h) (map (λ m. m.0) ms) members
+  decided : (ms : List (NumberedMember × List (Option ℕ))) → AreRead (tables_of x) (known_by facts) h x.members.items ms → (members : List reads.Member) → members_meant pieces ≡ Some members
+      → AllZip (IsMember (tables_of x) h) (map (λ m. m.0) ms) members
       → ArePackageDecided pieces (tables_of x) h (known_by facts) (map (λ m. m.0) ms)
   decided [] read [] found shown = by_members pieces ∙ ap (λ o. o >>= package_of_members) found
   decided [] read (z ∷ zs) found shown = absurd shown
@@ -45,7 +46,8 @@ module _ (pieces : List Piece) (x : Followed) (f : IsFollowed pieces x) (facts :
     shown = shown;
     decided =
         by_members pieces ∙ (ap (λ o. o >>= package_of_members) found
-        ∙ packages_in_numbers (tables_of x) (input_in_numbers pieces x f).tables h stand (known_by facts) m.0.package_ z.package_ shown.0.package_ (map (λ k. k.0) (m ∷ ms)) (z ∷ zs) shown (members_are_known pieces x f facts are h (m ∷ ms) read));
+        ∙ packages_in_numbers (tables_of x) (input_in_numbers pieces x f).tables h stand (known_by facts) m.0.package_ z.package_ shown.0.package_ (map (λ k. k.0) (m ∷ ms)) (z ∷ zs) shown
+        (members_are_known pieces x f facts are h (m ∷ ms) read));
   }
 
 pub packages_are_decided : PackagesAreDecided

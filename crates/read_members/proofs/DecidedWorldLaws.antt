@@ -57,7 +57,8 @@ spelled_again : (path : Text) (identity : PackageIdentity) (label : Text) → re
 spelled_again path identity label e = ap read_path (sym (read_path_is_spelled path identity label e).spelled) ∙ e
 
 module _ (t : Tables) (known : ℕ → Fact) (h : Homes) (label : Text) where
-  world_path : (p : FollowedPart) (n : ℕ) (w : NumberedScope) → IsPartRead t known h label p n (world w) → (identity : PackageIdentity) → slice_get h.packages n ≡ Some identity → read_path (path_in identity label) ≡ Some (identity, label)
+  world_path : (p : FollowedPart) (n : ℕ) (w : NumberedScope) → IsPartRead t known h label p n (world w) → (identity : PackageIdentity) → slice_get h.packages n ≡ Some identity
+      → read_path (path_in identity label) ≡ Some (identity, label)
   world_path (followed.World named s) n w read identity at =
       let same : read.1.0.0 ≡ identity = same-some read.1.0.0 identity (sym read.1.0.1 ∙ at) in
       subst (λ (who : PackageIdentity). read_path (path_in who label) ≡ Some (who, label)) same
@@ -67,8 +68,10 @@ module _ (t : Tables) (known : ℕ → Fact) (h : Homes) (label : Text) where
 -- ---- one member
 
 module _ (pieces : List Piece) (t : Tables) (tables : AreTables t) (h : Homes) (stand : HomesStand t h) (known : ℕ → Fact) where
-  part_decided : (x : FollowedMember) (m : NumberedMember) (label_is : m.label ≡ x.label.now) (p : NumberedPart) → IsPartRead t known h x.label.now x.part m.package_ p → AllByRecursion (IsKnownSight t known) (sights_of_part t p)
-      → (z : reads.Member) → z.label ≡ m.label → slice_get h.packages m.package_ ≡ Some z.package_ → (q : reads.Part) → ShowsPart t h m p q → world_of_pieces pieces ≡ world_of_members (record { label = z.label; package_ = z.package_; part = q } ∷ [])
+  part_decided : (x : FollowedMember) (m : NumberedMember) (label_is : m.label ≡ x.label.now) (p : NumberedPart) → IsPartRead t known h x.label.now x.part m.package_ p
+      → AllByRecursion (IsKnownSight t known) (sights_of_part t p)
+      → (z : reads.Member) → z.label ≡ m.label → slice_get h.packages m.package_ ≡ Some z.package_ → (q : reads.Part) → ShowsPart t h m p q
+      → world_of_pieces pieces ≡ world_of_members (record { label = z.label; package_ = z.package_; part = q } ∷ [])
       → IsPartDecided pieces t h known m p
   part_decided x m label_is (world w) read sights z named at (reads.world scope) shows found =
       let path = subst (λ (l : Text). read_path (path_in z.package_ l) ≡ Some (z.package_, l)) (sym label_is) (world_path t known h x.label.now x.part m.package_ w read z.package_ at) in
@@ -93,7 +96,8 @@ module _ (pieces : List Piece) (t : Tables) (tables : AreTables t) (h : Homes) (
   decided xs (m ∷ []) read sights (z ∷ y ∷ zs) shown found = absurd shown.1
   decided [] (m ∷ []) read sights (z ∷ []) shown found = absurd read
   decided (x ∷ xs) (m ∷ []) read sights (z ∷ []) shown found =
-      part_decided x m.0 read.0.label_is m.0.part read.0.part_is (subst (AllByRecursion (IsKnownSight t known)) (append-nil (sights_of_part t m.0.part)) sights) z shown.0.label shown.0.package_ z.part shown.0.part found
+      part_decided x m.0 read.0.label_is m.0.part read.0.part_is (subst (AllByRecursion (IsKnownSight t known)) (append-nil (sights_of_part t m.0.part)) sights) z shown.0.label shown.0.package_ z.part
+      shown.0.part found
 
 pub worlds_are_decided : WorldsAreDecided
 worlds_are_decided pieces x f facts are h stand ms read =

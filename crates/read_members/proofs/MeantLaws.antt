@@ -44,7 +44,8 @@ module _ (t : Tables) (tables : AreTables t) (known : ℕ → Fact) (h : Homes) 
   abbrev numbered : ℕ → NumberedPart → NumberedMember
   numbered n q = record { label = label; package_ = n; part = q }
 
-  world_meant : (path text : Text) → text ≡ path → (w : NumberedScope) (meant : MeantScope) → Shows t w meant → ScopeStands t known w → (n : ℕ) (identity : PackageIdentity) → slice_get h.packages n ≡ Some identity → labelled_path label path ≡ Some identity → is_world t known w ≡ true
+  world_meant : (path text : Text) → text ≡ path → (w : NumberedScope) (meant : MeantScope) → Shows t w meant → ScopeStands t known w → (n : ℕ) (identity : PackageIdentity)
+      → slice_get h.packages n ≡ Some identity → labelled_path label path ≡ Some identity → is_world t known w ≡ true
       → IsPartMeant t h (numbered n (world w)) (part_of_scope label (scopes.world text meant))
   world_meant path text same w meant shows stands n identity at labelled obeys = record {
     package_ = identity;
@@ -54,7 +55,8 @@ module _ (t : Tables) (tables : AreTables t) (known : ℕ → Fact) (h : Homes) 
     shows = shows;
   }
 
-  interface_meant : (w : NumberedScope) (meant : MeantScope) → Shows t w meant → ScopeStands t known w → (n : ℕ) (e : Placed) (is : List Placed) → shown_interface t w ≡ Some (e, is) → home_at h e.0 ≡ Some (n, label)
+  interface_meant : (w : NumberedScope) (meant : MeantScope) → Shows t w meant → ScopeStands t known w → (n : ℕ) (e : Placed) (is : List Placed) → shown_interface t w ≡ Some (e, is)
+      → home_at h e.0 ≡ Some (n, label)
       → IsPartMeant t h (numbered n (interface e.0 e.1 is)) (part_of_scope label (scopes.interface meant))
   interface_meant w meant shows stands n e is shown home =
       by (subst (λ (o : Option (Placed × List Placed)). IsInterfacePart t h label o (interface_of_scope label meant)) shown (scopes_are_parts t tables h stand known w stands meant shows label))
@@ -74,7 +76,8 @@ module _ (t : Tables) (tables : AreTables t) (known : ℕ → Fact) (h : Homes) 
           }
       by (elsewhere none f) = absurd (none n home)
 
-  part_meant : (x : FollowedPart) (p : PartScope) → PartShown t x p → ScopeStands t known (followed_scope t.paths (scope_of x)) → (n : ℕ) (q : NumberedPart) → IsPartRead t known h label x n q → IsPartMeant t h (numbered n q) (part_of_scope label p)
+  part_meant : (x : FollowedPart) (p : PartScope) → PartShown t x p → ScopeStands t known (followed_scope t.paths (scope_of x)) → (n : ℕ) (q : NumberedPart) → IsPartRead t known h label x n q
+      → IsPartMeant t h (numbered n q) (part_of_scope label p)
   part_meant (followed.World path s) (scopes.world text meant) shown stands n (world w) read =
       subst (λ (v : NumberedScope). IsPartMeant t h (numbered n (world v)) (part_of_scope label (scopes.world text meant))) (sym read.0)
       (world_meant (text_of path) text shown.0 (followed_scope t.paths s) meant shown.1 stands n read.1.0.0 read.1.0.1 read.1.0.2 (ap (is_world t known) (sym read.0) ∙ read.1.1))
@@ -96,9 +99,11 @@ module _ (t : Tables) (tables : AreTables t) (known : ℕ → Fact) (h : Homes) 
   no_package (Some p) = refl
 
   no_part : (x : FollowedPart) (p : PartScope) → PartShown t x p → ScopeStands t known (followed_scope t.paths (scope_of x)) → IsNoPart t known h label x → part_of_scope label p ≡ None
-  no_part (followed.World path s) (scopes.world text meant) shown stands (inl none) = λ i. (ap (labelled_path label) shown.0 ∙ none) i >>= λ package_. provided (rules.is_world meant) (package_, reads.world meant)
+  no_part (followed.World path s) (scopes.world text meant) shown stands (inl none) =
+      λ i. (ap (labelled_path label) shown.0 ∙ none) i >>= λ package_. provided (rules.is_world meant) (package_, reads.world meant)
   no_part (followed.World path s) (scopes.world text meant) shown stands (inr fails) =
-      (λ i. labelled_path label text >>= λ package_. provided ((worlds_in_numbers t tables known (followed_scope t.paths s) meant stands shown.1 ∙ fails) i) (package_, reads.world meant)) ∙ no_package (labelled_path label text)
+      (λ i. labelled_path label text >>= λ package_. provided ((worlds_in_numbers t tables known (followed_scope t.paths s) meant stands shown.1 ∙ fails) i) (package_, reads.world meant)) ∙ no_package
+      (labelled_path label text)
   no_part (followed.World path s) (scopes.interface meant) shown stands none = absurd shown
   no_part (followed.Interface s) (scopes.world text meant) shown stands none = absurd shown
   no_part (followed.Interface s) (scopes.interface meant) shown stands none =
@@ -119,7 +124,8 @@ module _ (t : Tables) (tables : AreTables t) (known : ℕ → Fact) (h : Homes) 
   one_meant : (x : FollowedMember) (y : Text × PartScope) → MemberShown t x y → Stands x → (m : NumberedMember × List (Option ℕ)) → IsMemberRead t known h x m → IsOneMeant m.0 y
   one_meant x y shown stands m read =
       let named : y.0 ≡ m.0.label = shown.0 ∙ sym read.label_is in
-      let part = part_meant t tables known h stand y.0 x.part y.1 shown.1 stands m.0.package_ m.0.part (subst (λ (l : Text). IsPartRead t known h l x.part m.0.package_ m.0.part) (sym shown.0) read.part_is) in
+      let part = part_meant t tables known h stand y.0 x.part y.1 shown.1 stands m.0.package_ m.0.part
+      (subst (λ (l : Text). IsPartRead t known h l x.part m.0.package_ m.0.part) (sym shown.0) read.part_is) in
       record {
         member = record { label = y.0; package_ = part.package_; part = part.part };
         found_is = ap (λ o. o >>= λ p. Some (record { label = y.0; package_ = p.0; part = p.1 })) part.found_is;
@@ -142,7 +148,8 @@ module _ (t : Tables) (tables : AreTables t) (known : ℕ → Fact) (h : Homes) 
     found_are : each member_of_scope ys ≡ Some members
     are : AllZip (IsMember t h) ms members
 
-  all_meant : (xs : List FollowedMember) (ys : List (Text × PartScope)) → AllZip (MemberShown t) xs ys → AllByRecursion Stands xs → (ms : List (NumberedMember × List (Option ℕ))) → AllZip (IsMemberRead t known h) xs ms → AreAllMeant (map (λ m. m.0) ms) ys
+  all_meant : (xs : List FollowedMember) (ys : List (Text × PartScope)) → AllZip (MemberShown t) xs ys → AllByRecursion Stands xs → (ms : List (NumberedMember × List (Option ℕ)))
+      → AllZip (IsMemberRead t known h) xs ms → AreAllMeant (map (λ m. m.0) ms) ys
   all_meant [] [] shown stands [] read = record { members = []; found_are = refl; are = tt }
   all_meant [] [] shown stands (m ∷ ms) read = absurd read
   all_meant [] (y ∷ ys) shown stands ms read = absurd shown
@@ -153,7 +160,8 @@ module _ (t : Tables) (tables : AreTables t) (known : ℕ → Fact) (h : Homes) 
       let rest = all_meant xs ys shown.1 stands.1 ms read.1 in
       record { members = one.member ∷ rest.members; found_are = λ i. one.found_is i >>= λ z. rest.found_are i >>= λ zs. Some (z ∷ zs); are = (one.is, rest.are) }
 
-  none_meant : (xs : List FollowedMember) (ys : List (Text × PartScope)) → AllZip (MemberShown t) xs ys → AllByRecursion Stands xs → (n : ℕ) (x : FollowedMember) → slice_get xs n ≡ Some x → IsNoMember t known h x → each member_of_scope ys ≡ None
+  none_meant : (xs : List FollowedMember) (ys : List (Text × PartScope)) → AllZip (MemberShown t) xs ys → AllByRecursion Stands xs → (n : ℕ) (x : FollowedMember) → slice_get xs n ≡ Some x
+      → IsNoMember t known h x → each member_of_scope ys ≡ None
   none_meant [] ys shown stands n x at none = absurd cc
   none_meant (z ∷ xs) [] shown stands n x at none = absurd shown
   none_meant (z ∷ xs) (y ∷ ys) shown stands zero x at none =
@@ -166,7 +174,8 @@ module _ (t : Tables) (tables : AreTables t) (known : ℕ → Fact) (h : Homes) 
       nothing None = refl
       nothing (Some m) = refl
 
-  all_stand : (xs : List FollowedMember) → ((n : ℕ) (w : NumberedScope) → slice_get (map (λ (x : FollowedMember). followed_scope t.paths (scope_of x.part)) xs) n ≡ Some w → ScopeStands t known w) → AllByRecursion Stands xs
+  all_stand : (xs : List FollowedMember) → ((n : ℕ) (w : NumberedScope) → slice_get (map (λ (x : FollowedMember). followed_scope t.paths (scope_of x.part)) xs) n ≡ Some w → ScopeStands t known w)
+      → AllByRecursion Stands xs
   all_stand [] h = tt
   all_stand (x ∷ xs) h = (h zero (followed_scope t.paths (scope_of x.part)) refl, all_stand xs (λ n w e. h (suc n) w e))
 

@@ -25,7 +25,8 @@ use Rattle.read_members.proofs.MeantLaws.{no_members_are_meant}
 abbrev Given : Type 0
 Given = List (Option (ℕ × Bor (List ℕ)))
 
-module _ (pieces : List Piece) (x : Followed) (f : IsFollowed pieces x) (facts : List KeptFact) (are : AreKnown x facts) (packages : List PackageIdentity) (homes : Given) (stand : HomesStand (tables_of x) (homes_in packages homes)) (t : Tables)
+module _ (pieces : List Piece) (x : Followed) (f : IsFollowed pieces x) (facts : List KeptFact) (are : AreKnown x facts) (packages : List PackageIdentity) (homes : Given)
+    (stand : HomesStand (tables_of x) (homes_in packages homes)) (t : Tables)
     (same : t ≡ tables_of x) (lent : Given) (lent_is : lent ≡ homes) (members : List FollowedMember) (all : members ≡ x.members.items) where
   abbrev known : ℕ → Fact
   known = known_by facts
@@ -42,4 +43,5 @@ module _ (pieces : List Piece) (x : Followed) (f : IsFollowed pieces x) (facts :
   none_meant one =
       let so : IsOneNone (tables_of x) known (homes_alone lent) x.members.items =
       subst (λ (ms : List FollowedMember). IsOneNone (tables_of x) known (homes_alone lent) ms) all (subst (λ (u : Tables). IsOneNone u known (homes_alone lent) members) same one) in
-      no_members_are_meant pieces x f facts are (homes_in packages homes) stand (record { number = so.number; member = so.member; at = so.at; none = none_there so.member.label.now so.member.part so.none })
+      no_members_are_meant pieces x f facts are (homes_in packages homes) stand
+      (record { number = so.number; member = so.member; at = so.at; none = none_there so.member.label.now so.member.part so.none })

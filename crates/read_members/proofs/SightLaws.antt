@@ -68,7 +68,8 @@ module _ (t : Tables) (home : ℕ) where
   imports_placed [] h is e = subst (AllByRecursion Stands) (same-some [] is e) tt
   imports_placed (s ∷ ss) h is e = by (imported_view s) refl (each imported_view ss) (imports_placed ss h.1) e
     where
-      by : (o : Option Placed) → imported_view s ≡ o → (os : Option (List Placed)) → ((ys : List Placed) → os ≡ Some ys → AllByRecursion Stands ys) → (o >>= λ y. os >>= λ ys. Some (y ∷ ys)) ≡ Some is → AllByRecursion Stands is
+      by : (o : Option Placed) → imported_view s ≡ o → (os : Option (List Placed)) → ((ys : List Placed) → os ≡ Some ys → AllByRecursion Stands ys) → (o >>= λ y. os >>= λ ys. Some (y ∷ ys)) ≡ Some is
+          → AllByRecursion Stands is
       by None f os rest e = absurd cc
       by (Some y) f None rest e = absurd cc
       by (Some y) f (Some ys) rest e = subst (AllByRecursion Stands) (same-some (y ∷ ys) is e) (import_placed s h.0 y f, rest ys refl)
@@ -108,7 +109,8 @@ module _ (pieces : List Piece) (x : Followed) (f : IsFollowed pieces x) (facts :
       all_both IsKnownOne (map (λ (i : Placed). record { place = i.0; view = i.1; whole = false }) is) (record { place = e.0; view = e.1; whole = true } ∷ [])
       (imports_known w.home is (imports_placed t w.home w.imports placed.imports is views.1)) (views_are_known pieces x f facts are e.0 export.0 e.1 export.1 true, tt)
 
-  part_known : (h : Homes) (text : Text) (p : FollowedPart) (n : ℕ) (q : NumberedPart) → IsPlacedScope t (followed_scope x.places (scope_of p)) → AllByRecursion IsKnownOne (sights_of_scope t (followed_scope x.places (scope_of p)))
+  part_known : (h : Homes) (text : Text) (p : FollowedPart) (n : ℕ) (q : NumberedPart) → IsPlacedScope t (followed_scope x.places (scope_of p))
+      → AllByRecursion IsKnownOne (sights_of_scope t (followed_scope x.places (scope_of p)))
       → IsPartRead t known h text p n q → AllByRecursion IsKnownOne (sights_of_part t q)
   part_known h text (followed.World named s) n (world w) placed sights read = subst (λ (v : NumberedScope). AllByRecursion IsKnownOne (sights_of_scope t v)) (sym read.0) sights
   part_known h text (followed.World named s) n (interface p v is) placed sights read = absurd read
@@ -120,7 +122,9 @@ module _ (pieces : List Piece) (x : Followed) (f : IsFollowed pieces x) (facts :
     placed : IsPlacedScope t w
     sights : AllByRecursion IsKnownOne (sights_of_scope t w)
 
-  all_known : (h : Homes) (xs : List FollowedMember) → ((n : ℕ) (w : NumberedScope) → slice_get (map (λ (y : FollowedMember). followed_scope x.places (scope_of y.part)) xs) n ≡ Some w → IsScopeKnown w) → (ms : List (NumberedMember × List (Option ℕ)))
+  all_known : (h : Homes) (xs : List FollowedMember)
+      → ((n : ℕ) (w : NumberedScope) → slice_get (map (λ (y : FollowedMember). followed_scope x.places (scope_of y.part)) xs) n ≡ Some w → IsScopeKnown w)
+      → (ms : List (NumberedMember × List (Option ℕ)))
       → AreRead t known h xs ms → AllByRecursion IsKnownOne (sights_of_members t (map (λ m. m.0) ms))
   all_known h [] scopes [] read = tt
   all_known h [] scopes (m ∷ ms) read = absurd read

@@ -43,10 +43,13 @@ Decides false found = found ≡ None
 
 -- What is known of each part is true wherever members that are read are over it.
 abbrev pub MembersAreKnown : Type 0
-MembersAreKnown = (pieces : List Piece) (x : Followed) → IsFollowed pieces x → (facts : List KeptFact) → AreKnown x facts → (h : Homes) → (ms : List (NumberedMember × List (Option ℕ)))
-    → AreRead (tables_of x) (known_by facts) h x.members.items ms → AllByRecursion (IsKnownSight (tables_of x) (known_by facts)) (sights_of_members (tables_of x) (map (λ m. m.0) ms))
+MembersAreKnown = (pieces : List Piece) (x : Followed) → IsFollowed pieces x → (facts : List KeptFact) → AreKnown x facts → (h : Homes)
+    → (ms : List (NumberedMember × List (Option ℕ)))
+    → AreRead (tables_of x) (known_by facts) h x.members.items ms
+    → AllByRecursion (IsKnownSight (tables_of x) (known_by facts)) (sights_of_members (tables_of x) (map (λ m. m.0) ms))
 
 -- Members that are read decide what the pieces mean as a package.
 abbrev pub PackagesAreDecided : Type 0
-PackagesAreDecided = (pieces : List Piece) (x : Followed) → IsFollowed pieces x → (facts : List KeptFact) → AreKnown x facts → (h : Homes) → HomesStand (tables_of x) h → (ms : List (NumberedMember × List (Option ℕ)))
+PackagesAreDecided = (pieces : List Piece) (x : Followed) → IsFollowed pieces x → (facts : List KeptFact) → AreKnown x facts → (h : Homes)
+    → HomesStand (tables_of x) h → (ms : List (NumberedMember × List (Option ℕ)))
     → AreRead (tables_of x) (known_by facts) h x.members.items ms → ArePackageDecided pieces (tables_of x) h (known_by facts) (map (λ m. m.0) ms)

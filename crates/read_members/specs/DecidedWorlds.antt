@@ -37,5 +37,6 @@ AreWorldDecided pieces t h known (m ∷ n ∷ ms) = world_of_pieces pieces ≡ N
 
 -- Members that are read decide what the pieces mean as one world.
 abbrev pub WorldsAreDecided : Type 0
-WorldsAreDecided = (pieces : List Piece) (x : Followed) → IsFollowed pieces x → (facts : List KeptFact) → AreKnown x facts → (h : Homes) → HomesStand (tables_of x) h → (ms : List (NumberedMember × List (Option ℕ)))
+WorldsAreDecided = (pieces : List Piece) (x : Followed) → IsFollowed pieces x → (facts : List KeptFact) → AreKnown x facts → (h : Homes)
+    → HomesStand (tables_of x) h → (ms : List (NumberedMember × List (Option ℕ)))
     → AreRead (tables_of x) (known_by facts) h x.members.items ms → AreWorldDecided pieces (tables_of x) h (known_by facts) (map (λ m. m.0) ms)

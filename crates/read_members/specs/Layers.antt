@@ -21,7 +21,12 @@ use Rattle.read_members.specs.declared.tables.OwnedTables.{OwnedTables}
 -- ---- tables
 
 abbrev pub owned_tables : OwnedTables → Tables
-owned_tables o = record { shapes = map numbered_shape o.shapes.items; functions = map numbered_function_type o.functions.items; paths = map given_text o.paths.items }
+owned_tables o = record {
+  shapes = map numbered_shape o.shapes.items;
+  functions = map numbered_function_type o.functions.items;
+  paths =
+      map given_text o.paths.items;
+}
 
 -- The tables are those of what was followed, and the facts of its types are true.
 pub record AreTablesOf (x : Followed) (o : OwnedTables) : Type 0 where
@@ -40,7 +45,13 @@ member_views m = map instance_view (scope_of m.part).instances.items
 -- ---- scopes
 
 abbrev pub owned_scope : OwnedScope → NumberedScope
-owned_scope s = record { home = s.home; imports = map numbered_seen s.imports.items; exports = map numbered_seen s.exports.items; instances = map numbered_instance s.instances.items }
+owned_scope s = record {
+  home = s.home;
+  imports = map numbered_seen s.imports.items;
+  exports = map numbered_seen s.exports.items;
+  instances =
+      map numbered_instance s.instances.items;
+}
 
 -- what a scope shows, and the parts that the types which it imports are
 abbrev pub shown_owned : OwnedScope → NumberedScope × List (Option ℕ)

@@ -27,7 +27,8 @@ pub record IsScopeOf (t : Tables) (s : FollowedScope) (w : Scope) : Type 0 where
 -- A world shows what was followed, and an interface has the view and the imports of its component type.
 abbrev pub IsPartOf : Tables → FollowedPart → Part → Type 0
 IsPartOf t (followed.World path s) (parts.World w) = IsScopeOf t s w
-IsPartOf t (followed.Interface s) (parts.Interface p v imports) = shown_interface t (followed_scope t.paths s) ≡ Some ((p, numbered_view v), map numbered_import imports.now)
+IsPartOf t (followed.Interface s) (parts.Interface p v imports) =
+    shown_interface t (followed_scope t.paths s) ≡ Some ((p, numbered_view v), map numbered_import imports.now)
 IsPartOf t _ _ = ⊥
 
 -- under the same label

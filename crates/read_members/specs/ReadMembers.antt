@@ -48,8 +48,10 @@ use Rattle.read_members.specs.declared.reading.ReadPart.TheVariants as read
 -- A world has a path of its label's name, in the package of this number, and shows what a world may; an interface is what its component type shows,
 -- and has its label's name in that package.
 abbrev pub IsPartRead : Tables → (ℕ → Fact) → Homes → Text → FollowedPart → ℕ → NumberedPart → Type 0
-IsPartRead t known h label (followed.World path s) n (world w) = (w ≡ followed_scope t.paths s) × (IsLabelled h.packages label (text_of path) (Some n) × (is_world t known w ≡ true))
-IsPartRead t known h label (followed.Interface s) n (interface p v imports) = (shown_interface t (followed_scope t.paths s) ≡ Some ((p, v), imports)) × (home_at h p ≡ Some (n, label))
+IsPartRead t known h label (followed.World path s) n (world w) = (w ≡ followed_scope t.paths s)
+    × (IsLabelled h.packages label (text_of path) (Some n) × (is_world t known w ≡ true))
+IsPartRead t known h label (followed.Interface s) n (interface p v imports) = (shown_interface t (followed_scope t.paths s) ≡ Some ((p, v), imports))
+    × (home_at h p ≡ Some (n, label))
 IsPartRead t known h label _ n _ = ⊥
 
 -- the parts that the types which a world imports are
@@ -147,7 +149,8 @@ IsPackageOf h label p None = (n : ℕ) → home_at h p ≡ Some (n, label) → �
 IsPackageOf h label p (Some n) = home_at h p ≡ Some (n, label)
 
 -- A world is read under its path.
-pub record IsWorldRead (t : Tables) (known : ℕ → Fact) (packages : List PackageIdentity) (label path : Text) (w : Scope) (m : NumberedMember × List (Option ℕ)) : Type 0 where
+pub record IsWorldRead (t : Tables) (known : ℕ → Fact) (packages : List PackageIdentity) (label path : Text) (w : Scope)
+    (m : NumberedMember × List (Option ℕ)) : Type 0 where
   pub label_is : m.0.label ≡ label
   pub part_is : m.0.part ≡ world (numbered_scope w)
   pub parts_are : m.1 ≡ map part_seen w.imports.now
@@ -180,14 +183,18 @@ pub record AreMeant (pieces : List Piece) (t : Tables) (h : Homes) (ms : List Nu
 
 -- Members that are read are what the pieces mean, wherever places have their packages.
 abbrev pub ReadMembersAreMeant : Type 0
-ReadMembersAreMeant = (pieces : List Piece) (x : Followed) → IsFollowed pieces x → (facts : List KeptFact) → AreKnown x facts → (h : Homes) → HomesStand (tables_of x) h
-    → (ms : List (NumberedMember × List (Option ℕ))) → AreRead (tables_of x) (known_by facts) h x.members.items ms → AreMeant pieces (tables_of x) h (map (λ m. m.0) ms)
+ReadMembersAreMeant = (pieces : List Piece) (x : Followed) → IsFollowed pieces x → (facts : List KeptFact) → AreKnown x facts → (h : Homes)
+    → HomesStand (tables_of x) h
+    → (ms : List (NumberedMember × List (Option ℕ))) → AreRead (tables_of x) (known_by facts) h x.members.items ms
+    → AreMeant pieces (tables_of x) h (map (λ m. m.0) ms)
 
 -- Where one is none, the pieces mean no members.
 abbrev pub NoMembersAreMeant : Type 0
-NoMembersAreMeant = (pieces : List Piece) (x : Followed) → IsFollowed pieces x → (facts : List KeptFact) → AreKnown x facts → (h : Homes) → HomesStand (tables_of x) h
+NoMembersAreMeant = (pieces : List Piece) (x : Followed) → IsFollowed pieces x → (facts : List KeptFact) → AreKnown x facts → (h : Homes)
+    → HomesStand (tables_of x) h
     → IsOneNone (tables_of x) (known_by facts) h x.members.items → members_meant pieces ≡ None
 
 -- Members that are lent of those that are read are the members of what was followed.
 abbrev pub LentMembersAreMembers : Type 0
-LentMembersAreMembers = (x : Followed) (known : ℕ → Fact) (h : Homes) (ms : List Member) → AreRead (tables_of x) known h x.members.items (map lent_member ms) → AreMembersOf x ms
+LentMembersAreMembers = (x : Followed) (known : ℕ → Fact) (h : Homes) (ms : List Member) → AreRead (tables_of x) known h x.members.items (map lent_member ms)
+    → AreMembersOf x ms

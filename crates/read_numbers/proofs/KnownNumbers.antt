@@ -123,7 +123,8 @@ fact_there (x ∷ xs) (suc n) = fact_there xs n
 same_fact : (facts : List Fact) (k : ℕ) → followed.fact_at (map followed_fact facts) k ≡ followed_fact (fact_of facts k)
 same_fact facts k = by (nat_lt k 14)
   where
-    by : (b : Bool) → cond b followed.primitive_fact (unwrap_or (slice_get (map followed_fact facts) (k - 14)) followed.primitive_fact) ≡ followed_fact (cond b primitive_fact (unwrap_or (slice_get facts (k - 14)) primitive_fact))
+    by : (b : Bool) → cond b followed.primitive_fact (unwrap_or (slice_get (map followed_fact facts) (k - 14)) followed.primitive_fact) ≡ followed_fact
+        (cond b primitive_fact (unwrap_or (slice_get facts (k - 14)) primitive_fact))
     by true = refl
     by false = fact_there facts (k - 14)
 

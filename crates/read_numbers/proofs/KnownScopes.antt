@@ -49,7 +49,8 @@ module _ (P Q : ℕ → Type 0) (more : (k : ℕ) → P k → Q k) where
 
 -- ---- what is known
 
-module _ (shapes : List Shape) (fs : List FunctionShape) (paths : List (Option Text)) (table : IsTable shapes) (tables : AreTables (tables_in shapes fs paths)) (facts : List Fact) (many : length facts ≡ length shapes)
+module _ (shapes : List Shape) (fs : List FunctionShape) (paths : List (Option Text)) (table : IsTable shapes) (tables : AreTables (tables_in shapes fs paths)) (facts : List Fact)
+    (many : length facts ≡ length shapes)
     (hold : FactsHold (map followed_fact facts) (λ place. shape_trees place shapes)) where
   abbrev t : Tables
   t = tables_in shapes fs paths
@@ -71,7 +72,8 @@ module _ (shapes : List Shape) (fs : List FunctionShape) (paths : List (Option T
   item_known home (function n) h = parts_more (IsMetPart t home) (IsKnown t (known_by facts) home) (part_known home) (function_at t n) h.1
   item_known home (declares d) h = given_more (IsMetPart t home) (IsKnown t (known_by facts) home) (part_known home) d h
 
-  items_known : (home : ℕ) (ss : List NumberedSeen) → AllByRecursion (λ (s : NumberedSeen). IsPlacedItem t home s.shown) ss → AllByRecursion (λ (s : NumberedSeen). ItemStands t (known_by facts) home s.shown) ss
+  items_known : (home : ℕ) (ss : List NumberedSeen) → AllByRecursion (λ (s : NumberedSeen). IsPlacedItem t home s.shown) ss
+      → AllByRecursion (λ (s : NumberedSeen). ItemStands t (known_by facts) home s.shown) ss
   items_known home [] h = tt
   items_known home (s ∷ ss) h = (item_known home s.shown h.0, items_known home ss h.1)
 
@@ -85,9 +87,11 @@ module _ (shapes : List Shape) (fs : List FunctionShape) (paths : List (Option T
       by None e = tt
       by (Some path) e = (sight_known i.place (path, e) i.view h true, tt)
 
-  instances_known : (is : List NumberedInstance) → ((j : ℕ) (i : NumberedInstance) → slice_get is j ≡ Some i → IsPlacedView t i.place i.view) → AllByRecursion (IsKnownSight t (known_by facts)) (flat_map (sights_of_instance t) is)
+  instances_known : (is : List NumberedInstance) → ((j : ℕ) (i : NumberedInstance) → slice_get is j ≡ Some i → IsPlacedView t i.place i.view)
+      → AllByRecursion (IsKnownSight t (known_by facts)) (flat_map (sights_of_instance t) is)
   instances_known [] h = tt
-  instances_known (i ∷ is) h = all_both (IsKnownSight t (known_by facts)) (sights_of_instance t i) (flat_map (sights_of_instance t) is) (instance_known i (h zero i refl)) (instances_known is (λ j k e. h (suc j) k e))
+  instances_known (i ∷ is) h = all_both (IsKnownSight t (known_by facts)) (sights_of_instance t i) (flat_map (sights_of_instance t) is) (instance_known i (h zero i refl))
+      (instances_known is (λ j k e. h (suc j) k e))
 
   pub scope_known : (w : NumberedScope) → IsPlacedScope t w → ScopeStands t (known_by facts) w × AllByRecursion (IsKnownSight t (known_by facts)) (sights_of_scope t w)
   scope_known w h = (

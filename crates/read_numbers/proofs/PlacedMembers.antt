@@ -76,15 +76,20 @@ module _ (shapes : List Shape) (fs : List FunctionShape) (paths : List (Option T
     shown_view : (n : ℕ) (x : Instance) → slice_get is n ≡ Some x → instance_view x ≡ unwrap_or (slice_get vs n) no_view
     shown_view n x at = sym (ap (λ o. unwrap_or o no_view) (mapped_get instance_view is n x at))
 
-    item_placed : (s : Shown) → IsShownAs shapes fs paths (length is) s → ShownOver P (scopes.shown_in apart T (functions_in T fs) is s) → IsKeyPlaced is s → IsPlacedItem t scope.home (numbered_shown vs s)
+    item_placed : (s : Shown) → IsShownAs shapes fs paths (length is) s → ShownOver P (scopes.shown_in apart T (functions_in T fs) is s) → IsKeyPlaced is s
+        → IsPlacedItem t scope.home (numbered_shown vs s)
     item_placed (shown.Instance key n) h over placed =
         let x = placed.0 in
-        let place : x.place ≡ place_of_key (numbered_key key) = placed.2 ∙ sym (key_place key) in
-        (keys_in_numbers shapes fs paths key h.0, subst (λ (v : NumberedView). IsPlacedView t (place_of_key (numbered_key key)) v) (shown_view n x placed.1) (subst (λ q. IsPlacedView t q (instance_view x)) place (view_placed n x placed.1)))
+        let place : x.place ≡ place_of_key (numbered_key key) = placed.2 ∙ sym (key_place key) in (
+          keys_in_numbers shapes fs paths key h.0,
+          subst (λ (v : NumberedView). IsPlacedView t (place_of_key (numbered_key key)) v) (shown_view n x placed.1)
+              (subst (λ q. IsPlacedView t q (instance_view x)) place (view_placed n x placed.1)),
+        )
     item_placed (shown.Function name f) h over placed = function_met shapes fs paths tables.table tables.signatures scope.home f h over
     item_placed (shown.Type name part d) h over placed = declared_met shapes fs paths tables.table tables.signatures scope.home d h.1 over
 
-    items_placed : (ss : List Seen) → AreSeenIn shapes fs paths (length is) ss → AllByRecursion (λ (s : MeantSeen). ShownOver P s.shown) (map (seen_in apart T (functions_in T fs) is) ss) → AllByRecursion (λ (s : Seen). IsKeyPlaced is s.shown) ss
+    items_placed : (ss : List Seen) → AreSeenIn shapes fs paths (length is) ss → AllByRecursion (λ (s : MeantSeen). ShownOver P s.shown) (map (seen_in apart T (functions_in T fs) is) ss)
+        → AllByRecursion (λ (s : Seen). IsKeyPlaced is s.shown) ss
         → AllByRecursion (λ (s : NumberedSeen). IsPlacedItem t scope.home s.shown) (map (numbered_seen paths vs) ss)
     items_placed [] h over placed = tt
     items_placed (s ∷ ss) h over placed = (item_placed s.shown h.0 over.0 placed.0, items_placed ss h.1 over.1 placed.1)
@@ -104,7 +109,8 @@ module _ (shapes : List Shape) (fs : List FunctionShape) (paths : List (Option T
     ones_of (s ∷ ss) placed = (one_of s.shown placed.0, ones_of ss placed.1)
 
     -- the place of an instance is that of the key under which it is seen
-    key_of_seen : (ss : List Seen) → AllByRecursion (λ (s : Seen). IsKeyPlaced is s.shown) ss → (n : ℕ) (s : Seen) (key : InstanceKey) (j : ℕ) (x : Instance) → slice_get ss n ≡ Some s → s.shown ≡ shown.Instance key j → slice_get is j ≡ Some x
+    key_of_seen : (ss : List Seen) → AllByRecursion (λ (s : Seen). IsKeyPlaced is s.shown) ss → (n : ℕ) (s : Seen) (key : InstanceKey) (j : ℕ) (x : Instance) → slice_get ss n ≡ Some s
+        → s.shown ≡ shown.Instance key j → slice_get is j ≡ Some x
         → (numbered_shown vs s.shown ≡ worlds.instance (numbered_key key) (instance_view x)) × (place_of_key (numbered_key key) ≡ x.place)
     key_of_seen ss placed n s key j x there shows at =
         let k = subst (λ (y : Shown). IsKeyPlaced is y) shows (all_at (λ (y : Seen). IsKeyPlaced is y.shown) ss n s placed there) in
@@ -127,7 +133,8 @@ module _ (shapes : List Shape) (fs : List FunctionShape) (paths : List (Option T
     function_below : (c : ℕ) (g : FunctionShape) → IsFunctionIn c g → PartsOf (λ k. k < 14 + c) (numbered_function g)
     function_below c g h = (params_below c g.params h.params, all_of (λ k. k < 14 + c) g.outcome h.outcome)
 
-    last_type : (j c part : ℕ) (name : Text) (d : Option ℕ) (number : ℕ) → part ≡ 14 + number → slice_get shapes number ≡ Some (named_shape scope.home name) → scopes.IsLastName p.counts j c part d → IsLastType t scope.home p.counts j c name d
+    last_type : (j c part : ℕ) (name : Text) (d : Option ℕ) (number : ℕ) → part ≡ 14 + number → slice_get shapes number ≡ Some (named_shape scope.home name) → scopes.IsLastName p.counts j c part d
+        → IsLastType t scope.home p.counts j c name d
     last_type j c part name d number is_number at l = record {
       number = number;
       shape = at;
@@ -186,7 +193,8 @@ module _ (shapes : List Shape) (fs : List FunctionShape) (paths : List (Option T
     -- a name that it shows
     pub shows_name : (q n : ℕ) (name : Text) → IsShownBy (world_of shapes fs paths scope) q name (14 + n) → ShowsName w q n name
     shows_name q n name (scopes.by_instance j x at of among) =
-        by_instance j among.number (numbered_instance x) (numbered_type among.type) (mapped_get numbered_instance is j x at) of (mapped_get numbered_type x.view.types.items among.number among.type among.at) among.named
+        by_instance j among.number (numbered_instance x) (numbered_type among.type) (mapped_get numbered_instance is j x at) of
+        (mapped_get numbered_type x.view.types.items among.number among.type among.at) among.named
         (slot_number among.type.slot ∙ among.is)
     shows_name q n name (scopes.by_import j s label d at same named own) =
         by_import j (numbered_seen paths vs s) d (mapped_get (numbered_seen paths vs) scope.imports.items j s at) (ap (numbered_shown vs) same) (ap (name_in paths) same ∙ named) own
@@ -230,7 +238,8 @@ module _ (shapes : List Shape) (fs : List FunctionShape) (paths : List (Option T
         none h = cc
 
     -- the place of an instance isn't that of an earlier scope
-    not_earlier : (k m : ℕ) (z y : Member) (j : ℕ) (x : Instance) → slice_get ms k ≡ Some z → (at : slice_get ms m ≡ Some y) → k < m → slice_get (scope_of y.part).instances.items j ≡ Some x → x.place ≡ (scope_of z.part).home → ⊥
+    not_earlier : (k m : ℕ) (z y : Member) (j : ℕ) (x : Instance) → slice_get ms k ≡ Some z → (at : slice_get ms m ≡ Some y) → k < m → slice_get (scope_of y.part).instances.items j ≡ Some x
+        → x.place ≡ (scope_of z.part).home → ⊥
     not_earlier k m z y j x there at less one_at same = elim ((placed m y at).placed.instances j x one_at).own [
       | inl path ↦ no_path (scope_of z.part).home path.0 (stands k z there).own (ap (slice_get paths) (sym same) ∙ path.1)
       | inr inline ↦
@@ -240,7 +249,8 @@ module _ (shapes : List Shape) (fs : List FunctionShape) (paths : List (Option T
     ]
 
     -- what is the first of its place had no names before its scope
-    no_names : (m j : ℕ) (y : Member) (x : Instance) → (at : slice_get ms m ≡ Some y) → slice_get (scope_of y.part).instances.items j ≡ Some x → IsFirstSeen ws m j x.place → HasNoNames x.place (placed m y at).base
+    no_names : (m j : ℕ) (y : Member) (x : Instance) → (at : slice_get ms m ≡ Some y) → slice_get (scope_of y.part).instances.items j ≡ Some x → IsFirstSeen ws m j x.place
+        → HasNoNames x.place (placed m y at).base
     no_names m j y x at one_at first n name e = let s = (placed m y at).names n x.place name e in nothing s.number s.member name (14 + n) s.at s.below s.by
       where
         nothing : (k : ℕ) (z : Member) (name : Text) (part : ℕ) → slice_get ms k ≡ Some z → k < m → IsShownBy (world_of shapes fs paths (scope_of z.part)) x.place name part → ⊥
@@ -258,7 +268,8 @@ module _ (shapes : List Shape) (fs : List FunctionShape) (paths : List (Option T
 
     -- its names come behind those of all earlier instances
     first_later : (m j : ℕ) (y : Member) (x : Instance) → (at : slice_get ms m ≡ Some y) → slice_get (scope_of y.part).instances.items j ≡ Some x → IsFirstSeen ws m j x.place
-        → (n k : ℕ) (z : Member) (o : Instance) → slice_get ms n ≡ Some z → slice_get (scope_of z.part).instances.items k ≡ Some o → (n < m) ⊎ ((n ≡ m) × (k < j)) → ComeBefore o.view.types.items x.view.types.items
+        → (n k : ℕ) (z : Member) (o : Instance) → slice_get ms n ≡ Some z → slice_get (scope_of z.part).instances.items k ≡ Some o → (n < m) ⊎ ((n ≡ m) × (k < j))
+        → ComeBefore o.view.types.items x.view.types.items
     first_later m j y x at one_at first n k z o there o_at (inl less) a b t u t_at u_at =
         let h = placed m y at in
         let low = h.types_below n z there less k o o_at a t t_at in
@@ -271,7 +282,8 @@ module _ (shapes : List Shape) (fs : List FunctionShape) (paths : List (Option T
     first_later m j y x at one_at first n k z o there o_at (inr same) a b t u t_at u_at =
         let one : z ≡ y = one_item ms m z y (subst (λ i. slice_get ms i ≡ Some z) same.0 there) at in
         let here : slice_get (scope_of y.part).instances.items k ≡ Some o = subst (λ (v : Member). slice_get (scope_of v.part).instances.items k ≡ Some o) one o_at in
-        ((placed m y at).placed.instances j x one_at).later (no_names m j y x at one_at first) (λ l w w_at less equal. first.instances l (numbered_instance w) less (instance_there m l y w at w_at) equal)
+        ((placed m y at).placed.instances j x one_at).later (no_names m j y x at one_at first)
+        (λ l w w_at less equal. first.instances l (numbered_instance w) less (instance_there m l y w at w_at) equal)
         k o here same.1 a b t u t_at u_at
 
     types_before : (o x : Instance) → ComeBefore o.view.types.items x.view.types.items → AreTypesBefore (instance_view o) (instance_view x)
@@ -283,7 +295,8 @@ module _ (shapes : List Shape) (fs : List FunctionShape) (paths : List (Option T
         (subst (λ (z : NumberedType). part_of (numbered_type t.0).slot < part_of z.slot) w.2
         (subst (λ (k : ℕ). k < part_of (numbered_type w.0).slot) (sym (slot_number t.0.slot)) (subst (λ (k : ℕ). slot_part t.0.slot < k) (sym (slot_number w.0.slot)) less)))
 
-    pathless : (m j : ℕ) (y : Member) (x : Instance) → (at : slice_get ms m ≡ Some y) → slice_get (scope_of y.part).instances.items j ≡ Some x → path_at t x.place ≡ None → IsInlinePlace (placed m y at).count (world_of shapes fs paths (scope_of y.part)) j x
+    pathless : (m j : ℕ) (y : Member) (x : Instance) → (at : slice_get ms m ≡ Some y) → slice_get (scope_of y.part).instances.items j ≡ Some x → path_at t x.place ≡ None
+        → IsInlinePlace (placed m y at).count (world_of shapes fs paths (scope_of y.part)) j x
     pathless m j y x at one_at none = elim ((placed m y at).placed.instances j x one_at).own [
       | inl path ↦ absurd (some_path path.0 (sym (ap (λ o. unwrap_or o None) path.1) ∙ none))
       | inr inline ↦ inline
@@ -293,7 +306,8 @@ module _ (shapes : List Shape) (fs : List FunctionShape) (paths : List (Option T
         some_path path e = cc
 
     -- instances of inline interfaces in two scopes
-    apart_scopes : (m n j k : ℕ) (y z : Member) (x u : Instance) → slice_get ms m ≡ Some y → (there : slice_get ms n ≡ Some z) → slice_get (scope_of y.part).instances.items j ≡ Some x → slice_get (scope_of z.part).instances.items k ≡ Some u
+    apart_scopes : (m n j k : ℕ) (y z : Member) (x u : Instance) → slice_get ms m ≡ Some y → (there : slice_get ms n ≡ Some z) → slice_get (scope_of y.part).instances.items j ≡ Some x
+        → slice_get (scope_of z.part).instances.items k ≡ Some u
         → path_at t u.place ≡ None → x.place ≡ u.place → m < n → ⊥
     apart_scopes m n j k y z x u at there x_at u_at none same less =
         let low = ((placed n z there).earlier m y at less).instances j x x_at in
@@ -301,13 +315,15 @@ module _ (shapes : List Shape) (fs : List FunctionShape) (paths : List (Option T
         omega (arith, low, new, same)
 
     -- and in one
-    apart_instances : (m j k : ℕ) (y z : Member) (x u : Instance) → slice_get ms m ≡ Some y → slice_get ms m ≡ Some z → slice_get (scope_of y.part).instances.items j ≡ Some x → slice_get (scope_of z.part).instances.items k ≡ Some u
+    apart_instances : (m j k : ℕ) (y z : Member) (x u : Instance) → slice_get ms m ≡ Some y → slice_get ms m ≡ Some z → slice_get (scope_of y.part).instances.items j ≡ Some x
+        → slice_get (scope_of z.part).instances.items k ≡ Some u
         → path_at t u.place ≡ None → x.place ≡ u.place → j < k → ⊥
     apart_instances m j k y z x u at there x_at u_at none same less =
         let one = one_item ms m y z at there in
         (pathless m k z u there u_at none).first j x (subst (λ (v : Member). slice_get (scope_of v.part).instances.items j ≡ Some x) one x_at) less same
 
-    inline_apart : (m n j k : ℕ) (y z : Member) (x u : Instance) → slice_get ms m ≡ Some y → slice_get ms n ≡ Some z → slice_get (scope_of y.part).instances.items j ≡ Some x → slice_get (scope_of z.part).instances.items k ≡ Some u
+    inline_apart : (m n j k : ℕ) (y z : Member) (x u : Instance) → slice_get ms m ≡ Some y → slice_get ms n ≡ Some z → slice_get (scope_of y.part).instances.items j ≡ Some x
+        → slice_get (scope_of z.part).instances.items k ≡ Some u
         → path_at t x.place ≡ None → x.place ≡ u.place → (m ≡ n) × (j ≡ k)
     inline_apart m n j k y z x u at there x_at u_at none same =
         let none_there : path_at t u.place ≡ None = ap (path_at t) (sym same) ∙ none in
@@ -332,7 +348,8 @@ module _ (shapes : List Shape) (fs : List FunctionShape) (paths : List (Option T
       | inr le ↦ elim (cases_lt n m) [ inl more ↦ absurd (homes_apart n m z y there at (sym same) more) | inr ge ↦ omega (arith, le, ge) ]
     ]
 
-    inline_not_home : (m n j : ℕ) (y z : Member) (x : Instance) → slice_get ms m ≡ Some y → slice_get ms n ≡ Some z → slice_get (scope_of y.part).instances.items j ≡ Some x → path_at t x.place ≡ None → x.place ≡ (scope_of z.part).home → ⊥
+    inline_not_home : (m n j : ℕ) (y z : Member) (x : Instance) → slice_get ms m ≡ Some y → slice_get ms n ≡ Some z → slice_get (scope_of y.part).instances.items j ≡ Some x → path_at t x.place ≡ None
+        → x.place ≡ (scope_of z.part).home → ⊥
     inline_not_home m n j y z x at there x_at none same = elim (cases_lt m n) [
       | inl less ↦
           let low = ((placed n z there).earlier m y at less).instances j x x_at in
@@ -405,4 +422,5 @@ module _ (shapes : List Shape) (fs : List FunctionShape) (paths : List (Option T
     }
 
 pub places_are_kept : PlacesAreKept
-places_are_kept pieces x f = placed_scopes x.table x.functions x.places f.followed.tables x.members.items f.followed.stand f.followed.placed f.followed.names f.followed.met f.followed.order f.followed.formed
+places_are_kept pieces x f = placed_scopes x.table x.functions x.places f.followed.tables x.members.items f.followed.stand f.followed.placed f.followed.names f.followed.met f.followed.order
+    f.followed.formed

@@ -51,7 +51,8 @@ module _ (shapes : List Shape) (fs : List FunctionShape) (paths : List (Option T
   are_numbered [] h = tt
   are_numbered (x ∷ ts) h = ((slot_number x.slot ∙ h.0.is, h.0.at), are_numbered ts h.1)
 
-  number_at : (ts : List ShownType) (h : AllByRecursion (IsTypeNamed shapes place) ts) (i n : ℕ) → slice_get (numbers_of ts h) i ≡ Some n → (x : ShownType) × (slice_get ts i ≡ Some x) × (slot_part x.slot ≡ 14 + n)
+  number_at : (ts : List ShownType) (h : AllByRecursion (IsTypeNamed shapes place) ts) (i n : ℕ) → slice_get (numbers_of ts h) i ≡ Some n → (x : ShownType) × (slice_get ts i ≡ Some x)
+      × (slot_part x.slot ≡ 14 + n)
   number_at [] h i n e = absurd cc
   number_at (x ∷ ts) h zero n e = let same : h.0.number ≡ n = cc in (x, refl, h.0.is ∙ ap (λ m. 14 + m) same)
   number_at (x ∷ ts) h (suc i) n e = number_at ts h.1 i n e
@@ -88,7 +89,8 @@ module _ (shapes : List Shape) (fs : List FunctionShape) (paths : List (Option T
   module _ (ts : List ShownType) (h : AllByRecursion (IsTypeNamed shapes place) ts) (rise : Rise ts) (apart_names : distinct (map (λ (y : NumberedType). y.name) (map numbered_type ts)) ≡ true) where
     come_behind : (j : ℕ) (x : ShownType) → slice_get ts j ≡ Some x → ComesBehind ts j x
     come_behind j x e = elim (rise j x e) [
-      | inl r ↦ absurd (not_twice (map (λ (y : NumberedType). y.name) (map numbered_type ts)) apart_names r.number j x.name.now r.earlier (name_at ts r.number r.other r.at ∙ ap Some r.same) (name_at ts j x e))
+      | inl r ↦ absurd (not_twice (map (λ (y : NumberedType). y.name) (map numbered_type ts)) apart_names r.number j x.name.now r.earlier (name_at ts r.number r.other r.at ∙ ap Some r.same)
+          (name_at ts j x e))
       | inr b ↦ b
     ]
 
@@ -107,12 +109,13 @@ module _ (shapes : List Shape) (fs : List FunctionShape) (paths : List (Option T
     declared_low (x ∷ us) g f = (all_of (λ k. k < 14 + g.0.number) x.declared (subst (λ m. IfSome x.declared (λ k. k < m)) g.0.is (f 0 x refl)), declared_low us g.1 (λ j y e. f (suc j) y e))
 
     pub rising_view : (v : View) → v.types.items ≡ ts → IsRisingView (tables_in shapes fs paths) place (numbered_view v)
-    rising_view v same = subst (λ (us : List ShownType). IsRisingView (tables_in shapes fs paths) place (record { types = map numbered_type us; functions = map numbered_shown_function v.functions.items })) (sym same) (record {
-      numbers = numbers_of shapes fs paths place ts h;
-      named = are_numbered shapes fs paths place ts h;
-      rise = numbers_rise;
-      behind = declared_low ts h (λ j x e. (come_behind j x e).declared);
-    })
+    rising_view v same = subst (λ (us : List ShownType). IsRisingView (tables_in shapes fs paths) place
+        (record { types = map numbered_type us; functions = map numbered_shown_function v.functions.items })) (sym same) (record {
+          numbers = numbers_of shapes fs paths place ts h;
+          named = are_numbered shapes fs paths place ts h;
+          rise = numbers_rise;
+          behind = declared_low ts h (λ j x e. (come_behind j x e).declared);
+        })
 
 -- ---- parts
 
@@ -133,7 +136,8 @@ module _ (shapes : List Shape) (fs : List FunctionShape) (paths : List (Option T
   declared_met None range over = tt
   declared_met (Some k) range over = part_met k range over
 
-  params_met : (ps : List (Text × ℕ)) → AllByRecursion (λ (p : Text × ℕ). p.1 < 14 + length shapes) ps → AllByRecursion (λ (p : Text × Tree). TreeOver P p.1) (map (param_tree T) ps) → AllByRecursion (λ (p : Text × ℕ). IsMetPart tabled place p.1) ps
+  params_met : (ps : List (Text × ℕ)) → AllByRecursion (λ (p : Text × ℕ). p.1 < 14 + length shapes) ps → AllByRecursion (λ (p : Text × Tree). TreeOver P p.1) (map (param_tree T) ps)
+      → AllByRecursion (λ (p : Text × ℕ). IsMetPart tabled place p.1) ps
   params_met [] range over = tt
   params_met (p ∷ ps) range over = (part_met p.1 range.0 over.0, params_met ps range.1 over.1)
 
@@ -145,21 +149,25 @@ module _ (shapes : List Shape) (fs : List FunctionShape) (paths : List (Option T
   unfolding signature_in
   shape_met g range over = (params_met g.params range.params over.0, result_met g.outcome range.outcome over.1)
 
-  pub function_met : (f : ℕ) → f < length fs → SignatureOver P (unwrap_or (slice_get (functions_in T fs) f) no_signature) → (f < length tabled.functions) × PartsOf (IsMetPart tabled place) (function_at tabled f)
+  pub function_met : (f : ℕ) → f < length fs → SignatureOver P (unwrap_or (slice_get (functions_in T fs) f) no_signature) → (f < length tabled.functions)
+      × PartsOf (IsMetPart tabled place) (function_at tabled f)
   function_met f below over =
       let g = slice_there fs f below in
       let there : function_at tabled f ≡ numbered_function g.0 = ap (λ o. unwrap_or o views.no_function) (mapped_get numbered_function fs f g.0 g.1) in
       let long = length-map fs numbered_function in (
         omega (arith, below, long),
         subst (λ (x : views.FunctionShape). PartsOf (IsMetPart tabled place) x) (sym there)
-            (shape_met g.0 (all_at (IsFunctionIn (length shapes)) fs f g.0 ranges g.1) (subst (λ (x : Signature). SignatureOver P x) (ap (λ o. unwrap_or o no_signature) (mapped_get (signature_in T) fs f g.0 g.1)) over)),
+            (shape_met g.0 (all_at (IsFunctionIn (length shapes)) fs f g.0 ranges g.1)
+            (subst (λ (x : Signature). SignatureOver P x) (ap (λ o. unwrap_or o no_signature) (mapped_get (signature_in T) fs f g.0 g.1)) over)),
       )
 
-  types_met : (ts : List ShownType) → AllByRecursion (IsShownIn shapes fs) ts → AllByRecursion (TypeOver P) (map (shown_type T (functions_in T fs)) ts) → AllByRecursion (TypePasses (IsMetPart tabled place)) (map numbered_type ts)
+  types_met : (ts : List ShownType) → AllByRecursion (IsShownIn shapes fs) ts → AllByRecursion (TypeOver P) (map (shown_type T (functions_in T fs)) ts)
+      → AllByRecursion (TypePasses (IsMetPart tabled place)) (map numbered_type ts)
   types_met [] h over = tt
   types_met (x ∷ ts) h over = (declared_met x.declared h.0.declared over.0, types_met ts h.1 over.1)
 
-  functions_met : (gs : List ShownFunction) → AllByRecursion (IsShownFunctionIn fs) gs → AllByRecursion (FunctionOver P) (map (shown_function (functions_in T fs)) gs) → AllByRecursion (FunctionPasses tabled (IsMetPart tabled place)) (map numbered_shown_function gs)
+  functions_met : (gs : List ShownFunction) → AllByRecursion (IsShownFunctionIn fs) gs → AllByRecursion (FunctionOver P) (map (shown_function (functions_in T fs)) gs)
+      → AllByRecursion (FunctionPasses tabled (IsMetPart tabled place)) (map numbered_shown_function gs)
   functions_met [] h over = tt
   functions_met (g ∷ gs) h over = (function_met g.function h.0 over.0, functions_met gs h.1 over.1)
 

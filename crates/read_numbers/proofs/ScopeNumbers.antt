@@ -66,7 +66,8 @@ module _ (shapes : List Shape) (fs : List FunctionShape) (paths : List (Option T
   unfolding signature_in
   signature_same f = refl
 
-  signatures_same : (gs : List FunctionShape) (n : ℕ) → unwrap_or (slice_get (functions_in T gs) n) no_signature ≡ views.signature_over (views.tree_at t) (unwrap_or (slice_get (map numbered_function gs) n) views.no_function)
+  signatures_same : (gs : List FunctionShape) (n : ℕ)
+      → unwrap_or (slice_get (functions_in T gs) n) no_signature ≡ views.signature_over (views.tree_at t) (unwrap_or (slice_get (map numbered_function gs) n) views.no_function)
   signatures_same [] n = refl
   signatures_same (g ∷ gs) zero = signature_same g
   signatures_same (g ∷ gs) (suc n) = signatures_same gs n
@@ -86,7 +87,8 @@ module _ (shapes : List Shape) (fs : List FunctionShape) (paths : List (Option T
   types_same : (xs : List ShownType) → AllByRecursion (IsShownIn shapes fs) xs → map (shown_type T F) xs ≡ map (views.shown_type t) (map numbered_type xs)
   types_same [] h = refl
   types_same (x ∷ xs) h =
-      λ i. record { name = x.name.now; meaning = record { declaration = declared_same x.declared i; external_id = option_map text_of x.external_id }; slot = slot_same x.slot h.0.kind i } ∷ types_same xs h.1 i
+      λ i. record { name = x.name.now; meaning = record { declaration = declared_same x.declared i; external_id = option_map text_of x.external_id }; slot = slot_same x.slot h.0.kind i }
+      ∷ types_same xs h.1 i
 
   functions_same : (gs : List ShownFunction) → map (shown_function F) gs ≡ map (views.shown_function t) (map numbered_shown_function gs)
   functions_same [] = refl

@@ -20,6 +20,7 @@ known_by facts k = numbered_fact (fact_of facts k)
 
 -- Where facts hold, what is known of a part is true as it is seen from a place, if each name in the part that is of the place has its number.
 abbrev pub FactsInNumbers : Type 0
-FactsInNumbers = (shapes : List Shape) (fs : List FunctionShape) (paths : List (Option Text)) → IsTable shapes → (facts : List Fact) → length facts ≡ length shapes
+FactsInNumbers = (shapes : List Shape) (fs : List FunctionShape) (paths : List (Option Text)) → IsTable shapes → (facts : List Fact)
+    → length facts ≡ length shapes
     → FactsHold (map followed_fact facts) (λ place. shape_trees place shapes) → (p k : ℕ) → k < 14 + length shapes → IsSeenFrom (tables_in shapes fs paths) p k
     → IsKnown (tables_in shapes fs paths) (known_by facts) p k

@@ -12,4 +12,11 @@ followed_names (names.In p) = followed.In p
 followed_names names.InSeveral = followed.InSeveral
 
 abbrev pub followed_fact : Fact → FollowedFact
-followed_fact f = record { levels = f.levels; names = followed_names f.names; is_plain = f.is_plain; has_plain_parts = f.has_plain_parts; has_good_labels = f.has_good_labels }
+followed_fact f = record {
+  levels = f.levels;
+  names = followed_names f.names;
+  is_plain = f.is_plain;
+  has_plain_parts = f.has_plain_parts;
+  has_good_labels =
+      f.has_good_labels;
+}

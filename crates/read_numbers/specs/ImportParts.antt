@@ -47,6 +47,8 @@ IsSeenNamed t home s = (part : ℕ) → part_seen s ≡ Some part → IsNameOf t
 
 -- Imports of a member that were followed, as they are read: each type is the name under which it is imported.
 abbrev pub ImportsAreNamed : Type 0
-ImportsAreNamed = (pieces : List Piece) (x : Followed) → IsFollowed pieces x → (m : ℕ) (member : Member) → slice_get x.members.items m ≡ Some member → (views : List NumberedView) (all : List Seen)
-    → map numbered_seen all ≡ map (followed_seen x.places views) (scope_of member.part).imports.items → map part_seen all ≡ map part_followed (scope_of member.part).imports.items
+ImportsAreNamed = (pieces : List Piece) (x : Followed) → IsFollowed pieces x → (m : ℕ) (member : Member) → slice_get x.members.items m ≡ Some member
+    → (views : List NumberedView) (all : List Seen)
+    → map numbered_seen all ≡ map (followed_seen x.places views) (scope_of member.part).imports.items
+    → map part_seen all ≡ map part_followed (scope_of member.part).imports.items
     → AllByRecursion (IsSeenNamed (tables_of x) (scope_of member.part).home) all

@@ -22,10 +22,12 @@ pub record AreKnown (x : Followed) (facts : List Fact) : Type 0 where
 
 -- What a scope shows is known, and so is each view that it gives of an interface with a path.
 abbrev pub ScopesAreKnown : Type 0
-ScopesAreKnown = (pieces : List Piece) (x : Followed) → IsFollowed pieces x → (facts : List Fact) → AreKnown x facts → (m : ℕ) (w : NumberedScope) → slice_get (scopes_in x) m ≡ Some w
+ScopesAreKnown = (pieces : List Piece) (x : Followed) → IsFollowed pieces x → (facts : List Fact) → AreKnown x facts → (m : ℕ) (w : NumberedScope)
+    → slice_get (scopes_in x) m ≡ Some w
     → ScopeStands (tables_of x) (known_by facts) w × AllByRecursion (IsKnownSight (tables_of x) (known_by facts)) (sights_of_scope (tables_of x) w)
 
 -- A view that is over a place with a path, and other places with one, is known.
 abbrev pub ViewsAreKnown : Type 0
-ViewsAreKnown = (pieces : List Piece) (x : Followed) → IsFollowed pieces x → (facts : List Fact) → AreKnown x facts → (place : ℕ) → HasPath (tables_of x) place → (v : NumberedView) → IsPlacedView (tables_of x) place v → (whole : Bool)
+ViewsAreKnown = (pieces : List Piece) (x : Followed) → IsFollowed pieces x → (facts : List Fact) → AreKnown x facts → (place : ℕ) → HasPath (tables_of x) place
+    → (v : NumberedView) → IsPlacedView (tables_of x) place v → (whole : Bool)
     → IsKnownSight (tables_of x) (known_by facts) (record { place = place; view = v; whole = whole })

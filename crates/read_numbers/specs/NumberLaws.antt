@@ -14,7 +14,8 @@ use Rattle.read_numbers.specs.NumberedParts.{numbered_key, numbered_scope, table
 
 -- Well-formed tables, in which each type of a function and each path stands once, are so in numbers.
 abbrev pub TablesInNumbers : Type 0
-TablesInNumbers = (shapes : List Shape) (fs : List FunctionShape) (paths : List (Option Text)) → following.AreTables (length paths) shapes fs → AreApart fs → ArePathsApart paths
+TablesInNumbers = (shapes : List Shape) (fs : List FunctionShape) (paths : List (Option Text)) → following.AreTables (length paths) shapes fs → AreApart fs
+    → ArePathsApart paths
     → AreTables (tables_in shapes fs paths)
 
 -- Each place is that of its path, or of the scope itself.
@@ -28,4 +29,5 @@ ScopesInNumbers = (shapes : List Shape) (fs : List FunctionShape) (paths : List 
 
 -- The place of a path has one, and that of an inline interface has none.
 abbrev pub KeysInNumbers : Type 0
-KeysInNumbers = (shapes : List Shape) (fs : List FunctionShape) (paths : List (Option Text)) (key : InstanceKey) → IsKeyIn paths key → KeyStands (tables_in shapes fs paths) (numbered_key key)
+KeysInNumbers = (shapes : List Shape) (fs : List FunctionShape) (paths : List (Option Text)) (key : InstanceKey) → IsKeyIn paths key
+    → KeyStands (tables_in shapes fs paths) (numbered_key key)

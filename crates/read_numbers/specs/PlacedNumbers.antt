@@ -97,8 +97,10 @@ pub record IsCounted (t : Tables) (w : NumberedScope) (counts : List ℕ) (j c :
 
 -- an import or an export is the instance, under a key of its place
 pub data IsSeenAs (w : NumberedScope) (i : NumberedInstance) : Type 0 where
-  as_import : (n : ℕ) (s : NumberedSeen) (k : NumberedKey) → slice_get w.imports n ≡ Some s → s.shown ≡ instance k i.view → place_of_key k ≡ i.place → IsSeenAs w i
-  as_export : (n : ℕ) (s : NumberedSeen) (k : NumberedKey) → slice_get w.exports n ≡ Some s → s.shown ≡ instance k i.view → place_of_key k ≡ i.place → IsSeenAs w i
+  as_import : (n : ℕ) (s : NumberedSeen) (k : NumberedKey) → slice_get w.imports n ≡ Some s → s.shown ≡ instance k i.view → place_of_key k ≡ i.place
+      → IsSeenAs w i
+  as_export : (n : ℕ) (s : NumberedSeen) (k : NumberedKey) → slice_get w.exports n ≡ Some s → s.shown ≡ instance k i.view → place_of_key k ≡ i.place
+      → IsSeenAs w i
 
 -- All that the scope shows is over its own place and places with a path, its imports and exports that are instances are those of the scope, and its
 -- imports came into the table in their order.
@@ -117,12 +119,15 @@ pub record IsPlacedScope (t : Tables) (w : NumberedScope) : Type 0 where
 -- Where the keys of imports differ, each type that is imported is the last of the table once it is followed.
 abbrev pub ImportsComeLast : Type 0
 ImportsComeLast = (t : Tables) (w : NumberedScope) (h : IsPlacedScope t w) → distinct (map (λ (s : NumberedSeen). s.key) w.imports) ≡ true
-    → (j c : ℕ) (s : NumberedSeen) (d : Option ℕ) → slice_get w.imports j ≡ Some s → slice_get h.counts j ≡ Some c → s.shown ≡ declares d → IsLastType t w.home h.counts j c s.key d
+    → (j c : ℕ) (s : NumberedSeen) (d : Option ℕ) → slice_get w.imports j ≡ Some s → slice_get h.counts j ≡ Some c → s.shown ≡ declares d
+    → IsLastType t w.home h.counts j c s.key d
 
 -- The name of this number and this place is shown: by an instance of the place, or as an import of the scope itself.
 pub data ShowsName (w : NumberedScope) (q n : ℕ) (name : Text) : Type 0 where
-  by_instance : (j k : ℕ) (i : NumberedInstance) (x : NumberedType) → slice_get w.instances j ≡ Some i → i.place ≡ q → slice_get i.view.types k ≡ Some x → x.name ≡ name → part_of x.slot ≡ 14 + n → ShowsName w q n name
-  by_import : (j : ℕ) (s : NumberedSeen) (d : Option ℕ) → slice_get w.imports j ≡ Some s → s.shown ≡ declares d → s.key ≡ name → q ≡ w.home → ShowsName w q n name
+  by_instance : (j k : ℕ) (i : NumberedInstance) (x : NumberedType) → slice_get w.instances j ≡ Some i → i.place ≡ q → slice_get i.view.types k ≡ Some x
+      → x.name ≡ name → part_of x.slot ≡ 14 + n → ShowsName w q n name
+  by_import : (j : ℕ) (s : NumberedSeen) (d : Option ℕ) → slice_get w.imports j ≡ Some s → s.shown ≡ declares d → s.key ≡ name → q ≡ w.home
+      → ShowsName w q n name
 
 -- one of the scopes shows it
 pub record IsShownInSome (ws : List NumberedScope) (q n : ℕ) (name : Text) : Type 0 where
@@ -170,11 +175,15 @@ pub record ArePlacedScopes (t : Tables) (ws : List NumberedScope) : Type 0 where
   pub met : (q : ℕ) → HasPath t q → IsMetInSome ws q
   pub order : (m j : ℕ) (i : NumberedInstance) → IsInstanceAt ws m j i → (q : ℕ) → HasPath t q → q < i.place → IsMetBefore ws m j q
   pub formed : (n : ℕ) (form : Form) (parts : List ℕ) → slice_get t.shapes n ≡ Some (node_shape form parts) → is_form form parts ≡ true
-  pub firsts : (m j : ℕ) (i : NumberedInstance) → IsInstanceAt ws m j i → IsFirstSeen ws m j i.place → distinct (map (λ (x : NumberedType). x.name) i.view.types) ≡ true → IsRisingView t i.place i.view
-  pub later : (m j : ℕ) (i : NumberedInstance) → IsInstanceAt ws m j i → IsFirstSeen ws m j i.place → (n k : ℕ) (o : NumberedInstance) → IsInstanceAt ws n k o → (n < m) ⊎ ((n ≡ m) × (k < j)) → AreTypesBefore o.view i.view
+  pub firsts : (m j : ℕ) (i : NumberedInstance) → IsInstanceAt ws m j i → IsFirstSeen ws m j i.place
+      → distinct (map (λ (x : NumberedType). x.name) i.view.types) ≡ true → IsRisingView t i.place i.view
+  pub later : (m j : ℕ) (i : NumberedInstance) → IsInstanceAt ws m j i → IsFirstSeen ws m j i.place → (n k : ℕ) (o : NumberedInstance) → IsInstanceAt ws n k o
+      → (n < m) ⊎ ((n ≡ m) × (k < j)) → AreTypesBefore o.view i.view
   pub homes : (m n : ℕ) (w v : NumberedScope) → slice_get ws m ≡ Some w → slice_get ws n ≡ Some v → w.home ≡ v.home → m ≡ n
-  pub inline : (m n j k : ℕ) (i l : NumberedInstance) → IsInstanceAt ws m j i → IsInstanceAt ws n k l → path_at t i.place ≡ None → i.place ≡ l.place → (m ≡ n) × (j ≡ k)
-  pub not_home : (m n j : ℕ) (i : NumberedInstance) (w : NumberedScope) → IsInstanceAt ws m j i → slice_get ws n ≡ Some w → path_at t i.place ≡ None → i.place ≡ w.home → ⊥
+  pub inline : (m n j k : ℕ) (i l : NumberedInstance) → IsInstanceAt ws m j i → IsInstanceAt ws n k l → path_at t i.place ≡ None → i.place ≡ l.place
+      → (m ≡ n) × (j ≡ k)
+  pub not_home : (m n j : ℕ) (i : NumberedInstance) (w : NumberedScope) → IsInstanceAt ws m j i → slice_get ws n ≡ Some w → path_at t i.place ≡ None
+      → i.place ≡ w.home → ⊥
 
 -- what the members show, in order
 abbrev pub scopes_in : Followed → List NumberedScope

@@ -49,4 +49,5 @@ module _ (e : InterfaceEncoder) (sound : (interface_encoder_view e).scope.is_sou
   }
 
   pub asked : (r : Resolve) → own ≡ r → IsValid r → AreUnnamed r → id.0 < length r.types.items → Agrees r (interface_encoder_view e) → CanBeAsked r (ty.Id id) (interface_encoder_view e)
-  asked r is v unnamed h agree = subst (λ (x : Resolve). IsValid x → AreUnnamed x → id.0 < length x.types.items → Agrees x (interface_encoder_view e) → CanBeAsked x (ty.Id id) (interface_encoder_view e)) is of-own v unnamed h agree
+  asked r is v unnamed h agree = subst (λ (x : Resolve). IsValid x → AreUnnamed x → id.0 < length x.types.items → Agrees x (interface_encoder_view e)
+      → CanBeAsked x (ty.Id id) (interface_encoder_view e)) is of-own v unnamed h agree

@@ -27,7 +27,8 @@ use Rattle.wit_interfaces.proofs.Leaving.{GoesOn, aliases-go-on, part-goes-on, w
 use Rattle.base_lemmas.proofs.Options.{there as some-of}
 
 -- what stands in the scope stands in the component type
-pub used-outside : (e : InterfaceEncoder) (i : ℕ) → UsedStand (interface_encoder_view e).scope.packages (interface_encoder_view e).scope.instances i → UsedStand (interface_encoder_view e).scope.packages (standing_instances (interface_encoder_view e).scope.packages (component_of e)) i
+pub used-outside : (e : InterfaceEncoder) (i : ℕ) → UsedStand (interface_encoder_view e).scope.packages (interface_encoder_view e).scope.instances i
+    → UsedStand (interface_encoder_view e).scope.packages (standing_instances (interface_encoder_view e).scope.packages (component_of e)) i
 used-outside e i h j c = importable-stands (is_sound_outside e.encoder.resolve.now e.encoder.world (component_of e)) (standing_instances e.encoder.resolve.now (component_of e)) j (h j c)
 
 module _ (e : InterfaceEncoder) (h : CanEncodeInterfaces (interface_encoder_view e)) (d : WorldEncoder) (rest : d ≡ record e.encoder { outer = d.outer; foreign = d.foreign }) where
@@ -38,7 +39,8 @@ module _ (e : InterfaceEncoder) (h : CanEncodeInterfaces (interface_encoder_view
   count = e.encoder.instances
 
   pub leaves-of : GoesOn r e.encoder.world count count e.encoder.maps (component_of e) (world_around d) → LeavesInterfaces e (record e { encoder = d })
-  leaves-of g = subst (λ (z : WorldEncoder). LeavesInterfaces e (record e { encoder = z })) (sym rest) (record { packages_ = refl; names = refl; maps_ = refl; stands = g.kept; instances = g.stand; can = g.can })
+  leaves-of g = subst (λ (z : WorldEncoder). LeavesInterfaces e (record e { encoder = z })) (sym rest)
+      (record { packages_ = refl; names = refl; maps_ = refl; stands = g.kept; instances = g.stand; can = g.can })
 
   pub aliases-leave : GrowsAround r (component_of e) (world_around d) → LeavesInterfaces e (record e { encoder = d })
   aliases-leave g = leaves-of (aliases-go-on r e.encoder.world count e.encoder.maps (component_of e) (world_around d) h g)
@@ -51,7 +53,8 @@ module _ (e : InterfaceEncoder) (h : CanEncodeInterfaces (interface_encoder_view
 
   module _ (i : InterfaceId) (def : Interface) (k : ℕ) (there : interface_at r i.0 ≡ Some def) (is : EncodesDependency r (component_of e) (world_around d) i def k) (path : Text) (at : interface_path r i.0 ≡ Some path) where
     -- the import and its listing
-    module _ (name : ExternName) (named_ : name ≡ name_of_interface r e.canonical_names i.0) (outer : Declarations) (foreign : Foreign) (made : outer ≡ declared_after d.outer (Declaration.imported name (refs.Instance k)))
+    module _ (name : ExternName) (named_ : name ≡ name_of_interface r e.canonical_names i.0) (outer : Declarations) (foreign : Foreign)
+        (made : outer ≡ declared_after d.outer (Declaration.imported name (refs.Instance k)))
         (listed : foreign.instances.entries ≡ insert_entry nat_cmp d.foreign.instances.entries i.0 d.instances) (known : foreign.known.entries ≡ d.foreign.known.entries) where
       abbrev after : WorldEncoder
       after = record d { outer = outer; foreign = foreign; instances = d.instances + 1 }
@@ -78,7 +81,8 @@ module _ (e : InterfaceEncoder) (h : CanEncodeInterfaces (interface_encoder_view
           (record { packages_ = refl; names = refl; maps_ = refl; stands = goes.kept; instances = goes.stand; can = goes.can })
 
       pub import-stands : Contains (interface_encoder_view (record e { encoder = after })).scope.instances i.0
-      import-stands = subst (λ (z : WorldEncoder). Contains (interface_encoder_view (record e { encoder = z })).scope.instances i.0) (sym after-is) (subst (λ (z : Around). Contains (world_scope r e.encoder.world (count + 1) z).instances i.0) (sym as-import)
+      import-stands = subst (λ (z : WorldEncoder). Contains (interface_encoder_view (record e { encoder = z })).scope.instances i.0) (sym after-is)
+          (subst (λ (z : Around). Contains (world_scope r e.encoder.world (count + 1) z).instances i.0) (sym as-import)
           (whole-stands r e.encoder.world e.encoder.maps count (component_of e) (world_around d) h i def _ _ k is.part e.canonical_names path at is.shows))
 
       pub import-room : d.instances < type_slots_of outer
@@ -96,10 +100,12 @@ module _ (e : InterfaceEncoder) (h : CanEncodeInterfaces (interface_encoder_view
       })
 
     -- the import is refused: what stands is the instance type
-    pub part-left : (outer : Declarations) (foreign : Foreign) → outer ≡ d.outer → foreign.instances.entries ≡ d.foreign.instances.entries → foreign.known.entries ≡ d.foreign.known.entries → EncodesDependency r (component_of e) (around_at outer foreign) i def k
+    pub part-left : (outer : Declarations) (foreign : Foreign) → outer ≡ d.outer → foreign.instances.entries ≡ d.foreign.instances.entries → foreign.known.entries ≡ d.foreign.known.entries
+        → EncodesDependency r (component_of e) (around_at outer foreign) i def k
     part-left outer foreign o l n = subst (λ (z : Around). EncodesDependency r (component_of e) z i def k) (λ j. record { declared = sym o j; instances = sym l j; known = sym n j }) is
 
-    pub part-leaves : (outer : Declarations) (foreign : Foreign) → outer ≡ d.outer → foreign.instances.entries ≡ d.foreign.instances.entries → foreign.known.entries ≡ d.foreign.known.entries → LeavesInterfaces e (record e { encoder = record d { outer = outer; foreign = foreign } })
+    pub part-leaves : (outer : Declarations) (foreign : Foreign) → outer ≡ d.outer → foreign.instances.entries ≡ d.foreign.instances.entries → foreign.known.entries ≡ d.foreign.known.entries
+        → LeavesInterfaces e (record e { encoder = record d { outer = outer; foreign = foreign } })
     part-leaves outer foreign o l n =
         let g = part-goes-on r e.encoder.world e.encoder.maps count (component_of e) (around_at outer foreign) h i def _ _ k (part-left outer foreign o l n).part in
         subst (λ (z : WorldEncoder). LeavesInterfaces e (record e { encoder = z })) (λ j. record (sym rest j) { outer = outer; foreign = foreign })
@@ -113,16 +119,20 @@ listed-stands e i h l = let found = some-of (known_instance (component_of e).ins
 pub stays-as-it-is : (e : InterfaceEncoder) → CanEncodeInterfaces (interface_encoder_view e) → LeavesInterfaces e e
 stays-as-it-is e h = record { packages_ = refl; names = refl; maps_ = refl; stands = λ i m s. s; instances = λ j s. s; can = h }
 
-pub encode-leaves : {E : Type 0} (res : Result ℕ E) (e : InterfaceEncoder) (h : CanEncodeInterfaces (interface_encoder_view e)) (d : WorldEncoder) (rest : d ≡ record e.encoder { outer = d.outer; foreign = d.foreign }) (i : InterfaceId)
-    → i.0 < length e.encoder.resolve.now.interfaces.items → IfOk res (DefinesInstance e.encoder d i) → OnErr res (AliasesFor e.encoder.resolve.now i (component_of e) (world_around d)) → LeavesInterfaces e (record e { encoder = d })
+pub encode-leaves : {E : Type 0} (res : Result ℕ E) (e : InterfaceEncoder) (h : CanEncodeInterfaces (interface_encoder_view e)) (d : WorldEncoder)
+    (rest : d ≡ record e.encoder { outer = d.outer; foreign = d.foreign }) (i : InterfaceId)
+    → i.0 < length e.encoder.resolve.now.interfaces.items → IfOk res (DefinesInstance e.encoder d i) → OnErr res (AliasesFor e.encoder.resolve.now i (component_of e) (world_around d))
+    → LeavesInterfaces e (record e { encoder = d })
 encode-leaves (Ok k) e h d rest i l ok err =
     let found = found-in e.encoder.resolve.now.interfaces.items i.0 (lt-ltb i.0 (length e.encoder.resolve.now.interfaces.items) l) in
     interface-leaves e h d rest i found.0 k (ok found.0 found.1)
 encode-leaves (Err x) e h d rest i l ok err = aliases-leave e h d rest err.made.grown
 
 -- what wasn't listed isn't behind aliases and an instance type
-pub first-listed : (r : Resolve) (a a' : Around) (i : InterfaceId) (def : Interface) (k : ℕ) → EncodesDependency r a a' i def k → is_some (known_instance a.instances i.0) ≡ false → known_instance a'.instances i.0 ≡ None
-first-listed r a a' i def k is none = ap (λ (es : List (ℕ × ℕ)). known_instance es i.0) (ap (λ (z : Around). z.instances) is.part.one_more ∙ grown-listed r a is.part.before is.part.aliases.grown) ∙ nothing (known_instance a.instances i.0) none
+pub first-listed : (r : Resolve) (a a' : Around) (i : InterfaceId) (def : Interface) (k : ℕ) → EncodesDependency r a a' i def k → is_some (known_instance a.instances i.0) ≡ false
+    → known_instance a'.instances i.0 ≡ None
+first-listed r a a' i def k is none = ap (λ (es : List (ℕ × ℕ)). known_instance es i.0) (ap (λ (z : Around). z.instances) is.part.one_more ∙ grown-listed r a is.part.before is.part.aliases.grown)
+    ∙ nothing (known_instance a.instances i.0) none
   where
     nothing : (o : Option ℕ) → is_some o ≡ false → o ≡ None
     nothing None e = refl

@@ -73,7 +73,8 @@ module _ (e m : InterfaceEncoder) (xs : List InterfaceId) (k : ℕ) (inside : k 
   next-named = subst (λ (r : Resolve). is_some (interface_path r next.0) ≡ true) (sym leaves.packages_) (can.paths next.0 (listed (numbers xs) k next.0 at))
 
   pub next-uses : UsedStand (interface_encoder_view m).scope.packages (interface_encoder_view m).scope.instances next.0
-  next-uses j c = stand j (earlier-at (interface_encoder_view e).scope.packages [] (numbers xs) k next.0 j can.earlier at (subst (λ (r : Resolve). Contains (direct_deps r next.0) j) leaves.packages_ c))
+  next-uses j c = stand j (earlier-at (interface_encoder_view e).scope.packages [] (numbers xs) k next.0 j can.earlier at
+      (subst (λ (r : Resolve). Contains (direct_deps r next.0) j) leaves.packages_ c))
 
   up-to : ImportsAll e m (take k xs) → ImportsUpTo e m xs next
   up-to h = record { before = take k xs; rest = drop (suc k) xs; are = parted xs k inside; imports = h }
@@ -87,10 +88,12 @@ module _ (e m : InterfaceEncoder) (xs : List InterfaceId) (k : ℕ) (inside : k 
   one-more : suc k ≡ k + 1
   one-more = omega arith
 
-  pub all-stand : (e' : InterfaceEncoder) → LeavesInterfaces m e' → Contains (interface_encoder_view e').scope.instances next.0 → (j : ℕ) → Contains (take (k + 1) (numbers xs)) j → Contains (interface_encoder_view e').scope.instances j
+  pub all-stand : (e' : InterfaceEncoder) → LeavesInterfaces m e' → Contains (interface_encoder_view e').scope.instances next.0 → (j : ℕ) → Contains (take (k + 1) (numbers xs)) j
+      → Contains (interface_encoder_view e').scope.instances j
   all-stand e' more new j d = all-but e' more new j (subst (λ (n : ℕ). Contains (take n (numbers xs)) j) (sym one-more) d)
     where
-      all-but : (e' : InterfaceEncoder) → LeavesInterfaces m e' → Contains (interface_encoder_view e').scope.instances next.0 → (j : ℕ) → Contains (take (suc k) (numbers xs)) j → Contains (interface_encoder_view e').scope.instances j
+      all-but : (e' : InterfaceEncoder) → LeavesInterfaces m e' → Contains (interface_encoder_view e').scope.instances next.0 → (j : ℕ) → Contains (take (suc k) (numbers xs)) j
+          → Contains (interface_encoder_view e').scope.instances j
       all-but e' more new j c = next-stands (numbers xs) k next.0 j (Contains (interface_encoder_view e').scope.instances) at (λ n d. more.instances n (stand n d)) new c
 
   pub all-imported : (e' : InterfaceEncoder) → ImportsAll e m (take k xs) → Imports m e' next → LeavesInterfaces m e' → ImportsAll e e' (take (k + 1) xs)

@@ -135,7 +135,8 @@ module _ (r : Resolve) (w : WorldId) (count : ℕ) (maps : TypeEncodingMaps) whe
     -- with these listed, where the declarations can be followed, the interfaces stand that stand by themselves
     stand-typed : standing_instances r typed ≡ standing_instances r a
     stand-typed =
-        ap (λ b. if b then filter (stands_around r a.instances (outer_instances typed.declared)) (below (length r.interfaces.items)) else []) (ap (are_right r a.known) (slots-typed ∙ ap (λ xs. xs ++ x ∷ []) slots-there) ∙ right-slots (in_scope x s.scope) refl)
+        ap (λ b. if b then filter (stands_around r a.instances (outer_instances typed.declared)) (below (length r.interfaces.items)) else [])
+        (ap (are_right r a.known) (slots-typed ∙ ap (λ xs. xs ++ x ∷ []) slots-there) ∙ right-slots (in_scope x s.scope) refl)
         ∙ ap (λ xs. filter (stands_around r a.instances xs) (below (length r.interfaces.items))) (ap (λ o. option_map_or (λ z. z.instances) o []) followed-typed ∙ sym instances-there)
         ∙ sym (ap (λ b. if b then filter (stands_around r a.instances (outer_instances a.declared)) (below (length r.interfaces.items)) else []) (ap (are_right r a.known) slots-there ∙ s.right))
 
@@ -171,7 +172,8 @@ module _ (r : Resolve) (w : WorldId) (count : ℕ) (maps : TypeEncodingMaps) whe
 
     -- ---- behind the import that uses it
 
-    module _ (canonical : Bool) (i : InterfaceId) (path : Text) (is : interface_path r i.0 ≡ Some path) (view : InstanceView) (viewed : instance_view (place_of r (owner.Interface i)) (outer_slots a.declared) es ≡ Some view) (shows : ShowsTypes r i.0 view)
+    module _ (canonical : Bool) (i : InterfaceId) (path : Text) (is : interface_path r i.0 ≡ Some path) (view : InstanceView)
+        (viewed : instance_view (place_of r (owner.Interface i)) (outer_slots a.declared) es ≡ Some view) (shows : ShowsTypes r i.0 view)
         (k : ℕ) (index : k ≡ type_slots_of a.declared) where
       abbrev name : ExternName
       name = name_of_interface r canonical i.0
@@ -191,7 +193,8 @@ module _ (r : Resolve) (w : WorldId) (count : ℕ) (maps : TypeEncodingMaps) whe
           index ∙ (let same : type_slots_of a.declared ≡ number = omega (arith, counted) in same)
 
       in-range : list_all (λ n. nat_lt n number) s.scope.used ≡ true
-      in-range = subst (λ (xs : List Slot). list_all (λ n. nat_lt n (length xs)) s.scope.used ≡ true) slots-there (ap (list_all (λ n. nat_lt n (length (outer_slots a.declared)))) (sym used-there) ∙ h.used)
+      in-range = subst (λ (xs : List Slot). list_all (λ n. nat_lt n (length xs)) s.scope.used ≡ true) slots-there
+          (ap (list_all (λ n. nat_lt n (length (outer_slots a.declared)))) (sym used-there) ∙ h.used)
 
       seen-as : used_view (in_scope x s.scope).slots (follow.place_of (Some path)) (slice_get (in_scope x s.scope).slots number) ≡ Some view
       seen-as =
@@ -226,10 +229,12 @@ module _ (r : Resolve) (w : WorldId) (count : ℕ) (maps : TypeEncodingMaps) whe
       standing = instance-stands r h.valid i.0 (path, view) (record { path = is; shows = shows })
 
       inside : (j : ℕ) → Contains (standing_instances r a) j → j < length r.interfaces.items
-      inside j c = below-only (length r.interfaces.items) j (filter-contains (stands_around r a.instances (outer_instances a.declared)) (below (length r.interfaces.items)) j (subst (λ (b : Bool). Contains (if b then filter (stands_around r a.instances (outer_instances a.declared)) (below (length r.interfaces.items)) else []) j) right-before c)).0
+      inside j c = below-only (length r.interfaces.items) j (filter-contains (stands_around r a.instances (outer_instances a.declared)) (below (length r.interfaces.items)) j
+          (subst (λ (b : Bool). Contains (if b then filter (stands_around r a.instances (outer_instances a.declared)) (below (length r.interfaces.items)) else []) j) right-before c)).0
 
       stands-imported : (j : ℕ) → j < length r.interfaces.items → (is_at (nat_cmp j) i.0 ≡ false → Contains (standing_instances r a) j) → Contains (standing_instances r imported) j
-      stands-imported j l old = stands-then r a imported (imported_instance (path, view)) i.0 instances-imported (ap (insert_entry nat_cmp a.instances i.0) h.counted) right-before right-imported j l (λ e. standing) old
+      stands-imported j l old = stands-then r a imported (imported_instance (path, view)) i.0 instances-imported (ap (insert_entry nat_cmp a.instances i.0) h.counted) right-before right-imported j l
+          (λ e. standing) old
 
       pub own-stands : Contains (world_scope r w (count + 1) imported).instances i.0
       own-stands = into imported (count + 1) (sound-again r w imported sound-imported) i.0 (stands-imported i.0 own-inside (λ other. absurd (own-other other)))
@@ -255,7 +260,8 @@ module _ (r : Resolve) (w : WorldId) (count : ℕ) (maps : TypeEncodingMaps) whe
       used-imported : list_all (λ n. nat_lt n (length (outer_slots imported.declared))) (used_types imported.declared) ≡ true
       used-imported =
           let test : ℕ → Bool = λ n. nat_lt n (length (outer_slots imported.declared)) in
-          let more : length (outer_slots imported.declared) ≡ length s.scope.slots + 1 = ap length (ap (λ o. option_map_or (λ z. z.slots) o []) followed-imported) ∙ length-append s.scope.slots (x ∷ []) in
+          let more : length (outer_slots imported.declared) ≡ length s.scope.slots + 1 =
+          ap length (ap (λ o. option_map_or (λ z. z.slots) o []) followed-imported) ∙ length-append s.scope.slots (x ∷ []) in
           ap (list_all test) (ap (λ o. option_map_or (λ z. z.used) o []) followed-imported) ∙ list_all-append test s.scope.used (number ∷ [])
           ∙ both (list_all test s.scope.used) (test number && true) (below-more number (length (outer_slots imported.declared)) s.scope.used (omega (arith, more)) in-range)
           (both (test number) true (lt-ltb number (length (outer_slots imported.declared)) (omega (arith, more))) refl)
@@ -276,8 +282,10 @@ module _ (r : Resolve) (w : WorldId) (count : ℕ) (maps : TypeEncodingMaps) whe
           valid = h.valid;
           sound = sound-again r w imported sound-imported;
           listed = listed-imported;
-          counted = (let old = h.counted in let more : length (outer_instances imported.declared) ≡ length (outer_instances a.declared) + 1 = ap length instances-imported ∙ length-append (outer_instances a.declared) (imported_instance (path, view) ∷ []) in omega (arith, old, more));
-          typed = (let few = h.typed in let more : instance_types (outer_slots imported.declared) ≡ instance_types (outer_slots a.declared) + 1 = ap instance_types slots-imported ∙ types-appended (outer_slots a.declared) (x ∷ []) in omega (arith, few, more));
+          counted = (let old = h.counted in let more : length (outer_instances imported.declared) ≡ length (outer_instances a.declared) + 1 =
+              ap length instances-imported ∙ length-append (outer_instances a.declared) (imported_instance (path, view) ∷ []) in omega (arith, old, more));
+          typed = (let few = h.typed in let more : instance_types (outer_slots imported.declared) ≡ instance_types (outer_slots a.declared) + 1 =
+              ap instance_types slots-imported ∙ types-appended (outer_slots a.declared) (x ∷ []) in omega (arith, few, more));
           used = used-imported;
         };
         kept = λ n m c. subst (λ (xs : List Slot). SlotsStand xs n m) (sym slots-imported) (slots-kept x (outer_slots a.declared) n m c);
@@ -309,7 +317,8 @@ module _ (r : Resolve) (w : WorldId) (maps : TypeEncodingMaps) where
       -- and behind the import that uses it
       pub whole-goes-on : GoesOn r w count (count + 1) maps a (with_import r canonical i k count a')
       whole-goes-on = subst (λ (z : Around). GoesOn r w count (count + 1) maps a (with_import r canonical i k count z)) (sym e.one_more)
-          (both-go-on count count (count + 1) a before _ aliased (import-goes-on r w count maps before aliased.can e.declared canonical i path is e.is_instance.view e.is_instance.followed shows k e.index))
+          (both-go-on count count (count + 1) a before _ aliased (import-goes-on r w count maps before aliased.can e.declared canonical i path is e.is_instance.view e.is_instance.followed
+          shows k e.index))
 
       pub whole-stands : Contains (world_scope r w (count + 1) (with_import r canonical i k count a')).instances i.0
       whole-stands = subst (λ (z : Around). Contains (world_scope r w (count + 1) (with_import r canonical i k count z)).instances i.0) (sym e.one_more)
@@ -322,14 +331,15 @@ module _ (r : Resolve) (w : WorldId) (maps : TypeEncodingMaps) where
 -- ---- where nothing has been declared
 
 pub fresh-can : (r : Resolve) (w : WorldId) (count : ℕ) (a : Around) (maps : TypeEncodingMaps) → IsValid r → count ≡ 0 → a ≡ no_around → CanEncodeInterfaces (world_view r w count a maps)
-fresh-can r w count a maps valid none empty = subst (λ (n : ℕ). CanEncodeInterfaces (world_view r w n a maps)) (sym none) (subst (λ (z : Around). CanEncodeInterfaces (world_view r w 0 z maps)) (sym empty) (record {
-  valid = valid;
-  sound = refl;
-  listed = λ i k e. absurd (let z : ⊥ = cc in z);
-  counted = refl;
-  typed = omega arith;
-  used = refl;
-}))
+fresh-can r w count a maps valid none empty = subst (λ (n : ℕ). CanEncodeInterfaces (world_view r w n a maps)) (sym none)
+    (subst (λ (z : Around). CanEncodeInterfaces (world_view r w 0 z maps)) (sym empty) (record {
+      valid = valid;
+      sound = refl;
+      listed = λ i k e. absurd (let z : ⊥ = cc in z);
+      counted = refl;
+      typed = omega arith;
+      used = refl;
+    }))
 
 pub fresh-sound : (r : Resolve) (w : WorldId) (a : Around) → a ≡ no_around → is_sound_outside r w a ≡ true
 fresh-sound r w a empty = ap (is_sound_outside r w) empty

@@ -93,7 +93,8 @@ pub record LeavesInterfaces (e e' : InterfaceEncoder) : Type 0 where
 
 -- slot k of the component type is new, and stands for the interface
 abbrev pub EncodesInterfaceAs : InterfaceEncoder → InterfaceEncoder → InterfaceId → ℕ → Type 0
-EncodesInterfaceAs e e' i k = (def : Interface) → interface_at (packages_of e) i.0 ≡ Some def → EncodesInterface (packages_of e) (component_of e) (component_of e') i def k
+EncodesInterfaceAs e e' i k = (def : Interface) → interface_at (packages_of e) i.0 ≡ Some def
+    → EncodesInterface (packages_of e) (component_of e) (component_of e') i def k
 
 -- nothing is new but aliases of types of other interfaces that are met from the interface
 abbrev pub AddsAliases : InterfaceEncoder → InterfaceEncoder → InterfaceId → Type 0
@@ -111,12 +112,14 @@ AddsInterfaceBytes e e' i = AddsBytes (whole_extent (packages_of e) i.0) (compon
 pub data Imports (e e' : InterfaceEncoder) (i : InterfaceId) : Type 0 where
   as_before : has_listed e i.0 ≡ true → e' ≡ e → Imports e e' i
   imported : has_listed e i.0 ≡ false
-      → ImportsTypes (packages_of e) (has_canonical_names e) (component_of e) (component_of e') i (length (interface_encoder_view e).scope.others.instances) → Imports e e' i
+      → ImportsTypes (packages_of e) (has_canonical_names e) (component_of e) (component_of e') i (length (interface_encoder_view e).scope.others.instances)
+      → Imports e e' i
 
 -- Nothing is new but aliases that the interface's types ask for, and one instance type of them at most.
 pub data ImportsInPart (e e' : InterfaceEncoder) (i : InterfaceId) : Type 0 where
   aliases : AddsAliasesForTypes e e' i → ImportsInPart e e' i
-  unused : (def : Interface) (k : ℕ) → interface_at (packages_of e) i.0 ≡ Some def → EncodesDependency (packages_of e) (component_of e) (component_of e') i def k → ImportsInPart e e' i
+  unused : (def : Interface) (k : ℕ) → interface_at (packages_of e) i.0 ≡ Some def
+      → EncodesDependency (packages_of e) (component_of e) (component_of e') i def k → ImportsInPart e e' i
 
 -- These have been imported, one after the other, each where it had not been.
 abbrev pub ImportsAll : InterfaceEncoder → InterfaceEncoder → List InterfaceId → Type 0
@@ -157,7 +160,8 @@ pub data ImportsReachedInPart (e e' : InterfaceEncoder) (i : InterfaceId) : Type
 -- An instance type has no room for the types and functions of the interface. Or the component type, after aliases have been made, has none
 -- for one more alias or instance type.
 abbrev pub LacksRoomFor : InterfaceEncoder → InterfaceId → Type 0
-LacksRoomFor e i = (def : Interface) → interface_at (packages_of e) i.0 ≡ Some def → InterfaceLacksRoom (packages_of e) i def ⊎ LacksInstanceRoom (packages_of e) i (whole_interface def) (component_of e)
+LacksRoomFor e i = (def : Interface) → interface_at (packages_of e) i.0 ≡ Some def → InterfaceLacksRoom (packages_of e) i def
+    ⊎ LacksInstanceRoom (packages_of e) i (whole_interface def) (component_of e)
 
 -- the types of an interface can't be imported for want of room
 abbrev pub LacksRoomToImport : InterfaceEncoder → InterfaceId → Type 0
@@ -180,7 +184,8 @@ pub record LacksReached (e : InterfaceEncoder) (i : InterfaceId) : Type 0 where
 
 -- where old slots stay and what is around is the same, interfaces can still be encoded and imported
 abbrev pub DefinitionsLeaveInterfaces : Type 0
-DefinitionsLeaveInterfaces = (e e' : InterfaceEncoder) → CanEncodeInterfaces (interface_encoder_view e) → Grows (interface_encoder_view e) (interface_encoder_view e') → (interface_encoder_view e').scope ≡ (interface_encoder_view e).scope
+DefinitionsLeaveInterfaces = (e e' : InterfaceEncoder) → CanEncodeInterfaces (interface_encoder_view e)
+    → Grows (interface_encoder_view e) (interface_encoder_view e') → (interface_encoder_view e').scope ≡ (interface_encoder_view e).scope
     → CanEncodeInterfaces (interface_encoder_view e')
 
 -- The scope of an encoder in use is that of an owner: a world that has no types. So types can be encoded in it whose names are those of named interfaces

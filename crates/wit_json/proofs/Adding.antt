@@ -39,14 +39,17 @@ adds4 p q r s e = adds3 p q (join r s) e
 pub adds5 : {a b c d e f : Written} {A B C D E all : List Token} → Adds a b A → Adds b c B → Adds c d C → Adds d e D → Adds e f E → A ++ (B ++ (C ++ (D ++ E))) ≡ all → Adds a f all
 adds5 p q r s t e = adds4 p q r (join s t) e
 
-pub adds6 : {a b c d e f g : Written} {A B C D E F all : List Token} → Adds a b A → Adds b c B → Adds c d C → Adds d e D → Adds e f E → Adds f g F → A ++ (B ++ (C ++ (D ++ (E ++ F)))) ≡ all → Adds a g all
+pub adds6 : {a b c d e f g : Written} {A B C D E F all : List Token} → Adds a b A → Adds b c B → Adds c d C → Adds d e D → Adds e f E → Adds f g F → A ++ (B ++ (C ++ (D ++ (E ++ F)))) ≡ all
+    → Adds a g all
 adds6 p q r s t u e = adds5 p q r s (join t u) e
 
-pub adds7 : {a b c d e f g i : Written} {A B C D E F G all : List Token} → Adds a b A → Adds b c B → Adds c d C → Adds d e D → Adds e f E → Adds f g F → Adds g i G → A ++ (B ++ (C ++ (D ++ (E ++ (F ++ G))))) ≡ all → Adds a i all
+pub adds7 : {a b c d e f g i : Written} {A B C D E F G all : List Token} → Adds a b A → Adds b c B → Adds c d C → Adds d e D → Adds e f E → Adds f g F → Adds g i G
+    → A ++ (B ++ (C ++ (D ++ (E ++ (F ++ G))))) ≡ all → Adds a i all
 adds7 p q r s t u v e = adds6 p q r s t (join u v) e
 
 -- what a last call adds, by whether it was refused
-pub then_ok : {E : Type 0} (r : Result (Unit {0}) E) {a b : Written} (c : Written) {A : List Token} (B : List Token) {all : List Token} → Adds a b A → OnOk r (Adds b c B) → A ++ B ≡ all → OnOk r (Adds a c all)
+pub then_ok : {E : Type 0} (r : Result (Unit {0}) E) {a b : Written} (c : Written) {A : List Token} (B : List Token) {all : List Token} → Adds a b A → OnOk r (Adds b c B) → A ++ B ≡ all
+    → OnOk r (Adds a c all)
 then_ok (Ok x) c B p q e = adds2 p q e
 then_ok (Err x) c B p q e = tt
 
@@ -80,7 +83,8 @@ pub lists_all : {A : Type 0} (each : A → List Token) (all left : List A) {a b 
 lists_all each all left h e = adds_as h.adds (sym (append-nil h.so_far) ∙ ap (λ l. h.so_far ++ flat_map each l) (sym e) ∙ h.whole)
 
 -- one more of a slice
-pub lists_next : {A : Type 0} (each : A → List Token) (xs : List A) (i : ℕ) (x : A) {a b c : Written} → Lists each xs (drop i xs) a b → i < length xs → x ≡ get_or xs i x → Adds b c (each x) → Lists each xs (drop (i + 1) xs) a c
+pub lists_next : {A : Type 0} (each : A → List Token) (xs : List A) (i : ℕ) (x : A) {a b c : Written} → Lists each xs (drop i xs) a b → i < length xs → x ≡ get_or xs i x → Adds b c (each x)
+    → Lists each xs (drop (i + 1) xs) a c
 lists_next each xs i x h within e k = lists_more each xs (drop i xs) (drop (i + 1) xs) x h (drop_more xs i x within ∙ ap (λ y. y ∷ drop (i + 1) xs) (sym e)) k
 
 -- the whole slice

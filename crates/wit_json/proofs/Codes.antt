@@ -26,7 +26,8 @@ pub tells_behind : {X V : Type 0} {D : X → Type 0} {f g : X → List Token} {v
 tells_behind c h = record { told = λ x y s t p q e. h.told x y s t p q (tails_equal _ _ _ _ e) }
 
 -- one behind the other
-pub tells_two : {X V W : Type 0} {D E : X → Type 0} {f g h k : X → List Token} {v w : X → V} {u z : X → W} → Tells D f g v w → Tells E h k u z → Tells {V = V × W} (λ x. D x × E x) (λ x. f x ++ h x) (λ x. g x ++ k x) (λ x. (v x, u x)) (λ x. (w x, z x))
+pub tells_two : {X V W : Type 0} {D E : X → Type 0} {f g h k : X → List Token} {v w : X → V} {u z : X → W} → Tells D f g v w → Tells E h k u z
+    → Tells {V = V × W} (λ x. D x × E x) (λ x. f x ++ h x) (λ x. g x ++ k x) (λ x. (v x, u x)) (λ x. (w x, z x))
 tells_two {f = f} {g = g} {h = h} {k = k} a b = record {
   told = λ x y s t p q e.
       let first = a.told x y (h x ++ s) (k y ++ t) p.0 q.0 (sym (append_assoc (f x) (h x) s) ∙ e ∙ append_assoc (g y) (k y) t) in
@@ -47,7 +48,8 @@ pub tells_as : {X V W : Type 0} {D E : X → Type 0} {f g : X → List Token} {v
 tells_as h d k = record { told = λ x y s t p q e. let r = k.told x y s t (d x p) (d y q) e in (ap h r.0, r.1) }
 
 -- of a part
-pub tells_of : {X Y V : Type 0} {D : Y → Type 0} {f g : Y → List Token} {v w : Y → V} (part : X → Y) → Tells D f g v w → Tells (λ x. D (part x)) (λ x. f (part x)) (λ x. g (part x)) (λ x. v (part x)) (λ x. w (part x))
+pub tells_of : {X Y V : Type 0} {D : Y → Type 0} {f g : Y → List Token} {v w : Y → V} (part : X → Y) → Tells D f g v w
+    → Tells (λ x. D (part x)) (λ x. f (part x)) (λ x. g (part x)) (λ x. v (part x)) (λ x. w (part x))
 tells_of part h = record { told = λ x y s t p q e. h.told (part x) (part y) s t p q e }
 
 -- by what is read from the front
@@ -81,7 +83,8 @@ module _ {X V : Type 0} {D : X → Type 0} {f g : X → List Token} {v w : X →
   all_told [] (y ∷ ys) s t p q e = absurd (ends_not c y (flat_map g ys) (end_array ∷ t) s (sym e))
   all_told (x ∷ xs) [] s t p q e = absurd (ends_not b x (flat_map f xs) (end_array ∷ s) t e)
   all_told (x ∷ xs) (y ∷ ys) s t p q e =
-      let first = h.told x y (flat_map f xs ++ end_array ∷ s) (flat_map g ys ++ end_array ∷ t) p.0 q.0 (sym (append_assoc (f x) (flat_map f xs) (end_array ∷ s)) ∙ e ∙ append_assoc (g y) (flat_map g ys) (end_array ∷ t)) in
+      let first = h.told x y (flat_map f xs ++ end_array ∷ s) (flat_map g ys ++ end_array ∷ t) p.0 q.0
+      (sym (append_assoc (f x) (flat_map f xs) (end_array ∷ s)) ∙ e ∙ append_assoc (g y) (flat_map g ys) (end_array ∷ t)) in
       let more = all_told xs ys s t p.1 q.1 first.1 in
       (cons_same first.0 more.0, more.1)
 

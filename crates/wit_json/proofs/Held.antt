@@ -97,10 +97,12 @@ module _ {A : Type 0} (T : List A) (short : length T ≤ 4294967295) where
   by_types ts e = sym (list_all_filter_map (in_list T) number_of ts) ∙ e
 
   members_of : (k : TypeDefKind) → list_all (in_list T) (kind_numbers k) ≡ true → list_all (in_list T) (filter_map number_of (member_types k)) ≡ true
-  members_of k e = first_true (list_all (in_list T) (filter_map number_of (member_types k))) _ (sym (list_all-append (in_list T) (filter_map number_of (member_types k)) (option_to_list (handled k) ++ option_to_list (alias_target k))) ∙ e)
+  members_of k e = first_true (list_all (in_list T) (filter_map number_of (member_types k))) _
+      (sym (list_all-append (in_list T) (filter_map number_of (member_types k)) (option_to_list (handled k) ++ option_to_list (alias_target k))) ∙ e)
 
   others_of : (k : TypeDefKind) → list_all (in_list T) (kind_numbers k) ≡ true → list_all (in_list T) (option_to_list (handled k) ++ option_to_list (alias_target k)) ≡ true
-  others_of k e = second_true (list_all (in_list T) (filter_map number_of (member_types k))) _ (sym (list_all-append (in_list T) (filter_map number_of (member_types k)) (option_to_list (handled k) ++ option_to_list (alias_target k))) ∙ e)
+  others_of k e = second_true (list_all (in_list T) (filter_map number_of (member_types k))) _
+      (sym (list_all-append (in_list T) (filter_map number_of (member_types k)) (option_to_list (handled k) ++ option_to_list (alias_target k))) ∙ e)
 
   first_of : (t : ValueType) (ts : List ValueType) → list_all (in_list T) (filter_map number_of (t ∷ ts)) ≡ true → IsSmallType (Some t)
   first_of t ts e = type_small t (first_true (list_all (in_list T) (option_to_list (number_of t))) _ (by_types (t ∷ ts) e))
@@ -113,20 +115,24 @@ module _ {A : Type 0} (T : List A) (short : length T ≤ 4294967295) where
 
   sides : (t u : Option ValueType) → list_all (in_list T) (filter_map number_of (option_to_list t ++ option_to_list u)) ≡ true → IsSmallType t × IsSmallType u
   sides t u e =
-      let all = sym (list_all-append (λ y. list_all (in_list T) (option_to_list (number_of y))) (option_to_list t) (option_to_list u)) ∙ by_types (option_to_list t ++ option_to_list u) e in
-      (optional_small t (first_true _ (list_all (λ y. list_all (in_list T) (option_to_list (number_of y))) (option_to_list u)) all), optional_small u (second_true (list_all (λ y. list_all (in_list T) (option_to_list (number_of y))) (option_to_list t)) _ all))
+      let all = sym (list_all-append (λ y. list_all (in_list T) (option_to_list (number_of y))) (option_to_list t) (option_to_list u)) ∙ by_types (option_to_list t ++ option_to_list u) e in (
+        optional_small t (first_true _ (list_all (λ y. list_all (in_list T) (option_to_list (number_of y))) (option_to_list u)) all),
+        optional_small u (second_true (list_all (λ y. list_all (in_list T) (option_to_list (number_of y))) (option_to_list t)) _ all),
+      )
 
   fixed_small : (n : ℕ) (t : ValueType) → has_shape (kind.FixedLengthList t n) ≡ true → IsSmall n
   fixed_small n t e = ltb-true n 4294967296 (second_true _ (nat_lt n 4294967296) e)
 
   kind_small : (k : TypeDefKind) → list_all (in_list T) (kind_numbers k) ≡ true → has_shape k ≡ true → IsSmallKind k
-  kind_small (kind.Record record_) e s = all_of _ (λ f h. type_small f.ty h) record_.fields.items (sym (list_all_mapped (in_list T) number_of (λ f. f.ty) record_.fields.items) ∙ members_of (kind.Record record_) e)
+  kind_small (kind.Record record_) e s = all_of _ (λ f h. type_small f.ty h) record_.fields.items
+      (sym (list_all_mapped (in_list T) number_of (λ f. f.ty) record_.fields.items) ∙ members_of (kind.Record record_) e)
   kind_small kind.Resource e s = tt
   kind_small (kind.Handle (handle.Own id)) e s = one_small id.0 (others_of (kind.Handle (handle.Own id)) e)
   kind_small (kind.Handle (handle.Borrow id)) e s = one_small id.0 (others_of (kind.Handle (handle.Borrow id)) e)
   kind_small (kind.Flags flags) e s = tt
   kind_small (kind.Tuple tuple) e s = all_of _ type_small tuple.types.items (by_types tuple.types.items (members_of (kind.Tuple tuple) e))
-  kind_small (kind.Variant variant) e s = all_of _ (λ c h. optional_small c.ty h) variant.cases.items (sym (list_all_given (in_list T) number_of (λ c. c.ty) variant.cases.items) ∙ members_of (kind.Variant variant) e)
+  kind_small (kind.Variant variant) e s = all_of _ (λ c h. optional_small c.ty h) variant.cases.items
+      (sym (list_all_given (in_list T) number_of (λ c. c.ty) variant.cases.items) ∙ members_of (kind.Variant variant) e)
   kind_small (kind.Enum enum) e s = tt
   kind_small (kind.Option t) e s = first_of t [] (members_of (kind.Option t) e)
   kind_small (kind.Result result) e s = sides result.ok result.err (members_of (kind.Result result) e)
@@ -172,7 +178,8 @@ module _ (r : Resolve) where
   package_test p = list_all (λ id. in_list r.interfaces.items id.0) (values p.interfaces) && list_all (λ id. in_list r.worlds.items id.0) (values p.worlds)
 
   interface_test : Interface → Bool
-  interface_test i = passes (in_list r.packages.items) (package_number i.package) && (list_all (λ id. in_list r.types.items id.0) (values i.types) && list_all (function_in_range r) (values i.functions))
+  interface_test i = passes (in_list r.packages.items) (package_number i.package)
+      && (list_all (λ id. in_list r.types.items id.0) (values i.types) && list_all (function_in_range r) (values i.functions))
 
   world_test : World → Bool
   world_test w = passes (in_list r.packages.items) (package_number w.package) && (entries_in_range r w.imports.entries && entries_in_range r w.exports.entries)
@@ -197,7 +204,8 @@ module _ (r : Resolve) (v : IsValid r) where
   unfolding numbers_in_range shapes range_test
   types_keep n def at =
       let range = type_passes numbers_in_range r v.rules.numbers_in_range n def at in
-      and_from (is_place n) _ (first_true (is_place n) (range_test r def) range) (and_from (range_test r def) _ (second_true (is_place n) (range_test r def) range) (type_passes shapes r v.rules.shapes n def at))
+      and_from (is_place n) _ (first_true (is_place n) (range_test r def) range)
+      (and_from (range_test r def) _ (second_true (is_place n) (range_test r def) range) (type_passes shapes r v.rules.shapes n def at))
 
   few_entries : FewEntries r
   few_entries = record {

@@ -80,7 +80,8 @@ pushed m n r ms b e h = ap (λ x. (x ∷ r.0, r.1)) e ∙ ap (λ (z : List _ × 
 
 module _ {A : Type 0} (name : A → Text) (s : List Token) where
   -- what has types
-  typed_told : (t : A → Option ValueType) (xs : List A) → AllByRecursion (λ x. IsSmallType (t x)) xs → read_members (flat_map (λ x. typed_object (name x) (t x)) xs ++ end_array ∷ s) ≡ (map (λ x. (name x, t x)) xs, end_array ∷ s)
+  typed_told : (t : A → Option ValueType) (xs : List A) → AllByRecursion (λ x. IsSmallType (t x)) xs
+      → read_members (flat_map (λ x. typed_object (name x) (t x)) xs ++ end_array ∷ s) ≡ (map (λ x. (name x, t x)) xs, end_array ∷ s)
   unfolding read_members
   typed_told t [] h = refl
   typed_told t (x ∷ xs) h = pushed (name x, read_type (type_or_null (t x))) (name x, t x) _ _ _ (ap (λ u. (name x, u)) (type_told (t x) h.0)) (typed_told t xs h.1)
@@ -124,7 +125,8 @@ type_first t ts us vs h e =
     (λ n k. pushed (read_type (number n)) (Some t) (read_types ts) us vs k e)
     t (type_told (Some t) h)
 
-types_told : (xs : List ValueType) (s : List Token) → AllByRecursion (λ t. IsSmallType (Some t)) xs → read_types (flat_map (λ t. type_token t ∷ []) xs ++ end_array ∷ s) ≡ (map (λ t. Some t) xs, end_array ∷ s)
+types_told : (xs : List ValueType) (s : List Token) → AllByRecursion (λ t. IsSmallType (Some t)) xs
+    → read_types (flat_map (λ t. type_token t ∷ []) xs ++ end_array ∷ s) ≡ (map (λ t. Some t) xs, end_array ∷ s)
 unfolding read_types
 types_told [] s h = refl
 types_told (x ∷ xs) s h = type_first x _ _ _ h.0 (types_told xs s h.1)
@@ -187,29 +189,34 @@ computes : ℕ
 unfolding kind_tokens bare_kind kind_read word_read is_list_word list_read handle_read sides_read pair_read length_read only_read members_read types_read behind
 computes = 0
 
-ended_members : (w : Text) (front s : List Token) (ms : List (Text × Option ValueType)) → ((u : List Token) → read_members (front ++ end_array ∷ u) ≡ (ms, end_array ∷ u)) → members_read w (read_members ((front ++ end_array ∷ end_object ∷ end_object ∷ []) ++ s)) ≡ (with_members w ms, s)
+ended_members : (w : Text) (front s : List Token) (ms : List (Text × Option ValueType)) → ((u : List Token) → read_members (front ++ end_array ∷ u) ≡ (ms, end_array ∷ u))
+    → members_read w (read_members ((front ++ end_array ∷ end_object ∷ end_object ∷ []) ++ s)) ≡ (with_members w ms, s)
 unfolding computes
 ended_members w front s ms h = ap (λ ts. members_read w (read_members ts)) (append_assoc front (end_array ∷ end_object ∷ end_object ∷ []) s) ∙ ap (members_read w) (h (end_object ∷ end_object ∷ s))
 
-ended_types : (w : Text) (front s : List Token) (ts : List (Option ValueType)) → ((u : List Token) → read_types (front ++ end_array ∷ u) ≡ (ts, end_array ∷ u)) → types_read w (read_types ((front ++ end_array ∷ end_object ∷ end_object ∷ []) ++ s)) ≡ (with_types w ts, s)
+ended_types : (w : Text) (front s : List Token) (ts : List (Option ValueType)) → ((u : List Token) → read_types (front ++ end_array ∷ u) ≡ (ts, end_array ∷ u))
+    → types_read w (read_types ((front ++ end_array ∷ end_object ∷ end_object ∷ []) ++ s)) ≡ (with_types w ts, s)
 unfolding computes
 ended_types w front s us h = ap (λ ts. types_read w (read_types ts)) (append_assoc front (end_array ∷ end_object ∷ end_object ∷ []) s) ∙ ap (types_read w) (h (end_object ∷ end_object ∷ s))
 
 one_type : (w : Text) (t : Option ValueType) (s : List Token) → IsSmallType t → ◌≡◌ {A = BareKind × List Token} (with_types w (read_type (type_or_null t) ∷ []), s) (with_types w (t ∷ []), s)
 one_type w t s h = ap (λ u. (with_types w (u ∷ []), s)) (type_told t h)
 
-two_types : (w : Text) (t u : Option ValueType) (s : List Token) → IsSmallType t → IsSmallType u → ◌≡◌ {A = BareKind × List Token} (with_types w (read_type (type_or_null t) ∷ read_type (type_or_null u) ∷ []), s) (with_types w (t ∷ u ∷ []), s)
+two_types : (w : Text) (t u : Option ValueType) (s : List Token) → IsSmallType t → IsSmallType u
+    → ◌≡◌ {A = BareKind × List Token} (with_types w (read_type (type_or_null t) ∷ read_type (type_or_null u) ∷ []), s) (with_types w (t ∷ u ∷ []), s)
 two_types w t u s h k = ap (λ x. (with_types w (x ∷ read_type (type_or_null u) ∷ []), s)) (type_told t h) ∙ ap (λ x. (with_types w (t ∷ x ∷ []), s)) (type_told u k)
 
 pub kind_told : (k : TypeDefKind) (s : List Token) → IsSmallKind k → kind_read (kind_tokens k ++ s) ≡ (bare_kind k, s)
 unfolding computes
-kind_told (kind.Record record_) s h = ended_members (codes "record") (flat_map (λ f. typed_object (text_of f.name) (Some f.ty)) record_.fields.items) s _ (λ u. typed_told (λ f. text_of f.name) u (λ f. Some f.ty) record_.fields.items h)
+kind_told (kind.Record record_) s h = ended_members (codes "record") (flat_map (λ f. typed_object (text_of f.name) (Some f.ty)) record_.fields.items) s _
+    (λ u. typed_told (λ f. text_of f.name) u (λ f. Some f.ty) record_.fields.items h)
 kind_told kind.Resource s h = refl
 kind_told (kind.Handle (handle.Own id)) s h = ap (λ n. (record { word = codes "own"; members = []; types = []; numbers = n ∷ [] }, s)) (number_told id.0 h)
 kind_told (kind.Handle (handle.Borrow id)) s h = ap (λ n. (record { word = codes "borrow"; members = []; types = []; numbers = n ∷ [] }, s)) (number_told id.0 h)
 kind_told (kind.Flags flags) s h = ended_members (codes "flags") (flat_map (λ f. name_object (text_of f.name)) flags.flags.items) s _ (λ u. names_told (λ f. text_of f.name) u flags.flags.items)
 kind_told (kind.Tuple tuple) s h = ended_types (codes "tuple") (flat_map (λ t. type_token t ∷ []) tuple.types.items) s _ (λ u. types_told tuple.types.items u h)
-kind_told (kind.Variant variant) s h = ended_members (codes "variant") (flat_map (λ c. typed_object (text_of c.name) c.ty) variant.cases.items) s _ (λ u. typed_told (λ c. text_of c.name) u (λ c. c.ty) variant.cases.items h)
+kind_told (kind.Variant variant) s h = ended_members (codes "variant") (flat_map (λ c. typed_object (text_of c.name) c.ty) variant.cases.items) s _
+    (λ u. typed_told (λ c. text_of c.name) u (λ c. c.ty) variant.cases.items h)
 kind_told (kind.Enum enum) s h = ended_members (codes "enum") (flat_map (λ c. name_object (text_of c.name)) enum.cases.items) s _ (λ u. names_told (λ c. text_of c.name) u enum.cases.items)
 kind_told (kind.Option t) s h = one_type (codes "option") (Some t) s h
 kind_told (kind.Result result) s h = two_types (codes "result") result.ok result.err s h.0 h.1

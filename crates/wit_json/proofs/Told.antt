@@ -93,7 +93,8 @@ number_begins n = record { first = λ y. number_token (n y); rest = λ y. []; is
 
 -- a list of numbers behind its name
 numbers_tell : {X Y : Type 0} (name : Text) (n : Y → ℕ) (part : X → List Y)
-    → Tells (λ x. AllByRecursion (λ y. IsSmall (n y)) (part x)) (λ x. key name ∷ listed (λ y. number_entry (n y)) (part x)) (λ x. key name ∷ listed (λ y. number_entry (n y)) (part x)) (λ x. map n (part x)) (λ x. map n (part x))
+    → Tells (λ x. AllByRecursion (λ y. IsSmall (n y)) (part x)) (λ x. key name ∷ listed (λ y. number_entry (n y)) (part x)) (λ x. key name ∷ listed (λ y. number_entry (n y)) (part x))
+    (λ x. map n (part x)) (λ x. map n (part x))
 numbers_tell name n part = listed_tells name part (tells_token (number_tells n)) (number_begins n) (number_begins n)
 
 -- ---- what is told by a word
@@ -169,7 +170,8 @@ param_tells =
 function_tells : Tells HasSmallFunction function_tokens function_tokens bare_function bare_function
 unfolding function_tokens
 function_tells =
-    tells_as (λ (z : Text × (FunctionKind × (List (Text × Option ValueType) × (Option ValueType × Option Text)))). record { name = z.0; kind = z.1.0; params = z.1.1.0; result = z.1.1.1.0; external_id = z.1.1.1.1 })
+    tells_as (λ (z : Text × (FunctionKind × (List (Text × Option ValueType) × (Option ValueType × Option Text)))). record
+    { name = z.0; kind = z.1.0; params = z.1.1.0; result = z.1.1.1.0; external_id = z.1.1.1.1 })
     (λ f h. (tt, (h.kind, (h.params, (h.result, tt)))))
     (tells_behind begin_object (tells_two (member_tells (codes "name") (text_tells (λ (f : Function). text_of f.name) (λ (f : Function). text_of f.name)))
     (tells_two (tells_behind (key (codes "kind")) (tells_of (λ (f : Function). f.kind) call_tells))
@@ -197,7 +199,8 @@ interface_begins = begins_object _ (λ i. refl)
 
 -- ---- worlds
 
-shown_tells : Tells (λ (z : ℕ × Option Text). IsSmall z.0 × ⊤) (λ z. member (codes "interface") (number_token z.0) ++ external_member z.1) (λ z. member (codes "interface") (number_token z.0) ++ external_member z.1) (λ z. z) (λ z. z)
+shown_tells : Tells (λ (z : ℕ × Option Text). IsSmall z.0 × ⊤) (λ z. member (codes "interface") (number_token z.0) ++ external_member z.1)
+    (λ z. member (codes "interface") (number_token z.0) ++ external_member z.1) (λ z. z) (λ z. z)
 shown_tells = tells_two (member_tells (codes "interface") (number_tells (λ (z : ℕ × Option Text). z.0))) (member_tells (codes "external-id") (optional_tells (λ (z : ℕ × Option Text). z.1)))
 
 named_tells : Tells IsSmall (λ n. member (codes "type") (number_token n)) (λ n. member (codes "type") (number_token n)) (λ n. n) (λ n. n)
@@ -253,7 +256,8 @@ module _ (r q : Resolve) where
 
 -- ---- packages
 
-name_tells : Tells {V = Text × (Text × Option Text)} (λ (n : PackageName). ⊤ × (⊤ × ⊤)) package_name_tokens package_name_tokens (λ n. (text_of n.namespace, (text_of n.name, optional_version_text n.version))) (λ n. (text_of n.namespace, (text_of n.name, optional_version_text n.version)))
+name_tells : Tells {V = Text × (Text × Option Text)} (λ (n : PackageName). ⊤ × (⊤ × ⊤)) package_name_tokens package_name_tokens
+    (λ n. (text_of n.namespace, (text_of n.name, optional_version_text n.version))) (λ n. (text_of n.namespace, (text_of n.name, optional_version_text n.version)))
 unfolding package_name_tokens
 name_tells =
     tells_two (member_tells (codes "namespace") (text_tells (λ (n : PackageName). text_of n.namespace) (λ (n : PackageName). text_of n.namespace)))
@@ -278,10 +282,26 @@ package_begins = begins_object _ (λ p. refl)
 module _ (r q : Resolve) where
   -- the four lists, where the worlds of one are of r and those of the other of q
   lists_tell : Tells {V = BareResolve} HasSmallNumbers
-      (λ x. key (codes "packages") ∷ (listed package_tokens x.packages.items ++ (key (codes "worlds") ∷ (listed (world_tokens r) x.worlds.items ++ (key (codes "interfaces") ∷ (listed interface_tokens x.interfaces.items ++ (key (codes "types") ∷ listed type_tokens x.types.items)))))))
-      (λ x. key (codes "packages") ∷ (listed package_tokens x.packages.items ++ (key (codes "worlds") ∷ (listed (world_tokens q) x.worlds.items ++ (key (codes "interfaces") ∷ (listed interface_tokens x.interfaces.items ++ (key (codes "types") ∷ listed type_tokens x.types.items)))))))
-      (λ x. record { packages = map bare_package x.packages.items; worlds = map (bare_world r) x.worlds.items; interfaces = map bare_interface x.interfaces.items; types = map bare_type x.types.items })
-      (λ x. record { packages = map bare_package x.packages.items; worlds = map (bare_world q) x.worlds.items; interfaces = map bare_interface x.interfaces.items; types = map bare_type x.types.items })
+      (λ x. key (codes "packages") ∷ (listed package_tokens x.packages.items
+      ++ (key (codes "worlds") ∷ (listed (world_tokens r) x.worlds.items ++ (key (codes "interfaces")
+      ∷ (listed interface_tokens x.interfaces.items ++ (key (codes "types") ∷ listed type_tokens x.types.items)))))))
+      (λ x. key (codes "packages") ∷ (listed package_tokens x.packages.items
+      ++ (key (codes "worlds") ∷ (listed (world_tokens q) x.worlds.items ++ (key (codes "interfaces")
+      ∷ (listed interface_tokens x.interfaces.items ++ (key (codes "types") ∷ listed type_tokens x.types.items)))))))
+      (λ x. record {
+        packages = map bare_package x.packages.items;
+        worlds = map (bare_world r) x.worlds.items;
+        interfaces = map bare_interface x.interfaces.items;
+        types =
+            map bare_type x.types.items;
+      })
+      (λ x. record {
+        packages = map bare_package x.packages.items;
+        worlds = map (bare_world q) x.worlds.items;
+        interfaces = map bare_interface x.interfaces.items;
+        types =
+            map bare_type x.types.items;
+      })
   lists_tell =
       tells_as (λ (z : List BarePackage × (List BareWorld × (List BareInterface × List BareType))). record { packages = z.0; worlds = z.1.0; interfaces = z.1.1.0; types = z.1.1.1 })
       (λ x h. (h.packages, (h.worlds, (h.interfaces, h.types))))

@@ -127,7 +127,8 @@ NothingElseIsLost = (r s : Resolve) → HasSmallNumbers r → HasSmallNumbers s 
 -- A text is the listing of what one `Resolve` says, and of one entry of it.
 abbrev pub TextsTell : Type 0
 TextsTell = (text subject : Text) (r s : Resolve) (n m : ℕ) → HasSmallNumbers r → HasSmallNumbers s → IsSmall n → IsSmall m
-    → Spells text (whole_listing r (member subject (number_token n))) → Spells text (whole_listing s (member subject (number_token m))) → (bare r ≡ bare s) × (n ≡ m)
+    → Spells text (whole_listing r (member subject (number_token n))) → Spells text (whole_listing s (member subject (number_token m)))
+    → (bare r ≡ bare s) × (n ≡ m)
 
 -- The numbers of a valid `Resolve` are of 32 bits.
 abbrev pub ValidAreSmall : Type 0

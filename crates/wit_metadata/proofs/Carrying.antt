@@ -21,7 +21,8 @@ use Rattle.wit_metadata.specs.Carried.{CarriesEncoding, CarriesWorld, HasHome, M
 use Rattle.wit_metadata.specs.Encodings.{code_of, section_name}
 use Rattle.wit_metadata.proofs.Homes.{home-is, world-home}
 
-module _ (r : Resolve) (v : IsValid r) (n : ℕ) (w : World) (there : world_at r n ≡ Some w) (home : HasHome r w) (e : StringEncoding) (ds : Declarations) (canonical : Bool) (wraps : WrapsWorld r canonical (identity_of home.package_.name) n w ds) (bytes : List ℕ)
+module _ (r : Resolve) (v : IsValid r) (n : ℕ) (w : World) (there : world_at r n ≡ Some w) (home : HasHome r w) (e : StringEncoding) (ds : Declarations) (canonical : Bool)
+    (wraps : WrapsWorld r canonical (identity_of home.package_.name) n w ds) (bytes : List ℕ)
     (spelled : IsComponent (sections_of_parts (encoding_part e ∷ one_exported 0 (text_of w.name, ds))) bytes) where
   is-world : IsWorldType r home.package_ n (text_of w.name) (text_of w.name, ds)
   is-world = record {
@@ -54,7 +55,8 @@ pub record IsWrapped (r : Resolve) (canonical : Bool) (n : ℕ) (w : World) (ds 
   pub home : HasHome r w
   pub wraps : WrapsWorld r canonical (identity_of home.package_.name) n w ds
 
-pub wrapped-at : (r : Resolve) → IsValid r → (canonical : Bool) (n : ℕ) (w : World) (ds : Declarations) (p : PackageName) → world_at r n ≡ Some w → ((u : World) (home : HasHome r u) → world_at r n ≡ Some u → p ≡ home.package_.name)
+pub wrapped-at : (r : Resolve) → IsValid r → (canonical : Bool) (n : ℕ) (w : World) (ds : Declarations) (p : PackageName) → world_at r n ≡ Some w
+    → ((u : World) (home : HasHome r u) → world_at r n ≡ Some u → p ≡ home.package_.name)
     → ((u : World) → world_at r n ≡ Some u → WrapsWorld r canonical (identity_of p) n u ds) → IsWrapped r canonical n w ds
 wrapped-at r v canonical n w ds p there named wraps =
     let home = world-home r v n w there in
@@ -65,5 +67,7 @@ pub said : (before after : List Part) (e : StringEncoding) (code : ℕ) → befo
 said before after e code none is coded = is ∙ (ap (λ (ps : List Part). ps ++ Part.custom section_name (4 ∷ code ∷ []) ∷ []) none ∙ ap (λ (b : ℕ). Part.custom section_name (4 ∷ b ∷ []) ∷ []) coded)
 
 -- and behind it the wrapper of the world, exported under its name
-pub built : (before after : List Part) (e : StringEncoding) (label name : Text) (ds : Declarations) → before ≡ encoding_part e ∷ [] → label ≡ name → after ≡ before ++ one_exported (top_slots before) (label, ds) → after ≡ encoding_part e ∷ one_exported 0 (name, ds)
-built before after e label name ds is same grown = grown ∙ (ap (λ (ps : List Part). ps ++ one_exported (top_slots ps) (label, ds)) is ∙ ap (λ (t : Text). encoding_part e ∷ one_exported 0 (t, ds)) same)
+pub built : (before after : List Part) (e : StringEncoding) (label name : Text) (ds : Declarations) → before ≡ encoding_part e ∷ [] → label ≡ name
+    → after ≡ before ++ one_exported (top_slots before) (label, ds) → after ≡ encoding_part e ∷ one_exported 0 (name, ds)
+built before after e label name ds is same grown = grown ∙ (ap (λ (ps : List Part). ps ++ one_exported (top_slots ps) (label, ds)) is ∙ ap
+    (λ (t : Text). encoding_part e ∷ one_exported 0 (t, ds)) same)

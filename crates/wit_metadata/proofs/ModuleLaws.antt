@@ -241,7 +241,8 @@ behind-preamble bytes rest begins is = (starts_is Decides-eqb bytes module_pream
 pub other-preamble : (bytes : List ℕ) → starts_with nat_eq bytes module_preamble ≡ false → RefusesModule bytes errors.NotAModule
 other-preamble bytes begins rest is = true≢false (sym ((starts_is Decides-eqb bytes module_preamble _ refl).1 rest is) ∙ begins)
 
-pub refused-at : (bytes rest kept : List ℕ) (bound : Bool) → IsRead bytes rest kept bound → (length rest ≡ 0 → ⊥) → IsFrontless rest → RefusesModule bytes (errors.BadModule (length bytes - length rest))
+pub refused-at : (bytes rest kept : List ℕ) (bound : Bool) → IsRead bytes rest kept bound → (length rest ≡ 0 → ⊥) → IsFrontless rest
+    → RefusesModule bytes (errors.BadModule (length bytes - length rest))
 refused-at bytes rest kept bound h filled none = (
   record {
     sections = h.sections;

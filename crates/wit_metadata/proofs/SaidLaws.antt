@@ -37,7 +37,8 @@ pub record IsFrameFor (s : Section) (front : List ℕ) : Type 0 where
   pub framed_ : IsFrame frame front
   pub says : (found : Option (Bor (List ℕ))) → IsSaidIn frame found → contents_under section_name (s ∷ []) ≡ contents_found found
 
-custom-says : (name text contents : List ℕ) → IsCustom (name, text) contents → (found : Option (Bor (List ℕ))) → IsSaidIn (0, contents) found → contents_under section_name (Section.custom name text ∷ []) ≡ contents_found found
+custom-says : (name text contents : List ℕ) → IsCustom (name, text) contents → (found : Option (Bor (List ℕ))) → IsSaidIn (0, contents) found
+    → contents_under section_name (Section.custom name text ∷ []) ≡ contents_found found
 custom-says name text contents custom (Some found) is =
     let same = one-custom contents (section_name, found.now) (name, text) is.1 custom in
     let named : text_eq section_name name ≡ true = same_text section_name name (ap (λ (c : List ℕ × List ℕ). c.0) same) in
@@ -149,7 +150,8 @@ module _ (bytes rest : List ℕ) (last : Option (Bor (List ℕ))) (h : IsPartlyR
       go (s ∷ ss) (here, after, halves, spelled, others) = let frame = frame-for s here spelled in none frame.frame here after halves frame.framed_
 
 -- nothing is left
-pub all-read : (bytes rest : List ℕ) (last : Option (Bor (List ℕ))) → IsPartlyRead bytes rest last → length rest ≡ 0 → (sections : List Section) → IsComponent sections bytes → now_of last ≡ last_of (contents_under section_name sections)
+pub all-read : (bytes rest : List ℕ) (last : Option (Bor (List ℕ))) → IsPartlyRead bytes rest last → length rest ≡ 0 → (sections : List Section) → IsComponent sections bytes
+    → now_of last ≡ last_of (contents_under section_name sections)
 all-read bytes rest last h empty sections component = go known.more refl known.spelled
   where
     known : IsPartly sections rest last

@@ -69,7 +69,8 @@ module _ (r : Resolve) (n : ℕ) (w : World) (there : world_at r n ≡ Some w) (
         let here = says-extent e in
         let rest = one-short 0 (text_of w.name, ds) in
         let wrapped = wrapper-short path wraps.inner in
-        let is : type-extent (text_of w.name, ds) ≡ type-extent (text_of w.name, Rattle.encode_shown.specs.PackageTypes.wrapper path wraps.inner) = ap (λ (x : Declarations). type-extent (text_of w.name, x)) wraps.is in
+        let is : type-extent (text_of w.name, ds) ≡ type-extent (text_of w.name, Rattle.encode_shown.specs.PackageTypes.wrapper path wraps.inner) =
+        ap (λ (x : Declarations). type-extent (text_of w.name, x)) wraps.is in
         let inner = extent-is wraps.inner in
         let light = wraps.light in
         let whole = weight-is in
@@ -78,10 +79,12 @@ module _ (r : Resolve) (n : ℕ) (w : World) (there : world_at r n ≡ Some w) (
         omega (arith, front, here, rest, wrapped, is, inner, light, whole, text, name)
 
     -- the type has no room, or its export has none
-    pub long-export : (fits_component (encoding_part e ∷ Part.top_type (TopType.component ds) ∷ []) && fits_component (encoding_part e ∷ one_exported 0 (text_of w.name, ds))) ≡ false → limit < world_package_weight r n
+    pub long-export : (fits_component (encoding_part e ∷ Part.top_type (TopType.component ds) ∷ []) && fits_component (encoding_part e ∷ one_exported 0 (text_of w.name, ds))) ≡ false
+        → limit < world_package_weight r n
     long-export h = go (either-false _ _ h)
       where
-        go : (fits_component (encoding_part e ∷ Part.top_type (TopType.component ds) ∷ []) ≡ false) ⊎ (fits_component (encoding_part e ∷ one_exported 0 (text_of w.name, ds)) ≡ false) → limit < world_package_weight r n
+        go : (fits_component (encoding_part e ∷ Part.top_type (TopType.component ds) ∷ []) ≡ false) ⊎ (fits_component (encoding_part e ∷ one_exported 0 (text_of w.name, ds)) ≡ false)
+            → limit < world_package_weight r n
         go (inl first) =
             let long = long-component (encoding_part e ∷ Part.top_type (TopType.component ds) ∷ []) first in
             let both = sum_by-append part_extent (encoding_part e ∷ Part.top_type (TopType.component ds) ∷ []) (Part.top_export (Rattle.comp_bytes.specs.Parts.plain_export (text_of w.name) 0) ∷ []) in

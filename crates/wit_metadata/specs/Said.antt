@@ -30,7 +30,8 @@ AnswersSaid bytes answer = (sections : List Section) → IsComponent sections by
 
 -- So the encoding that a component carries is the one that is answered of it.
 abbrev pub EncodingsAreReadBack : Type 0
-EncodingsAreReadBack = (e : StringEncoding) (bytes : List ℕ) (answer : Result StringEncoding Error) → CarriesEncoding e bytes → AnswersSaid bytes answer → answer ≡ Ok e
+EncodingsAreReadBack = (e : StringEncoding) (bytes : List ℕ) (answer : Result StringEncoding Error) → CarriesEncoding e bytes → AnswersSaid bytes answer
+    → answer ≡ Ok e
 
 -- ---- its parts
 

@@ -29,7 +29,8 @@ no-more xs ys h k = ap (λ (zs : List ℕ). zs ++ ys) h ∙ k
 
 pub foo-world : (w : World) → IsOneFunction (codes "host") w.imports.entries → IsOneFunction (codes "guest") w.exports.entries → IsFoo w
 foo-world w imports exports = record {
-  means = λ r. same-world (entries_meaning r w.imports.entries) ((codes "host", nullary) ∷ []) (entries_meaning r w.exports.entries) ((codes "guest", nullary) ∷ []) (imports.means r) (exports.means r);
+  means = λ r. same-world (entries_meaning r w.imports.entries) ((codes "host", nullary) ∷ []) (entries_meaning r w.exports.entries) ((codes "guest", nullary) ∷ []) (imports.means r)
+      (exports.means r);
   alone = λ r. flat_map-append (interfaces_of_item r) (values w.imports) (values w.exports) ∙ no-more _ _ (imports.alone r) (exports.alone r);
 }
 
@@ -42,7 +43,8 @@ same-package : (a b : PackageIdentity) (c d : List (Text × InterfaceMeaning)) (
     → ◌≡◌ {A = PackageMeaning} (record { identity = a; interfaces = c; worlds = e; foreign = g }) (record { identity = b; interfaces = d; worlds = f; foreign = h })
 same-package a b c d e f g h ab cd ef gh = cc
 
-same-identity : (a b c d : Text) (v w : Option Text) → a ≡ b → c ≡ d → v ≡ w → ◌≡◌ {A = PackageIdentity} (record { namespace = a; name = c; version = v }) (record { namespace = b; name = d; version = w })
+same-identity : (a b c d : Text) (v w : Option Text) → a ≡ b → c ≡ d → v ≡ w
+    → ◌≡◌ {A = PackageIdentity} (record { namespace = a; name = c; version = v }) (record { namespace = b; name = d; version = w })
 same-identity a b c d v w h k l = cc
 
 module _ (r : Resolve) (p : Package) (w : World) (name : String Global) (named : text_of name ≡ codes "foo") (worlds : p.worlds.entries ≡ (name, record { 0 = 0 }) ∷ [])

@@ -16,7 +16,8 @@ use Rattle.witc_texts.proofs.StrippedLaws.{part-left, whole-left}
 pub prints : (left rest : Option (List ℕ)) (input : List ℕ) → ReadsWhole left rest input → (given : List ℕ) → given ≡ input → (text : List ℕ) → PrintsBytes given text → PrintsInput left rest text
 prints left rest input read given same text is = record { input = input; read = read; printed = subst (λ (xs : List ℕ). PrintsBytes xs text) same is }
 
-pub compares : (left rest : Option (List ℕ)) (prev new input : List ℕ) → ReadsWhole left rest input → (given : List ℕ) → given ≡ input → (c : Compared) → ComparesBytes given prev new c → ComparesInput left rest prev new c
+pub compares : (left rest : Option (List ℕ)) (prev new input : List ℕ) → ReadsWhole left rest input → (given : List ℕ) → given ≡ input → (c : Compared) → ComparesBytes given prev new c
+    → ComparesInput left rest prev new c
 compares left rest prev new input read given same c is = record { input = input; read = read; compares = subst (λ (xs : List ℕ). ComparesBytes xs prev new c) same is }
 
 pub binds : (left rest : Option (List ℕ)) (input : List ℕ) → ReadsWhole left rest input → (given : List ℕ) → given ≡ input → (text : List ℕ) → PrintsModule given text → PrintsBindings left rest text

@@ -22,7 +22,8 @@ module _ (left rest old new : Option (List ℕ)) where
   lacks what name _ is (written appended) = lacks_world what name refl is appended
 
   -- a text of a command
-  pub text-ends : (what : Asked) (text : Result (Vec ℕ Global) Refusal) (status : ℕ) → IfOk text (λ t. IsDone left rest what t.items) → AnswersText old new text status → Ends (Some what) left rest old new status
+  pub text-ends : (what : Asked) (text : Result (Vec ℕ Global) Refusal) (status : ℕ) → IfOk text (λ t. IsDone left rest what t.items) → AnswersText old new text status
+      → Ends (Some what) left rest old new status
   text-ends what (Ok t) status is answered = written-ends what t.items status is answered
   text-ends what (Err refusal) status is one = subst (Ends (Some what) left rest old new) (sym one) refused
 

@@ -19,4 +19,5 @@ pub record PrintsBindings (left rest : Option (List ℕ)) (text : List ℕ) : Ty
 pub data RefusesModuleInput (left rest : Option (List ℕ)) : Refusal → Type 0 where
   unread : RefusesModuleInput left rest refusals.Unread
   memory : RefusesModuleInput left rest (refusals.Error Memory)
-  bindings : (input : List ℕ) (e : Error) → ReadsWhole left rest input → RefusesBindings input e → (e ≡ Size → OutgrowsLists input) → RefusesModuleInput left rest (refusals.Error e)
+  bindings : (input : List ℕ) (e : Error) → ReadsWhole left rest input → RefusesBindings input e → (e ≡ Size → OutgrowsLists input)
+      → RefusesModuleInput left rest (refusals.Error e)

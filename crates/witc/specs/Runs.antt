@@ -34,7 +34,8 @@ pub data Ends (asked : Option Asked) (left rest old new : Option (List ℕ)) : �
   done : (what : Asked) (text : List ℕ) → asked ≡ Some what → IsDone left rest what text → Appends old new text → Ends asked left rest old new 0
   refused : Ends asked left rest old new 1
   bad_words : asked ≡ None → rest ≡ left → Appends old new usage → Ends asked left rest old new 2
-  lacks_world : (what : Asked) (name : List ℕ) → asked ≡ Some what → LacksWorld left rest what name → Appends old new (no_such_world name) → Ends asked left rest old new 2
+  lacks_world : (what : Asked) (name : List ℕ) → asked ≡ Some what → LacksWorld left rest what name → Appends old new (no_such_world name)
+      → Ends asked left rest old new 2
 
 -- the text is written, or a write failed; of a refusal the status is 1
 abbrev pub AnswersText : Option (List ℕ) → Option (List ℕ) → Result (Vec ℕ Global) Refusal → ℕ → Type 0

@@ -24,14 +24,16 @@ demo_of second = if is_word second (codes "text") then Some demo_text else (if i
 
 -- what one word asks for
 abbrev pub plain_of : Vec ℕ Global → Option Asked
-plain_of word = if is_word word (codes "print") then Some print else (if is_word word (codes "module") then Some module_text else (if is_word word (codes "strip") then Some strip else None))
+plain_of word = if is_word word (codes "print") then Some print else
+    (if is_word word (codes "module") then Some module_text else (if is_word word (codes "strip") then Some strip else None))
 
 -- what the words ask for, or none where they are no command: `demo text`, `demo hex`, `print`, `module`, `strip`, and `compat` with two words that are
 -- UTF-8
 abbrev pub asked_of : List (Vec ℕ Global) → Option Asked
 asked_of (first ∷ []) = plain_of first
 asked_of (first ∷ second ∷ []) = if is_word first (codes "demo") then demo_of second else None
-asked_of (first ∷ prev ∷ new ∷ []) = if is_word first (codes "compat") && (is_utf8 prev.items && is_utf8 new.items) then Some (compat prev.items new.items) else None
+asked_of (first ∷ prev ∷ new ∷ []) = if is_word first (codes "compat") && (is_utf8 prev.items && is_utf8 new.items) then Some
+    (compat prev.items new.items) else None
 asked_of _ = None
 
 -- whether the words are a command

@@ -30,13 +30,15 @@ module _ (X : Type 0) (b : Bool) where
   lost Y e is = let never : ⊥ = cc in absurd never
 
 module _ (bytes : List ℕ) (b : Bool) where
-  pub package-told : (x : Result (Resolve × PackageId) Error) → IfOk x (λ y. IsDecoded bytes y.0 y.1.0) → IfErr x (RefusesBytes bytes) → TellsRead x (Ok b) → IsTrue b ↔ ((m : PackageMeaning) × Reads bytes m)
+  pub package-told : (x : Result (Resolve × PackageId) Error) → IfOk x (λ y. IsDecoded bytes y.0 y.1.0) → IfErr x (RefusesBytes bytes) → TellsRead x (Ok b) → IsTrue b
+      ↔ ((m : PackageMeaning) × Reads bytes m)
   package-told (Ok y) decoded refused told = yes ((m : PackageMeaning) × Reads bytes m) b (decoded.meaning, decoded.read) told
   package-told (Err (errors.NoReading cause offset)) decoded refused told = no ((m : PackageMeaning) × Reads bytes m) b (λ read. refused.1 read.0 read.1) told
   package-told (Err errors.Memory) decoded refused told = lost (IsTrue b) b (IsTrue b ↔ ((m : PackageMeaning) × Reads bytes m)) errors.Memory told
   package-told (Err _) decoded refused told = absurd refused
 
-  pub world-told : (x : Result (Resolve × WorldId) Error) → IfOk x (λ y. IsDecodedWorld bytes y.0 y.1.0) → IfErr x (RefusesWorldBytes bytes) → TellsRead x (Ok b) → IsTrue b ↔ ((m : WorldPackage) × ReadsWorld bytes m)
+  pub world-told : (x : Result (Resolve × WorldId) Error) → IfOk x (λ y. IsDecodedWorld bytes y.0 y.1.0) → IfErr x (RefusesWorldBytes bytes) → TellsRead x (Ok b) → IsTrue b
+      ↔ ((m : WorldPackage) × ReadsWorld bytes m)
   world-told (Ok y) decoded refused told = yes ((m : WorldPackage) × ReadsWorld bytes m) b (decoded.meaning, decoded.read) told
   world-told (Err (errors.NoReading cause offset)) decoded refused told = no ((m : WorldPackage) × ReadsWorld bytes m) b (λ read. refused.1 read.0 read.1) told
   world-told (Err errors.Memory) decoded refused told = lost (IsTrue b) b (IsTrue b ↔ ((m : WorldPackage) × ReadsWorld bytes m)) errors.Memory told

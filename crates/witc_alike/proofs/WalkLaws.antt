@@ -87,7 +87,12 @@ module _ (bytes : List ℕ) (n : ℕ) (rest : List ℕ) (left : ℕ) (h : Walks 
 
     -- one that carries a world, and isn't the one
     pub passed-over : (more : ℕ) → left ≡ more + 1 → Walks bytes n behind more
-    passed-over more is = record { data_ = h.data_ ++ found.now ∷ []; begins = begins-on; counted = (let long = length-append h.data_ (found.now ∷ []) in let counted = h.counted in omega (arith, long, counted, is)) }
+    passed-over more is = record {
+      data_ = h.data_ ++ found.now ∷ [];
+      begins = begins-on;
+      counted =
+          (let long = length-append h.data_ (found.now ∷ []) in let counted = h.counted in omega (arith, long, counted, is));
+    }
 
     -- the one
     pub found-walked : left ≡ 0 → (v : Vec ℕ Global) → v.items ≡ found.now → HasNumber bytes n (Some v)

@@ -22,6 +22,7 @@ HasNumber bytes n (Some found) = (data_ : List (List ℕ)) × (left : List ℕ) 
 -- The bytes are no module; or at this offset no section begins, and in front of it are no more such sections than that number; or memory was wanting.
 abbrev pub RefusesWalk : List ℕ → ℕ → Error → Type 0
 RefusesWalk bytes n errors.NotAModule = (rest : List ℕ) → bytes ≡ module_preamble ++ rest → ⊥
-RefusesWalk bytes n (errors.BadModule offset) = (data_ : List (List ℕ)) × (left : List ℕ) × BeginsWith bytes data_ left × (length data_ ≤ n) × IsFrontless left × (offset + length left ≡ length bytes)
+RefusesWalk bytes n (errors.BadModule offset) = (data_ : List (List ℕ)) × (left : List ℕ) × BeginsWith bytes data_ left × (length data_ ≤ n) × IsFrontless left
+    × (offset + length left ≡ length bytes)
 RefusesWalk bytes n errors.Memory = Unit {0}
 RefusesWalk bytes n _ = ⊥

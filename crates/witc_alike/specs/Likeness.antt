@@ -25,9 +25,11 @@ pub record HasNoWorld (bytes name : List ℕ) : Type 0 where
 
 -- What comes of two names: the worlds have one sense, or not; or one isn't there, the first before the second.
 pub data ComparesTwo (bytes name other other_name : List ℕ) : Alike → Type 0 where
-  same : (r s : Resolve) (a b : WorldId) → HasWorldNamed bytes name r a → HasWorldNamed other other_name s b → sense_of r (place.World a) ≡ sense_of s (place.World b)
+  same : (r s : Resolve) (a b : WorldId) → HasWorldNamed bytes name r a → HasWorldNamed other other_name s b
+      → sense_of r (place.World a) ≡ sense_of s (place.World b)
       → ComparesTwo bytes name other other_name alike.Same
-  differ : (r s : Resolve) (a b : WorldId) → HasWorldNamed bytes name r a → HasWorldNamed other other_name s b → sense_of r (place.World a) ≢ sense_of s (place.World b)
+  differ : (r s : Resolve) (a b : WorldId) → HasWorldNamed bytes name r a → HasWorldNamed other other_name s b
+      → sense_of r (place.World a) ≢ sense_of s (place.World b)
       → ComparesTwo bytes name other other_name alike.Other
   no_first : HasNoWorld bytes name → ComparesTwo bytes name other other_name alike.NoFirst
   no_second : (r : Resolve) (a : WorldId) → HasWorldNamed bytes name r a → HasNoWorld other other_name → ComparesTwo bytes name other other_name alike.NoSecond

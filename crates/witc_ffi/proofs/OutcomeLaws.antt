@@ -56,7 +56,8 @@ module _ (Done : List ℕ → Type 0) (Refused : Error → Type 0) (Bad : List �
   of-bad text why (Err lack) holds is = tt
 
   -- the outcome of bytes, or of a refusal
-  pub of-bytes : (given : Result (Vec ℕ Global) Error) (r : Result Outcome AllocError) → IfOk given (λ text. Done text.items) → IfErr given Refused → IfOk r (IsOutcomeOf given) → IfOk r (Tells Done Refused Bad)
+  pub of-bytes : (given : Result (Vec ℕ Global) Error) (r : Result Outcome AllocError) → IfOk given (λ text. Done text.items) → IfErr given Refused → IfOk r (IsOutcomeOf given)
+      → IfOk r (Tells Done Refused Bad)
   of-bytes (Ok text) (Ok o) ok err is = of-done text.items o ok is
   of-bytes (Err e) (Ok o) ok err is = known 1 (message_of e) (why_of e) o (refused e err is.no_lack) is.is
   of-bytes given (Err lack) ok err is = tt

@@ -88,7 +88,8 @@ is_asked n = nat_lt 0 n
 
 -- the string encoding of a number
 abbrev pub encoding_of : ℕ → Option StringEncoding
-encoding_of n = if nat_eq n 0 then Some encodings.UTF8 else (if nat_eq n 1 then Some encodings.UTF16 else (if nat_eq n 2 then Some encodings.CompactUTF16 else None))
+encoding_of n = if nat_eq n 0 then Some encodings.UTF8 else
+    (if nat_eq n 1 then Some encodings.UTF16 else (if nat_eq n 2 then Some encodings.CompactUTF16 else None))
 
 abbrev pub no_encoding : List ℕ
 no_encoding = codes "no string encoding has this number: they are 0 for UTF-8, 1 for UTF-16 and 2 for Latin-1 with UTF-16"
@@ -97,7 +98,8 @@ no_encoding = codes "no string encoding has this number: they are 0 for UTF-8, 1
 pub data LacksPart (bytes name : List ℕ) (encoding : ℕ) : List ℕ → Why → Type 0 where
   no_name : is_utf8 name ≡ false → LacksPart bytes name encoding not_utf8 (plain_why 18)
   no_number : is_utf8 name ≡ true → encoding_of encoding ≡ None → LacksPart bytes name encoding no_encoding (plain_why 19)
-  no_world : is_utf8 name ≡ true → (e : StringEncoding) → encoding_of encoding ≡ Some e → HasNoWorld bytes name → LacksPart bytes name encoding (no_such_world name) (world_why name)
+  no_world : is_utf8 name ≡ true → (e : StringEncoding) → encoding_of encoding ≡ Some e → HasNoWorld bytes name
+      → LacksPart bytes name encoding (no_such_world name) (world_why name)
 
 -- The name is UTF-8, the number is of a string encoding, and these are the data of a section that carries the package's world of this name.
 pub record IsEmbedded (bytes name : List ℕ) (encoding : ℕ) (canonical : Bool) (text : List ℕ) : Type 0 where
@@ -120,7 +122,8 @@ pub record RefusesAttachedTo (module_ bytes name : List ℕ) (encoding : ℕ) (c
 
 -- what an outcome tells of a package, a name and the number of an encoding
 abbrev pub TellsEmbedded : List ℕ → List ℕ → ℕ → Bool → Outcome → Type 0
-TellsEmbedded bytes name encoding canonical = Tells (IsEmbedded bytes name encoding canonical) (RefusesEmbedded bytes name canonical) (LacksPart bytes name encoding)
+TellsEmbedded bytes name encoding canonical = Tells (IsEmbedded bytes name encoding canonical) (RefusesEmbedded bytes name canonical)
+    (LacksPart bytes name encoding)
 
 -- and of a module beside them
 abbrev pub TellsAttached : List ℕ → List ℕ → List ℕ → ℕ → Bool → Outcome → Type 0
@@ -153,12 +156,15 @@ pub record AreAlike (bytes name other other_name text : List ℕ) : Type 0 where
 -- The names are UTF-8, and the bytes are refused; or the worlds differ in sense, and the first one's name is told.
 pub data RefusesAlike (bytes name other other_name : List ℕ) : Error → Type 0 where
   refused_alike : (e : Error) → AreTexts name other_name → RefusesTwo bytes other e → RefusesAlike bytes name other other_name e
-  differ : (told : String Global) → told.bytes.items ≡ name → AreTexts name other_name → ComparesTwo bytes name other other_name alike.Other → RefusesAlike bytes name other other_name (errors.Differs told)
+  differ : (told : String Global) → told.bytes.items ≡ name → AreTexts name other_name → ComparesTwo bytes name other other_name alike.Other
+      → RefusesAlike bytes name other other_name (errors.Differs told)
 
 -- A world isn't there, the first before the second; or a name isn't UTF-8, whatever the bytes are.
 pub data LacksEither (bytes name other other_name : List ℕ) : List ℕ → Why → Type 0 where
-  no_first : AreTexts name other_name → ComparesTwo bytes name other other_name alike.NoFirst → LacksEither bytes name other other_name (no_such_world name) (world_why name)
-  no_second : AreTexts name other_name → ComparesTwo bytes name other other_name alike.NoSecond → LacksEither bytes name other other_name (no_such_world other_name) (world_why other_name)
+  no_first : AreTexts name other_name → ComparesTwo bytes name other other_name alike.NoFirst
+      → LacksEither bytes name other other_name (no_such_world name) (world_why name)
+  no_second : AreTexts name other_name → ComparesTwo bytes name other other_name alike.NoSecond
+      → LacksEither bytes name other other_name (no_such_world other_name) (world_why other_name)
   no_texts : (is_utf8 name && is_utf8 other_name) ≡ false → LacksEither bytes name other other_name not_utf8 (plain_why 18)
 
 -- What the bytes are; or 128, where memory was wanting or a list would get too long.

@@ -42,12 +42,14 @@ clash_of kind name = codes "two sections disagree, so make them of one version o
 abbrev pub message_of : Error → List ℕ
 message_of errors.Memory = codes "memory was wanting"
 message_of errors.Size = codes "an index, a count or a length doesn't fit in 32 bits, so make the input smaller"
-message_of (errors.CanonicalClash name) = codes "two imports or two exports have one canonical name, so rename one of them, or encode without canonical names: " ++ name.bytes.items
+message_of (errors.CanonicalClash name) = codes "two imports or two exports have one canonical name, so rename one of them, or encode without canonical names: "
+    ++ name.bytes.items
 message_of (errors.NoReading cause offset) = no_reading_of (words_of_cause cause) offset
 message_of errors.EncodingMissing = codes "a section of bindings has no section `wit-component-encoding` in it, so make it anew by a current tool"
 message_of errors.EncodingUnknownFormat = codes "the section `wit-component-encoding` is empty, so make the bindings anew by a current tool"
 message_of (errors.EncodingVersion byte) = codes "the section `wit-component-encoding` has format " ++ (decimal byte ++ codes ", and format 4 is read")
-message_of (errors.BadStringEncoding byte) = codes "no string encoding has the number " ++ (decimal byte ++ codes ": they are 0 for UTF-8, 1 for UTF-16 and 2 for Latin-1 with UTF-16")
+message_of (errors.BadStringEncoding byte) = codes "no string encoding has the number "
+    ++ (decimal byte ++ codes ": they are 0 for UTF-8, 1 for UTF-16 and 2 for Latin-1 with UTF-16")
 message_of errors.Historical = codes "a section of bindings is in a format of before there were versions, so make it anew by a current tool"
 message_of errors.NotAModule = codes "the bytes don't begin as a core module does, as those of a component don't"
 message_of (errors.BadModule offset) = codes "no section of a core module begins at byte " ++ (decimal offset ++ codes ", so look whether the file is whole")

@@ -48,7 +48,8 @@ some-packages r root = by r.packages.items root.first
 
 pub all-there : {X : Type 0} (xs : List X) (from many : ℕ) → from + many ≤ length xs → list_all (λ (id : PackageId). in_list xs id.0) (map (λ n. record { 0 = n }) (range_with_len from many)) ≡ true
 all-there xs from zero within = refl
-all-there xs from (suc many) within = ap (λ b. b && list_all (λ (id : PackageId). in_list xs id.0) (map (λ n. record { 0 = n }) (range_with_len (from + 1) many))) (lt-ltb from (length xs) (omega (arith, within)))
+all-there xs from (suc many) within = ap (λ b. b && list_all (λ (id : PackageId). in_list xs id.0) (map (λ n. record { 0 = n }) (range_with_len (from + 1) many)))
+    (lt-ltb from (length xs) (omega (arith, within)))
     ∙ all-there xs (from + 1) many (omega (arith, within))
 
 -- a number more

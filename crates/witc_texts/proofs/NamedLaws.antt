@@ -32,7 +32,8 @@ module _ (r : Resolve) (v : IsValid r) (n : ℕ) (p : Package) (at : package_at 
 
   -- what a look-up finds
   pub found : (name : List ℕ) (o : Option WorldId) → o ≡ get_by_text p.worlds name → IfSome o (λ id. IsAmong (values p.worlds) id) → NamesWorld r n name o
-  found name o e among = go o (ap (option_and_then (λ (q : Package). option_and_then (λ id. world_at r id.0) (get_by_text q.worlds name))) at ∙ ap (option_and_then (λ (id : WorldId). world_at r id.0)) (sym e)) among
+  found name o e among = go o (ap (option_and_then (λ (q : Package). option_and_then (λ id. world_at r id.0) (get_by_text q.worlds name))) at ∙ ap (option_and_then (λ (id : WorldId). world_at r id.0))
+      (sym e)) among
     where
       go : (o : Option WorldId) → world_named r n name ≡ option_and_then (λ (id : WorldId). world_at r id.0) o → IfSome o (λ id. IsAmong (values p.worlds) id) → NamesWorld r n name o
       go None is among = is

@@ -27,7 +27,8 @@ no-memory bytes e is = subst (RefusesWorldBytes bytes) (sym is) tt
 
 -- what the clauses of `encode` say of the package of a world
 module _ (bytes : List ℕ) (r : Resolve) (home : PackageId) (has : HasWorld bytes r home) where
-  pub world-encodes : (x : Result (Vec ℕ Global) Error) → IfOk x (λ out. MeansPackageAt r home.0 out.items) → IfOk x (λ out. SpellsPackageAt r false home.0 out.items) → IfOk x (λ out. EncodesWorld bytes out.items)
+  pub world-encodes : (x : Result (Vec ℕ Global) Error) → IfOk x (λ out. MeansPackageAt r home.0 out.items) → IfOk x (λ out. SpellsPackageAt r false home.0 out.items)
+      → IfOk x (λ out. EncodesWorld bytes out.items)
   world-encodes (Ok out) means spells = record { resolve = r; home = home; has = has; means = means; spelled = spells }
   world-encodes (Err e) means spells = tt
 

@@ -38,11 +38,13 @@ refuses bytes r n canonical decoded (Err e) refused size = RefusesEncoded.unwrit
 
 -- the same of what a module binds
 module _ (bytes : List ℕ) (b : Bindgen) (binds : IsBound bytes (binding_of b)) where
-  pub module-encodes : IsBindgen b → BeginsWithRoot b.resolve → (x : Result (Vec ℕ Global) Error) → IfOk x (λ out. MeansPackageAt b.resolve 0 out.items) → IfOk x (λ out. SpellsPackageAt b.resolve false 0 out.items)
+  pub module-encodes : IsBindgen b → BeginsWithRoot b.resolve → (x : Result (Vec ℕ Global) Error) → IfOk x (λ out. MeansPackageAt b.resolve 0 out.items)
+      → IfOk x (λ out. SpellsPackageAt b.resolve false 0 out.items)
       → IfOk x (λ out. EncodesModule bytes out.items)
   module-encodes valid root (Ok out) means spells = record { bound = b; binds = binds; valid = valid; root = root; means = means; spelled = spells }
   module-encodes valid root (Err e) means spells = tt
 
-  pub module-refuses : (x : Result (Vec ℕ Global) Error) → IfErr x (RefusesPackageAt b.resolve 0 false) → (x ≡ Err Size → 4294967295 < package_weight b.resolve 0) → IfErr x (RefusesEncodedModule bytes)
+  pub module-refuses : (x : Result (Vec ℕ Global) Error) → IfErr x (RefusesPackageAt b.resolve 0 false) → (x ≡ Err Size → 4294967295 < package_weight b.resolve 0)
+      → IfErr x (RefusesEncodedModule bytes)
   module-refuses (Ok out) refused size = tt
   module-refuses (Err e) refused size = RefusesEncodedModule.unwritten b e binds (refused, λ is. size (ap Err is))

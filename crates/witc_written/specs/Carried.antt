@@ -44,7 +44,8 @@ EmbedsIfThere bytes name e canonical (Some data_) = EmbedsWorld bytes name e can
 -- The bytes mean no package, or one whose world of this name is refused where it is encoded, for size only where it weighs too much.
 pub data RefusesEmbedded (bytes name : List ℕ) (canonical : Bool) : Error → Type 0 where
   unread : (e : Error) → RefusesBytes bytes e → RefusesEmbedded bytes name canonical e
-  unwritten : (r : Resolve) (n : ℕ) (world : WorldId) (e : Error) → IsDecoded bytes r n → NamesWorld r n name (Some world) → RefusesWorldAt r world.0 canonical e
+  unwritten : (r : Resolve) (n : ℕ) (world : WorldId) (e : Error) → IsDecoded bytes r n → NamesWorld r n name (Some world)
+      → RefusesWorldAt r world.0 canonical e
       → (e ≡ Size → 4294967295 < world_package_weight r world.0) → RefusesEmbedded bytes name canonical e
 
 -- a module with one more section behind it, of this data, which is called after the world

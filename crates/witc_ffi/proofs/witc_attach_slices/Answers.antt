@@ -9,5 +9,6 @@ returns c =
     let name = c.args.name.now in
     let encoding = c.args.encoding in
     let canonical = is_asked c.args.canonical in
-    passes (IsAttached module_ bytes name encoding canonical) (RefusesAttachedTo module_ bytes name encoding canonical) (LacksPart bytes name encoding) c.attached.result c.hand_out.result c.hand_out.new.answer.text c.hand_out.new.why
+    passes (IsAttached module_ bytes name encoding canonical) (RefusesAttachedTo module_ bytes name encoding canonical) (LacksPart bytes name encoding) c.attached.result c.hand_out.result
+    c.hand_out.new.answer.text c.hand_out.new.why
     c.attached.ensures c.hand_out.ensures

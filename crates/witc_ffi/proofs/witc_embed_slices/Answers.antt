@@ -9,5 +9,6 @@ returns c =
     let name = c.args.name.now in
     let encoding = c.args.encoding in
     let canonical = is_asked c.args.canonical in
-    passes (IsEmbedded bytes name encoding canonical) (RefusesEmbedded bytes name canonical) (LacksPart bytes name encoding) c.embedded.result c.hand_out.result c.hand_out.new.answer.text c.hand_out.new.why
+    passes (IsEmbedded bytes name encoding canonical) (RefusesEmbedded bytes name canonical) (LacksPart bytes name encoding) c.embedded.result c.hand_out.result c.hand_out.new.answer.text
+    c.hand_out.new.why
     c.embedded.ensures c.hand_out.ensures

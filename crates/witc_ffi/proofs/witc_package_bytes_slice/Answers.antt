@@ -8,4 +8,5 @@ returns c =
     let bytes = c.args.bytes.now in
     let canonical = is_asked c.args.canonical in
     passes (EncodesPackage bytes canonical) (RefusesEncoded bytes canonical) NeverBad c.of_bytes.result c.hand_out.result c.hand_out.new.answer.text c.hand_out.new.why
-    (of-bytes (EncodesPackage bytes canonical) (RefusesEncoded bytes canonical) NeverBad c.package_bytes.result c.of_bytes.result c.package_bytes.ensures.encoded c.package_bytes.ensures.refused c.of_bytes.ensures) c.hand_out.ensures
+    (of-bytes (EncodesPackage bytes canonical) (RefusesEncoded bytes canonical) NeverBad c.package_bytes.result c.of_bytes.result c.package_bytes.ensures.encoded c.package_bytes.ensures.refused
+    c.of_bytes.ensures) c.hand_out.ensures

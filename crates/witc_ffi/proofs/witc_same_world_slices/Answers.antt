@@ -8,5 +8,6 @@ returns c =
     let name = c.args.name.now in
     let other = c.args.other.now in
     let other_name = c.args.other_name.now in
-    passes (AreAlike bytes name other other_name) (RefusesAlike bytes name other other_name) (LacksEither bytes name other other_name) c.likened.result c.hand_out.result c.hand_out.new.answer.text c.hand_out.new.why
+    passes (AreAlike bytes name other other_name) (RefusesAlike bytes name other other_name) (LacksEither bytes name other other_name) c.likened.result c.hand_out.result c.hand_out.new.answer.text
+    c.hand_out.new.why
     c.likened.ensures c.hand_out.ensures

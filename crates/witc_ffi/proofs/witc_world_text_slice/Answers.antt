@@ -8,4 +8,5 @@ pub returns : goal.returns
 returns c =
     let bytes = c.args.bytes.now in
     passes (PrintsWorld bytes) (RefusesWorldBytes bytes) NeverBad c.of_bytes.result c.hand_out.result c.hand_out.new.answer.text c.hand_out.new.why
-    (of-bytes (PrintsWorld bytes) (RefusesWorldBytes bytes) NeverBad c.world_text.result c.of_bytes.result c.world_text.ensures.printed c.world_text.ensures.refused c.of_bytes.ensures) c.hand_out.ensures
+    (of-bytes (PrintsWorld bytes) (RefusesWorldBytes bytes) NeverBad c.world_text.result c.of_bytes.result c.world_text.ensures.printed c.world_text.ensures.refused c.of_bytes.ensures)
+    c.hand_out.ensures

@@ -25,13 +25,15 @@ pub returns-in_err-merge_named-clause-refuses : goal.returns-in_err-merge_named-
 returns-in_err-merge_named-clause-refuses c input bytes rest h x =
     let e = c.in_err-merge_named.field-0.0 in
     passed_on (RefusesBindings input) e c.from_residual-in_err-merge_named.result
-    (merge-refused input bytes rest c.args.section.now c.args.bound.now h.read x c.in_ok-other.other c.in_ok-other.ensures.binds e c.in_err-merge_named.ensures.refusal) c.from_residual-in_err-merge_named.ensures.1
+    (merge-refused input bytes rest c.args.section.now c.args.bound.now h.read x c.in_ok-other.other c.in_ok-other.ensures.binds e c.in_err-merge_named.ensures.refusal)
+    c.from_residual-in_err-merge_named.ensures.1
 
 pub returns-in_err-merge_named-clause-size : goal.returns-in_err-merge_named-clause-size
 returns-in_err-merge_named-clause-size c input bytes rest h x =
     let e = c.in_err-merge_named.field-0.0 in
     passed_on (λ (d : Error). d ≡ errors.Size → OutgrowsLists input) e c.from_residual-in_err-merge_named.result
-    (outgrown input bytes rest c.args.section.now c.args.bound.now c.in_ok-other.other h x c.in_ok-other.ensures.binds e c.in_err-merge_named.ensures.refusal) c.from_residual-in_err-merge_named.ensures.1
+    (outgrown input bytes rest c.args.section.now c.args.bound.now c.in_ok-other.other h x c.in_ok-other.ensures.binds e c.in_err-merge_named.ensures.refusal)
+    c.from_residual-in_err-merge_named.ensures.1
 
 pub returns-clause-ok : goal.returns-clause-ok
 returns-clause-ok c input bytes rest h x =

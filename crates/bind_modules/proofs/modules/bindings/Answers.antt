@@ -20,7 +20,8 @@ loop-rest-preserved c = (c.in_ok-rest-2.ensures.ok c.args.bytes.now c.loop-rest.
 pub returns-in_err-rest-2-clause-refuses : goal.returns-in_err-rest-2-clause-refuses
 returns-in_err-rest-2-clause-refuses c =
     passed_on (RefusesBindings c.args.bytes.now) c.in_err-rest-2.field-0.0 c.from_residual-in_err-rest-2.result
-    (c.in_err-rest-2.ensures.refuses c.args.bytes.now (begins-at c.args.bytes.now c.loop-rest.rest.now c.loop-rest.bound c.loop-rest.invariant.0) c.loop-rest.invariant.0) c.from_residual-in_err-rest-2.ensures.1
+    (c.in_err-rest-2.ensures.refuses c.args.bytes.now (begins-at c.args.bytes.now c.loop-rest.rest.now c.loop-rest.bound c.loop-rest.invariant.0) c.loop-rest.invariant.0)
+    c.from_residual-in_err-rest-2.ensures.1
 
 pub returns-in_err-rest-2-clause-size : goal.returns-in_err-rest-2-clause-size
 returns-in_err-rest-2-clause-size c =

@@ -15,7 +15,8 @@ returns-then-first-eq3-clause-refuses c =
 pub returns-in_err-resolve-clause-refuses : goal.returns-in_err-resolve-clause-refuses
 returns-in_err-resolve-clause-refuses c =
     passed_on (RefusesSection c.args.section.now) c.in_err-resolve.field-0.0 c.from_residual.result
-    (unread-section c.args.section.now c.in_err-resolve.field-0.0 (is-something c.args.section.now c.in-Some.first.now c.in-Some.field-0-1.now c.in-Some.ensures.cases.0) (other-begins c.args.section.now c.in-Some.first.now c.in-Some.field-0-1.now c.in-Some.ensures.cases.0 c.if-first-eq3.false) c.in_err-resolve.ensures.refuses) c.from_residual.ensures.1
+    (unread-section c.args.section.now c.in_err-resolve.field-0.0 (is-something c.args.section.now c.in-Some.first.now c.in-Some.field-0-1.now c.in-Some.ensures.cases.0)
+    (other-begins c.args.section.now c.in-Some.first.now c.in-Some.field-0-1.now c.in-Some.ensures.cases.0 c.if-first-eq3.false) c.in_err-resolve.ensures.refuses) c.from_residual.ensures.1
 
 pub returns-in_err-encoding-clause-refuses : goal.returns-in_err-encoding-clause-refuses
 returns-in_err-encoding-clause-refuses c =

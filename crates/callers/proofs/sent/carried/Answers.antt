@@ -14,4 +14,5 @@ returns-clause-same c =
 
 pub returns-clause-valid : goal.returns-clause-valid
 returns-clause-valid c =
-    if-ok (λ (x : Resolve × WorldId). IsDecodedWorld c.deref.result.now x.0 x.1.0) (λ (x : Resolve × WorldId). IsValid x.0) (valid-world c.deref.result.now) c.decode_world.result c.decode_world.ensures.decoded
+    if-ok (λ (x : Resolve × WorldId). IsDecodedWorld c.deref.result.now x.0 x.1.0) (λ (x : Resolve × WorldId). IsValid x.0) (valid-world c.deref.result.now) c.decode_world.result
+    c.decode_world.ensures.decoded

@@ -9,12 +9,15 @@ pub put_item-requires : goal.put_item-requires
 put_item-requires c =
     let r = c.args.resolve.now in
     let next = rest_more deref_pair c.loop-key.key-iterator c.next.new.self c.next.result (c.in-Some.key, c.in-Some.item) c.in-Some.is c.next.ensures.steps in
-    let all : (key_in_range r c.in-Some.key.now && item_in_range r c.in-Some.item.now) && entries_in_range r c.next.new.self ≡ true = subst (λ es. entries_in_range r es ≡ true) next c.loop-key.invariant in
-    second_true (key_in_range r c.in-Some.key.now) (item_in_range r c.in-Some.item.now) (first_true (key_in_range r c.in-Some.key.now && item_in_range r c.in-Some.item.now) (entries_in_range r c.next.new.self) all)
+    let all : (key_in_range r c.in-Some.key.now && item_in_range r c.in-Some.item.now) && entries_in_range r c.next.new.self ≡ true =
+    subst (λ es. entries_in_range r es ≡ true) next c.loop-key.invariant in
+    second_true (key_in_range r c.in-Some.key.now) (item_in_range r c.in-Some.item.now)
+    (first_true (key_in_range r c.in-Some.key.now && item_in_range r c.in-Some.item.now) (entries_in_range r c.next.new.self) all)
 
 pub loop-key-preserved : goal.loop-key-preserved
 loop-key-preserved c =
     let r = c.args.resolve.now in
     let next = rest_more deref_pair c.loop-key.key-iterator c.next.new.self c.next.result (c.in-Some.key, c.in-Some.item) c.in-Some.is c.next.ensures.steps in
-    let all : (key_in_range r c.in-Some.key.now && item_in_range r c.in-Some.item.now) && entries_in_range r c.next.new.self ≡ true = subst (λ es. entries_in_range r es ≡ true) next c.loop-key.invariant in
+    let all : (key_in_range r c.in-Some.key.now && item_in_range r c.in-Some.item.now) && entries_in_range r c.next.new.self ≡ true =
+    subst (λ es. entries_in_range r es ≡ true) next c.loop-key.invariant in
     second_true (key_in_range r c.in-Some.key.now && item_in_range r c.in-Some.item.now) (entries_in_range r c.next.new.self) all

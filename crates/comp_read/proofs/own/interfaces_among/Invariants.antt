@@ -6,4 +6,5 @@ use Rattle.comp_read.proofs.own.interfaces_among.Given as goal
 
 -- what is gathered of so many views
 abbrev pub invariant-loop-sight : goal.invariant-loop-sight
-invariant-loop-sight l = IsGathered (homes_alone l.homes) l.package_number (map numbered_sight l.sights) (map numbered_sight (take l.sight-index l.sights)) l.places.keys (numbered_members l.members.items)
+invariant-loop-sight l = IsGathered (homes_alone l.homes) l.package_number (map numbered_sight l.sights) (map numbered_sight (take l.sight-index l.sights)) l.places.keys
+    (numbered_members l.members.items)

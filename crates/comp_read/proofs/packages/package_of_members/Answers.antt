@@ -66,4 +66,5 @@ returns-in_ok-cause_among-in-None-clause-absent c = λ pieces followed.
     let t = numbered_tables c.args.tables.now in
     let h = homes_in c.args.packages.now c.args.homes.now in
     let ms = c.args.members.now in
-    no_package c.args.followed.now t c.args.tables.now.facts.now h ms c.requires.read pieces followed (none_is t h (known_in c.args.tables.now) ms ms refl c.in_ok-main.field-0 c.in-None.is (c.in_ok-main.ensures c.args.packages.now))
+    no_package c.args.followed.now t c.args.tables.now.facts.now h ms c.requires.read pieces followed
+    (none_is t h (known_in c.args.tables.now) ms ms refl c.in_ok-main.field-0 c.in-None.is (c.in_ok-main.ensures c.args.packages.now))

@@ -21,7 +21,8 @@ built-requires-clause-whole c =
     let h = homes_in c.args.packages.now c.args.homes.now in
     let all = c.deref-2.ensures.value ∙ (c.in_ok-members.ensures ∙ ap (λ (own : List Member). c.args.world ∷ own) c.deref.ensures.value) in
     subst (λ (ms : List Member). MayBeWhole t ms) (sym all)
-    (world_may_be_whole c.args.followed.now t c.args.tables.now.facts.now h c.args.world c.args.scope c.requires.read c.requires.followed.pieces c.requires.followed.followed c.in_ok-own.own.items (c.in_ok-own.ensures.own c.args.packages.now))
+    (world_may_be_whole c.args.followed.now t c.args.tables.now.facts.now h c.args.world c.args.scope c.requires.read c.requires.followed.pieces c.requires.followed.followed c.in_ok-own.own.items
+    (c.in_ok-own.ensures.own c.args.packages.now))
 
 pub built-requires-clause-buildable : goal.built-requires-clause-buildable
 built-requires-clause-buildable c =
@@ -29,7 +30,8 @@ built-requires-clause-buildable c =
     let h = homes_in c.args.packages.now c.args.homes.now in
     let all = c.deref-2.ensures.value ∙ (c.in_ok-members.ensures ∙ ap (λ (own : List Member). c.args.world ∷ own) c.deref.ensures.value) in
     subst (λ (ms : List Member). CanBeBuilt t c.args.packages.now (home_at h) c.args.world.package_number ms) (sym all)
-    (world_can_be_built c.args.followed.now t c.args.tables.now.facts.now h c.args.world c.args.scope c.requires.read c.requires.followed.pieces c.requires.followed.followed c.in_ok-own.own.items (c.in_ok-own.ensures.own c.args.packages.now))
+    (world_can_be_built c.args.followed.now t c.args.tables.now.facts.now h c.args.world c.args.scope c.requires.read c.requires.followed.pieces c.requires.followed.followed c.in_ok-own.own.items
+    (c.in_ok-own.ensures.own c.args.packages.now))
 
 pub returns-clause-holds : goal.returns-clause-holds
 returns-clause-holds c = λ pieces followed.
@@ -39,9 +41,11 @@ returns-clause-holds c = λ pieces followed.
     let own = c.in_ok-own.own.items in
     let all = c.deref-2.ensures.value ∙ (c.in_ok-members.ensures ∙ ap (λ (ms : List Member). c.args.world ∷ ms) c.deref.ensures.value) in
     let mean = world_plans_mean c.args.followed.now t c.args.tables.now.facts.now h c.args.world c.args.scope c.requires.read pieces followed own (c.in_ok-own.ensures.own c.args.packages.now) in
-    let rises = world_packages_rise t h c.requires.read.read.homes n c.args.world c.args.scope c.requires.read.is own (c.in_ok-own.ensures.own c.args.packages.now) (c.in_ok-own.ensures.order c.args.packages.now) c.args.packages.now in
+    let rises = world_packages_rise t h c.requires.read.read.homes n c.args.world c.args.scope c.requires.read.is own (c.in_ok-own.ensures.own c.args.packages.now)
+    (c.in_ok-own.ensures.order c.args.packages.now) c.args.packages.now in
     if_ok c.built.result (λ x. IsBuiltOf t c.args.packages.now (home_at h) n c.deref-2.result.now x.0 x.1.0) (λ x. HoldsWorldFound (world_of_pieces pieces) x.0 x.1.0)
-    (λ x is. world_built t c.args.packages.now (home_at h) n (c.args.world ∷ own) x.0 x.1.0 (subst (λ (ms : List Member). IsBuiltOf t c.args.packages.now (home_at h) n ms x.0 x.1.0) all is) (world_of_pieces pieces) mean rises)
+    (λ x is. world_built t c.args.packages.now (home_at h) n (c.args.world ∷ own) x.0 x.1.0 (subst (λ (ms : List Member). IsBuiltOf t c.args.packages.now (home_at h) n ms x.0 x.1.0) all is)
+    (world_of_pieces pieces) mean rises)
     c.built.ensures.built
 
 pub returns-clause-follows : goal.returns-clause-follows
@@ -55,7 +59,8 @@ returns-clause-follows c = λ pieces followed.
     let beside = c.in_ok-own.ensures.own c.args.packages.now in
     let mean = world_plans_mean c.args.followed.now t facts h c.args.world c.args.scope c.requires.read pieces followed own beside in
     if_ok c.built.result (λ x. IsBuiltOf t c.args.packages.now (home_at h) n c.deref-2.result.now x.0 x.1.0) (λ x. FollowsLevels (Some pieces) x.0)
-    (λ x is. world_in_order c.args.followed.now t facts h c.args.world c.args.scope c.requires.read pieces followed own beside (c.in_ok-own.ensures.order c.args.packages.now) (world_of_pieces pieces) mean x.0 x.1.0
+    (λ x is. world_in_order c.args.followed.now t facts h c.args.world c.args.scope c.requires.read pieces followed own beside (c.in_ok-own.ensures.order c.args.packages.now) (world_of_pieces pieces)
+    mean x.0 x.1.0
     (subst (λ (ms : List Member). IsBuiltOf t c.args.packages.now (home_at h) n ms x.0 x.1.0) all is)) c.built.ensures.built
 
 pub returns-clause-few : goal.returns-clause-few
@@ -70,5 +75,6 @@ returns-clause-few c =
     let mean = world_plans_mean c.args.followed.now t c.args.tables.now.facts.now h c.args.world c.args.scope c.requires.read pieces c.requires.followed.followed own beside in
     let may = world_may_be_whole c.args.followed.now t c.args.tables.now.facts.now h c.args.world c.args.scope c.requires.read pieces c.requires.followed.followed own beside in
     if_ok c.built.result (λ x. IsBuiltOf t c.args.packages.now (home_at h) n c.deref-2.result.now x.0 x.1.0) (λ x. length x.0.types.items ≤ length t.shapes)
-    (λ x is. few_in_world t c.args.packages.now (home_at h) n (c.args.world ∷ own) x.0 x.1.0 (subst (λ (ms : List Member). IsBuiltOf t c.args.packages.now (home_at h) n ms x.0 x.1.0) all is) (world_of_pieces pieces) mean may.fall)
+    (λ x is. few_in_world t c.args.packages.now (home_at h) n (c.args.world ∷ own) x.0 x.1.0 (subst (λ (ms : List Member). IsBuiltOf t c.args.packages.now (home_at h) n ms x.0 x.1.0) all is)
+    (world_of_pieces pieces) mean may.fall)
     c.built.ensures.built

@@ -9,5 +9,6 @@ returns-then-branch c = λ packages. record { one = c.in-Some.ensures; is = c.in
 
 pub returns-else-branch : goal.returns-else-branch
 returns-else-branch c = λ packages.
-    alone_by (numbered_tables c.args.tables.now) (homes_in packages c.args.homes.now) (known_in c.args.tables.now) c.args.members.now c.in-Some.member c.in-Some.ensures c.in-World.scope c.in-World.is false
+    alone_by (numbered_tables c.args.tables.now) (homes_in packages c.args.homes.now) (known_in c.args.tables.now) c.args.members.now c.in-Some.member c.in-Some.ensures c.in-World.scope
+    c.in-World.is false
     (sym (c.in_ok-is_one_world.ensures packages) ∙ c.if-branch.false)

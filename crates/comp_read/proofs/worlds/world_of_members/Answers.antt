@@ -18,4 +18,5 @@ returns-in_ok-cause_of_no_world-in-None-clause-absent c = λ pieces followed.
     let t = numbered_tables c.args.tables.now in
     let h = homes_in c.args.packages.now c.args.homes.now in
     let ms = c.args.members.now in
-    no_world c.args.followed.now t c.args.tables.now.facts.now h ms c.requires.read pieces followed (subst (IsOneWorld t h (known_in c.args.tables.now) ms) c.in-None.is (c.in_ok-world.ensures c.args.packages.now))
+    no_world c.args.followed.now t c.args.tables.now.facts.now h ms c.requires.read pieces followed
+    (subst (IsOneWorld t h (known_in c.args.tables.now) ms) c.in-None.is (c.in_ok-world.ensures c.args.packages.now))

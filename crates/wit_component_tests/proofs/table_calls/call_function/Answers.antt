@@ -14,4 +14,10 @@ encode_func_type-requires c =
     let defined = both-defined c.args.resolve.now _ _
     (subst (λ (ps : List Param). AllDefined c.args.resolve.now (map (λ p. p.ty) ps)) c.deref-2.ensures.value (c.are_defined.ensures c.if-not-are_defined.false))
     (c.is_optional_defined.ensures c.if-not-is_optional_defined.false) in
-    λ _. ((refl, tt), (table-encodes c.args.resolve.now _ (flat_view c.args.table.now) c.requires.table _ inside (all-may-be-met _ _ c.requires.met _), (table-signature c.args.resolve.now _ (flat_view c.args.table.now) c.requires.table c.args.function.now inside (all-may-be-met _ _ c.requires.met _) defined, c.requires.table.agree)))
+    λ _. (
+      (refl, tt),
+      (
+        table-encodes c.args.resolve.now _ (flat_view c.args.table.now) c.requires.table _ inside (all-may-be-met _ _ c.requires.met _),
+        (table-signature c.args.resolve.now _ (flat_view c.args.table.now) c.requires.table c.args.function.now inside (all-may-be-met _ _ c.requires.met _) defined, c.requires.table.agree),
+      ),
+    )

@@ -10,7 +10,9 @@ pub encode_optional_valtype-requires : goal.encode_optional_valtype-requires
 encode_optional_valtype-requires c = λ _. (
   (refl, tt),
   (
-    table-encodes c.args.resolve.now _ (flat_view c.args.table.now) c.requires.table _ (subst (λ (o : Option ValueType). AllInRange c.args.resolve.now (option_to_list o)) (sym c.as_ref.ensures.value) (c.is_optional_in_range.ensures c.if-not-is_optional_in_range.false)) (all-may-be-met _ _ c.requires.met _),
+    table-encodes c.args.resolve.now _ (flat_view c.args.table.now) c.requires.table _
+        (subst (λ (o : Option ValueType). AllInRange c.args.resolve.now (option_to_list o)) (sym c.as_ref.ensures.value) (c.is_optional_in_range.ensures c.if-not-is_optional_in_range.false))
+        (all-may-be-met _ _ c.requires.met _),
     c.requires.table.agree,
   ),
 )

@@ -5,4 +5,5 @@ use Rattle.wit_encode.proofs.Importing.{taken-back}
 use Rattle.wit_interfaces.proofs.encoder.import_instance.Goals as goal
 
 pub returns-in-Err-clause-same : goal.returns-in-Err-clause-same
-returns-in-Err-clause-same c = c.remove.ensures.entries ∙ ap (λ (es : List (ℕ × ℕ)). remove_entry (is_at (nat_cmp c.args.interface.0)) es) c.in_ok-insert.ensures.entries ∙ taken-back c.args.interface.0 _ c.args.instances.now.entries c.requires
+returns-in-Err-clause-same c = c.remove.ensures.entries ∙ ap (λ (es : List (ℕ × ℕ)). remove_entry (is_at (nat_cmp c.args.interface.0)) es) c.in_ok-insert.ensures.entries ∙ taken-back
+    c.args.interface.0 _ c.args.instances.now.entries c.requires

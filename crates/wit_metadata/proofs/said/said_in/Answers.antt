@@ -19,4 +19,5 @@ returns-else-eq c = λ e found custom.
     true≢false (sym (same_text c.in-Ok.name.now section_name (ap (λ (x : List ℕ × List ℕ). x.0) same)) ∙ (sym c.eq.ensures ∙ c.if-eq.false))
 
 pub returns-in-Err : goal.returns-in-Err
-returns-in-Err c = rw c.passed_over.ensures (λ e found custom. name-refused (c.args.id, c.args.contents.now) c.if-id-ne0.false c.in-Err.error c.in-Err.ensures (λ named. ((section_name, found), custom)))
+returns-in-Err c = rw c.passed_over.ensures (λ e found custom. name-refused (c.args.id, c.args.contents.now) c.if-id-ne0.false c.in-Err.error c.in-Err.ensures
+    (λ named. ((section_name, found), custom)))

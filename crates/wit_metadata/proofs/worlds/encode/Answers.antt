@@ -29,7 +29,8 @@ returns-in_err-component-clause-size c = λ h.
 pub returns-in_err-custom_section-clause-size : goal.returns-in_err-custom_section-clause-size
 returns-in_err-custom_section-clause-size c = λ h.
     says-fits c.args.encoding _
-    (subst (λ (ps : List Part). fits_component ps ≡ false) (said c.new-builder.result _ c.args.encoding c.encoding_byte.result c.new-builder.ensures refl c.encoding_byte.ensures) (c.custom_section.ensures.size (search rules)))
+    (subst (λ (ps : List Part). fits_component ps ≡ false) (said c.new-builder.result _ c.args.encoding c.encoding_byte.result c.new-builder.ensures refl c.encoding_byte.ensures)
+    (c.custom_section.ensures.size (search rules)))
 
 pub returns-in_err-export_component_type-clause-size : goal.returns-in_err-export_component_type-clause-size
 returns-in_err-export_component_type-clause-size c = λ h.
@@ -42,7 +43,8 @@ returns-in_err-export_component_type-clause-size c = λ h.
     let is = wrapped-at r c.requires.valid c.args.canonical_names n def ds c.package_name-package.result.now at c.package_name-package.ensures c.in_ok-component.ensures.wraps in
     let front = said c.new-builder.result c.custom_section.new.self e c.encoding_byte.result c.new-builder.ensures c.in_ok-custom_section.ensures.ok c.encoding_byte.ensures in
     let lacks = c.export_component_type.ensures.size (search rules) in
-    let behind = subst (λ (ps : List Part). (fits_component (ps ++ Part.top_type (TopType.component ds) ∷ []) && fits_component (ps ++ one_exported (top_slots ps) (c.deref.result.now, ds))) ≡ false) front lacks in
+    let behind = subst (λ (ps : List Part). (fits_component (ps ++ Part.top_type (TopType.component ds) ∷ []) && fits_component (ps ++ one_exported (top_slots ps) (c.deref.result.now, ds))) ≡ false)
+    front lacks in
     long-export r n def at is.home e ds c.args.canonical_names is.wraps
     (subst (λ (t : Text). (fits_component (encoding_part e ∷ Part.top_type (TopType.component ds) ∷ []) && fits_component (encoding_part e ∷ one_exported 0 (t, ds))) ≡ false) c.deref.ensures behind)
 
@@ -58,7 +60,8 @@ returns-clause-means c =
     let front = said c.new-builder.result c.custom_section.new.self e c.encoding_byte.result c.new-builder.ensures c.in_ok-custom_section.ensures.ok c.encoding_byte.ensures in
     let whole = built c.custom_section.new.self c.export_component_type.new.builder e c.deref.result.now (text_of def.name) ds front c.deref.ensures c.in_ok-export_component_type.ensures.ok in
     IfOk-weaker c.finish.result (λ bytes. IsComponent (sections_of_parts c.export_component_type.new.builder) bytes.items) (λ bytes. MeansWorld r n bytes.items)
-    (λ bytes spelled. world-meant r c.requires.valid n def at is.home e ds c.args.canonical_names is.wraps bytes.items (subst (λ (ps : List Part). IsComponent (sections_of_parts ps) bytes.items) whole spelled)) c.finish.ensures.spelled
+    (λ bytes spelled. world-meant r c.requires.valid n def at is.home e ds c.args.canonical_names is.wraps bytes.items
+    (subst (λ (ps : List Part). IsComponent (sections_of_parts ps) bytes.items) whole spelled)) c.finish.ensures.spelled
 
 pub returns-clause-encoding : goal.returns-clause-encoding
 returns-clause-encoding c =
@@ -72,7 +75,8 @@ returns-clause-encoding c =
     let front = said c.new-builder.result c.custom_section.new.self e c.encoding_byte.result c.new-builder.ensures c.in_ok-custom_section.ensures.ok c.encoding_byte.ensures in
     let whole = built c.custom_section.new.self c.export_component_type.new.builder e c.deref.result.now (text_of def.name) ds front c.deref.ensures c.in_ok-export_component_type.ensures.ok in
     IfOk-weaker c.finish.result (λ bytes. IsComponent (sections_of_parts c.export_component_type.new.builder) bytes.items) (λ bytes. CarriesEncoding e bytes.items)
-    (λ bytes spelled. encoding-carried r c.requires.valid n def at is.home e ds c.args.canonical_names is.wraps bytes.items (subst (λ (ps : List Part). IsComponent (sections_of_parts ps) bytes.items) whole spelled)) c.finish.ensures.spelled
+    (λ bytes spelled. encoding-carried r c.requires.valid n def at is.home e ds c.args.canonical_names is.wraps bytes.items
+    (subst (λ (ps : List Part). IsComponent (sections_of_parts ps) bytes.items) whole spelled)) c.finish.ensures.spelled
 
 pub returns-clause-carries : goal.returns-clause-carries
 returns-clause-carries c =
@@ -86,7 +90,8 @@ returns-clause-carries c =
     let front = said c.new-builder.result c.custom_section.new.self e c.encoding_byte.result c.new-builder.ensures c.in_ok-custom_section.ensures.ok c.encoding_byte.ensures in
     let whole = built c.custom_section.new.self c.export_component_type.new.builder e c.deref.result.now (text_of def.name) ds front c.deref.ensures c.in_ok-export_component_type.ensures.ok in
     let ps = c.export_component_type.new.builder in
-    IfOk-weaker c.finish.result (λ bytes. (bytes.items ≡ component_bytes (sections_of_parts ps)) × IsComponent (sections_of_parts ps) bytes.items) (λ bytes. CarriesWorld r c.args.canonical_names n e bytes.items)
+    IfOk-weaker c.finish.result (λ bytes. (bytes.items ≡ component_bytes (sections_of_parts ps)) × IsComponent (sections_of_parts ps) bytes.items)
+    (λ bytes. CarriesWorld r c.args.canonical_names n e bytes.items)
     (λ bytes written. world-carried r c.requires.valid n def at is.home e ds c.args.canonical_names is.wraps bytes.items
     (subst (λ (ps : List Part). IsComponent (sections_of_parts ps) bytes.items) whole written.1) (subst (λ (ps : List Part). bytes.items ≡ component_bytes (sections_of_parts ps)) whole written.0))
     (both-of (λ bytes. bytes.items ≡ component_bytes (sections_of_parts ps)) (λ bytes. IsComponent (sections_of_parts ps) bytes.items) c.finish.result c.finish.ensures.ok c.finish.ensures.spelled)

@@ -15,7 +15,8 @@ returns-in_err-package-clause-unknown c =
     let bytes = c.args.bytes.now in
     let e = c.in_err-package.field-0.0 in
     passed (IsUnknown bytes) c.from_residual.result e c.from_residual.ensures.1
-    (open-told bytes c.decode.result e c.in_err-package.ensures (err_said (RefusesBytes bytes) (λ (d : Error). d ≡ Size → OutgrowsLists bytes) (package-fits bytes (OutgrowsLists bytes)) c.decode.result c.decode.ensures.refuses))
+    (open-told bytes c.decode.result e c.in_err-package.ensures (err_said (RefusesBytes bytes) (λ (d : Error). d ≡ Size → OutgrowsLists bytes) (package-fits bytes (OutgrowsLists bytes))
+    c.decode.result c.decode.ensures.refuses))
 
 pub returns-clause-kinds : goal.returns-clause-kinds
 returns-clause-kinds c =

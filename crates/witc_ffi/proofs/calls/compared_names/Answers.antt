@@ -33,4 +33,5 @@ returns-in-Err c =
     let bytes = c.args.bytes.now in
     let prev = c.args.prev.now in
     let next = c.args.next.now in
-    of-refused (IsCompatible bytes prev next) (RefusesWorlds bytes prev next) (LacksWorld bytes prev next) c.in-Err.error c.refusal.result (record { texts = c.requires; refuses = c.in-Err.ensures.refused }) c.refusal.ensures
+    of-refused (IsCompatible bytes prev next) (RefusesWorlds bytes prev next) (LacksWorld bytes prev next) c.in-Err.error c.refusal.result
+    (record { texts = c.requires; refuses = c.in-Err.ensures.refused }) c.refusal.ensures

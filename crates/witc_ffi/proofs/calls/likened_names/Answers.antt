@@ -30,7 +30,8 @@ returns-in-Ok-NoSecond c =
     let other = c.args.other.now in
     let other_name = c.args.other_name.now in
     of-bad (AreAlike bytes name other other_name) (RefusesAlike bytes name other other_name) (LacksEither bytes name other other_name) (no_such_world other_name) (world_why other_name)
-    c.no_world-in-Ok-NoSecond.result (no_second c.requires (subst (ComparesTwo bytes name other other_name) c.in-Ok-NoSecond.field-0-is c.in-Ok-NoSecond.ensures.compared)) c.no_world-in-Ok-NoSecond.ensures
+    c.no_world-in-Ok-NoSecond.result (no_second c.requires (subst (ComparesTwo bytes name other other_name) c.in-Ok-NoSecond.field-0-is c.in-Ok-NoSecond.ensures.compared))
+    c.no_world-in-Ok-NoSecond.ensures
 
 pub returns-in-Err : goal.returns-in-Err
 returns-in-Err c =

@@ -8,7 +8,8 @@ use Rattle.witc_ffi.proofs.calls.stripped.Goals as goal
 pub returns-in-Ok-Some : goal.returns-in-Ok-Some
 returns-in-Ok-Some c =
     let bytes = c.args.bytes.now in
-    of-done (StripsBytes bytes) (RefusesBound bytes) NeverBad c.in-Ok-Some.text.items c.done.result (part-left bytes _ c.in-Ok-Some.text c.in-Ok-Some.field-0-is c.in-Ok-Some.ensures.stripped) c.done.ensures
+    of-done (StripsBytes bytes) (RefusesBound bytes) NeverBad c.in-Ok-Some.text.items c.done.result (part-left bytes _ c.in-Ok-Some.text c.in-Ok-Some.field-0-is c.in-Ok-Some.ensures.stripped)
+    c.done.ensures
 
 pub returns-in-Err : goal.returns-in-Err
 returns-in-Err c =

@@ -24,7 +24,8 @@ pub returns-in_err-data-clause-refused : goal.returns-in_err-data-clause-refused
 returns-in_err-data-clause-refused c =
     let e = c.in_err-data.field-0.0 in
     passed (RefusesEmbedded c.args.bytes.now c.args.name.now c.args.canonical_names) c.from_residual-in_err-data.result e c.from_residual-in_err-data.ensures.1
-    (unwritten c.in_ok-resolve.resolve c.in_ok-resolve.id.0 c.in-Some.world e c.in_ok-resolve.ensures.decoded c.in-Some.ensures c.in_err-data.ensures.refuses (λ is. c.in_err-data.ensures.size (ap Err is)))
+    (unwritten c.in_ok-resolve.resolve c.in_ok-resolve.id.0 c.in-Some.world e c.in_ok-resolve.ensures.decoded c.in-Some.ensures c.in_err-data.ensures.refuses
+    (λ is. c.in_err-data.ensures.size (ap Err is)))
 
 pub returns-clause-embedded : goal.returns-clause-embedded
 returns-clause-embedded c = record {

@@ -17,17 +17,21 @@ pub import_interface-requires-clause-can : goal.import_interface-requires-clause
 import_interface-requires-clause-can c = c.loop-interface.invariant.leaves.can
 
 pub import_interface-requires-clause-named : goal.import_interface-requires-clause-named
-import_interface-requires-clause-named c = next-named c.args.self.now c.loop-interface.self c.args.interfaces.now c.loop-interface.interface-index c.loop-interface-test.true c.requires.importable c.loop-interface.invariant.leaves c.loop-interface.invariant.stand
+import_interface-requires-clause-named c = next-named c.args.self.now c.loop-interface.self c.args.interfaces.now c.loop-interface.interface-index c.loop-interface-test.true c.requires.importable
+    c.loop-interface.invariant.leaves c.loop-interface.invariant.stand
 
 pub import_interface-requires-clause-uses : goal.import_interface-requires-clause-uses
-import_interface-requires-clause-uses c = next-uses c.args.self.now c.loop-interface.self c.args.interfaces.now c.loop-interface.interface-index c.loop-interface-test.true c.requires.importable c.loop-interface.invariant.leaves c.loop-interface.invariant.stand
+import_interface-requires-clause-uses c = next-uses c.args.self.now c.loop-interface.self c.args.interfaces.now c.loop-interface.interface-index c.loop-interface-test.true c.requires.importable
+    c.loop-interface.invariant.leaves c.loop-interface.invariant.stand
 
 pub loop-interface-preserved : goal.loop-interface-preserved
 loop-interface-preserved c = record {
   leaves = leaves-both c.args.self.now c.loop-interface.self c.import_interface.new.self c.loop-interface.invariant.leaves c.import_interface.ensures.leaves;
-  stand = all-stand c.args.self.now c.loop-interface.self c.args.interfaces.now c.loop-interface.interface-index c.loop-interface-test.true c.requires.importable c.loop-interface.invariant.leaves c.loop-interface.invariant.stand c.import_interface.new.self
+  stand = all-stand c.args.self.now c.loop-interface.self c.args.interfaces.now c.loop-interface.interface-index c.loop-interface-test.true c.requires.importable c.loop-interface.invariant.leaves
+      c.loop-interface.invariant.stand c.import_interface.new.self
       c.import_interface.ensures.leaves c.in_ok-import_interface.ensures.stands;
-  imports = all-imported c.args.self.now c.loop-interface.self c.args.interfaces.now c.loop-interface.interface-index c.loop-interface-test.true c.requires.importable c.loop-interface.invariant.leaves c.loop-interface.invariant.stand c.import_interface.new.self
+  imports = all-imported c.args.self.now c.loop-interface.self c.args.interfaces.now c.loop-interface.interface-index c.loop-interface-test.true c.requires.importable c.loop-interface.invariant.leaves
+      c.loop-interface.invariant.stand c.import_interface.new.self
       c.loop-interface.invariant.imports c.in_ok-import_interface.ensures.ok c.import_interface.ensures.leaves;
 }
 
@@ -38,13 +42,16 @@ pub returns-in_err-import_interface-clause-leaves : goal.returns-in_err-import_i
 returns-in_err-import_interface-clause-leaves c = leaves-both c.args.self.now c.loop-interface.self c.import_interface.new.self c.loop-interface.invariant.leaves c.import_interface.ensures.leaves
 
 pub returns-in_err-import_interface-clause-size : goal.returns-in_err-import_interface-clause-size
-returns-in_err-import_interface-clause-size c = λ h. next-lacks c.args.self.now c.loop-interface.self c.args.interfaces.now c.loop-interface.interface-index c.loop-interface-test.true c.requires.importable c.loop-interface.invariant.leaves c.loop-interface.invariant.stand
+returns-in_err-import_interface-clause-size c = λ h. next-lacks c.args.self.now c.loop-interface.self c.args.interfaces.now c.loop-interface.interface-index c.loop-interface-test.true
+    c.requires.importable c.loop-interface.invariant.leaves c.loop-interface.invariant.stand
     c.loop-interface.invariant.imports (c.import_interface.ensures.size (search rules))
 
 pub returns-in_err-import_interface-clause-err : goal.returns-in_err-import_interface-clause-err
 returns-in_err-import_interface-clause-err c = on-err _
-    (next-in-part c.args.self.now c.loop-interface.self c.args.interfaces.now c.loop-interface.interface-index c.loop-interface-test.true c.requires.importable c.loop-interface.invariant.leaves c.loop-interface.invariant.stand
+    (next-in-part c.args.self.now c.loop-interface.self c.args.interfaces.now c.loop-interface.interface-index c.loop-interface-test.true c.requires.importable c.loop-interface.invariant.leaves
+    c.loop-interface.invariant.stand
     c.import_interface.new.self c.loop-interface.invariant.imports (search rules))
 
 pub returns-clause-stand : goal.returns-clause-stand
-returns-clause-stand c = λ n h. c.loop-interface.invariant.stand n (subst (λ (xs : List ℕ). Contains xs n) (sym (all-taken c.args.interfaces.now c.loop-interface.interface-index c.loop-interface-test.false)) h)
+returns-clause-stand c = λ n h. c.loop-interface.invariant.stand n (subst (λ (xs : List ℕ). Contains xs n)
+    (sym (all-taken c.args.interfaces.now c.loop-interface.interface-index c.loop-interface-test.false)) h)

@@ -16,7 +16,8 @@ use Rattle.encode_types.proofs.Aliasing.{met-none}
 use Rattle.wit_interfaces.proofs.encoder.InterfaceEncoder.import_first.Goals as goal
 use Rattle.base_lemmas.proofs.Options.{at_err as on-err, there as some-of}
 
-there : (e : InterfaceEncoder) (i : ℕ) → is_some (interface_path (interface_encoder_view e).scope.packages i) ≡ true → (def : Interface) × (interface_at (interface_encoder_view e).scope.packages i ≡ Some def)
+there : (e : InterfaceEncoder) (i : ℕ) → is_some (interface_path (interface_encoder_view e).scope.packages i) ≡ true → (def : Interface)
+    × (interface_at (interface_encoder_view e).scope.packages i ≡ Some def)
 there e i named = let r = (interface_encoder_view e).scope.packages in found-in r.interfaces.items i (lt-ltb i (length r.interfaces.items) (path-in-range r i named))
 
 path : (e : InterfaceEncoder) (i : ℕ) → is_some (interface_path (interface_encoder_view e).scope.packages i) ≡ true → (t : Text) × (interface_path (interface_encoder_view e).scope.packages i ≡ Some t)
@@ -32,14 +33,16 @@ pub import_instance-requires : goal.import_instance-requires
 import_instance-requires c =
     let e = c.args.self.now in
     let found = there e c.args.interface.0 c.requires.named in
-    first-listed e.encoder.resolve.now (component_of e) (world_around c.define_dependency.new.self) c.args.interface found.0 c.in_ok-slot.slot (c.in_ok-slot.ensures.ok found.0 found.1) c.requires.first
+    first-listed e.encoder.resolve.now (component_of e) (world_around c.define_dependency.new.self) c.args.interface found.0 c.in_ok-slot.slot (c.in_ok-slot.ensures.ok found.0 found.1)
+    c.requires.first
 
 made-in : {A E P : Type 0} (res : Result A E) → IsErr res → OnErr res P → P
 made-in (Ok x) h p = absurd (let z : ⊥ = cc in z)
 made-in (Err e) h p = p
 
 pub returns-in_err-slot-clause-leaves : goal.returns-in_err-slot-clause-leaves
-returns-in_err-slot-clause-leaves c = aliases-leave c.args.self.now c.requires.can c.define_dependency.new.self c.define_dependency.ensures.rest (made-in c.define_dependency.result (search rules) c.define_dependency.ensures.err).made.grown
+returns-in_err-slot-clause-leaves c = aliases-leave c.args.self.now c.requires.can c.define_dependency.new.self c.define_dependency.ensures.rest
+    (made-in c.define_dependency.result (search rules) c.define_dependency.ensures.err).made.grown
 
 pub returns-in_err-slot-clause-size : goal.returns-in_err-slot-clause-size
 returns-in_err-slot-clause-size c = λ h.
@@ -53,32 +56,40 @@ returns-clause-leaves c =
     let e = c.args.self.now in
     let found = there e c.args.interface.0 c.requires.named in
     let named = path e c.args.interface.0 c.requires.named in
-    import-leaves e c.requires.can c.define_dependency.new.self c.define_dependency.ensures.rest c.args.interface found.0 c.in_ok-slot.slot found.1 (c.in_ok-slot.ensures.ok found.0 found.1) named.0 named.1
-    _ c.in_ok-name.ensures.ok c.import_instance.new.outer (record c.define_dependency.new.self.foreign { instances = c.import_instance.new.instances }) c.in_ok-import_instance.ensures.ok c.in_ok-import_instance.ensures.listed refl
+    import-leaves e c.requires.can c.define_dependency.new.self c.define_dependency.ensures.rest c.args.interface found.0 c.in_ok-slot.slot found.1 (c.in_ok-slot.ensures.ok found.0 found.1)
+    named.0 named.1
+    _ c.in_ok-name.ensures.ok c.import_instance.new.outer (record c.define_dependency.new.self.foreign { instances = c.import_instance.new.instances }) c.in_ok-import_instance.ensures.ok
+    c.in_ok-import_instance.ensures.listed refl
 
 pub returns-clause-stands : goal.returns-clause-stands
 returns-clause-stands c =
     let e = c.args.self.now in
     let found = there e c.args.interface.0 c.requires.named in
     let named = path e c.args.interface.0 c.requires.named in
-    import-stands e c.requires.can c.define_dependency.new.self c.define_dependency.ensures.rest c.args.interface found.0 c.in_ok-slot.slot found.1 (c.in_ok-slot.ensures.ok found.0 found.1) named.0 named.1
-    _ c.in_ok-name.ensures.ok c.import_instance.new.outer (record c.define_dependency.new.self.foreign { instances = c.import_instance.new.instances }) c.in_ok-import_instance.ensures.ok c.in_ok-import_instance.ensures.listed refl
+    import-stands e c.requires.can c.define_dependency.new.self c.define_dependency.ensures.rest c.args.interface found.0 c.in_ok-slot.slot found.1 (c.in_ok-slot.ensures.ok found.0 found.1)
+    named.0 named.1
+    _ c.in_ok-name.ensures.ok c.import_instance.new.outer (record c.define_dependency.new.self.foreign { instances = c.import_instance.new.instances }) c.in_ok-import_instance.ensures.ok
+    c.in_ok-import_instance.ensures.listed refl
 
 pub returns-clause-ok : goal.returns-clause-ok
 returns-clause-ok c =
     let e = c.args.self.now in
     let found = there e c.args.interface.0 c.requires.named in
     let named = path e c.args.interface.0 c.requires.named in
-    import-made e c.requires.can c.define_dependency.new.self c.define_dependency.ensures.rest c.args.interface found.0 c.in_ok-slot.slot found.1 (c.in_ok-slot.ensures.ok found.0 found.1) named.0 named.1
-    _ c.in_ok-name.ensures.ok c.import_instance.new.outer (record c.define_dependency.new.self.foreign { instances = c.import_instance.new.instances }) c.in_ok-import_instance.ensures.ok c.in_ok-import_instance.ensures.listed refl c.requires.first
+    import-made e c.requires.can c.define_dependency.new.self c.define_dependency.ensures.rest c.args.interface found.0 c.in_ok-slot.slot found.1 (c.in_ok-slot.ensures.ok found.0 found.1)
+    named.0 named.1
+    _ c.in_ok-name.ensures.ok c.import_instance.new.outer (record c.define_dependency.new.self.foreign { instances = c.import_instance.new.instances }) c.in_ok-import_instance.ensures.ok
+    c.in_ok-import_instance.ensures.listed refl c.requires.first
 
 pub prove-unreachable-requires : goal.prove-unreachable-requires
 prove-unreachable-requires c =
     let e = c.args.self.now in
     let found = there e c.args.interface.0 c.requires.named in
     let named = path e c.args.interface.0 c.requires.named in
-    let room = import-room e c.requires.can c.define_dependency.new.self c.define_dependency.ensures.rest c.args.interface found.0 c.in_ok-slot.slot found.1 (c.in_ok-slot.ensures.ok found.0 found.1) named.0 named.1
-    _ c.in_ok-name.ensures.ok c.import_instance.new.outer (record c.define_dependency.new.self.foreign { instances = c.import_instance.new.instances }) c.in_ok-import_instance.ensures.ok c.in_ok-import_instance.ensures.listed refl in
+    let room = import-room e c.requires.can c.define_dependency.new.self c.define_dependency.ensures.rest c.args.interface found.0 c.in_ok-slot.slot found.1 (c.in_ok-slot.ensures.ok found.0 found.1)
+    named.0 named.1
+    _ c.in_ok-name.ensures.ok c.import_instance.new.outer (record c.define_dependency.new.self.foreign { instances = c.import_instance.new.instances }) c.in_ok-import_instance.ensures.ok
+    c.in_ok-import_instance.ensures.listed refl in
     let counted = c.type_count.ensures in
     let over = c.if-prove.true in
     omega (arith, room, counted, over)
@@ -88,7 +99,8 @@ returns-in_err-import_instance-clause-leaves c =
     let e = c.args.self.now in
     let found = there e c.args.interface.0 c.requires.named in
     let named = path e c.args.interface.0 c.requires.named in
-    part-leaves e c.requires.can c.define_dependency.new.self c.define_dependency.ensures.rest c.args.interface found.0 c.in_ok-slot.slot found.1 (c.in_ok-slot.ensures.ok found.0 found.1) named.0 named.1
+    part-leaves e c.requires.can c.define_dependency.new.self c.define_dependency.ensures.rest c.args.interface found.0 c.in_ok-slot.slot found.1 (c.in_ok-slot.ensures.ok found.0 found.1)
+    named.0 named.1
     c.import_instance.new.outer (record c.define_dependency.new.self.foreign { instances = c.import_instance.new.instances }) (search rules) (search rules) refl
 
 pub returns-in_err-import_instance-clause-err : goal.returns-in_err-import_instance-clause-err
@@ -96,7 +108,8 @@ returns-in_err-import_instance-clause-err c =
     let e = c.args.self.now in
     let found = there e c.args.interface.0 c.requires.named in
     let named = path e c.args.interface.0 c.requires.named in
-    on-err _ (unused found.0 c.in_ok-slot.slot found.1 (part-left e c.requires.can c.define_dependency.new.self c.define_dependency.ensures.rest c.args.interface found.0 c.in_ok-slot.slot found.1 (c.in_ok-slot.ensures.ok found.0 found.1) named.0 named.1
+    on-err _ (unused found.0 c.in_ok-slot.slot found.1 (part-left e c.requires.can c.define_dependency.new.self c.define_dependency.ensures.rest c.args.interface found.0 c.in_ok-slot.slot found.1
+    (c.in_ok-slot.ensures.ok found.0 found.1) named.0 named.1
     c.import_instance.new.outer (record c.define_dependency.new.self.foreign { instances = c.import_instance.new.instances }) (search rules) (search rules) refl))
 
 pub returns-in_err-import_instance-clause-size : goal.returns-in_err-import_instance-clause-size
@@ -105,7 +118,8 @@ returns-in_err-import_instance-clause-size c = λ h.
     let found = there e c.args.interface.0 c.requires.named in
     let named = path e c.args.interface.0 c.requires.named in
     let refused = c.import_instance.ensures.size (search rules) in
-    import-lacks e.encoder.resolve.now e.canonical_names (component_of e) (world_around c.define_dependency.new.self) c.args.interface found.0 [] c.in_ok-slot.slot found.1 (c.in_ok-slot.ensures.ok found.0 found.1).part _ c.in_ok-name.ensures.ok refused
+    import-lacks e.encoder.resolve.now e.canonical_names (component_of e) (world_around c.define_dependency.new.self) c.args.interface found.0 [] c.in_ok-slot.slot found.1
+    (c.in_ok-slot.ensures.ok found.0 found.1).part _ c.in_ok-name.ensures.ok refused
 
 pub returns-in_err-name-clause-err : goal.returns-in_err-name-clause-err
 returns-in_err-name-clause-err c =

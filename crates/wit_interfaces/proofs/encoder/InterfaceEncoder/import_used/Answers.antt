@@ -16,7 +16,8 @@ import_all-requires-clause-importable c = subst (λ (xs : List InterfaceId). Are
 
 pub returns-clause-uses : goal.returns-clause-uses
 returns-clause-uses c = on-each c.import_all.result (λ stand j d. stand j (subst (λ (xs : List InterfaceId). Contains (numbers xs) j) (sym c.deref.ensures.value)
-    (reached-used c.args.self.now.encoder.resolve.now c.args.interface.0 (numbers c.in_ok-reached.reached.items) c.in_ok-reached.ensures.reached j (subst (λ (r : Resolve). Contains (direct_deps r c.args.interface.0) j) c.import_all.ensures.leaves.packages_ d)))) c.import_all.ensures.stand
+    (reached-used c.args.self.now.encoder.resolve.now c.args.interface.0 (numbers c.in_ok-reached.reached.items) c.in_ok-reached.ensures.reached j
+    (subst (λ (r : Resolve). Contains (direct_deps r c.args.interface.0) j) c.import_all.ensures.leaves.packages_ d)))) c.import_all.ensures.stand
 
 pub returns-in_err-reached-clause-err : goal.returns-in_err-reached-clause-err
 returns-in_err-reached-clause-err c = on-err _ (unchanged refl)
