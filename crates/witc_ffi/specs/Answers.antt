@@ -130,6 +130,17 @@ abbrev pub TellsAttached : List ℕ → List ℕ → List ℕ → ℕ → Bool �
 TellsAttached module_ bytes name encoding canonical =
     Tells (IsAttached module_ bytes name encoding canonical) (RefusesAttachedTo module_ bytes name encoding canonical) (LacksPart bytes name encoding)
 
+-- what is answered of a world that is embedded
+abbrev pub AnswersEmbedded : List ℕ → List ℕ → ℕ → ℕ → ℕ → List ℕ → Why → Type 0
+AnswersEmbedded bytes name encoding canonical =
+    Answers (IsEmbedded bytes name encoding (is_asked canonical)) (RefusesEmbedded bytes name (is_asked canonical)) (LacksPart bytes name encoding)
+
+-- what is answered of a module to which a world is attached
+abbrev pub AnswersAttached : List ℕ → List ℕ → List ℕ → ℕ → ℕ → ℕ → List ℕ → Why → Type 0
+AnswersAttached module_ bytes name encoding canonical =
+    Answers (IsAttached module_ bytes name encoding (is_asked canonical)) (RefusesAttachedTo module_ bytes name encoding (is_asked canonical))
+    (LacksPart bytes name encoding)
+
 -- ---- the sections of a module
 
 abbrev pub no_section : List ℕ
@@ -166,6 +177,24 @@ pub data LacksEither (bytes name other other_name : List ℕ) : List ℕ → Why
   no_second : AreTexts name other_name → ComparesTwo bytes name other other_name alike.NoSecond
       → LacksEither bytes name other other_name (no_such_world other_name) (world_why other_name)
   no_texts : (is_utf8 name && is_utf8 other_name) ≡ false → LacksEither bytes name other other_name not_utf8 (plain_why 18)
+
+-- what comes of two names of worlds of a package
+abbrev pub TellsCompared : List ℕ → List ℕ → List ℕ → Outcome → Type 0
+TellsCompared bytes prev next = Tells (IsCompatible bytes prev next) (RefusesWorlds bytes prev next) (LacksWorld bytes prev next)
+
+-- what is answered of them
+abbrev pub AnswersCompared : List ℕ → List ℕ → List ℕ → ℕ → List ℕ → Why → Type 0
+AnswersCompared bytes prev next = Answers (IsCompatible bytes prev next) (RefusesWorlds bytes prev next) (LacksWorld bytes prev next)
+
+-- what comes of two packages and a name of a world of each
+abbrev pub TellsAlike : List ℕ → List ℕ → List ℕ → List ℕ → Outcome → Type 0
+TellsAlike bytes name other other_name =
+    Tells (AreAlike bytes name other other_name) (RefusesAlike bytes name other other_name) (LacksEither bytes name other other_name)
+
+-- what is answered of them
+abbrev pub AnswersAlike : List ℕ → List ℕ → List ℕ → List ℕ → ℕ → List ℕ → Why → Type 0
+AnswersAlike bytes name other other_name =
+    Answers (AreAlike bytes name other other_name) (RefusesAlike bytes name other other_name) (LacksEither bytes name other other_name)
 
 -- What the bytes are; or 128, where memory was wanting or a list would get too long.
 pub data KindsAnswers (bytes : List ℕ) : ℕ → Type 0 where

@@ -2,8 +2,7 @@
 
 ghost use Rattle.std.specs.Prelude.{◌≡◌, true, false, IfOk, MatchOption};
 ghost use Rattle.std.specs.Str.{is_utf8};
-ghost use Rattle.witc_ffi.specs.Answers.{AreAlike, AreTexts, IsCompatible, IsSection, KindsAnswers, LacksEither, LacksSection};
-ghost use Rattle.witc_ffi.specs.Answers.{LacksWorld, NeverBad, RefusesAlike, RefusesBound, RefusesWorlds, Tells, TellsAttached, TellsEmbedded, is_asked};
+ghost use Rattle.witc_ffi.specs.Answers.{AreTexts, IsSection, KindsAnswers, LacksSection, NeverBad, RefusesBound, Tells, TellsAlike, TellsAttached, TellsCompared, TellsEmbedded, is_asked};
 ghost use Rattle.witc_ffi.specs.Answers.{encoding_of as encoding_of_number, no_encoding as no_encoding_text};
 ghost use Rattle.witc_ffi.specs.Outcomes.{IsOutcome};
 ghost use Rattle.witc_alike.specs.Carried.{RefusesWalk};
@@ -42,7 +41,7 @@ pub fn compared(
     prev: &[u8],
     next: &[u8],
 ) -> Result<Outcome, AllocError>
-    ensures { IfOk result (Tells (IsCompatible bytes.now prev.now next.now) (RefusesWorlds bytes.now prev.now next.now) (LacksWorld bytes.now prev.now next.now)) }
+    ensures { IfOk result (TellsCompared bytes.now prev.now next.now) }
 {
     let Some(prev) = text_of(prev) else {
         return bad(alloc, NOT_UTF8, "the name of a world isn't UTF-8");
@@ -70,7 +69,7 @@ fn compared_names(
     next: &str,
 ) -> Result<Outcome, AllocError>
     requires { AreTexts prev.now next.now }
-    ensures { IfOk result (Tells (IsCompatible bytes.now prev.now next.now) (RefusesWorlds bytes.now prev.now next.now) (LacksWorld bytes.now prev.now next.now)) }
+    ensures { IfOk result (TellsCompared bytes.now prev.now next.now) }
 {
     match compat(alloc, bytes, prev, next) {
         Ok(Compared::Compatible) => Ok(done(Vec::new(alloc))),
@@ -195,7 +194,7 @@ pub fn likened(
     other: &[u8],
     other_name: &[u8],
 ) -> Result<Outcome, AllocError>
-    ensures { IfOk result (Tells (AreAlike bytes.now name.now other.now other_name.now) (RefusesAlike bytes.now name.now other.now other_name.now) (LacksEither bytes.now name.now other.now other_name.now)) }
+    ensures { IfOk result (TellsAlike bytes.now name.now other.now other_name.now) }
 {
     let Some(name) = text_of(name) else {
         return bad(alloc, NOT_UTF8, "the name of a world isn't UTF-8");
@@ -214,7 +213,7 @@ fn likened_names(
     other_name: &str,
 ) -> Result<Outcome, AllocError>
     requires { AreTexts name.now other_name.now }
-    ensures { IfOk result (Tells (AreAlike bytes.now name.now other.now other_name.now) (RefusesAlike bytes.now name.now other.now other_name.now) (LacksEither bytes.now name.now other.now other_name.now)) }
+    ensures { IfOk result (TellsAlike bytes.now name.now other.now other_name.now) }
 {
     match liken(alloc, bytes, name, other, other_name) {
         Ok(Alike::Same) => Ok(done(Vec::new(alloc))),

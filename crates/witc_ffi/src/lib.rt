@@ -7,12 +7,10 @@ ghost use Rattle.std.specs.Prelude.{◌≡◌, []};
 ghost use Rattle.wit_component.specs.Decoded.{RefusesBytes};
 ghost use Rattle.wit_component.specs.DecodedWorlds.{RefusesWorldBytes};
 ghost use Rattle.witc_alike.specs.Carried.{RefusesWalk};
-ghost use Rattle.witc_ffi.specs.Answers.{Answers, AreAlike, IsAttached, IsCompatible, IsEmbedded, IsSection, KindsAnswers, LacksEither, LacksPart, LacksSection};
-ghost use Rattle.witc_ffi.specs.Answers.{LacksWorld, NeverBad, RefusesAlike, RefusesAttachedTo, RefusesBound, RefusesWorlds, is_asked};
+ghost use Rattle.witc_ffi.specs.Answers.{Answers, AnswersAlike, AnswersAttached, AnswersCompared, AnswersEmbedded, IsSection, KindsAnswers, LacksSection, NeverBad, RefusesBound, is_asked};
 ghost use Rattle.witc_texts.specs.Bindings.{PrintsModule};
 ghost use Rattle.witc_texts.specs.Printed.{PrintsBytes};
 ghost use Rattle.witc_texts.specs.Stripped.{StripsBytes};
-ghost use Rattle.witc_written.specs.Carried.{RefusesEmbedded};
 ghost use Rattle.witc_written.specs.Worlds.{EncodesWorld, PrintsWorld, RefusesEncodedWorld};
 ghost use Rattle.witc_written.specs.Written.{EncodesModule, EncodesPackage, RefusesEncoded, RefusesEncodedModule};
 ghost use denote.RawPtr.{null_ptr};
@@ -173,8 +171,7 @@ pub extern "C" fn witc_embed_slices(
     answer: &mut Answer,
     why: &mut Why,
 ) -> u8
-    ensures { Answers (IsEmbedded bytes.now name.now encoding (is_asked canonical)) (RefusesEmbedded bytes.now name.now (is_asked canonical)) (LacksPart bytes.now name.now encoding)
-        result answer.new.text why.new }
+    ensures { AnswersEmbedded bytes.now name.now encoding canonical result answer.new.text why.new }
 {
     hand_out(
         alloc,
@@ -196,8 +193,7 @@ pub extern "C" fn witc_attach_slices(
     answer: &mut Answer,
     why: &mut Why,
 ) -> u8
-    ensures { Answers (IsAttached «module».now bytes.now name.now encoding (is_asked canonical)) (RefusesAttachedTo «module».now bytes.now name.now encoding (is_asked canonical)) (LacksPart bytes.now name.now encoding)
-        result answer.new.text why.new }
+    ensures { AnswersAttached «module».now bytes.now name.now encoding canonical result answer.new.text why.new }
 {
     hand_out(
         alloc,
@@ -217,8 +213,7 @@ pub extern "C" fn witc_compat_slices(
     answer: &mut Answer,
     why: &mut Why,
 ) -> u8
-    ensures { Answers (IsCompatible bytes.now prev.now next.now) (RefusesWorlds bytes.now prev.now next.now) (LacksWorld bytes.now prev.now next.now)
-        result answer.new.text why.new }
+    ensures { AnswersCompared bytes.now prev.now next.now result answer.new.text why.new }
 {
     hand_out(alloc, compared(alloc, bytes, prev, next), answer, why)
 }
@@ -234,8 +229,7 @@ pub extern "C" fn witc_same_world_slices(
     answer: &mut Answer,
     why: &mut Why,
 ) -> u8
-    ensures { Answers (AreAlike bytes.now name.now other.now other_name.now) (RefusesAlike bytes.now name.now other.now other_name.now) (LacksEither bytes.now name.now other.now other_name.now)
-        result answer.new.text why.new }
+    ensures { AnswersAlike bytes.now name.now other.now other_name.now result answer.new.text why.new }
 {
     hand_out(
         alloc,
