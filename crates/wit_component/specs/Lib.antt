@@ -39,6 +39,7 @@ pub use Rattle.wit_encode.specs.DependencyAliases
 pub use Rattle.wit_encode.specs.OwnerScope
 pub use Rattle.wit_encode.specs.Packages
 pub use Rattle.wit_encode.specs.WholeWorlds
+pub use Rattle.wit_encode.specs.WorldAliases
 pub use Rattle.wit_interfaces.specs.InterfaceEncoders
 pub use Rattle.wit_compat.specs.Comparison
 pub use Rattle.wit_compat.specs.Compatible
