@@ -1,7 +1,7 @@
 -- The package of a world, and all others.
-use Rattle.std.proofs.Common.{◌≡◌, ◌<◌, ◌≤◌, ◌+◌, ◌++◌, ◌∙◌, refl, sym, ap, subst, ℕ, nat_eq, Bool, true, false, List, [], ◌∷◌, length, map, Option, Some, None, arith}
+use Rattle.std.proofs.Common.{◌≡◌, ◌<◌, ◌+◌, ◌++◌, ◌∙◌, sym, ap, ℕ, nat_eq, Bool, true, List, [], ◌∷◌, length, map, Option, Some, None, arith}
 use Rattle.std.specs.Prelude.{filter, is_some, not, cond}
-use Rattle.std.specs.List.{Contains, list_all, range_with_len}
+use Rattle.std.specs.List.{list_all, range_with_len}
 use Rattle.std.proofs.lemmas.Bool.{eq-eqb, ltb-true, ne_eqb}
 use Rattle.std.proofs.lemmas.List.FromFn.{filter_of_map_range_with_len_more}
 use Rattle.wit_model.specs.declared.model.PackageId.{PackageId}

@@ -1,5 +1,5 @@
 -- Worlds by themselves, their packages, and what these are refused for.
-use Rattle.std.proofs.Common.{◌≡◌, ℕ, Bool, false, List, sym, subst, ap, Some, Result, Ok, Err, IfOk}
+use Rattle.std.proofs.Common.{◌≡◌, ℕ, false, List, sym, subst, ap, Some, Result, Ok, Err, IfOk}
 use Rattle.std.specs.Prelude.{◌<◌, IfErr, Vec}
 use Rattle.std.specs.declared.alloc.Global.{Global}
 use Rattle.wit_model.specs.declared.error.Error.{Error}

@@ -9,7 +9,7 @@ use Rattle.wit_model.specs.declared.model.PackageId.{PackageId}
 use Rattle.wit_model.specs.Rules.{in_list}
 use Rattle.wit_component.specs.DecodedWorlds.{RefusesWorldBytes}
 use Rattle.witc_texts.specs.Printed.{IsTextOf}
-use Rattle.witc_written.specs.Worlds.{PrintsWorld, other_packages_than}
+use Rattle.witc_written.specs.Worlds.{PrintsWorld}
 use Rattle.witc_written.proofs.HomeLaws.{others-in-range}
 use Rattle.witc_written.proofs.WorldLaws.{has-world, no-memory}
 use Rattle.witc_written.proofs.worlds.world_text.Goals as goal
