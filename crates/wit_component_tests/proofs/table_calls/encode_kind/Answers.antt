@@ -1,16 +1,28 @@
 use Rattle.encode_flat.specs.Flat.{flat_view}
-use Rattle.std.proofs.Common.{refl, subst, ap}
 use Rattle.encode_types.specs.Kinds.{parts_of}
 use Rattle.encode_types.specs.Plan.{AllInRange}
 use Rattle.wit_encode.proofs.Tables.{all-may-be-met, table-encodes, formed-as}
+use Rattle.encode_types.specs.Fits.{CanEncode}
+use Rattle.encode_types.specs.Table.{IsTableOf, is_met_by}
+use Rattle.encode_types.specs.View.{View}
+use Rattle.std.specs.List.{list_all}
+use Rattle.std.proofs.Common.{◌≡◌, refl, subst, ap, true, List}
+use Rattle.wit_model.specs.declared.model.InterfaceId.{InterfaceId}
+use Rattle.wit_model.specs.declared.model.Resolve.{Resolve}
+use Rattle.wit_model.specs.declared.model.«Type».{«Type» as ValueType}
+use Rattle.wit_model.specs.declared.model.TypeOwner.TheVariants as owner
 use Rattle.wit_component_tests.proofs.table_calls.encode_kind.Goals as goal
+
+-- where all types may be met, what is in range can be encoded
+encodes : (r : Resolve) (own : InterfaceId) (v : View) → IsTableOf r own v → list_all (is_met_by r (owner.Interface own)) r.types.items ≡ true
+    → (ts : List ValueType) → AllInRange r ts → CanEncode r v.scope ts
+encodes r own v t met ts inside = table-encodes r own v t ts inside (all-may-be-met r (owner.Interface own) met ts)
 
 pub encode_record-requires : goal.encode_record-requires
 encode_record-requires c = λ _. (
   (refl, tt),
   record {
-    encodable = table-encodes c.args.resolve.now _ (flat_view c.args.table.now) c.requires.table _
-        (subst (AllInRange c.args.resolve.now) (ap parts_of c.in-Record.is) c.requires.in_range) (all-may-be-met _ _ c.requires.met _);
+    encodable = encodes c.args.resolve.now _ (flat_view c.args.table.now) c.requires.table c.requires.met _ (subst (AllInRange c.args.resolve.now) (ap parts_of c.in-Record.is) c.requires.in_range);
     formed =
         formed-as c.args.resolve.now _ _ _ c.in-Record.is refl c.requires.formed;
     agree = c.requires.table.agree;
@@ -21,8 +33,7 @@ pub encode_tuple-requires : goal.encode_tuple-requires
 encode_tuple-requires c = λ _. (
   (refl, tt),
   record {
-    encodable = table-encodes c.args.resolve.now _ (flat_view c.args.table.now) c.requires.table _
-        (subst (AllInRange c.args.resolve.now) (ap parts_of c.in-Tuple.is) c.requires.in_range) (all-may-be-met _ _ c.requires.met _);
+    encodable = encodes c.args.resolve.now _ (flat_view c.args.table.now) c.requires.table c.requires.met _ (subst (AllInRange c.args.resolve.now) (ap parts_of c.in-Tuple.is) c.requires.in_range);
     formed =
         formed-as c.args.resolve.now _ _ _ c.in-Tuple.is refl c.requires.formed;
     agree = c.requires.table.agree;
@@ -33,8 +44,7 @@ pub encode_variant-requires : goal.encode_variant-requires
 encode_variant-requires c = λ _. (
   (refl, tt),
   record {
-    encodable = table-encodes c.args.resolve.now _ (flat_view c.args.table.now) c.requires.table _
-        (subst (AllInRange c.args.resolve.now) (ap parts_of c.in-Variant.is) c.requires.in_range) (all-may-be-met _ _ c.requires.met _);
+    encodable = encodes c.args.resolve.now _ (flat_view c.args.table.now) c.requires.table c.requires.met _ (subst (AllInRange c.args.resolve.now) (ap parts_of c.in-Variant.is) c.requires.in_range);
     formed =
         formed-as c.args.resolve.now _ _ _ c.in-Variant.is refl c.requires.formed;
     agree = c.requires.table.agree;
@@ -45,8 +55,7 @@ pub encode_option-requires : goal.encode_option-requires
 encode_option-requires c = λ _. (
   (refl, tt),
   record {
-    encodable = table-encodes c.args.resolve.now _ (flat_view c.args.table.now) c.requires.table _
-        (subst (AllInRange c.args.resolve.now) (ap parts_of c.in-Option.is) c.requires.in_range) (all-may-be-met _ _ c.requires.met _);
+    encodable = encodes c.args.resolve.now _ (flat_view c.args.table.now) c.requires.table c.requires.met _ (subst (AllInRange c.args.resolve.now) (ap parts_of c.in-Option.is) c.requires.in_range);
     formed =
         formed-as c.args.resolve.now _ _ _ c.in-Option.is refl c.requires.formed;
     agree = c.requires.table.agree;
@@ -57,8 +66,7 @@ pub encode_result-requires : goal.encode_result-requires
 encode_result-requires c = λ _. (
   (refl, tt),
   record {
-    encodable = table-encodes c.args.resolve.now _ (flat_view c.args.table.now) c.requires.table _
-        (subst (AllInRange c.args.resolve.now) (ap parts_of c.in-Result.is) c.requires.in_range) (all-may-be-met _ _ c.requires.met _);
+    encodable = encodes c.args.resolve.now _ (flat_view c.args.table.now) c.requires.table c.requires.met _ (subst (AllInRange c.args.resolve.now) (ap parts_of c.in-Result.is) c.requires.in_range);
     formed =
         formed-as c.args.resolve.now _ _ _ c.in-Result.is refl c.requires.formed;
     agree = c.requires.table.agree;
@@ -69,8 +77,7 @@ pub encode_future-requires : goal.encode_future-requires
 encode_future-requires c = λ _. (
   (refl, tt),
   record {
-    encodable = table-encodes c.args.resolve.now _ (flat_view c.args.table.now) c.requires.table _
-        (subst (AllInRange c.args.resolve.now) (ap parts_of c.in-Future.is) c.requires.in_range) (all-may-be-met _ _ c.requires.met _);
+    encodable = encodes c.args.resolve.now _ (flat_view c.args.table.now) c.requires.table c.requires.met _ (subst (AllInRange c.args.resolve.now) (ap parts_of c.in-Future.is) c.requires.in_range);
     formed =
         formed-as c.args.resolve.now _ _ _ c.in-Future.is refl c.requires.formed;
     agree = c.requires.table.agree;
@@ -81,8 +88,7 @@ pub encode_stream-requires : goal.encode_stream-requires
 encode_stream-requires c = λ _. (
   (refl, tt),
   record {
-    encodable = table-encodes c.args.resolve.now _ (flat_view c.args.table.now) c.requires.table _
-        (subst (AllInRange c.args.resolve.now) (ap parts_of c.in-Stream.is) c.requires.in_range) (all-may-be-met _ _ c.requires.met _);
+    encodable = encodes c.args.resolve.now _ (flat_view c.args.table.now) c.requires.table c.requires.met _ (subst (AllInRange c.args.resolve.now) (ap parts_of c.in-Stream.is) c.requires.in_range);
     formed =
         formed-as c.args.resolve.now _ _ _ c.in-Stream.is refl c.requires.formed;
     agree = c.requires.table.agree;
