@@ -120,7 +120,7 @@ pub record HasSmallNumbers (r : Resolve) : Type 0 where
   pub interfaces : AllByRecursion HasSmallInterface r.interfaces.items
   pub types : AllByRecursion HasSmallType r.types.items
 
--- A listing loses nothing but documentation and stability: where two listings are of the same tokens, the same is said by both.
+-- Where two listings are of the same tokens, the two are the same by `bare`.
 abbrev pub NothingElseIsLost : Type 0
 NothingElseIsLost = (r s : Resolve) → HasSmallNumbers r → HasSmallNumbers s → tokens_of r ≡ tokens_of s → bare r ≡ bare s
 

@@ -2,8 +2,9 @@
 
 ghost use Rattle.wit_json.specs.Small.{NothingElseIsLost, TextsTell, ValidAreSmall};
 
-/// A listing loses nothing but documentation and stability: two `Resolve`s whose listings are of the same tokens, or of the same text, say the same
-/// without these. Their numbers are to be of 32 bits, as all are that the code can hold, and those of a valid `Resolve`.
+/// What a listing keeps: two `Resolve`s whose listings are of the same tokens, or of the same text, are the same by `bare`. That leaves out documentation,
+/// stability, and the keys of the maps of packages and interfaces: of such a map it has where the entries lead. In a valid `Resolve` these keys are the names
+/// of what they lead to, which isn't proved here. Numbers are to be of 32 bits, as those of a valid `Resolve` are.
 pub fn nothing_else_is_lost()
     ensures tokens { NothingElseIsLost }
     ensures texts { TextsTell }
