@@ -15,7 +15,7 @@
  *   - a module: a core module, with what its `component-type` sections bind together.
  *
  * witc_kinds tells which of them bytes are. Each can be turned into WIT text, and into the bytes of a package, which every call on packages takes.
- * Documentation and stability are not read, text is not parsed, and other components are refused.
+ * Each can be listed as JSON, too. Documentation and stability are not read, text is not parsed, and other components are refused.
  *
  * For each call:
  *
@@ -136,9 +136,12 @@ uint32_t witc_abi(void);
 /* The functions of the library. Here no pointer may be null, even if its length is 0. */
 uint8_t witc_package_text_slice(const uint8_t *bytes, size_t length, witc_answer *answer, witc_why *why);
 uint8_t witc_package_bytes_slice(const uint8_t *bytes, size_t length, uint32_t canonical, witc_answer *answer, witc_why *why);
+uint8_t witc_package_json_slice(const uint8_t *bytes, size_t length, witc_answer *answer, witc_why *why);
 uint8_t witc_world_text_slice(const uint8_t *bytes, size_t length, witc_answer *answer, witc_why *why);
+uint8_t witc_world_json_slice(const uint8_t *bytes, size_t length, witc_answer *answer, witc_why *why);
 uint8_t witc_world_package_slice(const uint8_t *bytes, size_t length, witc_answer *answer, witc_why *why);
 uint8_t witc_module_text_slice(const uint8_t *bytes, size_t length, witc_answer *answer, witc_why *why);
+uint8_t witc_module_json_slice(const uint8_t *bytes, size_t length, witc_answer *answer, witc_why *why);
 uint8_t witc_module_package_slice(const uint8_t *bytes, size_t length, witc_answer *answer, witc_why *why);
 uint8_t witc_module_strip_slice(const uint8_t *bytes, size_t length, witc_answer *answer, witc_why *why);
 uint8_t witc_module_section_slice(const uint8_t *bytes, size_t length, size_t number, witc_answer *answer, witc_why *why);
@@ -166,14 +169,23 @@ static inline const uint8_t *witc_some(const uint8_t *bytes) {
 /* Prints a package as text. */
 WITC_CALL(witc_package_text)
 
+/* Lists a package as JSON, for tools that read data: its packages, worlds, interfaces and types, each by its number. */
+WITC_CALL(witc_package_json)
+
 /* Prints a world as text: its package, with the packages that it uses nested in it. */
 WITC_CALL(witc_world_text)
+
+/* Lists a world as JSON, with all that it uses. */
+WITC_CALL(witc_world_json)
 
 /* Turns a world into the bytes of its package. */
 WITC_CALL(witc_world_package)
 
 /* Merges the worlds in the sections of a core module, and prints them as text: the package `root:root`, with all others nested in it. */
 WITC_CALL(witc_module_text)
+
+/* Merges them in the same way, and lists them as JSON, with the string encoding of each function. */
+WITC_CALL(witc_module_json)
 
 /* Merges them in the same way, and turns them into the bytes of the package `root:root`. */
 WITC_CALL(witc_module_package)

@@ -90,9 +90,12 @@ inline const std::uint8_t *at(std::string_view b) { return reinterpret_cast<cons
         return bytes::of([&](witc_answer *a) { return witc_##name(detail::at(b), b.size(), a); }); \
     }
 WITC_CPP_CALL(package_text)
+WITC_CPP_CALL(package_json)
 WITC_CPP_CALL(world_text)
+WITC_CPP_CALL(world_json)
 WITC_CPP_CALL(world_package)
 WITC_CPP_CALL(module_text)
+WITC_CPP_CALL(module_json)
 WITC_CPP_CALL(module_package)
 WITC_CPP_CALL(module_strip)
 #undef WITC_CPP_CALL

@@ -46,6 +46,7 @@ static uint8_t other_service(const uint8_t *bytes, size_t length, witc_answer *a
 
 static plain_call *const CALLS[] = {
     witc_package_text, canonical_bytes,  witc_world_text,    witc_world_package,   witc_module_text,   witc_module_package, witc_module_strip, first_section,
+    witc_package_json, witc_world_json,  witc_module_json,
     service_embedded,  nobody_embedded,  service_attached,   same_service,         other_service,      compat_of_services,  compat_with_nobody, compat_of_no_names,
 };
 enum { CALLS_COUNT = sizeof CALLS / sizeof *CALLS };

@@ -76,5 +76,7 @@ int main(int count, char **words) {
     refusal_of(WITC_NO_SUCH_SECTION, [&] { witc::module_section(made, 1); });
     want(witc::package_bytes(witc::module_package(made)).view() == witc::module_package(made).view(), "a package encoded anew");
     want(witc::world_text(data).view().find("world service {") != std::string::npos, "the text of a world");
+    want(witc::world_json(data).view().find("\"name\":\"service\"") != std::string::npos, "the listing of a world");
+    want(witc::package_json(package).view().find("\"name\":\"service-next\"") != std::string::npos, "the listing of a package");
     std::cout << "c++: passed\n";
 }

@@ -4,6 +4,7 @@ is answered, the status and the words, with a tab between each and the next.
     WITC_LIBRARY=PREFIX/lib/libwitc.so.2 python3 bindings/python/test_witc.py
 """
 
+import json
 import os
 import sys
 import threading
@@ -73,6 +74,25 @@ class Calls(unittest.TestCase):
         self.refused("NO_SUCH_WORLD", "nobody", witc.attach, EMPTY, package, "nobody")
         self.refused("NOT_UTF8", None, witc.embed, package, b"\xff")
 
+    def test_listings(self):
+        listing = json.loads(witc.package_json(sample("packages/clock.wasm")))
+        package = listing["packages"][listing["package"]]
+        self.assertEqual([package[it] for it in ("namespace", "name", "version")], ["example", "clock", "1.2.0"])
+        [world], [interface], [record] = listing["worlds"], listing["interfaces"], listing["types"]
+        self.assertEqual((world["name"], world["imports"]), ("clock", []))
+        self.assertEqual([it["key"] for it in world["exports"]], ["example:clock/wall-clock@1.2.0"])
+        self.assertEqual([it["name"] for it in interface["functions"]], ["now", "resolution"])
+        fields = [("seconds", "u64"), ("nanoseconds", "u32")]
+        self.assertEqual([(it["name"], it["type"]) for it in record["kind"]["record"]["fields"]], fields)
+        services = sample("packages/services.wasm")
+        self.assertEqual([it["name"] for it in json.loads(witc.package_json(services))["worlds"]], ["service", "service-next", "service-bytes"])
+        alone = json.loads(witc.world_json(witc.embed(services, "service-next")))
+        world = alone["worlds"][alone["world"]]
+        self.assertEqual((world["name"], [it["key"] for it in world["imports"]]), ("service-next", ["log", "now"]))
+        bound = json.loads(witc.module_json(witc.attach(EMPTY, services, "service", "utf16")))
+        encodings = {side: [(it["interface"], it["function"], it["encoding"]) for it in bound["encodings"][side]] for side in ("imports", "exports")}
+        self.assertEqual(encodings, {"imports": [(None, "log", "utf16")], "exports": [(None, "handle", "utf16")]})
+
     def test_bad_bytes(self):
         package = sample("packages/clock.wasm")
         for given in b"", b"\0", EMPTY, b"no package", package[: len(package) // 2]:
@@ -94,7 +114,7 @@ class Calls(unittest.TestCase):
         package = sample("packages/files.wasm")
         for at in range(len(package)):
             for given in package[:at], package[:at] + bytes([package[at] ^ 0x81]) + package[at + 1 :]:
-                for call in witc.package_text, witc.package_bytes, witc.world_text, witc.world_package, witc.module_text, witc.module_package, witc.module_strip:
+                for call in witc.package_text, witc.package_json, witc.package_bytes, witc.world_text, witc.world_json, witc.world_package, witc.module_text, witc.module_json, witc.module_package, witc.module_strip:
                     try:
                         self.assertGreater(len(call(given)), 0)
                     except witc.Refusal as refusal:

@@ -64,9 +64,12 @@ def _call(name, *given):
 
 _package_text = _call("witc_package_text_slice", *_slice)
 _package_bytes = _call("witc_package_bytes_slice", *_slice, _flag)
+_package_json = _call("witc_package_json_slice", *_slice)
 _world_text = _call("witc_world_text_slice", *_slice)
+_world_json = _call("witc_world_json_slice", *_slice)
 _world_package = _call("witc_world_package_slice", *_slice)
 _module_text = _call("witc_module_text_slice", *_slice)
+_module_json = _call("witc_module_json_slice", *_slice)
 _module_package = _call("witc_module_package_slice", *_slice)
 _module_strip = _call("witc_module_strip_slice", *_slice)
 _module_section = _call("witc_module_section_slice", *_slice, _size)
@@ -114,6 +117,11 @@ def package_text(package):
     return _ask(_package_text, [_plain(package)]).decode()
 
 
+def package_json(package):
+    """The bytes of a package to JSON: its packages, worlds, interfaces and types, each by its number."""
+    return _ask(_package_json, [_plain(package)]).decode()
+
+
 def package_bytes(package, canonical=False):
     """A package encoded anew: bytes that mean the same."""
     return _ask(_package_bytes, [_plain(package)], canonical)
@@ -124,6 +132,11 @@ def world_text(world):
     return _ask(_world_text, [_plain(world)]).decode()
 
 
+def world_json(world):
+    """The data of one section to JSON: its world, with all that it uses."""
+    return _ask(_world_json, [_plain(world)]).decode()
+
+
 def world_package(world):
     """The data of one section to the package of its world, as bytes."""
     return _ask(_world_package, [_plain(world)])
@@ -132,6 +145,11 @@ def world_package(world):
 def module_text(module):
     """A core module to the text of what its sections that carry worlds bind together."""
     return _ask(_module_text, [_plain(module)]).decode()
+
+
+def module_json(module):
+    """The same to JSON, with the string encoding of each function."""
+    return _ask(_module_json, [_plain(module)]).decode()
 
 
 def module_package(module):

@@ -187,12 +187,18 @@ macro_rules! calls {
 calls! {
     /// A package to its WIT text.
     package_text: text = witc_package_text_slice;
+    /// A package to JSON: its packages, worlds, interfaces and types, each by its number.
+    package_json: text = witc_package_json_slice;
     /// The data of one `component-type` section to the text of its world.
     world_text: text = witc_world_text_slice;
+    /// The same to JSON.
+    world_json: text = witc_world_json_slice;
     /// The package of that world.
     world_package: plain = witc_world_package_slice;
     /// A core module to the text of what its sections bind together.
     module_text: text = witc_module_text_slice;
+    /// The same to JSON, with the string encoding of each function.
+    module_json: text = witc_module_json_slice;
     module_package: plain = witc_module_package_slice;
     /// A core module without those sections.
     module_strip: plain = witc_module_strip_slice;

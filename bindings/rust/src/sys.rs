@@ -38,7 +38,19 @@ unsafe extern "C" {
         answer: *mut Answer,
         why: *mut Why,
     ) -> u8;
+    pub fn witc_package_json_slice(
+        bytes: *const u8,
+        length: usize,
+        answer: *mut Answer,
+        why: *mut Why,
+    ) -> u8;
     pub fn witc_world_text_slice(
+        bytes: *const u8,
+        length: usize,
+        answer: *mut Answer,
+        why: *mut Why,
+    ) -> u8;
+    pub fn witc_world_json_slice(
         bytes: *const u8,
         length: usize,
         answer: *mut Answer,
@@ -51,6 +63,12 @@ unsafe extern "C" {
         why: *mut Why,
     ) -> u8;
     pub fn witc_module_text_slice(
+        bytes: *const u8,
+        length: usize,
+        answer: *mut Answer,
+        why: *mut Why,
+    ) -> u8;
+    pub fn witc_module_json_slice(
         bytes: *const u8,
         length: usize,
         answer: *mut Answer,

@@ -78,6 +78,7 @@ fn worlds_embedded_and_attached() {
         );
         assert!(witc::same_world(&package, "service", &alone, "service").unwrap());
         assert!(witc::world_text(&data).unwrap().contains("world service {"));
+        assert!(witc::world_json(&data).unwrap().contains(r#""name":"service""#));
         assert!(witc::kinds(&data).world && witc::kinds(&alone).package);
         let made = witc::attach(EMPTY, &package, "service", encoding, false).unwrap();
         assert_eq!(witc::module_section(&made, 0).unwrap(), data);
@@ -134,6 +135,9 @@ fn damaged_bytes() {
             let texts = [
                 package_text(bytes),
                 witc::world_text(bytes),
+                witc::package_json(bytes),
+                witc::world_json(bytes),
+                witc::module_json(bytes),
                 module_text(bytes),
             ];
             assert!(texts.iter().flatten().all(|text| !text.is_empty()), "{at}");

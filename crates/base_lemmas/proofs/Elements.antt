@@ -79,9 +79,11 @@ zip-kept R Q k (a ∷ xs) (b ∷ ys) h = (k a b h.0, zip-kept R Q k xs ys h.1)
 pub all_two : {A : Type 0} (p q s : A → Bool) → ((x : A) → p x ≡ true → q x ≡ true → s x ≡ true) → (xs : List A) → list_all p xs ≡ true → list_all q xs ≡ true → list_all s xs ≡ true
 all_two p q s make [] h k = refl
 all_two p q s make (x ∷ xs) h k =
-    both (s x) (list_all s xs) (make x (first_true (p x) (list_all p xs) h) (first_true (q x) (list_all q xs) k)) (all_two p q s make xs (second_true (p x) (list_all p xs) h) (second_true (q x) (list_all q xs) k))
+    both (s x) (list_all s xs) (make x (first_true (p x) (list_all p xs) h) (first_true (q x) (list_all q xs) k))
+    (all_two p q s make xs (second_true (p x) (list_all p xs) h) (second_true (q x) (list_all q xs) k))
 
-pub all_three : {A : Type 0} (p q s t : A → Bool) → ((x : A) → p x ≡ true → q x ≡ true → s x ≡ true → t x ≡ true) → (xs : List A) → list_all p xs ≡ true → list_all q xs ≡ true → list_all s xs ≡ true → list_all t xs ≡ true
+pub all_three : {A : Type 0} (p q s t : A → Bool) → ((x : A) → p x ≡ true → q x ≡ true → s x ≡ true → t x ≡ true) → (xs : List A) → list_all p xs ≡ true → list_all q xs ≡ true → list_all s xs ≡ true
+    → list_all t xs ≡ true
 all_three p q s t make [] f g h = refl
 all_three p q s t make (x ∷ xs) f g h =
     both (t x) (list_all t xs)
@@ -106,7 +108,8 @@ all_at_too P [] all n x at = absurd (none_there n x at)
 all_at_too P (y ∷ xs) all zero x at = subst P (same-some y x at) all.0
 all_at_too P (y ∷ xs) all (suc n) x at = all_at_too P xs all.1 n x at
 
-pub zip_each : {A B : Type 0} (R P : A → B → Type 0) (xs : List A) (ys : List B) → AllZip R xs ys → ((k : ℕ) (x : A) (y : B) → slice_get xs k ≡ Some x → slice_get ys k ≡ Some y → P x y) → AllZip P xs ys
+pub zip_each : {A B : Type 0} (R P : A → B → Type 0) (xs : List A) (ys : List B) → AllZip R xs ys → ((k : ℕ) (x : A) (y : B) → slice_get xs k ≡ Some x → slice_get ys k ≡ Some y → P x y)
+    → AllZip P xs ys
 zip_each R P [] [] zip each = tt
 zip_each R P [] (y ∷ ys) zip each = absurd zip
 zip_each R P (x ∷ xs) [] zip each = absurd zip
@@ -128,7 +131,8 @@ pub filter_map_from : {A B : Type 0} (h : A → Option B) (xs : List A) (y : B) 
 filter_map_from h [] y (i, l, e) = absurd (omega (arith, l))
 filter_map_from h (x ∷ xs) y c = go (h x) refl c (filter_map_from h xs y)
   where
-    go : (o : Option _) → h x ≡ o → Contains (cons_option o (filter_map h xs)) y → (Contains (filter_map h xs) y → (n : ℕ) × (z : _) × (slice_get xs n ≡ Some z) × (h z ≡ Some y)) → (n : ℕ) × (z : _) × (slice_get (x ∷ xs) n ≡ Some z) × (h z ≡ Some y)
+    go : (o : Option _) → h x ≡ o → Contains (cons_option o (filter_map h xs)) y → (Contains (filter_map h xs) y → (n : ℕ) × (z : _) × (slice_get xs n ≡ Some z) × (h z ≡ Some y)) → (n : ℕ) × (z : _)
+        × (slice_get (x ∷ xs) n ≡ Some z) × (h z ≡ Some y)
     go None e c rest = let more = rest c in (suc more.0, more.1, more.2, more.3)
     go (Some z) e (zero, l, f) rest = (0, x, refl, e ∙ ap Some f)
     go (Some z) e (suc i, l, f) rest = let more = rest (i, omega (arith, l), f) in (suc more.0, more.1, more.2, more.3)
@@ -189,7 +193,8 @@ pub lookup_stands : {K X : Type 0} (test : K → Bool) (es : List (K × X)) (v :
 lookup_stands test [] v h = let wrong : ⊥ = cc in absurd wrong
 lookup_stands {K = K} {X = X} test (e ∷ es) v h = go (lookup_stands {K = K} {X = X} test es v) (test e.0) refl h
   where
-    go : (lookup test es ≡ Some v → (k : K) × Contains es (k, v) × (test k ≡ true)) → (b : Bool) → test e.0 ≡ b → cond b (Some e.1) (lookup test es) ≡ Some v → (k : K) × Contains (e ∷ es) (k, v) × (test k ≡ true)
+    go : (lookup test es ≡ Some v → (k : K) × Contains es (k, v) × (test k ≡ true)) → (b : Bool) → test e.0 ≡ b → cond b (Some e.1) (lookup test es) ≡ Some v → (k : K) × Contains (e ∷ es) (k, v)
+        × (test k ≡ true)
     go rest true t h = (e.0, (0, omega arith, λ i. (e.0, same-some e.1 v h i)), t)
     go rest false t h = let r = rest h in (r.0, contains-later e es (r.0, v) r.1, r.2)
 

@@ -69,5 +69,6 @@ pub room_end : (i : ℕ) (names : List Names) (packages : List Package) → leng
 room_end i names packages past h k n p at_n at_p = h k n p (omega (arith, past, slice_get_within names k n at_n)) at_n at_p
 
 -- one more gets room, and those that gain nothing are the very same
-pub others_more : (i : ℕ) (names : List Names) (xs ys zs : List Package) (n : Names) → slice_get names i ≡ Some n → OthersStay names xs ys → ((k : ℕ) → k ≢ n.«package».0 → slice_get zs k ≡ slice_get ys k) → OthersStay names xs zs
+pub others_more : (i : ℕ) (names : List Names) (xs ys zs : List Package) (n : Names) → slice_get names i ≡ Some n → OthersStay names xs ys
+    → ((k : ℕ) → k ≢ n.«package».0 → slice_get zs k ≡ slice_get ys k) → OthersStay names xs zs
 others_more i names xs ys zs n at stay one k none = one k (λ e. none i n at (sym e)) ∙ stay k none

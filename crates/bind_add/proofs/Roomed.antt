@@ -21,7 +21,8 @@ gained_of names old between new s g = record {
   worlds = g.worlds ∙ ap (λ es. insert_all string_eq es names.worlds.entries) s.worlds;
 }
 
-items_of : (same : WorldKey → WorldKey → Bool) (imports exports : List (WorldKey × WorldItem)) (old between new : World) → IsSameWorld old between → HasGainedItems same imports exports between new → HasGainedItems same imports exports old new
+items_of : (same : WorldKey → WorldKey → Bool) (imports exports : List (WorldKey × WorldItem)) (old between new : World) → IsSameWorld old between → HasGainedItems same imports exports between new
+    → HasGainedItems same imports exports old new
 items_of same imports exports old between new s g = record {
   name = g.name ∙ s.name;
   docs = g.docs ∙ s.docs;
@@ -67,13 +68,15 @@ same_then_added same world added old between new room stay h = record {
   worlds = bound;
 }
   where
-    gained : (i : ℕ) (n : Names) (p : Package) → slice_get added.names.items i ≡ Some n → slice_get old.packages.items n.«package».0 ≡ Some p → (q : Package) × (slice_get h.packages.0 n.«package».0 ≡ Some q) × HasGained n p q
+    gained : (i : ℕ) (n : Names) (p : Package) → slice_get added.names.items i ≡ Some n → slice_get old.packages.items n.«package».0 ≡ Some p → (q : Package)
+        × (slice_get h.packages.0 n.«package».0 ≡ Some q) × HasGained n p q
     gained i n p at_n at_p =
         let b = also_at old.packages.items between.packages.items room.packages.count n.«package».0 p at_p in
         let g = h.packages.1.gained i n b.0 at_n b.1 in
         (g.0, g.1, gained_of n p b.0 g.0 (room.packages.each n.«package».0 p b.0 at_p b.1).0 g.2)
 
-    bound : (w : World) → slice_get old.worlds.items world ≡ Some w → (v : World) × HasGainedItems same added.imports.entries added.exports.entries w v × (new.worlds.items ≡ slice_set old.worlds.items world v ++ added.worlds.items)
+    bound : (w : World) → slice_get old.worlds.items world ≡ Some w → (v : World) × HasGainedItems same added.imports.entries added.exports.entries w v
+        × (new.worlds.items ≡ slice_set old.worlds.items world v ++ added.worlds.items)
     bound w at =
         let b = also_at old.worlds.items between.worlds.items room.worlds world w at in
         let g = h.worlds b.0 b.1 in (

@@ -42,7 +42,8 @@ record IsGainOf (flags : List Bool) (numbers : List ℕ) (packages : List Packag
   number : number_under numbers place ≡ g.«package».0
   rank_is : i ≡ rank flags place
 
-gain_at : (c : Carried) (flags : List Bool) (numbers : List ℕ) (packages : List Package) (gs : List Names) → AllZip (IsGained c) (grown_packages flags numbers packages) gs → (i : ℕ) (g : Names) → slice_get gs i ≡ Some g → IsGainOf flags numbers packages i g
+gain_at : (c : Carried) (flags : List Bool) (numbers : List ℕ) (packages : List Package) (gs : List Names) → AllZip (IsGained c) (grown_packages flags numbers packages) gs → (i : ℕ) (g : Names)
+    → slice_get gs i ≡ Some g → IsGainOf flags numbers packages i g
 gain_at c [] ns ps [] zip i g at = nothing_there g at
 gain_at c [] ns ps (y ∷ ys) zip i g at = absurd zip
 gain_at c (b ∷ bs) [] ps [] zip i g at = nothing_there g at
@@ -59,8 +60,10 @@ gain_at c (false ∷ bs) (n ∷ ns) (p ∷ ps) (y ∷ ys) zip (suc i) g at =
     let r = gain_at c bs ns ps ys zip.1 i g at in
     record { place = suc r.place; old = r.old; at_place = r.at_place; bare = r.bare; number = r.number; rank_is = ap suc r.rank_is }
 
-module _ (own other : Resolve) (valid : IsValid other) (c : Carried) (ms : List (Option PackageId)) (matched : ms ≡ map (own_package_of own.packages.items) other.packages.items) (flags : c.new_packages.items ≡ map is_none ms)
-    (numbers : c.packages.items ≡ numbers_of (length own.packages.items) c.new_packages.items (map package_number ms)) (gs : List Names) (zip : AllZip (IsGained c) (grown_packages c.new_packages.items c.packages.items other.packages.items) gs) where
+module _ (own other : Resolve) (valid : IsValid other) (c : Carried) (ms : List (Option PackageId)) (matched : ms ≡ map (own_package_of own.packages.items) other.packages.items)
+    (flags : c.new_packages.items ≡ map is_none ms)
+    (numbers : c.packages.items ≡ numbers_of (length own.packages.items) c.new_packages.items (map package_number ms)) (gs : List Names)
+    (zip : AllZip (IsGained c) (grown_packages c.new_packages.items c.packages.items other.packages.items) gs) where
   long : length c.new_packages.items ≡ length (map package_number ms)
   long = ap length flags ∙ (length-map ms is_none ∙ sym (length-map ms package_number))
 
@@ -72,11 +75,14 @@ module _ (own other : Resolve) (valid : IsValid other) (c : Carried) (ms : List 
   own_gain : (i : ℕ) (g : Names) → slice_get gs i ≡ Some g → IsOwnGain i g
   own_gain i g at =
       let r = gain_at c c.new_packages.items c.packages.items other.packages.items gs zip i g at in
-      let inside : r.place < length ms = (let w = within_list other.packages.items r.place r.old r.at_place in let q = ap length matched ∙ length-map other.packages.items (own_package_of own.packages.items) in omega (arith, w, q)) in
+      let inside : r.place < length ms = (let w = within_list other.packages.items r.place r.old r.at_place in let q =
+      ap length matched ∙ length-map other.packages.items (own_package_of own.packages.items) in omega (arith, w, q)) in
       let id = unflagged_found ms r.place inside (ap (λ l. flag_under l r.place) (sym flags) ∙ r.bare) in
-      let is : own_package_of own.packages.items r.old ≡ Some id.0 = some_same _ _ (sym (mapped_at (own_package_of own.packages.items) other.packages.items r.place r.old r.at_place) ∙ (ap (λ l. slice_get l r.place) (sym matched) ∙ id.1)) in
+      let is : own_package_of own.packages.items r.old ≡ Some id.0 = some_same _ _
+      (sym (mapped_at (own_package_of own.packages.items) other.packages.items r.place r.old r.at_place) ∙ (ap (λ l. slice_get l r.place) (sym matched) ∙ id.1)) in
       let number : id.0.0 ≡ g.«package».0 =
-      sym (found_number ms r.place id.0 id.1) ∙ (sym (uncopied_under (length own.packages.items) c.new_packages.items (map package_number ms) r.place long r.bare) ∙ (sym (ap (λ l. number_under l r.place) numbers) ∙ r.number))
+      sym (found_number ms r.place id.0 id.1) ∙ (sym (uncopied_under (length own.packages.items) c.new_packages.items (map package_number ms) r.place long r.bare)
+      ∙ (sym (ap (λ l. number_under l r.place) numbers) ∙ r.number))
       in
       record { gain = r; found = subst (IsFound r.old.name own.packages.items) number (found_own own.packages.items r.old id.0 is) }
 

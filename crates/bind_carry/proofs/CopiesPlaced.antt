@@ -126,7 +126,8 @@ copied_past first (fate.Copied home ∷ fs) zero h = omega arith
 copied_past first (fate.Copied home ∷ fs) (suc n) h = let r = copied_past (first + 1) fs n h in omega (arith, r)
 
 -- each number from the first copy on, as far as copies go, is a copy's
-pub copied_from : (first : ℕ) (types : List TypeDef) (fates : List Fate) (n : ℕ) → first ≤ n → n < first + length (copied_types types fates) → (m : ℕ) × (is_copied fates m ≡ true) × (number_under (numbers_by first fates) m ≡ n)
+pub copied_from : (first : ℕ) (types : List TypeDef) (fates : List Fate) (n : ℕ) → first ≤ n → n < first + length (copied_types types fates) → (m : ℕ) × (is_copied fates m ≡ true)
+    × (number_under (numbers_by first fates) m ≡ n)
 copied_from first [] fates n low high = absurd (omega (arith, low, high))
 copied_from first (t ∷ ts) [] n low high = absurd (omega (arith, low, high))
 copied_from first (t ∷ ts) (fate.Left ∷ fs) n low high = let r = copied_from first ts fs n low high in (suc r.0, r.1, r.2)

@@ -28,7 +28,8 @@ module _ (a n : ℕ) where
   sum_least : (b k w : ℕ) → w ≡ b + k → n ≤ k → a ≤ b → a + n ≤ w
   sum_least b k w e l m = omega (arith, e, l, m)
 
-pub flags_few : {X : Type 0} (p : X → Bool) (bs : List Bool) (xs : List X) → length bs ≡ length xs → ((n : ℕ) (x : X) → slice_get xs n ≡ Some x → flag_under bs n ≡ true → p x ≡ true) → copied_count bs ≤ count_by p xs
+pub flags_few : {X : Type 0} (p : X → Bool) (bs : List Bool) (xs : List X) → length bs ≡ length xs → ((n : ℕ) (x : X) → slice_get xs n ≡ Some x → flag_under bs n ≡ true → p x ≡ true)
+    → copied_count bs ≤ count_by p xs
 flags_few p [] xs long h = omega arith
 flags_few p (b ∷ bs) [] long h = absurd (omega (arith, long))
 flags_few p (true ∷ bs) (x ∷ xs) long h =
@@ -57,5 +58,6 @@ module _ (r : Resolve) where
       marks_flagged (mark_items r first w.exports.entries) bs ws ∙ (mark_items_long r first w.exports.entries ∙ mark_items_long r marks w.imports.entries)
   marks_flagged marks (false ∷ bs) (w ∷ ws) = marks_flagged marks bs ws
 
-pub interfaces_flagged : (other : Resolve) (ms : List (Option InterfaceId)) (flags : List Bool) → length ms ≡ length other.interfaces.items → length (mark_worlds other (new_interfaces ms other.interfaces.items) flags other.worlds.items) ≡ length other.interfaces.items
+pub interfaces_flagged : (other : Resolve) (ms : List (Option InterfaceId)) (flags : List Bool) → length ms ≡ length other.interfaces.items
+    → length (mark_worlds other (new_interfaces ms other.interfaces.items) flags other.worlds.items) ≡ length other.interfaces.items
 interfaces_flagged other ms flags long = marks_flagged other (new_interfaces ms other.interfaces.items) flags other.worlds.items ∙ named_flagged ms other.interfaces.items long

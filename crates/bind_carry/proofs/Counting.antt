@@ -61,7 +61,8 @@ pub counts_one : (f : Fate) (fs left : List Fate) → left ≡ f ∷ fs → copi
 counts_one f fs left at h = ap copies_of at ∙ ap (λ b. copied_count (b ∷ map copies fs)) h
 
 -- behind what was added before stand as many as are copied
-pub copied_long : (own : ℕ) (numbers : List ℕ) (types : List TypeDef) (fates : List Fate) (old new : List TypeDef) → length fates ≡ length types → AreCopied own numbers types fates old new → length new ≡ length old + copies_of fates
+pub copied_long : (own : ℕ) (numbers : List ℕ) (types : List TypeDef) (fates : List Fate) (old new : List TypeDef) → length fates ≡ length types → AreCopied own numbers types fates old new
+    → length new ≡ length old + copies_of fates
 copied_long own numbers types fates old new long c =
     let more : length (copied_types types fates) ≡ length c.more = zip_long (IsCopiedType numbers) (copied_types types fates) c.more c.copied in
     let both : length new ≡ length old + length c.more = ap length c.behind ∙ length_both old c.more in
@@ -71,7 +72,8 @@ copied_long own numbers types fates old new long c =
 -- ---- inline interfaces
 
 -- at most as many stand behind as flags are set
-pub inline_long : (types : List ℕ) (home : Option PackageId) (copied : List Bool) (interfaces old new : List Interface) → AreInlineCopied types home copied interfaces old new → length new ≤ length old + copied_count copied
+pub inline_long : (types : List ℕ) (home : Option PackageId) (copied : List Bool) (interfaces old new : List Interface) → AreInlineCopied types home copied interfaces old new
+    → length new ≤ length old + copied_count copied
 inline_long types home copied interfaces old new c =
     let more : length (kept copied interfaces) ≡ length c.more = zip_long (IsInterfaceUnder types home) (kept copied interfaces) c.more c.copies in
     let both : length new ≡ length old + length c.more = ap length c.behind ∙ length_both old c.more in
@@ -79,16 +81,13 @@ inline_long types home copied interfaces old new c =
     omega (arith, more, both, few)
 
 -- and as many where each has a flag
-pub inline_all : (types : List ℕ) (home : Option PackageId) (copied : List Bool) (interfaces old new : List Interface) → length copied ≡ length interfaces → AreInlineCopied types home copied interfaces old new → length new ≡ length old + copied_count copied
+pub inline_all : (types : List ℕ) (home : Option PackageId) (copied : List Bool) (interfaces old new : List Interface) → length copied ≡ length interfaces
+    → AreInlineCopied types home copied interfaces old new → length new ≡ length old + copied_count copied
 inline_all types home copied interfaces old new count c =
     let more : length (kept copied interfaces) ≡ length c.more = zip_long (IsInterfaceUnder types home) (kept copied interfaces) c.more c.copies in
     let both : length new ≡ length old + length c.more = ap length c.behind ∙ length_both old c.more in
     let all : length (kept copied interfaces) ≡ copied_count copied = kept_all copied interfaces count in
     omega (arith, more, both, all)
-
--- ---- answers
-
--- what holds anyway holds where an answer is there
 
 -- ---- lists that are made of what is kept
 
@@ -99,5 +98,3 @@ carried_few P flags xs ys h = let long = zip_long P (kept flags xs) ys h in let 
 -- and as many where each has a flag
 pub carried_all : {X Y : Type 0} (P : X → Y → Type 0) (flags : List Bool) (xs : List X) (ys : List Y) → length flags ≡ length xs → AllZip P (kept flags xs) ys → length ys ≡ copied_count flags
 carried_all P flags xs ys count h = let long = zip_long P (kept flags xs) ys h in let all = kept_all flags xs count in omega (arith, long, all)
-
--- what holds of an error holds where that is the answer

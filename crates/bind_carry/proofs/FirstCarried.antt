@@ -67,9 +67,11 @@ flag_within [] n h = no_true h
 flag_within (b ∷ bs) zero h = omega arith
 flag_within (b ∷ bs) (suc n) h = let r = flag_within bs n h in omega (arith, r)
 
-module _ (own other : Resolve) (valid_own : IsValid own) (valid_other : IsValid other) (matched : List (Option InterfaceId)) (c : Carried) (numbers : List ℕ) (chosen : AreChosen other matched c.copied_worlds.items c.copied_interfaces.items)
+module _ (own other : Resolve) (valid_own : IsValid own) (valid_other : IsValid other) (matched : List (Option InterfaceId)) (c : Carried) (numbers : List ℕ)
+    (chosen : AreChosen other matched c.copied_worlds.items c.copied_interfaces.items)
     (same : AreMatchedAt own other matched c.packages.items) (none : NoneOfPath own other matched) (long : length c.copied_interfaces.items ≡ length matched)
-    (interfaces_are : c.interfaces.items ≡ numbers_of (length own.interfaces.items) c.copied_interfaces.items (map interface_number matched)) (first : ℕ) (numbers_are : numbers ≡ numbers_by first (first_fates own other matched c))
+    (interfaces_are : c.interfaces.items ≡ numbers_of (length own.interfaces.items) c.copied_interfaces.items (map interface_number matched)) (first : ℕ)
+    (numbers_are : numbers ≡ numbers_by first (first_fates own other matched c))
     (count : length c.copied_interfaces.items ≡ length other.interfaces.items) where
   abbrev fates : List Fate
   fates = first_fates own other matched c
@@ -80,7 +82,8 @@ module _ (own other : Resolve) (valid_own : IsValid own) (valid_other : IsValid 
   -- ---- interfaces
 
   module _ (merged : Resolve) (types_begin : BeginsWith own.types.items merged.types.items) (interfaces_begin : BeginsWith own.interfaces.items merged.interfaces.items)
-      (more rest : List Interface) (copies : AllZip (IsInterfaceCarried c numbers) (kept c.copied_interfaces.items other.interfaces.items) more) (interfaces_here : merged.interfaces.items ≡ own.interfaces.items ++ (more ++ rest)) where
+      (more rest : List Interface) (copies : AllZip (IsInterfaceCarried c numbers) (kept c.copied_interfaces.items other.interfaces.items) more)
+      (interfaces_here : merged.interfaces.items ≡ own.interfaces.items ++ (more ++ rest)) where
     copy_interface : (n : ℕ) (i : Interface) → interface_at other n ≡ Some i → flag_under c.copied_interfaces.items n ≡ true → IsInterface other merged f n
     copy_interface n i at set = record {
       old = i;
@@ -99,22 +102,33 @@ module _ (own other : Resolve) (valid_own : IsValid own) (valid_other : IsValid 
         unique : IsUnique string_eq i.types × IsUnique string_eq i.functions
         unique = valid_other.distinct_keys.interfaces n i at
 
-        place : IsKeptAt (IsInterfaceCarried c numbers) i (own.interfaces.items ++ (more ++ rest)) (number_under (numbers_of (length own.interfaces.items) c.copied_interfaces.items (map interface_number matched)) n)
-        place = kept_placed (IsInterfaceCarried c numbers) c.copied_interfaces.items (map interface_number matched) other.interfaces.items more copies (long ∙ sym (length-map matched interface_number)) (length own.interfaces.items) own.interfaces.items rest refl n i set at
+        place : IsKeptAt (IsInterfaceCarried c numbers) i (own.interfaces.items ++ (more ++ rest))
+            (number_under (numbers_of (length own.interfaces.items) c.copied_interfaces.items (map interface_number matched)) n)
+        place = kept_placed (IsInterfaceCarried c numbers) c.copied_interfaces.items (map interface_number matched) other.interfaces.items more copies
+            (long ∙ sym (length-map matched interface_number)) (length own.interfaces.items) own.interfaces.items rest refl n i set at
 
         numbers_there : interface_type_numbers place.image ≡ map f.types (interface_type_numbers i)
         numbers_there = type_numbers_under numbers i place.image (place.is.types unique.0)
 
         types_back : (m : ℕ) → has (interface_type_numbers place.image) m ≡ true → (k : ℕ) × (has (interface_type_numbers i) k ≡ true) × (f.carries_type k ≡ true) × (f.types k ≡ m)
         types_back m h =
-            let x = has_map f.types (interface_type_numbers i) m (sym (ap (λ ns. has ns m) numbers_there) ∙ h) in
-            (x.0, x.1, all-contained f.carries_type (interface_type_numbers i) x.0 (types_carried own other valid_own valid_other matched c numbers chosen same none long interfaces_are first numbers_are n i carried at) (has-contains (interface_type_numbers i) x.0 x.1), x.2)
+            let x = has_map f.types (interface_type_numbers i) m (sym (ap (λ ns. has ns m) numbers_there) ∙ h) in (
+              x.0,
+              x.1,
+              all-contained f.carries_type (interface_type_numbers i) x.0
+                  (types_carried own other valid_own valid_other matched c numbers chosen same none long interfaces_are first numbers_are n i carried at)
+                  (has-contains (interface_type_numbers i) x.0 x.1),
+              x.2,
+            )
 
         all_copied : list_all (λ id. f.copies_type id.0) (values i.types) ≡ true
-        all_copied = sym (list_all-map f.copies_type (λ (id : TypeId). id.0) (values i.types)) ∙ types_copied own other valid_own valid_other matched c numbers chosen same none long interfaces_are first numbers_are n i set at
+        all_copied = sym (list_all-map f.copies_type (λ (id : TypeId). id.0) (values i.types)) ∙ types_copied own other valid_own valid_other matched c numbers chosen same none long interfaces_are
+            first numbers_are n i set at
 
         functions : list_all (is_function_carried f.carries_type) (values i.functions) ≡ true
-        functions = (parts_of own other valid_other matched c numbers chosen (names own other valid_own valid_other matched c numbers chosen same none long interfaces_are first numbers_are) (adds_interface own other valid_other matched c numbers chosen (names own other valid_own valid_other matched c numbers chosen same none long interfaces_are first numbers_are) n set)).of_interfaces n i at carried
+        functions = (parts_of own other valid_other matched c numbers chosen (names own other valid_own valid_other matched c numbers chosen same none long interfaces_are first numbers_are)
+            (adds_interface own other valid_other matched c numbers chosen (names own other valid_own valid_other matched c numbers chosen same none long interfaces_are first numbers_are) n
+            set)).of_interfaces n i at carried
 
     -- each interface that is carried stands under its new number
     pub interfaces_hold : (n : ℕ) → f.carries_interface n ≡ true → IsInterface other merged f n
@@ -125,7 +139,8 @@ module _ (own other : Resolve) (valid_own : IsValid own) (valid_other : IsValid 
             let less = flag_within c.copied_interfaces.items n e in
             let i = within_there other.interfaces.items n (omega (arith, less, count)) in
             copy_interface n i.0 i.1 e
-        go false e = interface_stands own other valid_own valid_other matched c numbers chosen same none long interfaces_are first numbers_are merged types_begin interfaces_begin n (sym (ap (λ b. b || is_matched matched n) e) ∙ h)
+        go false e = interface_stands own other valid_own valid_other matched c numbers chosen same none long interfaces_are first numbers_are merged types_begin interfaces_begin n
+            (sym (ap (λ b. b || is_matched matched n) e) ∙ h)
 
   -- ---- numbers
 
@@ -134,7 +149,8 @@ module _ (own other : Resolve) (valid_own : IsValid own) (valid_other : IsValid 
   interfaces_rise = subst (λ l. Rises (number_under l) f.carries_interface f.copies_interface) (sym interfaces_are)
       (numbers_rise (length own.interfaces.items) c.copied_interfaces.items (map interface_number matched) f.carries_interface (length-map matched interface_number ∙ sym long) low)
     where
-      low : (n : ℕ) → f.carries_interface n ≡ true → flag_under c.copied_interfaces.items n ≡ false → number_under (numbers_of (length own.interfaces.items) c.copied_interfaces.items (map interface_number matched)) n < length own.interfaces.items
+      low : (n : ℕ) → f.carries_interface n ≡ true → flag_under c.copied_interfaces.items n ≡ false
+          → number_under (numbers_of (length own.interfaces.items) c.copied_interfaces.items (map interface_number matched)) n < length own.interfaces.items
       low n h e =
           let k : is_matched matched n ≡ true = sym (ap (λ b. b || is_matched matched n) e) ∙ h in
           let m = same n k in
@@ -196,7 +212,8 @@ module _ (own other : Resolve) (valid_own : IsValid own) (valid_other : IsValid 
 
 -- ---- the whole
 
-pub chosen_so : (own other : Resolve) (m : Matches) (c : Carried) → IsInRange other → AreMatchedAll other m → IsNumbered own other m c → AreChosen other m.interfaces.items c.copied_worlds.items c.copied_interfaces.items
+pub chosen_so : (own other : Resolve) (m : Matches) (c : Carried) → IsInRange other → AreMatchedAll other m → IsNumbered own other m c
+    → AreChosen other m.interfaces.items c.copied_worlds.items c.copied_interfaces.items
 chosen_so own other m c range all is =
     subst (AreChosen other m.interfaces.items c.copied_worlds.items) (sym is.copied_interfaces) (are_chosen other m.interfaces.items c.copied_worlds.items all.interfaces below)
   where
@@ -209,9 +226,12 @@ chosen_so own other m c range all is =
 -- What the first pass carries is carried.
 pub first_is_carried : FirstIsCarried
 first_is_carried own other merged m c numbers valid_own valid_other p = record {
-  packages = λ n old at. let x = packages_hold own other merged c m.packages.items p.by_name p.numbered.new_packages p.numbered.packages p.gains p.grown p.new_packages p.gained p.packages p.packages_here (number_under c.packages.items) refl n old at in record { image = x.0; at_image = x.1; name = x.2 };
-  types = types_hold own other valid_own valid_other matched c numbers chosen p.same p.none long p.numbered.interfaces first p.types.numbers_are merged types_begin interfaces_begin p.new_types p.more_types p.types p.types_here;
-  interfaces = interfaces_hold own other valid_own valid_other matched c numbers chosen p.same p.none long p.numbered.interfaces first p.types.numbers_are p.numbered.interface_count merged types_begin interfaces_begin p.new_interfaces p.more_interfaces p.interfaces p.interfaces_here;
+  packages = λ n old at. let x = packages_hold own other merged c m.packages.items p.by_name p.numbered.new_packages p.numbered.packages p.gains p.grown p.new_packages p.gained p.packages
+      p.packages_here (number_under c.packages.items) refl n old at in record { image = x.0; at_image = x.1; name = x.2 };
+  types = types_hold own other valid_own valid_other matched c numbers chosen p.same p.none long p.numbered.interfaces first p.types.numbers_are merged types_begin interfaces_begin p.new_types
+      p.more_types p.types p.types_here;
+  interfaces = interfaces_hold own other valid_own valid_other matched c numbers chosen p.same p.none long p.numbered.interfaces first p.types.numbers_are p.numbered.interface_count merged
+      types_begin interfaces_begin p.new_interfaces p.more_interfaces p.interfaces p.interfaces_here;
   copied_types = copied_carried (first_fates own other matched c);
   copied_interfaces = λ n h. or_left (flag_under c.copied_interfaces.items n) (is_matched matched n) h;
   types_rise = types_rise own other valid_own valid_other matched c numbers chosen p.same p.none long p.numbered.interfaces first p.types.numbers_are p.numbered.interface_count at_first types_count;

@@ -62,11 +62,13 @@ module _ (n : ℕ) where
       more : 1 ≤ count is → 1 ≤ cond (is_id n (item_interface i)) 1 0 + count is
       more r = omega (arith, r)
 
-      by : (m : ℕ) → item_interface i ≡ Some m → (b : Bool) → (m == n) ≡ b → (b || has (filter_map item_interface is) n) ≡ true → (has (filter_map item_interface is) n ≡ true → 1 ≤ count is) → 1 ≤ cond (is_id n (item_interface i)) 1 0 + count is
+      by : (m : ℕ) → item_interface i ≡ Some m → (b : Bool) → (m == n) ≡ b → (b || has (filter_map item_interface is) n) ≡ true → (has (filter_map item_interface is) n ≡ true → 1 ≤ count is)
+          → 1 ≤ cond (is_id n (item_interface i)) 1 0 + count is
       by m e true q k rest = let one : ◌≡◌ {A = ℕ} (cond (is_id n (item_interface i)) 1 0) 1 = ap (λ b. cond b 1 0) (ap (is_id n) e ∙ q) in omega (arith, one)
       by m e false q k rest = more (rest k)
 
-      go : (o : Option ℕ) → item_interface i ≡ o → has (filter_map item_interface (i ∷ is)) n ≡ true → (has (filter_map item_interface is) n ≡ true → 1 ≤ count is) → 1 ≤ cond (is_id n (item_interface i)) 1 0 + count is
+      go : (o : Option ℕ) → item_interface i ≡ o → has (filter_map item_interface (i ∷ is)) n ≡ true → (has (filter_map item_interface is) n ≡ true → 1 ≤ count is)
+          → 1 ≤ cond (is_id n (item_interface i)) 1 0 + count is
       go None e k rest = more (rest (sym (ap (λ ns. has ns n) (filter_map_none item_interface i is e)) ∙ k))
       go (Some m) e k rest = by m e (m == n) refl (sym (ap (λ ns. has ns n) (filter_map_some item_interface i m is e)) ∙ k) rest
 
@@ -74,7 +76,8 @@ module _ (n : ℕ) where
   shown_count [] h = no_true h
   shown_count (e ∷ es) h = subst (λ (k : ℕ). 1 ≤ k) (sym (count_next e.1 (map (λ (x : WorldKey × WorldItem). x.1) es))) (go (is_id n (item_interface e.1)) refl h (shown_count es))
     where
-      go : (b : Bool) → is_id n (item_interface e.1) ≡ b → (b || is_shown_in es n) ≡ true → (is_shown_in es n ≡ true → 1 ≤ count (map (λ (x : WorldKey × WorldItem). x.1) es)) → 1 ≤ cond (is_id n (item_interface e.1)) 1 0 + count (map (λ (x : WorldKey × WorldItem). x.1) es)
+      go : (b : Bool) → is_id n (item_interface e.1) ≡ b → (b || is_shown_in es n) ≡ true → (is_shown_in es n ≡ true → 1 ≤ count (map (λ (x : WorldKey × WorldItem). x.1) es))
+          → 1 ≤ cond (is_id n (item_interface e.1)) 1 0 + count (map (λ (x : WorldKey × WorldItem). x.1) es)
       go true q k rest = let one : ◌≡◌ {A = ℕ} (cond (is_id n (item_interface e.1)) 1 0) 1 = ap (λ b. cond b 1 0) q in omega (arith, one)
       go false q k rest = let r = rest k in omega (arith, r)
 
@@ -89,8 +92,10 @@ sum_one f (x ∷ xs) (suc n) b at q = let r = sum_one f xs n b at q in let total
 pub sum_two : {X : Type 0} (f : X → ℕ) (xs : List X) (m n : ℕ) (a b : X) → slice_get xs m ≡ Some a → slice_get xs n ≡ Some b → 1 ≤ f a → 1 ≤ f b → (m ≡ n → ⊥) → 2 ≤ sum_by f xs
 sum_two f [] m n a b at_a at_b p q apart = let wrong : ⊥ = cc in absurd wrong
 sum_two f (x ∷ xs) zero zero a b at_a at_b p q apart = absurd (apart refl)
-sum_two f (x ∷ xs) zero (suc n) a b at_a at_b p q apart = let one : 1 ≤ f x = subst (λ y. 1 ≤ f y) (sym (some_same x a at_a)) p in let more = sum_one f xs n b at_b q in let total = sum_by-cons f x xs in omega (arith, one, more, total)
-sum_two f (x ∷ xs) (suc m) zero a b at_a at_b p q apart = let one : 1 ≤ f x = subst (λ y. 1 ≤ f y) (sym (some_same x b at_b)) q in let more = sum_one f xs m a at_a p in let total = sum_by-cons f x xs in omega (arith, one, more, total)
+sum_two f (x ∷ xs) zero (suc n) a b at_a at_b p q apart = let one : 1 ≤ f x = subst (λ y. 1 ≤ f y) (sym (some_same x a at_a)) p in let more = sum_one f xs n b at_b q in let total =
+    sum_by-cons f x xs in omega (arith, one, more, total)
+sum_two f (x ∷ xs) (suc m) zero a b at_a at_b p q apart = let one : 1 ≤ f x = subst (λ y. 1 ≤ f y) (sym (some_same x b at_b)) q in let more = sum_one f xs m a at_a p in let total =
+    sum_by-cons f x xs in omega (arith, one, more, total)
 sum_two f (x ∷ xs) (suc m) (suc n) a b at_a at_b p q apart = let r = sum_two f xs m n a b at_a at_b p q (λ e. apart (ap suc e)) in let total = sum_by-cons f x xs in omega (arith, r, total)
 
 -- ---- worlds that are copied
@@ -112,11 +117,13 @@ shown_by (b ∷ bs) [] m h = no_true h
 shown_by (false ∷ bs) (w ∷ ws) m h = next_shows false bs w ws m (shown_by bs ws m h)
 shown_by (true ∷ bs) (w ∷ ws) m h = go (is_shown_in w.imports.entries m || is_shown_in w.exports.entries m) refl h (shown_by bs ws m)
   where
-    go : (b : Bool) → (is_shown_in w.imports.entries m || is_shown_in w.exports.entries m) ≡ b → (b || is_shown_of bs ws m) ≡ true → (is_shown_of bs ws m ≡ true → IsShownBy bs ws m) → IsShownBy (true ∷ bs) (w ∷ ws) m
+    go : (b : Bool) → (is_shown_in w.imports.entries m || is_shown_in w.exports.entries m) ≡ b → (b || is_shown_of bs ws m) ≡ true → (is_shown_of bs ws m ≡ true → IsShownBy bs ws m)
+        → IsShownBy (true ∷ bs) (w ∷ ws) m
     go true e k rest = record { place = zero; world = w; at_place = refl; set = refl; shows = e }
     go false e k rest = next_shows true bs w ws m (rest k)
 
-pub count_front : (n : ℕ) (xs ys : List WorldItem) → count_by (λ i. is_id n (item_interface i)) (xs ++ ys) ≡ count_by (λ i. is_id n (item_interface i)) xs + count_by (λ i. is_id n (item_interface i)) ys
+pub count_front : (n : ℕ) (xs ys : List WorldItem)
+    → count_by (λ i. is_id n (item_interface i)) (xs ++ ys) ≡ count_by (λ i. is_id n (item_interface i)) xs + count_by (λ i. is_id n (item_interface i)) ys
 count_front n xs ys = sum_by-append (λ i. cond (is_id n (item_interface i)) 1 0) xs ys
 
 -- so it counts
@@ -137,7 +144,8 @@ module _ (r : Resolve) (valid : IsValid r) where
   -- an inline interface is shown once
   pub inline_once : (m : ℕ) (i : Interface) → interface_at r m ≡ Some i → i.name ≡ None → sum_by (times_shown m) r.worlds.items ≡ 1
   unfolding places
-  inline_once m i at none = equal (sum_by (times_shown m) r.worlds.items) 1 (first_true (sum_by (times_shown m) r.worlds.items == 1) same_home (of_none named inline i.name none (second_true (is_some i.«package») (option_map_or named i.name inline) h)))
+  inline_once m i at none = equal (sum_by (times_shown m) r.worlds.items) 1
+      (first_true (sum_by (times_shown m) r.worlds.items == 1) same_home (of_none named inline i.name none (second_true (is_some i.«package») (option_map_or named i.name inline) h)))
     where
       same_home : Bool
       same_home = list_all (λ w. (times_shown m w == 0) || option_eq (λ (a b : ℕ). a == b) (package_number w.«package») (package_number i.«package»)) r.worlds.items
@@ -156,7 +164,8 @@ module _ (r : Resolve) (valid : IsValid r) where
       of_none f d (Some s) e k = let wrong : ⊥ = cc in absurd wrong
 
   -- so by one world
-  pub one_shows : (m : ℕ) (i : Interface) → interface_at r m ≡ Some i → i.name ≡ None → (a b : ℕ) (w v : World) → world_at r a ≡ Some w → world_at r b ≡ Some v → 1 ≤ times_shown m w → 1 ≤ times_shown m v → a ≡ b
+  pub one_shows : (m : ℕ) (i : Interface) → interface_at r m ≡ Some i → i.name ≡ None → (a b : ℕ) (w v : World) → world_at r a ≡ Some w → world_at r b ≡ Some v → 1 ≤ times_shown m w
+      → 1 ≤ times_shown m v → a ≡ b
   one_shows m i at none a b w v at_w at_v p q = go (a == b) refl
     where
       once : sum_by (times_shown m) r.worlds.items ≡ 1
@@ -175,7 +184,8 @@ pub first_is_copied : FirstIsCopied
 first_is_copied own other merged m c numbers valid_own valid_other p = record {
   carried = first_is_carried own other merged m c numbers valid_own valid_other p;
   new_types = types_behind;
-  new_interfaces = λ n h. subst (λ l. length own.interfaces.items ≤ number_under l n) (sym p.numbered.interfaces) (copied_behind (length own.interfaces.items) c.copied_interfaces.items (map interface_number matched) n (long ∙ sym (length-map matched interface_number)) h);
+  new_interfaces = λ n h. subst (λ l. length own.interfaces.items ≤ number_under l n) (sym p.numbered.interfaces)
+      (copied_behind (length own.interfaces.items) c.copied_interfaces.items (map interface_number matched) n (long ∙ sym (length-map matched interface_number)) h);
   inline_copied = inline_copied;
   inline_shown = inline_shown;
 }
@@ -197,7 +207,8 @@ first_is_copied own other merged m c numbers valid_own valid_other p = record {
         let here : number_under numbers n ≡ number_under (numbers_by first fates) n = ap (λ l. number_under l n) p.types.numbers_are in
         omega (arith, behind, here)
 
-    inline_copied : (n : ℕ) (i : Interface) → (flag_under c.copied_interfaces.items n || is_matched matched n) ≡ true → interface_at other n ≡ Some i → i.name ≡ None → flag_under c.copied_interfaces.items n ≡ true
+    inline_copied : (n : ℕ) (i : Interface) → (flag_under c.copied_interfaces.items n || is_matched matched n) ≡ true → interface_at other n ≡ Some i → i.name ≡ None
+        → flag_under c.copied_interfaces.items n ≡ true
     inline_copied n i carried at none = go (flag_under c.copied_interfaces.items n) refl carried
       where
         go : (b : Bool) → flag_under c.copied_interfaces.items n ≡ b → (b || is_matched matched n) ≡ true → flag_under c.copied_interfaces.items n ≡ true
@@ -207,7 +218,8 @@ first_is_copied own other merged m c numbers valid_own valid_other p = record {
             let same : is.old ≡ i = some_same is.old i (sym is.found ∙ at) in
             no_true (sym (ap is_some none) ∙ (ap (λ (x : Interface). is_some x.name) (sym same) ∙ named_of_path other n is.old is.found is.has_path))
 
-    inline_shown : (n : ℕ) (i : Interface) (k : ℕ) (w : World) → flag_under c.copied_interfaces.items n ≡ true → interface_at other n ≡ Some i → i.name ≡ None → world_at other k ≡ Some w → has (filter_map item_interface (items_of w)) n ≡ true → flag_under c.copied_worlds.items k ≡ true
+    inline_shown : (n : ℕ) (i : Interface) (k : ℕ) (w : World) → flag_under c.copied_interfaces.items n ≡ true → interface_at other n ≡ Some i → i.name ≡ None → world_at other k ≡ Some w
+        → has (filter_map item_interface (items_of w)) n ≡ true → flag_under c.copied_worlds.items k ≡ true
     inline_shown n i k w set at none at_w shows =
         let by = shown_by c.copied_worlds.items other.worlds.items n (sym (chosen.inline n i at (ap is_some none)) ∙ set) in
         let one : by.place ≡ k = one_shows other valid_other n i at none by.place k by.world w by.at_place at_w (times_of by.world n by.shows) (some_count n (items_of w) shows) in

@@ -33,12 +33,14 @@ numbers_by_name : (es : List (String Global × TypeId)) → map (λ (x : Text ×
 numbers_by_name [] = refl
 numbers_by_name (e ∷ es) = ap (λ ns. e.1.0 ∷ ns) (numbers_by_name es)
 
-numbers_under_name : (numbers : List ℕ) (es : List (String Global × TypeId)) → map (λ (x : Text × ℕ). x.1) (type_names_under numbers es) ≡ map (number_under numbers) (map (λ (id : TypeId). id.0) (map (λ (e : String Global × TypeId). e.1) es))
+numbers_under_name : (numbers : List ℕ) (es : List (String Global × TypeId))
+    → map (λ (x : Text × ℕ). x.1) (type_names_under numbers es) ≡ map (number_under numbers) (map (λ (id : TypeId). id.0) (map (λ (e : String Global × TypeId). e.1) es))
 numbers_under_name numbers [] = refl
 numbers_under_name numbers (e ∷ es) = ap (λ ns. number_under numbers e.1.0 ∷ ns) (numbers_under_name numbers es)
 
 -- the types of a copy are those of the other under their new numbers
-pub type_numbers_under : (numbers : List ℕ) (old new : Interface) → type_names new.types.entries ≡ type_names_under numbers old.types.entries → interface_type_numbers new ≡ map (number_under numbers) (interface_type_numbers old)
+pub type_numbers_under : (numbers : List ℕ) (old new : Interface) → type_names new.types.entries ≡ type_names_under numbers old.types.entries
+    → interface_type_numbers new ≡ map (number_under numbers) (interface_type_numbers old)
 type_numbers_under numbers old new same =
     sym (numbers_by_name new.types.entries) ∙ (ap (map (λ (x : Text × ℕ). x.1)) same ∙ numbers_under_name numbers old.types.entries)
 
@@ -46,12 +48,17 @@ type_numbers_under numbers old new same =
 
 module _ (f : Renumbering) (types : List ℕ) (by_type : number_under types ≡ f.types) where
   -- where all that they name is carried, functions under new numbers are copies
-  functions_copy : (olds news : List (String Global × Function)) → AllZip (IsEntryUnderNumbers types) olds news → list_all (is_function_carried f.carries_type) (map (λ (e : String Global × Function). e.1) olds) ≡ true → AllZip (IsFunctionEntry f) olds news
+  functions_copy : (olds news : List (String Global × Function)) → AllZip (IsEntryUnderNumbers types) olds news
+      → list_all (is_function_carried f.carries_type) (map (λ (e : String Global × Function). e.1) olds) ≡ true → AllZip (IsFunctionEntry f) olds news
   functions_copy [] [] zip ready = tt
   functions_copy [] (y ∷ ys) zip ready = absurd zip
   functions_copy (x ∷ xs) [] zip ready = absurd zip
   functions_copy (x ∷ xs) (y ∷ ys) zip ready = (
-    (zip.0.0, function_copy f types by_type x.1 y.1 zip.0.1 (first_true (is_function_carried f.carries_type x.1) (list_all (is_function_carried f.carries_type) (map (λ (e : String Global × Function). e.1) xs)) ready)),
+    (
+      zip.0.0,
+      function_copy f types by_type x.1 y.1 zip.0.1 (first_true (is_function_carried f.carries_type x.1)
+          (list_all (is_function_carried f.carries_type) (map (λ (e : String Global × Function). e.1) xs)) ready),
+    ),
     functions_copy xs ys zip.1 (second_true (is_function_carried f.carries_type x.1) (list_all (is_function_carried f.carries_type) (map (λ (e : String Global × Function). e.1) xs)) ready),
   )
 

@@ -48,7 +48,8 @@ use Rattle.wit_model.proofs.PartsLemmas.{owner_same as owner_equal}
 -- ---- own numbers
 
 -- what isn't copied keeps the number that it had
-pub uncopied_under : (first : ℕ) (flags : List Bool) (others : List ℕ) (n : ℕ) → length flags ≡ length others → flag_under flags n ≡ false → number_under (numbers_of first flags others) n ≡ number_under others n
+pub uncopied_under : (first : ℕ) (flags : List Bool) (others : List ℕ) (n : ℕ) → length flags ≡ length others → flag_under flags n ≡ false
+    → number_under (numbers_of first flags others) n ≡ number_under others n
 uncopied_under first [] [] n long h = refl
 uncopied_under first [] (o ∷ os) n long h = absurd (omega (arith, long))
 uncopied_under first (b ∷ bs) [] n long h = absurd (omega (arith, long))
@@ -90,7 +91,8 @@ module _ (own other : Resolve) (valid_other : IsValid other) (matched : List (Op
       ap (option_and_then (λ id. option_and_then (λ i. get_by_text i.types name) (interface_at own id.0))) is.given
       ∙ ap (option_and_then (λ i. get_by_text i.types name)) is.at_image
 
-  pub type_there : (t : ℕ) (def : TypeDef) (s : String Global) → type_at other t ≡ Some def → def.name ≡ Some s → def.owner ≡ as_interface n → (id : TypeId) × (type_named own matched n (text_of s) ≡ Some id)
+  pub type_there : (t : ℕ) (def : TypeDef) (s : String Global) → type_at other t ≡ Some def → def.name ≡ Some s → def.owner ≡ as_interface n → (id : TypeId)
+      × (type_named own matched n (text_of s) ≡ Some id)
   type_there t def s at named home =
       let listed = home_listed other valid_other t def at s named n home is.old is.found in
       let x = name_there (text_of s) t listed.0 in
@@ -114,9 +116,11 @@ there_of_path r n h = go (interface_at r n) refl h
 
 -- ---- what stands for what
 
-module _ (own other : Resolve) (valid_own : IsValid own) (valid_other : IsValid other) (matched : List (Option InterfaceId)) (c : Carried) (numbers : List ℕ) (chosen : AreChosen other matched c.copied_worlds.items c.copied_interfaces.items)
+module _ (own other : Resolve) (valid_own : IsValid own) (valid_other : IsValid other) (matched : List (Option InterfaceId)) (c : Carried) (numbers : List ℕ)
+    (chosen : AreChosen other matched c.copied_worlds.items c.copied_interfaces.items)
     (same : AreMatchedAt own other matched c.packages.items) (none : NoneOfPath own other matched) (long : length c.copied_interfaces.items ≡ length matched)
-    (interfaces_are : c.interfaces.items ≡ numbers_of (length own.interfaces.items) c.copied_interfaces.items (map interface_number matched)) (first : ℕ) (numbers_are : numbers ≡ numbers_by first (first_fates own other matched c)) where
+    (interfaces_are : c.interfaces.items ≡ numbers_of (length own.interfaces.items) c.copied_interfaces.items (map interface_number matched)) (first : ℕ)
+    (numbers_are : numbers ≡ numbers_by first (first_fates own other matched c)) where
   abbrev fates : List Fate
   fates = first_fates own other matched c
 
@@ -124,7 +128,8 @@ module _ (own other : Resolve) (valid_own : IsValid own) (valid_other : IsValid 
   f = first_of matched c fates numbers
 
   -- each type of a matched interface has an own one of its name
-  pub names : (n : ℕ) (def : TypeDef) (a : ℕ) (s : String Global) → type_at other n ≡ Some def → def.name ≡ Some s → def.owner ≡ as_interface a → is_matched matched a ≡ true → (id : TypeId) × (type_named own matched a (text_of s) ≡ Some id)
+  pub names : (n : ℕ) (def : TypeDef) (a : ℕ) (s : String Global) → type_at other n ≡ Some def → def.name ≡ Some s → def.owner ≡ as_interface a → is_matched matched a ≡ true → (id : TypeId)
+      × (type_named own matched a (text_of s) ≡ Some id)
   names n def a s at named home h = type_there own other valid_other matched c.packages.items a (same a h) n def s at named home
 
   -- what is matched isn't copied
@@ -183,7 +188,8 @@ module _ (own other : Resolve) (valid_own : IsValid own) (valid_other : IsValid 
   path_carried n path = let i = there_of_path other n path in ap (λ b. b || is_matched matched n) (chosen.named n i.0 i.1 (named_of_path other n i.0 i.1 path)) ∙ excluded (is_matched matched n)
 
   -- all types of an interface are named ones of it
-  pub types_are : (n : ℕ) (i : Interface) → interface_at other n ≡ Some i → (p : ℕ → Bool) → ((t : ℕ) (def : TypeDef) → type_at other t ≡ Some def → is_some def.name ≡ true → def.owner ≡ as_interface n → p t ≡ true) → list_all p (interface_type_numbers i) ≡ true
+  pub types_are : (n : ℕ) (i : Interface) → interface_at other n ≡ Some i → (p : ℕ → Bool)
+      → ((t : ℕ) (def : TypeDef) → type_at other t ≡ Some def → is_some def.name ≡ true → def.owner ≡ as_interface n → p t ≡ true) → list_all p (interface_type_numbers i) ≡ true
   unfolding order_of_types numbers_in_range
   types_are n i at p each = all_two (in_list other.types.items) (is_named_of other (as_interface n)) p one (interface_type_numbers i) range named
     where
@@ -192,26 +198,32 @@ module _ (own other : Resolve) (valid_own : IsValid own) (valid_other : IsValid 
           let all = interface-passes numbers_in_range other valid_other.rules.numbers_in_range n i at in
           list_all-map (in_list other.types.items) (λ (id : TypeId). id.0) (values i.types)
           ∙ first_true (list_all (λ id. in_list other.types.items id.0) (values i.types)) (list_all (function_in_range other) (values i.functions))
-          (second_true (passes (in_list other.packages.items) (package_number i.«package»)) (list_all (λ id. in_list other.types.items id.0) (values i.types) && list_all (function_in_range other) (values i.functions))
-          (second_true (is_place n) (passes (in_list other.packages.items) (package_number i.«package») && (list_all (λ id. in_list other.types.items id.0) (values i.types) && list_all (function_in_range other) (values i.functions))) all))
+          (second_true (passes (in_list other.packages.items) (package_number i.«package»))
+          (list_all (λ id. in_list other.types.items id.0) (values i.types) && list_all (function_in_range other) (values i.functions))
+          (second_true (is_place n) (passes (in_list other.packages.items) (package_number i.«package»)
+          && (list_all (λ id. in_list other.types.items id.0) (values i.types) && list_all (function_in_range other) (values i.functions))) all))
 
       named : list_all (is_named_of other (as_interface n)) (interface_type_numbers i) ≡ true
-      named = first_true (list_all (is_named_of other (as_interface n)) (interface_type_numbers i)) (are_in_order other (interface_type_numbers i)) (interface-passes order_of_types other valid_other.rules.order_of_types n i at)
+      named = first_true (list_all (is_named_of other (as_interface n)) (interface_type_numbers i)) (are_in_order other (interface_type_numbers i))
+          (interface-passes order_of_types other valid_other.rules.order_of_types n i at)
 
       one : (t : ℕ) → in_list other.types.items t ≡ true → is_named_of other (as_interface n) t ≡ true → p t ≡ true
       one t inside is =
           let d = found-in other.types.items t inside in
           let both_ : (is_some d.0.name && same_owner d.0.owner (as_interface n)) ≡ true = sym (ap (passes (λ def. is_some def.name && same_owner def.owner (as_interface n))) d.1) ∙ is in
-          each t d.0 d.1 (first_true (is_some d.0.name) (same_owner d.0.owner (as_interface n)) both_) (owner_equal d.0.owner (as_interface n) (second_true (is_some d.0.name) (same_owner d.0.owner (as_interface n)) both_))
+          each t d.0 d.1 (first_true (is_some d.0.name) (same_owner d.0.owner (as_interface n)) both_)
+          (owner_equal d.0.owner (as_interface n) (second_true (is_some d.0.name) (same_owner d.0.owner (as_interface n)) both_))
 
   pub types_carried : (n : ℕ) (i : Interface) → f.carries_interface n ≡ true → interface_at other n ≡ Some i → list_all f.carries_type (interface_type_numbers i) ≡ true
-  types_carried n i carried at = types_are n i at f.carries_type (λ t def found named home. named_carried own other valid_other matched c numbers chosen names t def found named (ap (carries_owner f) home ∙ carried))
+  types_carried n i carried at = types_are n i at f.carries_type (λ t def found named home. named_carried own other valid_other matched c numbers chosen names t def found named
+      (ap (carries_owner f) home ∙ carried))
 
   pub types_copied : (n : ℕ) (i : Interface) → flag_under c.copied_interfaces.items n ≡ true → interface_at other n ≡ Some i → list_all f.copies_type (interface_type_numbers i) ≡ true
   types_copied n i set at = types_are n i at f.copies_type (λ t def found named home. owned_copied own other valid_other matched c numbers chosen t def found n home set)
 
   -- a type of a matched interface is in the other's list of it
-  type_listed : (n : ℕ) (def : TypeDef) (a : ℕ) → type_at other n ≡ Some def → is_some def.name ≡ true → def.owner ≡ as_interface a → (h : is_matched matched a ≡ true) → has (interface_type_numbers (same a h).old) n ≡ true
+  type_listed : (n : ℕ) (def : TypeDef) (a : ℕ) → type_at other n ≡ Some def → is_some def.name ≡ true → def.owner ≡ as_interface a → (h : is_matched matched a ≡ true)
+      → has (interface_type_numbers (same a h).old) n ≡ true
   type_listed n def a at named home h = go def.name refl named
     where
       m : IsMatchedAt own other matched c.packages.items a
@@ -235,18 +247,22 @@ module _ (own other : Resolve) (valid_own : IsValid own) (valid_other : IsValid 
   -- ---- in what begins with own lists
 
   module _ (merged : Resolve) (types_begin : BeginsWith own.types.items merged.types.items) (interfaces_begin : BeginsWith own.interfaces.items merged.interfaces.items) where
-    matched_here : (n : ℕ) (h : is_matched matched n ≡ true) → IsInterface other merged f n × ((t : ℕ) → has (interface_type_numbers (same n h).old) t ≡ true → f.copies_type t ≡ false → IsType other merged f t)
+    matched_here : (n : ℕ) (h : is_matched matched n ≡ true) → IsInterface other merged f n
+        × ((t : ℕ) → has (interface_type_numbers (same n h).old) t ≡ true → f.copies_type t ≡ false → IsType other merged f t)
     unfolding is_match
-    matched_here n h = matched_stand own other merged f valid_own valid_other types_begin interfaces_begin are_matched path_carried types_carried n (is_match n h) (uncopied n h) (same n h).name (same n h).in_package
+    matched_here n h = matched_stand own other merged f valid_own valid_other types_begin interfaces_begin are_matched path_carried types_carried n (is_match n h) (uncopied n h) (same n h).name
+        (same n h).in_package
 
     -- a matched interface stands for the other
     pub interface_stands : (n : ℕ) → is_matched matched n ≡ true → IsInterface other merged f n
     interface_stands n h = (matched_here n h).0
 
     -- and its types for the other's
-    pub type_stands : (n : ℕ) (def : TypeDef) (a : ℕ) → type_at other n ≡ Some def → is_some def.name ≡ true → def.owner ≡ as_interface a → is_matched matched a ≡ true → flag_under c.copied_interfaces.items a ≡ false → is_copied fates n ≡ false → IsType other merged f n
+    pub type_stands : (n : ℕ) (def : TypeDef) (a : ℕ) → type_at other n ≡ Some def → is_some def.name ≡ true → def.owner ≡ as_interface a → is_matched matched a ≡ true
+        → flag_under c.copied_interfaces.items a ≡ false → is_copied fates n ≡ false → IsType other merged f n
     type_stands n def a at named home h k bare = (matched_here a h).1 n (type_listed n def a at named home h) bare
 
     -- so each type that is carried stands under its new number
-    pub types_hold : (more rest : List TypeDef) → AreCopied (length own.types.items) numbers other.types.items fates [] more → merged.types.items ≡ own.types.items ++ (more ++ rest) → (n : ℕ) → f.carries_type n ≡ true → IsType other merged f n
+    pub types_hold : (more rest : List TypeDef) → AreCopied (length own.types.items) numbers other.types.items fates [] more → merged.types.items ≡ own.types.items ++ (more ++ rest) → (n : ℕ)
+        → f.carries_type n ≡ true → IsType other merged f n
     types_hold more rest is types_are = first_types own other valid_other matched c numbers chosen names merged more rest is types_are type_stands

@@ -71,7 +71,9 @@ unions_have_the_second own other merged world other_world m w v added keys u a a
     copied_are = u.second.copied_are;
     interfaces_are = u.second.interfaces_are;
     all_types = added.types.items;
-    types_copied = subst (λ (l : List TypeDef). AreCopied (length own.types.items) u.second.types other.types.items (bound_fates other world other_world w v u.second.copied u.second.interfaces (first_fates own other m.interfaces.items u.carried) u.types) l added.types.items) u.first.type_defs u.second.types_copied;
+    types_copied = subst (λ (l : List TypeDef). AreCopied (length own.types.items) u.second.types other.types.items
+        (bound_fates other world other_world w v u.second.copied u.second.interfaces (first_fates own other m.interfaces.items u.carried) u.types) l added.types.items) u.first.type_defs
+        u.second.types_copied;
     types_here = a.types;
     all_interfaces = added.interfaces.items;
     inline_copied = u.second.inline_copied;

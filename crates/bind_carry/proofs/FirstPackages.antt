@@ -44,7 +44,8 @@ optional_parts (Some a) None h = no_true h
 -- names that are the same have the same parts
 pub same_parts : (a b : PackageName) → same_package_name a b ≡ true → IsSameName a b
 same_parts a b h = record {
-  namespace = sym (text_same (text_of a.namespace) (text_of b.namespace) (first_true (text_eq (text_of a.namespace) (text_of b.namespace)) (text_eq (text_of a.name) (text_of b.name) && option_eq same_version a.version b.version) h));
+  namespace = sym (text_same (text_of a.namespace) (text_of b.namespace)
+      (first_true (text_eq (text_of a.namespace) (text_of b.namespace)) (text_eq (text_of a.name) (text_of b.name) && option_eq same_version a.version b.version) h));
   name = sym (text_same (text_of a.name) (text_of b.name) (first_true (text_eq (text_of a.name) (text_of b.name)) (option_eq same_version a.version b.version) rest));
   version = optional_parts a.version b.version (second_true (text_eq (text_of a.name) (text_of b.name)) (option_eq same_version a.version b.version) rest);
 }
@@ -131,19 +132,24 @@ found_number [] n id e = let wrong : ⊥ = cc in absurd wrong
 found_number (m ∷ ms) zero id e = ap (λ (o : Option (Option PackageId)). package_number (unwrap_or o m)) e
 found_number (m ∷ ms) (suc n) id e = found_number ms n id e
 
-module _ (own other merged : Resolve) (c : Carried) (ms : List (Option PackageId)) (matched : ms ≡ map (own_package_of own.packages.items) other.packages.items) (flags : c.new_packages.items ≡ map is_none ms)
+module _ (own other merged : Resolve) (c : Carried) (ms : List (Option PackageId)) (matched : ms ≡ map (own_package_of own.packages.items) other.packages.items)
+    (flags : c.new_packages.items ≡ map is_none ms)
     (numbers : c.packages.items ≡ numbers_of (length own.packages.items) c.new_packages.items (map package_number ms))
-    (gains : List Names) (grown more : List Package) (gained : HaveGained gains own.packages.items grown) (copies : AllZip (IsPackageCarried c) (kept c.new_packages.items other.packages.items) more) (here : merged.packages.items ≡ grown ++ more) where
+    (gains : List Names) (grown more : List Package) (gained : HaveGained gains own.packages.items grown) (copies : AllZip (IsPackageCarried c) (kept c.new_packages.items other.packages.items) more)
+    (here : merged.packages.items ≡ grown ++ more) where
   long : length c.new_packages.items ≡ length (map package_number ms)
   long = ap length flags ∙ (length-map ms is_none ∙ sym (length-map ms package_number))
 
   -- A package that is new is copied.
-  pub new_package : (n : ℕ) (p : Package) → package_at other n ≡ Some p → flag_under c.new_packages.items n ≡ true → IsKeptAt (IsPackageCarried c) p merged.packages.items (number_under c.packages.items n)
+  pub new_package : (n : ℕ) (p : Package) → package_at other n ≡ Some p → flag_under c.new_packages.items n ≡ true
+      → IsKeptAt (IsPackageCarried c) p merged.packages.items (number_under c.packages.items n)
   new_package n p at set =
-      let place = kept_placed (IsPackageCarried c) c.new_packages.items (map package_number ms) other.packages.items more copies long (length own.packages.items) grown [] (sym gained.count) n p set at in
+      let place = kept_placed (IsPackageCarried c) c.new_packages.items (map package_number ms) other.packages.items more copies long (length own.packages.items) grown [] (sym gained.count)
+      n p set at in
       record {
         image = place.image;
-        at_image = ap (λ l. slice_get l (number_under c.packages.items n)) (here ∙ ap (λ l. grown ++ l) (sym (append-nil more))) ∙ (ap (λ l. slice_get (grown ++ (more ++ [])) (number_under l n)) numbers ∙ place.at_image);
+        at_image = ap (λ l. slice_get l (number_under c.packages.items n)) (here ∙ ap (λ l. grown ++ l) (sym (append-nil more)))
+            ∙ (ap (λ l. slice_get (grown ++ (more ++ [])) (number_under l n)) numbers ∙ place.at_image);
         is = place.is;
       }
 
@@ -158,9 +164,11 @@ module _ (own other merged : Resolve) (c : Carried) (ms : List (Option PackageId
 
   pub own_found : (n : ℕ) (p : Package) → package_at other n ≡ Some p → flag_under c.new_packages.items n ≡ false → IsOwnFound n p
   own_found n p at bare =
-      let inside : n < length ms = (let w = within_list other.packages.items n p at in let q = ap length matched ∙ length-map other.packages.items (own_package_of own.packages.items) in omega (arith, w, q)) in
+      let inside : n < length ms = (let w = within_list other.packages.items n p at in let q = ap length matched ∙ length-map other.packages.items (own_package_of own.packages.items) in
+      omega (arith, w, q)) in
       let id = unflagged_found ms n inside (ap (λ l. flag_under l n) (sym flags) ∙ bare) in
-      let is : own_package_of own.packages.items p ≡ Some id.0 = found_same_id (sym (mapped_at (own_package_of own.packages.items) other.packages.items n p at) ∙ (ap (λ l. slice_get l n) (sym matched) ∙ id.1)) in
+      let is : own_package_of own.packages.items p ≡ Some id.0 = found_same_id
+      (sym (mapped_at (own_package_of own.packages.items) other.packages.items n p at) ∙ (ap (λ l. slice_get l n) (sym matched) ∙ id.1)) in
       let found = found_own own.packages.items p id.0 is in
       let x = grown_name gains own.packages.items grown gained id.0.0 found.there found.at_there in
       record {
@@ -175,7 +183,8 @@ module _ (own other merged : Resolve) (c : Carried) (ms : List (Option PackageId
       found_same_id : {X : Type 0} {a b : X} → ◌≡◌ {A = Option X} (Some a) (Some b) → a ≡ b
       found_same_id {X} {a} {b} e = ap (λ (o : Option X). unwrap_or o a) e
 
-  pub packages_hold : (f : ℕ → ℕ) → f ≡ number_under c.packages.items → (n : ℕ) (p : Package) → package_at other n ≡ Some p → (image : Package) × (package_at merged (f n) ≡ Some image) × IsSameName p.name image.name
+  pub packages_hold : (f : ℕ → ℕ) → f ≡ number_under c.packages.items → (n : ℕ) (p : Package) → package_at other n ≡ Some p → (image : Package) × (package_at merged (f n) ≡ Some image)
+      × IsSameName p.name image.name
   packages_hold f by n p at = go (flag_under c.new_packages.items n) refl
     where
       place : package_at merged (f n) ≡ package_at merged (number_under c.packages.items n)

@@ -119,15 +119,19 @@ module _ (own other : Resolve) (valid : IsValid other) (matched : List (Option I
     world_home : (id : WorldId) → def.owner ≡ owner.World id → flag_under c.copied_worlds.items id.0 ≡ true → fate_of own matched c def ≡ fate.Copied (owner_under f (owner.World id))
     world_home id e k = fate_by (owner.World id) e ∙ ap (λ b. if b then fate.Copied (owner_under f (owner.World id)) else fate.Left) k
 
-    interface_home : (id : InterfaceId) → def.owner ≡ owner.Interface id → flag_under c.copied_interfaces.items id.0 ≡ true → fate_of own matched c def ≡ fate.Copied (owner_under f (owner.Interface id))
+    interface_home : (id : InterfaceId) → def.owner ≡ owner.Interface id → flag_under c.copied_interfaces.items id.0 ≡ true
+        → fate_of own matched c def ≡ fate.Copied (owner_under f (owner.Interface id))
     interface_home id e k = fate_by (owner.Interface id) e ∙ ap (λ b. if b then fate.Copied (owner_under f (owner.Interface id)) else fate_named own matched id.0 (optional_text def.name)) k
 
-    other_home : (id : InterfaceId) → def.owner ≡ owner.Interface id → flag_under c.copied_interfaces.items id.0 ≡ false → fate_of own matched c def ≡ fate_named own matched id.0 (optional_text def.name)
+    other_home : (id : InterfaceId) → def.owner ≡ owner.Interface id → flag_under c.copied_interfaces.items id.0 ≡ false
+        → fate_of own matched c def ≡ fate_named own matched id.0 (optional_text def.name)
     other_home id e k = fate_by (owner.Interface id) e ∙ ap (λ b. if b then fate.Copied (owner_under f (owner.Interface id)) else fate_named own matched id.0 (optional_text def.name)) k
 
     -- a type of a matched interface stands for the own one of its name
-    pub final_stands : (a : ℕ) → def.owner ≡ as_interface a → flag_under c.copied_interfaces.items a ≡ false → (s : String Global) → def.name ≡ Some s → (id : TypeId) → type_named own matched a (text_of s) ≡ Some id → slice_get fates n ≡ Some (fate.Stands id.0)
-    final_stands a e k s q id there = stands_still (adds_any c) other.types.items initial falls n def at id.0 (initial_at ∙ ap Some (other_home (record { 0 = a }) e k ∙ (ap (λ y. fate_named own matched a (optional_text y)) q ∙ ap fate_beside there)))
+    pub final_stands : (a : ℕ) → def.owner ≡ as_interface a → flag_under c.copied_interfaces.items a ≡ false → (s : String Global) → def.name ≡ Some s → (id : TypeId)
+        → type_named own matched a (text_of s) ≡ Some id → slice_get fates n ≡ Some (fate.Stands id.0)
+    final_stands a e k s q id there = stands_still (adds_any c) other.types.items initial falls n def at id.0
+        (initial_at ∙ ap Some (other_home (record { 0 = a }) e k ∙ (ap (λ y. fate_named own matched a (optional_text y)) q ∙ ap fate_beside there)))
 
     -- a type of an interface that is copied is copied
     pub owned_copied : (a : ℕ) → def.owner ≡ as_interface a → flag_under c.copied_interfaces.items a ≡ true → is_copied fates n ≡ true
@@ -158,13 +162,15 @@ module _ (own other : Resolve) (valid : IsValid other) (matched : List (Option I
     pub named_carried : (n : ℕ) (def : TypeDef) → type_at other n ≡ Some def → is_some def.name ≡ true → carries_owner f def.owner ≡ true → is_carried fates n ≡ true
     named_carried n def at named h = by def.owner refl h
       where
-        by_name : (id : InterfaceId) → def.owner ≡ owner.Interface id → flag_under c.copied_interfaces.items id.0 ≡ false → is_matched matched id.0 ≡ true → (o : Option (String Global)) → def.name ≡ o → is_some o ≡ true → is_carried fates n ≡ true
+        by_name : (id : InterfaceId) → def.owner ≡ owner.Interface id → flag_under c.copied_interfaces.items id.0 ≡ false → is_matched matched id.0 ≡ true → (o : Option (String Global)) → def.name ≡ o
+            → is_some o ≡ true → is_carried fates n ≡ true
         by_name id e k m None q h = no_true h
         by_name id e k m (Some s) q h =
             let x = names n def id.0 s at q e m in
             carried_if n def at (fate.Stands x.0.0) (other_home n def at id e k ∙ (ap (λ y. fate_named own matched id.0 (optional_text y)) q ∙ ap fate_beside x.1)) refl
 
-        by_interface : (id : InterfaceId) → def.owner ≡ owner.Interface id → (b : Bool) → flag_under c.copied_interfaces.items id.0 ≡ b → (flag_under c.copied_interfaces.items id.0 || is_matched matched id.0) ≡ true → is_carried fates n ≡ true
+        by_interface : (id : InterfaceId) → def.owner ≡ owner.Interface id → (b : Bool) → flag_under c.copied_interfaces.items id.0 ≡ b
+            → (flag_under c.copied_interfaces.items id.0 || is_matched matched id.0) ≡ true → is_carried fates n ≡ true
         by_interface id e true k h = carried_if n def at (fate.Copied (owner_under f (owner.Interface id))) (interface_home n def at id e k) refl
         by_interface id e false k h = by_name id e k (sym (ap (λ b. b || is_matched matched id.0) k) ∙ h) def.name refl named
 
@@ -214,13 +220,15 @@ module _ (own other : Resolve) (valid : IsValid other) (matched : List (Option I
           home = ap (copies_owner f) e ∙ k;
           parts = (parts_of (adds_world id.0 k)).types n def at (owned (owner.World id) e refl) (ap (carries_owner f) e ∙ k);
         }
-        by_world id e false k = never (owned (owner.World id) e refl) (ap copies (fate_by n def at (owner.World id) e ∙ ap (λ b. if b then fate.Copied (owner_under f (owner.World id)) else fate.Left) k))
+        by_world id e false k = never (owned (owner.World id) e refl) (ap copies
+            (fate_by n def at (owner.World id) e ∙ ap (λ b. if b then fate.Copied (owner_under f (owner.World id)) else fate.Left) k))
 
         by_interface : (id : InterfaceId) → def.owner ≡ owner.Interface id → (b : Bool) → flag_under c.copied_interfaces.items id.0 ≡ b → IsCopiedHere n def
         by_interface id e true k = record {
           its_fate = copied_if n def at (owner_under f (owner.Interface id)) (interface_home n def at id e k) ∙ ap (λ o. Some (fate.Copied (owner_under f o))) (sym e);
           home = ap (copies_owner f) e ∙ k;
-          parts = (parts_of (adds_interface id.0 k)).types n def at (owned (owner.Interface id) e refl) (ap (carries_owner f) e ∙ or_left (flag_under c.copied_interfaces.items id.0) (is_matched matched id.0) k);
+          parts = (parts_of (adds_interface id.0 k)).types n def at (owned (owner.Interface id) e refl)
+              (ap (carries_owner f) e ∙ or_left (flag_under c.copied_interfaces.items id.0) (is_matched matched id.0) k);
         }
         by_interface id e false k = never (owned (owner.Interface id) e refl) (ap copies (other_home n def at id e k) ∙ named_no_copy own matched id.0 (optional_text def.name))
 
@@ -315,8 +323,10 @@ module _ (own other : Resolve) (valid : IsValid other) (matched : List (Option I
 
     -- ---- images
 
-    module _ (merged : Resolve) (more rest : List TypeDef) (is : AreCopied (length own.types.items) numbers other.types.items fates [] more) (types_are : merged.types.items ≡ own.types.items ++ (more ++ rest))
-        (stands : (n : ℕ) (def : TypeDef) (a : ℕ) → type_at other n ≡ Some def → is_some def.name ≡ true → def.owner ≡ as_interface a → is_matched matched a ≡ true → flag_under c.copied_interfaces.items a ≡ false → is_copied fates n ≡ false → IsType other merged f n) where
+    module _ (merged : Resolve) (more rest : List TypeDef) (is : AreCopied (length own.types.items) numbers other.types.items fates [] more)
+        (types_are : merged.types.items ≡ own.types.items ++ (more ++ rest))
+        (stands : (n : ℕ) (def : TypeDef) (a : ℕ) → type_at other n ≡ Some def → is_some def.name ≡ true → def.owner ≡ as_interface a → is_matched matched a ≡ true
+        → flag_under c.copied_interfaces.items a ≡ false → is_copied fates n ≡ false → IsType other merged f n) where
       copy_type : (n : ℕ) (def : TypeDef) → type_at other n ≡ Some def → is_copied fates n ≡ true → IsType other merged f n
       copy_type n def at h = record {
         def = def;

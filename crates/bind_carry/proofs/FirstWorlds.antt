@@ -54,8 +54,10 @@ kept_any p (true ∷ bs) (y ∷ ys) (suc n) x e set h = or_right (p y) (list_any
 kept_any p (false ∷ bs) (y ∷ ys) zero x e set h = no_true set
 kept_any p (false ∷ bs) (y ∷ ys) (suc n) x e set h = kept_any p bs ys n x e set h
 
-module _ (own other : Resolve) (valid : IsValid other) (matched : List (Option InterfaceId)) (c : Carried) (numbers : List ℕ) (chosen : AreChosen other matched c.copied_worlds.items c.copied_interfaces.items)
-    (names : (n : ℕ) (def : TypeDef) (a : ℕ) (s : String Global) → type_at other n ≡ Some def → def.name ≡ Some s → def.owner ≡ as_interface a → is_matched matched a ≡ true → (id : TypeId) × (type_named own matched a (text_of s) ≡ Some id))
+module _ (own other : Resolve) (valid : IsValid other) (matched : List (Option InterfaceId)) (c : Carried) (numbers : List ℕ)
+    (chosen : AreChosen other matched c.copied_worlds.items c.copied_interfaces.items)
+    (names : (n : ℕ) (def : TypeDef) (a : ℕ) (s : String Global) → type_at other n ≡ Some def → def.name ≡ Some s → def.owner ≡ as_interface a → is_matched matched a ≡ true → (id : TypeId)
+    × (type_named own matched a (text_of s) ≡ Some id))
     (n : ℕ) (w : World) (at : world_at other n ≡ Some w) (set : flag_under c.copied_worlds.items n ≡ true) where
   abbrev fates : List Fate
   fates = first_fates own other matched c
@@ -99,7 +101,8 @@ module _ (own other : Resolve) (valid : IsValid other) (matched : List (Option I
       let i = found-in other.interfaces.items id.0 range in
       named_ready id.0 i.0 i.1 (sym (ap (passes (λ j. is_some j.name)) i.1) ∙ named id refl)
 
-  item_ready : (i : WorldItem) → item_in_range other i ≡ true → ((id : TypeId) → i ≡ item.Type_ id → passes (λ def. same_owner def.owner (as_world n)) (type_at other id.0) ≡ true) → ((m : ℕ) → is_id m (item_interface i) ≡ true → is_shown m ≡ true)
+  item_ready : (i : WorldItem) → item_in_range other i ≡ true → ((id : TypeId) → i ≡ item.Type_ id → passes (λ def. same_owner def.owner (as_world n)) (type_at other id.0) ≡ true)
+      → ((m : ℕ) → is_id m (item_interface i) ≡ true → is_shown m ≡ true)
       → list_all function_ready (option_to_list (item_function i)) ≡ true → IsItemReady f i
   item_ready (item.Interface id stability docs external_id) range owned shown functions =
       let i = found-in other.interfaces.items id.0 range in
@@ -122,7 +125,8 @@ module _ (own other : Resolve) (valid : IsValid other) (matched : List (Option I
   unfolding numbers_in_range
   ranges =
       second_true (passes (in_list other.packages.items) (package_number w.«package»)) (entries_in_range other w.imports.entries && entries_in_range other w.exports.entries)
-      (second_true (is_place n) (passes (in_list other.packages.items) (package_number w.«package») && (entries_in_range other w.imports.entries && entries_in_range other w.exports.entries)) (world_passes numbers_in_range other valid.rules.numbers_in_range n w at))
+      (second_true (is_place n) (passes (in_list other.packages.items) (package_number w.«package») && (entries_in_range other w.imports.entries && entries_in_range other w.exports.entries))
+      (world_passes numbers_in_range other valid.rules.numbers_in_range n w at))
 
   stand : (list_all (λ (e : WorldKey × WorldItem). import_stands other n e.0 e.1) w.imports.entries && list_all (λ (e : WorldKey × WorldItem). export_stands other e.0 e.1) w.exports.entries) ≡ true
   unfolding world_items
@@ -143,7 +147,8 @@ module _ (own other : Resolve) (valid : IsValid other) (matched : List (Option I
   import_owned : (k : WorldKey) (i : WorldItem) → import_stands other n k i ≡ true → (id : TypeId) → i ≡ item.Type_ id → passes (λ def. same_owner def.owner (as_world n)) (type_at other id.0) ≡ true
   import_owned k i h id e = go k (sym (ap (import_stands other n k) e) ∙ h)
     where
-      owned : (name : String Global) (d : Option TypeDef) → passes (λ def. text_is def.name (text_of name) && same_owner def.owner (as_world n)) d ≡ true → passes (λ def. same_owner def.owner (as_world n)) d ≡ true
+      owned : (name : String Global) (d : Option TypeDef) → passes (λ def. text_is def.name (text_of name) && same_owner def.owner (as_world n)) d ≡ true
+          → passes (λ def. same_owner def.owner (as_world n)) d ≡ true
       owned name None h = refl
       owned name (Some def) h = second_true (text_is def.name (text_of name)) (same_owner def.owner (as_world n)) h
 
@@ -163,7 +168,8 @@ module _ (own other : Resolve) (valid : IsValid other) (matched : List (Option I
 
   pub import_ready : (k : ℕ) (e : WorldKey × WorldItem) → slice_get w.imports.entries k ≡ Some e → IsKeyReady f e.0 × IsItemReady f e.1
   import_ready k e there = entry_ready e (record {
-    range = all_at (λ (x : WorldKey × WorldItem). key_in_range other x.0 && item_in_range other x.1) w.imports.entries k e (first_true (entries_in_range other w.imports.entries) (entries_in_range other w.exports.entries) ranges) there;
+    range = all_at (λ (x : WorldKey × WorldItem). key_in_range other x.0 && item_in_range other x.1) w.imports.entries k e
+        (first_true (entries_in_range other w.imports.entries) (entries_in_range other w.exports.entries) ranges) there;
     key_named = import_named e.0 e.1 stands;
     type_owned = import_owned e.0 e.1 stands;
     shown = λ m h. or_left (is_shown_in w.imports.entries m) (is_shown_in w.exports.entries m) (any_of_at (λ (x : WorldKey × WorldItem). is_id m (item_interface x.1)) w.imports.entries k e there h);
@@ -172,11 +178,13 @@ module _ (own other : Resolve) (valid : IsValid other) (matched : List (Option I
     where
       stands : import_stands other n e.0 e.1 ≡ true
       stands = all_at (λ (x : WorldKey × WorldItem). import_stands other n x.0 x.1) w.imports.entries k e
-          (first_true (list_all (λ (x : WorldKey × WorldItem). import_stands other n x.0 x.1) w.imports.entries) (list_all (λ (x : WorldKey × WorldItem). export_stands other x.0 x.1) w.exports.entries) stand) there
+          (first_true (list_all (λ (x : WorldKey × WorldItem). import_stands other n x.0 x.1) w.imports.entries)
+          (list_all (λ (x : WorldKey × WorldItem). export_stands other x.0 x.1) w.exports.entries) stand) there
 
   pub export_ready : (k : ℕ) (e : WorldKey × WorldItem) → slice_get w.exports.entries k ≡ Some e → IsKeyReady f e.0 × IsItemReady f e.1
   export_ready k e there = entry_ready e (record {
-    range = all_at (λ (x : WorldKey × WorldItem). key_in_range other x.0 && item_in_range other x.1) w.exports.entries k e (second_true (entries_in_range other w.imports.entries) (entries_in_range other w.exports.entries) ranges) there;
+    range = all_at (λ (x : WorldKey × WorldItem). key_in_range other x.0 && item_in_range other x.1) w.exports.entries k e
+        (second_true (entries_in_range other w.imports.entries) (entries_in_range other w.exports.entries) ranges) there;
     key_named = export_named e.0 e.1 stands;
     type_owned = export_owned e.0 e.1 stands;
     shown = λ m h. or_right (is_shown_in w.imports.entries m) (is_shown_in w.exports.entries m) (any_of_at (λ (x : WorldKey × WorldItem). is_id m (item_interface x.1)) w.exports.entries k e there h);
@@ -185,4 +193,5 @@ module _ (own other : Resolve) (valid : IsValid other) (matched : List (Option I
     where
       stands : export_stands other e.0 e.1 ≡ true
       stands = all_at (λ (x : WorldKey × WorldItem). export_stands other x.0 x.1) w.exports.entries k e
-          (second_true (list_all (λ (x : WorldKey × WorldItem). import_stands other n x.0 x.1) w.imports.entries) (list_all (λ (x : WorldKey × WorldItem). export_stands other x.0 x.1) w.exports.entries) stand) there
+          (second_true (list_all (λ (x : WorldKey × WorldItem). import_stands other n x.0 x.1) w.imports.entries)
+          (list_all (λ (x : WorldKey × WorldItem). export_stands other x.0 x.1) w.exports.entries) stand) there

@@ -22,7 +22,8 @@ first_worlds_are_copied own other merged m c numbers valid_own valid_other p n s
       (names own other valid_own valid_other matched c numbers chosen p.same p.none long p.numbered.interfaces first p.types.numbers_are)
       (interfaces_once own other valid_own valid_other matched c numbers chosen p.same p.none long p.numbered.interfaces first p.types.numbers_are p.numbered.interface_count)
       merged m.worlds.items long_worlds (length own.worlds.items) p.numbered.worlds p.own_worlds p.new_worlds [] (sym p.own_count) p.worlds here n there.0 there.1 set,
-  subst (λ l. length own.worlds.items ≤ number_under l n) (sym p.numbered.worlds) (copied_behind (length own.worlds.items) c.copied_worlds.items (map world_number m.worlds.items) n (long_worlds ∙ sym (length-map m.worlds.items world_number)) set),
+  subst (λ l. length own.worlds.items ≤ number_under l n) (sym p.numbered.worlds)
+      (copied_behind (length own.worlds.items) c.copied_worlds.items (map world_number m.worlds.items) n (long_worlds ∙ sym (length-map m.worlds.items world_number)) set),
 )
   where
     matched : List (Option InterfaceId)

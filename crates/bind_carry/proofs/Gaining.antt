@@ -14,12 +14,14 @@ module _ (c : Carried) (packages : List Package) where
   Left flags numbers ps later = AllZip (IsGained c) (grown_packages flags numbers ps) later
 
   -- a package that isn't new gains
-  pub one_gained : (flags fs : List Bool) (numbers ns : List ℕ) (left ps : List Package) (n : ℕ) (p : Package) (g : Names) (done new : List Names) → flags ≡ false ∷ fs → numbers ≡ n ∷ ns → left ≡ p ∷ ps → IsGained c (n, p) g → new ≡ done ++ g ∷ []
+  pub one_gained : (flags fs : List Bool) (numbers ns : List ℕ) (left ps : List Package) (n : ℕ) (p : Package) (g : Names) (done new : List Names) → flags ≡ false ∷ fs → numbers ≡ n ∷ ns
+      → left ≡ p ∷ ps → IsGained c (n, p) g → new ≡ done ++ g ∷ []
       → GainedSoFar c packages flags numbers left done → GainedSoFar c packages fs ns ps new
   one_gained flags fs numbers ns left ps n p g done new at_flag at_number at_package is added so later z =
       subst (λ l. Whole (l ++ later)) (sym added)
       (subst Whole (sym (append_assoc done (g ∷ []) later))
-      (so (g ∷ later) (subst (λ l. Left l numbers left (g ∷ later)) (sym at_flag) (subst (λ l. Left (false ∷ fs) l left (g ∷ later)) (sym at_number) (subst (λ l. Left (false ∷ fs) (n ∷ ns) l (g ∷ later)) (sym at_package) (is, z))))))
+      (so (g ∷ later) (subst (λ l. Left l numbers left (g ∷ later)) (sym at_flag)
+      (subst (λ l. Left (false ∷ fs) l left (g ∷ later)) (sym at_number) (subst (λ l. Left (false ∷ fs) (n ∷ ns) l (g ∷ later)) (sym at_package) (is, z))))))
 
   -- a new one is passed over
   pub one_brought : (flags fs : List Bool) (numbers ns : List ℕ) (left ps : List Package) (n : ℕ) (p : Package) (done : List Names) → flags ≡ true ∷ fs → numbers ≡ n ∷ ns → left ≡ p ∷ ps

@@ -69,13 +69,15 @@ module _ (interfaces types : List ℕ) where
   abbrev test : List (WorldKey × WorldItem) → WorldKey × WorldItem → Bool
   test es d = is_new_under interfaces es d.0
 
-  still_new : (es : List (WorldKey × WorldItem)) (k : WorldKey) (y : WorldKey × WorldItem) → IsKeyUnder interfaces k y.0 → (ds : List (WorldKey × WorldItem)) → list_all (test es) ds ≡ true → AllByRecursion (λ l. become_one interfaces k l ≡ false) (keys_of ds) → list_all (test (es ++ y ∷ [])) ds ≡ true
+  still_new : (es : List (WorldKey × WorldItem)) (k : WorldKey) (y : WorldKey × WorldItem) → IsKeyUnder interfaces k y.0 → (ds : List (WorldKey × WorldItem)) → list_all (test es) ds ≡ true
+      → AllByRecursion (λ l. become_one interfaces k l ≡ false) (keys_of ds) → list_all (test (es ++ y ∷ [])) ds ≡ true
   still_new es k y is [] new apart = refl
   still_new es k y is (d ∷ ds) new apart = both (test (es ++ y ∷ []) d) (list_all (test (es ++ y ∷ [])) ds)
       (none_more (λ (x : WorldKey × WorldItem). is_key_under interfaces d.0 x.0) es y (first_true (test es d) (list_all (test es) ds) new) (copy_apart k d.0 y.0 is apart.0))
       (still_new es k y is ds (second_true (test es d) (list_all (test es) ds) new) apart.1)
 
-  pub all_behind : (es olds news : List (WorldKey × WorldItem)) → AllZip (IsEntryUnder interfaces types) olds news → list_all (λ (d : WorldKey × WorldItem). is_new_under interfaces es d.0) olds ≡ true → IsDistinct (become_one interfaces) (keys_of olds) → insert_all key_eq es news ≡ es ++ news
+  pub all_behind : (es olds news : List (WorldKey × WorldItem)) → AllZip (IsEntryUnder interfaces types) olds news → list_all (λ (d : WorldKey × WorldItem). is_new_under interfaces es d.0) olds ≡ true
+      → IsDistinct (become_one interfaces) (keys_of olds) → insert_all key_eq es news ≡ es ++ news
   unfolding IsDistinct
   all_behind es [] [] zip new distinct = sym (append-nil es)
   all_behind es [] (y ∷ ys) zip new distinct = absurd zip

@@ -73,7 +73,8 @@ module _ (f : Renumbering) (interfaces types : List ℕ) (by_interface : (n : �
   same_test (key.Name old) (key.Interface new) ready = refl
   same_test (key.Interface old) (key.Name new) ready = refl
 
-  any_same : (k : WorldKey) → IsKeyReady f k → (own : List (WorldKey × WorldItem)) → list_any (λ (x : WorldKey × WorldItem). is_key_under interfaces k x.0) own ≡ list_any (λ (x : WorldKey × WorldItem). same_key f k x.0) own
+  any_same : (k : WorldKey) → IsKeyReady f k → (own : List (WorldKey × WorldItem))
+      → list_any (λ (x : WorldKey × WorldItem). is_key_under interfaces k x.0) own ≡ list_any (λ (x : WorldKey × WorldItem). same_key f k x.0) own
   any_same k ready [] = refl
   any_same k ready (x ∷ xs) = ap₂ (λ a b. a || b) (same_test k x.0 ready) (any_same k ready xs)
 

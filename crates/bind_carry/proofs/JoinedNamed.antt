@@ -29,12 +29,18 @@ module _ {V : Type 0} (id_of : V → ℕ) (number : ℕ → ℕ) (copies left_ou
   names_join (e ∷ es) news zip ready = go (p e) refl news zip (λ xs rest. names_join es xs rest (later e es ready))
     where
       go : (b : Bool) → p e ≡ b → (xs : List (String Global × V)) → AllZip IsNameUnder (cond b (e ∷ filter p es) (filter p es)) xs
-          → ((ys : List (String Global × V)) → AllZip IsNameUnder (filter p es) ys → JoinedNames number copies left_out own (named es) (named ys)) → JoinedNames number copies left_out own (named (e ∷ es)) (named xs)
+          → ((ys : List (String Global × V)) → AllZip IsNameUnder (filter p es) ys → JoinedNames number copies left_out own (named es) (named ys))
+          → JoinedNames number copies left_out own (named (e ∷ es)) (named xs)
       go true q [] zip more = absurd zip
       go true q (x ∷ xs) zip more =
           let a = ready.added zero e refl q in
           let text : text_of e.0 ≡ text_of x.0 = sym zip.0.0 in
           let same : number (id_of e.1) ≡ id_of x.1 = sym zip.0.1 in
-          subst (λ (y : Text × ℕ). JoinedNames number copies left_out own (named (e ∷ es)) (y ∷ named xs)) (λ i. (text i, same i)) (names.added (text_of e.0) (id_of e.1) (named es) (named xs) a.0 a.1 a.2 (more xs zip.1))
+          subst (λ (y : Text × ℕ). JoinedNames number copies left_out own (named (e ∷ es)) (y ∷ named xs)) (λ i. (text i, same i))
+          (names.added (text_of e.0) (id_of e.1) (named es) (named xs) a.0 a.1 a.2 (more xs zip.1))
       go false q xs zip more =
-          elim (ready.there zero e refl q) [ inl c ↦ names.met (text_of e.0) (id_of e.1) (named es) (named xs) c (more xs zip) | inr l ↦ names.left (text_of e.0) (id_of e.1) (named es) (named xs) l (more xs zip) ]
+          elim (ready.there zero e refl q) [
+            | inl c ↦ names.met (text_of e.0) (id_of e.1) (named es) (named xs) c (more xs zip)
+            | inr l ↦
+                names.left (text_of e.0) (id_of e.1) (named es) (named xs) l (more xs zip)
+          ]

@@ -7,13 +7,15 @@ module _ {X Y : Type 0} (P : X → Y → Type 0) (flags : List Bool) (xs : List 
   pub none_yet : KeptSoFar P flags xs flags xs []
   none_yet later z = z
 
-  pub one_kept : (left_flags fs : List Bool) (left rest : List X) (x : X) (y : Y) (done new : List Y) → left_flags ≡ true ∷ fs → left ≡ x ∷ rest → P x y → new ≡ done ++ y ∷ [] → KeptSoFar P flags xs left_flags left done → KeptSoFar P flags xs fs rest new
+  pub one_kept : (left_flags fs : List Bool) (left rest : List X) (x : X) (y : Y) (done new : List Y) → left_flags ≡ true ∷ fs → left ≡ x ∷ rest → P x y → new ≡ done ++ y ∷ []
+      → KeptSoFar P flags xs left_flags left done → KeptSoFar P flags xs fs rest new
   one_kept left_flags fs left rest x y done new at_flag at_x copied added so later z =
       subst (λ l. AllZip P (kept flags xs) (l ++ later)) (sym added)
       (subst (AllZip P (kept flags xs)) (sym (append_assoc done (y ∷ []) later))
       (so (y ∷ later) (subst (λ l. AllZip P (kept l left) (y ∷ later)) (sym at_flag) (subst (λ l. AllZip P (kept (true ∷ fs) l) (y ∷ later)) (sym at_x) (copied, z)))))
 
-  pub one_passed : (left_flags fs : List Bool) (left rest : List X) (x : X) (done : List Y) → left_flags ≡ false ∷ fs → left ≡ x ∷ rest → KeptSoFar P flags xs left_flags left done → KeptSoFar P flags xs fs rest done
+  pub one_passed : (left_flags fs : List Bool) (left rest : List X) (x : X) (done : List Y) → left_flags ≡ false ∷ fs → left ≡ x ∷ rest → KeptSoFar P flags xs left_flags left done
+      → KeptSoFar P flags xs fs rest done
   one_passed left_flags fs left rest x done at_flag at_x so later z =
       so later (subst (λ l. AllZip P (kept l left) later) (sym at_flag) (subst (λ l. AllZip P (kept (false ∷ fs) l) later) (sym at_x) z))
 

@@ -28,7 +28,8 @@ module _ (numbers : List ℕ) (carried : ℕ → Bool) (once : (m n : ℕ) → c
           let same : b.0 ≡ a.0 = once b.0 a.0 d c (equal (number_under numbers b.0) (number_under numbers a.0) e) in
           no_false (sym (same-number a.0) ∙ (ap (λ (m : ℕ). a.0 == m) (sym same) ∙ h))
 
-  all_apart : (k : WorldKey) (ks : List WorldKey) → is_key_carried carried k ≡ true → list_all (is_key_carried carried) ks ≡ true → AllByRecursion (λ y. key_eq k y ≡ false) ks → AllByRecursion (λ y. become_one numbers k y ≡ false) ks
+  all_apart : (k : WorldKey) (ks : List WorldKey) → is_key_carried carried k ≡ true → list_all (is_key_carried carried) ks ≡ true → AllByRecursion (λ y. key_eq k y ≡ false) ks
+      → AllByRecursion (λ y. become_one numbers k y ≡ false) ks
   all_apart k [] c d h = tt
   all_apart k (y ∷ ys) c d h = (
     one_apart k y c (first_true (is_key_carried carried y) (list_all (is_key_carried carried) ys) d) h.0,

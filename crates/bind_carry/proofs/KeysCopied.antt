@@ -20,7 +20,8 @@ module _ (interfaces : List ℕ) where
   pub no_keys : (whole : List (WorldKey × WorldItem)) → KeysSoFar whole whole []
   no_keys whole apart = ([], refl, tt)
 
-  absent : (front done rest : List WorldKey) (k n : WorldKey) → IsKeyUnder interfaces k n → AllZip (IsKeyUnder interfaces) front done → IsDistinct (become_one interfaces) (front ++ k ∷ rest) → list_any (key_eq n) done ≡ false
+  absent : (front done rest : List WorldKey) (k n : WorldKey) → IsKeyUnder interfaces k n → AllZip (IsKeyUnder interfaces) front done → IsDistinct (become_one interfaces) (front ++ k ∷ rest)
+      → list_any (key_eq n) done ≡ false
   unfolding IsDistinct
   absent [] [] rest k n r zip d = refl
   absent [] (u ∷ us) rest k n r zip d = absurd zip
@@ -30,7 +31,8 @@ module _ (interfaces : List ℕ) where
       let more : list_any (key_eq n) us ≡ false = absent xs us rest k n r zip.1 d.1 in
       λ i. one i || more i
 
-  pub key_more : (whole left rest : List (WorldKey × WorldItem)) (done new : List WorldKey) (e : WorldKey × WorldItem) (n : WorldKey) → left ≡ e ∷ rest → IsKeyUnder interfaces e.0 n → new ≡ insert_key key_eq done n → KeysSoFar whole left done → KeysSoFar whole rest new
+  pub key_more : (whole left rest : List (WorldKey × WorldItem)) (done new : List WorldKey) (e : WorldKey × WorldItem) (n : WorldKey) → left ≡ e ∷ rest → IsKeyUnder interfaces e.0 n
+      → new ≡ insert_key key_eq done n → KeysSoFar whole left done → KeysSoFar whole rest new
   key_more whole left rest done new e n step is added before apart =
       let so = before apart in
       let all : so.0 ++ e.0 ∷ keys_of rest ≡ keys_of whole = ap (λ l. so.0 ++ keys_of l) (sym step) ∙ so.1 in
@@ -46,5 +48,3 @@ module _ (interfaces : List ℕ) where
       let so = before apart in
       let all : so.0 ≡ keys_of whole = sym (append-nil so.0) ∙ (ap (λ l. so.0 ++ keys_of l) (sym ended) ∙ so.1) in
       subst (λ l. AllZip (IsKeyUnder interfaces) l done) all so.2
-
--- what follows of an answer, where there is one

@@ -41,19 +41,21 @@ use Rattle.base_lemmas.proofs.Elements.{contains-later}
 use Rattle.base_lemmas.proofs.Options.{nameless as none_of}
 use Rattle.std.proofs.lemmas.Bool.{and_from as both}
 
--- an interface with a name isn't inline
-
 -- keys of a list whose interfaces pass
-pub keys_pass : (p : ℕ → Bool) (es : List (WorldKey × WorldItem)) → ((e : WorldKey × WorldItem) → Contains es e → (id : InterfaceId) → e.0 ≡ key.Interface id → p id.0 ≡ true) → list_all (is_key_carried p) (keys_of es) ≡ true
+pub keys_pass : (p : ℕ → Bool) (es : List (WorldKey × WorldItem)) → ((e : WorldKey × WorldItem) → Contains es e → (id : InterfaceId) → e.0 ≡ key.Interface id → p id.0 ≡ true)
+    → list_all (is_key_carried p) (keys_of es) ≡ true
 keys_pass p [] each = refl
-keys_pass p (e ∷ es) each = both (is_key_carried p e.0) (list_all (is_key_carried p) (keys_of es)) (one e.0 (each e (0, omega arith, refl))) (keys_pass p es (λ x held. each x (contains-later e es x held)))
+keys_pass p (e ∷ es) each = both (is_key_carried p e.0) (list_all (is_key_carried p) (keys_of es)) (one e.0 (each e (0, omega arith, refl)))
+    (keys_pass p es (λ x held. each x (contains-later e es x held)))
   where
     one : (k : WorldKey) → ((id : InterfaceId) → k ≡ key.Interface id → p id.0 ≡ true) → is_key_carried p k ≡ true
     one (key.Name t) h = refl
     one (key.Interface id) h = h id refl
 
-module _ (own other : Resolve) (valid_own : IsValid own) (valid_other : IsValid other) (world other_world : ℕ) (m : Matches) (w v : World) (added : Added) (keys : List WorldKey) (u : IsUnionOf own other world other_world m w v added keys)
-    (at : world_at other other_world ≡ Some v) (all : AreMatchedAll other m) (same : AreMatchedAt own other m.interfaces.items u.carried.packages.items) (none : NoneOfPath own other m.interfaces.items) where
+module _ (own other : Resolve) (valid_own : IsValid own) (valid_other : IsValid other) (world other_world : ℕ) (m : Matches) (w v : World) (added : Added) (keys : List WorldKey)
+    (u : IsUnionOf own other world other_world m w v added keys)
+    (at : world_at other other_world ≡ Some v) (all : AreMatchedAll other m) (same : AreMatchedAt own other m.interfaces.items u.carried.packages.items)
+    (none : NoneOfPath own other m.interfaces.items) where
   abbrev c : Carried
   c = u.carried
 
@@ -121,7 +123,8 @@ module _ (own other : Resolve) (valid_own : IsValid own) (valid_other : IsValid 
   once j n h k e =
       let a = is_named j h in
       let b = is_named n k in
-      interfaces_once own other valid_own valid_other m.interfaces.items c u.types chosen same none long u.numbered.interfaces (length own.types.items + length {A = TypeDef} []) u.types_copied.numbers_are u.numbered.interface_count
+      interfaces_once own other valid_own valid_other m.interfaces.items c u.types chosen same none long u.numbered.interfaces (length own.types.items + length {A = TypeDef} [])
+      u.types_copied.numbers_are u.numbered.interface_count
       j n (named_carried j a.0 a.1 a.2) (named_carried n b.0 b.1 b.2) e
 
   gained_once : (j n : ℕ) → is_named_at other j ≡ true → is_named_at other n ≡ true → number_under in_gains j ≡ number_under in_gains n → j ≡ n
@@ -153,8 +156,12 @@ module _ (own other : Resolve) (valid_own : IsValid own) (valid_other : IsValid 
   -- by path alone, of each world
   pub by_path_apart : (n : ℕ) (x : World) → world_at other n ≡ Some x → IsDistinct (become_one by_path) (keys_of x.imports.entries) × IsDistinct (become_one by_path) (keys_of x.exports.entries)
   by_path_apart n x there = (
-    keys_apart by_path (is_named_at other) once (keys_of x.imports.entries) (keys_pass (is_named_at other) x.imports.entries (λ e held id is. let k = import_keyed other valid_other n x there e held id is in named_there id.0 k.def k.found k.named)) (valid_other.distinct_keys.worlds n x there).0,
-    keys_apart by_path (is_named_at other) once (keys_of x.exports.entries) (keys_pass (is_named_at other) x.exports.entries (λ e held id is. let k = export_keyed other valid_other n x there e held id is in named_there id.0 k.def k.found k.named)) (valid_other.distinct_keys.worlds n x there).1,
+    keys_apart by_path (is_named_at other) once (keys_of x.imports.entries)
+        (keys_pass (is_named_at other) x.imports.entries (λ e held id is. let k = import_keyed other valid_other n x there e held id is in named_there id.0 k.def k.found k.named))
+        (valid_other.distinct_keys.worlds n x there).0,
+    keys_apart by_path (is_named_at other) once (keys_of x.exports.entries)
+        (keys_pass (is_named_at other) x.exports.entries (λ e held id is. let k = export_keyed other valid_other n x there e held id is in named_there id.0 k.def k.found k.named))
+        (valid_other.distinct_keys.worlds n x there).1,
   )
 
   -- ---- what is gained
@@ -167,10 +174,12 @@ module _ (own other : Resolve) (valid_own : IsValid own) (valid_other : IsValid 
 
   pub imports_behind : insert_all key_eq w.imports.entries added.imports.entries ≡ w.imports.entries ++ added.imports.entries
   imports_behind =
-      all_behind in_gains u.second.types w.imports.entries (filter is_new_import v.imports.entries) added.imports.entries (u.second.imports imports_apart) (filter_passes is_new_import v.imports.entries)
+      all_behind in_gains u.second.types w.imports.entries (filter is_new_import v.imports.entries) added.imports.entries (u.second.imports imports_apart)
+      (filter_passes is_new_import v.imports.entries)
       (IsDistinct-keys_filter (become_one in_gains) is_new_import v.imports.entries imports_apart)
 
   pub exports_behind : insert_all key_eq w.exports.entries added.exports.entries ≡ w.exports.entries ++ added.exports.entries
   exports_behind =
-      all_behind in_gains u.second.types w.exports.entries (filter is_new_export v.exports.entries) added.exports.entries (u.second.exports exports_apart) (filter_passes is_new_export v.exports.entries)
+      all_behind in_gains u.second.types w.exports.entries (filter is_new_export v.exports.entries) added.exports.entries (u.second.exports exports_apart)
+      (filter_passes is_new_export v.exports.entries)
       (IsDistinct-keys_filter (become_one in_gains) is_new_export v.exports.entries exports_apart)

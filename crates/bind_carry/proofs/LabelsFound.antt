@@ -33,13 +33,15 @@ label_apart label (key.Name s) h = go (key_eq (key.Name label) (key.Name s)) ref
     go false e = e
     go true e = no_true (sym h ∙ label_itself s label (sym ((bytes_eq-Decides (text_of label) (text_of s)).0 e)))
 
-apart_at : (k : WorldKey) (es : List (WorldKey × WorldItem)) → AllByRecursion (λ y. key_eq k y ≡ false) (keys_of es) → (n : ℕ) (x : WorldKey × WorldItem) → slice_get es n ≡ Some x → key_eq k x.0 ≡ false
+apart_at : (k : WorldKey) (es : List (WorldKey × WorldItem)) → AllByRecursion (λ y. key_eq k y ≡ false) (keys_of es) → (n : ℕ) (x : WorldKey × WorldItem) → slice_get es n ≡ Some x
+    → key_eq k x.0 ≡ false
 apart_at k [] h n x e = let wrong : ⊥ = cc in absurd wrong
 apart_at k (y ∷ ys) h zero x e = let same : y ≡ x = ap (λ o. unwrap_or o y) e in ap (λ (z : WorldKey × WorldItem). key_eq k z.0) (sym same) ∙ h.0
 apart_at k (y ∷ ys) h (suc n) x e = apart_at k ys h.1 n x e
 
 -- what stands under a label is found, where no key stands twice
-pub label_held : (label : String Global) (es : List (WorldKey × WorldItem)) → IsDistinct key_eq (keys_of es) → (n : ℕ) (x : WorldKey × WorldItem) → slice_get es n ≡ Some x → (own : String Global) → x.0 ≡ key.Name own → text_of own ≡ text_of label
+pub label_held : (label : String Global) (es : List (WorldKey × WorldItem)) → IsDistinct key_eq (keys_of es) → (n : ℕ) (x : WorldKey × WorldItem) → slice_get es n ≡ Some x → (own : String Global)
+    → x.0 ≡ key.Name own → text_of own ≡ text_of label
     → lookup (key_eq (key.Name label)) es ≡ Some x.1
 unfolding IsDistinct
 label_held label [] distinct n x e own is same = let wrong : ⊥ = cc in absurd wrong

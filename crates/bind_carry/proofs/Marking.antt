@@ -62,7 +62,8 @@ abbrev pub AreWorldsBelow : ℕ → List World → Type 0
 AreWorldsBelow count ws = (k : ℕ) (w : World) → slice_get ws k ≡ Some w → AreShownBelow count w.imports.entries × AreShownBelow count w.exports.entries
 
 module _ (r : Resolve) where
-  pub mark_one : (marks : List Bool) (i : WorldItem) (n : ℕ) → IsShownBelow (length marks) i → flag_under (mark_item r marks i) n ≡ (flag_under marks n || (is_inline_at r n && is_id n (item_interface i)))
+  pub mark_one : (marks : List Bool) (i : WorldItem) (n : ℕ) → IsShownBelow (length marks) i
+      → flag_under (mark_item r marks i) n ≡ (flag_under marks n || (is_inline_at r n && is_id n (item_interface i)))
   mark_one marks (item.Function f) n below = no_more (flag_under marks n) (is_inline_at r n)
   mark_one marks (item.Type_ id) n below = no_more (flag_under marks n) (is_inline_at r n)
   mark_one marks (item.Interface id stability docs external_id) n below = go (is_inline_at r id.0) refl (id.0 == n) refl
@@ -99,7 +100,8 @@ module _ (r : Resolve) where
   mark_items_long marks [] = refl
   mark_items_long marks (e ∷ es) = mark_items_long (mark_item r marks e.1) es ∙ mark_item_long marks e.1
 
-  marks_in : (es : List (WorldKey × WorldItem)) (marks : List Bool) (n : ℕ) → AreShownBelow (length marks) es → flag_under (mark_items r marks es) n ≡ (flag_under marks n || (is_inline_at r n && is_shown_in es n))
+  marks_in : (es : List (WorldKey × WorldItem)) (marks : List Bool) (n : ℕ) → AreShownBelow (length marks) es
+      → flag_under (mark_items r marks es) n ≡ (flag_under marks n || (is_inline_at r n && is_shown_in es n))
   marks_in [] marks n below = no_more (flag_under marks n) (is_inline_at r n)
   marks_in (e ∷ es) marks n below =
       marks_in es (mark_item r marks e.1) n (subst (λ k. AreShownBelow k es) (sym (mark_item_long marks e.1)) below.1)
@@ -108,7 +110,8 @@ module _ (r : Resolve) where
 
   -- ---- worlds
 
-  marks_of_worlds : (flags : List Bool) (ws : List World) (marks : List Bool) (n : ℕ) → AreWorldsBelow (length marks) ws → flag_under (mark_worlds r marks flags ws) n ≡ (flag_under marks n || (is_inline_at r n && is_shown_of flags ws n))
+  marks_of_worlds : (flags : List Bool) (ws : List World) (marks : List Bool) (n : ℕ) → AreWorldsBelow (length marks) ws
+      → flag_under (mark_worlds r marks flags ws) n ≡ (flag_under marks n || (is_inline_at r n && is_shown_of flags ws n))
   marks_of_worlds [] ws marks n below = no_more (flag_under marks n) (is_inline_at r n)
   marks_of_worlds (b ∷ bs) [] marks n below = no_more (flag_under marks n) (is_inline_at r n)
   marks_of_worlds (false ∷ bs) (w ∷ ws) marks n below = marks_of_worlds bs ws marks n (λ k v at. below (suc k) v at)

@@ -24,7 +24,8 @@ unions_are_merged own other merged world other_world m w v added keys u valid_ow
     passes_are_merged own other merged world other_world w v m u.carried u.types passes.0 u.second.copied u.second.interfaces u.second.types valid_own valid_other passes.1 (record {
       few_packages = both_long merged.packages.items own.packages.items a.packages.0 added.packages.items a.packages.2 a.packages.1.count few.packages;
       few_interfaces = both_long merged.interfaces.items own.interfaces.items own.interfaces.items added.interfaces.items a.interfaces refl few.interfaces;
-      few_worlds = both_long merged.worlds.items own.worlds.items (slice_set own.worlds.items world (a.worlds w at).0) added.worlds.items (a.worlds w at).2 (set_count own.worlds.items world (a.worlds w at).0) few.worlds;
+      few_worlds = both_long merged.worlds.items own.worlds.items (slice_set own.worlds.items world (a.worlds w at).0) added.worlds.items (a.worlds w at).2
+          (set_count own.worlds.items world (a.worlds w at).0) few.worlds;
       few_types = both_long merged.types.items own.types.items own.types.items added.types.items a.types refl few.types;
       packages_stand = package_stands own other merged valid_own valid_other m u.carried u.types passes.0 passes.1.names interfaces_by worlds_by no_world no_interface;
     })

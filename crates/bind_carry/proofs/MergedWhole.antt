@@ -99,24 +99,34 @@ passes_are_merged own other merged world other_world w v m c first_numbers p cop
     bound : (j : IsJoined other merged (second_pass_of own other m c world other_world w v copied interfaces first_numbers types) other_world w.imports.entries w.exports.entries) × (j.image ≡ s.image)
     bound = bound_stands own other merged valid_own valid_other world other_world w v m c first_numbers p copied interfaces types s
 
-    behind : (k n : ℕ) → flag_under c.copied_interfaces.items k ≡ true → flag_under copied n ≡ true → number_under c.interfaces.items k < (second_pass_of own other m c world other_world w v copied interfaces first_numbers types).interfaces n
+    behind : (k n : ℕ) → flag_under c.copied_interfaces.items k ≡ true → flag_under copied n ≡ true
+        → number_under c.interfaces.items k < (second_pass_of own other m c world other_world w v copied interfaces first_numbers types).interfaces n
     behind k n set_k set_n =
-        let low = path_low own other merged valid_own valid_other world other_world w v m c first_numbers p copied interfaces types s k (or_left (flag_under c.copied_interfaces.items k) (is_matched m.interfaces.items k) set_k) in
-        let past = copied_behind (length own.interfaces.items + length p.new_interfaces) copied c.interfaces.items n (copied_long own other merged valid_own valid_other world other_world w v m c first_numbers p copied interfaces types s) set_n in
-        let number : (second_pass_of own other m c world other_world w v copied interfaces first_numbers types).interfaces n ≡ number_under (numbers_of (length own.interfaces.items + length p.new_interfaces) copied c.interfaces.items) n =
-        carried_number own other merged valid_own valid_other world other_world w v m c first_numbers p copied interfaces types s n (copied_carries own other merged valid_own valid_other world other_world w v m c first_numbers p copied interfaces types s n set_n) ∙ ap (λ (l : List ℕ). number_under l n) s.interfaces_are in
+        let low = path_low own other merged valid_own valid_other world other_world w v m c first_numbers p copied interfaces types s k
+        (or_left (flag_under c.copied_interfaces.items k) (is_matched m.interfaces.items k) set_k) in
+        let past = copied_behind (length own.interfaces.items + length p.new_interfaces) copied c.interfaces.items n
+        (copied_long own other merged valid_own valid_other world other_world w v m c first_numbers p copied interfaces types s) set_n in
+        let number : (second_pass_of own other m c world other_world w v copied interfaces first_numbers types).interfaces n ≡ number_under
+        (numbers_of (length own.interfaces.items + length p.new_interfaces) copied c.interfaces.items) n =
+        carried_number own other merged valid_own valid_other world other_world w v m c first_numbers p copied interfaces types s n
+        (copied_carries own other merged valid_own valid_other world other_world w v m c first_numbers p copied interfaces types s n set_n) ∙ ap (λ (l : List ℕ). number_under l n)
+        s.interfaces_are in
         omega (arith, low, past, number)
 
     -- an interface that is copied by path has its own package
-    copy_home : (k : ℕ) (i x : Interface) → interface_at other k ≡ Some i → flag_under c.copied_interfaces.items k ≡ true → interface_at merged (number_under c.interfaces.items k) ≡ Some x → package_number x.«package» ≡ option_map (number_under c.packages.items) (package_number i.«package»)
+    copy_home : (k : ℕ) (i x : Interface) → interface_at other k ≡ Some i → flag_under c.copied_interfaces.items k ≡ true → interface_at merged (number_under c.interfaces.items k) ≡ Some x
+        → package_number x.«package» ≡ option_map (number_under c.packages.items) (package_number i.«package»)
     copy_home k i x there set at_x =
         let flags = long own other merged valid_own valid_other world other_world w v m c first_numbers p copied interfaces types s in
-        let place = kept_placed (IsInterfaceCarried c first_numbers) c.copied_interfaces.items (map interface_number m.interfaces.items) other.interfaces.items p.new_interfaces p.interfaces (flags ∙ sym (length-map m.interfaces.items interface_number)) (length own.interfaces.items) own.interfaces.items p.more_interfaces refl k i set there in
+        let place = kept_placed (IsInterfaceCarried c first_numbers) c.copied_interfaces.items (map interface_number m.interfaces.items) other.interfaces.items p.new_interfaces p.interfaces
+        (flags ∙ sym (length-map m.interfaces.items interface_number)) (length own.interfaces.items) own.interfaces.items p.more_interfaces refl k i set there in
         let at_place : interface_at merged (number_under c.interfaces.items k) ≡ Some place.image =
-        ap (λ l. slice_get l (number_under c.interfaces.items k)) p.interfaces_here ∙ (ap (λ (l : List ℕ). slice_get (own.interfaces.items ++ (p.new_interfaces ++ p.more_interfaces)) (number_under l k)) p.numbered.interfaces ∙ place.at_image) in
+        ap (λ l. slice_get l (number_under c.interfaces.items k)) p.interfaces_here
+        ∙ (ap (λ (l : List ℕ). slice_get (own.interfaces.items ++ (p.new_interfaces ++ p.more_interfaces)) (number_under l k)) p.numbered.interfaces ∙ place.at_image) in
         ap (λ (y : Interface). package_number y.«package») (some_same x place.image (sym at_x ∙ at_place)) ∙ (ap package_number place.is.in_package ∙ home_number c.packages.items i.«package»)
 
-    first_home : (k : ℕ) (h : (flag_under c.copied_interfaces.items k || is_matched m.interfaces.items k) ≡ true) → package_number (copies.carried.interfaces k h).image.«package» ≡ option_map (number_under c.packages.items) (package_number (copies.carried.interfaces k h).old.«package»)
+    first_home : (k : ℕ) (h : (flag_under c.copied_interfaces.items k || is_matched m.interfaces.items k) ≡ true)
+        → package_number (copies.carried.interfaces k h).image.«package» ≡ option_map (number_under c.packages.items) (package_number (copies.carried.interfaces k h).old.«package»)
     first_home k h = go x.old.name refl
       where
         x : IsInterface other merged (first_of m.interfaces.items c (first_fates own other m.interfaces.items c) first_numbers) k
@@ -126,7 +136,8 @@ passes_are_merged own other merged world other_world w v m c first_numbers p cop
         go (Some t) e = x.in_package (ap is_some e)
         go None e = copy_home k x.old x.image x.found (copies.inline_copied k x.old h x.found e) x.at_image
 
-    second_home : (k : ℕ) (h : (second_pass_of own other m c world other_world w v copied interfaces first_numbers types).carries_interface k ≡ true) → flag_under copied k ≡ true → package_number (more.carried.interfaces k h).image.«package» ≡ package_number w.«package»
+    second_home : (k : ℕ) (h : (second_pass_of own other m c world other_world w v copied interfaces first_numbers types).carries_interface k ≡ true) → flag_under copied k ≡ true
+        → package_number (more.carried.interfaces k h).image.«package» ≡ package_number w.«package»
     second_home k h set =
         let x = more.carried.interfaces k h in
         let place = inline_place own other merged valid_own valid_other world other_world w v m c first_numbers p copied interfaces types s k x.old x.found set in

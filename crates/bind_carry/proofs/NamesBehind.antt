@@ -50,11 +50,13 @@ module _ {V : Type 0} (id_of : V → ℕ) (number : ℕ → ℕ) (p : String Glo
   insert_new [] k v new = refl
   insert_new (e ∷ own) k v new = go (string_eq k e.0) refl new (insert_new own k v)
     where
-      go : (b : Bool) → string_eq k e.0 ≡ b → (b || is_name (text_of k) (texts own)) ≡ false → (is_name (text_of k) (texts own) ≡ false → insert_entry string_eq own k v ≡ own ++ (k, v) ∷ []) → insert_entry string_eq (e ∷ own) k v ≡ (e ∷ own) ++ (k, v) ∷ []
+      go : (b : Bool) → string_eq k e.0 ≡ b → (b || is_name (text_of k) (texts own)) ≡ false → (is_name (text_of k) (texts own) ≡ false → insert_entry string_eq own k v ≡ own ++ (k, v) ∷ [])
+          → insert_entry string_eq (e ∷ own) k v ≡ (e ∷ own) ++ (k, v) ∷ []
       go true q h more = no_true (sym h)
       go false q h more = ap (λ b. if b then (e.0, v) ∷ own else e ∷ insert_entry string_eq own k v) q ∙ ap (λ l. e ∷ l) (more h)
 
-  apart_at : (k : String Global) (es : List (String Global × V)) → AllByRecursion (λ y. string_eq k y ≡ false) (keys_of es) → (n : ℕ) (x : String Global × V) → slice_get es n ≡ Some x → string_eq k x.0 ≡ false
+  apart_at : (k : String Global) (es : List (String Global × V)) → AllByRecursion (λ y. string_eq k y ≡ false) (keys_of es) → (n : ℕ) (x : String Global × V) → slice_get es n ≡ Some x
+      → string_eq k x.0 ≡ false
   apart_at k [] h n x at = nothing_there x at
   apart_at k (y ∷ ys) h zero x at = ap (λ (z : String Global × V). string_eq k z.0) (sym (some_same y x at)) ∙ h.0
   apart_at k (y ∷ ys) h (suc n) x at = apart_at k ys h.1 n x at
@@ -63,7 +65,8 @@ module _ {V : Type 0} (id_of : V → ℕ) (number : ℕ → ℕ) (p : String Glo
   abbrev pub AreNewNames : List (String Global × V) → List (String Global × V) → Type 0
   AreNewNames own es = (n : ℕ) (e : String Global × V) → slice_get es n ≡ Some e → p e ≡ true → is_name (text_of e.0) (texts own) ≡ false
 
-  still_new : (own : List (String Global × V)) (e y : String Global × V) (es : List (String Global × V)) → text_of y.0 ≡ text_of e.0 → AreNewNames own (e ∷ es) → AllByRecursion (λ k. string_eq e.0 k ≡ false) (keys_of es) → AreNewNames (own ++ y ∷ []) es
+  still_new : (own : List (String Global × V)) (e y : String Global × V) (es : List (String Global × V)) → text_of y.0 ≡ text_of e.0 → AreNewNames own (e ∷ es)
+      → AllByRecursion (λ k. string_eq e.0 k ≡ false) (keys_of es) → AreNewNames (own ++ y ∷ []) es
   still_new own e y es same new apart n x at passes =
       ap (is_name (text_of x.0)) (map-append (λ (z : String Global × V). (text_of z.0, id_of z.1)) own (y ∷ []))
       ∙ (name_append (text_of x.0) (texts own) (texts (y ∷ []))

@@ -69,7 +69,8 @@ pub found_in_names : {X : Type 0} (t : Text) (es : List (String Global × X)) �
 found_in_names t [] = refl
 found_in_names {X} t (e ∷ es) = go (text_eq t (text_of e.0)) (found_in_names t es)
   where
-    go : (b : Bool) → is_some (lookup (λ (k : String Global). text_eq t (text_of k)) es) ≡ is_name_in es t → is_some (cond b (Some e.1) (lookup (λ (k : String Global). text_eq t (text_of k)) es)) ≡ (b || is_name_in es t)
+    go : (b : Bool) → is_some (lookup (λ (k : String Global). text_eq t (text_of k)) es) ≡ is_name_in es t
+        → is_some (cond b (Some e.1) (lookup (λ (k : String Global). text_eq t (text_of k)) es)) ≡ (b || is_name_in es t)
     go true rest = refl
     go false rest = rest
 
@@ -78,14 +79,17 @@ module _ {X : Type 0} where
   insert_fresh [] d h = refl
   insert_fresh (e ∷ es) d h = go (text_eq (text_of d.0) (text_of e.0)) refl h (insert_fresh es d)
     where
-      go : (b : Bool) → text_eq (text_of d.0) (text_of e.0) ≡ b → not (b || is_name_in es (text_of d.0)) ≡ true → (is_fresh es d ≡ true → insert_entry string_eq es d.0 d.1 ≡ es ++ d ∷ []) → insert_entry string_eq (e ∷ es) d.0 d.1 ≡ (e ∷ es) ++ d ∷ []
+      go : (b : Bool) → text_eq (text_of d.0) (text_of e.0) ≡ b → not (b || is_name_in es (text_of d.0)) ≡ true → (is_fresh es d ≡ true → insert_entry string_eq es d.0 d.1 ≡ es ++ d ∷ [])
+          → insert_entry string_eq (e ∷ es) d.0 d.1 ≡ (e ∷ es) ++ d ∷ []
       go true q k more = no_true k
       go false q k more = ap (λ b. if b then (e.0, d.1) ∷ es else e ∷ insert_entry string_eq es d.0 d.1) q ∙ ap (λ l. e ∷ l) (more k)
 
-  still_fresh : (es : List (String Global × X)) (y : String Global × X) (ds : List (String Global × X)) → list_all (is_fresh es) ds ≡ true → AllByRecursion (λ k. string_eq y.0 k ≡ false) (keys_of ds) → list_all (is_fresh (es ++ y ∷ [])) ds ≡ true
+  still_fresh : (es : List (String Global × X)) (y : String Global × X) (ds : List (String Global × X)) → list_all (is_fresh es) ds ≡ true → AllByRecursion (λ k. string_eq y.0 k ≡ false) (keys_of ds)
+      → list_all (is_fresh (es ++ y ∷ [])) ds ≡ true
   still_fresh es y [] new apart = refl
   still_fresh es y (d ∷ ds) new apart = both (is_fresh (es ++ y ∷ []) d) (list_all (is_fresh (es ++ y ∷ [])) ds)
-      (none_more (λ (e : String Global × X). text_eq (text_of d.0) (text_of e.0)) es y (first_true (is_fresh es d) (list_all (is_fresh es) ds) new) (text_eq_flip (text_of d.0) (text_of y.0) ∙ apart.0))
+      (none_more (λ (e : String Global × X). text_eq (text_of d.0) (text_of e.0)) es y (first_true (is_fresh es d) (list_all (is_fresh es) ds) new)
+      (text_eq_flip (text_of d.0) (text_of y.0) ∙ apart.0))
       (still_fresh es y ds (second_true (is_fresh es d) (list_all (is_fresh es) ds) new) apart.1)
 
   pub fresh_behind : (es news : List (String Global × X)) → list_all (is_fresh es) news ≡ true → IsDistinct string_eq (keys_of news) → insert_all string_eq es news ≡ es ++ news
@@ -101,7 +105,8 @@ abbrev pub KeepsNames : {X Y : Type 0} → (String Global × X → String Global
 KeepsNames {X} {Y} R = (a : String Global × X) (b : String Global × Y) → R a b → text_of b.0 ≡ text_of a.0
 
 module _ {X Y : Type 0} (R : String Global × X → String Global × Y → Type 0) (keeps : KeepsNames R) where
-  apart_along : (k l : String Global) → text_of l ≡ text_of k → (xs : List (String Global × X)) (ys : List (String Global × Y)) → AllZip R xs ys → AllByRecursion (λ n. string_eq k n ≡ false) (keys_of xs) → AllByRecursion (λ n. string_eq l n ≡ false) (keys_of ys)
+  apart_along : (k l : String Global) → text_of l ≡ text_of k → (xs : List (String Global × X)) (ys : List (String Global × Y)) → AllZip R xs ys
+      → AllByRecursion (λ n. string_eq k n ≡ false) (keys_of xs) → AllByRecursion (λ n. string_eq l n ≡ false) (keys_of ys)
   apart_along k l same [] [] zip h = tt
   apart_along k l same [] (y ∷ ys) zip h = absurd zip
   apart_along k l same (x ∷ xs) [] zip h = absurd zip
@@ -114,7 +119,8 @@ module _ {X Y : Type 0} (R : String Global × X → String Global × Y → Type 
   distinct_along (x ∷ xs) [] zip h = absurd zip
   distinct_along (x ∷ xs) (y ∷ ys) zip h = (apart_along x.0 y.0 (keeps x y zip.0) xs ys zip.1 h.0, distinct_along xs ys zip.1 h.1)
 
-  pub fresh_along : {Z : Type 0} (es : List (String Global × Z)) (xs : List (String Global × X)) (ys : List (String Global × Y)) → AllZip R xs ys → list_all (is_fresh es) xs ≡ true → list_all (is_fresh es) ys ≡ true
+  pub fresh_along : {Z : Type 0} (es : List (String Global × Z)) (xs : List (String Global × X)) (ys : List (String Global × Y)) → AllZip R xs ys → list_all (is_fresh es) xs ≡ true
+      → list_all (is_fresh es) ys ≡ true
   fresh_along es [] [] zip h = refl
   fresh_along es [] (y ∷ ys) zip h = absurd zip
   fresh_along es (x ∷ xs) [] zip h = absurd zip
@@ -171,7 +177,8 @@ module _ (r : Resolve) (valid : IsValid r) (n : ℕ) (p : Package) (at : package
       label : (s : String Global) × (d.0.name ≡ Some s) × (text_of s ≡ text_of e.0)
       label = label_is d.0.name (text_of e.0)
           (ap (passes (λ (i : Interface). text_is i.name (text_of e.0))) (sym d.1)
-          ∙ all-contained (λ (x : String Global × InterfaceId). passes (λ i. text_is i.name (text_of x.0)) (interface_at r x.1.0)) p.interfaces.entries e (first_true _ _ (package-passes names_in_packages r valid.rules.names_in_packages n p at)) held)
+          ∙ all-contained (λ (x : String Global × InterfaceId). passes (λ i. text_is i.name (text_of x.0)) (interface_at r x.1.0)) p.interfaces.entries e
+          (first_true _ _ (package-passes names_in_packages r valid.rules.names_in_packages n p at)) held)
 
       belongs : interface_belongs r n e ≡ true
       belongs = all-contained (interface_belongs r n) p.interfaces.entries e (first_true _ _ (package-passes places r valid.rules.places n p at)) held
@@ -222,10 +229,12 @@ grown_of [] ns ps i e at = let wrong : ⊥ = cc in absurd wrong
 grown_of (b ∷ bs) [] ps i e at = let wrong : ⊥ = cc in absurd wrong
 grown_of (b ∷ bs) (n ∷ ns) [] i e at = let wrong : ⊥ = cc in absurd wrong
 grown_of (true ∷ bs) (n ∷ ns) (p ∷ ps) i e at = let r = grown_of bs ns ps i e at in record { place = suc r.place; at_place = r.at_place; bare = r.bare; number = r.number }
-grown_of (false ∷ bs) (n ∷ ns) (p ∷ ps) zero e at = let same : (n, p) ≡ e = some_same (n, p) e at in record { place = zero; at_place = ap (λ (x : ℕ × Package). Some x.1) same; bare = refl; number = ap (λ (x : ℕ × Package). x.0) same }
+grown_of (false ∷ bs) (n ∷ ns) (p ∷ ps) zero e at = let same : (n, p) ≡ e = some_same (n, p) e at in
+    record { place = zero; at_place = ap (λ (x : ℕ × Package). Some x.1) same; bare = refl; number = ap (λ (x : ℕ × Package). x.0) same }
 grown_of (false ∷ bs) (n ∷ ns) (p ∷ ps) (suc i) e at = let r = grown_of bs ns ps i e at in record { place = suc r.place; at_place = r.at_place; bare = r.bare; number = r.number }
 
-pub new_world_flag : (r : Resolve) (ms : List (Option WorldId)) (ws : List World) (n : ℕ) (o : Option WorldId) (w : World) → slice_get ms n ≡ Some o → slice_get ws n ≡ Some w → flag_under (new_worlds r ms ws) n ≡ (is_none o && not (is_root_world r w))
+pub new_world_flag : (r : Resolve) (ms : List (Option WorldId)) (ws : List World) (n : ℕ) (o : Option WorldId) (w : World) → slice_get ms n ≡ Some o → slice_get ws n ≡ Some w
+    → flag_under (new_worlds r ms ws) n ≡ (is_none o && not (is_root_world r w))
 new_world_flag r [] ws n o w a b = let wrong : ⊥ = cc in absurd wrong
 new_world_flag r (m ∷ ms) [] n o w a b = let wrong : ⊥ = cc in absurd wrong
 new_world_flag r (m ∷ ms) (x ∷ xs) zero o w a b = let p = some_same m o a in let q = some_same x w b in λ i. is_none (p i) && not (is_root_world r (q i))
@@ -241,9 +250,14 @@ module _ (own other : Resolve) (valid_other : IsValid other) (m : Matches) (c : 
 
   pub home_of : (k n : ℕ) (q : Package) → package_at other k ≡ Some q → flag_under c.new_packages.items k ≡ false → number_under c.packages.items k ≡ n → IsHome k n
   home_of k n q at bare number =
-      let inside : k < length m.packages.items = (let a = within_list other.packages.items k q at in let b = ap length by_name.packages ∙ length-map other.packages.items (own_package_of own.packages.items) in omega (arith, a, b)) in
-      let id = unflagged_found m.packages.items k inside (ap (λ l. flag_under l k) (sym numbered.new_packages) ∙ bare) in
-      (id.0, id.1, sym (found_number m.packages.items k id.0 id.1) ∙ (sym (uncopied_under (length own.packages.items) c.new_packages.items (map number_of_package m.packages.items) k long bare) ∙ (sym (ap (λ l. number_under l k) numbered.packages) ∙ number)))
+      let inside : k < length m.packages.items = (let a = within_list other.packages.items k q at in let b =
+      ap length by_name.packages ∙ length-map other.packages.items (own_package_of own.packages.items) in omega (arith, a, b)) in
+      let id = unflagged_found m.packages.items k inside (ap (λ l. flag_under l k) (sym numbered.new_packages) ∙ bare) in (
+        id.0,
+        id.1,
+        sym (found_number m.packages.items k id.0 id.1) ∙ (sym (uncopied_under (length own.packages.items) c.new_packages.items (map number_of_package m.packages.items) k long bare)
+            ∙ (sym (ap (λ l. number_under l k) numbered.packages) ∙ number)),
+      )
 
   module _ (k n : ℕ) (q p : Package) (at : package_at other k ≡ Some q) (home : IsHome k n) (at_own : package_at own n ≡ Some p) where
     -- an interface is copied where its name is new in the own package
@@ -262,11 +276,13 @@ module _ (own other : Resolve) (valid_other : IsValid other) (m : Matches) (c : 
         found =
             ap (λ o. option_and_then (λ (name : String Global). interface_in own m.packages.items x.def.«package» (text_of name)) o) x.named_
             ∙ (ap (λ h. interface_in own m.packages.items h (text_of x.label)) x.in_package
-            ∙ (ap (λ o. option_and_then (λ (id : PackageId). option_and_then (λ (p : Package). get_by_text p.interfaces (text_of x.label)) (package_at own id.0)) (given o)) (ap (slice_get m.packages.items) x.here ∙ home.1)
+            ∙ (ap (λ o. option_and_then (λ (id : PackageId). option_and_then (λ (p : Package). get_by_text p.interfaces (text_of x.label)) (package_at own id.0)) (given o))
+            (ap (slice_get m.packages.items) x.here ∙ home.1)
             ∙ ap (λ o. option_and_then (λ (p : Package). get_by_text p.interfaces (text_of x.label)) o) (ap (package_at own) home.2 ∙ at_own)))
 
     -- and a world, but for the root world
-    pub copied_world : (e : String Global × WorldId) (held : Contains q.worlds.entries e) → flag_under c.copied_worlds.items e.1.0 ≡ (is_fresh p.worlds.entries e && not (is_root_world other (world_of other valid_other k q at e held).def))
+    pub copied_world : (e : String Global × WorldId) (held : Contains q.worlds.entries e)
+        → flag_under c.copied_worlds.items e.1.0 ≡ (is_fresh p.worlds.entries e && not (is_root_world other (world_of other valid_other k q at e held).def))
     copied_world e held =
         ap (λ l. flag_under l e.1.0) numbered.copied_worlds
         ∙ (new_world_flag other m.worlds.items other.worlds.items e.1.0 (own_world_of own m.packages.items x.def) x.def matched x.found
@@ -282,5 +298,6 @@ module _ (own other : Resolve) (valid_other : IsValid other) (m : Matches) (c : 
         found : own_world_of own m.packages.items x.def ≡ get_by_text p.worlds (text_of x.def.name)
         found =
             ap (λ h. world_in own m.packages.items h (text_of x.def.name)) x.in_package
-            ∙ (ap (λ o. option_and_then (λ (id : PackageId). option_and_then (λ (p : Package). get_by_text p.worlds (text_of x.def.name)) (package_at own id.0)) (given o)) (ap (slice_get m.packages.items) x.here ∙ home.1)
+            ∙ (ap (λ o. option_and_then (λ (id : PackageId). option_and_then (λ (p : Package). get_by_text p.worlds (text_of x.def.name)) (package_at own id.0)) (given o))
+            (ap (slice_get m.packages.items) x.here ∙ home.1)
             ∙ ap (λ o. option_and_then (λ (p : Package). get_by_text p.worlds (text_of x.def.name)) o) (ap (package_at own) home.2 ∙ at_own))

@@ -50,7 +50,8 @@ module _ (r : Resolve) (valid : IsValid r) (home : ℕ) (p : Package) (at : pack
 
   pub listed_interface : (name : Text) (n : ℕ) → Contains (interface_names p) (name, n) → IsListedInterface r home p name n
   listed_interface name n held =
-      let i = found_option (λ (x : Interface). text_is x.name name && is_id home (package_number x.«package»)) (interface_at r n) (all-contained (is_interface_of r home) (interface_names p) (name, n) (interfaces_stand r valid.rules home p at) held) in
+      let i = found_option (λ (x : Interface). text_is x.name name && is_id home (package_number x.«package»)) (interface_at r n)
+      (all-contained (is_interface_of r home) (interface_names p) (name, n) (interfaces_stand r valid.rules home p at) held) in
       let label = text_given i.0.name name (first_true (text_is i.0.name name) (is_id home (package_number i.0.«package»)) i.2) in
       let id = home_given home i.0.«package» (second_true (text_is i.0.name name) (is_id home (package_number i.0.«package»)) i.2) in
       record {
@@ -68,7 +69,8 @@ module _ (r : Resolve) (valid : IsValid r) (home : ℕ) (p : Package) (at : pack
 
   pub listed_world : (name : Text) (n : ℕ) → Contains (world_names p) (name, n) → IsListedWorld r home p name n
   listed_world name n held =
-      let w = found_option (λ (x : World). text_eq (text_of x.name) name && is_id home (package_number x.«package»)) (world_at r n) (all-contained (is_world_of r home) (world_names p) (name, n) (worlds_stand r valid.rules home p at) held) in
+      let w = found_option (λ (x : World). text_eq (text_of x.name) name && is_id home (package_number x.«package»)) (world_at r n)
+      (all-contained (is_world_of r home) (world_names p) (name, n) (worlds_stand r valid.rules home p at) held) in
       let text : text_of w.0.name ≡ name = text-same (text_of w.0.name) name (first_true (text_eq (text_of w.0.name) name) (is_id home (package_number w.0.«package»)) w.2) in
       let id = home_given home w.0.«package» (second_true (text_eq (text_of w.0.name) name) (is_id home (package_number w.0.«package»)) w.2) in
       record {

@@ -64,7 +64,8 @@ grown_is others p (Some q) e = rw e refl
 
 -- ---- lists
 
-pointwise : {X Y Z : Type 0} (f : X → Z) (g : Y → Z) (xs : List X) (ys : List Y) → length xs ≡ length ys → ((n : ℕ) (x : X) (y : Y) → slice_get xs n ≡ Some x → slice_get ys n ≡ Some y → f x ≡ g y) → map f xs ≡ map g ys
+pointwise : {X Y Z : Type 0} (f : X → Z) (g : Y → Z) (xs : List X) (ys : List Y) → length xs ≡ length ys → ((n : ℕ) (x : X) (y : Y) → slice_get xs n ≡ Some x → slice_get ys n ≡ Some y → f x ≡ g y)
+    → map f xs ≡ map g ys
 pointwise f g [] [] long each = refl
 pointwise f g [] (y ∷ ys) long each = absurd (omega (arith, long))
 pointwise f g (x ∷ xs) [] long each = absurd (omega (arith, long))
@@ -83,25 +84,29 @@ kept_filter p (x ∷ xs) = go (p x) (kept_filter p xs)
 abbrev entry_names : {X : Type 0} → List (String Global × X) → List Text
 entry_names es = map (λ e. text_of e.0) es
 
-names_along : {X Y : Type 0} (R : String Global × X → String Global × Y → Type 0) → KeepsNames R → (xs : List (String Global × X)) (ys : List (String Global × Y)) → AllZip R xs ys → entry_names ys ≡ entry_names xs
+names_along : {X Y : Type 0} (R : String Global × X → String Global × Y → Type 0) → KeepsNames R → (xs : List (String Global × X)) (ys : List (String Global × Y)) → AllZip R xs ys
+    → entry_names ys ≡ entry_names xs
 names_along R keeps [] [] zip = refl
 names_along R keeps [] (y ∷ ys) zip = absurd zip
 names_along R keeps (x ∷ xs) [] zip = absurd zip
 names_along R keeps (x ∷ xs) (y ∷ ys) zip = ap₂ (λ a b. a ∷ b) (keeps x y zip.0) (names_along R keeps xs ys zip.1)
 
 -- names of entries that pass by their names
-names_passed : {X : Type 0} (p : String Global × X → Bool) (q : Text → Bool) (es : List (String Global × X)) → ((e : String Global × X) → Contains es e → p e ≡ q (text_of e.0)) → entry_names (filter p es) ≡ filter q (entry_names es)
+names_passed : {X : Type 0} (p : String Global × X → Bool) (q : Text → Bool) (es : List (String Global × X)) → ((e : String Global × X) → Contains es e → p e ≡ q (text_of e.0))
+    → entry_names (filter p es) ≡ filter q (entry_names es)
 names_passed p q [] each = refl
 names_passed p q (e ∷ es) each = go (p e) (q (text_of e.0)) (each e (0, omega arith, refl)) (names_passed p q es (λ x held. each x (contains-later e es x held)))
   where
-    go : (b c : Bool) → b ≡ c → entry_names (filter p es) ≡ filter q (entry_names es) → entry_names (cond b (e ∷ filter p es) (filter p es)) ≡ cond c (text_of e.0 ∷ filter q (entry_names es)) (filter q (entry_names es))
+    go : (b c : Bool) → b ≡ c → entry_names (filter p es) ≡ filter q (entry_names es)
+        → entry_names (cond b (e ∷ filter p es) (filter p es)) ≡ cond c (text_of e.0 ∷ filter q (entry_names es)) (filter q (entry_names es))
     go true true h rest = ap (λ l. text_of e.0 ∷ l) rest
     go false false h rest = rest
     go true false h rest = no_true (sym h)
     go false true h rest = no_true h
 
 -- by two tests
-names_passed_both : {X : Type 0} (p : String Global × X → Bool) (q r : Text → Bool) (es : List (String Global × X)) → ((e : String Global × X) → Contains es e → p e ≡ (q (text_of e.0) && r (text_of e.0))) → entry_names (filter p es) ≡ filter q (filter r (entry_names es))
+names_passed_both : {X : Type 0} (p : String Global × X → Bool) (q r : Text → Bool) (es : List (String Global × X))
+    → ((e : String Global × X) → Contains es e → p e ≡ (q (text_of e.0) && r (text_of e.0))) → entry_names (filter p es) ≡ filter q (filter r (entry_names es))
 names_passed_both p q r [] each = refl
 names_passed_both p q r (e ∷ es) each = go (p e) (q (text_of e.0)) refl (r (text_of e.0)) (each e (0, omega arith, refl)) (names_passed_both p q r es (λ x held. each x (contains-later e es x held)))
   where
@@ -111,7 +116,8 @@ names_passed_both p q r (e ∷ es) each = go (p e) (q (text_of e.0)) refl (r (te
     with : (c : Bool) → q (text_of e.0) ≡ c → filter q (text_of e.0 ∷ left) ≡ cond c (text_of e.0 ∷ filter q left) (filter q left)
     with c k = ap (λ b. cond b (text_of e.0 ∷ filter q left) (filter q left)) k
 
-    go : (b c : Bool) → q (text_of e.0) ≡ c → (d : Bool) → b ≡ (c && d) → entry_names (filter p es) ≡ filter q left → entry_names (cond b (e ∷ filter p es) (filter p es)) ≡ filter q (cond d (text_of e.0 ∷ left) left)
+    go : (b c : Bool) → q (text_of e.0) ≡ c → (d : Bool) → b ≡ (c && d) → entry_names (filter p es) ≡ filter q left
+        → entry_names (cond b (e ∷ filter p es) (filter p es)) ≡ filter q (cond d (text_of e.0 ∷ left) left)
     go true true k true h rest = ap (λ l. text_of e.0 ∷ l) rest ∙ sym (with true k)
     go false true k false h rest = rest
     go false false k true h rest = rest ∙ sym (with false k)
@@ -122,7 +128,8 @@ names_passed_both p q r (e ∷ es) each = go (p e) (q (text_of e.0)) refl (r (te
 
 all_passed : {X : Type 0} (p : String Global × X → Bool) (es : List (String Global × X)) → ((e : String Global × X) → Contains es e → p e ≡ true) → entry_names (filter p es) ≡ entry_names es
 all_passed p [] each = refl
-all_passed p (e ∷ es) each = ap (λ b. entry_names (cond b (e ∷ filter p es) (filter p es))) (each e (0, omega arith, refl)) ∙ ap (λ l. text_of e.0 ∷ l) (all_passed p es (λ x held. each x (contains-later e es x held)))
+all_passed p (e ∷ es) each = ap (λ b. entry_names (cond b (e ∷ filter p es) (filter p es))) (each e (0, omega arith, refl)) ∙ ap (λ l. text_of e.0 ∷ l)
+    (all_passed p es (λ x held. each x (contains-later e es x held)))
 
 -- ---- what is found by a text
 
@@ -130,11 +137,13 @@ ties : (s t : Text) → s ≡ t → eq_by_cmp text_cmp s t ≡ true
 ties s t e = sym (texts_ties s t) ∙ same_text s t e
 
 module _ (f : Package → Text × PackageNames) (t : Text) where
-  found_at : (ps : List Package) (k : ℕ) (o : Package) → slice_get ps k ≡ Some o → (f o).0 ≡ t → ((j : ℕ) (q : Package) → slice_get ps j ≡ Some q → (f q).0 ≡ t → q ≡ o) → find text_cmp t (map f ps) ≡ Some (f o).1
+  found_at : (ps : List Package) (k : ℕ) (o : Package) → slice_get ps k ≡ Some o → (f o).0 ≡ t → ((j : ℕ) (q : Package) → slice_get ps j ≡ Some q → (f q).0 ≡ t → q ≡ o)
+      → find text_cmp t (map f ps) ≡ Some (f o).1
   found_at [] k o at is once = let wrong : ⊥ = cc in absurd wrong
   found_at (q ∷ qs) k o at is once = go (eq_by_cmp text_cmp t (f q).0) refl k at (λ j there. found_at qs j o there is (λ i x at_x same. once (suc i) x at_x same))
     where
-      go : (b : Bool) → eq_by_cmp text_cmp t (f q).0 ≡ b → (k : ℕ) → slice_get (q ∷ qs) k ≡ Some o → ((j : ℕ) → slice_get qs j ≡ Some o → find text_cmp t (map f qs) ≡ Some (f o).1) → cond b (Some (f q).1) (find text_cmp t (map f qs)) ≡ Some (f o).1
+      go : (b : Bool) → eq_by_cmp text_cmp t (f q).0 ≡ b → (k : ℕ) → slice_get (q ∷ qs) k ≡ Some o → ((j : ℕ) → slice_get qs j ≡ Some o → find text_cmp t (map f qs) ≡ Some (f o).1)
+          → cond b (Some (f q).1) (find text_cmp t (map f qs)) ≡ Some (f o).1
       go true e k at later = ap (λ (x : Package). Some (f x).1) (once zero q refl (sym (tie_is t (f q).0 e)))
       go false e zero at later = no_true (sym e ∙ ties t (f q).0 (sym (ap (λ (x : Package). (f x).0) (some_same q o at) ∙ is)))
       go false e (suc k) at later = later k at
@@ -147,28 +156,34 @@ module _ (f : Package → Text × PackageNames) (t : Text) where
       go true e later = absurd (none zero q refl (sym (tie_is t (f q).0 e)))
       go false e later = later
 
-  found_by_name : (name : PackageName) (n : ℕ) (ps : List Package) → ((p : Package) → Contains ps p → same_package_name name p.name ≡ eq_by_cmp text_cmp t (f p).0) → is_none (package_from name n ps) ≡ is_none (find text_cmp t (map f ps))
+  found_by_name : (name : PackageName) (n : ℕ) (ps : List Package) → ((p : Package) → Contains ps p → same_package_name name p.name ≡ eq_by_cmp text_cmp t (f p).0)
+      → is_none (package_from name n ps) ≡ is_none (find text_cmp t (map f ps))
   found_by_name name n [] each = refl
-  found_by_name name n (p ∷ ps) each = go (same_package_name name p.name) (eq_by_cmp text_cmp t (f p).0) (each p (0, omega arith, refl)) (found_by_name name (n + 1) ps (λ x held. each x (contains-later p ps x held)))
+  found_by_name name n (p ∷ ps) each = go (same_package_name name p.name) (eq_by_cmp text_cmp t (f p).0) (each p (0, omega arith, refl))
+      (found_by_name name (n + 1) ps (λ x held. each x (contains-later p ps x held)))
     where
-      go : (b c : Bool) → b ≡ c → is_none (package_from name (n + 1) ps) ≡ is_none (find text_cmp t (map f ps)) → is_none (cond b (Some (record { 0 = n })) (package_from name (n + 1) ps)) ≡ is_none (cond c (Some (f p).1) (find text_cmp t (map f ps)))
+      go : (b c : Bool) → b ≡ c → is_none (package_from name (n + 1) ps) ≡ is_none (find text_cmp t (map f ps))
+          → is_none (cond b (Some (record { 0 = n })) (package_from name (n + 1) ps)) ≡ is_none (cond c (Some (f p).1) (find text_cmp t (map f ps)))
       go true true h rest = refl
       go false false h rest = rest
       go true false h rest = no_true (sym h)
       go false true h rest = no_true h
 
 -- one of a name is found
-some_from : (name : PackageName) (n : ℕ) (ps : List Package) (k : ℕ) (p : Package) → slice_get ps k ≡ Some p → same_package_name name p.name ≡ true → (id : PackageId) × (package_from name n ps ≡ Some id)
+some_from : (name : PackageName) (n : ℕ) (ps : List Package) (k : ℕ) (p : Package) → slice_get ps k ≡ Some p → same_package_name name p.name ≡ true → (id : PackageId)
+    × (package_from name n ps ≡ Some id)
 some_from name n [] k p at same = let wrong : ⊥ = cc in absurd wrong
 some_from name n (q ∷ qs) k p at same = go (same_package_name name q.name) refl k at (λ j there. some_from name (n + 1) qs j p there same)
   where
-    go : (b : Bool) → same_package_name name q.name ≡ b → (k : ℕ) → slice_get (q ∷ qs) k ≡ Some p → ((j : ℕ) → slice_get qs j ≡ Some p → (id : PackageId) × (package_from name (n + 1) qs ≡ Some id)) → (id : PackageId) × (cond b (Some (record { 0 = n })) (package_from name (n + 1) qs) ≡ Some id)
+    go : (b : Bool) → same_package_name name q.name ≡ b → (k : ℕ) → slice_get (q ∷ qs) k ≡ Some p → ((j : ℕ) → slice_get qs j ≡ Some p → (id : PackageId) × (package_from name (n + 1) qs ≡ Some id))
+        → (id : PackageId) × (cond b (Some (record { 0 = n })) (package_from name (n + 1) qs) ≡ Some id)
     go true e k at later = (record { 0 = n }, refl)
     go false e zero at later = no_true (sym e ∙ (ap (λ (x : Package). same_package_name name x.name) (some_same q p at) ∙ same))
     go false e (suc k) at later = later k at
 
 -- a package that isn't new is among those that gain
-grown_place : (flags : List Bool) (ns : List ℕ) (ps : List Package) → length flags ≡ length ps → length ns ≡ length ps → (j : ℕ) (q : Package) → slice_get ps j ≡ Some q → flag_under flags j ≡ false → (i : ℕ) × (slice_get (grown_packages flags ns ps) i ≡ Some (number_under ns j, q))
+grown_place : (flags : List Bool) (ns : List ℕ) (ps : List Package) → length flags ≡ length ps → length ns ≡ length ps → (j : ℕ) (q : Package) → slice_get ps j ≡ Some q → flag_under flags j ≡ false
+    → (i : ℕ) × (slice_get (grown_packages flags ns ps) i ≡ Some (number_under ns j, q))
 grown_place flags ns [] a b j q at bare = let wrong : ⊥ = cc in absurd wrong
 grown_place [] ns (p ∷ ps) a b j q at bare = absurd (omega (arith, a))
 grown_place (f ∷ fs) [] (p ∷ ps) a b j q at bare = absurd (omega (arith, b))
@@ -202,9 +217,11 @@ module _ (own other : Resolve) (valid_own : IsValid own) (valid_other : IsValid 
   matched_package : (k : ℕ) (o : Package) → package_at other k ≡ Some o → slice_get m.packages.items k ≡ Some (own_package_of own.packages.items o)
   matched_package k o at = ap (λ l. slice_get l k) by_name.packages ∙ mapped_at (own_package_of own.packages.items) other.packages.items k o at
 
-  root_is : (k : ℕ) (o : Package) (at : package_at other k ≡ Some o) (e : String Global × WorldId) (held : Contains o.worlds.entries e) → is_root_world other (world_of other valid_other k o at e held).def ≡ is_root_in (text_of_package o) (text_of e.0)
+  root_is : (k : ℕ) (o : Package) (at : package_at other k ≡ Some o) (e : String Global × WorldId) (held : Contains o.worlds.entries e)
+      → is_root_world other (world_of other valid_other k o at e held).def ≡ is_root_in (text_of_package o) (text_of e.0)
   root_is k o at e held =
-      ap (λ (h : Option PackageId). option_map_or (λ id. option_map_or (λ (p : Package). text_eq (text_of x.def.name) (codes "root") && is_root_name p.name) (package_at other id.0) false) h false) x.in_package
+      ap (λ (h : Option PackageId). option_map_or (λ id. option_map_or (λ (p : Package). text_eq (text_of x.def.name) (codes "root") && is_root_name p.name) (package_at other id.0) false) h false)
+      x.in_package
       ∙ (ap (λ (q : Option Package). option_map_or (λ p. text_eq (text_of x.def.name) (codes "root") && is_root_name p.name) q false) (ap (package_at other) x.here ∙ at)
       ∙ ((λ i. text_eq (x.text i) (codes "root") && root_text o (other_named k o at) i)
       ∙ and_flip (text_eq (text_of e.0) (codes "root")) (text_eq (text_of_package o) (codes "root:root"))))
@@ -272,7 +289,8 @@ module _ (own other : Resolve) (valid_own : IsValid own) (valid_other : IsValid 
           ∙ ap (λ l. entry_names p.interfaces.entries ++ l)
           (names_along (IsInterfaceName c.interfaces.items) (λ a b r. r.0) (filter test old.interfaces.entries) g.interfaces.entries (gain.2.interfaces unique.0)
           ∙ names_passed test (λ t. not (list_any (text_eq t) (entry_names p.interfaces.entries))) old.interfaces.entries
-          (λ e held. copied_interface own other valid_other m c by_name numbered are from.place n old p from.at_place home at e held ∙ ap not (sym (any_of_map (text_eq (text_of e.0)) (λ (y : String Global × InterfaceId). text_of y.0) p.interfaces.entries)))))
+          (λ e held. copied_interface own other valid_other m c by_name numbered are from.place n old p from.at_place home at e held ∙ ap not
+          (sym (any_of_map (text_eq (text_of e.0)) (λ (y : String Global × InterfaceId). text_of y.0) p.interfaces.entries)))))
         where
           test : String Global × InterfaceId → Bool
           test = is_copied_interface c.copied_interfaces.items
@@ -347,7 +365,8 @@ module _ (own other : Resolve) (valid_own : IsValid own) (valid_other : IsValid 
         go (inr none) = ap listed (some_same x p (sym at_x ∙ (h.others n none ∙ at))) ∙ staying n p at none
 
     pub own_names : (ps : List Package) → HaveGained gs own.packages.items ps → map listed ps ≡ map (grown_names others) (map listed own.packages.items)
-    own_names ps h = pointwise listed (λ p. grown_names others (listed p)) ps own.packages.items h.count (λ n x p at_x at. own_listed ps h n x p at_x at) ∙ sym (map_twice (grown_names others) listed own.packages.items)
+    own_names ps h = pointwise listed (λ p. grown_names others (listed p)) ps own.packages.items h.count (λ n x p at_x at. own_listed ps h n x p at_x at) ∙ sym
+        (map_twice (grown_names others) listed own.packages.items)
 
   -- ---- new packages
 
@@ -394,7 +413,8 @@ module _ (own other : Resolve) (valid_own : IsValid own) (valid_other : IsValid 
           none =
               ap (λ o. option_and_then (λ (name : String Global). interface_in own m.packages.items y.def.«package» (text_of name)) o) y.named_
               ∙ (ap (λ h. interface_in own m.packages.items h (text_of y.label)) y.in_package
-              ∙ ap (λ o. option_and_then (λ (id : PackageId). option_and_then (λ (p : Package). get_by_text p.interfaces (text_of y.label)) (package_at own id.0)) (given o)) (ap (slice_get m.packages.items) y.here ∙ nothing))
+              ∙ ap (λ o. option_and_then (λ (id : PackageId). option_and_then (λ (p : Package). get_by_text p.interfaces (text_of y.label)) (package_at own id.0)) (given o))
+              (ap (slice_get m.packages.items) y.here ∙ nothing))
 
       each_world : (e : String Global × WorldId) → Contains o.worlds.entries e → flag_under c.copied_worlds.items e.1.0 ≡ not (is_root_in (text_of_package o) (text_of e.0))
       each_world e held =
@@ -412,7 +432,8 @@ module _ (own other : Resolve) (valid_own : IsValid own) (valid_other : IsValid 
           none : own_world_of own m.packages.items y.def ≡ None
           none =
               ap (λ h. world_in own m.packages.items h (text_of y.def.name)) y.in_package
-              ∙ ap (λ o. option_and_then (λ (id : PackageId). option_and_then (λ (p : Package). get_by_text p.worlds (text_of y.def.name)) (package_at own id.0)) (given o)) (ap (slice_get m.packages.items) y.here ∙ nothing)
+              ∙ ap (λ o. option_and_then (λ (id : PackageId). option_and_then (λ (p : Package). get_by_text p.worlds (text_of y.def.name)) (package_at own id.0)) (given o))
+              (ap (slice_get m.packages.items) y.here ∙ nothing)
 
       new_names : listed x ≡ brought o
       new_names = same_listed (listed x) (brought o) (ap package_text (same_identity o.name x.name is.name))
@@ -435,7 +456,8 @@ module _ (own other : Resolve) (valid_own : IsValid own) (valid_other : IsValid 
       b : IsBrought o
       b = each o (0, omega arith, refl)
 
-      go : (t : Bool) → is_new o ≡ t → (news : List Package) → AllZip (IsPackageCarried c) (cond t (o ∷ filter is_new os) (filter is_new os)) news → ((xs : List Package) → AllZip (IsPackageCarried c) (filter is_new os) xs → map listed xs ≡ filter is_unlisted (map brought os))
+      go : (t : Bool) → is_new o ≡ t → (news : List Package) → AllZip (IsPackageCarried c) (cond t (o ∷ filter is_new os) (filter is_new os)) news
+          → ((xs : List Package) → AllZip (IsPackageCarried c) (filter is_new os) xs → map listed xs ≡ filter is_unlisted (map brought os))
           → map listed news ≡ cond (is_unlisted (brought o)) (brought o ∷ filter is_unlisted (map brought os)) (filter is_unlisted (map brought os))
       go true e [] z later = absurd z
       go true e (x ∷ xs) z later =
@@ -443,7 +465,8 @@ module _ (own other : Resolve) (valid_own : IsValid own) (valid_other : IsValid 
           ∙ ap (λ t. cond t (brought o ∷ filter is_unlisted (map brought os)) (filter is_unlisted (map brought os))) (sym e ∙ b.tells)
       go false e xs z later = later xs z ∙ ap (λ t. cond t (brought o ∷ filter is_unlisted (map brought os)) (filter is_unlisted (map brought os))) (sym e ∙ b.tells)
 
-  pub new_list : (news : List Package) → AllZip (IsPackageCarried c) (kept c.new_packages.items other.packages.items) news → map listed news ≡ filter is_unlisted (map carried_names (map listed other.packages.items))
+  pub new_list : (news : List Package) → AllZip (IsPackageCarried c) (kept c.new_packages.items other.packages.items) news
+      → map listed news ≡ filter is_unlisted (map carried_names (map listed other.packages.items))
   new_list news zip =
       brought_names other.packages.items news
       (subst (λ l. AllZip (IsPackageCarried c) l news) (ap (λ l. kept l other.packages.items) flags_are ∙ kept_filter is_new other.packages.items) zip)
@@ -456,7 +479,8 @@ names_are_merged own other merged world other_world m w v added keys u valid_own
     ∙ (map-append listed a.packages.0 added.packages.items
     ∙ ap₂ (λ p q. p ++ q)
     (own_names own other valid_own valid_other m u.carried by_name u.numbered are added.names.items gains a.packages.0 a.packages.1)
-    (new_list own other valid_own valid_other m u.carried by_name u.numbered are added.packages.items (subst (AllZip (IsPackageCarried u.carried) (kept u.carried.new_packages.items other.packages.items)) (sym u.second.packages) u.first.packages)))
+    (new_list own other valid_own valid_other m u.carried by_name u.numbered are added.packages.items
+    (subst (AllZip (IsPackageCarried u.carried) (kept u.carried.new_packages.items other.packages.items)) (sym u.second.packages) u.first.packages)))
   where
     are : AreChosen other m.interfaces.items u.carried.copied_worlds.items u.carried.copied_interfaces.items
     are = chosen_so own other m u.carried (is_in_range other valid_other) (matched_all own other m by_name) u.numbered

@@ -44,15 +44,14 @@ use Rattle.bind_carry.proofs.NamesGained.{new_world_flag as new_world_at}
 
 -- ---- worlds by their flags
 
--- a world is new where no own one has its path, and it isn't `root:root/root`
-
 -- the own number of a world that has one
 world_under : (ms : List (Option WorldId)) (n : ℕ) (id : WorldId) → slice_get ms n ≡ Some (Some id) → number_under (map world_number ms) n ≡ id.0
 world_under [] n id h = nothing_there (Some id) h
 world_under (m ∷ ms) zero id h = ap world_number (some_same m (Some id) h)
 world_under (m ∷ ms) (suc n) id h = world_under ms n id h
 
-module _ (own other merged : Resolve) (valid_other : IsValid other) (m : Matches) (c : Carried) (numbers : List ℕ) (pass : IsFirstPass own other merged m c numbers) (interfaces_by : m.interfaces.items ≡ map (own_interface_of own m.packages.items) other.interfaces.items)
+module _ (own other merged : Resolve) (valid_other : IsValid other) (m : Matches) (c : Carried) (numbers : List ℕ) (pass : IsFirstPass own other merged m c numbers)
+    (interfaces_by : m.interfaces.items ≡ map (own_interface_of own m.packages.items) other.interfaces.items)
     (worlds_by : m.worlds.items ≡ map (own_world_of own m.packages.items) other.worlds.items) (n : ℕ) (p : Package) (at : package_at other n ≡ Some p) where
   chosen : AreChosen other m.interfaces.items c.copied_worlds.items c.copied_interfaces.items
   chosen = chosen_so own other m c (is_in_range other valid_other) pass.all pass.numbered
@@ -70,14 +69,17 @@ module _ (own other merged : Resolve) (valid_other : IsValid other) (m : Matches
 
   interface_met : (k : ℕ) (e : String Global × InterfaceId) → slice_get p.interfaces.entries k ≡ Some e → IsInterfaceMet e
   interface_met k e at_e =
-      let x = listed_interface other valid_other n p at (text_of e.0) e.1.0 (contains-map (λ (d : String Global × InterfaceId). (text_of d.0, d.1.0)) p.interfaces.entries e (get-contains p.interfaces.entries k e at_e)) in
-      let given : slice_get m.interfaces.items e.1.0 ≡ Some (own_interface_of own m.packages.items x.interface_) = ap (λ l. slice_get l e.1.0) interfaces_by ∙ mapped_at (own_interface_of own m.packages.items) other.interfaces.items e.1.0 x.interface_ x.found in
+      let x = listed_interface other valid_other n p at (text_of e.0) e.1.0
+      (contains-map (λ (d : String Global × InterfaceId). (text_of d.0, d.1.0)) p.interfaces.entries e (get-contains p.interfaces.entries k e at_e)) in
+      let given : slice_get m.interfaces.items e.1.0 ≡ Some (own_interface_of own m.packages.items x.interface_) =
+      ap (λ l. slice_get l e.1.0) interfaces_by ∙ mapped_at (own_interface_of own m.packages.items) other.interfaces.items e.1.0 x.interface_ x.found in
       record {
         own_one = own_interface_of own m.packages.items x.interface_;
         given = given;
         home = x.id;
         number = x.number;
-        found = ap (option_and_then (λ (s : String Global). interface_in own m.packages.items x.interface_.«package» (text_of s))) x.named ∙ (λ i. interface_in own m.packages.items (x.in_package i) (x.text i));
+        found = ap (option_and_then (λ (s : String Global). interface_in own m.packages.items x.interface_.«package» (text_of s))) x.named
+            ∙ (λ i. interface_in own m.packages.items (x.in_package i) (x.text i));
         flag = chosen.named e.1.0 x.interface_ x.found (ap is_some x.named) ∙ ap (λ (o : Option (Option InterfaceId)). not (is_some (given_interface o))) given;
       }
 
@@ -88,7 +90,8 @@ module _ (own other merged : Resolve) (valid_other : IsValid other) (m : Matches
     interface_long : length c.copied_interfaces.items ≡ length (map interface_number m.interfaces.items)
     interface_long = pass.numbered.interface_count ∙ (sym pass.all.interfaces ∙ sym (length-map m.interfaces.items interface_number))
 
-    pub interfaces_ready : AreNamesReady (λ (id : InterfaceId). id.0) (number_under c.interfaces.items) (flag_under c.copied_interfaces.items) (λ k. false) (is_copied_interface c.copied_interfaces.items) names p.interfaces.entries
+    pub interfaces_ready : AreNamesReady (λ (id : InterfaceId). id.0) (number_under c.interfaces.items) (flag_under c.copied_interfaces.items) (λ k. false)
+        (is_copied_interface c.copied_interfaces.items) names p.interfaces.entries
     interfaces_ready = record { added = λ k e at_e set. (set, refl, new e (interface_met k e at_e) set); there = λ k e at_e bare. inl (met e (interface_met k e at_e) bare) }
       where
         new : (e : String Global × InterfaceId) → IsInterfaceMet e → flag_under c.copied_interfaces.items e.1.0 ≡ true → is_name (text_of e.0) names ≡ false
@@ -113,8 +116,10 @@ module _ (own other merged : Resolve) (valid_other : IsValid other) (m : Matches
 
     -- the names of interfaces join those that were there
     pub interfaces_join : (news : List (String Global × InterfaceId)) → AllZip (IsInterfaceName c.interfaces.items) (filter (is_copied_interface c.copied_interfaces.items) p.interfaces.entries) news
-        → JoinedNames (number_under c.interfaces.items) (flag_under c.copied_interfaces.items) (λ k. false) names (interface_names p) (map (λ (e : String Global × InterfaceId). (text_of e.0, e.1.0)) news)
-    interfaces_join news zip = names_join (λ (id : InterfaceId). id.0) (number_under c.interfaces.items) (flag_under c.copied_interfaces.items) (λ k. false) (is_copied_interface c.copied_interfaces.items) names p.interfaces.entries news zip interfaces_ready
+        → JoinedNames (number_under c.interfaces.items) (flag_under c.copied_interfaces.items) (λ k. false) names (interface_names p)
+        (map (λ (e : String Global × InterfaceId). (text_of e.0, e.1.0)) news)
+    interfaces_join news zip = names_join (λ (id : InterfaceId). id.0) (number_under c.interfaces.items) (flag_under c.copied_interfaces.items) (λ k. false)
+        (is_copied_interface c.copied_interfaces.items) names p.interfaces.entries news zip interfaces_ready
 
   -- ---- worlds
 
@@ -131,8 +136,10 @@ module _ (own other merged : Resolve) (valid_other : IsValid other) (m : Matches
 
   world_met : (k : ℕ) (e : String Global × WorldId) → slice_get p.worlds.entries k ≡ Some e → IsWorldMet e
   world_met k e at_e =
-      let x = listed_world other valid_other n p at (text_of e.0) e.1.0 (contains-map (λ (d : String Global × WorldId). (text_of d.0, d.1.0)) p.worlds.entries e (get-contains p.worlds.entries k e at_e)) in
-      let given : slice_get m.worlds.items e.1.0 ≡ Some (own_world_of own m.packages.items x.world) = ap (λ l. slice_get l e.1.0) worlds_by ∙ mapped_at (own_world_of own m.packages.items) other.worlds.items e.1.0 x.world x.found in
+      let x = listed_world other valid_other n p at (text_of e.0) e.1.0 (contains-map (λ (d : String Global × WorldId). (text_of d.0, d.1.0)) p.worlds.entries e
+      (get-contains p.worlds.entries k e at_e)) in
+      let given : slice_get m.worlds.items e.1.0 ≡ Some (own_world_of own m.packages.items x.world) =
+      ap (λ l. slice_get l e.1.0) worlds_by ∙ mapped_at (own_world_of own m.packages.items) other.worlds.items e.1.0 x.world x.found in
       record {
         world = x.world;
         own_one = own_world_of own m.packages.items x.world;
@@ -140,7 +147,8 @@ module _ (own other merged : Resolve) (valid_other : IsValid other) (m : Matches
         home = x.id;
         number = x.number;
         found = λ i. world_in own m.packages.items (x.in_package i) (x.text i);
-        flag = ap (λ (l : List Bool). flag_under l e.1.0) pass.numbered.copied_worlds ∙ new_world_at other m.worlds.items other.worlds.items e.1.0 (own_world_of own m.packages.items x.world) x.world given x.found;
+        flag = ap (λ (l : List Bool). flag_under l e.1.0) pass.numbered.copied_worlds ∙ new_world_at other m.worlds.items other.worlds.items e.1.0 (own_world_of own m.packages.items x.world) x.world
+            given x.found;
         left_out = ap (λ (o : Option World). option_map_or (is_root_world other) o false) x.found;
       }
 
@@ -151,7 +159,8 @@ module _ (own other merged : Resolve) (valid_other : IsValid other) (m : Matches
     world_long : length c.copied_worlds.items ≡ length (map world_number m.worlds.items)
     world_long = pass.numbered.world_count ∙ (sym pass.all.worlds ∙ sym (length-map m.worlds.items world_number))
 
-    pub worlds_ready : AreNamesReady (λ (id : WorldId). id.0) (number_under c.worlds.items) (flag_under c.copied_worlds.items) (is_left_out other) (is_copied_world c.copied_worlds.items) names p.worlds.entries
+    pub worlds_ready : AreNamesReady (λ (id : WorldId). id.0) (number_under c.worlds.items) (flag_under c.copied_worlds.items) (is_left_out other) (is_copied_world c.copied_worlds.items) names
+        p.worlds.entries
     worlds_ready = record { added = λ k e at_e set. let x = world_met k e at_e in (set, kept e x set, new e x set); there = λ k e at_e bare. rest e (world_met k e at_e) bare }
       where
         kept : (e : String Global × WorldId) → IsWorldMet e → flag_under c.copied_worlds.items e.1.0 ≡ true → is_left_out other e.1.0 ≡ false
@@ -164,7 +173,8 @@ module _ (own other merged : Resolve) (valid_other : IsValid other) (m : Matches
             go None q h = none_named (text_of e.0) names (sym (world_named e x) ∙ ap (option_map (λ (id : WorldId). id.0)) q)
             go (Some id) q h = no_true h
 
-        rest : (e : String Global × WorldId) → IsWorldMet e → flag_under c.copied_worlds.items e.1.0 ≡ false → Contains names (text_of e.0, number_under c.worlds.items e.1.0) ⊎ (is_left_out other e.1.0 ≡ true)
+        rest : (e : String Global × WorldId) → IsWorldMet e → flag_under c.copied_worlds.items e.1.0 ≡ false → Contains names (text_of e.0, number_under c.worlds.items e.1.0)
+            ⊎ (is_left_out other e.1.0 ≡ true)
         rest e x bare = go x.own_one refl
           where
             go : (o : Option WorldId) → x.own_one ≡ o → Contains names (text_of e.0, number_under c.worlds.items e.1.0) ⊎ (is_left_out other e.1.0 ≡ true)
@@ -180,4 +190,5 @@ module _ (own other merged : Resolve) (valid_other : IsValid other) (m : Matches
     -- the names of worlds join those that were there
     pub worlds_join : (news : List (String Global × WorldId)) → AllZip (IsWorldName c.worlds.items) (filter (is_copied_world c.copied_worlds.items) p.worlds.entries) news
         → JoinedNames (number_under c.worlds.items) (flag_under c.copied_worlds.items) (is_left_out other) names (world_names p) (map (λ (e : String Global × WorldId). (text_of e.0, e.1.0)) news)
-    worlds_join news zip = names_join (λ (id : WorldId). id.0) (number_under c.worlds.items) (flag_under c.copied_worlds.items) (is_left_out other) (is_copied_world c.copied_worlds.items) names p.worlds.entries news zip worlds_ready
+    worlds_join news zip = names_join (λ (id : WorldId). id.0) (number_under c.worlds.items) (flag_under c.copied_worlds.items) (is_left_out other) (is_copied_world c.copied_worlds.items) names
+        p.worlds.entries news zip worlds_ready

@@ -39,7 +39,8 @@ kept_from start (true ∷ bs) (o ∷ os) (x ∷ xs) n long low high = go (equal_
     go (inl e) rest = (zero, refl, e)
     go (inr l) rest = let r = rest l in (suc r.0, r.1, r.2)
 
-module _ (own other merged : Resolve) (valid_own : IsValid own) (valid_other : IsValid other) (world other_world : ℕ) (w v : World) (m : Matches) (c : Carried) (first_numbers : List ℕ) (p : IsFirstPass own other merged m c first_numbers) (copied : List Bool) (interfaces types : List ℕ)
+module _ (own other merged : Resolve) (valid_own : IsValid own) (valid_other : IsValid other) (world other_world : ℕ) (w v : World) (m : Matches) (c : Carried) (first_numbers : List ℕ)
+    (p : IsFirstPass own other merged m c first_numbers) (copied : List Bool) (interfaces types : List ℕ)
     (s : IsSecondPass own other merged world other_world w v m c first_numbers p copied interfaces types) where
   abbrev by_first : Renumbering
   by_first = first own other merged valid_own valid_other world other_world w v m c first_numbers p copied interfaces types s
@@ -76,15 +77,19 @@ module _ (own other merged : Resolve) (valid_own : IsValid own) (valid_other : I
   flags_long : length c.copied_interfaces.items ≡ length (map interface_number m.interfaces.items)
   flags_long = long own other merged valid_own valid_other world other_world w v m c first_numbers p copied interfaces types s ∙ sym (length-map m.interfaces.items interface_number)
 
-  pub interface_from : (n : ℕ) → length own.interfaces.items ≤ n → n < length merged.interfaces.items → IsCopyUnder by_first.interfaces by_first.copies_interface n ⊎ IsCopyUnder f.interfaces f.copies_interface n
+  pub interface_from : (n : ℕ) → length own.interfaces.items ≤ n → n < length merged.interfaces.items → IsCopyUnder by_first.interfaces by_first.copies_interface n
+      ⊎ IsCopyUnder f.interfaces f.copies_interface n
   interface_from n low high = elim (in_two n (length own.interfaces.items + length p.new_interfaces)) [
-    | inl less ↦ (let r = kept_from (length own.interfaces.items) c.copied_interfaces.items (map interface_number m.interfaces.items) other.interfaces.items n flags_long low (omega (arith, less, count_first)) in
+    | inl less ↦ (let r = kept_from (length own.interfaces.items) c.copied_interfaces.items (map interface_number m.interfaces.items) other.interfaces.items n flags_long low
+        (omega (arith, less, count_first)) in
         inl (r.0, r.1, ap (λ l. number_under l r.0) p.numbered.interfaces ∙ r.2))
-    | inr more ↦ (let r = kept_from (length own.interfaces.items + length p.new_interfaces) copied c.interfaces.items other.interfaces.items n (copied_long own other merged valid_own valid_other world other_world w v m c first_numbers p copied interfaces types s) more (omega (arith, high, whole, count_all, count_second)) in
+    | inr more ↦ (let r = kept_from (length own.interfaces.items + length p.new_interfaces) copied c.interfaces.items other.interfaces.items n
+        (copied_long own other merged valid_own valid_other world other_world w v m c first_numbers p copied interfaces types s) more (omega (arith, high, whole, count_all, count_second)) in
         inr (
           r.0,
           r.1,
-          carried_number own other merged valid_own valid_other world other_world w v m c first_numbers p copied interfaces types s r.0 (copied_carries own other merged valid_own valid_other world other_world w v m c first_numbers p copied interfaces types s r.0 r.1)
+          carried_number own other merged valid_own valid_other world other_world w v m c first_numbers p copied interfaces types s r.0
+              (copied_carries own other merged valid_own valid_other world other_world w v m c first_numbers p copied interfaces types s r.0 r.1)
               ∙ (ap (λ (l : List ℕ). number_under l r.0) s.interfaces_are ∙ r.2),
         ))
   ]

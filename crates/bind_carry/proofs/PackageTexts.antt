@@ -41,7 +41,8 @@ cut_same c [] [] rs ss h k e = (refl, tails c c rs ss e)
 cut_same c [] (y ∷ ys) rs ss h k e = differs c y (sym (heads c y rs (ys ++ (c ∷ ss)) e)) (first_true (not (y == c)) (list_all (λ b. not (b == c)) ys) k)
 cut_same c (x ∷ xs) [] rs ss h k e = differs c x (heads x c (xs ++ (c ∷ rs)) ss e) (first_true (not (x == c)) (list_all (λ b. not (b == c)) xs) h)
 cut_same c (x ∷ xs) (y ∷ ys) rs ss h k e =
-    let r = cut_same c xs ys rs ss (second_true (not (x == c)) (list_all (λ b. not (b == c)) xs) h) (second_true (not (y == c)) (list_all (λ b. not (b == c)) ys) k) (tails x y (xs ++ (c ∷ rs)) (ys ++ (c ∷ ss)) e) in
+    let r = cut_same c xs ys rs ss (second_true (not (x == c)) (list_all (λ b. not (b == c)) xs) h) (second_true (not (y == c)) (list_all (λ b. not (b == c)) ys) k)
+    (tails x y (xs ++ (c ∷ rs)) (ys ++ (c ∷ ss)) e) in
     let first = heads x y (xs ++ (c ∷ rs)) (ys ++ (c ∷ ss)) e in
     ((λ i. first i ∷ r.0 i), r.1)
 
@@ -61,7 +62,8 @@ end_same [] [] v u h k e = (refl, versions v u e)
 end_same [] (y ∷ ys) v u h k e = begins v y (ys ++ at_version u) e (first_true (not (y == 64)) (list_all (λ b. not (b == 64)) ys) k)
 end_same (x ∷ xs) [] v u h k e = begins u x (xs ++ at_version v) (sym e) (first_true (not (x == 64)) (list_all (λ b. not (b == 64)) xs) h)
 end_same (x ∷ xs) (y ∷ ys) v u h k e =
-    let r = end_same xs ys v u (second_true (not (x == 64)) (list_all (λ b. not (b == 64)) xs) h) (second_true (not (y == 64)) (list_all (λ b. not (b == 64)) ys) k) (tails x y (xs ++ at_version v) (ys ++ at_version u) e) in
+    let r = end_same xs ys v u (second_true (not (x == 64)) (list_all (λ b. not (b == 64)) xs) h) (second_true (not (y == 64)) (list_all (λ b. not (b == 64)) ys) k)
+    (tails x y (xs ++ at_version v) (ys ++ at_version u) e) in
     let first = heads x y (xs ++ at_version v) (ys ++ at_version u) e in
     ((λ i. first i ∷ r.0 i), r.1)
 
@@ -77,7 +79,8 @@ one_package a b h k e = λ i. record { namespace = x.0 i; name = y.0 i; version 
     name_is p q = first_true (is_label p.name) (is_optional_version p.version) (second_true (is_label p.namespace) (is_label p.name && is_optional_version p.version) q)
 
     x : (a.namespace ≡ b.namespace) × (a.name ++ at_version a.version ≡ b.name ++ at_version b.version)
-    x = cut_same 58 a.namespace b.namespace (a.name ++ at_version a.version) (b.name ++ at_version b.version) (label_lacks 58 refl a.namespace (namespace_is a h)) (label_lacks 58 refl b.namespace (namespace_is b k)) e
+    x = cut_same 58 a.namespace b.namespace (a.name ++ at_version a.version) (b.name ++ at_version b.version) (label_lacks 58 refl a.namespace (namespace_is a h))
+        (label_lacks 58 refl b.namespace (namespace_is b k)) e
 
     y : (a.name ≡ b.name) × (a.version ≡ b.version)
     y = end_same a.name b.name a.version b.version (label_lacks 64 refl a.name (name_is a h)) (label_lacks 64 refl b.name (name_is b k)) x.1
@@ -121,5 +124,7 @@ root_text p names = either_way (is_root_name p.name) (text_eq (text_of_package p
     back : text_eq (text_of_package p) (codes "root:root") ≡ true → is_root_name n ≡ true
     back h =
         let is : identity_of n ≡ root_identity = one_package (identity_of n) root_identity names.identity refl (text_same (text_of_package p) (codes "root:root") h) in
-        both (text_eq (text_of n.namespace) (codes "root")) (text_eq (text_of n.name) (codes "root") && is_none n.version) (same_text (text_of n.namespace) (codes "root") (ap (λ (q : PackageIdentity). q.namespace) is))
-        (both (text_eq (text_of n.name) (codes "root")) (is_none n.version) (same_text (text_of n.name) (codes "root") (ap (λ (q : PackageIdentity). q.name) is)) (versionless n.version (ap (λ (q : PackageIdentity). q.version) is)))
+        both (text_eq (text_of n.namespace) (codes "root")) (text_eq (text_of n.name) (codes "root") && is_none n.version)
+        (same_text (text_of n.namespace) (codes "root") (ap (λ (q : PackageIdentity). q.namespace) is))
+        (both (text_eq (text_of n.name) (codes "root")) (is_none n.version) (same_text (text_of n.name) (codes "root") (ap (λ (q : PackageIdentity). q.name) is))
+        (versionless n.version (ap (λ (q : PackageIdentity). q.version) is)))

@@ -27,7 +27,8 @@ use Rattle.std.proofs.lemmas.Bool.{cases_lt as in_two}
 use Rattle.std.proofs.lemmas.Slice.Zip.{AllZip-long as zip_long}
 
 -- what a gain is of is a package of the other, under its number
-grown_member : (flags : List Bool) (ns : List ℕ) (ps : List Package) (i : ℕ) (e : ℕ × Package) → slice_get (grown_packages flags ns ps) i ≡ Some e → (k : ℕ) × (slice_get ps k ≡ Some e.1) × (number_under ns k ≡ e.0)
+grown_member : (flags : List Bool) (ns : List ℕ) (ps : List Package) (i : ℕ) (e : ℕ × Package) → slice_get (grown_packages flags ns ps) i ≡ Some e → (k : ℕ) × (slice_get ps k ≡ Some e.1)
+    × (number_under ns k ≡ e.0)
 grown_member [] ns ps i e at = let wrong : ⊥ = cc in absurd wrong
 grown_member (b ∷ bs) [] ps i e at = let wrong : ⊥ = cc in absurd wrong
 grown_member (b ∷ bs) (n ∷ ns) [] i e at = let wrong : ⊥ = cc in absurd wrong
@@ -36,7 +37,8 @@ grown_member (false ∷ bs) (n ∷ ns) (p ∷ ps) zero e at = let same : (n, p) 
 grown_member (false ∷ bs) (n ∷ ns) (p ∷ ps) (suc i) e at = let r = grown_member bs ns ps i e at in (suc r.0, r.1, r.2)
 
 -- Gains are those of the other's packages that have an own one of their name.
-pub package_from : (own other merged : Resolve) (m : Matches) (c : Carried) (numbers : List ℕ) (p : IsFirstPass own other merged m c numbers) → AllZip (IsGained c) (grown_packages c.new_packages.items c.packages.items other.packages.items) p.gains
+pub package_from : (own other merged : Resolve) (m : Matches) (c : Carried) (numbers : List ℕ) (p : IsFirstPass own other merged m c numbers)
+    → AllZip (IsGained c) (grown_packages c.new_packages.items c.packages.items other.packages.items) p.gains
     → (n : ℕ) → n < length merged.packages.items → IsKeptPackage own merged n ⊎ IsPackageOf other (first_of m.interfaces.items c (first_fates own other m.interfaces.items c) numbers) n
 package_from own other merged m c numbers p names n high = elim (in_two n (length own.packages.items)) [
   | inl less ↦ (let q = within_there own.packages.items n less in old q.0 q.1 (some_gains p.gains n))
@@ -58,7 +60,8 @@ package_from own other merged m c numbers p names n high = elim (in_two n (lengt
     whole : length merged.packages.items ≡ length own.packages.items + length p.new_packages
     whole = ap length p.packages_here ∙ (length-append p.grown p.new_packages ∙ ap (λ k. k + length p.new_packages) p.gained.count)
 
-    old : (q : Package) → package_at own n ≡ Some q → ((i : ℕ) × (g : Names) × (slice_get p.gains i ≡ Some g) × (g.«package».0 ≡ n)) ⊎ GainsNone p.gains n → IsKeptPackage own merged n ⊎ IsPackageOf other (first_of m.interfaces.items c (first_fates own other m.interfaces.items c) numbers) n
+    old : (q : Package) → package_at own n ≡ Some q → ((i : ℕ) × (g : Names) × (slice_get p.gains i ≡ Some g) × (g.«package».0 ≡ n)) ⊎ GainsNone p.gains n → IsKeptPackage own merged n
+        ⊎ IsPackageOf other (first_of m.interfaces.items c (first_fates own other m.interfaces.items c) numbers) n
     old q at (inl found) =
         let x = zip_at (IsGained c) (grown_packages c.new_packages.items c.packages.items other.packages.items) p.gains names found.0 found.1 found.2 in
         let y = grown_member c.new_packages.items c.packages.items other.packages.items found.0 x.0 x.1 in

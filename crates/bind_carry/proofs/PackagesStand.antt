@@ -64,7 +64,8 @@ none_from name n (x ∷ ps) h k q at = go (same_package_name name x.name) refl h
     go false e h (suc k) at more = more h k q at
 
 -- what an own package gains of the package of a place that isn't new
-gain_of : (c : Carried) (flags : List Bool) (ns : List ℕ) (ps : List Package) (gs : List Names) → AllZip (IsGained c) (grown_packages flags ns ps) gs → length flags ≡ length ns → (n : ℕ) (p : Package) → slice_get flags n ≡ Some false → slice_get ps n ≡ Some p
+gain_of : (c : Carried) (flags : List Bool) (ns : List ℕ) (ps : List Package) (gs : List Names) → AllZip (IsGained c) (grown_packages flags ns ps) gs → length flags ≡ length ns → (n : ℕ) (p : Package)
+    → slice_get flags n ≡ Some false → slice_get ps n ≡ Some p
     → (i : ℕ) × (g : Names) × (slice_get gs i ≡ Some g) × IsGained c (number_under ns n, p) g
 gain_of c [] ns ps gs zip long n p bare at = nothing_there false bare
 gain_of c (b ∷ bs) [] ps gs zip long n p bare at = absurd (omega (arith, long))
@@ -75,8 +76,10 @@ gain_of c (false ∷ bs) (k ∷ ns) (q ∷ ps) [] zip long n p bare at = absurd 
 gain_of c (false ∷ bs) (k ∷ ns) (q ∷ ps) (g ∷ gs) zip long zero p bare at = (0, g, refl, subst (λ x. IsGained c (k, x) g) (some_same q p at) zip.0)
 gain_of c (false ∷ bs) (k ∷ ns) (q ∷ ps) (g ∷ gs) zip long (suc n) p bare at = let r = gain_of c bs ns ps gs zip.1 (omega (arith, long)) n p bare at in (suc r.0, r.1, r.2, r.3)
 
-module _ (own other merged : Resolve) (valid_own : IsValid own) (valid_other : IsValid other) (m : Matches) (c : Carried) (numbers : List ℕ) (pass : IsFirstPass own other merged m c numbers) (names : AllZip (IsGained c) (grown_packages c.new_packages.items c.packages.items other.packages.items) pass.gains)
-    (interfaces_by : m.interfaces.items ≡ map (own_interface_of own m.packages.items) other.interfaces.items) (worlds_by : m.worlds.items ≡ map (own_world_of own m.packages.items) other.worlds.items) (no_world : NoOwnWorldAtPath own other) (no_interface : NoOwnInterfaceAtPath own other) where
+module _ (own other merged : Resolve) (valid_own : IsValid own) (valid_other : IsValid other) (m : Matches) (c : Carried) (numbers : List ℕ) (pass : IsFirstPass own other merged m c numbers)
+    (names : AllZip (IsGained c) (grown_packages c.new_packages.items c.packages.items other.packages.items) pass.gains)
+    (interfaces_by : m.interfaces.items ≡ map (own_interface_of own m.packages.items) other.interfaces.items) (worlds_by : m.worlds.items ≡ map (own_world_of own m.packages.items) other.worlds.items)
+    (no_world : NoOwnWorldAtPath own other) (no_interface : NoOwnInterfaceAtPath own other) where
   abbrev f : Renumbering
   f = first_of m.interfaces.items c (first_fates own other m.interfaces.items c) numbers
 
@@ -97,12 +100,14 @@ module _ (own other merged : Resolve) (valid_own : IsValid own) (valid_other : I
     interface_looked : (o : Option PackageId) → own_package_of own.packages.items p ≡ o → (home : PackageId) (t : Text) → home.0 ≡ n
         → interface_in own m.packages.items (Some home) t ≡ option_and_then (λ (id : PackageId). option_and_then (λ (q : Package). get_by_text q.interfaces t) (package_at own id.0)) o
     interface_looked o e home t here =
-        ap (λ (s : Option (Option PackageId)). option_and_then (λ (id : PackageId). option_and_then (λ (q : Package). get_by_text q.interfaces t) (package_at own id.0)) (given s)) (ap (slice_get m.packages.items) here ∙ matched o e)
+        ap (λ (s : Option (Option PackageId)). option_and_then (λ (id : PackageId). option_and_then (λ (q : Package). get_by_text q.interfaces t) (package_at own id.0)) (given s))
+        (ap (slice_get m.packages.items) here ∙ matched o e)
 
     world_looked : (o : Option PackageId) → own_package_of own.packages.items p ≡ o → (home : PackageId) (t : Text) → home.0 ≡ n
         → world_in own m.packages.items (Some home) t ≡ option_and_then (λ (id : PackageId). option_and_then (λ (q : Package). get_by_text q.worlds t) (package_at own id.0)) o
     world_looked o e home t here =
-        ap (λ (s : Option (Option PackageId)). option_and_then (λ (id : PackageId). option_and_then (λ (q : Package). get_by_text q.worlds t) (package_at own id.0)) (given s)) (ap (slice_get m.packages.items) here ∙ matched o e)
+        ap (λ (s : Option (Option PackageId)). option_and_then (λ (id : PackageId). option_and_then (λ (q : Package). get_by_text q.worlds t) (package_at own id.0)) (given s))
+        (ap (slice_get m.packages.items) here ∙ matched o e)
 
     -- ---- a new one
 
@@ -111,10 +116,12 @@ module _ (own other merged : Resolve) (valid_own : IsValid own) (valid_other : I
       set = ap (λ (o : Option Bool). unwrap_or o false) (flag None none)
 
       place : IsKeptAt (IsPackageCarried c) p merged.packages.items (number_under c.packages.items n)
-      place = new_package own other merged c m.packages.items pass.by_name pass.numbered.new_packages pass.numbered.packages pass.gains pass.grown pass.new_packages pass.gained pass.packages pass.packages_here n p at set
+      place = new_package own other merged c m.packages.items pass.by_name pass.numbered.new_packages pass.numbered.packages pass.gains pass.grown pass.new_packages pass.gained pass.packages
+          pass.packages_here n p at set
 
       high : length own.packages.items ≤ number_under c.packages.items n
-      high = subst (λ (l : List ℕ). length own.packages.items ≤ number_under l n) (sym pass.numbered.packages) (copied_behind (length own.packages.items) c.new_packages.items (map package_number m.packages.items) n long set)
+      high = subst (λ (l : List ℕ). length own.packages.items ≤ number_under l n) (sym pass.numbered.packages)
+          (copied_behind (length own.packages.items) c.new_packages.items (map package_number m.packages.items) n long set)
 
       unnamed : (k : ℕ) (q : Package) → package_at own k ≡ Some q → same_package_name q.name p.name ≡ false
       unnamed k q at_q = go (same_package_name q.name p.name) refl
@@ -132,10 +139,12 @@ module _ (own other merged : Resolve) (valid_own : IsValid own) (valid_other : I
         at_image = place.at_image;
         new_interfaces = interface_names place.image;
         interfaces = refl;
-        joined_interfaces = interfaces_join own other merged valid_other m c numbers pass interfaces_by worlds_by n p at [] (λ home t here. ap (option_map (λ (id : InterfaceId). id.0)) (interface_looked None none home t here)) place.image.interfaces.entries (place.is.interfaces unique.0);
+        joined_interfaces = interfaces_join own other merged valid_other m c numbers pass interfaces_by worlds_by n p at []
+            (λ home t here. ap (option_map (λ (id : InterfaceId). id.0)) (interface_looked None none home t here)) place.image.interfaces.entries (place.is.interfaces unique.0);
         new_worlds = world_names place.image;
         worlds = refl;
-        joined_worlds = worlds_join own other merged valid_other m c numbers pass interfaces_by worlds_by n p at [] (λ home t here. ap (option_map (λ (id : WorldId). id.0)) (world_looked None none home t here)) place.image.worlds.entries (place.is.worlds unique.1);
+        joined_worlds = worlds_join own other merged valid_other m c numbers pass interfaces_by worlds_by n p at []
+            (λ home t here. ap (option_map (λ (id : WorldId). id.0)) (world_looked None none home t here)) place.image.worlds.entries (place.is.worlds unique.1);
       }
 
       new_stands : PackageStands own merged f (is_left_out other) n p
@@ -151,7 +160,8 @@ module _ (own other merged : Resolve) (valid_own : IsValid own) (valid_other : I
       bare = ap (λ (o : Option Bool). unwrap_or o false) (flag (Some id) some)
 
       number : number_under c.packages.items n ≡ id.0
-      number = ap (λ l. number_under l n) pass.numbered.packages ∙ (uncopied_under (length own.packages.items) c.new_packages.items (map package_number m.packages.items) n long bare ∙ found_number m.packages.items n id (matched (Some id) some))
+      number = ap (λ l. number_under l n) pass.numbered.packages ∙ (uncopied_under (length own.packages.items) c.new_packages.items (map package_number m.packages.items) n long bare ∙ found_number
+          m.packages.items n id (matched (Some id) some))
 
       gain : (i : ℕ) × (g : Names) × (slice_get pass.gains i ≡ Some g) × IsGained c (number_under c.packages.items n, p) g
       gain = gain_of c c.new_packages.items c.packages.items other.packages.items pass.gains names pass.numbered.whole.packages n p (flag (Some id) some) at
@@ -159,7 +169,8 @@ module _ (own other merged : Resolve) (valid_own : IsValid own) (valid_other : I
       gained : (q : Package) × (slice_get pass.grown gain.1.«package».0 ≡ Some q) × HasGained gain.1 found.there q
       gained = pass.gained.gained gain.0 gain.1 found.there gain.2 (ap (slice_get own.packages.items) (gain.3.number ∙ number) ∙ found.at_there)
 
-      interfaces_here : (home : PackageId) (t : Text) → home.0 ≡ n → option_map (λ (k : InterfaceId). k.0) (interface_in own m.packages.items (Some home) t) ≡ under_text t (interface_names found.there)
+      interfaces_here : (home : PackageId) (t : Text) → home.0 ≡ n
+          → option_map (λ (k : InterfaceId). k.0) (interface_in own m.packages.items (Some home) t) ≡ under_text t (interface_names found.there)
       interfaces_here home t here =
           ap (option_map (λ (k : InterfaceId). k.0)) (interface_looked (Some id) some home t here ∙ ap (option_and_then (λ (q : Package). get_by_text q.interfaces t)) found.at_there)
           ∙ interfaces_by_name found.there t
@@ -178,8 +189,10 @@ module _ (own other merged : Resolve) (valid_own : IsValid own) (valid_other : I
       interfaces_behind : gained.0.interfaces.entries ≡ found.there.interfaces.entries ++ gain.1.interfaces.entries
       interfaces_behind =
           gained.2.interfaces
-          ∙ names_behind (λ (k : InterfaceId). k.0) (number_under c.interfaces.items) (is_copied_interface c.copied_interfaces.items) found.there.interfaces.entries p.interfaces.entries gain.1.interfaces.entries new_interfaces
-          (λ k e at_e set. ((interfaces_ready own other merged valid_other m c numbers pass interfaces_by worlds_by n p at (interface_names found.there) interfaces_here).added k e at_e set).2) unique.0
+          ∙ names_behind (λ (k : InterfaceId). k.0) (number_under c.interfaces.items) (is_copied_interface c.copied_interfaces.items) found.there.interfaces.entries p.interfaces.entries
+          gain.1.interfaces.entries new_interfaces
+          (λ k e at_e set. ((interfaces_ready own other merged valid_other m c numbers pass interfaces_by worlds_by n p at (interface_names found.there) interfaces_here).added k e at_e
+          set).2) unique.0
 
       worlds_behind : gained.0.worlds.entries ≡ found.there.worlds.entries ++ gain.1.worlds.entries
       worlds_behind =
@@ -190,18 +203,23 @@ module _ (own other merged : Resolve) (valid_own : IsValid own) (valid_other : I
       joined : IsJoinedPackage merged f (is_left_out other) n p (interface_names found.there) (world_names found.there)
       joined = record {
         image = gained.0;
-        at_image = ap (λ l. slice_get l (number_under c.packages.items n)) pass.packages_here ∙ front_at pass.grown pass.new_packages (number_under c.packages.items n) gained.0 (ap (slice_get pass.grown) (sym gain.3.number) ∙ gained.1);
+        at_image = ap (λ l. slice_get l (number_under c.packages.items n)) pass.packages_here ∙ front_at pass.grown pass.new_packages (number_under c.packages.items n) gained.0
+            (ap (slice_get pass.grown) (sym gain.3.number) ∙ gained.1);
         new_interfaces = map (λ (e : String Global × InterfaceId). (text_of e.0, e.1.0)) gain.1.interfaces.entries;
-        interfaces = ap (map (λ (e : String Global × InterfaceId). (text_of e.0, e.1.0))) interfaces_behind ∙ map-append (λ (e : String Global × InterfaceId). (text_of e.0, e.1.0)) found.there.interfaces.entries gain.1.interfaces.entries;
-        joined_interfaces = interfaces_join own other merged valid_other m c numbers pass interfaces_by worlds_by n p at (interface_names found.there) interfaces_here gain.1.interfaces.entries new_interfaces;
+        interfaces = ap (map (λ (e : String Global × InterfaceId). (text_of e.0, e.1.0))) interfaces_behind ∙ map-append (λ (e : String Global × InterfaceId). (text_of e.0, e.1.0))
+            found.there.interfaces.entries gain.1.interfaces.entries;
+        joined_interfaces = interfaces_join own other merged valid_other m c numbers pass interfaces_by worlds_by n p at (interface_names found.there) interfaces_here gain.1.interfaces.entries
+            new_interfaces;
         new_worlds = map (λ (e : String Global × WorldId). (text_of e.0, e.1.0)) gain.1.worlds.entries;
-        worlds = ap (map (λ (e : String Global × WorldId). (text_of e.0, e.1.0))) worlds_behind ∙ map-append (λ (e : String Global × WorldId). (text_of e.0, e.1.0)) found.there.worlds.entries gain.1.worlds.entries;
+        worlds = ap (map (λ (e : String Global × WorldId). (text_of e.0, e.1.0))) worlds_behind ∙ map-append (λ (e : String Global × WorldId). (text_of e.0, e.1.0)) found.there.worlds.entries
+            gain.1.worlds.entries;
         joined_worlds = worlds_join own other merged valid_other m c numbers pass interfaces_by worlds_by n p at (world_names found.there) worlds_here gain.1.worlds.entries new_worlds;
       }
 
       -- the two packages have one identity, so a name has one path in both
       one_path : (t : Text) → path_in (identity_of found.there.name) t ≡ path_in (identity_of p.name) t
-      one_path t = ap (λ x. path_in x t) (sym ((same_name p.name found.there.name (package-name other valid_other n p at).version (package-name own valid_own id.0 found.there found.at_there).version).0 found.same))
+      one_path t = ap (λ x. path_in x t) (sym ((same_name p.name found.there.name (package-name other valid_other n p at).version
+          (package-name own valid_own id.0 found.there found.at_there).version).0 found.same))
 
       interface_apart : (t : Text) → is_name t (interface_names p) ≡ true → is_name t (world_names found.there) ≡ false
       interface_apart t h = go (is_name t (world_names found.there)) refl

@@ -50,14 +50,10 @@ all_below_pass p q n (m ∷ ns) make low h =
     (make m (ltb-true m n (first_true (nat_lt m n) (list_all (λ k. nat_lt k n) ns) low)) (first_true (p m) (list_all p ns) h))
     (all_below_pass p q n ns make (second_true (nat_lt m n) (list_all (λ k. nat_lt k n) ns) low) (second_true (p m) (list_all p ns) h))
 
--- what passes one test passes another
-
 -- ---- aliases
 
 never : {A : Type 0} (u : ℕ) → ◌≡◌ {A = Option ℕ} None (Some u) → A
 never u e = let wrong : ⊥ = cc in absurd wrong
-
--- an alias refers to its target alone
 
 -- ---- owners of types
 
@@ -73,7 +69,8 @@ is_in_list r valid n def is = second_true (list_all (λ m. nat_lt m n) (kind_num
 pub has_home : (r : Resolve) → IsValid r → (n : ℕ) (def : TypeDef) → type_at r n ≡ Some def → is_some def.name ≡ true → same_owner def.owner owner.None ≡ false
 has_home r valid n def is named = go def.name def.owner named (is_in_list r valid n def is)
   where
-    go : (name : Option (String Global)) (o : TypeOwner) → is_some name ≡ true → option_map_or (λ s. is_listed r n (text_of s) o) name (same_owner o owner.None) ≡ true → same_owner o owner.None ≡ false
+    go : (name : Option (String Global)) (o : TypeOwner) → is_some name ≡ true → option_map_or (λ s. is_listed r n (text_of s) o) name (same_owner o owner.None) ≡ true
+        → same_owner o owner.None ≡ false
     go None o e h = no_true e
     go (Some s) (owner.World id) e h = refl
     go (Some s) (owner.Interface id) e h = refl
@@ -108,7 +105,8 @@ module _ (r : Resolve) (carried : ℕ → Bool) (owned : TypeOwner → Bool) (va
     met_below zero n less def is met = absurd (omega (arith, less))
     met_below (suc fuel) n less def is met =
         let within : n < length r.types.items = slice_get_within r.types.items n def is in
-        met_step_carried n def is (λ m low at_m. let d = found-in r.types.items m (lt-ltb m (length r.types.items) (omega (arith, low, within))) in met_below fuel m (omega (arith, low, less)) d.0 d.1 at_m) met
+        met_step_carried n def is (λ m low at_m. let d = found-in r.types.items m (lt-ltb m (length r.types.items) (omega (arith, low, within))) in
+        met_below fuel m (omega (arith, low, less)) d.0 d.1 at_m) met
 
     met_carried : (n : ℕ) → in_list r.types.items n ≡ true → is_met n ≡ true → carried n ≡ true
     met_carried n range met = let d = found-in r.types.items n range in met_below (suc n) n (omega arith) d.0 d.1 met
@@ -160,9 +158,11 @@ module _ (r : Resolve) (carried : ℕ → Bool) (owned : TypeOwner → Bool) (va
 
   type_parts : (n : ℕ) (def : TypeDef) → type_at r n ≡ Some def → is_some def.name ≡ true → owned def.owner ≡ true → list_all carried (kind_numbers def.kind) ≡ true
   unfolding owners
-  type_parts n def is named is_owned = go (list_all (has_owner r def.owner) (used_by_type r def)) refl (owned_stays r def (type_passes owners r valid.rules.owners n def is) (has_home r valid n def is named))
+  type_parts n def is named is_owned = go (list_all (has_owner r def.owner) (used_by_type r def)) refl
+      (owned_stays r def (type_passes owners r valid.rules.owners n def is) (has_home r valid n def is named))
     where
-      go : (b : Bool) → list_all (has_owner r def.owner) (used_by_type r def) ≡ b → (list_all (has_owner r def.owner) (used_by_type r def) || is_use r def) ≡ true → list_all carried (kind_numbers def.kind) ≡ true
+      go : (b : Bool) → list_all (has_owner r def.owner) (used_by_type r def) ≡ b → (list_all (has_owner r def.owner) (used_by_type r def) || is_use r def) ≡ true
+          → list_all carried (kind_numbers def.kind) ≡ true
       go true e h = all_met_carried def.owner is_owned (kind_numbers def.kind) (kind_in_range n def is) e
       go false e h = use_carried n def is (sym (ap (λ b. b || is_use r def) e) ∙ h)
 
@@ -170,7 +170,8 @@ module _ (r : Resolve) (carried : ℕ → Bool) (owned : TypeOwner → Bool) (va
 
   interface_functions : (n : ℕ) (i : Interface) → interface_at r n ≡ Some i → owned (as_interface n) ≡ true → list_all (is_function_carried carried) (functions_of_interface i) ≡ true
   unfolding owners numbers_in_range function_names
-  interface_functions n i is is_owned = all_three (function_in_range r) (function_stays r o) (is_member r o) (is_function_carried carried) (function_carried o is_owned) (values i.functions) range stays members
+  interface_functions n i is is_owned = all_three (function_in_range r) (function_stays r o) (is_member r o) (is_function_carried carried) (function_carried o is_owned) (values i.functions) range
+      stays members
     where
       o : TypeOwner
       o = as_interface n
@@ -178,8 +179,10 @@ module _ (r : Resolve) (carried : ℕ → Bool) (owned : TypeOwner → Bool) (va
       range : list_all (function_in_range r) (values i.functions) ≡ true
       range =
           let all = interface-passes numbers_in_range r valid.rules.numbers_in_range n i is in
-          let types = second_true (passes (in_list r.packages.items) (package_number i.«package»)) (list_all (λ id. in_list r.types.items id.0) (values i.types) && list_all (function_in_range r) (values i.functions))
-          (second_true (is_place n) (passes (in_list r.packages.items) (package_number i.«package») && (list_all (λ id. in_list r.types.items id.0) (values i.types) && list_all (function_in_range r) (values i.functions))) all) in
+          let types = second_true (passes (in_list r.packages.items) (package_number i.«package»))
+          (list_all (λ id. in_list r.types.items id.0) (values i.types) && list_all (function_in_range r) (values i.functions))
+          (second_true (is_place n) (passes (in_list r.packages.items) (package_number i.«package»)
+          && (list_all (λ id. in_list r.types.items id.0) (values i.types) && list_all (function_in_range r) (values i.functions))) all) in
           second_true (list_all (λ id. in_list r.types.items id.0) (values i.types)) (list_all (function_in_range r) (values i.functions)) types
 
       stays : list_all (function_stays r o) (values i.functions) ≡ true
@@ -212,7 +215,8 @@ module _ (r : Resolve) (carried : ℕ → Bool) (owned : TypeOwner → Bool) (va
 
   world_functions : (n : ℕ) (w : World) → world_at r n ≡ Some w → owned (as_world n) ≡ true → list_all (is_function_carried carried) (functions_of_world w) ≡ true
   unfolding owners numbers_in_range function_names
-  world_functions n w is is_owned = all_three (function_in_range r) (function_stays r o) (is_member r o) (is_function_carried carried) (function_carried o is_owned) (functions_of_world w) range (world_passes owners r valid.rules.owners n w is) members
+  world_functions n w is is_owned = all_three (function_in_range r) (function_stays r o) (is_member r o) (is_function_carried carried) (function_carried o is_owned) (functions_of_world w) range
+      (world_passes owners r valid.rules.owners n w is) members
     where
       o : TypeOwner
       o = as_world n
@@ -220,7 +224,8 @@ module _ (r : Resolve) (carried : ℕ → Bool) (owned : TypeOwner → Bool) (va
       range : list_all (function_in_range r) (functions_of_world w) ≡ true
       range =
           let all = second_true (passes (in_list r.packages.items) (package_number w.«package»)) (entries_in_range r w.imports.entries && entries_in_range r w.exports.entries)
-          (second_true (is_place n) (passes (in_list r.packages.items) (package_number w.«package») && (entries_in_range r w.imports.entries && entries_in_range r w.exports.entries)) (world_passes numbers_in_range r valid.rules.numbers_in_range n w is)) in
+          (second_true (is_place n) (passes (in_list r.packages.items) (package_number w.«package») && (entries_in_range r w.imports.entries && entries_in_range r w.exports.entries))
+          (world_passes numbers_in_range r valid.rules.numbers_in_range n w is)) in
           let weaker = all_weaker (λ (e : WorldKey × WorldItem). key_in_range r e.0 && item_in_range r e.1) (item_passes (function_in_range r)) entry_in_range in
           by_entries (function_in_range r) w
           ∙ both (list_all (item_passes (function_in_range r)) w.imports.entries) (list_all (item_passes (function_in_range r)) w.exports.entries)
@@ -229,7 +234,8 @@ module _ (r : Resolve) (carried : ℕ → Bool) (owned : TypeOwner → Bool) (va
 
       members : list_all (is_member r o) (functions_of_world w) ≡ true
       members =
-          let passed = all_weaker (λ (e : WorldKey × WorldItem). passes (λ f. is_name_key (text_of f.name) e.0 && is_member r o f) (item_function e.1)) (item_passes (is_member r o)) (entry_member o) (w.imports.entries ++ w.exports.entries)
+          let passed = all_weaker (λ (e : WorldKey × WorldItem). passes (λ f. is_name_key (text_of f.name) e.0 && is_member r o f) (item_function e.1)) (item_passes (is_member r o)) (entry_member o)
+          (w.imports.entries ++ w.exports.entries)
           (world_passes function_names r valid.rules.function_names n w is) in
           by_entries (is_member r o) w ∙ (sym (list_all-append (item_passes (is_member r o)) w.imports.entries w.exports.entries) ∙ passed)
 

@@ -109,7 +109,8 @@ module _ (other : Resolve) (valid : IsValid other) (f : Renumbering) (adds : Boo
       go true e = let g = fate_there initial n (let less = type_within other.types.items n def at in let long = starts.long in omega (arith, less, long)) in by_fate e g.0 g.1
 
   -- the copy stands under its new number
-  module _ (own merged : Resolve) (numbers : List ℕ) (old new rest : List TypeDef) (is : AreCopied (length own.types.items) numbers other.types.items fates old new) (types_are : merged.types.items ≡ own.types.items ++ (new ++ rest))
+  module _ (own merged : Resolve) (numbers : List ℕ) (old new rest : List TypeDef) (is : AreCopied (length own.types.items) numbers other.types.items fates old new)
+      (types_are : merged.types.items ≡ own.types.items ++ (new ++ rest))
       (by_type : number_under numbers ≡ f.types) (by_carries : is_carried fates ≡ f.carries_type) where
     pub copy_holds : (n : ℕ) (def : TypeDef) → type_at other n ≡ Some def → is_copied fates n ≡ true → IsType other merged f n
     copy_holds n def at h = record {

@@ -178,8 +178,10 @@ module _ (r : Resolve) (valid : IsValid r) where
       let rest = second_true (is_place n) (list_all (λ id. in_list r.interfaces.items id.0) (values p.interfaces) && list_all (λ id. in_list r.worlds.items id.0) (values p.worlds)) h in
       record {
         place = first_true (is_place n) (list_all (λ id. in_list r.interfaces.items id.0) (values p.interfaces) && list_all (λ id. in_list r.worlds.items id.0) (values p.worlds)) h;
-        interfaces = sym (values_all (λ id. in_list r.interfaces.items id.0) p.interfaces.entries) ∙ first_true (list_all (λ id. in_list r.interfaces.items id.0) (values p.interfaces)) (list_all (λ id. in_list r.worlds.items id.0) (values p.worlds)) rest;
-        worlds = sym (values_all (λ id. in_list r.worlds.items id.0) p.worlds.entries) ∙ second_true (list_all (λ id. in_list r.interfaces.items id.0) (values p.interfaces)) (list_all (λ id. in_list r.worlds.items id.0) (values p.worlds)) rest;
+        interfaces = sym (values_all (λ id. in_list r.interfaces.items id.0) p.interfaces.entries) ∙ first_true (list_all (λ id. in_list r.interfaces.items id.0) (values p.interfaces))
+            (list_all (λ id. in_list r.worlds.items id.0) (values p.worlds)) rest;
+        worlds = sym (values_all (λ id. in_list r.worlds.items id.0) p.worlds.entries) ∙ second_true (list_all (λ id. in_list r.interfaces.items id.0) (values p.interfaces))
+            (list_all (λ id. in_list r.worlds.items id.0) (values p.worlds)) rest;
       }
 
   record InterfaceFacts (n : ℕ) (i : Interface) : Type 0 where

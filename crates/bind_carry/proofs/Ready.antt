@@ -126,7 +126,8 @@ module _ (own other : Resolve) (world other_world : ℕ) (c : Carried) (fates : 
   functions_in count e n i at = subst (λ (k : ℕ). AreFunctionsBelow k i.functions.entries) (sym e) (ready.in_range.functions n i at)
 
 -- each type has a fate there, too
-pub bound_long : (other : Resolve) (world other_world : ℕ) (w v : World) (copied : List Bool) (interfaces : List ℕ) (fates : List Fate) (numbers : List ℕ) → length fates ≡ length other.types.items → length numbers ≡ length other.types.items
+pub bound_long : (other : Resolve) (world other_world : ℕ) (w v : World) (copied : List Bool) (interfaces : List ℕ) (fates : List Fate) (numbers : List ℕ) → length fates ≡ length other.types.items
+    → length numbers ≡ length other.types.items
     → length (bound_fates other world other_world w v copied interfaces fates numbers) ≡ length other.types.items
 bound_long other world other_world w v copied interfaces fates numbers long_fates long_numbers =
     let second = second_from other world other_world copied interfaces other.types.items fates numbers in

@@ -68,7 +68,8 @@ fate_within [] n h = no_true h
 fate_within (g ∷ gs) zero h = omega arith
 fate_within (g ∷ gs) (suc n) h = let r = fate_within gs n h in omega (arith, r)
 
-module _ (own other merged : Resolve) (valid_own : IsValid own) (valid_other : IsValid other) (world other_world : ℕ) (w v : World) (m : Matches) (c : Carried) (first_numbers : List ℕ) (p : IsFirstPass own other merged m c first_numbers) (copied : List Bool) (interfaces types : List ℕ)
+module _ (own other merged : Resolve) (valid_own : IsValid own) (valid_other : IsValid other) (world other_world : ℕ) (w v : World) (m : Matches) (c : Carried) (first_numbers : List ℕ)
+    (p : IsFirstPass own other merged m c first_numbers) (copied : List Bool) (interfaces types : List ℕ)
     (s : IsSecondPass own other merged world other_world w v m c first_numbers p copied interfaces types) where
   abbrev pub matched : List (Option InterfaceId)
   matched = m.interfaces.items
@@ -110,7 +111,8 @@ module _ (own other merged : Resolve) (valid_own : IsValid own) (valid_other : I
   named_is_carried a i there named = (known own other merged valid_own valid_other world other_world w v m c first_numbers p copied interfaces types s).names a i there named
 
   -- a type of an interface with a name is what it is by path
-  pub same_types : (n : ℕ) (def : TypeDef) (a : ℕ) (i : Interface) → type_at other n ≡ Some def → is_some def.name ≡ true → def.owner ≡ as_interface a → interface_at other a ≡ Some i → is_some i.name ≡ true
+  pub same_types : (n : ℕ) (def : TypeDef) (a : ℕ) (i : Interface) → type_at other n ≡ Some def → is_some def.name ≡ true → def.owner ≡ as_interface a → interface_at other a ≡ Some i
+      → is_some i.name ≡ true
       → (second.types n ≡ first.types n) × (is_carried fates n ≡ true) × (is_copied fates n ≡ false)
   same_types n def a i at named home there path =
       second_same own other merged valid_own valid_other world other_world w v m c first_numbers p copied interfaces types s n def a i at home there path
@@ -127,7 +129,8 @@ module _ (own other merged : Resolve) (valid_own : IsValid own) (valid_other : I
   pub inline_type_copied : (n : ℕ) (def : TypeDef) (a : ℕ) → type_at other n ≡ Some def → def.owner ≡ as_interface a → flag_under copied a ≡ true → is_copied fates n ≡ true
   inline_type_copied n def a at home set =
       ap (λ o. option_map_or copies o false)
-      (copied_still adds other.types.items initial (falls own other merged valid_own valid_other world other_world w v m c first_numbers p copied interfaces types s) n def at (owner.Interface (record { 0 = number_under interfaces a })) in_initial)
+      (copied_still adds other.types.items initial (falls own other merged valid_own valid_other world other_world w v m c first_numbers p copied interfaces types s) n def at
+      (owner.Interface (record { 0 = number_under interfaces a })) in_initial)
     where
       b : IsBefore other valid_other matched c world other_world w.imports.entries v.imports.entries copied interfaces before_fates first_numbers
           (fates_count own other merged valid_own valid_other world other_world w v m c first_numbers p copied interfaces types s)
@@ -157,8 +160,10 @@ module _ (own other merged : Resolve) (valid_own : IsValid own) (valid_other : I
   -- ---- what is matched, and what agrees
 
   first_matched : AreMatched own other first.interfaces first.types
-  first_matched = are_matched own other valid_own valid_other matched c first_numbers (chosen own other merged valid_own valid_other world other_world w v m c first_numbers p copied interfaces types s) p.same p.none
-      (long own other merged valid_own valid_other world other_world w v m c first_numbers p copied interfaces types s) p.numbered.interfaces (length own.types.items + length {A = TypeDef} []) p.types.numbers_are
+  first_matched = are_matched own other valid_own valid_other matched c first_numbers
+      (chosen own other merged valid_own valid_other world other_world w v m c first_numbers p copied interfaces types s) p.same p.none
+      (long own other merged valid_own valid_other world other_world w v m c first_numbers p copied interfaces types s) p.numbered.interfaces (length own.types.items + length {A = TypeDef} [])
+      p.types.numbers_are
 
   pub second_matched : AreMatched own other second.interfaces second.types
   second_matched n path = elim (first_matched n path) [ inl x ↦ inl (again x) | inr none ↦ inr none ]
@@ -213,7 +218,8 @@ module _ (own other merged : Resolve) (valid_own : IsValid own) (valid_other : I
   target_carried n def at home (Some u) e = elim (target_home other valid_other other_world v s.other_at n def at home u e y) [
     | inl here ↦ named_carried u y.def y.found (ap is_some y.named_) (ap (carries_owner second) here ∙ same-number other_world)
     | inr a ↦ (let i = there_of_path other a.0 a.2 in named_carried u y.def y.found (ap is_some y.named_)
-        (ap (carries_owner second) a.1 ∙ named_carried_there own other merged valid_own valid_other world other_world w v m c first_numbers p copied interfaces types s a.0 i.0 i.1 (named_of_path other a.0 i.0 i.1 a.2)))
+        (ap (carries_owner second) a.1 ∙ named_carried_there own other merged valid_own valid_other world other_world w v m c first_numbers p copied interfaces types s a.0 i.0 i.1
+        (named_of_path other a.0 i.0 i.1 a.2)))
   ]
     where
       y : IsTarget other valid_other u
@@ -272,6 +278,7 @@ module _ (own other merged : Resolve) (valid_own : IsValid own) (valid_other : I
           own merged types p.new_types s.all_types [] s.types_copied (s.types_here ∙ ap (λ l. own.types.items ++ l) (sym (append-nil s.all_types))) refl refl n d.0 d.1 e
       go false e = elim (stood_how own other merged valid_own valid_other world other_world w v m c first_numbers p copied interfaces types s n d.0 d.1 h e) [
         | inl x ↦ (let t = by_path.types n x.carried in path_stands own other merged valid_own valid_other world other_world w v m c first_numbers p copied interfaces types s n t
-            (subst (λ (y : TypeDef). StandsByPath own other merged valid_own valid_other world other_world w v m c first_numbers p copied interfaces types s n y) (some_same d.0 t.def (sym d.1 ∙ t.found)) x))
+            (subst (λ (y : TypeDef). StandsByPath own other merged valid_own valid_other world other_world w v m c first_numbers p copied interfaces types s n y)
+            (some_same d.0 t.def (sym d.1 ∙ t.found)) x))
         | inr u ↦ met_holds n e (met_type n d.0 d.1 u)
       ]

@@ -51,7 +51,8 @@ shown_in r interfaces here (e ∷ es) n h = go (is_new_under interfaces here e.0
     go true false k rest = rest k
     go false false k rest = rest k
 
-module _ (own other merged : Resolve) (valid_own : IsValid own) (valid_other : IsValid other) (world other_world : ℕ) (w v : World) (m : Matches) (c : Carried) (first_numbers : List ℕ) (p : IsFirstPass own other merged m c first_numbers) (copied : List Bool) (interfaces types : List ℕ)
+module _ (own other merged : Resolve) (valid_own : IsValid own) (valid_other : IsValid other) (world other_world : ℕ) (w v : World) (m : Matches) (c : Carried) (first_numbers : List ℕ)
+    (p : IsFirstPass own other merged m c first_numbers) (copied : List Bool) (interfaces types : List ℕ)
     (s : IsSecondPass own other merged world other_world w v m c first_numbers p copied interfaces types) where
   abbrev by_first : Renumbering
   by_first = first own other merged valid_own valid_other world other_world w v m c first_numbers p copied interfaces types s
@@ -79,18 +80,22 @@ module _ (own other merged : Resolve) (valid_own : IsValid own) (valid_other : I
           let home = copied_home at_first n e in
           let place = copy_placed own.types.items first_numbers other.types.items at_first [] p.new_types [] p.types n home.0 def home.1 at in
           let within = slice_get_within (own.types.items ++ (p.new_types ++ [])) (number_under first_numbers n) place.image place.at_image in
-          let whole : length (own.types.items ++ (p.new_types ++ [])) ≡ behind = length-append own.types.items (p.new_types ++ []) ∙ ap (λ l. length own.types.items + length l) (append-nil p.new_types) in
+          let whole : length (own.types.items ++ (p.new_types ++ [])) ≡ behind =
+          length-append own.types.items (p.new_types ++ []) ∙ ap (λ l. length own.types.items + length l) (append-nil p.new_types) in
           omega (arith, within, whole)
       go false e =
-          let low = type_low own other valid_own valid_other m.interfaces.items c first_numbers (chosen own other merged valid_own valid_other world other_world w v m c first_numbers p copied interfaces types s) p.same p.none
-          (long own other merged valid_own valid_other world other_world w v m c first_numbers p copied interfaces types s) p.numbered.interfaces (length own.types.items + length {A = TypeDef} []) p.types.numbers_are n def at h e in
+          let low = type_low own other valid_own valid_other m.interfaces.items c first_numbers
+          (chosen own other merged valid_own valid_other world other_world w v m c first_numbers p copied interfaces types s) p.same p.none
+          (long own other merged valid_own valid_other world other_world w v m c first_numbers p copied interfaces types s) p.numbered.interfaces (length own.types.items + length {A = TypeDef} [])
+          p.types.numbers_are n def at h e in
           omega (arith, low)
 
   uncopied_low : (n : ℕ) → is_carried final n ≡ true → is_copied final n ≡ false → f.types n < behind
   uncopied_low n h bare =
       let d = type_there own other merged valid_own valid_other world other_world w v m c first_numbers p copied interfaces types s n h in
       elim (stood_how own other merged valid_own valid_other world other_world w v m c first_numbers p copied interfaces types s n d.0 d.1 h bare) [
-        | inl x ↦ (let q = same_types own other merged valid_own valid_other world other_world w v m c first_numbers p copied interfaces types s n d.0 x.at_number x.shown d.1 x.named x.home x.there x.has_name in
+        | inl x ↦ (let q = same_types own other merged valid_own valid_other world other_world w v m c first_numbers p copied interfaces types s n d.0 x.at_number x.shown d.1 x.named x.home x.there
+            x.has_name in
             subst (λ (k : ℕ). k < behind) (sym q.0) (path_low n d.0 d.1 x.carried))
         | inr u ↦ (let x = met_type own other merged valid_own valid_other world other_world w v m c first_numbers p copied interfaces types s n d.0 d.1 u in
             let within = slice_get_within own.types.items (f.types n) x.image x.at_image in omega (arith, within))
@@ -112,7 +117,8 @@ module _ (own other merged : Resolve) (valid_own : IsValid own) (valid_other : I
 
   pub second_is_carried : IsCarried other merged f
   second_is_carried = record {
-    packages = λ n q at. let x = (by_path own other merged valid_own valid_other world other_world w v m c first_numbers p copied interfaces types s).packages n q at in record { image = x.image; at_image = x.at_image; name = x.name };
+    packages = λ n q at. let x = (by_path own other merged valid_own valid_other world other_world w v m c first_numbers p copied interfaces types s).packages n q at in
+        record { image = x.image; at_image = x.at_image; name = x.name };
     interfaces = interfaces_hold own other merged valid_own valid_other world other_world w v m c first_numbers p copied interfaces types s;
     types = types_hold own other merged valid_own valid_other world other_world w v m c first_numbers p copied interfaces types s;
     copied_interfaces = copied_carries own other merged valid_own valid_other world other_world w v m c first_numbers p copied interfaces types s;
@@ -125,7 +131,8 @@ module _ (own other merged : Resolve) (valid_own : IsValid own) (valid_other : I
   pub second_is_copied : AreCopies own other merged f
   second_is_copied = record {
     carried = second_is_carried;
-    new_types = λ n h. let past = copied_past behind final n h in let number : f.types n ≡ number_under (numbers_by behind final) n = ap (λ l. number_under l n) s.types_copied.numbers_are in omega (arith, past, number);
+    new_types = λ n h. let past = copied_past behind final n h in let number : f.types n ≡ number_under (numbers_by behind final) n = ap (λ l. number_under l n) s.types_copied.numbers_are in
+        omega (arith, past, number);
     new_interfaces = new_interfaces;
     inline_copied = inline_copied;
     inline_shown = inline_shown;
@@ -139,9 +146,12 @@ module _ (own other merged : Resolve) (valid_own : IsValid own) (valid_other : I
 
       new_interfaces : (n : ℕ) → flag_under copied n ≡ true → length own.interfaces.items ≤ f.interfaces n
       new_interfaces n set =
-          let past = copied_behind (length own.interfaces.items + length p.new_interfaces) copied c.interfaces.items n (copied_long own other merged valid_own valid_other world other_world w v m c first_numbers p copied interfaces types s) set in
+          let past = copied_behind (length own.interfaces.items + length p.new_interfaces) copied c.interfaces.items n
+          (copied_long own other merged valid_own valid_other world other_world w v m c first_numbers p copied interfaces types s) set in
           let number : f.interfaces n ≡ number_under (numbers_of (length own.interfaces.items + length p.new_interfaces) copied c.interfaces.items) n =
-          carried_number own other merged valid_own valid_other world other_world w v m c first_numbers p copied interfaces types s n (copied_carries own other merged valid_own valid_other world other_world w v m c first_numbers p copied interfaces types s n set) ∙ ap (λ (l : List ℕ). number_under l n) s.interfaces_are in
+          carried_number own other merged valid_own valid_other world other_world w v m c first_numbers p copied interfaces types s n
+          (copied_carries own other merged valid_own valid_other world other_world w v m c first_numbers p copied interfaces types s n set) ∙ ap (λ (l : List ℕ). number_under l n)
+          s.interfaces_are in
           omega (arith, past, number)
 
       inline_copied : (n : ℕ) (i : Interface) → f.carries_interface n ≡ true → interface_at other n ≡ Some i → i.name ≡ None → flag_under copied n ≡ true
@@ -153,17 +163,20 @@ module _ (own other merged : Resolve) (valid_own : IsValid own) (valid_other : I
               let x = uncopied_named own other merged valid_own valid_other world other_world w v m c first_numbers p copied interfaces types s n h e in
               no_true (sym (ap is_some none) ∙ (ap (λ (j : Interface). is_some j.name) (some_same i x.shown (sym there ∙ x.there)) ∙ x.has_name))
 
-      inline_shown : (n : ℕ) (i : Interface) (k : ℕ) (u : World) → flag_under copied n ≡ true → interface_at other n ≡ Some i → i.name ≡ None → world_at other k ≡ Some u → has (filter_map item_interface (items_of u)) n ≡ true → (k == other_world) ≡ true
+      inline_shown : (n : ℕ) (i : Interface) (k : ℕ) (u : World) → flag_under copied n ≡ true → interface_at other n ≡ Some i → i.name ≡ None → world_at other k ≡ Some u
+          → has (filter_map item_interface (items_of u)) n ≡ true → (k == other_world) ≡ true
       inline_shown n i k u set there none at_u shows =
           let one = one_shows other valid_other n i there none k other_world u v at_u s.other_at (some_count n (items_of u) shows) (times_of v n shown) in
           ap (λ (x : ℕ). x == other_world) one ∙ same-number other_world
         where
           gained : is_gained other c.interfaces.items w v below_imports below_exports n ≡ true
-          gained = second_true (is_inline_at other n) (is_gained other c.interfaces.items w v below_imports below_exports n) (sym (gained_flag other c.interfaces.items w v below_imports below_exports n) ∙ (ap (λ (l : List Bool). flag_under l n) (sym s.copied_are) ∙ set))
+          gained = second_true (is_inline_at other n) (is_gained other c.interfaces.items w v below_imports below_exports n)
+              (sym (gained_flag other c.interfaces.items w v below_imports below_exports n) ∙ (ap (λ (l : List Bool). flag_under l n) (sym s.copied_are) ∙ set))
 
           shown : (is_shown_in v.imports.entries n || is_shown_in v.exports.entries n) ≡ true
           shown = go (is_shown_new other c.interfaces.items w.imports.entries v.imports.entries n) refl gained
             where
-              go : (b : Bool) → is_shown_new other c.interfaces.items w.imports.entries v.imports.entries n ≡ b → (b || is_shown_new other c.interfaces.items w.exports.entries v.exports.entries n) ≡ true → (is_shown_in v.imports.entries n || is_shown_in v.exports.entries n) ≡ true
+              go : (b : Bool) → is_shown_new other c.interfaces.items w.imports.entries v.imports.entries n ≡ b
+                  → (b || is_shown_new other c.interfaces.items w.exports.entries v.exports.entries n) ≡ true → (is_shown_in v.imports.entries n || is_shown_in v.exports.entries n) ≡ true
               go true e h = or_left (is_shown_in v.imports.entries n) (is_shown_in v.exports.entries n) (shown_in other c.interfaces.items w.imports.entries v.imports.entries n e)
               go false e h = or_right (is_shown_in v.imports.entries n) (is_shown_in v.exports.entries n) (shown_in other c.interfaces.items w.exports.entries v.exports.entries n h)

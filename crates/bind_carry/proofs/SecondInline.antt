@@ -77,7 +77,14 @@ met_first here (e ∷ es) n h = go (is_id n (item_interface e.1)) refl h (met_fi
     go true q k rest = record { place = zero; entry = e; there = refl; shows = q; met = ap (λ b. if b then option_and_then item_interface (lookup (key_eq e.0) here) else met_under here es n) q }
     go false q k rest =
         let r = rest k in
-        record { place = suc r.place; entry = r.entry; there = r.there; shows = r.shows; met = ap (λ b. if b then option_and_then item_interface (lookup (key_eq e.0) here) else met_under here es n) q ∙ r.met }
+        record {
+          place = suc r.place;
+          entry = r.entry;
+          there = r.there;
+          shows = r.shows;
+          met =
+              ap (λ b. if b then option_and_then item_interface (lookup (key_eq e.0) here) else met_under here es n) q ∙ r.met;
+        }
 
 -- ---- an inline interface is shown once
 
@@ -99,7 +106,8 @@ module _ (r : Resolve) (valid : IsValid r) (n : ℕ) (v : World) (at : world_at 
   item_at es k e there = slice_get-map (λ (x : WorldKey × WorldItem). x.1) es k ∙ ap (option_map (λ (x : WorldKey × WorldItem). x.1)) there
 
   -- by one import
-  pub one_import : (k l : ℕ) (d e : WorldKey × WorldItem) → slice_get v.imports.entries k ≡ Some d → slice_get v.imports.entries l ≡ Some e → is_id j (item_interface d.1) ≡ true → is_id j (item_interface e.1) ≡ true → k ≡ l
+  pub one_import : (k l : ℕ) (d e : WorldKey × WorldItem) → slice_get v.imports.entries k ≡ Some d → slice_get v.imports.entries l ≡ Some e → is_id j (item_interface d.1) ≡ true
+      → is_id j (item_interface e.1) ≡ true → k ≡ l
   one_import k l d e at_d at_e shows_d shows_e = go (k == l) refl
     where
       differ : (k == l) ≡ false → k ≡ l → ⊥
@@ -108,7 +116,8 @@ module _ (r : Resolve) (valid : IsValid r) (n : ℕ) (v : World) (at : world_at 
       go : (b : Bool) → (k == l) ≡ b → k ≡ l
       go true q = equal k l q
       go false q =
-          let two = sum_two (λ y. cond (is_id j (item_interface y)) 1 0) (items v.imports.entries) k l d.1 e.1 (item_at v.imports.entries k d at_d) (item_at v.imports.entries l e at_e) (one_of d shows_d) (one_of e shows_e) (differ q) in
+          let two = sum_two (λ y. cond (is_id j (item_interface y)) 1 0) (items v.imports.entries) k l d.1 e.1 (item_at v.imports.entries k d at_d) (item_at v.imports.entries l e at_e)
+          (one_of d shows_d) (one_of e shows_e) (differ q) in
           let most = at_most in
           absurd (omega (arith, two, most))
 
@@ -118,13 +127,15 @@ module _ (r : Resolve) (valid : IsValid r) (n : ℕ) (v : World) (at : world_at 
 
 -- ---- what own ones stand for
 
-module _ (own other merged : Resolve) (valid_own : IsValid own) (valid_other : IsValid other) (world other_world : ℕ) (w v : World) (m : Matches) (c : Carried) (first_numbers : List ℕ) (p : IsFirstPass own other merged m c first_numbers) (copied : List Bool) (interfaces types : List ℕ)
+module _ (own other merged : Resolve) (valid_own : IsValid own) (valid_other : IsValid other) (world other_world : ℕ) (w v : World) (m : Matches) (c : Carried) (first_numbers : List ℕ)
+    (p : IsFirstPass own other merged m c first_numbers) (copied : List Bool) (interfaces types : List ℕ)
     (s : IsSecondPass own other merged world other_world w v m c first_numbers p copied interfaces types) where
   abbrev number : ℕ → ℕ
   number = (second own other merged valid_own valid_other world other_world w v m c first_numbers p copied interfaces types s).interfaces
 
   -- an inline interface under a label that own imports have isn't copied
-  module _ (e : WorldKey × WorldItem) (held : Contains v.imports.entries e) (label : String Global) (labelled : e.0 ≡ key.Name label) (x : WorldItem) (found : lookup (key_eq (key.Name label)) w.imports.entries ≡ Some x)
+  module _ (e : WorldKey × WorldItem) (held : Contains v.imports.entries e) (label : String Global) (labelled : e.0 ≡ key.Name label) (x : WorldItem)
+      (found : lookup (key_eq (key.Name label)) w.imports.entries ≡ Some x)
       (j : ℕ) (is : item_interface e.1 ≡ Some j) (def : Interface) (there : interface_at other j ≡ Some def) (inline : def.name ≡ None) where
     place : (k : ℕ) × (slice_get v.imports.entries k ≡ Some e)
     place = contains-get v.imports.entries e held
@@ -152,7 +163,8 @@ module _ (own other merged : Resolve) (valid_own : IsValid own) (valid_other : I
     never_new false e_ h =
         let x = any_place (λ (y : WorldKey × WorldItem). is_new_under numbers w.exports.entries y.0 && is_id j (item_interface y.1)) v.exports.entries h in
         let shows = second_true (is_new_under numbers w.exports.entries x.thing.0) (is_id j (item_interface x.thing.1)) x.passes_it in
-        not_both other valid_other other_world v s.other_at j def there inline shown (any_at (λ (y : WorldKey × WorldItem). is_id j (item_interface y.1)) v.exports.entries x.place x.thing x.there shows)
+        not_both other valid_other other_world v s.other_at j def there inline shown
+        (any_at (λ (y : WorldKey × WorldItem). is_id j (item_interface y.1)) v.exports.entries x.place x.thing x.there shows)
 
     pub met_uncopied : flag_under copied j ≡ false
     met_uncopied = go (flag_under copied j) refl
@@ -162,14 +174,17 @@ module _ (own other merged : Resolve) (valid_own : IsValid own) (valid_other : I
         go true e_ =
             let below_imports = imports_shown own other merged valid_own valid_other world other_world w v m c first_numbers p copied interfaces types s in
             let below_exports = exports_shown own other merged valid_own valid_other world other_world w v m c first_numbers p copied interfaces types s in
-            let both_ : (is_inline_at other j && is_gained other numbers w v below_imports below_exports j) ≡ true = sym (gained_flag other numbers w v below_imports below_exports j) ∙ (ap (λ (l : List Bool). flag_under l j) (sym s.copied_are) ∙ e_) in
-            no_true (sym (never_new (is_shown_new other numbers w.imports.entries v.imports.entries j) refl (second_true (is_inline_at other j) (is_gained other numbers w v below_imports below_exports j) both_)))
+            let both_ : (is_inline_at other j && is_gained other numbers w v below_imports below_exports j) ≡ true =
+            sym (gained_flag other numbers w v below_imports below_exports j) ∙ (ap (λ (l : List Bool). flag_under l j) (sym s.copied_are) ∙ e_) in
+            no_true (sym (never_new (is_shown_new other numbers w.imports.entries v.imports.entries j) refl
+            (second_true (is_inline_at other j) (is_gained other numbers w v below_imports below_exports j) both_)))
 
     -- and it has the number of the own one
     pub met_inline : (i : ℕ) → item_interface x ≡ Some i → number j ≡ i
     met_inline i is_x =
         (λ q. if met_uncopied q || unnamed q then number_under interfaces j else unwrap_or (met_under w.imports.entries v.imports.entries j) (number_under interfaces j))
-        ∙ ap (λ o. unwrap_or o (number_under interfaces j)) (first.met ∙ (ap (λ k. option_and_then item_interface (lookup (key_eq k) w.imports.entries)) (ap (λ (y : WorldKey × WorldItem). y.0) (same_entry first.place first.entry first.there first.shows) ∙ labelled) ∙ (ap (option_and_then item_interface) found ∙ is_x)))
+        ∙ ap (λ o. unwrap_or o (number_under interfaces j)) (first.met ∙ (ap (λ k. option_and_then item_interface (lookup (key_eq k) w.imports.entries))
+        (ap (λ (y : WorldKey × WorldItem). y.0) (same_entry first.place first.entry first.there first.shows) ∙ labelled) ∙ (ap (option_and_then item_interface) found ∙ is_x)))
       where
         unnamed : is_named_at other j ≡ false
         unnamed = ap (λ o. option_map_or (λ (d : Interface). is_some d.name) o false) there ∙ ap is_some inline
@@ -178,7 +193,8 @@ module _ (own other merged : Resolve) (valid_own : IsValid own) (valid_other : I
         first = met_first w.imports.entries v.imports.entries j shown
 
   -- inline interfaces of one key are one in the end
-  pub inline_agree : (x e : WorldKey × WorldItem) → Contains w.imports.entries x → Contains v.imports.entries e → key_text own x.0 ≡ key_text other e.0 → (i j : ℕ) → item_interface x.1 ≡ Some i → item_interface e.1 ≡ Some j → interface_path other j ≡ None → number j ≡ i
+  pub inline_agree : (x e : WorldKey × WorldItem) → Contains w.imports.entries x → Contains v.imports.entries e → key_text own x.0 ≡ key_text other e.0 → (i j : ℕ) → item_interface x.1 ≡ Some i
+      → item_interface e.1 ≡ Some j → interface_path other j ≡ None → number j ≡ i
   inline_agree x e held_x held_e keys i j is_x is_e no_path = by e.0 refl x.0 refl
     where
       no_path_own : interface_path own i ≡ None
@@ -191,7 +207,8 @@ module _ (own other merged : Resolve) (valid_own : IsValid own) (valid_other : I
 
       has_path_wrong : {A : Type 0} (r : Resolve) → IsValid r → (n k : ℕ) (d : Interface) → interface_at r n ≡ Some d → is_some d.name ≡ true → n ≡ k → interface_path r k ≡ None → A
       has_path_wrong r valid n k d at named same none =
-          no_true (sym (ap is_some none) ∙ (ap (λ (q : ℕ). is_some (interface_path r q)) (sym same) ∙ named-path r valid n (ap (λ o. option_map_or (λ (z : Interface). is_some z.name) o false) at ∙ named)))
+          no_true (sym (ap is_some none) ∙ (ap (λ (q : ℕ). is_some (interface_path r q)) (sym same) ∙ named-path r valid n
+          (ap (λ o. option_map_or (λ (z : Interface). is_some z.name) o false) at ∙ named)))
 
       inline : def.0.name ≡ None
       inline = go def.0.name refl

@@ -48,7 +48,8 @@ use Rattle.base_lemmas.proofs.Lists.{within_there}
 use Rattle.base_lemmas.proofs.Numbers.{equal, same-number}
 use Rattle.wit_model.proofs.Chains.{all_has as passes_at}
 
-module _ (own other merged : Resolve) (valid_own : IsValid own) (valid_other : IsValid other) (world other_world : ℕ) (w v : World) (m : Matches) (c : Carried) (first_numbers : List ℕ) (p : IsFirstPass own other merged m c first_numbers) (copied : List Bool) (interfaces types : List ℕ)
+module _ (own other merged : Resolve) (valid_own : IsValid own) (valid_other : IsValid other) (world other_world : ℕ) (w v : World) (m : Matches) (c : Carried) (first_numbers : List ℕ)
+    (p : IsFirstPass own other merged m c first_numbers) (copied : List Bool) (interfaces types : List ℕ)
     (s : IsSecondPass own other merged world other_world w v m c first_numbers p copied interfaces types) where
   abbrev by_first : Renumbering
   by_first = first own other merged valid_own valid_other world other_world w v m c first_numbers p copied interfaces types s
@@ -98,7 +99,8 @@ module _ (own other merged : Resolve) (valid_own : IsValid own) (valid_other : I
     pub has_name : is_some shown.name ≡ true
 
   pub uncopied_named : (n : ℕ) → f.carries_interface n ≡ true → flag_under copied n ≡ false → IsNamedThere n
-  uncopied_named n h e = go (interface_at other n) refl (first_true (is_named_at other n) (flag_under c.copied_interfaces.items n || is_matched m.interfaces.items n) (sym (ap (λ b. b || (is_named_at other n && (flag_under c.copied_interfaces.items n || is_matched m.interfaces.items n))) e) ∙ h))
+  uncopied_named n h e = go (interface_at other n) refl (first_true (is_named_at other n) (flag_under c.copied_interfaces.items n || is_matched m.interfaces.items n)
+      (sym (ap (λ b. b || (is_named_at other n && (flag_under c.copied_interfaces.items n || is_matched m.interfaces.items n))) e) ∙ h))
     where
       go : (o : Option Interface) → interface_at other n ≡ o → is_named_at other n ≡ true → IsNamedThere n
       go None q k = no_true (sym (ap (λ o. option_map_or (λ (j : Interface). is_some j.name) o false) q) ∙ k)
@@ -116,16 +118,21 @@ module _ (own other merged : Resolve) (valid_own : IsValid own) (valid_other : I
       go true e = test true (ap (λ b. b || is_named_at other n) e) refl
       go false e =
           let x = uncopied_named n h e in
-          test true (ap (λ b. b || is_named_at other n) e ∙ is_named_there own other merged valid_own valid_other world other_world w v m c first_numbers p copied interfaces types s n x.shown x.there x.has_name) refl
+          test true (ap (λ b. b || is_named_at other n) e ∙ is_named_there own other merged valid_own valid_other world other_world w v m c first_numbers p copied interfaces types s n x.shown x.there
+          x.has_name) refl
 
   -- ---- types of interfaces
 
-  each_type : (n : ℕ) (i : Interface) → interface_at other n ≡ Some i → (q : ℕ → Bool) → ((t : ℕ) (def : TypeDef) → type_at other t ≡ Some def → is_some def.name ≡ true → def.owner ≡ as_interface n → q t ≡ true) → list_all q (interface_type_numbers i) ≡ true
-  each_type = types_are own other valid_own valid_other m.interfaces.items c first_numbers (chosen own other merged valid_own valid_other world other_world w v m c first_numbers p copied interfaces types s) p.same p.none
-      (long own other merged valid_own valid_other world other_world w v m c first_numbers p copied interfaces types s) p.numbered.interfaces (length own.types.items + length {A = TypeDef} []) p.types.numbers_are
+  each_type : (n : ℕ) (i : Interface) → interface_at other n ≡ Some i → (q : ℕ → Bool)
+      → ((t : ℕ) (def : TypeDef) → type_at other t ≡ Some def → is_some def.name ≡ true → def.owner ≡ as_interface n → q t ≡ true) → list_all q (interface_type_numbers i) ≡ true
+  each_type = types_are own other valid_own valid_other m.interfaces.items c first_numbers
+      (chosen own other merged valid_own valid_other world other_world w v m c first_numbers p copied interfaces types s) p.same p.none
+      (long own other merged valid_own valid_other world other_world w v m c first_numbers p copied interfaces types s) p.numbered.interfaces (length own.types.items + length {A = TypeDef} [])
+      p.types.numbers_are
 
   pub types_carried : (n : ℕ) (i : Interface) → f.carries_interface n ≡ true → interface_at other n ≡ Some i → list_all f.carries_type (interface_type_numbers i) ≡ true
-  types_carried n i h there = each_type n i there f.carries_type (λ t def at named home. named_carried own other merged valid_own valid_other world other_world w v m c first_numbers p copied interfaces types s t def at named (ap (carries_owner f) home ∙ h))
+  types_carried n i h there = each_type n i there f.carries_type (λ t def at named home. named_carried own other merged valid_own valid_other world other_world w v m c first_numbers p copied
+      interfaces types s t def at named (ap (carries_owner f) home ∙ h))
 
   -- ---- interfaces that are copied
 
@@ -135,8 +142,10 @@ module _ (own other merged : Resolve) (valid_own : IsValid own) (valid_other : I
       ∙ (ap (λ l. own.interfaces.items ++ l) (s.inline_copied.behind ∙ ap (λ l. p.new_interfaces ++ l) (sym (append-nil s.inline_copied.more)))
       ∙ sym (append_assoc own.interfaces.items p.new_interfaces (s.inline_copied.more ++ [])))
 
-  pub inline_place : (n : ℕ) (i : Interface) → interface_at other n ≡ Some i → flag_under copied n ≡ true → IsKeptAt (IsInterfaceUnder types w.«package») i ((own.interfaces.items ++ p.new_interfaces) ++ (s.inline_copied.more ++ [])) (number_under (numbers_of behind copied c.interfaces.items) n)
-  inline_place n i there set = kept_placed (IsInterfaceUnder types w.«package») copied c.interfaces.items other.interfaces.items s.inline_copied.more s.inline_copied.copies flags_long behind (own.interfaces.items ++ p.new_interfaces) [] (sym (length-append own.interfaces.items p.new_interfaces)) n i set there
+  pub inline_place : (n : ℕ) (i : Interface) → interface_at other n ≡ Some i → flag_under copied n ≡ true
+      → IsKeptAt (IsInterfaceUnder types w.«package») i ((own.interfaces.items ++ p.new_interfaces) ++ (s.inline_copied.more ++ [])) (number_under (numbers_of behind copied c.interfaces.items) n)
+  inline_place n i there set = kept_placed (IsInterfaceUnder types w.«package») copied c.interfaces.items other.interfaces.items s.inline_copied.more s.inline_copied.copies flags_long behind
+      (own.interfaces.items ++ p.new_interfaces) [] (sym (length-append own.interfaces.items p.new_interfaces)) n i set there
 
   pub copied_carries : (n : ℕ) → flag_under copied n ≡ true → f.carries_interface n ≡ true
   copied_carries n set = or_left (flag_under copied n) (is_named_at other n && (flag_under c.copied_interfaces.items n || is_matched m.interfaces.items n)) set
@@ -158,7 +167,8 @@ module _ (own other merged : Resolve) (valid_own : IsValid own) (valid_other : I
     copied = λ h. interface_copy f types refl i place.image w.«package» place.is unique.0 unique.1 all_copied functions;
   }
     where
-      place : IsKeptAt (IsInterfaceUnder types w.«package») i ((own.interfaces.items ++ p.new_interfaces) ++ (s.inline_copied.more ++ [])) (number_under (numbers_of behind copied c.interfaces.items) n)
+      place : IsKeptAt (IsInterfaceUnder types w.«package») i ((own.interfaces.items ++ p.new_interfaces) ++ (s.inline_copied.more ++ []))
+          (number_under (numbers_of behind copied c.interfaces.items) n)
       place = inline_place n i there set
 
       unique : IsUnique string_eq i.types × IsUnique string_eq i.functions
@@ -172,11 +182,13 @@ module _ (own other merged : Resolve) (valid_own : IsValid own) (valid_other : I
       all_copied : list_all (λ id. f.copies_type id.0) (values i.types) ≡ true
       all_copied =
           sym (list_all-map f.copies_type (λ (id : TypeId). id.0) (values i.types))
-          ∙ each_type n i there f.copies_type (λ t def at named home. inline_type_copied own other merged valid_own valid_other world other_world w v m c first_numbers p copied interfaces types s t def n at home set)
+          ∙ each_type n i there f.copies_type (λ t def at named home. inline_type_copied own other merged valid_own valid_other world other_world w v m c first_numbers p copied interfaces types s t
+          def n at home set)
 
       functions : list_all (is_function_carried f.carries_type) (values i.functions) ≡ true
       functions =
-          (parts_hold other valid_other f (adds own other merged valid_own valid_other world other_world w v m c first_numbers p copied interfaces types s) (initial own other merged valid_own valid_other world other_world w v m c first_numbers p copied interfaces types s)
+          (parts_hold other valid_other f (adds own other merged valid_own valid_other world other_world w v m c first_numbers p copied interfaces types s)
+          (initial own other merged valid_own valid_other world other_world w v m c first_numbers p copied interfaces types s)
           (starts own other merged valid_own valid_other world other_world w v m c first_numbers p copied interfaces types s)
           ((known own other merged valid_own valid_other world other_world w v m c first_numbers p copied interfaces types s).inline_adds n set)).of_interfaces n i there (copied_carries n set)
 
@@ -212,8 +224,12 @@ module _ (own other merged : Resolve) (valid_own : IsValid own) (valid_other : I
       types_back : (k : ℕ) → has (interface_type_numbers t.image) k ≡ true → (u : ℕ) × (has (interface_type_numbers t.old) u ≡ true) × (f.carries_type u ≡ true) × (f.types u ≡ k)
       types_back k h =
           let y = t.types k h in
-          let stay = passes_at stays (interface_type_numbers t.old) y.0 all_stay y.1 in
-          (y.0, y.1, first_true (is_carried final y.0) (f.types y.0 == by_first.types y.0) stay, equal (f.types y.0) (by_first.types y.0) (second_true (is_carried final y.0) (f.types y.0 == by_first.types y.0) stay) ∙ y.3)
+          let stay = passes_at stays (interface_type_numbers t.old) y.0 all_stay y.1 in (
+            y.0,
+            y.1,
+            first_true (is_carried final y.0) (f.types y.0 == by_first.types y.0) stay,
+            equal (f.types y.0) (by_first.types y.0) (second_true (is_carried final y.0) (f.types y.0 == by_first.types y.0) stay) ∙ y.3,
+          )
 
   -- each interface that is carried stands under its new number
   pub interfaces_hold : (n : ℕ) → f.carries_interface n ≡ true → IsInterface other merged f n
@@ -237,15 +253,21 @@ module _ (own other merged : Resolve) (valid_own : IsValid own) (valid_other : I
           let less = flag_within c.copied_interfaces.items n e in
           let count = p.numbered.interface_count in
           let i = within_there other.interfaces.items n (omega (arith, less, count)) in
-          let place = kept_placed (IsInterfaceCarried c first_numbers) c.copied_interfaces.items (map interface_number m.interfaces.items) other.interfaces.items p.new_interfaces p.interfaces (flags ∙ sym (length-map m.interfaces.items interface_number)) (length own.interfaces.items) own.interfaces.items [] refl n i.0 e i.1 in
-          let within = slice_get_within (own.interfaces.items ++ (p.new_interfaces ++ [])) (number_under (numbers_of (length own.interfaces.items) c.copied_interfaces.items (map interface_number m.interfaces.items)) n) place.image place.at_image in
-          let whole : length (own.interfaces.items ++ (p.new_interfaces ++ [])) ≡ behind = length-append own.interfaces.items (p.new_interfaces ++ []) ∙ ap (λ l. length own.interfaces.items + length l) (append-nil p.new_interfaces) in
-          let number : by_first.interfaces n ≡ number_under (numbers_of (length own.interfaces.items) c.copied_interfaces.items (map interface_number m.interfaces.items)) n = ap (λ l. number_under l n) p.numbered.interfaces in
+          let place = kept_placed (IsInterfaceCarried c first_numbers) c.copied_interfaces.items (map interface_number m.interfaces.items) other.interfaces.items p.new_interfaces p.interfaces
+          (flags ∙ sym (length-map m.interfaces.items interface_number)) (length own.interfaces.items) own.interfaces.items [] refl n i.0 e i.1 in
+          let within = slice_get_within (own.interfaces.items ++ (p.new_interfaces ++ []))
+          (number_under (numbers_of (length own.interfaces.items) c.copied_interfaces.items (map interface_number m.interfaces.items)) n) place.image place.at_image in
+          let whole : length (own.interfaces.items ++ (p.new_interfaces ++ [])) ≡ behind =
+          length-append own.interfaces.items (p.new_interfaces ++ []) ∙ ap (λ l. length own.interfaces.items + length l) (append-nil p.new_interfaces) in
+          let number : by_first.interfaces n ≡ number_under (numbers_of (length own.interfaces.items) c.copied_interfaces.items (map interface_number m.interfaces.items)) n =
+          ap (λ l. number_under l n) p.numbered.interfaces in
           omega (arith, within, whole, number)
       go false e =
           let k : is_matched m.interfaces.items n ≡ true = sym (ap (λ b. b || is_matched m.interfaces.items n) e) ∙ h in
           let same = p.same n k in
-          let number = interface_is own other valid_own valid_other m.interfaces.items c first_numbers (chosen own other merged valid_own valid_other world other_world w v m c first_numbers p copied interfaces types s) p.same p.none flags p.numbered.interfaces (length own.types.items + length {A = TypeDef} []) p.types.numbers_are n k in
+          let number = interface_is own other valid_own valid_other m.interfaces.items c first_numbers
+          (chosen own other merged valid_own valid_other world other_world w v m c first_numbers p copied interfaces types s) p.same p.none flags p.numbered.interfaces
+          (length own.types.items + length {A = TypeDef} []) p.types.numbers_are n k in
           let within = slice_get_within own.interfaces.items same.id.0 same.image same.at_image in
           omega (arith, number, within)
 
@@ -260,5 +282,6 @@ module _ (own other merged : Resolve) (valid_own : IsValid own) (valid_other : I
           let x = uncopied_named n h e in
           let less = path_low n (named_is_carried own other merged valid_own valid_other world other_world w v m c first_numbers p copied interfaces types s n x.shown x.there x.has_name) in
           let same : number_under (numbers_of behind copied c.interfaces.items) n ≡ by_first.interfaces n =
-          ap (λ (l : List ℕ). number_under l n) (sym s.interfaces_are) ∙ (sym (carried_number n h) ∙ second_named own other merged valid_own valid_other world other_world w v m c first_numbers p copied interfaces types s n x.shown x.there x.has_name) in
+          ap (λ (l : List ℕ). number_under l n) (sym s.interfaces_are) ∙ (sym (carried_number n h) ∙ second_named own other merged valid_own valid_other world other_world w v m c first_numbers p
+          copied interfaces types s n x.shown x.there x.has_name) in
           subst (λ (y : ℕ). y < behind) (sym same) less

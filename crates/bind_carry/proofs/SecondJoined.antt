@@ -72,7 +72,8 @@ not_some (Some x) h = no_true h
 
 -- keys of a list whose interfaces pass
 
-module _ (own other merged : Resolve) (valid_own : IsValid own) (valid_other : IsValid other) (world other_world : ℕ) (w v : World) (m : Matches) (c : Carried) (first_numbers : List ℕ) (p : IsFirstPass own other merged m c first_numbers) (copied : List Bool) (interfaces types : List ℕ)
+module _ (own other merged : Resolve) (valid_own : IsValid own) (valid_other : IsValid other) (world other_world : ℕ) (w v : World) (m : Matches) (c : Carried) (first_numbers : List ℕ)
+    (p : IsFirstPass own other merged m c first_numbers) (copied : List Bool) (interfaces types : List ℕ)
     (s : IsSecondPass own other merged world other_world w v m c first_numbers p copied interfaces types) where
   abbrev f : Renumbering
   f = second own other merged valid_own valid_other world other_world w v m c first_numbers p copied interfaces types s
@@ -122,13 +123,15 @@ module _ (own other merged : Resolve) (valid_own : IsValid own) (valid_other : I
   functions_ready : gains ≡ true → (list_all item_passes v.imports.entries && list_all item_passes v.exports.entries) ≡ true
   functions_ready add =
       sym (by_entries function_ready v)
-      ∙ (parts_hold other valid_other f gains at_first (starts own other merged valid_own valid_other world other_world w v m c first_numbers p copied interfaces types s) add).of_worlds other_world v s.other_at (same-number other_world)
+      ∙ (parts_hold other valid_other f gains at_first (starts own other merged valid_own valid_other world other_world w v m c first_numbers p copied interfaces types s) add).of_worlds other_world v
+      s.other_at (same-number other_world)
 
   -- a type under a new key is copied
   type_ready : (e : WorldKey × WorldItem) → Contains v.imports.entries e → is_new_under interfaces w.imports.entries e.0 ≡ true → (id : TypeId) → type_in e.1 ≡ Some id → is_copied final id.0 ≡ true
   type_ready e held new id is =
       ap (λ o. option_map_or copies o false)
-      (copied_still gains other.types.items at_first (falls own other merged valid_own valid_other world other_world w v m c first_numbers p copied interfaces types s) id.0 x.def x.found (owner.World (record { 0 = world })) in_initial)
+      (copied_still gains other.types.items at_first (falls own other merged valid_own valid_other world other_world w v m c first_numbers p copied interfaces types s) id.0 x.def x.found
+      (owner.World (record { 0 = world })) in_initial)
     where
       is_type : item_type e.1 ≡ Some id.0
       is_type = type_number e.1 id is
@@ -153,7 +156,8 @@ module _ (own other merged : Resolve) (valid_own : IsValid own) (valid_other : I
           ∙ ap (λ k. Some (world_if k)) (same-number other_world))
 
       none_found : lookup (key_eq (key.Name x.label)) w.imports.entries ≡ None
-      none_found = not_some (lookup (key_eq (key.Name x.label)) w.imports.entries) (sym (label_new interfaces x.label w.imports.entries) ∙ (ap (is_new_under interfaces w.imports.entries) (sym x.keyed) ∙ new))
+      none_found = not_some (lookup (key_eq (key.Name x.label)) w.imports.entries)
+          (sym (label_new interfaces x.label w.imports.entries) ∙ (ap (is_new_under interfaces w.imports.entries) (sym x.keyed) ∙ new))
 
       never : IsUnified w.imports.entries v.imports.entries at_first id.0 → ⊥
       never u =
@@ -177,10 +181,12 @@ module _ (own other merged : Resolve) (valid_own : IsValid own) (valid_other : I
 
   -- ---- imports
 
-  pub import_named : (e : WorldKey × WorldItem) → Contains v.imports.entries e → IsKeyNamed own other merged valid_own valid_other world other_world w v m c first_numbers p copied interfaces types s e.0
+  pub import_named : (e : WorldKey × WorldItem) → Contains v.imports.entries e
+      → IsKeyNamed own other merged valid_own valid_other world other_world w v m c first_numbers p copied interfaces types s e.0
   import_named e held id is = let k = import_keyed other valid_other other_world v s.other_at e held id is in (k.def, k.found, k.named)
 
-  pub export_named : (e : WorldKey × WorldItem) → Contains v.exports.entries e → IsKeyNamed own other merged valid_own valid_other world other_world w v m c first_numbers p copied interfaces types s e.0
+  pub export_named : (e : WorldKey × WorldItem) → Contains v.exports.entries e
+      → IsKeyNamed own other merged valid_own valid_other world other_world w v m c first_numbers p copied interfaces types s e.0
   export_named e held id is = let k = export_keyed other valid_other other_world v s.other_at e held id is in (k.def, k.found, k.named)
 
   import_item : (e : WorldKey × WorldItem) → Contains v.imports.entries e → is_new_under interfaces w.imports.entries e.0 ≡ true → (i : WorldItem) → e.1 ≡ i → IsItemReady f i
@@ -190,13 +196,15 @@ module _ (own other merged : Resolve) (valid_own : IsValid own) (valid_other : I
       place = contains-get v.imports.entries e held
 
       add : gains ≡ true
-      add = or_left (any_new interfaces w.imports.entries v.imports.entries) (any_new interfaces w.exports.entries v.exports.entries) (any_at (λ (y : WorldKey × WorldItem). is_new_under interfaces w.imports.entries y.0) v.imports.entries place.0 e place.1 new)
+      add = or_left (any_new interfaces w.imports.entries v.imports.entries) (any_new interfaces w.exports.entries v.exports.entries)
+          (any_at (λ (y : WorldKey × WorldItem). is_new_under interfaces w.imports.entries y.0) v.imports.entries place.0 e place.1 new)
 
       range : item_in_range other e.1 ≡ true
       range = second_true (key_in_range other e.0) (item_in_range other e.1) (import_range other valid_other other_world v s.other_at e held)
 
       new_first : is_new_under c.interfaces.items w.imports.entries e.0 ≡ true
-      new_first = sym (new_under_same interfaces c.interfaces.items w.imports.entries e.0 (import_same own other merged valid_own valid_other world other_world w v m c first_numbers p copied interfaces types s e held)) ∙ new
+      new_first = sym (new_under_same interfaces c.interfaces.items w.imports.entries e.0
+          (import_same own other merged valid_own valid_other world other_world w v m c first_numbers p copied interfaces types s e held)) ∙ new
 
       by : (i : WorldItem) → e.1 ≡ i → IsItemReady f i
       by (item.Interface id stability docs external_id) q =
@@ -219,10 +227,17 @@ module _ (own other merged : Resolve) (valid_own : IsValid own) (valid_other : I
 
   imports_ready : AreReady f interfaces w.imports.entries v.imports.entries
   imports_ready = record {
-    new_ready = λ n e at new. let held = get-contains v.imports.entries n e at in (key_ready own other merged valid_own valid_other world other_world w v m c first_numbers p copied interfaces types s e.0 (import_named e held), import_item e held new e.1 refl);
+    new_ready = λ n e at new. let held = get-contains v.imports.entries n e at in
+        (key_ready own other merged valid_own valid_other world other_world w v m c first_numbers p copied interfaces types s e.0 (import_named e held), import_item e held new e.1 refl);
     met = λ n e at old. let held = get-contains v.imports.entries n e at in
         let x = key_met own other merged valid_own valid_other world other_world w v m c first_numbers p copied interfaces types s w.imports.entries keys_there e.0 (import_named e held) old in
-        record { there = x.entry; in_own = x.in_own; becomes = x.becomes; stands = import_stands_for own other merged valid_own valid_other world other_world w v m c first_numbers p copied interfaces types s x.entry e x.in_own held x.same_text };
+        record {
+          there = x.entry;
+          in_own = x.in_own;
+          becomes = x.becomes;
+          stands =
+              import_stands_for own other merged valid_own valid_other world other_world w v m c first_numbers p copied interfaces types s x.entry e x.in_own held x.same_text;
+        };
   }
 
   -- ---- exports
@@ -234,13 +249,15 @@ module _ (own other merged : Resolve) (valid_own : IsValid own) (valid_other : I
       place = contains-get v.exports.entries e held
 
       add : gains ≡ true
-      add = or_right (any_new interfaces w.imports.entries v.imports.entries) (any_new interfaces w.exports.entries v.exports.entries) (any_at (λ (y : WorldKey × WorldItem). is_new_under interfaces w.exports.entries y.0) v.exports.entries place.0 e place.1 new)
+      add = or_right (any_new interfaces w.imports.entries v.imports.entries) (any_new interfaces w.exports.entries v.exports.entries)
+          (any_at (λ (y : WorldKey × WorldItem). is_new_under interfaces w.exports.entries y.0) v.exports.entries place.0 e place.1 new)
 
       range : item_in_range other e.1 ≡ true
       range = second_true (key_in_range other e.0) (item_in_range other e.1) (export_range other valid_other other_world v s.other_at e held)
 
       new_first : is_new_under c.interfaces.items w.exports.entries e.0 ≡ true
-      new_first = sym (new_under_same interfaces c.interfaces.items w.exports.entries e.0 (export_same own other merged valid_own valid_other world other_world w v m c first_numbers p copied interfaces types s e held)) ∙ new
+      new_first = sym (new_under_same interfaces c.interfaces.items w.exports.entries e.0
+          (export_same own other merged valid_own valid_other world other_world w v m c first_numbers p copied interfaces types s e held)) ∙ new
 
       no_type : {A : Type 0} (k : WorldKey) (id : TypeId) → export_stands other k (item.Type_ id) ≡ true → A
       no_type (key.Name t) id h = no_true h
@@ -261,7 +278,8 @@ module _ (own other merged : Resolve) (valid_own : IsValid own) (valid_other : I
 
   exports_ready : AreReady f interfaces w.exports.entries v.exports.entries
   exports_ready = record {
-    new_ready = λ n e at new. let held = get-contains v.exports.entries n e at in (key_ready own other merged valid_own valid_other world other_world w v m c first_numbers p copied interfaces types s e.0 (export_named e held), export_item e held new e.1 refl);
+    new_ready = λ n e at new. let held = get-contains v.exports.entries n e at in
+        (key_ready own other merged valid_own valid_other world other_world w v m c first_numbers p copied interfaces types s e.0 (export_named e held), export_item e held new e.1 refl);
     met = λ n e at old. let held = get-contains v.exports.entries n e at in
         let x = key_met own other merged valid_own valid_other world other_world w v m c first_numbers p copied interfaces types s w.exports.entries exports_there e.0 (export_named e held) old in
         absurd (s.agree.exports x.entry e x.in_own held x.same_text);
@@ -270,10 +288,12 @@ module _ (own other merged : Resolve) (valid_own : IsValid own) (valid_other : I
   -- ---- keys stay apart
 
   -- the number by path of an interface with a name
-  path_number : (n : ℕ) → is_named_at other n ≡ true → (number_under interfaces n ≡ number_under c.interfaces.items n) × ((flag_under c.copied_interfaces.items n || is_matched m.interfaces.items n) ≡ true)
+  path_number : (n : ℕ) → is_named_at other n ≡ true → (number_under interfaces n ≡ number_under c.interfaces.items n)
+      × ((flag_under c.copied_interfaces.items n || is_matched m.interfaces.items n) ≡ true)
   path_number n h = go (interface_at other n) refl h
     where
-      go : (o : Option Interface) → interface_at other n ≡ o → option_map_or (λ (j : Interface). is_some j.name) o false ≡ true → (number_under interfaces n ≡ number_under c.interfaces.items n) × ((flag_under c.copied_interfaces.items n || is_matched m.interfaces.items n) ≡ true)
+      go : (o : Option Interface) → interface_at other n ≡ o → option_map_or (λ (j : Interface). is_some j.name) o false ≡ true → (number_under interfaces n ≡ number_under c.interfaces.items n)
+          × ((flag_under c.copied_interfaces.items n || is_matched m.interfaces.items n) ≡ true)
       go None e k = no_true k
       go (Some i) e k = (
         named_number own other merged valid_own valid_other world other_world w v m c first_numbers p copied interfaces types s n i e k,
@@ -284,17 +304,23 @@ module _ (own other merged : Resolve) (valid_own : IsValid own) (valid_other : I
   once j n h k e =
       let a = path_number j h in
       let b = path_number n k in
-      interfaces_once own other valid_own valid_other m.interfaces.items c first_numbers (chosen own other merged valid_own valid_other world other_world w v m c first_numbers p copied interfaces types s) p.same p.none
-      (long own other merged valid_own valid_other world other_world w v m c first_numbers p copied interfaces types s) p.numbered.interfaces (length own.types.items + length {A = TypeDef} []) p.types.numbers_are p.numbered.interface_count j n a.1 b.1 (sym a.0 ∙ (e ∙ b.0))
+      interfaces_once own other valid_own valid_other m.interfaces.items c first_numbers
+      (chosen own other merged valid_own valid_other world other_world w v m c first_numbers p copied interfaces types s) p.same p.none
+      (long own other merged valid_own valid_other world other_world w v m c first_numbers p copied interfaces types s) p.numbered.interfaces (length own.types.items + length {A = TypeDef} [])
+      p.types.numbers_are p.numbered.interface_count j n a.1 b.1 (sym a.0 ∙ (e ∙ b.0))
 
   named_there : (n : ℕ) (i : Interface) → interface_at other n ≡ Some i → is_some i.name ≡ true → is_named_at other n ≡ true
   named_there n i there named = ap (λ o. option_map_or (λ (j : Interface). is_some j.name) o false) there ∙ named
 
   pub imports_apart : IsDistinct (become_one interfaces) (keys_of v.imports.entries)
-  imports_apart = keys_apart interfaces (is_named_at other) once (keys_of v.imports.entries) (keys_pass (is_named_at other) v.imports.entries (λ e held id is. let k = import_named e held id is in named_there id.0 k.0 k.1 k.2)) (valid_other.distinct_keys.worlds other_world v s.other_at).0
+  imports_apart = keys_apart interfaces (is_named_at other) once (keys_of v.imports.entries)
+      (keys_pass (is_named_at other) v.imports.entries (λ e held id is. let k = import_named e held id is in named_there id.0 k.0 k.1 k.2))
+      (valid_other.distinct_keys.worlds other_world v s.other_at).0
 
   pub exports_apart : IsDistinct (become_one interfaces) (keys_of v.exports.entries)
-  exports_apart = keys_apart interfaces (is_named_at other) once (keys_of v.exports.entries) (keys_pass (is_named_at other) v.exports.entries (λ e held id is. let k = export_named e held id is in named_there id.0 k.0 k.1 k.2)) (valid_other.distinct_keys.worlds other_world v s.other_at).1
+  exports_apart = keys_apart interfaces (is_named_at other) once (keys_of v.exports.entries)
+      (keys_pass (is_named_at other) v.exports.entries (λ e held id is. let k = export_named e held id is in named_there id.0 k.0 k.1 k.2))
+      (valid_other.distinct_keys.worlds other_world v s.other_at).1
 
   -- ---- the whole
 

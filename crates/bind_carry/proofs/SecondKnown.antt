@@ -109,7 +109,8 @@ module _ (own other : Resolve) (valid_own : IsValid own) (valid_other : IsValid 
       mine = declared_type own i (ap is_declared senses ∙ type_declared other e.1 id is_type)
 
   -- where a type among imports isn't met, its key is new
-  pub unmet_new : (numbers : List ℕ) (e : WorldKey × WorldItem) → Contains v.imports.entries e → (id : TypeId) → type_in e.1 ≡ Some id → type_under_key w.imports.entries e.0 ≡ None → is_new_under numbers w.imports.entries e.0 ≡ true
+  pub unmet_new : (numbers : List ℕ) (e : WorldKey × WorldItem) → Contains v.imports.entries e → (id : TypeId) → type_in e.1 ≡ Some id → type_under_key w.imports.entries e.0 ≡ None
+      → is_new_under numbers w.imports.entries e.0 ≡ true
   unmet_new numbers e held id is_type unmet = go (lookup (key_eq e.0) w.imports.entries) refl
     where
       typed : IsWorldType other valid_other other_world v at_v e.0 id.0
@@ -123,7 +124,8 @@ module _ (own other : Resolve) (valid_own : IsValid own) (valid_other : IsValid 
           ∙ ap (λ o. not (is_some o)) q))
       go (Some i) q = let m = own_type_under e held id is_type i q in let wrong : None ≡ Some m.0 = sym unmet ∙ m.1 in absurd cc
 
-module _ (own other merged : Resolve) (valid_own : IsValid own) (valid_other : IsValid other) (world other_world : ℕ) (w v : World) (m : Matches) (c : Carried) (first_numbers : List ℕ) (p : IsFirstPass own other merged m c first_numbers) (copied : List Bool) (interfaces types : List ℕ)
+module _ (own other merged : Resolve) (valid_own : IsValid own) (valid_other : IsValid other) (world other_world : ℕ) (w v : World) (m : Matches) (c : Carried) (first_numbers : List ℕ)
+    (p : IsFirstPass own other merged m c first_numbers) (copied : List Bool) (interfaces types : List ℕ)
     (s : IsSecondPass own other merged world other_world w v m c first_numbers p copied interfaces types) where
   abbrev pub matched : List (Option InterfaceId)
   matched = m.interfaces.items
@@ -176,7 +178,8 @@ module _ (own other merged : Resolve) (valid_own : IsValid own) (valid_other : I
     where
       go : (b : Bool) → flag_under copied n ≡ b → flag_under copied n ≡ false
       go false e = e
-      go true e = no_true (sym (inline_named n i at named) ∙ gained_inline_alone other c.interfaces.items w v imports_shown exports_shown n (ap (λ (l : List Bool). flag_under l n) (sym s.copied_are) ∙ e))
+      go true e = no_true (sym (inline_named n i at named) ∙ gained_inline_alone other c.interfaces.items w v imports_shown exports_shown n
+          (ap (λ (l : List Bool). flag_under l n) (sym s.copied_are) ∙ e))
 
   -- and has the number that it has by path
   pub named_number : (n : ℕ) (i : Interface) → interface_at other n ≡ Some i → is_some i.name ≡ true → number_under interfaces n ≡ number_under c.interfaces.items n
@@ -208,17 +211,21 @@ module _ (own other merged : Resolve) (valid_own : IsValid own) (valid_other : I
   unified_named n def at u = (ap (λ (d : TypeDef). is_some d.name) (sym same) ∙ ap is_some x.named_, ap (λ (d : TypeDef). d.owner) (sym same) ∙ x.home)
     where
       x : IsWorldType other valid_other other_world v s.other_at u.entry.0 n
-      x = world_type other valid_other other_world v s.other_at u.entry.0 u.entry.1 (get-contains v.imports.entries u.place u.entry u.at_place) n (type_number u.entry.1 u.id u.is_type ∙ ap Some u.number)
+      x = world_type other valid_other other_world v s.other_at u.entry.0 u.entry.1 (get-contains v.imports.entries u.place u.entry u.at_place) n
+          (type_number u.entry.1 u.id u.is_type ∙ ap Some u.number)
 
       same : x.def ≡ def
       same = some_same x.def def (sym x.found ∙ at)
 
   -- a type of an interface that is carried by path is so
-  pub first_carried : (n : ℕ) (def : TypeDef) (a : ℕ) → type_at other n ≡ Some def → is_some def.name ≡ true → def.owner ≡ as_interface a → (flag_under c.copied_interfaces.items a || is_matched matched a) ≡ true → is_carried before_fates n ≡ true
+  pub first_carried : (n : ℕ) (def : TypeDef) (a : ℕ) → type_at other n ≡ Some def → is_some def.name ≡ true → def.owner ≡ as_interface a
+      → (flag_under c.copied_interfaces.items a || is_matched matched a) ≡ true → is_carried before_fates n ≡ true
   first_carried n def a at named home carried =
-      named_carried own other valid_other matched c first_numbers chosen (names own other valid_own valid_other matched c first_numbers chosen p.same p.none long p.numbered.interfaces (length own.types.items + length {A = TypeDef} []) p.types.numbers_are) n def at named (ap (carries_owner first) home ∙ carried)
+      named_carried own other valid_other matched c first_numbers chosen (names own other valid_own valid_other matched c first_numbers chosen p.same p.none long p.numbered.interfaces
+      (length own.types.items + length {A = TypeDef} []) p.types.numbers_are) n def at named (ap (carries_owner first) home ∙ carried)
 
-  first_carries : (n : ℕ) (def : TypeDef) (g : Fate) (a : ℕ) → type_at other n ≡ Some def → slice_get before_fates n ≡ Some g → is_some def.name ≡ true → def.owner ≡ as_interface a → (flag_under c.copied_interfaces.items a || is_matched matched a) ≡ true → carries g ≡ true
+  first_carries : (n : ℕ) (def : TypeDef) (g : Fate) (a : ℕ) → type_at other n ≡ Some def → slice_get before_fates n ≡ Some g → is_some def.name ≡ true → def.owner ≡ as_interface a
+      → (flag_under c.copied_interfaces.items a || is_matched matched a) ≡ true → carries g ≡ true
   first_carries n def g a at at_fate named home carried = sym (ap (λ o. option_map_or carries o false) at_fate) ∙ first_carried n def a at named home carried
 
   -- a type of the bound world that is copied is under a new key
@@ -239,7 +246,8 @@ module _ (own other merged : Resolve) (valid_own : IsValid own) (valid_other : I
           place = contains-get v.imports.entries x.entry x.held
 
           less : id.0.0 < length before
-          less = let inside = slice_get_within other.types.items n def at in let same = id.2 in let many = second_long other world other_world copied interfaces other.types.items before_fates first_numbers long_fates long_numbers in omega (arith, inside, same, many)
+          less = let inside = slice_get_within other.types.items n def at in let same = id.2 in let many =
+              second_long other world other_world copied interfaces other.types.items before_fates first_numbers long_fates long_numbers in omega (arith, inside, same, many)
 
           by : (o : Option TypeId) → type_under_key w.imports.entries x.entry.0 ≡ o → adds ≡ true
           by None e = or_left (any_new interfaces w.imports.entries v.imports.entries) (any_new interfaces w.exports.entries v.exports.entries)

@@ -42,10 +42,12 @@ module _ (r : Resolve) (interfaces : List ℕ) (here : List (WorldKey × WorldIt
   new_marks_in : (es : List (WorldKey × WorldItem)) (marks : List Bool) (n : ℕ) → AreShownBelow (length marks) es → FlagIs es marks n
   new_marks_in [] marks n below = no_more (flag_under marks n) (is_inline_at r n)
   new_marks_in (e ∷ es) marks n below =
-      go (is_new_under interfaces here e.0) (new_marks_in es (mark_item r marks e.1) n (subst (λ (k : ℕ). AreShownBelow k es) (sym (mark_item_long r marks e.1)) below.1)) (new_marks_in es marks n below.1)
+      go (is_new_under interfaces here e.0) (new_marks_in es (mark_item r marks e.1) n (subst (λ (k : ℕ). AreShownBelow k es) (sym (mark_item_long r marks e.1)) below.1))
+      (new_marks_in es marks n below.1)
     where
       go : (b : Bool) → FlagIs es (mark_item r marks e.1) n → FlagIs es marks n
-          → flag_under (mark_new_items r interfaces here (if b then mark_item r marks e.1 else marks) es) n ≡ (flag_under marks n || (is_inline_at r n && ((b && is_id n (item_interface e.1)) || is_shown_new es n)))
+          → flag_under (mark_new_items r interfaces here (if b then mark_item r marks e.1 else marks) es) n
+          ≡ (flag_under marks n || (is_inline_at r n && ((b && is_id n (item_interface e.1)) || is_shown_new es n)))
       go true set unset =
           set
           ∙ (ap (λ b. b || (is_inline_at r n && is_shown_new es n)) (mark_one r marks e.1 n below.0)
@@ -109,6 +111,9 @@ module _ (other : Resolve) (interfaces : List ℕ) (w v : World) (imports_below 
       or_first true b e = refl
       or_first false b e = no_true e
 
-      go : (b : Bool) → is_shown_new other interfaces w.imports.entries v.imports.entries n ≡ b → (b || is_shown_new other interfaces w.exports.entries v.exports.entries n) ≡ true → gains_any interfaces w v ≡ true
-      go true e k = or_first (any_new interfaces w.imports.entries v.imports.entries) (any_new interfaces w.exports.entries v.exports.entries) (shown_any other interfaces w.imports.entries v.imports.entries n e)
-      go false e k = or_more (any_new interfaces w.imports.entries v.imports.entries) (any_new interfaces w.exports.entries v.exports.entries) (shown_any other interfaces w.exports.entries v.exports.entries n k)
+      go : (b : Bool) → is_shown_new other interfaces w.imports.entries v.imports.entries n ≡ b → (b || is_shown_new other interfaces w.exports.entries v.exports.entries n) ≡ true
+          → gains_any interfaces w v ≡ true
+      go true e k = or_first (any_new interfaces w.imports.entries v.imports.entries) (any_new interfaces w.exports.entries v.exports.entries)
+          (shown_any other interfaces w.imports.entries v.imports.entries n e)
+      go false e k = or_more (any_new interfaces w.imports.entries v.imports.entries) (any_new interfaces w.exports.entries v.exports.entries)
+          (shown_any other interfaces w.exports.entries v.exports.entries n k)

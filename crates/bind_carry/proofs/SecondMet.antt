@@ -35,7 +35,8 @@ use Rattle.bind_carry.specs.Shown.{type_in}
 use Rattle.bind_copy.specs.Copies.{number_under}
 use Rattle.base_lemmas.proofs.Elements.{get-contains}
 
-module _ (own other merged : Resolve) (valid_own : IsValid own) (valid_other : IsValid other) (world other_world : ℕ) (w v : World) (m : Matches) (c : Carried) (first_numbers : List ℕ) (p : IsFirstPass own other merged m c first_numbers) (copied : List Bool) (interfaces types : List ℕ)
+module _ (own other merged : Resolve) (valid_own : IsValid own) (valid_other : IsValid other) (world other_world : ℕ) (w v : World) (m : Matches) (c : Carried) (first_numbers : List ℕ)
+    (p : IsFirstPass own other merged m c first_numbers) (copied : List Bool) (interfaces types : List ℕ)
     (s : IsSecondPass own other merged world other_world w v m c first_numbers p copied interfaces types) where
   abbrev number : ℕ → ℕ
   number = (second own other merged valid_own valid_other world other_world w v m c first_numbers p copied interfaces types s).types
@@ -56,7 +57,8 @@ module _ (own other merged : Resolve) (valid_own : IsValid own) (valid_other : I
   typed e held u is = world_type other valid_other other_world v s.other_at e.0 e.1 held u is
 
   -- entries of one type have labels of one text
-  pub one_label : (d e : WorldKey × WorldItem) (held_d : Contains v.imports.entries d) (held_e : Contains v.imports.entries e) (u : ℕ) (is_d : item_type d.1 ≡ Some u) (is_e : item_type e.1 ≡ Some u) → text_of (typed d held_d u is_d).label ≡ text_of (typed e held_e u is_e).label
+  pub one_label : (d e : WorldKey × WorldItem) (held_d : Contains v.imports.entries d) (held_e : Contains v.imports.entries e) (u : ℕ) (is_d : item_type d.1 ≡ Some u) (is_e : item_type e.1 ≡ Some u)
+      → text_of (typed d held_d u is_d).label ≡ text_of (typed e held_e u is_e).label
   one_label d e held_d held_e u is_d is_e = sym x.same_name ∙ (ap text_of names ∙ y.same_name)
     where
       x : IsWorldType other valid_other other_world v s.other_at d.0 u
@@ -68,11 +70,13 @@ module _ (own other merged : Resolve) (valid_own : IsValid own) (valid_other : I
       names : x.name ≡ y.name
       names = some_same x.name y.name (sym x.named_ ∙ (ap (λ (d : TypeDef). d.name) (some_same x.def y.def (sym x.found ∙ y.found)) ∙ y.named_))
 
-  pub under_label : (e : WorldKey × WorldItem) (held : Contains v.imports.entries e) (u : ℕ) (is : item_type e.1 ≡ Some u) → type_under_key w.imports.entries e.0 ≡ option_and_then type_in (lookup (key_eq (key.Name (typed e held u is).label)) w.imports.entries)
+  pub under_label : (e : WorldKey × WorldItem) (held : Contains v.imports.entries e) (u : ℕ) (is : item_type e.1 ≡ Some u)
+      → type_under_key w.imports.entries e.0 ≡ option_and_then type_in (lookup (key_eq (key.Name (typed e held u is).label)) w.imports.entries)
   under_label e held u is = ap (λ k. option_and_then type_in (lookup (key_eq k) w.imports.entries)) (typed e held u is).keyed
 
   -- a type stands for the own one under its key
-  pub met_stands : (e : WorldKey × WorldItem) → Contains v.imports.entries e → (u : ℕ) → item_type e.1 ≡ Some u → (mine : TypeId) → type_under_key w.imports.entries e.0 ≡ Some mine → slice_get at_first u ≡ Some (fate.Stands mine.0)
+  pub met_stands : (e : WorldKey × WorldItem) → Contains v.imports.entries e → (u : ℕ) → item_type e.1 ≡ Some u → (mine : TypeId) → type_under_key w.imports.entries e.0 ≡ Some mine
+      → slice_get at_first u ≡ Some (fate.Stands mine.0)
   met_stands e held u is mine there = ap (slice_get at_first) (sym id.2) ∙ (set.stands ∙ ap (λ (x : TypeId). Some (fate.Stands x.0)) same_own)
     where
       id : (id : TypeId) × (type_in e.1 ≡ Some id) × (id.0 ≡ u)
@@ -113,10 +117,12 @@ module _ (own other merged : Resolve) (valid_own : IsValid own) (valid_other : I
   met_number e held u is mine there =
       ap (λ l. number_under l u) s.types_copied.numbers_are
       ∙ stands_under (length own.types.items + length p.new_types) final u mine.0
-      (stands_still gained other.types.items at_first (falls own other merged valid_own valid_other world other_world w v m c first_numbers p copied interfaces types s) u (typed e held u is).def (typed e held u is).found mine.0 (met_stands e held u is mine there))
+      (stands_still gained other.types.items at_first (falls own other merged valid_own valid_other world other_world w v m c first_numbers p copied interfaces types s) u (typed e held u is).def
+      (typed e held u is).found mine.0 (met_stands e held u is mine there))
 
   -- types of one key are one in the end
-  pub types_agree : (x e : WorldKey × WorldItem) → Contains w.imports.entries x → Contains v.imports.entries e → key_text own x.0 ≡ key_text other e.0 → (t u : ℕ) → item_type x.1 ≡ Some t → item_type e.1 ≡ Some u → number u ≡ t
+  pub types_agree : (x e : WorldKey × WorldItem) → Contains w.imports.entries x → Contains v.imports.entries e → key_text own x.0 ≡ key_text other e.0 → (t u : ℕ) → item_type x.1 ≡ Some t
+      → item_type e.1 ≡ Some u → number u ≡ t
   types_agree x e held_x held_e keys t u is_x is_e = met_number e held_e u is_e mine.0 there ∙ mine.2
     where
       a : IsWorldType own valid_own world w s.own_at x.0 t

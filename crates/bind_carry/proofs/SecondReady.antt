@@ -39,7 +39,8 @@ use Rattle.base_lemmas.proofs.Elements.{get-contains, lookup_stands}
 use Rattle.base_lemmas.proofs.Numbers.{equal}
 use Rattle.wit_model.proofs.TextLemmas.{text_same as text-same}
 
-module _ (own other merged : Resolve) (valid_own : IsValid own) (valid_other : IsValid other) (world other_world : ℕ) (w v : World) (m : Matches) (c : Carried) (first_numbers : List ℕ) (p : IsFirstPass own other merged m c first_numbers) (copied : List Bool) (interfaces types : List ℕ)
+module _ (own other merged : Resolve) (valid_own : IsValid own) (valid_other : IsValid other) (world other_world : ℕ) (w v : World) (m : Matches) (c : Carried) (first_numbers : List ℕ)
+    (p : IsFirstPass own other merged m c first_numbers) (copied : List Bool) (interfaces types : List ℕ)
     (s : IsSecondPass own other merged world other_world w v m c first_numbers p copied interfaces types) where
   abbrev f : Renumbering
   f = second own other merged valid_own valid_other world other_world w v m c first_numbers p copied interfaces types s
@@ -57,7 +58,8 @@ module _ (own other merged : Resolve) (valid_own : IsValid own) (valid_other : I
 
   pub key_ready : (k : WorldKey) → IsKeyNamed k → IsKeyReady f k
   key_ready (key.Name label) named = tt
-  key_ready (key.Interface id) named = let i = named id refl in named_carried_there own other merged valid_own valid_other world other_world w v m c first_numbers p copied interfaces types s id.0 i.0 i.1 i.2
+  key_ready (key.Interface id) named = let i = named id refl in named_carried_there own other merged valid_own valid_other world other_world w v m c first_numbers p copied interfaces types s
+      id.0 i.0 i.1 i.2
 
   -- An entry that was there under a key.
   pub record IsKeyMet (here : List (WorldKey × WorldItem)) (k : WorldKey) : Type 0 where
@@ -68,7 +70,8 @@ module _ (own other merged : Resolve) (valid_own : IsValid own) (valid_other : I
     pub found : (label : String Global) → k ≡ key.Name label → lookup (key_eq (key.Name label)) here ≡ Some entry.1
 
   -- an own interface that has the number of one with a name has its path
-  same_path : (n : ℕ) (i : Interface) → interface_at other n ≡ Some i → is_some i.name ≡ true → (j : ℕ) (d : Interface) → interface_at own j ≡ Some d → f.interfaces n ≡ j → interface_path own j ≡ interface_path other n
+  same_path : (n : ℕ) (i : Interface) → interface_at other n ≡ Some i → is_some i.name ≡ true → (j : ℕ) (d : Interface) → interface_at own j ≡ Some d → f.interfaces n ≡ j
+      → interface_path own j ≡ interface_path other n
   same_path n i there named j d at_own number = go (flag_under c.copied_interfaces.items n) refl
     where
       flags : length c.copied_interfaces.items ≡ length m.interfaces.items
@@ -82,13 +85,17 @@ module _ (own other merged : Resolve) (valid_own : IsValid own) (valid_other : I
 
       go : (b : Bool) → flag_under c.copied_interfaces.items n ≡ b → interface_path own j ≡ interface_path other n
       go true e =
-          let past = copied_behind (length own.interfaces.items) c.copied_interfaces.items (map interface_number m.interfaces.items) n (flags ∙ sym (length-map m.interfaces.items interface_number)) e in
-          let same : number_under (numbers_of (length own.interfaces.items) c.copied_interfaces.items (map interface_number m.interfaces.items)) n ≡ j = ap (λ (l : List ℕ). number_under l n) (sym p.numbered.interfaces) ∙ by_path in
+          let past = copied_behind (length own.interfaces.items) c.copied_interfaces.items (map interface_number m.interfaces.items) n
+          (flags ∙ sym (length-map m.interfaces.items interface_number)) e in
+          let same : number_under (numbers_of (length own.interfaces.items) c.copied_interfaces.items (map interface_number m.interfaces.items)) n ≡ j =
+          ap (λ (l : List ℕ). number_under l n) (sym p.numbered.interfaces) ∙ by_path in
           let within = slice_get_within own.interfaces.items j d at_own in
           absurd (omega (arith, past, same, within))
       go false e =
           let k : is_matched m.interfaces.items n ≡ true = sym (ap (λ b. b || is_matched m.interfaces.items n) e) ∙ carried in
-          let is = interface_is own other valid_own valid_other m.interfaces.items c first_numbers (chosen own other merged valid_own valid_other world other_world w v m c first_numbers p copied interfaces types s) p.same p.none flags p.numbered.interfaces (length own.types.items + length {A = TypeDef} []) p.types.numbers_are n k in
+          let is = interface_is own other valid_own valid_other m.interfaces.items c first_numbers
+          (chosen own other merged valid_own valid_other world other_world w v m c first_numbers p copied interfaces types s) p.same p.none flags p.numbered.interfaces
+          (length own.types.items + length {A = TypeDef} []) p.types.numbers_are n k in
           ap (interface_path own) (sym by_path ∙ is) ∙ (p.same n k).path
 
   pub key_met : (here : List (WorldKey × WorldItem)) → AreKeysThere here → (k : WorldKey) → IsKeyNamed k → is_new_under interfaces here k ≡ false → IsKeyMet here k
@@ -120,7 +127,8 @@ module _ (own other merged : Resolve) (valid_own : IsValid own) (valid_other : I
       not_not false h = no_true (sym h)
 
       x : IsPlacedIn (λ (e : WorldKey × WorldItem). is_key_under interfaces (key.Interface id) e.0) here
-      x = any_place (λ (e : WorldKey × WorldItem). is_key_under interfaces (key.Interface id) e.0) here (not_not (list_any (λ (e : WorldKey × WorldItem). is_key_under interfaces (key.Interface id) e.0) here) old)
+      x = any_place (λ (e : WorldKey × WorldItem). is_key_under interfaces (key.Interface id) e.0) here
+          (not_not (list_any (λ (e : WorldKey × WorldItem). is_key_under interfaces (key.Interface id) e.0) here) old)
 
       held : Contains here x.thing
       held = get-contains here x.place x.thing x.there

@@ -50,7 +50,8 @@ use Rattle.base_lemmas.proofs.Options.{nameless as none_of}
 beside_left : (g : Fate) (k : ℕ) → carries g ≡ false → beside_first g k ≡ fate.Left
 beside_left g k h = ap (λ b. if b then fate.Stands k else fate.Left) h
 
-module _ (own other merged : Resolve) (valid_own : IsValid own) (valid_other : IsValid other) (world other_world : ℕ) (w v : World) (m : Matches) (c : Carried) (first_numbers : List ℕ) (p : IsFirstPass own other merged m c first_numbers) (copied : List Bool) (interfaces types : List ℕ)
+module _ (own other merged : Resolve) (valid_own : IsValid own) (valid_other : IsValid other) (world other_world : ℕ) (w v : World) (m : Matches) (c : Carried) (first_numbers : List ℕ)
+    (p : IsFirstPass own other merged m c first_numbers) (copied : List Bool) (interfaces types : List ℕ)
     (s : IsSecondPass own other merged world other_world w v m c first_numbers p copied interfaces types) where
   abbrev pub matched : List (Option InterfaceId)
   matched = m.interfaces.items
@@ -91,7 +92,8 @@ module _ (own other merged : Resolve) (valid_own : IsValid own) (valid_other : I
   pub falls : FallBelow other.types.items
   falls = (range own other merged valid_own valid_other world other_world w v m c first_numbers p copied interfaces types s).falls
 
-  was : (n : ℕ) (def : TypeDef) → type_at other n ≡ Some def → IsBefore other valid_other matched c world other_world w.imports.entries v.imports.entries copied interfaces before_fates first_numbers long_fates long_numbers fates types n def
+  was : (n : ℕ) (def : TypeDef) → type_at other n ≡ Some def
+      → IsBefore other valid_other matched c world other_world w.imports.entries v.imports.entries copied interfaces before_fates first_numbers long_fates long_numbers fates types n def
   was n def at = before_at other valid_other matched c world other_world w.imports.entries v.imports.entries copied interfaces before_fates first_numbers long_fates long_numbers fates types n def at
 
   -- ---- interfaces with a name
@@ -105,7 +107,8 @@ module _ (own other merged : Resolve) (valid_own : IsValid own) (valid_other : I
   -- one with a name has the number that it has by path
   pub second_named : (a : ℕ) (i : Interface) → interface_at other a ≡ Some i → is_some i.name ≡ true → second.interfaces a ≡ first.interfaces a
   second_named a i there named =
-      (λ j. if named_uncopied a i there named j || is_named_there a i there named j then number_under interfaces a else unwrap_or (met_under w.imports.entries v.imports.entries a) (number_under interfaces a))
+      (λ j. if named_uncopied a i there named j || is_named_there a i there named j then number_under interfaces a else unwrap_or (met_under w.imports.entries v.imports.entries a)
+      (number_under interfaces a))
       ∙ named_number own other merged valid_own valid_other world other_world w v m c first_numbers p copied interfaces types s a i there named
 
   -- and is carried
@@ -116,7 +119,8 @@ module _ (own other merged : Resolve) (valid_own : IsValid own) (valid_other : I
   -- ---- types of interfaces with a name
 
   -- one that is carried by path stands for what it is there
-  pub stays : (n : ℕ) (def : TypeDef) (a : ℕ) (i : Interface) → type_at other n ≡ Some def → def.owner ≡ as_interface a → interface_at other a ≡ Some i → is_some i.name ≡ true → is_carried before_fates n ≡ true
+  pub stays : (n : ℕ) (def : TypeDef) (a : ℕ) (i : Interface) → type_at other n ≡ Some def → def.owner ≡ as_interface a → interface_at other a ≡ Some i → is_some i.name ≡ true
+      → is_carried before_fates n ≡ true
       → slice_get fates n ≡ Some (fate.Stands (number_under first_numbers n))
   stays n def a i at home there path carried =
       stands_still adds other.types.items initial falls n def at b.number in_initial ∙ ap (λ (k : ℕ). Some (fate.Stands k)) (sym (ap (λ o. unwrap_or o 0) b.at_number))
@@ -131,7 +135,8 @@ module _ (own other merged : Resolve) (valid_own : IsValid own) (valid_other : I
       in_before =
           b.stands
           ∙ (ap (λ o. Some (second_in other world other_world copied interfaces o (beside_first b.old b.number))) home
-          ∙ (λ j. Some (if named_uncopied a i there path j then fate.Copied (owner.Interface (record { 0 = number_under interfaces a })) else (if is_named_there a i there path j then (if old_carries j then fate.Stands b.number else fate.Left) else fate.Left))))
+          ∙ (λ j. Some (if named_uncopied a i there path j then fate.Copied (owner.Interface (record { 0 = number_under interfaces a })) else
+          (if is_named_there a i there path j then (if old_carries j then fate.Stands b.number else fate.Left) else fate.Left))))
 
       in_initial : slice_get initial n ≡ Some (fate.Stands b.number)
       in_initial = elim (unified_at w.imports.entries v.imports.entries before n (fate.Stands b.number) in_before) [
@@ -143,7 +148,8 @@ module _ (own other merged : Resolve) (valid_own : IsValid own) (valid_other : I
           differ e = cc
 
   -- so it has the number that it has by path, is carried, and isn't copied
-  pub second_same : (n : ℕ) (def : TypeDef) (a : ℕ) (i : Interface) → type_at other n ≡ Some def → def.owner ≡ as_interface a → interface_at other a ≡ Some i → is_some i.name ≡ true → is_carried before_fates n ≡ true
+  pub second_same : (n : ℕ) (def : TypeDef) (a : ℕ) (i : Interface) → type_at other n ≡ Some def → def.owner ≡ as_interface a → interface_at other a ≡ Some i → is_some i.name ≡ true
+      → is_carried before_fates n ≡ true
       → (second.types n ≡ first.types n) × (is_carried fates n ≡ true) × (is_copied fates n ≡ false)
   second_same n def a i at home there path carried =
       let stands = stays n def a i at home there path carried in (
@@ -163,7 +169,8 @@ module _ (own other merged : Resolve) (valid_own : IsValid own) (valid_other : I
     pub carried : is_carried before_fates n ≡ true
 
   -- what is carried without a copy is so, or stands for an own type of the bound world
-  pub stood_how : (n : ℕ) (def : TypeDef) → type_at other n ≡ Some def → is_carried fates n ≡ true → is_copied fates n ≡ false → StandsByPath n def ⊎ IsUnified w.imports.entries v.imports.entries initial n
+  pub stood_how : (n : ℕ) (def : TypeDef) → type_at other n ≡ Some def → is_carried fates n ≡ true → is_copied fates n ≡ false → StandsByPath n def
+      ⊎ IsUnified w.imports.entries v.imports.entries initial n
   stood_how n def at h bare = go (is_some def.name) refl
     where
       b : IsBefore other valid_other matched c world other_world w.imports.entries v.imports.entries copied interfaces before_fates first_numbers long_fates long_numbers fates types n def
@@ -192,7 +199,8 @@ module _ (own other merged : Resolve) (valid_own : IsValid own) (valid_other : I
               ∙ (ap (λ k. carries (settled fate.Left k (adds && are_carried fates (view_numbers (kind_view def.kind))))) (none_of def.name named)
               ∙ none_left (adds && are_carried fates (view_numbers (kind_view def.kind))))
 
-      by_old : is_some def.name ≡ true → (id : InterfaceId) → def.owner ≡ owner.Interface id → (o : Option Interface) → interface_at other id.0 ≡ o → is_named_at other id.0 ≡ true → (k : Bool) → carries b.old ≡ k → slice_get initial n ≡ Some (beside_first b.old b.number) → StandsByPath n def
+      by_old : is_some def.name ≡ true → (id : InterfaceId) → def.owner ≡ owner.Interface id → (o : Option Interface) → interface_at other id.0 ≡ o → is_named_at other id.0 ≡ true → (k : Bool)
+          → carries b.old ≡ k → slice_get initial n ≡ Some (beside_first b.old b.number) → StandsByPath n def
       by_old named id q (Some i) there path true e same = record {
         at_number = id.0;
         home = q;
@@ -205,12 +213,14 @@ module _ (own other merged : Resolve) (valid_own : IsValid own) (valid_other : I
       by_old named id q None there path k e same = no_true (sym (ap (λ o. option_map_or (λ (j : Interface). is_some j.name) o false) there) ∙ path)
       by_old named id q (Some i) there path false e same = left_wrong named (same ∙ ap Some (beside_left b.old b.number e))
 
-      by_name : is_some def.name ≡ true → (id : InterfaceId) → def.owner ≡ owner.Interface id → (k : Bool) → is_named_at other id.0 ≡ k → slice_get initial n ≡ Some (if k then beside_first b.old b.number else fate.Left) → StandsByPath n def
+      by_name : is_some def.name ≡ true → (id : InterfaceId) → def.owner ≡ owner.Interface id → (k : Bool) → is_named_at other id.0 ≡ k
+          → slice_get initial n ≡ Some (if k then beside_first b.old b.number else fate.Left) → StandsByPath n def
       by_name named id q true e same = by_old named id q (interface_at other id.0) refl e (carries b.old) refl same
       by_name named id q false e same = left_wrong named same
 
       by_interface : is_some def.name ≡ true → (id : InterfaceId) → def.owner ≡ owner.Interface id → (k : Bool) → flag_under copied id.0 ≡ k
-          → slice_get initial n ≡ Some (if k then fate.Copied (owner.Interface (record { 0 = number_under interfaces id.0 })) else (if is_named_at other id.0 then beside_first b.old b.number else fate.Left)) → StandsByPath n def
+          → slice_get initial n ≡ Some (if k then fate.Copied (owner.Interface (record { 0 = number_under interfaces id.0 })) else
+          (if is_named_at other id.0 then beside_first b.old b.number else fate.Left)) → StandsByPath n def
       by_interface named id q true e same = copied_wrong (owner.Interface (record { 0 = number_under interfaces id.0 })) same
       by_interface named id q false e same = by_name named id q (is_named_at other id.0) refl same
 
@@ -218,7 +228,8 @@ module _ (own other merged : Resolve) (valid_own : IsValid own) (valid_other : I
       by_world named id true same = copied_wrong (owner.World (record { 0 = world })) same
       by_world named id false same = left_wrong named same
 
-      by : is_some def.name ≡ true → (o : TypeOwner) → def.owner ≡ o → slice_get initial n ≡ Some (second_in other world other_world copied interfaces o (beside_first b.old b.number)) → StandsByPath n def
+      by : is_some def.name ≡ true → (o : TypeOwner) → def.owner ≡ o → slice_get initial n ≡ Some (second_in other world other_world copied interfaces o (beside_first b.old b.number))
+          → StandsByPath n def
       by named owner.None q same = no_true (sym (has_home other valid_other n def at named) ∙ ap (λ o. same_owner o owner.None) q)
       by named (owner.Interface id) q same = by_interface named id q (flag_under copied id.0) refl same
       by named (owner.World id) q same = by_world named id (id.0 == other_world) same
@@ -232,7 +243,8 @@ module _ (own other merged : Resolve) (valid_own : IsValid own) (valid_other : I
 
   -- Aliases under the numbers by path, whether a copy stands there or an own type.
   alias_there : (def image : TypeDef) → HasImageKind first.types first.carries_type def image ⊎ IsNamesake first def image
-      → (alias_target image.kind ≡ option_map first.types (alias_target def.kind)) × (passes first.carries_type (alias_target def.kind) ≡ true) × (is_resource_itself image.kind ≡ is_resource_itself def.kind)
+      → (alias_target image.kind ≡ option_map first.types (alias_target def.kind)) × (passes first.carries_type (alias_target def.kind) ≡ true)
+      × (is_resource_itself image.kind ≡ is_resource_itself def.kind)
   alias_there def image (inl k) = (
     alias_same first.types def.kind image.kind k.kinds,
     alias_of_all first.carries_type def.kind (sym (ap (list_all first.carries_type) (numbers_of_view def.kind)) ∙ k.parts),
@@ -248,7 +260,8 @@ module _ (own other merged : Resolve) (valid_own : IsValid own) (valid_other : I
     image = t.image;
     at_image = ap (type_at merged) same.0 ∙ t.at_image;
     name = t.name;
-    home = t.home ∙ (ap (owner_under first) x.home ∙ (ap (λ (k : ℕ). owner.Interface (record { 0 = k })) (sym (second_named x.at_number x.shown x.there x.has_name)) ∙ ap (owner_under second) (sym x.home)));
+    home = t.home ∙ (ap (owner_under first) x.home ∙ (ap (λ (k : ℕ). owner.Interface (record { 0 = k })) (sym (second_named x.at_number x.shown x.there x.has_name)) ∙ ap (owner_under second)
+        (sym x.home)));
     carries_home = ap (carries_owner second) x.home ∙ named_carried_there x.at_number x.shown x.there x.has_name;
     kind = inr (record { named = x.named; resource = alias.2; alias = alias.0 ∙ (target (alias_target t.def.kind) refl alias.1).0; target = (target (alias_target t.def.kind) refl alias.1).1 });
     copied = λ k. no_true (sym same.2 ∙ k);
@@ -257,7 +270,8 @@ module _ (own other merged : Resolve) (valid_own : IsValid own) (valid_other : I
       same : (second.types n ≡ first.types n) × (is_carried fates n ≡ true) × (is_copied fates n ≡ false)
       same = second_same n t.def x.at_number x.shown t.found x.home x.there x.has_name x.carried
 
-      alias : (alias_target t.image.kind ≡ option_map first.types (alias_target t.def.kind)) × (passes first.carries_type (alias_target t.def.kind) ≡ true) × (is_resource_itself t.image.kind ≡ is_resource_itself t.def.kind)
+      alias : (alias_target t.image.kind ≡ option_map first.types (alias_target t.def.kind)) × (passes first.carries_type (alias_target t.def.kind) ≡ true)
+          × (is_resource_itself t.image.kind ≡ is_resource_itself t.def.kind)
       alias = alias_there t.def t.image t.kind
 
       has_path : is_some (interface_path other x.at_number) ≡ true

@@ -28,7 +28,8 @@ module _ (other : Resolve) (world other_world : ℕ) (copied : List Bool) (inter
       λ i. Some (second_in other world other_world copied interfaces (type_same i).owner (beside_first (fate_same i) (number_same i)))
   second_at (u ∷ us) (h ∷ hs) (k ∷ ks) (suc n) t g m at_t at_g at_m = second_at us hs ks n t g m at_t at_g at_m
 
-  pub second_long : (ts : List TypeDef) (fs : List Fate) (ns : List ℕ) → length fs ≡ length ts → length ns ≡ length ts → length (second_from other world other_world copied interfaces ts fs ns) ≡ length ts
+  pub second_long : (ts : List TypeDef) (fs : List Fate) (ns : List ℕ) → length fs ≡ length ts → length ns ≡ length ts
+      → length (second_from other world other_world copied interfaces ts fs ns) ≡ length ts
   second_long [] fs ns long_fates long_numbers = refl
   second_long (u ∷ us) [] ns long_fates long_numbers = absurd (omega (arith, long_fates))
   second_long (u ∷ us) (h ∷ hs) [] long_fates long_numbers = absurd (omega (arith, long_numbers))
@@ -106,7 +107,8 @@ module _ (here : List (WorldKey × WorldItem)) where
       by id own p q more true e_ =
           let number = equal id.0 n e_ in
           set id own p q (slice_set fs id.0 (fate.Stands own.0)) number
-          (more (slice_set fs id.0 (fate.Stands own.0)) (fate.Stands own.0) (ap (λ (m : ℕ). slice_get (slice_set fs id.0 (fate.Stands own.0)) m) (sym number) ∙ set_here fs id.0 (fate.Stands own.0) g (ap (slice_get fs) number ∙ at)))
+          (more (slice_set fs id.0 (fate.Stands own.0)) (fate.Stands own.0) (ap (λ (m : ℕ). slice_get (slice_set fs id.0 (fate.Stands own.0)) m) (sym number) ∙ set_here fs id.0 (fate.Stands own.0) g
+          (ap (slice_get fs) number ∙ at)))
       by id own p q more false e_ = keeps (slice_set fs id.0 (fate.Stands own.0)) (more (slice_set fs id.0 (fate.Stands own.0)) g (set_there fs id.0 n (fate.Stands own.0) (differ id.0 n e_) ∙ at))
 
       go : (a : Option TypeId) → type_in e.1 ≡ a → (b : Option TypeId) → type_under_key here e.0 ≡ b
@@ -116,7 +118,8 @@ module _ (here : List (WorldKey × WorldItem)) where
       go None p b q more = keeps fs (more fs g at)
 
   -- a type that some item is stands for the own one of its key
-  pub unified_set : (es : List (WorldKey × WorldItem)) (fs : List Fate) (k : ℕ) (e : WorldKey × WorldItem) (id own : TypeId) → slice_get es k ≡ Some e → type_in e.1 ≡ Some id → type_under_key here e.0 ≡ Some own → id.0 < length fs
+  pub unified_set : (es : List (WorldKey × WorldItem)) (fs : List Fate) (k : ℕ) (e : WorldKey × WorldItem) (id own : TypeId) → slice_get es k ≡ Some e → type_in e.1 ≡ Some id
+      → type_under_key here e.0 ≡ Some own → id.0 < length fs
       → IsUnified es (unified here es fs) id.0
   unified_set [] fs k e id own at p q less = let wrong : ⊥ = cc in absurd wrong
   unified_set (x ∷ xs) fs zero e id own at p q less =

@@ -72,7 +72,8 @@ module _ (adds : Bool) where
   falls_later count t ts next e falls k d at = let same : count + suc k ≡ next + k = omega (arith, e) in subst (λ (m : ℕ). all_below m (parts d) ≡ true) same (falls (suc k) d at)
 
   -- each place is settled by the fates of all
-  settled_at : (done : List Fate) (types : List TypeDef) (fates : List Fate) → FallFrom (length done) types → (n place : ℕ) → place ≡ length done + n → (t : TypeDef) (f : Fate) → slice_get types n ≡ Some t → slice_get fates n ≡ Some f
+  settled_at : (done : List Fate) (types : List TypeDef) (fates : List Fate) → FallFrom (length done) types → (n place : ℕ) → place ≡ length done + n → (t : TypeDef) (f : Fate)
+      → slice_get types n ≡ Some t → slice_get fates n ≡ Some f
       → slice_get (settled_from adds done types fates) place ≡ Some (settled f (is_none t.name) (adds && are_carried (settled_from adds done types fates) (parts t)))
   settled_at done [] fates falls n place e t f at_t at_f = let wrong : ⊥ = cc in absurd wrong
   settled_at done (u ∷ ts) [] falls n place e t f at_t at_f = let wrong : ⊥ = cc in absurd wrong

@@ -39,7 +39,8 @@ module _ (f g : ℕ → ℕ) (count : ℕ) (agree : (n : ℕ) → n < count → 
   type_agrees ty.ErrorContext h = refl
 
   split : (xs ys : List ℕ) → all_below count (xs ++ ys) ≡ true → (all_below count xs ≡ true) × (all_below count ys ≡ true)
-  split xs ys h = let both = sym (list_all-append (λ n. nat_lt n count) xs ys) ∙ h in (first_true (all_below count xs) (all_below count ys) both, second_true (all_below count xs) (all_below count ys) both)
+  split xs ys h = let both = sym (list_all-append (λ n. nat_lt n count) xs ys) ∙ h in
+      (first_true (all_below count xs) (all_below count ys) both, second_true (all_below count xs) (all_below count ys) both)
 
   option_agrees : (t : Option ValueType) → all_below count (optional_numbers t) ≡ true → option_map (renamed_type f) t ≡ option_map (renamed_type g) t
   option_agrees None h = refl
@@ -49,11 +50,13 @@ module _ (f g : ℕ → ℕ) (count : ℕ) (agree : (n : ℕ) → n < count → 
   types_agree [] h = refl
   types_agree (t ∷ ts) h = let parts = split (type_numbers t) (flat_map type_numbers ts) h in λ i. type_agrees t parts.0 i ∷ types_agree ts parts.1 i
 
-  fields_agree : (xs : List (Text × ValueType)) → all_below count (flat_map (λ x. type_numbers x.1) xs) ≡ true → map {B = Text × ValueType} (λ x. (x.0, renamed_type f x.1)) xs ≡ map (λ x. (x.0, renamed_type g x.1)) xs
+  fields_agree : (xs : List (Text × ValueType)) → all_below count (flat_map (λ x. type_numbers x.1) xs) ≡ true
+      → map {B = Text × ValueType} (λ x. (x.0, renamed_type f x.1)) xs ≡ map (λ x. (x.0, renamed_type g x.1)) xs
   fields_agree [] h = refl
   fields_agree (x ∷ xs) h = let parts = split (type_numbers x.1) (flat_map (λ y. type_numbers y.1) xs) h in λ i. (x.0, type_agrees x.1 parts.0 i) ∷ fields_agree xs parts.1 i
 
-  cases_agree : (xs : List (Text × Option ValueType)) → all_below count (flat_map (λ x. optional_numbers x.1) xs) ≡ true → map {B = Text × Option ValueType} (λ x. (x.0, option_map (renamed_type f) x.1)) xs ≡ map (λ x. (x.0, option_map (renamed_type g) x.1)) xs
+  cases_agree : (xs : List (Text × Option ValueType)) → all_below count (flat_map (λ x. optional_numbers x.1) xs) ≡ true
+      → map {B = Text × Option ValueType} (λ x. (x.0, option_map (renamed_type f) x.1)) xs ≡ map (λ x. (x.0, option_map (renamed_type g) x.1)) xs
   cases_agree [] h = refl
   cases_agree (x ∷ xs) h = let parts = split (optional_numbers x.1) (flat_map (λ y. optional_numbers y.1) xs) h in λ i. (x.0, option_agrees x.1 parts.0 i) ∷ cases_agree xs parts.1 i
 
@@ -83,7 +86,8 @@ in_front (x ∷ xs) ys zero l = refl
 in_front (x ∷ xs) ys (suc n) l = in_front xs ys n (omega (arith, l))
 
 -- a copy by the numbers so far is one by all numbers
-with_more : (xs ys : List ℕ) (home : TypeOwner) (old new : TypeDef) → all_below (length xs) (view_numbers (kind_view old.kind)) ≡ true → IsTypeUnder xs home old new → IsTypeUnder (xs ++ ys) home old new
+with_more : (xs ys : List ℕ) (home : TypeOwner) (old new : TypeDef) → all_below (length xs) (view_numbers (kind_view old.kind)) ≡ true → IsTypeUnder xs home old new
+    → IsTypeUnder (xs ++ ys) home old new
 with_more xs ys home old new small is = record {
   name = is.name;
   kind = is.kind ∙ view_agrees (number_under xs) (number_under (xs ++ ys)) (length xs) (in_front xs ys) (kind_view old.kind) small;
@@ -139,11 +143,14 @@ module _ (own : ℕ) (types : List TypeDef) (fates : List Fate) (old : List Type
       }
 
   -- the same where what is left is known by another name
-  pub one_more : (numbers : List ℕ) (left_types : List TypeDef) (left_fates : List Fate) (t : TypeDef) (ts : List TypeDef) (f : Fate) (fs : List Fate) (now new : List TypeDef) (n : ℕ) → left_types ≡ t ∷ ts → left_fates ≡ f ∷ fs
+  pub one_more : (numbers : List ℕ) (left_types : List TypeDef) (left_fates : List Fate) (t : TypeDef) (ts : List TypeDef) (f : Fate) (fs : List Fate) (now new : List TypeDef) (n : ℕ)
+      → left_types ≡ t ∷ ts → left_fates ≡ f ∷ fs
       → all_below (length numbers) (view_numbers (kind_view t.kind)) ≡ true → MeetsFate own numbers t f now new n → SoFar numbers left_types left_fates now → SoFar (numbers ++ n ∷ []) ts fs new
-  one_more numbers left_types left_fates t ts f fs now new n at_t at_f small met so = one_met numbers t ts f fs now new n small met (subst (λ l. SoFar numbers (t ∷ ts) l now) at_f (subst (λ l. SoFar numbers l left_fates now) at_t so))
+  one_more numbers left_types left_fates t ts f fs now new n at_t at_f small met so =
+      one_met numbers t ts f fs now new n small met (subst (λ l. SoFar numbers (t ∷ ts) l now) at_f (subst (λ l. SoFar numbers l left_fates now) at_t so))
 
-  pub all_met : (numbers : List ℕ) (left_types : List TypeDef) (left_fates : List Fate) (new : List TypeDef) → left_types ≡ [] → left_fates ≡ [] → SoFar numbers left_types left_fates new → AreCopied own numbers types fates old new
+  pub all_met : (numbers : List ℕ) (left_types : List TypeDef) (left_fates : List Fate) (new : List TypeDef) → left_types ≡ [] → left_fates ≡ [] → SoFar numbers left_types left_fates new
+      → AreCopied own numbers types fates old new
   all_met numbers left_types left_fates new no_types no_fates so =
       let numbers_are : numbers ≡ N = sym (append-nil numbers) ∙ (ap (λ l. numbers ++ numbers_by (own + length new) l) (sym no_fates) ∙ so.numbers_are) in
       record {

@@ -35,8 +35,10 @@ matched_all own other m by_name = record {
   worlds = ap length by_name.worlds ∙ length-map other.worlds.items (own_world_of own m.packages.items);
 }
 
-module _ (own other : Resolve) (valid_other : IsValid other) (m : Matches) (c : Carried) (by_name : AreMatchedByName own other m) (numbered : IsNumbered own other m c) (are : AreChosen other m.interfaces.items c.copied_worlds.items c.copied_interfaces.items)
-    (gs : List Names) (zip : AllZip (IsGained c) (grown_packages c.new_packages.items c.packages.items other.packages.items) gs) (i : ℕ) (n : Names) (p : Package) (at : slice_get gs i ≡ Some n) (there : package_at own n.«package».0 ≡ Some p) where
+module _ (own other : Resolve) (valid_other : IsValid other) (m : Matches) (c : Carried) (by_name : AreMatchedByName own other m) (numbered : IsNumbered own other m c)
+    (are : AreChosen other m.interfaces.items c.copied_worlds.items c.copied_interfaces.items)
+    (gs : List Names) (zip : AllZip (IsGained c) (grown_packages c.new_packages.items c.packages.items other.packages.items) gs) (i : ℕ) (n : Names) (p : Package) (at : slice_get gs i ≡ Some n)
+    (there : package_at own n.«package».0 ≡ Some p) where
   abbrev grown : List (ℕ × Package)
   grown = grown_packages c.new_packages.items c.packages.items other.packages.items
 
@@ -55,7 +57,8 @@ module _ (own other : Resolve) (valid_other : IsValid other) (m : Matches) (c : 
   pub interfaces_behind : insert_all string_eq p.interfaces.entries n.interfaces.entries ≡ p.interfaces.entries ++ n.interfaces.entries
   interfaces_behind = fresh_behind p.interfaces.entries n.interfaces.entries
       (fresh_along (IsInterfaceName c.interfaces.items) (λ a b r. r.0) p.interfaces.entries olds n.interfaces.entries named
-      (passes_of_filter test (is_fresh p.interfaces.entries) old.interfaces.entries (λ e held set. sym (copied_interface own other valid_other m c by_name numbered are x.place n.«package».0 old p x.at_place home there e held) ∙ set)))
+      (passes_of_filter test (is_fresh p.interfaces.entries) old.interfaces.entries
+      (λ e held set. sym (copied_interface own other valid_other m c by_name numbered are x.place n.«package».0 old p x.at_place home there e held) ∙ set)))
       (distinct_along (IsInterfaceName c.interfaces.items) (λ a b r. r.0) olds n.interfaces.entries named (IsDistinct-keys_filter string_eq test old.interfaces.entries unique.0))
     where
       home : IsHome own other valid_other m c by_name numbered are x.place n.«package».0
@@ -74,7 +77,8 @@ module _ (own other : Resolve) (valid_other : IsValid other) (m : Matches) (c : 
   worlds_behind = fresh_behind p.worlds.entries n.worlds.entries
       (fresh_along (IsWorldName c.worlds.items) (λ a b r. r.0) p.worlds.entries olds n.worlds.entries named
       (passes_of_filter test (is_fresh p.worlds.entries) old.worlds.entries
-      (λ e held set. first_true (is_fresh p.worlds.entries e) (not (is_root_world other (world_of other valid_other x.place old x.at_place e held).def)) (sym (copied_world own other valid_other m c by_name numbered are x.place n.«package».0 old p x.at_place home there e held) ∙ set))))
+      (λ e held set. first_true (is_fresh p.worlds.entries e) (not (is_root_world other (world_of other valid_other x.place old x.at_place e held).def))
+      (sym (copied_world own other valid_other m c by_name numbered are x.place n.«package».0 old p x.at_place home there e held) ∙ set))))
       (distinct_along (IsWorldName c.worlds.items) (λ a b r. r.0) olds n.worlds.entries named (IsDistinct-keys_filter string_eq test old.worlds.entries unique.1))
     where
       home : IsHome own other valid_other m c by_name numbered are x.place n.«package».0
@@ -93,8 +97,10 @@ pub unions_are_apart : UnionsAreApart
 unions_are_apart own other world other_world m w v added keys u valid_own valid_other at_own at_other by_name same none = record {
   interfaces = λ i n p at there. interfaces_behind own other valid_other m u.carried by_name u.numbered are added.names.items gains i n p at there;
   worlds = λ i n p at there. worlds_behind own other valid_other m u.carried by_name u.numbered are added.names.items gains i n p at there;
-  imports = λ x at. subst (λ (y : World). insert_all key_eq y.imports.entries added.imports.entries ≡ y.imports.entries ++ added.imports.entries) (some_same w x (sym at_own ∙ at)) (imports_behind own other valid_own valid_other world other_world m w v added keys u at_other all same none);
-  exports = λ x at. subst (λ (y : World). insert_all key_eq y.exports.entries added.exports.entries ≡ y.exports.entries ++ added.exports.entries) (some_same w x (sym at_own ∙ at)) (exports_behind own other valid_own valid_other world other_world m w v added keys u at_other all same none);
+  imports = λ x at. subst (λ (y : World). insert_all key_eq y.imports.entries added.imports.entries ≡ y.imports.entries ++ added.imports.entries) (some_same w x (sym at_own ∙ at))
+      (imports_behind own other valid_own valid_other world other_world m w v added keys u at_other all same none);
+  exports = λ x at. subst (λ (y : World). insert_all key_eq y.exports.entries added.exports.entries ≡ y.exports.entries ++ added.exports.entries) (some_same w x (sym at_own ∙ at))
+      (exports_behind own other valid_own valid_other world other_world m w v added keys u at_other all same none);
 }
   where
     all : AreMatchedAll other m

@@ -56,11 +56,13 @@ string_flip a b = text_eq_flip (text_of a) (text_of b)
 -- ---- what is inserted keeps keys apart
 
 module _ {K X : Type 0} (eq : K → K → Bool) (flip : (a b : K) → eq a b ≡ eq b a) where
-  still_apart : (k : K) (es : List (K × X)) (l : K) (x : X) → eq k l ≡ false → AllByRecursion (λ y. eq k y ≡ false) (keys_of es) → AllByRecursion (λ y. eq k y ≡ false) (keys_of (insert_entry eq es l x))
+  still_apart : (k : K) (es : List (K × X)) (l : K) (x : X) → eq k l ≡ false → AllByRecursion (λ y. eq k y ≡ false) (keys_of es)
+      → AllByRecursion (λ y. eq k y ≡ false) (keys_of (insert_entry eq es l x))
   still_apart k [] l x one h = (one, tt)
   still_apart k (e ∷ es) l x one h = go (eq l e.0) refl (still_apart k es l x one h.1)
     where
-      go : (b : Bool) → eq l e.0 ≡ b → AllByRecursion (λ y. eq k y ≡ false) (keys_of (insert_entry eq es l x)) → AllByRecursion (λ y. eq k y ≡ false) (keys_of (if b then (e.0, x) ∷ es else e ∷ insert_entry eq es l x))
+      go : (b : Bool) → eq l e.0 ≡ b → AllByRecursion (λ y. eq k y ≡ false) (keys_of (insert_entry eq es l x))
+          → AllByRecursion (λ y. eq k y ≡ false) (keys_of (if b then (e.0, x) ∷ es else e ∷ insert_entry eq es l x))
       go true q rest = h
       go false q rest = (h.0, rest)
 
@@ -80,7 +82,8 @@ module _ {K X : Type 0} (eq : K → K → Bool) (flip : (a b : K) → eq a b ≡
 -- ---- copies have the names of what they are of
 
 module _ {X Y : Type 0} where
-  apart_by_names : (k l : String Global) → text_of l ≡ text_of k → (xs : List (String Global × X)) (ys : List (String Global × Y)) → names_in ys ≡ names_in xs → AllByRecursion (λ n. string_eq k n ≡ false) (keys_of xs) → AllByRecursion (λ n. string_eq l n ≡ false) (keys_of ys)
+  apart_by_names : (k l : String Global) → text_of l ≡ text_of k → (xs : List (String Global × X)) (ys : List (String Global × Y)) → names_in ys ≡ names_in xs
+      → AllByRecursion (λ n. string_eq k n ≡ false) (keys_of xs) → AllByRecursion (λ n. string_eq l n ≡ false) (keys_of ys)
   apart_by_names k l same xs [] e h = tt
   apart_by_names k l same [] (y ∷ ys) e h = let wrong : ⊥ = cc in absurd wrong
   apart_by_names k l same (x ∷ xs) (y ∷ ys) e h = ((λ i. text_eq (same i) (first e i)) ∙ h.0, apart_by_names k l same xs ys (rest e) h.1)
@@ -107,28 +110,33 @@ names_alone : (es : List (String Global × TypeId)) → map (λ (x : Text × ℕ
 names_alone [] = refl
 names_alone (e ∷ es) = ap (λ l. text_of e.0 ∷ l) (names_alone es)
 
-interface_distinct : (numbers : List ℕ) (home : Option PackageId) (old new : Interface) → IsInterfaceUnder numbers home old new → IsUnique string_eq old.types × IsUnique string_eq old.functions → IsUnique string_eq new.types × IsUnique string_eq new.functions
+interface_distinct : (numbers : List ℕ) (home : Option PackageId) (old new : Interface) → IsInterfaceUnder numbers home old new → IsUnique string_eq old.types × IsUnique string_eq old.functions
+    → IsUnique string_eq new.types × IsUnique string_eq new.functions
 interface_distinct numbers home old new is unique = (
-  distinct_by_names old.types.entries new.types.entries (sym (names_alone new.types.entries) ∙ (ap (map (λ (x : Text × ℕ). x.0)) (is.types unique.0) ∙ names_alone_under numbers old.types.entries)) unique.0,
+  distinct_by_names old.types.entries new.types.entries (sym (names_alone new.types.entries)
+      ∙ (ap (map (λ (x : Text × ℕ). x.0)) (is.types unique.0) ∙ names_alone_under numbers old.types.entries)) unique.0,
   distinct_along (IsFunctionEntry numbers) (λ a b r. r.0) old.functions.entries new.functions.entries (is.functions unique.1) unique.1,
 )
 
 module _ (interfaces types : List ℕ) where
-  image_apart : (k u : WorldKey) → IsKeyUnder interfaces k u → (olds news : List (WorldKey × WorldItem)) → AllZip (IsEntryUnder interfaces types) olds news → AllByRecursion (λ y. become_one interfaces k y ≡ false) (keys_of olds) → AllByRecursion (λ y. key_eq u y ≡ false) (keys_of news)
+  image_apart : (k u : WorldKey) → IsKeyUnder interfaces k u → (olds news : List (WorldKey × WorldItem)) → AllZip (IsEntryUnder interfaces types) olds news
+      → AllByRecursion (λ y. become_one interfaces k y ≡ false) (keys_of olds) → AllByRecursion (λ y. key_eq u y ≡ false) (keys_of news)
   image_apart k u is [] [] zip h = tt
   image_apart k u is [] (n ∷ ns) zip h = absurd zip
   image_apart k u is (o ∷ os) [] zip h = absurd zip
   image_apart k u is (o ∷ os) (n ∷ ns) zip h = (key_flip u n.0 ∙ (same_images interfaces k o.0 u n.0 is zip.0.0 ∙ h.0), image_apart k u is os ns zip.1 h.1)
 
   -- keys of copies differ where no two keys become one
-  pub images_distinct : (olds news : List (WorldKey × WorldItem)) → AllZip (IsEntryUnder interfaces types) olds news → IsDistinct (become_one interfaces) (keys_of olds) → IsDistinct key_eq (keys_of news)
+  pub images_distinct : (olds news : List (WorldKey × WorldItem)) → AllZip (IsEntryUnder interfaces types) olds news → IsDistinct (become_one interfaces) (keys_of olds)
+      → IsDistinct key_eq (keys_of news)
   unfolding IsDistinct
   images_distinct [] [] zip h = tt
   images_distinct [] (n ∷ ns) zip h = absurd zip
   images_distinct (o ∷ os) [] zip h = absurd zip
   images_distinct (o ∷ os) (n ∷ ns) zip h = (image_apart o.0 n.0 zip.0.0 os ns zip.1 h.0, images_distinct os ns zip.1 h.1)
 
-  pub copied_distinct : (here olds news : List (WorldKey × WorldItem)) → AreNewCopied interfaces types here olds news → IsDistinct (become_one interfaces) (keys_of olds) → IsDistinct key_eq (keys_of news)
+  pub copied_distinct : (here olds news : List (WorldKey × WorldItem)) → AreNewCopied interfaces types here olds news → IsDistinct (become_one interfaces) (keys_of olds)
+      → IsDistinct key_eq (keys_of news)
   copied_distinct here olds news are h =
       images_distinct (filter test olds) news (are h) (IsDistinct-keys_filter (become_one interfaces) test olds h)
     where
@@ -150,7 +158,8 @@ kept_at (true ∷ bs) (y ∷ ys) (suc k) x e = let r = kept_at bs ys k x e in (s
 kept_at (false ∷ bs) (y ∷ ys) k x e = let r = kept_at bs ys k x e in (suc r.0, r.1)
 
 -- what a copy is of
-copy_of : {X Y : Type 0} (R : X → Y → Type 0) (flags : List Bool) (xs : List X) (ys : List Y) → AllZip R (kept flags xs) ys → (k : ℕ) (y : Y) → slice_get ys k ≡ Some y → (j : ℕ) × (x : X) × (slice_get xs j ≡ Some x) × R x y
+copy_of : {X Y : Type 0} (R : X → Y → Type 0) (flags : List Bool) (xs : List X) (ys : List Y) → AllZip R (kept flags xs) ys → (k : ℕ) (y : Y) → slice_get ys k ≡ Some y → (j : ℕ) × (x : X)
+    × (slice_get xs j ≡ Some x) × R x y
 copy_of R flags xs ys zip k y at =
     let x = zip_at R (kept flags xs) ys zip k y at in
     let j = kept_at flags xs k x.0 x.1 in
@@ -199,8 +208,10 @@ module _ (own other merged : Resolve) (world other_world : ℕ) (m : Matches) (w
   new_package k p at =
       let x = copy_of (IsPackageCarried c) c.new_packages.items other.packages.items u.before.packages.items u.first.packages k p (sym (ap (λ l. slice_get l k) u.second.packages) ∙ at) in
       let unique = valid_other.distinct_keys.packages x.0 x.1 x.2 in (
-        distinct_along (IsInterfaceName c.interfaces.items) (λ e n r. r.0) (filter (is_copied_interface c.copied_interfaces.items) x.1.interfaces.entries) p.interfaces.entries (x.3.interfaces unique.0) (IsDistinct-keys_filter string_eq (is_copied_interface c.copied_interfaces.items) x.1.interfaces.entries unique.0),
-        distinct_along (IsWorldName c.worlds.items) (λ e n r. r.0) (filter (is_copied_world c.copied_worlds.items) x.1.worlds.entries) p.worlds.entries (x.3.worlds unique.1) (IsDistinct-keys_filter string_eq (is_copied_world c.copied_worlds.items) x.1.worlds.entries unique.1),
+        distinct_along (IsInterfaceName c.interfaces.items) (λ e n r. r.0) (filter (is_copied_interface c.copied_interfaces.items) x.1.interfaces.entries) p.interfaces.entries
+            (x.3.interfaces unique.0) (IsDistinct-keys_filter string_eq (is_copied_interface c.copied_interfaces.items) x.1.interfaces.entries unique.0),
+        distinct_along (IsWorldName c.worlds.items) (λ e n r. r.0) (filter (is_copied_world c.copied_worlds.items) x.1.worlds.entries) p.worlds.entries (x.3.worlds unique.1)
+            (IsDistinct-keys_filter string_eq (is_copied_world c.copied_worlds.items) x.1.worlds.entries unique.1),
       )
 
   -- ---- interfaces

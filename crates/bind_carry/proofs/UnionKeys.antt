@@ -68,21 +68,25 @@ module _ (a b : List ℕ) where
   one_view (key.Name k) (key.Name x) (key.Interface y) r s same = absurd s
   one_view (key.Interface k) (key.Interface x) (key.Name y) r s same = absurd s
 
-  views_same : (types : List ℕ) (es news : List (WorldKey × WorldItem)) (keys : List WorldKey) → AllZip (IsEntryUnder a types) es news → AllZip (IsKeyUnder b) (keys_of es) keys → ((e : WorldKey × WorldItem) → Contains es e → IsNumberedSame a b e.0)
+  views_same : (types : List ℕ) (es news : List (WorldKey × WorldItem)) (keys : List WorldKey) → AllZip (IsEntryUnder a types) es news → AllZip (IsKeyUnder b) (keys_of es) keys
+      → ((e : WorldKey × WorldItem) → Contains es e → IsNumberedSame a b e.0)
       → map key_view (keys_of news) ≡ map key_view keys
   views_same types [] [] [] z y same = refl
   views_same types [] [] (k ∷ ks) z y same = absurd y
   views_same types [] (n ∷ ns) ks z y same = absurd z
   views_same types (e ∷ es) [] ks z y same = absurd z
   views_same types (e ∷ es) (n ∷ ns) [] z y same = absurd y
-  views_same types (e ∷ es) (n ∷ ns) (k ∷ ks) z y same = ap₂ (λ p q. p ∷ q) (one_view e.0 n.0 k z.0.0 y.0 (same e (0, omega arith, refl))) (views_same types es ns ks z.1 y.1 (λ x held. same x (contains-later e es x held)))
+  views_same types (e ∷ es) (n ∷ ns) (k ∷ ks) z y same = ap₂ (λ p q. p ∷ q) (one_view e.0 n.0 k z.0.0 y.0 (same e (0, omega arith, refl)))
+      (views_same types es ns ks z.1 y.1 (λ x held. same x (contains-later e es x held)))
 
 texts_same : (r s : Resolve) (numbers : List ℕ) (es : List (WorldKey × WorldItem)) (keys : List WorldKey) → AllZip (IsKeyUnder numbers) (keys_of es) keys
-    → ((e : WorldKey × WorldItem) → Contains es e → (id : InterfaceId) → e.0 ≡ key.Interface id → interface_path s (number_under numbers id.0) ≡ interface_path r id.0) → map (key_text s) keys ≡ map (key_text r) (keys_of es)
+    → ((e : WorldKey × WorldItem) → Contains es e → (id : InterfaceId) → e.0 ≡ key.Interface id → interface_path s (number_under numbers id.0) ≡ interface_path r id.0)
+    → map (key_text s) keys ≡ map (key_text r) (keys_of es)
 texts_same r s numbers [] [] z paths = refl
 texts_same r s numbers [] (k ∷ ks) z paths = absurd z
 texts_same r s numbers (e ∷ es) [] z paths = absurd z
-texts_same r s numbers (e ∷ es) (k ∷ ks) z paths = ap₂ (λ p q. p ∷ q) (one e.0 k z.0 (paths e (0, omega arith, refl))) (texts_same r s numbers es ks z.1 (λ x held. paths x (contains-later e es x held)))
+texts_same r s numbers (e ∷ es) (k ∷ ks) z paths = ap₂ (λ p q. p ∷ q) (one e.0 k z.0 (paths e (0, omega arith, refl)))
+    (texts_same r s numbers es ks z.1 (λ x held. paths x (contains-later e es x held)))
   where
     one : (a b : WorldKey) → IsKeyUnder numbers a b → ((id : InterfaceId) → a ≡ key.Interface id → interface_path s (number_under numbers id.0) ≡ interface_path r id.0) → key_text s b ≡ key_text r a
     one (key.Name a) (key.Name b) is path = is
@@ -92,8 +96,10 @@ texts_same r s numbers (e ∷ es) (k ∷ ks) z paths = ap₂ (λ p q. p ∷ q) (
 
 -- ---- all exports are new
 
-module _ (own other : Resolve) (valid_own : IsValid own) (valid_other : IsValid other) (world other_world : ℕ) (m : Matches) (w v : World) (added : Added) (keys : List WorldKey) (u : IsUnionOf own other world other_world m w v added keys)
-    (at_own : world_at own world ≡ Some w) (at : world_at other other_world ≡ Some v) (all : AreMatchedAll other m) (same : AreMatchedAt own other m.interfaces.items u.carried.packages.items) (none : NoneOfPath own other m.interfaces.items) where
+module _ (own other : Resolve) (valid_own : IsValid own) (valid_other : IsValid other) (world other_world : ℕ) (m : Matches) (w v : World) (added : Added) (keys : List WorldKey)
+    (u : IsUnionOf own other world other_world m w v added keys)
+    (at_own : world_at own world ≡ Some w) (at : world_at other other_world ≡ Some v) (all : AreMatchedAll other m) (same : AreMatchedAt own other m.interfaces.items u.carried.packages.items)
+    (none : NoneOfPath own other m.interfaces.items) where
   abbrev c : Carried
   c = u.carried
 
@@ -101,18 +107,23 @@ module _ (own other : Resolve) (valid_own : IsValid own) (valid_other : IsValid 
   long = u.numbered.interface_count ∙ sym all.interfaces
 
   -- an own interface that has the number of one with a name has its path
-  own_path : (n : ℕ) (i : Interface) → interface_at other n ≡ Some i → is_some i.name ≡ true → (j : ℕ) (d : Interface) → interface_at own j ≡ Some d → number_under c.interfaces.items n ≡ j → interface_path own j ≡ interface_path other n
+  own_path : (n : ℕ) (i : Interface) → interface_at other n ≡ Some i → is_some i.name ≡ true → (j : ℕ) (d : Interface) → interface_at own j ≡ Some d → number_under c.interfaces.items n ≡ j
+      → interface_path own j ≡ interface_path other n
   own_path n i there named j d at_j number = go (flag_under c.copied_interfaces.items n) refl
     where
       go : (b : Bool) → flag_under c.copied_interfaces.items n ≡ b → interface_path own j ≡ interface_path other n
       go true e =
-          let past = copied_behind (length own.interfaces.items) c.copied_interfaces.items (map interface_number m.interfaces.items) n (long ∙ sym (length-map m.interfaces.items interface_number)) e in
-          let here : number_under (numbers_of (length own.interfaces.items) c.copied_interfaces.items (map interface_number m.interfaces.items)) n ≡ j = ap (λ (l : List ℕ). number_under l n) (sym u.numbered.interfaces) ∙ number in
+          let past = copied_behind (length own.interfaces.items) c.copied_interfaces.items (map interface_number m.interfaces.items) n
+          (long ∙ sym (length-map m.interfaces.items interface_number)) e in
+          let here : number_under (numbers_of (length own.interfaces.items) c.copied_interfaces.items (map interface_number m.interfaces.items)) n ≡ j =
+          ap (λ (l : List ℕ). number_under l n) (sym u.numbered.interfaces) ∙ number in
           let within = slice_get_within own.interfaces.items j d at_j in
           absurd (omega (arith, past, here, within))
       go false e =
-          let k : is_matched m.interfaces.items n ≡ true = sym (ap (λ b. b || is_matched m.interfaces.items n) e) ∙ named_carried own other valid_own valid_other world other_world m w v added keys u at all same none n i there named in
-          let is = interface_is own other valid_own valid_other m.interfaces.items c u.types (chosen own other valid_own valid_other world other_world m w v added keys u at all same none) same none long u.numbered.interfaces (length own.types.items + length {A = TypeDef} []) u.types_copied.numbers_are n k in
+          let k : is_matched m.interfaces.items n ≡ true = sym (ap (λ b. b || is_matched m.interfaces.items n) e) ∙ named_carried own other valid_own valid_other world other_world m w v added keys u
+          at all same none n i there named in
+          let is = interface_is own other valid_own valid_other m.interfaces.items c u.types (chosen own other valid_own valid_other world other_world m w v added keys u at all same none) same none
+          long u.numbered.interfaces (length own.types.items + length {A = TypeDef} []) u.types_copied.numbers_are n k in
           ap (interface_path own) (sym number ∙ is) ∙ (same n k).path
 
   same_number : (e : WorldKey × WorldItem) → Contains v.exports.entries e → IsNumberedSame u.second.interfaces c.interfaces.items e.0
@@ -121,7 +132,8 @@ module _ (own other : Resolve) (valid_own : IsValid own) (valid_other : IsValid 
       named_number own other valid_own valid_other world other_world m w v added keys u at all same none id.0 i.0 i.1 i.2
 
   -- a key that stands here has its text
-  same_text : (e x : WorldKey × WorldItem) → Contains v.exports.entries e → Contains w.exports.entries x → (k l : WorldKey) → e.0 ≡ k → x.0 ≡ l → is_key_under u.second.interfaces k l ≡ true → key_text own l ≡ key_text other k
+  same_text : (e x : WorldKey × WorldItem) → Contains v.exports.entries e → Contains w.exports.entries x → (k l : WorldKey) → e.0 ≡ k → x.0 ≡ l → is_key_under u.second.interfaces k l ≡ true
+      → key_text own l ≡ key_text other k
   same_text e x held here (key.Name a) (key.Name b) p q h = sym (text_same (text_of a) (text_of b) h)
   same_text e x held here (key.Name a) (key.Interface b) p q h = no_true h
   same_text e x held here (key.Interface a) (key.Name b) p q h = no_true h
@@ -134,34 +146,40 @@ module _ (own other : Resolve) (valid_own : IsValid own) (valid_other : IsValid 
   abbrev is_new : WorldKey × WorldItem → Bool
   is_new e = is_new_under u.second.interfaces w.exports.entries e.0
 
-  pub all_new : ((x e : WorldKey × WorldItem) → Contains w.exports.entries x → Contains v.exports.entries e → key_text own x.0 ≡ key_text other e.0 → ⊥) → (e : WorldKey × WorldItem) → Contains v.exports.entries e → is_new e ≡ true
+  pub all_new : ((x e : WorldKey × WorldItem) → Contains w.exports.entries x → Contains v.exports.entries e → key_text own x.0 ≡ key_text other e.0 → ⊥) → (e : WorldKey × WorldItem)
+      → Contains v.exports.entries e → is_new e ≡ true
   all_new apart e held = go (is_new e) refl
     where
       go : (b : Bool) → is_new e ≡ b → is_new e ≡ true
       go true q = q
       go false q =
           let x : IsPlacedIn (λ (x : WorldKey × WorldItem). is_key_under u.second.interfaces e.0 x.0) w.exports.entries =
-          any_place (λ (x : WorldKey × WorldItem). is_key_under u.second.interfaces e.0 x.0) w.exports.entries (not_not (list_any (λ (x : WorldKey × WorldItem). is_key_under u.second.interfaces e.0 x.0) w.exports.entries) q) in
+          any_place (λ (x : WorldKey × WorldItem). is_key_under u.second.interfaces e.0 x.0) w.exports.entries
+          (not_not (list_any (λ (x : WorldKey × WorldItem). is_key_under u.second.interfaces e.0 x.0) w.exports.entries) q) in
           let here = get-contains w.exports.entries x.place x.thing x.there in
           absurd (apart x.thing e here held (same_text e x.thing held here e.0 x.thing.0 refl refl x.passes_it))
 
   key_copies : AllZip (IsKeyUnder c.interfaces.items) (keys_of v.exports.entries) keys
   key_copies = u.keys_are (by_path_apart own other valid_own valid_other world other_world m w v added keys u at all same none other_world v at).1
 
-  pub views_added : ((x e : WorldKey × WorldItem) → Contains w.exports.entries x → Contains v.exports.entries e → key_text own x.0 ≡ key_text other e.0 → ⊥) → map key_view (keys_of added.exports.entries) ≡ map key_view keys
+  pub views_added : ((x e : WorldKey × WorldItem) → Contains w.exports.entries x → Contains v.exports.entries e → key_text own x.0 ≡ key_text other e.0 → ⊥)
+      → map key_view (keys_of added.exports.entries) ≡ map key_view keys
   views_added apart = views_same u.second.interfaces c.interfaces.items u.second.types v.exports.entries added.exports.entries keys copies key_copies same_number
     where
       copies : AllZip (IsEntryUnder u.second.interfaces u.second.types) v.exports.entries added.exports.entries
-      copies = subst (λ l. AllZip (IsEntryUnder u.second.interfaces u.second.types) l added.exports.entries) (filter_whole is_new v.exports.entries (all_new apart)) (u.second.exports (exports_apart own other valid_own valid_other world other_world m w v added keys u at all same none))
+      copies = subst (λ l. AllZip (IsEntryUnder u.second.interfaces u.second.types) l added.exports.entries) (filter_whole is_new v.exports.entries (all_new apart))
+          (u.second.exports (exports_apart own other valid_own valid_other world other_world m w v added keys u at all same none))
 
-  pub texts_kept : (merged : Resolve) (f : Renumbering) → f.interfaces ≡ number_under c.interfaces.items → ((n : ℕ) → (flag_under c.copied_interfaces.items n || is_matched m.interfaces.items n) ≡ true → interface_path merged (f.interfaces n) ≡ interface_path other n)
+  pub texts_kept : (merged : Resolve) (f : Renumbering) → f.interfaces ≡ number_under c.interfaces.items
+      → ((n : ℕ) → (flag_under c.copied_interfaces.items n || is_matched m.interfaces.items n) ≡ true → interface_path merged (f.interfaces n) ≡ interface_path other n)
       → map (key_text merged) keys ≡ map (key_text other) (keys_of v.exports.entries)
   texts_kept merged f by paths = texts_same other merged c.interfaces.items v.exports.entries keys key_copies
       (λ e held id is. let i = export_named own other valid_own valid_other world other_world m w v added keys u at all same none e held id is in
       ap (λ g. interface_path merged (g id.0)) (sym by) ∙ paths id.0 (named_carried own other valid_own valid_other world other_world m w v added keys u at all same none id.0 i.0 i.1 i.2))
 
 pub exports_are_added : ExportsAreAdded
-exports_are_added own other world other_world m w v added keys u valid_own valid_other at_own at all same none apart = views_added own other valid_own valid_other world other_world m w v added keys u at_own at all same none apart
+exports_are_added own other world other_world m w v added keys u valid_own valid_other at_own at all same none apart =
+    views_added own other valid_own valid_other world other_world m w v added keys u at_own at all same none apart
 
 -- ---- paths under new numbers
 
@@ -192,7 +210,8 @@ module _ (r s : Resolve) (f : Renumbering) (valid : IsValid r) (is : IsCarried r
       i : IsInterface r s f n
       i = is.interfaces n c
 
-      go : (o : Option (String Global)) → i.old.name ≡ o → path_by s (optional_text i.old.name) (package_number i.image.«package») ≡ path_by r (optional_text i.old.name) (package_number i.old.«package»)
+      go : (o : Option (String Global)) → i.old.name ≡ o
+          → path_by s (optional_text i.old.name) (package_number i.image.«package») ≡ path_by r (optional_text i.old.name) (package_number i.old.«package»)
       go None e = ap (λ x. path_by s (optional_text x) (package_number i.image.«package»)) e ∙ sym (ap (λ x. path_by r (optional_text x) (package_number i.old.«package»)) e)
       go (Some x) e =
           ap (path_by s (optional_text i.old.name)) (i.in_package (ap is_some e))
@@ -202,7 +221,8 @@ pub keys_keep_texts : KeysKeepTexts
 keys_keep_texts own other merged world other_world m w v added keys u valid_own valid_other a at_own at all by_name same none =
     let p = unions_have_the_first own other merged world other_world m w v added keys u a at_own all by_name same none in
     let f : Renumbering = first_of m.interfaces.items u.carried (first_fates own other m.interfaces.items u.carried) u.types in
-    texts_kept own other valid_own valid_other world other_world m w v added keys u at_own at all same none merged f refl (carried_path other merged f valid_other (first_is_carried own other merged m u.carried u.types valid_own valid_other p))
+    texts_kept own other valid_own valid_other world other_world m w v added keys u at_own at all same none merged f refl
+    (carried_path other merged f valid_other (first_is_carried own other merged m u.carried u.types valid_own valid_other p))
 
 -- ---- behind own exports
 

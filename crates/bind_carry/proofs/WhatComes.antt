@@ -97,7 +97,8 @@ module _ (adds : Bool) (types : List TypeDef) (fates : List Fate) (falls : FallB
     at_first : slice_get fates n ≡ Some first
     how : (P first ≡ true) ⊎ ((is_none def.name ≡ true) × (adds ≡ true) × (are_carried final (type_parts def) ≡ true))
 
-  how_so : (P : Fate → Bool) → ((f : Fate) (none may : Bool) → P (settled f none may) ≡ true → (P f ≡ true) ⊎ ((none ≡ true) × (may ≡ true))) → (n : ℕ) (g : Fate) → slice_get final n ≡ Some g → P g ≡ true → IsHow P n
+  how_so : (P : Fate → Bool) → ((f : Fate) (none may : Bool) → P (settled f none may) ≡ true → (P f ≡ true) ⊎ ((none ≡ true) × (may ≡ true))) → (n : ℕ) (g : Fate) → slice_get final n ≡ Some g
+      → P g ≡ true → IsHow P n
   how_so P settles n g at h = record { def = t.0; found = t.1; first = f.0; at_first = f.1; how = by (settles f.0 (is_none t.0.name) may passes) }
     where
       inside : n < length types
@@ -158,7 +159,8 @@ module _ (adds : Bool) (types : List TypeDef) (fates : List Fate) (falls : FallB
 -- ---- by path
 
 module _ (own other : Resolve) (valid_other : IsValid other) (matched : List (Option InterfaceId)) (c : CarriedThings) (Copied Owner : TypeOwner → Type 0)
-    (copied_interface : (id : InterfaceId) → flag_under c.copied_interfaces.items id.0 ≡ true → Copied (owner.Interface id)) (copied_world : (id : WorldId) → flag_under c.copied_worlds.items id.0 ≡ true → Copied (owner.World id))
+    (copied_interface : (id : InterfaceId) → flag_under c.copied_interfaces.items id.0 ≡ true → Copied (owner.Interface id))
+    (copied_world : (id : WorldId) → flag_under c.copied_worlds.items id.0 ≡ true → Copied (owner.World id))
     (copied_owner : (o : TypeOwner) → Copied o → Owner o) (matched_owner : (id : InterfaceId) → is_matched matched id.0 ≡ true → Owner (owner.Interface id)) where
   named_matched : (n : ℕ) (name : Option Text) → carries (fate_named own matched n name) ≡ true → is_matched matched n ≡ true
   named_matched n None h = no_true h
@@ -217,8 +219,10 @@ pub record IsNewImport (interfaces : List ℕ) (here es : List (WorldKey × Worl
   pub is_type : item_type entry.1 ≡ Some n
   pub is_new : is_new_under interfaces here entry.0 ≡ true
 
-module _ (own other : Resolve) (valid_own : IsValid own) (valid_other : IsValid other) (world other_world : ℕ) (w v : World) (at_v : world_at other other_world ≡ Some v) (agree : DoNotClash own other w v)
-    (copied : List Bool) (interfaces : List ℕ) (before : TypeFates) (numbers : List ℕ) (long : length before ≡ length other.types.items) (numbers_long : length numbers ≡ length other.types.items) (Copied Owner : TypeOwner → Type 0)
+module _ (own other : Resolve) (valid_own : IsValid own) (valid_other : IsValid other) (world other_world : ℕ) (w v : World) (at_v : world_at other other_world ≡ Some v)
+    (agree : DoNotClash own other w v)
+    (copied : List Bool) (interfaces : List ℕ) (before : TypeFates) (numbers : List ℕ) (long : length before ≡ length other.types.items) (numbers_long : length numbers ≡ length other.types.items)
+    (Copied Owner : TypeOwner → Type 0)
     (copied_interface : (id : InterfaceId) → flag_under copied id.0 ≡ true → Copied (owner.Interface id)) (copied_owner : (o : TypeOwner) → Copied o → Owner o)
     (named_owner : (id : InterfaceId) → is_named_at other id.0 ≡ true → Owner (owner.Interface id)) (bound_owner : (id : WorldId) → id.0 ≡ other_world → Owner (owner.World id)) where
   abbrev types : List TypeDef
@@ -231,13 +235,18 @@ module _ (own other : Resolve) (valid_own : IsValid own) (valid_other : IsValid 
   at_first = unified w.imports.entries v.imports.entries behind
 
   -- a fate behind the first pass
-  behind_is : (ts : List TypeDef) (fs : List Fate) (ns : List ℕ) (n : ℕ) (t : TypeDef) (g : Fate) → slice_get ts n ≡ Some t → slice_get (second_from other world other_world copied interfaces ts fs ns) n ≡ Some g
+  behind_is : (ts : List TypeDef) (fs : List Fate) (ns : List ℕ) (n : ℕ) (t : TypeDef) (g : Fate) → slice_get ts n ≡ Some t
+      → slice_get (second_from other world other_world copied interfaces ts fs ns) n ≡ Some g
       → (f : Fate) × (k : ℕ) × (second_in other world other_world copied interfaces t.owner (beside_first f k) ≡ g)
   behind_is [] fs ns n t g at e = let wrong : ⊥ = cc in absurd wrong
   behind_is (u ∷ ts) [] ns n t g at e = let wrong : ⊥ = cc in absurd wrong
   behind_is (u ∷ ts) (f ∷ fs) [] n t g at e = let wrong : ⊥ = cc in absurd wrong
-  behind_is (u ∷ ts) (f ∷ fs) (k ∷ ns) zero t g at e =
-      (f, k, ap (λ (x : TypeDef). second_in other world other_world copied interfaces x.owner (beside_first f k)) (sym (some_same u t at)) ∙ some_same (second_in other world other_world copied interfaces u.owner (beside_first f k)) g e)
+  behind_is (u ∷ ts) (f ∷ fs) (k ∷ ns) zero t g at e = (
+    f,
+    k,
+    ap (λ (x : TypeDef). second_in other world other_world copied interfaces x.owner (beside_first f k)) (sym (some_same u t at)) ∙ some_same
+        (second_in other world other_world copied interfaces u.owner (beside_first f k)) g e,
+  )
   behind_is (u ∷ ts) (f ∷ fs) (k ∷ ns) (suc n) t g at e = behind_is ts fs ns n t g at e
 
   long_behind : length behind ≡ length types
@@ -271,7 +280,8 @@ module _ (own other : Resolve) (valid_own : IsValid own) (valid_other : IsValid 
   Gained n = IsOwnedBy types Copied n ⊎ IsNewImport interfaces w.imports.entries v.imports.entries n
 
   -- a type of the bound world that is copied is a new import
-  new_import : (n : ℕ) (t : TypeDef) (f : Fate) → slice_get types n ≡ Some t → t.owner ≡ as_world other_world → slice_get at_first n ≡ Some f → copies f ≡ true → IsNewImport interfaces w.imports.entries v.imports.entries n
+  new_import : (n : ℕ) (t : TypeDef) (f : Fate) → slice_get types n ≡ Some t → t.owner ≡ as_world other_world → slice_get at_first n ≡ Some f → copies f ≡ true
+      → IsNewImport interfaces w.imports.entries v.imports.entries n
   new_import n t f at home e copy = named_so t.name refl
     where
       named_so : (o : Option (String Global)) → t.name ≡ o → IsNewImport interfaces w.imports.entries v.imports.entries n
@@ -291,12 +301,19 @@ module _ (own other : Resolve) (valid_own : IsValid own) (valid_other : IsValid 
           less = let inside = slice_get_within types n t at in let same = id.2 in omega (arith, inside, same, long_behind)
 
           by : (o : Option TypeId) → type_under_key w.imports.entries x.entry.0 ≡ o → IsNewImport interfaces w.imports.entries v.imports.entries n
-          by None r = record { entry = x.entry; held = x.held; is_type = x.is_type; is_new = unmet_new own other valid_own valid_other other_world w v at_v agree interfaces x.entry x.held id.0 id.1 r }
+          by None r = record {
+            entry = x.entry;
+            held = x.held;
+            is_type = x.is_type;
+            is_new =
+                unmet_new own other valid_own valid_other other_world w v at_v agree interfaces x.entry x.held id.0 id.1 r;
+          }
           by (Some mine) r =
               let u = unified_set w.imports.entries v.imports.entries behind place.0 x.entry id.0 mine place.1 id.1 r less in
               absurd (stands_left u.own.0 f (some_same (fate.Stands u.own.0) f (sym u.stands ∙ (ap (slice_get at_first) id.2 ∙ e))) copy)
 
-  gained_home : (n : ℕ) (t : TypeDef) (f : Fate) (o : TypeOwner) (g : Fate) (k : ℕ) → slice_get types n ≡ Some t → slice_get at_first n ≡ Some f → copies f ≡ true → t.owner ≡ o → second_in other world other_world copied interfaces o (beside_first g k) ≡ f → Gained n
+  gained_home : (n : ℕ) (t : TypeDef) (f : Fate) (o : TypeOwner) (g : Fate) (k : ℕ) → slice_get types n ≡ Some t → slice_get at_first n ≡ Some f → copies f ≡ true → t.owner ≡ o
+      → second_in other world other_world copied interfaces o (beside_first g k) ≡ f → Gained n
   gained_home n t f owner.None g k at e copy home is = no_true (ap copies is ∙ copy)
   gained_home n t f (owner.World id) g k at e copy home is = by (id.0 == other_world) refl (fate.Copied _) (ap copies is ∙ copy)
     where
@@ -326,7 +343,8 @@ module _ (own other : Resolve) (valid_own : IsValid own) (valid_other : IsValid 
       by true q h r = bound_owner id (equal id.0 other_world q)
   carried_home (owner.Interface id) f g k carry is = by (flag_under copied id.0) refl (is_named_at other id.0) refl (fate.Copied _) (ap carries is ∙ carry)
     where
-      by : (b : Bool) → flag_under copied id.0 ≡ b → (d : Bool) → is_named_at other id.0 ≡ d → (h : Fate) → carries (if b then h else (if d then beside_first g k else fate.Left)) ≡ true → Owner (owner.Interface id)
+      by : (b : Bool) → flag_under copied id.0 ≡ b → (d : Bool) → is_named_at other id.0 ≡ d → (h : Fate) → carries (if b then h else (if d then beside_first g k else fate.Left)) ≡ true
+          → Owner (owner.Interface id)
       by true q d s h r = copied_owner (owner.Interface id) (copied_interface id q)
       by false q true s h r = named_owner id s
       by false q false s h r = no_true r
@@ -337,10 +355,13 @@ module _ (own other : Resolve) (valid_own : IsValid own) (valid_other : IsValid 
       by : ((g : Fate) × (k : ℕ) × (second_in other world other_world copied interfaces t.owner (beside_first g k) ≡ f)) ⊎ IsUnified w.imports.entries v.imports.entries at_first n → Owner t.owner
       by (inl b) = carried_home t.owner f b.0 b.1 carry b.2
       by (inr u) =
-          let x = world_type other valid_other other_world v at_v u.entry.0 u.entry.1 (get-contains v.imports.entries u.place u.entry u.at_place) n (type_number u.entry.1 u.id u.is_type ∙ ap Some u.number) in
+          let x = world_type other valid_other other_world v at_v u.entry.0 u.entry.1 (get-contains v.imports.entries u.place u.entry u.at_place) n
+          (type_number u.entry.1 u.id u.is_type ∙ ap Some u.number) in
           subst Owner (sym (ap (λ (d : TypeDef). d.owner) (sym (some_same x.def t (sym x.found ∙ at))) ∙ x.home)) (bound_owner (record { 0 = other_world }) refl)
 
   -- a type that is copied with what the bound world gains
-  pub second_comes : (n : ℕ) → slice_get (map copies (bound_fates other world other_world w v copied interfaces before numbers)) n ≡ Some true → Gained n ⊎ ((gains_any interfaces w v ≡ true) × IsMadeUp types Owner n)
+  pub second_comes : (n : ℕ) → slice_get (map copies (bound_fates other world other_world w v copied interfaces before numbers)) n ≡ Some true → Gained n
+      ⊎ ((gains_any interfaces w v ≡ true) × IsMadeUp types Owner n)
   second_comes =
-      copied_so (gains_any interfaces w v) types at_first (is_in_range other valid_other).falls (unified_long w.imports.entries v.imports.entries behind ∙ long_behind) Owner gained_carried Gained gained_copied
+      copied_so (gains_any interfaces w v) types at_first (is_in_range other valid_other).falls (unified_long w.imports.entries v.imports.entries behind ∙ long_behind) Owner gained_carried Gained
+      gained_copied

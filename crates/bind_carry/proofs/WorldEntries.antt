@@ -55,17 +55,20 @@ module _ (r : Resolve) (valid : IsValid r) (n : ℕ) (w : World) (at : world_at 
   unfolding numbers_in_range
   ranges =
       second_true (passes (in_list r.packages.items) (package_number w.«package»)) (entries_in_range r w.imports.entries && entries_in_range r w.exports.entries)
-      (second_true (is_place n) (passes (in_list r.packages.items) (package_number w.«package») && (entries_in_range r w.imports.entries && entries_in_range r w.exports.entries)) (world-passes numbers_in_range r valid.rules.numbers_in_range n w at))
+      (second_true (is_place n) (passes (in_list r.packages.items) (package_number w.«package») && (entries_in_range r w.imports.entries && entries_in_range r w.exports.entries))
+      (world-passes numbers_in_range r valid.rules.numbers_in_range n w at))
 
   stand : (list_all (λ (e : WorldKey × WorldItem). import_stands r n e.0 e.1) w.imports.entries && list_all (λ (e : WorldKey × WorldItem). export_stands r e.0 e.1) w.exports.entries) ≡ true
   unfolding world_items
   stand = world-passes world_items r valid.rules.world_items n w at
 
   pub import_range : (e : WorldKey × WorldItem) → Contains w.imports.entries e → (key_in_range r e.0 && item_in_range r e.1) ≡ true
-  import_range e c = all-contained (λ (x : WorldKey × WorldItem). key_in_range r x.0 && item_in_range r x.1) w.imports.entries e (first_true (entries_in_range r w.imports.entries) (entries_in_range r w.exports.entries) ranges) c
+  import_range e c = all-contained (λ (x : WorldKey × WorldItem). key_in_range r x.0 && item_in_range r x.1) w.imports.entries e
+      (first_true (entries_in_range r w.imports.entries) (entries_in_range r w.exports.entries) ranges) c
 
   pub export_range : (e : WorldKey × WorldItem) → Contains w.exports.entries e → (key_in_range r e.0 && item_in_range r e.1) ≡ true
-  export_range e c = all-contained (λ (x : WorldKey × WorldItem). key_in_range r x.0 && item_in_range r x.1) w.exports.entries e (second_true (entries_in_range r w.imports.entries) (entries_in_range r w.exports.entries) ranges) c
+  export_range e c = all-contained (λ (x : WorldKey × WorldItem). key_in_range r x.0 && item_in_range r x.1) w.exports.entries e
+      (second_true (entries_in_range r w.imports.entries) (entries_in_range r w.exports.entries) ranges) c
 
   pub import_so : (e : WorldKey × WorldItem) → Contains w.imports.entries e → import_stands r n e.0 e.1 ≡ true
   import_so e c = all-contained (λ (x : WorldKey × WorldItem). import_stands r n x.0 x.1) w.imports.entries e (first_true _ _ stand) c

@@ -20,6 +20,7 @@ pub record AreMatchedByName (own other : Resolve) (m : Matches) : Type 0 where
 
 -- Names in own packages, imports and exports are new, where what is matched has one name, or one path and one sense.
 abbrev pub UnionsAreApart : Type 0
-UnionsAreApart = (own other : Resolve) (world other_world : ℕ) (m : Matches) (w v : World) (added : Added) (keys : List WorldKey) (u : IsUnionOf own other world other_world m w v added keys) →
+UnionsAreApart = (own other : Resolve) (world other_world : ℕ) (m : Matches) (w v : World) (added : Added) (keys : List WorldKey)
+    (u : IsUnionOf own other world other_world m w v added keys) →
     IsValid own → IsValid other → world_at own world ≡ Some w → world_at other other_world ≡ Some v → AreMatchedByName own other m →
     AreMatchedAt own other m.interfaces.items u.carried.packages.items → NoneOfPath own other m.interfaces.items → IsApart added own world

@@ -14,6 +14,8 @@ use Rattle.bind_carry.specs.Which.{AreMatchedAll}
 
 -- So it is once what a union adds is added, where what is matched has one path and one sense.
 abbrev pub UnionsHaveDistinctKeys : Type 0
-UnionsHaveDistinctKeys = (own other merged : Resolve) (world other_world : ℕ) (m : Matches) (w v : World) (added : Added) (keys : List WorldKey) (u : IsUnionOf own other world other_world m w v added keys) →
-    IsValid own → IsValid other → IsAdded key_eq world added own merged → world_at own world ≡ Some w → world_at other other_world ≡ Some v → AreMatchedAll other m →
+UnionsHaveDistinctKeys = (own other merged : Resolve) (world other_world : ℕ) (m : Matches) (w v : World) (added : Added) (keys : List WorldKey)
+    (u : IsUnionOf own other world other_world m w v added keys) →
+    IsValid own → IsValid other → IsAdded key_eq world added own merged → world_at own world ≡ Some w → world_at other other_world ≡ Some v
+    → AreMatchedAll other m →
     AreMatchedAt own other m.interfaces.items u.carried.packages.items → NoneOfPath own other m.interfaces.items → HasDistinctKeys merged

@@ -13,5 +13,7 @@ use Rattle.bind_carry.specs.Union.{IsUnionOf}
 
 -- Own names stay, each package's followed by what is new in it, and new packages come behind, all in the other's order.
 abbrev pub NamesAreMerged : Type 0
-NamesAreMerged = (own other merged : Resolve) (world other_world : ℕ) (m : Matches) (w v : World) (added : Added) (keys : List WorldKey) → IsUnionOf own other world other_world m w v added keys →
-    IsValid own → IsValid other → IsAdded key_eq world added own merged → AreMatchedByName own other m → listed_names merged ≡ merged_names (listed_names own) (listed_names other)
+NamesAreMerged = (own other merged : Resolve) (world other_world : ℕ) (m : Matches) (w v : World) (added : Added) (keys : List WorldKey)
+    → IsUnionOf own other world other_world m w v added keys →
+    IsValid own → IsValid other → IsAdded key_eq world added own merged → AreMatchedByName own other m
+    → listed_names merged ≡ merged_names (listed_names own) (listed_names other)

@@ -11,7 +11,11 @@ use Rattle.bind_add.specs.declared.added.Names.{Names}
 
 -- So it comes behind what was there.
 pub record IsApart (added : Added) (own : Resolve) (world : ℕ) : Type 0 where
-  pub interfaces : (i : ℕ) (n : Names) (p : Package) → slice_get added.names.items i ≡ Some n → package_at own n.«package».0 ≡ Some p → insert_all string_eq p.interfaces.entries n.interfaces.entries ≡ p.interfaces.entries ++ n.interfaces.entries
-  pub worlds : (i : ℕ) (n : Names) (p : Package) → slice_get added.names.items i ≡ Some n → package_at own n.«package».0 ≡ Some p → insert_all string_eq p.worlds.entries n.worlds.entries ≡ p.worlds.entries ++ n.worlds.entries
-  pub imports : (w : World) → world_at own world ≡ Some w → insert_all key_eq w.imports.entries added.imports.entries ≡ w.imports.entries ++ added.imports.entries
-  pub exports : (w : World) → world_at own world ≡ Some w → insert_all key_eq w.exports.entries added.exports.entries ≡ w.exports.entries ++ added.exports.entries
+  pub interfaces : (i : ℕ) (n : Names) (p : Package) → slice_get added.names.items i ≡ Some n → package_at own n.«package».0 ≡ Some p
+      → insert_all string_eq p.interfaces.entries n.interfaces.entries ≡ p.interfaces.entries ++ n.interfaces.entries
+  pub worlds : (i : ℕ) (n : Names) (p : Package) → slice_get added.names.items i ≡ Some n → package_at own n.«package».0 ≡ Some p
+      → insert_all string_eq p.worlds.entries n.worlds.entries ≡ p.worlds.entries ++ n.worlds.entries
+  pub imports : (w : World) → world_at own world ≡ Some w
+      → insert_all key_eq w.imports.entries added.imports.entries ≡ w.imports.entries ++ added.imports.entries
+  pub exports : (w : World) → world_at own world ≡ Some w
+      → insert_all key_eq w.exports.entries added.exports.entries ≡ w.exports.entries ++ added.exports.entries

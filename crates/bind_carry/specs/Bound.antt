@@ -33,7 +33,8 @@ abbrev pub bound_interfaces : Resolve → ℕ → Carried → List Bool → List
 bound_interfaces own before c copied = numbers_of (length own.interfaces.items + before) copied c.interfaces.items
 
 -- The inline interfaces of what is gained are copied behind what was added before, and types with them; the items are those whose keys are new.
-pub record IsBoundOver (own other : Resolve) (world other_world : ℕ) (w v : World) (c : Carried) (fates : List Fate) (first_types : List ℕ) (old new : Added) : Type 0 where
+pub record IsBoundOver (own other : Resolve) (world other_world : ℕ) (w v : World) (c : Carried) (fates : List Fate) (first_types : List ℕ)
+    (old new : Added) : Type 0 where
   pub copied : List Bool
   pub copied_are : copied ≡ gained_inline other c.interfaces.items w v
   pub interfaces : List ℕ
@@ -42,7 +43,8 @@ pub record IsBoundOver (own other : Resolve) (world other_world : ℕ) (w v : Wo
   pub packages : new.packages.items ≡ old.packages.items
   pub names : new.names.items ≡ old.names.items
   pub worlds : new.worlds.items ≡ old.worlds.items
-  pub types_copied : AreCopied (length own.types.items) types other.types.items (bound_fates other world other_world w v copied interfaces fates first_types) old.types.items new.types.items
+  pub types_copied : AreCopied (length own.types.items) types other.types.items (bound_fates other world other_world w v copied interfaces fates first_types)
+      old.types.items new.types.items
   pub inline_copied : AreInlineCopied types w.«package» copied other.interfaces.items old.interfaces.items new.interfaces.items
   pub imports : AreNewCopied interfaces types w.imports.entries v.imports.entries new.imports.entries
   pub exports : AreNewCopied interfaces types w.exports.entries v.exports.entries new.exports.entries

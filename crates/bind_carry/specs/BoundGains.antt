@@ -32,7 +32,8 @@ pub record AreWorldKeysBelow (count : ℕ) (w : World) : Type 0 where
 -- which inline interfaces are gained
 abbrev pub gained_inline : Resolve → List ℕ → World → World → List Bool
 gained_inline other interfaces own bound =
-    mark_new_items other interfaces own.exports.entries (mark_new_items other interfaces own.imports.entries (replicate (length other.interfaces.items) false) bound.imports.entries) bound.exports.entries
+    mark_new_items other interfaces own.exports.entries (mark_new_items other interfaces own.imports.entries (replicate (length other.interfaces.items) false)
+    bound.imports.entries) bound.exports.entries
 
 -- ---- types
 
@@ -57,7 +58,8 @@ are_types_below count es = list_all (λ (e : WorldKey × WorldItem). option_map_
 -- what becomes of the other's types in what the bound world gains, by their fates and numbers by path
 abbrev pub bound_fates : Resolve → ℕ → ℕ → World → World → List Bool → List ℕ → List Fate → List ℕ → List Fate
 bound_fates other world other_world own bound copied interfaces fates numbers =
-    settled_from (gains_any interfaces own bound) [] other.types.items (unified own.imports.entries bound.imports.entries (second_from other world other_world copied interfaces other.types.items fates numbers))
+    settled_from (gains_any interfaces own bound) [] other.types.items
+    (unified own.imports.entries bound.imports.entries (second_from other world other_world copied interfaces other.types.items fates numbers))
 
 -- ---- interfaces and keys
 

@@ -22,10 +22,14 @@ is_function_carried carried f = list_all carried (function_numbers f)
 
 -- All parts of the named types of these owners are carried, and all types of their functions.
 pub record PartsOfOwners (r : Resolve) (carried : ℕ → Bool) (owners : TypeOwner → Bool) : Type 0 where
-  pub types : (n : ℕ) (def : TypeDef) → type_at r n ≡ Some def → is_some def.name ≡ true → owners def.owner ≡ true → list_all carried (kind_numbers def.kind) ≡ true
-  pub of_interfaces : (n : ℕ) (i : Interface) → interface_at r n ≡ Some i → owners (as_interface n) ≡ true → list_all (is_function_carried carried) (functions_of_interface i) ≡ true
-  pub of_worlds : (n : ℕ) (w : World) → world_at r n ≡ Some w → owners (as_world n) ≡ true → list_all (is_function_carried carried) (functions_of_world w) ≡ true
+  pub types : (n : ℕ) (def : TypeDef) → type_at r n ≡ Some def → is_some def.name ≡ true → owners def.owner ≡ true
+      → list_all carried (kind_numbers def.kind) ≡ true
+  pub of_interfaces : (n : ℕ) (i : Interface) → interface_at r n ≡ Some i → owners (as_interface n) ≡ true
+      → list_all (is_function_carried carried) (functions_of_interface i) ≡ true
+  pub of_worlds : (n : ℕ) (w : World) → world_at r n ≡ Some w → owners (as_world n) ≡ true
+      → list_all (is_function_carried carried) (functions_of_world w) ≡ true
 
 -- In a valid one the second follows from the first.
 abbrev pub PartsAreCarried : Type 0
-PartsAreCarried = (r : Resolve) (carried : ℕ → Bool) (owners : TypeOwner → Bool) → IsValid r → AreCarriedByOwner r carried owners → PartsOfOwners r carried owners
+PartsAreCarried = (r : Resolve) (carried : ℕ → Bool) (owners : TypeOwner → Bool) → IsValid r → AreCarriedByOwner r carried owners
+    → PartsOfOwners r carried owners

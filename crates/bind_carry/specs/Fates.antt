@@ -46,7 +46,8 @@ settled (fate.Copied home) unnamed may = fate.Copied home
 abbrev pub settled_from : Bool → List Fate → List TypeDef → List Fate → List Fate
 settled_from adds done [] fates = done
 settled_from adds done (t ∷ ts) [] = done
-settled_from adds done (t ∷ ts) (f ∷ fs) = settled_from adds (done ++ settled f (is_none t.name) (adds && are_carried done (view_numbers (kind_view t.kind))) ∷ []) ts fs
+settled_from adds done (t ∷ ts) (f ∷ fs) = settled_from adds
+    (done ++ settled f (is_none t.name) (adds && are_carried done (view_numbers (kind_view t.kind))) ∷ []) ts fs
 
 -- each type refers to types in front of it alone
 abbrev pub FallBelow : List TypeDef → Type 0
@@ -81,8 +82,10 @@ pub record AreCopied (own : ℕ) (numbers : List ℕ) (types : List TypeDef) (fa
   pub copied : AllZip (IsCopiedType numbers) (copied_types types fates) more
 
 -- Some types have met their fates, and these are left, with their fates.
-pub record AreCopiedSoFar (own : ℕ) (types : List TypeDef) (fates : List Fate) (old : List TypeDef) (numbers : List ℕ) (left_types : List TypeDef) (left_fates : List Fate) (new : List TypeDef) : Type 0 where
+pub record AreCopiedSoFar (own : ℕ) (types : List TypeDef) (fates : List Fate) (old : List TypeDef) (numbers : List ℕ) (left_types : List TypeDef)
+    (left_fates : List Fate) (new : List TypeDef) : Type 0 where
   pub numbers_are : numbers ++ numbers_by (own + length new) left_fates ≡ numbers_by (own + length old) fates
   pub more : List TypeDef
   pub behind : new ≡ old ++ more
-  pub copied : (later : List TypeDef) → AllZip (IsCopiedType (numbers_by (own + length old) fates)) (copied_types left_types left_fates) later → AllZip (IsCopiedType (numbers_by (own + length old) fates)) (copied_types types fates) (more ++ later)
+  pub copied : (later : List TypeDef) → AllZip (IsCopiedType (numbers_by (own + length old) fates)) (copied_types left_types left_fates) later
+      → AllZip (IsCopiedType (numbers_by (own + length old) fates)) (copied_types types fates) (more ++ later)

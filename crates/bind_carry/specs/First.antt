@@ -32,8 +32,10 @@ fate_named own matched n (Some name) = fate_beside (type_named own matched n nam
 
 -- what becomes of a type of this owner and name
 abbrev pub fate_in : Resolve → List (Option InterfaceId) → Carried → TypeOwner → Option Text → Fate
-fate_in own matched c (owner.Interface id) name = if flag_under c.copied_interfaces.items id.0 then fate.Copied (owner.Interface (record { 0 = number_under c.interfaces.items id.0 })) else fate_named own matched id.0 name
-fate_in own matched c (owner.World id) name = if flag_under c.copied_worlds.items id.0 then fate.Copied (owner.World (record { 0 = number_under c.worlds.items id.0 })) else fate.Left
+fate_in own matched c (owner.Interface id) name = if flag_under c.copied_interfaces.items id.0 then fate.Copied
+    (owner.Interface (record { 0 = number_under c.interfaces.items id.0 })) else fate_named own matched id.0 name
+fate_in own matched c (owner.World id) name = if flag_under c.copied_worlds.items id.0 then fate.Copied
+    (owner.World (record { 0 = number_under c.worlds.items id.0 })) else fate.Left
 fate_in own matched c owner.None name = fate.Left
 
 abbrev pub fate_of : Resolve → List (Option InterfaceId) → Carried → TypeDef → Fate
@@ -65,8 +67,11 @@ is_named_at r n = option_map_or (λ i. is_some i.name) (interface_at r n) false
 -- interfaces that are gained, are copied; those of interfaces with a name stay what they were; no item of the bound world names types of other worlds, or of
 -- their inline interfaces.
 abbrev pub second_in : Resolve → ℕ → ℕ → List Bool → List ℕ → TypeOwner → Fate → Fate
-second_in other world other_world copied interfaces (owner.Interface id) before = if flag_under copied id.0 then fate.Copied (owner.Interface (record { 0 = number_under interfaces id.0 })) else (if is_named_at other id.0 then before else fate.Left)
-second_in other world other_world copied interfaces (owner.World id) before = if id.0 == other_world then fate.Copied (owner.World (record { 0 = world })) else fate.Left
+second_in other world other_world copied interfaces (owner.Interface id) before =
+    if flag_under copied id.0 then fate.Copied (owner.Interface (record { 0 = number_under interfaces id.0 })) else
+    (if is_named_at other id.0 then before else fate.Left)
+second_in other world other_world copied interfaces (owner.World id) before =
+    if id.0 == other_world then fate.Copied (owner.World (record { 0 = world })) else fate.Left
 second_in other world other_world copied interfaces owner.None before = fate.Left
 
 -- the same of all types, by their fates and numbers in the first pass
@@ -74,4 +79,5 @@ abbrev pub second_from : Resolve → ℕ → ℕ → List Bool → List ℕ → 
 second_from other world other_world copied interfaces [] fs ns = []
 second_from other world other_world copied interfaces (t ∷ ts) [] ns = []
 second_from other world other_world copied interfaces (t ∷ ts) (f ∷ fs) [] = []
-second_from other world other_world copied interfaces (t ∷ ts) (f ∷ fs) (n ∷ ns) = second_in other world other_world copied interfaces t.owner (beside_first f n) ∷ second_from other world other_world copied interfaces ts fs ns
+second_from other world other_world copied interfaces (t ∷ ts) (f ∷ fs) (n ∷ ns) =
+    second_in other world other_world copied interfaces t.owner (beside_first f n) ∷ second_from other world other_world copied interfaces ts fs ns

@@ -27,7 +27,8 @@ use Rattle.bind_carry.specs.Which.{AreMatchedAll, IsNumbered}
 use Rattle.bind_carry.specs.Whole.{kept, IsInterfaceCarried, IsWorldCarried}
 use Rattle.bind_carry.specs.declared.plan.Carried.{Carried}
 
--- What is matched has one name, or one path and one sense. Types and interfaces are copied behind own ones, under the numbers that the matches and what is chosen
+-- What is matched has one name, or one path and one sense. Types and interfaces are copied behind own ones, under the numbers that the matches and what is
+-- chosen
 -- give; own packages gain names, and new packages and worlds stand behind own ones.
 pub record IsFirstPass (own other merged : Resolve) (m : Matches) (c : Carried) (numbers : List ℕ) : Type 0 where
   pub numbered : IsNumbered own other m c
@@ -58,27 +59,35 @@ pub record IsFirstPass (own other merged : Resolve) (m : Matches) (c : Carried) 
 
 -- It is carried as the laws on unions ask for it.
 abbrev pub FirstIsCarried : Type 0
-FirstIsCarried = (own other merged : Resolve) (m : Matches) (c : Carried) (numbers : List ℕ) → IsValid own → IsValid other → IsFirstPass own other merged m c numbers →
+FirstIsCarried = (own other merged : Resolve) (m : Matches) (c : Carried) (numbers : List ℕ) → IsValid own → IsValid other
+    → IsFirstPass own other merged m c numbers →
     IsCarried other merged (first_of m.interfaces.items c (first_fates own other m.interfaces.items c) numbers)
 
 -- Its copies stand behind own entries, and inline interfaces come with the world that shows them.
 abbrev pub FirstIsCopied : Type 0
-FirstIsCopied = (own other merged : Resolve) (m : Matches) (c : Carried) (numbers : List ℕ) → IsValid own → IsValid other → IsFirstPass own other merged m c numbers →
+FirstIsCopied = (own other merged : Resolve) (m : Matches) (c : Carried) (numbers : List ℕ) → IsValid own → IsValid other
+    → IsFirstPass own other merged m c numbers →
     AreCopies own other merged (first_of m.interfaces.items c (first_fates own other m.interfaces.items c) numbers)
 
 -- Each world whose flag is set is copied whole, behind own ones.
 abbrev pub FirstWorldsAreCopied : Type 0
-FirstWorldsAreCopied = (own other merged : Resolve) (m : Matches) (c : Carried) (numbers : List ℕ) → IsValid own → IsValid other → IsFirstPass own other merged m c numbers →
+FirstWorldsAreCopied = (own other merged : Resolve) (m : Matches) (c : Carried) (numbers : List ℕ) → IsValid own → IsValid other
+    → IsFirstPass own other merged m c numbers →
     (n : ℕ) → flag_under c.copied_worlds.items n ≡ true →
-    IsWorldCopy other merged (first_of m.interfaces.items c (first_fates own other m.interfaces.items c) numbers) n × (length own.worlds.items ≤ number_under c.worlds.items n)
+    IsWorldCopy other merged (first_of m.interfaces.items c (first_fates own other m.interfaces.items c) numbers) n
+    × (length own.worlds.items ≤ number_under c.worlds.items n)
 
 -- What a union adds, once it is added, has the first pass, where what is matched has one name, or one path and one sense.
 abbrev pub UnionsHaveTheFirst : Type 0
-UnionsHaveTheFirst = (own other merged : Resolve) (world other_world : ℕ) (m : Matches) (w v : World) (added : Added) (keys : List WorldKey) (u : IsUnionOf own other world other_world m w v added keys) →
-    IsAdded key_eq world added own merged → world_at own world ≡ Some w → AreMatchedAll other m → m.packages.items ≡ map (own_package_of own.packages.items) other.packages.items →
-    AreMatchedAt own other m.interfaces.items u.carried.packages.items → NoneOfPath own other m.interfaces.items → IsFirstPass own other merged m u.carried u.types
+UnionsHaveTheFirst = (own other merged : Resolve) (world other_world : ℕ) (m : Matches) (w v : World) (added : Added) (keys : List WorldKey)
+    (u : IsUnionOf own other world other_world m w v added keys) →
+    IsAdded key_eq world added own merged → world_at own world ≡ Some w → AreMatchedAll other m
+    → m.packages.items ≡ map (own_package_of own.packages.items) other.packages.items →
+    AreMatchedAt own other m.interfaces.items u.carried.packages.items → NoneOfPath own other m.interfaces.items
+    → IsFirstPass own other merged m u.carried u.types
 
 -- And it can be added: names are of own packages, and of none twice.
 abbrev pub UnionsAreAddable : Type 0
-UnionsAreAddable = (own other : Resolve) (world other_world : ℕ) (m : Matches) (w v : World) (added : Added) (keys : List WorldKey) → IsValid other → IsUnionOf own other world other_world m w v added keys →
+UnionsAreAddable = (own other : Resolve) (world other_world : ℕ) (m : Matches) (w v : World) (added : Added) (keys : List WorldKey) → IsValid other
+    → IsUnionOf own other world other_world m w v added keys →
     world < length own.worlds.items → m.packages.items ≡ map (own_package_of own.packages.items) other.packages.items → IsAddable own world added

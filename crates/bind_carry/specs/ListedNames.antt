@@ -14,7 +14,10 @@ pub record PackageNames : Type 0 where
 
 -- each package by its name, in order
 abbrev pub listed_names : Resolve → List (Text × PackageNames)
-listed_names r = map (λ p. (package_text (identity_of p.name), record { interfaces = map (λ e. text_of e.0) p.interfaces.entries; worlds = map (λ e. text_of e.0) p.worlds.entries })) r.packages.items
+listed_names r = map (λ p. (
+  package_text (identity_of p.name),
+  record { interfaces = map (λ e. text_of e.0) p.interfaces.entries; worlds = map (λ e. text_of e.0) p.worlds.entries },
+)) r.packages.items
 
 -- texts followed by those of the others that are new
 abbrev pub texts_followed_by : List Text → List Text → List Text
@@ -22,7 +25,14 @@ texts_followed_by xs ys = xs ++ filter (λ y. not (list_any (text_eq y) xs)) ys
 
 -- what the other binding brings: all but its root world
 abbrev pub carried_names : Text × PackageNames → Text × PackageNames
-carried_names p = (p.0, record { interfaces = p.1.interfaces; worlds = filter (λ w. not (text_eq p.0 (codes "root:root") && text_eq w (codes "root"))) p.1.worlds })
+carried_names p = (
+  p.0,
+  record {
+    interfaces = p.1.interfaces;
+    worlds =
+        filter (λ w. not (text_eq p.0 (codes "root:root") && text_eq w (codes "root"))) p.1.worlds;
+  },
+)
 
 -- a package's own names, followed by those that the other binding's package of that name brings
 abbrev pub grown_names : List (Text × PackageNames) → Text × PackageNames → Text × PackageNames

@@ -18,7 +18,8 @@ pub record IsOwnedBy (types : List TypeDef) (Owner : TypeOwner → Type 0) (n : 
 -- It has such an owner, or it has no name, and all that it names in its definition is so.
 pub data IsMadeOf (types : List TypeDef) (Owner : TypeOwner → Type 0) : ℕ → Type 0 where
   owned : {n : ℕ} → IsOwnedBy types Owner n → IsMadeOf types Owner n
-  unnamed : {n : ℕ} (def : TypeDef) → slice_get types n ≡ Some def → is_none def.name ≡ true → ((m : ℕ) → Contains (type_parts def) m → IsMadeOf types Owner m) → IsMadeOf types Owner n
+  unnamed : {n : ℕ} (def : TypeDef) → slice_get types n ≡ Some def → is_none def.name ≡ true → ((m : ℕ) → Contains (type_parts def) m → IsMadeOf types Owner m)
+      → IsMadeOf types Owner n
 
 -- It has no name, and all that it names in its definition is made of types with such owners.
 pub record IsMadeUp (types : List TypeDef) (Owner : TypeOwner → Type 0) (n : ℕ) : Type 0 where

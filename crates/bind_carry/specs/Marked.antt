@@ -36,7 +36,8 @@ mark_items r marks (e ∷ es) = mark_items r (mark_item r marks e.1) es
 -- those of items whose keys have no item here
 abbrev pub mark_new_items : Resolve → List ℕ → List (WorldKey × WorldItem) → List Bool → List (WorldKey × WorldItem) → List Bool
 mark_new_items r interfaces here marks [] = marks
-mark_new_items r interfaces here marks (e ∷ es) = mark_new_items r interfaces here (if is_new_under interfaces here e.0 then mark_item r marks e.1 else marks) es
+mark_new_items r interfaces here marks (e ∷ es) = mark_new_items r interfaces here
+    (if is_new_under interfaces here e.0 then mark_item r marks e.1 else marks) es
 
 -- those of the items of worlds whose flags are set
 abbrev pub mark_worlds : Resolve → List Bool → List Bool → List World → List Bool
@@ -58,4 +59,5 @@ is_shown_of flags ws n = list_any (λ w. is_shown_in w.imports.entries n || is_s
 -- Copied are interfaces with a name whose path no own one has, and inline ones that a world shows which is copied.
 pub record AreChosen (other : Resolve) (matched : List (Option InterfaceId)) (worlds interfaces : List Bool) : Type 0 where
   pub named : (n : ℕ) (i : Interface) → interface_at other n ≡ Some i → is_some i.name ≡ true → flag_under interfaces n ≡ not (is_matched matched n)
-  pub inline : (n : ℕ) (i : Interface) → interface_at other n ≡ Some i → is_some i.name ≡ false → flag_under interfaces n ≡ is_shown_of worlds other.worlds.items n
+  pub inline : (n : ℕ) (i : Interface) → interface_at other n ≡ Some i → is_some i.name ≡ false
+      → flag_under interfaces n ≡ is_shown_of worlds other.worlds.items n

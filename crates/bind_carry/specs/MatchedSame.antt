@@ -12,7 +12,8 @@ use Rattle.bind_copy.specs.Copies.{number_under}
 use Rattle.bind_carry.specs.Listed.{given_interface}
 use Rattle.bind_carry.specs.Renumbered.{is_matched}
 
--- The own interface that is found for another: it has the same name, in the own package of the other's, and so the same path; and the same sense, where nothing clashes.
+-- The own interface that is found for another: it has the same name, in the own package of the other's, and so the same path; and the same sense, where nothing
+-- clashes.
 pub record IsMatchedAt (own other : Resolve) (matched : List (Option InterfaceId)) (packages : List ℕ) (n : ℕ) : Type 0 where
   pub id : InterfaceId
   pub given : given_interface (slice_get matched n) ≡ Some id
@@ -32,4 +33,5 @@ AreMatchedAt own other matched packages = (n : ℕ) → is_matched matched n ≡
 
 -- and those with a path that aren't matched have no own one of their path
 abbrev pub NoneOfPath : Resolve → Resolve → List (Option InterfaceId) → Type 0
-NoneOfPath own other matched = (n m : ℕ) → is_matched matched n ≡ false → is_some (interface_path other n) ≡ true → interface_path own m ≡ interface_path other n → ⊥
+NoneOfPath own other matched = (n m : ℕ) → is_matched matched n ≡ false → is_some (interface_path other n) ≡ true
+    → interface_path own m ≡ interface_path other n → ⊥

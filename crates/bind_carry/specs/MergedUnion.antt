@@ -21,17 +21,21 @@ use Rattle.bind_carry.specs.Union.{IsUnionOf}
 
 -- no interface of the other stands at the path of an own world
 abbrev pub NoOwnWorldAtPath : Resolve → Resolve → Type 0
-NoOwnWorldAtPath own other = (n : ℕ) (i : Interface) (k : ℕ) (x : World) (path : Text) → interface_at other n ≡ Some i → path_of_interface other i ≡ Some path → world_at own k ≡ Some x → path_of_world own x ≡ Some path → ⊥
+NoOwnWorldAtPath own other = (n : ℕ) (i : Interface) (k : ℕ) (x : World) (path : Text) → interface_at other n ≡ Some i → path_of_interface other i ≡ Some path
+    → world_at own k ≡ Some x → path_of_world own x ≡ Some path → ⊥
 
 -- no own interface stands at the path of a world of the other, its world `root:root/root` aside
 abbrev pub NoOwnInterfaceAtPath : Resolve → Resolve → Type 0
 NoOwnInterfaceAtPath own other =
-    (n : ℕ) (i : Interface) (k : ℕ) (x : World) (path : Text) → interface_at own n ≡ Some i → path_of_interface own i ≡ Some path → world_at other k ≡ Some x → is_root_world other x ≡ false → path_of_world other x ≡ Some path → ⊥
+    (n : ℕ) (i : Interface) (k : ℕ) (x : World) (path : Text) → interface_at own n ≡ Some i → path_of_interface own i ≡ Some path → world_at other k ≡ Some x
+    → is_root_world other x ≡ false → path_of_world other x ≡ Some path → ⊥
 
--- Where what is matched has one name, or one path and one sense, where the bound worlds don't clash, no path is of an interface and of a world, and no list gets
+-- Where what is matched has one name, or one path and one sense, where the bound worlds don't clash, no path is of an interface and of a world, and no list
+-- gets
 -- too long, what a union adds, once it is added, is the other merged into the own one, all but its world `root:root/root`.
 abbrev pub UnionsAreMerged : Type 0
-UnionsAreMerged = (own other merged : Resolve) (world other_world : ℕ) (m : Matches) (w v : World) (added : Added) (keys : List WorldKey) (u : IsUnionOf own other world other_world m w v added keys) → IsValid own → IsValid other →
+UnionsAreMerged = (own other merged : Resolve) (world other_world : ℕ) (m : Matches) (w v : World) (added : Added) (keys : List WorldKey)
+    (u : IsUnionOf own other world other_world m w v added keys) → IsValid own → IsValid other →
     IsAdded key_eq world added own merged → AreFew own added → world_at own world ≡ Some w → world_at other other_world ≡ Some v →
     m.packages.items ≡ map (own_package_of own.packages.items) other.packages.items →
     m.interfaces.items ≡ map (own_interface_of own m.packages.items) other.interfaces.items →

@@ -34,11 +34,13 @@ abbrev pub fates_in_bound : Bound → First → List Bool → List ℕ → World
 fates_in_bound b first copied interfaces w v = bound_fates b.other.now b.world.0 b.other_world.0 w v copied interfaces first.fates.now first.types.now
 
 abbrev pub AreTypesBound : Bound → First → List Bool → List ℕ → List ℕ → List TypeDef → List TypeDef → Type 0
-AreTypesBound b first copied interfaces numbers old new = OfBound b (λ w v. AreCopied (length b.own.now.types.items) numbers b.other.now.types.items (fates_in_bound b first copied interfaces w v) old new)
+AreTypesBound b first copied interfaces numbers old new =
+    OfBound b (λ w v. AreCopied (length b.own.now.types.items) numbers b.other.now.types.items (fates_in_bound b first copied interfaces w v) old new)
 
 -- their list would get too long behind so many that were added before
 abbrev pub AreTooManyTypes : Bound → First → List Bool → List ℕ → ℕ → Type 0
-AreTooManyTypes b first copied interfaces before = OfBound b (λ w v. 4294967295 < (length b.own.now.types.items + before) + copies_of (fates_in_bound b first copied interfaces w v))
+AreTooManyTypes b first copied interfaces before = OfBound b
+    (λ w v. 4294967295 < (length b.own.now.types.items + before) + copies_of (fates_in_bound b first copied interfaces w v))
 
 -- ---- items
 
@@ -51,15 +53,18 @@ AreExportsBound b interfaces types new = OfBound b (λ w v. AreNewCopied interfa
 -- ---- all that the bound world gains
 
 abbrev pub IsAllBound : Bound → First → Added → Added → Type 0
-IsAllBound b first old new = OfBound b (λ w v. IsBoundOver b.own.now b.other.now b.world.0 b.other_world.0 w v first.carried.now first.fates.now first.types.now old new)
+IsAllBound b first old new = OfBound b (λ w v. IsBoundOver b.own.now b.other.now b.world.0 b.other_world.0 w v first.carried.now first.fates.now
+    first.types.now old new)
 
 -- the lists are as short as they may be, if those of packages and worlds were before
 abbrev pub StaysFew : Resolve → Added → Added → Type 0
-StaysFew own old new = length own.packages.items + length old.packages.items ≤ 4294967295 → length own.worlds.items + length old.worlds.items ≤ 4294967295 → AreFew own new
+StaysFew own old new = length own.packages.items + length old.packages.items ≤ 4294967295 → length own.worlds.items + length old.worlds.items ≤ 4294967295
+    → AreFew own new
 
 abbrev pub IsTooMuchBound : Bound → First → Added → Type 0
 IsTooMuchBound b first old =
-    OfBound b (λ w v. AreTooManyGained b.own.now b.other.now b.world.0 b.other_world.0 w v first.carried.now first.fates.now first.types.now (length old.interfaces.items) (length old.types.items))
+    OfBound b (λ w v. AreTooManyGained b.own.now b.other.now b.world.0 b.other_world.0 w v first.carried.now first.fates.now first.types.now
+    (length old.interfaces.items) (length old.types.items))
 
 -- ---- the whole union
 

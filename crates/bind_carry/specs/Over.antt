@@ -19,7 +19,8 @@ pub record IsCarriedReady (other : Resolve) (c : Carried) (types : ℕ) : Type 0
   pub package_count : length c.packages.items ≡ length other.packages.items
   pub interface_count : length c.interfaces.items ≡ length other.interfaces.items
   pub world_count : length c.worlds.items ≡ length other.worlds.items
-  pub listed_interfaces : (n : ℕ) (p : Package) → package_at other n ≡ Some p → are_interfaces_below (length c.copied_interfaces.items) p.interfaces.entries ≡ true
+  pub listed_interfaces : (n : ℕ) (p : Package) → package_at other n ≡ Some p
+      → are_interfaces_below (length c.copied_interfaces.items) p.interfaces.entries ≡ true
   pub listed_worlds : (n : ℕ) (p : Package) → package_at other n ≡ Some p → are_worlds_below (length c.copied_worlds.items) p.worlds.entries ≡ true
   pub interface_homes : (n : ℕ) (i : Interface) → interface_at other n ≡ Some i → IsHomeBelow (length c.packages.items) i.«package»
   pub type_names : (n : ℕ) (i : Interface) → interface_at other n ≡ Some i → are_names_below types i.types.entries ≡ true

@@ -28,7 +28,8 @@ is_copied_world flags e = flag_under flags e.1.0
 
 -- what a package gains, or a new one has: the names of what is copied, in their order
 abbrev pub AreInterfaceNames : {S : Type 0} → Carried → IndexMap (String Global) InterfaceId S → IndexMap (String Global) InterfaceId S → Type 0
-AreInterfaceNames c old new = IsUnique string_eq old → AllZip (IsInterfaceName c.interfaces.items) (filter (is_copied_interface c.copied_interfaces.items) old.entries) new.entries
+AreInterfaceNames c old new = IsUnique string_eq old → AllZip (IsInterfaceName c.interfaces.items)
+    (filter (is_copied_interface c.copied_interfaces.items) old.entries) new.entries
 
 abbrev pub AreWorldNames : {S : Type 0} → Carried → IndexMap (String Global) WorldId S → IndexMap (String Global) WorldId S → Type 0
 AreWorldNames c old new = IsUnique string_eq old → AllZip (IsWorldName c.worlds.items) (filter (is_copied_world c.copied_worlds.items) old.entries) new.entries
@@ -56,4 +57,5 @@ pub record IsGained (c : Carried) (old : ℕ × Package) (gained : Names) : Type
 
 -- What there is are the gains of those so far, as far as some that are left.
 abbrev pub GainedSoFar : Carried → List Package → List Bool → List ℕ → List Package → List Names → Type 0
-GainedSoFar c packages left_flags left_numbers left done = (later : List Names) → AllZip (IsGained c) (grown_packages left_flags left_numbers left) later → AllZip (IsGained c) (grown_packages c.new_packages.items c.packages.items packages) (done ++ later)
+GainedSoFar c packages left_flags left_numbers left done = (later : List Names) → AllZip (IsGained c) (grown_packages left_flags left_numbers left) later
+    → AllZip (IsGained c) (grown_packages c.new_packages.items c.packages.items packages) (done ++ later)

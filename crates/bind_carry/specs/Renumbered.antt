@@ -46,10 +46,13 @@ met_under here (e ∷ es) n = if is_id n (item_interface e.1) then option_and_th
 
 -- the number of an interface in what the bound world gains: an inline one that isn't copied is the own one of its key
 abbrev pub second_interface : Resolve → List (WorldKey × WorldItem) → List (WorldKey × WorldItem) → List Bool → List ℕ → ℕ → ℕ
-second_interface other here es copied interfaces n = if flag_under copied n || is_named_at other n then number_under interfaces n else unwrap_or (met_under here es n) (number_under interfaces n)
+second_interface other here es copied interfaces n = if flag_under copied n || is_named_at other n then number_under interfaces n else unwrap_or
+    (met_under here es n) (number_under interfaces n)
 
--- What the bound world gains: interfaces with a name are carried as by path, inline ones of its new items are copied, and no world but the bound one is carried.
-abbrev pub second_of : Resolve → List (Option InterfaceId) → Carried → ℕ → ℕ → List (WorldKey × WorldItem) → List (WorldKey × WorldItem) → List Bool → List ℕ → List Fate → List ℕ → Renumbering
+-- What the bound world gains: interfaces with a name are carried as by path, inline ones of its new items are copied, and no world but the bound one is
+-- carried.
+abbrev pub second_of : Resolve → List (Option InterfaceId) → Carried → ℕ → ℕ → List (WorldKey × WorldItem) → List (WorldKey × WorldItem) → List Bool → List ℕ
+    → List Fate → List ℕ → Renumbering
 second_of other matched c world other_world here es copied interfaces fates types = record {
   packages = number_under c.packages.items;
   interfaces = second_interface other here es copied interfaces;

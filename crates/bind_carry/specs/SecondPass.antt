@@ -35,18 +35,21 @@ use Rattle.bind_carry.specs.declared.plan.Carried.{Carried}
 
 -- The two worlds don't clash: imports of one key have one sense, and no key is exported by both.
 pub record DoNotClash (own other : Resolve) (w v : World) : Type 0 where
-  pub imports : (x e : WorldKey × WorldItem) → Contains w.imports.entries x → Contains v.imports.entries e → key_text own x.0 ≡ key_text other e.0 → entry_sense (entry_meaning own x.1) ≡ entry_sense (entry_meaning other e.1)
+  pub imports : (x e : WorldKey × WorldItem) → Contains w.imports.entries x → Contains v.imports.entries e → key_text own x.0 ≡ key_text other e.0
+      → entry_sense (entry_meaning own x.1) ≡ entry_sense (entry_meaning other e.1)
   pub exports : (x e : WorldKey × WorldItem) → Contains w.exports.entries x → Contains v.exports.entries e → key_text own x.0 ≡ key_text other e.0 → ⊥
 
 -- Behind what is carried by path stand the inline interfaces and the types of what the bound world gains, and it has gained the items whose keys it hadn't.
-pub record IsSecondPass (own other merged : Resolve) (world other_world : ℕ) (w v : World) (m : Matches) (c : Carried) (first_numbers : List ℕ) (p : IsFirstPass own other merged m c first_numbers) (copied : List Bool) (interfaces types : List ℕ) : Type 0 where
+pub record IsSecondPass (own other merged : Resolve) (world other_world : ℕ) (w v : World) (m : Matches) (c : Carried) (first_numbers : List ℕ)
+    (p : IsFirstPass own other merged m c first_numbers) (copied : List Bool) (interfaces types : List ℕ) : Type 0 where
   pub own_at : world_at own world ≡ Some w
   pub other_at : world_at other other_world ≡ Some v
   pub agree : DoNotClash own other w v
   pub copied_are : copied ≡ gained_inline other c.interfaces.items w v
   pub interfaces_are : interfaces ≡ bound_interfaces own (length p.new_interfaces) c copied
   pub all_types : List TypeDef
-  pub types_copied : AreCopied (length own.types.items) types other.types.items (bound_fates other world other_world w v copied interfaces (first_fates own other m.interfaces.items c) first_numbers) p.new_types all_types
+  pub types_copied : AreCopied (length own.types.items) types other.types.items
+      (bound_fates other world other_world w v copied interfaces (first_fates own other m.interfaces.items c) first_numbers) p.new_types all_types
   pub types_here : merged.types.items ≡ own.types.items ++ all_types
   pub all_interfaces : List Interface
   pub inline_copied : AreInlineCopied types w.«package» copied other.interfaces.items p.new_interfaces all_interfaces
@@ -71,34 +74,44 @@ second_pass_of own other m c world other_world w v copied interfaces first_numbe
 
 -- It is carried, and copied, as the laws on unions ask for it: its copies stand behind own entries, and inline interfaces come with the bound world.
 abbrev pub SecondIsCopied : Type 0
-SecondIsCopied = (own other merged : Resolve) (world other_world : ℕ) (w v : World) (m : Matches) (c : Carried) (first_numbers : List ℕ) (p : IsFirstPass own other merged m c first_numbers) (copied : List Bool) (interfaces types : List ℕ) → IsValid own → IsValid other →
+SecondIsCopied = (own other merged : Resolve) (world other_world : ℕ) (w v : World) (m : Matches) (c : Carried) (first_numbers : List ℕ)
+    (p : IsFirstPass own other merged m c first_numbers) (copied : List Bool) (interfaces types : List ℕ) → IsValid own → IsValid other →
     IsSecondPass own other merged world other_world w v m c first_numbers p copied interfaces types →
     AreCopies own other merged (second_pass_of own other m c world other_world w v copied interfaces first_numbers types)
 
 -- The bound world stands as it was, and behind what it had it has gained the items whose keys it hadn't; own ones stand for the others.
 abbrev pub SecondIsJoined : Type 0
-SecondIsJoined = (own other merged : Resolve) (world other_world : ℕ) (w v : World) (m : Matches) (c : Carried) (first_numbers : List ℕ) (p : IsFirstPass own other merged m c first_numbers) (copied : List Bool) (interfaces types : List ℕ) → IsValid own → IsValid other →
+SecondIsJoined = (own other merged : Resolve) (world other_world : ℕ) (w v : World) (m : Matches) (c : Carried) (first_numbers : List ℕ)
+    (p : IsFirstPass own other merged m c first_numbers) (copied : List Bool) (interfaces types : List ℕ) → IsValid own → IsValid other →
     (s : IsSecondPass own other merged world other_world w v m c first_numbers p copied interfaces types) →
-    (j : IsJoined other merged (second_pass_of own other m c world other_world w v copied interfaces first_numbers types) other_world w.imports.entries w.exports.entries) × (j.image ≡ s.image)
+    (j : IsJoined other merged (second_pass_of own other m c world other_world w v copied interfaces first_numbers types) other_world w.imports.entries
+    w.exports.entries) × (j.image ≡ s.image)
 
 -- What a union adds, once it is added, has both passes, where nothing clashes and what is matched has one name, or one path and one sense.
 abbrev pub UnionsHaveTheSecond : Type 0
-UnionsHaveTheSecond = (own other merged : Resolve) (world other_world : ℕ) (m : Matches) (w v : World) (added : Added) (keys : List WorldKey) (u : IsUnionOf own other world other_world m w v added keys) →
-    IsAdded key_eq world added own merged → world_at own world ≡ Some w → world_at other other_world ≡ Some v → DoNotClash own other w v → AreMatchedAll other m → m.packages.items ≡ map (own_package_of own.packages.items) other.packages.items →
+UnionsHaveTheSecond = (own other merged : Resolve) (world other_world : ℕ) (m : Matches) (w v : World) (added : Added) (keys : List WorldKey)
+    (u : IsUnionOf own other world other_world m w v added keys) →
+    IsAdded key_eq world added own merged → world_at own world ≡ Some w → world_at other other_world ≡ Some v → DoNotClash own other w v → AreMatchedAll other m
+    → m.packages.items ≡ map (own_package_of own.packages.items) other.packages.items →
     AreMatchedAt own other m.interfaces.items u.carried.packages.items → NoneOfPath own other m.interfaces.items →
-    (p : IsFirstPass own other merged m u.carried u.types) × IsSecondPass own other merged world other_world w v m u.carried u.types p u.second.copied u.second.interfaces u.second.types
+    (p : IsFirstPass own other merged m u.carried u.types)
+    × IsSecondPass own other merged world other_world w v m u.carried u.types p u.second.copied u.second.interfaces u.second.types
 
 -- Types, interfaces and worlds behind own ones are copies of one or the other.
 pub record AreAllCopies (own merged : Resolve) (first second : Renumbering) : Type 0 where
-  pub types : (n : ℕ) → length own.types.items ≤ n → n < length merged.types.items → IsCopyUnder first.types first.copies_type n ⊎ IsCopyUnder second.types second.copies_type n
-  pub interfaces : (n : ℕ) → length own.interfaces.items ≤ n → n < length merged.interfaces.items → IsCopyUnder first.interfaces first.copies_interface n ⊎ IsCopyUnder second.interfaces second.copies_interface n
+  pub types : (n : ℕ) → length own.types.items ≤ n → n < length merged.types.items → IsCopyUnder first.types first.copies_type n
+      ⊎ IsCopyUnder second.types second.copies_type n
+  pub interfaces : (n : ℕ) → length own.interfaces.items ≤ n → n < length merged.interfaces.items → IsCopyUnder first.interfaces first.copies_interface n
+      ⊎ IsCopyUnder second.interfaces second.copies_interface n
   pub worlds : (n : ℕ) → length own.worlds.items ≤ n → n < length merged.worlds.items → IsCopyUnder first.worlds first.carries_world n
 
 -- Nothing else is added: each type, interface and world behind own ones is a copy.
 abbrev pub NothingElseIsAdded : Type 0
-NothingElseIsAdded = (own other merged : Resolve) (world other_world : ℕ) (w v : World) (m : Matches) (c : Carried) (first_numbers : List ℕ) (p : IsFirstPass own other merged m c first_numbers) (copied : List Bool) (interfaces types : List ℕ) → IsValid own → IsValid other →
+NothingElseIsAdded = (own other merged : Resolve) (world other_world : ℕ) (w v : World) (m : Matches) (c : Carried) (first_numbers : List ℕ)
+    (p : IsFirstPass own other merged m c first_numbers) (copied : List Bool) (interfaces types : List ℕ) → IsValid own → IsValid other →
     IsSecondPass own other merged world other_world w v m c first_numbers p copied interfaces types →
-    AreAllCopies own merged (first_of m.interfaces.items c (first_fates own other m.interfaces.items c) first_numbers) (second_pass_of own other m c world other_world w v copied interfaces first_numbers types)
+    AreAllCopies own merged (first_of m.interfaces.items c (first_fates own other m.interfaces.items c) first_numbers)
+    (second_pass_of own other m c world other_world w v copied interfaces first_numbers types)
 
 -- what is left out of the other: its world `root:root/root`
 abbrev pub is_left_out : Resolve → ℕ → Bool
@@ -114,7 +127,8 @@ pub record ArePackagesMerged (own other merged : Resolve) (first : Renumbering) 
 
 -- Where packages and lengths are so, the whole is what the laws on unions ask for.
 abbrev pub PassesAreMerged : Type 0
-PassesAreMerged = (own other merged : Resolve) (world other_world : ℕ) (w v : World) (m : Matches) (c : Carried) (first_numbers : List ℕ) (p : IsFirstPass own other merged m c first_numbers) (copied : List Bool) (interfaces types : List ℕ) → IsValid own → IsValid other →
+PassesAreMerged = (own other merged : Resolve) (world other_world : ℕ) (w v : World) (m : Matches) (c : Carried) (first_numbers : List ℕ)
+    (p : IsFirstPass own other merged m c first_numbers) (copied : List Bool) (interfaces types : List ℕ) → IsValid own → IsValid other →
     IsSecondPass own other merged world other_world w v m c first_numbers p copied interfaces types →
     ArePackagesMerged own other merged (first_of m.interfaces.items c (first_fates own other m.interfaces.items c) first_numbers) (is_left_out other) →
     IsMerged own other merged world other_world (first_of m.interfaces.items c (first_fates own other m.interfaces.items c) first_numbers)

@@ -47,7 +47,8 @@ AreTooManyByPath own other m =
 -- which types are copied with it, behind so many interfaces that were added before
 abbrev pub gained_fates : Resolve → Resolve → ℕ → ℕ → World → World → Carried → List Fate → List ℕ → ℕ → List Fate
 gained_fates own other world other_world w v c fates types before =
-    bound_fates other world other_world w v (gained_inline other c.interfaces.items w v) (bound_interfaces own before c (gained_inline other c.interfaces.items w v)) fates types
+    bound_fates other world other_world w v (gained_inline other c.interfaces.items w v)
+    (bound_interfaces own before c (gained_inline other c.interfaces.items w v)) fates types
 
 -- One of the lists of interfaces and types would get too long, behind so many interfaces and types that were added before.
 abbrev pub AreTooManyGained : Resolve → Resolve → ℕ → ℕ → World → World → Carried → List Fate → List ℕ → ℕ → ℕ → Type 0
@@ -61,9 +62,11 @@ AreTooManyGained own other world other_world w v c fates types before before_typ
 abbrev pub AreTooManyCarried : Resolve → Resolve → ℕ → ℕ → World → World → Carried → List Fate → Type 0
 AreTooManyCarried own other world other_world w v c fates =
     (4294967295 < length own.types.items + copies_of fates)
-    ⊎ AreTooManyGained own other world other_world w v c fates (numbers_by (length own.types.items) fates) (copied_count c.copied_interfaces.items) (copies_of fates)
+    ⊎ AreTooManyGained own other world other_world w v c fates (numbers_by (length own.types.items) fates) (copied_count c.copied_interfaces.items)
+    (copies_of fates)
 
 -- One of the lists would get too long with what a union adds.
 abbrev pub IsTooLong : Resolve → Resolve → ℕ → ℕ → Matches → World → World → Type 0
 IsTooLong own other world other_world m w v =
-    AreTooManyByPath own other m ⊎ ((c : Carried) × IsNumbered own other m c × AreTooManyCarried own other world other_world w v c (first_fates own other m.interfaces.items c))
+    AreTooManyByPath own other m ⊎ ((c : Carried) × IsNumbered own other m c
+    × AreTooManyCarried own other world other_world w v c (first_fates own other m.interfaces.items c))

@@ -37,7 +37,8 @@ pub record IsNumbered (own other : Resolve) (m : Matches) (c : Carried) : Type 0
   pub packages : c.packages.items ≡ numbers_of (length own.packages.items) c.new_packages.items (map package_number m.packages.items)
   pub copied_worlds : c.copied_worlds.items ≡ new_worlds other m.worlds.items other.worlds.items
   pub worlds : c.worlds.items ≡ numbers_of (length own.worlds.items) c.copied_worlds.items (map world_number m.worlds.items)
-  pub copied_interfaces : c.copied_interfaces.items ≡ mark_worlds other (new_interfaces m.interfaces.items other.interfaces.items) c.copied_worlds.items other.worlds.items
+  pub copied_interfaces : c.copied_interfaces.items ≡ mark_worlds other (new_interfaces m.interfaces.items other.interfaces.items) c.copied_worlds.items
+      other.worlds.items
   pub interfaces : c.interfaces.items ≡ numbers_of (length own.interfaces.items) c.copied_interfaces.items (map interface_number m.interfaces.items)
   pub interface_count : length c.copied_interfaces.items ≡ length other.interfaces.items
   pub world_count : length c.copied_worlds.items ≡ length other.worlds.items

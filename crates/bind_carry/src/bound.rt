@@ -70,8 +70,10 @@ fn other_world(bound: Bound<'_>) -> &World
 fn copied_inline(alloc: Global, bound: Bound<'_>, interfaces: &[u32]) -> Result<Vec<bool>, Error>
     requires own_range { bound.world.0 < length bound.own.now.worlds.items }
     requires other_range { bound.other_world.0 < length bound.other.now.worlds.items }
-    requires imports { (v : WorldValue) → world_at bound.other.now bound.other_world.0 ≡ Some v → AreNewShownBelow (length interfaces.now) (length bound.other.now.interfaces.items) v.imports.entries }
-    requires exports { (v : WorldValue) → world_at bound.other.now bound.other_world.0 ≡ Some v → AreNewShownBelow (length interfaces.now) (length bound.other.now.interfaces.items) v.exports.entries }
+    requires imports { (v : WorldValue) → world_at bound.other.now bound.other_world.0 ≡ Some v
+        → AreNewShownBelow (length interfaces.now) (length bound.other.now.interfaces.items) v.imports.entries }
+    requires exports { (v : WorldValue) → world_at bound.other.now bound.other_world.0 ≡ Some v
+        → AreNewShownBelow (length interfaces.now) (length bound.other.now.interfaces.items) v.exports.entries }
     ensures flags { IfOk result (λ f. OfBound bound.entry (λ w v. f.items ≡ gained_inline bound.entry.other.now interfaces.now w v)) }
     ensures count { IfOk result (λ f. length f.items ≡ length bound.entry.other.now.interfaces.items) }
     ensures refuses { IfErr result IsMemory }
@@ -132,7 +134,8 @@ fn copy_inline(
     requires flags { length copied.now ≡ length bound.other.now.interfaces.items }
     requires names { (n : ℕ) (i : InterfaceValue) → interface_at bound.other.now n ≡ Some i → are_names_below (length types.now) i.types.entries ≡ true }
     requires functions { (n : ℕ) (i : InterfaceValue) → interface_at bound.other.now n ≡ Some i → AreFunctionsBelow (length types.now) i.functions.entries }
-    ensures copied { OnOk result ((w : WorldValue) → world_at bound.entry.own.now bound.entry.world.0 ≡ Some w → AreInlineCopied types.now w.«package» copied.now bound.entry.other.now.interfaces.items added.old.items added.new.items) }
+    ensures copied { OnOk result ((w : WorldValue) → world_at bound.entry.own.now bound.entry.world.0 ≡ Some w
+        → AreInlineCopied types.now w.«package» copied.now bound.entry.other.now.interfaces.items added.old.items added.new.items) }
     ensures refuses { IfErr result IsMemory }
 {
     let world = own_world(bound);
@@ -203,7 +206,8 @@ fn first_fates(
     requires fates { length first.fates.now ≡ length bound.other.now.types.items }
     requires types { length first.types.now ≡ length bound.other.now.types.items }
     requires owners { (n : ℕ) (def : TypeDefValue) → type_at bound.other.now n ≡ Some def → IsHomeIn (length copied.now) def.owner }
-    ensures fates { IfOk result (λ v. v.items ≡ second_from bound.entry.other.now bound.entry.world.0 bound.entry.other_world.0 copied.now interfaces.now bound.entry.other.now.types.items first.entry.fates.now first.entry.types.now) }
+    ensures fates { IfOk result (λ v. v.items ≡ second_from bound.entry.other.now bound.entry.world.0 bound.entry.other_world.0 copied.now interfaces.now
+        bound.entry.other.now.types.items first.entry.fates.now first.entry.types.now) }
 {
     let mut fates = Vec::new(alloc);
     for (number, def) in bound.other.types.iter().enumerate() {
@@ -290,7 +294,8 @@ fn gains(bound: Bound<'_>, interfaces: &[u32]) -> bool
     requires own_range { bound.world.0 < length bound.own.now.worlds.items }
     requires other_range { bound.other_world.0 < length bound.other.now.worlds.items }
     requires keys { (v : WorldValue) → world_at bound.other.now bound.other_world.0 ≡ Some v → AreWorldKeysBelow (length interfaces.now) v }
-    ensures { (w v : WorldValue) → world_at bound.entry.own.now bound.entry.world.0 ≡ Some w → world_at bound.entry.other.now bound.entry.other_world.0 ≡ Some v → result ≡ gains_any interfaces.now w v }
+    ensures { (w v : WorldValue) → world_at bound.entry.own.now bound.entry.world.0 ≡ Some w → world_at bound.entry.other.now bound.entry.other_world.0 ≡ Some v
+        → result ≡ gains_any interfaces.now w v }
 {
     let own = own_world(bound);
     let other = other_world(bound);
@@ -314,7 +319,8 @@ fn bind_types(
     requires fates { length first.fates.now ≡ length bound.other.now.types.items }
     requires types { length first.types.now ≡ length bound.other.now.types.items }
     requires owners { (n : ℕ) (def : TypeDefValue) → type_at bound.other.now n ≡ Some def → IsHomeIn (length copied.now) def.owner }
-    requires imports { (v : WorldValue) → world_at bound.other.now bound.other_world.0 ≡ Some v → are_types_below (length bound.other.now.types.items) v.imports.entries ≡ true }
+    requires imports { (v : WorldValue) → world_at bound.other.now bound.other_world.0 ≡ Some v
+        → are_types_below (length bound.other.now.types.items) v.imports.entries ≡ true }
     requires falls { FallBelow bound.other.now.types.items }
     ensures copied { IfOk result (λ numbers. AreTypesBound bound.entry first.entry copied.now interfaces.now numbers.items added.old.items added.new.items) }
     ensures count { IfOk result (λ numbers. length numbers.items ≡ length bound.entry.other.now.types.items) }
@@ -361,7 +367,8 @@ pub(crate) fn export_keys(
 ) -> Result<IndexSet<WorldKey>, Error>
     requires other_range { bound.other_world.0 < length bound.other.now.worlds.items }
     requires keys { (v : WorldValue) → world_at bound.other.now bound.other_world.0 ≡ Some v → AreWorldKeysBelow (length interfaces.now) v }
-    ensures keys { IfOk result (λ keys. (v : WorldValue) → world_at bound.entry.other.now bound.entry.other_world.0 ≡ Some v → AreKeysUnder interfaces.now v.exports.entries keys.keys) }
+    ensures keys { IfOk result (λ keys. (v : WorldValue) → world_at bound.entry.other.now bound.entry.other_world.0 ≡ Some v
+        → AreKeysUnder interfaces.now v.exports.entries keys.keys) }
     ensures refuses { IfErr result IsMemory }
 {
     let other = other_world(bound);
@@ -398,8 +405,10 @@ fn bind_entries(
 ) -> Result<(), Error>
     requires own_range { bound.world.0 < length bound.own.now.worlds.items }
     requires other_range { bound.other_world.0 < length bound.other.now.worlds.items }
-    requires imports { (v : WorldValue) → world_at bound.other.now bound.other_world.0 ≡ Some v → AreEntriesBelow (length numbers.interfaces.now) (length numbers.types.now) v.imports.entries }
-    requires exports { (v : WorldValue) → world_at bound.other.now bound.other_world.0 ≡ Some v → AreEntriesBelow (length numbers.interfaces.now) (length numbers.types.now) v.exports.entries }
+    requires imports { (v : WorldValue) → world_at bound.other.now bound.other_world.0 ≡ Some v
+        → AreEntriesBelow (length numbers.interfaces.now) (length numbers.types.now) v.imports.entries }
+    requires exports { (v : WorldValue) → world_at bound.other.now bound.other_world.0 ≡ Some v
+        → AreEntriesBelow (length numbers.interfaces.now) (length numbers.types.now) v.exports.entries }
     ensures imports { OnOk result (AreImportsBound bound.entry numbers.entry.interfaces.now numbers.entry.types.now added.new.imports.entries) }
     ensures exports { OnOk result (AreExportsBound bound.entry numbers.entry.interfaces.now numbers.entry.types.now added.new.exports.entries) }
     ensures lists { IsSameButItems added.old added.new }

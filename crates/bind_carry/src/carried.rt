@@ -124,7 +124,8 @@ fn fates(
     carried: &Carried,
 ) -> Result<Vec<Fate>, AllocError>
     requires whole { IsWhole carried.now }
-    requires owners { (n : ℕ) (def : TypeDefValue) → type_at other.now n ≡ Some def → IsOwnerBelow (length carried.now.copied_interfaces.items) (length carried.now.copied_worlds.items) def.owner }
+    requires owners { (n : ℕ) (def : TypeDefValue) → type_at other.now n ≡ Some def
+        → IsOwnerBelow (length carried.now.copied_interfaces.items) (length carried.now.copied_worlds.items) def.owner }
     ensures { IfOk result (λ v. v.items ≡ map (fate_of own.now matches.now.interfaces.items carried.now) other.now.types.items) }
 {
     let mut fates = Vec::new(alloc);
@@ -143,7 +144,8 @@ pub(crate) fn settled_types(
     carried: &Carried,
 ) -> Result<Vec<Fate>, AllocError>
     requires whole { IsWhole carried.now }
-    requires owners { (n : ℕ) (def : TypeDefValue) → type_at other.now n ≡ Some def → IsOwnerBelow (length carried.now.copied_interfaces.items) (length carried.now.copied_worlds.items) def.owner }
+    requires owners { (n : ℕ) (def : TypeDefValue) → type_at other.now n ≡ Some def
+        → IsOwnerBelow (length carried.now.copied_interfaces.items) (length carried.now.copied_worlds.items) def.owner }
     ensures fates { IfOk result (λ v. v.items ≡ first_fates own.now other.now matches.now.interfaces.items carried.now) }
     ensures count { IfOk result (λ v. length v.items ≡ length other.now.types.items) }
 {

@@ -83,8 +83,10 @@ pub(crate) fn new_package_list(
 ) -> Result<Vec<Package>, Error>
     requires whole { IsWhole carried.now }
     requires packages { length carried.now.packages.items ≡ length other.now.packages.items }
-    requires interfaces { (n : ℕ) (p : PackageValue) → package_at other.now n ≡ Some p → are_interfaces_below (length carried.now.copied_interfaces.items) p.interfaces.entries ≡ true }
-    requires worlds { (n : ℕ) (p : PackageValue) → package_at other.now n ≡ Some p → are_worlds_below (length carried.now.copied_worlds.items) p.worlds.entries ≡ true }
+    requires interfaces { (n : ℕ) (p : PackageValue) → package_at other.now n ≡ Some p
+        → are_interfaces_below (length carried.now.copied_interfaces.items) p.interfaces.entries ≡ true }
+    requires worlds { (n : ℕ) (p : PackageValue) → package_at other.now n ≡ Some p
+        → are_worlds_below (length carried.now.copied_worlds.items) p.worlds.entries ≡ true }
     ensures packages { IfOk result (λ v. AllZip (IsPackageCarried carried.now) (kept carried.now.new_packages.items other.now.packages.items) v.items) }
     ensures refuses { IfErr result IsMemory }
 {
@@ -129,7 +131,8 @@ fn gain(
     requires interfaces { are_interfaces_below (length carried.now.copied_interfaces.items) «package».now.interfaces.entries ≡ true }
     requires worlds { are_worlds_below (length carried.now.copied_worlds.items) «package».now.worlds.entries ≡ true }
     ensures new { OnOk result (is_new ≡ true → gained.new.items ≡ gained.old.items) }
-    ensures grown { OnOk result (is_new ≡ false → (g : NamesValue) × IsGained carried.now (own, «package».now) g × (gained.new.items ≡ gained.old.items ++ g ∷ [])) }
+    ensures grown { OnOk result (is_new ≡ false → (g : NamesValue) × IsGained carried.now (own, «package».now) g
+        × (gained.new.items ≡ gained.old.items ++ g ∷ [])) }
     ensures refuses { IfErr result IsMemory }
 {
     if is_new {
@@ -147,9 +150,12 @@ pub(crate) fn gained_names(
 ) -> Result<Vec<Names>, Error>
     requires whole { IsWhole carried.now }
     requires packages { length carried.now.packages.items ≡ length other.now.packages.items }
-    requires interfaces { (n : ℕ) (p : PackageValue) → package_at other.now n ≡ Some p → are_interfaces_below (length carried.now.copied_interfaces.items) p.interfaces.entries ≡ true }
-    requires worlds { (n : ℕ) (p : PackageValue) → package_at other.now n ≡ Some p → are_worlds_below (length carried.now.copied_worlds.items) p.worlds.entries ≡ true }
-    ensures names { IfOk result (λ v. AllZip (IsGained carried.now) (grown_packages carried.now.new_packages.items carried.now.packages.items other.now.packages.items) v.items) }
+    requires interfaces { (n : ℕ) (p : PackageValue) → package_at other.now n ≡ Some p
+        → are_interfaces_below (length carried.now.copied_interfaces.items) p.interfaces.entries ≡ true }
+    requires worlds { (n : ℕ) (p : PackageValue) → package_at other.now n ≡ Some p
+        → are_worlds_below (length carried.now.copied_worlds.items) p.worlds.entries ≡ true }
+    ensures names { IfOk result (λ v. AllZip (IsGained carried.now)
+        (grown_packages carried.now.new_packages.items carried.now.packages.items other.now.packages.items) v.items) }
     ensures refuses { IfErr result IsMemory }
 {
     let mut gained = Vec::new(alloc);

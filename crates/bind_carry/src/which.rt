@@ -123,7 +123,8 @@ pub(crate) fn copied_interfaces(
     requires worlds { length worlds.now ≡ length other.now.worlds.items }
     requires imports { (n : ℕ) (w : WorldValue) → world_at other.now n ≡ Some w → AreShownBelow (length other.now.interfaces.items) w.imports.entries }
     requires exports { (n : ℕ) (w : WorldValue) → world_at other.now n ≡ Some w → AreShownBelow (length other.now.interfaces.items) w.exports.entries }
-    ensures chosen { IfOk result (λ v. v.items ≡ mark_worlds other.now (new_interfaces matches.now.interfaces.items other.now.interfaces.items) worlds.now other.now.worlds.items) }
+    ensures chosen { IfOk result (λ v. v.items ≡ mark_worlds other.now (new_interfaces matches.now.interfaces.items other.now.interfaces.items) worlds.now
+        other.now.worlds.items) }
     ensures count { IfOk result (λ v. length v.items ≡ length other.now.interfaces.items) }
 {
     let mut copied = new_named(alloc, other, matches)?;

@@ -54,7 +54,8 @@ pub(crate) fn copy_interfaces(
     requires homes { (n : ℕ) (i : InterfaceValue) → interface_at other.now n ≡ Some i → IsHomeBelow (length carried.now.packages.items) i.«package» }
     requires names { (n : ℕ) (i : InterfaceValue) → interface_at other.now n ≡ Some i → are_names_below (length types.now) i.types.entries ≡ true }
     requires functions { (n : ℕ) (i : InterfaceValue) → interface_at other.now n ≡ Some i → AreFunctionsBelow (length types.now) i.functions.entries }
-    ensures interfaces { IfOk result (λ v. AllZip (IsInterfaceCarried carried.now types.now) (kept carried.now.copied_interfaces.items other.now.interfaces.items) v.items) }
+    ensures interfaces { IfOk result (λ v. AllZip (IsInterfaceCarried carried.now types.now)
+        (kept carried.now.copied_interfaces.items other.now.interfaces.items) v.items) }
     ensures refuses { IfErr result IsMemory }
 {
     let mut interfaces = Vec::new(alloc);
@@ -104,8 +105,10 @@ pub(crate) fn copy_worlds(
     requires whole { IsWhole carried.now }
     requires count { length carried.now.worlds.items ≡ length other.now.worlds.items }
     requires homes { (n : ℕ) (w : WorldValue) → world_at other.now n ≡ Some w → IsHomeBelow (length carried.now.packages.items) w.«package» }
-    requires imports { (n : ℕ) (w : WorldValue) → world_at other.now n ≡ Some w → AreEntriesBelow (length carried.now.interfaces.items) (length types.now) w.imports.entries }
-    requires exports { (n : ℕ) (w : WorldValue) → world_at other.now n ≡ Some w → AreEntriesBelow (length carried.now.interfaces.items) (length types.now) w.exports.entries }
+    requires imports { (n : ℕ) (w : WorldValue) → world_at other.now n ≡ Some w
+        → AreEntriesBelow (length carried.now.interfaces.items) (length types.now) w.imports.entries }
+    requires exports { (n : ℕ) (w : WorldValue) → world_at other.now n ≡ Some w
+        → AreEntriesBelow (length carried.now.interfaces.items) (length types.now) w.exports.entries }
     ensures worlds { IfOk result (λ v. AllZip (IsWorldCarried carried.now types.now) (kept carried.now.copied_worlds.items other.now.worlds.items) v.items) }
     ensures refuses { IfErr result IsMemory }
 {

@@ -20,7 +20,8 @@ keys_append (x ∷ xs) ys = ap (λ l. x.0 ∷ l) (keys_append xs ys)
 module _ {K V : Type 0} (eq apart : K → K → Bool) (R : K × V → K × V → Type 0) (p : K × V → Bool)
     (same : (x y u v : K × V) → R x u → R y v → eq v.0 u.0 ≡ apart x.0 y.0) where
   -- a copy's key is none of those that were copied before
-  absent : (front done rest : List (K × V)) (e n : K × V) → R e n → AllZip R (filter p front) done → IsDistinct apart (keys_of (front ++ e ∷ rest)) → AllByRecursion (λ q. eq n.0 q ≡ false) (keys_of done)
+  absent : (front done rest : List (K × V)) (e n : K × V) → R e n → AllZip R (filter p front) done → IsDistinct apart (keys_of (front ++ e ∷ rest))
+      → AllByRecursion (λ q. eq n.0 q ≡ false) (keys_of done)
   unfolding IsDistinct
   absent [] [] rest e n r zip d = tt
   absent [] (y ∷ ys) rest e n r zip d = absurd zip
@@ -55,7 +56,8 @@ module _ {K V : Type 0} (eq apart : K → K → Bool) (R : K × V → K × V →
         let one : filter p (e ∷ []) ≡ e ∷ [] = ap (λ b. cond b (e ∷ []) []) in_ in (
           front ++ e ∷ [],
           all,
-          subst (λ l. AllZip R l new) (sym (filter-append p front (e ∷ []) ∙ ap (λ l. filter p front ++ l) one)) (subst (λ l. AllZip R (filter p front ++ e ∷ []) l) (sym last) (AllZip-push R (filter p front) done e n before.2 r)),
+          subst (λ l. AllZip R l new) (sym (filter-append p front (e ∷ []) ∙ ap (λ l. filter p front ++ l) one))
+              (subst (λ l. AllZip R (filter p front ++ e ∷ []) l) (sym last) (AllZip-push R (filter p front) done e n before.2 r)),
         )
 
   -- nothing is left

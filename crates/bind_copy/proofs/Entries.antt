@@ -50,7 +50,8 @@ module _ (numbers : List ℕ) where
         → type_names done ++ type_names_under numbers (e ∷ rest) ≡ type_names_under numbers whole → type_names new ++ type_names_under numbers rest ≡ type_names_under numbers whole
     names_more added name number apart before =
         let all : names_in done ++ text_of e.0 ∷ names_in rest ≡ names_in whole =
-        ap (λ ts. names_in done ++ ts) (sym (firsts_under numbers (e ∷ rest))) ∙ (sym (firsts_done done (type_names_under numbers (e ∷ rest))) ∙ (ap (map (λ (x : Text × ℕ). x.0)) before ∙ firsts_under numbers whole)) in
+        ap (λ ts. names_in done ++ ts) (sym (firsts_under numbers (e ∷ rest)))
+        ∙ (sym (firsts_done done (type_names_under numbers (e ∷ rest))) ∙ (ap (map (λ (x : Text × ℕ). x.0)) before ∙ firsts_under numbers whole)) in
         let differ : are_distinct (names_in done ++ text_of k ∷ names_in rest) ≡ true = ap (λ t. are_distinct (names_in done ++ t ∷ names_in rest)) name ∙ (ap are_distinct all ∙ apart) in
         ap (λ es. type_names es ++ type_names_under numbers rest) (goes_last k (names_in rest) done new v differ added)
         ∙ (last_in done k v (type_names_under numbers rest) ∙ ((λ j. type_names done ++ (name j, number j) ∷ type_names_under numbers rest) ∙ before))

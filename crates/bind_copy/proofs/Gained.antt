@@ -50,19 +50,22 @@ module _ (interfaces : List ℕ) where
   key_here (key.Name k) (key.Interface i) r y = absurd r
   key_here (key.Interface k) (key.Name i) r y = absurd r
 
-  any_here : (k image : WorldKey) → IsKeyUnder interfaces k image → (es : List (WorldKey × WorldItem)) → list_any (key_eq image) (keys_of es) ≡ list_any (λ (e : WorldKey × WorldItem). is_key_under interfaces k e.0) es
+  any_here : (k image : WorldKey) → IsKeyUnder interfaces k image → (es : List (WorldKey × WorldItem))
+      → list_any (key_eq image) (keys_of es) ≡ list_any (λ (e : WorldKey × WorldItem). is_key_under interfaces k e.0) es
   any_here k image r [] = refl
   any_here k image r (e ∷ es) = ap₂ (λ a b. a || b) (key_here k image r e.0) (any_here k image r es)
 
   pub new_here : (k image : WorldKey) → IsKeyUnder interfaces k image → (es : List (WorldKey × WorldItem)) → not (is_some (lookup (key_eq image) es)) ≡ is_new_under interfaces es k
   new_here k image r es = ap not (is_some-lookup (key_eq image) es ∙ any_here k image r es)
 
-  pub name_here : (k : WorldKey) (name : String Global) → k ≡ key.Name name → {S : Type 0} (es : IndexMap WorldKey WorldItem S) → not (is_some (get_by (world_key.ghosts.eq k) es)) ≡ is_new_under interfaces es.entries k
+  pub name_here : (k : WorldKey) (name : String Global) → k ≡ key.Name name → {S : Type 0} (es : IndexMap WorldKey WorldItem S)
+      → not (is_some (get_by (world_key.ghosts.eq k) es)) ≡ is_new_under interfaces es.entries k
   name_here k name is es = ap (λ q. not (is_some (lookup (q k) es.entries))) test_is ∙ new_here k k (subst (λ x. IsKeyUnder interfaces x x) (sym is) refl) es.entries
 
   pub interface_here : (k : WorldKey) (id image : InterfaceId) → k ≡ key.Interface id → image.0 ≡ number_under interfaces id.0 → {S : Type 0} (es : IndexMap WorldKey WorldItem S)
       → not (is_some (get_by (world_key.ghosts.eq (key.Interface image)) es)) ≡ is_new_under interfaces es.entries k
-  interface_here k id image is number es = ap (λ q. not (is_some (lookup (q (key.Interface image)) es.entries))) test_is ∙ new_here k (key.Interface image) (subst (λ x. IsKeyUnder interfaces x (key.Interface image)) (sym is) number) es.entries
+  interface_here k id image is number es = ap (λ q. not (is_some (lookup (q (key.Interface image)) es.entries))) test_is ∙ new_here k (key.Interface image)
+      (subst (λ x. IsKeyUnder interfaces x (key.Interface image)) (sym is) number) es.entries
 
 module _ (interfaces types : List ℕ) (here : List (WorldKey × WorldItem)) where
   abbrev test : WorldKey × WorldItem → Bool

@@ -196,7 +196,8 @@ key_numbers (key.Interface id) = id.0 ∷ []
 -- an item with the interface, the types of its function or the type of its new number
 abbrev pub IsItemUnder : List ℕ → List ℕ → WorldItem → WorldItem → Type 0
 IsItemUnder interfaces types (item.Interface old old_stability old_docs old_external) (item.Interface new new_stability new_docs new_external) =
-    (new.0 ≡ number_under interfaces old.0) × (stability_view new_stability ≡ stability_view old_stability) × (optional_text new_docs.contents ≡ optional_text old_docs.contents) × (optional_text new_external ≡ optional_text old_external)
+    (new.0 ≡ number_under interfaces old.0) × (stability_view new_stability ≡ stability_view old_stability)
+    × (optional_text new_docs.contents ≡ optional_text old_docs.contents) × (optional_text new_external ≡ optional_text old_external)
 IsItemUnder interfaces types (item.Function old) (item.Function new) = IsFunctionUnder types old new
 IsItemUnder interfaces types (item.Type_ old) (item.Type_ new) = new.0 ≡ number_under types old.0
 IsItemUnder interfaces types _ _ = ⊥
@@ -210,7 +211,8 @@ IsItemBelow interfaces types (item.Type_ id) = id.0 < types
 -- the same of all entries of a list
 abbrev pub AreEntriesBelow : ℕ → ℕ → List (WorldKey × WorldItem) → Type 0
 AreEntriesBelow interfaces types [] = Unit {0}
-AreEntriesBelow interfaces types (e ∷ es) = (all_below interfaces (key_numbers e.0) ≡ true) × (IsItemBelow interfaces types e.1 × AreEntriesBelow interfaces types es)
+AreEntriesBelow interfaces types (e ∷ es) = (all_below interfaces (key_numbers e.0) ≡ true)
+    × (IsItemBelow interfaces types e.1 × AreEntriesBelow interfaces types es)
 
 -- an entry under new numbers
 abbrev pub IsEntryUnder : List ℕ → List ℕ → WorldKey × WorldItem → WorldKey × WorldItem → Type 0
@@ -235,4 +237,5 @@ become_one numbers _ _ = false
 -- Of items whose keys stay apart, those whose keys have no item here are copied, in their order.
 abbrev pub AreNewCopied : List ℕ → List ℕ → List (WorldKey × WorldItem) → List (WorldKey × WorldItem) → List (WorldKey × WorldItem) → Type 0
 AreNewCopied interfaces types here olds news =
-    IsDistinct (become_one interfaces) (keys_of olds) → AllZip (IsEntryUnder interfaces types) (filter (λ (e : WorldKey × WorldItem). is_new_under interfaces here e.0) olds) news
+    IsDistinct (become_one interfaces) (keys_of olds) → AllZip (IsEntryUnder interfaces types)
+    (filter (λ (e : WorldKey × WorldItem). is_new_under interfaces here e.0) olds) news

@@ -71,10 +71,12 @@ last_cut c (z ∷ a) b (w ∷ x) y h k same = last_cut c a b x y h k (ap (drop 1
 -- ---- names of functions
 
 -- a function of an interface stands under its name
-pub own_name : (r : Resolve) → IsValid r → (n : ℕ) (owner : Interface) → interface_at r n ≡ Some owner → (name : String Global) (f : Function) → Contains owner.functions.entries (name, f) → text_of name ≡ text_of f.name
+pub own_name : (r : Resolve) → IsValid r → (n : ℕ) (owner : Interface) → interface_at r n ≡ Some owner → (name : String Global) (f : Function) → Contains owner.functions.entries (name, f)
+    → text_of name ≡ text_of f.name
 unfolding function_names
 own_name r v n owner at name f c =
-    let passed = all-contained (λ e. text_eq (text_of e.0) (text_of e.1.name) && is_member r (as_interface n) e.1) owner.functions.entries (name, f) (interface-passes function_names r v.rules.function_names n owner at) c in
+    let passed = all-contained (λ e. text_eq (text_of e.0) (text_of e.1.name) && is_member r (as_interface n) e.1) owner.functions.entries (name, f)
+    (interface-passes function_names r v.rules.function_names n owner at) c in
     text-same (text_of name) (text_of f.name) (first_true (text_eq (text_of name) (text_of f.name)) _ passed)
 
 -- a byte that no label has, and that stands in no mark of functions
@@ -101,9 +103,11 @@ module _ (c : ℕ) (apart : IsApart c) where
       go (Some rest) e g =
           let whole = after-front (mark ++ (name ++ (46 ∷ []))) (text_of f.name) rest e in
           subst (Lacks c) (sym whole)
-          (lacks-both c (mark ++ (name ++ (46 ∷ []))) rest (lacks-both c mark (name ++ (46 ∷ [])) plain (lacks-both c name (46 ∷ []) (apart.of_labels name label) apart.of_dots)) (apart.of_labels rest g))
+          (lacks-both c (mark ++ (name ++ (46 ∷ []))) rest (lacks-both c mark (name ++ (46 ∷ [])) plain (lacks-both c name (46 ∷ []) (apart.of_labels name label) apart.of_dots))
+          (apart.of_labels rest g))
 
-  member_lacks : (r : Resolve) (n : ℕ) (name : Text) (f : Function) (k : FunctionKind) → is_label name ≡ true → (not (is_freestanding k) || is_label (text_of f.name)) ≡ true → is_member_of r n name f k ≡ true → Lacks c (text_of f.name)
+  member_lacks : (r : Resolve) (n : ℕ) (name : Text) (f : Function) (k : FunctionKind) → is_label name ≡ true → (not (is_freestanding k) || is_label (text_of f.name)) ≡ true
+      → is_member_of r n name f k ≡ true → Lacks c (text_of f.name)
   member_lacks r n name f call.Freestanding label own h = apart.of_labels (text_of f.name) own
   member_lacks r n name f call.AsyncFreestanding label own h = apart.of_labels (text_of f.name) own
   member_lacks r n name f (call.Method id) label own h = marked_lacks (codes "[method]") name f apart.of_methods label (first_true (is_member_name (method_name name []) f) _ h)
@@ -129,7 +133,8 @@ module _ (c : ℕ) (apart : IsApart c) where
         given true (Some s) w e = ap is_label (sym (same-some (text_of s) name e)) ∙ w
         given false t w e = absurd (let z : ⊥ = cc in z)
 
-        go : (d : Option TypeDef) → type_at r n ≡ d → option_and_then (λ def. cond (is_resource_itself def.kind && same_owner def.owner o) (optional_text def.name) None) d ≡ Some name → is_label name ≡ true
+        go : (d : Option TypeDef) → type_at r n ≡ d → option_and_then (λ def. cond (is_resource_itself def.kind && same_owner def.owner o) (optional_text def.name) None) d ≡ Some name
+            → is_label name ≡ true
         go None at e = absurd (let z : ⊥ = cc in z)
         go (Some def) at e = given (is_resource_itself def.kind && same_owner def.owner o) def.name (type-label n def at) e
 
@@ -137,11 +142,13 @@ module _ (c : ℕ) (apart : IsApart c) where
     function_lacks : (o : TypeOwner) (f : Function) → (not (is_freestanding f.kind) || is_label (text_of f.name)) ≡ true → is_member r o f ≡ true → Lacks c (text_of f.name)
     function_lacks o f own belongs = go f.kind refl own belongs
       where
-        named : (k : FunctionKind) (n : ℕ) → (t : Option Text) → resource_name r o n ≡ t → (not (is_freestanding k) || is_label (text_of f.name)) ≡ true → option_map_or (λ name. is_member_of r n name f k) t false ≡ true → Lacks c (text_of f.name)
+        named : (k : FunctionKind) (n : ℕ) → (t : Option Text) → resource_name r o n ≡ t → (not (is_freestanding k) || is_label (text_of f.name)) ≡ true
+            → option_map_or (λ name. is_member_of r n name f k) t false ≡ true → Lacks c (text_of f.name)
         named k n None at own h = absurd (let z : ⊥ = cc in z)
         named k n (Some name) at own h = member_lacks r n name f k (resource-label o n name at) own h
 
-        go : (k : FunctionKind) → f.kind ≡ k → (not (is_freestanding k) || is_label (text_of f.name)) ≡ true → passes (λ n. option_map_or (λ name. is_member_of r n name f k) (resource_name r o n) false) (resource_of k) ≡ true → Lacks c (text_of f.name)
+        go : (k : FunctionKind) → f.kind ≡ k → (not (is_freestanding k) || is_label (text_of f.name)) ≡ true
+            → passes (λ n. option_map_or (λ name. is_member_of r n name f k) (resource_name r o n) false) (resource_of k) ≡ true → Lacks c (text_of f.name)
         go call.Freestanding is own h = apart.of_labels (text_of f.name) own
         go call.AsyncFreestanding is own h = apart.of_labels (text_of f.name) own
         go (call.Method id) is own h = named (call.Method id) id.0 (resource_name r o id.0) refl own h
@@ -160,11 +167,13 @@ module _ (c : ℕ) (apart : IsApart c) where
         let all = first_true (list_all function_labels (functions_of_interface owner)) _ both in
         let labelled = all-contained function_labels (functions_of_interface owner) f all (contains-map (λ (e : String Global × Function). e.1) owner.functions.entries (name, f) stands) in
         let own = first_true (not (is_freestanding f.kind) || is_label (text_of f.name)) _ labelled in
-        let tested = all-contained (λ e. text_eq (text_of e.0) (text_of e.1.name) && is_member r (as_interface n) e.1) owner.functions.entries (name, f) (interface-passes function_names r v.rules.function_names n owner at) stands in
+        let tested = all-contained (λ e. text_eq (text_of e.0) (text_of e.1.name) && is_member r (as_interface n) e.1) owner.functions.entries (name, f)
+        (interface-passes function_names r v.rules.function_names n owner at) stands in
         subst (Lacks c) (sym (own_name r v n owner at name f stands)) (function_lacks (as_interface n) f own (second_true (text_eq (text_of name) (text_of f.name)) _ tested))
 
     -- and so does the label under which an item stands
-    pub key_lacks : (n : ℕ) (w : World) → world_at r n ≡ Some w → (name : String Global) (shown : WorldItem) → Contains (w.imports.entries ++ w.exports.entries) (key.Name name, shown) → Lacks c (text_of name)
+    pub key_lacks : (n : ℕ) (w : World) → world_at r n ≡ Some w → (name : String Global) (shown : WorldItem) → Contains (w.imports.entries ++ w.exports.entries) (key.Name name, shown)
+        → Lacks c (text_of name)
     unfolding labels function_names
     key_lacks n w at name shown stands =
         let passed = world-passes labels r v.rules.labels n w at in
@@ -174,13 +183,16 @@ module _ (c : ℕ) (apart : IsApart c) where
         let exported = second_true (entries_labels w.imports.entries) _ both in
         let all = list_all-append (λ e. key_label e.0 e.1 && item_labels e.1) w.imports.entries w.exports.entries ∙ and_from _ _ imported exported in
         let here = all-contained (λ e. key_label e.0 e.1 && item_labels e.1) (w.imports.entries ++ w.exports.entries) (key.Name name, shown) all stands in
-        let tested = all-contained (λ e. passes (λ f. is_name_key (text_of f.name) e.0 && is_member r (as_world n) f) (item_function e.1)) (w.imports.entries ++ w.exports.entries) (key.Name name, shown)
+        let tested = all-contained (λ e. passes (λ f. is_name_key (text_of f.name) e.0 && is_member r (as_world n) f) (item_function e.1)) (w.imports.entries ++ w.exports.entries)
+        (key.Name name, shown)
         (world-passes function_names r v.rules.function_names n w at) stands in
         go shown (first_true (key_label (key.Name name) shown) _ here) tested
       where
-        go : (shown : WorldItem) → key_label (key.Name name) shown ≡ true → passes (λ f. is_name_key (text_of f.name) (key.Name name) && is_member r (as_world n) f) (item_function shown) ≡ true → Lacks c (text_of name)
+        go : (shown : WorldItem) → key_label (key.Name name) shown ≡ true → passes (λ f. is_name_key (text_of f.name) (key.Name name) && is_member r (as_world n) f) (item_function shown) ≡ true
+            → Lacks c (text_of name)
         go (item.Interface id stability docs external_id) label h = apart.of_labels (text_of name) label
         go (item.Type_ id) label h = apart.of_labels (text_of name) label
         go (item.Function f) label h =
             let same = text-same (text_of name) (text_of f.name) (first_true (is_name_key (text_of f.name) (key.Name name)) _ h) in
-            subst (Lacks c) (sym same) (function_lacks (as_world n) f (ap (λ t. not (is_freestanding f.kind) || is_label t) (sym same) ∙ label) (second_true (is_name_key (text_of f.name) (key.Name name)) _ h))
+            subst (Lacks c) (sym same) (function_lacks (as_world n) f (ap (λ t. not (is_freestanding f.kind) || is_label t) (sym same) ∙ label)
+            (second_true (is_name_key (text_of f.name) (key.Name name)) _ h))

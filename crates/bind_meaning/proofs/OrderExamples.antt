@@ -50,18 +50,73 @@ four_pairwise : ArePairwise four
 four_pairwise = (
   (
     (
-      root_unites interfaces.foo_lists (record { interfaces = tt; no_world = tt; no_interface = (λ s. s, tt); worlds = (tt, tt); imports = tt; exports = tt; imported_encodings = tt; exported_encodings = tt }),
-      united_by_lists interfaces.foo_lists functions.root_lists (record { interfaces = (tt, tt); no_world = (λ s. s, tt); no_interface = (λ s. s, tt); worlds = (tt, tt); imports = (tt, tt); exports = tt; imported_encodings = (tt, tt); exported_encodings = tt }),
+      root_unites interfaces.foo_lists (record {
+        interfaces = tt;
+        no_world = tt;
+        no_interface = (λ s. s, tt);
+        worlds = (tt, tt);
+        imports = tt;
+        exports = tt;
+        imported_encodings = tt;
+        exported_encodings = tt;
+      }),
+      united_by_lists interfaces.foo_lists functions.root_lists (record {
+        interfaces = (tt, tt);
+        no_world = (λ s. s, tt);
+        no_interface = (λ s. s, tt);
+        worlds = (tt, tt);
+        imports = (tt, tt);
+        exports =
+            tt;
+        imported_encodings = (tt, tt);
+        exported_encodings = tt;
+      }),
     ),
     (
       (
-        root_unites functions.foo_lists (record { interfaces = tt; no_world = tt; no_interface = (λ s. s, tt); worlds = (tt, tt); imports = tt; exports = tt; imported_encodings = tt; exported_encodings = tt }),
-        united_by_lists functions.foo_lists functions.root_lists (record { interfaces = tt; no_world = tt; no_interface = (λ s. s, tt); worlds = (tt, tt); imports = (tt, tt); exports = (λ s. s, tt); imported_encodings = (tt, tt); exported_encodings = (tt, tt) }),
+        root_unites functions.foo_lists (record {
+          interfaces = tt;
+          no_world = tt;
+          no_interface = (λ s. s, tt);
+          worlds = (tt, tt);
+          imports = tt;
+          exports = tt;
+          imported_encodings = tt;
+          exported_encodings = tt;
+        }),
+        united_by_lists functions.foo_lists functions.root_lists (record {
+          interfaces = tt;
+          no_world = tt;
+          no_interface = (λ s. s, tt);
+          worlds = (tt, tt);
+          imports = (tt, tt);
+          exports = (λ s. s, tt);
+          imported_encodings = (tt, tt);
+          exported_encodings = (tt, tt);
+        }),
       ),
       (
         (
-          root_unites other_lists (record { interfaces = tt; no_world = tt; no_interface = (λ s. s, tt); worlds = (tt, tt); imports = tt; exports = tt; imported_encodings = tt; exported_encodings = tt }),
-          united_by_lists other_lists functions.root_lists (record { interfaces = (tt, tt); no_world = (λ s. s, tt); no_interface = (λ s. s, tt); worlds = (tt, tt); imports = (tt, tt); exports = tt; imported_encodings = (tt, tt); exported_encodings = tt }),
+          root_unites other_lists (record {
+            interfaces = tt;
+            no_world = tt;
+            no_interface = (λ s. s, tt);
+            worlds = (tt, tt);
+            imports = tt;
+            exports = tt;
+            imported_encodings = tt;
+            exported_encodings = tt;
+          }),
+          united_by_lists other_lists functions.root_lists (record {
+            interfaces = (tt, tt);
+            no_world = (λ s. s, tt);
+            no_interface = (λ s. s, tt);
+            worlds = (tt, tt);
+            imports = (tt, tt);
+            exports = tt;
+            imported_encodings = (tt, tt);
+            exported_encodings = tt;
+          }),
         ),
         tt,
       ),
@@ -70,13 +125,52 @@ four_pairwise = (
   (
     (
       (
-        united_by_lists interfaces.foo_lists functions.foo_lists (record { interfaces = (tt, tt); no_world = (λ s. s, tt); no_interface = (λ s. s, tt); worlds = (tt, tt); imports = (tt, tt); exports = tt; imported_encodings = (tt, tt); exported_encodings = tt }),
-        united_by_lists functions.foo_lists interfaces.foo_lists (record { interfaces = tt; no_world = tt; no_interface = (λ s. s, tt); worlds = (tt, tt); imports = (tt, tt); exports = (λ s. s, tt); imported_encodings = (tt, tt); exported_encodings = (tt, tt) }),
+        united_by_lists interfaces.foo_lists functions.foo_lists (record {
+          interfaces = (tt, tt);
+          no_world = (λ s. s, tt);
+          no_interface = (λ s. s, tt);
+          worlds = (tt, tt);
+          imports = (tt, tt);
+          exports =
+              tt;
+          imported_encodings = (tt, tt);
+          exported_encodings = tt;
+        }),
+        united_by_lists functions.foo_lists interfaces.foo_lists (record {
+          interfaces = tt;
+          no_world = tt;
+          no_interface = (λ s. s, tt);
+          worlds = (tt, tt);
+          imports = (tt, tt);
+          exports = (λ s. s, tt);
+          imported_encodings = (tt, tt);
+          exported_encodings = (tt, tt);
+        }),
       ),
       (
         (
-          united_by_lists interfaces.foo_lists other_lists (record { interfaces = (refl, tt); no_world = (λ s. s, tt); no_interface = (λ s. s, tt); worlds = (tt, tt); imports = (refl, tt); exports = tt; imported_encodings = (refl, tt); exported_encodings = tt }),
-          united_by_lists other_lists interfaces.foo_lists (record { interfaces = (refl, tt); no_world = (λ s. s, tt); no_interface = (λ s. s, tt); worlds = (tt, tt); imports = (refl, tt); exports = tt; imported_encodings = (refl, tt); exported_encodings = tt }),
+          united_by_lists interfaces.foo_lists other_lists (record {
+            interfaces = (refl, tt);
+            no_world = (λ s. s, tt);
+            no_interface = (λ s. s, tt);
+            worlds = (tt, tt);
+            imports = (refl, tt);
+            exports =
+                tt;
+            imported_encodings = (refl, tt);
+            exported_encodings = tt;
+          }),
+          united_by_lists other_lists interfaces.foo_lists (record {
+            interfaces = (refl, tt);
+            no_world = (λ s. s, tt);
+            no_interface = (λ s. s, tt);
+            worlds = (tt, tt);
+            imports = (refl, tt);
+            exports =
+                tt;
+            imported_encodings = (refl, tt);
+            exported_encodings = tt;
+          }),
         ),
         tt,
       ),
@@ -84,8 +178,26 @@ four_pairwise = (
     (
       (
         (
-          united_by_lists functions.foo_lists other_lists (record { interfaces = tt; no_world = tt; no_interface = (λ s. s, tt); worlds = (tt, tt); imports = (tt, tt); exports = (λ s. s, tt); imported_encodings = (tt, tt); exported_encodings = (tt, tt) }),
-          united_by_lists other_lists functions.foo_lists (record { interfaces = (tt, tt); no_world = (λ s. s, tt); no_interface = (λ s. s, tt); worlds = (tt, tt); imports = (tt, tt); exports = tt; imported_encodings = (tt, tt); exported_encodings = tt }),
+          united_by_lists functions.foo_lists other_lists (record {
+            interfaces = tt;
+            no_world = tt;
+            no_interface = (λ s. s, tt);
+            worlds = (tt, tt);
+            imports = (tt, tt);
+            exports = (λ s. s, tt);
+            imported_encodings = (tt, tt);
+            exported_encodings = (tt, tt);
+          }),
+          united_by_lists other_lists functions.foo_lists (record {
+            interfaces = (tt, tt);
+            no_world = (λ s. s, tt);
+            no_interface = (λ s. s, tt);
+            worlds = (tt, tt);
+            imports = (tt, tt);
+            exports = tt;
+            imported_encodings = (tt, tt);
+            exported_encodings = tt;
+          }),
         ),
         tt,
       ),

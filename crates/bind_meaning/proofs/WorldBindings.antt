@@ -126,7 +126,8 @@ module _ (r : Resolve) where
     apart : (path : Text) → Stand (get (from_entries {R = text_cmp} (interfaces_by_path r)) path) (get (from_entries {R = text_cmp} (worlds_by_path r)) path) → ⊥
     apart path s = by (get (from_entries {R = text_cmp} (interfaces_by_path r)) path) (get (from_entries {R = text_cmp} (worlds_by_path r)) path) refl refl s
       where
-        by : (o : Option InterfaceMeaning) (p : Option WorldMeaning) → get (from_entries {R = text_cmp} (interfaces_by_path r)) path ≡ o → get (from_entries {R = text_cmp} (worlds_by_path r)) path ≡ p → Stand o p → ⊥
+        by : (o : Option InterfaceMeaning) (p : Option WorldMeaning) → get (from_entries {R = text_cmp} (interfaces_by_path r)) path ≡ o → get (from_entries {R = text_cmp} (worlds_by_path r)) path ≡ p
+            → Stand o p → ⊥
         by (Some x) (Some y) e f s = let i = interface-under path x e in let w = world-under path y f in path-apart r v i.number w.number path i.under w.under
         by (Some x) None e f s = s
         by None (Some y) e f s = s
@@ -179,7 +180,8 @@ module _ (r : Resolve) (v : IsValid r) where
       ap (λ b. b || list_any (text_eq (key_text r k)) (map (λ e. e.0) (entries_meaning r es))) (keys-apart k e.0 h (all e (first-contained e es)) d.0)
       ∙ none-alike k es h (λ f c. all f (contains-later e es f c)) d.1
 
-  pub distinct-entries : (es : List (WorldKey × WorldItem)) → ((e : WorldKey × WorldItem) → Contains es e → IsKey e.0) → IsDistinct key_eq (keys_of es) → are_distinct (map (λ e. e.0) (entries_meaning r es)) ≡ true
+  pub distinct-entries : (es : List (WorldKey × WorldItem)) → ((e : WorldKey × WorldItem) → Contains es e → IsKey e.0) → IsDistinct key_eq (keys_of es)
+      → are_distinct (map (λ e. e.0) (entries_meaning r es)) ≡ true
   unfolding IsDistinct
   distinct-entries [] all d = refl
   distinct-entries (e ∷ es) all d =
@@ -205,13 +207,15 @@ module _ (r : Resolve) (v : IsValid r) where
     import-key (key.Name name, shown) c = key_lacks 58 colon r v n w at name shown (Contains-append_left w.imports.entries w.exports.entries (key.Name name, shown) c)
     import-key (key.Interface id, shown) c = interface-key id.0 shown
         (all-contained (λ e. import_stands r n e.0 e.1) w.imports.entries (key.Interface id, shown) (first_true (list_all (λ e. import_stands r n e.0 e.1) w.imports.entries) _ stand) c)
-        (first_true (key_in_range r (key.Interface id)) _ (all-contained (λ e. key_in_range r e.0 && item_in_range r e.1) w.imports.entries (key.Interface id, shown) (first_true (entries_in_range r w.imports.entries) _ ranges) c))
+        (first_true (key_in_range r (key.Interface id)) _ (all-contained (λ e. key_in_range r e.0 && item_in_range r e.1) w.imports.entries (key.Interface id, shown)
+        (first_true (entries_in_range r w.imports.entries) _ ranges) c))
 
     pub export-key : (e : WorldKey × WorldItem) → Contains w.exports.entries e → IsKey e.0
     export-key (key.Name name, shown) c = key_lacks 58 colon r v n w at name shown (Contains-append_right w.imports.entries w.exports.entries (key.Name name, shown) c)
     export-key (key.Interface id, shown) c = interface-key id.0 shown
         (all-contained (λ e. export_stands r e.0 e.1) w.exports.entries (key.Interface id, shown) (second_true (list_all (λ e. import_stands r n e.0 e.1) w.imports.entries) _ stand) c)
-        (first_true (key_in_range r (key.Interface id)) _ (all-contained (λ e. key_in_range r e.0 && item_in_range r e.1) w.exports.entries (key.Interface id, shown) (second_true (entries_in_range r w.imports.entries) _ ranges) c))
+        (first_true (key_in_range r (key.Interface id)) _ (all-contained (λ e. key_in_range r e.0 && item_in_range r e.1) w.exports.entries (key.Interface id, shown)
+        (second_true (entries_in_range r w.imports.entries) _ ranges) c))
 
     pub imports-distinct : are_distinct (map (λ e. e.0) (entries_meaning r w.imports.entries)) ≡ true
     imports-distinct = distinct-entries w.imports.entries import-key (v.distinct_keys.worlds n w at).0

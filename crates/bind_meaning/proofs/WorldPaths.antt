@@ -46,7 +46,8 @@ has-world-path r n path e =
     record { def = w.0; there = w.1; home = p.0; in_package = p.1; package_ = q.0; stands = q.1; spelled = sym q.2 }
 
 -- a name that leads to a world is a world's
-found-name : (t : Text) (es : List (String Global × WorldId)) (n : ℕ) → is_id n (option_map (λ id. id.0) (lookup (λ k. text_eq t (text_of k)) es)) ≡ true → list_any (λ other. text_eq t (text_of other)) (keys_of es) ≡ true
+found-name : (t : Text) (es : List (String Global × WorldId)) (n : ℕ) → is_id n (option_map (λ id. id.0) (lookup (λ k. text_eq t (text_of k)) es)) ≡ true
+    → list_any (λ other. text_eq t (text_of other)) (keys_of es) ≡ true
 found-name t [] n h = let no : ⊥ = cc in absurd no
 found-name t (e ∷ es) n h = by (text_eq t (text_of e.0)) h (found-name t es n)
   where
@@ -76,7 +77,8 @@ module _ (r : Resolve) (v : IsValid r) where
       let b = has-world-path r n path f in
       let p = package-name r v a.home.0 a.package_ a.stands in
       let q = package-name r v b.home.0 b.package_ b.stands in
-      let parts = one_path (identity_of a.package_.name) (identity_of b.package_.name) (text_of a.def.name) (text_of b.def.name) p.identity (world-label m path a) q.identity (world-label n path b) (sym a.spelled ∙ b.spelled) in
+      let parts = one_path (identity_of a.package_.name) (identity_of b.package_.name) (text_of a.def.name) (text_of b.def.name) p.identity (world-label m path a) q.identity (world-label n path b)
+      (sym a.spelled ∙ b.spelled) in
       let homes : b.home.0 ≡ a.home.0 = package-once r v a.home.0 b.home.0 a.package_ b.package_ a.stands b.stands ((same_name a.package_.name b.package_.name p.version q.version).1 parts.0) in
       let one : b.package_ ≡ a.package_ = some-same b.package_ a.package_ (sym b.stands ∙ ap (package_at r) homes ∙ a.stands) in
       one-number m n (option_map (λ id. id.0) (get_by_text a.package_.worlds (text_of a.def.name))) (world-listed m path a)
@@ -90,7 +92,8 @@ module _ (r : Resolve) (v : IsValid r) where
       let home : option_and_then (package_at r) (package_number h.def.package) ≡ Some h.package_ = ap (λ p. option_and_then (package_at r) (package_number p)) h.in_package ∙ h.stands in
       second_true (interface_is_listed n (text_of h.name) h.package_) _
       (given-test (λ p. interface_is_listed n (text_of h.name) p && not (is_world_name p (text_of h.name))) (option_and_then (package_at r) (package_number h.def.package)) true h.package_ home
-      (given-test (λ name. option_map_or (λ p. interface_is_listed n (text_of name) p && not (is_world_name p (text_of name))) (option_and_then (package_at r) (package_number h.def.package)) true) h.def.name _ h.name h.named_ rule))
+      (given-test (λ name. option_map_or (λ p. interface_is_listed n (text_of name) p && not (is_world_name p (text_of name))) (option_and_then (package_at r) (package_number h.def.package)) true)
+      h.def.name _ h.name h.named_ rule))
 
   -- no interface has the path of a world
   pub path-apart : (m n : ℕ) (path : Text) → interface_path r m ≡ Some path → path_at r n ≡ Some path → ⊥
@@ -99,7 +102,8 @@ module _ (r : Resolve) (v : IsValid r) where
       let b = has-world-path r n path f in
       let p = package-name r v a.home.0 a.package_ a.stands in
       let q = package-name r v b.home.0 b.package_ b.stands in
-      let parts = one_path (identity_of a.package_.name) (identity_of b.package_.name) (text_of a.name) (text_of b.def.name) p.identity (path-label r v m path a) q.identity (world-label n path b) (sym a.spelled ∙ b.spelled) in
+      let parts = one_path (identity_of a.package_.name) (identity_of b.package_.name) (text_of a.name) (text_of b.def.name) p.identity (path-label r v m path a) q.identity (world-label n path b)
+      (sym a.spelled ∙ b.spelled) in
       let homes : b.home.0 ≡ a.home.0 = package-once r v a.home.0 b.home.0 a.package_ b.package_ a.stands b.stands ((same_name a.package_.name b.package_.name p.version q.version).1 parts.0) in
       let one : b.package_ ≡ a.package_ = some-same b.package_ a.package_ (sym b.stands ∙ ap (package_at r) homes ∙ a.stands) in
       let listed : world_is_listed n (text_of a.name) a.package_ ≡ true

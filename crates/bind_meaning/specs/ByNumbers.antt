@@ -43,4 +43,5 @@ binding_at r n imported exported = record {
 
 -- In a valid `Resolve` no two interfaces or worlds have one path, and no two keys of a world one text. So each of its worlds, bound, is a binding.
 abbrev pub WorldsAreBindings : Type 0
-WorldsAreBindings = (r : Resolve) → IsValid r → (n : ℕ) → n < length r.worlds.items → (imported exported : Encodings) → IsBinding (binding_at r n imported exported)
+WorldsAreBindings = (r : Resolve) → IsValid r → (n : ℕ) → n < length r.worlds.items → (imported exported : Encodings)
+    → IsBinding (binding_at r n imported exported)

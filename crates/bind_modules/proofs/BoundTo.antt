@@ -1,6 +1,6 @@
 -- What is known of bindings behind each section of a module.
 use Rattle.std.proofs.Common.{◌≡◌, ◌∙◌, refl, sym, ap, subst, ℕ, ◌+◌, ◌-◌, ◌≤◌, ◌<◌, suc, List, [], ◌++◌, append-nil, length, Option, Some, None, arith}
-use Rattle.std.specs.Prelude.{◌≢◌, slice_get}
+use Rattle.std.specs.Prelude.{◌≢◌, slice_get, IfErr, Result, Ok, Err}
 use Rattle.std.specs.Borrow.{Bor}
 use Rattle.std.proofs.lemmas.List.{length-append}
 use Rattle.wit_model.specs.declared.error.Error.{Error}
@@ -18,9 +18,10 @@ use Rattle.wit_bind.proofs.RootBindings.{roots_are_roots}
 use Rattle.wit_metadata.specs.Modules.{Framed, IsFrontData, IsFrontless, IsInFront, IsModule, IsNoModule, RefusesModule, module_preamble}
 use Rattle.bind_sections.specs.Bound.{CarryData, HasSections, IsBound, IsRefused, RefusesBindings}
 use Rattle.bind_sections.specs.SectionBindings.{IsBoundBy}
-use Rattle.bind_sections.specs.Steps.{IsDataInFront, IsReadTo}
+use Rattle.bind_sections.specs.Steps.{IsCountedTo, IsDataInFront, IsReadTo}
+use Rattle.bind_sections.specs.Blamed.{Blames, IsRefusedSection, RefusesNoSection}
 use Rattle.bind_sections.proofs.DecodeSteps.{section-merged}
-use Rattle.bind_sections.proofs.Steps.{left_overs_end, others_are_passed, reading_begins, reading_ends}
+use Rattle.bind_sections.proofs.Steps.{counting_begins, left_overs_end, other-counted, reading_ends}
 use Rattle.bind_modules.specs.BoundTo.{BeginsWithRoot, IsBoundTo}
 use Rattle.bind_modules.specs.Reached.{IsReached}
 use Rattle.base_lemmas.proofs.Lists.{is-nothing as no-bytes}
@@ -43,10 +44,10 @@ grown_begins old new bound grown root =
 -- ---- the steps
 
 -- before the first section
-pub begins : (input rest : List ℕ) (b : Bindgen) → input ≡ module_preamble ++ rest → IsRoot b → IsBoundTo input b rest
+pub begins : (input rest : List ℕ) (b : Bindgen) → input ≡ module_preamble ++ rest → IsRoot b → IsBoundTo input b 0 rest
 begins input rest b parts root =
     let is = roots_are_roots b root in record {
-      read = subst (λ c. IsReadTo input c rest) (sym is.1) (reading_begins input rest parts);
+      read = subst (λ c. IsCountedTo input c 0 rest) (sym is.1) (counting_begins input rest parts);
       bindgen = is.0;
       root = root_begins b root;
       reached = IsReached.begun b rest parts root;
@@ -58,19 +59,19 @@ data-in-front bytes rest found (f, front, carries) =
     record { frame = f; front = front; carry = CarryData.carrying f [] (carries.name, found.now) [] carries.custom carries.named_ carries.begins CarryData.none }
 
 -- it was merged
-pub merged : (input bytes rest d : List ℕ) (own b new : Bindgen) (answer : List WorldKey) → IsBoundTo input own bytes → IsDataInFront bytes d rest → IsBoundBy d b → IsMerge own b new answer
-    → IsBoundTo input new rest
-merged input bytes rest d own b new answer h x bound is = record {
-  read = section-merged input bytes rest d own h.read x b bound new is.united is.union;
+pub merged : (input bytes rest d : List ℕ) (n : ℕ) (own b new : Bindgen) (answer : List WorldKey) → IsBoundTo input own n bytes → IsDataInFront bytes d rest → IsBoundBy d b → IsMerge own b new answer
+    → IsBoundTo input new (n + 1) rest
+merged input bytes rest d n own b new answer h x bound is = record {
+  read = section-merged input bytes rest d own h.read.0 x b bound n h.read.1 new is.united is.union;
   bindgen = is.valid;
   root = grown_begins own.resolve new.resolve own.world.0 is.extends h.root;
   reached = IsReached.merged own b new answer bytes d rest h.reached x bound is;
 }
 
 -- one that carries none
-pub passed : (input bytes rest : List ℕ) (b : Bindgen) → IsBoundTo input b bytes → IsFrontData bytes None rest → IsBoundTo input b rest
-passed input bytes rest b h (f, front, never) = record {
-  read = others_are_passed input bytes rest (binding_of b) f h.read front never;
+pub passed : (input bytes rest : List ℕ) (n : ℕ) (b : Bindgen) → IsBoundTo input b n bytes → IsFrontData bytes None rest → IsBoundTo input b n rest
+passed input bytes rest n b h (f, front, never) = record {
+  read = other-counted input bytes rest (binding_of b) n f h.read front never;
   bindgen = h.bindgen;
   root = h.root;
   reached = IsReached.passed b bytes rest f h.reached front never;
@@ -88,38 +89,80 @@ shorter bytes rest (Some found) (f, front, carries) = one-shorter bytes rest f f
 shorter bytes rest None (f, front, never) = one-shorter bytes rest f front
 
 -- what is left is a part of the module
-pub part : (input rest : List ℕ) (b : Bindgen) → IsBoundTo input b rest → length rest ≤ length input
-part input rest b h =
-    let whole = ap length h.read.parts ∙ length-append module_preamble (h.read.front ++ rest) in
-    let behind = length-append h.read.front rest in
+pub part : (input rest : List ℕ) (n : ℕ) (b : Bindgen) → IsBoundTo input b n rest → length rest ≤ length input
+part input rest n b h =
+    let whole = ap length h.read.0.parts ∙ length-append module_preamble (h.read.0.front ++ rest) in
+    let behind = length-append h.read.0.front rest in
     omega (arith, whole, behind)
 
 behind : (n whole front rest : ℕ) → whole ≡ n + (front + rest) → whole - rest + rest ≡ whole
 behind n whole front rest e = omega (arith, e)
 
 -- where the bytes begin that are left
-pub begins-at : (input rest : List ℕ) (b : Bindgen) → IsBoundTo input b rest → length input - length rest + length rest ≡ length input
-begins-at input rest b h =
-    behind (length module_preamble) (length input) (length h.read.front) (length rest)
-    (ap length h.read.parts ∙ (length-append module_preamble (h.read.front ++ rest) ∙ ap (λ (n : ℕ). length module_preamble + n) (length-append h.read.front rest)))
+pub begins-at : (input rest : List ℕ) (n : ℕ) (b : Bindgen) → IsBoundTo input b n rest → length input - length rest + length rest ≡ length input
+begins-at input rest n b h =
+    behind (length module_preamble) (length input) (length h.read.0.front) (length rest)
+    (ap length h.read.0.parts ∙ (length-append module_preamble (h.read.0.front ++ rest) ∙ ap (λ (n : ℕ). length module_preamble + n) (length-append h.read.0.front rest)))
+
+-- how many sections have been counted: each has bytes
+
+pub behind-preamble : (input rest : List ℕ) → input ≡ module_preamble ++ rest → 0 + length rest ≤ length input
+behind-preamble input rest parts = let whole = ap length parts ∙ length-append module_preamble rest in omega (arith, whole)
+
+pub counted-on : (count new rest behind whole : ℕ) → count + rest ≤ whole → new ≤ count + 1 → behind < rest → new + behind ≤ whole
+counted-on count new rest behind whole h more less = omega (arith, h, more, less)
 
 -- ---- the end
 
-pub ends : (input rest : List ℕ) (b : Bindgen) → IsBoundTo input b rest → length rest ≡ 0 → IsBound input (binding_of b)
-ends input rest b h none = reading_ends input (binding_of b) (subst (IsReadTo input (binding_of b)) (no-bytes rest none) h.read)
+pub ends : (input rest : List ℕ) (n : ℕ) (b : Bindgen) → IsBoundTo input b n rest → length rest ≡ 0 → IsBound input (binding_of b)
+ends input rest n b h none = reading_ends input (binding_of b) (subst (IsReadTo input (binding_of b)) (no-bytes rest none) h.read.0)
 
-pub ends-reached : (input rest : List ℕ) (b : Bindgen) → IsBoundTo input b rest → length rest ≡ 0 → IsReached input b []
-ends-reached input rest b h none = subst (IsReached input b) (no-bytes rest none) h.reached
+pub ends-reached : (input rest : List ℕ) (n : ℕ) (b : Bindgen) → IsBoundTo input b n rest → length rest ≡ 0 → IsReached input b []
+ends-reached input rest n b h none = subst (IsReached input b) (no-bytes rest none) h.reached
 
 -- ---- refusals
+
+-- a refusal that is of a section
+pub to-blame : (input : List ℕ) (n : ℕ) (e : Error) → (e ≡ errors.Memory → ⊥) → (e ≡ errors.Size → ⊥) → (e ≡ errors.NotAModule → ⊥) → ((offset : ℕ) → e ≡ errors.BadModule offset → ⊥)
+    → Blames input n e
+    → IsRefusedSection input n
+to-blame input n errors.Memory memory size module_ frame h = absurd (memory refl)
+to-blame input n errors.Size memory size module_ frame h = absurd (size refl)
+to-blame input n errors.NotAModule memory size module_ frame h = absurd (module_ refl)
+to-blame input n (errors.BadModule offset) memory size module_ frame h = absurd (frame offset refl)
+to-blame input n e memory size module_ frame h = record { error = e; other = memory; refused = h }
+
+-- the same refusal is of size where the other is
+pub same-size : {X : Type 0} (A : Type 0) (r : Result X Error) (e : Error) → IfErr r (λ d. d ≡ e) → (e ≡ errors.Size → A) → IfErr r (λ d. d ≡ errors.Size → A)
+same-size A (Ok x) e same h = tt
+same-size A (Err d) e same h = λ so. h (sym same ∙ so)
 
 pub no-module : (input : List ℕ) (e : Error) → e ≡ errors.NotAModule → IsNoModule input → RefusesBindings input e
 no-module input e is none = subst (RefusesBindings input) (sym is) (IsRefused.no_module none refl)
 
-pub left-over : (input bytes : List ℕ) (b : Bindgen) (offset : ℕ) (e : Error) → IsBoundTo input b bytes → bytes ≢ [] → IsFrontless bytes → offset + length bytes ≡ length input
+pub no-module-blamed : (input : List ℕ) (n : ℕ) (e : Error) → e ≡ errors.NotAModule → IsNoModule input → Blames input n e
+no-module-blamed input n e is none = subst (Blames input n) (sym is) (RefusesNoSection.no_module none)
+
+pub left-over : (input bytes : List ℕ) (n : ℕ) (b : Bindgen) (offset : ℕ) (e : Error) → IsBoundTo input b n bytes → bytes ≢ [] → IsFrontless bytes → offset + length bytes ≡ length input
     → e ≡ errors.BadModule offset → RefusesBindings input e
-left-over input bytes b offset e h some none at is =
-    subst (RefusesBindings input) (sym is) (left_overs_end input bytes (binding_of b) (errors.BadModule offset) h.read none (some, at))
+left-over input bytes n b offset e h some none at is =
+    subst (RefusesBindings input) (sym is) (left_overs_end input bytes (binding_of b) (errors.BadModule offset) h.read.0 none (some, at))
+
+pub left-over-blamed : (input bytes : List ℕ) (n : ℕ) (b : Bindgen) (offset : ℕ) (e : Error) → IsBoundTo input b n bytes → IsFrontless bytes → e ≡ errors.BadModule offset → Blames input n e
+left-over-blamed input bytes n b offset e h none is = subst (Blames input n) (sym is) (RefusesNoSection.through (binding_of b) bytes h.read.0 none)
+
+-- a module that binds something has no section that is refused
+pub bound-blames-none : (input : List ℕ) (c : Binding) → IsBound input c → RefusesNoSection input
+bound-blames-none input c bound =
+    RefusesNoSection.through c [] (record {
+      sections = bound.sections;
+      front = bound.stand.front;
+      parts = bound.stand.parts;
+      are = bound.stand.sections;
+      data_ = bound.data_;
+      carry = bound.carry;
+      binds = bound.binds;
+    }) bound.stand.ends
 
 -- A module that binds something is refused, where it is stripped, for want of memory alone.
 pub strip-refused : (input : List ℕ) (c : Binding) (e : Error) → IsBound input c → RefusesModule input e → RefusesBindings input e

@@ -5,8 +5,6 @@ use Rattle.wit_model.specs.declared.error.Error.TheVariants as errors
 use Rattle.comp_read.specs.DecodedWorlds.{RefusesWorldBytes}
 use Rattle.bind_sections.specs.SectionBindings.{RefusesSection}
 
--- an error that is handed on
-
 -- what has no length is nothing, and what has a first byte is something
 
 pub is-something : (bytes : List ℕ) (first : ℕ) (behind : List ℕ) → bytes ≡ first ∷ behind → bytes ≡ [] → ⊥

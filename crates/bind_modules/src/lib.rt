@@ -3,6 +3,8 @@
 
 mod modules;
 mod named;
+mod refused;
 mod sections;
 
 pub use modules::decode;
+pub use refused::refused_section;

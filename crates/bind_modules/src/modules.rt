@@ -1,6 +1,6 @@
 //! The sections of a module, bound one after the other.
 
-ghost use Rattle.std.specs.Prelude.{◌≡◌, ◌≢◌, ◌+◌, ◌<◌, ℕ, List, [], length, IfErr, IfOk, OnOk};
+ghost use Rattle.std.specs.Prelude.{◌≡◌, ◌≢◌, ◌+◌, ◌<◌, ◌≤◌, ◌^◌, ℕ, List, [], length, IfErr, IfOk, OnOk};
 ghost use Rattle.wit_model.specs.declared.error.Error.TheVariants.{Size};
 ghost use Rattle.plan_meaning.specs.Built.{IsBare};
 ghost use Rattle.wit_bind.specs.Bindings.{IsBindgen, binding_of};
@@ -8,6 +8,7 @@ ghost use Rattle.wit_metadata.specs.Modules.{IsFrontData, StripsModule};
 ghost use Rattle.bind_sections.specs.Bound.{IsBound, RefusesBindings};
 ghost use Rattle.bind_sections.specs.Steps.{IsDataInFront};
 ghost use Rattle.bind_names.specs.Named.{AreNamed};
+ghost use Rattle.bind_sections.specs.Blamed.{Blames};
 ghost use Rattle.bind_modules.specs.BoundTo.{BeginsWithRoot, IsBoundTo};
 ghost use Rattle.bind_modules.specs.Reached.{IsReached, OutgrowsLists};
 
@@ -29,31 +30,48 @@ fn bind_section(
     requires bindgen { IsBindgen bound.old }
     requires named { AreNamed bound.old.resolve.packages.items named.old }
     ensures named { OnOk result (AreNamed bound.new.resolve.packages.items named.new) }
-    ensures ok { (input bytes rest : List ℕ) → IsBoundTo input bound.old bytes → IsDataInFront bytes section.now rest → OnOk result (IsBoundTo input bound.new rest) }
-    ensures refuses { (input bytes rest : List ℕ) → IsBoundTo input bound.old bytes → IsDataInFront bytes section.now rest → IfErr result (RefusesBindings input) }
-    ensures size { (input bytes rest : List ℕ) → IsBoundTo input bound.old bytes → IsDataInFront bytes section.now rest → IfErr result (λ e. e ≡ Size → OutgrowsLists input) }
+    ensures ok { (input bytes rest : List ℕ) (n : ℕ) → IsBoundTo input bound.old n bytes → IsDataInFront bytes section.now rest
+        → OnOk result (IsBoundTo input bound.new (n + 1) rest) }
+    ensures refuses { (input bytes rest : List ℕ) (n : ℕ) → IsBoundTo input bound.old n bytes → IsDataInFront bytes section.now rest
+        → IfErr result (RefusesBindings input) }
+    ensures blames { (input bytes rest : List ℕ) (n : ℕ) → IsBoundTo input bound.old n bytes → IsDataInFront bytes section.now rest
+        → IfErr result (Blames input n) }
+    ensures size { (input bytes rest : List ℕ) (n : ℕ) → IsBoundTo input bound.old n bytes → IsDataInFront bytes section.now rest
+        → IfErr result (λ e. e ≡ Size → OutgrowsLists input) }
 {
     let other = decode_section(alloc, section)?;
     merge_named(alloc, bound, named, other)?;
     Ok(())
 }
 
-// The same where a section carries data. Where it carries none, nothing is bound.
+// The same where a section carries data, which is counted once it is bound. Where it carries none, nothing is bound.
 fn bind_carried(
     alloc: Global,
     bound: &mut Bindgen,
     named: &mut PackagesByName,
+    count: &mut usize,
     carried: Option<&[u8]>,
 ) -> Result<(), Error>
     requires bindgen { IsBindgen bound.old }
     requires named { AreNamed bound.old.resolve.packages.items named.old }
+    requires room { count.old + 1 < 2 ^ 64 }
     ensures named { OnOk result (AreNamed bound.new.resolve.packages.items named.new) }
-    ensures ok { (input bytes rest : List ℕ) → IsBoundTo input bound.old bytes → IsFrontData bytes carried.entry rest → OnOk result (IsBoundTo input bound.new rest) }
-    ensures refuses { (input bytes rest : List ℕ) → IsBoundTo input bound.old bytes → IsFrontData bytes carried.entry rest → IfErr result (RefusesBindings input) }
-    ensures size { (input bytes rest : List ℕ) → IsBoundTo input bound.old bytes → IsFrontData bytes carried.entry rest → IfErr result (λ e. e ≡ Size → OutgrowsLists input) }
+    ensures counts { count.new ≤ count.old + 1 }
+    ensures ok { (input bytes rest : List ℕ) → IsBoundTo input bound.old count.old bytes → IsFrontData bytes carried.entry rest
+        → OnOk result (IsBoundTo input bound.new count.new rest) }
+    ensures refuses { (input bytes rest : List ℕ) → IsBoundTo input bound.old count.old bytes → IsFrontData bytes carried.entry rest
+        → IfErr result (RefusesBindings input) }
+    ensures blames { (input bytes rest : List ℕ) → IsBoundTo input bound.old count.old bytes → IsFrontData bytes carried.entry rest
+        → IfErr result (Blames input count.new) }
+    ensures size { (input bytes rest : List ℕ) → IsBoundTo input bound.old count.old bytes → IsFrontData bytes carried.entry rest
+        → IfErr result (λ e. e ≡ Size → OutgrowsLists input) }
 {
     match carried {
-        Some(section) => bind_section(alloc, bound, named, section),
+        Some(section) => {
+            bind_section(alloc, bound, named, section)?;
+            *count += 1;
+            Ok(())
+        }
         None => Ok(()),
     }
 }
@@ -63,38 +81,46 @@ fn bind_front<'a>(
     alloc: Global,
     bound: &mut Bindgen,
     named: &mut PackagesByName,
+    count: &mut usize,
     bytes: &'a [u8],
     offset: usize,
 ) -> Result<&'a [u8], Error>
     requires bindgen { IsBindgen bound.old }
     requires named { AreNamed bound.old.resolve.packages.items named.old }
+    requires room { count.old + 1 < 2 ^ 64 }
     requires some { bytes.now ≢ [] }
-    ensures ok { (input : List ℕ) → IsBoundTo input bound.old bytes.now → IfOk result (λ rest. IsBoundTo input bound.new rest.now) }
+    ensures ok { (input : List ℕ) → IsBoundTo input bound.old count.old bytes.now
+        → IfOk result (λ rest. IsBoundTo input bound.new count.new rest.now) }
     ensures named { OnOk result (AreNamed bound.new.resolve.packages.items named.new) }
+    ensures counts { count.new ≤ count.old + 1 }
     ensures shorter { IfOk result (λ rest. length rest.now < length bytes.now) }
-    ensures refuses { (input : List ℕ) → offset + length bytes.now ≡ length input → IsBoundTo input bound.old bytes.now → IfErr result (RefusesBindings input) }
-    ensures size { (input : List ℕ) → IsBoundTo input bound.old bytes.now → IfErr result (λ e. e ≡ Size → OutgrowsLists input) }
+    ensures refuses { (input : List ℕ) → offset + length bytes.now ≡ length input → IsBoundTo input bound.old count.old bytes.now
+        → IfErr result (RefusesBindings input) }
+    ensures blames { (input : List ℕ) → IsBoundTo input bound.old count.old bytes.now → IfErr result (Blames input count.new) }
+    ensures size { (input : List ℕ) → IsBoundTo input bound.old count.old bytes.now → IfErr result (λ e. e ≡ Size → OutgrowsLists input) }
 {
     let (carried, behind) = carried_in(bytes, offset)?;
-    bind_carried(alloc, bound, named, carried)?;
+    bind_carried(alloc, bound, named, count, carried)?;
     Ok(behind)
 }
 
-// What the sections of a module bind, in their order.
-fn bindings(alloc: Global, bytes: &[u8]) -> Result<Bindgen, Error>
+/// What the sections of a module bind, in their order. Those that carry worlds are counted: at a refusal there are so many in front of the refused one.
+pub(crate) fn bindings(alloc: Global, bytes: &[u8], count: &mut usize) -> Result<Bindgen, Error>
     ensures bound { IfOk result (λ b. IsBound bytes.now (binding_of b)) }
     ensures valid { IfOk result IsBindgen }
     ensures root { IfOk result (λ b. BeginsWithRoot b.resolve) }
     ensures reached { IfOk result (λ b. IsReached bytes.now b []) }
     ensures refuses { IfErr result (RefusesBindings bytes.now) }
+    ensures blames { IfErr result (Blames bytes.now count.new) }
     ensures size { IfErr result (λ e. e ≡ Size → OutgrowsLists bytes.now) }
 {
+    *count = 0;
     let mut rest = sections_of(bytes)?;
     let mut bound = Bindgen::default(alloc)?;
     let mut named = named_by_bytes(alloc, bytes, &bound)?;
     while !rest.is_empty() {
         let offset = bytes.len() - rest.len();
-        rest = bind_front(alloc, &mut bound, &mut named, rest, offset)?;
+        rest = bind_front(alloc, &mut bound, &mut named, count, rest, offset)?;
     }
     Ok(bound)
 }
@@ -124,7 +150,8 @@ pub fn decode(alloc: Global, bytes: &[u8]) -> Result<(Option<Vec<u8>>, Bindgen),
     ensures refuses { IfErr result (RefusesBindings bytes.now) }
     ensures size { IfErr result (λ e. e ≡ Size → OutgrowsLists bytes.now) }
 {
-    let bound = bindings(alloc, bytes)?;
+    let mut count = 0usize;
+    let bound = bindings(alloc, bytes, &mut count)?;
     let module = stripped(alloc, bytes)?;
     Ok((module, bound))
 }

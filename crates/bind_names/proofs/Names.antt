@@ -46,7 +46,8 @@ copy_in_front x old new s =
 -- ---- one more
 
 -- a name that was not there
-pub gained : (x name key : PackageName) (id : PackageId) (old new : Table) → same_package_name x key ≡ same_package_name x name → new.entries ≡ old.entries ++ (key, id) ∷ [] → found_by new x ≡ or_else (found_by old x) (same_package_name x name) id
+pub gained : (x name key : PackageName) (id : PackageId) (old new : Table) → same_package_name x key ≡ same_package_name x name → new.entries ≡ old.entries ++ (key, id) ∷ []
+    → found_by new x ≡ or_else (found_by old x) (same_package_name x name) id
 gained x name key id old new same more =
     ap (lookup (same_package_name x)) more ∙ find_last (same_package_name x) old.entries key id ∙ ap (λ b. or_last (found_by old x) b id) same ∙ as_else (found_by old x) (same_package_name x name)
   where
@@ -55,11 +56,13 @@ gained x name key id old new same more =
     as_else None b = refl
 
 -- who bears a name that is there is found
-there_too : (x name : PackageName) → same_package_name x name ≡ true → (es : List (PackageName × PackageId)) → is_some (lookup (same_package_name name) es) ≡ true → is_some (lookup (same_package_name x) es) ≡ true
+there_too : (x name : PackageName) → same_package_name x name ≡ true → (es : List (PackageName × PackageId)) → is_some (lookup (same_package_name name) es) ≡ true
+    → is_some (lookup (same_package_name x) es) ≡ true
 there_too x name same [] h = h
 there_too x name same (e ∷ es) h = by (same_package_name x e.0) (same_package_name name e.0) refl refl (λ g. there_too x name same es g)
   where
-    by : (b c : Bool) → same_package_name x e.0 ≡ b → same_package_name name e.0 ≡ c → (is_some (lookup (same_package_name name) es) ≡ true → is_some (lookup (same_package_name x) es) ≡ true) → is_some (cond b (Some e.1) (lookup (same_package_name x) es)) ≡ true
+    by : (b c : Bool) → same_package_name x e.0 ≡ b → same_package_name name e.0 ≡ c → (is_some (lookup (same_package_name name) es) ≡ true → is_some (lookup (same_package_name x) es) ≡ true)
+        → is_some (cond b (Some e.1) (lookup (same_package_name x) es)) ≡ true
     by true c is its rest = refl
     by false false is its rest = rest (ap (λ d. is_some (cond d (Some e.1) (lookup (same_package_name name) es))) (sym its) ∙ h)
     by false true is its rest = let no : true ≡ false = sym same ∙ name_same x name e.0 its ∙ is in absurd (let q : ⊥ = cc in q)
@@ -74,7 +77,8 @@ stayed x name id old found = by (found_by old x) refl (same_package_name x name)
     by None e true s = let no : false ≡ true = ap is_some (sym e) ∙ there_too x name s old.entries (sym found) in absurd (let q : ⊥ = cc in q)
 
 -- the packages, as far as they are taken
-pub one_more : (packages : List Package) (n : ℕ) (p : Package) (old new : Table) → n < length packages → p ≡ get_or packages n p → AreNamed (take n packages) old → GainsName old p.name (number n) new → AreNamed (take (n + 1) packages) new
+pub one_more : (packages : List Package) (n : ℕ) (p : Package) (old new : Table) → n < length packages → p ≡ get_or packages n p → AreNamed (take n packages) old → GainsName old p.name (number n) new
+    → AreNamed (take (n + 1) packages) new
 one_more packages n p old new lt is h gains x =
     let long : length (take n packages) ≡ n = length-take-le n packages (let le : n ≤ length packages = omega (arith, lt) in le) in
     let e : 0 + length (take n packages) ≡ n = omega (arith, long) in

@@ -136,14 +136,14 @@ means-some d m read is =
 nothing-begins : (d rest : List ℕ) → d ≡ [] → d ≡ 3 ∷ rest → ⊥
 nothing-begins d rest none is = let wrong = ap length (sym none ∙ is) in omega (arith, wrong)
 
-means-is-let-through : (d : List ℕ) (m : WorldPackage) (e : StringEncoding) (error : Error) → SectionMeans d m e → RefusesSection d error → error ≡ errors.Memory
+pub means-is-let-through : (d : List ℕ) (m : WorldPackage) (e : StringEncoding) (error : Error) → SectionMeans d m e → RefusesSection d error → error ≡ errors.Memory
 means-is-let-through d m e error means (RefusesSection.empty none is) = absurd (means-some d m means.reads none)
 means-is-let-through d m e error means (RefusesSection.historical rest is historical) = absurd (begins-otherwise d rest m means.reads is)
 means-is-let-through d m e error means (RefusesSection.unread some other cause offset is within none) = absurd (none m means.reads)
 means-is-let-through d m e error means (RefusesSection.unsaid n read says) = absurd (err-never e error (read-back e d (Err error) means.says says))
 means-is-let-through d m e error means (RefusesSection.memory is) = is
 
-no-clash-error : (a b : Binding) (error : Error) → CanUnite a b → IsClashError a b error → ⊥
+pub no-clash-error : (a b : Binding) (error : Error) → CanUnite a b → IsClashError a b error → ⊥
 no-clash-error a b (errors.Clash kind key) u clash = united_have_no_clash a b kind (text_of key) u clash
 no-clash-error a b _ u clash = clash
 

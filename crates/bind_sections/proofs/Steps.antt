@@ -1,5 +1,5 @@
 -- How a module is read, section by section.
-use Rattle.std.proofs.Common.{◌≡◌, ◌∙◌, refl, sym, ap, subst, arith, ℕ, ◌≤◌, ◌==◌, nat_eq, zero, suc, Bool, true, false, List, [], ◌∷◌, ◌++◌, append_assoc, append-nil, length, Option, Some, None}
+use Rattle.std.proofs.Common.{◌≡◌, ◌∙◌, refl, sym, ap, subst, arith, ℕ, ◌+◌, ◌≤◌, ◌==◌, nat_eq, zero, suc, Bool, true, false, List, [], ◌∷◌, ◌++◌, append_assoc, append-nil, length, Option, Some, None}
 use mathlib.Core.Logic.{inl, inr}
 use Rattle.std.specs.Prelude.{◌⊎◌}
 use Rattle.std.specs.List.{AllByRecursion, starts_with}
@@ -22,7 +22,7 @@ use Rattle.wit_metadata.specs.Modules.{AreSections, Carries, Framed, IsFrontless
 use Rattle.wit_metadata.proofs.ModuleLaws.{named-end, one-custom, sequence-end}
 use Rattle.bind_sections.specs.SectionBindings.{RefusesSection}
 use Rattle.bind_sections.specs.Bound.{Binds, CarryData, HasSections, IsClashError, IsLeftOver, IsRefused, Refuses, SectionMeans}
-use Rattle.bind_sections.specs.Steps.{IsDataInFront, IsReadTo, LeftOversEnd, OthersArePassed, ReadingBegins, ReadingEnds, RefusalsEnd, WorldsAreBound}
+use Rattle.bind_sections.specs.Steps.{IsCountedTo, IsDataInFront, IsReadTo, LeftOversEnd, OthersArePassed, ReadingBegins, ReadingEnds, RefusalsEnd, WorldsAreBound}
 use Rattle.base_lemmas.proofs.Numbers.{equal, same-number}
 use Rattle.std.proofs.lemmas.Option.{none-some, same_Some as some-same}
 
@@ -170,7 +170,7 @@ module _ (input bytes : List ℕ) (c : Binding) (h : IsReadTo input c bytes) whe
   sequence-both (f ∷ fs) gs a b (here, rest, parts, spelled, others) more =
       (here, rest ++ b, ap (λ (t : List ℕ). t ++ b) parts ∙ append_assoc here rest b, spelled, sequence-both fs gs rest b others more)
 
-  whole : (more : HasMore bytes) → HasSections input (h.sections ++ more.sections) more.left
+  pub whole : (more : HasMore bytes) → HasSections input (h.sections ++ more.sections) more.left
   whole more = record {
     front = h.front ++ more.front;
     parts = parts-on more.front more.left more.parts;
@@ -185,7 +185,7 @@ module _ (input bytes : List ℕ) (c : Binding) (h : IsReadTo input c bytes) whe
       (refuses-behind (IsLeftOver input more.left) h.data_ es root_binding c error h.binds refuses)
 
 -- the sections that follow, of which this is the first
-more-behind : (bytes d rest : List ℕ) (x : IsDataInFront bytes d rest) → HasMore rest → HasMore bytes
+pub more-behind : (bytes d rest : List ℕ) (x : IsDataInFront bytes d rest) → HasMore rest → HasMore bytes
 more-behind bytes d rest x more = record {
   sections = x.frame ∷ more.sections;
   left = more.left;
@@ -195,13 +195,32 @@ more-behind bytes d rest x more = record {
   ends = more.ends;
 }
 
+-- the same with the sections counted that carry worlds
+
+pub counting_begins : (input rest : List ℕ) → input ≡ module_preamble ++ rest → IsCountedTo input root_binding 0 rest
+unfolding reading_begins
+counting_begins input rest parts = (reading_begins input rest parts, refl)
+
+pub other-counted : (input bytes rest : List ℕ) (c : Binding) (n : ℕ) (f : Framed) → IsCountedTo input c n bytes → IsInFront bytes f rest → (Carries f → ⊥) → IsCountedTo input c n rest
+unfolding one-on
+other-counted input bytes rest c n f (h, is) stands never = (
+  one-on input bytes c h f rest stands [] (CarryData.other f [] [] never CarryData.none) c (subst (λ ds. Binds root_binding ds c) (sym (append-nil h.data_)) h.binds),
+  ap length (append-nil h.data_) ∙ is,
+)
+
+pub world-counted : (input bytes rest d : List ℕ) (c : Binding) (n : ℕ) (m : WorldPackage) (e : StringEncoding) → IsCountedTo input c n bytes → IsDataInFront bytes d rest → SectionMeans d m e
+    → CanUnite c (binding_of_world m e) → IsCountedTo input (union c (binding_of_world m e)) (n + 1) rest
+unfolding one-on
+world-counted input bytes rest d c n m e (h, is) x means u = (
+  one-on input bytes c h x.frame rest x.front (d ∷ []) x.carry (union c (binding_of_world m e)) (binds-end h.data_ root_binding c d m e h.binds means u),
+  length-append h.data_ (d ∷ []) ∙ ap (λ (k : ℕ). k + 1) is,
+)
+
 pub others_are_passed : OthersArePassed
-others_are_passed input bytes rest c f h stands never =
-    one-on input bytes c h f rest stands [] (CarryData.other f [] [] never CarryData.none) c (subst (λ ds. Binds root_binding ds c) (sym (append-nil h.data_)) h.binds)
+others_are_passed input bytes rest c f h stands never = (other-counted input bytes rest c (length h.data_) f (h, refl) stands never).0
 
 pub worlds_are_bound : WorldsAreBound
-worlds_are_bound input bytes rest d c m e h x means u =
-    one-on input bytes c h x.frame rest x.front (d ∷ []) x.carry (union c (binding_of_world m e)) (binds-end h.data_ root_binding c d m e h.binds means u)
+worlds_are_bound input bytes rest d c m e h x means u = (world-counted input bytes rest d c (length h.data_) m e (h, refl) x means u).0
 
 pub reading_ends : ReadingEnds
 reading_ends input c h = record {
@@ -211,6 +230,12 @@ reading_ends input c h = record {
   carry = h.carry;
   binds = h.binds;
 }
+
+-- and the data of all
+pub all-behind : (input bytes d rest : List ℕ) (c : Binding) (h : IsReadTo input c bytes) (x : IsDataInFront bytes d rest) (more : HasMore rest) (es : List (List ℕ)) → CarryData more.sections es
+    → CarryData (h.sections ++ (more-behind bytes d rest x more).sections) (h.data_ ++ (d ∷ es))
+unfolding more-behind
+all-behind input bytes d rest c h x more es carry = carry-both h.sections (x.frame ∷ more.sections) h.data_ (d ∷ es) h.carry (carry-both (x.frame ∷ []) more.sections (d ∷ []) es x.carry carry)
 
 pub refusals_end : RefusalsEnd
 unfolding more-behind

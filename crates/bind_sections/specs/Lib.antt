@@ -3,3 +3,4 @@ pub mod Bound
 pub mod BoundLaws
 pub mod Orders
 pub mod Steps
+pub mod Blamed

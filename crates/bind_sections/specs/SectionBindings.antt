@@ -12,12 +12,15 @@ use Rattle.comp_meaning.specs.Reads.{ReadsWorld}
 use Rattle.wit_bind.specs.declared.bindgen.Bindgen.{Bindgen}
 use Rattle.wit_bind.specs.Functions.{MapsFunctions, exports_of, imports_of}
 use Rattle.comp_read.specs.DecodedWorlds.{IsDecodedWorld, MeansNoWorld}
+use Rattle.comp_read.specs.Order.{FollowsBytes}
 use Rattle.wit_metadata.specs.Carried.{CarriesEncoding, MeansWorld}
 use Rattle.wit_metadata.specs.Said.{AnswersSaid}
 
--- The bindings are of the world that the data means by itself, and each function of its imports and its exports has the encoding that the data says.
+-- The bindings are of the world that the data means by itself, in the order in which the data shows it, and each function of its imports and its exports has
+-- the encoding that the data says.
 pub record IsBoundBy (bytes : List ℕ) (b : Bindgen) : Type 0 where
   pub decoded : IsDecodedWorld bytes b.resolve b.world.0
+  pub order : FollowsBytes bytes b.resolve
   pub encoding : StringEncoding
   pub says : AnswersSaid bytes (Ok encoding)
   pub imports : MapsFunctions b.resolve (imports_of b.resolve b.world.0) encoding b.metadata.import_encodings

@@ -1,5 +1,5 @@
 -- How a module is read, section by section, and what is known then.
-use Rattle.std.specs.Prelude.{◌≡◌, ◌⊎◌, ℕ, List, [], ◌∷◌, ◌++◌}
+use Rattle.std.specs.Prelude.{◌≡◌, ◌⊎◌, ℕ, List, [], ◌∷◌, ◌++◌, length}
 use Rattle.wit_model.specs.declared.error.Error.{Error}
 use Rattle.wit_model.specs.declared.model.StringEncoding.{StringEncoding}
 use Rattle.wit_model.specs.Meaning.{WorldPackage}
@@ -21,6 +21,10 @@ pub record IsReadTo (input : List ℕ) (c : Binding) (rest : List ℕ) : Type 0 
   pub data_ : List (List ℕ)
   pub carry : CarryData sections data_
   pub binds : Binds root_binding data_ c
+
+-- So far these sections have been read, and so many of them carry worlds.
+abbrev pub IsCountedTo : List ℕ → Binding → ℕ → List ℕ → Type 0
+IsCountedTo input c number rest = (h : IsReadTo input c rest) × (length h.data_ ≡ number)
 
 -- A section whose data this is stands in front of bytes.
 pub record IsDataInFront (bytes d rest : List ℕ) : Type 0 where

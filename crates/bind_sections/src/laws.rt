@@ -2,6 +2,7 @@
 
 ghost use Rattle.bind_meaning.specs.Orders.{EveryOrderFolds, FoldsHoldTheirs, OrdersGiveTheSame, SameInEachOrder};
 ghost use Rattle.bind_sections.specs.Orders.{BindsWhereNoTwoClash, EachUnitesOrClashes, ModulesInEachOrder, SectionsFold, SectionsInEachOrder};
+ghost use Rattle.bind_sections.specs.Blamed.{NoRefusedSection, OneRefusedSection};
 ghost use Rattle.bind_sections.specs.Steps.{LeftOversEnd, OthersArePassed, ReadingBegins, ReadingEnds, RefusalsEnd, WorldsAreBound};
 ghost use Rattle.bind_sections.specs.BoundLaws.{BoundAreBindings, BoundIsNotRefused, BoundOnce, BoundSectionsMean, OneRefusal, OneSectionBinds, SectionsAreBindings, SectionsBindTheirWorlds, SectionsMeanOnce};
 
@@ -58,4 +59,10 @@ pub fn modules_are_read_in_order()
     ensures ends { ReadingEnds }
     ensures refusals { RefusalsEnd }
     ensures left { LeftOversEnd }
+{}
+
+/// One section of a module is refused at most: the number that is told of it is its only one, and where none is told, none is refused.
+pub fn one_refused_section()
+    ensures one { OneRefusedSection }
+    ensures none { NoRefusedSection }
 {}

@@ -8,7 +8,7 @@ use super::merging::packages_as_text;
 use std::alloc::Global;
 use std::process::Abort;
 use std::test::Fail;
-use wit_component::metadata::decode;
+use wit_component::metadata::{decode, refused_section};
 use wit_component::{Bindgen, Check, Error, StringEncoding, WorldKey, write_name, write_u32};
 use wit_samples::bytes::{CARRIED, HOST_AND_GUEST, INTERFACE_AND_WORLD};
 
@@ -188,6 +188,30 @@ fn bound_or_refused(rt: HostRuntime) -> Result<(), Fail> {
         let (_found, said) = outcome(alloc, &module)?;
         assert_eq!(rt; said.as_str(), *text);
     }
+    Ok(())
+}
+
+// The number of the section that is refused, and none where it isn't a section that is.
+#[test]
+fn the_refused_section(rt: HostRuntime) -> Result<(), Fail> {
+    static CASES: [(Sections, &[u8], Option<usize>); 10] = [
+        (&[TEST_BAR, TEST_BAR], &[0], Some(1)),
+        (&[&[]], &[], Some(0)),
+        (&[TEST_FOO, TEST_BAR, &[], &[3]], &[], Some(2)),
+        (&[CARRIED, &[3], TEST_FOO], &[0], Some(1)),
+        (&[TEST_FOO, CARRIED, HOST_AND_GUEST], &[], Some(2)),
+        (&[INTERFACE_AND_WORLD], &[0], Some(0)),
+        (&[TEST_BAR], &[0], None),
+        (&[], &[0], None),
+        (&[TEST_FOO, TEST_BAR], &[], None),
+        (&[], &[], None),
+    ];
+    let alloc = rt.alloc();
+    for (sections, end, number) in &CASES {
+        let module = module_of(alloc, &[1, 0], "component-type", sections, end)?;
+        assert!(rt; refused_section(alloc, &module)? == *number);
+    }
+    assert!(rt; refused_section(alloc, HOST_AND_GUEST)?.is_none());
     Ok(())
 }
 

@@ -58,7 +58,8 @@ module _ (r s : Resolve) (f : Renumbering) (valid : KeepsRules r) (is : IsCarrie
   meant_texts : map (λ (e : Text × Entry InterfaceMeaning). e.0) meant ≡ texts s own
   meant_texts = ap (map (λ (e : Text × Entry InterfaceMeaning). e.0)) (sym same) ∙ map-map (λ (e : Text × Entry InterfaceMeaning). e.0) (λ e. (key_text s e.0, entry_meaning s e.1)) own
 
-  news_mean : (olds news : List (WorldKey × WorldItem)) → Joined f own olds news → ((q : Text) → Contains (texts s news) q → AllByRecursion (λ k. text_eq k q ≡ false) (texts s own)) → entries_meaning s news ≡ filter is_added (entries_meaning r olds)
+  news_mean : (olds news : List (WorldKey × WorldItem)) → Joined f own olds news → ((q : Text) → Contains (texts s news) q → AllByRecursion (λ k. text_eq k q ≡ false) (texts s own))
+      → entries_meaning s news ≡ filter is_added (entries_meaning r olds)
   news_mean _ _ none h = refl
   news_mean _ _ (met old there olds news c k i rest) h =
       news_mean olds news rest h
@@ -66,7 +67,8 @@ module _ (r s : Resolve) (f : Renumbering) (valid : KeepsRules r) (is : IsCarrie
     where
       at : Contains meant (key_text r old.0, entry_meaning s there.1)
       at = subst (λ (es : List (Text × Entry InterfaceMeaning)). Contains es (key_text r old.0, entry_meaning s there.1)) same
-          (subst (λ (t : Text). Contains (entries_meaning s own) (t, entry_meaning s there.1)) (key_means r s f valid is below_s inline_copied pathless old.0 there.0 k) (contains-map (λ (e : WorldKey × WorldItem). (key_text s e.0, entry_meaning s e.1)) own there c))
+          (subst (λ (t : Text). Contains (entries_meaning s own) (t, entry_meaning s there.1)) (key_means r s f valid is below_s inline_copied pathless old.0 there.0 k)
+          (contains-map (λ (e : WorldKey × WorldItem). (key_text s e.0, entry_meaning s e.1)) own there c))
 
       found : is_added (key_text r old.0, entry_meaning r old.1) ≡ false
       found = let y = there_some meant (key_text r old.0) (entry_meaning s there.1) at in found_none (find text_cmp (key_text r old.0) meant) y.0 y.1
@@ -78,21 +80,29 @@ module _ (r s : Resolve) (f : Renumbering) (valid : KeepsRules r) (is : IsCarrie
       key = key_means r s f valid is below_s inline_copied pathless old.0 new.0 z.0
 
       not_there : is_added (key_text r old.0, entry_meaning r old.1) ≡ true
-      not_there = subst (λ (t : Text). is_none (find text_cmp t meant) ≡ true) key (not_found meant (key_text s new.0) (subst (λ (ts : List Text). AllByRecursion (λ k. text_eq k (key_text s new.0) ≡ false) ts) (sym meant_texts) (h (key_text s new.0) (0, omega arith, refl))))
+      not_there = subst (λ (t : Text). is_none (find text_cmp t meant) ≡ true) key
+          (not_found meant (key_text s new.0) (subst (λ (ts : List Text). AllByRecursion (λ k. text_eq k (key_text s new.0) ≡ false) ts) (sym meant_texts)
+          (h (key_text s new.0) (0, omega arith, refl))))
 
-  pub joined_mean : (olds news whole : List (WorldKey × WorldItem)) → whole ≡ own ++ news → Joined f own olds news → HaveDistinctTexts s whole → entries_meaning s whole ≡ followed_by meant (entries_meaning r olds)
+  pub joined_mean : (olds news whole : List (WorldKey × WorldItem)) → whole ≡ own ++ news → Joined f own olds news → HaveDistinctTexts s whole
+      → entries_meaning s whole ≡ followed_by meant (entries_meaning r olds)
   joined_mean olds news whole is_whole j distinct =
       ap (entries_meaning s) is_whole
       ∙ (map-append (λ (e : WorldKey × WorldItem). (key_text s e.0, entry_meaning s e.1)) own news
-      ∙ (λ i. same i ++ news_mean olds news j (before_apart (texts s own) (texts s news) (subst (λ (ts : List Text). IsDistinct text_eq ts) (ap (texts s) is_whole ∙ map-append (λ (e : WorldKey × WorldItem). key_text s e.0) own news) distinct)) i))
+      ∙ (λ i. same i ++ news_mean olds news j (before_apart (texts s own) (texts s news)
+      (subst (λ (ts : List Text). IsDistinct text_eq ts) (ap (texts s) is_whole ∙ map-append (λ (e : WorldKey × WorldItem). key_text s e.0) own news) distinct)) i))
 
 pub bound_means : BoundMeans
 bound_means own other merged bound other_bound first second left_out valid_own valid_other is imports exports = (
-  joined_mean other merged second valid_other.rules is.second_copies.carried below_s is.second_copies.inline_copied (has_path other valid_other) is.own_bound.imports.entries (world_meaning own is.own_bound).imports
-      (entries_mean own merged (itself own) valid_own.rules carried below_s (λ m i h at without. h) (has_path own valid_own) is.own_bound.imports.entries is.own_bound.imports.entries (joined_itself own valid_own.rules is.own_bound.imports.entries range.0))
+  joined_mean other merged second valid_other.rules is.second_copies.carried below_s is.second_copies.inline_copied (has_path other valid_other) is.own_bound.imports.entries
+      (world_meaning own is.own_bound).imports
+      (entries_mean own merged (itself own) valid_own.rules carried below_s (λ m i h at without. h) (has_path own valid_own) is.own_bound.imports.entries is.own_bound.imports.entries
+      (joined_itself own valid_own.rules is.own_bound.imports.entries range.0))
       is.joined.old.imports.entries is.joined.new_imports is.joined.image.imports.entries is.joined.imports is.joined.joined_imports imports,
-  joined_mean other merged second valid_other.rules is.second_copies.carried below_s is.second_copies.inline_copied (has_path other valid_other) is.own_bound.exports.entries (world_meaning own is.own_bound).exports
-      (entries_mean own merged (itself own) valid_own.rules carried below_s (λ m i h at without. h) (has_path own valid_own) is.own_bound.exports.entries is.own_bound.exports.entries (joined_itself own valid_own.rules is.own_bound.exports.entries range.1))
+  joined_mean other merged second valid_other.rules is.second_copies.carried below_s is.second_copies.inline_copied (has_path other valid_other) is.own_bound.exports.entries
+      (world_meaning own is.own_bound).exports
+      (entries_mean own merged (itself own) valid_own.rules carried below_s (λ m i h at without. h) (has_path own valid_own) is.own_bound.exports.entries is.own_bound.exports.entries
+      (joined_itself own valid_own.rules is.own_bound.exports.entries range.1))
       is.joined.old.exports.entries is.joined.new_exports is.joined.image.exports.entries is.joined.exports is.joined.joined_exports exports,
 )
   where

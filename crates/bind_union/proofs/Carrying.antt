@@ -49,7 +49,8 @@ use Rattle.wit_model.proofs.RulesLemmas.{each_at}
 
 pub references_of : (r : Resolve) → KeepsRules r → Keeps references r
 unfolding references
-references_of r v = types_keep (λ r n def. list_all (λ m. nat_lt m n) (kind_numbers def.kind)) r (each_from_all _ 0 r.types.items (λ n def is. let here : n ≡ 0 + n = omega arith in subst (λ m. list_all (λ k. nat_lt k m) (kind_numbers def.kind) ≡ true) here (kept_numbers r v n def is)))
+references_of r v = types_keep (λ r n def. list_all (λ m. nat_lt m n) (kind_numbers def.kind)) r
+    (each_from_all _ 0 r.types.items (λ n def is. let here : n ≡ 0 + n = omega arith in subst (λ m. list_all (λ k. nat_lt k m) (kind_numbers def.kind) ≡ true) here (kept_numbers r v n def is)))
 
 pub refers_below : (r : Resolve) → Keeps references r → RefersBelow r
 refers_below r h n def is = below_at r h n def is
@@ -81,7 +82,8 @@ path_by r name p = option_and_then (λ t. option_and_then (λ n. path_in_package
 pub path_parts : (r : Resolve) (i : Interface) → path_of_interface r i ≡ path_by r (optional_text i.name) (package_number i.«package»)
 path_parts r i = go i.name i.«package»
   where
-    go : (name : Option (String Global)) (p : Option PackageId) → option_and_then (λ x. option_and_then (λ id. path_in_package r id.0 (text_of x)) p) name ≡ path_by r (optional_text name) (package_number p)
+    go : (name : Option (String Global)) (p : Option PackageId)
+        → option_and_then (λ x. option_and_then (λ id. path_in_package r id.0 (text_of x)) p) name ≡ path_by r (optional_text name) (package_number p)
     go None p = refl
     go (Some name) None = refl
     go (Some name) (Some p) = refl
@@ -110,7 +112,8 @@ module _ (r s : Resolve) (f : Renumbering) (valid : KeepsRules r) (is : IsCarrie
       ∙ (sym (path_parts r i.old)
       ∙ sym (ap (option_and_then (path_of_interface r)) i.found)))))
     where
-      go : (i : IsInterface r s f n) (o : Option (String Global)) → i.old.name ≡ o → path_by s (optional_text i.old.name) (package_number i.image.«package») ≡ path_by r (optional_text i.old.name) (package_number i.old.«package»)
+      go : (i : IsInterface r s f n) (o : Option (String Global)) → i.old.name ≡ o
+          → path_by s (optional_text i.old.name) (package_number i.image.«package») ≡ path_by r (optional_text i.old.name) (package_number i.old.«package»)
       go i None e = ap (λ x. path_by s (optional_text x) (package_number i.image.«package»)) e ∙ sym (ap (λ x. path_by r (optional_text x) (package_number i.old.«package»)) e)
       go i (Some x) e =
           ap (path_by s (optional_text i.old.name)) (i.in_package (ap is_some e))
@@ -197,13 +200,15 @@ module _ (r s : Resolve) (f : Renumbering) (valid : KeepsRules r) (is : IsCarrie
 
       unnamed : HasImageKind f.types f.carries_type t.def t.image → (used_by_type s t.image ≡ map f.types (used_by_type r t.def)) × (list_all f.carries_type (used_by_type r t.def) ≡ true)
       unnamed k =
-          let rest = all_met (kind_numbers t.def.kind) (kind_carried t.def t.image k) (λ m h d. smaller m (ltb-true m n (all-contained (λ x. nat_lt x n) (kind_numbers t.def.kind) m (below_at r below_r n t.def t.found) (has-contains (kind_numbers t.def.kind) m h))) d) in
+          let rest = all_met (kind_numbers t.def.kind) (kind_carried t.def t.image k)
+          (λ m h d. smaller m (ltb-true m n (all-contained (λ x. nat_lt x n) (kind_numbers t.def.kind) m (below_at r below_r n t.def t.found) (has-contains (kind_numbers t.def.kind) m h))) d) in
           (ap (flat_map (met_by (met_of s))) (numbers_same f.types t.def.kind t.image.kind k.kinds) ∙ rest.0, rest.1)
 
       go : (x y : Option (String Global)) → t.def.name ≡ x → t.image.name ≡ y → optional_text t.image.name ≡ optional_text t.def.name → IsMetAlike n
       go None None e d same =
           let k = unnamed (image_kind t.def t.image e t.kind) in (
-            (new ∙ ap (λ o. option_map_or (λ name. f.types n ∷ []) o (used_by_type s t.image)) d) ∙ (k.0 ∙ sym (ap (map f.types) (old ∙ ap (λ o. option_map_or (λ name. n ∷ []) o (used_by_type r t.def)) e))),
+            (new ∙ ap (λ o. option_map_or (λ name. f.types n ∷ []) o (used_by_type s t.image)) d)
+                ∙ (k.0 ∙ sym (ap (map f.types) (old ∙ ap (λ o. option_map_or (λ name. n ∷ []) o (used_by_type r t.def)) e))),
             ap (list_all f.carries_type) (old ∙ ap (λ o. option_map_or (λ name. n ∷ []) o (used_by_type r t.def)) e) ∙ k.1,
           )
       go None (Some y) e d same = let wrong : None ≡ Some (text_of y) = sym (sym (ap optional_text d) ∙ (same ∙ ap optional_text e)) in absurd cc

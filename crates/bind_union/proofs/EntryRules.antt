@@ -58,7 +58,8 @@ module _ (r s : Resolve) (f : Renumbering) (valid : KeepsRules r) (is : IsCarrie
   item_range : (i j : WorldItem) → ItemBecomes f i j → item_in_range s j ≡ true
   item_range (item.Interface a st docs ext) (item.Interface b st2 docs2 ext2) z = ap (in_list s.interfaces.items) z.0 ∙ interface_there a.0 z.1
   item_range (item.Function g) (item.Function h) z = function_range_passes r s f valid is below_s g h z
-  item_range (item.Type_ a) (item.Type_ b) z = let t = is.types a.0 (is.copied_types a.0 z.1) in ap (in_list s.types.items) z.0 ∙ lt-ltb _ _ (slice_get_within s.types.items (f.types a.0) t.image t.at_image)
+  item_range (item.Type_ a) (item.Type_ b) z = let t = is.types a.0 (is.copied_types a.0 z.1) in
+      ap (in_list s.types.items) z.0 ∙ lt-ltb _ _ (slice_get_within s.types.items (f.types a.0) t.image t.at_image)
   item_range (item.Interface a st docs ext) (item.Function h) z = absurd z
   item_range (item.Interface a st docs ext) (item.Type_ h) z = absurd z
   item_range (item.Function g) (item.Interface b st2 docs2 ext2) z = absurd z
@@ -99,7 +100,8 @@ module _ (r s : Resolve) (f : Renumbering) (valid : KeepsRules r) (is : IsCarrie
   entry_labels a b z h = both _ _ (key_label_passes a.0 b.0 a.1 b.1 z.0 z.1 (first_true _ _ h)) (item_labels_pass a.1 b.1 z.1 (second_true (key_label a.0 a.1) _ h))
 
   -- what is asked of a function
-  pub entry_function : (p q : Function → Bool) → ((g h : Function) → IsFunctionCopy f g h → p g ≡ true → q h ≡ true) → (i j : WorldItem) → ItemBecomes f i j → list_all p (option_to_list (item_function i)) ≡ true → list_all q (option_to_list (item_function j)) ≡ true
+  pub entry_function : (p q : Function → Bool) → ((g h : Function) → IsFunctionCopy f g h → p g ≡ true → q h ≡ true) → (i j : WorldItem) → ItemBecomes f i j
+      → list_all p (option_to_list (item_function i)) ≡ true → list_all q (option_to_list (item_function j)) ≡ true
   entry_function p q one (item.Function g) (item.Function h) z e = both _ _ (one g h z (first_true _ _ e)) refl
   entry_function p q one (item.Interface a st docs ext) (item.Interface b st2 docs2 ext2) z e = refl
   entry_function p q one (item.Type_ a) (item.Type_ b) z e = refl
@@ -120,7 +122,8 @@ module _ (r s : Resolve) (f : Renumbering) (valid : KeepsRules r) (is : IsCarrie
   pub entry_member : (n : ℕ) → (a b : WorldKey × WorldItem) → EntryBecomes f a b → passes (λ g. is_name_key (text_of g.name) a.0 && is_member r (as_world n) g) (item_function a.1) ≡ true
       → passes (λ g. is_name_key (text_of g.name) b.0 && is_member s (as_world (f.worlds n)) g) (item_function b.1) ≡ true
   entry_member n (k, item.Function g) (l, item.Function h) z e =
-      both _ _ (name_key_passes (text_of g.name) (text_of h.name) z.1.name k l z.0 (first_true _ _ e)) (member_passes r s f valid is below_s g h z.1 (as_world n) (second_true (is_name_key (text_of g.name) k) _ e))
+      both _ _ (name_key_passes (text_of g.name) (text_of h.name) z.1.name k l z.0 (first_true _ _ e))
+      (member_passes r s f valid is below_s g h z.1 (as_world n) (second_true (is_name_key (text_of g.name) k) _ e))
   entry_member n (k, item.Interface a st docs ext) (l, item.Interface b st2 docs2 ext2) z e = refl
   entry_member n (k, item.Type_ a) (l, item.Type_ b) z e = refl
   entry_member n (k, item.Interface a st docs ext) (l, item.Function h) z e = absurd z.1
@@ -132,13 +135,17 @@ module _ (r s : Resolve) (f : Renumbering) (valid : KeepsRules r) (is : IsCarrie
 
   -- world items
   interface_key_passes : (m k : ℕ) → k ≡ f.interfaces m → f.carries_interface m ≡ true → (i j : WorldItem) → ItemBecomes f i j → is_interface_key r m i ≡ true → is_interface_key s k j ≡ true
-  interface_key_passes m k e c i j z h = both _ _ (one i j z (first_true _ _ h)) (ap (λ x. passes (λ other. is_some other.name) (interface_at s x)) e ∙ (ap (passes (λ other. is_some other.name)) v.at_image ∙ (named_alike v.image.name v.old.name v.name ∙ (sym (ap (passes (λ other. is_some other.name)) v.found) ∙ second_true (is_id m (item_interface i)) _ h))))
+  interface_key_passes m k e c i j z h = both _ _ (one i j z (first_true _ _ h))
+      (ap (λ x. passes (λ other. is_some other.name) (interface_at s x)) e
+      ∙ (ap (passes (λ other. is_some other.name)) v.at_image ∙ (named_alike v.image.name v.old.name v.name
+      ∙ (sym (ap (passes (λ other. is_some other.name)) v.found) ∙ second_true (is_id m (item_interface i)) _ h))))
     where
       v : IsInterface r s f m
       v = is.interfaces m c
 
       one : (i j : WorldItem) → ItemBecomes f i j → is_id m (item_interface i) ≡ true → is_id k (item_interface j) ≡ true
-      one (item.Interface a st docs ext) (item.Interface b st2 docs2 ext2) z h = (λ x. z.0 x == e x) ∙ subst (λ (x : ℕ). (f.interfaces a.0 == f.interfaces x) ≡ true) (equal a.0 m h) (same-number (f.interfaces a.0))
+      one (item.Interface a st docs ext) (item.Interface b st2 docs2 ext2) z h =
+          (λ x. z.0 x == e x) ∙ subst (λ (x : ℕ). (f.interfaces a.0 == f.interfaces x) ≡ true) (equal a.0 m h) (same-number (f.interfaces a.0))
       one (item.Function g) (item.Function h2) z h = no_true h
       one (item.Type_ a) (item.Type_ b) z h = no_true h
       one (item.Interface a st docs ext) (item.Function h2) z e = absurd z
@@ -148,14 +155,17 @@ module _ (r s : Resolve) (f : Renumbering) (valid : KeepsRules r) (is : IsCarrie
       one (item.Type_ a) (item.Interface b st2 docs2 ext2) z e = absurd z
       one (item.Type_ a) (item.Function h2) z e = absurd z
 
-  own_type_passes : (n : ℕ) (a b : String Global) → text_of b ≡ text_of a → (m k : ℕ) → k ≡ f.types m → f.copies_type m ≡ true → is_own_type r n (key.Name a) m ≡ true → is_own_type s (f.worlds n) (key.Name b) k ≡ true
+  own_type_passes : (n : ℕ) (a b : String Global) → text_of b ≡ text_of a → (m k : ℕ) → k ≡ f.types m → f.copies_type m ≡ true → is_own_type r n (key.Name a) m ≡ true
+      → is_own_type s (f.worlds n) (key.Name b) k ≡ true
   own_type_passes n a b same m k e c h =
       let t = is.types m (is.copied_types m c) in
-      let old : (text_is t.def.name (text_of a) && same_owner t.def.owner (as_world n)) ≡ true = sym (ap (passes (λ def. text_is def.name (text_of a) && same_owner def.owner (as_world n))) t.found) ∙ h in
+      let old : (text_is t.def.name (text_of a) && same_owner t.def.owner (as_world n)) ≡ true =
+      sym (ap (passes (λ def. text_is def.name (text_of a) && same_owner def.owner (as_world n))) t.found) ∙ h in
       ap (λ x. passes (λ def. text_is def.name (text_of b) && same_owner def.owner (as_world (f.worlds n))) (type_at s x)) e
       ∙ (ap (passes (λ def. text_is def.name (text_of b) && same_owner def.owner (as_world (f.worlds n)))) t.at_image
       ∙ both _ _ (ap (text_is t.image.name) same ∙ (text_alike t.image.name t.def.name (text_of a) t.name ∙ first_true _ _ old))
-      (ap (λ x. same_owner x (as_world (f.worlds n))) (t.home ∙ ap (owner_under f) (owner_equal t.def.owner (as_world n) (second_true (text_is t.def.name (text_of a)) _ old))) ∙ owner_itself (as_world (f.worlds n))))
+      (ap (λ x. same_owner x (as_world (f.worlds n))) (t.home ∙ ap (owner_under f) (owner_equal t.def.owner (as_world n) (second_true (text_is t.def.name (text_of a)) _ old))) ∙ owner_itself
+      (as_world (f.worlds n))))
 
   pub entry_import_stands : (n : ℕ) → (a b : WorldKey × WorldItem) → EntryBecomes f a b → import_stands r n a.0 a.1 ≡ true → import_stands s (f.worlds n) b.0 b.1 ≡ true
   entry_import_stands n (key.Interface a, i) (key.Interface b, j) z h = interface_key_passes a.0 b.0 z.0.0 z.0.1 i j z.1 h

@@ -67,7 +67,8 @@ freestanding_under f (call.Constructor id) = refl
 ok_of_all : (p : ℕ → Bool) (k : TypeDefKind) → list_all p (filter_map number_of (member_types k)) ≡ true → passes (λ t. list_all p (option_to_list (number_of t))) (view_ok (kind_view k)) ≡ true
 ok_of_all p (kind.Result x) h = go x.ok (sym (list_all_filter_map p number_of (option_to_list x.ok ++ option_to_list x.err)) ∙ h)
   where
-    go : (o : Option ValueType) → list_all (λ t. list_all p (option_to_list (number_of t))) (option_to_list o ++ option_to_list x.err) ≡ true → passes (λ t. list_all p (option_to_list (number_of t))) o ≡ true
+    go : (o : Option ValueType) → list_all (λ t. list_all p (option_to_list (number_of t))) (option_to_list o ++ option_to_list x.err) ≡ true
+        → passes (λ t. list_all p (option_to_list (number_of t))) o ≡ true
     go None h = refl
     go (Some t) h = first_true _ _ h
 ok_of_all p (kind.Record x) h = refl
@@ -109,7 +110,8 @@ module _ (r s : Resolve) (f : Renumbering) (valid : KeepsRules r) (is : IsCarrie
       → (x : ValueType) → list_all f.carries_type (option_to_list (number_of x)) ≡ true → type_is r p x ≡ true → type_is s q (renamed_type f.types x) ≡ true
   type_is_there p q one x c h = ap (λ o. option_map_or (λ n. option_map_or q (type_at s n) false) o false) (number_under f.types x) ∙ go (number_of x) c h
     where
-      go : (o : Option ℕ) → list_all f.carries_type (option_to_list o) ≡ true → option_map_or (λ n. option_map_or p (type_at r n) false) o false ≡ true → option_map_or (λ n. option_map_or q (type_at s n) false) (option_map f.types o) false ≡ true
+      go : (o : Option ℕ) → list_all f.carries_type (option_to_list o) ≡ true → option_map_or (λ n. option_map_or p (type_at r n) false) o false ≡ true
+          → option_map_or (λ n. option_map_or q (type_at s n) false) (option_map f.types o) false ≡ true
       go None c h = h
       go (Some n) c h =
           let t = is.types n (first_true _ _ c) in
@@ -118,12 +120,16 @@ module _ (r s : Resolve) (f : Renumbering) (valid : KeepsRules r) (is : IsCarrie
   own_there : (m n : ℕ) (t : IsType r s f n) → is_own_of m t.def ≡ true → is_own_of (f.types m) t.image ≡ true
   own_there m n t h =
       let u = unnamed_kind n t (first_true _ _ h) in
-      both _ _ u.0 (own_by_view (f.types m) t.image.kind ∙ (ap (λ v. is_id (f.types m) (view_own v)) u.1.kinds ∙ (ap (is_id (f.types m)) (own_under f.types (kind_view t.def.kind)) ∙ id_under f.types m (view_own (kind_view t.def.kind)) (sym (own_by_view m t.def.kind) ∙ second_true (is_none t.def.name) _ h))))
+      both _ _ u.0 (own_by_view (f.types m) t.image.kind ∙ (ap (λ v. is_id (f.types m) (view_own v)) u.1.kinds
+      ∙ (ap (is_id (f.types m)) (own_under f.types (kind_view t.def.kind)) ∙ id_under f.types m (view_own (kind_view t.def.kind))
+      (sym (own_by_view m t.def.kind) ∙ second_true (is_none t.def.name) _ h))))
 
   borrow_there : (m n : ℕ) (t : IsType r s f n) → is_borrow_of m t.def ≡ true → is_borrow_of (f.types m) t.image ≡ true
   borrow_there m n t h =
       let u = unnamed_kind n t (first_true _ _ h) in
-      both _ _ u.0 (borrow_by_view (f.types m) t.image.kind ∙ (ap (λ v. is_id (f.types m) (view_borrow v)) u.1.kinds ∙ (ap (is_id (f.types m)) (borrow_under f.types (kind_view t.def.kind)) ∙ id_under f.types m (view_borrow (kind_view t.def.kind)) (sym (borrow_by_view m t.def.kind) ∙ second_true (is_none t.def.name) _ h))))
+      both _ _ u.0 (borrow_by_view (f.types m) t.image.kind ∙ (ap (λ v. is_id (f.types m) (view_borrow v)) u.1.kinds
+      ∙ (ap (is_id (f.types m)) (borrow_under f.types (kind_view t.def.kind)) ∙ id_under f.types m (view_borrow (kind_view t.def.kind))
+      (sym (borrow_by_view m t.def.kind) ∙ second_true (is_none t.def.name) _ h))))
 
   result_there : (m n : ℕ) (t : IsType r s f n) → is_result_of_own r m t.def ≡ true → is_result_of_own s (f.types m) t.image ≡ true
   result_there m n t h =
@@ -135,7 +141,8 @@ module _ (r s : Resolve) (f : Renumbering) (valid : KeepsRules r) (is : IsCarrie
       ∙ go (view_ok (kind_view t.def.kind)) (ok_of_all f.carries_type t.def.kind (members_of_all f.carries_type t.def.kind (kind_carried r s f valid is below_s t.def t.image u.1)))
       (sym (ok_by_view r m t.def.kind) ∙ second_true (is_none t.def.name) _ h))))
     where
-      go : (o : Option ValueType) → passes (λ t. list_all f.carries_type (option_to_list (number_of t))) o ≡ true → option_map_or (type_is r (is_own_of m)) o false ≡ true → option_map_or (type_is s (is_own_of (f.types m))) (option_map (renamed_type f.types) o) false ≡ true
+      go : (o : Option ValueType) → passes (λ t. list_all f.carries_type (option_to_list (number_of t))) o ≡ true → option_map_or (type_is r (is_own_of m)) o false ≡ true
+          → option_map_or (type_is s (is_own_of (f.types m))) (option_map (renamed_type f.types) o) false ≡ true
       go None c h = h
       go (Some x) c h = type_is_there (is_own_of m) (is_own_of (f.types m)) (own_there m) x c h
 
@@ -143,7 +150,8 @@ module _ (r s : Resolve) (f : Renumbering) (valid : KeepsRules r) (is : IsCarrie
   pub resource_named : (o : TypeOwner) (n : ℕ) → f.carries_type n ≡ true → (name : Text) → resource_name r o n ≡ Some name → resource_name s (owner_under f o) (f.types n) ≡ Some name
   resource_named o n c name h =
       ap (option_and_then (λ def. if is_resource_itself def.kind && same_owner def.owner (owner_under f o) then optional_text def.name else None)) t.at_image
-      ∙ go (is_resource_itself t.def.kind) (same_owner t.def.owner o) refl refl (sym (ap (option_and_then (λ def. if is_resource_itself def.kind && same_owner def.owner o then optional_text def.name else None)) t.found) ∙ h)
+      ∙ go (is_resource_itself t.def.kind) (same_owner t.def.owner o) refl refl
+      (sym (ap (option_and_then (λ def. if is_resource_itself def.kind && same_owner def.owner o then optional_text def.name else None)) t.found) ∙ h)
     where
       t : IsType r s f n
       t = is.types n c
@@ -182,7 +190,8 @@ module _ (r s : Resolve) (f : Renumbering) (valid : KeepsRules r) (is : IsCarrie
     values = first_true _ _ (sym (list_all-append f.carries_type (filter_map number_of (function_types g)) (option_to_list (resource_of g.kind))) ∙ c.parts)
 
     pub resource_carried : passes f.carries_type (resource_of g.kind) ≡ true
-    resource_carried = go (resource_of g.kind) (second_true (list_all f.carries_type (filter_map number_of (function_types g))) _ (sym (list_all-append f.carries_type (filter_map number_of (function_types g)) (option_to_list (resource_of g.kind))) ∙ c.parts))
+    resource_carried = go (resource_of g.kind) (second_true (list_all f.carries_type (filter_map number_of (function_types g))) _
+        (sym (list_all-append f.carries_type (filter_map number_of (function_types g)) (option_to_list (resource_of g.kind))) ∙ c.parts))
       where
         go : (o : Option ℕ) → list_all f.carries_type (option_to_list o) ≡ true → passes f.carries_type o ≡ true
         go None h = refl
@@ -190,7 +199,8 @@ module _ (r s : Resolve) (f : Renumbering) (valid : KeepsRules r) (is : IsCarrie
 
     pub function_numbers_there : function_numbers h ≡ map f.types (function_numbers g)
     function_numbers_there =
-        (λ i. (ap (filter_map number_of) types_there ∙ numbers_under f.types (function_types g)) i ++ (ap (λ k. option_to_list (resource_of k)) c.kind ∙ (ap option_to_list (resource_under f g.kind) ∙ one_given f.types (resource_of g.kind))) i)
+        (λ i. (ap (filter_map number_of) types_there ∙ numbers_under f.types (function_types g)) i
+        ++ (ap (λ k. option_to_list (resource_of k)) c.kind ∙ (ap option_to_list (resource_under f g.kind) ∙ one_given f.types (resource_of g.kind))) i)
         ∙ sym (map-append f.types (filter_map number_of (function_types g)) (option_to_list (resource_of g.kind)))
 
     -- numbers in range
@@ -198,12 +208,14 @@ module _ (r s : Resolve) (f : Renumbering) (valid : KeepsRules r) (is : IsCarrie
     function_range_passes =
         ap (list_all (in_list s.types.items)) function_numbers_there
         ∙ (list_all-map (in_list s.types.items) f.types (function_numbers g)
-        ∙ all_two f.carries_type f.carries_type (λ n. in_list s.types.items (f.types n)) (λ n d e. let t = is.types n d in lt-ltb _ _ (slice_get_within s.types.items (f.types n) t.image t.at_image)) (function_numbers g) c.parts c.parts)
+        ∙ all_two f.carries_type f.carries_type (λ n. in_list s.types.items (f.types n)) (λ n d e. let t = is.types n d in lt-ltb _ _ (slice_get_within s.types.items (f.types n) t.image t.at_image))
+        (function_numbers g) c.parts c.parts)
 
     -- labels
     pub function_labels_pass : function_labels g ≡ true → function_labels h ≡ true
     function_labels_pass old =
-        (λ i. (not ((ap is_freestanding c.kind ∙ freestanding_under f g.kind) i) || is_label (c.name i)) && (are_member_labels (names_there i) && stability_alike h.stability g.stability c.stability i)) ∙ old
+        (λ i. (not ((ap is_freestanding c.kind ∙ freestanding_under f g.kind) i) || is_label (c.name i))
+        && (are_member_labels (names_there i) && stability_alike h.stability g.stability c.stability i)) ∙ old
 
     -- owners
     pub function_stays_passes : (o : TypeOwner) → function_stays r o g ≡ true → function_stays s (owner_under f o) h ≡ true
@@ -241,13 +253,16 @@ module _ (r s : Resolve) (f : Renumbering) (valid : KeepsRules r) (is : IsCarrie
             (sym (list_all-append (λ t. list_all f.carries_type (option_to_list (number_of t))) (map (λ p. p.ty) g.params.items) (option_to_list g.result))
             ∙ (sym (list_all_filter_map f.carries_type number_of (function_types g)) ∙ values))
 
-        either : (x : ValueType) → list_all f.carries_type (option_to_list (number_of x)) ≡ true → (a b : Bool) → type_is r (is_own_of n) x ≡ a → type_is r (is_result_of_own r n) x ≡ b → (a || b) ≡ true
+        either : (x : ValueType) → list_all f.carries_type (option_to_list (number_of x)) ≡ true → (a b : Bool) → type_is r (is_own_of n) x ≡ a → type_is r (is_result_of_own r n) x ≡ b
+            → (a || b) ≡ true
             → (type_is s (is_own_of (f.types n)) (renamed_type f.types x) || type_is s (is_result_of_own s (f.types n)) (renamed_type f.types x)) ≡ true
         either x d true b p q e = or_left _ _ (type_is_there (is_own_of n) (is_own_of (f.types n)) (own_there n) x d p)
-        either x d false true p q e = or_right (type_is s (is_own_of (f.types n)) (renamed_type f.types x)) _ (type_is_there (is_result_of_own r n) (is_result_of_own s (f.types n)) (result_there n) x d q)
+        either x d false true p q e = or_right (type_is s (is_own_of (f.types n)) (renamed_type f.types x)) _
+            (type_is_there (is_result_of_own r n) (is_result_of_own s (f.types n)) (result_there n) x d q)
         either x d false false p q e = no_true e
 
-        go : (o : Option ValueType) → list_all f.carries_type (filter_map number_of (option_to_list o)) ≡ true → option_map_or (λ t. type_is r (is_own_of n) t || type_is r (is_result_of_own r n) t) o false ≡ true
+        go : (o : Option ValueType) → list_all f.carries_type (filter_map number_of (option_to_list o)) ≡ true
+            → option_map_or (λ t. type_is r (is_own_of n) t || type_is r (is_result_of_own r n) t) o false ≡ true
             → option_map_or (λ t. type_is s (is_own_of (f.types n)) t || type_is s (is_result_of_own s (f.types n)) t) (option_map (renamed_type f.types) o) false ≡ true
         go None d e = e
         go (Some x) d e = either x (first_true _ _ (sym (list_all_filter_map f.carries_type number_of (x ∷ [])) ∙ d)) (type_is r (is_own_of n) x) (type_is r (is_result_of_own r n) x) refl refl e
@@ -257,22 +272,29 @@ module _ (r s : Resolve) (f : Renumbering) (valid : KeepsRules r) (is : IsCarrie
         by_view s h (is_borrow_of (f.types n))
         ∙ (ap (λ (ps : List (Text × ValueType)). self_view s (is_borrow_of (f.types n)) (slice_get ps 0)) c.params
         ∙ (ap (self_view s (is_borrow_of (f.types n))) (slice_get-map (λ p. (text_of p.name, renamed_type f.types p.ty)) g.params.items 0)
-        ∙ go g.params.items (first_true _ _ (sym (list_all-append (λ t. list_all f.carries_type (option_to_list (number_of t))) (map (λ p. p.ty) g.params.items) (option_to_list g.result)) ∙ (sym (list_all_filter_map f.carries_type number_of (function_types g)) ∙ values))) old))
+        ∙ go g.params.items (first_true _ _ (sym (list_all-append (λ t. list_all f.carries_type (option_to_list (number_of t))) (map (λ p. p.ty) g.params.items) (option_to_list g.result))
+        ∙ (sym (list_all_filter_map f.carries_type number_of (function_types g)) ∙ values))) old))
       where
         self_view : Resolve → (TypeDef → Bool) → Option (Text × ValueType) → Bool
         self_view x test o = option_map_or (λ p. text_eq p.0 (codes "self") && type_is x test p.1) o false
 
-        by_view : (x : Resolve) (k : Function) (test : TypeDef → Bool) → option_map_or (λ p. text_eq (text_of p.name) (codes "self") && type_is x test p.ty) (slice_get k.params.items 0) false ≡ self_view x test (slice_get (map {B = Text × ValueType} (λ p. (text_of p.name, p.ty)) k.params.items) 0)
+        by_view : (x : Resolve) (k : Function) (test : TypeDef → Bool)
+            → option_map_or (λ p. text_eq (text_of p.name) (codes "self") && type_is x test p.ty) (slice_get k.params.items 0) false ≡ self_view x test
+            (slice_get (map {B = Text × ValueType} (λ p. (text_of p.name, p.ty)) k.params.items) 0)
         by_view x k test = step k.params.items
           where
-            step : (ps : List Param) → option_map_or (λ p. text_eq (text_of p.name) (codes "self") && type_is x test p.ty) (slice_get ps 0) false ≡ self_view x test (slice_get (map {B = Text × ValueType} (λ p. (text_of p.name, p.ty)) ps) 0)
+            step : (ps : List Param)
+                → option_map_or (λ p. text_eq (text_of p.name) (codes "self") && type_is x test p.ty) (slice_get ps 0) false ≡ self_view x test
+                (slice_get (map {B = Text × ValueType} (λ p. (text_of p.name, p.ty)) ps) 0)
             step [] = refl
             step (p ∷ ps) = refl
 
-        go : (ps : List Param) → list_all (λ t. list_all f.carries_type (option_to_list (number_of t))) (map (λ p. p.ty) ps) ≡ true → option_map_or (λ p. text_eq (text_of p.name) (codes "self") && type_is r (is_borrow_of n) p.ty) (slice_get ps 0) false ≡ true
+        go : (ps : List Param) → list_all (λ t. list_all f.carries_type (option_to_list (number_of t))) (map (λ p. p.ty) ps) ≡ true
+            → option_map_or (λ p. text_eq (text_of p.name) (codes "self") && type_is r (is_borrow_of n) p.ty) (slice_get ps 0) false ≡ true
             → self_view s (is_borrow_of (f.types n)) (option_map (λ p. (text_of p.name, renamed_type f.types p.ty)) (slice_get ps 0)) ≡ true
         go [] d e = e
-        go (p ∷ ps) d e = both _ _ (first_true _ _ e) (type_is_there (is_borrow_of n) (is_borrow_of (f.types n)) (borrow_there n) p.ty (first_true _ _ d) (second_true (text_eq (text_of p.name) (codes "self")) _ e))
+        go (p ∷ ps) d e = both _ _ (first_true _ _ e) (type_is_there (is_borrow_of n) (is_borrow_of (f.types n)) (borrow_there n) p.ty (first_true _ _ d)
+            (second_true (text_eq (text_of p.name) (codes "self")) _ e))
 
     pub member_passes : (o : TypeOwner) → is_member r o g ≡ true → is_member s (owner_under f o) h ≡ true
     member_passes o old =
@@ -282,11 +304,14 @@ module _ (r s : Resolve) (f : Renumbering) (valid : KeepsRules r) (is : IsCarrie
         of : (n : ℕ) (name : Text) (k : FunctionKind) → is_member_of r n name g k ≡ true → is_member_of s (f.types n) name h (call_under f k) ≡ true
         of n name call.Freestanding e = refl
         of n name call.AsyncFreestanding e = refl
-        of n name (call.Method id) e = both _ _ (ap (λ t. option_map_or is_label (after_prefix (method_name name []) t) false) c.name ∙ first_true _ _ e) (self_there n (second_true (is_member_name (method_name name []) g) _ e))
-        of n name (call.AsyncMethod id) e = both _ _ (ap (λ t. option_map_or is_label (after_prefix (method_name name []) t) false) c.name ∙ first_true _ _ e) (self_there n (second_true (is_member_name (method_name name []) g) _ e))
+        of n name (call.Method id) e = both _ _ (ap (λ t. option_map_or is_label (after_prefix (method_name name []) t) false) c.name ∙ first_true _ _ e)
+            (self_there n (second_true (is_member_name (method_name name []) g) _ e))
+        of n name (call.AsyncMethod id) e = both _ _ (ap (λ t. option_map_or is_label (after_prefix (method_name name []) t) false) c.name ∙ first_true _ _ e)
+            (self_there n (second_true (is_member_name (method_name name []) g) _ e))
         of n name (call.Static id) e = ap (λ t. option_map_or is_label (after_prefix (static_name name []) t) false) c.name ∙ e
         of n name (call.AsyncStatic id) e = ap (λ t. option_map_or is_label (after_prefix (static_name name []) t) false) c.name ∙ e
-        of n name (call.Constructor id) e = both _ _ (ap (λ t. text_eq t (constructor_name name)) c.name ∙ first_true _ _ e) (constructs_there n (second_true (text_eq (text_of g.name) (constructor_name name)) _ e))
+        of n name (call.Constructor id) e = both _ _ (ap (λ t. text_eq t (constructor_name name)) c.name ∙ first_true _ _ e)
+            (constructs_there n (second_true (text_eq (text_of g.name) (constructor_name name)) _ e))
 
         named : (n : ℕ) → f.carries_type n ≡ true → (x : Option Text) → resource_name r o n ≡ x → option_map_or (λ name. is_member_of r n name g g.kind) x false ≡ true
             → option_map_or (λ name. is_member_of s (f.types n) name h h.kind) (resource_name s (owner_under f o) (f.types n)) false ≡ true

@@ -50,14 +50,18 @@ resource_kind test (kind.Stream x) = refl
 
 -- what is asked of all numbers in a kind is asked of an alias's target
 pub alias_of_all : (p : ℕ → Bool) (k : TypeDefKind) → list_all p (kind_numbers k) ≡ true → passes p (alias_target k) ≡ true
-alias_of_all p k h = go (alias_target k) (second_true (list_all p (option_to_list (handled k))) _ (sym (list_all-append p (option_to_list (handled k)) (option_to_list (alias_target k))) ∙ second_true (list_all p (filter_map number_of (member_types k))) _ (sym (list_all-append p (filter_map number_of (member_types k)) (option_to_list (handled k) ++ option_to_list (alias_target k))) ∙ h)))
+alias_of_all p k h = go (alias_target k) (second_true (list_all p (option_to_list (handled k))) _
+    (sym (list_all-append p (option_to_list (handled k)) (option_to_list (alias_target k))) ∙ second_true (list_all p (filter_map number_of (member_types k))) _
+    (sym (list_all-append p (filter_map number_of (member_types k)) (option_to_list (handled k) ++ option_to_list (alias_target k))) ∙ h)))
   where
     go : (o : Option ℕ) → list_all p (option_to_list o) ≡ true → passes p o ≡ true
     go None h = refl
     go (Some n) h = first_true _ _ h
 
 pub handled_of_all : (p : ℕ → Bool) (k : TypeDefKind) → list_all p (kind_numbers k) ≡ true → passes p (handled k) ≡ true
-handled_of_all p k h = go (handled k) (first_true (list_all p (option_to_list (handled k))) _ (sym (list_all-append p (option_to_list (handled k)) (option_to_list (alias_target k))) ∙ second_true (list_all p (filter_map number_of (member_types k))) _ (sym (list_all-append p (filter_map number_of (member_types k)) (option_to_list (handled k) ++ option_to_list (alias_target k))) ∙ h)))
+handled_of_all p k h = go (handled k) (first_true (list_all p (option_to_list (handled k))) _
+    (sym (list_all-append p (option_to_list (handled k)) (option_to_list (alias_target k))) ∙ second_true (list_all p (filter_map number_of (member_types k))) _
+    (sym (list_all-append p (filter_map number_of (member_types k)) (option_to_list (handled k) ++ option_to_list (alias_target k))) ∙ h)))
   where
     go : (o : Option ℕ) → list_all p (option_to_list o) ≡ true → passes p o ≡ true
     go None h = refl
@@ -84,11 +88,17 @@ module _ (r s : Resolve) (f : Renumbering) (valid : KeepsRules r) (is : IsCarrie
 
   -- ---- aliases
 
-  pub alias_there : (n : ℕ) (t : IsType r s f n) → (alias_target t.image.kind ≡ option_map f.types (alias_target t.def.kind)) × (passes f.carries_type (alias_target t.def.kind) ≡ true) × (is_resource_itself t.image.kind ≡ is_resource_itself t.def.kind)
+  pub alias_there : (n : ℕ) (t : IsType r s f n) → (alias_target t.image.kind ≡ option_map f.types (alias_target t.def.kind)) × (passes f.carries_type (alias_target t.def.kind) ≡ true)
+      × (is_resource_itself t.image.kind ≡ is_resource_itself t.def.kind)
   alias_there n t = go t.kind
     where
-      go : HasImageKind f.types f.carries_type t.def t.image ⊎ IsNamesake f t.def t.image → (alias_target t.image.kind ≡ option_map f.types (alias_target t.def.kind)) × (passes f.carries_type (alias_target t.def.kind) ≡ true) × (is_resource_itself t.image.kind ≡ is_resource_itself t.def.kind)
-      go (inl k) = (alias_same f.types t.def.kind t.image.kind k.kinds, alias_of_all f.carries_type t.def.kind (kind_carried r s f valid is below_s t.def t.image k), resource_same f.types t.def.kind t.image.kind k.kinds)
+      go : HasImageKind f.types f.carries_type t.def t.image ⊎ IsNamesake f t.def t.image → (alias_target t.image.kind ≡ option_map f.types (alias_target t.def.kind))
+          × (passes f.carries_type (alias_target t.def.kind) ≡ true) × (is_resource_itself t.image.kind ≡ is_resource_itself t.def.kind)
+      go (inl k) = (
+        alias_same f.types t.def.kind t.image.kind k.kinds,
+        alias_of_all f.carries_type t.def.kind (kind_carried r s f valid is below_s t.def t.image k),
+        resource_same f.types t.def.kind t.image.kind k.kinds,
+      )
       go (inr k) = (k.alias, k.target, k.resource)
 
   -- ---- resources
@@ -105,7 +115,8 @@ module _ (r s : Resolve) (f : Renumbering) (valid : KeepsRules r) (is : IsCarrie
       t : IsType r s f n
       t = is.types n c
 
-      a : (alias_target t.image.kind ≡ option_map f.types (alias_target t.def.kind)) × (passes f.carries_type (alias_target t.def.kind) ≡ true) × (is_resource_itself t.image.kind ≡ is_resource_itself t.def.kind)
+      a : (alias_target t.image.kind ≡ option_map f.types (alias_target t.def.kind)) × (passes f.carries_type (alias_target t.def.kind) ≡ true)
+          × (is_resource_itself t.image.kind ≡ is_resource_itself t.def.kind)
       a = alias_there n t
 
       target : (o : Option ℕ) → passes f.carries_type o ≡ true → passes (λ m. nat_lt m n) o ≡ true → option_map_or (is_resource s) (option_map f.types o) false ≡ option_map_or (is_resource r) o false
@@ -152,7 +163,8 @@ module _ (r s : Resolve) (f : Renumbering) (valid : KeepsRules r) (is : IsCarrie
   owner_apart (owner.World a) (owner.Interface b) c d h = no_true h
   owner_apart (owner.World a) owner.None c d h = no_true h
   owner_apart (owner.Interface a) (owner.World b) c d h = no_true h
-  owner_apart (owner.Interface a) (owner.Interface b) c d h = subst (λ (k : ℕ). (b.0 == k) ≡ true) (apart f.interfaces f.carries_interface f.copies_interface is.interfaces_rise is.copied_interfaces b.0 a.0 c d (equal (f.interfaces b.0) (f.interfaces a.0) h)) (same-number b.0)
+  owner_apart (owner.Interface a) (owner.Interface b) c d h = subst (λ (k : ℕ). (b.0 == k) ≡ true)
+      (apart f.interfaces f.carries_interface f.copies_interface is.interfaces_rise is.copied_interfaces b.0 a.0 c d (equal (f.interfaces b.0) (f.interfaces a.0) h)) (same-number b.0)
   owner_apart (owner.Interface a) owner.None c d h = no_true h
   owner_apart owner.None p c d h = no_true d
 
@@ -160,4 +172,5 @@ module _ (r s : Resolve) (f : Renumbering) (valid : KeepsRules r) (is : IsCarrie
   owner_back o n d c h =
       let t = is.types n c in
       ap (λ d. option_map_or (λ def. same_owner def.owner o) d false) t.found
-      ∙ owner_apart o t.def.owner t.carries_home d (sym (ap (λ x. same_owner x (owner_under f o)) t.home) ∙ (sym (ap (λ d. option_map_or (λ def. same_owner def.owner (owner_under f o)) d false) t.at_image) ∙ h))
+      ∙ owner_apart o t.def.owner t.carries_home d (sym (ap (λ x. same_owner x (owner_under f o)) t.home)
+      ∙ (sym (ap (λ d. option_map_or (λ def. same_owner def.owner (owner_under f o)) d false) t.at_image) ∙ h))

@@ -160,10 +160,13 @@ field_numbers (f ∷ fs) = ap (λ ns. type_numbers f.ty ++ ns) (field_numbers fs
 
 case_numbers : (cs : List Case) → flat_map (λ x. optional_numbers x.1) (map {B = Text × Option ValueType} (λ c. (text_of c.name, c.ty)) cs) ≡ filter_map number_of (filter_map (λ c. c.ty) cs)
 case_numbers [] = refl
-case_numbers (c ∷ cs) = elim (c.ty) as (λ t. c.ty ≡ t → optional_numbers c.ty ++ flat_map (λ x. optional_numbers x.1) (map {B = Text × Option ValueType} (λ x. (text_of x.name, x.ty)) cs) ≡ filter_map number_of (filter_map (λ x. x.ty) (c ∷ cs))) [
-  | None ↦ λ e. ap (λ o. optional_numbers o ++ flat_map (λ x. optional_numbers x.1) (map {B = Text × Option ValueType} (λ x. (text_of x.name, x.ty)) cs)) e ∙ (case_numbers cs ∙ ap (filter_map number_of) (sym (without e)))
-  | Some t ↦ λ e. ap (λ o. optional_numbers o ++ flat_map (λ x. optional_numbers x.1) (map {B = Text × Option ValueType} (λ x. (text_of x.name, x.ty)) cs)) e ∙ (ap (λ ns. type_numbers t ++ ns) (case_numbers cs) ∙ (sym (numbers_cons t (filter_map (λ x. x.ty) cs)) ∙ ap (filter_map number_of) (sym (given t e))))
-] refl
+case_numbers (c ∷ cs) = elim (c.ty) as (λ t. c.ty ≡ t → optional_numbers c.ty ++ flat_map (λ x. optional_numbers x.1) (map {B = Text × Option ValueType} (λ x. (text_of x.name, x.ty)) cs) ≡ filter_map
+    number_of (filter_map (λ x. x.ty) (c ∷ cs))) [
+      | None ↦ λ e. ap (λ o. optional_numbers o ++ flat_map (λ x. optional_numbers x.1) (map {B = Text × Option ValueType} (λ x. (text_of x.name, x.ty)) cs)) e
+          ∙ (case_numbers cs ∙ ap (filter_map number_of) (sym (without e)))
+      | Some t ↦ λ e. ap (λ o. optional_numbers o ++ flat_map (λ x. optional_numbers x.1) (map {B = Text × Option ValueType} (λ x. (text_of x.name, x.ty)) cs)) e
+          ∙ (ap (λ ns. type_numbers t ++ ns) (case_numbers cs) ∙ (sym (numbers_cons t (filter_map (λ x. x.ty) cs)) ∙ ap (filter_map number_of) (sym (given t e))))
+    ] refl
   where
     without : c.ty ≡ None → filter_map (λ x. x.ty) (c ∷ cs) ≡ filter_map (λ x. x.ty) cs
     without e = filter_map_none (λ x. x.ty) c cs e
@@ -225,18 +228,21 @@ abbrev by_name : Place → Option Text → Tree → Tree
 by_name place None tree = tree
 by_name place (Some name) tree = named place name
 
-tree_by_name : (r : Resolve) (trees : List Tree) (def : TypeDef) → tree_of_definition r trees def ≡ by_name (place_of r def.owner) (optional_text def.name) (tree_of_declaration (declared_by trees def.kind))
-tree_by_name r trees def = elim (def.name) as (λ o. option_map_or (λ name. named (place_of r def.owner) (text_of name)) o (tree_of_declaration (declared_by trees def.kind)) ≡ by_name (place_of r def.owner) (optional_text o) (tree_of_declaration (declared_by trees def.kind))) [
-  | None ↦ refl
-  | Some name ↦ refl
-]
+tree_by_name : (r : Resolve) (trees : List Tree) (def : TypeDef)
+    → tree_of_definition r trees def ≡ by_name (place_of r def.owner) (optional_text def.name) (tree_of_declaration (declared_by trees def.kind))
+tree_by_name r trees def = elim (def.name) as (λ o. option_map_or (λ name. named (place_of r def.owner) (text_of name)) o (tree_of_declaration (declared_by trees def.kind)) ≡ by_name
+    (place_of r def.owner) (optional_text o) (tree_of_declaration (declared_by trees def.kind))) [
+      | None ↦ refl
+      | Some name ↦ refl
+    ]
 
 module _ (r s : Resolve) (f : ℕ → ℕ) (carried : ℕ → Bool) (below_r : RefersBelow r) (below_s : RefersBelow s) (are : AreCarried r s f carried) where
   same_at : (n : ℕ) → Type 0
   same_at n = carried n ≡ true → number_tree s (f n) ≡ number_tree r n
 
   -- from smaller numbers, those that are carried
-  each_same : (n : ℕ) → ((m : ℕ) → m < n → carried m ≡ true → number_tree s (f m) ≡ number_tree r m) → (ns : List ℕ) → list_all (λ m. nat_lt m n) ns ≡ true → list_all carried ns ≡ true → Each (Same f (trees_of s) (trees_of r)) ns
+  each_same : (n : ℕ) → ((m : ℕ) → m < n → carried m ≡ true → number_tree s (f m) ≡ number_tree r m) → (ns : List ℕ) → list_all (λ m. nat_lt m n) ns ≡ true → list_all carried ns ≡ true
+      → Each (Same f (trees_of s) (trees_of r)) ns
   each_same n same [] small all = tt
   each_same n same (m ∷ ns) small all =
       (same m (ltb-true m n (first_true _ _ small)) (first_true _ _ all), each_same n same ns (second_true _ _ small) (second_true _ _ all))
@@ -248,7 +254,8 @@ module _ (r s : Resolve) (f : ℕ → ℕ) (carried : ℕ → Bool) (below_r : R
   found_there n def is = ap (λ o. unwrap_or o no_tree) (trees_at s n def is (below_s n def is)) ∙ tree_by_name s (trees_of s) def
 
   -- a kind whose numbers stand for the same declares the same
-  kind_same : (def image : TypeDef) → HasImageKind f carried def image → Each (Same f (trees_of s) (trees_of r)) (view_numbers (kind_view def.kind)) → declared_by (trees_of s) image.kind ≡ declared_by (trees_of r) def.kind
+  kind_same : (def image : TypeDef) → HasImageKind f carried def image → Each (Same f (trees_of s) (trees_of r)) (view_numbers (kind_view def.kind))
+      → declared_by (trees_of s) image.kind ≡ declared_by (trees_of r) def.kind
   kind_same def image h each =
       sym (declared_by_view (trees_of s) image.kind)
       ∙ (ap (declared_view (trees_of s)) h.kinds

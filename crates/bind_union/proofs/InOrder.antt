@@ -18,7 +18,8 @@ use Rattle.wit_model.proofs.Chains.{all_has as passes_at}
 use Rattle.wit_model.proofs.RulesLemmas.{after_of_map}
 
 -- what passes on the one side passes on the other
-pub zip_all : {A B : Type 0} (R : A → B → Type 0) (p : A → Bool) (q : B → Bool) → ((a : A) (b : B) → R a b → p a ≡ true → q b ≡ true) → (xs : List A) (ys : List B) → AllZip R xs ys → list_all p xs ≡ true → list_all q ys ≡ true
+pub zip_all : {A B : Type 0} (R : A → B → Type 0) (p : A → Bool) (q : B → Bool) → ((a : A) (b : B) → R a b → p a ≡ true → q b ≡ true) → (xs : List A) (ys : List B) → AllZip R xs ys
+    → list_all p xs ≡ true → list_all q ys ≡ true
 zip_all R p q one [] [] z h = refl
 zip_all R p q one [] (y ∷ ys) z h = absurd z
 zip_all R p q one (x ∷ xs) [] z h = absurd z
@@ -53,17 +54,21 @@ module _ (f : ℕ → ℕ) (carries copies : ℕ → Bool) (rise : Rises f carri
 
   -- ---- lists in order
 
-  pub after_weaker : {A : Type 0} (p : A → Bool) (t u : List A → A → Bool) → ((before : List A) (x : A) → p x ≡ true → t before x ≡ true → u before x ≡ true) → (before xs : List A) → list_all p xs ≡ true → each_after t before xs ≡ true → each_after u before xs ≡ true
+  pub after_weaker : {A : Type 0} (p : A → Bool) (t u : List A → A → Bool) → ((before : List A) (x : A) → p x ≡ true → t before x ≡ true → u before x ≡ true) → (before xs : List A)
+      → list_all p xs ≡ true → each_after t before xs ≡ true → each_after u before xs ≡ true
   after_weaker p t u one before [] all h = refl
-  after_weaker p t u one before (x ∷ xs) all h = both _ _ (one before x (first_true _ _ all) (first_true _ _ h)) (after_weaker p t u one (before ++ x ∷ []) xs (second_true (p x) _ all) (second_true (t before x) _ h))
+  after_weaker p t u one before (x ∷ xs) all h = both _ _ (one before x (first_true _ _ all) (first_true _ _ h))
+      (after_weaker p t u one (before ++ x ∷ []) xs (second_true (p x) _ all) (second_true (t before x) _ h))
 
   -- each stands after those of the list that it uses
   abbrev pub after_uses : (ℕ → List ℕ) → List ℕ → List ℕ → ℕ → Bool
   after_uses uses ns before n = list_all (λ m. not (has ns m) || has before m) (uses n)
 
-  use_there : (ns before : List ℕ) → list_all copies ns ≡ true → (used : List ℕ) → list_all carries used ≡ true → list_all (λ m. not (has ns m) || has before m) used ≡ true → list_all (λ m. not (has (map f ns) m) || has (map f before) m) (map f used) ≡ true
+  use_there : (ns before : List ℕ) → list_all copies ns ≡ true → (used : List ℕ) → list_all carries used ≡ true → list_all (λ m. not (has ns m) || has before m) used ≡ true
+      → list_all (λ m. not (has (map f ns) m) || has (map f before) m) (map f used) ≡ true
   use_there ns before all [] c h = refl
-  use_there ns before all (m ∷ used) c h = both _ _ (one (has ns m) refl (has (map f ns) (f m)) refl (first_true _ _ h)) (use_there ns before all used (second_true _ _ c) (second_true (not (has ns m) || has before m) _ h))
+  use_there ns before all (m ∷ used) c h = both _ _ (one (has ns m) refl (has (map f ns) (f m)) refl (first_true _ _ h))
+      (use_there ns before all used (second_true _ _ c) (second_true (not (has ns m) || has before m) _ h))
     where
       one : (a : Bool) → has ns m ≡ a → (b : Bool) → has (map f ns) (f m) ≡ b → (not (has ns m) || has before m) ≡ true → (not (has (map f ns) (f m)) || has (map f before) (f m)) ≡ true
       one a p false q g = ap (λ b. not b || has (map f before) (f m)) q

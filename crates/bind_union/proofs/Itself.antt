@@ -163,12 +163,14 @@ module _ (r : Resolve) (valid : KeepsRules r) where
   joined_itself [] h = none
   joined_itself (e ∷ es) h =
       let here = first_true (key_in_range r e.0 && item_in_range r e.1) (entries_in_range r es) h in
-      added e e es es refl (key_itself e.0 (first_true _ _ here), item_itself e.1 (second_true (key_in_range r e.0) _ here)) (joined_itself es (second_true (key_in_range r e.0 && item_in_range r e.1) (entries_in_range r es) h))
+      added e e es es refl (key_itself e.0 (first_true _ _ here), item_itself e.1 (second_true (key_in_range r e.0) _ here))
+      (joined_itself es (second_true (key_in_range r e.0 && item_in_range r e.1) (entries_in_range r es) h))
 
   pub world_range : (n : ℕ) (w : World) → world_at r n ≡ Some w → (entries_in_range r w.imports.entries ≡ true) × (entries_in_range r w.exports.entries ≡ true)
   unfolding numbers_in_range
   world_range n w e =
-      let old : (is_place n && (passes (in_list r.packages.items) (package_number w.«package») && (entries_in_range r w.imports.entries && entries_in_range r w.exports.entries))) ≡ true = world-passes numbers_in_range r valid.numbers_in_range n w e in
+      let old : (is_place n && (passes (in_list r.packages.items) (package_number w.«package») && (entries_in_range r w.imports.entries && entries_in_range r w.exports.entries))) ≡ true =
+      world-passes numbers_in_range r valid.numbers_in_range n w e in
       let two = second_true (passes (in_list r.packages.items) (package_number w.«package»)) _ (second_true (is_place n) _ old) in
       (first_true _ _ two, second_true (entries_in_range r w.imports.entries) _ two)
 
@@ -185,7 +187,11 @@ module _ (r : Resolve) (valid : KeepsRules r) where
         let old : (is_place n && (list_all (in_list r.types.items) (kind_numbers d.0.kind) && owner_in_range r d.0.owner)) ≡ true = type_passes numbers_in_range r valid.numbers_in_range n d.0 d.1 in
         let two = second_true (is_place n) _ old in
         let home = carried_owner d.0.owner (second_true (list_all (in_list r.types.items) (kind_numbers d.0.kind)) _ two) in
-        let kind : HasImageKind f.types f.carries_type d.0 d.0 = record { kinds = sym (same_view (kind_view d.0.kind)); parts = ap (list_all (in_list r.types.items)) (numbers_of_view d.0.kind) ∙ first_true _ _ two } in
+        let kind : HasImageKind f.types f.carries_type d.0 d.0 = record {
+          kinds = sym (same_view (kind_view d.0.kind));
+          parts =
+              ap (list_all (in_list r.types.items)) (numbers_of_view d.0.kind) ∙ first_true _ _ two;
+        } in
         record {
           def = d.0;
           found = d.1;
@@ -203,7 +209,9 @@ module _ (r : Resolve) (valid : KeepsRules r) where
     interface_itself n c =
         let d = found-in r.interfaces.items n c in
         let i = d.0 in
-        let old : (is_place n && (passes (in_list r.packages.items) (package_number i.«package») && (list_all (λ id. in_list r.types.items id.0) (values i.types) && list_all (function_in_range r) (values i.functions)))) ≡ true = interface-passes numbers_in_range r valid.numbers_in_range n i d.1 in
+        let old : (is_place n && (passes (in_list r.packages.items) (package_number i.«package»)
+        && (list_all (λ id. in_list r.types.items id.0) (values i.types) && list_all (function_in_range r) (values i.functions)))) ≡ true =
+        interface-passes numbers_in_range r valid.numbers_in_range n i d.1 in
         let two = second_true (passes (in_list r.packages.items) (package_number i.«package»)) _ (second_true (is_place n) _ old) in
         let numbers = first_true (list_all (λ id. in_list r.types.items id.0) (values i.types)) _ two in
         record {
@@ -217,7 +225,8 @@ module _ (r : Resolve) (valid : KeepsRules r) where
           copied = λ h. record {
             types = refl;
             copies = numbers;
-            functions = zip_itself i.functions.entries (sym (list_all-map (function_in_range r) (λ (e : String Global × Function). e.1) i.functions.entries) ∙ second_true (list_all (λ id. in_list r.types.items id.0) (values i.types)) _ two);
+            functions = zip_itself i.functions.entries (sym (list_all-map (function_in_range r) (λ (e : String Global × Function). e.1) i.functions.entries) ∙ second_true
+                (list_all (λ id. in_list r.types.items id.0) (values i.types)) _ two);
             stability = refl;
           };
         }

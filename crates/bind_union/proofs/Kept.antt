@@ -31,7 +31,8 @@ use Rattle.base_lemmas.proofs.Bools.{left_of as first_true, right_of as second_t
 use Rattle.wit_model.proofs.Shown.{after_append}
 use Rattle.wit_model.proofs.ValidLemmas.{world_passes as world-passes}
 
-pub kept : (rule : Rule) (s : Resolve) → each_from (rule.package_ s) 0 s.packages.items ≡ true → each_from (rule.interface_ s) 0 s.interfaces.items ≡ true → each_from (rule.world_ s) 0 s.worlds.items ≡ true → each_from (rule.type_ s) 0 s.types.items ≡ true → Keeps rule s
+pub kept : (rule : Rule) (s : Resolve) → each_from (rule.package_ s) 0 s.packages.items ≡ true → each_from (rule.interface_ s) 0 s.interfaces.items ≡ true
+    → each_from (rule.world_ s) 0 s.worlds.items ≡ true → each_from (rule.type_ s) 0 s.types.items ≡ true → Keeps rule s
 kept rule s ps is ws ts = both _ _ ps (both _ _ is (both _ _ ws ts))
 
 holds_nothing : (news : List WorldItem) → Holds [] news
@@ -48,11 +49,15 @@ module _ (own other merged : Resolve) (bound other_bound : ℕ) (first second : 
 
   pub shapes_kept : Keeps shapes merged
   unfolding shapes
-  shapes_kept = kept shapes merged (free_passes merged 0 merged.packages.items) (free_passes merged 0 merged.interfaces.items) (free_passes merged 0 merged.worlds.items) (each_type own other merged bound other_bound first second left_out valid_own valid_other is (shapes.type_ merged) (λ c n copy. shape_passes c.from merged c.under c.valid c.carried below n copy))
+  shapes_kept = kept shapes merged (free_passes merged 0 merged.packages.items) (free_passes merged 0 merged.interfaces.items) (free_passes merged 0 merged.worlds.items)
+      (each_type own other merged bound other_bound first second left_out valid_own valid_other is (shapes.type_ merged)
+      (λ c n copy. shape_passes c.from merged c.under c.valid c.carried below n copy))
 
   pub named_kinds_kept : Keeps named_kinds merged
   unfolding named_kinds
-  named_kinds_kept = kept named_kinds merged (free_passes merged 0 merged.packages.items) (free_passes merged 0 merged.interfaces.items) (free_passes merged 0 merged.worlds.items) (each_type own other merged bound other_bound first second left_out valid_own valid_other is (named_kinds.type_ merged) (λ c n copy. named_passes c.from merged c.under c.valid c.carried below n copy))
+  named_kinds_kept = kept named_kinds merged (free_passes merged 0 merged.packages.items) (free_passes merged 0 merged.interfaces.items) (free_passes merged 0 merged.worlds.items)
+      (each_type own other merged bound other_bound first second left_out valid_own valid_other is (named_kinds.type_ merged)
+      (λ c n copy. named_passes c.from merged c.under c.valid c.carried below n copy))
 
   -- ---- what was there in the bound world
 
@@ -62,10 +67,12 @@ module _ (own other merged : Resolve) (bound other_bound : ℕ) (first second : 
   abbrev pub own_exports : List (WorldKey × WorldItem)
   own_exports = is.own_bound.exports.entries
 
-  pub own_imports_pass : (p q : WorldKey × WorldItem → Bool) → ((a b : WorldKey × WorldItem) → EntryBecomes (itself own) a b → p a ≡ true → q b ≡ true) → list_all p own_imports ≡ true → list_all q own_imports ≡ true
+  pub own_imports_pass : (p q : WorldKey × WorldItem → Bool) → ((a b : WorldKey × WorldItem) → EntryBecomes (itself own) a b → p a ≡ true → q b ≡ true) → list_all p own_imports ≡ true
+      → list_all q own_imports ≡ true
   own_imports_pass p q one h = added_pass (itself own) [] p q one own_imports own_imports (joined_itself own valid_own own_imports (world_range own valid_own bound is.own_bound is.bound_at).0) h
 
-  pub own_exports_pass : (p q : WorldKey × WorldItem → Bool) → ((a b : WorldKey × WorldItem) → EntryBecomes (itself own) a b → p a ≡ true → q b ≡ true) → list_all p own_exports ≡ true → list_all q own_exports ≡ true
+  pub own_exports_pass : (p q : WorldKey × WorldItem → Bool) → ((a b : WorldKey × WorldItem) → EntryBecomes (itself own) a b → p a ≡ true → q b ≡ true) → list_all p own_exports ≡ true
+      → list_all q own_exports ≡ true
   own_exports_pass p q one h = added_pass (itself own) [] p q one own_exports own_exports (joined_itself own valid_own own_exports (world_range own valid_own bound is.own_bound is.bound_at).1) h
 
   -- at the number of the bound world
@@ -74,12 +81,14 @@ module _ (own other merged : Resolve) (bound other_bound : ℕ) (first second : 
 
   -- tests on the functions of the bound world
   own_functions : (p q : Function → Bool) → ((g h : Function) → IsFunctionCopy (itself own) g h → p g ≡ true → q h ≡ true) → list_all p (functions_of_world is.own_bound) ≡ true
-      → (list_all (λ (e : WorldKey × WorldItem). list_all q (option_to_list (item_function e.1))) own_imports ≡ true) × (list_all (λ (e : WorldKey × WorldItem). list_all q (option_to_list (item_function e.1))) own_exports ≡ true)
+      → (list_all (λ (e : WorldKey × WorldItem). list_all q (option_to_list (item_function e.1))) own_imports ≡ true)
+      × (list_all (λ (e : WorldKey × WorldItem). list_all q (option_to_list (item_function e.1))) own_exports ≡ true)
   own_functions p q one h =
       let old = sym (by_entries p is.own_bound) ∙ h in
       let each = λ (a b : WorldKey × WorldItem) (z : EntryBecomes (itself own) a b). entry_function ours.from merged ours.under ours.valid ours.carried below p q one a.1 b.1 z.1 in (
         own_imports_pass (λ e. list_all p (option_to_list (item_function e.1))) (λ e. list_all q (option_to_list (item_function e.1))) each (first_true _ _ old),
-        own_exports_pass (λ e. list_all p (option_to_list (item_function e.1))) (λ e. list_all q (option_to_list (item_function e.1))) each (second_true (list_all (λ (e : WorldKey × WorldItem). list_all p (option_to_list (item_function e.1))) own_imports) _ old),
+        own_exports_pass (λ e. list_all p (option_to_list (item_function e.1))) (λ e. list_all q (option_to_list (item_function e.1))) each
+            (second_true (list_all (λ (e : WorldKey × WorldItem). list_all p (option_to_list (item_function e.1))) own_imports) _ old),
       )
 
   -- ---- labels
@@ -87,34 +96,45 @@ module _ (own other merged : Resolve) (bound other_bound : ℕ) (first second : 
   pub labels_kept : Keeps labels merged
   unfolding labels
   labels_kept = kept labels merged (free_passes merged 0 merged.packages.items)
-      (each_interface own other merged bound other_bound first second left_out valid_own valid_other is (labels.interface_ merged) (λ c n copy. interface_labels_pass c.from merged c.under c.valid c.carried below n copy))
+      (each_interface own other merged bound other_bound first second left_out valid_own valid_other is (labels.interface_ merged)
+      (λ c n copy. interface_labels_pass c.from merged c.under c.valid c.carried below n copy))
       (each_world own other merged bound other_bound first second left_out valid_own valid_other is (labels.world_ merged)
       (λ n w e apart. world-passes labels own valid_own.labels n w e)
       (λ n c.
       let copy = is.first_worlds n c in
-      let old : (is_label (text_of copy.joined.old.name) && (is_stability copy.joined.old.stability && (entries_labels copy.joined.old.imports.entries && entries_labels copy.joined.old.exports.entries))) ≡ true = world-passes labels other valid_other.labels n copy.joined.old copy.joined.found in
+      let old : (is_label (text_of copy.joined.old.name) && (is_stability copy.joined.old.stability
+      && (entries_labels copy.joined.old.imports.entries && entries_labels copy.joined.old.exports.entries))) ≡ true =
+      world-passes labels other valid_other.labels n copy.joined.old copy.joined.found in
       both _ _ (ap is_label copy.name ∙ first_true _ _ old)
       (both _ _ (stability_alike copy.joined.image.stability copy.joined.old.stability copy.stability ∙ first_true _ _ (second_true (is_label (text_of copy.joined.old.name)) _ old))
       (world_labels_pass other merged first valid_other is.first_copies.carried below n [] [] copy.joined refl refl)))
-      (let old : (is_label (text_of is.own_bound.name) && (is_stability is.own_bound.stability && (entries_labels own_imports && entries_labels own_exports))) ≡ true = world-passes labels own valid_own.labels bound is.own_bound is.bound_at in
+      (let old : (is_label (text_of is.own_bound.name) && (is_stability is.own_bound.stability && (entries_labels own_imports && entries_labels own_exports))) ≡ true =
+      world-passes labels own valid_own.labels bound is.own_bound is.bound_at in
       let after_name = second_true (is_label (text_of is.own_bound.name)) _ old in
       let entries = second_true (is_stability is.own_bound.stability) _ after_name in
       both _ _ (ap (λ name. is_label (text_of name)) is.bound_name ∙ first_true _ _ old)
       (both _ _ (ap is_stability is.bound_stability ∙ first_true _ _ after_name)
-      (world_labels_pass other merged second valid_other is.second_copies.carried below other_bound own_imports own_exports is.joined (first_true _ _ entries) (second_true (entries_labels own_imports) _ entries)))))
-      (each_type own other merged bound other_bound first second left_out valid_own valid_other is (labels.type_ merged) (λ c n copy. label_passes c.from merged c.under c.valid c.carried below n copy))
+      (world_labels_pass other merged second valid_other is.second_copies.carried below other_bound own_imports own_exports is.joined (first_true _ _ entries)
+      (second_true (entries_labels own_imports) _ entries)))))
+      (each_type own other merged bound other_bound first second left_out valid_own valid_other is (labels.type_ merged)
+      (λ c n copy. label_passes c.from merged c.under c.valid c.carried below n copy))
 
   -- ---- owners
 
   pub owners_kept : Keeps owners merged
   unfolding owners
   owners_kept =
-      let own_part = own_functions (function_stays own (as_world bound)) (function_stays merged (as_world bound)) (λ g h c. function_stays_passes ours.from merged ours.under ours.valid ours.carried below g h c (as_world bound)) (world-passes owners own valid_own.owners bound is.own_bound is.bound_at) in
-      let at = λ (es : List (WorldKey × WorldItem)). λ (h : list_all (λ (e : WorldKey × WorldItem). list_all (function_stays merged (as_world bound)) (option_to_list (item_function e.1))) es ≡ true). subst (λ (k : ℕ). list_all (λ (e : WorldKey × WorldItem). list_all (function_stays merged (as_world k)) (option_to_list (item_function e.1))) es ≡ true) (sym is.bound_there) h in
+      let own_part = own_functions (function_stays own (as_world bound)) (function_stays merged (as_world bound))
+      (λ g h c. function_stays_passes ours.from merged ours.under ours.valid ours.carried below g h c (as_world bound)) (world-passes owners own valid_own.owners bound is.own_bound is.bound_at) in
+      let at = λ (es : List (WorldKey × WorldItem)). λ (h : list_all (λ (e : WorldKey × WorldItem). list_all (function_stays merged (as_world bound)) (option_to_list (item_function e.1))) es ≡ true).
+      subst (λ (k : ℕ). list_all (λ (e : WorldKey × WorldItem). list_all (function_stays merged (as_world k)) (option_to_list (item_function e.1))) es ≡ true) (sym is.bound_there) h in
       kept owners merged (free_passes merged 0 merged.packages.items)
-      (each_interface own other merged bound other_bound first second left_out valid_own valid_other is (owners.interface_ merged) (λ c n copy. interface_owners_pass c.from merged c.under c.valid c.carried below n copy))
-      (each_joined own other merged bound other_bound first second left_out valid_own valid_other is (owners.world_ merged) (λ c n j. world_owners_pass c.from merged c.under c.valid c.carried below n [] [] j refl refl)
-      (at_bound (owners.world_ merged) (world_owners_pass other merged second valid_other is.second_copies.carried below other_bound own_imports own_exports is.joined (at own_imports own_part.0) (at own_exports own_part.1))))
+      (each_interface own other merged bound other_bound first second left_out valid_own valid_other is (owners.interface_ merged)
+      (λ c n copy. interface_owners_pass c.from merged c.under c.valid c.carried below n copy))
+      (each_joined own other merged bound other_bound first second left_out valid_own valid_other is (owners.world_ merged)
+      (λ c n j. world_owners_pass c.from merged c.under c.valid c.carried below n [] [] j refl refl)
+      (at_bound (owners.world_ merged) (world_owners_pass other merged second valid_other is.second_copies.carried below other_bound own_imports own_exports is.joined (at own_imports own_part.0)
+      (at own_exports own_part.1))))
       (each_type own other merged bound other_bound first second left_out valid_own valid_other is (owners.type_ merged) (λ c n copy. stay_passes c.from merged c.under c.valid c.carried below n copy))
 
   -- ---- handles and depths
@@ -122,22 +142,30 @@ module _ (own other merged : Resolve) (bound other_bound : ℕ) (first second : 
   pub handles_kept : Keeps handles merged
   unfolding handles
   handles_kept =
-      let own_part = own_functions (λ g. list_all (λ t. not (is_resource_type own t)) (function_types g)) (λ g. list_all (λ t. not (is_resource_type merged t)) (function_types g)) (function_handles_pass ours.from merged ours.under ours.valid ours.carried below) (world-passes handles own valid_own.handles bound is.own_bound is.bound_at) in
+      let own_part = own_functions (λ g. list_all (λ t. not (is_resource_type own t)) (function_types g)) (λ g. list_all (λ t. not (is_resource_type merged t)) (function_types g))
+      (function_handles_pass ours.from merged ours.under ours.valid ours.carried below) (world-passes handles own valid_own.handles bound is.own_bound is.bound_at) in
       kept handles merged (free_passes merged 0 merged.packages.items)
-      (each_interface own other merged bound other_bound first second left_out valid_own valid_other is (handles.interface_ merged) (λ c n copy. interface_handles_pass c.from merged c.under c.valid c.carried below n copy))
-      (each_joined own other merged bound other_bound first second left_out valid_own valid_other is (handles.world_ merged) (λ c n j. world_handles_pass c.from merged c.under c.valid c.carried below n [] [] j refl refl)
+      (each_interface own other merged bound other_bound first second left_out valid_own valid_other is (handles.interface_ merged)
+      (λ c n copy. interface_handles_pass c.from merged c.under c.valid c.carried below n copy))
+      (each_joined own other merged bound other_bound first second left_out valid_own valid_other is (handles.world_ merged)
+      (λ c n j. world_handles_pass c.from merged c.under c.valid c.carried below n [] [] j refl refl)
       (world_handles_pass other merged second valid_other is.second_copies.carried below other_bound own_imports own_exports is.joined own_part.0 own_part.1))
-      (each_type own other merged bound other_bound first second left_out valid_own valid_other is (handles.type_ merged) (λ c n copy. handle_passes c.from merged c.under c.valid c.carried below n copy))
+      (each_type own other merged bound other_bound first second left_out valid_own valid_other is (handles.type_ merged)
+      (λ c n copy. handle_passes c.from merged c.under c.valid c.carried below n copy))
 
   pub depths_kept : Keeps depths merged
   unfolding depths
   depths_kept =
-      let own_part = own_functions (λ g. list_all (is_shallow own) (function_types g)) (λ g. list_all (is_shallow merged) (function_types g)) (function_depths_pass ours.from merged ours.under ours.valid ours.carried below) (world-passes depths own valid_own.depths bound is.own_bound is.bound_at) in
+      let own_part = own_functions (λ g. list_all (is_shallow own) (function_types g)) (λ g. list_all (is_shallow merged) (function_types g))
+      (function_depths_pass ours.from merged ours.under ours.valid ours.carried below) (world-passes depths own valid_own.depths bound is.own_bound is.bound_at) in
       kept depths merged (free_passes merged 0 merged.packages.items)
-      (each_interface own other merged bound other_bound first second left_out valid_own valid_other is (depths.interface_ merged) (λ c n copy. interface_depths_pass c.from merged c.under c.valid c.carried below n copy))
-      (each_joined own other merged bound other_bound first second left_out valid_own valid_other is (depths.world_ merged) (λ c n j. world_depths_pass c.from merged c.under c.valid c.carried below n [] [] j refl refl)
+      (each_interface own other merged bound other_bound first second left_out valid_own valid_other is (depths.interface_ merged)
+      (λ c n copy. interface_depths_pass c.from merged c.under c.valid c.carried below n copy))
+      (each_joined own other merged bound other_bound first second left_out valid_own valid_other is (depths.world_ merged)
+      (λ c n j. world_depths_pass c.from merged c.under c.valid c.carried below n [] [] j refl refl)
       (world_depths_pass other merged second valid_other is.second_copies.carried below other_bound own_imports own_exports is.joined own_part.0 own_part.1))
-      (each_type own other merged bound other_bound first second left_out valid_own valid_other is (depths.type_ merged) (λ c n copy. depth_passes c.from merged c.under c.valid c.carried below n copy))
+      (each_type own other merged bound other_bound first second left_out valid_own valid_other is (depths.type_ merged)
+      (λ c n copy. depth_passes c.from merged c.under c.valid c.carried below n copy))
 
   -- ---- functions of resources
 
@@ -146,12 +174,17 @@ module _ (own other merged : Resolve) (bound other_bound : ℕ) (first second : 
   function_names_kept =
       let p = λ (e : WorldKey × WorldItem). passes (λ g. is_name_key (text_of g.name) e.0 && is_member own (as_world bound) g) (item_function e.1) in
       let q = λ (e : WorldKey × WorldItem). passes (λ g. is_name_key (text_of g.name) e.0 && is_member merged (as_world bound) g) (item_function e.1) in
-      let old : (list_all p own_imports && list_all p own_exports) ≡ true = sym (list_all-append p own_imports own_exports) ∙ world-passes function_names own valid_own.function_names bound is.own_bound is.bound_at in
+      let old : (list_all p own_imports && list_all p own_exports) ≡ true =
+      sym (list_all-append p own_imports own_exports) ∙ world-passes function_names own valid_own.function_names bound is.own_bound is.bound_at in
       let each = entry_member ours.from merged ours.under ours.valid ours.carried below bound in
-      let at = λ (es : List (WorldKey × WorldItem)). λ (h : list_all q es ≡ true). subst (λ (k : ℕ). list_all (λ (e : WorldKey × WorldItem). passes (λ g. is_name_key (text_of g.name) e.0 && is_member merged (as_world k) g) (item_function e.1)) es ≡ true) (sym is.bound_there) h in
+      let at = λ (es : List (WorldKey × WorldItem)). λ (h : list_all q es ≡ true). subst
+      (λ (k : ℕ). list_all (λ (e : WorldKey × WorldItem). passes (λ g. is_name_key (text_of g.name) e.0 && is_member merged (as_world k) g) (item_function e.1)) es ≡ true)
+      (sym is.bound_there) h in
       kept function_names merged (free_passes merged 0 merged.packages.items)
-      (each_interface own other merged bound other_bound first second left_out valid_own valid_other is (function_names.interface_ merged) (λ c n copy. interface_members_pass c.from merged c.under c.valid c.carried below n copy))
-      (each_joined own other merged bound other_bound first second left_out valid_own valid_other is (function_names.world_ merged) (λ c n j. world_members_pass c.from merged c.under c.valid c.carried below n [] [] j refl refl)
+      (each_interface own other merged bound other_bound first second left_out valid_own valid_other is (function_names.interface_ merged)
+      (λ c n copy. interface_members_pass c.from merged c.under c.valid c.carried below n copy))
+      (each_joined own other merged bound other_bound first second left_out valid_own valid_other is (function_names.world_ merged)
+      (λ c n j. world_members_pass c.from merged c.under c.valid c.carried below n [] [] j refl refl)
       (at_bound (function_names.world_ merged) (world_members_pass other merged second valid_other is.second_copies.carried below other_bound own_imports own_exports is.joined
       (at own_imports (own_imports_pass p q each (first_true _ _ old))) (at own_exports (own_exports_pass p q each (second_true (list_all p own_imports) _ old))))))
       (free_passes merged 0 merged.types.items)
@@ -163,12 +196,16 @@ module _ (own other merged : Resolve) (bound other_bound : ℕ) (first second : 
   world_items_kept =
       let p = λ (e : WorldKey × WorldItem). import_stands own bound e.0 e.1 in
       let q = λ (e : WorldKey × WorldItem). import_stands merged bound e.0 e.1 in
-      let old : (list_all p own_imports && list_all (λ (e : WorldKey × WorldItem). export_stands own e.0 e.1) own_exports) ≡ true = world-passes world_items own valid_own.world_items bound is.own_bound is.bound_at in
+      let old : (list_all p own_imports && list_all (λ (e : WorldKey × WorldItem). export_stands own e.0 e.1) own_exports) ≡ true =
+      world-passes world_items own valid_own.world_items bound is.own_bound is.bound_at in
       kept world_items merged (free_passes merged 0 merged.packages.items) (free_passes merged 0 merged.interfaces.items)
-      (each_joined own other merged bound other_bound first second left_out valid_own valid_other is (world_items.world_ merged) (λ c n j. world_items_pass c.from merged c.under c.valid c.carried below n [] [] j refl refl)
+      (each_joined own other merged bound other_bound first second left_out valid_own valid_other is (world_items.world_ merged)
+      (λ c n j. world_items_pass c.from merged c.under c.valid c.carried below n [] [] j refl refl)
       (at_bound (world_items.world_ merged) (world_items_pass other merged second valid_other is.second_copies.carried below other_bound own_imports own_exports is.joined
-      (subst (λ (k : ℕ). list_all (λ (e : WorldKey × WorldItem). import_stands merged k e.0 e.1) own_imports ≡ true) (sym is.bound_there) (own_imports_pass p q (entry_import_stands ours.from merged ours.under ours.valid ours.carried below bound) (first_true _ _ old)))
-      (own_exports_pass (λ e. export_stands own e.0 e.1) (λ e. export_stands merged e.0 e.1) (entry_export_stands ours.from merged ours.under ours.valid ours.carried below) (second_true (list_all p own_imports) _ old)))))
+      (subst (λ (k : ℕ). list_all (λ (e : WorldKey × WorldItem). import_stands merged k e.0 e.1) own_imports ≡ true) (sym is.bound_there)
+      (own_imports_pass p q (entry_import_stands ours.from merged ours.under ours.valid ours.carried below bound) (first_true _ _ old)))
+      (own_exports_pass (λ e. export_stands own e.0 e.1) (λ e. export_stands merged e.0 e.1) (entry_export_stands ours.from merged ours.under ours.valid ours.carried below)
+      (second_true (list_all p own_imports) _ old)))))
       (free_passes merged 0 merged.types.items)
 
   -- ---- order of items
@@ -181,18 +218,22 @@ module _ (own other merged : Resolve) (bound other_bound : ℕ) (first second : 
   own_order =
       let t = uses_stand_before own bound in
       let u = uses_stand_before merged bound in
-      let old : (each_after t [] (items own_imports) && each_after t (items own_imports) (items own_exports)) ≡ true = sym (after_append t [] (items own_imports) (items own_exports)) ∙ world-passes order_of_items own valid_own.order_of_items bound is.own_bound is.bound_at in
+      let old : (each_after t [] (items own_imports) && each_after t (items own_imports) (items own_exports)) ≡ true =
+      sym (after_append t [] (items own_imports) (items own_exports)) ∙ world-passes order_of_items own valid_own.order_of_items bound is.own_bound is.bound_at in
       let step = item_stands own merged (itself own) valid_own ours.carried below bound bound_carried in
       let range = world_range own valid_own bound is.own_bound is.bound_at in
-      let imports = walk (itself own) [] t u step [] [] own_imports own_imports (joined_itself own valid_own own_imports range.0) (holds_itself []) (covers_none (itself own) []) (first_true _ _ old) in
-      let exports = walk (itself own) [] t u step (items own_imports) (items own_imports) own_exports own_exports (joined_itself own valid_own own_exports range.1) (holds_nothing (items own_imports)) imports.1 (second_true (each_after t [] (items own_imports)) _ old) in
+      let imports = walk (itself own) [] t u step [] [] own_imports own_imports (joined_itself own valid_own own_imports range.0) (holds_itself []) (covers_none (itself own) [])
+      (first_true _ _ old) in
+      let exports = walk (itself own) [] t u step (items own_imports) (items own_imports) own_exports own_exports (joined_itself own valid_own own_exports range.1) (holds_nothing (items own_imports))
+      imports.1 (second_true (each_after t [] (items own_imports)) _ old) in
       after_append u [] (items own_imports) (items own_exports) ∙ both _ _ imports.0 exports.0
 
   pub order_of_items_kept : Keeps order_of_items merged
   unfolding order_of_items
   order_of_items_kept =
       kept order_of_items merged (free_passes merged 0 merged.packages.items) (free_passes merged 0 merged.interfaces.items)
-      (each_joined own other merged bound other_bound first second left_out valid_own valid_other is (order_of_items.world_ merged) (λ c n j. world_order_passes c.from merged c.under c.valid c.carried below n [] [] j refl)
+      (each_joined own other merged bound other_bound first second left_out valid_own valid_other is (order_of_items.world_ merged)
+      (λ c n j. world_order_passes c.from merged c.under c.valid c.carried below n [] [] j refl)
       (at_bound (order_of_items.world_ merged) (world_order_passes other merged second valid_other is.second_copies.carried below other_bound own_imports own_exports is.joined
       (subst (λ (k : ℕ). each_after (uses_stand_before merged k) [] (items own_imports ++ items own_exports) ≡ true) (sym is.bound_there) own_order))))
       (free_passes merged 0 merged.types.items)

@@ -50,7 +50,8 @@ name_passes a b x = λ i. is_label (x.namespace i) && (is_label (x.name i) && (v
 
 data NameFrom (own other : Resolve) (f : Renumbering) (n : ℕ) (q : PackageName) : Type 0 where
   ours : (p : Package) → package_at own n ≡ Some p → IsSameName p.name q → NameFrom own other f n q
-  theirs : (k : ℕ) (p : Package) → package_at other k ≡ Some p → f.packages k ≡ n → ((m : ℕ) (o : Package) → package_at own m ≡ Some o → same_package_name o.name p.name ≡ false) → IsSameName p.name q → NameFrom own other f n q
+  theirs : (k : ℕ) (p : Package) → package_at other k ≡ Some p → f.packages k ≡ n → ((m : ℕ) (o : Package) → package_at own m ≡ Some o → same_package_name o.name p.name ≡ false) → IsSameName p.name q
+      → NameFrom own other f n q
 
 module _ (own other merged : Resolve) (bound other_bound : ℕ) (first second : Renumbering) (left_out : ℕ → Bool) (valid_own : KeepsRules own) (valid_other : KeepsRules other) (is : IsMerged own other merged bound other_bound first second left_out) where
   own_name : (n : ℕ) (p q : Package) → package_at own n ≡ Some p → package_at merged n ≡ Some q → IsSameName p.name q.name
@@ -100,5 +101,6 @@ module _ (own other merged : Resolve) (bound other_bound : ℕ) (first second : 
       kept package_names merged
       (each_by_number (package_rule merged) merged.packages.items (λ n q e.
       let from = name_from n q e in
-      both _ _ (named_well n q.name from) (each_by_number (λ m other. (m == n) || not (same_package_name q.name other.name)) merged.packages.items (λ m o d. two_apart n m q.name o.name from (name_from m o d)))))
+      both _ _ (named_well n q.name from) (each_by_number (λ m other. (m == n) || not (same_package_name q.name other.name)) merged.packages.items
+      (λ m o d. two_apart n m q.name o.name from (name_from m o d)))))
       (free_passes merged 0 merged.interfaces.items) (free_passes merged 0 merged.worlds.items) (free_passes merged 0 merged.types.items)

@@ -46,7 +46,8 @@ module _ (r : Resolve) (valid : KeepsRules r) (n : ℕ) (p : Package) (found : p
   ranges : (list_all (λ id. in_list r.interfaces.items id.0) (values p.interfaces) && list_all (λ id. in_list r.worlds.items id.0) (values p.worlds)) ≡ true
   unfolding numbers_in_range
   ranges =
-      let old : (is_place n && (list_all (λ id. in_list r.interfaces.items id.0) (values p.interfaces) && list_all (λ id. in_list r.worlds.items id.0) (values p.worlds))) ≡ true = package-passes numbers_in_range r valid.numbers_in_range n p found in
+      let old : (is_place n && (list_all (λ id. in_list r.interfaces.items id.0) (values p.interfaces) && list_all (λ id. in_list r.worlds.items id.0) (values p.worlds))) ≡ true =
+      package-passes numbers_in_range r valid.numbers_in_range n p found in
       second_true (is_place n) _ old
 
   abbrev third_place : Bool
@@ -56,13 +57,16 @@ module _ (r : Resolve) (valid : KeepsRules r) (n : ℕ) (p : Package) (found : p
   unfolding places
   belong = package-passes places r valid.places n p found
 
-  named : (list_all (λ e. passes (λ i. text_is i.name (text_of e.0)) (interface_at r e.1.0)) p.interfaces.entries && list_all (λ e. passes (λ w. text_eq (text_of w.name) (text_of e.0)) (world_at r e.1.0)) p.worlds.entries) ≡ true
+  named : (list_all (λ e. passes (λ i. text_is i.name (text_of e.0)) (interface_at r e.1.0)) p.interfaces.entries && list_all
+      (λ e. passes (λ w. text_eq (text_of w.name) (text_of e.0)) (world_at r e.1.0)) p.worlds.entries) ≡ true
   unfolding names_in_packages
   named = package-passes names_in_packages r valid.names_in_packages n p found
 
-  all_three : {A : Type 0} (p q s t : A → Bool) → ((x : A) → p x ≡ true → q x ≡ true → s x ≡ true → t x ≡ true) → (xs : List A) → list_all p xs ≡ true → list_all q xs ≡ true → list_all s xs ≡ true → list_all t xs ≡ true
+  all_three : {A : Type 0} (p q s t : A → Bool) → ((x : A) → p x ≡ true → q x ≡ true → s x ≡ true → t x ≡ true) → (xs : List A) → list_all p xs ≡ true → list_all q xs ≡ true → list_all s xs ≡ true
+      → list_all t xs ≡ true
   all_three p q s t one [] a b c = refl
-  all_three p q s t one (x ∷ xs) a b c = both _ _ (one x (first_true _ _ a) (first_true _ _ b) (first_true _ _ c)) (all_three p q s t one xs (second_true (p x) _ a) (second_true (q x) _ b) (second_true (s x) _ c))
+  all_three p q s t one (x ∷ xs) a b c = both _ _ (one x (first_true _ _ a) (first_true _ _ b) (first_true _ _ c))
+      (all_three p q s t one xs (second_true (p x) _ a) (second_true (q x) _ b) (second_true (s x) _ c))
 
   interface_of : (name : Option (String Global)) (t : Text) (b : Bool) → text_is name t ≡ true → passes (λ s. b && text_eq (text_of s) t) name ≡ true → (text_is name t && b) ≡ true
   interface_of None t b h k = no_true h
@@ -71,13 +75,15 @@ module _ (r : Resolve) (valid : KeepsRules r) (n : ℕ) (p : Package) (found : p
   pub interfaces_stand : list_all (is_interface_of r n) (interface_names p) ≡ true
   interfaces_stand =
       list_all-map (is_interface_of r n) (λ e. (text_of e.0, e.1.0)) p.interfaces.entries
-      ∙ all_three (λ e. in_list r.interfaces.items e.1.0) (interface_belongs r n) (λ e. passes (λ i. text_is i.name (text_of e.0)) (interface_at r e.1.0)) (λ e. is_interface_of r n (text_of e.0, e.1.0))
+      ∙ all_three (λ e. in_list r.interfaces.items e.1.0) (interface_belongs r n) (λ e. passes (λ i. text_is i.name (text_of e.0)) (interface_at r e.1.0))
+      (λ e. is_interface_of r n (text_of e.0, e.1.0))
       (λ e a b c.
       let i = found-in r.interfaces.items e.1.0 a in
       ap (λ o. option_map_or (λ i. text_is i.name (text_of e.0) && is_id n (package_number i.«package»)) o false) i.1
       ∙ interface_of i.0.name (text_of e.0) (is_id n (package_number i.0.«package»)) (sym (ap (passes (λ i. text_is i.name (text_of e.0))) i.1) ∙ c)
       (sym (ap (passes (λ i. passes (λ name. is_id n (package_number i.«package») && text_eq (text_of name) (text_of e.0)) i.name)) i.1) ∙ b))
-      p.interfaces.entries (sym (list_all-map (λ (id : InterfaceId). in_list r.interfaces.items id.0) (λ e. e.1) p.interfaces.entries) ∙ first_true _ _ ranges) (first_true _ _ belong) (first_true _ _ named)
+      p.interfaces.entries (sym (list_all-map (λ (id : InterfaceId). in_list r.interfaces.items id.0) (λ e. e.1) p.interfaces.entries) ∙ first_true _ _ ranges) (first_true _ _ belong)
+      (first_true _ _ named)
 
   pub worlds_stand : list_all (is_world_of r n) (world_names p) ≡ true
   worlds_stand =
@@ -85,10 +91,12 @@ module _ (r : Resolve) (valid : KeepsRules r) (n : ℕ) (p : Package) (found : p
       ∙ all_two (λ e. in_list r.worlds.items e.1.0) (world_belongs r n) (λ e. is_world_of r n (text_of e.0, e.1.0))
       (λ e a b.
       let w = found-in r.worlds.items e.1.0 a in
-      let old : (is_id n (package_number w.0.«package») && text_eq (text_of w.0.name) (text_of e.0)) ≡ true = sym (ap (passes (λ w. is_id n (package_number w.«package») && text_eq (text_of w.name) (text_of e.0))) w.1) ∙ b in
+      let old : (is_id n (package_number w.0.«package») && text_eq (text_of w.0.name) (text_of e.0)) ≡ true =
+      sym (ap (passes (λ w. is_id n (package_number w.«package») && text_eq (text_of w.name) (text_of e.0))) w.1) ∙ b in
       ap (λ o. option_map_or (λ w. text_eq (text_of w.name) (text_of e.0) && is_id n (package_number w.«package»)) o false) w.1
       ∙ both _ _ (second_true (is_id n (package_number w.0.«package»)) _ old) (first_true _ _ old))
-      p.worlds.entries (sym (list_all-map (λ (id : WorldId). in_list r.worlds.items id.0) (λ e. e.1) p.worlds.entries) ∙ second_true (list_all (λ id. in_list r.interfaces.items id.0) (values p.interfaces)) _ ranges)
+      p.worlds.entries (sym (list_all-map (λ (id : WorldId). in_list r.worlds.items id.0) (λ e. e.1) p.worlds.entries) ∙ second_true
+      (list_all (λ id. in_list r.interfaces.items id.0) (values p.interfaces)) _ ranges)
       (first_true _ _ (second_true (list_all (interface_belongs r n) p.interfaces.entries) _ belong))
 
 -- ---- back to the rules
@@ -98,7 +106,8 @@ found_option test None h = no_true h
 found_option test (Some x) h = (x, refl, h)
 
 module _ (r : Resolve) (n : ℕ) (p : Package) (stand : list_all (is_interface_of r n) (interface_names p) ≡ true) (worlds : list_all (is_world_of r n) (world_names p) ≡ true) where
-  each_interface : (q : String Global × InterfaceId → Bool) → ((e : String Global × InterfaceId) → is_interface_of r n (text_of e.0, e.1.0) ≡ true → q e ≡ true) → list_all q p.interfaces.entries ≡ true
+  each_interface : (q : String Global × InterfaceId → Bool) → ((e : String Global × InterfaceId) → is_interface_of r n (text_of e.0, e.1.0) ≡ true → q e ≡ true)
+      → list_all q p.interfaces.entries ≡ true
   each_interface q one = all_two (λ e. is_interface_of r n (text_of e.0, e.1.0)) (λ e. is_interface_of r n (text_of e.0, e.1.0)) q (λ e a b. one e a) p.interfaces.entries own own
     where
       own : list_all (λ e. is_interface_of r n (text_of e.0, e.1.0)) p.interfaces.entries ≡ true
@@ -113,15 +122,19 @@ module _ (r : Resolve) (n : ℕ) (p : Package) (stand : list_all (is_interface_o
   pub ranges_hold : (list_all (λ id. in_list r.interfaces.items id.0) (values p.interfaces) && list_all (λ id. in_list r.worlds.items id.0) (values p.worlds)) ≡ true
   ranges_hold =
       both _ _
-      (list_all-map (λ (id : InterfaceId). in_list r.interfaces.items id.0) (λ e. e.1) p.interfaces.entries ∙ each_interface (λ e. in_list r.interfaces.items e.1.0) (λ e h. let i = found_option _ (interface_at r e.1.0) h in lt-ltb _ _ (slice_get_within r.interfaces.items e.1.0 i.0 i.1)))
-      (list_all-map (λ (id : WorldId). in_list r.worlds.items id.0) (λ e. e.1) p.worlds.entries ∙ each_world (λ e. in_list r.worlds.items e.1.0) (λ e h. let w = found_option _ (world_at r e.1.0) h in lt-ltb _ _ (slice_get_within r.worlds.items e.1.0 w.0 w.1)))
+      (list_all-map (λ (id : InterfaceId). in_list r.interfaces.items id.0) (λ e. e.1) p.interfaces.entries ∙ each_interface (λ e. in_list r.interfaces.items e.1.0)
+      (λ e h. let i = found_option _ (interface_at r e.1.0) h in lt-ltb _ _ (slice_get_within r.interfaces.items e.1.0 i.0 i.1)))
+      (list_all-map (λ (id : WorldId). in_list r.worlds.items id.0) (λ e. e.1) p.worlds.entries ∙ each_world (λ e. in_list r.worlds.items e.1.0)
+      (λ e h. let w = found_option _ (world_at r e.1.0) h in lt-ltb _ _ (slice_get_within r.worlds.items e.1.0 w.0 w.1)))
 
   pub names_hold : names_in_packages.package_ r n p ≡ true
   unfolding names_in_packages
   names_hold =
       both _ _
-      (each_interface (λ e. passes (λ i. text_is i.name (text_of e.0)) (interface_at r e.1.0)) (λ e h. let i = found_option _ (interface_at r e.1.0) h in ap (passes (λ i. text_is i.name (text_of e.0))) i.1 ∙ first_true _ _ i.2))
-      (each_world (λ e. passes (λ w. text_eq (text_of w.name) (text_of e.0)) (world_at r e.1.0)) (λ e h. let w = found_option _ (world_at r e.1.0) h in ap (passes (λ w. text_eq (text_of w.name) (text_of e.0))) w.1 ∙ first_true _ _ w.2))
+      (each_interface (λ e. passes (λ i. text_is i.name (text_of e.0)) (interface_at r e.1.0))
+      (λ e h. let i = found_option _ (interface_at r e.1.0) h in ap (passes (λ i. text_is i.name (text_of e.0))) i.1 ∙ first_true _ _ i.2))
+      (each_world (λ e. passes (λ w. text_eq (text_of w.name) (text_of e.0)) (world_at r e.1.0))
+      (λ e h. let w = found_option _ (world_at r e.1.0) h in ap (passes (λ w. text_eq (text_of w.name) (text_of e.0))) w.1 ∙ first_true _ _ w.2))
 
   belongs : (name : Option (String Global)) (t : Text) (b : Bool) → text_is name t ≡ true → b ≡ true → passes (λ s. b && text_eq (text_of s) t) name ≡ true
   belongs None t b h k = refl
@@ -131,10 +144,16 @@ module _ (r : Resolve) (n : ℕ) (p : Package) (stand : list_all (is_interface_o
   unfolding places
   places_hold =
       both _ _
-      (each_interface (interface_belongs r n) (λ e h. let i = found_option _ (interface_at r e.1.0) h in ap (passes (λ i. passes (λ name. is_id n (package_number i.«package») && text_eq (text_of name) (text_of e.0)) i.name)) i.1 ∙ belongs i.0.name (text_of e.0) (is_id n (package_number i.0.«package»)) (first_true _ _ i.2) (second_true (text_is i.0.name (text_of e.0)) _ i.2)))
+      (each_interface (interface_belongs r n) (λ e h. let i = found_option _ (interface_at r e.1.0) h in
+      ap (passes (λ i. passes (λ name. is_id n (package_number i.«package») && text_eq (text_of name) (text_of e.0)) i.name)) i.1 ∙ belongs i.0.name (text_of e.0)
+      (is_id n (package_number i.0.«package»)) (first_true _ _ i.2) (second_true (text_is i.0.name (text_of e.0)) _ i.2)))
       (both _ _
-      (each_world (world_belongs r n) (λ e h. let w = found_option _ (world_at r e.1.0) h in ap (passes (λ w. is_id n (package_number w.«package») && text_eq (text_of w.name) (text_of e.0))) w.1 ∙ both _ _ (second_true (text_eq (text_of w.0.name) (text_of e.0)) _ w.2) (first_true _ _ w.2)))
-      (each_interface (λ e. not (is_world_name p (text_of e.0)) || names_itself r e) (λ e h. let i = found_option _ (interface_at r e.1.0) h in or_right (not (is_world_name p (text_of e.0))) (names_itself r e) (ap (λ o. option_map_or (λ i. text_is i.name (text_of e.0)) o false) i.1 ∙ first_true _ _ i.2))))
+      (each_world (world_belongs r n) (λ e h. let w = found_option _ (world_at r e.1.0) h in
+      ap (passes (λ w. is_id n (package_number w.«package») && text_eq (text_of w.name) (text_of e.0))) w.1 ∙ both _ _ (second_true (text_eq (text_of w.0.name) (text_of e.0)) _ w.2)
+      (first_true _ _ w.2)))
+      (each_interface (λ e. not (is_world_name p (text_of e.0)) || names_itself r e)
+      (λ e h. let i = found_option _ (interface_at r e.1.0) h in or_right (not (is_world_name p (text_of e.0))) (names_itself r e)
+      (ap (λ o. option_map_or (λ i. text_is i.name (text_of e.0)) o false) i.1 ∙ first_true _ _ i.2))))
 
 -- ---- in what was merged
 
@@ -156,26 +175,31 @@ module _ (own other merged : Resolve) (bound other_bound : ℕ) (first second : 
           ∙ ((λ i. text_eq (text_of (is.bound_name i)) e.0 && is_id n (package_number (is.bound_package i)))
           ∙ ((λ i. text_eq (text_of (old i).name) e.0 && is_id n (package_number (old i).«package»)) ∙ w.2))
 
-  copied_interface : (n : ℕ) (name : Text) (m : ℕ) → first.copies_interface m ≡ true → is_interface_of other n (name, m) ≡ true → is_interface_of merged (first.packages n) (name, first.interfaces m) ≡ true
+  copied_interface : (n : ℕ) (name : Text) (m : ℕ) → first.copies_interface m ≡ true → is_interface_of other n (name, m) ≡ true
+      → is_interface_of merged (first.packages n) (name, first.interfaces m) ≡ true
   copied_interface n name m c h =
       let i = is.first_copies.carried.interfaces m (is.first_copies.carried.copied_interfaces m c) in
-      let old : (text_is i.old.name name && is_id n (package_number i.old.«package»)) ≡ true = sym (ap (λ o. option_map_or (λ i. text_is i.name name && is_id n (package_number i.«package»)) o false) i.found) ∙ h in
+      let old : (text_is i.old.name name && is_id n (package_number i.old.«package»)) ≡ true =
+      sym (ap (λ o. option_map_or (λ i. text_is i.name name && is_id n (package_number i.«package»)) o false) i.found) ∙ h in
       ap (λ o. option_map_or (λ i. text_is i.name name && is_id (first.packages n) (package_number i.«package»)) o false) i.at_image
       ∙ both _ _ (text_alike i.image.name i.old.name name i.name ∙ first_true _ _ old)
-      (ap (is_id (first.packages n)) (i.in_package (named_too i.old.name name (first_true _ _ old))) ∙ id_under first.packages n (package_number i.old.«package») (second_true (text_is i.old.name name) _ old))
+      (ap (is_id (first.packages n)) (i.in_package (named_too i.old.name name (first_true _ _ old))) ∙ id_under first.packages n (package_number i.old.«package»)
+      (second_true (text_is i.old.name name) _ old))
 
   copied_world : (n : ℕ) (name : Text) (m : ℕ) → first.carries_world m ≡ true → is_world_of other n (name, m) ≡ true → is_world_of merged (first.packages n) (name, first.worlds m) ≡ true
   copied_world n name m c h =
       let w = is.first_worlds m c in
       let j = w.joined in
-      let old : (text_eq (text_of j.old.name) name && is_id n (package_number j.old.«package»)) ≡ true = sym (ap (λ o. option_map_or (λ w. text_eq (text_of w.name) name && is_id n (package_number w.«package»)) o false) j.found) ∙ h in
+      let old : (text_eq (text_of j.old.name) name && is_id n (package_number j.old.«package»)) ≡ true =
+      sym (ap (λ o. option_map_or (λ w. text_eq (text_of w.name) name && is_id n (package_number w.«package»)) o false) j.found) ∙ h in
       ap (λ o. option_map_or (λ w. text_eq (text_of w.name) name && is_id (first.packages n) (package_number w.«package»)) o false) j.at_image
       ∙ both _ _ (ap (λ t. text_eq t name) w.name ∙ first_true _ _ old)
       (ap (is_id (first.packages n)) w.in_package ∙ id_under first.packages n (package_number j.old.«package») (second_true (text_eq (text_of j.old.name) name) _ old))
 
   own_stand : (n : ℕ) (p : Package) → package_at own n ≡ Some p → (list_all (is_interface_of merged n) (interface_names p) ≡ true) × (list_all (is_world_of merged n) (world_names p) ≡ true)
   own_stand n p e = (
-    all_two (is_interface_of own n) (is_interface_of own n) (is_interface_of merged n) (λ x a b. own_interface n x a) (interface_names p) (interfaces_stand own valid_own n p e) (interfaces_stand own valid_own n p e),
+    all_two (is_interface_of own n) (is_interface_of own n) (is_interface_of merged n) (λ x a b. own_interface n x a) (interface_names p) (interfaces_stand own valid_own n p e)
+        (interfaces_stand own valid_own n p e),
     all_two (is_world_of own n) (is_world_of own n) (is_world_of merged n) (λ x a b. own_world n x a) (world_names p) (worlds_stand own valid_own n p e) (worlds_stand own valid_own n p e),
   )
 
@@ -185,13 +209,16 @@ module _ (own other merged : Resolve) (bound other_bound : ℕ) (first second : 
   joined_stand n p e own_interfaces own_worlds j oi ow = (
     ap (list_all (is_interface_of merged (first.packages n))) j.interfaces
         ∙ (list_all-append (is_interface_of merged (first.packages n)) own_interfaces j.new_interfaces
-        ∙ both _ _ oi (names_pass first.interfaces first.copies_interface (λ m. false) own_interfaces (is_interface_of other n) (is_interface_of merged (first.packages n)) (copied_interface n) (interface_names p) j.new_interfaces j.joined_interfaces (interfaces_stand other valid_other n p e))),
+        ∙ both _ _ oi (names_pass first.interfaces first.copies_interface (λ m. false) own_interfaces (is_interface_of other n) (is_interface_of merged (first.packages n)) (copied_interface n)
+        (interface_names p) j.new_interfaces j.joined_interfaces (interfaces_stand other valid_other n p e))),
     ap (list_all (is_world_of merged (first.packages n))) j.worlds
         ∙ (list_all-append (is_world_of merged (first.packages n)) own_worlds j.new_worlds
-        ∙ both _ _ ow (names_pass first.worlds first.carries_world left_out own_worlds (is_world_of other n) (is_world_of merged (first.packages n)) (copied_world n) (world_names p) j.new_worlds j.joined_worlds (worlds_stand other valid_other n p e))),
+        ∙ both _ _ ow (names_pass first.worlds first.carries_world left_out own_worlds (is_world_of other n) (is_world_of merged (first.packages n)) (copied_world n) (world_names p) j.new_worlds
+        j.joined_worlds (worlds_stand other valid_other n p e))),
   )
 
-  stand_of : (n : ℕ) (p : Package) → package_at other n ≡ Some p → PackageStands own merged first left_out n p → (q : Package) × (package_at merged (first.packages n) ≡ Some q) × (list_all (is_interface_of merged (first.packages n)) (interface_names q) ≡ true) × (list_all (is_world_of merged (first.packages n)) (world_names q) ≡ true)
+  stand_of : (n : ℕ) (p : Package) → package_at other n ≡ Some p → PackageStands own merged first left_out n p → (q : Package) × (package_at merged (first.packages n) ≡ Some q)
+      × (list_all (is_interface_of merged (first.packages n)) (interface_names q) ≡ true) × (list_all (is_world_of merged (first.packages n)) (world_names q) ≡ true)
   stand_of n p e (grown o at j a b) = let h = own_stand (first.packages n) o at in let k = joined_stand n p e (interface_names o) (world_names o) j h.0 h.1 in (j.image, j.at_image, k.0, k.1)
   stand_of n p e (brought high j fresh) = let k = joined_stand n p e [] [] j refl refl in (j.image, j.at_image, k.0, k.1)
 

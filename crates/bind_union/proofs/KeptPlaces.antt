@@ -65,7 +65,9 @@ interface_place r n i = λ j. some i.«package» j && by_name i.name j
     some None = refl
     some (Some p) = refl
 
-    by_name : (name : Option (String Global)) → option_map_or (λ x. listed_by r n (text_of x) (package_number i.«package»)) name (inline_by r n (package_number i.«package»)) ≡ option_map_or (λ t. listed_by r n t (package_number i.«package»)) (optional_text name) (inline_by r n (package_number i.«package»))
+    by_name : (name : Option (String Global))
+        → option_map_or (λ x. listed_by r n (text_of x) (package_number i.«package»)) name (inline_by r n (package_number i.«package»)) ≡ option_map_or
+        (λ t. listed_by r n t (package_number i.«package»)) (optional_text name) (inline_by r n (package_number i.«package»))
     by_name None = refl
     by_name (Some x) = refl
 
@@ -98,7 +100,8 @@ no_text None e = refl
 no_text (Some x) e = let wrong : Some (text_of x) ≡ None = e in absurd cc
 
 -- where it is shown once, and nowhere else, in a world of its package, the rule is kept
-inline_holds : (s : Resolve) (t : ℕ) (p : Option ℕ) (k : ℕ) (w : World) → world_at s k ≡ Some w → times_shown t w ≡ 1 → package_number w.«package» ≡ p → ((m : ℕ) (y : World) → world_at s m ≡ Some y → (m == k) ≡ false → times_shown t y ≡ 0) → inline_by s t p ≡ true
+inline_holds : (s : Resolve) (t : ℕ) (p : Option ℕ) (k : ℕ) (w : World) → world_at s k ≡ Some w → times_shown t w ≡ 1 → package_number w.«package» ≡ p
+    → ((m : ℕ) (y : World) → world_at s m ≡ Some y → (m == k) ≡ false → times_shown t y ≡ 0) → inline_by s t p ≡ true
 inline_holds s t p k w at one same others =
     both _ _ (ap (λ n. n == 1) (one_sums (times_shown t) s.worlds.items k w at one others))
     (all_by_get (λ y. (times_shown t y == 0) || option_eq ◌==◌ (package_number y.«package») p) s.worlds.items (λ m y e. each m y e (m == k) refl))
@@ -110,7 +113,8 @@ inline_holds s t p k w at one same others =
         or_right (times_shown t y == 0) _ (ap (λ q. option_eq ◌==◌ q p) (ap (λ x. package_number x.«package») (sym w_is) ∙ same) ∙ option_itself p)
 
 -- the world that shows an inline interface, and that no other does
-inline_found : (r : Resolve) (n : ℕ) (p : Option ℕ) → inline_by r n p ≡ true → (k : ℕ) × (w : World) × (world_at r k ≡ Some w) × (times_shown n w ≡ 1) × (package_number w.«package» ≡ p) × ((m : ℕ) (y : World) → world_at r m ≡ Some y → (m == k) ≡ false → times_shown n y ≡ 0)
+inline_found : (r : Resolve) (n : ℕ) (p : Option ℕ) → inline_by r n p ≡ true → (k : ℕ) × (w : World) × (world_at r k ≡ Some w) × (times_shown n w ≡ 1) × (package_number w.«package» ≡ p)
+    × ((m : ℕ) (y : World) → world_at r m ≡ Some y → (m == k) ≡ false → times_shown n y ≡ 0)
 inline_found r n p h =
     let one = one_of_sum (times_shown n) r.worlds.items (equal (sum_by (times_shown n) r.worlds.items) 1 (first_true _ _ h)) in
     let all = second_true (sum_by (times_shown n) r.worlds.items == 1) _ h in
@@ -188,7 +192,8 @@ module _ (own other merged : Resolve) (bound other_bound : ℕ) (first second : 
       ap (λ o. option_map_or (λ x. interface_is_listed n t x && not (is_world_name x t)) o true) q.1
       ∙ both _ _
       (ap (is_id n) (interfaces_by_name q.0 t ∙ ap (under t) g.interfaces) ∙ still_found t n (interface_names p) g.more_interfaces found)
-      (ap not (world_name_listed q.0 t ∙ (ap (is_name t) g.worlds ∙ (name_append t (world_names p) g.more_worlds ∙ ap (λ b. is_name t (world_names p) || b) (g.apart t (found_name t n (interface_names p) found)))))
+      (ap not (world_name_listed q.0 t ∙ (ap (is_name t) g.worlds ∙ (name_append t (world_names p) g.more_worlds ∙ ap (λ b. is_name t (world_names p) || b)
+      (g.apart t (found_name t n (interface_names p) found)))))
       ∙ (ap not (or_none (is_name t (world_names p)) ∙ sym (world_name_listed p t)) ∙ second_true (interface_is_listed n t p) _ old))
     where
       or_none : (b : Bool) → (b || false) ≡ b
@@ -216,7 +221,8 @@ module _ (own other merged : Resolve) (bound other_bound : ℕ) (first second : 
       let w = found_option _ (world_at own n) (all-contained (is_world_of own k) (world_names p) (t, n) (worlds_stand own valid_own k p e) c) in
       slice_get_within own.worlds.items n w.0 w.1
 
-  copy_listed : (m : ℕ) (copy : first.copies_interface m ≡ true) (t : Text) (k : ℕ) (p : Package) → package_at other k ≡ Some p → listed_by other m t (Some k) ≡ true → listed_by merged (first.interfaces m) t (Some (first.packages k)) ≡ true
+  copy_listed : (m : ℕ) (copy : first.copies_interface m ≡ true) (t : Text) (k : ℕ) (p : Package) → package_at other k ≡ Some p → listed_by other m t (Some k) ≡ true
+      → listed_by merged (first.interfaces m) t (Some (first.packages k)) ≡ true
   copy_listed m copy t k p e h = stands (is.packages_stand k p e)
     where
       old : (interface_is_listed m t p && not (is_world_name p t)) ≡ true
@@ -232,13 +238,15 @@ module _ (own other merged : Resolve) (bound other_bound : ℕ) (first second : 
           go true k = no_true k
           go false k = refl
 
-      by : (own_interfaces own_worlds : List (Text × ℕ)) → ((x : Text) → Contains own_interfaces (x, first.interfaces m) → ⊥) → is_name t own_worlds ≡ false → IsJoinedPackage merged first left_out k p own_interfaces own_worlds → listed_by merged (first.interfaces m) t (Some (first.packages k)) ≡ true
+      by : (own_interfaces own_worlds : List (Text × ℕ)) → ((x : Text) → Contains own_interfaces (x, first.interfaces m) → ⊥) → is_name t own_worlds ≡ false
+          → IsJoinedPackage merged first left_out k p own_interfaces own_worlds → listed_by merged (first.interfaces m) t (Some (first.packages k)) ≡ true
       by own_interfaces own_worlds fresh apart j =
           let there = copy_found first.interfaces first.copies_interface (λ x. false) own_interfaces (interface_names p) j.new_interfaces j.joined_interfaces t m fresh refl found in
           ap (λ o. option_map_or (λ x. interface_is_listed (first.interfaces m) t x && not (is_world_name x t)) o true) j.at_image
           ∙ both _ _
           (ap (is_id (first.interfaces m)) (interfaces_by_name j.image t ∙ ap (under t) j.interfaces) ∙ found_behind t (first.interfaces m) own_interfaces j.new_interfaces there.0 there.1)
-          (ap not (world_name_listed j.image t ∙ (ap (is_name t) j.worlds ∙ (name_append t own_worlds j.new_worlds ∙ ((λ i. apart i || is_name t j.new_worlds) ∙ none_new (is_name t j.new_worlds) refl)))))
+          (ap not (world_name_listed j.image t ∙ (ap (is_name t) j.worlds ∙ (name_append t own_worlds j.new_worlds
+          ∙ ((λ i. apart i || is_name t j.new_worlds) ∙ none_new (is_name t j.new_worlds) refl)))))
         where
           none_new : (b : Bool) → is_name t j.new_worlds ≡ b → is_name t j.new_worlds ≡ false
           none_new false e = e
@@ -247,23 +255,27 @@ module _ (own other merged : Resolve) (bound other_bound : ℕ) (first second : 
               no_true (sym no_world ∙ (ap (λ x. is_name x (world_names p)) (text-same t a.0 a.4) ∙ listed_name a.0 a.1 (world_names p) a.2))
 
       stands : PackageStands own merged first left_out k p → listed_by merged (first.interfaces m) t (Some (first.packages k)) ≡ true
-      stands (grown o d j a b) = by (interface_names o) (world_names o) (λ x c. let low = own_interface_low (first.packages k) o d x (first.interfaces m) c in let high = is.first_copies.new_interfaces m copy in absurd (omega (arith, low, high))) (a t (found_name t m (interface_names p) found)) j
+      stands (grown o d j a b) = by (interface_names o) (world_names o) (λ x c. let low = own_interface_low (first.packages k) o d x (first.interfaces m) c in let high =
+          is.first_copies.new_interfaces m copy in absurd (omega (arith, low, high))) (a t (found_name t m (interface_names p) found)) j
       stands (brought high j fresh) = by [] [] (λ x c. none-in (x, first.interfaces m) c) refl j
 
-  copy_world_listed : (m : ℕ) (c : first.carries_world m ≡ true) (t : Text) (k : ℕ) (p : Package) → package_at other k ≡ Some p → world_by other m t (Some k) ≡ true → world_by merged (first.worlds m) t (Some (first.packages k)) ≡ true
+  copy_world_listed : (m : ℕ) (c : first.carries_world m ≡ true) (t : Text) (k : ℕ) (p : Package) → package_at other k ≡ Some p → world_by other m t (Some k) ≡ true
+      → world_by merged (first.worlds m) t (Some (first.packages k)) ≡ true
   copy_world_listed m c t k p e h = stands (is.packages_stand k p e)
     where
       found : is_id m (under t (world_names p)) ≡ true
       found = sym (ap (is_id m) (worlds_by_name p t)) ∙ (sym (ap (λ o. option_map_or (world_is_listed m t) o true) e) ∙ h)
 
-      by : (own_interfaces own_worlds : List (Text × ℕ)) → ((x : Text) → Contains own_worlds (x, first.worlds m) → ⊥) → IsJoinedPackage merged first left_out k p own_interfaces own_worlds → world_by merged (first.worlds m) t (Some (first.packages k)) ≡ true
+      by : (own_interfaces own_worlds : List (Text × ℕ)) → ((x : Text) → Contains own_worlds (x, first.worlds m) → ⊥) → IsJoinedPackage merged first left_out k p own_interfaces own_worlds
+          → world_by merged (first.worlds m) t (Some (first.packages k)) ≡ true
       by own_interfaces own_worlds fresh j =
           let there = copy_found first.worlds first.carries_world left_out own_worlds (world_names p) j.new_worlds j.joined_worlds t m fresh (is.not_left_out m c) found in
           ap (λ o. option_map_or (world_is_listed (first.worlds m) t) o true) j.at_image
           ∙ (ap (is_id (first.worlds m)) (worlds_by_name j.image t ∙ ap (under t) j.worlds) ∙ found_behind t (first.worlds m) own_worlds j.new_worlds there.0 there.1)
 
       stands : PackageStands own merged first left_out k p → world_by merged (first.worlds m) t (Some (first.packages k)) ≡ true
-      stands (grown o d j a b) = by (interface_names o) (world_names o) (λ x y. let low = own_world_low (first.packages k) o d x (first.worlds m) y in let high = is.new_worlds m c in absurd (omega (arith, low, high))) j
+      stands (grown o d j a b) = by (interface_names o) (world_names o) (λ x y. let low = own_world_low (first.packages k) o d x (first.worlds m) y in let high = is.new_worlds m c in
+          absurd (omega (arith, low, high))) j
       stands (brought high j fresh) = by [] [] (λ x y. none-in (x, first.worlds m) y) j
 
   -- ---- worlds
@@ -283,7 +295,8 @@ module _ (own other merged : Resolve) (bound other_bound : ℕ) (first second : 
       let w = is.first_worlds m c in
       let j = w.joined in
       let old : world_by other m (text_of j.old.name) (package_number j.old.«package») ≡ true = sym (world_place other m j.old) ∙ world-passes places other valid_other.places m j.old j.found in
-      let k = the_package other (package_number j.old.«package») (world_package own other merged bound other_bound first second left_out valid_own valid_other is other valid_other m j.old j.found) (first_true _ _ old) in
+      let k = the_package other (package_number j.old.«package») (world_package own other merged bound other_bound first second left_out valid_own valid_other is other valid_other m j.old j.found)
+      (first_true _ _ old) in
       world_place merged (first.worlds m) j.image
       ∙ ((λ i. world_by merged (first.worlds m) (w.name i) ((w.in_package ∙ ap (option_map first.packages) k.1) i))
       ∙ copy_world_listed m c (text_of j.old.name) k.0 k.2 k.3 (sym (ap (world_by other m (text_of j.old.name)) k.1) ∙ old))
@@ -298,29 +311,34 @@ module _ (own other merged : Resolve) (bound other_bound : ℕ) (first second : 
 
   -- each world is an own one, the bound one or a copy
   pub world_case : (k : ℕ) (y : World) → world_at merged k ≡ Some y
-      → ((world_at own k ≡ Some y) × ((k == bound) ≡ false)) ⊎ (((k ≡ bound) × (is.joined.image ≡ y)) ⊎ ((m : ℕ) × (c : first.carries_world m ≡ true) × (first.worlds m ≡ k) × ((is.first_worlds m c).joined.image ≡ y)))
+      → ((world_at own k ≡ Some y) × ((k == bound) ≡ false)) ⊎ (((k ≡ bound) × (is.joined.image ≡ y))
+      ⊎ ((m : ℕ) × (c : first.carries_world m ≡ true) × (first.worlds m ≡ k) × ((is.first_worlds m c).joined.image ≡ y)))
   world_case k y e = elim (low_or_high k (length own.worlds.items)) [
     | inl low ↦ own_one (k == bound) refl (found-in own.worlds.items k (lt-ltb k (length own.worlds.items) low))
     | inr high ↦ copied (is.world_from k high (slice_get_within merged.worlds.items k y e))
   ]
     where
       own_one : (b : Bool) → (k == bound) ≡ b → (x : World) × (world_at own k ≡ Some x)
-          → ((world_at own k ≡ Some y) × ((k == bound) ≡ false)) ⊎ (((k ≡ bound) × (is.joined.image ≡ y)) ⊎ ((m : ℕ) × (c : first.carries_world m ≡ true) × (first.worlds m ≡ k) × ((is.first_worlds m c).joined.image ≡ y)))
+          → ((world_at own k ≡ Some y) × ((k == bound) ≡ false)) ⊎ (((k ≡ bound) × (is.joined.image ≡ y))
+          ⊎ ((m : ℕ) × (c : first.carries_world m ≡ true) × (first.worlds m ≡ k) × ((is.first_worlds m c).joined.image ≡ y)))
       own_one false apart x = inl (x.1 ∙ ap Some (same-some x.0 y (sym (is.worlds k x.0 x.1 apart) ∙ e)), apart)
       own_one true same x = let here = equal k bound same in inr (inl (here, same-some is.joined.image y (sym is.joined.at_image ∙ (ap (world_at merged) (is.bound_there ∙ sym here) ∙ e))))
 
       copied : IsCopyUnder first.worlds first.carries_world k
-          → ((world_at own k ≡ Some y) × ((k == bound) ≡ false)) ⊎ (((k ≡ bound) × (is.joined.image ≡ y)) ⊎ ((m : ℕ) × (c : first.carries_world m ≡ true) × (first.worlds m ≡ k) × ((is.first_worlds m c).joined.image ≡ y)))
+          → ((world_at own k ≡ Some y) × ((k == bound) ≡ false)) ⊎ (((k ≡ bound) × (is.joined.image ≡ y))
+          ⊎ ((m : ℕ) × (c : first.carries_world m ≡ true) × (first.worlds m ≡ k) × ((is.first_worlds m c).joined.image ≡ y)))
       copied c = let j = (is.first_worlds c.0 c.1).joined in inr (inr (c.0, c.1, c.2, same-some j.image y (sym j.at_image ∙ (ap (world_at merged) c.2 ∙ e))))
 
   -- an inline interface that is shown anew is a copy
-  shown_copy : (f : Renumbering) → AreCopies own other merged f → (a : ℕ) → f.carries_interface a ≡ true → (v : Interface) → interface_at merged (f.interfaces a) ≡ Some v → v.name ≡ None → f.copies_interface a ≡ true
+  shown_copy : (f : Renumbering) → AreCopies own other merged f → (a : ℕ) → f.carries_interface a ≡ true → (v : Interface) → interface_at merged (f.interfaces a) ≡ Some v → v.name ≡ None
+      → f.copies_interface a ≡ true
   shown_copy f copies a c v e inline =
       let i = copies.carried.interfaces a c in
       let same : i.image ≡ v = same-some i.image v (sym i.at_image ∙ e) in
       copies.inline_copied a i.old c i.found (no_text i.old.name (sym i.name ∙ (ap (λ x. optional_text x.name) same ∙ some_text v.name inline)))
 
-  not_among : (f : Renumbering) → AreCopies own other merged f → (own_part olds news : List (WorldKey × WorldItem)) → Joined f own_part olds news → (t : ℕ) (v : Interface) → interface_at merged t ≡ Some v → v.name ≡ None
+  not_among : (f : Renumbering) → AreCopies own other merged f → (own_part olds news : List (WorldKey × WorldItem)) → Joined f own_part olds news → (t : ℕ) (v : Interface)
+      → interface_at merged t ≡ Some v → v.name ≡ None
       → ((a : ℕ) → f.copies_interface a ≡ true → f.interfaces a ≡ t → ⊥) → shown t news ≡ 0
   not_among f copies own_part olds news j t v e inline none_such = not_shown t news (go (has (filter_map item_interface (items news)) t) refl)
     where
@@ -330,7 +348,8 @@ module _ (own other merged : Resolve) (bound other_bound : ℕ) (first second : 
           let r = shown_from f own_part olds news j t k in
           absurd (none_such r.0 (shown_copy f copies r.0 r.1 v (ap (interface_at merged) r.2 ∙ e) inline) r.2)
 
-  joined_times : (f : Renumbering) (n : ℕ) (oi oe : List (WorldKey × WorldItem)) (j : IsJoined other merged f n oi oe) (t : ℕ) → times_shown t j.image ≡ (shown t oi + shown t j.new_imports) + (shown t oe + shown t j.new_exports)
+  joined_times : (f : Renumbering) (n : ℕ) (oi oe : List (WorldKey × WorldItem)) (j : IsJoined other merged f n oi oe) (t : ℕ)
+      → times_shown t j.image ≡ (shown t oi + shown t j.new_imports) + (shown t oe + shown t j.new_exports)
   joined_times f n oi oe j t =
       times_are t j.image
       ∙ (λ i. (ap (shown t) j.imports ∙ shown_append t oi j.new_imports) i + (ap (shown t) j.exports ∙ shown_append t oe j.new_exports) i)
@@ -342,7 +361,8 @@ module _ (own other merged : Resolve) (bound other_bound : ℕ) (first second : 
   oe = is.own_bound.exports.entries
 
   -- in the bound world
-  bound_times : (t : ℕ) (v : Interface) → interface_at merged t ≡ Some v → v.name ≡ None → ((a : ℕ) → second.copies_interface a ≡ true → second.interfaces a ≡ t → ⊥) → times_shown t is.joined.image ≡ times_shown t is.own_bound
+  bound_times : (t : ℕ) (v : Interface) → interface_at merged t ≡ Some v → v.name ≡ None → ((a : ℕ) → second.copies_interface a ≡ true → second.interfaces a ≡ t → ⊥)
+      → times_shown t is.joined.image ≡ times_shown t is.own_bound
   bound_times t v e inline none_such =
       let whole = joined_times second other_bound oi oe is.joined t in
       let own_times = times_are t is.own_bound in
@@ -351,7 +371,8 @@ module _ (own other merged : Resolve) (bound other_bound : ℕ) (first second : 
       omega (arith, whole, own_times, a, b)
 
   -- in a copy
-  copy_times : (m : ℕ) (c : first.carries_world m ≡ true) (t : ℕ) (v : Interface) → interface_at merged t ≡ Some v → v.name ≡ None → ((a : ℕ) → first.copies_interface a ≡ true → first.interfaces a ≡ t → ⊥) → times_shown t (is.first_worlds m c).joined.image ≡ 0
+  copy_times : (m : ℕ) (c : first.carries_world m ≡ true) (t : ℕ) (v : Interface) → interface_at merged t ≡ Some v → v.name ≡ None
+      → ((a : ℕ) → first.copies_interface a ≡ true → first.interfaces a ≡ t → ⊥) → times_shown t (is.first_worlds m c).joined.image ≡ 0
   copy_times m c t v e inline none_such =
       let j = (is.first_worlds m c).joined in
       let whole = joined_times first m [] [] j t in
@@ -371,9 +392,11 @@ module _ (own other merged : Resolve) (bound other_bound : ℕ) (first second : 
 
   -- what is shown is among the items
   among : (n : ℕ) (w : World) → times_shown n w ≡ 1 → has (filter_map item_interface (items_of w)) n ≡ true
-  among n w one = numbers_append item_interface (items w.imports.entries) (items w.exports.entries) n ∙ go (has (filter_map item_interface (items w.imports.entries)) n) refl (has (filter_map item_interface (items w.exports.entries)) n) refl
+  among n w one = numbers_append item_interface (items w.imports.entries) (items w.exports.entries) n ∙ go (has (filter_map item_interface (items w.imports.entries)) n) refl
+      (has (filter_map item_interface (items w.exports.entries)) n) refl
     where
-      go : (a : Bool) → has (filter_map item_interface (items w.imports.entries)) n ≡ a → (b : Bool) → has (filter_map item_interface (items w.exports.entries)) n ≡ b → (has (filter_map item_interface (items w.imports.entries)) n || has (filter_map item_interface (items w.exports.entries)) n) ≡ true
+      go : (a : Bool) → has (filter_map item_interface (items w.imports.entries)) n ≡ a → (b : Bool) → has (filter_map item_interface (items w.exports.entries)) n ≡ b
+          → (has (filter_map item_interface (items w.imports.entries)) n || has (filter_map item_interface (items w.exports.entries)) n) ≡ true
       go true e b d = or_left _ _ e
       go false e true d = or_right (has (filter_map item_interface (items w.imports.entries)) n) _ d
       go false e false d =
@@ -386,7 +409,8 @@ module _ (own other merged : Resolve) (bound other_bound : ℕ) (first second : 
   own_inline : (n : ℕ) (i : Interface) → interface_at own n ≡ Some i → i.name ≡ None → inline_by own n (package_number i.«package») ≡ true → inline_by merged n (package_number i.«package») ≡ true
   own_inline n i e inline h = go (x.0 == bound) refl
     where
-      x : (k : ℕ) × (w : World) × (world_at own k ≡ Some w) × (times_shown n w ≡ 1) × (package_number w.«package» ≡ package_number i.«package») × ((m : ℕ) (y : World) → world_at own m ≡ Some y → (m == k) ≡ false → times_shown n y ≡ 0)
+      x : (k : ℕ) × (w : World) × (world_at own k ≡ Some w) × (times_shown n w ≡ 1) × (package_number w.«package» ≡ package_number i.«package»)
+          × ((m : ℕ) (y : World) → world_at own m ≡ Some y → (m == k) ≡ false → times_shown n y ≡ 0)
       x = inline_found own n (package_number i.«package») h
 
       there_at : interface_at merged n ≡ Some i
@@ -423,12 +447,14 @@ module _ (own other merged : Resolve) (bound other_bound : ℕ) (first second : 
   image_inline f copies m i inline = no_text i.image.name (i.name ∙ some_text i.old.name inline)
 
   -- those that are copied once
-  first_inline : (m : ℕ) (copy : first.copies_interface m ≡ true) (i : IsInterface other merged first m) → i.old.name ≡ None → inline_by other m (package_number i.old.«package») ≡ true → inline_by merged (first.interfaces m) (option_map first.packages (package_number i.old.«package»)) ≡ true
+  first_inline : (m : ℕ) (copy : first.copies_interface m ≡ true) (i : IsInterface other merged first m) → i.old.name ≡ None → inline_by other m (package_number i.old.«package») ≡ true
+      → inline_by merged (first.interfaces m) (option_map first.packages (package_number i.old.«package»)) ≡ true
   first_inline m copy i inline h =
       inline_holds merged (first.interfaces m) (option_map first.packages (package_number i.old.«package»)) (first.worlds x.0) j.image j.at_image one
       (w.in_package ∙ ap (option_map first.packages) (ap (λ y. package_number y.«package») old_is ∙ x.4)) others
     where
-      x : (k : ℕ) × (w : World) × (world_at other k ≡ Some w) × (times_shown m w ≡ 1) × (package_number w.«package» ≡ package_number i.old.«package») × ((n : ℕ) (y : World) → world_at other n ≡ Some y → (n == k) ≡ false → times_shown m y ≡ 0)
+      x : (k : ℕ) × (w : World) × (world_at other k ≡ Some w) × (times_shown m w ≡ 1) × (package_number w.«package» ≡ package_number i.old.«package»)
+          × ((n : ℕ) (y : World) → world_at other n ≡ Some y → (n == k) ≡ false → times_shown m y ≡ 0)
       x = inline_found other m (package_number i.old.«package») h
 
       c : first.carries_world x.0 ≡ true
@@ -468,7 +494,8 @@ module _ (own other merged : Resolve) (bound other_bound : ℕ) (first second : 
       others k y d apart = elim (world_case k y d) [
         | inl v ↦ past_times k y v.0 (first.interfaces m) high
         | inr v ↦ elim v [
-          | inl b ↦ ap (times_shown (first.interfaces m)) (sym b.1) ∙ (bound_times (first.interfaces m) i.image i.at_image inline_there no_second ∙ past_times bound is.own_bound is.bound_at (first.interfaces m) high)
+          | inl b ↦ ap (times_shown (first.interfaces m)) (sym b.1) ∙ (bound_times (first.interfaces m) i.image i.at_image inline_there no_second ∙ past_times bound is.own_bound is.bound_at
+              (first.interfaces m) high)
           | inr v ↦
               let u = (is.first_worlds v.0 v.1).joined in
               ap (times_shown (first.interfaces m)) (sym v.3) ∙ (same v.0 u ∙ x.5 v.0 u.old u.found (differs v.0 v.2 (v.0 == x.0) refl))
@@ -480,11 +507,14 @@ module _ (own other merged : Resolve) (bound other_bound : ℕ) (first second : 
           differs n to true e = no_true (sym apart ∙ subst (λ (z : ℕ). (z == first.worlds x.0) ≡ true) (ap first.worlds (sym (equal n x.0 e)) ∙ to) (same-number (first.worlds x.0)))
 
   -- those that are copied twice
-  second_inline_holds : (m : ℕ) (copy : second.copies_interface m ≡ true) (i : IsInterface other merged second m) → i.old.name ≡ None → inline_by other m (package_number i.old.«package») ≡ true → inline_by merged (second.interfaces m) (package_number is.own_bound.«package») ≡ true
+  second_inline_holds : (m : ℕ) (copy : second.copies_interface m ≡ true) (i : IsInterface other merged second m) → i.old.name ≡ None → inline_by other m (package_number i.old.«package») ≡ true
+      → inline_by merged (second.interfaces m) (package_number is.own_bound.«package») ≡ true
   second_inline_holds m copy i inline h =
-      inline_holds merged (second.interfaces m) (package_number is.own_bound.«package») bound is.joined.image (ap (world_at merged) (sym is.bound_there) ∙ is.joined.at_image) one (ap package_number is.bound_package) others
+      inline_holds merged (second.interfaces m) (package_number is.own_bound.«package») bound is.joined.image (ap (world_at merged) (sym is.bound_there) ∙ is.joined.at_image) one
+      (ap package_number is.bound_package) others
     where
-      x : (k : ℕ) × (w : World) × (world_at other k ≡ Some w) × (times_shown m w ≡ 1) × (package_number w.«package» ≡ package_number i.old.«package») × ((n : ℕ) (y : World) → world_at other n ≡ Some y → (n == k) ≡ false → times_shown m y ≡ 0)
+      x : (k : ℕ) × (w : World) × (world_at other k ≡ Some w) × (times_shown m w ≡ 1) × (package_number w.«package» ≡ package_number i.old.«package»)
+          × ((n : ℕ) (y : World) → world_at other n ≡ Some y → (n == k) ≡ false → times_shown m y ≡ 0)
       x = inline_found other m (package_number i.old.«package») h
 
       here : x.0 ≡ other_bound
@@ -505,8 +535,10 @@ module _ (own other merged : Resolve) (bound other_bound : ℕ) (first second : 
           let fresh_i = past_not_shown own (second.interfaces m) high oi range.0 in
           let fresh_e = past_not_shown own (second.interfaces m) high oe range.1 in
           let whole = joined_times second other_bound oi oe is.joined (second.interfaces m) in
-          let a = same_times second is.second_copies.carried.interfaces_rise is.second_copies.carried.copied_interfaces m copy oi is.joined.old.imports.entries is.joined.new_imports fresh_i is.joined.joined_imports in
-          let b = same_times second is.second_copies.carried.interfaces_rise is.second_copies.carried.copied_interfaces m copy oe is.joined.old.exports.entries is.joined.new_exports fresh_e is.joined.joined_exports in
+          let a = same_times second is.second_copies.carried.interfaces_rise is.second_copies.carried.copied_interfaces m copy oi is.joined.old.imports.entries is.joined.new_imports fresh_i
+          is.joined.joined_imports in
+          let b = same_times second is.second_copies.carried.interfaces_rise is.second_copies.carried.copied_interfaces m copy oe is.joined.old.exports.entries is.joined.new_exports fresh_e
+          is.joined.joined_exports in
           let c = not_shown (second.interfaces m) oi fresh_i in
           let d = not_shown (second.interfaces m) oe fresh_e in
           let all = times_are m is.joined.old in
@@ -530,22 +562,28 @@ module _ (own other merged : Resolve) (bound other_bound : ℕ) (first second : 
   own_place : (n : ℕ) (i : Interface) → interface_at own n ≡ Some i → places.interface_ merged n i ≡ true
   own_place n i e = interface_place merged n i ∙ go i.name refl (sym (interface_place own n i) ∙ interface-passes places own valid_own.places n i e)
     where
-      go : (name : Option (String Global)) → i.name ≡ name → place_by own n (optional_text i.name) (package_number i.«package») ≡ true → place_by merged n (optional_text i.name) (package_number i.«package») ≡ true
+      go : (name : Option (String Global)) → i.name ≡ name → place_by own n (optional_text i.name) (package_number i.«package») ≡ true
+          → place_by merged n (optional_text i.name) (package_number i.«package») ≡ true
       go None is_none h =
-          let old : (is_some (package_number i.«package») && inline_by own n (package_number i.«package»)) ≡ true = sym (ap (λ x. place_by own n (optional_text x) (package_number i.«package»)) is_none) ∙ h in
+          let old : (is_some (package_number i.«package») && inline_by own n (package_number i.«package»)) ≡ true =
+          sym (ap (λ x. place_by own n (optional_text x) (package_number i.«package»)) is_none) ∙ h in
           ap (λ x. place_by merged n (optional_text x) (package_number i.«package»)) is_none
           ∙ both _ _ (first_true _ _ old) (own_inline n i e is_none (second_true (is_some (package_number i.«package»)) _ old))
       go (Some s) is_named h =
-          let old : (is_some (package_number i.«package») && listed_by own n (text_of s) (package_number i.«package»)) ≡ true = sym (ap (λ x. place_by own n (optional_text x) (package_number i.«package»)) is_named) ∙ h in
-          let k = the_package own (package_number i.«package») (interface_package own other merged bound other_bound first second left_out valid_own valid_other is own valid_own n i e) (first_true _ _ old) in
+          let old : (is_some (package_number i.«package») && listed_by own n (text_of s) (package_number i.«package»)) ≡ true =
+          sym (ap (λ x. place_by own n (optional_text x) (package_number i.«package»)) is_named) ∙ h in
+          let k = the_package own (package_number i.«package») (interface_package own other merged bound other_bound first second left_out valid_own valid_other is own valid_own n i e)
+          (first_true _ _ old) in
           ap (λ x. place_by merged n (optional_text x) (package_number i.«package»)) is_named
-          ∙ both _ _ (first_true _ _ old) (ap (listed_by merged n (text_of s)) k.1 ∙ own_listed n (text_of s) k.0 k.2 k.3 (sym (ap (listed_by own n (text_of s)) k.1) ∙ second_true (is_some (package_number i.«package»)) _ old))
+          ∙ both _ _ (first_true _ _ old) (ap (listed_by merged n (text_of s)) k.1 ∙ own_listed n (text_of s) k.0 k.2 k.3
+          (sym (ap (listed_by own n (text_of s)) k.1) ∙ second_true (is_some (package_number i.«package»)) _ old))
 
   some_mapped : (g : ℕ → ℕ) (p : Option ℕ) → is_some p ≡ true → is_some (option_map g p) ≡ true
   some_mapped g None h = h
   some_mapped g (Some n) h = refl
 
-  first_place : (m : ℕ) (copy : first.copies_interface m ≡ true) → places.interface_ merged (first.interfaces m) (is.first_copies.carried.interfaces m (is.first_copies.carried.copied_interfaces m copy)).image ≡ true
+  first_place : (m : ℕ) (copy : first.copies_interface m ≡ true)
+      → places.interface_ merged (first.interfaces m) (is.first_copies.carried.interfaces m (is.first_copies.carried.copied_interfaces m copy)).image ≡ true
   first_place m copy =
       interface_place merged (first.interfaces m) i.image
       ∙ ((λ j. place_by merged (first.interfaces m) (i.name j) (is.first_packages m (is.first_copies.carried.copied_interfaces m copy) j))
@@ -554,38 +592,47 @@ module _ (own other merged : Resolve) (bound other_bound : ℕ) (first second : 
       i : IsInterface other merged first m
       i = is.first_copies.carried.interfaces m (is.first_copies.carried.copied_interfaces m copy)
 
-      go : (name : Option (String Global)) → i.old.name ≡ name → place_by other m (optional_text i.old.name) (package_number i.old.«package») ≡ true → place_by merged (first.interfaces m) (optional_text i.old.name) (option_map first.packages (package_number i.old.«package»)) ≡ true
+      go : (name : Option (String Global)) → i.old.name ≡ name → place_by other m (optional_text i.old.name) (package_number i.old.«package») ≡ true
+          → place_by merged (first.interfaces m) (optional_text i.old.name) (option_map first.packages (package_number i.old.«package»)) ≡ true
       go None is_none h =
-          let old : (is_some (package_number i.old.«package») && inline_by other m (package_number i.old.«package»)) ≡ true = sym (ap (λ x. place_by other m (optional_text x) (package_number i.old.«package»)) is_none) ∙ h in
+          let old : (is_some (package_number i.old.«package») && inline_by other m (package_number i.old.«package»)) ≡ true =
+          sym (ap (λ x. place_by other m (optional_text x) (package_number i.old.«package»)) is_none) ∙ h in
           ap (λ x. place_by merged (first.interfaces m) (optional_text x) (option_map first.packages (package_number i.old.«package»))) is_none
           ∙ both _ _ (some_mapped first.packages (package_number i.old.«package») (first_true _ _ old)) (first_inline m copy i is_none (second_true (is_some (package_number i.old.«package»)) _ old))
       go (Some s) is_named h =
-          let old : (is_some (package_number i.old.«package») && listed_by other m (text_of s) (package_number i.old.«package»)) ≡ true = sym (ap (λ x. place_by other m (optional_text x) (package_number i.old.«package»)) is_named) ∙ h in
-          let k = the_package other (package_number i.old.«package») (interface_package own other merged bound other_bound first second left_out valid_own valid_other is other valid_other m i.old i.found) (first_true _ _ old) in
+          let old : (is_some (package_number i.old.«package») && listed_by other m (text_of s) (package_number i.old.«package»)) ≡ true =
+          sym (ap (λ x. place_by other m (optional_text x) (package_number i.old.«package»)) is_named) ∙ h in
+          let k = the_package other (package_number i.old.«package») (interface_package own other merged bound other_bound first second left_out valid_own valid_other is other valid_other m i.old
+          i.found) (first_true _ _ old) in
           ap (λ x. place_by merged (first.interfaces m) (optional_text x) (option_map first.packages (package_number i.old.«package»))) is_named
           ∙ both _ _ (some_mapped first.packages (package_number i.old.«package») (first_true _ _ old))
           (ap (λ p. listed_by merged (first.interfaces m) (text_of s) (option_map first.packages p)) k.1
           ∙ copy_listed m copy (text_of s) k.0 k.2 k.3 (sym (ap (listed_by other m (text_of s)) k.1) ∙ second_true (is_some (package_number i.old.«package»)) _ old))
 
-  second_place : (m : ℕ) (copy : second.copies_interface m ≡ true) → places.interface_ merged (second.interfaces m) (is.second_copies.carried.interfaces m (is.second_copies.carried.copied_interfaces m copy)).image ≡ true
+  second_place : (m : ℕ) (copy : second.copies_interface m ≡ true)
+      → places.interface_ merged (second.interfaces m) (is.second_copies.carried.interfaces m (is.second_copies.carried.copied_interfaces m copy)).image ≡ true
   second_place m copy =
       let c = is.second_copies.carried.copied_interfaces m copy in
       let i = is.second_copies.carried.interfaces m c in
       let inline = is.second_inline m i.old copy i.found in
-      let old : (is_some (package_number i.old.«package») && inline_by other m (package_number i.old.«package»)) ≡ true = sym (ap (λ x. place_by other m (optional_text x) (package_number i.old.«package»)) inline) ∙ (sym (interface_place other m i.old) ∙ interface-passes places other valid_other.places m i.old i.found) in
+      let old : (is_some (package_number i.old.«package») && inline_by other m (package_number i.old.«package»)) ≡ true =
+      sym (ap (λ x. place_by other m (optional_text x) (package_number i.old.«package»)) inline)
+      ∙ (sym (interface_place other m i.old) ∙ interface-passes places other valid_other.places m i.old i.found) in
       let has_package : is_some (package_number is.own_bound.«package») ≡ true = first_true _ _ (own_world_place bound is.own_bound is.bound_at) in
       interface_place merged (second.interfaces m) i.image
       ∙ ((λ j. place_by merged (second.interfaces m) ((i.name ∙ some_text i.old.name inline) j) (is.second_package m c copy j))
       ∙ needs has_package (second_inline_holds m copy i inline (second_true (is_some (package_number i.old.«package»)) _ old)))
     where
-      needs : is_some (package_number is.own_bound.«package») ≡ true → inline_by merged (second.interfaces m) (package_number is.own_bound.«package») ≡ true → place_by merged (second.interfaces m) None (package_number is.own_bound.«package») ≡ true
+      needs : is_some (package_number is.own_bound.«package») ≡ true → inline_by merged (second.interfaces m) (package_number is.own_bound.«package») ≡ true
+          → place_by merged (second.interfaces m) None (package_number is.own_bound.«package») ≡ true
       needs a b = both _ _ a b
 
   -- places
   pub places_kept : Keeps places merged
   places_kept =
       kept places merged
-      (each_by_number (places.package_ merged) merged.packages.items (λ n q e. let h = all_stand own other merged bound other_bound first second left_out valid_own valid_other is n q e in places_hold merged n q h.0 h.1))
+      (each_by_number (places.package_ merged) merged.packages.items (λ n q e. let h = all_stand own other merged bound other_bound first second left_out valid_own valid_other is n q e in
+      places_hold merged n q h.0 h.1))
       (each_interface_of_three own other merged bound other_bound first second left_out valid_own valid_other is (places.interface_ merged) own_place first_place second_place)
       (each_world own other merged bound other_bound first second left_out valid_own valid_other is (places.world_ merged)
       (λ n w e apart. world_place merged n w ∙ own_world_place n w e) copy_world_place bound_place)

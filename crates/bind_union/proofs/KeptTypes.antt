@@ -44,7 +44,8 @@ use Rattle.wit_model.proofs.RulesLemmas.{each_by_number}
 use Rattle.wit_model.proofs.ValidLemmas.{type_passes, world_passes as world-passes}
 
 -- numbers that are copied aren't those that were there
-fresh_added : (f : Renumbering) (own : List (WorldKey × WorldItem)) (k : ℕ) → ((m : ℕ) → f.copies_type m ≡ true → k ≤ f.types m) → (n : ℕ) → n < k → (olds news : List (WorldKey × WorldItem)) → Joined f own olds news → has (filter_map item_type (items news)) n ≡ false
+fresh_added : (f : Renumbering) (own : List (WorldKey × WorldItem)) (k : ℕ) → ((m : ℕ) → f.copies_type m ≡ true → k ≤ f.types m) → (n : ℕ) → n < k → (olds news : List (WorldKey × WorldItem))
+    → Joined f own olds news → has (filter_map item_type (items news)) n ≡ false
 fresh_added f own k new n low _ _ none = refl
 fresh_added f own k new n low _ _ (met old there olds news held key stands rest) = fresh_added f own k new n low olds news rest
 fresh_added f own k new n low _ _ (added old (l, j) olds news key z rest) = go old.1 j z.1 (fresh_added f own k new n low olds news rest)
@@ -67,7 +68,8 @@ fresh_added f own k new n low _ _ (added old (l, j) olds news key z rest) = go o
 -- and those that were there aren't copied
 fresh_there : (r : Resolve) (n : ℕ) → length r.types.items ≤ n → (es : List (WorldKey × WorldItem)) → entries_in_range r es ≡ true → has (filter_map item_type (items es)) n ≡ false
 fresh_there r n high [] h = refl
-fresh_there r n high ((k, i) ∷ es) h = go i (second_true (key_in_range r k) _ (first_true (key_in_range r k && item_in_range r i) (entries_in_range r es) h)) (fresh_there r n high es (second_true (key_in_range r k && item_in_range r i) (entries_in_range r es) h))
+fresh_there r n high ((k, i) ∷ es) h = go i (second_true (key_in_range r k) _ (first_true (key_in_range r k && item_in_range r i) (entries_in_range r es) h))
+    (fresh_there r n high es (second_true (key_in_range r k && item_in_range r i) (entries_in_range r es) h))
   where
     apart : (b : ℕ) → b < length r.types.items → (c : Bool) → (b == n) ≡ c → (b == n) ≡ false
     apart b low false e = e
@@ -80,9 +82,11 @@ fresh_there r n high ((k, i) ∷ es) h = go i (second_true (key_in_range r k) _ 
 
 range_types : (r : Resolve) (es : List (WorldKey × WorldItem)) → entries_in_range r es ≡ true → list_all (in_list r.types.items) (filter_map item_type (items es)) ≡ true
 range_types r [] h = refl
-range_types r ((k, i) ∷ es) h = go i (second_true (key_in_range r k) _ (first_true (key_in_range r k && item_in_range r i) (entries_in_range r es) h)) (range_types r es (second_true (key_in_range r k && item_in_range r i) (entries_in_range r es) h))
+range_types r ((k, i) ∷ es) h = go i (second_true (key_in_range r k) _ (first_true (key_in_range r k && item_in_range r i) (entries_in_range r es) h))
+    (range_types r es (second_true (key_in_range r k && item_in_range r i) (entries_in_range r es) h))
   where
-    go : (i : WorldItem) → item_in_range r i ≡ true → list_all (in_list r.types.items) (filter_map item_type (items es)) ≡ true → list_all (in_list r.types.items) (filter_map item_type (i ∷ items es)) ≡ true
+    go : (i : WorldItem) → item_in_range r i ≡ true → list_all (in_list r.types.items) (filter_map item_type (items es)) ≡ true
+        → list_all (in_list r.types.items) (filter_map item_type (i ∷ items es)) ≡ true
     go (item.Type_ b) z e = both _ _ z e
     go (item.Interface b st docs ext) z e = e
     go (item.Function g) z e = e
@@ -105,13 +109,15 @@ module _ (own other merged : Resolve) (bound other_bound : ℕ) (first second : 
   abbrev pub image_of : (c : Source merged) (n : ℕ) → c.under.copies_type n ≡ true → TypeDef
   image_of c n copy = (c.carried.types n (c.carried.copied_types n copy)).image
 
-  by_source : (test : ℕ → TypeDef → Bool) (c : Source merged) (n : ℕ) (def : TypeDef) → type_at merged n ≡ Some def → ((k : ℕ) (copy : c.under.copies_type k ≡ true) → test (c.under.types k) (image_of c k copy) ≡ true) → IsCopyUnder c.under.types c.under.copies_type n → test n def ≡ true
+  by_source : (test : ℕ → TypeDef → Bool) (c : Source merged) (n : ℕ) (def : TypeDef) → type_at merged n ≡ Some def
+      → ((k : ℕ) (copy : c.under.copies_type k ≡ true) → test (c.under.types k) (image_of c k copy) ≡ true) → IsCopyUnder c.under.types c.under.copies_type n → test n def ≡ true
   by_source test c n def e one copy =
       let t = c.carried.types copy.0 (c.carried.copied_types copy.0 copy.1) in
       let here : t.image ≡ def = same-some t.image def (sym t.at_image ∙ (ap (type_at merged) copy.2 ∙ e)) in
       subst (λ (d : TypeDef). test n d ≡ true) here (subst (λ (k : ℕ). test k t.image ≡ true) copy.2 (one copy.0 copy.1))
 
-  pub each_of_three : (test : ℕ → TypeDef → Bool) → ((k : ℕ) (copy : ours.under.copies_type k ≡ true) → test (ours.under.types k) (image_of ours k copy) ≡ true) → ((k : ℕ) (copy : first.copies_type k ≡ true) → test (first.types k) (image_of once k copy) ≡ true)
+  pub each_of_three : (test : ℕ → TypeDef → Bool) → ((k : ℕ) (copy : ours.under.copies_type k ≡ true) → test (ours.under.types k) (image_of ours k copy) ≡ true)
+      → ((k : ℕ) (copy : first.copies_type k ≡ true) → test (first.types k) (image_of once k copy) ≡ true)
       → ((k : ℕ) (copy : second.copies_type k ≡ true) → test (second.types k) (image_of twice k copy) ≡ true) → each_from test 0 merged.types.items ≡ true
   each_of_three test a b c = each_by_number test merged.types.items (λ n def e. elim (low_or_high n (length own.types.items)) [
     | inl low ↦ by_source test ours n def e a (n, lt-ltb n (length own.types.items) low, refl)
@@ -128,7 +134,8 @@ module _ (own other merged : Resolve) (bound other_bound : ℕ) (first second : 
 
   -- a copy is listed as it was, where worlds list it
   copy_listed : (c : Source merged) (n : ℕ) (copy : c.under.copies_type n ≡ true)
-      → ((w : ℕ) → c.under.carries_world w ≡ true → (name : Text) → passes (is_listed_in_world n name) (world_at c.from w) ≡ true → passes (is_listed_in_world (c.under.types n) name) (world_at merged (c.under.worlds w)) ≡ true)
+      → ((w : ℕ) → c.under.carries_world w ≡ true → (name : Text) → passes (is_listed_in_world n name) (world_at c.from w) ≡ true
+      → passes (is_listed_in_world (c.under.types n) name) (world_at merged (c.under.worlds w)) ≡ true)
       → order_of_types.type_ merged (c.under.types n) (image_of c n copy) ≡ true
   unfolding order_of_types
   copy_listed c n copy worlds = both _ _ (copy_refers merged c n copy) (go t.def.name t.image.name t.name (second_true (list_all (λ m. nat_lt m n) (kind_numbers t.def.kind)) _ old))
@@ -161,7 +168,8 @@ module _ (own other merged : Resolve) (bound other_bound : ℕ) (first second : 
   own_imports_range : entries_in_range own is.own_bound.imports.entries ≡ true
   own_imports_range = (world_range own valid_own bound is.own_bound is.bound_at).0
 
-  own_listed : (n : ℕ) → in_list own.types.items n ≡ true → (w : ℕ) → in_list own.worlds.items w ≡ true → (name : Text) → passes (is_listed_in_world n name) (world_at own w) ≡ true → passes (is_listed_in_world n name) (world_at merged w) ≡ true
+  own_listed : (n : ℕ) → in_list own.types.items n ≡ true → (w : ℕ) → in_list own.worlds.items w ≡ true → (name : Text) → passes (is_listed_in_world n name) (world_at own w) ≡ true
+      → passes (is_listed_in_world n name) (world_at merged w) ≡ true
   own_listed n low w c name h = go (found-in own.worlds.items w c) (w == bound) refl
     where
       go : (x : World) × (world_at own w ≡ Some x) → (b : Bool) → (w == bound) ≡ b → passes (is_listed_in_world n name) (world_at merged w) ≡ true
@@ -173,17 +181,21 @@ module _ (own other merged : Resolve) (bound other_bound : ℕ) (first second : 
           ∙ entries (sym (ap (passes (is_listed_in_world n name)) is.bound_at) ∙ old)
         where
           entries : is_listed_in_world n name is.own_bound ≡ true → is_listed_in_world n name is.joined.image ≡ true
-          entries k = subst (λ (es : List (WorldKey × WorldItem)). (is_id n (option_and_then item_type (lookup (is_name_key name) es)) && (count_by (λ m. m == n) (filter_map item_type (items es)) == 1)) ≡ true) (sym is.joined.imports)
+          entries k = subst (λ (es : List (WorldKey × WorldItem)). (is_id n (option_and_then item_type (lookup (is_name_key name) es))
+              && (count_by (λ m. m == n) (filter_map item_type (items es)) == 1)) ≡ true) (sym is.joined.imports)
               (stays_listed own merged ours.under valid_own ours.carried below_s n low name n is.own_bound.imports.entries is.joined.new_imports
-              (fresh_added second is.own_bound.imports.entries (length own.types.items) is.second_copies.new_types n (ltb-true n (length own.types.items) low) is.joined.old.imports.entries is.joined.new_imports is.joined.joined_imports) k)
+              (fresh_added second is.own_bound.imports.entries (length own.types.items) is.second_copies.new_types n (ltb-true n (length own.types.items) low) is.joined.old.imports.entries
+              is.joined.new_imports is.joined.joined_imports) k)
 
-  first_listed : (n : ℕ) → first.copies_type n ≡ true → (w : ℕ) → first.carries_world w ≡ true → (name : Text) → passes (is_listed_in_world n name) (world_at other w) ≡ true → passes (is_listed_in_world (first.types n) name) (world_at merged (first.worlds w)) ≡ true
+  first_listed : (n : ℕ) → first.copies_type n ≡ true → (w : ℕ) → first.carries_world w ≡ true → (name : Text) → passes (is_listed_in_world n name) (world_at other w) ≡ true
+      → passes (is_listed_in_world (first.types n) name) (world_at merged (first.worlds w)) ≡ true
   first_listed n copy w c name h =
       let j = (is.first_worlds w c).joined in
       ap (passes (is_listed_in_world (first.types n) name)) j.at_image
       ∙ listed_in_world other merged first valid_other is.first_copies.carried below_s n copy name w [] [] j refl (sym (ap (passes (is_listed_in_world n name)) j.found) ∙ h)
 
-  second_listed : (n : ℕ) → second.copies_type n ≡ true → (w : ℕ) → second.carries_world w ≡ true → (name : Text) → passes (is_listed_in_world n name) (world_at other w) ≡ true → passes (is_listed_in_world (second.types n) name) (world_at merged (second.worlds w)) ≡ true
+  second_listed : (n : ℕ) → second.copies_type n ≡ true → (w : ℕ) → second.carries_world w ≡ true → (name : Text) → passes (is_listed_in_world n name) (world_at other w) ≡ true
+      → passes (is_listed_in_world (second.types n) name) (world_at merged (second.worlds w)) ≡ true
   second_listed n copy w c name h =
       let here : other_bound ≡ w = sym (is.second_worlds w c) in
       subst (λ (k : ℕ). passes (is_listed_in_world (second.types n) name) (world_at merged (second.worlds k)) ≡ true) here
@@ -207,38 +219,47 @@ module _ (own other merged : Resolve) (bound other_bound : ℕ) (first second : 
       ∙ all_named_of own merged ours.under valid_own ours.carried below_s (as_world bound) own_numbers (range_types own is.own_bound.imports.entries own_imports_range) (first_true _ _ own_types)
 
   all_there : world_type_numbers is.joined.image ≡ filter_map item_type (items is.own_bound.imports.entries ++ items is.joined.new_imports)
-  all_there = ap (λ es. filter_map item_type (items es)) is.joined.imports ∙ ap (filter_map item_type) (map-append (λ (e : WorldKey × WorldItem). e.1) is.own_bound.imports.entries is.joined.new_imports)
+  all_there = ap (λ es. filter_map item_type (items es)) is.joined.imports ∙ ap (filter_map item_type)
+      (map-append (λ (e : WorldKey × WorldItem). e.1) is.own_bound.imports.entries is.joined.new_imports)
 
   own_order : each_after (λ before k. list_all (λ m. not (has (world_type_numbers is.joined.image) m) || has before m) (used_by_number merged k)) [] own_numbers ≡ true
   own_order =
       after_weaker (λ n. n) (in_list own.types.items) (in_list own.types.items) (ours.carried.types_rise) (λ n h. h) (in_list own.types.items)
-      (λ before k. list_all (λ m. not (has own_numbers m) || has before m) (used_by_number own k)) (λ before k. list_all (λ m. not (has (world_type_numbers is.joined.image) m) || has before m) (used_by_number merged k)) one [] own_numbers
+      (λ before k. list_all (λ m. not (has own_numbers m) || has before m) (used_by_number own k))
+      (λ before k. list_all (λ m. not (has (world_type_numbers is.joined.image) m) || has before m) (used_by_number merged k)) one [] own_numbers
       (range_types own is.own_bound.imports.entries own_imports_range) (second_true (list_all (is_named_of own (as_world bound)) own_numbers) _ own_types)
     where
       same_has : (m : ℕ) → in_list own.types.items m ≡ true → has (world_type_numbers is.joined.image) m ≡ has (filter_map item_type (items is.own_bound.imports.entries)) m
       same_has m c =
           ap (λ ns. has ns m) all_there
           ∙ (numbers_append item_type (items is.own_bound.imports.entries) (items is.joined.new_imports) m
-          ∙ (ap (λ b. has (filter_map item_type (items is.own_bound.imports.entries)) m || b) (fresh_added second is.own_bound.imports.entries (length own.types.items) is.second_copies.new_types m (ltb-true m (length own.types.items) c) is.joined.old.imports.entries is.joined.new_imports is.joined.joined_imports)
+          ∙ (ap (λ b. has (filter_map item_type (items is.own_bound.imports.entries)) m || b)
+          (fresh_added second is.own_bound.imports.entries (length own.types.items) is.second_copies.new_types m (ltb-true m (length own.types.items) c) is.joined.old.imports.entries
+          is.joined.new_imports is.joined.joined_imports)
           ∙ or_none (has (filter_map item_type (items is.own_bound.imports.entries)) m)))
         where
           or_none : (b : Bool) → (b || false) ≡ b
           or_none true = refl
           or_none false = refl
 
-      one : (before : List ℕ) (k : ℕ) → in_list own.types.items k ≡ true → list_all (λ m. not (has (filter_map item_type (items is.own_bound.imports.entries)) m) || has before m) (used_by_number own k) ≡ true → list_all (λ m. not (has (world_type_numbers is.joined.image) m) || has before m) (used_by_number merged k) ≡ true
+      one : (before : List ℕ) (k : ℕ) → in_list own.types.items k ≡ true
+          → list_all (λ m. not (has (filter_map item_type (items is.own_bound.imports.entries)) m) || has before m) (used_by_number own k) ≡ true
+          → list_all (λ m. not (has (world_type_numbers is.joined.image) m) || has before m) (used_by_number merged k) ≡ true
       one before k c h =
           let uses = number_uses own merged ours.under valid_own ours.carried below_s k c in
           ap (list_all (λ m. not (has (world_type_numbers is.joined.image) m) || has before m)) (uses.0 ∙ map_same (λ n. n) (λ n. refl) (used_by_number own k))
-          ∙ all_two (in_list own.types.items) (λ m. not (has (filter_map item_type (items is.own_bound.imports.entries)) m) || has before m) (λ m. not (has (world_type_numbers is.joined.image) m) || has before m) (λ m d e. ap (λ b. not b || has before m) (same_has m d) ∙ e) (used_by_number own k) uses.1 h
+          ∙ all_two (in_list own.types.items) (λ m. not (has (filter_map item_type (items is.own_bound.imports.entries)) m) || has before m)
+          (λ m. not (has (world_type_numbers is.joined.image) m) || has before m) (λ m d e. ap (λ b. not b || has before m) (same_has m d) ∙ e) (used_by_number own k) uses.1 h
 
   -- order of types
   pub order_of_types_kept : Keeps order_of_types merged
   unfolding order_of_types
   order_of_types_kept =
       kept order_of_types merged (free_passes merged 0 merged.packages.items)
-      (each_interface own other merged bound other_bound first second left_out valid_own valid_other is (order_of_types.interface_ merged) (λ c n copy. interface_order_passes c.from merged c.under c.valid c.carried below_s n copy))
-      (each_joined own other merged bound other_bound first second left_out valid_own valid_other is (order_of_types.world_ merged) (λ c n j. world_types_pass c.from merged c.under c.valid c.carried below_s n [] [] j refl refl)
+      (each_interface own other merged bound other_bound first second left_out valid_own valid_other is (order_of_types.interface_ merged)
+      (λ c n copy. interface_order_passes c.from merged c.under c.valid c.carried below_s n copy))
+      (each_joined own other merged bound other_bound first second left_out valid_own valid_other is (order_of_types.world_ merged)
+      (λ c n j. world_types_pass c.from merged c.under c.valid c.carried below_s n [] [] j refl refl)
       (subst (λ (k : ℕ). order_of_types.world_ merged k is.joined.image ≡ true) is.bound_there
       (world_types_pass other merged second valid_other is.second_copies.carried below_s other_bound is.own_bound.imports.entries is.own_bound.exports.entries is.joined
       (subst (λ (k : ℕ). list_all (is_named_of merged (as_world k)) own_numbers ≡ true) (sym is.bound_there) own_named) own_order)))

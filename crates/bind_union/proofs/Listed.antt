@@ -50,12 +50,15 @@ found_by_text i name = sym (lookup_of_map (λ t. bytes_eq name t) text_of (λ (i
 
 module _ (r s : Resolve) (f : Renumbering) (valid : KeepsRules r) (is : IsCarried r s f) (below_s : Keeps references s) where
   pub listed_in_interface : (n : ℕ) (copy : f.copies_interface n ≡ true) (m : ℕ) → f.copies_type m ≡ true → (name : Text)
-      → is_listed_in_interface m name (interface_rules.i r s f valid is below_s n copy).old ≡ true → is_listed_in_interface (f.types m) name (interface_rules.i r s f valid is below_s n copy).image ≡ true
+      → is_listed_in_interface m name (interface_rules.i r s f valid is below_s n copy).old ≡ true
+      → is_listed_in_interface (f.types m) name (interface_rules.i r s f valid is below_s n copy).image ≡ true
   listed_in_interface n copy m c name h =
       both _ _
-      (ap (is_id (f.types m)) (found_by_text i.image name ∙ (ap (under_text name) c_types ∙ new_found)) ∙ id_under f.types m (under_text name (map (λ e. (text_of e.0, e.1.0)) i.old.types.entries)) (sym (ap (is_id m) (found_by_text i.old name)) ∙ first_true _ _ h))
+      (ap (is_id (f.types m)) (found_by_text i.image name ∙ (ap (under_text name) c_types ∙ new_found)) ∙ id_under f.types m (under_text name (map (λ e. (text_of e.0, e.1.0)) i.old.types.entries))
+      (sym (ap (is_id m) (found_by_text i.old name)) ∙ first_true _ _ h))
       (ap (λ ns. count_by (λ k. k == f.types m) ns == 1) (type_numbers r s f valid is below_s n copy)
-      ∙ (ap (λ k. k == 1) (count_same f.types f.carries_type f.copies_type is.types_rise is.copied_types (interface_type_numbers i.old) (copies_carried r s f valid is below_s (interface_type_numbers i.old) (interface_rules.all_copies r s f valid is below_s n copy)) m c)
+      ∙ (ap (λ k. k == 1) (count_same f.types f.carries_type f.copies_type is.types_rise is.copied_types (interface_type_numbers i.old)
+      (copies_carried r s f valid is below_s (interface_type_numbers i.old) (interface_rules.all_copies r s f valid is below_s n copy)) m c)
       ∙ second_true (is_id m (option_map (λ id. id.0) (get_by_text i.old.types name))) _ h))
     where
       i : IsInterface r s f n
@@ -80,7 +83,8 @@ pub lookup_append : {K X : Type 0} (test : K → Bool) (xs ys : List (K × X)) �
 lookup_append test [] ys h = refl
 lookup_append test (x ∷ xs) ys h = go (lookup_append test xs ys) (test x.0) h
   where
-    go : (list_any test (keys_of xs) ≡ false → lookup test (xs ++ ys) ≡ lookup test ys) → (b : Bool) → (b || list_any test (keys_of xs)) ≡ false → cond b (Some x.1) (lookup test (xs ++ ys)) ≡ lookup test ys
+    go : (list_any test (keys_of xs) ≡ false → lookup test (xs ++ ys) ≡ lookup test ys) → (b : Bool) → (b || list_any test (keys_of xs)) ≡ false
+        → cond b (Some x.1) (lookup test (xs ++ ys)) ≡ lookup test ys
     go rest true h = no_true (sym h)
     go rest false h = rest h
 
@@ -93,7 +97,8 @@ lookup_first test (x ∷ xs) ys v h = go (lookup_first test xs ys v) (test x.0) 
     go rest false h = rest h
 
 -- a name is no key where it is new
-name_key_new : (f : Renumbering) (name : Text) (k : WorldKey) → is_name_key name k ≡ true → (own : List (WorldKey × WorldItem)) → is_new f own k ≡ true → list_any (is_name_key name) (keys_of own) ≡ false
+name_key_new : (f : Renumbering) (name : Text) (k : WorldKey) → is_name_key name k ≡ true → (own : List (WorldKey × WorldItem)) → is_new f own k ≡ true
+    → list_any (is_name_key name) (keys_of own) ≡ false
 name_key_new f name (key.Interface id) h own new = no_true h
 name_key_new f name (key.Name a) h [] new = refl
 name_key_new f name (key.Name a) h (x ∷ own) new = go x.0 new (name_key_new f name (key.Name a) h own)
@@ -105,7 +110,8 @@ name_key_new f name (key.Name a) h (x ∷ own) new = go x.0 new (name_key_new f 
     rest_new true c e = no_true e
     rest_new false c e = (refl, e)
 
-    go : (l : WorldKey) → not (same_key f (key.Name a) l || list_any (λ (y : WorldKey × WorldItem). same_key f (key.Name a) y.0) own) ≡ true → (is_new f own (key.Name a) ≡ true → list_any (is_name_key name) (keys_of own) ≡ false) → (is_name_key name l || list_any (is_name_key name) (keys_of own)) ≡ false
+    go : (l : WorldKey) → not (same_key f (key.Name a) l || list_any (λ (y : WorldKey × WorldItem). same_key f (key.Name a) y.0) own) ≡ true
+        → (is_new f own (key.Name a) ≡ true → list_any (is_name_key name) (keys_of own) ≡ false) → (is_name_key name l || list_any (is_name_key name) (keys_of own)) ≡ false
     go (key.Interface id) e rest = rest e
     go (key.Name b) e rest =
         let two = rest_new (text_eq (text_of a) (text_of b)) (list_any (λ (y : WorldKey × WorldItem). same_key f (key.Name a) y.0) own) e in
@@ -125,7 +131,9 @@ module _ (r s : Resolve) (f : Renumbering) (valid : KeepsRules r) (is : IsCarrie
 
       go : (b : Bool) → is_id m (item_type i) ≡ b → is_id m (item_type i) ≡ false
       go false e = e
-      go true e = no_true (sym fresh ∙ contains-has (filter_map item_type (items own)) (f.types m) (contains-filter_map item_type (items own) there.1 (f.types m) (contains-map (λ (y : WorldKey × WorldItem). y.1) own there held) (given_contains (item_type there.1) (f.types m) (some (item_type there.1) (type_stands_for f i there.1 stands m e)))))
+      go true e = no_true (sym fresh ∙ contains-has (filter_map item_type (items own)) (f.types m)
+          (contains-filter_map item_type (items own) there.1 (f.types m) (contains-map (λ (y : WorldKey × WorldItem). y.1) own there held)
+          (given_contains (item_type there.1) (f.types m) (some (item_type there.1) (type_stands_for f i there.1 stands m e)))))
 
   same_name_key : (k l : WorldKey) → KeyBecomes f k l → is_name_key name l ≡ is_name_key name k
   same_name_key (key.Name a) (key.Name b) z = ap (λ t. text_eq t name) z
@@ -137,17 +145,22 @@ module _ (r s : Resolve) (f : Renumbering) (valid : KeepsRules r) (is : IsCarrie
   type_image i j z e = type_becomes f i j z m e
 
   -- it is found among what is added, under a new key
-  found_added : (own : List (WorldKey × WorldItem)) → IsFresh own → (olds news : List (WorldKey × WorldItem)) → Joined f own olds news → is_id m (option_and_then item_type (lookup (is_name_key name) olds)) ≡ true
+  found_added : (own : List (WorldKey × WorldItem)) → IsFresh own → (olds news : List (WorldKey × WorldItem)) → Joined f own olds news
+      → is_id m (option_and_then item_type (lookup (is_name_key name) olds)) ≡ true
       → (is_id (f.types m) (option_and_then item_type (lookup (is_name_key name) news)) ≡ true) × (list_any (is_name_key name) (keys_of own) ≡ false)
   found_added own fresh _ _ none h = no_true h
   found_added own fresh _ _ (met old there olds news held k stands rest) h = go (found_added own fresh olds news rest) (is_name_key name old.0) h
     where
-      go : (is_id m (option_and_then item_type (lookup (is_name_key name) olds)) ≡ true → (is_id (f.types m) (option_and_then item_type (lookup (is_name_key name) news)) ≡ true) × (list_any (is_name_key name) (keys_of own) ≡ false)) → (b : Bool) → is_id m (option_and_then item_type (cond b (Some old.1) (lookup (is_name_key name) olds))) ≡ true → (is_id (f.types m) (option_and_then item_type (lookup (is_name_key name) news)) ≡ true) × (list_any (is_name_key name) (keys_of own) ≡ false)
+      go : (is_id m (option_and_then item_type (lookup (is_name_key name) olds)) ≡ true → (is_id (f.types m) (option_and_then item_type (lookup (is_name_key name) news)) ≡ true)
+          × (list_any (is_name_key name) (keys_of own) ≡ false)) → (b : Bool) → is_id m (option_and_then item_type (cond b (Some old.1) (lookup (is_name_key name) olds))) ≡ true
+          → (is_id (f.types m) (option_and_then item_type (lookup (is_name_key name) news)) ≡ true) × (list_any (is_name_key name) (keys_of own) ≡ false)
       go more true e = no_true (sym (met_is_other own fresh old.1 there held stands) ∙ e)
       go more false e = more e
   found_added own fresh _ _ (added old new olds news fresh_key z rest) h = go (found_added own fresh olds news rest) (is_name_key name old.0) refl h
     where
-      go : (is_id m (option_and_then item_type (lookup (is_name_key name) olds)) ≡ true → (is_id (f.types m) (option_and_then item_type (lookup (is_name_key name) news)) ≡ true) × (list_any (is_name_key name) (keys_of own) ≡ false)) → (b : Bool) → is_name_key name old.0 ≡ b → is_id m (option_and_then item_type (cond b (Some old.1) (lookup (is_name_key name) olds))) ≡ true
+      go : (is_id m (option_and_then item_type (lookup (is_name_key name) olds)) ≡ true → (is_id (f.types m) (option_and_then item_type (lookup (is_name_key name) news)) ≡ true)
+          × (list_any (is_name_key name) (keys_of own) ≡ false)) → (b : Bool) → is_name_key name old.0 ≡ b
+          → is_id m (option_and_then item_type (cond b (Some old.1) (lookup (is_name_key name) olds))) ≡ true
           → (is_id (f.types m) (option_and_then item_type (cond (is_name_key name new.0) (Some new.1) (lookup (is_name_key name) news))) ≡ true) × (list_any (is_name_key name) (keys_of own) ≡ false)
       go again true k e = (
         ap (λ b. is_id (f.types m) (option_and_then item_type (cond b (Some new.1) (lookup (is_name_key name) news)))) (same_name_key old.0 new.0 z.0 ∙ k) ∙ type_image old.1 new.1 z.1 e,
@@ -183,11 +196,13 @@ module _ (r s : Resolve) (f : Renumbering) (valid : KeepsRules r) (is : IsCarrie
       go false p false q = q ∙ sym p
       go false p true q = no_true (sym p ∙ back i j z q)
 
-  count_added : (own : List (WorldKey × WorldItem)) → IsFresh own → (olds news : List (WorldKey × WorldItem)) → Joined f own olds news → count_by (λ k. k == f.types m) (filter_map item_type (items news)) ≡ count_by (λ k. k == m) (filter_map item_type (items olds))
+  count_added : (own : List (WorldKey × WorldItem)) → IsFresh own → (olds news : List (WorldKey × WorldItem)) → Joined f own olds news
+      → count_by (λ k. k == f.types m) (filter_map item_type (items news)) ≡ count_by (λ k. k == m) (filter_map item_type (items olds))
   count_added own fresh _ _ none = refl
   count_added own fresh _ _ (met old there olds news held k stands rest) =
       count_added own fresh olds news rest
-      ∙ sym (count_given (λ k. k == m) (item_type old.1) (filter_map item_type (items olds)) ∙ (ap (λ b. cond b 1 0 + count_by (λ k. k == m) (filter_map item_type (items olds))) (met_is_other own fresh old.1 there held stands) ∙ omega arith))
+      ∙ sym (count_given (λ k. k == m) (item_type old.1) (filter_map item_type (items olds))
+      ∙ (ap (λ b. cond b 1 0 + count_by (λ k. k == m) (filter_map item_type (items olds))) (met_is_other own fresh old.1 there held stands) ∙ omega arith))
   count_added own fresh _ _ (added old new olds news fresh_key z rest) =
       count_given (λ k. k == f.types m) (item_type new.1) (filter_map item_type (items news))
       ∙ ((λ i. cond (same_count old.1 new.1 z.1 i) 1 0 + count_added own fresh olds news rest i)
@@ -204,7 +219,8 @@ module _ (r s : Resolve) (f : Renumbering) (valid : KeepsRules r) (is : IsCarrie
   none_more : (n : ℕ) → 0 + n ≡ n
   none_more n = omega arith
 
-  pub listed_in_world : (n : ℕ) (own_imports own_exports : List (WorldKey × WorldItem)) (j : IsJoined r s f n own_imports own_exports) → IsFresh own_imports → is_listed_in_world m name j.old ≡ true → is_listed_in_world (f.types m) name j.image ≡ true
+  pub listed_in_world : (n : ℕ) (own_imports own_exports : List (WorldKey × WorldItem)) (j : IsJoined r s f n own_imports own_exports) → IsFresh own_imports → is_listed_in_world m name j.old ≡ true
+      → is_listed_in_world (f.types m) name j.image ≡ true
   listed_in_world n own_imports own_exports j fresh h =
       let found = found_added own_imports fresh j.old.imports.entries j.new_imports j.joined_imports (first_true _ _ h) in
       both _ _
@@ -213,7 +229,9 @@ module _ (r s : Resolve) (f : Renumbering) (valid : KeepsRules r) (is : IsCarrie
       (ap (λ es. count_by (λ k. k == f.types m) (filter_map item_type (items es)) == 1) j.imports
       ∙ (ap (λ xs. count_by (λ k. k == f.types m) (filter_map item_type xs) == 1) (map-append (λ (e : WorldKey × WorldItem). e.1) own_imports j.new_imports)
       ∙ (ap (λ ns. count_by (λ k. k == f.types m) ns == 1) (filter_map-append item_type (items own_imports) (items j.new_imports))
-      ∙ (ap (λ k. k == 1) (sum_by-append (λ k. cond (k == f.types m) 1 0) (filter_map item_type (items own_imports)) (filter_map item_type (items j.new_imports)) ∙ ((λ i. not_there (f.types m) (filter_map item_type (items own_imports)) fresh i + count_added own_imports fresh j.old.imports.entries j.new_imports j.joined_imports i) ∙ none_more (count_by (λ k. k == m) (filter_map item_type (items j.old.imports.entries)))))
+      ∙ (ap (λ k. k == 1) (sum_by-append (λ k. cond (k == f.types m) 1 0) (filter_map item_type (items own_imports)) (filter_map item_type (items j.new_imports))
+      ∙ ((λ i. not_there (f.types m) (filter_map item_type (items own_imports)) fresh i + count_added own_imports fresh j.old.imports.entries j.new_imports j.joined_imports i) ∙ none_more
+      (count_by (λ k. k == m) (filter_map item_type (items j.old.imports.entries)))))
       ∙ second_true (is_id m (option_and_then item_type (get_by (is_name_key name) j.old.imports))) _ h))))
 
   -- what a world listed stays listed where nothing of its number is added
@@ -224,9 +242,11 @@ module _ (r s : Resolve) (f : Renumbering) (valid : KeepsRules r) (is : IsCarrie
       both _ _ (go (lookup (is_name_key name) own) refl (first_true _ _ h))
       (ap (λ xs. count_by (λ k. k == n) (filter_map item_type xs) == 1) (map-append (λ (e : WorldKey × WorldItem). e.1) own more)
       ∙ (ap (λ ns. count_by (λ k. k == n) ns == 1) (filter_map-append item_type (items own) (items more))
-      ∙ (ap (λ k. k == 1) (sum_by-append (λ k. cond (k == n) 1 0) (filter_map item_type (items own)) (filter_map item_type (items more)) ∙ (ap (λ k. count_by (λ x. x == n) (filter_map item_type (items own)) + k) (not_there n (filter_map item_type (items more)) fresh) ∙ omega arith))
+      ∙ (ap (λ k. k == 1) (sum_by-append (λ k. cond (k == n) 1 0) (filter_map item_type (items own)) (filter_map item_type (items more))
+      ∙ (ap (λ k. count_by (λ x. x == n) (filter_map item_type (items own)) + k) (not_there n (filter_map item_type (items more)) fresh) ∙ omega arith))
       ∙ second_true (is_id n (option_and_then item_type (lookup (is_name_key name) own))) _ h)))
     where
-      go : (o : Option WorldItem) → lookup (is_name_key name) own ≡ o → is_id n (option_and_then item_type o) ≡ true → is_id n (option_and_then item_type (lookup (is_name_key name) (own ++ more))) ≡ true
+      go : (o : Option WorldItem) → lookup (is_name_key name) own ≡ o → is_id n (option_and_then item_type o) ≡ true
+          → is_id n (option_and_then item_type (lookup (is_name_key name) (own ++ more))) ≡ true
       go None e k = no_true k
       go (Some v) e k = ap (λ o. is_id n (option_and_then item_type o)) (lookup_first (is_name_key name) own more v e) ∙ k

@@ -7,9 +7,3 @@ use Rattle.wit_model.specs.Uses.{has}
 
 pub no_true : {A : Type 0} → false ≡ true → A
 no_true e = let wrong : ⊥ = cc in absurd wrong
-
--- ---- two tests that make a third
-
--- ---- each, by its number
-
--- ---- what stands in a list that is made of another

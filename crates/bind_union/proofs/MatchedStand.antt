@@ -29,7 +29,8 @@ matched_stand own other merged f valid_own valid_other types interfaces matched 
       at_image = get_begin own.interfaces.items merged.interfaces.items interfaces (f.interfaces n) is.image is.at_image;
       name = name;
       in_package = λ h. in_package;
-      types = λ m h. let t = matches_are_onto own other f.interfaces f.types valid_own valid_other n is m h in (t.0, t.1, passes_at f.carries_type (interface_type_numbers is.old) t.0 (types_carried n is.old carried is.found) t.1, t.2);
+      types = λ m h. let t = matches_are_onto own other f.interfaces f.types valid_own valid_other n is m h in
+          (t.0, t.1, passes_at f.carries_type (interface_type_numbers is.old) t.0 (types_carried n is.old carried is.found) t.1, t.2);
       copied = λ h. no_true (sym no_copy ∙ h);
     }
 
@@ -78,7 +79,8 @@ past_first first (false ∷ bs) (x ∷ ns) long zero h = no_true h
 past_first first (false ∷ bs) (x ∷ ns) long (suc n) h = past_first first bs ns (omega (arith, long)) n h
 
 -- copies rise
-copies_rise : (first : ℕ) (bs : List Bool) (ns : List ℕ) → length ns ≡ length bs → (m n : ℕ) → m < n → flag bs m ≡ true → flag bs n ≡ true → at (numbers_of first bs ns) m < at (numbers_of first bs ns) n
+copies_rise : (first : ℕ) (bs : List Bool) (ns : List ℕ) → length ns ≡ length bs → (m n : ℕ) → m < n → flag bs m ≡ true → flag bs n ≡ true
+    → at (numbers_of first bs ns) m < at (numbers_of first bs ns) n
 copies_rise first [] ns long m n less h k = no_true h
 copies_rise first (b ∷ bs) [] long m n less h k = absurd (omega (arith, long))
 copies_rise first (b ∷ bs) (x ∷ ns) long m zero less h k = absurd (omega (arith, less))

@@ -72,13 +72,17 @@ module _ (r s : Resolve) (f : Renumbering) (valid : KeepsRules r) (is : IsCarrie
 
   module _ (g h : Function) (c : IsFunctionCopy f g h) where
     carried_values : list_all (λ t. list_all f.carries_type (option_to_list (number_of t))) (function_types g) ≡ true
-    carried_values = sym (list_all_filter_map f.carries_type number_of (function_types g)) ∙ first_true _ _ (sym (list_all-append f.carries_type (filter_map number_of (function_types g)) (option_to_list (resource_of g.kind))) ∙ c.parts)
+    carried_values = sym (list_all_filter_map f.carries_type number_of (function_types g)) ∙ first_true _ _
+        (sym (list_all-append f.carries_type (filter_map number_of (function_types g)) (option_to_list (resource_of g.kind))) ∙ c.parts)
 
-    params_mean : (ps : List Param) → list_all (λ t. list_all f.carries_type (option_to_list (number_of t))) (map (λ p. p.ty) ps) ≡ true → map {B = Text × Tree} (λ p. (text_of p.name, type_tree s (renamed_type f.types p.ty))) ps ≡ map (λ p. (text_of p.name, type_tree r p.ty)) ps
+    params_mean : (ps : List Param) → list_all (λ t. list_all f.carries_type (option_to_list (number_of t))) (map (λ p. p.ty) ps) ≡ true
+        → map {B = Text × Tree} (λ p. (text_of p.name, type_tree s (renamed_type f.types p.ty))) ps ≡ map (λ p. (text_of p.name, type_tree r p.ty)) ps
     params_mean [] h = refl
-    params_mean (p ∷ ps) h = λ i. (text_of p.name, type_tree_same r s f valid is below_s p.ty (first_true _ _ h) i) ∷ params_mean ps (second_true (list_all f.carries_type (option_to_list (number_of p.ty))) _ h) i
+    params_mean (p ∷ ps) h = λ i. (text_of p.name, type_tree_same r s f valid is below_s p.ty (first_true _ _ h) i) ∷ params_mean ps
+        (second_true (list_all f.carries_type (option_to_list (number_of p.ty))) _ h) i
 
-    result_means : (o : Option ValueType) → list_all (λ t. list_all f.carries_type (option_to_list (number_of t))) (option_to_list o) ≡ true → option_map (type_tree s) (option_map (renamed_type f.types) o) ≡ option_map (type_tree r) o
+    result_means : (o : Option ValueType) → list_all (λ t. list_all f.carries_type (option_to_list (number_of t))) (option_to_list o) ≡ true
+        → option_map (type_tree s) (option_map (renamed_type f.types) o) ≡ option_map (type_tree r) o
     result_means None h = refl
     result_means (Some t) h = ap Some (type_tree_same r s f valid is below_s t (first_true _ _ h))
 
@@ -87,10 +91,13 @@ module _ (r s : Resolve) (f : Renumbering) (valid : KeepsRules r) (is : IsCarrie
         sym (map-map (λ (x : Text × ValueType). (x.0, type_tree s x.1)) (λ p. (text_of p.name, p.ty)) h.params.items)
         ∙ (ap (map (λ (x : Text × ValueType). (x.0, type_tree s x.1))) c.params
         ∙ (map-map (λ (x : Text × ValueType). (x.0, type_tree s x.1)) (λ p. (text_of p.name, renamed_type f.types p.ty)) g.params.items
-        ∙ params_mean g.params.items (first_true _ _ (sym (list_all-append (λ t. list_all f.carries_type (option_to_list (number_of t))) (map (λ p. p.ty) g.params.items) (option_to_list g.result)) ∙ carried_values))))
+        ∙ params_mean g.params.items (first_true _ _ (sym (list_all-append (λ t. list_all f.carries_type (option_to_list (number_of t))) (map (λ p. p.ty) g.params.items) (option_to_list g.result))
+        ∙ carried_values))))
 
     result_is : option_map (type_tree s) h.result ≡ option_map (type_tree r) g.result
-    result_is = ap (option_map (type_tree s)) c.result ∙ result_means g.result (second_true (list_all (λ t. list_all f.carries_type (option_to_list (number_of t))) (map (λ p. p.ty) g.params.items)) _ (sym (list_all-append (λ t. list_all f.carries_type (option_to_list (number_of t))) (map (λ p. p.ty) g.params.items) (option_to_list g.result)) ∙ carried_values))
+    result_is = ap (option_map (type_tree s)) c.result ∙ result_means g.result
+        (second_true (list_all (λ t. list_all f.carries_type (option_to_list (number_of t))) (map (λ p. p.ty) g.params.items)) _
+        (sym (list_all-append (λ t. list_all f.carries_type (option_to_list (number_of t))) (map (λ p. p.ty) g.params.items) (option_to_list g.result)) ∙ carried_values))
 
     pub signature_means : signature_of s h ≡ signature_of r g
     signature_means = λ i. record { is_async = (ap is_async c.kind ∙ async_under f g.kind) i; params = params_are i; result = result_is i }
@@ -100,14 +107,16 @@ module _ (r s : Resolve) (f : Renumbering) (valid : KeepsRules r) (is : IsCarrie
 
   -- ---- interfaces
 
-  types_mean : (es : List (Text × ℕ)) → list_all (λ (e : Text × ℕ). f.copies_type e.1) es ≡ true → map {B = Text × TypeMeaning} (λ (e : Text × ℕ). (e.0, type_meaning_at s (f.types e.1))) es ≡ map (λ (e : Text × ℕ). (e.0, type_meaning_at r e.1)) es
+  types_mean : (es : List (Text × ℕ)) → list_all (λ (e : Text × ℕ). f.copies_type e.1) es ≡ true
+      → map {B = Text × TypeMeaning} (λ (e : Text × ℕ). (e.0, type_meaning_at s (f.types e.1))) es ≡ map (λ (e : Text × ℕ). (e.0, type_meaning_at r e.1)) es
   types_mean [] h = refl
   types_mean (e ∷ es) h = λ i. (e.0, type_means e.1 (first_true _ _ h) i) ∷ types_mean es (second_true (f.copies_type e.1) _ h) i
 
   interface_means : (old image : Interface) → IsInterfaceCopy f old image → interface_meaning s image ≡ interface_meaning r old
   interface_means old image c = λ i. record { types = types_are i; functions = from_entries (functions_are i) }
     where
-      copied : (es : List (String Global × TypeId)) → list_all (λ (id : TypeId). f.copies_type id.0) (map (λ e. e.1) es) ≡ true → list_all (λ (e : Text × ℕ). f.copies_type e.1) (map (λ e. (text_of e.0, e.1.0)) es) ≡ true
+      copied : (es : List (String Global × TypeId)) → list_all (λ (id : TypeId). f.copies_type id.0) (map (λ e. e.1) es) ≡ true
+          → list_all (λ (e : Text × ℕ). f.copies_type e.1) (map (λ e. (text_of e.0, e.1.0)) es) ≡ true
       copied [] h = refl
       copied (e ∷ es) h = both _ _ (first_true _ _ h) (copied es (second_true (f.copies_type e.1.0) _ h))
 
@@ -121,7 +130,8 @@ module _ (r s : Resolve) (f : Renumbering) (valid : KeepsRules r) (is : IsCarrie
           ∙ map-map (λ (x : Text × ℕ). (x.0, type_meaning_at r x.1)) (λ e. (text_of e.0, e.1.0)) old.types.entries))))
 
       functions_are : map {B = Text × FunctionMeaning} (λ e. (text_of e.0, function_meaning s e.1)) image.functions.entries ≡ map (λ e. (text_of e.0, function_meaning r e.1)) old.functions.entries
-      functions_are = zip_map (IsFunctionEntry f) (λ e. (text_of e.0, function_meaning r e.1)) (λ e. (text_of e.0, function_meaning s e.1)) (λ a b z i. (z.0 i, function_means a.1 b.1 z.1 i)) old.functions.entries image.functions.entries c.functions
+      functions_are = zip_map (IsFunctionEntry f) (λ e. (text_of e.0, function_meaning r e.1)) (λ e. (text_of e.0, function_meaning s e.1)) (λ a b z i. (z.0 i, function_means a.1 b.1 z.1 i))
+          old.functions.entries image.functions.entries c.functions
 
   pub interface_means_at : (n : ℕ) → f.copies_interface n ≡ true → interface_meaning_at s (f.interfaces n) ≡ interface_meaning_at r n
   interface_means_at n copy =
@@ -176,7 +186,11 @@ module _ (r s : Resolve) (f : Renumbering) (valid : KeepsRules r) (is : IsCarrie
     pub world_means : (n : ℕ) (j : IsJoined r s f n [] []) → world_meaning_at s (f.worlds n) ≡ world_meaning_at r n
     world_means n j =
         ap (λ o. option_map_or (world_meaning s) o no_world) j.at_image
-        ∙ ((λ i. record { imports = (ap (entries_meaning s) j.imports ∙ entries_mean j.old.imports.entries j.new_imports j.joined_imports) i; exports = (ap (entries_meaning s) j.exports ∙ entries_mean j.old.exports.entries j.new_exports j.joined_exports) i })
+        ∙ ((λ i. record {
+          imports = (ap (entries_meaning s) j.imports ∙ entries_mean j.old.imports.entries j.new_imports j.joined_imports) i;
+          exports =
+              (ap (entries_meaning s) j.exports ∙ entries_mean j.old.exports.entries j.new_exports j.joined_exports) i;
+        })
         ∙ sym (ap (λ o. option_map_or (world_meaning r) o no_world) j.found))
 
 -- ---- the whole

@@ -236,11 +236,13 @@ numbers_are i = map-map (λ (id : TypeId). id.0) (λ e. e.1) i.types.entries ∙
 
 module _ (r : Resolve) (v : IsValid r) where
   -- a named type of an interface is found there under its name, once
-  pub home_listed : (t : ℕ) (def : TypeDef) → type_at r t ≡ Some def → (s : String Global) → def.name ≡ Some s → (n : ℕ) → def.owner ≡ as_interface n → (i : Interface) → interface_at r n ≡ Some i → (under_text (text_of s) (type_names i) ≡ Some t) × (often t (type_names i) ≡ 1)
+  pub home_listed : (t : ℕ) (def : TypeDef) → type_at r t ≡ Some def → (s : String Global) → def.name ≡ Some s → (n : ℕ) → def.owner ≡ as_interface n → (i : Interface) → interface_at r n ≡ Some i
+      → (under_text (text_of s) (type_names i) ≡ Some t) × (often t (type_names i) ≡ 1)
   unfolding order_of_types
   home_listed t def e s named_ n home i at =
       let old = type_passes order_of_types r v.rules.order_of_types t def e in
-      let listed : is_listed r t (text_of s) def.owner ≡ true = sym (ap (λ o. option_map_or (λ name. is_listed r t (text_of name) def.owner) o (same_owner def.owner owner.None)) named_) ∙ second_true (list_all (λ m. nat_lt m t) (kind_numbers def.kind)) _ old in
+      let listed : is_listed r t (text_of s) def.owner ≡ true = sym (ap (λ o. option_map_or (λ name. is_listed r t (text_of name) def.owner) o (same_owner def.owner owner.None)) named_) ∙ second_true
+      (list_all (λ m. nat_lt m t) (kind_numbers def.kind)) _ old in
       let in_it : is_listed_in_interface t (text_of s) i ≡ true = sym (ap (passes (is_listed_in_interface t (text_of s))) at) ∙ (sym (ap (is_listed r t (text_of s)) home) ∙ listed) in (
         some_id t (under_text (text_of s) (type_names i)) (sym (ap (is_id t) (found_by_text i (text_of s))) ∙ first_true _ _ in_it),
         equal (often t (type_names i)) 1 (sym (ap (λ ns. count_by (λ k. k == t) ns == 1) (numbers_are i)) ∙ second_true (is_id t (option_map (λ id. id.0) (get_by_text i.types (text_of s)))) _ in_it),
@@ -261,11 +263,14 @@ module _ (r : Resolve) (v : IsValid r) where
       listed : has (interface_type_numbers i) t ≡ true
       listed = ap (λ ns. has ns t) (numbers_are i) ∙ number_listed (type_names i) name t c
 
-      range : (is_place n && (passes (in_list r.packages.items) (package_number i.«package») && (list_all (λ id. in_list r.types.items id.0) (values i.types) && list_all (function_in_range r) (values i.functions)))) ≡ true
+      range : (is_place n && (passes (in_list r.packages.items) (package_number i.«package»)
+          && (list_all (λ id. in_list r.types.items id.0) (values i.types) && list_all (function_in_range r) (values i.functions)))) ≡ true
       range = interface-passes numbers_in_range r v.rules.numbers_in_range n i at
 
       low : list_all (in_list r.types.items) (interface_type_numbers i) ≡ true
-      low = list_all-map (in_list r.types.items) (λ (id : TypeId). id.0) (values i.types) ∙ first_true (list_all (λ id. in_list r.types.items id.0) (values i.types)) (list_all (function_in_range r) (values i.functions)) (second_true (passes (in_list r.packages.items) (package_number i.«package»)) (list_all (λ id. in_list r.types.items id.0) (values i.types) && list_all (function_in_range r) (values i.functions)) (second_true (is_place n) _ range))
+      low = list_all-map (in_list r.types.items) (λ (id : TypeId). id.0) (values i.types) ∙ first_true (list_all (λ id. in_list r.types.items id.0) (values i.types))
+          (list_all (function_in_range r) (values i.functions)) (second_true (passes (in_list r.packages.items) (package_number i.«package»))
+          (list_all (λ id. in_list r.types.items id.0) (values i.types) && list_all (function_in_range r) (values i.functions)) (second_true (is_place n) _ range))
 
       d : (x : TypeDef) × (type_at r t ≡ Some x)
       d = found-in r.types.items t (passes_at (in_list r.types.items) (interface_type_numbers i) t low listed)
@@ -274,7 +279,8 @@ module _ (r : Resolve) (v : IsValid r) where
       order = interface-passes order_of_types r v.rules.order_of_types n i at
 
       ours : (is_some d.0.name && same_owner d.0.owner (as_interface n)) ≡ true
-      ours = sym (ap (passes (λ def. is_some def.name && same_owner def.owner (as_interface n))) d.1) ∙ passes_at (is_named_of r (as_interface n)) (interface_type_numbers i) t (first_true (list_all (is_named_of r (as_interface n)) (interface_type_numbers i)) (are_in_order r (interface_type_numbers i)) order) listed
+      ours = sym (ap (passes (λ def. is_some def.name && same_owner def.owner (as_interface n))) d.1) ∙ passes_at (is_named_of r (as_interface n)) (interface_type_numbers i) t
+          (first_true (list_all (is_named_of r (as_interface n)) (interface_type_numbers i)) (are_in_order r (interface_type_numbers i)) order) listed
 
       home : d.0.owner ≡ as_interface n
       home = owner_equal d.0.owner (as_interface n) (second_true (is_some d.0.name) (same_owner d.0.owner (as_interface n)) ours)
@@ -313,45 +319,57 @@ module _ (r : Resolve) (v : IsValid r) where
       range = type_passes numbers_in_range r v.rules.numbers_in_range t def e
 
       d : (x : TypeDef) × (type_at r u ≡ Some x)
-      d = found-in r.types.items u (sym (ap (passes (in_list r.types.items)) alias) ∙ alias_of_all (in_list r.types.items) def.kind (first_true (list_all (in_list r.types.items) (kind_numbers def.kind)) (owner_in_range r def.owner) (second_true (is_place t) _ range)))
+      d = found-in r.types.items u (sym (ap (passes (in_list r.types.items)) alias) ∙ alias_of_all (in_list r.types.items) def.kind
+          (first_true (list_all (in_list r.types.items) (kind_numbers def.kind)) (owner_in_range r def.owner) (second_true (is_place t) _ range)))
 
       old : ((not (is_named_kind def.kind) || is_some def.name) && passes (is_named_number r) (alias_target def.kind)) ≡ true
       old = type_passes named_kinds r v.rules.named_kinds t def e
 
       has_name : is_some d.0.name ≡ true
-      has_name = sym (ap (passes (λ x. is_some x.name)) d.1) ∙ (sym (ap (passes (is_named_number r)) alias) ∙ second_true (not (is_named_kind def.kind) || is_some def.name) (passes (is_named_number r) (alias_target def.kind)) old)
+      has_name = sym (ap (passes (λ x. is_some x.name)) d.1) ∙ (sym (ap (passes (is_named_number r)) alias) ∙ second_true (not (is_named_kind def.kind) || is_some def.name)
+          (passes (is_named_number r) (alias_target def.kind)) old)
 
       by : (o : Option (String Global)) → d.0.name ≡ o → IsTarget u
       by None k = no_true (sym (ap is_some k) ∙ has_name)
       by (Some s) k = record { def = d.0; found = d.1; name = s; named_ = k }
 
   -- what a type of an interface with a path is another name of belongs to an interface with a path
-  pub target_home : (t : ℕ) (def : TypeDef) → type_at r t ≡ Some def → (n : ℕ) → def.owner ≡ as_interface n → is_some (interface_path r n) ≡ true → (u : ℕ) → alias_target def.kind ≡ Some u → (x : IsTarget u) → (a : ℕ) × (x.def.owner ≡ as_interface a) × (is_some (interface_path r a) ≡ true)
+  pub target_home : (t : ℕ) (def : TypeDef) → type_at r t ≡ Some def → (n : ℕ) → def.owner ≡ as_interface n → is_some (interface_path r n) ≡ true → (u : ℕ) → alias_target def.kind ≡ Some u
+      → (x : IsTarget u) → (a : ℕ) × (x.def.owner ≡ as_interface a) × (is_some (interface_path r a) ≡ true)
   unfolding owners
-  target_home t def e n home path u alias x = go (list_all (has_owner r def.owner) (used_by_type r def)) refl (owned_stays r def (type_passes owners r v.rules.owners t def e) (ap (λ o. same_owner o owner.None) home))
+  target_home t def e n home path u alias x = go (list_all (has_owner r def.owner) (used_by_type r def)) refl
+      (owned_stays r def (type_passes owners r v.rules.owners t def e) (ap (λ o. same_owner o owner.None) home))
     where
       met : met_by (met_of r) u ≡ u ∷ []
       met = met_step r (references_of r v.rules) u x.def x.found ∙ ap (λ o. option_map_or (λ name. u ∷ []) o (used_by_type r x.def)) x.named_
 
       own_one : list_all (has_owner r def.owner) (used_by_type r def) ≡ true → x.def.owner ≡ as_interface n
       own_one h =
-          let all : list_all (λ m. list_all (has_owner r def.owner) (met_by (met_of r) m)) (kind_numbers def.kind) ≡ true = sym (all_flat (has_owner r def.owner) (met_by (met_of r)) (kind_numbers def.kind)) ∙ h in
-          let one : list_all (has_owner r def.owner) (met_by (met_of r) u) ≡ true = sym (ap (passes (λ m. list_all (has_owner r def.owner) (met_by (met_of r) m))) alias) ∙ alias_of_all (λ m. list_all (has_owner r def.owner) (met_by (met_of r) m)) def.kind all in
+          let all : list_all (λ m. list_all (has_owner r def.owner) (met_by (met_of r) m)) (kind_numbers def.kind) ≡ true =
+          sym (all_flat (has_owner r def.owner) (met_by (met_of r)) (kind_numbers def.kind)) ∙ h in
+          let one : list_all (has_owner r def.owner) (met_by (met_of r) u) ≡ true =
+          sym (ap (passes (λ m. list_all (has_owner r def.owner) (met_by (met_of r) m))) alias) ∙ alias_of_all (λ m. list_all (has_owner r def.owner) (met_by (met_of r) m)) def.kind all in
           let here_ : has_owner r def.owner u ≡ true = first_true (has_owner r def.owner u) true (sym (ap (list_all (has_owner r def.owner)) met) ∙ one) in
           owner_equal x.def.owner def.owner (sym (ap (λ o. option_map_or (λ y. same_owner y.owner def.owner) o false) x.found) ∙ here_) ∙ home
 
-      by_owner : (o : TypeOwner) → x.def.owner ≡ o → option_map_or (λ i. option_map_or (λ other. is_some other.name) (interface_at r i) false) (owner_interface o) false ≡ true → (a : ℕ) × (x.def.owner ≡ as_interface a) × (is_some (interface_path r a) ≡ true)
+      by_owner : (o : TypeOwner) → x.def.owner ≡ o → option_map_or (λ i. option_map_or (λ other. is_some other.name) (interface_at r i) false) (owner_interface o) false ≡ true → (a : ℕ)
+          × (x.def.owner ≡ as_interface a) × (is_some (interface_path r a) ≡ true)
       by_owner (owner.World id) k h = no_true h
       by_owner owner.None k h = no_true h
       by_owner (owner.Interface id) k h = (id.0, k, named-path r v id.0 h)
 
       another : is_use r def ≡ true → (a : ℕ) × (x.def.owner ≡ as_interface a) × (is_some (interface_path r a) ≡ true)
       another h =
-          let one : option_map_or (λ target. not (same_owner target.owner def.owner) && option_map_or (λ i. option_map_or (λ other. is_some other.name) (interface_at r i) false) (owner_interface target.owner) false) (type_at r u) false ≡ true =
-          sym (ap (λ o. option_map_or (λ m. option_map_or (λ target. not (same_owner target.owner def.owner) && option_map_or (λ i. option_map_or (λ other. is_some other.name) (interface_at r i) false) (owner_interface target.owner) false) (type_at r m) false) o false) alias) ∙ h in
-          by_owner x.def.owner refl (second_true (not (same_owner x.def.owner def.owner)) _ (sym (ap (λ o. option_map_or (λ target. not (same_owner target.owner def.owner) && option_map_or (λ i. option_map_or (λ other. is_some other.name) (interface_at r i) false) (owner_interface target.owner) false) o false) x.found) ∙ one))
+          let one : option_map_or (λ target. not (same_owner target.owner def.owner) && option_map_or (λ i. option_map_or (λ other. is_some other.name) (interface_at r i) false)
+          (owner_interface target.owner) false) (type_at r u) false ≡ true =
+          sym (ap (λ o. option_map_or (λ m. option_map_or (λ target. not (same_owner target.owner def.owner) && option_map_or
+          (λ i. option_map_or (λ other. is_some other.name) (interface_at r i) false) (owner_interface target.owner) false) (type_at r m) false) o false) alias) ∙ h in
+          by_owner x.def.owner refl (second_true (not (same_owner x.def.owner def.owner)) _
+          (sym (ap (λ o. option_map_or (λ target. not (same_owner target.owner def.owner) && option_map_or (λ i. option_map_or (λ other. is_some other.name) (interface_at r i) false)
+          (owner_interface target.owner) false) o false) x.found) ∙ one))
 
-      go : (b : Bool) → list_all (has_owner r def.owner) (used_by_type r def) ≡ b → (list_all (has_owner r def.owner) (used_by_type r def) || is_use r def) ≡ true → (a : ℕ) × (x.def.owner ≡ as_interface a) × (is_some (interface_path r a) ≡ true)
+      go : (b : Bool) → list_all (has_owner r def.owner) (used_by_type r def) ≡ b → (list_all (has_owner r def.owner) (used_by_type r def) || is_use r def) ≡ true → (a : ℕ)
+          × (x.def.owner ≡ as_interface a) × (is_some (interface_path r a) ≡ true)
       go true k h = (n, own_one k, path)
       go false k h = another (sym (ap (λ b. b || is_use r def) k) ∙ h)
 
@@ -381,7 +399,8 @@ meaning_under r i name =
     twice (Some id) = refl
 
 module _ (own other : Resolve) (interfaces types : ℕ → ℕ) (valid_own : IsValid own) (valid_other : IsValid other) where
-  same_under : (n : ℕ) (is : IsMatch own other interfaces types n) (name : Text) → option_map (type_meaning_at own) (under_text name (type_names is.image)) ≡ option_map (type_meaning_at other) (under_text name (type_names is.old))
+  same_under : (n : ℕ) (is : IsMatch own other interfaces types n) (name : Text)
+      → option_map (type_meaning_at own) (under_text name (type_names is.image)) ≡ option_map (type_meaning_at other) (under_text name (type_names is.old))
   same_under n is name =
       sym (meaning_under own is.image name)
       ∙ (found_same (interface_meaning own is.image).types (interface_meaning other is.old).types (ap (λ (s : InterfaceSense). s.types) is.sense) name
@@ -403,7 +422,8 @@ module _ (own other : Resolve) (interfaces types : ℕ → ℕ) (valid_own : IsV
       there_ : IsListedType own valid_own (interfaces n) is.image name.0 m
       there_ = listed_type own valid_own (interfaces n) is.image is.at_image name.0 m name.1
 
-      go : (o : Option ℕ) → under_text name.0 (type_names is.old) ≡ o → option_map (type_meaning_at other) o ≡ Some (type_meaning_at own m) → (t : ℕ) × (has (interface_type_numbers is.old) t ≡ true) × (types t ≡ m)
+      go : (o : Option ℕ) → under_text name.0 (type_names is.old) ≡ o → option_map (type_meaning_at other) o ≡ Some (type_meaning_at own m) → (t : ℕ) × (has (interface_type_numbers is.old) t ≡ true)
+          × (types t ≡ m)
       go None e k = let wrong : None ≡ Some (type_meaning_at own m) = k in absurd cc
       go (Some t) e k =
           let c = under_contains name.0 (type_names is.old) t e in
@@ -427,7 +447,8 @@ module _ (own other : Resolve) (interfaces types : ℕ → ℕ) (valid_own : IsV
     the_path (Some x) h = (x, refl)
 
     -- what has one path and one name is one
-    pub same_by_path : (u v a : ℕ) (x : IsTarget other valid_other u) → x.def.owner ≡ as_interface a → is_some (interface_path other a) ≡ true → (y : IsTarget own valid_own v) → named (place_of own y.def.owner) (text_of y.name) ≡ named (place_of other x.def.owner) (text_of x.name)
+    pub same_by_path : (u v a : ℕ) (x : IsTarget other valid_other u) → x.def.owner ≡ as_interface a → is_some (interface_path other a) ≡ true → (y : IsTarget own valid_own v)
+        → named (place_of own y.def.owner) (text_of y.name) ≡ named (place_of other x.def.owner) (text_of x.name)
         → IsMatch own other interfaces types a ⊎ ((m : ℕ) → interface_path own m ≡ interface_path other a → ⊥) → types u ≡ v
     same_by_path u v a x there_ has_path y trees m = by m
       where
@@ -470,7 +491,8 @@ module _ (own other : Resolve) (interfaces types : ℕ → ℕ) (valid_own : IsV
         let tree = alias_declares (trees_of other) def.kind u e ∙ ap type_ (named_tree other valid_other u x.def x.found x.name x.named_) in
         let image_alias = name_is_alias (trees_of own) image.kind (place_of other x.def.owner) (text_of x.name) (same ∙ tree) in
         let y = target_named own valid_own (types t) image at image_alias.0 image_alias.1 in
-        let trees : named (place_of own y.def.owner) (text_of y.name) ≡ named (place_of other x.def.owner) (text_of x.name) = sym (named_tree own valid_own image_alias.0 y.def y.found y.name y.named_) ∙ image_alias.2 in
+        let trees : named (place_of own y.def.owner) (text_of y.name) ≡ named (place_of other x.def.owner) (text_of x.name) =
+        sym (named_tree own valid_own image_alias.0 y.def y.found y.name y.named_) ∙ image_alias.2 in
         let from = target_home other valid_other t def found n home is.has_path u e x in
         image_alias.1 ∙ ap Some (sym (same_by_path u image_alias.0 from.0 x from.1 from.2 y trees (matched from.0 from.2)))
 
@@ -479,8 +501,12 @@ module _ (own other : Resolve) (interfaces types : ℕ → ℕ) (valid_own : IsV
         let name = name_of_number is.old t h in
         let old = listed_type other valid_other n is.old is.found name.0 t name.1 in
         let new = listed_type own valid_own (interfaces n) is.image is.at_image name.0 (types t) (is.by_name name.0 t name.1) in
-        let meanings : type_meaning_at own (types t) ≡ type_meaning_at other t = same-some (type_meaning_at own (types t)) (type_meaning_at other t) (sym (ap (option_map (type_meaning_at own)) new.under) ∙ (same_under n is name.0 ∙ ap (option_map (type_meaning_at other)) old.under)) in
-        let declarations : declaration_of own new.def ≡ declaration_of other old.def = sym (ap (λ o. (option_map_or (type_meaning own) o no_type).declaration) new.found) ∙ (ap (λ (m : TypeMeaning). m.declaration) meanings ∙ ap (λ o. (option_map_or (type_meaning other) o no_type).declaration) old.found) in
+        let meanings : type_meaning_at own (types t) ≡ type_meaning_at other t =
+        same-some (type_meaning_at own (types t)) (type_meaning_at other t)
+        (sym (ap (option_map (type_meaning_at own)) new.under) ∙ (same_under n is name.0 ∙ ap (option_map (type_meaning_at other)) old.under)) in
+        let declarations : declaration_of own new.def ≡ declaration_of other old.def =
+        sym (ap (λ o. (option_map_or (type_meaning own) o no_type).declaration) new.found)
+        ∙ (ap (λ (m : TypeMeaning). m.declaration) meanings ∙ ap (λ o. (option_map_or (type_meaning other) o no_type).declaration) old.found) in
         record {
           def = old.def;
           found = old.found;

@@ -21,21 +21,27 @@ use Rattle.base_lemmas.proofs.Numbers.{equal}
 use Rattle.wit_model.proofs.TextLemmas.{text_same as text-same}
 
 -- what each name passes, what is added passes
-pub names_pass : (number : ℕ → ℕ) (copies left_out : ℕ → Bool) (own : List (Text × ℕ)) (p q : Text × ℕ → Bool) → ((name : Text) (old : ℕ) → copies old ≡ true → p (name, old) ≡ true → q (name, number old) ≡ true)
+pub names_pass : (number : ℕ → ℕ) (copies left_out : ℕ → Bool) (own : List (Text × ℕ)) (p q : Text × ℕ → Bool)
+    → ((name : Text) (old : ℕ) → copies old ≡ true → p (name, old) ≡ true → q (name, number old) ≡ true)
     → (olds news : List (Text × ℕ)) → JoinedNames number copies left_out own olds news → list_all p olds ≡ true → list_all q news ≡ true
 names_pass number copies left_out own p q one _ _ none h = refl
 names_pass number copies left_out own p q one _ _ (met name old olds news c rest) h = names_pass number copies left_out own p q one olds news rest (second_true (p (name, old)) _ h)
 names_pass number copies left_out own p q one _ _ (left name old olds news c rest) h = names_pass number copies left_out own p q one olds news rest (second_true (p (name, old)) _ h)
-names_pass number copies left_out own p q one _ _ (added name old olds news c l n rest) h = both _ _ (one name old c (first_true _ _ h)) (names_pass number copies left_out own p q one olds news rest (second_true (p (name, old)) _ h))
+names_pass number copies left_out own p q one _ _ (added name old olds news c l n rest) h =
+    both _ _ (one name old c (first_true _ _ h)) (names_pass number copies left_out own p q one olds news rest (second_true (p (name, old)) _ h))
 
 -- a name that is added stood there, and isn't left out
-pub added_from : (number : ℕ → ℕ) (copies left_out : ℕ → Bool) (own olds news : List (Text × ℕ)) → JoinedNames number copies left_out own olds news → (t : Text) → is_name t news ≡ true → (name : Text) × (old : ℕ) × Contains olds (name, old) × (left_out old ≡ false) × (text_eq t name ≡ true)
+pub added_from : (number : ℕ → ℕ) (copies left_out : ℕ → Bool) (own olds news : List (Text × ℕ)) → JoinedNames number copies left_out own olds news → (t : Text) → is_name t news ≡ true → (name : Text)
+    × (old : ℕ) × Contains olds (name, old) × (left_out old ≡ false) × (text_eq t name ≡ true)
 added_from number copies left_out own _ _ none t h = no_true h
-added_from number copies left_out own _ _ (met name old olds news c rest) t h = let r = added_from number copies left_out own olds news rest t h in (r.0, r.1, contains-later (name, old) olds (r.0, r.1) r.2, r.3, r.4)
-added_from number copies left_out own _ _ (left name old olds news c rest) t h = let r = added_from number copies left_out own olds news rest t h in (r.0, r.1, contains-later (name, old) olds (r.0, r.1) r.2, r.3, r.4)
+added_from number copies left_out own _ _ (met name old olds news c rest) t h = let r = added_from number copies left_out own olds news rest t h in
+    (r.0, r.1, contains-later (name, old) olds (r.0, r.1) r.2, r.3, r.4)
+added_from number copies left_out own _ _ (left name old olds news c rest) t h = let r = added_from number copies left_out own olds news rest t h in
+    (r.0, r.1, contains-later (name, old) olds (r.0, r.1) r.2, r.3, r.4)
 added_from number copies left_out own _ _ (added name old olds news c l n rest) t h = go (added_from number copies left_out own olds news rest t) (text_eq t name) refl h
   where
-    go : (is_name t news ≡ true → (x : Text) × (k : ℕ) × Contains olds (x, k) × (left_out k ≡ false) × (text_eq t x ≡ true)) → (b : Bool) → text_eq t name ≡ b → (b || is_name t news) ≡ true → (x : Text) × (k : ℕ) × Contains ((name, old) ∷ olds) (x, k) × (left_out k ≡ false) × (text_eq t x ≡ true)
+    go : (is_name t news ≡ true → (x : Text) × (k : ℕ) × Contains olds (x, k) × (left_out k ≡ false) × (text_eq t x ≡ true)) → (b : Bool) → text_eq t name ≡ b → (b || is_name t news) ≡ true
+        → (x : Text) × (k : ℕ) × Contains ((name, old) ∷ olds) (x, k) × (left_out k ≡ false) × (text_eq t x ≡ true)
     go more true e h = (name, old, (0, omega arith, refl), l, e)
     go more false e h = let r = more h in (r.0, r.1, contains-later (name, old) olds (r.0, r.1) r.2, r.3, r.4)
 
@@ -56,14 +62,16 @@ pub worlds_by_name : (p : Package) (name : Text) → option_map (λ id. id.0) (g
 worlds_by_name p name = sym (lookup_of_map (λ t. bytes_eq name t) text_of (λ (id : WorldId). id.0) p.worlds.entries)
 
 pub world_name_listed : (p : Package) (name : Text) → is_world_name p name ≡ is_name name (world_names p)
-world_name_listed p name = any_of_map (λ other. text_eq name (text_of other)) (λ e. e.0) p.worlds.entries ∙ sym (any_of_map (λ (e : Text × ℕ). text_eq name e.0) (λ e. (text_of e.0, e.1.0)) p.worlds.entries)
+world_name_listed p name = any_of_map (λ other. text_eq name (text_of other)) (λ e. e.0) p.worlds.entries ∙ sym
+    (any_of_map (λ (e : Text × ℕ). text_eq name e.0) (λ e. (text_of e.0, e.1.0)) p.worlds.entries)
 
 -- a number that is found under a name stands under it
 pub found_name : (name : Text) (n : ℕ) (es : List (Text × ℕ)) → is_id n (under_text name es) ≡ true → is_name name es ≡ true
 found_name name n [] h = no_true h
 found_name name n (e ∷ es) h = go (bytes_eq name e.0) refl h (found_name name n es)
   where
-    go : (b : Bool) → text_eq name e.0 ≡ b → is_id n (cond b (Some e.1) (under_text name es)) ≡ true → (is_id n (under_text name es) ≡ true → is_name name es ≡ true) → (text_eq name e.0 || is_name name es) ≡ true
+    go : (b : Bool) → text_eq name e.0 ≡ b → is_id n (cond b (Some e.1) (under_text name es)) ≡ true → (is_id n (under_text name es) ≡ true → is_name name es ≡ true)
+        → (text_eq name e.0 || is_name name es) ≡ true
     go true e h rest = or_left _ _ e
     go false e h rest = or_right _ _ (rest h)
 
@@ -89,17 +97,21 @@ pub copy_found : (number : ℕ → ℕ) (copies left_out : ℕ → Bool) (own ol
 copy_found number copies left_out own _ _ none name n fresh kept h = no_true h
 copy_found number copies left_out own _ _ (met t old olds news c rest) name n fresh kept h = go (copy_found number copies left_out own olds news rest name n fresh kept) (bytes_eq name t) h
   where
-    go : (is_id n (under_text name olds) ≡ true → (is_id (number n) (under_text name news) ≡ true) × (is_name name own ≡ false)) → (b : Bool) → is_id n (cond b (Some old) (under_text name olds)) ≡ true → (is_id (number n) (under_text name news) ≡ true) × (is_name name own ≡ false)
+    go : (is_id n (under_text name olds) ≡ true → (is_id (number n) (under_text name news) ≡ true) × (is_name name own ≡ false)) → (b : Bool)
+        → is_id n (cond b (Some old) (under_text name olds)) ≡ true → (is_id (number n) (under_text name news) ≡ true) × (is_name name own ≡ false)
     go more true k = absurd (fresh t (subst (λ (x : ℕ). Contains own (t, number x)) (equal old n k) c))
     go more false k = more k
 copy_found number copies left_out own _ _ (left t old olds news c rest) name n fresh kept h = go (copy_found number copies left_out own olds news rest name n fresh kept) (bytes_eq name t) h
   where
-    go : (is_id n (under_text name olds) ≡ true → (is_id (number n) (under_text name news) ≡ true) × (is_name name own ≡ false)) → (b : Bool) → is_id n (cond b (Some old) (under_text name olds)) ≡ true → (is_id (number n) (under_text name news) ≡ true) × (is_name name own ≡ false)
+    go : (is_id n (under_text name olds) ≡ true → (is_id (number n) (under_text name news) ≡ true) × (is_name name own ≡ false)) → (b : Bool)
+        → is_id n (cond b (Some old) (under_text name olds)) ≡ true → (is_id (number n) (under_text name news) ≡ true) × (is_name name own ≡ false)
     go more true k = no_true (sym kept ∙ subst (λ (x : ℕ). left_out x ≡ true) (equal old n k) c)
     go more false k = more k
-copy_found number copies left_out own _ _ (added t old olds news c l new rest) name n fresh kept h = go (copy_found number copies left_out own olds news rest name n fresh kept) (bytes_eq name t) refl h
+copy_found number copies left_out own _ _ (added t old olds news c l new rest) name n fresh kept h =
+    go (copy_found number copies left_out own olds news rest name n fresh kept) (bytes_eq name t) refl h
   where
-    go : (is_id n (under_text name olds) ≡ true → (is_id (number n) (under_text name news) ≡ true) × (is_name name own ≡ false)) → (b : Bool) → text_eq name t ≡ b → is_id n (cond b (Some old) (under_text name olds)) ≡ true → (is_id (number n) (cond b (Some (number old)) (under_text name news)) ≡ true) × (is_name name own ≡ false)
+    go : (is_id n (under_text name olds) ≡ true → (is_id (number n) (under_text name news) ≡ true) × (is_name name own ≡ false)) → (b : Bool) → text_eq name t ≡ b
+        → is_id n (cond b (Some old) (under_text name olds)) ≡ true → (is_id (number n) (cond b (Some (number old)) (under_text name news)) ≡ true) × (is_name name own ≡ false)
     go more true e k = (id_under number n (Some old) k, subst (λ (x : Text). is_name x own ≡ false) (sym (text-same name t e)) new)
     go more false e k = more k
 

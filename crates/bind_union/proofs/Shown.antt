@@ -75,7 +75,8 @@ module _ {X : Type 0} (g : X → ℕ) where
       nothing (w ∷ ys) h zero y e = let a = sum_by-cons g w ys in sym (ap g (same-some w y e)) ∙ omega (arith, a, h)
       nothing (w ∷ ys) h (suc m) y e = let a = sum_by-cons g w ys in nothing ys (omega (arith, a, h)) m y e
 
-      rest : sum_by g xs ≡ 1 → g z ≡ 0 → (r : (k : ℕ) × (x : X) × (slice_get xs k ≡ Some x) × (g x ≡ 1) × ((m : ℕ) (y : X) → slice_get xs m ≡ Some y → (m == k) ≡ false → g y ≡ 0)) → (m : ℕ) (y : X) → slice_get (z ∷ xs) m ≡ Some y → (m == suc r.0) ≡ false → g y ≡ 0
+      rest : sum_by g xs ≡ 1 → g z ≡ 0 → (r : (k : ℕ) × (x : X) × (slice_get xs k ≡ Some x) × (g x ≡ 1) × ((m : ℕ) (y : X) → slice_get xs m ≡ Some y → (m == k) ≡ false → g y ≡ 0)) → (m : ℕ) (y : X)
+          → slice_get (z ∷ xs) m ≡ Some y → (m == suc r.0) ≡ false → g y ≡ 0
       rest s e r zero y d n = sym (ap g (same-some z y d)) ∙ e
       rest s e r (suc m) y d n = r.4 m y d (lower m r.0 n)
         where
@@ -90,7 +91,8 @@ module _ {X : Type 0} (g : X → ℕ) where
       head_only s zero y d n = no_true (sym n ∙ same-number 0)
       head_only s (suc m) y d n = nothing xs s m y d
 
-      go : (sum_by g xs ≡ 1 → (k : ℕ) × (x : X) × (slice_get xs k ≡ Some x) × (g x ≡ 1) × ((m : ℕ) (y : X) → slice_get xs m ≡ Some y → (m == k) ≡ false → g y ≡ 0)) → (a : ℕ) → g z ≡ a → g z + sum_by g xs ≡ 1 → (k : ℕ) × (x : X) × (slice_get (z ∷ xs) k ≡ Some x) × (g x ≡ 1) × ((m : ℕ) (y : X) → slice_get (z ∷ xs) m ≡ Some y → (m == k) ≡ false → g y ≡ 0)
+      go : (sum_by g xs ≡ 1 → (k : ℕ) × (x : X) × (slice_get xs k ≡ Some x) × (g x ≡ 1) × ((m : ℕ) (y : X) → slice_get xs m ≡ Some y → (m == k) ≡ false → g y ≡ 0)) → (a : ℕ) → g z ≡ a
+          → g z + sum_by g xs ≡ 1 → (k : ℕ) × (x : X) × (slice_get (z ∷ xs) k ≡ Some x) × (g x ≡ 1) × ((m : ℕ) (y : X) → slice_get (z ∷ xs) m ≡ Some y → (m == k) ≡ false → g y ≡ 0)
       go more zero e s = let t : sum_by g xs ≡ 1 = omega (arith, e, s) in let r = more t in (suc r.0, r.1, r.2, r.3, rest t e r)
       go more (suc a) e s = (0, z, refl, omega (arith, e, s), head_only (omega (arith, e, s)))
 
@@ -103,14 +105,16 @@ pub times_are : (n : ℕ) (w : World) → times_shown n w ≡ shown n w.imports.
 times_are n w = sum_by-append (λ i. cond (is_id n (item_interface i)) 1 0) (items w.imports.entries) (items w.exports.entries)
 
 pub shown_append : (n : ℕ) (xs ys : List (WorldKey × WorldItem)) → shown n (xs ++ ys) ≡ shown n xs + shown n ys
-shown_append n xs ys = ap (count_by (λ i. is_id n (item_interface i))) (map-append (λ (e : WorldKey × WorldItem). e.1) xs ys) ∙ sum_by-append (λ i. cond (is_id n (item_interface i)) 1 0) (items xs) (items ys)
+shown_append n xs ys = ap (count_by (λ i. is_id n (item_interface i))) (map-append (λ (e : WorldKey × WorldItem). e.1) xs ys) ∙ sum_by-append (λ i. cond (is_id n (item_interface i)) 1 0)
+    (items xs) (items ys)
 
 -- what isn't among the items isn't shown
 pub not_shown : (n : ℕ) (es : List (WorldKey × WorldItem)) → has (filter_map item_interface (items es)) n ≡ false → shown n es ≡ 0
 not_shown n [] h = refl
 not_shown n (e ∷ es) h = sum_by-cons (λ i. cond (is_id n (item_interface i)) 1 0) e.1 (items es) ∙ go (item_interface e.1) h (not_shown n es)
   where
-    go : (o : Option ℕ) → has (cons_option o (filter_map item_interface (items es))) n ≡ false → (has (filter_map item_interface (items es)) n ≡ false → shown n es ≡ 0) → cond (is_id n o) 1 0 + shown n es ≡ 0
+    go : (o : Option ℕ) → has (cons_option o (filter_map item_interface (items es))) n ≡ false → (has (filter_map item_interface (items es)) n ≡ false → shown n es ≡ 0)
+        → cond (is_id n o) 1 0 + shown n es ≡ 0
     go None h rest = omega (arith, rest h)
     go (Some m) h rest = by (m == n) h rest
       where
@@ -121,7 +125,8 @@ not_shown n (e ∷ es) h = sum_by-cons (λ i. cond (is_id n (item_interface i)) 
 -- an interface that is past the list isn't shown
 pub past_not_shown : (r : Resolve) (n : ℕ) → length r.interfaces.items ≤ n → (es : List (WorldKey × WorldItem)) → entries_in_range r es ≡ true → has (filter_map item_interface (items es)) n ≡ false
 past_not_shown r n high [] h = refl
-past_not_shown r n high ((k, i) ∷ es) h = go i (second_true (key_in_range r k) _ (first_true (key_in_range r k && item_in_range r i) (entries_in_range r es) h)) (past_not_shown r n high es (second_true (key_in_range r k && item_in_range r i) (entries_in_range r es) h))
+past_not_shown r n high ((k, i) ∷ es) h = go i (second_true (key_in_range r k) _ (first_true (key_in_range r k && item_in_range r i) (entries_in_range r es) h))
+    (past_not_shown r n high es (second_true (key_in_range r k && item_in_range r i) (entries_in_range r es) h))
   where
     other : (b : ℕ) → b < length r.interfaces.items → (c : Bool) → (b == n) ≡ c → (b == n) ≡ false
     other b low false e = e
@@ -134,7 +139,8 @@ past_not_shown r n high ((k, i) ∷ es) h = go i (second_true (key_in_range r k)
 
 module _ (f : Renumbering) where
   -- what is shown anew is the image of what was shown
-  pub shown_from : (own olds news : List (WorldKey × WorldItem)) → Joined f own olds news → (t : ℕ) → has (filter_map item_interface (items news)) t ≡ true → (a : ℕ) × (f.carries_interface a ≡ true) × (f.interfaces a ≡ t) × (has (filter_map item_interface (items olds)) a ≡ true)
+  pub shown_from : (own olds news : List (WorldKey × WorldItem)) → Joined f own olds news → (t : ℕ) → has (filter_map item_interface (items news)) t ≡ true → (a : ℕ) × (f.carries_interface a ≡ true)
+      × (f.interfaces a ≡ t) × (has (filter_map item_interface (items olds)) a ≡ true)
   shown_from own _ _ none t h = no_true h
   shown_from own _ _ (met old there olds news c k i rest) t h = let r = shown_from own olds news rest t h in (r.0, r.1, r.2, later old.1 r.0 r.3)
     where
@@ -145,12 +151,21 @@ module _ (f : Renumbering) where
       later : (i : WorldItem) (a : ℕ) → has (filter_map item_interface (items olds)) a ≡ true → has (filter_map item_interface (i ∷ items olds)) a ≡ true
       later i a h = numbers_append item_interface (i ∷ []) (items olds) a ∙ or_right (has (filter_map item_interface (i ∷ [])) a) (has (filter_map item_interface (items olds)) a) h
 
-      head : (a b : ℕ) (i : WorldItem) → item_interface i ≡ Some a → b ≡ f.interfaces a → f.carries_interface a ≡ true → (c : Bool) → (b == t) ≡ c → (c || has (filter_map item_interface (items news)) t) ≡ true → (has (filter_map item_interface (items news)) t ≡ true → (a : ℕ) × (f.carries_interface a ≡ true) × (f.interfaces a ≡ t) × (has (filter_map item_interface (items olds)) a ≡ true))
+      head : (a b : ℕ) (i : WorldItem) → item_interface i ≡ Some a → b ≡ f.interfaces a → f.carries_interface a ≡ true → (c : Bool) → (b == t) ≡ c
+          → (c || has (filter_map item_interface (items news)) t) ≡ true → (has (filter_map item_interface (items news)) t ≡ true → (a : ℕ) × (f.carries_interface a ≡ true) × (f.interfaces a ≡ t)
+          × (has (filter_map item_interface (items olds)) a ≡ true))
           → (x : ℕ) × (f.carries_interface x ≡ true) × (f.interfaces x ≡ t) × (has (filter_map item_interface (i ∷ items olds)) x ≡ true)
-      head a b i is to d true e h more = (a, d, sym to ∙ equal b t e, ap (λ o. has (cons_option o (filter_map item_interface (items olds))) a) is ∙ ap (λ c. c || has (filter_map item_interface (items olds)) a) (same-number a))
+      head a b i is to d true e h more = (
+        a,
+        d,
+        sym to ∙ equal b t e,
+        ap (λ o. has (cons_option o (filter_map item_interface (items olds))) a) is ∙ ap
+            (λ c. c || has (filter_map item_interface (items olds)) a) (same-number a),
+      )
       head a b i is to d false e h more = let r = more h in (r.0, r.1, r.2, later i r.0 r.3)
 
-      go : (i j : WorldItem) → ItemBecomes f i j → has (filter_map item_interface (j ∷ items news)) t ≡ true → (has (filter_map item_interface (items news)) t ≡ true → (a : ℕ) × (f.carries_interface a ≡ true) × (f.interfaces a ≡ t) × (has (filter_map item_interface (items olds)) a ≡ true))
+      go : (i j : WorldItem) → ItemBecomes f i j → has (filter_map item_interface (j ∷ items news)) t ≡ true
+          → (has (filter_map item_interface (items news)) t ≡ true → (a : ℕ) × (f.carries_interface a ≡ true) × (f.interfaces a ≡ t) × (has (filter_map item_interface (items olds)) a ≡ true))
           → (x : ℕ) × (f.carries_interface x ≡ true) × (f.interfaces x ≡ t) × (has (filter_map item_interface (i ∷ items olds)) x ≡ true)
       go (item.Interface a st docs ext) (item.Interface b st2 docs2 ext2) z h more = head a.0 b.0 (item.Interface a st docs ext) refl z.0 z.1 (b.0 == t) refl h more
       go (item.Function g) (item.Function k) z h more = more h
@@ -185,11 +200,13 @@ module _ (f : Renumbering) where
         go false p true q = no_true (sym p ∙ back i j z q)
 
     -- a copy is shown as often as what it copies
-    pub same_times : (own olds news : List (WorldKey × WorldItem)) → has (filter_map item_interface (items own)) (f.interfaces m) ≡ false → Joined f own olds news → shown (f.interfaces m) news ≡ shown m olds
+    pub same_times : (own olds news : List (WorldKey × WorldItem)) → has (filter_map item_interface (items own)) (f.interfaces m) ≡ false → Joined f own olds news
+        → shown (f.interfaces m) news ≡ shown m olds
     same_times own _ _ fresh none = refl
     same_times own _ _ fresh (met old there olds news held k stands rest) =
         same_times own olds news fresh rest
-        ∙ sym (sum_by-cons (λ i. cond (is_id m (item_interface i)) 1 0) old.1 (items olds) ∙ (ap (λ b. cond b 1 0 + shown m olds) (other (is_id m (item_interface old.1)) refl) ∙ nothing (shown m olds)))
+        ∙ sym (sum_by-cons (λ i. cond (is_id m (item_interface i)) 1 0) old.1 (items olds)
+        ∙ (ap (λ b. cond b 1 0 + shown m olds) (other (is_id m (item_interface old.1)) refl) ∙ nothing (shown m olds)))
       where
         nothing : (n : ℕ) → 0 + n ≡ n
         nothing n = omega arith

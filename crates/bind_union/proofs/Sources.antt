@@ -35,13 +35,15 @@ pub record Source (s : Resolve) : Type 0 where
   pub carried : IsCarried from s under
 
 -- a copied type refers to smaller numbers
-pub copy_refers : (s : Resolve) (c : Source s) (n : ℕ) (copy : c.under.copies_type n ≡ true) → list_all (λ m. nat_lt m (c.under.types n)) (kind_numbers (c.carried.types n (c.carried.copied_types n copy)).image.kind) ≡ true
+pub copy_refers : (s : Resolve) (c : Source s) (n : ℕ) (copy : c.under.copies_type n ≡ true)
+    → list_all (λ m. nat_lt m (c.under.types n)) (kind_numbers (c.carried.types n (c.carried.copied_types n copy)).image.kind) ≡ true
 copy_refers s c n copy =
     let t = c.carried.types n (c.carried.copied_types n copy) in
     let k = (t.copied copy).kind in
     ap (list_all (λ m. nat_lt m (c.under.types n))) (numbers_same c.under.types t.def.kind t.image.kind k.kinds)
     ∙ (list_all-map (λ m. nat_lt m (c.under.types n)) c.under.types (kind_numbers t.def.kind)
-    ∙ all_two c.under.carries_type (λ m. nat_lt m n) (λ m. nat_lt (c.under.types m) (c.under.types n)) (λ m d h. lt-ltb (c.under.types m) (c.under.types n) (c.carried.types_rise m n d copy (inl (ltb-true m n h)))) (kind_numbers t.def.kind)
+    ∙ all_two c.under.carries_type (λ m. nat_lt m n) (λ m. nat_lt (c.under.types m) (c.under.types n))
+    (λ m d h. lt-ltb (c.under.types m) (c.under.types n) (c.carried.types_rise m n d copy (inl (ltb-true m n h)))) (kind_numbers t.def.kind)
     (ap (list_all c.under.carries_type) (sym (numbers_of_view t.def.kind)) ∙ k.parts)
     (below_at c.from (references_of c.from c.valid) n t.def t.found))
 
@@ -66,7 +68,9 @@ module _ (own other merged : Resolve) (bound other_bound : ℕ) (first second : 
     ]
   ]
 
-  pub each_type : (test : ℕ → TypeDef → Bool) → ((c : Source merged) (n : ℕ) (copy : c.under.copies_type n ≡ true) → test (c.under.types n) (c.carried.types n (c.carried.copied_types n copy)).image ≡ true) → each_from test 0 merged.types.items ≡ true
+  pub each_type : (test : ℕ → TypeDef → Bool)
+      → ((c : Source merged) (n : ℕ) (copy : c.under.copies_type n ≡ true) → test (c.under.types n) (c.carried.types n (c.carried.copied_types n copy)).image ≡ true)
+      → each_from test 0 merged.types.items ≡ true
   each_type test one = each_by_number test merged.types.items (λ n def e.
       let source = type_source n (slice_get_within merged.types.items n def e) in
       let c = source.0 in
@@ -91,7 +95,9 @@ module _ (own other merged : Resolve) (bound other_bound : ℕ) (first second : 
     ]
   ]
 
-  pub each_interface : (test : ℕ → Interface → Bool) → ((c : Source merged) (n : ℕ) (copy : c.under.copies_interface n ≡ true) → test (c.under.interfaces n) (c.carried.interfaces n (c.carried.copied_interfaces n copy)).image ≡ true) → each_from test 0 merged.interfaces.items ≡ true
+  pub each_interface : (test : ℕ → Interface → Bool)
+      → ((c : Source merged) (n : ℕ) (copy : c.under.copies_interface n ≡ true) → test (c.under.interfaces n) (c.carried.interfaces n (c.carried.copied_interfaces n copy)).image ≡ true)
+      → each_from test 0 merged.interfaces.items ≡ true
   each_interface test one = each_by_number test merged.interfaces.items (λ n i e.
       let source = interface_source n (slice_get_within merged.interfaces.items n i e) in
       let c = source.0 in
@@ -99,15 +105,19 @@ module _ (own other merged : Resolve) (bound other_bound : ℕ) (first second : 
       let here : t.image ≡ i = same-some t.image i (sym t.at_image ∙ (ap (interface_at merged) source.1.2 ∙ e)) in
       subst (λ (d : Interface). test n d ≡ true) here (subst (λ (k : ℕ). test k t.image ≡ true) source.1.2 (one c source.1.0 source.1.1)))
 
-  by_interface : (test : ℕ → Interface → Bool) (c : Source merged) (n : ℕ) (i : Interface) → interface_at merged n ≡ Some i → ((k : ℕ) (copy : c.under.copies_interface k ≡ true) → test (c.under.interfaces k) (c.carried.interfaces k (c.carried.copied_interfaces k copy)).image ≡ true) → IsCopyUnder c.under.interfaces c.under.copies_interface n → test n i ≡ true
+  by_interface : (test : ℕ → Interface → Bool) (c : Source merged) (n : ℕ) (i : Interface) → interface_at merged n ≡ Some i
+      → ((k : ℕ) (copy : c.under.copies_interface k ≡ true) → test (c.under.interfaces k) (c.carried.interfaces k (c.carried.copied_interfaces k copy)).image ≡ true)
+      → IsCopyUnder c.under.interfaces c.under.copies_interface n → test n i ≡ true
   by_interface test c n i e one copy =
       let t = c.carried.interfaces copy.0 (c.carried.copied_interfaces copy.0 copy.1) in
       let here : t.image ≡ i = same-some t.image i (sym t.at_image ∙ (ap (interface_at merged) copy.2 ∙ e)) in
       subst (λ (d : Interface). test n d ≡ true) here (subst (λ (k : ℕ). test k t.image ≡ true) copy.2 (one copy.0 copy.1))
 
   -- own ones, and those that are copied once and twice
-  pub each_interface_of_three : (test : ℕ → Interface → Bool) → ((n : ℕ) (i : Interface) → interface_at own n ≡ Some i → test n i ≡ true) → ((k : ℕ) (copy : first.copies_interface k ≡ true) → test (first.interfaces k) (is.first_copies.carried.interfaces k (is.first_copies.carried.copied_interfaces k copy)).image ≡ true)
-      → ((k : ℕ) (copy : second.copies_interface k ≡ true) → test (second.interfaces k) (is.second_copies.carried.interfaces k (is.second_copies.carried.copied_interfaces k copy)).image ≡ true) → each_from test 0 merged.interfaces.items ≡ true
+  pub each_interface_of_three : (test : ℕ → Interface → Bool) → ((n : ℕ) (i : Interface) → interface_at own n ≡ Some i → test n i ≡ true)
+      → ((k : ℕ) (copy : first.copies_interface k ≡ true) → test (first.interfaces k) (is.first_copies.carried.interfaces k (is.first_copies.carried.copied_interfaces k copy)).image ≡ true)
+      → ((k : ℕ) (copy : second.copies_interface k ≡ true) → test (second.interfaces k) (is.second_copies.carried.interfaces k (is.second_copies.carried.copied_interfaces k copy)).image ≡ true)
+      → each_from test 0 merged.interfaces.items ≡ true
   each_interface_of_three test a b c = each_by_number test merged.interfaces.items (λ n i e. elim (low_or_high n (length own.interfaces.items)) [
     | inl low ↦ own_one n i e (found-in own.interfaces.items n (lt-ltb n (length own.interfaces.items) low))
     | inr high ↦ elim (is.interface_from n high (slice_get_within merged.interfaces.items n i e)) [
@@ -163,5 +173,6 @@ module _ (own other merged : Resolve) (bound other_bound : ℕ) (first second : 
           subst (λ (d : World). test n d ≡ true) image (subst (λ (k : ℕ). test k j.image ≡ true) c.2 (copies c.0 c.1))
 
   -- a test that holds of each joined world
-  pub each_joined : (test : ℕ → World → Bool) → ((c : Source merged) (n : ℕ) (j : IsJoined c.from merged c.under n [] []) → test (c.under.worlds n) j.image ≡ true) → test bound is.joined.image ≡ true → each_from test 0 merged.worlds.items ≡ true
+  pub each_joined : (test : ℕ → World → Bool) → ((c : Source merged) (n : ℕ) (j : IsJoined c.from merged c.under n [] []) → test (c.under.worlds n) j.image ≡ true) → test bound is.joined.image ≡ true
+      → each_from test 0 merged.worlds.items ≡ true
   each_joined test one at_bound = each_world test (λ n w e apart. one own_source n (own_joined n w e apart)) (λ n c. one first_source n (is.first_worlds n c).joined) at_bound

@@ -78,7 +78,8 @@ module _ (r s : Resolve) (f : Renumbering) (valid : KeepsRules r) (is : IsCarrie
       list_all-map q (renamed_type f.types) ts
       ∙ all_two (λ t. list_all f.carries_type (option_to_list (number_of t))) p (λ t. q (renamed_type f.types t)) one ts (sym (list_all_filter_map f.carries_type number_of ts) ∙ c) h
 
-  pub no_resource_passes : (t : ValueType) → list_all f.carries_type (option_to_list (number_of t)) ≡ true → not (is_resource_type r t) ≡ true → not (is_resource_type s (renamed_type f.types t)) ≡ true
+  pub no_resource_passes : (t : ValueType) → list_all f.carries_type (option_to_list (number_of t)) ≡ true → not (is_resource_type r t) ≡ true
+      → not (is_resource_type s (renamed_type f.types t)) ≡ true
   no_resource_passes t c h = ap not (resource_type_same r s f valid is below_s t c) ∙ h
 
   pub shallow_passes : (t : ValueType) → list_all f.carries_type (option_to_list (number_of t)) ≡ true → is_shallow r t ≡ true → is_shallow s (renamed_type f.types t) ≡ true
@@ -118,7 +119,8 @@ module _ (r s : Resolve) (f : Renumbering) (valid : KeepsRules r) (is : IsCarrie
     pub named_passes : named_kinds.type_ s (f.types n) t.image ≡ true
     unfolding named_kinds
     named_passes =
-        let old : ((not (is_named_kind t.def.kind) || is_some t.def.name) && passes (is_named_number r) (alias_target t.def.kind)) ≡ true = type_passes named_kinds r valid.named_kinds n t.def t.found in
+        let old : ((not (is_named_kind t.def.kind) || is_some t.def.name) && passes (is_named_number r) (alias_target t.def.kind)) ≡ true =
+        type_passes named_kinds r valid.named_kinds n t.def t.found in
         both _ _
         ((λ i. not (named_same f.types t.def.kind t.image.kind k.kind.kinds i) || named_alike t.image.name t.def.name t.name i) ∙ first_true _ _ old)
         (ap (passes (is_named_number s)) (alias_same f.types t.def.kind t.image.kind k.kind.kinds)
@@ -154,7 +156,8 @@ module _ (r s : Resolve) (f : Renumbering) (valid : KeepsRules r) (is : IsCarrie
     pub label_passes : labels.type_ s (f.types n) t.image ≡ true
     unfolding labels
     label_passes =
-        (λ i. label_alike t.image.name t.def.name t.name i && (stability_alike t.image.stability t.def.stability k.stability i && are_member_labels (labels_same f.types t.def.kind t.image.kind k.kind.kinds i)))
+        (λ i. label_alike t.image.name t.def.name t.name i && (stability_alike t.image.stability t.def.stability k.stability i && are_member_labels
+        (labels_same f.types t.def.kind t.image.kind k.kind.kinds i)))
         ∙ type_passes labels r valid.labels n t.def t.found
 
     -- the first part of the rule on order of types
@@ -163,7 +166,8 @@ module _ (r s : Resolve) (f : Renumbering) (valid : KeepsRules r) (is : IsCarrie
     copy_refers_below =
         ap (list_all (λ m. nat_lt m (f.types n))) (numbers_same f.types t.def.kind t.image.kind k.kind.kinds)
         ∙ (list_all-map (λ m. nat_lt m (f.types n)) f.types (kind_numbers t.def.kind)
-        ∙ all_two f.carries_type (λ m. nat_lt m n) (λ m. nat_lt (f.types m) (f.types n)) (λ m c h. lt-ltb (f.types m) (f.types n) (is.types_rise m n c copy (inl (ltb-true m n h)))) (kind_numbers t.def.kind) parts
+        ∙ all_two f.carries_type (λ m. nat_lt m n) (λ m. nat_lt (f.types m) (f.types n)) (λ m c h. lt-ltb (f.types m) (f.types n) (is.types_rise m n c copy (inl (ltb-true m n h))))
+        (kind_numbers t.def.kind) parts
         (below_at r (references_of r valid) n t.def t.found))
 
     -- owners
@@ -202,15 +206,19 @@ module _ (r s : Resolve) (f : Renumbering) (valid : KeepsRules r) (is : IsCarrie
 
     use_passes : same_owner t.def.owner owner.None ≡ false → is_use r t.def ≡ true → is_use s t.image ≡ true
     use_passes owned h =
-        ap (λ o. option_map_or (λ m. option_map_or (λ target. not (same_owner target.owner t.image.owner) && is_named_interface s (owner_interface target.owner)) (type_at s m) false) o false) (alias_same f.types t.def.kind t.image.kind k.kind.kinds)
+        ap (λ o. option_map_or (λ m. option_map_or (λ target. not (same_owner target.owner t.image.owner) && is_named_interface s (owner_interface target.owner)) (type_at s m) false) o false)
+        (alias_same f.types t.def.kind t.image.kind k.kind.kinds)
         ∙ target (alias_target t.def.kind) (alias_of_all f.carries_type t.def.kind parts) h
       where
-        target : (o : Option ℕ) → passes f.carries_type o ≡ true → option_map_or (λ m. option_map_or (λ target. not (same_owner target.owner t.def.owner) && is_named_interface r (owner_interface target.owner)) (type_at r m) false) o false ≡ true
-            → option_map_or (λ m. option_map_or (λ target. not (same_owner target.owner t.image.owner) && is_named_interface s (owner_interface target.owner)) (type_at s m) false) (option_map f.types o) false ≡ true
+        target : (o : Option ℕ) → passes f.carries_type o ≡ true
+            → option_map_or (λ m. option_map_or (λ target. not (same_owner target.owner t.def.owner) && is_named_interface r (owner_interface target.owner)) (type_at r m) false) o false ≡ true
+            → option_map_or (λ m. option_map_or (λ target. not (same_owner target.owner t.image.owner) && is_named_interface s (owner_interface target.owner)) (type_at s m) false)
+            (option_map f.types o) false ≡ true
         target None c h = h
         target (Some m) c h =
             let u = is.types m c in
-            let old : (not (same_owner u.def.owner t.def.owner) && is_named_interface r (owner_interface u.def.owner)) ≡ true = sym (ap (λ x. option_map_or (λ target. not (same_owner target.owner t.def.owner) && is_named_interface r (owner_interface target.owner)) x false) u.found) ∙ h in
+            let old : (not (same_owner u.def.owner t.def.owner) && is_named_interface r (owner_interface u.def.owner)) ≡ true =
+            sym (ap (λ x. option_map_or (λ target. not (same_owner target.owner t.def.owner) && is_named_interface r (owner_interface target.owner)) x false) u.found) ∙ h in
             ap (λ x. option_map_or (λ target. not (same_owner target.owner t.image.owner) && is_named_interface s (owner_interface target.owner)) x false) u.at_image
             ∙ both _ _
             ((λ i. not (same_owner (u.home i) (t.home i)))
@@ -230,12 +238,16 @@ module _ (r s : Resolve) (f : Renumbering) (valid : KeepsRules r) (is : IsCarrie
 
     pub stay_passes : owners.type_ s (f.types n) t.image ≡ true
     unfolding owners
-    stay_passes = go (same_owner t.def.owner owner.None) (list_all (has_owner r t.def.owner) (used_by_type r t.def)) (is_some t.def.name) (is_use r t.def) refl refl refl refl (type_passes owners r valid.owners n t.def t.found)
+    stay_passes = go (same_owner t.def.owner owner.None) (list_all (has_owner r t.def.owner) (used_by_type r t.def)) (is_some t.def.name) (is_use r t.def) refl refl refl refl
+        (type_passes owners r valid.owners n t.def t.found)
       where
-        go : (a b c d : Bool) → same_owner t.def.owner owner.None ≡ a → list_all (has_owner r t.def.owner) (used_by_type r t.def) ≡ b → is_some t.def.name ≡ c → is_use r t.def ≡ d → (a || (b || (c && d))) ≡ true → (first_test || (second_test || third_test)) ≡ true
+        go : (a b c d : Bool) → same_owner t.def.owner owner.None ≡ a → list_all (has_owner r t.def.owner) (used_by_type r t.def) ≡ b → is_some t.def.name ≡ c → is_use r t.def ≡ d
+            → (a || (b || (c && d))) ≡ true → (first_test || (second_test || third_test)) ≡ true
         go true b c d p q u v h = or_left first_test (second_test || third_test) (ap (λ o. same_owner o owner.None) t.home ∙ (unowned t.def.owner ∙ p))
         go false true c d p q u v h =
-            or_right first_test (second_test || third_test) (or_left second_test third_test ((λ i. list_all (has_owner s (t.home i)) (used_there i)) ∙ all_owned t.def.owner (used_by_type r t.def) used q))
-        go false false true true p q u v h = or_right first_test (second_test || third_test) (or_right second_test third_test (both _ _ (named_alike t.image.name t.def.name t.name ∙ u) (use_passes p v)))
+            or_right first_test (second_test || third_test) (or_left second_test third_test
+            ((λ i. list_all (has_owner s (t.home i)) (used_there i)) ∙ all_owned t.def.owner (used_by_type r t.def) used q))
+        go false false true true p q u v h = or_right first_test (second_test || third_test)
+            (or_right second_test third_test (both _ _ (named_alike t.image.name t.def.name t.name ∙ u) (use_passes p v)))
         go false false true false p q u v h = no_true h
         go false false false d p q u v h = no_true h

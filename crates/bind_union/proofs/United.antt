@@ -39,7 +39,8 @@ some_name None t h = no_true h
 some_name (Some s) t h = ap Some (text-same (text_of s) t h)
 
 -- what stood under a name is met or copied
-joined_either : (number : ℕ → ℕ) (copies : ℕ → Bool) (own olds news : List (Text × ℕ)) → JoinedNames number copies (λ n. false) own olds news → (name : Text) (n : ℕ) → Contains olds (name, n) → Contains own (name, number n) ⊎ (copies n ≡ true)
+joined_either : (number : ℕ → ℕ) (copies : ℕ → Bool) (own olds news : List (Text × ℕ)) → JoinedNames number copies (λ n. false) own olds news → (name : Text) (n : ℕ) → Contains olds (name, n)
+    → Contains own (name, number n) ⊎ (copies n ≡ true)
 joined_either number copies own _ _ none name n c = none-in (name, n) c
 joined_either number copies own _ _ (left t old olds news l rest) name n c = no_true l
 joined_either number copies own _ _ (met t old olds news held rest) name n (zero, l, e) = inl (subst (λ (x : Text × ℕ). Contains own (x.0, number x.1)) e held)
@@ -73,7 +74,8 @@ module _ (own other merged : Resolve) (bound other_bound : ℕ) (first second : 
         let m = ours.interfaces x.0 h.def h.there in
         (x.0, m.1 ∙ x.1, m.0 ∙ x.2)
 
-    copied : (m : ℕ) → first.copies_interface m ≡ true → (interface_meaning_at merged (first.interfaces m) ≡ interface_meaning_at other m) × (interface_path merged (first.interfaces m) ≡ interface_path other m)
+    copied : (m : ℕ) → first.copies_interface m ≡ true → (interface_meaning_at merged (first.interfaces m) ≡ interface_meaning_at other m)
+        × (interface_path merged (first.interfaces m) ≡ interface_path other m)
     copied m copy = theirs.interfaces m copy
 
     new_path : (n : ℕ) → length own.interfaces.items ≤ n → interface_path merged n ≡ Some path → ShowsNone own path
@@ -93,7 +95,8 @@ module _ (own other merged : Resolve) (bound other_bound : ℕ) (first second : 
         own_one : (x : Interface) × (interface_at own n ≡ Some x) → Shows own path meaning
         own_one x = let m = ours.interfaces n x.0 x.1 in (n, sym m.1 ∙ e, sym m.0 ∙ d)
 
-        copy : length own.interfaces.items ≤ n → IsCopyUnder first.interfaces first.copies_interface n ⊎ IsCopyUnder second.interfaces second.copies_interface n → Shows other path meaning × ShowsNone own path
+        copy : length own.interfaces.items ≤ n → IsCopyUnder first.interfaces first.copies_interface n ⊎ IsCopyUnder second.interfaces second.copies_interface n → Shows other path meaning
+            × ShowsNone own path
         copy high (inl c) =
             let m = copied c.0 c.1 in
             ((c.0, sym m.1 ∙ (ap (interface_path merged) c.2 ∙ e), sym m.0 ∙ (ap (interface_meaning_at merged) c.2 ∙ d)), new_path n high e)
@@ -111,7 +114,8 @@ module _ (own other merged : Resolve) (bound other_bound : ℕ) (first second : 
         h = has-path other n path e
 
         held : Contains (interface_names h.package_) (text_of h.name, n)
-        held = under_contains (text_of h.name) (interface_names h.package_) n (some_id n (under_text (text_of h.name) (interface_names h.package_)) (sym (ap (is_id n) (interfaces_by_name h.package_ (text_of h.name))) ∙ path-listed other valid_other n path h))
+        held = under_contains (text_of h.name) (interface_names h.package_) n
+            (some_id n (under_text (text_of h.name) (interface_names h.package_)) (sym (ap (is_id n) (interfaces_by_name h.package_ (text_of h.name))) ∙ path-listed other valid_other n path h))
 
         brings : first.copies_interface n ≡ true → Shows merged path meaning
         brings copy = let m = copied n copy in (first.interfaces n, m.1 ∙ e, m.0 ∙ d)
@@ -122,20 +126,24 @@ module _ (own other merged : Resolve) (bound other_bound : ℕ) (first second : 
             by : Contains {X = Text × ℕ} [] (text_of h.name, first.interfaces n) ⊎ (first.copies_interface n ≡ true) → Shows merged path meaning
             by (inl c) = none-in (text_of h.name, first.interfaces n) c
             by (inr c) = brings c
-        stands (grown o at j a b) = by (joined_either first.interfaces first.copies_interface (interface_names o) (interface_names h.package_) j.new_interfaces j.joined_interfaces (text_of h.name) n held)
+        stands (grown o at j a b) = by (joined_either first.interfaces first.copies_interface (interface_names o) (interface_names h.package_) j.new_interfaces j.joined_interfaces
+            (text_of h.name) n held)
           where
             by : Contains (interface_names o) (text_of h.name, first.interfaces n) ⊎ (first.copies_interface n ≡ true) → Shows merged path meaning
             by (inr c) = brings c
             by (inl c) =
-                let i = found_option _ (interface_at own (first.interfaces n)) (all-contained (is_interface_of own (first.packages h.home.0)) (interface_names o) (text_of h.name, first.interfaces n) (interfaces_stand own valid_own.rules (first.packages h.home.0) o at) c) in
+                let i = found_option _ (interface_at own (first.interfaces n)) (all-contained (is_interface_of own (first.packages h.home.0)) (interface_names o) (text_of h.name, first.interfaces n)
+                (interfaces_stand own valid_own.rules (first.packages h.home.0) o at) c) in
                 let q = is.packages (first.packages h.home.0) o at in
                 let p = is.first_copies.carried.packages h.home.0 h.package_ h.stands in
                 let one : p.image ≡ q.0 = same-some p.image q.0 (sym p.at_image ∙ q.1) in
-                let identities : identity_of o.name ≡ identity_of h.package_.name = sym (same_identity o.name q.0.name q.2) ∙ (ap (λ x. identity_of x.name) (sym one) ∙ same_identity h.package_.name p.image.name p.name) in
+                let identities : identity_of o.name ≡ identity_of h.package_.name =
+                sym (same_identity o.name q.0.name q.2) ∙ (ap (λ x. identity_of x.name) (sym one) ∙ same_identity h.package_.name p.image.name p.name) in
                 let its_path : interface_path own (first.interfaces n) ≡ Some (path_in (identity_of o.name) (text_of h.name)) =
                 ap (option_and_then (path_of_interface own)) i.1
                 ∙ (path_parts own i.0
-                ∙ ((λ z. path_by own (some_name i.0.name (text_of h.name) (first_true _ _ i.2) z) (some_id (first.packages h.home.0) (package_number i.0.«package») (second_true (text_is i.0.name (text_of h.name)) _ i.2) z))
+                ∙ ((λ z. path_by own (some_name i.0.name (text_of h.name) (first_true _ _ i.2) z)
+                (some_id (first.packages h.home.0) (package_number i.0.«package») (second_true (text_is i.0.name (text_of h.name)) _ i.2) z))
                 ∙ ap (option_map (λ package_. path_in (identity_of package_.name) (text_of h.name))) at)) in
                 absurd (none_such (first.interfaces n) (its_path ∙ ap Some (ap (λ x. path_in x (text_of h.name)) identities ∙ sym h.spelled)))
 

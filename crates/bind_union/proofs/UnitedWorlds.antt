@@ -48,7 +48,8 @@ world_path r w = go w.«package»
     go (Some p) = refl
 
 -- what stood under a name is met, left out or copied
-joined_world : (number : ℕ → ℕ) (copies left_out : ℕ → Bool) (own olds news : List (Text × ℕ)) → JoinedNames number copies left_out own olds news → (name : Text) (n : ℕ) → Contains olds (name, n) → left_out n ≡ false → Contains own (name, number n) ⊎ (copies n ≡ true)
+joined_world : (number : ℕ → ℕ) (copies left_out : ℕ → Bool) (own olds news : List (Text × ℕ)) → JoinedNames number copies left_out own olds news → (name : Text) (n : ℕ) → Contains olds (name, n)
+    → left_out n ≡ false → Contains own (name, number n) ⊎ (copies n ≡ true)
 joined_world number copies left_out own _ _ none name n c k = none-in (name, n) c
 joined_world number copies left_out own _ _ (left t old olds news l rest) name n (zero, d, e) k = no_true (sym k ∙ subst (λ (x : Text × ℕ). left_out x.1 ≡ true) e l)
 joined_world number copies left_out own _ _ (left t old olds news l rest) name n (suc i, d, e) k = joined_world number copies left_out own olds news rest name n (i, omega (arith, d), e) k
@@ -79,7 +80,8 @@ module _ (own other merged : Resolve) (bound other_bound : ℕ) (first second : 
   own_path : (n : ℕ) (w : World) → world_at own n ≡ Some w → path_of_world merged w ≡ path_of_world own w
   own_path n w e =
       world_path merged w
-      ∙ (own_path_by (text_of w.name) (package_number w.«package») (world_package own other merged bound other_bound first second left_out valid_own.rules valid_other.rules is own valid_own.rules n w e)
+      ∙ (own_path_by (text_of w.name) (package_number w.«package») (world_package own other merged bound other_bound first second left_out valid_own.rules valid_other.rules is own
+      valid_own.rules n w e)
       ∙ sym (world_path own w))
 
   bound_path : path_of_world merged is.joined.image ≡ path_of_world own is.own_bound
@@ -95,7 +97,8 @@ module _ (own other merged : Resolve) (bound other_bound : ℕ) (first second : 
       let range = world_package own other merged bound other_bound first second left_out valid_own.rules valid_other.rules is other valid_other.rules m j.old j.found in
       world_path merged j.image
       ∙ ((λ i. path_by merged (Some (w.name i)) (w.in_package i))
-      ∙ (same_path_by other merged first valid_other.rules is.first_copies.carried below_s (Some (text_of j.old.name)) (package_number j.old.«package») (λ k e. found-in other.packages.items k (sym (ap (passes (in_list other.packages.items)) e) ∙ range))
+      ∙ (same_path_by other merged first valid_other.rules is.first_copies.carried below_s (Some (text_of j.old.name)) (package_number j.old.«package»)
+      (λ k e. found-in other.packages.items k (sym (ap (passes (in_list other.packages.items)) e) ∙ range))
       ∙ sym (world_path other j.old)))
 
   -- ---- meanings
@@ -103,7 +106,8 @@ module _ (own other merged : Resolve) (bound other_bound : ℕ) (first second : 
   own_means : (n : ℕ) (w : World) → world_at own n ≡ Some w → (n == bound) ≡ false → world_meaning merged w ≡ world_meaning own w
   own_means n w e apart =
       sym (ap (λ o. option_map_or (world_meaning merged) o no_world) (is.worlds n w e apart))
-      ∙ ((merged_means own other merged bound other_bound first second left_out valid_own valid_other is).0.worlds n w e (λ same. no_true (sym apart ∙ subst (λ (k : ℕ). (k == bound) ≡ true) (sym same) (same-number bound)))
+      ∙ ((merged_means own other merged bound other_bound first second left_out valid_own valid_other is).0.worlds n w e
+      (λ same. no_true (sym apart ∙ subst (λ (k : ℕ). (k == bound) ≡ true) (sym same) (same-number bound)))
       ∙ ap (λ o. option_map_or (world_meaning own) o no_world) e)
 
   copy_means : (m : ℕ) (c : first.carries_world m ≡ true) → world_meaning merged (is.first_worlds m c).joined.image ≡ world_meaning other (is.first_worlds m c).joined.old
@@ -134,27 +138,40 @@ module _ (own other merged : Resolve) (bound other_bound : ℕ) (first second : 
       g = has-world-path own n path (ap (option_and_then (path_of_world own)) at ∙ own_e)
 
       parts : (identity_of g.package_.name ≡ identity_of h.package_.name) × (text_of g.def.name ≡ text_of h.def.name)
-      parts = one_path (identity_of g.package_.name) (identity_of h.package_.name) (text_of g.def.name) (text_of h.def.name) (package-name own valid_own g.home.0 g.package_ g.stands).identity (world-label own valid_own n path g) (package-name other valid_other h.home.0 h.package_ h.stands).identity (world-label other valid_other m path h) (sym g.spelled ∙ h.spelled)
+      parts = one_path (identity_of g.package_.name) (identity_of h.package_.name) (text_of g.def.name) (text_of h.def.name) (package-name own valid_own g.home.0 g.package_ g.stands).identity
+          (world-label own valid_own n path g) (package-name other valid_other h.home.0 h.package_ h.stands).identity (world-label other valid_other m path h) (sym g.spelled ∙ h.spelled)
 
       same_packages : same_package_name g.package_.name h.package_.name ≡ true
-      same_packages = (same_name g.package_.name h.package_.name (package-name own valid_own g.home.0 g.package_ g.stands).version (package-name other valid_other h.home.0 h.package_ h.stands).version).1 parts.0
+      same_packages = (same_name g.package_.name h.package_.name (package-name own valid_own g.home.0 g.package_ g.stands).version
+          (package-name other valid_other h.home.0 h.package_ h.stands).version).1 parts.0
 
       stands : PackageStands own merged first left_out h.home.0 h.package_ → ⊥
       stands (brought high j fresh) = no_true (sym (fresh g.home.0 g.package_ g.stands) ∙ same_packages)
       stands (grown o d j a b) =
           let own_name = package-name own valid_own (first.packages h.home.0) o d in
           let g_name = package-name own valid_own g.home.0 g.package_ g.stands in
-          let again : same_package_name o.name g.package_.name ≡ true = (same_name o.name g.package_.name own_name.version g_name.version).1 (grown_identity h.home.0 o h.package_ d h.stands ∙ sym parts.0) in
+          let again : same_package_name o.name g.package_.name ≡ true = (same_name o.name g.package_.name own_name.version g_name.version).1
+          (grown_identity h.home.0 o h.package_ d h.stands ∙ sym parts.0) in
           let home : g.home.0 ≡ first.packages h.home.0 = package-once own valid_own (first.packages h.home.0) g.home.0 o g.package_ d g.stands again in
           let one : g.package_ ≡ o = same-some g.package_ o (sym g.stands ∙ (ap (package_at own) home ∙ d)) in
-          let there_ : is_name (text_of g.def.name) (world_names o) ≡ true = ap (λ x. is_name (text_of g.def.name) (world_names x)) (sym one) ∙ found_name (text_of g.def.name) n (world_names g.package_) (listed_by_path own valid_own n path g) in
+          let there_ : is_name (text_of g.def.name) (world_names o) ≡ true = ap (λ x. is_name (text_of g.def.name) (world_names x)) (sym one) ∙ found_name (text_of g.def.name) n
+          (world_names g.package_) (listed_by_path own valid_own n path g) in
           let new = copy_found first.worlds first.carries_world left_out (world_names o) (world_names h.package_) j.new_worlds j.joined_worlds (text_of h.def.name) m
-          (λ x y. let low = own_world_low own other merged bound other_bound first second left_out valid_own.rules valid_other.rules is (first.packages h.home.0) o d x (first.worlds m) y in let high = is.new_worlds m c in omega (arith, low, high)) (is.not_left_out m c) (listed_by_path other valid_other m path h) in
+          (λ x y. let low = own_world_low own other merged bound other_bound first second left_out valid_own.rules valid_other.rules is (first.packages h.home.0) o d x (first.worlds m) y in let high =
+          is.new_worlds m c in omega (arith, low, high)) (is.not_left_out m c) (listed_by_path other valid_other m path h) in
           no_true (sym new.1 ∙ (ap (λ x. is_name x (world_names o)) (sym parts.1) ∙ there_))
 
   module _ (path : Text) (meaning : WorldMeaning) (not_bound : path_of_world own is.own_bound ≡ Some path → ⊥) where
-    copied : (m : ℕ) (c : first.carries_world m ≡ true) → path_of_world other (is.first_worlds m c).joined.old ≡ Some path → world_meaning other (is.first_worlds m c).joined.old ≡ meaning → ShowsWorld merged path meaning
-    copied m c e d = record { number = first.worlds m; world = (is.first_worlds m c).joined.image; found = (is.first_worlds m c).joined.at_image; path_is = copy_path m c ∙ e; means = copy_means m c ∙ d }
+    copied : (m : ℕ) (c : first.carries_world m ≡ true) → path_of_world other (is.first_worlds m c).joined.old ≡ Some path → world_meaning other (is.first_worlds m c).joined.old ≡ meaning
+        → ShowsWorld merged path meaning
+    copied m c e d = record {
+      number = first.worlds m;
+      world = (is.first_worlds m c).joined.image;
+      found = (is.first_worlds m c).joined.at_image;
+      path_is = copy_path m c ∙ e;
+      means =
+          copy_means m c ∙ d;
+    }
 
     back : ShowsWorld merged path meaning → ShowsWorld own path meaning ⊎ (((x : ShowsWorld other path meaning) × (left_out x.number ≡ false)) × ShowsNoWorld own path)
     back x = elim (world_case own other merged bound other_bound first second left_out valid_own.rules valid_other.rules is x.number x.world x.found) [
@@ -168,7 +185,17 @@ module _ (own other merged : Resolve) (bound other_bound : ℕ) (first second : 
         copy : (m : ℕ) (c : first.carries_world m ≡ true) → (is.first_worlds m c).joined.image ≡ x.world → (((y : ShowsWorld other path meaning) × (left_out y.number ≡ false)) × ShowsNoWorld own path)
         copy m c same =
             let its_path : path_of_world other (is.first_worlds m c).joined.old ≡ Some path = sym (copy_path m c) ∙ (ap (path_of_world merged) same ∙ x.path_is) in (
-              (record { number = m; world = (is.first_worlds m c).joined.old; found = (is.first_worlds m c).joined.found; path_is = its_path; means = sym (copy_means m c) ∙ (ap (world_meaning merged) same ∙ x.means) }, is.not_left_out m c),
+              (
+                record {
+                  number = m;
+                  world = (is.first_worlds m c).joined.old;
+                  found = (is.first_worlds m c).joined.found;
+                  path_is = its_path;
+                  means =
+                      sym (copy_means m c) ∙ (ap (world_meaning merged) same ∙ x.means);
+                },
+                is.not_left_out m c,
+              ),
               no_own_world m c path its_path,
             )
 
@@ -176,7 +203,14 @@ module _ (own other merged : Resolve) (bound other_bound : ℕ) (first second : 
     from_own x = go (x.number == bound) refl
       where
         go : (b : Bool) → (x.number == bound) ≡ b → ShowsWorld merged path meaning
-        go false apart = record { number = x.number; world = x.world; found = is.worlds x.number x.world x.found apart; path_is = own_path x.number x.world x.found ∙ x.path_is; means = own_means x.number x.world x.found apart ∙ x.means }
+        go false apart = record {
+          number = x.number;
+          world = x.world;
+          found = is.worlds x.number x.world x.found apart;
+          path_is = own_path x.number x.world x.found ∙ x.path_is;
+          means =
+              own_means x.number x.world x.found apart ∙ x.means;
+        }
         go true same =
             let one : is.own_bound ≡ x.world = same-some is.own_bound x.world (sym is.bound_at ∙ (ap (world_at own) (sym (equal x.number bound same)) ∙ x.found)) in
             absurd (not_bound (ap (path_of_world own) one ∙ x.path_is))
@@ -188,7 +222,8 @@ module _ (own other merged : Resolve) (bound other_bound : ℕ) (first second : 
         h = has-world-path other x.number path (ap (option_and_then (path_of_world other)) x.found ∙ x.path_is)
 
         held : Contains (world_names h.package_) (text_of h.def.name, x.number)
-        held = under_contains (text_of h.def.name) (world_names h.package_) x.number (some_id x.number (under_text (text_of h.def.name) (world_names h.package_)) (listed_by_path other valid_other x.number path h))
+        held = under_contains (text_of h.def.name) (world_names h.package_) x.number
+            (some_id x.number (under_text (text_of h.def.name) (world_names h.package_)) (listed_by_path other valid_other x.number path h))
 
         brings : first.carries_world x.number ≡ true → ShowsWorld merged path meaning
         brings c =
@@ -201,12 +236,14 @@ module _ (own other merged : Resolve) (bound other_bound : ℕ) (first second : 
             by : Contains {X = Text × ℕ} [] (text_of h.def.name, first.worlds x.number) ⊎ (first.carries_world x.number ≡ true) → ShowsWorld merged path meaning
             by (inl c) = none-in (text_of h.def.name, first.worlds x.number) c
             by (inr c) = brings c
-        stands (grown o at j a b) = by (joined_world first.worlds first.carries_world left_out (world_names o) (world_names h.package_) j.new_worlds j.joined_worlds (text_of h.def.name) x.number held kept)
+        stands (grown o at j a b) = by (joined_world first.worlds first.carries_world left_out (world_names o) (world_names h.package_) j.new_worlds j.joined_worlds (text_of h.def.name)
+            x.number held kept)
           where
             by : Contains (world_names o) (text_of h.def.name, first.worlds x.number) ⊎ (first.carries_world x.number ≡ true) → ShowsWorld merged path meaning
             by (inr c) = brings c
             by (inl c) =
-                let w = found_option _ (world_at own (first.worlds x.number)) (all-contained (is_world_of own (first.packages h.home.0)) (world_names o) (text_of h.def.name, first.worlds x.number) (worlds_stand own valid_own.rules (first.packages h.home.0) o at) c) in
+                let w = found_option _ (world_at own (first.worlds x.number)) (all-contained (is_world_of own (first.packages h.home.0)) (world_names o) (text_of h.def.name, first.worlds x.number)
+                (worlds_stand own valid_own.rules (first.packages h.home.0) o at) c) in
                 let name : text_of w.0.name ≡ text_of h.def.name = text-same (text_of w.0.name) (text_of h.def.name) (first_true _ _ w.2) in
                 let its_path : path_of_world own w.0 ≡ Some (path_in (identity_of o.name) (text_of h.def.name)) =
                 world_path own w.0

@@ -27,7 +27,8 @@ given_both f o None xs ys e d = ap (λ q. cons_option q xs) e ∙ d
 given_both f o (Some x) xs ys e d = ap (λ q. cons_option q xs) e ∙ ap (λ zs. f x ∷ zs) d
 
 -- what is given of images are the images of what is given
-pub filter_both : {A B X Y : Type 0} (h : B → Option Y) (g : A → B) (k : A → Option X) (f : X → Y) → ((a : A) → h (g a) ≡ option_map f (k a)) → (xs : List A) → filter_map h (map g xs) ≡ map f (filter_map k xs)
+pub filter_both : {A B X Y : Type 0} (h : B → Option Y) (g : A → B) (k : A → Option X) (f : X → Y) → ((a : A) → h (g a) ≡ option_map f (k a)) → (xs : List A)
+    → filter_map h (map g xs) ≡ map f (filter_map k xs)
 filter_both h g k f same [] = refl
 filter_both h g k f same (x ∷ xs) = given_both f (h (g x)) (k x) (filter_map h (map g xs)) (filter_map k xs) (same x) (filter_both h g k f same xs)
 
@@ -116,7 +117,8 @@ types_by_view (kind.Type_ t) = refl
 
 pub types_under : (f : ℕ → ℕ) (v : KindView) → view_types (renamed f v) ≡ map (renamed_type f) (view_types v)
 types_under f (record_view fields) = map-map (λ (y : Text × ValueType). y.1) (λ x. (x.0, renamed_type f x.1)) fields ∙ sym (map-map (renamed_type f) (λ (x : Text × ValueType). x.1) fields)
-types_under f (variant_view cases) = filter_both (λ (y : Text × Option ValueType). y.1) (λ x. (x.0, option_map (renamed_type f) x.1)) (λ (x : Text × Option ValueType). x.1) (renamed_type f) (λ x. refl) cases
+types_under f (variant_view cases) = filter_both (λ (y : Text × Option ValueType). y.1) (λ x. (x.0, option_map (renamed_type f) x.1)) (λ (x : Text × Option ValueType). x.1) (renamed_type f)
+    (λ x. refl) cases
 types_under f (flags_view names) = refl
 types_under f (enum_view names) = refl
 types_under f (tuple_view ts) = refl

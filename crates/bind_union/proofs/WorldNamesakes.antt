@@ -44,8 +44,6 @@ use Rattle.wit_model.proofs.RulesLemmas.{is_id_some as some_id}
 use Rattle.wit_model.proofs.TextLemmas.{text_same as text-same}
 use Rattle.wit_model.proofs.ValidLemmas.{type_passes, world_passes as world-passes}
 
--- ---- look-ups
-
 -- ---- types of a world
 
 module _ (r : Resolve) (v : IsValid r) (n : ℕ) (w : World) (at : world_at r n ≡ Some w) where
@@ -64,7 +62,8 @@ module _ (r : Resolve) (v : IsValid r) (n : ℕ) (w : World) (at : world_at r n 
   named_so (Some s) t h = (s, refl, text-same (text_of s) t h)
 
   range_at : (k : WorldKey) (i : WorldItem) → Contains w.imports.entries (k, i) → item_in_range r i ≡ true
-  range_at k i c = second_true (key_in_range r k) (item_in_range r i) (all-contained (λ (e : WorldKey × WorldItem). key_in_range r e.0 && item_in_range r e.1) w.imports.entries (k, i) (world_range r v.rules n w at).0 c)
+  range_at k i c = second_true (key_in_range r k) (item_in_range r i) (all-contained (λ (e : WorldKey × WorldItem). key_in_range r e.0 && item_in_range r e.1) w.imports.entries (k, i)
+      (world_range r v.rules n w at).0 c)
 
   pub world_type : (k : WorldKey) (i : WorldItem) → Contains w.imports.entries (k, i) → (t : ℕ) → item_type i ≡ Some t → IsWorldType k t
   unfolding world_items
@@ -80,7 +79,8 @@ module _ (r : Resolve) (v : IsValid r) (n : ℕ) (w : World) (at : world_at r n 
       go (key.Name label) (item.Type_ m) e h low =
           let same : m.0 ≡ t = same-some m.0 t e in
           let d = found-in r.types.items m.0 low in
-          let ours : (text_is d.0.name (text_of label) && same_owner d.0.owner (as_world n)) ≡ true = sym (ap (passes (λ def. text_is def.name (text_of label) && same_owner def.owner (as_world n))) d.1) ∙ h in
+          let ours : (text_is d.0.name (text_of label) && same_owner d.0.owner (as_world n)) ≡ true =
+          sym (ap (passes (λ def. text_is def.name (text_of label) && same_owner def.owner (as_world n))) d.1) ∙ h in
           let s = named_so d.0.name (text_of label) (first_true _ _ ours) in
           record {
             def = d.0;
@@ -105,7 +105,8 @@ module _ (r : Resolve) (v : IsValid r) (n : ℕ) (w : World) (at : world_at r n 
   type_imported t def e s named_ home = go (lookup (is_name_key (text_of s)) w.imports.entries) refl (first_true _ _ in_it)
     where
       listed : is_listed r t (text_of s) def.owner ≡ true
-      listed = sym (ap (λ o. option_map_or (λ name. is_listed r t (text_of name) def.owner) o (same_owner def.owner owner.None)) named_) ∙ second_true (list_all (λ m. nat_lt m t) (kind_numbers def.kind)) _ (type_passes order_of_types r v.rules.order_of_types t def e)
+      listed = sym (ap (λ o. option_map_or (λ name. is_listed r t (text_of name) def.owner) o (same_owner def.owner owner.None)) named_) ∙ second_true
+          (list_all (λ m. nat_lt m t) (kind_numbers def.kind)) _ (type_passes order_of_types r v.rules.order_of_types t def e)
 
       in_it : (is_id t (option_and_then item_type (get_by (is_name_key (text_of s)) w.imports)) && (count_by (λ m. m == t) (world_type_numbers w) == 1)) ≡ true
       in_it = sym (ap (passes (is_listed_in_world t (text_of s))) at) ∙ (sym (ap (is_listed r t (text_of s)) home) ∙ listed)
@@ -121,32 +122,42 @@ module _ (r : Resolve) (v : IsValid r) (n : ℕ) (w : World) (at : world_at r n 
           record { entry = (x.0, i); held = x.1; is_type = some_id t (item_type i) h; text = key_is x.0 x.2 }
 
   -- what a type of the world is another name of is the world's, or that of an interface with a path
-  pub target_home : (t : ℕ) (def : TypeDef) → type_at r t ≡ Some def → def.owner ≡ as_world n → (u : ℕ) → alias_target def.kind ≡ Some u → (x : IsTarget r v u) → (x.def.owner ≡ as_world n) ⊎ ((a : ℕ) × (x.def.owner ≡ as_interface a) × (is_some (interface_path r a) ≡ true))
+  pub target_home : (t : ℕ) (def : TypeDef) → type_at r t ≡ Some def → def.owner ≡ as_world n → (u : ℕ) → alias_target def.kind ≡ Some u → (x : IsTarget r v u) → (x.def.owner ≡ as_world n)
+      ⊎ ((a : ℕ) × (x.def.owner ≡ as_interface a) × (is_some (interface_path r a) ≡ true))
   unfolding owners
-  target_home t def e home u alias x = go (list_all (has_owner r def.owner) (used_by_type r def)) refl (owned_stays r def (type_passes owners r v.rules.owners t def e) (ap (λ o. same_owner o owner.None) home))
+  target_home t def e home u alias x = go (list_all (has_owner r def.owner) (used_by_type r def)) refl
+      (owned_stays r def (type_passes owners r v.rules.owners t def e) (ap (λ o. same_owner o owner.None) home))
     where
       met_ : met_by (met_of r) u ≡ u ∷ []
       met_ = met_step r (references_of r v.rules) u x.def x.found ∙ ap (λ o. option_map_or (λ name. u ∷ []) o (used_by_type r x.def)) x.named_
 
       own_one : list_all (has_owner r def.owner) (used_by_type r def) ≡ true → x.def.owner ≡ as_world n
       own_one h =
-          let all : list_all (λ m. list_all (has_owner r def.owner) (met_by (met_of r) m)) (kind_numbers def.kind) ≡ true = sym (all_flat (has_owner r def.owner) (met_by (met_of r)) (kind_numbers def.kind)) ∙ h in
-          let one : list_all (has_owner r def.owner) (met_by (met_of r) u) ≡ true = sym (ap (passes (λ m. list_all (has_owner r def.owner) (met_by (met_of r) m))) alias) ∙ alias_of_all (λ m. list_all (has_owner r def.owner) (met_by (met_of r) m)) def.kind all in
+          let all : list_all (λ m. list_all (has_owner r def.owner) (met_by (met_of r) m)) (kind_numbers def.kind) ≡ true =
+          sym (all_flat (has_owner r def.owner) (met_by (met_of r)) (kind_numbers def.kind)) ∙ h in
+          let one : list_all (has_owner r def.owner) (met_by (met_of r) u) ≡ true =
+          sym (ap (passes (λ m. list_all (has_owner r def.owner) (met_by (met_of r) m))) alias) ∙ alias_of_all (λ m. list_all (has_owner r def.owner) (met_by (met_of r) m)) def.kind all in
           let here_ : has_owner r def.owner u ≡ true = first_true (has_owner r def.owner u) true (sym (ap (list_all (has_owner r def.owner)) met_) ∙ one) in
           owner_equal x.def.owner def.owner (sym (ap (λ o. option_map_or (λ y. same_owner y.owner def.owner) o false) x.found) ∙ here_) ∙ home
 
-      by_owner : (o : TypeOwner) → x.def.owner ≡ o → option_map_or (λ i. option_map_or (λ other. is_some other.name) (interface_at r i) false) (owner_interface o) false ≡ true → (a : ℕ) × (x.def.owner ≡ as_interface a) × (is_some (interface_path r a) ≡ true)
+      by_owner : (o : TypeOwner) → x.def.owner ≡ o → option_map_or (λ i. option_map_or (λ other. is_some other.name) (interface_at r i) false) (owner_interface o) false ≡ true → (a : ℕ)
+          × (x.def.owner ≡ as_interface a) × (is_some (interface_path r a) ≡ true)
       by_owner (owner.World id) k h = no_true h
       by_owner owner.None k h = no_true h
       by_owner (owner.Interface id) k h = (id.0, k, named-path r v id.0 h)
 
       another : is_use r def ≡ true → (a : ℕ) × (x.def.owner ≡ as_interface a) × (is_some (interface_path r a) ≡ true)
       another h =
-          let one : option_map_or (λ target. not (same_owner target.owner def.owner) && option_map_or (λ i. option_map_or (λ other. is_some other.name) (interface_at r i) false) (owner_interface target.owner) false) (type_at r u) false ≡ true =
-          sym (ap (λ o. option_map_or (λ m. option_map_or (λ target. not (same_owner target.owner def.owner) && option_map_or (λ i. option_map_or (λ other. is_some other.name) (interface_at r i) false) (owner_interface target.owner) false) (type_at r m) false) o false) alias) ∙ h in
-          by_owner x.def.owner refl (second_true (not (same_owner x.def.owner def.owner)) _ (sym (ap (λ o. option_map_or (λ target. not (same_owner target.owner def.owner) && option_map_or (λ i. option_map_or (λ other. is_some other.name) (interface_at r i) false) (owner_interface target.owner) false) o false) x.found) ∙ one))
+          let one : option_map_or (λ target. not (same_owner target.owner def.owner) && option_map_or (λ i. option_map_or (λ other. is_some other.name) (interface_at r i) false)
+          (owner_interface target.owner) false) (type_at r u) false ≡ true =
+          sym (ap (λ o. option_map_or (λ m. option_map_or (λ target. not (same_owner target.owner def.owner) && option_map_or
+          (λ i. option_map_or (λ other. is_some other.name) (interface_at r i) false) (owner_interface target.owner) false) (type_at r m) false) o false) alias) ∙ h in
+          by_owner x.def.owner refl (second_true (not (same_owner x.def.owner def.owner)) _
+          (sym (ap (λ o. option_map_or (λ target. not (same_owner target.owner def.owner) && option_map_or (λ i. option_map_or (λ other. is_some other.name) (interface_at r i) false)
+          (owner_interface target.owner) false) o false) x.found) ∙ one))
 
-      go : (b : Bool) → list_all (has_owner r def.owner) (used_by_type r def) ≡ b → (list_all (has_owner r def.owner) (used_by_type r def) || is_use r def) ≡ true → (x.def.owner ≡ as_world n) ⊎ ((a : ℕ) × (x.def.owner ≡ as_interface a) × (is_some (interface_path r a) ≡ true))
+      go : (b : Bool) → list_all (has_owner r def.owner) (used_by_type r def) ≡ b → (list_all (has_owner r def.owner) (used_by_type r def) || is_use r def) ≡ true → (x.def.owner ≡ as_world n)
+          ⊎ ((a : ℕ) × (x.def.owner ≡ as_interface a) × (is_some (interface_path r a) ≡ true))
       go true k h = inl (own_one k)
       go false k h = inr (another (sym (ap (λ b. b || is_use r def) k) ∙ h))
 
@@ -223,10 +234,14 @@ module _ (own other : Resolve) (f : Renumbering) (bound other_bound : ℕ) (vali
           to (inr none_such) = absurd (none_such b.0 paths)
   stands (item.Function g) (item.Type_ b) p q = no_two is_declared _ _ (sym (ap (λ y. item_sense (item_meaning own y)) q) ∙ (senses ∙ ap (λ y. item_sense (item_meaning other y)) p)) refl refl
   stands (item.Type_ a) (item.Function h) p q = no_two is_function _ _ (sym (ap (λ y. item_sense (item_meaning own y)) q) ∙ (senses ∙ ap (λ y. item_sense (item_meaning other y)) p)) refl refl
-  stands (item.Function g) (item.Interface b st2 docs2 ext2) p q = no_two is_function _ _ (sym (sym (ap (λ y. item_sense (item_meaning own y)) q) ∙ (senses ∙ ap (λ y. item_sense (item_meaning other y)) p))) refl (not_function own b.0)
-  stands (item.Type_ a) (item.Interface b st2 docs2 ext2) p q = no_two is_declared _ _ (sym (sym (ap (λ y. item_sense (item_meaning own y)) q) ∙ (senses ∙ ap (λ y. item_sense (item_meaning other y)) p))) refl (not_declared own b.0)
-  stands (item.Interface a st docs ext) (item.Function h) p q = no_two is_function _ _ (sym (ap (λ y. item_sense (item_meaning own y)) q) ∙ (senses ∙ ap (λ y. item_sense (item_meaning other y)) p)) refl (not_function other a.0)
-  stands (item.Interface a st docs ext) (item.Type_ b) p q = no_two is_declared _ _ (sym (ap (λ y. item_sense (item_meaning own y)) q) ∙ (senses ∙ ap (λ y. item_sense (item_meaning other y)) p)) refl (not_declared other a.0)
+  stands (item.Function g) (item.Interface b st2 docs2 ext2) p q = no_two is_function _ _
+      (sym (sym (ap (λ y. item_sense (item_meaning own y)) q) ∙ (senses ∙ ap (λ y. item_sense (item_meaning other y)) p))) refl (not_function own b.0)
+  stands (item.Type_ a) (item.Interface b st2 docs2 ext2) p q = no_two is_declared _ _
+      (sym (sym (ap (λ y. item_sense (item_meaning own y)) q) ∙ (senses ∙ ap (λ y. item_sense (item_meaning other y)) p))) refl (not_declared own b.0)
+  stands (item.Interface a st docs ext) (item.Function h) p q = no_two is_function _ _ (sym (ap (λ y. item_sense (item_meaning own y)) q) ∙ (senses ∙ ap (λ y. item_sense (item_meaning other y)) p))
+      refl (not_function other a.0)
+  stands (item.Interface a st docs ext) (item.Type_ b) p q = no_two is_declared _ _ (sym (ap (λ y. item_sense (item_meaning own y)) q) ∙ (senses ∙ ap (λ y. item_sense (item_meaning other y)) p)) refl
+      (not_declared other a.0)
 
   -- ---- types
 
@@ -235,7 +250,8 @@ module _ (own other : Resolve) (f : Renumbering) (bound other_bound : ℕ) (vali
   own_type (item.Interface a st docs ext) i p q t k = let wrong : None ≡ Some t = k in absurd cc
   own_type (item.Function g) i p q t k = let wrong : None ≡ Some t = k in absurd cc
   own_type (item.Type_ a) (item.Function h) p q t k = no_two is_function _ _ (sym (ap (λ y. item_sense (item_meaning own y)) q) ∙ (senses ∙ ap (λ y. item_sense (item_meaning other y)) p)) refl refl
-  own_type (item.Type_ a) (item.Interface b st2 docs2 ext2) p q t k = no_two is_declared _ _ (sym (sym (ap (λ y. item_sense (item_meaning own y)) q) ∙ (senses ∙ ap (λ y. item_sense (item_meaning other y)) p))) refl (not_declared own b.0)
+  own_type (item.Type_ a) (item.Interface b st2 docs2 ext2) p q t k = no_two is_declared _ _
+      (sym (sym (ap (λ y. item_sense (item_meaning own y)) q) ∙ (senses ∙ ap (λ y. item_sense (item_meaning other y)) p))) refl (not_declared own b.0)
 
   declared_is : (r : Resolve) (i : WorldItem) (t : ℕ) → item_type i ≡ Some t → declared_so (item_sense (item_meaning r i)) ≡ Some (type_meaning_at r t).declaration
   declared_is r (item.Type_ a) t k = ap (λ n. Some (type_meaning_at r n).declaration) (same-some a.0 t k)
@@ -259,13 +275,15 @@ module _ (own other : Resolve) (f : Renumbering) (bound other_bound : ℕ) (vali
         ∙ ap (λ o. (option_map_or (type_meaning other) o no_type).declaration) old.found)
 
     -- the own world's type that bears the name of the target stands for it
-    same_in_world : (u v : ℕ) (a : IsTarget other valid_other u) (b : IsTarget own valid_own v) → a.def.owner ≡ as_world other_bound → named (place_of own b.def.owner) (text_of b.name) ≡ named (place_of other a.def.owner) (text_of a.name)
+    same_in_world : (u v : ℕ) (a : IsTarget other valid_other u) (b : IsTarget own valid_own v) → a.def.owner ≡ as_world other_bound
+        → named (place_of own b.def.owner) (text_of b.name) ≡ named (place_of other a.def.owner) (text_of a.name)
         → (b.def.owner ≡ as_world bound) ⊎ ((c : ℕ) × (b.def.owner ≡ as_interface c) × (is_some (interface_path own c) ≡ true)) → f.types u ≡ v
     same_in_world u v a b home trees (inl ours) =
         let p = type_imported other valid_other other_bound is.other_world is.other_at u a.def a.found a.name a.named_ home in
         let q = type_imported own valid_own bound is.own_world is.own_at v b.def b.found b.name b.named_ ours in
         is.types q.entry p.entry q.held p.held (q.text ∙ (ap name_in trees ∙ sym p.text)) v u q.is_type p.is_type
-    same_in_world u v a b home trees (inr c) = no_true (sym (ap is_here (ap place_in trees ∙ ap (place_of other) home)) ∙ (ap (λ o. is_here (place_of own o)) c.1 ∙ path_place (interface_path own c.0) c.2))
+    same_in_world u v a b home trees (inr c) = no_true (sym (ap is_here (ap place_in trees ∙ ap (place_of other) home))
+        ∙ (ap (λ o. is_here (place_of own o)) c.1 ∙ path_place (interface_path own c.0) c.2))
       where
         path_place : (o : Option Text) → is_some o ≡ true → is_here (place_of_path o) ≡ true
         path_place None h = h

@@ -80,7 +80,8 @@ pub record Holds (own : List (WorldKey × WorldItem)) (news : List WorldItem) : 
   pub types : (x : WorldKey × WorldItem) → Contains own x → (m : ℕ) → is_id m (item_type x.1) ≡ true → has (filter_map item_type news) m ≡ true
 
 pub number_in : (h : WorldItem → Option ℕ) (own : List (WorldKey × WorldItem)) (x : WorldKey × WorldItem) → Contains own x → (m : ℕ) → is_id m (h x.1) ≡ true → has (filter_map h (items own)) m ≡ true
-number_in h own x c m e = contains-has (filter_map h (items own)) m (contains-filter_map h (items own) x.1 m (contains-map (λ (y : WorldKey × WorldItem). y.1) own x c) (given_contains (h x.1) m (some (h x.1) e)))
+number_in h own x c m e = contains-has (filter_map h (items own)) m (contains-filter_map h (items own) x.1 m (contains-map (λ (y : WorldKey × WorldItem). y.1) own x c)
+    (given_contains (h x.1) m (some (h x.1) e)))
   where
     some : (o : Option ℕ) → is_id m o ≡ true → o ≡ Some m
     some None e = no_true e
@@ -157,16 +158,21 @@ module _ (f : Renumbering) where
   type_stands_for (item.Type_ a) (item.Interface b st2 docs2 ext2) z m h = absurd z
   type_stands_for (item.Type_ a) (item.Function k) z m h = absurd z
 
-  covers_met : (olds news : List WorldItem) (own : List (WorldKey × WorldItem)) (old there : WorldKey × WorldItem) → Contains own there → ItemStandsFor f old.1 there.1 → Holds own news → Covers f olds news → Covers f (olds ++ old.1 ∷ []) news
+  covers_met : (olds news : List WorldItem) (own : List (WorldKey × WorldItem)) (old there : WorldKey × WorldItem) → Contains own there → ItemStandsFor f old.1 there.1 → Holds own news
+      → Covers f olds news → Covers f (olds ++ old.1 ∷ []) news
   covers_met olds news own old there c stands holds covers = record {
-    interfaces = λ m e. either _ _ (sym (numbers_append item_interface olds (old.1 ∷ []) m) ∙ e) (covers.interfaces m) (λ d. holds.interfaces there c (f.interfaces m) (interface_stands_for old.1 there.1 stands m (number_of_one item_interface old.1 m d)));
-    types = λ m e. either _ _ (sym (numbers_append item_type olds (old.1 ∷ []) m) ∙ e) (covers.types m) (λ d. holds.types there c (f.types m) (type_stands_for old.1 there.1 stands m (number_of_one item_type old.1 m d)));
+    interfaces = λ m e. either _ _ (sym (numbers_append item_interface olds (old.1 ∷ []) m) ∙ e) (covers.interfaces m)
+        (λ d. holds.interfaces there c (f.interfaces m) (interface_stands_for old.1 there.1 stands m (number_of_one item_interface old.1 m d)));
+    types = λ m e. either _ _ (sym (numbers_append item_type olds (old.1 ∷ []) m) ∙ e) (covers.types m)
+        (λ d. holds.types there c (f.types m) (type_stands_for old.1 there.1 stands m (number_of_one item_type old.1 m d)));
   }
 
   covers_added : (olds news : List WorldItem) (old new : WorldItem) → ItemBecomes f old new → Covers f olds news → Covers f (olds ++ old ∷ []) (news ++ new ∷ [])
   covers_added olds news old new z covers = record {
-    interfaces = λ m e. either _ _ (sym (numbers_append item_interface olds (old ∷ []) m) ∙ e) (λ d. numbers_left item_interface news (new ∷ []) (f.interfaces m) (covers.interfaces m d)) (λ d. numbers_right item_interface news (new ∷ []) (f.interfaces m) (one_number item_interface new (f.interfaces m) (interface_becomes old new z m (number_of_one item_interface old m d))));
-    types = λ m e. either _ _ (sym (numbers_append item_type olds (old ∷ []) m) ∙ e) (λ d. numbers_left item_type news (new ∷ []) (f.types m) (covers.types m d)) (λ d. numbers_right item_type news (new ∷ []) (f.types m) (one_number item_type new (f.types m) (type_becomes old new z m (number_of_one item_type old m d))));
+    interfaces = λ m e. either _ _ (sym (numbers_append item_interface olds (old ∷ []) m) ∙ e) (λ d. numbers_left item_interface news (new ∷ []) (f.interfaces m) (covers.interfaces m d))
+        (λ d. numbers_right item_interface news (new ∷ []) (f.interfaces m) (one_number item_interface new (f.interfaces m) (interface_becomes old new z m (number_of_one item_interface old m d))));
+    types = λ m e. either _ _ (sym (numbers_append item_type olds (old ∷ []) m) ∙ e) (λ d. numbers_left item_type news (new ∷ []) (f.types m) (covers.types m d))
+        (λ d. numbers_right item_type news (new ∷ []) (f.types m) (one_number item_type new (f.types m) (type_becomes old new z m (number_of_one item_type old m d))));
   }
 
   -- A test that is carried along item by item is carried along the list.
@@ -174,31 +180,41 @@ module _ (f : Renumbering) where
       → ((olds news : List WorldItem) (old new : WorldKey × WorldItem) → EntryBecomes f old new → Covers f olds news → t olds old.1 ≡ true → u news new.1 ≡ true)
       → (olds news : List WorldItem) (xs ys : List (WorldKey × WorldItem)) → Joined f own xs ys → Holds own news → Covers f olds news → each_after t olds (items xs) ≡ true
       → (each_after u news (items ys) ≡ true) × Covers f (olds ++ items xs) (news ++ items ys)
-  walk own t u one olds news _ _ none holds covers h = (refl, subst (λ (xs : List WorldItem). Covers f xs (news ++ [])) (sym (append-nil olds)) (subst (λ (ys : List WorldItem). Covers f olds ys) (sym (append-nil news)) covers))
+  walk own t u one olds news _ _ none holds covers h = (
+    refl,
+    subst (λ (xs : List WorldItem). Covers f xs (news ++ [])) (sym (append-nil olds))
+        (subst (λ (ys : List WorldItem). Covers f olds ys) (sym (append-nil news)) covers),
+  )
   walk own t u one olds news _ _ (met old there xs ys c k i rest) holds covers h =
       let more = walk own t u one (olds ++ old.1 ∷ []) news xs ys rest holds (covers_met olds news own old there c i holds covers) (second_true (t olds old.1) _ h) in
       (more.0, subst (λ (zs : List WorldItem). Covers f zs (news ++ items ys)) (append_assoc olds (old.1 ∷ []) (items xs)) more.1)
   walk own t u one olds news _ _ (added old new xs ys n z rest) holds covers h =
-      let more = walk own t u one (olds ++ old.1 ∷ []) (news ++ new.1 ∷ []) xs ys rest (holds_more own news (new.1 ∷ []) holds) (covers_added olds news old.1 new.1 z.1 covers) (second_true (t olds old.1) _ h) in (
+      let more = walk own t u one (olds ++ old.1 ∷ []) (news ++ new.1 ∷ []) xs ys rest (holds_more own news (new.1 ∷ []) holds) (covers_added olds news old.1 new.1 z.1 covers)
+      (second_true (t olds old.1) _ h) in (
         both _ _ (one olds news old new z covers (first_true _ _ h)) more.0,
-        subst (λ (zs : List WorldItem). Covers f zs (news ++ (new.1 ∷ items ys))) (append_assoc olds (old.1 ∷ []) (items xs)) (subst (λ (zs : List WorldItem). Covers f ((olds ++ old.1 ∷ []) ++ items xs) zs) (append_assoc news (new.1 ∷ []) (items ys)) more.1),
+        subst (λ (zs : List WorldItem). Covers f zs (news ++ (new.1 ∷ items ys))) (append_assoc olds (old.1 ∷ []) (items xs))
+            (subst (λ (zs : List WorldItem). Covers f ((olds ++ old.1 ∷ []) ++ items xs) zs) (append_assoc news (new.1 ∷ []) (items ys)) more.1),
       )
 
 -- ---- what a copy uses stands before it
 
 module _ (r s : Resolve) (f : Renumbering) (valid : KeepsRules r) (is : IsCarried r s f) (below_s : Keeps references s) (w : ℕ) (carries : f.carries_world w ≡ true) where
-  world_types : (p q : ℕ → Bool) → ((m : ℕ) → p m ≡ true → q (f.types m) ≡ true) → (used : List ℕ) → list_all f.carries_type used ≡ true → list_all p (filter (has_owner r (as_world w)) used) ≡ true → list_all q (filter (has_owner s (as_world (f.worlds w))) (map f.types used)) ≡ true
+  world_types : (p q : ℕ → Bool) → ((m : ℕ) → p m ≡ true → q (f.types m) ≡ true) → (used : List ℕ) → list_all f.carries_type used ≡ true → list_all p (filter (has_owner r (as_world w)) used) ≡ true
+      → list_all q (filter (has_owner s (as_world (f.worlds w))) (map f.types used)) ≡ true
   world_types p q one used c h =
       all_filter q (has_owner s (as_world (f.worlds w))) (map f.types used)
       ∙ (list_all-map (λ n. not (has_owner s (as_world (f.worlds w)) n) || q n) f.types used
       ∙ all_two f.carries_type (λ n. not (has_owner r (as_world w) n) || p n) (λ n. not (has_owner s (as_world (f.worlds w)) (f.types n)) || q (f.types n))
       (λ n d e. each n d e (has_owner s (as_world (f.worlds w)) (f.types n)) refl) used c (sym (all_filter p (has_owner r (as_world w)) used) ∙ h))
     where
-      each : (n : ℕ) → f.carries_type n ≡ true → (not (has_owner r (as_world w) n) || p n) ≡ true → (b : Bool) → has_owner s (as_world (f.worlds w)) (f.types n) ≡ b → (not (has_owner s (as_world (f.worlds w)) (f.types n)) || q (f.types n)) ≡ true
+      each : (n : ℕ) → f.carries_type n ≡ true → (not (has_owner r (as_world w) n) || p n) ≡ true → (b : Bool) → has_owner s (as_world (f.worlds w)) (f.types n) ≡ b
+          → (not (has_owner s (as_world (f.worlds w)) (f.types n)) || q (f.types n)) ≡ true
       each n d e false k = ap (λ b. not b || q (f.types n)) k
-      each n d e true k = or_right (not (has_owner s (as_world (f.worlds w)) (f.types n))) (q (f.types n)) (one n (sym (ap (λ b. not b || p n) (owner_back r s f valid is below_s (as_world w) n carries d k)) ∙ e))
+      each n d e true k = or_right (not (has_owner s (as_world (f.worlds w)) (f.types n))) (q (f.types n))
+          (one n (sym (ap (λ b. not b || p n) (owner_back r s f valid is below_s (as_world w) n carries d k)) ∙ e))
 
-  pub item_stands : (olds news : List WorldItem) (old new : WorldKey × WorldItem) → EntryBecomes f old new → Covers f olds news → uses_stand_before r w olds old.1 ≡ true → uses_stand_before s (f.worlds w) news new.1 ≡ true
+  pub item_stands : (olds news : List WorldItem) (old new : WorldKey × WorldItem) → EntryBecomes f old new → Covers f olds news → uses_stand_before r w olds old.1 ≡ true
+      → uses_stand_before s (f.worlds w) news new.1 ≡ true
   item_stands olds news (k, item.Interface a st docs ext) (l, item.Interface b st2 docs2 ext2) z covers h =
       both _ _
       (ap (λ x. list_all (has (filter_map item_interface news)) (direct_deps s x)) z.1.0
@@ -217,9 +233,11 @@ module _ (r s : Resolve) (f : Renumbering) (valid : KeepsRules r) (is : IsCarrie
       ∙ target (interface_used_by r a.0) (first_true _ _ h)))
       (ap (λ x. list_all (has (filter_map item_type news)) (filter (has_owner s (as_world (f.worlds w))) (used_by_number s x))) z.1.0
       ∙ (ap (λ x. list_all (has (filter_map item_type news)) (filter (has_owner s (as_world (f.worlds w))) x)) uses.0
-      ∙ world_types (has (filter_map item_type olds)) (has (filter_map item_type news)) covers.types (used_by_number r a.0) uses.1 (second_true (list_all (has (filter_map item_interface olds)) (option_to_list (interface_used_by r a.0))) _ h)))
+      ∙ world_types (has (filter_map item_type olds)) (has (filter_map item_type news)) covers.types (used_by_number r a.0) uses.1
+      (second_true (list_all (has (filter_map item_interface olds)) (option_to_list (interface_used_by r a.0))) _ h)))
     where
-      target : (o : Option ℕ) → list_all (has (filter_map item_interface olds)) (option_to_list o) ≡ true → list_all (has (filter_map item_interface news)) (option_to_list (option_map f.interfaces o)) ≡ true
+      target : (o : Option ℕ) → list_all (has (filter_map item_interface olds)) (option_to_list o) ≡ true
+          → list_all (has (filter_map item_interface news)) (option_to_list (option_map f.interfaces o)) ≡ true
       target None e = refl
       target (Some m) e = both _ _ (covers.interfaces m (first_true _ _ e)) refl
   item_stands olds news (k, item.Interface a st docs ext) (l, item.Function g) z covers h = absurd z.1
@@ -231,13 +249,15 @@ module _ (r s : Resolve) (f : Renumbering) (valid : KeepsRules r) (is : IsCarrie
 
 -- ---- more before
 
-pub stands_still : (s : Resolve) (w : ℕ) (before more : List WorldItem) → ((m : ℕ) → has (filter_map item_interface before) m ≡ true → has (filter_map item_interface more) m ≡ true) → ((m : ℕ) → has (filter_map item_type before) m ≡ true → has (filter_map item_type more) m ≡ true)
+pub stands_still : (s : Resolve) (w : ℕ) (before more : List WorldItem) → ((m : ℕ) → has (filter_map item_interface before) m ≡ true → has (filter_map item_interface more) m ≡ true)
+    → ((m : ℕ) → has (filter_map item_type before) m ≡ true → has (filter_map item_type more) m ≡ true)
     → (xs : List WorldItem) → each_after (uses_stand_before s w) before xs ≡ true → each_after (uses_stand_before s w) more xs ≡ true
 stands_still s w before more is ts [] h = refl
 stands_still s w before more is ts (x ∷ xs) h =
     both _ _ (one (first_true _ _ h)) (stands_still s w (before ++ x ∷ []) (more ++ x ∷ []) (grown item_interface is) (grown item_type ts) xs (second_true (uses_stand_before s w before x) _ h))
   where
-    grown : (g : WorldItem → Option ℕ) → ((m : ℕ) → has (filter_map g before) m ≡ true → has (filter_map g more) m ≡ true) → (m : ℕ) → has (filter_map g (before ++ x ∷ [])) m ≡ true → has (filter_map g (more ++ x ∷ [])) m ≡ true
+    grown : (g : WorldItem → Option ℕ) → ((m : ℕ) → has (filter_map g before) m ≡ true → has (filter_map g more) m ≡ true) → (m : ℕ) → has (filter_map g (before ++ x ∷ [])) m ≡ true
+        → has (filter_map g (more ++ x ∷ [])) m ≡ true
     grown g k m e = either _ _ (sym (numbers_append g before (x ∷ []) m) ∙ e) (λ d. numbers_left g more (x ∷ []) m (k m d)) (numbers_right g more (x ∷ []) m)
 
     all : (p q : ℕ → Bool) → ((m : ℕ) → p m ≡ true → q m ≡ true) → (ns : List ℕ) → list_all p ns ≡ true → list_all q ns ≡ true

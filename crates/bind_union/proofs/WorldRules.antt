@@ -47,27 +47,35 @@ all_true [] = refl
 all_true (x ∷ xs) = all_true xs
 
 -- what is asked of each function of a world, by its entries
-pub by_entries : (p : Function → Bool) (w : World) → list_all p (functions_of_world w) ≡ (list_all (λ (e : WorldKey × WorldItem). list_all p (option_to_list (item_function e.1))) w.imports.entries && list_all (λ (e : WorldKey × WorldItem). list_all p (option_to_list (item_function e.1))) w.exports.entries)
+pub by_entries : (p : Function → Bool) (w : World)
+    → list_all p (functions_of_world w) ≡ (list_all (λ (e : WorldKey × WorldItem). list_all p (option_to_list (item_function e.1))) w.imports.entries && list_all
+    (λ (e : WorldKey × WorldItem). list_all p (option_to_list (item_function e.1))) w.exports.entries)
 by_entries p w =
     list_all_filter_map p item_function (items_of w)
     ∙ (list_all-append (λ i. list_all p (option_to_list (item_function i))) (values w.imports) (values w.exports)
-    ∙ (λ i. list_all-map (λ i. list_all p (option_to_list (item_function i))) (λ (e : WorldKey × WorldItem). e.1) w.imports.entries i && list_all-map (λ i. list_all p (option_to_list (item_function i))) (λ (e : WorldKey × WorldItem). e.1) w.exports.entries i))
+    ∙ (λ i. list_all-map (λ i. list_all p (option_to_list (item_function i))) (λ (e : WorldKey × WorldItem). e.1) w.imports.entries i && list_all-map
+    (λ i. list_all p (option_to_list (item_function i))) (λ (e : WorldKey × WorldItem). e.1) w.exports.entries i))
 
 -- a test on the numbers of items
-pub after_given : (t : List ℕ → ℕ → Bool) (h : WorldItem → Option ℕ) (before xs : List WorldItem) → each_after (λ ys x. passes (t (filter_map h ys)) (h x)) before xs ≡ each_after t (filter_map h before) (filter_map h xs)
+pub after_given : (t : List ℕ → ℕ → Bool) (h : WorldItem → Option ℕ) (before xs : List WorldItem)
+    → each_after (λ ys x. passes (t (filter_map h ys)) (h x)) before xs ≡ each_after t (filter_map h before) (filter_map h xs)
 after_given t h before [] = refl
 after_given t h before (x ∷ xs) = go (after_given t h (before ++ x ∷ []) xs) (h x) refl
   where
-    go : each_after (λ ys y. passes (t (filter_map h ys)) (h y)) (before ++ x ∷ []) xs ≡ each_after t (filter_map h (before ++ x ∷ [])) (filter_map h xs) → (o : Option ℕ) → h x ≡ o → (passes (t (filter_map h before)) o && each_after (λ ys y. passes (t (filter_map h ys)) (h y)) (before ++ x ∷ []) xs) ≡ each_after t (filter_map h before) (cons_option o (filter_map h xs))
-    go rest None e = rest ∙ ap (λ ns. each_after t ns (filter_map h xs)) (filter_map-append h before (x ∷ []) ∙ (ap (λ o. filter_map h before ++ cons_option o []) e ∙ append-nil (filter_map h before)))
-    go rest (Some n) e = ap (λ b. t (filter_map h before) n && b) (rest ∙ ap (λ ns. each_after t ns (filter_map h xs)) (filter_map-append h before (x ∷ []) ∙ ap (λ o. filter_map h before ++ cons_option o []) e))
+    go : each_after (λ ys y. passes (t (filter_map h ys)) (h y)) (before ++ x ∷ []) xs ≡ each_after t (filter_map h (before ++ x ∷ [])) (filter_map h xs) → (o : Option ℕ) → h x ≡ o
+        → (passes (t (filter_map h before)) o && each_after (λ ys y. passes (t (filter_map h ys)) (h y)) (before ++ x ∷ []) xs) ≡ each_after t (filter_map h before) (cons_option o (filter_map h xs))
+    go rest None e = rest ∙ ap (λ ns. each_after t ns (filter_map h xs)) (filter_map-append h before (x ∷ [])
+        ∙ (ap (λ o. filter_map h before ++ cons_option o []) e ∙ append-nil (filter_map h before)))
+    go rest (Some n) e = ap (λ b. t (filter_map h before) n && b) (rest ∙ ap (λ ns. each_after t ns (filter_map h xs))
+        (filter_map-append h before (x ∷ []) ∙ ap (λ o. filter_map h before ++ cons_option o []) e))
 
 -- a type that a world owns stands in its imports
 pub owned_listed : (r : Resolve) → KeepsRules r → (n : ℕ) (w : World) → world_at r n ≡ Some w → (m : ℕ) → has_owner r (as_world n) m ≡ true → has (world_type_numbers w) m ≡ true
 unfolding order_of_types
 owned_listed r valid n w found m h = go (type_at r m) refl h
   where
-    named : (def : TypeDef) → type_at r m ≡ Some def → def.owner ≡ as_world n → (name : Option (String Global)) → option_map_or (λ x. is_listed r m (text_of x) def.owner) name (same_owner def.owner owner.None) ≡ true → has (world_type_numbers w) m ≡ true
+    named : (def : TypeDef) → type_at r m ≡ Some def → def.owner ≡ as_world n → (name : Option (String Global))
+        → option_map_or (λ x. is_listed r m (text_of x) def.owner) name (same_owner def.owner owner.None) ≡ true → has (world_type_numbers w) m ≡ true
     named def e home None k = no_true (sym (ap (λ o. same_owner o owner.None) home) ∙ k)
     named def e home (Some x) k =
         let listed : is_listed_in_world m (text_of x) w ≡ true = sym (ap (passes (is_listed_in_world m (text_of x))) found) ∙ (sym (ap (is_listed r m (text_of x)) home) ∙ k) in
@@ -84,23 +92,31 @@ module _ (r s : Resolve) (f : Renumbering) (valid : KeepsRules r) (is : IsCarrie
   number = f.worlds n
 
   -- a test on entries
-  imports_pass : (p q : WorldKey × WorldItem → Bool) → ((a b : WorldKey × WorldItem) → EntryBecomes f a b → p a ≡ true → q b ≡ true) → list_all q own_imports ≡ true → list_all p j.old.imports.entries ≡ true → list_all q j.image.imports.entries ≡ true
-  imports_pass p q one own h = ap (list_all q) j.imports ∙ (list_all-append q own_imports j.new_imports ∙ both _ _ own (added_pass f own_imports p q one j.old.imports.entries j.new_imports j.joined_imports h))
+  imports_pass : (p q : WorldKey × WorldItem → Bool) → ((a b : WorldKey × WorldItem) → EntryBecomes f a b → p a ≡ true → q b ≡ true) → list_all q own_imports ≡ true
+      → list_all p j.old.imports.entries ≡ true → list_all q j.image.imports.entries ≡ true
+  imports_pass p q one own h = ap (list_all q) j.imports ∙ (list_all-append q own_imports j.new_imports ∙ both _ _ own
+      (added_pass f own_imports p q one j.old.imports.entries j.new_imports j.joined_imports h))
 
-  exports_pass : (p q : WorldKey × WorldItem → Bool) → ((a b : WorldKey × WorldItem) → EntryBecomes f a b → p a ≡ true → q b ≡ true) → list_all q own_exports ≡ true → list_all p j.old.exports.entries ≡ true → list_all q j.image.exports.entries ≡ true
-  exports_pass p q one own h = ap (list_all q) j.exports ∙ (list_all-append q own_exports j.new_exports ∙ both _ _ own (added_pass f own_exports p q one j.old.exports.entries j.new_exports j.joined_exports h))
+  exports_pass : (p q : WorldKey × WorldItem → Bool) → ((a b : WorldKey × WorldItem) → EntryBecomes f a b → p a ≡ true → q b ≡ true) → list_all q own_exports ≡ true
+      → list_all p j.old.exports.entries ≡ true → list_all q j.image.exports.entries ≡ true
+  exports_pass p q one own h = ap (list_all q) j.exports ∙ (list_all-append q own_exports j.new_exports ∙ both _ _ own
+      (added_pass f own_exports p q one j.old.exports.entries j.new_exports j.joined_exports h))
 
-  functions_pass : (p q : Function → Bool) → ((a b : WorldKey × WorldItem) → EntryBecomes f a b → list_all p (option_to_list (item_function a.1)) ≡ true → list_all q (option_to_list (item_function b.1)) ≡ true)
-      → list_all (λ (e : WorldKey × WorldItem). list_all q (option_to_list (item_function e.1))) own_imports ≡ true → list_all (λ (e : WorldKey × WorldItem). list_all q (option_to_list (item_function e.1))) own_exports ≡ true
+  functions_pass : (p q : Function → Bool)
+      → ((a b : WorldKey × WorldItem) → EntryBecomes f a b → list_all p (option_to_list (item_function a.1)) ≡ true → list_all q (option_to_list (item_function b.1)) ≡ true)
+      → list_all (λ (e : WorldKey × WorldItem). list_all q (option_to_list (item_function e.1))) own_imports ≡ true
+      → list_all (λ (e : WorldKey × WorldItem). list_all q (option_to_list (item_function e.1))) own_exports ≡ true
       → list_all p (functions_of_world j.old) ≡ true → list_all q (functions_of_world j.image) ≡ true
   functions_pass p q one oi oe h =
       let old = sym (by_entries p j.old) ∙ h in
       by_entries q j.image
       ∙ both _ _ (imports_pass (λ e. list_all p (option_to_list (item_function e.1))) (λ e. list_all q (option_to_list (item_function e.1))) one oi (first_true _ _ old))
-      (exports_pass (λ e. list_all p (option_to_list (item_function e.1))) (λ e. list_all q (option_to_list (item_function e.1))) one oe (second_true (list_all (λ (e : WorldKey × WorldItem). list_all p (option_to_list (item_function e.1))) j.old.imports.entries) _ old))
+      (exports_pass (λ e. list_all p (option_to_list (item_function e.1))) (λ e. list_all q (option_to_list (item_function e.1))) one oe
+      (second_true (list_all (λ (e : WorldKey × WorldItem). list_all p (option_to_list (item_function e.1))) j.old.imports.entries) _ old))
 
   -- numbers in range
-  pub world_range_passes : entries_in_range s own_imports ≡ true → entries_in_range s own_exports ≡ true → (entries_in_range s j.image.imports.entries && entries_in_range s j.image.exports.entries) ≡ true
+  pub world_range_passes : entries_in_range s own_imports ≡ true → entries_in_range s own_exports ≡ true
+      → (entries_in_range s j.image.imports.entries && entries_in_range s j.image.exports.entries) ≡ true
   world_range_passes oi oe =
       both _ _
       (imports_pass (λ e. true) (λ e. key_in_range s e.0 && item_in_range s e.1) (entry_range r s f valid is below_s) oi (all_true j.old.imports.entries))
@@ -110,11 +126,13 @@ module _ (r s : Resolve) (f : Renumbering) (valid : KeepsRules r) (is : IsCarrie
   pub world_labels_pass : entries_labels own_imports ≡ true → entries_labels own_exports ≡ true → (entries_labels j.image.imports.entries && entries_labels j.image.exports.entries) ≡ true
   unfolding labels
   world_labels_pass oi oe =
-      let old : (is_label (text_of j.old.name) && (is_stability j.old.stability && (entries_labels j.old.imports.entries && entries_labels j.old.exports.entries))) ≡ true = world-passes labels r valid.labels n j.old j.found in
+      let old : (is_label (text_of j.old.name) && (is_stability j.old.stability && (entries_labels j.old.imports.entries && entries_labels j.old.exports.entries))) ≡ true =
+      world-passes labels r valid.labels n j.old j.found in
       let entries = second_true (is_stability j.old.stability) _ (second_true (is_label (text_of j.old.name)) _ old) in
       both _ _
       (imports_pass (λ e. key_label e.0 e.1 && item_labels e.1) (λ e. key_label e.0 e.1 && item_labels e.1) (entry_labels r s f valid is below_s) oi (first_true _ _ entries))
-      (exports_pass (λ e. key_label e.0 e.1 && item_labels e.1) (λ e. key_label e.0 e.1 && item_labels e.1) (entry_labels r s f valid is below_s) oe (second_true (entries_labels j.old.imports.entries) _ entries))
+      (exports_pass (λ e. key_label e.0 e.1 && item_labels e.1) (λ e. key_label e.0 e.1 && item_labels e.1) (entry_labels r s f valid is below_s) oe
+      (second_true (entries_labels j.old.imports.entries) _ entries))
 
   -- owners
   pub world_owners_pass : list_all (λ (e : WorldKey × WorldItem). list_all (function_stays s (as_world number)) (option_to_list (item_function e.1))) own_imports ≡ true
@@ -122,51 +140,64 @@ module _ (r s : Resolve) (f : Renumbering) (valid : KeepsRules r) (is : IsCarrie
   unfolding owners
   world_owners_pass oi oe =
       functions_pass (function_stays r (as_world n)) (function_stays s (as_world number))
-      (λ a b z. entry_function r s f valid is below_s (function_stays r (as_world n)) (function_stays s (as_world number)) (λ g h c. function_stays_passes r s f valid is below_s g h c (as_world n)) a.1 b.1 z.1) oi oe
+      (λ a b z. entry_function r s f valid is below_s (function_stays r (as_world n)) (function_stays s (as_world number)) (λ g h c. function_stays_passes r s f valid is below_s g h c (as_world n))
+      a.1 b.1 z.1) oi oe
       (world-passes owners r valid.owners n j.old j.found)
 
   -- handles
-  pub world_handles_pass : list_all (λ (e : WorldKey × WorldItem). list_all (λ g. list_all (λ t. not (is_resource_type s t)) (function_types g)) (option_to_list (item_function e.1))) own_imports ≡ true
-      → list_all (λ (e : WorldKey × WorldItem). list_all (λ g. list_all (λ t. not (is_resource_type s t)) (function_types g)) (option_to_list (item_function e.1))) own_exports ≡ true → handles.world_ s number j.image ≡ true
+  pub world_handles_pass : list_all (λ (e : WorldKey × WorldItem). list_all (λ g. list_all (λ t. not (is_resource_type s t)) (function_types g)) (option_to_list (item_function e.1)))
+      own_imports ≡ true
+      → list_all (λ (e : WorldKey × WorldItem). list_all (λ g. list_all (λ t. not (is_resource_type s t)) (function_types g)) (option_to_list (item_function e.1))) own_exports ≡ true
+      → handles.world_ s number j.image ≡ true
   unfolding handles
   world_handles_pass oi oe =
       functions_pass (λ g. list_all (λ t. not (is_resource_type r t)) (function_types g)) (λ g. list_all (λ t. not (is_resource_type s t)) (function_types g))
-      (λ a b z. entry_function r s f valid is below_s (λ g. list_all (λ t. not (is_resource_type r t)) (function_types g)) (λ g. list_all (λ t. not (is_resource_type s t)) (function_types g)) (function_handles_pass r s f valid is below_s) a.1 b.1 z.1) oi oe
+      (λ a b z. entry_function r s f valid is below_s (λ g. list_all (λ t. not (is_resource_type r t)) (function_types g)) (λ g. list_all (λ t. not (is_resource_type s t)) (function_types g))
+      (function_handles_pass r s f valid is below_s) a.1 b.1 z.1) oi oe
       (world-passes handles r valid.handles n j.old j.found)
 
   -- depths
   pub world_depths_pass : list_all (λ (e : WorldKey × WorldItem). list_all (λ g. list_all (is_shallow s) (function_types g)) (option_to_list (item_function e.1))) own_imports ≡ true
-      → list_all (λ (e : WorldKey × WorldItem). list_all (λ g. list_all (is_shallow s) (function_types g)) (option_to_list (item_function e.1))) own_exports ≡ true → depths.world_ s number j.image ≡ true
+      → list_all (λ (e : WorldKey × WorldItem). list_all (λ g. list_all (is_shallow s) (function_types g)) (option_to_list (item_function e.1))) own_exports ≡ true
+      → depths.world_ s number j.image ≡ true
   unfolding depths
   world_depths_pass oi oe =
       functions_pass (λ g. list_all (is_shallow r) (function_types g)) (λ g. list_all (is_shallow s) (function_types g))
-      (λ a b z. entry_function r s f valid is below_s (λ g. list_all (is_shallow r) (function_types g)) (λ g. list_all (is_shallow s) (function_types g)) (function_depths_pass r s f valid is below_s) a.1 b.1 z.1) oi oe
+      (λ a b z. entry_function r s f valid is below_s (λ g. list_all (is_shallow r) (function_types g)) (λ g. list_all (is_shallow s) (function_types g)) (function_depths_pass r s f valid is below_s)
+      a.1 b.1 z.1) oi oe
       (world-passes depths r valid.depths n j.old j.found)
 
   -- function names
   pub world_members_pass : list_all (λ (e : WorldKey × WorldItem). passes (λ g. is_name_key (text_of g.name) e.0 && is_member s (as_world number) g) (item_function e.1)) own_imports ≡ true
-      → list_all (λ (e : WorldKey × WorldItem). passes (λ g. is_name_key (text_of g.name) e.0 && is_member s (as_world number) g) (item_function e.1)) own_exports ≡ true → function_names.world_ s number j.image ≡ true
+      → list_all (λ (e : WorldKey × WorldItem). passes (λ g. is_name_key (text_of g.name) e.0 && is_member s (as_world number) g) (item_function e.1)) own_exports ≡ true
+      → function_names.world_ s number j.image ≡ true
   unfolding function_names
   world_members_pass oi oe =
       let p = λ (e : WorldKey × WorldItem). passes (λ g. is_name_key (text_of g.name) e.0 && is_member r (as_world n) g) (item_function e.1) in
       let q = λ (e : WorldKey × WorldItem). passes (λ g. is_name_key (text_of g.name) e.0 && is_member s (as_world number) g) (item_function e.1) in
-      let old : (list_all p j.old.imports.entries && list_all p j.old.exports.entries) ≡ true = sym (list_all-append p j.old.imports.entries j.old.exports.entries) ∙ world-passes function_names r valid.function_names n j.old j.found in
+      let old : (list_all p j.old.imports.entries && list_all p j.old.exports.entries) ≡ true =
+      sym (list_all-append p j.old.imports.entries j.old.exports.entries) ∙ world-passes function_names r valid.function_names n j.old j.found in
       list_all-append q j.image.imports.entries j.image.exports.entries
-      ∙ both _ _ (imports_pass p q (entry_member r s f valid is below_s n) oi (first_true _ _ old)) (exports_pass p q (entry_member r s f valid is below_s n) oe (second_true (list_all p j.old.imports.entries) _ old))
+      ∙ both _ _ (imports_pass p q (entry_member r s f valid is below_s n) oi (first_true _ _ old))
+      (exports_pass p q (entry_member r s f valid is below_s n) oe (second_true (list_all p j.old.imports.entries) _ old))
 
   -- world items
-  pub world_items_pass : list_all (λ (e : WorldKey × WorldItem). import_stands s number e.0 e.1) own_imports ≡ true → list_all (λ (e : WorldKey × WorldItem). export_stands s e.0 e.1) own_exports ≡ true → world_items.world_ s number j.image ≡ true
+  pub world_items_pass : list_all (λ (e : WorldKey × WorldItem). import_stands s number e.0 e.1) own_imports ≡ true
+      → list_all (λ (e : WorldKey × WorldItem). export_stands s e.0 e.1) own_exports ≡ true → world_items.world_ s number j.image ≡ true
   unfolding world_items
   world_items_pass oi oe =
-      let old : (list_all (λ (e : WorldKey × WorldItem). import_stands r n e.0 e.1) j.old.imports.entries && list_all (λ (e : WorldKey × WorldItem). export_stands r e.0 e.1) j.old.exports.entries) ≡ true = world-passes world_items r valid.world_items n j.old j.found in
+      let old : (list_all (λ (e : WorldKey × WorldItem). import_stands r n e.0 e.1) j.old.imports.entries && list_all (λ (e : WorldKey × WorldItem). export_stands r e.0 e.1) j.old.exports.entries)
+      ≡ true = world-passes world_items r valid.world_items n j.old j.found in
       both _ _
       (imports_pass (λ e. import_stands r n e.0 e.1) (λ e. import_stands s number e.0 e.1) (entry_import_stands r s f valid is below_s n) oi (first_true _ _ old))
-      (exports_pass (λ e. export_stands r e.0 e.1) (λ e. export_stands s e.0 e.1) (entry_export_stands r s f valid is below_s) oe (second_true (list_all (λ (e : WorldKey × WorldItem). import_stands r n e.0 e.1) j.old.imports.entries) _ old))
+      (exports_pass (λ e. export_stands r e.0 e.1) (λ e. export_stands s e.0 e.1) (entry_export_stands r s f valid is below_s) oe
+      (second_true (list_all (λ (e : WorldKey × WorldItem). import_stands r n e.0 e.1) j.old.imports.entries) _ old))
 
   -- order of items
   pub world_order_passes : each_after (uses_stand_before s number) [] (items own_imports ++ items own_exports) ≡ true → order_of_items.world_ s number j.image ≡ true
   unfolding order_of_items
-  world_order_passes own = ap (each_after t []) whole ∙ (after_append t [] (oi ++ ni) (oe ++ ne) ∙ both _ _ (after_append t [] oi ni ∙ both _ _ own_first first.0) (after_append t (oi ++ ni) oe ne ∙ both _ _ third last.0))
+  world_order_passes own = ap (each_after t []) whole ∙ (after_append t [] (oi ++ ni) (oe ++ ne) ∙ both _ _ (after_append t [] oi ni ∙ both _ _ own_first first.0)
+      (after_append t (oi ++ ni) oe ne ∙ both _ _ third last.0))
     where
       t : List WorldItem → WorldItem → Bool
       t = uses_stand_before s number
@@ -184,7 +215,8 @@ module _ (r s : Resolve) (f : Renumbering) (valid : KeepsRules r) (is : IsCarrie
       ne = items j.new_exports
 
       whole : items_of j.image ≡ (oi ++ ni) ++ (oe ++ ne)
-      whole = λ i. (ap items j.imports ∙ map-append (λ (e : WorldKey × WorldItem). e.1) own_imports j.new_imports) i ++ (ap items j.exports ∙ map-append (λ (e : WorldKey × WorldItem). e.1) own_exports j.new_exports) i
+      whole = λ i. (ap items j.imports ∙ map-append (λ (e : WorldKey × WorldItem). e.1) own_imports j.new_imports) i
+          ++ (ap items j.exports ∙ map-append (λ (e : WorldKey × WorldItem). e.1) own_exports j.new_exports) i
 
       own_both : (each_after (uses_stand_before s number) [] (items own_imports) && each_after (uses_stand_before s number) (items own_imports) (items own_exports)) ≡ true
       own_both = sym (after_append (uses_stand_before s number) [] (items own_imports) (items own_exports)) ∙ own
@@ -196,10 +228,13 @@ module _ (r s : Resolve) (f : Renumbering) (valid : KeepsRules r) (is : IsCarrie
       old = sym (after_append (uses_stand_before r n) [] (items j.old.imports.entries) (items j.old.exports.entries)) ∙ world-passes order_of_items r valid.order_of_items n j.old j.found
 
       first : (each_after (uses_stand_before s number) (items own_imports) (items j.new_imports) ≡ true) × Covers f (items j.old.imports.entries) (items own_imports ++ items j.new_imports)
-      first = walk f own_imports (uses_stand_before r n) (uses_stand_before s number) (item_stands r s f valid is below_s n j.carries) [] (items own_imports) j.old.imports.entries j.new_imports j.joined_imports (holds_itself own_imports) (covers_none f (items own_imports)) (first_true _ _ old)
+      first = walk f own_imports (uses_stand_before r n) (uses_stand_before s number) (item_stands r s f valid is below_s n j.carries) [] (items own_imports) j.old.imports.entries j.new_imports
+          j.joined_imports (holds_itself own_imports) (covers_none f (items own_imports)) (first_true _ _ old)
 
       third : each_after (uses_stand_before s number) (items own_imports ++ items j.new_imports) (items own_exports) ≡ true
-      third = stands_still s number (items own_imports) (items own_imports ++ items j.new_imports) (numbers_left item_interface (items own_imports) (items j.new_imports)) (numbers_left item_type (items own_imports) (items j.new_imports)) (items own_exports) (second_true (each_after (uses_stand_before s number) [] (items own_imports)) (each_after (uses_stand_before s number) (items own_imports) (items own_exports)) own_both)
+      third = stands_still s number (items own_imports) (items own_imports ++ items j.new_imports) (numbers_left item_interface (items own_imports) (items j.new_imports))
+          (numbers_left item_type (items own_imports) (items j.new_imports)) (items own_exports)
+          (second_true (each_after (uses_stand_before s number) [] (items own_imports)) (each_after (uses_stand_before s number) (items own_imports) (items own_exports)) own_both)
 
       holds : Holds own_exports ((items own_imports ++ items j.new_imports) ++ items own_exports)
       holds = record {
@@ -207,9 +242,12 @@ module _ (r s : Resolve) (f : Renumbering) (valid : KeepsRules r) (is : IsCarrie
         types = λ x c m e. numbers_right item_type (items own_imports ++ items j.new_imports) (items own_exports) m ((holds_itself own_exports).types x c m e);
       }
 
-      last : (each_after (uses_stand_before s number) ((items own_imports ++ items j.new_imports) ++ items own_exports) (items j.new_exports) ≡ true) × Covers f (items j.old.imports.entries ++ items j.old.exports.entries) (((items own_imports ++ items j.new_imports) ++ items own_exports) ++ items j.new_exports)
-      last = walk f own_exports (uses_stand_before r n) (uses_stand_before s number) (item_stands r s f valid is below_s n j.carries) (items j.old.imports.entries) ((items own_imports ++ items j.new_imports) ++ items own_exports) j.old.exports.entries j.new_exports j.joined_exports holds
-          (covers_more f (items j.old.imports.entries) (items own_imports ++ items j.new_imports) (items own_exports) first.1) (second_true (each_after (uses_stand_before r n) [] (items j.old.imports.entries)) (each_after (uses_stand_before r n) (items j.old.imports.entries) (items j.old.exports.entries)) old)
+      last : (each_after (uses_stand_before s number) ((items own_imports ++ items j.new_imports) ++ items own_exports) (items j.new_exports) ≡ true)
+          × Covers f (items j.old.imports.entries ++ items j.old.exports.entries) (((items own_imports ++ items j.new_imports) ++ items own_exports) ++ items j.new_exports)
+      last = walk f own_exports (uses_stand_before r n) (uses_stand_before s number) (item_stands r s f valid is below_s n j.carries) (items j.old.imports.entries)
+          ((items own_imports ++ items j.new_imports) ++ items own_exports) j.old.exports.entries j.new_exports j.joined_exports holds
+          (covers_more f (items j.old.imports.entries) (items own_imports ++ items j.new_imports) (items own_exports) first.1)
+          (second_true (each_after (uses_stand_before r n) [] (items j.old.imports.entries)) (each_after (uses_stand_before r n) (items j.old.imports.entries) (items j.old.exports.entries)) old)
 
   -- order of types
   abbrev pub numbers : List ℕ
@@ -222,14 +260,17 @@ module _ (r s : Resolve) (f : Renumbering) (valid : KeepsRules r) (is : IsCarrie
   in_order_here before k = list_all (λ m. not (has (world_type_numbers j.old) m) || has before m) (used_by_number r k)
 
   numbers_are : numbers ≡ filter_map item_type (items own_imports) ++ filter_map item_type (items j.new_imports)
-  numbers_are = ap (λ es. filter_map item_type (items es)) j.imports ∙ (ap (filter_map item_type) (map-append (λ (e : WorldKey × WorldItem). e.1) own_imports j.new_imports) ∙ filter_map-append item_type (items own_imports) (items j.new_imports))
+  numbers_are = ap (λ es. filter_map item_type (items es)) j.imports ∙ (ap (filter_map item_type) (map-append (λ (e : WorldKey × WorldItem). e.1) own_imports j.new_imports) ∙ filter_map-append
+      item_type (items own_imports) (items j.new_imports))
 
   old_types : (list_all (is_named_of r (as_world n)) (world_type_numbers j.old) && are_in_order r (world_type_numbers j.old)) ≡ true
   unfolding order_of_types
   old_types = world-passes order_of_types r valid.order_of_types n j.old j.found
 
-  entry_named : (a b : WorldKey × WorldItem) → EntryBecomes f a b → list_all (is_named_of r (as_world n)) (option_to_list (item_type a.1)) ≡ true → list_all (is_named_of s (as_world number)) (option_to_list (item_type b.1)) ≡ true
-  entry_named (k, item.Type_ a) (l, item.Type_ b) z h = both _ _ (ap (is_named_of s (as_world number)) z.1.0 ∙ named_of_there r s f valid is below_s (as_world n) a.0 (is.copied_types a.0 z.1.1) (first_true _ _ h)) refl
+  entry_named : (a b : WorldKey × WorldItem) → EntryBecomes f a b → list_all (is_named_of r (as_world n)) (option_to_list (item_type a.1)) ≡ true
+      → list_all (is_named_of s (as_world number)) (option_to_list (item_type b.1)) ≡ true
+  entry_named (k, item.Type_ a) (l, item.Type_ b) z h = both _ _ (ap (is_named_of s (as_world number)) z.1.0 ∙ named_of_there r s f valid is below_s (as_world n) a.0 (is.copied_types a.0 z.1.1)
+      (first_true _ _ h)) refl
   entry_named (k, item.Interface a st docs ext) (l, item.Interface b st2 docs2 ext2) z h = refl
   entry_named (k, item.Function g) (l, item.Function e) z h = refl
   entry_named (k, item.Interface a st docs ext) (l, item.Function g) z h = absurd z.1
@@ -248,7 +289,8 @@ module _ (r s : Resolve) (f : Renumbering) (valid : KeepsRules r) (is : IsCarrie
       ∙ (list_all-append (is_named_of s (as_world number)) (filter_map item_type (items own_imports)) (filter_map item_type (items j.new_imports))
       ∙ both _ _ own
       (by_items (is_named_of s (as_world number)) j.new_imports
-      ∙ added_pass f own_imports (λ e. list_all (is_named_of r (as_world n)) (option_to_list (item_type e.1))) (λ e. list_all (is_named_of s (as_world number)) (option_to_list (item_type e.1))) entry_named j.old.imports.entries j.new_imports j.joined_imports
+      ∙ added_pass f own_imports (λ e. list_all (is_named_of r (as_world n)) (option_to_list (item_type e.1))) (λ e. list_all (is_named_of s (as_world number)) (option_to_list (item_type e.1)))
+      entry_named j.old.imports.entries j.new_imports j.joined_imports
       (sym (by_items (is_named_of r (as_world n)) j.old.imports.entries) ∙ first_true _ _ old_types)))
 
   named_owned : (m : ℕ) → f.carries_type m ≡ true → is_named_of s (as_world number) (f.types m) ≡ true → has_owner s (as_world number) (f.types m) ≡ true
@@ -258,18 +300,22 @@ module _ (r s : Resolve) (f : Renumbering) (valid : KeepsRules r) (is : IsCarrie
       ∙ second_true (is_some t.image.name) _ (sym (ap (passes (λ def. is_some def.name && same_owner def.owner (as_world number))) t.at_image) ∙ h)
 
   module _ (named : list_all (is_named_of s (as_world number)) numbers ≡ true) where
-    used_there : (olds news : List ℕ) → ((m : ℕ) → has olds m ≡ true → has news (f.types m) ≡ true) → (used : List ℕ) → list_all f.carries_type used ≡ true → list_all (λ m. not (has (world_type_numbers j.old) m) || has olds m) used ≡ true → list_all (λ m. not (has numbers m) || has news m) (map f.types used) ≡ true
+    used_there : (olds news : List ℕ) → ((m : ℕ) → has olds m ≡ true → has news (f.types m) ≡ true) → (used : List ℕ) → list_all f.carries_type used ≡ true
+        → list_all (λ m. not (has (world_type_numbers j.old) m) || has olds m) used ≡ true → list_all (λ m. not (has numbers m) || has news m) (map f.types used) ≡ true
     used_there olds news covers used c h =
         list_all-map (λ m. not (has numbers m) || has news m) f.types used
-        ∙ all_two f.carries_type (λ m. not (has (world_type_numbers j.old) m) || has olds m) (λ m. not (has numbers (f.types m)) || has news (f.types m)) (λ m d e. each m d e (has numbers (f.types m)) refl) used c h
+        ∙ all_two f.carries_type (λ m. not (has (world_type_numbers j.old) m) || has olds m) (λ m. not (has numbers (f.types m)) || has news (f.types m))
+        (λ m d e. each m d e (has numbers (f.types m)) refl) used c h
       where
-        each : (m : ℕ) → f.carries_type m ≡ true → (not (has (world_type_numbers j.old) m) || has olds m) ≡ true → (b : Bool) → has numbers (f.types m) ≡ b → (not (has numbers (f.types m)) || has news (f.types m)) ≡ true
+        each : (m : ℕ) → f.carries_type m ≡ true → (not (has (world_type_numbers j.old) m) || has olds m) ≡ true → (b : Bool) → has numbers (f.types m) ≡ b
+            → (not (has numbers (f.types m)) || has news (f.types m)) ≡ true
         each m d e false k = ap (λ b. not b || has news (f.types m)) k
         each m d e true k =
             let home = owner_back r s f valid is below_s (as_world n) m j.carries d (named_owned m d (passes_at (is_named_of s (as_world number)) numbers (f.types m) named k)) in
             or_right (not (has numbers (f.types m))) (has news (f.types m)) (covers m (sym (ap (λ b. not b || has olds m) (owned_listed r valid n j.old j.found m home)) ∙ e))
 
-    item_in_order : (olds news : List WorldItem) (old new : WorldKey × WorldItem) → EntryBecomes f old new → Covers f olds news → passes (in_order_here (filter_map item_type olds)) (item_type old.1) ≡ true → passes (in_order_there (filter_map item_type news)) (item_type new.1) ≡ true
+    item_in_order : (olds news : List WorldItem) (old new : WorldKey × WorldItem) → EntryBecomes f old new → Covers f olds news
+        → passes (in_order_here (filter_map item_type olds)) (item_type old.1) ≡ true → passes (in_order_there (filter_map item_type news)) (item_type new.1) ≡ true
     item_in_order olds news (k, item.Type_ a) (l, item.Type_ b) z covers h =
         let uses = number_uses r s f valid is below_s a.0 z.1.1 in
         ap (λ x. list_all (λ m. not (has numbers m) || has (filter_map item_type news) m) (used_by_number s x)) z.1.0
@@ -290,8 +336,10 @@ module _ (r s : Resolve) (f : Renumbering) (valid : KeepsRules r) (is : IsCarrie
         ∙ (after_lists (filter_map item_type (items own_imports)) (filter_map item_type (items j.new_imports))
         ∙ both _ _ own
         (sym (after_given in_order_there item_type (items own_imports) (items j.new_imports))
-        ∙ (walk f own_imports (λ ys x. passes (in_order_here (filter_map item_type ys)) (item_type x)) (λ ys x. passes (in_order_there (filter_map item_type ys)) (item_type x)) item_in_order [] (items own_imports) j.old.imports.entries j.new_imports j.joined_imports
-        (holds_itself own_imports) (covers_none f (items own_imports)) (after_given in_order_here item_type [] (items j.old.imports.entries) ∙ second_true (list_all (is_named_of r (as_world n)) (world_type_numbers j.old)) _ old_types)).0))
+        ∙ (walk f own_imports (λ ys x. passes (in_order_here (filter_map item_type ys)) (item_type x)) (λ ys x. passes (in_order_there (filter_map item_type ys)) (item_type x)) item_in_order []
+        (items own_imports) j.old.imports.entries j.new_imports j.joined_imports
+        (holds_itself own_imports) (covers_none f (items own_imports)) (after_given in_order_here item_type [] (items j.old.imports.entries) ∙ second_true
+        (list_all (is_named_of r (as_world n)) (world_type_numbers j.old)) _ old_types)).0))
       where
         after_lists : (xs ys : List ℕ) → each_after in_order_there [] (xs ++ ys) ≡ (each_after in_order_there [] xs && each_after in_order_there xs ys)
         after_lists xs ys = after_append in_order_there [] xs ys

@@ -88,7 +88,8 @@ pub record IsSameName (old new : PackageName) : Type 0 where
 pub record IsFunctionCopy (f : Renumbering) (old new : Function) : Type 0 where
   pub name : text_of new.name ≡ text_of old.name
   pub kind : new.kind ≡ call_under f old.kind
-  pub params : ◌≡◌ {A = List (Text × ValueType)} (map (λ p. (text_of p.name, p.ty)) new.params.items) (map (λ p. (text_of p.name, renamed_type f.types p.ty)) old.params.items)
+  pub params : ◌≡◌ {A = List (Text × ValueType)} (map (λ p. (text_of p.name, p.ty)) new.params.items)
+      (map (λ p. (text_of p.name, renamed_type f.types p.ty)) old.params.items)
   pub result : new.result ≡ option_map (renamed_type f.types) old.result
   pub parts : list_all f.carries_type (function_numbers old) ≡ true
   pub stability : stability_view new.stability ≡ stability_view old.stability
@@ -111,7 +112,8 @@ KeyBecomes f _ _ = ⊥
 
 abbrev pub ItemBecomes : Renumbering → WorldItem → WorldItem → Type 0
 ItemBecomes f (item.Interface old old_stability old_docs old_external) (item.Interface new new_stability new_docs new_external) =
-    (new.0 ≡ f.interfaces old.0) × (f.carries_interface old.0 ≡ true) × (stability_view new_stability ≡ stability_view old_stability) × (optional_text new_external ≡ optional_text old_external)
+    (new.0 ≡ f.interfaces old.0) × (f.carries_interface old.0 ≡ true) × (stability_view new_stability ≡ stability_view old_stability)
+    × (optional_text new_external ≡ optional_text old_external)
 ItemBecomes f (item.Function old) (item.Function new) = IsFunctionCopy f old new
 ItemBecomes f (item.Type_ old) (item.Type_ new) = (new.0 ≡ f.types old.0) × (f.copies_type old.0 ≡ true)
 ItemBecomes f _ _ = ⊥
@@ -161,7 +163,8 @@ pub record IsInterface (r s : Resolve) (f : Renumbering) (n : ℕ) : Type 0 wher
   pub name : optional_text image.name ≡ optional_text old.name
   -- an inline one has the package of the world that shows it
   pub in_package : is_some old.name ≡ true → package_number image.«package» ≡ option_map f.packages (package_number old.«package»)
-  pub types : (m : ℕ) → has (interface_type_numbers image) m ≡ true → (k : ℕ) × (has (interface_type_numbers old) k ≡ true) × (f.carries_type k ≡ true) × (f.types k ≡ m)
+  pub types : (m : ℕ) → has (interface_type_numbers image) m ≡ true → (k : ℕ) × (has (interface_type_numbers old) k ≡ true) × (f.carries_type k ≡ true)
+      × (f.types k ≡ m)
   pub copied : f.copies_interface n ≡ true → IsInterfaceCopy f old image
 
 pub record IsPackage (r s : Resolve) (f : Renumbering) (n : ℕ) (p : Package) : Type 0 where

@@ -31,8 +31,10 @@ ItemStandsFor f _ _ = ⊥
 -- The entries one after the other: one that was there stands for each whose key was there, and the others are copied.
 pub data Joined (f : Renumbering) (own : List (WorldKey × WorldItem)) : List (WorldKey × WorldItem) → List (WorldKey × WorldItem) → Type 0 where
   none : Joined f own [] []
-  met : (old there : WorldKey × WorldItem) (olds news : List (WorldKey × WorldItem)) → Contains own there → KeyBecomes f old.0 there.0 → ItemStandsFor f old.1 there.1 → Joined f own olds news → Joined f own (old ∷ olds) news
-  added : (old new : WorldKey × WorldItem) (olds news : List (WorldKey × WorldItem)) → is_new f own old.0 ≡ true → EntryBecomes f old new → Joined f own olds news → Joined f own (old ∷ olds) (new ∷ news)
+  met : (old there : WorldKey × WorldItem) (olds news : List (WorldKey × WorldItem)) → Contains own there → KeyBecomes f old.0 there.0
+      → ItemStandsFor f old.1 there.1 → Joined f own olds news → Joined f own (old ∷ olds) news
+  added : (old new : WorldKey × WorldItem) (olds news : List (WorldKey × WorldItem)) → is_new f own old.0 ≡ true → EntryBecomes f old new
+      → Joined f own olds news → Joined f own (old ∷ olds) (new ∷ news)
 
 -- A world of the one stands in a world of the other, behind these imports and these exports. Where none were there it is a copy.
 pub record IsJoined (r s : Resolve) (f : Renumbering) (n : ℕ) (own_imports own_exports : List (WorldKey × WorldItem)) : Type 0 where

@@ -34,7 +34,8 @@ pub record IsMatch (own other : Resolve) (interfaces types : ℕ → ℕ) (n : �
 
 -- Each interface of the other that has a path is matched, or there is no own one of its path.
 abbrev pub AreMatched : Resolve → Resolve → (ℕ → ℕ) → (ℕ → ℕ) → Type 0
-AreMatched own other interfaces types = (n : ℕ) → is_some (interface_path other n) ≡ true → IsMatch own other interfaces types n ⊎ ((m : ℕ) → interface_path own m ≡ interface_path other n → ⊥)
+AreMatched own other interfaces types = (n : ℕ) → is_some (interface_path other n) ≡ true → IsMatch own other interfaces types n
+    ⊎ ((m : ℕ) → interface_path own m ≡ interface_path other n → ⊥)
 
 -- what a type of a matched interface and the own type of its name have in common
 pub record AreNamesakes (own other : Resolve) (interfaces types : ℕ → ℕ) (n t : ℕ) : Type 0 where
@@ -51,11 +52,13 @@ pub record AreNamesakes (own other : Resolve) (interfaces types : ℕ → ℕ) (
 
 -- Types of matched interfaces stand for each other: resources for resources, and aliases for aliases of what stands for their targets.
 abbrev pub MatchesAreNamesakes : Type 0
-MatchesAreNamesakes = (own other : Resolve) (interfaces types : ℕ → ℕ) → IsValid own → IsValid other → AreMatched own other interfaces types → (n : ℕ) (is : IsMatch own other interfaces types n) (t : ℕ) → has (interface_type_numbers is.old) t ≡ true → AreNamesakes own other interfaces types n t
+MatchesAreNamesakes = (own other : Resolve) (interfaces types : ℕ → ℕ) → IsValid own → IsValid other → AreMatched own other interfaces types
+    → (n : ℕ) (is : IsMatch own other interfaces types n) (t : ℕ) → has (interface_type_numbers is.old) t ≡ true → AreNamesakes own other interfaces types n t
 
 -- And each type of the own one stands for one of the other's.
 abbrev pub MatchesAreOnto : Type 0
-MatchesAreOnto = (own other : Resolve) (interfaces types : ℕ → ℕ) → IsValid own → IsValid other → (n : ℕ) (is : IsMatch own other interfaces types n) (m : ℕ) → has (interface_type_numbers is.image) m ≡ true → (t : ℕ) × (has (interface_type_numbers is.old) t ≡ true) × (types t ≡ m)
+MatchesAreOnto = (own other : Resolve) (interfaces types : ℕ → ℕ) → IsValid own → IsValid other → (n : ℕ) (is : IsMatch own other interfaces types n) (m : ℕ)
+    → has (interface_type_numbers is.image) m ≡ true → (t : ℕ) × (has (interface_type_numbers is.old) t ≡ true) × (types t ≡ m)
 
 -- ---- bound worlds
 
@@ -65,9 +68,13 @@ pub record WorldsAgree (own other : Resolve) (f : Renumbering) (bound other_boun
   pub own_at : world_at own bound ≡ Some own_world
   pub other_world : World
   pub other_at : world_at other other_bound ≡ Some other_world
-  pub senses : (x e : WorldKey × WorldItem) → Contains own_world.imports.entries x → Contains other_world.imports.entries e → key_text own x.0 ≡ key_text other e.0 → entry_sense (entry_meaning own x.1) ≡ entry_sense (entry_meaning other e.1)
-  pub types : (x e : WorldKey × WorldItem) → Contains own_world.imports.entries x → Contains other_world.imports.entries e → key_text own x.0 ≡ key_text other e.0 → (t u : ℕ) → item_type x.1 ≡ Some t → item_type e.1 ≡ Some u → f.types u ≡ t
-  pub inline : (x e : WorldKey × WorldItem) → Contains own_world.imports.entries x → Contains other_world.imports.entries e → key_text own x.0 ≡ key_text other e.0 → (i j : ℕ) → item_interface x.1 ≡ Some i → item_interface e.1 ≡ Some j → interface_path other j ≡ None → f.interfaces j ≡ i
+  pub senses : (x e : WorldKey × WorldItem) → Contains own_world.imports.entries x → Contains other_world.imports.entries e
+      → key_text own x.0 ≡ key_text other e.0 → entry_sense (entry_meaning own x.1) ≡ entry_sense (entry_meaning other e.1)
+  pub types : (x e : WorldKey × WorldItem) → Contains own_world.imports.entries x → Contains other_world.imports.entries e
+      → key_text own x.0 ≡ key_text other e.0 → (t u : ℕ) → item_type x.1 ≡ Some t → item_type e.1 ≡ Some u → f.types u ≡ t
+  pub inline : (x e : WorldKey × WorldItem) → Contains own_world.imports.entries x → Contains other_world.imports.entries e
+      → key_text own x.0 ≡ key_text other e.0 → (i j : ℕ) → item_interface x.1 ≡ Some i → item_interface e.1 ≡ Some j → interface_path other j ≡ None
+      → f.interfaces j ≡ i
 
 -- what two types of the bound worlds of one key have in common
 pub record AreWorldNamesakes (own other : Resolve) (f : Renumbering) (bound other_bound t : ℕ) : Type 0 where
@@ -82,20 +89,24 @@ pub record AreWorldNamesakes (own other : Resolve) (f : Renumbering) (bound othe
 
 -- An own import stands for the other's of its key, and types for types.
 abbrev pub MetImportsStand : Type 0
-MetImportsStand = (own other : Resolve) (f : Renumbering) (bound other_bound : ℕ) → IsValid own → IsValid other → AreMatched own other f.interfaces f.types → (is : WorldsAgree own other f bound other_bound) →
+MetImportsStand = (own other : Resolve) (f : Renumbering) (bound other_bound : ℕ) → IsValid own → IsValid other → AreMatched own other f.interfaces f.types
+    → (is : WorldsAgree own other f bound other_bound) →
     (x e : WorldKey × WorldItem) → Contains is.own_world.imports.entries x → Contains is.other_world.imports.entries e → key_text own x.0 ≡ key_text other e.0 →
-    ItemStandsFor f e.1 x.1 × ((t : ℕ) → item_type e.1 ≡ Some t → passes f.carries_type (option_and_then (λ def. alias_target def.kind) (type_at other t)) ≡ true → AreWorldNamesakes own other f bound other_bound t)
+    ItemStandsFor f e.1 x.1 × ((t : ℕ) → item_type e.1 ≡ Some t
+    → passes f.carries_type (option_and_then (λ def. alias_target def.kind) (type_at other t)) ≡ true → AreWorldNamesakes own other f bound other_bound t)
 
 -- ---- what code has to give
 
 -- A matched interface, found by name in the package of that number, stands in what begins with own lists, and so do its types:
 -- nothing else of them has to be shown. Interfaces with a path are carried, and all types of what is carried.
 abbrev pub MatchedStand : Type 0
-MatchedStand = (own other merged : Resolve) (f : Renumbering) → IsValid own → IsValid other → BeginsWith own.types.items merged.types.items → BeginsWith own.interfaces.items merged.interfaces.items →
+MatchedStand = (own other merged : Resolve) (f : Renumbering) → IsValid own → IsValid other → BeginsWith own.types.items merged.types.items
+    → BeginsWith own.interfaces.items merged.interfaces.items →
     AreMatched own other f.interfaces f.types →
     ((n : ℕ) → is_some (interface_path other n) ≡ true → f.carries_interface n ≡ true) →
     ((n : ℕ) (i : Interface) → f.carries_interface n ≡ true → interface_at other n ≡ Some i → list_all f.carries_type (interface_type_numbers i) ≡ true) →
-    (n : ℕ) (is : IsMatch own other f.interfaces f.types n) → f.copies_interface n ≡ false → optional_text is.image.name ≡ optional_text is.old.name → package_number is.image.«package» ≡ option_map f.packages (package_number is.old.«package») →
+    (n : ℕ) (is : IsMatch own other f.interfaces f.types n) → f.copies_interface n ≡ false → optional_text is.image.name ≡ optional_text is.old.name
+    → package_number is.image.«package» ≡ option_map f.packages (package_number is.old.«package») →
     IsInterface other merged f n × ((t : ℕ) → has (interface_type_numbers is.old) t ≡ true → f.copies_type t ≡ false → IsType other merged f t)
 
 -- numbers given to copies one behind the other from the first on, with the others as they are
@@ -113,8 +124,14 @@ NumbersRise = (first : ℕ) (copies : List Bool) (others : List ℕ) (carries : 
 
 -- Loops that go along entries, or along names, keep these at each step.
 pub record StepsKeep : Type 0 where
-  pub met : (f : Renumbering) (own olds news : List (WorldKey × WorldItem)) → Joined f own olds news → (old there : WorldKey × WorldItem) → Contains own there → KeyBecomes f old.0 there.0 → ItemStandsFor f old.1 there.1 → Joined f own (olds ++ old ∷ []) news
-  pub added : (f : Renumbering) (own olds news : List (WorldKey × WorldItem)) → Joined f own olds news → (old new : WorldKey × WorldItem) → is_new f own old.0 ≡ true → EntryBecomes f old new → Joined f own (olds ++ old ∷ []) (news ++ new ∷ [])
-  pub met_name : (number : ℕ → ℕ) (copies left_out : ℕ → Bool) (own olds news : List (Text × ℕ)) → JoinedNames number copies left_out own olds news → (name : Text) (old : ℕ) → Contains own (name, number old) → JoinedNames number copies left_out own (olds ++ (name, old) ∷ []) news
-  pub left_name : (number : ℕ → ℕ) (copies left_out : ℕ → Bool) (own olds news : List (Text × ℕ)) → JoinedNames number copies left_out own olds news → (name : Text) (old : ℕ) → left_out old ≡ true → JoinedNames number copies left_out own (olds ++ (name, old) ∷ []) news
-  pub added_name : (number : ℕ → ℕ) (copies left_out : ℕ → Bool) (own olds news : List (Text × ℕ)) → JoinedNames number copies left_out own olds news → (name : Text) (old : ℕ) → copies old ≡ true → left_out old ≡ false → is_name name own ≡ false → JoinedNames number copies left_out own (olds ++ (name, old) ∷ []) (news ++ (name, number old) ∷ [])
+  pub met : (f : Renumbering) (own olds news : List (WorldKey × WorldItem)) → Joined f own olds news → (old there : WorldKey × WorldItem) → Contains own there
+      → KeyBecomes f old.0 there.0 → ItemStandsFor f old.1 there.1 → Joined f own (olds ++ old ∷ []) news
+  pub added : (f : Renumbering) (own olds news : List (WorldKey × WorldItem)) → Joined f own olds news → (old new : WorldKey × WorldItem)
+      → is_new f own old.0 ≡ true → EntryBecomes f old new → Joined f own (olds ++ old ∷ []) (news ++ new ∷ [])
+  pub met_name : (number : ℕ → ℕ) (copies left_out : ℕ → Bool) (own olds news : List (Text × ℕ)) → JoinedNames number copies left_out own olds news
+      → (name : Text) (old : ℕ) → Contains own (name, number old) → JoinedNames number copies left_out own (olds ++ (name, old) ∷ []) news
+  pub left_name : (number : ℕ → ℕ) (copies left_out : ℕ → Bool) (own olds news : List (Text × ℕ)) → JoinedNames number copies left_out own olds news
+      → (name : Text) (old : ℕ) → left_out old ≡ true → JoinedNames number copies left_out own (olds ++ (name, old) ∷ []) news
+  pub added_name : (number : ℕ → ℕ) (copies left_out : ℕ → Bool) (own olds news : List (Text × ℕ)) → JoinedNames number copies left_out own olds news
+      → (name : Text) (old : ℕ) → copies old ≡ true → left_out old ≡ false → is_name name own ≡ false
+      → JoinedNames number copies left_out own (olds ++ (name, old) ∷ []) (news ++ (name, number old) ∷ [])

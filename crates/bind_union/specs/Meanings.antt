@@ -17,12 +17,14 @@ use Rattle.bind_union.specs.Merged.{IsMerged}
 
 -- Every own interface, and every own world but the bound one, means what it meant, under its own path.
 pub record OwnMeansTheSame (own merged : Resolve) (bound : ℕ) : Type 0 where
-  pub interfaces : (n : ℕ) (i : Interface) → interface_at own n ≡ Some i → (interface_meaning_at merged n ≡ interface_meaning_at own n) × (interface_path merged n ≡ interface_path own n)
+  pub interfaces : (n : ℕ) (i : Interface) → interface_at own n ≡ Some i → (interface_meaning_at merged n ≡ interface_meaning_at own n)
+      × (interface_path merged n ≡ interface_path own n)
   pub worlds : (n : ℕ) (w : World) → world_at own n ≡ Some w → (n ≡ bound → ⊥) → world_meaning_at merged n ≡ world_meaning_at own n
 
 -- Every interface and every world that is copied means what the other's did, and an interface stands under its path.
 pub record CopiesMeanTheSame (other merged : Resolve) (f : Renumbering) : Type 0 where
-  pub interfaces : (n : ℕ) → f.copies_interface n ≡ true → (interface_meaning_at merged (f.interfaces n) ≡ interface_meaning_at other n) × (interface_path merged (f.interfaces n) ≡ interface_path other n)
+  pub interfaces : (n : ℕ) → f.copies_interface n ≡ true → (interface_meaning_at merged (f.interfaces n) ≡ interface_meaning_at other n)
+      × (interface_path merged (f.interfaces n) ≡ interface_path other n)
 
 abbrev pub MergedMeans : Type 0
 MergedMeans = (own other merged : Resolve) (bound other_bound : ℕ) (first second : Renumbering) (left_out : ℕ → Bool) → IsValid own → IsValid other →
@@ -54,7 +56,8 @@ ShowsNone r path = (n : ℕ) → interface_path r n ≡ Some path → ⊥
 
 -- What was merged has the own interfaces by path, and those of the other whose paths are new.
 abbrev pub InterfacesAreUnited : Type 0
-InterfacesAreUnited = (own other merged : Resolve) (bound other_bound : ℕ) (first second : Renumbering) (left_out : ℕ → Bool) → IsValid own → IsValid other → HasDistinctKeys merged →
+InterfacesAreUnited = (own other merged : Resolve) (bound other_bound : ℕ) (first second : Renumbering) (left_out : ℕ → Bool) → IsValid own → IsValid other
+    → HasDistinctKeys merged →
     (is : IsMerged own other merged bound other_bound first second left_out) → (path : Text) (meaning : InterfaceMeaning) →
     (Shows merged path meaning → Shows own path meaning ⊎ (Shows other path meaning × ShowsNone own path))
     × (Shows own path meaning → Shows merged path meaning)
@@ -73,10 +76,12 @@ ShowsNoWorld r path = (n : ℕ) (w : World) → world_at r n ≡ Some w → path
 
 -- The same of worlds, but for the path of the bound one, and without what is left out of the other. The bound world's path stays.
 abbrev pub WorldsAreUnited : Type 0
-WorldsAreUnited = (own other merged : Resolve) (bound other_bound : ℕ) (first second : Renumbering) (left_out : ℕ → Bool) → IsValid own → IsValid other → HasDistinctKeys merged →
+WorldsAreUnited = (own other merged : Resolve) (bound other_bound : ℕ) (first second : Renumbering) (left_out : ℕ → Bool) → IsValid own → IsValid other
+    → HasDistinctKeys merged →
     (is : IsMerged own other merged bound other_bound first second left_out) →
     (path_of_world merged is.joined.image ≡ path_of_world own is.own_bound)
     × ((path : Text) (meaning : WorldMeaning) → (path_of_world own is.own_bound ≡ Some path → ⊥) →
-    (ShowsWorld merged path meaning → ShowsWorld own path meaning ⊎ (((x : ShowsWorld other path meaning) × (left_out x.number ≡ false)) × ShowsNoWorld own path))
+    (ShowsWorld merged path meaning → ShowsWorld own path meaning
+    ⊎ (((x : ShowsWorld other path meaning) × (left_out x.number ≡ false)) × ShowsNoWorld own path))
     × (ShowsWorld own path meaning → ShowsWorld merged path meaning)
     × ((x : ShowsWorld other path meaning) → left_out x.number ≡ false → ShowsNoWorld own path → ShowsWorld merged path meaning))

@@ -31,12 +31,16 @@ is_name name own = list_any (λ (e : Text × ℕ). text_eq name e.0) own
 -- The names one after the other: one that was there stands for each that was there, some are left out, and copies are added.
 pub data JoinedNames (number : ℕ → ℕ) (copies left_out : ℕ → Bool) (own : List (Text × ℕ)) : List (Text × ℕ) → List (Text × ℕ) → Type 0 where
   none : JoinedNames number copies left_out own [] []
-  met : (name : Text) (old : ℕ) (olds news : List (Text × ℕ)) → Contains own (name, number old) → JoinedNames number copies left_out own olds news → JoinedNames number copies left_out own ((name, old) ∷ olds) news
-  left : (name : Text) (old : ℕ) (olds news : List (Text × ℕ)) → left_out old ≡ true → JoinedNames number copies left_out own olds news → JoinedNames number copies left_out own ((name, old) ∷ olds) news
-  added : (name : Text) (old : ℕ) (olds news : List (Text × ℕ)) → copies old ≡ true → left_out old ≡ false → is_name name own ≡ false → JoinedNames number copies left_out own olds news → JoinedNames number copies left_out own ((name, old) ∷ olds) ((name, number old) ∷ news)
+  met : (name : Text) (old : ℕ) (olds news : List (Text × ℕ)) → Contains own (name, number old) → JoinedNames number copies left_out own olds news
+      → JoinedNames number copies left_out own ((name, old) ∷ olds) news
+  left : (name : Text) (old : ℕ) (olds news : List (Text × ℕ)) → left_out old ≡ true → JoinedNames number copies left_out own olds news
+      → JoinedNames number copies left_out own ((name, old) ∷ olds) news
+  added : (name : Text) (old : ℕ) (olds news : List (Text × ℕ)) → copies old ≡ true → left_out old ≡ false → is_name name own ≡ false
+      → JoinedNames number copies left_out own olds news → JoinedNames number copies left_out own ((name, old) ∷ olds) ((name, number old) ∷ news)
 
 -- A package of the other stands in a package behind the names that were there.
-pub record IsJoinedPackage (merged : Resolve) (f : Renumbering) (left_out : ℕ → Bool) (n : ℕ) (old : Package) (own_interfaces own_worlds : List (Text × ℕ)) : Type 0 where
+pub record IsJoinedPackage (merged : Resolve) (f : Renumbering) (left_out : ℕ → Bool) (n : ℕ) (old : Package)
+    (own_interfaces own_worlds : List (Text × ℕ)) : Type 0 where
   pub image : Package
   pub at_image : package_at merged (f.packages n) ≡ Some image
   pub new_interfaces : List (Text × ℕ)
@@ -97,7 +101,8 @@ pub record AreCopies (own other merged : Resolve) (f : Renumbering) : Type 0 whe
   -- an inline interface stands for no other
   pub inline_copied : (m : ℕ) (i : Interface) → f.carries_interface m ≡ true → interface_at other m ≡ Some i → i.name ≡ None → f.copies_interface m ≡ true
   -- and is copied with the world that shows it
-  pub inline_shown : (m : ℕ) (i : Interface) (n : ℕ) (w : World) → f.copies_interface m ≡ true → interface_at other m ≡ Some i → i.name ≡ None → world_at other n ≡ Some w → has (filter_map item_interface (items_of w)) m ≡ true → f.carries_world n ≡ true
+  pub inline_shown : (m : ℕ) (i : Interface) (n : ℕ) (w : World) → f.copies_interface m ≡ true → interface_at other m ≡ Some i → i.name ≡ None
+      → world_at other n ≡ Some w → has (filter_map item_interface (items_of w)) m ≡ true → f.carries_world n ≡ true
 
 pub record IsMerged (own other merged : Resolve) (bound other_bound : ℕ) (first second : Renumbering) (left_out : ℕ → Bool) : Type 0 where
   -- no list is too long
@@ -116,7 +121,9 @@ pub record IsMerged (own other merged : Resolve) (bound other_bound : ℕ) (firs
   pub second_behind : (m k : ℕ) → first.copies_interface m ≡ true → second.copies_interface k ≡ true → first.interfaces m < second.interfaces k
   pub second_inline : (m : ℕ) (i : Interface) → second.copies_interface m ≡ true → interface_at other m ≡ Some i → i.name ≡ None
   -- an inline interface has its world's package
-  pub first_packages : (m : ℕ) (c : first.carries_interface m ≡ true) → package_number (first_copies.carried.interfaces m c).image.«package» ≡ option_map first.packages (package_number (first_copies.carried.interfaces m c).old.«package»)
+  pub first_packages : (m : ℕ) (c : first.carries_interface m ≡ true)
+      → package_number (first_copies.carried.interfaces m c).image.«package» ≡ option_map first.packages
+      (package_number (first_copies.carried.interfaces m c).old.«package»)
   -- worlds
   pub first_worlds : (m : ℕ) → first.carries_world m ≡ true → IsWorldCopy other merged first m
   pub new_worlds : (m : ℕ) → first.carries_world m ≡ true → length own.worlds.items ≤ first.worlds m
@@ -128,11 +135,14 @@ pub record IsMerged (own other merged : Resolve) (bound other_bound : ℕ) (firs
   pub bound_name : joined.image.name ≡ own_bound.name
   pub bound_stability : joined.image.stability ≡ own_bound.stability
   pub bound_package : joined.image.«package» ≡ own_bound.«package»
-  pub second_package : (m : ℕ) (c : second.carries_interface m ≡ true) → second.copies_interface m ≡ true → package_number (second_copies.carried.interfaces m c).image.«package» ≡ package_number own_bound.«package»
+  pub second_package : (m : ℕ) (c : second.carries_interface m ≡ true) → second.copies_interface m ≡ true
+      → package_number (second_copies.carried.interfaces m c).image.«package» ≡ package_number own_bound.«package»
   pub not_left_out : (m : ℕ) → first.carries_world m ≡ true → left_out m ≡ false
   -- nothing else
-  pub type_from : (n : ℕ) → length own.types.items ≤ n → n < length merged.types.items → IsCopyUnder first.types first.copies_type n ⊎ IsCopyUnder second.types second.copies_type n
-  pub interface_from : (n : ℕ) → length own.interfaces.items ≤ n → n < length merged.interfaces.items → IsCopyUnder first.interfaces first.copies_interface n ⊎ IsCopyUnder second.interfaces second.copies_interface n
+  pub type_from : (n : ℕ) → length own.types.items ≤ n → n < length merged.types.items → IsCopyUnder first.types first.copies_type n
+      ⊎ IsCopyUnder second.types second.copies_type n
+  pub interface_from : (n : ℕ) → length own.interfaces.items ≤ n → n < length merged.interfaces.items → IsCopyUnder first.interfaces first.copies_interface n
+      ⊎ IsCopyUnder second.interfaces second.copies_interface n
   pub world_from : (n : ℕ) → length own.worlds.items ≤ n → n < length merged.worlds.items → IsCopyUnder first.worlds first.carries_world n
   pub package_from : (n : ℕ) → n < length merged.packages.items → IsKeptPackage own merged n ⊎ IsPackageOf other first n
   pub packages_stand : (n : ℕ) (p : Package) → package_at other n ≡ Some p → PackageStands own merged first left_out n p

@@ -14,8 +14,6 @@ use Rattle.wit_component.specs.Roots.{IsRoot}
 use Rattle.wit_component.specs.Valid.{IsValid}
 use Rattle.callers.specs.Carried.{MeansTheSame}
 
--- what is true of the refusal is true of the answer that passes it on
-
 -- what is true of each value is true of an answer
 
 pub on-ok : {X E : Type 0} (A B : Type 0) (F : E → Type 0) → (A → B) → (r : Result X E) → MatchResult r (λ x. A) F → OnOk r B

@@ -1,24 +1,15 @@
--- The text of a package that was printed.
-use Rattle.std.proofs.Common.{◌≡◌, ℕ, true, ap, subst, ◌∙◌, List, [], Some}
+-- The text of the types of an interface that were printed.
+use Rattle.std.proofs.Common.{◌≡◌, ℕ, ap, subst, ◌∙◌, List, Some}
 use Rattle.wit_model.specs.declared.model.Interface.{Interface}
 use Rattle.wit_model.specs.declared.model.InterfaceId.{InterfaceId}
-use Rattle.wit_model.specs.declared.model.PackageId.{PackageId}
 use Rattle.wit_model.specs.declared.model.Resolve.{Resolve}
 use Rattle.print_output.proofs.RenderLaws.{Moves-writes}
 use Rattle.print_output.specs.OutputCall.{Moves, View}
-use Rattle.wit_component.specs.Calls.{file_calls}
-use Rattle.wit_component.specs.Files.{FileReads}
 use Rattle.wit_component.specs.Lookup.{interface_at}
 use Rattle.wit_component.specs.Render.{Written, blank, render, writes}
-use Rattle.wit_component.specs.Shown.{shown_file}
-use Rattle.callers.specs.Printed.{IsTextOf, calls_of_types}
+use Rattle.callers.specs.Printed.{calls_of_types}
 
--- what an output holds that was blank before the calls
-pub printed : (r : Resolve) (id : PackageId) (text : List ℕ) (new : View Written) → Moves writes blank (file_calls true (shown_file r id [])) new → text ≡ new.kept.text
-    → FileReads true (shown_file r id []) → IsTextOf r id text
-printed r id text new moved is reads = record { rendered = is ∙ ap (λ (v : View Written). v.kept.text) (Moves-writes moved); reads = reads }
-
--- so it is with the types of an interface
+-- what an output holds that was blank before the calls for the types of an interface
 pub types-printed : (r : Resolve) (id : InterfaceId) (i j : Interface) (text : List ℕ) (new : View Written) → interface_at r id.0 ≡ Some i → interface_at r id.0 ≡ Some j
     → Moves writes blank (calls_of_types r id i) new → text ≡ new.kept.text → text ≡ render (calls_of_types r id j)
 types-printed r id i j text new at there moved is =

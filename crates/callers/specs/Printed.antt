@@ -6,10 +6,11 @@ use Rattle.wit_model.specs.declared.model.PackageId.{PackageId}
 use Rattle.wit_model.specs.declared.model.Resolve.{Resolve}
 use Rattle.wit_model.specs.declared.model.TypeOwner.TheVariants as owner
 use Rattle.print_output.specs.OutputCall.{OutputCall}
+use Rattle.wit_component.specs.AsRead.{file_as_read}
 use Rattle.wit_component.specs.Calls.{file_calls, members_calls}
-use Rattle.wit_component.specs.Files.{FileReads}
 use Rattle.wit_component.specs.GivenTypes.{given_members}
 use Rattle.wit_component.specs.Lookup.{interface_at}
+use Rattle.wit_component.specs.Reading.{IsOnlyReading}
 use Rattle.wit_component.specs.Render.{render}
 use Rattle.wit_component.specs.Shown.{listed_types, shown_file}
 
@@ -17,7 +18,7 @@ use Rattle.wit_component.specs.Shown.{listed_types, shown_file}
 -- package, and as nothing else.
 pub record IsTextOf (r : Resolve) (id : PackageId) (text : List ℕ) : Type 0 where
   pub rendered : text ≡ render (file_calls true (shown_file r id []))
-  pub reads : FileReads true (shown_file r id [])
+  pub reads : IsOnlyReading text (file_as_read (shown_file r id []))
 
 -- the calls for the types of an interface as they are declared, with documentation: for uses and then for the others, and for no functions
 abbrev pub calls_of_types : Resolve → InterfaceId → Interface → List OutputCall

@@ -15,7 +15,7 @@ use std::collections::HashMap;
 use wit_component::laws::interfaces_can_be_given;
 use wit_component::{
     Error, Interface, InterfaceId, OutputToString, PackageId, Resolve, TypeId, TypeOwner,
-    WitPrinter,
+    WitPrinter, print_to_string,
 };
 
 /// The text of a package with its documentation, by itself.
@@ -25,9 +25,7 @@ pub fn text_of(alloc: Global, resolve: &Resolve, id: PackageId) -> Result<Vec<u8
     ensures text { IfOk result (λ text. IsTextOf resolve.now id text.items) }
     ensures memory { IsOkUnless result Memory }
 {
-    let mut printer = WitPrinter::new(OutputToString::new(alloc));
-    printer.print(alloc, resolve, id, &[])?;
-    Ok(String::from(printer.output).into_bytes())
+    Ok(print_to_string(alloc, resolve, id, &[])?.into_bytes())
 }
 
 // The types of an interface, under their names.

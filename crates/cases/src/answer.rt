@@ -1,7 +1,7 @@
 //! What a line is answered.
 
-use crate::quoted::{put_bytes, put_text};
-use crate::words::Bad;
+use case_words::Bad;
+use case_words::quoted::{put_bytes, put_text};
 use std::alloc::{AllocError, Global};
 use std::time::Duration;
 use wit_component::{Cause, EntryList, Error, Fault, StringEncoding};

@@ -5,7 +5,7 @@ ghost use Rattle.wit_model.specs.Valid.{IsValid};
 use crate::answer::{Answer, Reply};
 use crate::calls;
 use crate::names::names;
-use crate::words::{Bad, FromWords, Words};
+use case_words::{Bad, Words};
 use std::alloc::Global;
 use std::io;
 use std::rt::Clock;
@@ -27,31 +27,27 @@ pub struct Interpreter {
 // ---- parts of lines
 
 /// `8`, `6` or `c`.
-impl FromWords for StringEncoding {
-    fn from_words(words: &mut Words<'_>) -> StringEncoding {
-        match words.word() {
-            b"8" => StringEncoding::UTF8,
-            b"6" => StringEncoding::UTF16,
-            b"c" => StringEncoding::CompactUTF16,
-            _ => {
-                words.fail(Bad::Form);
-                StringEncoding::UTF8
-            }
+fn string_encoding(words: &mut Words<'_>) -> StringEncoding {
+    match words.word() {
+        b"8" => StringEncoding::UTF8,
+        b"6" => StringEncoding::UTF16,
+        b"c" => StringEncoding::CompactUTF16,
+        _ => {
+            words.fail(Bad::Form);
+            StringEncoding::UTF8
         }
     }
 }
 
 /// `i` and an interface, `w` and a world, or `m`, a world and an index.
-impl FromWords for Place {
-    fn from_words(words: &mut Words<'_>) -> Place {
-        match words.word() {
-            b"i" => Place::Interface(words.read()),
-            b"w" => Place::World(words.read()),
-            b"m" => Place::Import(words.read(), words.number() as usize),
-            _ => {
-                words.fail(Bad::Form);
-                Place::World(WorldId(0))
-            }
+fn place(words: &mut Words<'_>) -> Place {
+    match words.word() {
+        b"i" => Place::Interface(words.read()),
+        b"w" => Place::World(words.read()),
+        b"m" => Place::Import(words.read(), words.number() as usize),
+        _ => {
+            words.fail(Bad::Form);
+            Place::World(WorldId(0))
         }
     }
 }
@@ -99,7 +95,7 @@ fn metadata(alloc: Global, resolve: &Resolve, words: &mut Words<'_>) -> Result<A
     requires { IsValid resolve.now }
 {
     let id = words.read();
-    let encoding = words.read();
+    let encoding = string_encoding(words);
     let canonical_names = words.flag();
     words.end()?;
     calls::encode_metadata(alloc, resolve, id, encoding, canonical_names)
@@ -263,7 +259,7 @@ impl Interpreter {
 
     fn module(&mut self, alloc: Global, words: &mut Words<'_>) -> Result<Answer, Answer> {
         let id = words.read();
-        let encoding = words.read();
+        let encoding = string_encoding(words);
         words.end()?;
         self.metadata = None;
         let Some(resolve) = &self.current else {
@@ -386,8 +382,8 @@ impl Interpreter {
 
     // Two places, of the last `resolve` and of the last `other`, or both of the first where there is no second.
     fn sense(&self, alloc: Global, words: &mut Words<'_>) -> Result<Answer, Answer> {
-        let at = words.read();
-        let there = words.read();
+        let at = place(words);
+        let there = place(words);
         words.end()?;
         let Some(resolve) = &self.current else {
             return Err(Answer::Unmet("resolve"));

@@ -6,10 +6,6 @@ mod calls;
 mod encodings;
 mod interpreter;
 mod names;
-mod quoted;
-mod read_packages;
-mod read_types;
-mod words;
 
 use interpreter::Interpreter;
 use std::io::{self, BufRead, BufReader, BufWriter, Write};

@@ -6,7 +6,7 @@ ghost use Rattle.wit_model.specs.Valid.{IsValid};
 ghost use Rattle.wit_compat.specs.Compatible.{HasItemsInRange};
 
 use crate::answer::Answer;
-use crate::quoted;
+use case_words::quoted;
 use std::alloc::{AllocError, Global};
 use wit_component::{
     Function, FunctionKind, InterfaceId, Map, PackageId, Resolve, Stability, World, WorldItem,

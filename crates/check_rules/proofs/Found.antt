@@ -7,10 +7,12 @@ use Rattle.wit_model.specs.declared.model.TypeDef.{TypeDef}
 use Rattle.wit_model.specs.Rules.{each_from}
 use Rattle.wit_model.specs.Valid.{Rule, IsFound}
 
-pub found_interfaces : (rule : Rule) (r : Resolve) (xs : List Interface) → xs ≡ r.interfaces.items → (o : Option ℕ) → MatchOption o (each_from (rule.interface_ r) 0 xs ≡ true) (λ n. option_map (rule.interface_ r n) (slice_get xs n) ≡ Some false) → IsFound rule r lists.Interfaces o
+pub found_interfaces : (rule : Rule) (r : Resolve) (xs : List Interface) → xs ≡ r.interfaces.items → (o : Option ℕ)
+    → MatchOption o (each_from (rule.interface_ r) 0 xs ≡ true) (λ n. option_map (rule.interface_ r n) (slice_get xs n) ≡ Some false) → IsFound rule r lists.Interfaces o
 found_interfaces rule r xs same None h = ap (each_from (rule.interface_ r) 0) (sym same) ∙ h
 found_interfaces rule r xs same (Some n) h = ap (λ ys. option_map (rule.interface_ r n) (slice_get ys n)) (sym same) ∙ h
 
-pub found_types : (rule : Rule) (r : Resolve) (xs : List TypeDef) → xs ≡ r.types.items → (o : Option ℕ) → MatchOption o (each_from (rule.type_ r) 0 xs ≡ true) (λ n. option_map (rule.type_ r n) (slice_get xs n) ≡ Some false) → IsFound rule r lists.Types o
+pub found_types : (rule : Rule) (r : Resolve) (xs : List TypeDef) → xs ≡ r.types.items → (o : Option ℕ)
+    → MatchOption o (each_from (rule.type_ r) 0 xs ≡ true) (λ n. option_map (rule.type_ r n) (slice_get xs n) ≡ Some false) → IsFound rule r lists.Types o
 found_types rule r xs same None h = ap (each_from (rule.type_ r) 0) (sym same) ∙ h
 found_types rule r xs same (Some n) h = ap (λ ys. option_map (rule.type_ r n) (slice_get ys n)) (sym same) ∙ h

@@ -117,7 +117,8 @@ module _ (r : Resolve) (order : Keeps order_of_types r) (own : Keeps owners r) (
   unfolding listings
   listed_at m def name is named =
       let here : 0 + m ≡ m = omega arith in
-      let all : listings.type_ r m def ≡ true = subst (λ k. listings.type_ r k def ≡ true) here (each_from_at (listings.type_ r) 0 r.types.items m def (lists_pass listings r (order_lists r order)).3 is) in
+      let all : listings.type_ r m def ≡ true = subst (λ k. listings.type_ r k def ≡ true) here
+      (each_from_at (listings.type_ r) 0 r.types.items m def (lists_pass listings r (order_lists r order)).3 is) in
       sym (ap (λ o. option_map_or (λ x. is_listed r m (text_of x) def.owner) o (same_owner def.owner owner.None)) named) ∙ all
 
   listed_here : (m : ℕ) (def : TypeDef) (name : String Global) → type_at r m ≡ Some def → def.name ≡ Some name → def.owner ≡ as_world n → is_listed_in_world m (text_of name) w ≡ true
@@ -125,7 +126,8 @@ module _ (r : Resolve) (order : Keeps order_of_types r) (own : Keeps owners r) (
 
   -- a type that stands once under its name stands under no other key
   fits_alone : (m : ℕ) (def : TypeDef) (name : String Global) → is_listed_in_world m (text_of name) w ≡ true → fitting (is_name_key (text_of name)) item_type m w.imports.entries ≡ true
-  fits_alone m def name listed = all_at (λ e. not (is_id m (item_type e.1)) || is_name_key (text_of name) e.0) w.imports.entries (λ q e get. go q e get (is_id m (item_type e.1)) (is_name_key (text_of name) e.0) refl refl)
+  fits_alone m def name listed = all_at (λ e. not (is_id m (item_type e.1)) || is_name_key (text_of name) e.0) w.imports.entries
+      (λ q e get. go q e get (is_id m (item_type e.1)) (is_name_key (text_of name) e.0) refl refl)
     where
       go : (q : ℕ) (e : WorldKey × WorldItem) → slice_get w.imports.entries q ≡ Some e → (a b : Bool) → is_id m (item_type e.1) ≡ a → is_name_key (text_of name) e.0 ≡ b → (not a || b) ≡ true
       go q e get false b f g = refl
@@ -139,7 +141,8 @@ module _ (r : Resolve) (order : Keeps order_of_types r) (own : Keeps owners r) (
       ∙ ap (rank_in r (text_of name)) mine)
 
   stands : (m : ℕ) (def : TypeDef) (name : String Global) → type_at r m ≡ Some def → def.name ≡ Some name → def.owner ≡ as_world n →
-      (found (is_name_key (text_of name)) item_type m w.imports.entries ≡ true) × (fitting (is_name_key (text_of name)) item_type m w.imports.entries ≡ true) × (rank_of r m ≡ option_map_or (λ k. k + 1) (position (is_name_key (text_of name)) (keys_of w.imports.entries)) 0)
+      (found (is_name_key (text_of name)) item_type m w.imports.entries ≡ true) × (fitting (is_name_key (text_of name)) item_type m w.imports.entries ≡ true)
+      × (rank_of r m ≡ option_map_or (λ k. k + 1) (position (is_name_key (text_of name)) (keys_of w.imports.entries)) 0)
   stands m def name is named mine =
       let listed = listed_here m def name is named mine in (
         first_true _ _ listed,
@@ -162,7 +165,8 @@ module _ (r : Resolve) (order : Keeps order_of_types r) (own : Keeps owners r) (
           name_of def is mine def.name refl (owned_named r (order_lists r order) m def is (ap (λ x. same_owner x owner.None) mine))
 
   -- it stands before an import where its place is at most that of the import
-  place_before : (done : List WorldItem) (v : WorldItem) (rest : List WorldItem) → values w.imports ≡ done ++ v ∷ rest → (m : ℕ) → has_owner r (as_world n) m ≡ true → has (filter_map item_type done) m ≡ nat_le (rank_of r m) (length done)
+  place_before : (done : List WorldItem) (v : WorldItem) (rest : List WorldItem) → values w.imports ≡ done ++ v ∷ rest → (m : ℕ) → has_owner r (as_world n) m ≡ true
+      → has (filter_map item_type done) m ≡ nat_le (rank_of r m) (length done)
   place_before done v rest e m h =
       ap (λ vs. has (filter_map item_type vs) m) (sym (before_seam w.imports.entries done v rest e))
       ∙ (ap (λ b. not b || has (filter_map item_type (values_of (take (length done) w.imports.entries))) m) (sym (stands_in m h))
@@ -178,7 +182,8 @@ module _ (r : Resolve) (order : Keeps order_of_types r) (own : Keeps owners r) (
       list_all (has (filter_map item_type done)) (filter (has_owner r (as_world n)) (used_by_number r k)) ≡ true
   type_ready done k rest v e is =
       all_filter (has (filter_map item_type done)) (has_owner r (as_world n)) (used_by_number r k)
-      ∙ all_imply (λ m. not (has (world_type_numbers w) m) || has (filter_map item_type done) m) (λ m. not (has_owner r (as_world n) m) || has (filter_map item_type done) m) step (used_by_number r k) before
+      ∙ all_imply (λ m. not (has (world_type_numbers w) m) || has (filter_map item_type done) m) (λ m. not (has_owner r (as_world n) m) || has (filter_map item_type done) m) step
+      (used_by_number r k) before
     where
       given : world_type_numbers w ≡ filter_map item_type done ++ k ∷ filter_map item_type rest
       given = ap (filter_map item_type) e ∙ (filter_map-append item_type done (v ∷ rest) ∙ ap (λ o. filter_map item_type done ++ cons_option o (filter_map item_type rest)) is)
@@ -195,11 +200,13 @@ module _ (r : Resolve) (order : Keeps order_of_types r) (own : Keeps owners r) (
           go true f = ap (λ b. not b || has (filter_map item_type done) m) (sym (stands_in m f)) ∙ h
 
   -- what holds of each function of the world holds of an import
-  of_import : (test : Function → Bool) → list_all test (functions_of_world w) ≡ true → (done : List WorldItem) (f : Function) (rest : List WorldItem) → values w.imports ≡ done ++ item.Function f ∷ rest → test f ≡ true
+  of_import : (test : Function → Bool) → list_all test (functions_of_world w) ≡ true → (done : List WorldItem) (f : Function) (rest : List WorldItem)
+      → values w.imports ≡ done ++ item.Function f ∷ rest → test f ≡ true
   of_import test all done f rest e =
       let each = sym (list_all_filter_map test item_function (items_of w)) ∙ all in
       let there : items_of w ≡ done ++ item.Function f ∷ (rest ++ values w.exports) = ap (λ vs. vs ++ values w.exports) e ∙ append_assoc done (item.Function f ∷ rest) (values w.exports) in
-      first_true _ _ (all_there (λ x. list_all test (option_to_list (item_function x))) done (item.Function f) (rest ++ values w.exports) (ap (list_all (λ x. list_all test (option_to_list (item_function x)))) (sym there) ∙ each))
+      first_true _ _ (all_there (λ x. list_all test (option_to_list (item_function x))) done (item.Function f) (rest ++ values w.exports)
+      (ap (list_all (λ x. list_all test (option_to_list (item_function x)))) (sym there) ∙ each))
 
   -- an entry that is a function is a member of the world
   entry_belongs : (es : List (WorldKey × WorldItem)) → list_all (λ e. passes (λ f. is_name_key (text_of f.name) e.0 && is_member r (as_world n) f) (item_function e.1)) es ≡ true
@@ -232,7 +239,8 @@ module _ (r : Resolve) (order : Keeps order_of_types r) (own : Keeps owners r) (
   unfolding owners
   home_of done f rest e =
       let here : 0 + n ≡ n = omega arith in
-      let all : list_all (function_stays r (as_world n)) (functions_of_world w) ≡ true = subst (λ k. owners.world_ r k w ≡ true) here (each_from_at (owners.world_ r) 0 r.worlds.items n w (lists_pass owners r own).2 at) in
+      let all : list_all (function_stays r (as_world n)) (functions_of_world w) ≡ true =
+      subst (λ k. owners.world_ r k w ≡ true) here (each_from_at (owners.world_ r) 0 r.worlds.items n w (lists_pass owners r own).2 at) in
       function_home r (order_refers r order) (as_world n) f (of_import (function_stays r (as_world n)) all done f rest e) (of_import (is_member r (as_world n)) members done f rest e)
 
   function_ready : (done : List WorldItem) (f : Function) (rest : List WorldItem) → values w.imports ≡ done ++ item.Function f ∷ rest →
@@ -244,7 +252,8 @@ module _ (r : Resolve) (order : Keeps order_of_types r) (own : Keeps owners r) (
       ∙ (sym (highest_within (rank_of r) (length done) (used_by_function r f))
       ∙ ap (λ k. nat_le k (length done)) (highest_flat (rank_of r) (met_by (met_of r)) (function_numbers f))))
 
-  import_ready : (done : List WorldItem) (v : WorldItem) (rest : List WorldItem) → values w.imports ≡ done ++ v ∷ rest → ready done v ≡ passes (reaches_within (reach_of r) (length done)) (item_function v)
+  import_ready : (done : List WorldItem) (v : WorldItem) (rest : List WorldItem) → values w.imports ≡ done ++ v ∷ rest
+      → ready done v ≡ passes (reaches_within (reach_of r) (length done)) (item_function v)
   import_ready done (item.Interface id stability docs external_id) rest e = refl
   import_ready done (item.Type_ id) rest e = type_ready done id.0 rest (item.Type_ id) e refl
   import_ready done (item.Function f) rest e = function_ready done f rest e

@@ -60,16 +60,19 @@ module _ (trees : List Tree) where
   of_types [] = refl
   of_types (t ∷ ts) = type_head t _ (filter_map number_of ts) (of_types ts)
 
-  of_fields : (fs : List Field) → deepest (children (map (λ (f : Text × Tree). f.1) (map (λ f. (text_of f.name, tree_of trees f.ty)) fs))) ≡ highest of_number (filter_map number_of (map (λ f. f.ty) fs))
+  of_fields : (fs : List Field)
+      → deepest (children (map (λ (f : Text × Tree). f.1) (map (λ f. (text_of f.name, tree_of trees f.ty)) fs))) ≡ highest of_number (filter_map number_of (map (λ f. f.ty) fs))
   of_fields [] = refl
   of_fields (f ∷ fs) = type_head f.ty _ (filter_map number_of (map (λ f. f.ty) fs)) (of_fields fs)
 
   -- a type that may be left out, at the front of a list
-  option_head : (o : Option ValueType) (os : List (Option Tree)) (ts : List ValueType) → deepest (given os) ≡ highest of_number (filter_map number_of ts) → deepest (given (option_map (tree_of trees) o ∷ os)) ≡ highest of_number (filter_map number_of (cons_option o ts))
+  option_head : (o : Option ValueType) (os : List (Option Tree)) (ts : List ValueType) → deepest (given os) ≡ highest of_number (filter_map number_of ts)
+      → deepest (given (option_map (tree_of trees) o ∷ os)) ≡ highest of_number (filter_map number_of (cons_option o ts))
   option_head None os ts e = e
   option_head (Some t) os ts e = type_head t _ (filter_map number_of ts) e
 
-  of_cases : (cs : List Case) → deepest (given (map (λ (c : Text × Option Tree). c.1) (map (λ c. (text_of c.name, option_map (tree_of trees) c.ty)) cs))) ≡ highest of_number (filter_map number_of (filter_map (λ c. c.ty) cs))
+  of_cases : (cs : List Case)
+      → deepest (given (map (λ (c : Text × Option Tree). c.1) (map (λ c. (text_of c.name, option_map (tree_of trees) c.ty)) cs))) ≡ highest of_number (filter_map number_of (filter_map (λ c. c.ty) cs))
   of_cases [] = refl
   of_cases (c ∷ cs) = option_head c.ty _ (filter_map (λ c. c.ty) cs) (of_cases cs)
 
@@ -77,7 +80,8 @@ module _ (trees : List Tree) where
   one_option None = refl
   one_option (Some t) = option_head (Some t) [] [] refl
 
-  two_options : (a b : Option ValueType) → deepest (given (option_map (tree_of trees) a ∷ option_map (tree_of trees) b ∷ [])) ≡ highest of_number (filter_map number_of (option_to_list a ++ option_to_list b))
+  two_options : (a b : Option ValueType)
+      → deepest (given (option_map (tree_of trees) a ∷ option_map (tree_of trees) b ∷ [])) ≡ highest of_number (filter_map number_of (option_to_list a ++ option_to_list b))
   two_options None b = one_option b
   two_options (Some t) b = type_head t _ (filter_map number_of (option_to_list b)) (one_option b)
 
@@ -158,7 +162,9 @@ module _ (r : Resolve) where
   abbrev capped : ℕ → ℕ
   capped n = min 101 (levels (number_tree r n))
 
-  defined : (def : TypeDef) (o : Option _) → min 101 (levels (option_map_or (λ name. named (place_of r def.owner) (text_of name)) o (tree_of_declaration (declared_by (trees_of r) def.kind)))) ≡ option_map_or (λ name. 0) o (min 101 (levels_above (highest capped (kind_numbers def.kind)) def.kind))
+  defined : (def : TypeDef) (o : Option _)
+      → min 101 (levels (option_map_or (λ name. named (place_of r def.owner) (text_of name)) o (tree_of_declaration (declared_by (trees_of r) def.kind)))) ≡ option_map_or (λ name. 0) o
+      (min 101 (levels_above (highest capped (kind_numbers def.kind)) def.kind))
   defined def (Some name) = refl
   defined def None =
       ap (min 101) (declared_levels (trees_of r) def.kind)

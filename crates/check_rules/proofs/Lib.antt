@@ -1,14 +1,26 @@
-pub mod LevelTable
+-- The numbers that a function and a kind refer to are those of their parts. Serves numbers::cases_are_below, numbers::function_is_below, numbers::kind_is_below.
 pub mod Below
+-- What a walk over the interfaces or the types found, and what the four walks of a rule say of it. Serves members::first_interface, numbers::first_interface, numbers::first_type.
 pub mod Found
-pub mod PackageNames
-pub mod Seen
-pub mod Answers
+-- The order of an owner's list, by the greatest place of what is met at each number. Serves list_orders::reach_at.
 pub mod Ordered
+-- The order of an owner's list, entry by entry: what each owner's list has to know of its types. Serves ItemOrders, ListOrders.
 pub mod OwnerOrder
+-- The rule on packages' names from its two parts. Serves names::check, names::check_distinct, names::check_well_named.
+pub mod PackageNames
+-- The third part of the rule on the order of types, by places, for interfaces and worlds. Serves list_orders::check_interfaces, list_orders::check_worlds, list_orders::interface_keeps,
+-- list_orders::world_keeps and 1 more.
 pub mod ListOrders
-pub mod MemberNames
-pub mod UsesTable
+-- The order of a world's items, by what is shown and by how far its functions reach. Serves item_orders::check, item_orders::world_keeps.
 pub mod ItemOrders
-pub mod PlaceTable
+-- The unnamed levels of a type may be computed along the list of types, where each refers to smaller numbers alone. Serves levels::interface_keeps, levels::level_table, levels::type_keeps,
+-- levels::world_keeps and 1 more.
+pub mod LevelTable
+-- The tests of the rule on owners, by a table of what is met. Serves owners::interface_keeps, owners::type_keeps, owners::world_keeps.
 pub mod OwnerTable
+-- A table of what worlds show says where inline interfaces stand. Serves shown::mark, shown::shown_table.
+pub mod PlaceTable
+-- What holds of each entry that a walk has seen. Serves maps::read_interfaces, maps::read_packages, maps::read_worlds.
+pub mod Seen
+-- The sets of the interfaces that each interface uses. Serves item_orders::item_is_ready, item_orders::uses_at, item_orders::uses_table.
+pub mod UsesTable

@@ -46,7 +46,8 @@ stands_there : {V : Type 0} (num : V → Option ℕ) (done : List V) (v : V) (re
 stands_there num done v rest n e =
     ap (λ ns. has ns n) (filter_map-append num done (v ∷ rest))
     ∙ (list_any-append (λ m. m == n) (filter_map num done) (filter_map num (v ∷ rest))
-    ∙ (ap (λ b. has (filter_map num done) n || b) (ap (λ o. has (cons_option o (filter_map num rest)) n) e ∙ ap (λ b. b || has (filter_map num rest) n) (eq-eqb n n refl)) ∙ or_true (has (filter_map num done) n)))
+    ∙ (ap (λ b. has (filter_map num done) n || b) (ap (λ o. has (cons_option o (filter_map num rest)) n) e ∙ ap (λ b. b || has (filter_map num rest) n) (eq-eqb n n refl)) ∙ or_true
+    (has (filter_map num done) n)))
 
 -- what stands before an element
 pub before_seam : {K V : Type 0} (es : List (K × V)) (done : List V) (v : V) (rest : List V) → values_of es ≡ done ++ v ∷ rest → values_of (take (length done) es) ≡ done
@@ -69,23 +70,27 @@ module _ (r : Resolve) (refs : Keeps references r) (kept : Keeps listings r) (fi
   module _ (n : ℕ) (w : World) (at : world_at r n ≡ Some w) where
     world_all : list_all (is_named_of r (as_world n)) (world_type_numbers w) ≡ true
     unfolding listings
-    world_all = let here : 0 + n ≡ n = omega arith in subst (λ k. list_all (is_named_of r (as_world k)) (world_type_numbers w) ≡ true) here (each_from_at (listings.world_ r) 0 r.worlds.items n w (lists_pass listings r kept).2 at)
+    world_all = let here : 0 + n ≡ n = omega arith in subst (λ k. list_all (is_named_of r (as_world k)) (world_type_numbers w) ≡ true) here
+        (each_from_at (listings.world_ r) 0 r.worlds.items n w (lists_pass listings r kept).2 at)
 
     world_fit : list_all (λ e. passes (has_name r (key_fits e.0)) (item_type e.1)) w.imports.entries ≡ true
     unfolding names_fit
     world_fit = each_from_at (names_fit.world_ r) 0 r.worlds.items n w (lists_pass names_fit r fit).2 at
 
     world_stands : (m : ℕ) (def : TypeDef) (name : String Global) → type_at r m ≡ Some def → def.name ≡ Some name → def.owner ≡ as_world n →
-        (found (is_name_key (text_of name)) item_type m w.imports.entries ≡ true) × (fitting (is_name_key (text_of name)) item_type m w.imports.entries ≡ true) × (rank_of r m ≡ option_map_or (λ k. k + 1) (position (is_name_key (text_of name)) (keys_of w.imports.entries)) 0)
+        (found (is_name_key (text_of name)) item_type m w.imports.entries ≡ true) × (fitting (is_name_key (text_of name)) item_type m w.imports.entries ≡ true)
+        × (rank_of r m ≡ option_map_or (λ k. k + 1) (position (is_name_key (text_of name)) (keys_of w.imports.entries)) 0)
     world_stands m def name is named mine = (
       first_true _ _ (sym (ap (is_listed r m (text_of name)) mine ∙ ap (passes (is_listed_in_world m (text_of name))) at) ∙ listed_at m def name is named),
-      all_imply (λ e. passes (has_name r (key_fits e.0)) (item_type e.1)) (λ e. not (is_id m (item_type e.1)) || is_name_key (text_of name) e.0) (λ e. item_entry_fits r m def name is named (key_fits e.0) (item_type e.1)) w.imports.entries world_fit,
+      all_imply (λ e. passes (has_name r (key_fits e.0)) (item_type e.1)) (λ e. not (is_id m (item_type e.1)) || is_name_key (text_of name) e.0)
+          (λ e. item_entry_fits r m def name is named (key_fits e.0) (item_type e.1)) w.imports.entries world_fit,
       ranked m def name (as_world n) is named mine ∙ ap (λ x. option_map_or (λ w. option_map_or (λ k. k + 1) (position (is_name_key (text_of name)) (keys_of w.imports.entries)) 0) x 0) at,
     )
 
     -- the imports of a world stand in order exactly where each type stands by its place
     pub world_order : each_from (λ p v. passes (stands_in_order r (reach_of r) p) (item_type v)) 0 (values w.imports) ≡ are_in_order r (world_type_numbers w)
-    world_order = walk item_type (stands_in_order r (reach_of r)) (λ before k. list_all (λ m. not (has (world_type_numbers w) m) || has before m) (used_by_number r k)) (values w.imports) [] (values w.imports) refl
+    world_order = walk item_type (stands_in_order r (reach_of r)) (λ before k. list_all (λ m. not (has (world_type_numbers w) m) || has before m) (used_by_number r k)) (values w.imports) []
+        (values w.imports) refl
         (λ done v rest k e f.
         entry_stands r kept item_type (as_world n) w.imports.entries is_name_key refl world_stands refs own
         (λ j h. all_has (is_named_of r (as_world n)) (world_type_numbers w) j world_all h) (length done) k
@@ -98,28 +103,37 @@ module _ (r : Resolve) (refs : Keeps references r) (kept : Keeps listings r) (fi
     interface_all =
         let here : 0 + n ≡ n = omega arith in
         ap (list_all (is_named_of r (as_interface n))) (given_all (values i.types))
-        ∙ subst (λ k. list_all (is_named_of r (as_interface k)) (interface_type_numbers i) ≡ true) here (each_from_at (listings.interface_ r) 0 r.interfaces.items n i (lists_pass listings r kept).1 at)
+        ∙ subst (λ k. list_all (is_named_of r (as_interface k)) (interface_type_numbers i) ≡ true) here
+        (each_from_at (listings.interface_ r) 0 r.interfaces.items n i (lists_pass listings r kept).1 at)
 
     interface_fit : list_all (λ e. has_name r (λ x. text_eq x (text_of e.0)) e.1.0) i.types.entries ≡ true
     unfolding names_fit
     interface_fit = each_from_at (names_fit.interface_ r) 0 r.interfaces.items n i (lists_pass names_fit r fit).1 at
 
     interface_stands : (m : ℕ) (def : TypeDef) (name : String Global) → type_at r m ≡ Some def → def.name ≡ Some name → def.owner ≡ as_interface n →
-        (found (λ k. bytes_eq (text_of name) (string_bytes k)) (λ id. Some id.0) m i.types.entries ≡ true) × (fitting (λ k. bytes_eq (text_of name) (string_bytes k)) (λ id. Some id.0) m i.types.entries ≡ true) × (rank_of r m ≡ option_map_or (λ k. k + 1) (position (λ k. bytes_eq (text_of name) (string_bytes k)) (keys_of i.types.entries)) 0)
+        (found (λ k. bytes_eq (text_of name) (string_bytes k)) (λ id. Some id.0) m i.types.entries ≡ true)
+        × (fitting (λ k. bytes_eq (text_of name) (string_bytes k)) (λ id. Some id.0) m i.types.entries ≡ true)
+        × (rank_of r m ≡ option_map_or (λ k. k + 1) (position (λ k. bytes_eq (text_of name) (string_bytes k)) (keys_of i.types.entries)) 0)
     interface_stands m def name is named mine = (
-      ap (is_id m) (given_found (get_by_text i.types (text_of name))) ∙ first_true _ _ (sym (ap (is_listed r m (text_of name)) mine ∙ ap (passes (is_listed_in_interface m (text_of name))) at) ∙ listed_at m def name is named),
-      all_imply (λ e. has_name r (λ x. text_eq x (text_of e.0)) e.1.0) (λ e. not (is_id m (Some e.1.0)) || bytes_eq (text_of name) (string_bytes e.0)) (λ e. entry_fits r m def name is named (λ x. text_eq x (text_of e.0)) e.1.0) i.types.entries interface_fit,
-      ranked m def name (as_interface n) is named mine ∙ ap (λ x. option_map_or (λ i. option_map_or (λ k. k + 1) (position (λ k. bytes_eq (text_of name) (string_bytes k)) (keys_of i.types.entries)) 0) x 0) at,
+      ap (is_id m) (given_found (get_by_text i.types (text_of name))) ∙ first_true _ _
+          (sym (ap (is_listed r m (text_of name)) mine ∙ ap (passes (is_listed_in_interface m (text_of name))) at) ∙ listed_at m def name is named),
+      all_imply (λ e. has_name r (λ x. text_eq x (text_of e.0)) e.1.0) (λ e. not (is_id m (Some e.1.0)) || bytes_eq (text_of name) (string_bytes e.0))
+          (λ e. entry_fits r m def name is named (λ x. text_eq x (text_of e.0)) e.1.0) i.types.entries interface_fit,
+      ranked m def name (as_interface n) is named mine ∙ ap (λ x. option_map_or
+          (λ i. option_map_or (λ k. k + 1) (position (λ k. bytes_eq (text_of name) (string_bytes k)) (keys_of i.types.entries)) 0) x 0) at,
     )
 
     -- the types of an interface stand in order exactly where each stands by its place
     pub interface_order : each_from (λ p id. stands_in_order r (reach_of r) p id.0) 0 (values i.types) ≡ are_in_order r (interface_type_numbers i)
-    interface_order = walk (λ id. Some id.0) (stands_in_order r (reach_of r)) (λ before k. list_all (λ m. not (has (filter_map (λ id. Some id.0) (values i.types)) m) || has before m) (used_by_number r k)) (values i.types) [] (values i.types) refl
+    interface_order = walk (λ id. Some id.0) (stands_in_order r (reach_of r))
+        (λ before k. list_all (λ m. not (has (filter_map (λ id. Some id.0) (values i.types)) m) || has before m) (used_by_number r k)) (values i.types) [] (values i.types) refl
         (λ done v rest k e f.
         entry_stands r kept (λ id. Some id.0) (as_interface n) i.types.entries (λ t k. bytes_eq t (string_bytes k)) refl interface_stands refs own
         (λ j h. all_has (is_named_of r (as_interface n)) (filter_map (λ id. Some id.0) (values i.types)) j interface_all h) (length done) k
-        (all_has (is_named_of r (as_interface n)) (filter_map (λ id. Some id.0) (values i.types)) k interface_all (ap (λ vs. has (filter_map (λ id. Some id.0) vs) k) e ∙ stands_there (λ id. Some id.0) done v rest k f))
-        ∙ ap (λ vs. list_all (λ m. not (has (filter_map (λ id. Some id.0) (values i.types)) m) || has (filter_map (λ id. Some id.0) vs) m) (used_by_number r k)) (before_seam i.types.entries done v rest e))
+        (all_has (is_named_of r (as_interface n)) (filter_map (λ id. Some id.0) (values i.types)) k interface_all
+        (ap (λ vs. has (filter_map (λ id. Some id.0) vs) k) e ∙ stands_there (λ id. Some id.0) done v rest k f))
+        ∙ ap (λ vs. list_all (λ m. not (has (filter_map (λ id. Some id.0) (values i.types)) m) || has (filter_map (λ id. Some id.0) vs) m) (used_by_number r k))
+        (before_seam i.types.entries done v rest e))
         ∙ ap (are_in_order r) (given_all (values i.types))
 
 -- ---- what breaks

@@ -43,7 +43,8 @@ module _ {V : Type 0} (num : V → Option ℕ) (stands : ℕ → ℕ → Bool) (
 
       go : each_from (λ p v. passes (stands p) (num v)) (length (done ++ v ∷ [])) rest ≡ each_after after (filter_map num (done ++ v ∷ [])) (filter_map num rest) →
           (o : Option ℕ) → num v ≡ o →
-          (passes (stands (length done)) (num v) && each_from (λ p v. passes (stands p) (num v)) (length done + 1) rest) ≡ each_after after (filter_map num done) (cons_option (num v) (filter_map num rest))
+          (passes (stands (length done)) (num v) && each_from (λ p v. passes (stands p) (num v)) (length done + 1) rest) ≡ each_after after (filter_map num done)
+          (cons_option (num v) (filter_map num rest))
       go next None f =
           ap (λ x. passes (stands (length done)) x && each_from (λ p v. passes (stands p) (num v)) (length done + 1) rest) f
           ∙ (ap (λ p. each_from (λ p v. passes (stands p) (num v)) p rest) (sym longer)
@@ -75,29 +76,31 @@ owned_named r kept m def is real = go def.name (subst (λ k. listings.type_ r k 
     go (Some name) h = refl
 
 -- an owner that is an interface is real
-foreign_real : (r : Resolve) (a : TypeOwner) → option_map_or (λ i. option_map_or (λ other. is_some other.name) (interface_at r i) false) (owner_interface a) false ≡ true → same_owner a owner.None ≡ false
+foreign_real : (r : Resolve) (a : TypeOwner) → option_map_or (λ i. option_map_or (λ other. is_some other.name) (interface_at r i) false) (owner_interface a) false ≡ true
+    → same_owner a owner.None ≡ false
 foreign_real r (owner.Interface id) h = refl
 foreign_real r (owner.World id) h = refl
 foreign_real r owner.None h = let wrong : ⊥ = cc in absurd wrong
-
--- an alias of a number refers to that number alone
 
 -- What a list of an owner has to know: where a type of that owner stands in it.
 module _ (r : Resolve) (kept : Keeps listings r) {K V : Type 0} (num : V → Option ℕ) (o : TypeOwner) (es : List (K × V)) (tests : Text → K → Bool)
     (real : same_owner o owner.None ≡ false)
     (stands : (m : ℕ) (def : TypeDef) (name : String Global) → type_at r m ≡ Some def → def.name ≡ Some name → def.owner ≡ o →
-    (found (tests (text_of name)) num m es ≡ true) × (fitting (tests (text_of name)) num m es ≡ true) × (rank_of r m ≡ option_map_or (λ k. k + 1) (position (tests (text_of name)) (keys_of es)) 0)) where
+    (found (tests (text_of name)) num m es ≡ true) × (fitting (tests (text_of name)) num m es ≡ true)
+    × (rank_of r m ≡ option_map_or (λ k. k + 1) (position (tests (text_of name)) (keys_of es)) 0)) where
   -- a type of the owner stands before a place exactly where its own is at most that
   pub owned_place : (p m : ℕ) → has_owner r o m ≡ true → (not (has (filter_map num (values_of es)) m) || has (filter_map num (values_of (take p es))) m) ≡ nat_le (rank_of r m) p
   owned_place p m h = go (type_at r m) refl h
     where
-      name_of : (def : TypeDef) → type_at r m ≡ Some def → def.owner ≡ o → (x : Option (String Global)) → def.name ≡ x → is_some x ≡ true → (not (has (filter_map num (values_of es)) m) || has (filter_map num (values_of (take p es))) m) ≡ nat_le (rank_of r m) p
+      name_of : (def : TypeDef) → type_at r m ≡ Some def → def.owner ≡ o → (x : Option (String Global)) → def.name ≡ x → is_some x ≡ true
+          → (not (has (filter_map num (values_of es)) m) || has (filter_map num (values_of (take p es))) m) ≡ nat_le (rank_of r m) p
       name_of def is own None named s = let wrong : ⊥ = cc in absurd wrong
       name_of def is own (Some name) named s =
           let facts = stands m def name is named own in
           used_place (tests (text_of name)) num m es p facts.0 facts.1 ∙ ap (λ k. nat_le k p) (sym facts.2)
 
-      go : (d : Option TypeDef) → type_at r m ≡ d → option_map_or (λ def. same_owner def.owner o) d false ≡ true → (not (has (filter_map num (values_of es)) m) || has (filter_map num (values_of (take p es))) m) ≡ nat_le (rank_of r m) p
+      go : (d : Option TypeDef) → type_at r m ≡ d → option_map_or (λ def. same_owner def.owner o) d false ≡ true
+          → (not (has (filter_map num (values_of es)) m) || has (filter_map num (values_of (take p es))) m) ≡ nat_le (rank_of r m) p
       go None is e = let wrong : ⊥ = cc in absurd wrong
       go (Some def) is e =
           let own = owner_same def.owner o e in
@@ -109,7 +112,8 @@ module _ (r : Resolve) (kept : Keeps listings r) {K V : Type 0} (num : V → Opt
   users_place p def own =
       ap (λ k. nat_le k p) (sym (highest_flat (rank_of r) (met_by (met_of r)) (kind_numbers def.kind)))
       ∙ (highest_within (rank_of r) p (used_by_type r def)
-      ∙ sym (all_same (has_owner r o) (λ m. not (has (filter_map num (values_of es)) m) || has (filter_map num (values_of (take p es))) m) (λ m. nat_le (rank_of r m) p) (owned_place p) (used_by_type r def) own))
+      ∙ sym (all_same (has_owner r o) (λ m. not (has (filter_map num (values_of es)) m) || has (filter_map num (values_of (take p es))) m) (λ m. nat_le (rank_of r m) p) (owned_place p)
+      (used_by_type r def) own))
 
   -- ---- one entry of the list
 
@@ -142,7 +146,8 @@ module _ (r : Resolve) (kept : Keeps listings r) {K V : Type 0} (num : V → Opt
             ∙ (ap (λ ns. list_all passing (ns ++ [])) met ∙ ap (λ b. b && true) pass)
 
         target_of : (t : ℕ) → alias_target def.kind ≡ Some t → (d : Option TypeDef) → type_at r t ≡ d →
-            option_map_or (λ target. not (same_owner target.owner def.owner) && option_map_or (λ i. option_map_or (λ other. is_some other.name) (interface_at r i) false) (owner_interface target.owner) false) d false ≡ true → list_all passing (used_by_type r def) ≡ true
+            option_map_or (λ target. not (same_owner target.owner def.owner) && option_map_or (λ i. option_map_or (λ other. is_some other.name) (interface_at r i) false) (owner_interface target.owner)
+            false) d false ≡ true → list_all passing (used_by_type r def) ≡ true
         target_of t is None at h = let wrong : ⊥ = cc in absurd wrong
         target_of t is (Some target) at h =
             let apart : same_owner target.owner o ≡ false = ap (same_owner target.owner) (sym mine) ∙ not_true _ (first_true _ _ h) in
@@ -150,7 +155,8 @@ module _ (r : Resolve) (kept : Keeps listings r) {K V : Type 0} (num : V → Opt
             opened t is (named_once t target at target.name refl named) (ap (λ b. not b || has (filter_map num (values_of (take p es))) t) (stranger t target at apart))
 
         alias : (a : Option ℕ) → alias_target def.kind ≡ a →
-            option_map_or (λ t. option_map_or (λ target. not (same_owner target.owner def.owner) && option_map_or (λ i. option_map_or (λ other. is_some other.name) (interface_at r i) false) (owner_interface target.owner) false) (type_at r t) false) a false ≡ true → list_all passing (used_by_type r def) ≡ true
+            option_map_or (λ t. option_map_or (λ target. not (same_owner target.owner def.owner) && option_map_or (λ i. option_map_or (λ other. is_some other.name) (interface_at r i) false)
+            (owner_interface target.owner) false) (type_at r t) false) a false ≡ true → list_all passing (used_by_type r def) ≡ true
         alias None is h = let wrong : ⊥ = cc in absurd wrong
         alias (Some t) is h = target_of t is (type_at r t) refl h
 
@@ -173,7 +179,8 @@ module _ (r : Resolve) (kept : Keeps listings r) {K V : Type 0} (num : V → Opt
         stays_home true b h e = refl
         stays_home false b h e = sym e ∙ h
 
-        by_use : (def : TypeDef) → type_at r n ≡ Some def → (is_some def.name && same_owner def.owner o) ≡ true → (b : Bool) → is_use r def ≡ b → (b || nat_le (highest (reach_of r) (kind_numbers def.kind)) p) ≡ list_all passing (used_by_type r def)
+        by_use : (def : TypeDef) → type_at r n ≡ Some def → (is_some def.name && same_owner def.owner o) ≡ true → (b : Bool) → is_use r def ≡ b
+            → (b || nat_le (highest (reach_of r) (kind_numbers def.kind)) p) ≡ list_all passing (used_by_type r def)
         by_use def is h true e = sym (use_stands p def (owner_same def.owner o (second_true _ _ h)) e)
         by_use def is h false e =
             let mine = owner_same def.owner o (second_true _ _ h) in

@@ -49,7 +49,8 @@ module _ {A K : Type 0} (f : A → K) where
   any_before p (x ∷ xs) zero h = let wrong : ⊥ = cc in absurd wrong
   any_before p (x ∷ xs) (suc i) h = go (any_before p xs i) (p (f x)) refl h
     where
-      go : (list_any p (take i (map f xs)) ≡ true → (m : ℕ) × (y : A) × (m < i) × (slice_get xs m ≡ Some y) × (p (f y) ≡ true)) → (b : Bool) → p (f x) ≡ b → (b || list_any p (take i (map f xs))) ≡ true → (m : ℕ) × (y : A) × (m < suc i) × (slice_get (x ∷ xs) m ≡ Some y) × (p (f y) ≡ true)
+      go : (list_any p (take i (map f xs)) ≡ true → (m : ℕ) × (y : A) × (m < i) × (slice_get xs m ≡ Some y) × (p (f y) ≡ true)) → (b : Bool) → p (f x) ≡ b
+          → (b || list_any p (take i (map f xs))) ≡ true → (m : ℕ) × (y : A) × (m < suc i) × (slice_get (x ∷ xs) m ≡ Some y) × (p (f y) ≡ true)
       go again true e k = (0, x, omega arith, refl, e)
       go again false e k = let more = again k in (suc more.0, more.1, omega (arith, more.2), more.3, more.4)
 
@@ -96,7 +97,8 @@ distinct_kept r new =
     subst (λ k. distinct_names.package_ r k p ≡ true) here (only_at r apart n p at))
 
 -- a package that an earlier one has the name of
-pub repeated_breaks : (r : Resolve) (n : ℕ) (p : Package) → package_at r n ≡ Some p → list_any (same_package_name p.name) (take n (map (λ p. p.name) r.packages.items)) ≡ true → Breaks r 2 lists.Packages n
+pub repeated_breaks : (r : Resolve) (n : ℕ) (p : Package) → package_at r n ≡ Some p → list_any (same_package_name p.name) (take n (map (λ p. p.name) r.packages.items)) ≡ true
+    → Breaks r 2 lists.Packages n
 unfolding package_names
 repeated_breaks r n p at seen =
     let earlier = any_before (λ p. p.name) (same_package_name p.name) r.packages.items n seen in
@@ -105,7 +107,8 @@ repeated_breaks r n p at seen =
     let here : m ≡ 0 + m = omega arith in
     let apart : (m == n) ≡ false = differ m n (λ e. absurd (omega (arith, earlier.2, e))) in
     let fails : ((m == n) || not (same_package_name p.name other.name)) ≡ false = rw (apart, earlier.4) refl in
-    let none = each_fails (λ m other. (m == n) || not (same_package_name p.name other.name)) 0 r.packages.items m other earlier.3 (subst (λ k. ((k == n) || not (same_package_name p.name other.name)) ≡ false) here fails) in
+    let none = each_fails (λ m other. (m == n) || not (same_package_name p.name other.name)) 0 r.packages.items m other earlier.3
+    (subst (λ k. ((k == n) || not (same_package_name p.name other.name)) ≡ false) here fails) in
     (lit≤ tt, ap (option_map (package_names.package_ r n)) at ∙ ap Some (fails_second (is_package_name p.name) _ none))
 
 pub misnamed_breaks : (r : Resolve) (n : ℕ) → entry_keeps well_named r lists.Packages n ≡ Some false → Breaks r 2 lists.Packages n

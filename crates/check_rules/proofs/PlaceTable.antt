@@ -36,7 +36,8 @@ not_marked : (a : Shown) (b : Bool) (home : Option PackageId) → b ≡ false �
 not_marked a b home h = sym (joined_never a) ∙ ap (λ v. joined a (time v home)) (sym h)
 
 -- one more time at one number of a table
-pub marked : (xs : List Shown) (i n : ℕ) (home : Option PackageId) → i < length xs → shown_entry (set xs i (joined (shown_entry xs i) (shown.Once home))) n ≡ joined (shown_entry xs n) (time (i == n) home)
+pub marked : (xs : List Shown) (i n : ℕ) (home : Option PackageId) → i < length xs
+    → shown_entry (set xs i (joined (shown_entry xs i) (shown.Once home))) n ≡ joined (shown_entry xs n) (time (i == n) home)
 marked [] i n home h = absurd (omega (arith, h))
 marked (x ∷ xs) zero zero home h = refl
 marked (x ∷ xs) zero (suc n) home h = let other : (zero == suc n) ≡ false = grind arith in not_marked (shown_entry xs n) (zero == suc n) home other
@@ -89,7 +90,8 @@ module _ (n : ℕ) (p : Option PackageId) where
       let both = none_left (times_shown n w) (sum_by (times_shown n) ws) (sum ∙ h) in
       ap (λ b. (b || in_package w.package) && list_all fits ws) both.0 ∙ none_fits ws both.1
 
-  once_step : (t k : ℕ) (home other : Option PackageId) (s : Shown) → is_once_in p (joined (shown.Once home) s) ≡ ((k == 0) && in_package home) → is_once_in p (joined (shown.Once home) (joined (times t other) s)) ≡ (((t + k) == 0) && in_package home)
+  once_step : (t k : ℕ) (home other : Option PackageId) (s : Shown) → is_once_in p (joined (shown.Once home) s) ≡ ((k == 0) && in_package home)
+      → is_once_in p (joined (shown.Once home) (joined (times t other) s)) ≡ (((t + k) == 0) && in_package home)
   once_step zero k home other s again = again ∙ ap (λ m. (m == 0) && in_package home) (zero_first k)
   once_step (suc zero) k home other s again = ap (is_once_in p) (sym (joined_assoc (shown.Once home) (shown.Once other) s)) ∙ ap (λ b. b && in_package home) (more_than_none zero k)
   once_step (suc (suc t)) k home other s again = ap (is_once_in p) (sym (joined_assoc (shown.Once home) shown.Often s)) ∙ ap (λ b. b && in_package home) (more_than_none (suc t) k)
@@ -106,7 +108,8 @@ module _ (n : ℕ) (p : Option PackageId) where
   and_given true false a h = refl
   and_given false e a h = refl
 
-  never_step : (t k : ℕ) (home : Option PackageId) (s : Shown) (a : Bool) → is_once_in p (joined (shown.Once home) s) ≡ ((k == 0) && in_package home) → is_once_in p s ≡ ((k == 1) && a) → ((k == 0) ≡ true → a ≡ true) → is_once_in p (joined (times t home) s) ≡ (((t + k) == 1) && (((t == 0) || in_package home) && a))
+  never_step : (t k : ℕ) (home : Option PackageId) (s : Shown) (a : Bool) → is_once_in p (joined (shown.Once home) s) ≡ ((k == 0) && in_package home) → is_once_in p s ≡ ((k == 1) && a)
+      → ((k == 0) ≡ true → a ≡ true) → is_once_in p (joined (times t home) s) ≡ (((t + k) == 1) && (((t == 0) || in_package home) && a))
   never_step zero k home s a once again none = again ∙ ap (λ m. (m == 1) && a) (zero_first k)
   never_step (suc zero) k home s a once again none =
       once ∙ (and_given (k == 0) (in_package home) a none ∙ ap (λ b. b && (in_package home && a)) (one_more k))

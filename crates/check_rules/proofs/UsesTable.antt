@@ -56,7 +56,8 @@ nothing_used : (r : Resolve) (n : ℕ) → length r.interfaces.items ≤ n → d
 nothing_used r n past = let none : interface_at r n ≡ None = slice_get_past r.interfaces.items n past in rw none refl
 
 -- all entries
-pub uses_all : {S : Type 0} (r : Resolve) (table : List (HashSet ℕ S)) (k : ℕ) → length table ≡ k → length r.interfaces.items ≤ k → ((n : ℕ) → n < k → (q : ℕ) → entry_holds table n q ≡ has (direct_deps r n) q) → IsUsesTable r table
+pub uses_all : {S : Type 0} (r : Resolve) (table : List (HashSet ℕ S)) (k : ℕ) → length table ≡ k → length r.interfaces.items ≤ k
+    → ((n : ℕ) → n < k → (q : ℕ) → entry_holds table n q ≡ has (direct_deps r n) q) → IsUsesTable r table
 uses_all r table k made past right n q =
     below_or_past (λ m. entry_holds table m q ≡ has (direct_deps r m) q) k (λ m low. right m low q)
     (λ m high.

@@ -41,7 +41,8 @@ is_once_in p _ = false
 
 -- whether an interface is the item of one key of one world, which has this package
 abbrev pub is_inline_in : List World → ℕ → Option PackageId → Bool
-is_inline_in ws n p = (sum_by (times_shown n) ws == 1) && list_all (λ w. (times_shown n w == 0) || option_eq ◌==◌ (package_number w.package) (package_number p)) ws
+is_inline_in ws n p = (sum_by (times_shown n) ws == 1) && list_all
+    (λ w. (times_shown n w == 0) || option_eq ◌==◌ (package_number w.package) (package_number p)) ws
 
 -- the entry of a table, and nothing past its end
 abbrev pub shown_entry : List Shown → ℕ → Shown
@@ -53,4 +54,5 @@ IsShownTable r table = (n : ℕ) → n < length r.interfaces.items → (p : Opti
 
 -- whether a named interface stands in the map of its package, and no world stands there under its name; true of one with no package
 abbrev pub stands_in_map : Resolve → ℕ → Text → Option PackageId → Bool
-stands_in_map r n name home = option_map_or (λ p. interface_is_listed n name p && not (is_world_name p name)) (option_and_then (package_at r) (package_number home)) true
+stands_in_map r n name home = option_map_or (λ p. interface_is_listed n name p && not (is_world_name p name))
+    (option_and_then (package_at r) (package_number home)) true

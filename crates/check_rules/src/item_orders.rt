@@ -198,7 +198,8 @@ fn item_stands(
 // Whether each imported function stands after the types of the world that it uses. The types do so by the rule on their order,
 // and all that is exported stands after them.
 fn functions_stand(alloc: Global, table: &[usize], world: &World) -> Result<bool, AllocError>
-    ensures { IfOk result (λ stands. stands ≡ each_from (λ p item. passes (reaches_within (entry_of table.now) p) (item_function item)) 0 (values world.now.imports)) }
+    ensures { IfOk result (λ stands. stands ≡ each_from (λ p item. passes (reaches_within (entry_of table.now) p) (item_function item)) 0
+        (values world.now.imports)) }
 {
     let mut place = 0usize;
     for item in world.imports.values() {

@@ -159,7 +159,8 @@ fn world_in_order(
     table: &[usize],
     world: &World,
 ) -> Result<bool, AllocError>
-    ensures { IfOk result (λ stands. stands ≡ each_from (λ p item. passes (stands_in_order_lem resolve.now (entry_of table.now) p) (item_type_lem item)) 0 (values world.now.imports)) }
+    ensures { IfOk result (λ stands. stands ≡ each_from (λ p item. passes (stands_in_order_lem resolve.now (entry_of table.now) p) (item_type_lem item)) 0
+        (values world.now.imports)) }
 {
     let mut place = 0usize;
     for item in world.imports.values() {

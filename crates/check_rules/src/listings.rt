@@ -165,7 +165,8 @@ fn item_fits(resolve: &Resolve, key: &WorldKey, item: &WorldItem) -> bool
 }
 
 fn misnamed_in_interface(resolve: &Resolve, interface: &Interface) -> Option<usize>
-    ensures { result ≡ option_map (λ e. e.1.0) (find (λ e. not (has_name_lem resolve.now (λ name. text_eq name (text_of e.0)) e.1.0)) interface.now.types.entries) }
+    ensures { result ≡ option_map (λ e. e.1.0) (find (λ e. not (has_name_lem resolve.now (λ name. text_eq name (text_of e.0)) e.1.0))
+        interface.now.types.entries) }
 {
     for (key, id) in interface.types.iter() {
         if !has_name(resolve, key, id.0 as usize) {
@@ -176,7 +177,8 @@ fn misnamed_in_interface(resolve: &Resolve, interface: &Interface) -> Option<usi
 }
 
 fn misnamed_in_world(resolve: &Resolve, world: &World) -> Option<usize>
-    ensures { result ≡ option_and_then (λ e. item_type_lem e.1) (find (λ e. not (passes (has_name_lem resolve.now (key_fits_lem e.0)) (item_type_lem e.1))) world.now.imports.entries) }
+    ensures { result ≡ option_and_then (λ e. item_type_lem e.1)
+        (find (λ e. not (passes (has_name_lem resolve.now (key_fits_lem e.0)) (item_type_lem e.1))) world.now.imports.entries) }
 {
     for (key, item) in world.imports.iter() {
         if !item_fits(resolve, key, item) {

@@ -187,7 +187,8 @@ fn is_member_of(resolve: &Resolve, number: usize, resource: &str, function: &Fun
 }
 
 fn fits_resource(resolve: &Resolve, home: Home, number: usize, function: &Function) -> bool
-    ensures { result ≡ option_map_or (λ name. is_member_of_lem resolve.now number name function.now function.now.kind) (resource_name_lem resolve.now (owner_of home) number) false }
+    ensures { result ≡ option_map_or (λ name. is_member_of_lem resolve.now number name function.now function.now.kind)
+        (resource_name_lem resolve.now (owner_of home) number) false }
 {
     match resolve.types.get(number) {
         Some(def) => match resource_name(def, home) {
@@ -252,7 +253,8 @@ fn item_is_right(resolve: &Resolve, number: usize, key: &WorldKey, item: &WorldI
 }
 
 fn are_right(resolve: &Resolve, number: usize, entries: &Map<WorldKey, WorldItem>) -> bool
-    ensures { result ≡ list_all (λ e. passes (λ f. is_name_key_lem (text_of f.name) e.0 && is_member resolve.now (as_world number) f) (item_function e.1)) entries.now.entries }
+    ensures { result ≡ list_all (λ e. passes (λ f. is_name_key_lem (text_of f.name) e.0 && is_member resolve.now (as_world number) f) (item_function e.1))
+        entries.now.entries }
 {
     entries
         .iter()

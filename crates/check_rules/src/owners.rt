@@ -79,7 +79,8 @@ fn met_by_all(table: &[Met], numbers: &[usize]) -> Met
 fn met_at(alloc: Global, resolve: &Resolve, table: &[Met], number: usize) -> Result<Met, AllocError>
     requires below { Keeps references resolve.now }
     requires in_range { number < length resolve.now.types.items }
-    requires earlier { (n : ℕ) → n < number → (o : TypeOwner) → stays_lem (met_entry table.now n) o ≡ list_all (has_owner resolve.now o) (met_by_lem (met_of resolve.now) n) }
+    requires earlier { (n : ℕ) → n < number → (o : TypeOwner)
+        → stays_lem (met_entry table.now n) o ≡ list_all (has_owner resolve.now o) (met_by_lem (met_of resolve.now) n) }
     ensures { IfOk result (λ met. (o : TypeOwner) → stays_lem met o ≡ list_all (has_owner resolve.now o) (met_by_lem (met_of resolve.now) number)) }
 {
     let def = &resolve.types[number];
@@ -164,7 +165,8 @@ fn is_named_interface(resolve: &Resolve, number: usize) -> bool
 
 // Whether a type's owner is a named interface, and another than this.
 fn is_foreign(resolve: &Resolve, target: &TypeDef, owner: TypeOwner) -> bool
-    ensures { result ≡ (not (same_owner_lem target.now.owner owner) && option_map_or (λ i. option_map_or (λ other. is_some other.name) (interface_at resolve.now i) false) (owner_interface_lem target.now.owner) false) }
+    ensures { result ≡ (not (same_owner_lem target.now.owner owner)
+        && option_map_or (λ i. option_map_or (λ other. is_some other.name) (interface_at resolve.now i) false) (owner_interface_lem target.now.owner) false) }
 {
     if same_owner(target.owner, owner) {
         return false;

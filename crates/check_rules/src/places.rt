@@ -137,7 +137,8 @@ fn is_interface_listed(number: usize, name: &String, owner: &Package) -> bool
 
 // Whether an interface stands in its package's map under its name, and no world does.
 fn is_interface_listed_in(resolve: &Resolve, number: usize, name: &String, id: PackageId) -> bool
-    ensures { result ≡ option_map_or (λ p. interface_is_listed number (text_of name.now) p && not (is_world_name_lem p (text_of name.now))) (package_at_lem resolve.now id.0) true }
+    ensures { result ≡ option_map_or (λ p. interface_is_listed number (text_of name.now) p && not (is_world_name_lem p (text_of name.now)))
+        (package_at_lem resolve.now id.0) true }
 {
     match package_at(resolve, id) {
         Some(owner) => is_interface_listed(number, name, owner) && !is_world_name(name, owner),
@@ -147,7 +148,8 @@ fn is_interface_listed_in(resolve: &Resolve, number: usize, name: &String, id: P
 
 // Whether an interface has a package, and stands in its map or in one of its worlds.
 fn interface_is_placed(resolve: &Resolve, table: &[Shown], number: usize, entry: &Interface) -> bool
-    ensures { result ≡ (is_some entry.now.«package» && option_map_or (λ name. stands_in_map resolve.now number (text_of name) entry.now.«package») entry.now.name (is_once_in entry.now.«package» (shown_entry table.now number))) }
+    ensures { result ≡ (is_some entry.now.«package» && option_map_or (λ name. stands_in_map resolve.now number (text_of name) entry.now.«package»)
+        entry.now.name (is_once_in entry.now.«package» (shown_entry table.now number))) }
 {
     match entry.package {
         Some(id) => match &entry.name {

@@ -81,7 +81,8 @@ fn has_named_target(resolve: &Resolve, kind: &TypeDefKind) -> bool
 }
 
 fn is_fitly_named(resolve: &Resolve, def: &TypeDef) -> bool
-    ensures { result ≡ ((not (is_named_kind_lem def.now.kind) || is_some def.now.name) && passes (is_named_number_lem resolve.now) (alias_target_lem def.now.kind)) }
+    ensures { result ≡ ((not (is_named_kind_lem def.now.kind) || is_some def.now.name)
+        && passes (is_named_number_lem resolve.now) (alias_target_lem def.now.kind)) }
 {
     (!is_named_kind(&def.kind) || def.name.is_some()) && has_named_target(resolve, &def.kind)
 }

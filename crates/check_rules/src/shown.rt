@@ -52,7 +52,8 @@ fn mark_item(table: &mut [Shown], item: &WorldItem, home: Option<PackageId>)
 }
 
 fn mark_items(table: &mut [Shown], items: &Map<WorldKey, WorldItem>, home: Option<PackageId>)
-    ensures { (n : ℕ) → n < length table.old → shown_entry table.new n ≡ joined (shown_entry table.old n) (times (count_by (λ i. is_id n (item_interface i)) (values items.now)) home) }
+    ensures { (n : ℕ) → n < length table.old
+        → shown_entry table.new n ≡ joined (shown_entry table.old n) (times (count_by (λ i. is_id n (item_interface i)) (values items.now)) home) }
 {
     for item in items.values() {
         mark_item(table, item, home);
@@ -60,7 +61,8 @@ fn mark_items(table: &mut [Shown], items: &Map<WorldKey, WorldItem>, home: Optio
 }
 
 fn mark_world(table: &mut [Shown], world: &World)
-    ensures { (n : ℕ) → n < length table.old → shown_entry table.new n ≡ joined (shown_entry table.old n) (times (times_shown n world.now) world.now.«package») }
+    ensures { (n : ℕ) → n < length table.old
+        → shown_entry table.new n ≡ joined (shown_entry table.old n) (times (times_shown n world.now) world.now.«package») }
 {
     mark_items(table, &world.imports, world.package);
     mark_items(table, &world.exports, world.package);

@@ -34,7 +34,8 @@ no_memory fits old new e m same = absurd cc
 pub stopped : (part whole : Bool) (old new : List ℕ) (e : Error) → Stopped part old new e → (part ≡ false → whole ≡ false) → Stopped whole old new e
 stopped part whole old new e s falls = record { kept = s.kept; size = λ is. falls (s.size is); refuses = s.refuses }
 
-pub stopped_after : (part whole : Bool) (form : Spellings) (text old mid new : List ℕ) (e : Error) → Appended form text old mid → Stopped part mid new e → (part ≡ false → whole ≡ false) → Stopped whole old new e
+pub stopped_after : (part whole : Bool) (form : Spellings) (text old mid new : List ℕ) (e : Error) → Appended form text old mid → Stopped part mid new e → (part ≡ false → whole ≡ false)
+    → Stopped whole old new e
 stopped_after part whole form text old mid new e a s falls = record {
   kept = begins_after old text mid new a.items s.kept;
   size = λ is. falls (s.size is);
@@ -78,6 +79,7 @@ tagged tag form text fits old mid new (Err x) e a =
     refused (Tagged tag form) (tag ∷ text) fits old new x (stopped_after fits fits (Are (tag ∷ [])) (tag ∷ []) old mid new x (record { items = e; spelled = refl }) a.err (λ h. h))
 
 -- a refusal of a part that is passed on
-pub passed_on : {X : Type 0} (form : Spellings) (text : List ℕ) (fits : Bool) (old new : List ℕ) (e : Error) (r : Result X Error) → IsErrAnd r (λ given. given ≡ e) → Stopped fits old new e → Appends form text fits old new r
+pub passed_on : {X : Type 0} (form : Spellings) (text : List ℕ) (fits : Bool) (old new : List ℕ) (e : Error) (r : Result X Error) → IsErrAnd r (λ given. given ≡ e) → Stopped fits old new e
+    → Appends form text fits old new r
 passed_on form text fits old new e (Ok x) h s = absurd h
 passed_on form text fits old new e (Err given) h s = refused form text fits old new given (subst (λ (x : Error). Stopped fits old new x) (sym h) s)

@@ -49,10 +49,14 @@ module _ {A : Type 0} (form : A → Spellings) (bytes_of : A → List ℕ) where
   }
 
   -- a section of items
-  pub section_spelled : (id : ℕ) (xs : List A) → length (vector_bytes bytes_of xs) < 2 ^ 32 → length xs < 2 ^ 32 → Sequence form xs (flat_map bytes_of xs) → IsSectionOf id (Vector form xs) (framed id (vector_bytes bytes_of xs))
+  pub section_spelled : (id : ℕ) (xs : List A) → length (vector_bytes bytes_of xs) < 2 ^ 32 → length xs < 2 ^ 32 → Sequence form xs (flat_map bytes_of xs)
+      → IsSectionOf id (Vector form xs) (framed id (vector_bytes bytes_of xs))
   section_spelled id xs small few s =
-      let contents : List ℕ = vector_bytes bytes_of xs in
-      (contents, (u32_bytes (length contents) ++ contents, refl, (u32_bytes (length contents), contents, refl, spells_u32 (length contents) small, refl)), (u32_bytes (length xs), flat_map bytes_of xs, refl, spells_u32 (length xs) few, s))
+      let contents : List ℕ = vector_bytes bytes_of xs in (
+        contents,
+        (u32_bytes (length contents) ++ contents, refl, (u32_bytes (length contents), contents, refl, spells_u32 (length contents) small, refl)),
+        (u32_bytes (length xs), flat_map bytes_of xs, refl, spells_u32 (length xs) few, s),
+      )
 
 pub group_found : (g : Group) (exports : Bool) (count : ℕ) (items : List ℕ) → IsGroup g exports count items → group_in exports count items ≡ g
 group_found (Group.of_types ts) exports count items h = rw h.0 (ap Group.of_types (items_in IsTopType top_type_bytes type_at type_law ts count items h.1))
@@ -65,7 +69,8 @@ group_closed (Group.of_types (t ∷ ts)) exports count items h = rw (h.0, h.1.co
 group_closed (Group.of_exports []) exports count items h = rw h.1.counted refl
 group_closed (Group.of_exports (e ∷ es)) exports count items h = rw (h.0, h.1.counted, h.1.written) (sym (append-nil (section_bytes (Section.exports (e ∷ es)))))
 
-group_spelled : (g : Group) (exports : Bool) (count : ℕ) (items : List ℕ) → IsGroup g exports count items → count < 2 ^ 32 → (0 < count → length (u32_bytes count ++ items) < 2 ^ 32) → Sequence IsSection (group_sections g) (flat_map section_bytes (group_sections g))
+group_spelled : (g : Group) (exports : Bool) (count : ℕ) (items : List ℕ) → IsGroup g exports count items → count < 2 ^ 32 → (0 < count → length (u32_bytes count ++ items) < 2 ^ 32)
+    → Sequence IsSection (group_sections g) (flat_map section_bytes (group_sections g))
 group_spelled (Group.of_types []) exports count items h few small = refl
 group_spelled (Group.of_types (t ∷ ts)) exports count items h few small =
     let some : 0 < count = rw h.1.counted (omega arith) in
@@ -97,12 +102,14 @@ pub record Kept (sections : List Section) (group : Group) (done items : List ℕ
   pub builds : Builds done items count exports types
   pub shows : kept_parts done items count exports ≡ parts_of (sections ++ group_sections group)
 
-pub kept : (sections : List Section) (g : Group) (done items : List ℕ) (count : ℕ) (exports : Bool) (types : ℕ) → IsBuilt sections g done items count exports types → Kept sections g done items count exports types
+pub kept : (sections : List Section) (g : Group) (done items : List ℕ) (count : ℕ) (exports : Bool) (types : ℕ) → IsBuilt sections g done items count exports types
+    → Kept sections g done items count exports types
 kept sections g done items count exports types h =
     let s : sections_in done ≡ sections = sections_found sections done h.begins h.spelled in
     let k : group_in exports count items ≡ g = group_found g exports count items h.held in
     record {
-      builds = subst (λ (x : List Section). IsBuilt x (group_in exports count items) done items count exports types) (sym s) (subst (λ (x : Group). IsBuilt sections x done items count exports types) (sym k) h);
+      builds = subst (λ (x : List Section). IsBuilt x (group_in exports count items) done items count exports types) (sym s)
+          (subst (λ (x : Group). IsBuilt sections x done items count exports types) (sym k) h);
       shows = ap (λ (x : List Section). parts_of (x ++ group_sections (group_in exports count items))) s ∙ ap (λ (x : Group). parts_of (sections ++ group_sections x)) k;
     }
 
@@ -132,7 +139,8 @@ module _ (done items : List ℕ) (count : ℕ) (exports : Bool) (types : ℕ) (h
   pub closed_spelled : count < 2 ^ 32 → (0 < count → length (u32_bytes count ++ items) < 2 ^ 32) → Sequence IsSection all_sections (flat_map section_bytes all_sections)
   closed_spelled few small =
       subst (λ (l : List ℕ). Sequence IsSection all_sections l) (sym (flat_map-append section_bytes (sections_in done) (group_sections (group_in exports count items))))
-      (sequence_append IsSection (sections_in done) (group_sections (group_in exports count items)) (flat_map section_bytes (sections_in done)) (flat_map section_bytes (group_sections (group_in exports count items))) h.spelled (group_spelled (group_in exports count items) exports count items h.held few small))
+      (sequence_append IsSection (sections_in done) (group_sections (group_in exports count items)) (flat_map section_bytes (sections_in done))
+      (flat_map section_bytes (group_sections (group_in exports count items))) h.spelled (group_spelled (group_in exports count items) exports count items h.held few small))
 
   -- a part that joins no section
   abbrev pub StandsApart : Part → Type 0
@@ -154,7 +162,8 @@ grown done items count exports p done' items' count' exports' types' n =
     record { builds = k.builds; shows = k.shows ∙ n.shows }
 
 -- a type that joins the open section
-join_type_of : (sections : List Section) (g : Group) (done items : List ℕ) (count types : ℕ) (t : TopType) → IsBuilt sections g done items count false types → 0 < count → IsTopType t (top_type_bytes t)
+join_type_of : (sections : List Section) (g : Group) (done items : List ℕ) (count types : ℕ) (t : TopType) → IsBuilt sections g done items count false types → 0 < count
+    → IsTopType t (top_type_bytes t)
     → Next (sections ++ group_sections g) (Part.top_type t) done (items ++ top_type_bytes t) (count + 1) false (types + 1)
 join_type_of sections (Group.of_types []) done items count types t h some s = absurd (omega (arith, h.held.1.counted))
 join_type_of sections (Group.of_exports es) done items count types t h some s = absurd (false≢true h.held.0)
@@ -175,17 +184,21 @@ join_type_of sections (Group.of_types (u ∷ us)) done items count types t h som
       shows = b.shows;
     }
 
-pub join_type : (done items : List ℕ) (count types : ℕ) (t : TopType) → Builds done items count false types → 0 < count → IsTopType t (top_type_bytes t) → Grown done items count false (Part.top_type t) done (items ++ top_type_bytes t) (count + 1) false (types + 1)
-join_type done items count types t h some s = grown done items count false (Part.top_type t) done (items ++ top_type_bytes t) (count + 1) false (types + 1) (join_type_of (sections_in done) (group_in false count items) done items count types t h some s)
+pub join_type : (done items : List ℕ) (count types : ℕ) (t : TopType) → Builds done items count false types → 0 < count → IsTopType t (top_type_bytes t)
+    → Grown done items count false (Part.top_type t) done (items ++ top_type_bytes t) (count + 1) false (types + 1)
+join_type done items count types t h some s = grown done items count false (Part.top_type t) done (items ++ top_type_bytes t) (count + 1) false (types + 1)
+    (join_type_of (sections_in done) (group_in false count items) done items count types t h some s)
 
 pub join_type_at : (done items : List ℕ) (count : ℕ) (exports : Bool) (types : ℕ) (t : TopType) → exports ≡ false → Builds done items count exports types → 0 < count → IsTopType t (top_type_bytes t)
     → Grown done items count exports (Part.top_type t) done (items ++ top_type_bytes t) (count + 1) exports (types + 1)
 join_type_at done items count exports types t e h some s =
-    let joined : Builds done items count false types → Grown done items count false (Part.top_type t) done (items ++ top_type_bytes t) (count + 1) false (types + 1) = λ k. join_type done items count types t k some s in
+    let joined : Builds done items count false types → Grown done items count false (Part.top_type t) done (items ++ top_type_bytes t) (count + 1) false (types + 1) =
+    λ k. join_type done items count types t k some s in
     subst (λ (b : Bool). Builds done items count b types → Grown done items count b (Part.top_type t) done (items ++ top_type_bytes t) (count + 1) b (types + 1)) (sym e) joined h
 
 -- an export that joins the open section
-join_export_of : (sections : List Section) (g : Group) (done items : List ℕ) (count types : ℕ) (x : TopExport) → IsBuilt sections g done items count true types → 0 < count → IsTopExport x (top_export_bytes x)
+join_export_of : (sections : List Section) (g : Group) (done items : List ℕ) (count types : ℕ) (x : TopExport) → IsBuilt sections g done items count true types → 0 < count
+    → IsTopExport x (top_export_bytes x)
     → Next (sections ++ group_sections g) (Part.top_export x) done (items ++ top_export_bytes x) (count + 1) true (types + 1)
 join_export_of sections (Group.of_exports []) done items count types x h some s = absurd (omega (arith, h.held.1.counted))
 join_export_of sections (Group.of_types ts) done items count types x h some s = absurd (false≢true (sym h.held.0))
@@ -206,13 +219,17 @@ join_export_of sections (Group.of_exports (u ∷ us)) done items count types x h
       shows = b.shows;
     }
 
-pub join_export : (done items : List ℕ) (count types : ℕ) (x : TopExport) → Builds done items count true types → 0 < count → IsTopExport x (top_export_bytes x) → Grown done items count true (Part.top_export x) done (items ++ top_export_bytes x) (count + 1) true (types + 1)
-join_export done items count types x h some s = grown done items count true (Part.top_export x) done (items ++ top_export_bytes x) (count + 1) true (types + 1) (join_export_of (sections_in done) (group_in true count items) done items count types x h some s)
+pub join_export : (done items : List ℕ) (count types : ℕ) (x : TopExport) → Builds done items count true types → 0 < count → IsTopExport x (top_export_bytes x)
+    → Grown done items count true (Part.top_export x) done (items ++ top_export_bytes x) (count + 1) true (types + 1)
+join_export done items count types x h some s = grown done items count true (Part.top_export x) done (items ++ top_export_bytes x) (count + 1) true (types + 1)
+    (join_export_of (sections_in done) (group_in true count items) done items count types x h some s)
 
-pub join_export_at : (done items : List ℕ) (count : ℕ) (exports : Bool) (types : ℕ) (x : TopExport) → exports ≡ true → Builds done items count exports types → 0 < count → IsTopExport x (top_export_bytes x)
+pub join_export_at : (done items : List ℕ) (count : ℕ) (exports : Bool) (types : ℕ) (x : TopExport) → exports ≡ true → Builds done items count exports types → 0 < count
+    → IsTopExport x (top_export_bytes x)
     → Grown done items count exports (Part.top_export x) done (items ++ top_export_bytes x) (count + 1) exports (types + 1)
 join_export_at done items count exports types x e h some s =
-    let joined : Builds done items count true types → Grown done items count true (Part.top_export x) done (items ++ top_export_bytes x) (count + 1) true (types + 1) = λ k. join_export done items count types x k some s in
+    let joined : Builds done items count true types → Grown done items count true (Part.top_export x) done (items ++ top_export_bytes x) (count + 1) true (types + 1) =
+    λ k. join_export done items count types x k some s in
     subst (λ (b : Bool). Builds done items count b types → Grown done items count b (Part.top_export x) done (items ++ top_export_bytes x) (count + 1) b (types + 1)) (sym e) joined h
 
 -- a part that stands behind all sections, where no section is open
@@ -222,7 +239,8 @@ behind_ended sections p h = rw append-nil (put_behind-ended sections p h)
 behind_last : (sections : List Section) (s : Section) (p : Part) → join s p ≡ s ∷ alone p ∷ [] → put_behind (sections ++ s ∷ []) p ≡ (sections ++ s ∷ []) ++ alone p ∷ []
 behind_last sections s p e = put_behind-last sections s p ∙ ap (λ (l : List Section). sections ++ l) e ∙ sym (append_assoc sections (s ∷ []) (alone p ∷ []))
 
-type_apart_of : (sections : List Section) (g : Group) (done items : List ℕ) (count : ℕ) (exports : Bool) (types : ℕ) (t : TopType) → IsBuilt sections g done items count exports types → (0 < count → exports ≡ true) → put_behind (sections ++ group_sections g) (Part.top_type t) ≡ (sections ++ group_sections g) ++ alone (Part.top_type t) ∷ []
+type_apart_of : (sections : List Section) (g : Group) (done items : List ℕ) (count : ℕ) (exports : Bool) (types : ℕ) (t : TopType) → IsBuilt sections g done items count exports types
+    → (0 < count → exports ≡ true) → put_behind (sections ++ group_sections g) (Part.top_type t) ≡ (sections ++ group_sections g) ++ alone (Part.top_type t) ∷ []
 type_apart_of sections (Group.of_types []) done items count exports types t h other = behind_ended sections (Part.top_type t) (h.ended refl)
 type_apart_of sections (Group.of_exports []) done items count exports types t h other = behind_ended sections (Part.top_type t) (h.ended refl)
 type_apart_of sections (Group.of_exports (u ∷ us)) done items count exports types t h other = behind_last sections (Section.exports (u ∷ us)) (Part.top_type t) refl
@@ -230,7 +248,8 @@ type_apart_of sections (Group.of_types (u ∷ us)) done items count exports type
     let some : 0 < count = rw h.held.1.counted (omega arith) in
     absurd (false≢true (sym h.held.0 ∙ other some))
 
-export_apart_of : (sections : List Section) (g : Group) (done items : List ℕ) (count : ℕ) (exports : Bool) (types : ℕ) (x : TopExport) → IsBuilt sections g done items count exports types → (0 < count → exports ≡ false) → put_behind (sections ++ group_sections g) (Part.top_export x) ≡ (sections ++ group_sections g) ++ alone (Part.top_export x) ∷ []
+export_apart_of : (sections : List Section) (g : Group) (done items : List ℕ) (count : ℕ) (exports : Bool) (types : ℕ) (x : TopExport) → IsBuilt sections g done items count exports types
+    → (0 < count → exports ≡ false) → put_behind (sections ++ group_sections g) (Part.top_export x) ≡ (sections ++ group_sections g) ++ alone (Part.top_export x) ∷ []
 export_apart_of sections (Group.of_types []) done items count exports types x h other = behind_ended sections (Part.top_export x) (h.ended refl)
 export_apart_of sections (Group.of_exports []) done items count exports types x h other = behind_ended sections (Part.top_export x) (h.ended refl)
 export_apart_of sections (Group.of_types (u ∷ us)) done items count exports types x h other = behind_last sections (Section.types (u ∷ us)) (Part.top_export x) refl
@@ -238,7 +257,8 @@ export_apart_of sections (Group.of_exports (u ∷ us)) done items count exports 
     let some : 0 < count = rw h.held.1.counted (omega arith) in
     absurd (false≢true (sym (other some) ∙ h.held.0))
 
-custom_apart_of : (sections : List Section) (g : Group) (done items : List ℕ) (count : ℕ) (exports : Bool) (types : ℕ) (name contents : List ℕ) → IsBuilt sections g done items count exports types → put_behind (sections ++ group_sections g) (Part.custom name contents) ≡ (sections ++ group_sections g) ++ Section.custom name contents ∷ []
+custom_apart_of : (sections : List Section) (g : Group) (done items : List ℕ) (count : ℕ) (exports : Bool) (types : ℕ) (name contents : List ℕ) → IsBuilt sections g done items count exports types
+    → put_behind (sections ++ group_sections g) (Part.custom name contents) ≡ (sections ++ group_sections g) ++ Section.custom name contents ∷ []
 custom_apart_of sections (Group.of_types []) done items count exports types name contents h = behind_ended sections (Part.custom name contents) (h.ended refl)
 custom_apart_of sections (Group.of_exports []) done items count exports types name contents h = behind_ended sections (Part.custom name contents) (h.ended refl)
 custom_apart_of sections (Group.of_types (u ∷ us)) done items count exports types name contents h = behind_last sections (Section.types (u ∷ us)) (Part.custom name contents) refl
@@ -263,7 +283,8 @@ module _ (done items : List ℕ) (count : ℕ) (exports : Bool) (types : ℕ) (h
 
   module _ (few : count < 2 ^ 32) (small : 0 < count → length (u32_bytes count ++ items) < 2 ^ 32) where
     -- a type that begins a section
-    pub start_type : (t : TopType) (text : List ℕ) → StandsApart done items count exports types h (Part.top_type t) → text ≡ top_type_bytes t → IsTopType t (top_type_bytes t) → Grown done items count exports (Part.top_type t) closed text 1 false (types + 1)
+    pub start_type : (t : TopType) (text : List ℕ) → StandsApart done items count exports types h (Part.top_type t) → text ≡ top_type_bytes t → IsTopType t (top_type_bytes t)
+        → Grown done items count exports (Part.top_type t) closed text 1 false (types + 1)
     start_type t text apart is s =
         let all : List Section = all_sections done items count exports types h in
         let b = grouped_behind all (all ++ Section.types (t ∷ []) ∷ []) (Part.top_type t) h.grouped apart in
@@ -282,7 +303,8 @@ module _ (done items : List ℕ) (count : ℕ) (exports : Bool) (types : ℕ) (h
         })
 
     -- an export that begins a section
-    pub start_export : (x : TopExport) (text : List ℕ) → StandsApart done items count exports types h (Part.top_export x) → text ≡ top_export_bytes x → IsTopExport x (top_export_bytes x) → Grown done items count exports (Part.top_export x) closed text 1 true (types + 1)
+    pub start_export : (x : TopExport) (text : List ℕ) → StandsApart done items count exports types h (Part.top_export x) → text ≡ top_export_bytes x → IsTopExport x (top_export_bytes x)
+        → Grown done items count exports (Part.top_export x) closed text 1 true (types + 1)
     start_export x text apart is s =
         let all : List Section = all_sections done items count exports types h in
         let b = grouped_behind all (all ++ Section.exports (x ∷ []) ∷ []) (Part.top_export x) h.grouped apart in
@@ -308,11 +330,22 @@ module _ (done items : List ℕ) (count : ℕ) (exports : Bool) (types : ℕ) (h
         let last : Section = Section.custom name contents in
         let b = grouped_behind all (all ++ last ∷ []) (Part.custom name contents) h.grouped (custom_apart name contents) in
         let text : List ℕ = framed 0 (name_bytes name ++ contents) in
-        let spelled : IsSection last text = (name_bytes name ++ contents, (u32_bytes (length (name_bytes name ++ contents)) ++ (name_bytes name ++ contents), refl, (u32_bytes (length (name_bytes name ++ contents)), name_bytes name ++ contents, refl, spells_u32 (length (name_bytes name ++ contents)) short, refl)), (name_bytes name, contents, refl, named, refl)) in
-        let joined : flat_map section_bytes (all ++ last ∷ []) ≡ flat_map section_bytes all ++ text = flat_map-append section_bytes all (last ∷ []) ∙ ap (λ (l : List ℕ). flat_map section_bytes all ++ l) (append-nil text) in
+        let spelled : IsSection last text = (
+          name_bytes name ++ contents,
+          (
+            u32_bytes (length (name_bytes name ++ contents)) ++ (name_bytes name ++ contents),
+            refl,
+            (u32_bytes (length (name_bytes name ++ contents)), name_bytes name ++ contents, refl, spells_u32 (length (name_bytes name ++ contents)) short, refl),
+          ),
+          (name_bytes name, contents, refl, named, refl),
+        ) in
+        let joined : flat_map section_bytes (all ++ last ∷ []) ≡ flat_map section_bytes all ++ text =
+        flat_map-append section_bytes all (last ∷ []) ∙ ap (λ (l : List ℕ). flat_map section_bytes all ++ l) (append-nil text) in
         let none : (all ++ last ∷ []) ++ [] ≡ all ++ last ∷ [] = append-nil (all ++ last ∷ []) in
         let begins : begun (closed ++ text) ≡ component_bytes (all ++ last ∷ []) =
-        ap begun (append_assoc (begun done) (closed_bytes (section_id exports) count items) text) ∙ begun-begun done (closed_bytes (section_id exports) count items ++ text) ∙ sym (append_assoc (begun done) (closed_bytes (section_id exports) count items) text) ∙ ap (λ (l : List ℕ). l ++ text) (closed_begins done items count exports types h) ∙ append_assoc preamble (flat_map section_bytes all) text ∙ ap (λ (l : List ℕ). preamble ++ l) (sym joined) in
+        ap begun (append_assoc (begun done) (closed_bytes (section_id exports) count items) text) ∙ begun-begun done (closed_bytes (section_id exports) count items ++ text) ∙ sym
+        (append_assoc (begun done) (closed_bytes (section_id exports) count items) text) ∙ ap (λ (l : List ℕ). l ++ text) (closed_begins done items count exports types h) ∙ append_assoc preamble
+        (flat_map section_bytes all) text ∙ ap (λ (l : List ℕ). preamble ++ l) (sym joined) in
         grown done items count exports (Part.custom name contents) (closed ++ text) [] 0 false types (record {
           sections = all ++ last ∷ [];
           group = Group.of_types [];
@@ -320,7 +353,8 @@ module _ (done items : List ℕ) (count : ℕ) (exports : Bool) (types : ℕ) (h
             grouped = subst (λ (l : List Section). sections_of_parts (parts_of l) ≡ l) (sym none) b.grouped;
             ended = λ empty. Ended-custom all name contents;
             begins = begins;
-            spelled = subst (λ (l : List ℕ). Sequence IsSection (all ++ last ∷ []) l) (sym joined) (sequence_push IsSection all last (flat_map section_bytes all) text (closed_spelled done items count exports types h few small) spelled);
+            spelled = subst (λ (l : List ℕ). Sequence IsSection (all ++ last ∷ []) l) (sym joined)
+                (sequence_push IsSection all last (flat_map section_bytes all) text (closed_spelled done items count exports types h few small) spelled);
             held = (refl, record { counted = refl; spelled = refl; written = refl });
             slots = omega (arith, h.slots, ap top_slots (ap parts_of none ∙ b.shows), top_slots-push (parts_of all) (Part.custom name contents));
           };
@@ -338,11 +372,21 @@ nothing_kept = kept [] (Group.of_types []) [] [] 0 false 0 nothing_built
 -- ---- the whole component
 
 module _ (done items : List ℕ) (count : ℕ) (exports : Bool) (types : ℕ) (h : Builds done items count exports types) where
-  pub component_spelled : (bytes : List ℕ) → bytes ≡ begun done ++ closed_bytes (section_id exports) count items → count < 2 ^ 32 → (0 < count → length (u32_bytes count ++ items) < 2 ^ 32) → length bytes < 2 ^ 32
+  pub component_spelled : (bytes : List ℕ) → bytes ≡ begun done ++ closed_bytes (section_id exports) count items → count < 2 ^ 32 → (0 < count → length (u32_bytes count ++ items) < 2 ^ 32)
+      → length bytes < 2 ^ 32
       → IsComponent (sections_of_parts (kept_parts done items count exports)) bytes
   component_spelled bytes is few small short =
       let all : List Section = all_sections done items count exports types h in
-      let whole : IsComponent all bytes = ((preamble, flat_map section_bytes all, is ∙ closed_begins done items count exports types h, refl, closed_spelled done items count exports types h few small), short) in
+      let whole : IsComponent all bytes = (
+        (
+          preamble,
+          flat_map section_bytes all,
+          is ∙ closed_begins done items count exports types h,
+          refl,
+          closed_spelled done items count exports types h few small,
+        ),
+        short,
+      ) in
       subst (λ (l : List Section). IsComponent l bytes) (sym h.grouped) whole
 
   pub component_written : (bytes : List ℕ) → bytes ≡ begun done ++ closed_bytes (section_id exports) count items → bytes ≡ component_bytes (sections_of_parts (kept_parts done items count exports))

@@ -24,8 +24,6 @@ size_passed {X} {Y} (Err given) e h is =
     let wrap : Error → Result Y Error = λ x. Err x in
     ap wrap same
 
--- a number that is not below
-
 -- a component that is too long doesn't fit
 too_long : (ps : List Part) → 2 ^ 32 ≤ length (component_bytes (sections_of_parts ps)) → fits_component ps ≡ false
 unfolding fits_component
@@ -85,7 +83,13 @@ slots-exports (e ∷ es) = omega (arith, slots-exports es)
 
 section_slots : (s : Section) → top_slots (parts_in s) ≤ length (section_bytes s)
 section_slots (Section.types ts) = omega (arith, slots-types ts, items_filled top_type_bytes type_filled ts, vector_longer top_type_bytes ts, framed_longer 7 (vector_bytes top_type_bytes ts))
-section_slots (Section.exports es) = omega (arith, slots-exports es, items_filled top_export_bytes export_filled es, vector_longer top_export_bytes es, framed_longer 0x0b (vector_bytes top_export_bytes es))
+section_slots (Section.exports es) = omega (
+  arith,
+  slots-exports es,
+  items_filled top_export_bytes export_filled es,
+  vector_longer top_export_bytes es,
+  framed_longer 0x0b (vector_bytes top_export_bytes es),
+)
 section_slots (Section.custom name contents) = omega arith
 
 all_slots : (sections : List Section) → top_slots (parts_of sections) ≤ length (flat_map section_bytes sections)
@@ -102,9 +106,25 @@ group_slots : (sections : List Section) (g : Group) (done items : List ℕ) (cou
 group_slots sections (Group.of_types []) done items count exports types h = omega (arith, h.held.1.counted)
 group_slots sections (Group.of_exports []) done items count exports types h = omega (arith, h.held.1.counted)
 group_slots sections (Group.of_types (u ∷ us)) done items count exports types h =
-    omega (arith, h.held.1.counted, h.slots, ap top_slots (flat_map-append parts_in sections (Section.types (u ∷ us) ∷ [])), top_slots-append (parts_of sections) (parts_of (Section.types (u ∷ us) ∷ [])), ap top_slots (append-nil (map Part.top_type (u ∷ us))), slots-types (u ∷ us))
+    omega (
+      arith,
+      h.held.1.counted,
+      h.slots,
+      ap top_slots (flat_map-append parts_in sections (Section.types (u ∷ us) ∷ [])),
+      top_slots-append (parts_of sections) (parts_of (Section.types (u ∷ us) ∷ [])),
+      ap top_slots (append-nil (map Part.top_type (u ∷ us))),
+      slots-types (u ∷ us),
+    )
 group_slots sections (Group.of_exports (u ∷ us)) done items count exports types h =
-    omega (arith, h.held.1.counted, h.slots, ap top_slots (flat_map-append parts_in sections (Section.exports (u ∷ us) ∷ [])), top_slots-append (parts_of sections) (parts_of (Section.exports (u ∷ us) ∷ [])), ap top_slots (append-nil (map Part.top_export (u ∷ us))), slots-exports (u ∷ us))
+    omega (
+      arith,
+      h.held.1.counted,
+      h.slots,
+      ap top_slots (flat_map-append parts_in sections (Section.exports (u ∷ us) ∷ [])),
+      top_slots-append (parts_of sections) (parts_of (Section.exports (u ∷ us) ∷ [])),
+      ap top_slots (append-nil (map Part.top_export (u ∷ us))),
+      slots-exports (u ∷ us),
+    )
 
 -- ---- a name that is too long
 
@@ -118,13 +138,23 @@ one_longer bytes_of (y ∷ xs) x = omega (arith, one_longer bytes_of xs x, lengt
 
 exports_longer : (es : List TopExport) (e : TopExport) (rest : List Section) → length (top_export_bytes e) ≤ length (flat_map section_bytes (Section.exports (es ++ e ∷ []) ∷ rest))
 exports_longer es e rest =
-    omega (arith, one_longer top_export_bytes es e, vector_longer top_export_bytes (es ++ e ∷ []), framed_longer 0x0b (vector_bytes top_export_bytes (es ++ e ∷ [])), length-append (section_bytes (Section.exports (es ++ e ∷ []))) (flat_map section_bytes rest))
+    omega (
+      arith,
+      one_longer top_export_bytes es e,
+      vector_longer top_export_bytes (es ++ e ∷ []),
+      framed_longer 0x0b (vector_bytes top_export_bytes (es ++ e ∷ [])),
+      length-append (section_bytes (Section.exports (es ++ e ∷ []))) (flat_map section_bytes rest),
+    )
 
 export_longer : (sections : List Section) (e : TopExport) → length (top_export_bytes e) ≤ length (flat_map section_bytes (put_behind sections (Part.top_export e)))
 export_longer [] e = exports_longer [] e []
 export_longer (Section.types ts ∷ []) e = omega (arith, exports_longer [] e [], length-append (section_bytes (Section.types ts)) (flat_map section_bytes (Section.exports (e ∷ []) ∷ [])))
 export_longer (Section.exports es ∷ []) e = exports_longer es e []
-export_longer (Section.custom name contents ∷ []) e = omega (arith, exports_longer [] e [], length-append (section_bytes (Section.custom name contents)) (flat_map section_bytes (Section.exports (e ∷ []) ∷ [])))
+export_longer (Section.custom name contents ∷ []) e = omega (
+  arith,
+  exports_longer [] e [],
+  length-append (section_bytes (Section.custom name contents)) (flat_map section_bytes (Section.exports (e ∷ []) ∷ [])),
+)
 export_longer (s ∷ t ∷ rest) e = omega (arith, export_longer (t ∷ rest) e, length-append (section_bytes s) (flat_map section_bytes (put_behind (t ∷ rest) (Part.top_export e))))
 
 -- ---- what is kept, and what it refuses
@@ -150,7 +180,8 @@ module _ (done items : List ℕ) (count : ℕ) (exports : Bool) (types : ℕ) (h
   name_refused name index e =
       let all : List Section = all_sections done items count exports types h in
       let long : 2 ^ 32 ≤ length name = not_below (length name) (2 ^ 32) e in
-      long_sections (ps ++ Part.top_export (plain_export name index) ∷ []) (put_behind all (Part.top_export (plain_export name index))) (sections_behind all (Part.top_export (plain_export name index)) h.grouped)
+      long_sections (ps ++ Part.top_export (plain_export name index) ∷ []) (put_behind all (Part.top_export (plain_export name index)))
+      (sections_behind all (Part.top_export (plain_export name index)) h.grouped)
       (omega (arith, name_longer name index, export_longer all (plain_export name index)))
 
   -- the open section is too long
@@ -170,7 +201,8 @@ module _ (done items : List ℕ) (count : ℕ) (exports : Bool) (types : ℕ) (h
   apart_longer : (p : Part) → StandsApart done items count exports types h p → sections_of_parts (ps ++ p ∷ []) ≡ all_sections done items count exports types h ++ alone p ∷ []
   apart_longer p apart = sections_behind (all_sections done items count exports types h) p h.grouped ∙ apart
 
-  both_longer : (p : Part) → length (closed_bytes (section_id exports) count items) + length (section_bytes (alone p)) ≤ length (flat_map section_bytes (all_sections done items count exports types h ++ alone p ∷ []))
+  both_longer : (p : Part)
+      → length (closed_bytes (section_id exports) count items) + length (section_bytes (alone p)) ≤ length (flat_map section_bytes (all_sections done items count exports types h ++ alone p ∷ []))
   both_longer p =
       omega (
         arith,
@@ -183,12 +215,15 @@ module _ (done items : List ℕ) (count : ℕ) (exports : Bool) (types : ℕ) (h
   pub start_refused : (p : Part) → StandsApart done items count exports types h p → 2 ^ 32 ≤ length (closed_bytes (section_id exports) count items) → fits_component (ps ++ p ∷ []) ≡ false
   start_refused p apart le = long_sections (ps ++ p ∷ []) (all_sections done items count exports types h ++ alone p ∷ []) (apart_longer p apart) (omega (arith, both_longer p))
 
-  pub custom_refused : (name contents : List ℕ) → 2 ^ 32 ≤ length (closed_bytes (section_id exports) count items ++ framed 0 (name_bytes name ++ contents)) → fits_component (ps ++ Part.custom name contents ∷ []) ≡ false
+  pub custom_refused : (name contents : List ℕ) → 2 ^ 32 ≤ length (closed_bytes (section_id exports) count items ++ framed 0 (name_bytes name ++ contents))
+      → fits_component (ps ++ Part.custom name contents ∷ []) ≡ false
   custom_refused name contents le =
-      long_sections (ps ++ Part.custom name contents ∷ []) (all_sections done items count exports types h ++ Section.custom name contents ∷ []) (apart_longer (Part.custom name contents) (custom_apart done items count exports types h name contents))
+      long_sections (ps ++ Part.custom name contents ∷ []) (all_sections done items count exports types h ++ Section.custom name contents ∷ [])
+      (apart_longer (Part.custom name contents) (custom_apart done items count exports types h name contents))
       (omega (arith, both_longer (Part.custom name contents), length-append (closed_bytes (section_id exports) count items) (framed 0 (name_bytes name ++ contents))))
 
   -- the whole component is too long
   pub length_refused : (bytes : List ℕ) → bytes ≡ begun done ++ closed_bytes (section_id exports) count items → 2 ^ 32 ≤ length bytes → fits_component ps ≡ false
   length_refused bytes is le =
-      too_long ps (subst (λ (l : List Section). 2 ^ 32 ≤ length (component_bytes l)) (sym h.grouped) (subst (λ (l : List ℕ). 2 ^ 32 ≤ length l) (is ∙ closed_begins done items count exports types h) le))
+      too_long ps (subst (λ (l : List Section). 2 ^ 32 ≤ length (component_bytes l)) (sym h.grouped)
+      (subst (λ (l : List ℕ). 2 ^ 32 ≤ length l) (is ∙ closed_begins done items count exports types h) le))

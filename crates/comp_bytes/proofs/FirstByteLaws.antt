@@ -11,7 +11,8 @@ either f true x o p e = refl
 either f false x o p e = e
 
 -- the primitive that stands beside a byte is what is chosen at that byte
-chosen_primitive : {A : Type 0} (f : PrimitiveValType → A) (ps : List (ℕ × PrimitiveValType)) (b : ℕ) (rest : List ℕ) → choose (primitives_as f ps) b rest ≡ option_map (λ p. (f p, rest)) (primitive_in ps b)
+chosen_primitive : {A : Type 0} (f : PrimitiveValType → A) (ps : List (ℕ × PrimitiveValType)) (b : ℕ) (rest : List ℕ)
+    → choose (primitives_as f ps) b rest ≡ option_map (λ p. (f p, rest)) (primitive_in ps b)
 unfolding choose just_at
 chosen_primitive f [] b rest = refl
 chosen_primitive f (p ∷ ps) b rest = either (λ q. (f q, rest)) (eqb b p.0) p.1 (primitive_in ps b) (choose (primitives_as f ps) b rest) (chosen_primitive f ps b rest)
@@ -36,7 +37,8 @@ unfolding as_at
 one_form true f h reader bytes others own e = twice h f (reader bytes)
 one_form false f h reader bytes others own e = e
 
-primitive_so : {A B : Type 0} (f : A → B) (make : PrimitiveValType → A) (bytes : List ℕ) (o : Option PrimitiveValType) → option_map (λ p. (f (make p), bytes)) o ≡ named_so f (option_map (λ p. (make p, bytes)) o)
+primitive_so : {A B : Type 0} (f : A → B) (make : PrimitiveValType → A) (bytes : List ℕ) (o : Option PrimitiveValType)
+    → option_map (λ p. (f (make p), bytes)) o ≡ named_so f (option_map (λ p. (make p, bytes)) o)
 primitive_so f make bytes None = refl
 primitive_so f make bytes (Some p) = refl
 
@@ -68,7 +70,8 @@ definitions_chosen tag bytes = definition_so (λ d. d) tag bytes ∙ same_name (
 
 -- ---- declarations of types
 
-function_so : (is_async : Bool) (bytes : List ℕ) → as_at (λ p. Declaration.function (function_of is_async p)) (pair_at (vector_at field_at) result_list_at) bytes ≡ as_at Declaration.function (function_type_at is_async) bytes
+function_so : (is_async : Bool) (bytes : List ℕ)
+    → as_at (λ p. Declaration.function (function_of is_async p)) (pair_at (vector_at field_at) result_list_at) bytes ≡ as_at Declaration.function (function_type_at is_async) bytes
 unfolding as_at function_type_at
 function_so is_async bytes = twice (function_of is_async) Declaration.function (pair_at (vector_at field_at) result_list_at bytes)
 

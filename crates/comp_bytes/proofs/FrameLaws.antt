@@ -43,7 +43,8 @@ found bytes at id contents rest le e = go (read_ok frame_law bytes at (id, conte
         let parts : bytes ≡ (take at bytes ++ front) ++ (contents ++ drop end bytes) =
         split ∙ (ap (λ (t : List ℕ). take at bytes ++ (t ++ drop end bytes)) slice
         ∙ (ap (λ (t : List ℕ). take at bytes ++ t) (append_assoc front contents (drop end bytes)) ∙ sym (append_assoc (take at bytes) front (contents ++ drop end bytes)))) in
-        let sliced : length (slice_range bytes at end) ≡ end - at = length-take-le (end - at) (drop at bytes) (let d = ap length (take-append-drop at bytes) in omega (arith, from, to, length-append (take at bytes) (drop at bytes), length-take-le at bytes le, d)) in
+        let sliced : length (slice_range bytes at end) ≡ end - at = length-take-le (end - at) (drop at bytes)
+        (let d = ap length (take-append-drop at bytes) in omega (arith, from, to, length-append (take at bytes) (drop at bytes), length-take-le at bytes le, d)) in
         let whole : end - at ≡ length front + length contents = sym sliced ∙ (ap length slice ∙ length-append front contents) in
         let is : end ≡ length (take at bytes ++ front) + length contents = omega (arith, whole, from, length-append (take at bytes) front, length-take-le at bytes le) in
         record {

@@ -60,7 +60,9 @@ entries_by_front bytes = ap (λ o. or_else (o >>= λ x. Some (holds x.0, x.1)) (
     none : bytes ≡ 1 ∷ 0x42 ∷ drop 2 bytes → as_at plain declaration_at bytes ≡ None
     none is = ap (λ o. o >>= λ x. Some (plain x.0, x.1)) (ap declaration_at is ∙ no_instance (drop 2 bytes))
 
-    by : (b : Bool) → starts_with nat_eq bytes (1 ∷ 0x42 ∷ []) ≡ b → or_else (cond b (held_at (drop 2 bytes)) None >>= λ x. Some (holds x.0, x.1)) (as_at plain declaration_at bytes) ≡ cond b (as_at holds held_at (drop 2 bytes)) (as_at plain declaration_at bytes)
+    by : (b : Bool) → starts_with nat_eq bytes (1 ∷ 0x42 ∷ []) ≡ b
+        → or_else (cond b (held_at (drop 2 bytes)) None >>= λ x. Some (holds x.0, x.1)) (as_at plain declaration_at bytes) ≡ cond b (as_at holds held_at (drop 2 bytes))
+        (as_at plain declaration_at bytes)
     by false e = refl
     by true e = all_of (as_at holds held_at (drop 2 bytes)) (as_at plain declaration_at bytes) (none (begun_with 0x42 bytes e))
 

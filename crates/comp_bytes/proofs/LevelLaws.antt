@@ -125,8 +125,23 @@ part_out (shows es) text s = entries_behind_out es text s
 part_out (wraps es name) text s =
     let w = s.2 in
     let j = w.4 in
-    let last : j.1 ≡ j.4.0 = j.4.2 ∙ ap (λ (t : List ℕ). j.4.0 ++ t) j.4.4 ∙ append-nil j.4.0 in
-    (s.0, s.1, (w.0, w.1, w.2, w.3, (j.0, j.1, j.2, (j.3.0, j.3.1, entries_behind_out es j.3.0 j.3.2), subst (λ (t : List ℕ). IsDeclaration (Declaration.exported name (refs.Component 0)) t) (sym last) j.4.3)))
+    let last : j.1 ≡ j.4.0 = j.4.2 ∙ ap (λ (t : List ℕ). j.4.0 ++ t) j.4.4 ∙ append-nil j.4.0 in (
+      s.0,
+      s.1,
+      (
+        w.0,
+        w.1,
+        w.2,
+        w.3,
+        (
+          j.0,
+          j.1,
+          j.2,
+          (j.3.0, j.3.1, entries_behind_out es j.3.0 j.3.2),
+          subst (λ (t : List ℕ). IsDeclaration (Declaration.exported name (refs.Component 0)) t) (sym last) j.4.3,
+        ),
+      ),
+    )
 
 -- ---- types at the top are read
 
@@ -153,7 +168,8 @@ world_export_law = record {
   again = λ name front rest s. rw (declaration_law.again (Declaration.exported name (refs.Component 0)) front rest s) refl;
 }
 
-world_law : IsReadBy (λ w. Joined (Tagged 1 (Tagged 0x41 (Vector IsEntry w.0))) (IsDeclaration (Declaration.exported w.1 (refs.Component 0)))) (pair_at (tag_at 1 (tag_at 0x41 (vector_at entry_at))) world_export_at)
+world_law : IsReadBy (λ w. Joined (Tagged 1 (Tagged 0x41 (Vector IsEntry w.0))) (IsDeclaration (Declaration.exported w.1 (refs.Component 0))))
+    (pair_at (tag_at 1 (tag_at 0x41 (vector_at entry_at))) world_export_at)
 world_law = pair_law (tag_law (tag_law (vector_law entry_law) 0x41) 1) world_export_law
 
 wrapper_law : IsReadBy IsWrapper wrapper_at

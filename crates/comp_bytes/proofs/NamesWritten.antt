@@ -32,7 +32,8 @@ module _ {X : Type 0} where
       → Appends (Sequence Attribute (attributes name)) (flat_map attribute_bytes (attributes name)) (fits_attributes name) old new r
   three name old one two new r a b c =
       let first = both Attribute attribute_bytes (attribute 0 name.implements) (attribute 1 name.version_suffix) old one two a b in
-      behind Attribute attribute_bytes (attribute 0 name.implements ++ attribute 1 name.version_suffix) (attribute 2 name.external_id) (fits_given name.external_id) (fits_attributes name) old two new r first c
+      behind Attribute attribute_bytes (attribute 0 name.implements ++ attribute 1 name.version_suffix) (attribute 2 name.external_id) (fits_given name.external_id) (fits_attributes name) old two
+      new r first c
       (λ fails. second_fails (fits_given name.implements) _ (second_fails (fits_given name.version_suffix) _ fails))
 
   -- 02, the text, the count of the attributes and the attributes
@@ -48,6 +49,8 @@ module _ {X : Type 0} where
         items = c ∙ ap (λ (l : List ℕ). named ++ l) (sym bytes);
         spelled = spells_u32 (length (first ∷ others)) fits;
       } in
-      let vector = joined (IsU32 (length (first ∷ others))) (Sequence Attribute (first ∷ others)) (u32_bytes (length (first ∷ others))) (flat_map attribute_bytes (first ∷ others)) part part named counted new r count b (λ h. h) in
-      let whole = joined (Name text) (Vector Attribute (first ∷ others)) (name_bytes text) (vector_bytes attribute_bytes (first ∷ others)) part (fits_length text && part) tag named new r a vector (second_fails (fits_length text) part) in
+      let vector = joined (IsU32 (length (first ∷ others))) (Sequence Attribute (first ∷ others)) (u32_bytes (length (first ∷ others))) (flat_map attribute_bytes (first ∷ others)) part part named
+      counted new r count b (λ h. h) in
+      let whole = joined (Name text) (Vector Attribute (first ∷ others)) (name_bytes text) (vector_bytes attribute_bytes (first ∷ others)) part (fits_length text && part) tag named new r a vector
+      (second_fails (fits_length text) part) in
       tagged 2 (Joined (Name text) (Vector Attribute (first ∷ others))) (name_bytes text ++ vector_bytes attribute_bytes (first ∷ others)) (fits_length text && part) old tag new r t whole

@@ -35,12 +35,14 @@ types_out (p ∷ ps) text s = (s.0, s.1, s.2, part_out p s.0 s.3, types_out ps s
 type_count : (ps : List PartType) → length (map (λ p. TopType.component (raw_part p)) ps) ≡ length ps
 type_count ps = length-map ps (λ p. TopType.component (raw_part p))
 
-whole_types_into : (contents : List ℕ) (ps : List PartType) → whole (vector_at part_type_at contents) ≡ Some ps → whole (vector_at type_at contents) ≡ Some (map (λ p. TopType.component (raw_part p)) ps)
+whole_types_into : (contents : List ℕ) (ps : List PartType) → whole (vector_at part_type_at contents) ≡ Some ps
+    → whole (vector_at type_at contents) ≡ Some (map (λ p. TopType.component (raw_part p)) ps)
 whole_types_into contents ps e =
     let v = whole_takes (vector_law part_type_law) contents ps e in
     whole_again (vector_law type_law) contents (top_types ps) (v.0, v.1, v.2, subst (λ (n : ℕ). IsU32 n v.0) (sym (type_count ps)) v.3, types_into ps v.1 v.4)
 
-whole_types_out : (contents : List ℕ) (ps : List PartType) → whole (vector_at type_at contents) ≡ Some (map (λ p. TopType.component (raw_part p)) ps) → whole (vector_at part_type_at contents) ≡ Some ps
+whole_types_out : (contents : List ℕ) (ps : List PartType) → whole (vector_at type_at contents) ≡ Some (map (λ p. TopType.component (raw_part p)) ps)
+    → whole (vector_at part_type_at contents) ≡ Some ps
 whole_types_out contents ps e =
     let v = whole_takes (vector_law type_law) contents (top_types ps) e in
     whole_again (vector_law part_type_law) contents ps (v.0, v.1, v.2, subst (λ (n : ℕ). IsU32 n v.0) (type_count ps) v.3, types_out ps v.1 v.4)
@@ -53,12 +55,14 @@ module _ (contents : List ℕ) where
       let b = bind_some (name_at contents) (λ name. Some (custom name.0 name.1)) p e in
       rw b.1 (ap (λ q. Some (raw_piece q)) (some_is (custom b.0.0 b.0.1) p b.2))
 
-  types_section_into : (p : Piece) → (whole (vector_at part_type_at contents) >>= λ ps. Some (types ps)) ≡ Some p → (whole (vector_at type_at contents) >>= λ ts. Some (Section.types ts)) ≡ Some (raw_piece p)
+  types_section_into : (p : Piece) → (whole (vector_at part_type_at contents) >>= λ ps. Some (types ps)) ≡ Some p
+      → (whole (vector_at type_at contents) >>= λ ts. Some (Section.types ts)) ≡ Some (raw_piece p)
   types_section_into p e =
       let b = bind_some (whole (vector_at part_type_at contents)) (λ ps. Some (types ps)) p e in
       rw (whole_types_into contents b.0 b.1) (ap (λ q. Some (raw_piece q)) (some_is (types b.0) p b.2))
 
-  exports_into : (p : Piece) → (whole (vector_at top_export_at contents) >>= λ es. Some (exports es)) ≡ Some p → (whole (vector_at top_export_at contents) >>= λ es. Some (Section.exports es)) ≡ Some (raw_piece p)
+  exports_into : (p : Piece) → (whole (vector_at top_export_at contents) >>= λ es. Some (exports es)) ≡ Some p
+      → (whole (vector_at top_export_at contents) >>= λ es. Some (Section.exports es)) ≡ Some (raw_piece p)
   exports_into p e =
       let b = bind_some (whole (vector_at top_export_at contents)) (λ es. Some (exports es)) p e in
       rw b.1 (ap (λ q. Some (raw_piece q)) (some_is (exports b.0) p b.2))
@@ -73,7 +77,8 @@ module _ (contents : List ℕ) where
   custom_out (types ps) e = absurd (let b = bind_some (name_at contents) (λ n. Some (Section.custom n.0 n.1)) (raw_piece (types ps)) e in let same = b.2 in cc)
   custom_out (exports es) e = absurd (let b = bind_some (name_at contents) (λ n. Some (Section.custom n.0 n.1)) (raw_piece (exports es)) e in let same = b.2 in cc)
 
-  types_section_out : (p : Piece) → (whole (vector_at type_at contents) >>= λ ts. Some (Section.types ts)) ≡ Some (raw_piece p) → (whole (vector_at part_type_at contents) >>= λ ps. Some (types ps)) ≡ Some p
+  types_section_out : (p : Piece) → (whole (vector_at type_at contents) >>= λ ts. Some (Section.types ts)) ≡ Some (raw_piece p)
+      → (whole (vector_at part_type_at contents) >>= λ ps. Some (types ps)) ≡ Some p
   types_section_out (types ps) e =
       let b = bind_some (whole (vector_at type_at contents)) (λ ts. Some (Section.types ts)) (Section.types (top_types ps)) e in
       let same : Section.types b.0 ≡ Section.types (top_types ps) = some_is (Section.types b.0) (Section.types (top_types ps)) b.2 in
@@ -82,7 +87,8 @@ module _ (contents : List ℕ) where
   types_section_out (custom name text) e = absurd (let b = bind_some (whole (vector_at type_at contents)) (λ ts. Some (Section.types ts)) (Section.custom name text) e in let same = b.2 in cc)
   types_section_out (exports es) e = absurd (let b = bind_some (whole (vector_at type_at contents)) (λ ts. Some (Section.types ts)) (Section.exports es) e in let same = b.2 in cc)
 
-  exports_out : (p : Piece) → (whole (vector_at top_export_at contents) >>= λ es. Some (Section.exports es)) ≡ Some (raw_piece p) → (whole (vector_at top_export_at contents) >>= λ es. Some (exports es)) ≡ Some p
+  exports_out : (p : Piece) → (whole (vector_at top_export_at contents) >>= λ es. Some (Section.exports es)) ≡ Some (raw_piece p)
+      → (whole (vector_at top_export_at contents) >>= λ es. Some (exports es)) ≡ Some p
   exports_out (exports es) e =
       let b = bind_some (whole (vector_at top_export_at contents)) (λ xs. Some (Section.exports xs)) (Section.exports es) e in
       let same : Section.exports b.0 ≡ Section.exports es = some_is (Section.exports b.0) (Section.exports es) b.2 in
@@ -96,8 +102,11 @@ unfolding piece_of section_of
 piece_into id contents p = by_id (eqb id 0) (eqb id 7) (eqb id 0x0b)
   where
     by_id : (a b c : Bool)
-        → cond a (name_at contents >>= λ name. Some (custom name.0 name.1)) (cond b (whole (vector_at part_type_at contents) >>= λ ps. Some (types ps)) (cond c (whole (vector_at top_export_at contents) >>= λ es. Some (exports es)) None)) ≡ Some p
-        → cond a (name_at contents >>= λ name. Some (Section.custom name.0 name.1)) (cond b (whole (vector_at type_at contents) >>= λ ts. Some (Section.types ts)) (cond c (whole (vector_at top_export_at contents) >>= λ es. Some (Section.exports es)) None)) ≡ Some (raw_piece p)
+        → cond a (name_at contents >>= λ name. Some (custom name.0 name.1)) (cond b (whole (vector_at part_type_at contents) >>= λ ps. Some (types ps))
+        (cond c (whole (vector_at top_export_at contents) >>= λ es. Some (exports es)) None)) ≡ Some p
+        → cond a (name_at contents >>= λ name. Some (Section.custom name.0 name.1))
+        (cond b (whole (vector_at type_at contents) >>= λ ts. Some (Section.types ts)) (cond c (whole (vector_at top_export_at contents) >>= λ es. Some (Section.exports es)) None)) ≡ Some
+        (raw_piece p)
     by_id true b c e = custom_into contents p e
     by_id false true c e = types_section_into contents p e
     by_id false false true e = exports_into contents p e
@@ -108,8 +117,11 @@ unfolding piece_of section_of
 piece_out id contents p = by_id (eqb id 0) (eqb id 7) (eqb id 0x0b)
   where
     by_id : (a b c : Bool)
-        → cond a (name_at contents >>= λ name. Some (Section.custom name.0 name.1)) (cond b (whole (vector_at type_at contents) >>= λ ts. Some (Section.types ts)) (cond c (whole (vector_at top_export_at contents) >>= λ es. Some (Section.exports es)) None)) ≡ Some (raw_piece p)
-        → cond a (name_at contents >>= λ name. Some (custom name.0 name.1)) (cond b (whole (vector_at part_type_at contents) >>= λ ps. Some (types ps)) (cond c (whole (vector_at top_export_at contents) >>= λ es. Some (exports es)) None)) ≡ Some p
+        → cond a (name_at contents >>= λ name. Some (Section.custom name.0 name.1))
+        (cond b (whole (vector_at type_at contents) >>= λ ts. Some (Section.types ts)) (cond c (whole (vector_at top_export_at contents) >>= λ es. Some (Section.exports es)) None)) ≡ Some
+        (raw_piece p)
+        → cond a (name_at contents >>= λ name. Some (custom name.0 name.1)) (cond b (whole (vector_at part_type_at contents) >>= λ ps. Some (types ps))
+        (cond c (whole (vector_at top_export_at contents) >>= λ es. Some (exports es)) None)) ≡ Some p
     by_id true b c e = custom_out contents p e
     by_id false true c e = types_section_out contents p e
     by_id false false true e = exports_out contents p e
@@ -207,7 +219,8 @@ unfolding levels_of component_of pieces_in
 levels_out bytes ps e =
     let w = when_some (pointwise nat_eq (take 8 bytes) preamble && ltb (length bytes) (2 ^ 32)) (sections_of (length bytes) (drop 8 bytes)) (map raw_piece ps) e in
     let fewer : length (drop 8 bytes) ≤ length bytes = omega (arith, length-drop 8 bytes) in
-    let read : pieces_of (length (drop 8 bytes)) (drop 8 bytes) ≡ Some ps = enough (length (drop 8 bytes)) (length bytes) (drop 8 bytes) (omega arith) fewer ∙ pieces_out (length bytes) (drop 8 bytes) ps w.1 in
+    let read : pieces_of (length (drop 8 bytes)) (drop 8 bytes) ≡ Some ps =
+    enough (length (drop 8 bytes)) (length bytes) (drop 8 bytes) (omega arith) fewer ∙ pieces_out (length bytes) (drop 8 bytes) ps w.1 in
     rw (w.0, read) refl
 
 pub levels_are_sections : LevelsAreSections

@@ -29,7 +29,8 @@ module _ {A : Type 0} (reader : Reader A) where
   -- The items so far, seen by raw, stand in front of what is still to be read.
   module _ {X : Type 0} (raw : X → A) (items : List X) (n i : ℕ) (bytes rest : List ℕ)
       (kept : with_front (map raw items) (sequence_at reader (n - i) rest) ≡ sequence_at reader n bytes) (more : i < n) where
-    pub one_more : (x : X) (after : List ℕ) (new : List X) → reader rest ≡ Some (raw x, after) → new ≡ items ++ x ∷ [] → with_front (map raw new) (sequence_at reader (n - (i + 1)) after) ≡ sequence_at reader n bytes
+    pub one_more : (x : X) (after : List ℕ) (new : List X) → reader rest ≡ Some (raw x, after) → new ≡ items ++ x ∷ []
+        → with_front (map raw new) (sequence_at reader (n - (i + 1)) after) ≡ sequence_at reader n bytes
     one_more x after new e grown =
         ap (λ xs. with_front xs (sequence_at reader (n - (i + 1)) after)) (ap (map raw) grown ∙ map-append raw items (x ∷ []))
         ∙ (sym (further (map raw items) (raw x) (sequence_at reader (n - (i + 1)) after))
@@ -40,7 +41,8 @@ module _ {A : Type 0} (reader : Reader A) where
     none_further e = sym kept ∙ ap (with_front (map raw items)) (ap (λ k. sequence_at reader k rest) (less n i more) ∙ stop (n - (i + 1)) rest e)
 
   -- at the end these are all
-  pub all_items : (front : List A) (n i : ℕ) (bytes rest : List ℕ) → with_front front (sequence_at reader (n - i) rest) ≡ sequence_at reader n bytes → n ≤ i → sequence_at reader n bytes ≡ Some (front, rest)
+  pub all_items : (front : List A) (n i : ℕ) (bytes rest : List ℕ) → with_front front (sequence_at reader (n - i) rest) ≡ sequence_at reader n bytes → n ≤ i
+      → sequence_at reader n bytes ≡ Some (front, rest)
   unfolding sequence_at
   all_items front n i bytes rest kept done =
       let none : n - i ≡ 0 = omega arith in

@@ -44,7 +44,8 @@ module _ {A : Type 0} (form : A → Spellings) (bytes : A → List ℕ) where
 -- a test on all fails where it fails at one
 
 pub stopped_at : {S A : Type 0} (form : A → Spellings) (bytes : A → List ℕ) (test : A → Bool) (view : S → A) (xs : List S) (i : ℕ) (d : S) (old now new : List ℕ) (e : Error) → i < length xs
-    → Appended (Sequence form (take i (map view xs))) (flat_map bytes (take i (map view xs))) old now → Stopped (test (view (get_or xs i d))) now new e → Stopped (list_all test (map view xs)) old new e
+    → Appended (Sequence form (take i (map view xs))) (flat_map bytes (take i (map view xs))) old now → Stopped (test (view (get_or xs i d))) now new e
+    → Stopped (list_all test (map view xs)) old new e
 stopped_at form bytes test view xs i d old now new e lt a s =
     let within : i < length (map view xs) = omega (arith, length-map xs view) in
     let is : get_or (map view xs) i (view d) ≡ view (get_or xs i d) = get_or-map view xs i d in
@@ -58,7 +59,8 @@ flat_map-append f [] ys = refl
 flat_map-append f (x ∷ xs) ys = ap (λ (l : List ℕ). f x ++ l) (flat_map-append f xs ys) ∙ sym (append_assoc (f x) (flat_map f xs) (flat_map f ys))
 
 module _ {A : Type 0} (form : A → Spellings) (bytes : A → List ℕ) where
-  pub both : (xs ys : List A) (old mid new : List ℕ) → Appended (Sequence form xs) (flat_map bytes xs) old mid → Appended (Sequence form ys) (flat_map bytes ys) mid new → Appended (Sequence form (xs ++ ys)) (flat_map bytes (xs ++ ys)) old new
+  pub both : (xs ys : List A) (old mid new : List ℕ) → Appended (Sequence form xs) (flat_map bytes xs) old mid → Appended (Sequence form ys) (flat_map bytes ys) mid new
+      → Appended (Sequence form (xs ++ ys)) (flat_map bytes (xs ++ ys)) old new
   both xs ys old mid new a b = rw (flat_map-append bytes xs ys) (record {
     items = b.items ∙ ap (λ (l : List ℕ). l ++ flat_map bytes ys) a.items ∙ append_assoc old (flat_map bytes xs) (flat_map bytes ys);
     spelled = Sequence-append form xs ys (flat_map bytes xs) (flat_map bytes ys) a.spelled b.spelled;

@@ -111,7 +111,12 @@ described_code = code_by (ℕ × ℕ) (coded× coded_ℕ coded_ℕ) described_pa
 -- ---- types
 
 -- the definition of a value type
-abbrev pub defined_parts : DefinedType → PrimitiveValType ⊎ ((List (Labeled ComponentValType)) ⊎ ((List (Labeled (Option ComponentValType))) ⊎ (ComponentValType ⊎ ((ComponentValType × ℕ) ⊎ ((List ComponentValType) ⊎ ((List (List ℕ)) ⊎ ((List (List ℕ)) ⊎ (ComponentValType ⊎ ((Option ComponentValType × Option ComponentValType) ⊎ (ℕ ⊎ (ℕ ⊎ ((Option ComponentValType) ⊎ ((Option ComponentValType) ⊎ (ComponentValType × ComponentValType))))))))))))))
+abbrev pub defined_parts : DefinedType → PrimitiveValType
+    ⊎ ((List (Labeled ComponentValType)) ⊎ ((List (Labeled (Option ComponentValType)))
+    ⊎ (ComponentValType ⊎ ((ComponentValType × ℕ) ⊎ ((List ComponentValType)
+    ⊎ ((List (List ℕ)) ⊎ ((List (List ℕ)) ⊎ (ComponentValType
+    ⊎ ((Option ComponentValType × Option ComponentValType) ⊎ (ℕ
+    ⊎ (ℕ ⊎ ((Option ComponentValType) ⊎ ((Option ComponentValType) ⊎ (ComponentValType × ComponentValType))))))))))))))
 defined_parts (DefinedType.primitive p) = inl p
 defined_parts (DefinedType.record_of fields) = inr (inl fields)
 defined_parts (DefinedType.variant_of cases) = inr (inr (inl cases))
@@ -128,7 +133,12 @@ defined_parts (DefinedType.stream_of v) = inr (inr (inr (inr (inr (inr (inr (inr
 defined_parts (DefinedType.future_of v) = inr (inr (inr (inr (inr (inr (inr (inr (inr (inr (inr (inr (inr (inl v)))))))))))))
 defined_parts (DefinedType.map_of k v) = inr (inr (inr (inr (inr (inr (inr (inr (inr (inr (inr (inr (inr (inr (k, v))))))))))))))
 
-abbrev pub defined_from : PrimitiveValType ⊎ ((List (Labeled ComponentValType)) ⊎ ((List (Labeled (Option ComponentValType))) ⊎ (ComponentValType ⊎ ((ComponentValType × ℕ) ⊎ ((List ComponentValType) ⊎ ((List (List ℕ)) ⊎ ((List (List ℕ)) ⊎ (ComponentValType ⊎ ((Option ComponentValType × Option ComponentValType) ⊎ (ℕ ⊎ (ℕ ⊎ ((Option ComponentValType) ⊎ ((Option ComponentValType) ⊎ (ComponentValType × ComponentValType)))))))))))))) → DefinedType
+abbrev pub defined_from : PrimitiveValType
+    ⊎ ((List (Labeled ComponentValType)) ⊎ ((List (Labeled (Option ComponentValType)))
+    ⊎ (ComponentValType ⊎ ((ComponentValType × ℕ) ⊎ ((List ComponentValType)
+    ⊎ ((List (List ℕ)) ⊎ ((List (List ℕ)) ⊎ (ComponentValType
+    ⊎ ((Option ComponentValType × Option ComponentValType) ⊎ (ℕ
+    ⊎ (ℕ ⊎ ((Option ComponentValType) ⊎ ((Option ComponentValType) ⊎ (ComponentValType × ComponentValType)))))))))))))) → DefinedType
 defined_from (inl x) = DefinedType.primitive x
 defined_from (inr (inl x)) = DefinedType.record_of x
 defined_from (inr (inr (inl x))) = DefinedType.variant_of x
@@ -163,11 +173,23 @@ defined_from-parts (DefinedType.future_of v) = refl
 defined_from-parts (DefinedType.map_of k v) = refl
 
 abbrev pub defined_code : Coded DefinedType
-defined_code = code_by (PrimitiveValType ⊎ ((List (Labeled ComponentValType)) ⊎ ((List (Labeled (Option ComponentValType))) ⊎ (ComponentValType ⊎ ((ComponentValType × ℕ) ⊎ ((List ComponentValType) ⊎ ((List (List ℕ)) ⊎ ((List (List ℕ)) ⊎ (ComponentValType ⊎ ((Option ComponentValType × Option ComponentValType) ⊎ (ℕ ⊎ (ℕ ⊎ ((Option ComponentValType) ⊎ ((Option ComponentValType) ⊎ (ComponentValType × ComponentValType))))))))))))))) (coded⊎ primitive_code (coded⊎ (coded_list (labeled_code value_code)) (coded⊎ (coded_list (labeled_code optional_code)) (coded⊎ value_code (coded⊎ (coded× value_code coded_ℕ) (coded⊎ (coded_list value_code) (coded⊎ (coded_list text_code) (coded⊎ (coded_list text_code) (coded⊎ value_code (coded⊎ (coded× optional_code optional_code) (coded⊎ coded_ℕ (coded⊎ coded_ℕ (coded⊎ optional_code (coded⊎ optional_code (coded× value_code value_code))))))))))))))) defined_parts defined_from defined_from-parts
+defined_code = code_by (PrimitiveValType ⊎ ((List (Labeled ComponentValType))
+    ⊎ ((List (Labeled (Option ComponentValType))) ⊎ (ComponentValType
+    ⊎ ((ComponentValType × ℕ) ⊎ ((List ComponentValType) ⊎ ((List (List ℕ))
+    ⊎ ((List (List ℕ)) ⊎ (ComponentValType ⊎ ((Option ComponentValType × Option ComponentValType)
+    ⊎ (ℕ ⊎ (ℕ ⊎ ((Option ComponentValType) ⊎ ((Option ComponentValType) ⊎ (ComponentValType × ComponentValType)))))))))))))))
+    (coded⊎ primitive_code (coded⊎ (coded_list (labeled_code value_code))
+    (coded⊎ (coded_list (labeled_code optional_code)) (coded⊎ value_code
+    (coded⊎ (coded× value_code coded_ℕ) (coded⊎ (coded_list value_code)
+    (coded⊎ (coded_list text_code) (coded⊎ (coded_list text_code)
+    (coded⊎ value_code (coded⊎ (coded× optional_code optional_code)
+    (coded⊎ coded_ℕ (coded⊎ coded_ℕ (coded⊎ optional_code (coded⊎ optional_code (coded× value_code value_code))))))))))))))) defined_parts defined_from
+    defined_from-parts
 
 abbrev pub function_code : Coded FunctionType
 function_code =
-    code_by (Bool × (List (Labeled ComponentValType) × Option ComponentValType)) (coded× coded_bool (coded× (coded_list (labeled_code value_code)) optional_code))
+    code_by (Bool × (List (Labeled ComponentValType) × Option ComponentValType))
+    (coded× coded_bool (coded× (coded_list (labeled_code value_code)) optional_code))
     (λ f. (f.is_async, (f.parameters, f.result_type))) (λ p. record { is_async = p.0; parameters = p.1.0; result_type = p.1.1 }) (λ _. refl)
 
 -- an alias
@@ -189,8 +211,10 @@ alias_code = code_by ((ℕ × List ℕ) ⊎ (ℕ × ℕ)) (coded⊎ (coded× cod
 -- a name with its attributes
 abbrev pub name_code : Coded ExternName
 name_code =
-    code_by (List ℕ × (Option (List ℕ) × (Option (List ℕ) × Option (List ℕ)))) (coded× text_code (coded× optional_text_code (coded× optional_text_code optional_text_code)))
-    (λ e. (e.text, (e.implements, (e.version_suffix, e.external_id)))) (λ p. record { text = p.0; implements = p.1.0; version_suffix = p.1.1.0; external_id = p.1.1.1 }) (λ _. refl)
+    code_by (List ℕ × (Option (List ℕ) × (Option (List ℕ) × Option (List ℕ))))
+    (coded× text_code (coded× optional_text_code (coded× optional_text_code optional_text_code)))
+    (λ e. (e.text, (e.implements, (e.version_suffix, e.external_id))))
+    (λ p. record { text = p.0; implements = p.1.0; version_suffix = p.1.1.0; external_id = p.1.1.1 }) (λ _. refl)
 
 -- ---- declarations
 
@@ -217,7 +241,9 @@ declaration_from-parts (Declaration.imported name described) = refl
 declaration_from-parts (Declaration.exported name described) = refl
 
 abbrev pub declaration_code : Coded Declaration
-declaration_code = code_by (DefinedType ⊎ (FunctionType ⊎ (Alias ⊎ ((ExternName × ComponentTypeRef) ⊎ (ExternName × ComponentTypeRef))))) (coded⊎ defined_code (coded⊎ function_code (coded⊎ alias_code (coded⊎ (coded× name_code described_code) (coded× name_code described_code))))) declaration_parts declaration_from declaration_from-parts
+declaration_code = code_by (DefinedType ⊎ (FunctionType ⊎ (Alias ⊎ ((ExternName × ComponentTypeRef) ⊎ (ExternName × ComponentTypeRef)))))
+    (coded⊎ defined_code (coded⊎ function_code (coded⊎ alias_code (coded⊎ (coded× name_code described_code) (coded× name_code described_code)))))
+    declaration_parts declaration_from declaration_from-parts
 
 -- declarations as a tree: 0, 1 or 2 for a plain one, a component type or an instance type, then what it is, and those behind it
 pub tree_of : Declarations → Gv
@@ -257,21 +283,32 @@ different k g h here there p = absurd (false≢true (sym there ∙ ap (λ t. sor
 pub tree_of-inj : (x y : Declarations) → tree_of x ≡ tree_of y → x ≡ y
 unfolding tree_of
 tree_of-inj Declarations.no_more Declarations.no_more p = refl
-tree_of-inj (Declarations.declares d ds) (Declarations.declares e es) p = λ i. Declarations.declares (declaration_code.inj d e (ap first_in p) i) (tree_of-inj ds es (ap others_in p) i)
-tree_of-inj (Declarations.component a ds) (Declarations.component b es) p = λ i. Declarations.component (tree_of-inj a b (ap first_in p) i) (tree_of-inj ds es (ap others_in p) i)
-tree_of-inj (Declarations.instance a ds) (Declarations.instance b es) p = λ i. Declarations.instance (tree_of-inj a b (ap first_in p) i) (tree_of-inj ds es (ap others_in p) i)
+tree_of-inj (Declarations.declares d ds) (Declarations.declares e es) p =
+    λ i. Declarations.declares (declaration_code.inj d e (ap first_in p) i) (tree_of-inj ds es (ap others_in p) i)
+tree_of-inj (Declarations.component a ds) (Declarations.component b es) p =
+    λ i. Declarations.component (tree_of-inj a b (ap first_in p) i) (tree_of-inj ds es (ap others_in p) i)
+tree_of-inj (Declarations.instance a ds) (Declarations.instance b es) p =
+    λ i. Declarations.instance (tree_of-inj a b (ap first_in p) i) (tree_of-inj ds es (ap others_in p) i)
 tree_of-inj Declarations.no_more (Declarations.declares e es) p = different 3 (tree_of Declarations.no_more) (tree_of (Declarations.declares e es)) refl refl p
-tree_of-inj Declarations.no_more (Declarations.component b es) p = different 3 (tree_of Declarations.no_more) (tree_of (Declarations.component b es)) refl refl p
+tree_of-inj Declarations.no_more (Declarations.component b es) p =
+    different 3 (tree_of Declarations.no_more) (tree_of (Declarations.component b es)) refl refl p
 tree_of-inj Declarations.no_more (Declarations.instance b es) p = different 3 (tree_of Declarations.no_more) (tree_of (Declarations.instance b es)) refl refl p
 tree_of-inj (Declarations.declares d ds) Declarations.no_more p = different 0 (tree_of (Declarations.declares d ds)) (tree_of Declarations.no_more) refl refl p
-tree_of-inj (Declarations.declares d ds) (Declarations.component b es) p = different 0 (tree_of (Declarations.declares d ds)) (tree_of (Declarations.component b es)) refl refl p
-tree_of-inj (Declarations.declares d ds) (Declarations.instance b es) p = different 0 (tree_of (Declarations.declares d ds)) (tree_of (Declarations.instance b es)) refl refl p
-tree_of-inj (Declarations.component a ds) Declarations.no_more p = different 1 (tree_of (Declarations.component a ds)) (tree_of Declarations.no_more) refl refl p
-tree_of-inj (Declarations.component a ds) (Declarations.declares e es) p = different 1 (tree_of (Declarations.component a ds)) (tree_of (Declarations.declares e es)) refl refl p
-tree_of-inj (Declarations.component a ds) (Declarations.instance b es) p = different 1 (tree_of (Declarations.component a ds)) (tree_of (Declarations.instance b es)) refl refl p
+tree_of-inj (Declarations.declares d ds) (Declarations.component b es) p =
+    different 0 (tree_of (Declarations.declares d ds)) (tree_of (Declarations.component b es)) refl refl p
+tree_of-inj (Declarations.declares d ds) (Declarations.instance b es) p =
+    different 0 (tree_of (Declarations.declares d ds)) (tree_of (Declarations.instance b es)) refl refl p
+tree_of-inj (Declarations.component a ds) Declarations.no_more p =
+    different 1 (tree_of (Declarations.component a ds)) (tree_of Declarations.no_more) refl refl p
+tree_of-inj (Declarations.component a ds) (Declarations.declares e es) p =
+    different 1 (tree_of (Declarations.component a ds)) (tree_of (Declarations.declares e es)) refl refl p
+tree_of-inj (Declarations.component a ds) (Declarations.instance b es) p =
+    different 1 (tree_of (Declarations.component a ds)) (tree_of (Declarations.instance b es)) refl refl p
 tree_of-inj (Declarations.instance a ds) Declarations.no_more p = different 2 (tree_of (Declarations.instance a ds)) (tree_of Declarations.no_more) refl refl p
-tree_of-inj (Declarations.instance a ds) (Declarations.declares e es) p = different 2 (tree_of (Declarations.instance a ds)) (tree_of (Declarations.declares e es)) refl refl p
-tree_of-inj (Declarations.instance a ds) (Declarations.component b es) p = different 2 (tree_of (Declarations.instance a ds)) (tree_of (Declarations.component b es)) refl refl p
+tree_of-inj (Declarations.instance a ds) (Declarations.declares e es) p =
+    different 2 (tree_of (Declarations.instance a ds)) (tree_of (Declarations.declares e es)) refl refl p
+tree_of-inj (Declarations.instance a ds) (Declarations.component b es) p =
+    different 2 (tree_of (Declarations.instance a ds)) (tree_of (Declarations.component b es)) refl refl p
 
 abbrev pub declarations_code : Coded Declarations
 declarations_code = record { code = tree_of; inj = tree_of-inj }
@@ -298,10 +335,12 @@ top_type_from-parts (TopType.component ds) = refl
 top_type_from-parts (TopType.instance ds) = refl
 
 abbrev pub top_type_code : Coded TopType
-top_type_code = code_by (DefinedType ⊎ (FunctionType ⊎ (Declarations ⊎ Declarations))) (coded⊎ defined_code (coded⊎ function_code (coded⊎ declarations_code declarations_code))) top_type_parts top_type_from top_type_from-parts
+top_type_code = code_by (DefinedType ⊎ (FunctionType ⊎ (Declarations ⊎ Declarations)))
+    (coded⊎ defined_code (coded⊎ function_code (coded⊎ declarations_code declarations_code))) top_type_parts top_type_from top_type_from-parts
 
 abbrev pub top_export_code : Coded TopExport
-top_export_code = code_by (ExternName × ℕ) (coded× name_code coded_ℕ) (λ e. (e.exported_as, e.type_index)) (λ p. record { exported_as = p.0; type_index = p.1 }) (λ _. refl)
+top_export_code = code_by (ExternName × ℕ) (coded× name_code coded_ℕ) (λ e. (e.exported_as, e.type_index))
+    (λ p. record { exported_as = p.0; type_index = p.1 }) (λ _. refl)
 
 -- what a component was given
 abbrev pub part_parts : Part → TopType ⊎ (TopExport ⊎ (List ℕ × List ℕ))
@@ -320,4 +359,5 @@ part_from-parts (Part.top_export e) = refl
 part_from-parts (Part.custom name contents) = refl
 
 abbrev pub parts_code : Coded (List Part)
-parts_code = coded_list (code_by (TopType ⊎ (TopExport ⊎ (List ℕ × List ℕ))) (coded⊎ top_type_code (coded⊎ top_export_code (coded× text_code text_code))) part_parts part_from part_from-parts)
+parts_code = coded_list (code_by (TopType ⊎ (TopExport ⊎ (List ℕ × List ℕ))) (coded⊎ top_type_code (coded⊎ top_export_code (coded× text_code text_code)))
+    part_parts part_from part_from-parts)

@@ -51,8 +51,10 @@ abbrev pub DefinitionsAreChosen : Type 0
 DefinitionsAreChosen = (tag : ℕ) (bytes : List ℕ) → choose (defined_type_forms (λ d. d)) tag bytes ≡ defined_type_at tag bytes
 
 abbrev pub DeclaredTypesAreChosen : Type 0
-DeclaredTypesAreChosen = (tag : ℕ) (bytes : List ℕ) → choose (function_type_forms Declaration.function ++ defined_type_forms Declaration.defined) tag bytes ≡ declared_type_at tag bytes
+DeclaredTypesAreChosen = (tag : ℕ) (bytes : List ℕ) → choose (function_type_forms Declaration.function ++ defined_type_forms Declaration.defined) tag bytes
+    ≡ declared_type_at tag bytes
 
 -- A value type is the primitive of its first byte, or an index, of which that byte is a part.
 abbrev pub ValueTypesAreChosen : Type 0
-ValueTypesAreChosen = (b : ℕ) (rest : List ℕ) → value_type_at (b ∷ rest) ≡ or_else (option_map (λ p. (values.Primitive p, rest)) (primitive_beside b)) (as_at values.Type_ type_index_at (b ∷ rest))
+ValueTypesAreChosen = (b : ℕ) (rest : List ℕ) → value_type_at (b ∷ rest) ≡ or_else (option_map (λ p. (values.Primitive p, rest)) (primitive_beside b))
+    (as_at values.Type_ type_index_at (b ∷ rest))

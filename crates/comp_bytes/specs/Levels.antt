@@ -75,11 +75,13 @@ IsPartType (shows es) = Tagged 0x41 (Vector IsEntry es)
 
 -- ---- reading them from the front
 
+-- the declarations of an instance type, none of which is an import
 unfoldable pub held_at : Reader (List Declaration)
 held_at bytes = do
   ds ← vector_at declaration_at bytes
   if import_free ds.0 then Some ds else None
 
+-- an entry of a component type: an instance type, or another declaration
 unfoldable pub entry_at : Reader Entry
 entry_at bytes = or_else (as_at holds (tag_at 1 (tag_at 0x42 held_at)) bytes) (as_at plain declaration_at bytes)
 
@@ -88,12 +90,14 @@ abbrev pub world_export : Declaration → Option ExternName
 world_export (Declaration.exported name (refs.Component zero)) = Some name
 world_export _ = None
 
+-- the export of a world's component type from its wrapper, by its name
 unfoldable pub world_export_at : Reader ExternName
 world_export_at bytes = do
   d ← declaration_at bytes
   name ← world_export d.0
   Some (name, d.1)
 
+-- a wrapper: the entries of its world, and the name under which it exports it
 unfoldable pub wrapper_at : Reader (List Entry × ExternName)
 wrapper_at bytes = do
   n ← u32_at bytes
@@ -103,6 +107,7 @@ wrapper_at bytes = do
 unfoldable pub part_behind_at : Reader PartType
 part_behind_at bytes = or_else (as_at (λ w. wraps w.0 w.1) wrapper_at bytes) (as_at shows (vector_at entry_at) bytes)
 
+-- a component type at the top: a wrapper of a world, or that of an interface
 unfoldable pub part_type_at : Reader PartType
 part_type_at = tag_at 0x41 part_behind_at
 
@@ -124,6 +129,7 @@ pieces_of (suc fuel) (b ∷ bytes) = do
   others ← pieces_of fuel frame.1
   Some (first ∷ others)
 
+-- the sections of a component, one after the other
 unfoldable pub pieces_in : List ℕ → Option (List Piece)
 pieces_in bytes = pieces_of (length bytes) bytes
 
@@ -145,7 +151,8 @@ LevelsAreSections = (bytes : List ℕ) (ps : List Piece) → (levels_of bytes �
 
 -- Which entry stands in front is told by two bytes, and which type at the top by the count and two bytes behind it.
 abbrev pub EntriesByFront : Type 0
-EntriesByFront = (bytes : List ℕ) → entry_at bytes ≡ (if starts_with nat_eq bytes (1 ∷ 0x42 ∷ []) then as_at holds held_at (drop 2 bytes) else as_at plain declaration_at bytes)
+EntriesByFront = (bytes : List ℕ) → entry_at bytes ≡ (if starts_with nat_eq bytes (1 ∷ 0x42 ∷ []) then as_at holds held_at (drop 2 bytes) else as_at
+    plain declaration_at bytes)
 
 abbrev pub PartTypesByFront : Type 0
 PartTypesByFront = (bytes : List ℕ) → part_behind_at bytes ≡ (u32_at bytes >>= λ n.

@@ -58,7 +58,8 @@ fn append_function(out: &mut Vec<u8>, function: &ComponentFuncType) -> Result<()
 
 pub(crate) fn declare_function(out: &mut Vec<u8>, function: &ComponentFuncType) -> Result<(), Error>
     ensures ok { OnOk result (out.new.items ≡ out.old.items ++ declaration_bytes (Declaration.function (raw_function function.now))) }
-    ensures spelled { OnOk result (IsDeclaration (Declaration.function (raw_function function.now)) (declaration_bytes (Declaration.function (raw_function function.now)))) }
+    ensures spelled { OnOk result (IsDeclaration (Declaration.function (raw_function function.now))
+        (declaration_bytes (Declaration.function (raw_function function.now)))) }
     ensures err { OnErr result (out.new.items ≡ out.old.items) }
     ensures size { result ≡ Err Size → fits_declaration (Declaration.function (raw_function function.now)) ≡ false }
     ensures refuses { IfErr result IsMemoryOrSize }
@@ -85,7 +86,8 @@ fn append_alias_of(out: &mut Vec<u8>, alias: &Alias) -> Result<(), Error>
 
 pub(crate) fn declare_alias(out: &mut Vec<u8>, alias: &Alias) -> Result<(), Error>
     ensures ok { OnOk result (out.new.items ≡ out.old.items ++ declaration_bytes (Declaration.alias_of (raw_alias alias.now))) }
-    ensures spelled { OnOk result (IsDeclaration (Declaration.alias_of (raw_alias alias.now)) (declaration_bytes (Declaration.alias_of (raw_alias alias.now)))) }
+    ensures spelled { OnOk result (IsDeclaration (Declaration.alias_of (raw_alias alias.now))
+        (declaration_bytes (Declaration.alias_of (raw_alias alias.now)))) }
     ensures err { OnErr result (out.new.items ≡ out.old.items) }
     ensures size { result ≡ Err Size → fits_declaration (Declaration.alias_of (raw_alias alias.now)) ≡ false }
     ensures refuses { IfErr result IsMemoryOrSize }
@@ -148,7 +150,8 @@ pub(crate) fn declare_import(
     ty: ComponentTypeRef,
 ) -> Result<(), Error>
     ensures ok { OnOk result (out.new.items ≡ out.old.items ++ declaration_bytes (Declaration.imported (raw_name name.now) ty)) }
-    ensures spelled { OnOk result (IsDeclaration (Declaration.imported (raw_name name.now) ty) (declaration_bytes (Declaration.imported (raw_name name.now) ty))) }
+    ensures spelled { OnOk result (IsDeclaration (Declaration.imported (raw_name name.now) ty)
+        (declaration_bytes (Declaration.imported (raw_name name.now) ty))) }
     ensures err { OnErr result (out.new.items ≡ out.old.items) }
     ensures size { result ≡ Err Size → fits_declaration (Declaration.imported (raw_name name.now) ty) ≡ false }
     ensures refuses { IfErr result IsMemoryOrSize }
@@ -169,7 +172,8 @@ pub(crate) fn declare_export(
     ty: ComponentTypeRef,
 ) -> Result<(), Error>
     ensures ok { OnOk result (out.new.items ≡ out.old.items ++ declaration_bytes (Declaration.exported (raw_name name.now) ty)) }
-    ensures spelled { OnOk result (IsDeclaration (Declaration.exported (raw_name name.now) ty) (declaration_bytes (Declaration.exported (raw_name name.now) ty))) }
+    ensures spelled { OnOk result (IsDeclaration (Declaration.exported (raw_name name.now) ty)
+        (declaration_bytes (Declaration.exported (raw_name name.now) ty))) }
     ensures err { OnErr result (out.new.items ≡ out.old.items) }
     ensures size { result ≡ Err Size → fits_declaration (Declaration.exported (raw_name name.now) ty) ≡ false }
     ensures refuses { IfErr result IsMemoryOrSize }

@@ -207,7 +207,8 @@ fn append_custom(
     name: &str,
     contents: &[u8],
 ) -> Result<(), Error>
-    ensures ok { OnOk result (out.new.items ≡ (begun out.old.items ++ closed_bytes (id_of exports) count items.now) ++ framed 0 (name_bytes name.now ++ contents.now)) }
+    ensures ok { OnOk result (out.new.items ≡ (begun out.old.items ++ closed_bytes (id_of exports) count items.now)
+        ++ framed 0 (name_bytes name.now ++ contents.now)) }
     ensures open_small { OnOk result (0 < count → length (u32_bytes count ++ items.now) < 2 ^ 32) }
     ensures spelled { OnOk result (Name name.now (name_bytes name.now)) }
     ensures small { OnOk result (length (name_bytes name.now ++ contents.now) < 2 ^ 32) }
@@ -228,7 +229,8 @@ pub(crate) fn put_custom(
     name: &str,
     contents: &[u8],
 ) -> Result<(), Error>
-    ensures ok { OnOk result (out.new.items ≡ (begun out.old.items ++ closed_bytes (id_of exports) count items.now) ++ framed 0 (name_bytes name.now ++ contents.now)) }
+    ensures ok { OnOk result (out.new.items ≡ (begun out.old.items ++ closed_bytes (id_of exports) count items.now)
+        ++ framed 0 (name_bytes name.now ++ contents.now)) }
     ensures open_small { OnOk result (0 < count → length (u32_bytes count ++ items.now) < 2 ^ 32) }
     ensures spelled { OnOk result (Name name.now (name_bytes name.now)) }
     ensures small { OnOk result (length (name_bytes name.now ++ contents.now) < 2 ^ 32) }

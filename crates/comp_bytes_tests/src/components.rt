@@ -16,21 +16,52 @@ fn assert_bytes(rt: &impl Abort, builder: ComponentBuilder, expected: &[u8]) -> 
     Ok(())
 }
 
+// ---- what is appended: each value is made where it is used up, which keeps the proofs of what calls these short
+
+fn put_nullary(alloc: Global, component: &mut ComponentType) -> Result<(), Error> {
+    component.function(&nullary(alloc))
+}
+
+fn import(
+    component: &mut ComponentType,
+    name: &'static str,
+    shown: ComponentTypeRef,
+) -> Result<(), Error> {
+    component.import(&plain(name), shown)
+}
+
+fn export(
+    component: &mut ComponentType,
+    name: &'static str,
+    shown: ComponentTypeRef,
+) -> Result<(), Error> {
+    component.export(&plain(name), shown)
+}
+
+fn show(
+    instance: &mut InstanceType,
+    name: &'static str,
+    shown: ComponentTypeRef,
+) -> Result<(), Error> {
+    instance.export(&plain(name), shown)
+}
+
 // ---- a world in its wrapper
 
 // A world that imports the function `host` and exports the function `guest`.
 fn world(alloc: Global) -> Result<ComponentType, Error> {
     let mut world = ComponentType::new(alloc);
-    world.function(&nullary(alloc))?;
-    world.import(&plain("host"), ComponentTypeRef::Func(0))?;
-    world.export(&plain("guest"), ComponentTypeRef::Func(0))?;
+    put_nullary(alloc, &mut world)?;
+    import(&mut world, "host", ComponentTypeRef::Func(0))?;
+    export(&mut world, "guest", ComponentTypeRef::Func(0))?;
     Ok(world)
 }
 
 fn wrapper(alloc: Global) -> Result<ComponentType, Error> {
     let mut wrapper = ComponentType::new(alloc);
-    wrapper.component(&world(alloc)?)?;
-    wrapper.export(&plain("a:b/foo"), ComponentTypeRef::Component(0))?;
+    let world = world(alloc)?;
+    wrapper.component(&world)?;
+    export(&mut wrapper, "a:b/foo", ComponentTypeRef::Component(0))?;
     Ok(wrapper)
 }
 
@@ -75,25 +106,46 @@ fn neighbours(rt: HostRuntime) -> Result<(), Fail> {
 // ---- each declaration
 
 // A list, an alias of a type around, the name `t` of it, and a function.
-fn instance(alloc: Global) -> Result<InstanceType, Error> {
-    let mut instance = InstanceType::new(alloc);
+fn put_all(alloc: Global, instance: &mut InstanceType) -> Result<(), Error> {
     instance.defined(&LIST_OF_U8)?;
     instance.alias(&outer(64))?;
-    instance.export(&plain("t"), ComponentTypeRef::TypeEq(1))?;
-    instance.function(&awaited(alloc, ComponentValType::Type_(2))?)?;
-    instance.export(&plain("f"), ComponentTypeRef::Func(3))?;
+    show(instance, "t", ComponentTypeRef::TypeEq(1))?;
+    put_awaited(alloc, instance)?;
+    show(instance, "f", ComponentTypeRef::Func(3))
+}
+
+fn put_awaited(alloc: Global, instance: &mut InstanceType) -> Result<(), Error> {
+    instance.function(&awaited(alloc, ComponentValType::Type_(2))?)
+}
+
+fn instance(alloc: Global) -> Result<InstanceType, Error> {
+    let mut instance = InstanceType::new(alloc);
+    put_all(alloc, &mut instance)?;
     Ok(instance)
 }
 
 // An instance that is imported, the type that it shows, a definition over it, a resource, and an import with each attribute.
-fn declared(alloc: Global) -> Result<ComponentType, Error> {
-    let mut component = ComponentType::new(alloc);
-    component.instance(&instance(alloc)?)?;
-    component.import(&plain("i"), ComponentTypeRef::Instance(0))?;
+fn declare(alloc: Global, component: &mut ComponentType) -> Result<(), Error> {
+    put_instance(alloc, component)?;
+    import(component, "i", ComponentTypeRef::Instance(0))?;
     component.alias(&shown(0))?;
     component.defined(&ComponentDefinedType::Map(U8, ComponentValType::Type_(1)))?;
-    component.import(&plain("r"), ComponentTypeRef::SubResource)?;
-    component.import(&attributed(), ComponentTypeRef::Instance(0))?;
+    import(component, "r", ComponentTypeRef::SubResource)?;
+    import_attributed(component)
+}
+
+fn put_instance(alloc: Global, component: &mut ComponentType) -> Result<(), Error> {
+    let instance = instance(alloc)?;
+    component.instance(&instance)
+}
+
+fn import_attributed(component: &mut ComponentType) -> Result<(), Error> {
+    component.import(&attributed(), ComponentTypeRef::Instance(0))
+}
+
+fn declared(alloc: Global) -> Result<ComponentType, Error> {
+    let mut component = ComponentType::new(alloc);
+    declare(alloc, &mut component)?;
     Ok(component)
 }
 

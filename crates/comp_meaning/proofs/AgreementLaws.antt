@@ -137,11 +137,21 @@ module _ (earlier : List Sight) (s : Sight) (known : Known earlier) (one : IsOnc
   known_more : Known (earlier ++ s ∷ [])
   known_more = record {
     types = λ x c. elim (Contains-append_cases earlier (s ∷ []) x c) [
-      | inl there ↦ (let first = known.types x there in (first.0, find-append (λ y. text_eq x.path y.path) earlier (s ∷ []) ∙ ap (λ o. option_or o (find (λ y. text_eq x.path y.path) (s ∷ []))) first.1, first.2))
+      | inl there ↦ (let first = known.types x there in (
+        first.0,
+        find-append (λ y. text_eq x.path y.path) earlier (s ∷ []) ∙ ap (λ o. option_or o (find (λ y. text_eq x.path y.path) (s ∷ [])))
+            first.1,
+        first.2,
+      ))
       | inr last ↦ subst (λ (y : Sight). (f : Sight) × (first_of y.path (earlier ++ s ∷ []) ≡ Some f) × (same_types f y ≡ true)) (last_of s x last) (own_types (first_of s.path earlier) refl)
     ];
     functions = λ x c w. elim (Contains-append_cases earlier (s ∷ []) x c) [
-      | inl there ↦ (let first = known.functions x there w in (first.0, find-append (λ y. text_eq x.path y.path && y.whole) earlier (s ∷ []) ∙ ap (λ o. option_or o (find (λ y. text_eq x.path y.path && y.whole) (s ∷ []))) first.1, first.2))
+      | inl there ↦ (let first = known.functions x there w in (
+        first.0,
+        find-append (λ y. text_eq x.path y.path && y.whole) earlier (s ∷ []) ∙ ap
+            (λ o. option_or o (find (λ y. text_eq x.path y.path && y.whole) (s ∷ []))) first.1,
+        first.2,
+      ))
       | inr last ↦ subst (λ (y : Sight). (f : Sight) × (first_whole y.path (earlier ++ s ∷ []) ≡ Some f) × (same_in_functions f y ≡ true)) (last_of s x last)
           (own_functions (ap (λ y. y.whole) (last_of s x last) ∙ w) (first_whole s.path earlier) refl)
     ];
@@ -155,20 +165,27 @@ module _ (earlier : List Sight) (s : Sight) (known : Known earlier) (one : IsOnc
       own_types (Some f) e = (f, find-append (λ y. text_eq s.path y.path) earlier (s ∷ []) ∙ ap (λ o. option_or o (find (λ y. text_eq s.path y.path) (s ∷ []))) e, with_types f e)
       own_types None e = (
         s,
-        find-append (λ y. text_eq s.path y.path) earlier (s ∷ []) ∙ (ap (λ o. option_or o (find (λ y. text_eq s.path y.path) (s ∷ []))) e ∙ ap (λ b. cond b (Some s) None) (same_text s.path s.path refl)),
+        find-append (λ y. text_eq s.path y.path) earlier (s ∷ []) ∙ (ap (λ o. option_or o (find (λ y. text_eq s.path y.path) (s ∷ []))) e ∙ ap (λ b. cond b (Some s) None)
+            (same_text s.path s.path refl)),
         type_itself s,
       )
 
       own_functions : s.whole ≡ true → (o : Option Sight) → first_whole s.path earlier ≡ o → (f : Sight) × (first_whole s.path (earlier ++ s ∷ []) ≡ Some f) × (same_in_functions f s ≡ true)
-      own_functions w (Some f) e = (f, find-append (λ y. text_eq s.path y.path && y.whole) earlier (s ∷ []) ∙ ap (λ o. option_or o (find (λ y. text_eq s.path y.path && y.whole) (s ∷ []))) e, with_functions w f e)
+      own_functions w (Some f) e = (
+        f,
+        find-append (λ y. text_eq s.path y.path && y.whole) earlier (s ∷ []) ∙ ap (λ o. option_or o (find (λ y. text_eq s.path y.path && y.whole) (s ∷ []))) e,
+        with_functions w f e,
+      )
       own_functions w None e = (
         s,
         find-append (λ y. text_eq s.path y.path && y.whole) earlier (s ∷ [])
-            ∙ (ap (λ o. option_or o (find (λ y. text_eq s.path y.path && y.whole) (s ∷ []))) e ∙ ap (λ b. cond b (Some s) None) (and_from (text_eq s.path s.path) s.whole (same_text s.path s.path refl) w)),
+            ∙ (ap (λ o. option_or o (find (λ y. text_eq s.path y.path && y.whole) (s ∷ []))) e ∙ ap (λ b. cond b (Some s) None)
+            (and_from (text_eq s.path s.path) s.whole (same_text s.path s.path refl) w)),
         function_itself s one,
       )
 
-back : (rest earlier : List Sight) → Known earlier → ((x : Sight) → Contains rest x → IsOnce x) → agree_with_first earlier rest ≡ true → ((x : Sight) → Contains earlier x → list_all (agree x) rest ≡ true) × (all_agree rest ≡ true)
+back : (rest earlier : List Sight) → Known earlier → ((x : Sight) → Contains rest x → IsOnce x) → agree_with_first earlier rest ≡ true
+    → ((x : Sight) → Contains earlier x → list_all (agree x) rest ≡ true) × (all_agree rest ≡ true)
 back [] earlier known once all = (λ x c. refl, refl)
 back (s ∷ rest) earlier known once all =
     let agrees = first_true (agrees_with_first earlier s) (agree_with_first (earlier ++ s ∷ []) rest) all in

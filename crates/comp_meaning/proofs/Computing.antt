@@ -19,7 +19,9 @@ one_world =
 
 -- what worked examples unfold
 unfoldable pub computes : ℕ
-unfolding unsigned_at u32_at last_byte_of type_index_at just_at as_at pair_at choose tagged_at tag_at closed_at byte_at optional_at sequence_at vector_at counted_at name_at value_type_at field_at case_at result_list_at alias_at with_attributes attributed_at extern_name_at description_at declaration_at body_at importless_at component_and instance_and plain_and declarations_at type_at top_export_at section_of frame_at sections_of component_of is_utf8 chars encode one_world digits_from
+unfolding unsigned_at u32_at last_byte_of type_index_at just_at as_at pair_at choose tagged_at tag_at closed_at byte_at optional_at sequence_at vector_at counted_at name_at value_type_at field_at
+    case_at result_list_at alias_at with_attributes attributed_at extern_name_at description_at declaration_at body_at importless_at component_and instance_and plain_and declarations_at type_at
+    top_export_at section_of frame_at sections_of component_of is_utf8 chars encode one_world digits_from
 computes = 0
 
 -- what bytes mean as a package, and as a world

@@ -24,7 +24,8 @@ bind_same None f g h = refl
 bind_same (Some x) f g h = h x
 
 -- what each step keeps stays to the end
-pub steps_keep : {S A : Type 0} (P : S → Type 0) (step : S → A → Option S) → ((s next : S) (x : A) → step s x ≡ Some next → P s → P next) → (xs : List A) (s end : S) → steps step s xs ≡ Some end → P s → P end
+pub steps_keep : {S A : Type 0} (P : S → Type 0) (step : S → A → Option S) → ((s next : S) (x : A) → step s x ≡ Some next → P s → P next) → (xs : List A) (s end : S) → steps step s xs ≡ Some end
+    → P s → P end
 steps_keep P step h [] s end e k = subst P (some_is s end e) k
 steps_keep P step h (x ∷ xs) s end e k =
     let b = bind_some (step s x) (λ next. steps step next xs) end e in
@@ -60,7 +61,8 @@ abbrev IsKept : Scope → Type 0
 IsKept scope = Counted self scope.used (map is_instance scope.slots)
 
 kept_slot : (scope : Scope) (slot : Slot) → IsKept scope → IsKept (in_scope slot scope)
-kept_slot scope slot k = subst (λ fs. Counted self scope.used fs) (sym (map-append is_instance scope.slots (slot ∷ []))) (one_mark_more self scope.used (map is_instance scope.slots) (is_instance slot) k)
+kept_slot scope slot k = subst (λ fs. Counted self scope.used fs) (sym (map-append is_instance scope.slots (slot ∷ [])))
+    (one_mark_more self scope.used (map is_instance scope.slots) (is_instance slot) k)
 
 kept_seen : (direction : Direction) (seen : Seen) (scope : Scope) → IsKept scope → IsKept (see direction seen scope)
 kept_seen import_ seen scope k = k
@@ -93,7 +95,8 @@ kept_instance direction name n scope next e k =
 
 kept_function : (direction : Direction) (name : ExternName) (n : ℕ) (scope next : Scope) → see_function direction name n scope ≡ Some next → IsKept scope → IsKept next
 kept_function direction name n scope next e k =
-    let b = bind_some (function_in (slice_get scope.slots n)) (λ f. provided (is_simple name) (see direction (record { key = name.text; shown = Shown.function f; external_id = name.external_id }) scope)) next e in
+    let b = bind_some (function_in (slice_get scope.slots n)) (λ f. provided (is_simple name)
+    (see direction (record { key = name.text; shown = Shown.function f; external_id = name.external_id }) scope)) next e in
     let seen : Seen = record { key = name.text; shown = Shown.function b.0; external_id = name.external_id } in
     let w = when_some (is_simple name) (Some (see direction seen scope)) next b.2 in
     subst IsKept (some_is (see direction seen scope) next w.1) (kept_seen direction seen scope k)
@@ -154,12 +157,14 @@ steps_are : (es : List Entry) (scope : Scope) → component_steps scope (declara
 steps_are [] scope = refl
 steps_are (plain d ∷ es) scope = bind_same (component_step scope d) (λ next. component_steps next (declarations_of es)) (λ next. steps entry_step next es) (steps_are es)
 steps_are (holds ds ∷ es) scope =
-    ap (λ o. o >>= λ xs. component_steps (in_scope (Slot.instance xs (length scope.slots)) scope) (declarations_of es)) (flat_list ds) ∙ steps_are es (in_scope (Slot.instance ds (length scope.slots)) scope)
+    ap (λ o. o >>= λ xs. component_steps (in_scope (Slot.instance xs (length scope.slots)) scope) (declarations_of es)) (flat_list ds) ∙ steps_are es
+    (in_scope (Slot.instance ds (length scope.slots)) scope)
 
 pub scope_is : (es : List Entry) → component_scope (declarations_of es) ≡ entry_scope es
 scope_is es = ap (λ o. o >>= λ scope. provided (eqb (length scope.used) (instance_types scope.slots)) scope) (steps_are es new_scope) ∙ by (steps entry_step new_scope es) refl
   where
-    by : (o : Option Scope) → steps entry_step new_scope es ≡ o → (o >>= λ scope. provided (eqb (length scope.used) (instance_types scope.slots)) scope) ≡ (o >>= λ scope. provided (all_used scope.used 0 scope.slots) scope)
+    by : (o : Option Scope) → steps entry_step new_scope es ≡ o
+        → (o >>= λ scope. provided (eqb (length scope.used) (instance_types scope.slots)) scope) ≡ (o >>= λ scope. provided (all_used scope.used 0 scope.slots) scope)
     by None e = refl
     by (Some scope) e = ap (λ b. provided b scope) (none_unused scope (steps_keep IsKept entry_step kept_entry es new_scope scope e new_kept))
 

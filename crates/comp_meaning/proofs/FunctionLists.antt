@@ -86,7 +86,8 @@ module _ {X : Type 0} where
   position_at [] k h = absurd cc
   position_at (g ∷ gs) k h = by (text_eq k g.0) refl (position_at gs k)
     where
-      by : (b : Bool) → text_eq k g.0 ≡ b → (is_named gs k ≡ true → (y : Text × X) × (slice_get gs (position k gs) ≡ Some y) × (k ≡ y.0)) → (y : Text × X) × (slice_get (g ∷ gs) (cond b 0 (suc (position k gs))) ≡ Some y) × (k ≡ y.0)
+      by : (b : Bool) → text_eq k g.0 ≡ b → (is_named gs k ≡ true → (y : Text × X) × (slice_get gs (position k gs) ≡ Some y) × (k ≡ y.0)) → (y : Text × X)
+          × (slice_get (g ∷ gs) (cond b 0 (suc (position k gs))) ≡ Some y) × (k ≡ y.0)
       by true e more = (g, refl, text_same k g.0 e)
       by false e more = more (sym (ap (λ b. b || is_named gs k) e) ∙ h)
 
@@ -99,11 +100,13 @@ module _ {X : Type 0} where
       a.2 ∙ (ap (λ z. z.0) one ∙ sym b.2)
 
   -- one of these has the same position
-  position_among : (gs fs : List (Text × X)) → ((k : Text) (v : X) → Contains fs (k, v) → is_named gs k ≡ true) → (n : ℕ) → list_any (λ f. eqb (position f.0 gs) n) fs ≡ true → (f : Text × X) × Contains fs f × (position f.0 gs ≡ n)
+  position_among : (gs fs : List (Text × X)) → ((k : Text) (v : X) → Contains fs (k, v) → is_named gs k ≡ true) → (n : ℕ) → list_any (λ f. eqb (position f.0 gs) n) fs ≡ true → (f : Text × X)
+      × Contains fs f × (position f.0 gs ≡ n)
   position_among gs [] h n e = absurd cc
   position_among gs (f ∷ fs) h n e = by (eqb (position f.0 gs) n) refl (position_among gs fs (λ k v c. h k v (behind f fs (k, v) c)) n)
     where
-      by : (b : Bool) → eqb (position f.0 gs) n ≡ b → (list_any (λ x. eqb (position x.0 gs) n) fs ≡ true → (x : Text × X) × Contains fs x × (position x.0 gs ≡ n)) → (x : Text × X) × Contains (f ∷ fs) x × (position x.0 gs ≡ n)
+      by : (b : Bool) → eqb (position f.0 gs) n ≡ b → (list_any (λ x. eqb (position x.0 gs) n) fs ≡ true → (x : Text × X) × Contains fs x × (position x.0 gs ≡ n)) → (x : Text × X)
+          × Contains (f ∷ fs) x × (position x.0 gs ≡ n)
       by true s more = (f, (0, omega arith, refl), eqb-true (position f.0 gs) n s)
       by false s more = let rest = more (sym (ap (λ b. b || list_any (λ x. eqb (position x.0 gs) n) fs) s) ∙ e) in (rest.0, behind f fs rest.0 rest.1, rest.2)
 
@@ -113,7 +116,8 @@ module _ {X : Type 0} where
   counted gs (f ∷ fs) h e =
       let here = h f.0 f.1 (0, omega arith, refl) in
       let others = counted gs fs (λ k v c. h k v (behind f fs (k, v) c)) (second_true (not (is_named fs f.0)) (distinct (names fs)) e) in
-      one_number_first (λ x. position x.0 gs) fs f (map (λ _. true) gs) others (new here (list_any (λ x. eqb (position x.0 gs) (position f.0 gs)) fs) refl) (true_mark gs (position f.0 gs) (position_low gs f.0 here))
+      one_number_first (λ x. position x.0 gs) fs f (map (λ _. true) gs) others (new here (list_any (λ x. eqb (position x.0 gs) (position f.0 gs)) fs) refl)
+      (true_mark gs (position f.0 gs) (position_low gs f.0 here))
     where
       new : is_named gs f.0 ≡ true → (b : Bool) → list_any (λ x. eqb (position x.0 gs) (position f.0 gs)) fs ≡ b → b ≡ false
       new here false s = refl
@@ -178,10 +182,12 @@ module _ {X : Type 0} where
     all_stand : (fs gs : List (Text × X)) → ((k : Text) (v : X) → Contains fs (k, v) → Contains gs (k, v)) → stand_in same fs gs ≡ true
     all_stand [] gs h = refl
     all_stand (f ∷ fs) gs h =
-        and_from (list_any (λ y. text_eq f.0 y.0 && same f.1 y.1) gs) (stand_in same fs gs) (finds gs f.0 f.1 (h f.0 f.1 (0, omega arith, refl))) (all_stand fs gs (λ k v c. h k v (behind f fs (k, v) c)))
+        and_from (list_any (λ y. text_eq f.0 y.0 && same f.1 y.1) gs) (stand_in same fs gs) (finds gs f.0 f.1 (h f.0 f.1 (0, omega arith, refl)))
+        (all_stand fs gs (λ k v c. h k v (behind f fs (k, v) c)))
 
     -- as many, and all in the other, is each in the other
-    pub both_ways : (fs gs : List (Text × X)) → distinct (names fs) ≡ true → distinct (names gs) ≡ true → (eqb (length fs) (length gs) && stand_in same fs gs) ≡ (stand_in same fs gs && stand_in same gs fs)
+    pub both_ways : (fs gs : List (Text × X)) → distinct (names fs) ≡ true → distinct (names gs) ≡ true
+        → (eqb (length fs) (length gs) && stand_in same fs gs) ≡ (stand_in same fs gs && stand_in same gs fs)
     both_ways fs gs e g = either_way (eqb (length fs) (length gs) && stand_in same fs gs) (stand_in same fs gs && stand_in same gs fs) into back
       where
         into : (eqb (length fs) (length gs) && stand_in same fs gs) ≡ true → (stand_in same fs gs && stand_in same gs fs) ≡ true
@@ -199,7 +205,8 @@ module _ {X : Type 0} where
             and_from (eqb (length fs) (length gs)) (stand_in same fs gs) (eq-eqb (length fs) (length gs) (omega (arith, le, ge))) stand
 
     -- which is where they make one map
-    pub make_one_map : (fs gs : List (Text × X)) → distinct (names fs) ≡ true → distinct (names gs) ≡ true → Decides (stand_in same fs gs && stand_in same gs fs) (◌≡◌ {A = TextMap X} (from_entries fs) (from_entries gs))
+    pub make_one_map : (fs gs : List (Text × X)) → distinct (names fs) ≡ true → distinct (names gs) ≡ true
+        → Decides (stand_in same fs gs && stand_in same gs fs) (◌≡◌ {A = TextMap X} (from_entries fs) (from_entries gs))
     make_one_map fs gs e g = (
       λ h. one_map fs gs (record {
         one_value = one_value fs e;
@@ -210,7 +217,8 @@ module _ {X : Type 0} where
     )
       where
         -- what is an entry of one list is found in the map, and so in the other
-        from_map : (as_is others : List (Text × X)) → distinct (names as_is) ≡ true → ◌≡◌ {A = TextMap X} (from_entries as_is) (from_entries others) → (k : Text) (v : X) → Contains as_is (k, v) → Contains others (k, v)
+        from_map : (as_is others : List (Text × X)) → distinct (names as_is) ≡ true → ◌≡◌ {A = TextMap X} (from_entries as_is) (from_entries others) → (k : Text) (v : X) → Contains as_is (k, v)
+            → Contains others (k, v)
         from_map as_is others one m k v c =
             let mine = there_some as_is k v c in
             let value : mine.0 ≡ v = one_value as_is one k mine.0 v (found_there as_is k mine.0 mine.1) c in

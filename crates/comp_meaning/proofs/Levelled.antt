@@ -33,7 +33,9 @@ IsLevelled ds = (p : PartType) × (ds ≡ raw_part p)
 -- ---- members
 
 -- a wrapper, or nothing that wraps
-wrapped_or : (ds : Declarations) → ((inner : Declarations) × (name : ExternName) × (ds ≡ Declarations.component inner (Declarations.declares (Declaration.exported name (refs.Component 0)) Declarations.no_more))) ⊎ (wrapped ds ≡ None)
+wrapped_or : (ds : Declarations)
+    → ((inner : Declarations) × (name : ExternName) × (ds ≡ Declarations.component inner (Declarations.declares (Declaration.exported name (refs.Component 0)) Declarations.no_more)))
+    ⊎ (wrapped ds ≡ None)
 wrapped_or Declarations.no_more = inr refl
 wrapped_or (Declarations.declares d rest) = inr refl
 wrapped_or (Declarations.instance inner rest) = inr refl
@@ -57,7 +59,8 @@ wrapped_or (Declarations.component inner (Declarations.declares (Declaration.exp
 -- the world of a wrapper that is read has been followed
 world_scope : (label : Text) (inner : Declarations) (name : ExternName) (p : PackageIdentity × Part) → world_part label (inner, name) ≡ Some p → (scope : Scope) × (component_scope inner ≡ Some scope)
 world_scope label inner name p e =
-    let path = bind_some (when (is_none name.implements && is_none name.external_id) (complete_path name.text name.version_suffix)) (λ path. labelled_path label path >>= λ package_. component_scope inner >>= λ scope. provided (is_world scope) (package_, Part.world scope)) p e in
+    let path = bind_some (when (is_none name.implements && is_none name.external_id) (complete_path name.text name.version_suffix))
+    (λ path. labelled_path label path >>= λ package_. component_scope inner >>= λ scope. provided (is_world scope) (package_, Part.world scope)) p e in
     let package_ = bind_some (labelled_path label path.0) (λ package_. component_scope inner >>= λ scope. provided (is_world scope) (package_, Part.world scope)) p path.2 in
     let scope = bind_some (component_scope inner) (λ scope. provided (is_world scope) (package_.0, Part.world scope)) p package_.2 in
     (scope.0, scope.1)
@@ -125,7 +128,8 @@ kept_export top next x e k =
     let new = and_parts (is_label x.exported_as.text) (not (list_any (λ y. eqb y.1 b.0) top.exported)) named.1 in
     let low = k.within x.type_index b.0 b.1 in
     subst IsKept (some_is after next w.1) (record {
-      counted = one_number_more (λ y. y.1) top.exported (x.exported_as.text, b.0) (map (λ _. true) top.types) k.counted (not-true (list_any (λ y. eqb y.1 b.0) top.exported) new.1) (true_mark top.types b.0 low);
+      counted = one_number_more (λ y. y.1) top.exported (x.exported_as.text, b.0) (map (λ _. true) top.types) k.counted (not-true (list_any (λ y. eqb y.1 b.0) top.exported) new.1)
+          (true_mark top.types b.0 low);
       within = λ i n found. elim (appended_at top.slots b.0 n i found) [
         | inl before ↦ k.within i n before
         | inr last ↦ omega (arith, last, low)
@@ -144,7 +148,8 @@ empty_kept : IsKept empty_top
 empty_kept = record { counted = record { below = λ n h. absurd cc; count = refl }; within = λ i n h. absurd cc }
 
 -- a type that is exported has been followed
-exported_levels : (types : List Declarations) (xs : List (Text × ℕ)) (found : List (Text × Declarations)) (members : List Member) → each (λ x. raw_found x (slice_get types x.1)) xs ≡ Some found → each member found ≡ Some members
+exported_levels : (types : List Declarations) (xs : List (Text × ℕ)) (found : List (Text × Declarations)) (members : List Member) → each (λ x. raw_found x (slice_get types x.1)) xs ≡ Some found
+    → each member found ≡ Some members
     → (n : ℕ) → list_any (λ x. eqb x.1 n) xs ≡ true → (ds : Declarations) → slice_get types n ≡ Some ds → IsLevelled ds
 exported_levels types [] found members e f n h ds at = absurd cc
 exported_levels types (x ∷ xs) found members e f n h ds at =
@@ -156,7 +161,8 @@ exported_levels types (x ∷ xs) found members e f n h ds at =
     let others = bind_some (each member more.0) (λ ms. Some (first.0 ∷ ms)) members first.2 in
     by one.0 first.0 first.1 type_at.0 type_at.1 (some_is (x.0, type_at.0) one.0 type_at.2) (λ k. exported_levels types xs more.0 others.0 more.1 others.1 n k ds at) (eqb x.1 n) refl
   where
-    by : (y : Text × Declarations) (m : Member) → member y ≡ Some m → (d : Declarations) → slice_get types x.1 ≡ Some d → (x.0, d) ≡ y → (list_any (λ z. eqb z.1 n) xs ≡ true → IsLevelled ds) → (b : Bool) → eqb x.1 n ≡ b → IsLevelled ds
+    by : (y : Text × Declarations) (m : Member) → member y ≡ Some m → (d : Declarations) → slice_get types x.1 ≡ Some d → (x.0, d) ≡ y → (list_any (λ z. eqb z.1 n) xs ≡ true → IsLevelled ds)
+        → (b : Bool) → eqb x.1 n ≡ b → IsLevelled ds
     by y m followed d there is rest true same =
         let here : d ≡ ds = some_is d ds (sym there ∙ ap (slice_get types) (eqb-true x.1 n same) ∙ at) in
         subst IsLevelled (ap (λ z. z.1) (sym is) ∙ here) (member_levels y m followed)
@@ -221,7 +227,8 @@ sections_levels (Section.exports es ∷ ss) top next e all =
     (levels.exports es ∷ more.0, ap (λ (rest : List Section). Section.exports es ∷ rest) more.1)
 
 -- Sections whose exported types are followed are forms of the levels.
-only_levels : (ss : List Section) (found : List (Text × Declarations)) (members : List Member) → exported_types ss ≡ Some found → each member found ≡ Some members → (ps : List Piece) × (ss ≡ map raw_piece ps)
+only_levels : (ss : List Section) (found : List (Text × Declarations)) (members : List Member) → exported_types ss ≡ Some found → each member found ≡ Some members → (ps : List Piece)
+    × (ss ≡ map raw_piece ps)
 only_levels ss found members e f =
     let b = bind_some (steps top_section empty_top ss) (λ top.
     when (eqb (length top.exported) (length top.types) && distinct (map (λ x. x.0) top.exported)) (each (λ x. raw_found x (slice_get top.types x.1)) top.exported)) found e in
@@ -252,10 +259,12 @@ each_same g f other same (x ∷ xs) = ap (λ o. o >>= λ y. each other (map g xs
 
 -- whatever is made of the members at the end
 module _ {M : Type 0} (last : List Member → Option M) where
-  same_meaning : (ps : List Piece) → (exported_types (map raw_piece ps) >>= λ types. each member types >>= λ members. last members) ≡ (exported_parts ps >>= λ parts. each member_by_levels parts >>= λ members. last members)
+  same_meaning : (ps : List Piece)
+      → (exported_types (map raw_piece ps) >>= λ types. each member types >>= λ members. last members) ≡ (exported_parts ps >>= λ parts. each member_by_levels parts >>= λ members. last members)
   same_meaning ps = ap (λ o. o >>= λ types. each member types >>= λ members. last members) (parts_along ps) ∙ by (exported_parts ps)
     where
-      by : (o : Option (List (Text × PartType))) → (option_map (map labelled) o >>= λ types. each member types >>= λ members. last members) ≡ (o >>= λ parts. each member_by_levels parts >>= λ members. last members)
+      by : (o : Option (List (Text × PartType)))
+          → (option_map (map labelled) o >>= λ types. each member types >>= λ members. last members) ≡ (o >>= λ parts. each member_by_levels parts >>= λ members. last members)
       by None = refl
       by (Some parts) = ap (λ o. o >>= last) (each_same labelled member_by_levels member member_is parts)
 
@@ -263,7 +272,8 @@ module _ {M : Type 0} (last : List Member → Option M) where
       ≡ (component_of bytes >>= λ ss. exported_types ss >>= λ types. each member types >>= λ members. last members)
   levelled bytes = by_levels (levels_of bytes) refl
     where
-      no_meaning : levels_of bytes ≡ None → (o : Option (List Section)) → component_of bytes ≡ o → (r : Option M) → (o >>= λ ss. exported_types ss >>= λ types. each member types >>= λ members. last members) ≡ r → None ≡ r
+      no_meaning : levels_of bytes ≡ None → (o : Option (List Section)) → component_of bytes ≡ o → (r : Option M)
+          → (o >>= λ ss. exported_types ss >>= λ types. each member types >>= λ members. last members) ≡ r → None ≡ r
       no_meaning none None found r e = e
       no_meaning none (Some ss) found None e = refl
       no_meaning none (Some ss) found (Some m) e =

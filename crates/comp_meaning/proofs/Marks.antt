@@ -86,7 +86,8 @@ module _ {A : Type 0} (key : A → ℕ) where
   one_more true k = refl
   one_more false k = refl
 
-  taken_more : (xs : List A) (x : A) (zs : List A) → HasOneMore xs x zs → (n k : ℕ) (fs : List Bool) → key x ≡ n + k → list_any (λ y. eqb (key y) (key x)) xs ≡ false → slice_get fs k ≡ Some true → taken zs n fs ≡ suc (taken xs n fs)
+  taken_more : (xs : List A) (x : A) (zs : List A) → HasOneMore xs x zs → (n k : ℕ) (fs : List Bool) → key x ≡ n + k → list_any (λ y. eqb (key y) (key x)) xs ≡ false → slice_get fs k ≡ Some true
+      → taken zs n fs ≡ suc (taken xs n fs)
   taken_more xs x zs more n k [] e new h = absurd cc
   taken_more xs x zs more n zero (false ∷ fs) e new h = absurd cc
   taken_more xs x zs more n zero (true ∷ fs) e new h =
@@ -110,7 +111,8 @@ module _ {A : Type 0} (key : A → ℕ) where
     count = c.count ∙ sym (taken_mark xs 0 (length fs) fs f (omega arith) (absent (list_any (λ x. eqb (key x) (length fs)) xs) (λ h. let low = c.below (length fs) h in omega (arith, low))));
   }
 
-  grown : (xs : List A) (x : A) (zs : List A) → HasOneMore xs x zs → length zs ≡ suc (length xs) → (fs : List Bool) → Counted xs fs → list_any (λ y. eqb (key y) (key x)) xs ≡ false → slice_get fs (key x) ≡ Some true → Counted zs fs
+  grown : (xs : List A) (x : A) (zs : List A) → HasOneMore xs x zs → length zs ≡ suc (length xs) → (fs : List Bool) → Counted xs fs → list_any (λ y. eqb (key y) (key x)) xs ≡ false
+      → slice_get fs (key x) ≡ Some true → Counted zs fs
   grown xs x zs more long fs c new h = record {
     below = λ n. below_by n (list_any (λ y. eqb (key y) n) xs) refl;
     count = let one = taken_more xs x zs more 0 (key x) fs (omega arith) new h in let many = c.count in omega (arith, one, many, long);
@@ -153,7 +155,8 @@ module _ {A : Type 0} (key : A → ℕ) where
   as_many xs n [] = refl
   as_many xs n (true ∷ fs) = by (list_any (λ x. eqb (key x) n) xs) (as_many xs (suc n) fs)
     where
-      by : (b : Bool) → eqb (taken xs (suc n) fs) (marks fs) ≡ all_taken xs (suc n) fs → eqb (cond b (suc (taken xs (suc n) fs)) (taken xs (suc n) fs)) (suc (marks fs)) ≡ (b && all_taken xs (suc n) fs)
+      by : (b : Bool) → eqb (taken xs (suc n) fs) (marks fs) ≡ all_taken xs (suc n) fs
+          → eqb (cond b (suc (taken xs (suc n) fs)) (taken xs (suc n) fs)) (suc (marks fs)) ≡ (b && all_taken xs (suc n) fs)
       by true h = same_number (taken xs (suc n) fs) (marks fs) ∙ h
       by false h = let fewer = at_most xs (suc n) fs in ne_eqb (taken xs (suc n) fs) (suc (marks fs)) (λ e. omega (arith, e, fewer))
   as_many xs n (false ∷ fs) = as_many xs (suc n) fs

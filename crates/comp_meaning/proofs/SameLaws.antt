@@ -149,7 +149,8 @@ declarations_decide _ _ = (λ e. absurd cc, λ e. absurd cc)
 
 pub types_decide : DecidesEquality same_type
 types_decide a b =
-    let both = Decides-and (same_declaration a.declaration b.declaration) (same_option text_eq a.external_id b.external_id) (declarations_decide a.declaration b.declaration) (options_decide text_eq texts_decide a.external_id b.external_id) in
+    let both = Decides-and (same_declaration a.declaration b.declaration) (same_option text_eq a.external_id b.external_id) (declarations_decide a.declaration b.declaration)
+    (options_decide text_eq texts_decide a.external_id b.external_id) in
     (λ h. let parts = both.0 h in λ i. record { declaration = parts.0 i; external_id = parts.1 i }, λ e. both.1 (ap (λ x. x.declaration) e, ap (λ x. x.external_id) e))
 
 params_decide : (ps qs : List (Text × Tree)) → Decides (pointwise (λ x y. text_eq x.0 y.0 && same_tree x.1 y.1) ps qs) (ps ≡ qs)
@@ -165,7 +166,8 @@ signatures_decide a b =
 
 pub functions_decide : DecidesEquality same_function
 functions_decide a b =
-    let both = Decides-and (same_signature a.signature b.signature) (same_option text_eq a.external_id b.external_id) (signatures_decide a.signature b.signature) (options_decide text_eq texts_decide a.external_id b.external_id) in
+    let both = Decides-and (same_signature a.signature b.signature) (same_option text_eq a.external_id b.external_id) (signatures_decide a.signature b.signature)
+    (options_decide text_eq texts_decide a.external_id b.external_id) in
     (λ h. let parts = both.0 h in λ i. record { signature = parts.0 i; external_id = parts.1 i }, λ e. both.1 (ap (λ x. x.signature) e, ap (λ x. x.external_id) e))
 
 pub identities_decide : DecidesEquality same_identity
@@ -180,5 +182,6 @@ identities_decide a b =
 pub shown_types_decide : SameTypesAreEqual
 shown_types_decide ts us =
     let d = lists_decide (λ x y. text_eq x.0 y.0 && same_type x.1 y.1) (pairs_decide text_eq same_type texts_decide types_decide) (map named_meaning ts) (map named_meaning us) in
-    let mapped : pointwise (λ x y. text_eq x.0 y.0 && same_type x.1 y.1) (map named_meaning ts) (map named_meaning us) ≡ pointwise same_shown ts us = pointwise-map named_meaning (λ x y. text_eq x.0 y.0 && same_type x.1 y.1) ts us in
+    let mapped : pointwise (λ x y. text_eq x.0 y.0 && same_type x.1 y.1) (map named_meaning ts) (map named_meaning us) ≡ pointwise same_shown ts us =
+    pointwise-map named_meaning (λ x y. text_eq x.0 y.0 && same_type x.1 y.1) ts us in
     (λ h. d.0 (mapped ∙ h), λ e. sym mapped ∙ d.1 e)

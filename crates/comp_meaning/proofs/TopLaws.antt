@@ -23,13 +23,16 @@ steps_along : {S T A B : Type 0} (f : S → T) (g : A → B) (step : S → A →
 steps_along f g step other h [] s = refl
 steps_along f g step other h (x ∷ xs) s = ap (λ o. o >>= λ next. steps other next (map g xs)) (h s x) ∙ by (step s x) (steps_along f g step other h xs)
   where
-    by : (o : Option _) → ((next : _) → steps other (f next) (map g xs) ≡ option_map f (steps step next xs)) → (option_map f o >>= λ next. steps other next (map g xs)) ≡ option_map f (o >>= λ next. steps step next xs)
+    by : (o : Option _) → ((next : _) → steps other (f next) (map g xs) ≡ option_map f (steps step next xs))
+        → (option_map f o >>= λ next. steps other next (map g xs)) ≡ option_map f (o >>= λ next. steps step next xs)
     by None more = refl
     by (Some next) more = more next
 
-pub each_along : {A B C D : Type 0} (g : A → B) (h : C → D) (f : A → Option C) (other : B → Option D) → ((x : A) → other (g x) ≡ option_map h (f x)) → (xs : List A) → each other (map g xs) ≡ option_map (map h) (each f xs)
+pub each_along : {A B C D : Type 0} (g : A → B) (h : C → D) (f : A → Option C) (other : B → Option D) → ((x : A) → other (g x) ≡ option_map h (f x)) → (xs : List A)
+    → each other (map g xs) ≡ option_map (map h) (each f xs)
 each_along g h f other same [] = refl
-each_along g h f other same (x ∷ xs) = ap (λ o. o >>= λ y. each other (map g xs) >>= λ ys. Some (y ∷ ys)) (same x) ∙ (ap (λ o. option_map h (f x) >>= λ y. o >>= λ ys. Some (y ∷ ys)) (each_along g h f other same xs) ∙ by (f x) (each f xs))
+each_along g h f other same (x ∷ xs) = ap (λ o. o >>= λ y. each other (map g xs) >>= λ ys. Some (y ∷ ys)) (same x)
+    ∙ (ap (λ o. option_map h (f x) >>= λ y. o >>= λ ys. Some (y ∷ ys)) (each_along g h f other same xs) ∙ by (f x) (each f xs))
   where
     by : (o : Option _) (os : Option (List _)) → (option_map h o >>= λ y. option_map (map h) os >>= λ ys. Some (y ∷ ys)) ≡ option_map (map h) (o >>= λ y. os >>= λ ys. Some (y ∷ ys))
     by None os = refl
@@ -92,7 +95,8 @@ found_along : (x : Text × ℕ) (o : Option PartType) → raw_found x (option_ma
 found_along x None = refl
 found_along x (Some p) = refl
 
-each_exported : (types : List PartType) (exported : List (Text × ℕ)) → each (λ x. raw_found x (slice_get (map raw_part types) x.1)) exported ≡ option_map (map labelled) (each (λ x. part_found x (slice_get types x.1)) exported)
+each_exported : (types : List PartType) (exported : List (Text × ℕ))
+    → each (λ x. raw_found x (slice_get (map raw_part types) x.1)) exported ≡ option_map (map labelled) (each (λ x. part_found x (slice_get types x.1)) exported)
 each_exported types exported =
     ap (each (λ x. raw_found x (slice_get (map raw_part types) x.1))) (sym (map-id exported))
     ∙ each_along (λ x. x) labelled (λ x. part_found x (slice_get types x.1)) (λ x. raw_found x (slice_get (map raw_part types) x.1))
@@ -104,7 +108,8 @@ when_along f false x y e = refl
 
 exports_along : (top : Top) → raw_exports (raw_top top) ≡ option_map (map labelled) (part_exports top)
 exports_along top =
-    ap (λ k. when (eqb (length top.exported) k && distinct (map (λ x. x.0) top.exported)) (each (λ x. raw_found x (slice_get (map raw_part top.types) x.1)) top.exported)) (length-map top.types raw_part)
+    ap (λ k. when (eqb (length top.exported) k && distinct (map (λ x. x.0) top.exported)) (each (λ x. raw_found x (slice_get (map raw_part top.types) x.1)) top.exported))
+    (length-map top.types raw_part)
     ∙ when_along (map labelled) (eqb (length top.exported) (length top.types) && distinct (map (λ x. x.0) top.exported)) (each (λ x. part_found x (slice_get top.types x.1)) top.exported)
     (each (λ x. raw_found x (slice_get (map raw_part top.types) x.1)) top.exported) (each_exported top.types top.exported)
 

@@ -62,15 +62,18 @@ pub record Top : Type 0 where
   pub slots : List ℕ
   pub exported : List (Text × ℕ)
 
+-- a type takes the next index
 abbrev pub top_part : Top → PartType → Option Top
 top_part top p = Some (record { types = top.types ++ p ∷ []; slots = top.slots ++ length top.types ∷ []; exported = top.exported })
 
+-- an export of a type that none before it exports takes the next index
 abbrev pub top_export : Top → TopExport → Option Top
 top_export top e =
     slice_get top.slots e.type_index >>= λ n.
     provided (is_bare e.exported_as && (is_label e.exported_as.text && not (list_any (λ x. x.1 == n) top.exported)))
     (record { types = top.types; slots = top.slots ++ n ∷ []; exported = top.exported ++ (e.exported_as.text, n) ∷ [] })
 
+-- what stands in a section
 abbrev pub top_piece : Top → Piece → Option Top
 top_piece top (levels.custom name contents) = Some top
 top_piece top (levels.types ps) = steps top_part top ps

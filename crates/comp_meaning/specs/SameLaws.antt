@@ -27,7 +27,9 @@ HaveDistinctNames fs = distinct (map (λ f. f.0) fs) ≡ true
 
 -- Where no name stands twice, functions are the same exactly where each stands in the other list, which is where they make one map.
 abbrev pub SameFunctionsStandInEachOther : Type 0
-SameFunctionsStandInEachOther = (fs gs : List (Text × FunctionMeaning)) → HaveDistinctNames fs → HaveDistinctNames gs → same_functions fs gs ≡ (stand_in same_function fs gs && stand_in same_function gs fs)
+SameFunctionsStandInEachOther = (fs gs : List (Text × FunctionMeaning)) → HaveDistinctNames fs → HaveDistinctNames gs
+    → same_functions fs gs ≡ (stand_in same_function fs gs && stand_in same_function gs fs)
 
 abbrev pub SameFunctionsAreOneMap : Type 0
-SameFunctionsAreOneMap = (fs gs : List (Text × FunctionMeaning)) → HaveDistinctNames fs → HaveDistinctNames gs → Decides (same_functions fs gs) (◌≡◌ {A = TextMap FunctionMeaning} (from_entries fs) (from_entries gs))
+SameFunctionsAreOneMap = (fs gs : List (Text × FunctionMeaning)) → HaveDistinctNames fs → HaveDistinctNames gs
+    → Decides (same_functions fs gs) (◌≡◌ {A = TextMap FunctionMeaning} (from_entries fs) (from_entries gs))

@@ -11,8 +11,6 @@ use Rattle.base_lemmas.proofs.Lists.{split_at as append_at}
 use Rattle.std.proofs.lemmas.Bool.{and_from as both}
 use Rattle.std.proofs.lemmas.Option.{same_Some as same-some}
 
--- one item stands at a number
-
 -- ---- the first that passes
 
 pub record IsFirstPassing {X : Type 0} (test : X → Bool) (xs : List X) : Type 0 where

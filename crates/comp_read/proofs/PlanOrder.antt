@@ -31,7 +31,7 @@ use Rattle.plan_types.specs.Orders.{places_of_part}
 use Rattle.read_rules.specs.Scopes.{numbered_scope}
 use Rattle.read_rules.specs.declared.scopes.Scope.{Scope}
 use Rattle.plan_package.specs.PlanWhole.{PlansWhole, places_in}
-use Rattle.plan_package.specs.Views.{views_of_members}
+use Rattle.plan_package.specs.Views.{views_of_members, views_of_part}
 use Rattle.plan_package.specs.WholeInterfaces.{PlansPlace}
 use Rattle.plan_package.specs.WholeWorlds.{PlansWorld, world_in_part, worlds_in}
 use Rattle.plan_laws.specs.OneWorld.{AreOwnInterfaces}
@@ -42,8 +42,10 @@ use Rattle.plan_laws.proofs.OneWorld.{functions_shown as functions_in_world, one
 use Rattle.plan_laws.proofs.Planned.{first_there, interface_there}
 use Rattle.plan_laws.proofs.WholeTypes.{packages_are_ruled, path_planned}
 use Rattle.plan_type_laws.specs.ShownMarks.{has_no_path}
-use Rattle.comp_read.specs.Order.{rise, FollowsParts, TypesRise, function_names, once_by_path, packages_shown, shown_under, worlds_shown}
+use Rattle.comp_read.specs.Order.{rise, FollowsParts, TypesRise, function_names, if_inline, inline_function_names, inline_functions_shown, once_by_path, packages_shown, shown_under, worlds_shown}
+use Rattle.comp_read.proofs.InlineOrder.{flat_each, inline_at, inline_whole, members_inline, views_inline, views_placed}
 use Rattle.comp_read.proofs.PackageOrder.{built_identities}
+use Rattle.comp_read.proofs.TypeNumbers.{zip_flat}
 use Rattle.comp_read.proofs.ShownOrder.{members_paths, names_alike, paths_once, scope_paths}
 use Rattle.comp_read.proofs.WorldOrder.{joined_behind}
 use Rattle.base_lemmas.proofs.Elements.{all_get, get-contains, zip_at_right, zip_each, zip_map as zip_names}
@@ -87,6 +89,16 @@ module _ (t : Tables) (h : Homes) (known : ℕ → Fact) (n : ℕ) (ms : List Me
     functions = λ q c path. refl;
   }
 
+  -- the functions of its inline interfaces stand as they are shown
+  pub package_inline : StandAlone t ms → flat_map (inline_at t (views_of_members (numbered_members ms))) (places_in ms) ≡ inline_functions_shown members
+  package_inline alone =
+      let views = views_of_members (numbered_members ms) in
+      ap (flat_map (inline_at t views)) (joined_behind [] (places_shown ms) ∙ ap once (sym (views_placed (numbered_members ms))))
+      ∙ (ap (λ (seen : List NumberedSight). flat_map (inline_at t seen) (once (map (λ (s : NumberedSight). s.place) views))) (sym (append-nil views))
+      ∙ (views_inline t given.input.tables views [] (ap (λ ps. are_once (filter (has_no_path t) ps)) (views_placed (numbered_members ms)) ∙ alone)
+      (inline_whole t (numbered_members ms) given.input.numbers)
+      ∙ members_inline t h (numbered_members ms) members given.input.shown given.input.numbers))
+
   module _ (p : Plan) (planned : PlansWhole t h.packages (home_at h) n ms p) (seen : List NumberedSight) (shown : List reads.Sight) (under : List (Option Text)) (are : AreShown t ms seen shown under) where
     ruled : IsRuledInput t h ms members
     ruled = packages_are_ruled t h known n ms members given
@@ -123,6 +135,25 @@ module _ (t : Tables) (h : Homes) (known : ℕ → Fact) (n : ℕ) (ms : List Me
         ∙ (sym (names_alike t given.input.tables q has seen are.paths)
         ∙ (λ j. map (λ f. f.0) (reads.functions_of (path_is t q has j) (sym are.are j))))))
 
+    inline_there : (k q : ℕ) (i : PlannedInterface) → slice_get (places_in ms) k ≡ Some q → slice_get p.interfaces k ≡ Some i
+        → if_inline (path_of_planned p i) (map (λ f. f.0) i.functions) ≡ inline_at t (views_of_members (numbered_members ms)) q
+    inline_there k q i at there =
+        let found = interface_there t h ms members given.input n p planned k q at in
+        let first = first_there t h ms members given.input n p planned k q at in
+        let made = found.2 first.0 first.1 in
+        let same : found.0 ≡ i = same-some found.0 i (sym found.1 ∙ there) in
+        let names = zip_names (IsPlannedFunction t planned.kept made.find) (λ f. f.0) (λ e. e.0) (λ f e is. is.under) (functions_seen q (views_of_members (numbered_members ms))) found.0.functions
+        made.functions in
+        (λ j. if_inline (path_there k q i at there j) (map (λ f. f.0) (sym same j).functions)) ∙ ap (if_inline (path_at t q)) names
+
+    pub inline_planned : flat_map (λ (i : PlannedInterface). if_inline (path_of_planned p i) (map (λ f. f.0) i.functions)) p.interfaces
+        ≡ flat_map (inline_at t (views_of_members (numbered_members ms))) (places_in ms)
+    inline_planned =
+        sym (zip_flat (inline_at t (views_of_members (numbered_members ms))) (λ (i : PlannedInterface). if_inline (path_of_planned p i) (map (λ f. f.0) i.functions)) (places_in ms) p.interfaces
+        (zip_each (PlansPlace t planned.kept n (home_at h) (views_of_members (numbered_members ms)))
+        (λ q i. inline_at t (views_of_members (numbered_members ms)) q ≡ if_inline (path_of_planned p i) (map (λ f. f.0) i.functions)) (places_in ms) p.interfaces planned.interfaces
+        (λ k q i at there. sym (inline_there k q i at there))))
+
     pub worlds_planned : map (λ w. w.name) p.worlds ≡ map (λ w. w.0) (worlds_in ms)
     worlds_planned = zip_names (PlansWorld t planned.kept (places_in ms) n) (λ w. w.0) (λ w. w.name) (λ w x is. is.name) (worlds_in ms) p.worlds planned.worlds
 
@@ -154,7 +185,7 @@ same_rise [] = refl
 same_rise (n ∷ ns) = ap (λ b. list_all (nat_lt n) ns && b) (same_rise ns)
 
 module _ (p : Plan) (r : Resolve) (built : IsBuilt p r) where
-  is_plan : p ≡ plan_of r p.main
+  pub is_plan : p ≡ plan_of r p.main
   is_plan = λ i. record { packages = sym built.packages i; interfaces = sym built.interfaces i; worlds = sym built.worlds i; types = sym built.types i; main = p.main }
 
   path_built : (i : Interface) → path_of_planned p (planned_interface i) ≡ path_of_interface r i
@@ -165,7 +196,7 @@ module _ (p : Plan) (r : Resolve) (built : IsBuilt p r) where
       map_each (path_of_interface r) (λ i. path_of_planned p (planned_interface i)) (λ i. sym (path_built i)) r.interfaces.items
       ∙ (sym (map_of_map (path_of_planned p) planned_interface r.interfaces.items) ∙ ap (map (path_of_planned p)) built.interfaces)
 
-  built_at : (k : ℕ) (i : Interface) → interface_at r k ≡ Some i → slice_get p.interfaces k ≡ Some (planned_interface i)
+  pub built_at : (k : ℕ) (i : Interface) → interface_at r k ≡ Some i → slice_get p.interfaces k ≡ Some (planned_interface i)
   built_at k i at = ap (λ ks. slice_get ks k) (sym built.interfaces) ∙ (slice_get-map planned_interface r.interfaces.items k ∙ ap (option_map planned_interface) at)
 
   pub functions_built : (shown : List reads.Sight)
@@ -175,8 +206,22 @@ module _ (p : Plan) (r : Resolve) (built : IsBuilt p r) where
   functions_built shown planned k i path at under =
       sym (map_of_map (λ f. f.0) (λ e. (text_of e.0, planned_function e.1)) i.functions.entries) ∙ planned k (planned_interface i) path (built_at k i at) (path_built i ∙ under)
 
+  names_built : (i : Interface) → function_names i ≡ map (λ f. f.0) (planned_interface i).functions
+  names_built i = sym (map_of_map (λ f. f.0) (λ e. (text_of e.0, planned_function e.1)) i.functions.entries)
+
+  pub inline_built : inline_function_names r ≡ flat_map (λ (i : PlannedInterface). if_inline (path_of_planned p i) (map (λ f. f.0) i.functions)) p.interfaces
+  inline_built =
+      flat_each (λ (i : Interface). if_inline (path_of_interface r i) (function_names i))
+      (λ (i : Interface). if_inline (path_of_planned p (planned_interface i)) (map (λ f. f.0) (planned_interface i).functions))
+      (λ i j. if_inline (sym (path_built i) j) (names_built i j)) r.interfaces.items
+      ∙ (flat_mapped (λ (i : PlannedInterface). if_inline (path_of_planned p i) (map (λ f. f.0) i.functions)) planned_interface r.interfaces.items
+      ∙ ap (flat_map (λ (i : PlannedInterface). if_inline (path_of_planned p i) (map (λ f. f.0) i.functions))) built.interfaces)
+
   pub worlds_built : map (λ w. text_of w.name) r.worlds.items ≡ map (λ w. w.name) p.worlds
   worlds_built = sym (map_of_map (λ (w : PlannedWorld). w.name) planned_world r.worlds.items) ∙ ap (map (λ w. w.name)) built.worlds
+
+  pub world_built_at : (k : ℕ) (w : World) → world_at r k ≡ Some w → slice_get p.worlds k ≡ Some (planned_world w)
+  world_built_at k w at = ap (λ ks. slice_get ks k) (sym built.worlds) ∙ (slice_get-map planned_world r.worlds.items k ∙ ap (option_map planned_world) at)
 
   -- the types of a plan that was read
   module _ (is : IsPlan p) (rises : are_rising (flat_map (λ (i : PlannedInterface). numbers_of i.types) p.interfaces) ≡ true) where
@@ -184,9 +229,6 @@ module _ (p : Plan) (r : Resolve) (built : IsBuilt p r) where
     numbers_built =
         (λ j. flat_map (λ (i : Interface). sym (type_numbers_are i) j) r.interfaces.items)
         ∙ (flat_mapped (λ (i : PlannedInterface). numbers_of i.types) planned_interface r.interfaces.items ∙ ap (flat_map (λ (i : PlannedInterface). numbers_of i.types)) built.interfaces)
-
-    world_built_at : (k : ℕ) (w : World) → world_at r k ≡ Some w → slice_get p.worlds k ≡ Some (planned_world w)
-    world_built_at k w at = ap (λ ks. slice_get ks k) (sym built.worlds) ∙ (slice_get-map planned_world r.worlds.items k ∙ ap (option_map planned_world) at)
 
     pub types_built : TypesRise r
     types_built = record {
@@ -208,6 +250,7 @@ package_follows t h known n ms members given alone packages p planned r built ty
       packages = built_identities t h.packages (home_at h) n ms p planned r built ∙ packages;
       interfaces = paths_built p r built ∙ paths_planned t h known n ms members given p planned seen shown under are;
       functions = functions_built p r built shown (functions_planned t h known n ms members given p planned seen shown under are);
+      inline = inline_built p r built ∙ (inline_planned t h known n ms members given p planned seen shown under are ∙ package_inline t h known n ms members given alone);
       worlds = worlds_built p r built ∙ (worlds_planned t h known n ms members given p planned seen shown under are ∙ worlds_meant t h ms members given.input.shown);
       types = types;
     }
@@ -243,6 +286,18 @@ module _ (t : Tables) (h : Homes) (known : ℕ → Fact) (n : ℕ) (m : Member) 
         subst (λ k. functions_seen k (sights_of_members t (numbered_members (m ∷ own))) ≡ functions_seen k world_seen) s.2 (functions_in_world t h n m own w is own_are s.0 s.1);
   }
 
+  -- the functions of its inline interfaces stand as it shows them
+  world_inline : flat_map (inline_at t (views_of_members (numbered_members (m ∷ own)))) (places_in (m ∷ own)) ≡ inline_functions_shown ones
+  world_inline =
+      let views = views_of_members (numbered_members (m ∷ [])) in
+      let others = views_of_members (numbered_members own) in
+      let numbers = given.input.numbers.0 in
+      ap (flat_map (inline_at t (views_of_members (numbered_members (m ∷ own))))) (met ∙ ap once (sym one_places ∙ sym (views_placed (numbered_members (m ∷ [])))))
+      ∙ (ap (λ (seen : List NumberedSight). flat_map (inline_at t (seen ++ others)) (once (map (λ (s : NumberedSight). s.place) views))) (sym (append-nil (views_of_part (numbered_part m.part))))
+      ∙ (views_inline t given.input.tables views others (ap (λ ps. are_once (filter (has_no_path t) ps)) (views_placed (numbered_members (m ∷ []))) ∙ alone)
+      (inline_whole t (numbered_members (m ∷ [])) (numbers, tt))
+      ∙ members_inline t h (numbered_members (m ∷ [])) ones zip (numbers, tt)))
+
   one_label : map (λ (v : Text × Scope). v.0) (worlds_in (m ∷ own)) ≡ worlds_shown ones
   one_label =
       ap (map (λ (v : Text × Scope). v.0)) (one_world t h n m own w is own_are)
@@ -253,6 +308,8 @@ module _ (t : Tables) (h : Homes) (known : ℕ → Fact) (n : ℕ) (m : Member) 
     packages = built_identities t h.packages (home_at h) n (m ∷ own) p planned r built ∙ packages;
     interfaces = paths_built p r built ∙ paths_planned t h known n (m ∷ own) members given p planned world_seen world_views (flat_map shown_under ones) world_shown;
     functions = functions_built p r built world_views (functions_planned t h known n (m ∷ own) members given p planned world_seen world_views (flat_map shown_under ones) world_shown);
+    inline = inline_built p r built
+        ∙ (inline_planned t h known n (m ∷ own) members given p planned world_seen world_views (flat_map shown_under ones) world_shown ∙ world_inline);
     worlds = worlds_built p r built ∙ (worlds_planned t h known n (m ∷ own) members given p planned world_seen world_views (flat_map shown_under ones) world_shown ∙ one_label);
     types = types;
   }

@@ -1,6 +1,6 @@
 -- What is decoded stands in the order in which the bytes show it.
-use Rattle.std.proofs.Common.{◌≡◌, refl, sym, ap, subst, ◌∙◌, ℕ, true, List, [], ◌∷◌, map, IfOk, Option, Some, None, Result, Ok, Err}
-use Rattle.std.specs.List.{AllZip, flat_map}
+use Rattle.std.proofs.Common.{◌≡◌, refl, sym, ap, subst, ◌∙◌, ℕ, true, List, [], ◌∷◌, ◌++◌, append-nil, length, map, IfOk, Option, Some, None, Result, Ok, Err, slice_get}
+use Rattle.std.specs.List.{AllZip, filter, flat_map}
 use Rattle.wit_model.specs.declared.model.Resolve.{Resolve}
 use Rattle.wit_model.specs.Meaning.{PackageMeaning, WorldPackage}
 use Rattle.wit_model.specs.Text.{Text}
@@ -15,17 +15,26 @@ use Rattle.comp_meaning.specs.Reads.{exported_types}
 use Rattle.comp_meaning.proofs.Levelled.{levelled}
 use Rattle.plan_meaning.specs.Built.{IsBuilt}
 use Rattle.plan_meaning.specs.NumberedMembers.{Homes, HomesStand, IsMember, are_package, home_at}
-use Rattle.plan_meaning.specs.NumberedViews.{Tables}
+use Rattle.plan_meaning.specs.KeptTypes.{TypesAreKept}
+use Rattle.plan_meaning.specs.NumberedViews.{NumberedSight, Tables, first_at, place_at, tree_at}
+use Rattle.plan_meaning.specs.NumberedWorlds.{are_once}
 use Rattle.plan_meaning.specs.Plan.{Plan, PlannedInterface, numbers_of}
 use Rattle.plan_meaning.specs.PlanRules.{are_rising, IsPlan}
 use Rattle.plan_build.proofs.BuildableLaws.{plans_are_buildable}
 use Rattle.plan_types.specs.Orders.{joined_all}
 use Rattle.plan_package.specs.PlanWhole.{PlansWhole, places_in}
 use Rattle.plan_package.specs.Views.{views_of_members}
+use Rattle.plan_package.specs.WholeWorlds.{PlansWorld, world_in_part, worlds_in}
+use Rattle.plan_type_laws.specs.ShownMarks.{has_no_path}
+use Rattle.plan_laws.specs.OneWorld.{AreOwnInterfaces}
+use Rattle.plan_laws.specs.ShownNames.{PartDeclaresNames}
+use Rattle.plan_laws.proofs.OneWorld.{one_world}
 use Rattle.plan_laws.specs.Whole.{IsPackageInput}
 use Rattle.plan_laws.proofs.Planned.{first_there}
 use Rattle.plan_laws.proofs.WholePlacesTop.{one_package}
-use Rattle.base_lemmas.proofs.Elements.{last_of}
+use Rattle.plan_laws.proofs.WholeTypes.{packages_are_ruled, planned_types_are_whole}
+use Rattle.base_lemmas.proofs.Elements.{last_of, zip_long}
+use Rattle.read_follow.proofs.ComponentLaws.{places_are as places_stand}
 use Rattle.read_exports.specs.Members.{numbered_members, numbered_part}
 use Rattle.read_exports.specs.declared.members.Member.{Member}
 use Rattle.read_exports.specs.declared.members.Part.{Part}
@@ -36,18 +45,23 @@ use Rattle.read_numbers.specs.NumberedInput.{tables_of}
 use Rattle.read_numbers.specs.PlacedNumbers.{scopes_in}
 use Rattle.read_parts.specs.declared.following.Followed.{Followed}
 use Rattle.read_parts.specs.Input.{IsFollowed}
+use Rattle.read_parts.specs.Members.{declared_trees}
 use Rattle.read_rules.specs.Scopes.{numbered_scope}
 use Rattle.read_rules.specs.declared.scopes.Scope.{Scope}
 use Rattle.read_rules.specs.declared.tables.Fact.{Fact as KeptFact}
 use Rattle.comp_read.specs.MembersRead.{AreReadOf}
-use Rattle.comp_read.specs.Order.{FollowsBytes, FollowsLevels}
+use Rattle.comp_read.specs.Order.{FollowsBytes, FollowsLevels, NamesFollow}
 use Rattle.comp_read.specs.OwnMembers.{StandAsShown}
 use Rattle.comp_read.specs.Planned.{IsBuiltOf, PlansMean, WorldPlansMean}
 use Rattle.comp_read.specs.ReadInput.{AreHomesOf, IsReadInput, ViewsObey}
 use Rattle.comp_read.specs.ReadWorlds.{AreBeside, IsReadWorld}
+use Rattle.comp_read.specs.TypeOrder.{NumbersFollow}
 use Rattle.comp_read.specs.WorldsRead.{IsWorldReadOf}
 use Rattle.comp_read.proofs.ByScopes.{members_by_scopes}
+use Rattle.comp_read.proofs.Members.{tables}
 use Rattle.comp_read.proofs.MetPlaces.{HavePaths, all_have, stand_alone}
+use Rattle.comp_read.proofs.NamedOrder.{named_less}
+use Rattle.comp_read.proofs.NumberedOrder.{numbers_follow}
 use Rattle.comp_read.proofs.PlanOrder.{StandAlone, package_follows, types_built, world_follows}
 use Rattle.comp_read.proofs.ShownScopes.{scope_places}
 use Rattle.comp_read.proofs.TypeNumbers.{all_rise, places_alike, world_places, world_views}
@@ -64,6 +78,17 @@ exported : (pieces : List Piece) (x : Followed) (h : Homes) (ms : List Member) (
     → (exported_parts pieces >>= each member_by_levels) ≡ Some members
 exported pieces x h ms members input =
     ap (λ o. o >>= each member_by_levels) input.followed.exported ∙ members_by_scopes pieces input.followed.parts input.followed.exported members input.reads
+
+-- ---- the numbers of types
+
+module _ (pieces : List Piece) (x : Followed) (h : Homes) (ms : List Member) (members : List reads.Member) (input : IsReadInput pieces x h ms members) where
+  all_numbered : (kept : List ℕ) (p : Plan) → TypesAreKept (tables_of x) kept p → length kept ≡ length p.types → (r : Resolve) → IsBuilt p r
+      → NumbersFollow (declared_trees input.followed.parts) r
+  all_numbered kept p are long r built =
+      let n = input.followed.followed.numbers in
+      let t = tables_of x in
+      numbers_follow t (tables pieces x h ms members input) kept p are long r built n.parts n.counted (declared_trees input.followed.parts)
+      (sym (append-nil (map (tree_at t) n.parts)) ∙ n.trees (place_at t) (places_stand x.places))
 
 -- ---- a package
 
@@ -84,6 +109,23 @@ module _ (x : Followed) (facts : List KeptFact) (h : Homes) (n : ℕ) (ms : List
       (ap (joined_all []) (sym (places_alike pieces x h ms package_read.0 package_read.1 (known_by facts) obey))) p.interfaces planned.interfaces
       (first_there (tables_of x) h ms package_read.0 packaged.input n p planned) is.types_rise
 
+  names_follow : (p : Plan) → PlansWhole (tables_of x) h.packages (home_at h) n ms p → (r : Resolve) → IsBuilt p r → NamesFollow package_read.1.followed.parts package_read.0 r
+  names_follow p planned r built m y member y_at member_at front back split scope read a b =
+      let obey = package_views_obey (tables_of x) h (known_by facts) n ms obeys in
+      let input = package_read.1 in
+      let places = places_alike pieces x h ms package_read.0 input (known_by facts) obey in
+      let alone = stand_alone pieces x h ms package_read.0 input (all_have (tables_of x) (numbered_members ms) packaged.input.numbers) in
+      named_less pieces x h ms package_read.0 input (known_by facts) obey
+      (subst (λ (ps : List ℕ). are_once (filter (has_no_path (tables_of x)) ps) ≡ true) (sym places) alone) packaged.input.declared m y y_at member member_at front back split scope read
+      planned.kept_for.marks planned.kept planned.kept_for.marked n (home_at h) (views_of_members (numbered_members ms)) (λ s c. c) (places_in ms) (ap (joined_all []) (sym places)) p
+      planned.interfaces (first_there (tables_of x) h ms package_read.0 packaged.input n p planned) (places_in ms) planned.worlds r built a b
+
+  numbers_are : (p : Plan) → PlansWhole (tables_of x) h.packages (home_at h) n ms p → (r : Resolve) → IsBuilt p r → NumbersFollow (declared_trees package_read.1.followed.parts) r
+  numbers_are p planned r built =
+      let ruled = packages_are_ruled (tables_of x) h (known_by facts) n ms package_read.0 packaged in
+      let whole = planned_types_are_whole (tables_of x) h ms package_read.0 ruled n p planned in
+      all_numbered pieces x h ms package_read.0 package_read.1 planned.kept p whole.types (zip_long _ planned.kept p.types planned.types) r built
+
   follows_package : (p : Plan) → PlansWhole (tables_of x) h.packages (home_at h) n ms p → IsPlan p → (r : Resolve) → IsBuilt p r → FollowsLevels (Some pieces) r
   follows_package p planned is r built = record {
     members = package_read.0;
@@ -94,6 +136,10 @@ module _ (x : Followed) (facts : List KeptFact) (h : Homes) (n : ℕ) (ms : List
         (packages_are pieces x h ms package_read.0 package_read.1 read.homes read.order (read_packages_have_sources read.first h.packages h.homes ms read.reasons read.members) n
         (one_package (tables_of x) h (known_by facts) n ms package_read.0 packaged)) p planned r built
         (types_built p r built is (types_rise p planned is));
+    parts = package_read.1.followed.parts;
+    read = package_read.1.followed.exported;
+    named = names_follow p planned r built;
+    numbered = numbers_are p planned r built;
   }
 
 module _ (x : Followed) (t : Tables) (facts : List KeptFact) (h : Homes) (n : ℕ) (ms : List Member) (read : AreReadOf x t facts h (map lent_member ms)) (pieces : List Piece)
@@ -145,6 +191,33 @@ module _ (x : Followed) (t : Tables) (facts : List KeptFact) (h : Homes) (m : Me
       (views_of_members (numbered_members (m ∷ own)))
       (world_views t h m w given.is own are) (places_in (m ∷ own)) met p.interfaces here.interfaces (first_there t h (m ∷ own) whole.members whole.input.input m.package_number p planned) is.types_rise
 
+  world_names_follow : (p : Plan) → PlansWhole t h.packages (home_at h) m.package_number (m ∷ own) p → (r : Resolve) → IsBuilt p r → NamesFollow world_read.1.followed.parts world_read.0 r
+  world_names_follow p planned r built k y member y_at member_at front back split scope read a b =
+      let whole = read_world_is_whole pieces x t facts h m w world_is_read own are in
+      let here = subst (λ (u : Tables). PlansWhole u h.packages (home_at h) m.package_number (m ∷ own) p) given.read.tables planned in
+      let same = places_alike pieces x h (m ∷ []) world_read.0 world_read.1 (known_by facts) obey in
+      let met = world_places m w given.is (places_in (m ∷ own)) (flat_map scope_places (scopes_in x)) (places_are t h given.read.homes m.package_number m w given.is own are order) same in
+      let alone = stand_alone pieces x h (m ∷ []) world_read.0 world_read.1 (subst (λ (a : Part). HavePaths (tables_of x) (numbered_part a)) (sym given.is) tt, tt) in
+      let one = one_world t h m.package_number m own w given.is are in
+      let alike : worlds_in (m ∷ own) ≡ worlds_in (m ∷ []) = one ∙ sym (ap (λ (a : Part). world_in_part m.label.now a ++ []) given.is) in
+      named_less pieces x h (m ∷ []) world_read.0 world_read.1 (known_by facts) obey
+      (subst (λ (ps : List ℕ). are_once (filter (has_no_path (tables_of x)) ps) ≡ true) (sym same) alone)
+      (subst (λ (u : Tables). PartDeclaresNames u m.part) given.read.tables whole.input.input.declared.0, tt) k y y_at member member_at front back split scope read
+      here.kept_for.marks here.kept here.kept_for.marked m.package_number (home_at h) (views_of_members (numbered_members (m ∷ own))) (world_views (tables_of x) h m w given.is own
+      (subst (λ (u : Tables). AreOwnInterfaces u h m.package_number (numbered_scope w) (numbered_members own)) given.read.tables are)) (places_in (m ∷ own)) met p
+      here.interfaces
+      (subst (λ (u : Tables). (k q : ℕ) → slice_get (places_in (m ∷ own)) k ≡ Some q → (s : NumberedSight) × (first_at q (views_of_members (numbered_members (m ∷ own))) ≡ Some s)) given.read.tables
+      (first_there t h (m ∷ own) whole.members whole.input.input m.package_number p planned)) (places_in (m ∷ own))
+      (subst (λ (ws : List (Text × Scope)). AllZip (PlansWorld (tables_of x) here.kept (places_in (m ∷ own)) m.package_number) ws p.worlds) alike here.worlds) r built a b
+
+  world_numbers : (p : Plan) → PlansWhole t h.packages (home_at h) m.package_number (m ∷ own) p → (r : Resolve) → IsBuilt p r → NumbersFollow (declared_trees world_read.1.followed.parts) r
+  world_numbers p planned r built =
+      let whole = read_world_is_whole pieces x t facts h m w world_is_read own are in
+      let ruled = packages_are_ruled t h (known_by facts) m.package_number (m ∷ own) whole.members whole.input in
+      let types = planned_types_are_whole t h (m ∷ own) whole.members ruled m.package_number p planned in
+      all_numbered pieces x h (m ∷ []) world_read.0 world_read.1 planned.kept p (subst (λ (u : Tables). TypesAreKept u planned.kept p) given.read.tables types.types)
+      (zip_long _ planned.kept p.types planned.types) r built
+
   pub world_in_order : (found : Option WorldPackage) → WorldPlansMean t h.packages (home_at h) m.package_number (m ∷ own) found → (r : Resolve) (main : ℕ)
       → IsBuiltOf t h.packages (home_at h) m.package_number (m ∷ own) r main → FollowsLevels (Some pieces) r
   world_in_order found mean r main is =
@@ -164,6 +237,10 @@ module _ (x : Followed) (t : Tables) (facts : List KeptFact) (h : Homes) (m : Me
             world_follows t h (known_by facts) m.package_number m own whole.members whole.input w given.is are met world_read.0 zip (over_tables (λ (u : Tables). StandAlone u (m ∷ [])) alone) packages
             is.plan is.planned r
             built (types_built is.plan r built plan (world_types_rise is.plan is.planned plan));
+        parts = world_read.1.followed.parts;
+        read = world_read.1.followed.exported;
+        named = world_names_follow is.plan is.planned r built;
+        numbered = world_numbers is.plan is.planned r built;
       }
 
 -- ---- bytes
@@ -187,6 +264,10 @@ follows_bytes bytes r is =
         are = ap (λ o. o >>= each reads.member) types.1 ∙ (sym (bound (each reads.member types.0)) ∙ types.2);
       };
       follows = is.follows;
+      parts = is.parts;
+      read = is.read;
+      named = is.named;
+      numbered = is.numbered;
     }
   where
     parts_by : (o : Option (List (Text × PartType))) → (members : List reads.Member) → (o >>= each member_by_levels) ≡ Some members

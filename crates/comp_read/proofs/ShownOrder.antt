@@ -62,7 +62,7 @@ module _ (t : Tables) where
         by false true f rest = absurd cc
 
     -- a place without a path stands once
-    pathless : (q : ℕ) → path_at t q ≡ None → (ns : List ℕ) → has ns q ≡ has (filter (has_no_path t) ns) q
+    pub pathless : (q : ℕ) → path_at t q ≡ None → (ns : List ℕ) → has ns q ≡ has (filter (has_no_path t) ns) q
     pathless q e [] = refl
     pathless q e (n ∷ ns) = by (n == q) refl (has_no_path t n) refl (pathless q e ns)
       where
@@ -73,7 +73,7 @@ module _ (t : Tables) where
         by false f false g rest = rest
         by true f false g rest = let wrong : false ≡ true = sym g ∙ (ap (has_no_path t) (eqb-true n q f) ∙ ap is_none e) in absurd cc
 
-    none_left : (q : ℕ) (ns : List ℕ) → has ns q ≡ false → filter (λ m. not (m == q)) ns ≡ ns
+    pub none_left : (q : ℕ) (ns : List ℕ) → has ns q ≡ false → filter (λ m. not (m == q)) ns ≡ ns
     none_left q [] e = refl
     none_left q (n ∷ ns) e = by (n == q) e (none_left q ns)
       where

@@ -90,7 +90,7 @@ rises_flat f (x ∷ xs) own between =
     between zero (suc at.0) x from.0 refl at.1 (omega arith) c d c_in from.2)
 
 -- lists that are made of items that are alike
-zip_flat : {A B : Type 0} (f : A → List ℕ) (g : B → List ℕ) (xs : List A) (ys : List B) → AllZip (λ x y. f x ≡ g y) xs ys → flat_map f xs ≡ flat_map g ys
+pub zip_flat : {A B C : Type 0} (f : A → List C) (g : B → List C) (xs : List A) (ys : List B) → AllZip (λ x y. f x ≡ g y) xs ys → flat_map f xs ≡ flat_map g ys
 zip_flat f g [] [] zip = refl
 zip_flat f g [] (y ∷ ys) zip = absurd zip
 zip_flat f g (x ∷ xs) [] zip = absurd zip
@@ -99,7 +99,7 @@ zip_flat f g (x ∷ xs) (y ∷ ys) zip = λ i. zip.0 i ++ zip_flat f g xs ys zip
 -- ---- parts
 
 -- the parts that the types of a view stand for
-abbrev part_numbers : NumberedView → List ℕ
+abbrev pub part_numbers : NumberedView → List ℕ
 part_numbers v = map (λ (y : NumberedType). part_of y.slot) v.types
 
 numbered_parts : (t : Tables) (p : ℕ) (xs : List NumberedType) (ns : List ℕ) → AllZip (IsNumbered t p) xs ns → map (λ (y : NumberedType). part_of y.slot) xs ≡ map (λ n. 14 + n) ns
@@ -108,12 +108,12 @@ numbered_parts t p [] (n ∷ ns) z = absurd z
 numbered_parts t p (x ∷ xs) [] z = absurd z
 numbered_parts t p (x ∷ xs) (n ∷ ns) z = λ i. z.0.0 i ∷ numbered_parts t p xs ns z.1 i
 
-same_part : (s : NumberedSlot) → slot_part s ≡ part_of s
+pub same_part : (s : NumberedSlot) → slot_part s ≡ part_of s
 same_part (value k) = refl
 same_part (resource k) = refl
 
 -- a smaller part that is kept gets a smaller number
-kept_less : (marks : List Bool) (kept : List ℕ) → AreMarked marks kept → (o p c d : ℕ) → IsPart kept o (14 + c) → IsPart kept p (14 + d) → o < p → c < d
+pub kept_less : (marks : List Bool) (kept : List ℕ) → AreMarked marks kept → (o p c d : ℕ) → IsPart kept o (14 + c) → IsPart kept p (14 + d) → o < p → c < d
 kept_less marks kept marked o p c d (a_primitive low same) b less = absurd (omega (arith, low, same))
 kept_less marks kept marked o p c d (a_shape n j is at new) (a_primitive low same) less = absurd (omega (arith, low, same))
 kept_less marks kept marked o p c d (a_shape n j is at new) (a_shape m k other there newer) less =
@@ -121,7 +121,7 @@ kept_less marks kept marked o p c d (a_shape n j is at new) (a_shape m k other t
     omega (arith, new, newer, rises)
 
 -- the type of a number of the plan
-shown_number : (kept : List ℕ) (v : NumberedView) (es : List (Text × ℕ)) → AllZip (ListsNumber kept) v.types es → (c : ℕ) → Contains (numbers_of es) c → (y : NumberedType) × Contains v.types y
+pub shown_number : (kept : List ℕ) (v : NumberedView) (es : List (Text × ℕ)) → AllZip (ListsNumber kept) v.types es → (c : ℕ) → Contains (numbers_of es) c → (y : NumberedType) × Contains v.types y
     × IsPart kept (slot_part y.slot) (14 + c)
 shown_number kept v es zip c c_in =
     let e = map_from (λ (e : Text × ℕ). e.1) es c c_in in
@@ -131,7 +131,8 @@ shown_number kept v es zip c c_in =
 
 -- ---- what was followed
 
-module _ (pieces : List Piece) (x : Followed) (h : Homes) (ms : List Member) (members : List reads.Member) (input : IsReadInput pieces x h ms members) (known : ℕ → Fact) (obey : ViewsObey (tables_of x) known ms) where
+module _ (pieces : List Piece) (x : Followed) (h : Homes) (ms : List Member) (members : List reads.Member) (input : IsReadInput pieces x h ms members) (known : ℕ
+    → Fact) (obey : ViewsObey (tables_of x) known ms) where
   abbrev t : Tables
   t = tables_of x
 
@@ -139,7 +140,7 @@ module _ (pieces : List Piece) (x : Followed) (h : Homes) (ms : List Member) (me
   ws = scopes_in x
 
   -- instances of one place show the same parts
-  told_parts : (m j : ℕ) (i : NumberedInstance) → IsInstanceAt ws m j i → (n k : ℕ) (l : NumberedInstance) → IsInstanceAt ws n k l → i.place ≡ l.place → part_numbers i.view ≡ part_numbers l.view
+  pub told_parts : (m j : ℕ) (i : NumberedInstance) → IsInstanceAt ws m j i → (n k : ℕ) (l : NumberedInstance) → IsInstanceAt ws n k l → i.place ≡ l.place → part_numbers i.view ≡ part_numbers l.view
   told_parts m j i at n k l there same =
       let a = instance_placed pieces x h ms members input m j i at in
       let b = instance_placed pieces x h ms members input n k l there in
@@ -165,7 +166,7 @@ module _ (pieces : List Piece) (x : Followed) (h : Homes) (ms : List Member) (me
       subst (λ (p : ℕ). p < d) old.2 (subst (λ (p : ℕ). part_of old.0.slot < p) new.2 less)
 
   -- the places of all instances, in order
-  abbrev places : List ℕ
+  abbrev pub places : List ℕ
   places = flat_map scope_places ws
 
   there_in : (k : ℕ) (w : NumberedScope) → slice_get ws k ≡ Some w → (l : ℕ) (o : NumberedInstance) → slice_get w.instances l ≡ Some o → IsInstanceAt ws k l o
@@ -268,13 +269,13 @@ module _ (pieces : List Piece) (x : Followed) (h : Homes) (ms : List Member) (me
       (ps : List ℕ) (met : ps ≡ joined_all [] places) (is : List PlannedInterface) (planned : AllZip (PlansPlace t kept n homes seen) ps is)
       (firsts : (k q : ℕ) → slice_get ps k ≡ Some q → (s : NumberedSight) × (first_at q seen ≡ Some s)) where
     -- the instance of the first view of a place
-    record IsShownAt (q : ℕ) (s : NumberedSight) : Type 0 where
-      scope : ℕ
-      number : ℕ
-      at : IsInstanceAt ws scope number (instance_shown s)
-      place : s.place ≡ q
+    pub record IsShownAt (q : ℕ) (s : NumberedSight) : Type 0 where
+      pub scope : ℕ
+      pub number : ℕ
+      pub at : IsInstanceAt ws scope number (instance_shown s)
+      pub place : s.place ≡ q
 
-    shown_at : (q : ℕ) (s : NumberedSight) → first_at q seen ≡ Some s → IsShownAt q s
+    pub shown_at : (q : ℕ) (s : NumberedSight) → first_at q seen ≡ Some s → IsShownAt q s
     shown_at q s e =
         let first = first_is q seen s e in
         let i = instance_of_any pieces x h ms members input s (within s first.0) in

@@ -8,19 +8,12 @@ use Rattle.wit_model.specs.Lookup.{package_at}
 use Rattle.wit_model.specs.Meaning.{PackageMeaning}
 use Rattle.wit_model.specs.Meant.{Meant}
 use Rattle.wit_model.specs.Valid.{IsValid}
-use Rattle.comp_bytes.specs.Levels.{levels_of}
-use Rattle.comp_bytes.specs.Reading.{◌>>=◌}
-use Rattle.comp_meaning.specs.ByLevels.{package_of_pieces}
 use Rattle.comp_meaning.specs.Reads.{Reads}
 use Rattle.read_follow.specs.declared.refusal.Refusal.{Refusal}
 use Rattle.read_follow.specs.declared.refusal.Refusal.TheVariants as refusals
 use Rattle.plan_meaning.specs.Built.{IsBare}
 use Rattle.plan_meaning.specs.NothingElse.{HoldsPackageAlone}
 use Rattle.comp_read.specs.Order.{OthersListByNumber}
-
--- what bytes mean, by what their sections do
-abbrev pub package_found : List ℕ → Option PackageMeaning
-package_found bytes = levels_of bytes >>= package_of_pieces
 
 -- The `Resolve` is valid, without documentation and with no stability known; its package of this number means just what was found, and nothing stands
 -- there beyond that. Each other package lists its interfaces in the order of their numbers.

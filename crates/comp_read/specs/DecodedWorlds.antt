@@ -8,17 +8,10 @@ use Rattle.wit_model.specs.Lookup.{world_at}
 use Rattle.wit_model.specs.Meaning.{WorldPackage}
 use Rattle.wit_model.specs.Meant.{MeantWorld}
 use Rattle.wit_model.specs.Valid.{IsValid}
-use Rattle.comp_bytes.specs.Levels.{levels_of}
-use Rattle.comp_bytes.specs.Reading.{◌>>=◌}
-use Rattle.comp_meaning.specs.ByLevels.{world_of_pieces}
 use Rattle.comp_meaning.specs.Reads.{ReadsWorld}
 use Rattle.plan_meaning.specs.Built.{IsBare}
 use Rattle.plan_meaning.specs.NothingElse.{HoldsWorldAlone}
 use Rattle.comp_read.specs.Order.{ListByNumber}
-
--- what bytes mean as one world, by what their sections do
-abbrev pub world_found : List ℕ → Option WorldPackage
-world_found bytes = levels_of bytes >>= world_of_pieces
 
 -- the number of the package of a world
 abbrev pub package_of : World → Option ℕ

@@ -11,5 +11,7 @@ pub mod DecodedWorlds
 pub mod MembersRead
 pub mod Planned
 pub mod SomeFollowed
+pub mod TypeOrder
 pub mod WantedFound
 pub mod WorldsRead
+pub mod Cuts

@@ -1,25 +1,29 @@
 -- The order in which what is decoded stands in a `Resolve` (Component Model WIT.md, "Package Format").
-use Rattle.std.specs.Prelude.{◌≡◌, ℕ, Bool, true, not, ◌&&◌, false, nat_lt, List, [], ◌∷◌, ◌++◌, filter, flat_map, map, Option, Some, None, option_to_list, slice_get}
-use Rattle.std.specs.List.{list_all}
+use Rattle.std.specs.Prelude.{◌≡◌, ◌⊎◌, ◌<◌, ◌≤◌, ℕ, Bool, true, not, ◌&&◌, false, nat_lt, List, [], ◌∷◌, ◌++◌, filter, flat_map, length, map, take, Option, Some, None, option_to_list, slice_get}
+use Rattle.std.specs.List.{Contains, list_all}
 use Rattle.std.specs.Option.{option_map_or}
 use Rattle.indexmap.specs.IndexMap.{values}
 use Rattle.wit_model.specs.declared.model.Interface.{Interface}
 use Rattle.wit_model.specs.declared.model.Package.{Package}
 use Rattle.wit_model.specs.declared.model.Resolve.{Resolve}
+use Rattle.wit_model.specs.declared.model.TypeId.{TypeId}
 use Rattle.wit_model.specs.declared.model.World.{World}
+use Rattle.wit_model.specs.declared.model.WorldItem.TheVariants as item
 use Rattle.wit_model.specs.Lookup.{identity_of, interface_at, package_at, path_of_interface, world_at}
 use Rattle.wit_model.specs.Names.{PackageIdentity, path_in, read_path}
 use Rattle.wit_model.specs.Rules.{interface_type_numbers, world_type_numbers}
 use Rattle.wit_model.specs.Text.{Text, text_eq, text_of}
-use Rattle.comp_bytes.specs.Levels.{Piece}
+use Rattle.comp_bytes.specs.Levels.{Entry, PartType, Piece, levels_of}
 use Rattle.comp_bytes.specs.Raw.{Section}
 use Rattle.comp_bytes.specs.Reading.{◌>>=◌}
 use Rattle.comp_bytes.specs.Spelling.{IsComponent}
-use Rattle.comp_meaning.specs.ByLevels.{exported_parts, member_by_levels}
-use Rattle.comp_meaning.specs.Follow.{each}
+use Rattle.comp_meaning.specs.ByLevels.{entry_step, exported_parts, member_by_levels}
+use Rattle.comp_meaning.specs.Follow.{Scope, each, new_scope}
 use Rattle.comp_meaning.specs.Same.{same_identity}
-use Rattle.comp_meaning.specs.Reads.{Member, Part, exported_types, functions_of, interface, member, sights, world, worlds_of}
+use Rattle.comp_meaning.specs.Reads.{Member, Part, exported_types, functions_of, interface, member, sights, steps, world, worlds_of}
 use Rattle.plan_meaning.specs.Plan.{Plan, PlannedPackage, numbers_of}
+use Rattle.read_parts.specs.Members.{declared_trees, entries_of}
+use Rattle.comp_read.specs.TypeOrder.{NumbersFollow}
 
 -- whether each number is smaller than those behind it
 abbrev pub rise : List ℕ → Bool
@@ -101,6 +105,27 @@ worlds_shown members = map (λ w. w.0) (flat_map worlds_of members)
 abbrev pub function_names : Interface → List Text
 function_names i = map (λ e. text_of e.0) i.functions.entries
 
+-- names of functions, where they are those of an interface without a path
+abbrev pub if_inline : Option Text → List Text → List (List Text)
+if_inline None names = names ∷ []
+if_inline (Some path) names = []
+
+-- the names of the functions of each inline interface that a part shows, in the order of these and in that of the one view of each
+abbrev pub inline_shown : Member → List (List Text)
+inline_shown m = of_part m.part
+  where
+    of_part : Part → List (List Text)
+    of_part (world scope) = flat_map (λ i. if_inline i.interface (map (λ f. f.0) i.view.functions)) scope.instances
+    of_part (interface exported imports) = []
+
+-- those that parts show, one part after the other
+abbrev pub inline_functions_shown : List Member → List (List Text)
+inline_functions_shown members = flat_map inline_shown members
+
+-- the names of the functions of each inline interface, in the order of their numbers
+abbrev pub inline_function_names : Resolve → List (List Text)
+inline_function_names r = flat_map (λ i. if_inline (path_of_interface r i) (function_names i)) r.interfaces.items
+
 -- The types of interfaces are numbered in the order of these, and in that of each interface; and the types that a world declares in the order of its imports.
 pub record TypesRise (r : Resolve) : Type 0 where
   pub interfaces : rise (flat_map interface_type_numbers r.interfaces.items) ≡ true
@@ -108,23 +133,73 @@ pub record TypesRise (r : Resolve) : Type 0 where
 
 -- Packages are numbered in the order in which the parts show an interface of theirs first; that of the parts comes last if they show none of it.
 -- Interfaces are numbered in the order in which the parts show them first, inline ones too, and worlds in the order in which they are exported. The functions
--- of an interface with a path stand in the order of the first view that shows them.
+-- of an interface with a path stand in the order of the first view that shows them, and those of an inline interface in that of its one view.
 pub record FollowsParts (members : List Member) (r : Resolve) : Type 0 where
   pub packages : map (λ k. identity_of k.name) r.packages.items ≡ packages_shown members
   pub interfaces : map (path_of_interface r) r.interfaces.items ≡ paths_shown members
   pub functions : (k : ℕ) (i : Interface) (path : Text) → interface_at r k ≡ Some i → path_of_interface r i ≡ Some path
       → function_names i ≡ functions_shown members path
+  pub inline : inline_function_names r ≡ inline_functions_shown members
   pub worlds : map (λ w. text_of w.name) r.worlds.items ≡ worlds_shown members
   pub types : TypesRise r
 
--- What the bytes export, the `Resolve` follows: its packages, interfaces, functions and worlds stand in that order.
+-- ---- the order in which declarations name types
+
+-- How much some first declarations show: so many interfaces, so many whole worlds, and so many imports of the world behind these.
+pub record HowMuch : Type 0 where
+  pub interfaces : ℕ
+  pub worlds : ℕ
+  pub imports : ℕ
+
+-- the imports of a world so far; what an interface's component type imports is no import of a world
+abbrev pub imports_in : Part → Scope → ℕ
+imports_in (Part.world whole) scope = length scope.imports
+imports_in (Part.interface exported imports) scope = 0
+
+-- what the parts before this one show, and those declarations of it that are in this scope
+abbrev pub shown_until : List Member → ℕ → Part → Scope → HowMuch
+shown_until members m part scope = record {
+  interfaces = length (once_by_path (flat_map shown_under (take m members) ++ map (λ i. i.interface) scope.instances));
+  worlds = length (flat_map worlds_of (take m members));
+  imports = imports_in part scope;
+}
+
+-- one of those interfaces has the type of this number, or one of those worlds imports it
+pub data IsNamedBefore (r : Resolve) (s : HowMuch) (n : ℕ) : Type 0 where
+  in_interface : (k : ℕ) (i : Interface) → interface_at r k ≡ Some i → k < s.interfaces → Contains (interface_type_numbers i) n → IsNamedBefore r s n
+  in_world : (k j : ℕ) (w : World) (id : TypeId) → world_at r k ≡ Some w → slice_get (values w.imports) j ≡ Some (item.Type_ id) → id.0 ≡ n
+      → (k < s.worlds) ⊎ ((k ≡ s.worlds) × (j < s.imports)) → IsNamedBefore r s n
+
+-- a later interface has it, or a later import is it
+pub data IsNamedBehind (r : Resolve) (s : HowMuch) (n : ℕ) : Type 0 where
+  in_interface : (k : ℕ) (i : Interface) → interface_at r k ≡ Some i → s.interfaces ≤ k → Contains (interface_type_numbers i) n → IsNamedBehind r s n
+  in_world : (k j : ℕ) (w : World) (id : TypeId) → world_at r k ≡ Some w → slice_get (values w.imports) j ≡ Some (item.Type_ id) → id.0 ≡ n
+      → (s.worlds < k) ⊎ ((k ≡ s.worlds) × (s.imports ≤ j)) → IsNamedBehind r s n
+
+-- However many declarations of a part are read, the types that have been named by then have smaller numbers than those that later ones name.
+abbrev pub NamesFollow : List (Text × PartType) → List Member → Resolve → Type 0
+NamesFollow parts members r =
+    (m : ℕ) (x : Text × PartType) (y : Member) → slice_get parts m ≡ Some x → slice_get members m ≡ Some y
+    → (front back : List Entry) → entries_of x.1 ≡ front ++ back → (scope : Scope) → steps entry_step new_scope front ≡ Some scope
+    → (a b : ℕ) → IsNamedBefore r (shown_until members m y.part scope) a → IsNamedBehind r (shown_until members m y.part scope) b → a < b
+
+-- What the bytes export, the `Resolve` follows: its packages, interfaces, functions and worlds stand in that order, so do the types that are named, and all
+-- types are numbered in the order in which the bytes declare them, with a name or without.
 pub record FollowsBytes (bytes : List ℕ) (r : Resolve) : Type 0 where
   pub members : List Member
   pub exported : ExportParts bytes members
   pub follows : FollowsParts members r
+  pub parts : List (Text × PartType)
+  pub read : (levels_of bytes >>= exported_parts) ≡ Some parts
+  pub named : NamesFollow parts members r
+  pub numbered : NumbersFollow (declared_trees parts) r
 
 -- What is followed by levels, the `Resolve` follows in that order.
 pub record FollowsLevels (levels : Option (List Piece)) (r : Resolve) : Type 0 where
   pub members : List Member
   pub exported : (levels >>= λ pieces. exported_parts pieces >>= each member_by_levels) ≡ Some members
   pub follows : FollowsParts members r
+  pub parts : List (Text × PartType)
+  pub read : (levels >>= exported_parts) ≡ Some parts
+  pub named : NamesFollow parts members r
+  pub numbered : NumbersFollow (declared_trees parts) r

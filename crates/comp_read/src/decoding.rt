@@ -41,7 +41,8 @@ fn error_of(refusal: Refusal, length: usize) -> Error
 /// The `Resolve` is valid, has no documentation and no known stability, and nothing beyond what the package means: its own interfaces and
 /// worlds in the order of the exports at the top, and of other packages the interfaces that are seen, in the order of their numbers, with the functions
 /// of the first view that shows some. Packages and interfaces are numbered in the order in which the bytes show them first, types of interfaces in
-/// that of these, and worlds in that of the exports.
+/// that of these, all types with a name in that in which declarations name them first, all types in that in which declarations declare them, and worlds in
+/// that of the exports. An inline interface has its functions in the order of its one view.
 /// It has no more types than there are bytes.
 ///
 /// Takes time linear in the bytes, expected, or n log n where types are used of an interface that shows more than a few, and memory linear in what is

@@ -40,7 +40,8 @@ fn add_interface<'a>(
     label: &'a str,
     sight: Sight<'a>,
 ) -> Result<(), AllocError>
-    ensures { OnOk result (AddsInterface package_number label.entry.now (numbered_sight sight.entry) places.old.keys (numbered_members members.old.items) places.new.keys (numbered_members members.new.items)) }
+    ensures { OnOk result (AddsInterface package_number label.entry.now (numbered_sight sight.entry) places.old.keys (numbered_members members.old.items)
+        places.new.keys (numbered_members members.new.items)) }
 {
     if places.insert(sight.place)? {
         members.push(Member {
@@ -62,7 +63,8 @@ fn add_view<'a>(
     package_number: usize,
     sight: Sight<'a>,
 ) -> Result<(), AllocError>
-    ensures { OnOk result (AddsView (homes_alone homes.now) package_number (numbered_sight sight.entry) places.old.keys (numbered_members members.old.items) places.new.keys (numbered_members members.new.items)) }
+    ensures { OnOk result (AddsView (homes_alone homes.now) package_number (numbered_sight sight.entry) places.old.keys (numbered_members members.old.items)
+        places.new.keys (numbered_members members.new.items)) }
 {
     match name_in(homes, package_number, sight.place) {
         Some(label) => add_interface(places, members, package_number, label, sight),
@@ -99,8 +101,10 @@ pub fn own_interfaces<'a>(
     package_number: usize,
     scope: Scope<'a>,
 ) -> Result<Vec<Member<'a>>, AllocError>
-    ensures own { (packages : List PackageIdentity) → IfOk result (λ own. AreReadOwn tables.now (homes_in packages homes.now) package_number scope.entry own.items) }
-    ensures order { (packages : List PackageIdentity) → IfOk result (λ own. StandAsReadOwn tables.now (homes_in packages homes.now) package_number scope.entry own.items) }
+    ensures own { (packages : List PackageIdentity)
+        → IfOk result (λ own. AreReadOwn tables.now (homes_in packages homes.now) package_number scope.entry own.items) }
+    ensures order { (packages : List PackageIdentity)
+        → IfOk result (λ own. StandAsReadOwn tables.now (homes_in packages homes.now) package_number scope.entry own.items) }
 {
     let sights = sights_of_scope(alloc, tables, scope)?;
     interfaces_among(alloc, homes, package_number, &sights)

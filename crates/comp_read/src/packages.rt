@@ -30,7 +30,8 @@ fn main_of(
     homes: &[Option<(usize, &str)>],
     members: &[Member<'_>],
 ) -> Result<Option<usize>, AllocError>
-    ensures { (packages : List PackageIdentity) → IfOk result (IsMain (numbered_tables tables.now) (homes_in packages homes.now) (known_in tables.now) (numbered_members members.now)) }
+    ensures { (packages : List PackageIdentity)
+        → IfOk result (IsMain (numbered_tables tables.now) (homes_in packages homes.now) (known_in tables.now) (numbered_members members.now)) }
 {
     let Some(first) = members.first() else {
         return Ok(None);

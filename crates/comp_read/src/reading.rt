@@ -182,7 +182,8 @@ fn wanted_of_parts(
 ) -> Result<(Resolve, PackageId), Refusal>
     requires { IsSomeFollowed followed.now }
     ensures holds { (pieces : List RawPiece) → IsFollowed pieces followed.now → IfOk result (λ x. HoldsWanted wanted (Some pieces) x.0 x.1.0) }
-    ensures few { (bytes : List ℕ) (pieces : List RawPiece) → IsFollowed pieces followed.now → levels_of bytes ≡ Some pieces → IfOk result (λ x. length x.0.types.items ≤ length bytes) }
+    ensures few { (bytes : List ℕ) (pieces : List RawPiece) → IsFollowed pieces followed.now → levels_of bytes ≡ Some pieces
+        → IfOk result (λ x. length x.0.types.items ≤ length bytes) }
     ensures absent { (pieces : List RawPiece) → IsFollowed pieces followed.now → IfErr result (λ e. Because e (MeansNone wanted (Some pieces))) }
 {
     wanted_of_followed(alloc, wanted, followed)

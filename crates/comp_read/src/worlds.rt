@@ -49,7 +49,8 @@ fn one_world<'a>(
     homes: &[Option<(usize, &str)>],
     members: &[Member<'a>],
 ) -> Result<Option<(Member<'a>, Scope<'a>)>, AllocError>
-    ensures { (packages : List PackageIdentity) → IfOk result (IsOneWorld (numbered_tables tables.now) (homes_in packages homes.now) (known_in tables.now) members.now) }
+    ensures { (packages : List PackageIdentity)
+        → IfOk result (IsOneWorld (numbered_tables tables.now) (homes_in packages homes.now) (known_in tables.now) members.now) }
 {
     let Some(member) = one_member(members) else {
         return Ok(None);

@@ -14,7 +14,8 @@ seen k = k.now
 adds_all : (ts : List Text) → adds_new text_eq [] ts ≡ distinct ts
 adds_all ts = adds_distinct ts ∙ distinct_same ts
 
-module _ {A : Type 0} (name : A → Text) (items : List A) (i : ℕ) (x : A) (more : i < length items) (is : x ≡ get_or items i x) (k : Bor (List ℕ)) (is_name : k.now ≡ name x) (ks : List (Bor (List ℕ))) (r : Bool)
+module _ {A : Type 0} (name : A → Text) (items : List A) (i : ℕ) (x : A) (more : i < length items) (is : x ≡ get_or items i x) (k : Bor (List ℕ)) (is_name : k.now ≡ name x)
+    (ks : List (Bor (List ℕ))) (r : Bool)
     (tells : r ≡ not (list_any (λ o. text_eq k.now o.now) ks))
     (kept : adds_new text_eq (map seen ks) (drop i (map name items)) ≡ adds_new text_eq [] (map name items)) where
   pub name_seen : r ≡ false → false ≡ distinct (map name items)
@@ -24,7 +25,8 @@ module _ {A : Type 0} (name : A → Text) (items : List A) (i : ℕ) (x : A) (mo
       → adds_new text_eq (map seen new) (drop (i + 1) (map name items)) ≡ adds_new text_eq [] (map name items)
   name_new new fresh added = new_turn text_eq name seen items i x ks k new r (adds_new text_eq [] (map name items)) more is is_name tells fresh added kept
 
-pub names_all : {A : Type 0} (name : A → Text) (items : List A) (i : ℕ) (ks : List (Bor (List ℕ))) → length items ≤ i → adds_new text_eq (map seen ks) (drop i (map name items)) ≡ adds_new text_eq [] (map name items) → true ≡ distinct (map name items)
+pub names_all : {A : Type 0} (name : A → Text) (items : List A) (i : ℕ) (ks : List (Bor (List ℕ))) → length items ≤ i
+    → adds_new text_eq (map seen ks) (drop i (map name items)) ≡ adds_new text_eq [] (map name items) → true ≡ distinct (map name items)
 names_all name items i ks past kept = sym (last_turn text_eq name items i (map seen ks) past) ∙ (kept ∙ adds_all (map name items))
 
 -- texts that are labels, each once

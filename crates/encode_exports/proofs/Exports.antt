@@ -25,7 +25,8 @@ sections_from slots [] = []
 sections_from slots (x ∷ xs) = Section.types (TopType.component x.1 ∷ []) ∷ Section.exports (plain_export x.0 slots ∷ []) ∷ sections_from (suc (suc slots)) xs
 
 pub sections_apart : (ds : Declarations) (e : TopExport) (slots : ℕ) (xs : List (Text × Declarations))
-    → with_part (Part.top_type (TopType.component ds)) (with_part (Part.top_export e) (sections_from slots xs)) ≡ Section.types (TopType.component ds ∷ []) ∷ Section.exports (e ∷ []) ∷ sections_from slots xs
+    → with_part (Part.top_type (TopType.component ds)) (with_part (Part.top_export e) (sections_from slots xs)) ≡ Section.types (TopType.component ds ∷ []) ∷ Section.exports (e ∷ [])
+    ∷ sections_from slots xs
 sections_apart ds e slots [] = refl
 sections_apart ds e slots (x ∷ xs) = refl
 
@@ -66,14 +67,16 @@ AreLabelled xs = list_all (λ x. is_label x.0) xs ≡ true
 
 -- one more component type and its export
 one_type : (ds : List Declarations) (slots : List ℕ) (es : List (Text × ℕ)) (name : Text) (d : Declarations) → IsFresh (length ds) es → is_label name ≡ true
-    → (top_section (record { types = ds; slots = slots; exported = es }) (Section.types (TopType.component d ∷ [])) >>= λ next. top_section next (Section.exports (plain_export name (length slots) ∷ [])))
+    → (top_section (record { types = ds; slots = slots; exported = es }) (Section.types (TopType.component d ∷ [])) >>= λ next. top_section next
+    (Section.exports (plain_export name (length slots) ∷ [])))
     ≡ Some (record { types = ds ++ d ∷ []; slots = (slots ++ length ds ∷ []) ++ length ds ∷ []; exported = es ++ (name, length ds) ∷ [] })
 one_type ds slots es name d fresh label =
     let here : length ds ≤ length ds = omega arith in
     rw (last_found slots (length ds) []) (rw (fresh (length ds) here) (rw label refl))
 
 -- the same, by the number of indexes that are taken
-next_type : (ds : List Declarations) (slots : List ℕ) (es : List (Text × ℕ)) (k : ℕ) (name : Text) (d : Declarations) (rest : List Section) → length slots ≡ k → IsFresh (length ds) es → is_label name ≡ true
+next_type : (ds : List Declarations) (slots : List ℕ) (es : List (Text × ℕ)) (k : ℕ) (name : Text) (d : Declarations) (rest : List Section) → length slots ≡ k → IsFresh (length ds) es
+    → is_label name ≡ true
     → steps top_section (record { types = ds; slots = slots; exported = es }) (Section.types (TopType.component d ∷ []) ∷ Section.exports (plain_export name k ∷ []) ∷ rest)
     ≡ steps top_section (record { types = ds ++ d ∷ []; slots = (slots ++ length ds ∷ []) ++ length ds ∷ []; exported = es ++ (name, length ds) ∷ [] }) rest
 next_type ds slots es k name d rest taken fresh label =
@@ -82,13 +85,15 @@ next_type ds slots es k name d rest taken fresh label =
 
 -- the component types and their exports behind what stood at the top
 top_after : (xs : List (Text × Declarations)) (ds : List Declarations) (slots : List ℕ) (es : List (Text × ℕ)) (k : ℕ) → length slots ≡ k → IsFresh (length ds) es → AreLabelled xs
-    → (after : List ℕ) × (steps top_section (record { types = ds; slots = slots; exported = es }) (sections_from k xs) ≡ Some (record { types = ds ++ map (λ x. x.1) xs; slots = after; exported = es ++ numbers_from (length ds) xs }))
+    → (after : List ℕ) × (steps top_section (record { types = ds; slots = slots; exported = es }) (sections_from k xs) ≡ Some
+    (record { types = ds ++ map (λ x. x.1) xs; slots = after; exported = es ++ numbers_from (length ds) xs }))
 top_after [] ds slots es k taken fresh labels = (slots, λ i. Some (record { types = sym (append-nil ds) i; slots = slots; exported = sym (append-nil es) i }))
 top_after (x ∷ xs) ds slots es k taken fresh labels =
     let longer = one_longer ds x.1 in
     let slots_longer : length ((slots ++ length ds ∷ []) ++ length ds ∷ []) ≡ suc (suc k) = one_longer (slots ++ length ds ∷ []) (length ds) ∙ ap suc (one_longer slots (length ds) ∙ ap suc taken) in
     let P : ℕ → Type 0 = λ n. IsFresh n (es ++ (x.0, length ds) ∷ []) in
-    let later = top_after xs (ds ++ x.1 ∷ []) ((slots ++ length ds ∷ []) ++ length ds ∷ []) (es ++ (x.0, length ds) ∷ []) (suc (suc k)) slots_longer (subst P (sym longer) (fresh_next (length ds) es x.0 fresh)) (second_true (is_label x.0) (list_all (λ y. is_label y.0) xs) labels) in (
+    let later = top_after xs (ds ++ x.1 ∷ []) ((slots ++ length ds ∷ []) ++ length ds ∷ []) (es ++ (x.0, length ds) ∷ []) (suc (suc k)) slots_longer
+    (subst P (sym longer) (fresh_next (length ds) es x.0 fresh)) (second_true (is_label x.0) (list_all (λ y. is_label y.0) xs) labels) in (
       later.0,
       next_type ds slots es k x.0 x.1 (sections_from (suc (suc k)) xs) taken fresh (first_true (is_label x.0) (list_all (λ y. is_label y.0) xs) labels) ∙ later.1
           ∙ λ i. Some (record {
@@ -115,7 +120,8 @@ each_found front (x ∷ xs) =
     let whole : (front ++ x.1 ∷ []) ++ map (λ y. y.1) xs ≡ front ++ map (λ y. y.1) (x ∷ xs) = append_assoc front (x.1 ∷ []) (map (λ y. y.1) xs) in
     let later : each (find_in (front ++ map (λ y. y.1) (x ∷ xs))) (numbers_from (suc (length front)) xs) ≡ Some xs =
     (λ i. each (find_in (sym whole i)) (numbers_from (sym (one_longer front x.1) i) xs)) ∙ each_found (front ++ x.1 ∷ []) xs in
-    ap (λ (o : Option Declarations). (o >>= λ ds. Some (x.0, ds)) >>= λ y. each (find_in (front ++ map (λ y. y.1) (x ∷ xs))) (numbers_from (suc (length front)) xs) >>= λ ys. Some (y ∷ ys)) (last_found front x.1 (map (λ y. y.1) xs))
+    ap (λ (o : Option Declarations). (o >>= λ ds. Some (x.0, ds)) >>= λ y. each (find_in (front ++ map (λ y. y.1) (x ∷ xs))) (numbers_from (suc (length front)) xs) >>= λ ys. Some (y ∷ ys))
+    (last_found front x.1 (map (λ y. y.1) xs))
     ∙ ap (λ (o : Option (List (Text × Declarations))). o >>= λ ys. Some (x ∷ ys)) later
 
 no_exports : IsFresh 0 []

@@ -11,4 +11,5 @@ use Rattle.encode_exports.specs.ExportedParts.{exporting}
 
 -- Labels that stand once: then the sections export these component types, in order.
 abbrev pub TypesAreExported : Type 0
-TypesAreExported = (xs : List (Text × Declarations)) → list_all (λ x. is_label x.0) xs ≡ true → distinct (map (λ x. x.0) xs) ≡ true → exported_types (sections_of_parts (exporting xs)) ≡ Some xs
+TypesAreExported = (xs : List (Text × Declarations)) → list_all (λ x. is_label x.0) xs ≡ true → distinct (map (λ x. x.0) xs) ≡ true
+    → exported_types (sections_of_parts (exporting xs)) ≡ Some xs

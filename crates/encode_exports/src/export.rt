@@ -21,7 +21,8 @@ pub fn export_component_type(
     ensures ok { OnOk result (builder.new ≡ with_exported builder.old (label.now, component.now)) }
     ensures more { OnOk result (ExportsOneMore builder.old (label.now, component.now) builder.new) }
     ensures err { OnErr result ((builder.new ≡ builder.old) ⊎ (builder.new ≡ with_type builder.old component.now)) }
-    ensures size { result ≡ Err Size → (fits_component (with_type builder.old component.now) && fits_component (with_exported builder.old (label.now, component.now))) ≡ false }
+    ensures size { result ≡ Err Size
+        → (fits_component (with_type builder.old component.now) && fits_component (with_exported builder.old (label.now, component.now))) ≡ false }
     ensures refuses { IfErr result IsMemoryOrSize }
 {
     let index = builder.type_component(component)?;

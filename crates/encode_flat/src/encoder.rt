@@ -1,7 +1,7 @@
 //! The encoder, and that it keeps the law.
 
 ghost use Rattle.std.proofs.Common.{rules, refl};
-ghost use Rattle.std.specs.Prelude.{◌≡◌, ◌+◌, ◌^◌, ◌++◌, ◌∷◌, [], nat_lt, false, None, Some, Err, IfOk, OnErr, OnOk, IfErr};
+ghost use Rattle.std.specs.Prelude.{◌≡◌, ◌+◌, ◌^◌, ◌++◌, ◌∷◌, [], nat_lt, true, false, IsOk, None, Some, Err, IfOk, OnErr, OnOk, IfErr};
 ghost use Rattle.wit_model.specs.declared.error.Error.TheVariants.{Size};
 ghost use Rattle.comp_bytes.specs.Refusal.{IsMemoryOrSize};
 ghost use Rattle.encode_flat.specs.declared.forms.Form.TheVariants as form;
@@ -89,7 +89,7 @@ impl<'a> ValtypeEncoder<'a> for FlatEncoderOf<'a, TypeEncodingMaps<'a>> {
     ghost use Rattle.encode_types.specs.Scope.{DeclaresSlot};
     ghost use Rattle.encode_types.specs.Slots.{tree};
     ghost use Rattle.encode_types.specs.View.{Exports, ExportsName, Grows, HoldsMore, ImportsOne, Refuses, Writes, WritesImport};
-    ghost use Rattle.encode_flat.specs.Flat.{ImportsOnce, flat_view, flat-in_range, forms_of};
+    ghost use Rattle.encode_flat.specs.Flat.{ImportsOnce, flat_view, flat-in_range, forms_of, has_import};
 
     ghost view = { λ e. flat_view e };
 
@@ -101,7 +101,7 @@ impl<'a> ValtypeEncoder<'a> for FlatEncoderOf<'a, TypeEncodingMaps<'a>> {
         add_form(&mut self.forms, &mut self.marks, Form::Function(def))
     }
 
-    /// The name is one more name of the type's slot. It takes no slot, so the answer is `None`.
+    /// The name is one more name of the type's slot. It takes no slot, so the answer is `None`, and an encoder that is full takes it, too.
     fn export_type(
         &mut self,
         index: u32,
@@ -120,6 +120,7 @@ impl<'a> ValtypeEncoder<'a> for FlatEncoderOf<'a, TypeEncodingMaps<'a>> {
         ensures size { result ≡ Err Size → Refuses (flat_view self.old) (flat_view self.new) (export_name (raw_name name.entry)) }
         ensures refuses { IfErr result IsMemoryOrSize }
         ensures none { IfOk result (λ slot. slot ≡ None) }
+        ensures never_full { result ≡ Err Size → ⊥ }
     {
         add_name(&mut self.forms, &mut self.marks, index, name)?;
         Ok(None)
@@ -129,7 +130,8 @@ impl<'a> ValtypeEncoder<'a> for FlatEncoderOf<'a, TypeEncodingMaps<'a>> {
         add_form(&mut self.forms, &mut self.marks, Form::Resource(name))
     }
 
-    /// The slot of a type of another interface, which is added the first time that the type is asked for.
+    /// The slot of a type of another interface, which is added the first time that the type is asked for. Asked for again, the call succeeds, also
+    /// where the encoder is full.
     fn import_type(&mut self, _interface: InterfaceId, id: TypeId) -> Result<u32, Error>
         ensures ok { IfOk result (λ i. (flat_view self.new).stands i (tree (number_tree (flat_view self.old).scope.packages id.0))) }
         ensures grows { Grows (flat_view self.old) (flat_view self.new) }
@@ -143,6 +145,7 @@ impl<'a> ValtypeEncoder<'a> for FlatEncoderOf<'a, TypeEncodingMaps<'a>> {
         ensures size { result ≡ Err Size → Refuses (flat_view self.old) (flat_view self.new) (import_of id.0) }
         ensures refuses { IfErr result IsMemoryOrSize }
         ensures once { IfOk result (λ i. ImportsOnce id.0 i self.old self.new) }
+        ensures known { has_import self.old id.0 ≡ true → IsOk result }
     {
         self.marks.import(id.0)
     }

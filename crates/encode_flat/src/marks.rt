@@ -1,6 +1,6 @@
 //! What was added to an encoder, in order, without its forms and texts.
 
-ghost use Rattle.std.specs.Prelude.{◌≡◌, ◌+◌, ◌^◌, nat_lt, false, Err, None, Some, [], ◌∷◌, IfOk, OnErr, OnOk, IfErr};
+ghost use Rattle.std.specs.Prelude.{◌≡◌, ◌+◌, ◌^◌, nat_lt, true, false, is_some, IsOk, Err, None, Some, [], ◌∷◌, IfOk, OnErr, OnOk, IfErr};
 ghost use Rattle.wit_model.specs.declared.error.Error.TheVariants.{Size};
 ghost use Rattle.comp_bytes.specs.Refusal.{IsMemoryOrSize};
 ghost use Rattle.encode_flat.specs.declared.marks.Mark.TheVariants as mark;
@@ -101,6 +101,7 @@ impl Marks {
     pub fn import(&mut self, number: u32) -> Result<u32, Error>
         ensures ok { IfOk result (λ i. import_slot self.new number ≡ Some i) }
         ensures once { OnOk result (Imports self.old number self.new) }
+        ensures known { is_some (import_slot self.old number) ≡ true → IsOk result }
         ensures err { OnErr result (self.new ≡ self.old) }
         ensures size { result ≡ Err Size → nat_lt (slot_count self.new + 1) (2 ^ 32) ≡ false }
         ensures refuses { IfErr result IsMemoryOrSize }

@@ -30,7 +30,8 @@ module _ (r : Resolve) (v : IsValid r) where
   stands-one (k, item.Function f) s is shows = subst (λ sh. AllZip (StandsAs r) [] (instances_of sh)) (sym (ap (λ (x : Seen). x.shown) shows.is)) tt
   stands-one (k, item.Type_ id) s is shows = subst (λ sh. AllZip (StandsAs r) [] (instances_of sh)) (sym (ap (λ (x : Seen). x.shown) shows.is)) tt
 
-  stands-each : (es : List Entry) (ss : List Seen) → ((e : Entry) → Contains es e → IsEntryOf r e) → AllZip (ShowsItem r) es ss → AllZip (StandsAs r) (interfaces_among es) (flat_map (λ s. instances_of s.shown) ss)
+  stands-each : (es : List Entry) (ss : List Seen) → ((e : Entry) → Contains es e → IsEntryOf r e) → AllZip (ShowsItem r) es ss
+      → AllZip (StandsAs r) (interfaces_among es) (flat_map (λ s. instances_of s.shown) ss)
   stands-each [] [] is z = tt
   stands-each [] (s ∷ ss) is z = absurd z
   stands-each (e ∷ es) [] is z = absurd z

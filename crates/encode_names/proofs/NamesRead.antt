@@ -52,23 +52,28 @@ module _ (r : Resolve) (v : IsValid r) (canonical : Bool) where
       ap (λ s. cond (is_label text && not (is_some s)) (Some (Key.label text)) (complete_path text s >>= λ whole. Some (Key.path whole))) (no-suffix r canonical)
       ∙ ap (λ b. cond (b && true) (Some (Key.label text)) (complete_path text None >>= λ whole. Some (Key.path whole))) label
 
-  named-key : (text : Text) (external_id : Option Text) → is_label text ≡ true → (n : ℕ) (path : Text) → interface_path r n ≡ Some path → key_of (labelled r canonical text external_id (Some n)) ≡ Some (Key.implementing text path)
+  named-key : (text : Text) (external_id : Option Text) → is_label text ≡ true → (n : ℕ) (path : Text) → interface_path r n ≡ Some path
+      → key_of (labelled r canonical text external_id (Some n)) ≡ Some (Key.implementing text path)
   named-key text external_id label n path is =
       ap (λ o. o >>= λ whole. provided (is_label text) (Key.implementing text whole)) (written-path r v n path is canonical) ∙ ap (λ b. provided b (Key.implementing text path)) label
 
   -- an interface under a label: inline, or one that has a path
   label-key : (name : String Global) (id : InterfaceId) (external_id : Option Text) (def : Interface) → is_label (text_of name) ≡ true → interface_at r id.0 ≡ Some def
-      → key_of (labelled r canonical (text_of name) external_id (option_and_then (λ (i : Interface). option_map (λ s. id.0) i.name) (interface_at r id.0))) ≡ Some (instance_key (key.Name name) (interface_path r id.0))
+      → key_of (labelled r canonical (text_of name) external_id (option_and_then (λ (i : Interface). option_map (λ s. id.0) i.name) (interface_at r id.0))) ≡ Some
+      (instance_key (key.Name name) (interface_path r id.0))
   label-key name id external_id def label there = go def.name refl
     where
       target : (o : Option (String Global)) → def.name ≡ o → option_and_then (λ (i : Interface). option_map (λ s. id.0) i.name) (interface_at r id.0) ≡ option_map (λ s. id.0) o
       target o q = ap (option_and_then (λ (i : Interface). option_map (λ s. id.0) i.name)) there ∙ ap (option_map (λ s. id.0)) q
 
       go : (o : Option (String Global)) → def.name ≡ o
-          → key_of (labelled r canonical (text_of name) external_id (option_and_then (λ (i : Interface). option_map (λ s. id.0) i.name) (interface_at r id.0))) ≡ Some (instance_key (key.Name name) (interface_path r id.0))
+          → key_of (labelled r canonical (text_of name) external_id (option_and_then (λ (i : Interface). option_map (λ s. id.0) i.name) (interface_at r id.0))) ≡ Some
+          (instance_key (key.Name name) (interface_path r id.0))
       go None q =
-          let none : interface_path r id.0 ≡ None = ap (option_and_then (path_of_interface r)) there ∙ ap (option_and_then (λ s. option_and_then (λ p. Rattle.wit_model.specs.Lookup.path_in_package r p.0 (text_of s)) def.package)) q in
-          ap (λ o. key_of (labelled r canonical (text_of name) external_id o)) (target None q) ∙ inline-key (text_of name) external_id label ∙ ap (λ o. Some (instance_key (key.Name name) o)) (sym none)
+          let none : interface_path r id.0 ≡ None = ap (option_and_then (path_of_interface r)) there ∙ ap
+          (option_and_then (λ s. option_and_then (λ p. Rattle.wit_model.specs.Lookup.path_in_package r p.0 (text_of s)) def.package)) q in
+          ap (λ o. key_of (labelled r canonical (text_of name) external_id o)) (target None q) ∙ inline-key (text_of name) external_id label ∙ ap
+          (λ o. Some (instance_key (key.Name name) o)) (sym none)
       go (Some s) q =
           let path = some-of (interface_path r id.0) (named-path r v id.0 (ap (λ o. option_map_or (λ (other : Interface). is_some other.name) o false) there ∙ ap is_some q)) in
           ap (λ o. key_of (labelled r canonical (text_of name) external_id o)) (target (Some s) q) ∙ named-key (text_of name) external_id label id.0 path.0 path.1

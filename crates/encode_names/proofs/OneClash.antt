@@ -29,7 +29,8 @@ stands-once [] ys t d c = none-in t c
 stands-once (x ∷ xs) ys t d c = go (stands-once xs ys t d.1) (Contains-append_cases (x ∷ []) xs t c)
   where
     go : (Contains xs t → ⊥) → Contains (x ∷ []) t ⊎ Contains xs t → ⊥
-    go later (inl e) = none-equal x (xs ++ (t ∷ ys)) d.0 (subst (Contains (xs ++ (t ∷ ys))) (sym (one-contained x t e)) (Contains-append_right xs (t ∷ ys) t (Contains-append_left (t ∷ []) ys t (contains-one t))))
+    go later (inl e) = none-equal x (xs ++ (t ∷ ys)) d.0 (subst (Contains (xs ++ (t ∷ ys))) (sym (one-contained x t e))
+        (Contains-append_right xs (t ∷ ys) t (Contains-append_left (t ∷ []) ys t (contains-one t))))
     go later (inr e) = later e
 
 -- ---- one list, split twice

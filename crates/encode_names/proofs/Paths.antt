@@ -46,7 +46,8 @@ module _ (names before rest : List Text) (x : Text) (split : names ≡ before ++
 items-refused : (r : Resolve) (items : List (WorldKey × WorldItem)) (before rest : List Text) (x : Text) (e : Error) → canonical_names_of r items ≡ before ++ (x ∷ rest) → AreDifferent before
     → RefusesText before x e → RefusesItems r items e
 items-refused r items before rest x e split different (RefusesText.memory h) = RefusesItems.memory h
-items-refused r items before rest x e split different (RefusesText.clash name is seen h) = RefusesItems.clash name (first-repeat (canonical_names_of r items) before rest x split different name is seen) h
+items-refused r items before rest x e split different (RefusesText.clash name is seen h) =
+    RefusesItems.clash name (first-repeat (canonical_names_of r items) before rest x split different name is seen) h
 
 paths-refused : (r : Resolve) (numbers : List ℕ) (before rest : List Text) (x : Text) (e : Error) → canonical_paths_of r numbers ≡ before ++ (x ∷ rest) → AreDifferent before
     → RefusesText before x e → RefusesPaths r numbers true e

@@ -94,7 +94,8 @@ path-no-label p name = go (is_label (path_in p name)) refl
 -- ---- what completes a path
 
 -- a begun path and its suffix are completed to the path that they spell
-complete : (begun : Text) (suffix : Option Text) (path : Text) → path ≡ begun ++ unwrap_or suffix [] → ((t : Text) → suffix ≡ Some t → IsBegun begun) → is_some (read_path path) ≡ true → complete_path begun suffix ≡ Some path
+complete : (begun : Text) (suffix : Option Text) (path : Text) → path ≡ begun ++ unwrap_or suffix [] → ((t : Text) → suffix ≡ Some t → IsBegun begun) → is_some (read_path path) ≡ true
+    → complete_path begun suffix ≡ Some path
 complete begun None path e is reads =
     let same : path ≡ begun = e ∙ append-nil begun in
     ap (λ b. provided b begun) (ap (λ t. is_some (read_path t)) (sym same) ∙ reads) ∙ ap Some (sym same)
@@ -128,7 +129,8 @@ module _ (r : Resolve) (v : IsValid r) (n : ℕ) (path : Text) (is : interface_p
           let wrong : None ≡ Some t = sym (suffix_found r n own home.name (full-name r n path home) ∙ ap (option_and_then (λ version. version_suffix (parts_of version))) q) ∙ e in
           let z : ⊥ = cc in absurd z
       go (Some version) q =
-          ap (λ o. is_begun_version (cut 64 (path_in (record { namespace = text_of own.namespace; name = text_of own.name; version = option_map (λ x. canonical_version (parts_of x)) o }) (text_of home.name)))) q
+          ap (λ o. is_begun_version (cut 64 (path_in (record { namespace = text_of own.namespace; name = text_of own.name; version = option_map (λ x. canonical_version (parts_of x)) o })
+          (text_of home.name)))) q
           ∙ path-begun (text_of own.namespace) (text_of own.name) (text_of home.name) (canonical_version (parts_of version))
           (canonical-filled (parts_of version) (valid_parts version (ap (passes is_version) (sym q) ∙ (package-name r v home.home.0 home.package_ home.stands).version)))
 

@@ -19,6 +19,7 @@ module _ (r : Resolve) (w : World) (canonical : Bool) (is : canonical ≡ true) 
   imports_refused e (Ok x) refuses h = tt
   imports_refused e (Err f) refuses h = subst (RefusesNames r w canonical) (sym h) (of_imports e refuses)
 
-  pub exports_refused : {X : Type 0} → AreDifferent (canonical_names_of r w.imports.entries) → (given : Result X Error) → IfErr given (RefusesItems r w.exports.entries) → IfErr given (RefusesNames r w canonical)
+  pub exports_refused : {X : Type 0} → AreDifferent (canonical_names_of r w.imports.entries) → (given : Result X Error) → IfErr given (RefusesItems r w.exports.entries)
+      → IfErr given (RefusesNames r w canonical)
   exports_refused different (Ok x) refuses = tt
   exports_refused different (Err e) refuses = of_exports different e refuses

@@ -70,7 +70,8 @@ slot-behind (y ∷ ys) x = slot-behind ys x
 
 pub flat-appended : (xs ys : List Seen) → flat_map (λ s. instances_of s.shown) (xs ++ ys) ≡ flat_map (λ s. instances_of s.shown) xs ++ flat_map (λ s. instances_of s.shown) ys
 flat-appended [] ys = refl
-flat-appended (x ∷ xs) ys = ap (λ t. instances_of x.shown ++ t) (flat-appended xs ys) ∙ sym (append_assoc (instances_of x.shown) (flat_map (λ s. instances_of s.shown) xs) (flat_map (λ s. instances_of s.shown) ys))
+flat-appended (x ∷ xs) ys = ap (λ t. instances_of x.shown ++ t) (flat-appended xs ys) ∙ sym
+    (append_assoc (instances_of x.shown) (flat_map (λ s. instances_of s.shown) xs) (flat_map (λ s. instances_of s.shown) ys))
 
 abbrev pub shown_instances : List Seen → List Instance
 shown_instances xs = flat_map (λ s. instances_of s.shown) xs
@@ -78,10 +79,12 @@ shown_instances xs = flat_map (λ s. instances_of s.shown) xs
 -- what brings no instance may stand anywhere
 none-brought : (xs ys : List Seen) (s : Seen) → instances_of s.shown ≡ [] → shown_instances ((xs ++ s ∷ []) ++ ys) ≡ shown_instances (xs ++ ys)
 none-brought xs ys s e =
-    flat-appended (xs ++ s ∷ []) ys ∙ ap (λ t. t ++ shown_instances ys) (flat-appended xs (s ∷ []) ∙ ap (λ t. shown_instances xs ++ (t ++ [])) e ∙ append-nil (shown_instances xs)) ∙ sym (flat-appended xs ys)
+    flat-appended (xs ++ s ∷ []) ys ∙ ap (λ t. t ++ shown_instances ys) (flat-appended xs (s ∷ []) ∙ ap (λ t. shown_instances xs ++ (t ++ [])) e ∙ append-nil (shown_instances xs)) ∙ sym
+    (flat-appended xs ys)
 
 none-behind : (xs ys : List Seen) (s : Seen) → instances_of s.shown ≡ [] → shown_instances (xs ++ (ys ++ s ∷ [])) ≡ shown_instances (xs ++ ys)
-none-behind xs ys s e = ap shown_instances (sym (append_assoc xs ys (s ∷ []))) ∙ flat-appended (xs ++ ys) (s ∷ []) ∙ ap (λ t. shown_instances (xs ++ ys) ++ (t ++ [])) e ∙ append-nil (shown_instances (xs ++ ys))
+none-behind xs ys s e = ap shown_instances (sym (append_assoc xs ys (s ∷ []))) ∙ flat-appended (xs ++ ys) (s ∷ []) ∙ ap (λ t. shown_instances (xs ++ ys) ++ (t ++ [])) e ∙ append-nil
+    (shown_instances (xs ++ ys))
 
 -- what is seen behind all brings its instances behind all
 brought-behind : (xs : List Seen) (s : Seen) → shown_instances (xs ++ s ∷ []) ≡ shown_instances xs ++ instances_of s.shown
@@ -175,7 +178,8 @@ abbrev named-as : Place → Text → Slot → tree.Declaration → Option (tree.
 named-as place name slot d = Some (d, named_like slot place name)
 
 -- the slot of a named type is no instance type
-pub named-slot : (slots : List Slot) (place : Place) (name : Text) (described : ComponentTypeRef) (d : tree.Declaration) (x : Slot) → named_type slots place name described ≡ Some (d, x) → instance_types (x ∷ []) ≡ 0
+pub named-slot : (slots : List Slot) (place : Place) (name : Text) (described : ComponentTypeRef) (d : tree.Declaration) (x : Slot) → named_type slots place name described ≡ Some (d, x)
+    → instance_types (x ∷ []) ≡ 0
 named-slot slots place name (refs.TypeEq n) d x e = at (slice_get slots n) e
   where
     of : (slot : Slot) (o : Option tree.Declaration) → (o >>= named-as place name slot) ≡ Some (d, x) → instance_types (x ∷ []) ≡ 0
@@ -197,7 +201,8 @@ type-seen : (name : ExternName) (described : ComponentTypeRef) (scope : Scope) (
     → follow.see_type name described scope ≡ Some (see import_ (seen_type name d) (in_scope x scope))
 type-seen name described scope d x e simple = ap (λ o. o >>= seen_next name scope) e ∙ ap (λ b. provided b (see import_ (seen_type name d) (in_scope x scope))) simple
 
-pub type-step : (name : ExternName) (described : ComponentTypeRef) (scope : Scope) (d : tree.Declaration) (x : Slot) → named_type scope.slots here name.text described ≡ Some (d, x) → is_simple name ≡ true
+pub type-step : (name : ExternName) (described : ComponentTypeRef) (scope : Scope) (d : tree.Declaration) (x : Slot) → named_type scope.slots here name.text described ≡ Some (d, x)
+    → is_simple name ≡ true
     → component_step scope (Declaration.imported name described) ≡ Some (see import_ (seen_type name d) (in_scope x scope))
 type-step name (refs.TypeEq n) scope d x e simple = type-seen name (refs.TypeEq n) scope d x e simple
 type-step name refs.SubResource scope d x e simple = type-seen name refs.SubResource scope d x e simple
@@ -240,7 +245,8 @@ module _ (name : ExternName) (n : ℕ) (scope : Scope) where
     instance-step export_ = instance-seen export_
 
 -- the key of an instance has the text of the item's key
-key-shown : (r : Resolve) (k : WorldKey) (i : ℕ) → has_home k (interface_path r i) ≡ true → ((j : ℕ) → k ≡ key.Interface (record { 0 = j }) → j ≡ i) → follow.key_text (instance_key k (interface_path r i)) ≡ key_text r k
+key-shown : (r : Resolve) (k : WorldKey) (i : ℕ) → has_home k (interface_path r i) ≡ true → ((j : ℕ) → k ≡ key.Interface (record { 0 = j }) → j ≡ i)
+    → follow.key_text (instance_key k (interface_path r i)) ≡ key_text r k
 key-shown r (key.Name name) i h same = go (interface_path r i)
   where
     go : (o : Option Text) → follow.key_text (instance_key (key.Name name) o) ≡ text_of name
@@ -297,7 +303,8 @@ module _ (r : Resolve) (done : Entries) (scope : Scope) (ds : List Declaration) 
       (both (nat_lt (length scope.slots) (length opened.slots)) true (lt-ltb (length scope.slots) (length opened.slots) less) refl)
 
   module _ (e : Entry) (k : Key) (view : View) (name : ExternName) (shows : ShowsItem r e (seen_instance name k view)) where
-    seen-instance : (direction : Direction) → IsTurnOf direction done → ShowsEntries r (with_entry direction done e) (see direction (seen_instance name k view) (with_instance k view (length scope.slots) opened))
+    seen-instance : (direction : Direction) → IsTurnOf direction done
+        → ShowsEntries r (with_entry direction done e) (see direction (seen_instance name k view) (with_instance k view (length scope.slots) opened))
     seen-instance import_ turn =
         let none = no-exports r done.1 scope.exports turn h.exports in
         record {

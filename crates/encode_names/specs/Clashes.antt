@@ -44,7 +44,8 @@ pub data RefusesText (before : List Text) (x : Text) (e : Error) : Type 0 where
 -- Want of memory, or, where canonical names are asked for, the first canonical path of these interfaces that repeats an earlier one.
 pub data RefusesPaths (r : Resolve) (numbers : List ℕ) (canonical : Bool) (e : Error) : Type 0 where
   memory : e ≡ errors.Memory → RefusesPaths r numbers canonical e
-  clash : canonical ≡ true → (name : String Global) → IsFirstRepeat (canonical_paths_of r numbers) (text_of name) → e ≡ errors.CanonicalClash name → RefusesPaths r numbers canonical e
+  clash : canonical ≡ true → (name : String Global) → IsFirstRepeat (canonical_paths_of r numbers) (text_of name) → e ≡ errors.CanonicalClash name
+      → RefusesPaths r numbers canonical e
 
 -- no two imports and no two exports have one canonical name
 pub record HasNoClash (r : Resolve) (w : World) : Type 0 where

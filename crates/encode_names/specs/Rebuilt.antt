@@ -25,4 +25,5 @@ ImportsAreKnown = (xs ys : List Seen) → others_seen 0 xs ≡ others_seen 0 ys 
 
 -- Where the others stay and types are added, these come last.
 abbrev pub TypesComeLast : Type 0
-TypesComeLast = (xs ys ts : List Seen) → list_all (λ t. is_type_shown t.shown) ts ≡ true → others_seen 0 ys ≡ others_seen 0 xs → types_seen ys ≡ types_seen xs ++ ts → ys ≡ xs ++ ts
+TypesComeLast = (xs ys ts : List Seen) → list_all (λ t. is_type_shown t.shown) ts ≡ true → others_seen 0 ys ≡ others_seen 0 xs
+    → types_seen ys ≡ types_seen xs ++ ts → ys ≡ xs ++ ts

@@ -31,7 +31,12 @@ written_suffix r canonical interface = if canonical then option_and_then (canoni
 
 -- the name of an interface: its path
 abbrev pub name_of_interface : Resolve → Bool → ℕ → ExternName
-name_of_interface r canonical n = record { text = written_path r canonical n; implements = None; version_suffix = written_suffix r canonical (Some n); external_id = None }
+name_of_interface r canonical n = record {
+  text = written_path r canonical n;
+  implements = None;
+  version_suffix = written_suffix r canonical (Some n);
+  external_id = None;
+}
 
 -- the name of an import or an export, with its attributes
 abbrev pub name_of_item : Resolve → Bool → WorldKey × WorldItem → ExternName

@@ -92,7 +92,11 @@ seen_instance name k view = record { key = key_text k; shown = Shown.instance k 
 
 -- a scope in which the instance type of this index has been used
 abbrev pub with_instance : Key → View → ℕ → Scope → Scope
-with_instance k view n scope = record scope { instances = scope.instances ++ record { interface = interface_of k; view = view } ∷ []; used = scope.used ++ n ∷ [] }
+with_instance k view n scope = record scope {
+  instances = scope.instances ++ record { interface = interface_of k; view = view } ∷ [];
+  used =
+      scope.used ++ n ∷ [];
+}
 
 -- One declaration leads from a scope to the next, which shows these entries.
 pub record StepsTo (r : Resolve) (done : Entries) (scope next : Scope) (d : Declaration) : Type 0 where
@@ -107,27 +111,34 @@ NothingIsShown = (r : Resolve) → ShowsEntries r ([], []) new_scope
 
 -- A slot more that is no instance type (a definition, an alias) leaves what is shown.
 abbrev pub SlotsLeaveEntries : Type 0
-SlotsLeaveEntries = (r : Resolve) (done : Entries) (scope : Scope) (x : Slot) → instance_types (x ∷ []) ≡ 0 → ShowsEntries r done scope → ShowsEntries r done (in_scope x scope)
+SlotsLeaveEntries = (r : Resolve) (done : Entries) (scope : Scope) (x : Slot) → instance_types (x ∷ []) ≡ 0 → ShowsEntries r done scope
+    → ShowsEntries r done (in_scope x scope)
 
 -- A function of the world that is imported or exported under its name, by an index that stands for its signature, is shown.
 abbrev pub FunctionsAreShown : Type 0
-FunctionsAreShown = (r : Resolve) (canonical : Bool) (direction : Direction) (done : Entries) (scope : Scope) (k : WorldKey) (f : Function) (n : ℕ) → IsValid r → IsEntryOf r (k, item.Function f)
+FunctionsAreShown = (r : Resolve) (canonical : Bool) (direction : Direction) (done : Entries) (scope : Scope) (k : WorldKey) (f : Function) (n : ℕ) → IsValid r
+    → IsEntryOf r (k, item.Function f)
     → ShowsEntries r done scope → function_in (slice_get scope.slots n) ≡ Some (signature_of r f)
-    → StepsTo r (with_entry direction done (k, item.Function f)) scope (see direction (seen_function (name_of_item r canonical (k, item.Function f)) (signature_of r f)) scope)
+    → StepsTo r (with_entry direction done (k, item.Function f)) scope
+    (see direction (seen_function (name_of_item r canonical (k, item.Function f)) (signature_of r f)) scope)
     (declared_towards direction (name_of_item r canonical (k, item.Function f)) (refs.Func n))
 
 -- A type of the world that is imported under its name, as what it declares, is shown, and takes a slot.
 abbrev pub TypesAreShown : Type 0
-TypesAreShown = (r : Resolve) (canonical : Bool) (done : Entries) (scope : Scope) (k : WorldKey) (id : TypeId) (described : ComponentTypeRef) (x : Slot) → IsValid r → IsEntryOf r (k, item.Type_ id)
-    → ShowsEntries r done scope → named_type scope.slots here (name_of_item r canonical (k, item.Type_ id)).text described ≡ Some ((type_meaning_at r id.0).declaration, x)
+TypesAreShown = (r : Resolve) (canonical : Bool) (done : Entries) (scope : Scope) (k : WorldKey) (id : TypeId) (described : ComponentTypeRef) (x : Slot)
+    → IsValid r → IsEntryOf r (k, item.Type_ id)
+    → ShowsEntries r done scope → named_type scope.slots here (name_of_item r canonical (k, item.Type_ id)).text described ≡ Some
+    ((type_meaning_at r id.0).declaration, x)
     → StepsTo r (with_entry import_ done (k, item.Type_ id)) scope
     (see import_ (seen_type (name_of_item r canonical (k, item.Type_ id)) (type_meaning_at r id.0).declaration) (in_scope x scope))
     (Declaration.imported (name_of_item r canonical (k, item.Type_ id)) described)
 
 -- An instance type that shows an interface of the world, declared just before it is imported or exported under its name, is shown.
 abbrev pub InterfacesAreShown : Type 0
-InterfacesAreShown = (r : Resolve) (canonical : Bool) (direction : Direction) (done : Entries) (scope : Scope) (e : Entry) (i : ℕ) (ds : List Declaration) (view : View) → IsValid r → IsEntryOf r e
-    → item_interface e.1 ≡ Some i → ShowsEntries r done scope → IsTurnOf direction done → instance_view (home_of r i) scope.slots ds ≡ Some view → ShowsInterface r i view
+InterfacesAreShown = (r : Resolve) (canonical : Bool) (direction : Direction) (done : Entries) (scope : Scope) (e : Entry) (i : ℕ) (ds : List Declaration)
+    (view : View) → IsValid r → IsEntryOf r e
+    → item_interface e.1 ≡ Some i → ShowsEntries r done scope → IsTurnOf direction done → instance_view (home_of r i) scope.slots ds ≡ Some view
+    → ShowsInterface r i view
     → StepsTo r (with_entry direction done e) (in_scope (Slot.instance ds (length scope.slots)) scope)
     (see direction (seen_instance (name_of_item r canonical e) (instance_key e.0 (interface_path r i)) view)
     (with_instance (instance_key e.0 (interface_path r i)) view (length scope.slots) (in_scope (Slot.instance ds (length scope.slots)) scope)))
@@ -135,15 +146,19 @@ InterfacesAreShown = (r : Resolve) (canonical : Bool) (direction : Direction) (d
 
 -- So the instances are those of the interfaces among the imports, and then of those among the exports.
 abbrev pub InstancesStand : Type 0
-InstancesStand = (r : Resolve) (done : Entries) (scope : Scope) → IsValid r → ((e : Entry) → Contains (done.0 ++ done.1) e → IsEntryOf r e) → ShowsEntries r done scope
+InstancesStand = (r : Resolve) (done : Entries) (scope : Scope) → IsValid r → ((e : Entry) → Contains (done.0 ++ done.1) e → IsEntryOf r e)
+    → ShowsEntries r done scope
     → AllZip (StandsAs r) (interfaces_among (done.0 ++ done.1)) scope.instances
 
 -- An alias of a named type of an interface, by an instance of it, takes the slot of the type's name, and leaves what is shown.
 abbrev pub AliasesAreNames : Type 0
-AliasesAreNames = (r : Resolve) (done : Entries) (scope : Scope) (m : ℕ) (instance : Instance) (i : InterfaceId) (interface : Interface) (n : ℕ) (def : TypeDef) (name : String Global) → IsValid r
-    → interface_at r i.0 ≡ Some interface → is_some (interface_path r i.0) ≡ true → type_at r n ≡ Some def → def.name ≡ Some name → def.owner ≡ owner.Interface i
+AliasesAreNames = (r : Resolve) (done : Entries) (scope : Scope) (m : ℕ) (instance : Instance) (i : InterfaceId) (interface : Interface) (n : ℕ) (def : TypeDef)
+    (name : String Global) → IsValid r
+    → interface_at r i.0 ≡ Some interface → is_some (interface_path r i.0) ≡ true → type_at r n ≡ Some def → def.name ≡ Some name
+    → def.owner ≡ owner.Interface i
     → ShowsEntries r done scope → slice_get scope.instances m ≡ Some instance → StandsAs r i.0 instance
-    → StepsTo r done scope (in_scope (name_slot (is_resource r n) (home_of r i.0) (text_of name)) scope) (Declaration.alias_of (Alias.of_export m (text_of name)))
+    → StepsTo r done scope (in_scope (name_slot (is_resource r n) (home_of r i.0) (text_of name)) scope)
+    (Declaration.alias_of (Alias.of_export m (text_of name)))
 
 -- Where a scope has more slots, none of them an instance type, and has imported more types, and nothing else has changed but these, it shows
 -- these types too.
@@ -157,16 +172,19 @@ pub record AddsTypes (scope next : Scope) (types : List Seen) : Type 0 where
   pub more_slots : length scope.slots ≤ length next.slots
 
 abbrev pub EntriesAreRebuilt : Type 0
-EntriesAreRebuilt = (r : Resolve) (done : Entries) (scope next : Scope) (more : List Entry) (types : List Seen) → ShowsEntries r done scope → AddsTypes scope next types → AllZip (ShowsItem r) more types
+EntriesAreRebuilt = (r : Resolve) (done : Entries) (scope next : Scope) (more : List Entry) (types : List Seen) → ShowsEntries r done scope
+    → AddsTypes scope next types → AllZip (ShowsItem r) more types
     → ShowsEntries r (done.0 ++ more, done.1) next
 
 -- When all imports and exports are shown, the component type shows the world.
 abbrev pub WorldsAreShown : Type 0
-WorldsAreShown = (r : Resolve) (w : World) (ds : Declarations) (scope : Scope) → ShowsEntries r (w.imports.entries, w.exports.entries) scope → component_steps new_scope ds ≡ Some scope
+WorldsAreShown = (r : Resolve) (w : World) (ds : Declarations) (scope : Scope) → ShowsEntries r (w.imports.entries, w.exports.entries) scope
+    → component_steps new_scope ds ≡ Some scope
     → (component_scope ds ≡ Some scope) × ShowsWorld r w scope
 
 -- A view that shows an interface has each named type of the interface under its name, in the slot of that name.
 abbrev pub TypesAreFound : Type 0
-TypesAreFound = (r : Resolve) (i : InterfaceId) (interface : Interface) (n : ℕ) (def : TypeDef) (name : String Global) (view : View) → IsValid r → interface_at r i.0 ≡ Some interface
+TypesAreFound = (r : Resolve) (i : InterfaceId) (interface : Interface) (n : ℕ) (def : TypeDef) (name : String Global) (view : View) → IsValid r
+    → interface_at r i.0 ≡ Some interface
     → type_at r n ≡ Some def → def.name ≡ Some name → def.owner ≡ owner.Interface i → ShowsInterface r i.0 view
     → find_type (text_of name) view.types ≡ Some (name_slot (is_resource r n) (home_of r i.0) (text_of name))

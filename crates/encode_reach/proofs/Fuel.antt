@@ -52,7 +52,8 @@ module _ (r : Resolve) (v : IsValid r) where
   pub each-bound : (n : ℕ) (l : List ℕ) → fold (λ w m. listed_with r (suc m) w m) l (direct_deps r n) ≡ fold (listed_with r n) l (direct_deps r n)
   each-bound n l = fold-same (λ w m. listed_with r (suc m) w m) (listed_with r n) (direct_deps r n) (λ m h w. let f = uses_fall r v n m h in enough (suc m) n m (omega arith) f w) l
 
-  pub each-bound-steps : (n : ℕ) (l : List ℕ) → sum_along (λ w m. listed_with r (suc m) w m) (λ w m. steps_for r (suc m) w m) l (direct_deps r n) ≡ sum_along (listed_with r n) (steps_for r n) l (direct_deps r n)
+  pub each-bound-steps : (n : ℕ) (l : List ℕ)
+      → sum_along (λ w m. listed_with r (suc m) w m) (λ w m. steps_for r (suc m) w m) l (direct_deps r n) ≡ sum_along (listed_with r n) (steps_for r n) l (direct_deps r n)
   each-bound-steps n l =
       sum-same (λ w m. listed_with r (suc m) w m) (listed_with r n) (λ w m. steps_for r (suc m) w m) (steps_for r n) (direct_deps r n)
       (λ m h w. let f = uses_fall r v n m h in enough (suc m) n m (omega arith) f w)

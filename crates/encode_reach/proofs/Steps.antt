@@ -47,7 +47,8 @@ module _ (r : Resolve) where
       ap (λ steps. listed_at_end r steps l) (visits-more id ids)
       ∙ (end-behind (visits ids) (step.Visit id.0 ∷ []) l ∙ visits-end ids (listed_with r (suc id.0) l id.0))
 
-  visits-left : (ids : List InterfaceId) (l : List ℕ) → steps_left r (visits ids) l ≡ sum_along (λ w n. listed_with r (suc n) w n) (λ w n. steps_for r (suc n) w n) l (map (λ (i : InterfaceId). i.0) ids)
+  visits-left : (ids : List InterfaceId) (l : List ℕ)
+      → steps_left r (visits ids) l ≡ sum_along (λ w n. listed_with r (suc n) w n) (λ w n. steps_for r (suc n) w n) l (map (λ (i : InterfaceId). i.0) ids)
   visits-left [] l = refl
   visits-left (id ∷ ids) l =
       ap (λ steps. steps_left r steps l) (visits-more id ids)
@@ -90,7 +91,8 @@ module _ (r : Resolve) where
       let seen : listed_at_end r (visits ids) l ≡ among = visits-end ids l ∙ (ap (fold (λ w m. listed_with r (suc m) w m) l) uses ∙ each-bound r v n l) in
       let steps : steps_left r (visits ids) l ≡ cost = visits-left ids l ∙ (ap (sum_along (λ w m. listed_with r (suc m) w m) (λ w m. steps_for r (suc m) w m) l) uses ∙ each-bound-steps r v n l) in
       let after : steps_left r new l ≡ cost + (1 + steps_left r old (add among n)) =
-      ap (λ k. steps_left r k l) is ∙ (left-behind (old ++ step.Append n ∷ []) (visits ids) l ∙ ((λ i. steps i + steps_left r (old ++ step.Append n ∷ []) (seen i)) ∙ ap (λ k. cost + k) (fewer-left (step.Append n) old among))) in
+      ap (λ k. steps_left r k l) is ∙ (left-behind (old ++ step.Append n ∷ []) (visits ids) l
+      ∙ ((λ i. steps i + steps_left r (old ++ step.Append n ∷ []) (seen i)) ∙ ap (λ k. cost + k) (fewer-left (step.Append n) old among))) in
       let before : steps_left r (old ++ step.Visit n ∷ []) l ≡ suc (suc cost) + steps_left r old (add among n) = fewer-left (step.Visit n) old l ∙ (λ i. takes i + steps_left r old (grows i)) in
       record {
         same = ap (λ k. listed_at_end r k l) is

@@ -32,7 +32,8 @@ pub shown-alike : (t : ShownType) → same_shown t t ≡ true
 shown-alike t = both _ _ (text-alike t.name) (both _ _ (declaration-alike t.meaning.declaration) (option-alike text_eq text-alike t.meaning.external_id))
 
 signature-alike : (s : Signature) → same_signature s s ≡ true
-signature-alike s = both _ _ (both _ _ (bool-alike s.is_async) (list-alike (λ x y. text_eq x.0 y.0 && same_tree x.1 y.1) (λ x. both _ _ (text-alike x.0) (tree-alike x.1)) s.params)) (option-alike same_tree tree-alike s.result)
+signature-alike s = both _ _ (both _ _ (bool-alike s.is_async) (list-alike (λ x y. text_eq x.0 y.0 && same_tree x.1 y.1) (λ x. both _ _ (text-alike x.0) (tree-alike x.1)) s.params))
+    (option-alike same_tree tree-alike s.result)
 
 pub function-alike : (f : FunctionMeaning) → same_function f f ≡ true
 function-alike f = both _ _ (signature-alike f.signature) (option-alike text_eq text-alike f.external_id)

@@ -7,8 +7,6 @@ use Rattle.wit_model.specs.declared.model.TypeOwner.TheVariants as owner
 use Rattle.wit_model.proofs.Entries.{each_from_all, types_keep}
 use Rattle.wit_model.proofs.TreeTable.{kept_numbers}
 
--- an entry passes the tests of a rule that is kept
-
 -- types refer to smaller numbers alone
 pub valid-references : (r : Resolve) → IsValid r → Keeps references r
 unfolding references
@@ -19,5 +17,3 @@ valid-references r v = types_keep (λ r n def. references.type_ r n def) r (each
 pub or-cases : {P : Type 0} (a b : Bool) → (a || b) ≡ true → (a ≡ true → P) → (b ≡ true → P) → P
 or-cases true b h p q = p refl
 or-cases false b h p q = q h
-
--- a test that every element passes

@@ -40,12 +40,15 @@ given-listed [] = refl
 given-listed (None ∷ os) = given-listed os
 given-listed (Some t ∷ os) = ap (λ us. t ∷ us) (given-listed os)
 
-cases-listed : (trees : List Tree) (cs : List Case) → filter_map (λ o. o) (map (λ c. c.1) (map {B = Text × Option Tree} (λ c. (text_of c.name, option_map (tree_of trees) c.ty)) cs)) ≡ map (tree_of trees) (filter_map (λ c. c.ty) cs)
+cases-listed : (trees : List Tree) (cs : List Case)
+    → filter_map (λ o. o) (map (λ c. c.1) (map {B = Text × Option Tree} (λ c. (text_of c.name, option_map (tree_of trees) c.ty)) cs)) ≡ map (tree_of trees) (filter_map (λ c. c.ty) cs)
 cases-listed trees [] = refl
 cases-listed trees (c ∷ cs) = go c.ty (cases-listed trees cs)
   where
-    go : (o : Option ValueType) → filter_map (λ o. o) (map (λ c. c.1) (map {B = Text × Option Tree} (λ c. (text_of c.name, option_map (tree_of trees) c.ty)) cs)) ≡ map (tree_of trees) (filter_map (λ c. c.ty) cs)
-        → Rattle.std.specs.List.cons_option (option_map (tree_of trees) o) (filter_map (λ o. o) (map (λ c. c.1) (map {B = Text × Option Tree} (λ c. (text_of c.name, option_map (tree_of trees) c.ty)) cs)))
+    go : (o : Option ValueType)
+        → filter_map (λ o. o) (map (λ c. c.1) (map {B = Text × Option Tree} (λ c. (text_of c.name, option_map (tree_of trees) c.ty)) cs)) ≡ map (tree_of trees) (filter_map (λ c. c.ty) cs)
+        → Rattle.std.specs.List.cons_option (option_map (tree_of trees) o) (filter_map (λ o. o)
+        (map (λ c. c.1) (map {B = Text × Option Tree} (λ c. (text_of c.name, option_map (tree_of trees) c.ty)) cs)))
         ≡ map (tree_of trees) (Rattle.std.specs.List.cons_option o (filter_map (λ c. c.ty) cs))
     go None e = e
     go (Some t) e = ap (λ us. tree_of trees t ∷ us) e
@@ -54,21 +57,25 @@ one-listed : (trees : List Tree) (o : Option ValueType) → child_list (given (o
 one-listed trees None = refl
 one-listed trees (Some t) = refl
 
-two-listed : (trees : List Tree) (o e : Option ValueType) → child_list (given (option_map (tree_of trees) o ∷ option_map (tree_of trees) e ∷ [])) ≡ map (tree_of trees) (option_to_list o ++ option_to_list e) ++ []
+two-listed : (trees : List Tree) (o e : Option ValueType)
+    → child_list (given (option_map (tree_of trees) o ∷ option_map (tree_of trees) e ∷ [])) ≡ map (tree_of trees) (option_to_list o ++ option_to_list e) ++ []
 two-listed trees None None = refl
 two-listed trees None (Some u) = refl
 two-listed trees (Some t) None = refl
 two-listed trees (Some t) (Some u) = refl
 
 -- The children are the trees of the members, and that of what a handle is of.
-pub children-are : (trees : List Tree) (k : TypeDefKind) → is_alias k ≡ false → child_trees (declared_by trees k) ≡ map (tree_of trees) (member_types k) ++ map (tree_at trees) (option_to_list (handled k))
-children-are trees (kind.Record x) e = listed _ ∙ map-map (λ f. f.1) (λ f. (text_of f.name, tree_of trees f.ty)) x.fields.items ∙ sym (map-map (tree_of trees) (λ f. f.ty) x.fields.items) ∙ sym (append-nil _)
+pub children-are : (trees : List Tree) (k : TypeDefKind) → is_alias k ≡ false
+    → child_trees (declared_by trees k) ≡ map (tree_of trees) (member_types k) ++ map (tree_at trees) (option_to_list (handled k))
+children-are trees (kind.Record x) e = listed _ ∙ map-map (λ f. f.1) (λ f. (text_of f.name, tree_of trees f.ty)) x.fields.items ∙ sym (map-map (tree_of trees) (λ f. f.ty) x.fields.items) ∙ sym
+    (append-nil _)
 children-are trees kind.Resource e = refl
 children-are trees (kind.Handle (handle.Own id)) e = refl
 children-are trees (kind.Handle (handle.Borrow id)) e = refl
 children-are trees (kind.Flags x) e = refl
 children-are trees (kind.Tuple x) e = listed _ ∙ sym (append-nil _)
-children-are trees (kind.Variant x) e = given-listed (map (λ c. c.1) (map {B = Text × Option Tree} (λ c. (text_of c.name, option_map (tree_of trees) c.ty)) x.cases.items)) ∙ cases-listed trees x.cases.items ∙ sym (append-nil _)
+children-are trees (kind.Variant x) e = given-listed (map (λ c. c.1) (map {B = Text × Option Tree} (λ c. (text_of c.name, option_map (tree_of trees) c.ty)) x.cases.items)) ∙ cases-listed trees
+    x.cases.items ∙ sym (append-nil _)
 children-are trees (kind.Enum x) e = refl
 children-are trees (kind.Option t) e = refl
 children-are trees (kind.Result x) e = two-listed trees x.ok x.err

@@ -105,7 +105,8 @@ module _ (r : Resolve) (v : IsValid r) where
           subst (λ d. Contains (used_by d) path) (sym declared) (of-owner target.owner (text_of name.0) h)
 
       of-kind : (def : TypeDef) → type_at r t ≡ Some def → (c : TypeDefKind) → def.kind ≡ c
-          → option_and_then (λ m. option_and_then (λ (target : TypeDef). owner_interface target.owner) (type_at r m)) (alias_target c) ≡ Some k → Contains (used_by (type_meaning_at r t).declaration) path
+          → option_and_then (λ m. option_and_then (λ (target : TypeDef). owner_interface target.owner) (type_at r m)) (alias_target c) ≡ Some k
+          → Contains (used_by (type_meaning_at r t).declaration) path
       of-kind def at (kind.Type_ (ty.Id id)) e h = of-target def at id e (type_at r id.0) refl h
       of-kind def at (kind.Type_ _) e h = let wrong : ⊥ = cc in absurd wrong
       of-kind def at _ e h = let wrong : ⊥ = cc in absurd wrong
@@ -115,7 +116,8 @@ module _ (r : Resolve) (v : IsValid r) where
       go (Some def) e h = of-kind def e def.kind refl h
 
   -- the path of a dependency is used by a view of the types
-  dependency-used : (m : ℕ) (view : View) → view.types ≡ option_map_or (types_of r m) (interface_at r m) [] → (k : ℕ) (path : Text) → Contains (direct_deps r m) k → interface_path r k ≡ Some path → Contains (used_by_view view) path
+  dependency-used : (m : ℕ) (view : View) → view.types ≡ option_map_or (types_of r m) (interface_at r m) [] → (k : ℕ) (path : Text) → Contains (direct_deps r m) k → interface_path r k ≡ Some path
+      → Contains (used_by_view view) path
   dependency-used m view types k path c e = go (interface_at r m) refl (once_from k _ (filter-contains (λ j. not (j == m)) (once (option_map_or (interfaces_used_by r) (interface_at r m) [])) k c).0)
     where
       go : (o : Option Interface) → interface_at r m ≡ o → Contains (option_map_or (interfaces_used_by r) (interface_at r m) []) k → Contains (used_by_view view) path
@@ -133,7 +135,8 @@ module _ (r : Resolve) (v : IsValid r) where
     reached-are [] [] z u = refl
     reached-are [] (i ∷ imports) z u = absurd z
     reached-are (k ∷ ns) [] z u = absurd z
-    reached-are (k ∷ ns) (i ∷ imports) z u = both _ _ (list_any-from_Contains nat_list_eq_equiv i.0 (flat_map (λ (l : Text × View). used_by_view l.1) imports ++ used_by_view exported) (go (Contains-append_cases ns (n ∷ []) u.0.0 u.0.1))) (reached-are ns imports z.1 u.1)
+    reached-are (k ∷ ns) (i ∷ imports) z u = both _ _ (list_any-from_Contains nat_list_eq_equiv i.0 (flat_map (λ (l : Text × View). used_by_view l.1) imports ++ used_by_view exported)
+        (go (Contains-append_cases ns (n ∷ []) u.0.0 u.0.1))) (reached-are ns imports z.1 u.1)
       where
         go : Contains ns u.0.0 ⊎ Contains (n ∷ []) u.0.0 → Contains (flat_map (λ (l : Text × View). used_by_view l.1) imports ++ used_by_view exported) i.0
         go (inl c) =
@@ -155,12 +158,14 @@ module _ (r : Resolve) (v : IsValid r) where
           let wrong : true ≡ false = sym (same-number a) ∙ ap (λ k. a == k) same ∙ d in
           let z : ⊥ = cc in absurd z
 
-  none-same : (n : ℕ) (path : Text) → interface_path r n ≡ Some path → (ns : List ℕ) (imports : List (Text × View)) → AllZip (ShowsImport r) ns imports → ((k : ℕ) → Contains ns k → (n == k) ≡ false) → list_any (text_eq path) (map (λ i. i.0) imports) ≡ false
+  none-same : (n : ℕ) (path : Text) → interface_path r n ≡ Some path → (ns : List ℕ) (imports : List (Text × View)) → AllZip (ShowsImport r) ns imports → ((k : ℕ) → Contains ns k → (n == k) ≡ false)
+      → list_any (text_eq path) (map (λ i. i.0) imports) ≡ false
   none-same n path e [] [] z d = refl
   none-same n path e [] (i ∷ imports) z d = absurd z
   none-same n path e (k ∷ ns) [] z d = absurd z
   none-same n path e (k ∷ ns) (i ∷ imports) z d =
-      ap (λ b. b || list_any (text_eq path) (map (λ i. i.0) imports)) (paths-differ n k path i.0 e z.0.path (d k (0, omega arith, refl))) ∙ none-same n path e ns imports z.1 (λ j c. d j (contains-later k ns j c))
+      ap (λ b. b || list_any (text_eq path) (map (λ i. i.0) imports)) (paths-differ n k path i.0 e z.0.path (d k (0, omega arith, refl))) ∙ none-same n path e ns imports z.1
+      (λ j c. d j (contains-later k ns j c))
 
   imports-distinct : (ns : List ℕ) (imports : List (Text × View)) → AllZip (ShowsImport r) ns imports → IsDistinct (λ a b. a == b) ns → distinct (map (λ i. i.0) imports) ≡ true
   unfolding IsDistinct
@@ -204,9 +209,11 @@ module _ (r : Resolve) (v : IsValid r) where
     own-label e c =
         let is = own-interface r v n p at e c in
         ap is_label (sym is.text) ∙ (ap (passes (λ name. is_label (text_of name))) (sym is.named_)
-        ∙ first_true (passes (λ name. is_label (text_of name)) is.def.name) _ (Rattle.wit_model.proofs.OnePath.interface-passes Rattle.wit_model.specs.Valid.labels r v.rules.labels e.1.0 is.def is.there))
+        ∙ first_true (passes (λ name. is_label (text_of name)) is.def.name) _
+        (Rattle.wit_model.proofs.OnePath.interface-passes Rattle.wit_model.specs.Valid.labels r v.rules.labels e.1.0 is.def is.there))
 
-    pub interface-part-read : (e : String Global × InterfaceId) → Contains p.interfaces.entries e → (ds : Declarations) (scope : Scope) (imports : List (Text × View)) (exported : View) → component_scope ds ≡ Some scope
+    pub interface-part-read : (e : String Global × InterfaceId) → Contains p.interfaces.entries e → (ds : Declarations) (scope : Scope) (imports : List (Text × View)) (exported : View)
+        → component_scope ds ≡ Some scope
         → ShowsDependencies r e.1.0 (path_in (identity_of p.name) (text_of e.0)) scope imports exported → interface_part (text_of e.0) ds ≡ Some (identity_of p.name, Part.interface exported imports)
     interface-part-read e c ds scope imports exported follows shows =
         let path = path_in (identity_of p.name) (text_of e.0) in
@@ -221,13 +228,15 @@ module _ (r : Resolve) (v : IsValid r) where
         ∙ ap (λ xs. exported_view xs >>= λ x. each imported_view scope.imports >>= λ is. labelled_path (text_of e.0) x.0 >>= λ q.
         provided (distinct (x.0 ∷ map (λ i. i.0) is) && are_reached is x.1) (q, Part.interface x.1 is)) shows.exports_are
         ∙ ap (λ (o : Option (List (Text × View))). o >>= λ is. labelled_path (text_of e.0) path >>= λ q.
-        provided (distinct (path ∷ map (λ i. i.0) is) && are_reached is exported) (q, Part.interface exported is)) (ap (each imported_view) shows.imports_are ∙ imports-read ns imports shows.reached.shown_imports)
+        provided (distinct (path ∷ map (λ i. i.0) is) && are_reached is exported) (q, Part.interface exported is))
+        (ap (each imported_view) shows.imports_are ∙ imports-read ns imports shows.reached.shown_imports)
         ∙ ap (λ (o : Option PackageIdentity). o >>= λ q. provided (distinct (path ∷ map (λ i. i.0) imports) && are_reached imports exported) (q, Part.interface exported imports))
         (labelled (identity_of p.name) (text_of e.0) (text_of e.0) (identity r v n p at) (own-label e c) refl)
         ∙ ap (λ b. provided b (identity_of p.name, Part.interface exported imports)) (both _ _ differ all)
 
     -- a world of the package under a label that is its name
-    pub world-read : (m : ℕ) (w : World) → world_at r m ≡ Some w → (label : Text) → text_of w.name ≡ label → (ds : Declarations) (scope : Scope) → component_scope ds ≡ Some scope → ShowsWorld r w scope
+    pub world-read : (m : ℕ) (w : World) → world_at r m ≡ Some w → (label : Text) → text_of w.name ≡ label → (ds : Declarations) (scope : Scope) → component_scope ds ≡ Some scope
+        → ShowsWorld r w scope
         → world_part label (ds, plain_name (path_in (identity_of p.name) (text_of w.name))) ≡ Some (identity_of p.name, Part.world scope)
     world-read m w there label is ds scope follows shows =
         let path = path_in (identity_of p.name) (text_of w.name) in
@@ -239,6 +248,7 @@ module _ (r : Resolve) (v : IsValid r) where
         ∙ ap (λ (o : Option Scope). o >>= λ s. provided (is_world s) (identity_of p.name, Part.world s)) follows
         ∙ ap (λ b. provided b (identity_of p.name, Part.world scope)) (world-obeys r v m w there scope shows)
 
-    pub world-part-read : (e : String Global × WorldId) → Contains p.worlds.entries e → (w : World) → world_at r e.1.0 ≡ Some w → (ds : Declarations) (scope : Scope) → component_scope ds ≡ Some scope → ShowsWorld r w scope
+    pub world-part-read : (e : String Global × WorldId) → Contains p.worlds.entries e → (w : World) → world_at r e.1.0 ≡ Some w → (ds : Declarations) (scope : Scope) → component_scope ds ≡ Some scope
+        → ShowsWorld r w scope
         → world_part (text_of e.0) (ds, plain_name (path_in (identity_of p.name) (text_of w.name))) ≡ Some (identity_of p.name, Part.world scope)
     world-part-read e c w there ds scope follows shows = world-read e.1.0 w there (text_of e.0) (own-world r v n p at e c w there).0 ds scope follows shows

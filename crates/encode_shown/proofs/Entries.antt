@@ -82,20 +82,23 @@ export-free r (key.Interface id) (item.Function f) h = let wrong : ⊥ = cc in a
 module _ (r : Resolve) (v : IsValid r) (n : ℕ) (w : World) (there : world_at r n ≡ Some w) where
   -- what holds of each function of the world
   of-function : (p : Function → Bool) → list_all p (functions_of_world w) ≡ true → (i : WorldItem) → Contains (items_of w) i → passes p (item_function i) ≡ true
-  of-function p h i c = given-list p (item_function i) (all-contained (λ i. list_all p (option_to_list (item_function i))) (items_of w) i (sym (list_all_filter_map p item_function (items_of w)) ∙ h) c)
+  of-function p h i c = given-list p (item_function i) (all-contained (λ i. list_all p (option_to_list (item_function i))) (items_of w) i
+      (sym (list_all_filter_map p item_function (items_of w)) ∙ h) c)
 
   module _ (e : WorldKey × WorldItem) (c : Contains (items_of w) e.1) (d : Contains (w.imports.entries ++ w.exports.entries) e) where
     abbrev in_range : Type 0
     in_range = (key_in_range r e.0 && item_in_range r e.1) ≡ true
 
-    of-entry : (key_in_range r e.0 && item_in_range r e.1) ≡ true → (key_label e.0 e.1 && item_labels e.1) ≡ true → key_stands r e.0 e.1 ≡ true → passes (is_own_type r n e.0) (item_type e.1) ≡ true → IsEntry r n e
+    of-entry : (key_in_range r e.0 && item_in_range r e.1) ≡ true → (key_label e.0 e.1 && item_labels e.1) ≡ true → key_stands r e.0 e.1 ≡ true → passes (is_own_type r n e.0) (item_type e.1) ≡ true
+        → IsEntry r n e
     unfolding owners depths function_names
     of-entry range labelled keyed typed = record {
       key_range = first_true (key_in_range r e.0) _ range;
       item_range = second_true (key_in_range r e.0) _ range;
       key_labelled = first_true (key_label e.0 e.1) _ labelled;
       item_labelled = second_true (key_label e.0 e.1) _ labelled;
-      named_ = all-contained (λ e. passes (λ f. is_name_key (text_of f.name) e.0 && is_member r (as_world n) f) (item_function e.1)) (w.imports.entries ++ w.exports.entries) e (world-passes function_names r v.rules.function_names n w there) d;
+      named_ = all-contained (λ e. passes (λ f. is_name_key (text_of f.name) e.0 && is_member r (as_world n) f) (item_function e.1)) (w.imports.entries ++ w.exports.entries) e
+          (world-passes function_names r v.rules.function_names n w there) d;
       stays = of-function (function_stays r (as_world n)) (world-passes owners r v.rules.owners n w there) e.1 c;
       flat = of-function (λ f. list_all (is_shallow r) (function_types f)) (world-passes depths r v.rules.depths n w there) e.1 c;
       keyed = keyed;
@@ -121,13 +124,15 @@ module _ (r : Resolve) (v : IsValid r) (n : ℕ) (w : World) (there : world_at r
   export-stands e c = all-contained (λ e. export_stands r e.0 e.1) w.exports.entries e (second_true (list_all (λ e. import_stands r n e.0 e.1) w.imports.entries) _ stands) c
 
   pub import-entry : (e : WorldKey × WorldItem) → Contains w.imports.entries e → IsEntry r n e
-  import-entry e c = of-entry e (Contains-append_left (values w.imports) (values w.exports) e.1 (contains-map (λ e. e.1) w.imports.entries e c)) (Contains-append_left w.imports.entries w.exports.entries e c)
+  import-entry e c = of-entry e (Contains-append_left (values w.imports) (values w.exports) e.1 (contains-map (λ e. e.1) w.imports.entries e c))
+      (Contains-append_left w.imports.entries w.exports.entries e c)
       (all-contained (λ e. key_in_range r e.0 && item_in_range r e.1) w.imports.entries e (first_true (entries_in_range r w.imports.entries) _ ranges) c)
       (all-contained (λ e. key_label e.0 e.1 && item_labels e.1) w.imports.entries e (first_true (entries_labels w.imports.entries) _ names) c)
       (import-keyed r n e.0 e.1 (import-stands e c)) (import-typed r n e.0 e.1 (import-stands e c))
 
   pub export-entry : (e : WorldKey × WorldItem) → Contains w.exports.entries e → IsEntry r n e
-  export-entry e c = of-entry e (Contains-append_right (values w.imports) (values w.exports) e.1 (contains-map (λ e. e.1) w.exports.entries e c)) (Contains-append_right w.imports.entries w.exports.entries e c)
+  export-entry e c = of-entry e (Contains-append_right (values w.imports) (values w.exports) e.1 (contains-map (λ e. e.1) w.exports.entries e c))
+      (Contains-append_right w.imports.entries w.exports.entries e c)
       (all-contained (λ e. key_in_range r e.0 && item_in_range r e.1) w.exports.entries e (second_true (entries_in_range r w.imports.entries) _ ranges) c)
       (all-contained (λ e. key_label e.0 e.1 && item_labels e.1) w.exports.entries e (second_true (entries_labels w.imports.entries) _ names) c)
       (export-keyed r e.0 e.1 (export-stands e c)) (export-typed r n e.0 e.1 (export-stands e c))
@@ -136,7 +141,8 @@ module _ (r : Resolve) (v : IsValid r) (n : ℕ) (w : World) (there : world_at r
   export-freestanding e c = export-free r e.0 e.1 (export-stands e c)
 
 -- a key that is an interface has a path
-pub interface-key-path : (r : Resolve) → IsValid r → (n : ℕ) (e : WorldKey × WorldItem) → IsEntry r n e → (k : ℕ) → is_interface_key r k e.1 ≡ true → in_list r.interfaces.items k ≡ true → is_some (interface_path r k) ≡ true
+pub interface-key-path : (r : Resolve) → IsValid r → (n : ℕ) (e : WorldKey × WorldItem) → IsEntry r n e → (k : ℕ) → is_interface_key r k e.1 ≡ true → in_list r.interfaces.items k ≡ true
+    → is_some (interface_path r k) ≡ true
 interface-key-path r v n e is k h inside =
     let found = found-in r.interfaces.items k inside in
     named-path r v k (ap (λ o. option_map_or (λ other. is_some other.name) o false) found.1

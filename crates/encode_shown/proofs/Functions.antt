@@ -62,7 +62,8 @@ module _ (place : Place) (r : Resolve) where
   both-tests p q [] h g = refl
   both-tests p q (t ∷ ts) h g = both _ _ (both (p t) (q t) (first_true _ _ h) (first_true _ _ g)) (both-tests p q ts (second_true (p t) _ h) (second_true (q t) _ g))
 
-  params-pass : (ps : List Param) → list_all is_value (map (λ p. p.ty) ps) ≡ true → list_all (λ p. is_parameter_type place p.1) (map {B = Text × Tree} (λ p. (text_of p.name, type_tree r p.ty)) ps) ≡ true
+  params-pass : (ps : List Param) → list_all is_value (map (λ p. p.ty) ps) ≡ true
+      → list_all (λ p. is_parameter_type place p.1) (map {B = Text × Tree} (λ p. (text_of p.name, type_tree r p.ty)) ps) ≡ true
   params-pass [] h = refl
   params-pass (p ∷ ps) h = both _ _ (first_true _ _ h) (params-pass ps (second_true (is_value p.ty) _ h))
 
@@ -77,7 +78,8 @@ module _ (place : Place) (r : Resolve) where
   signature-from : (f : Function) → are_member_labels (map (λ p. text_of p.name) f.params.items) ≡ true → list_all is_value (function_types f) ≡ true → is_signature place (signature_of r f) ≡ true
   signature-from f names values =
       let split = sym (list_all-append is_value (map (λ p. p.ty) f.params.items) (option_to_list f.result)) ∙ values in
-      both _ _ (both _ _ (ap are_labels (param-names f.params.items) ∙ labels-from (map (λ p. text_of p.name) f.params.items) names) (params-pass f.params.items (first_true (list_all is_value (map (λ p. p.ty) f.params.items)) _ split)))
+      both _ _ (both _ _ (ap are_labels (param-names f.params.items) ∙ labels-from (map (λ p. text_of p.name) f.params.items) names)
+      (params-pass f.params.items (first_true (list_all is_value (map (λ p. p.ty) f.params.items)) _ split)))
       (result-passes f.result (second_true (list_all is_value (map (λ p. p.ty) f.params.items)) _ split))
 
 module _ (r : Resolve) (v : IsValid r) where
@@ -137,7 +139,8 @@ module _ (r : Resolve) (v : IsValid r) where
         (ap (type_tree r) found.2 ∙ unnamed-tree r v found.0.0 found.1 found.3 (is-none found.1.name (first_true (is_none found.1.name) _ found.4)))
         ∙ of-kind found.1.kind (second_true (is_none found.1.name) _ found.4)
       where
-        of-ok : (ok err : Option ValueType) → option_map_or (type_is r (is_own_of n)) ok false ≡ true → shown.constructs (own_name place name) (Some (result_tree (option_map (type_tree r) ok) (option_map (type_tree r) err))) ≡ true
+        of-ok : (ok err : Option ValueType) → option_map_or (type_is r (is_own_of n)) ok false ≡ true
+            → shown.constructs (own_name place name) (Some (result_tree (option_map (type_tree r) ok) (option_map (type_tree r) err))) ≡ true
         of-ok None err h = let wrong : ⊥ = cc in absurd wrong
         of-ok (Some t) err h = ap (λ u. same_tree u (own_name place name)) (own-named t h) ∙ same-own place name
 
@@ -145,7 +148,8 @@ module _ (r : Resolve) (v : IsValid r) where
         of-kind (kind.Result x) h = of-ok x.ok x.err h
         of-kind _ h = let wrong : ⊥ = cc in absurd wrong
 
-    constructs-shown : (o : Option ValueType) → option_map_or (λ t. type_is r (is_own_of n) t || type_is r (is_result_of_own r n) t) o false ≡ true → shown.constructs (own_name place name) (option_map (type_tree r) o) ≡ true
+    constructs-shown : (o : Option ValueType) → option_map_or (λ t. type_is r (is_own_of n) t || type_is r (is_result_of_own r n) t) o false ≡ true
+        → shown.constructs (own_name place name) (option_map (type_tree r) o) ≡ true
     constructs-shown None h = let wrong : ⊥ = cc in absurd wrong
     constructs-shown (Some t) h = or-cases (type_is r (is_own_of n) t) (type_is r (is_result_of_own r n) t) h
         (λ e. ap (λ u. shown.constructs (own_name place name) (Some u)) (own-named t e) ∙ same-own place name)
@@ -171,7 +175,9 @@ module _ (r : Resolve) (v : IsValid r) where
         static_ = is_label_behind (static_name name []) (text_of f.name)
 
         as-method : (is_member_name (method_name name []) f && takes_self r n f) ≡ true → is_function_of place (text_of f.name) (signature_of r f) name ≡ true
-        as-method h = or-first (constructor_ || method_) static_ (or-second constructor_ method_ (both _ _ (label-behind (method_name name []) (text_of f.name) (first_true (is_member_name (method_name name []) f) _ h)) (self-shown f.params.items (second_true (is_member_name (method_name name []) f) _ h))))
+        as-method h = or-first (constructor_ || method_) static_ (or-second constructor_ method_
+            (both _ _ (label-behind (method_name name []) (text_of f.name) (first_true (is_member_name (method_name name []) f) _ h))
+            (self-shown f.params.items (second_true (is_member_name (method_name name []) f) _ h))))
 
         as-static : is_member_name (static_name name []) f ≡ true → is_function_of place (text_of f.name) (signature_of r f) name ≡ true
         as-static h = or-second (constructor_ || method_) static_ (label-behind (static_name name []) (text_of f.name) h)
@@ -202,15 +208,18 @@ module _ (r : Resolve) (v : IsValid r) where
   resource-found : (o : TypeOwner) (n : ℕ) (name : Text) → resource_name r o n ≡ Some name → IsResourceOf o n name
   resource-found o n name h = go (type_at r n) refl h
     where
-      named-as : (def : TypeDef) → type_at r n ≡ Some def → is_resource_itself def.kind ≡ true → def.owner ≡ o → (x : Option (String Global)) → def.name ≡ x → optional_text x ≡ Some name → IsResourceOf o n name
+      named-as : (def : TypeDef) → type_at r n ≡ Some def → is_resource_itself def.kind ≡ true → def.owner ≡ o → (x : Option (String Global)) → def.name ≡ x → optional_text x ≡ Some name
+          → IsResourceOf o n name
       named-as def at i w None e h = let wrong : ⊥ = cc in absurd wrong
       named-as def at i w (Some s) e h = record { def = def; there = at; itself = i; owned = w; string = s; named_ = e; text = sym (same-some (text_of s) name h) }
 
-      tested : (def : TypeDef) → type_at r n ≡ Some def → (b : Bool) → (is_resource_itself def.kind && same_owner def.owner o) ≡ b → cond b (optional_text def.name) None ≡ Some name → IsResourceOf o n name
+      tested : (def : TypeDef) → type_at r n ≡ Some def → (b : Bool) → (is_resource_itself def.kind && same_owner def.owner o) ≡ b → cond b (optional_text def.name) None ≡ Some name
+          → IsResourceOf o n name
       tested def at true e h = named-as def at (first_true (is_resource_itself def.kind) _ e) (same-owner def.owner o (second_true (is_resource_itself def.kind) _ e)) def.name refl h
       tested def at false e h = let wrong : ⊥ = cc in absurd wrong
 
-      go : (x : Option TypeDef) → type_at r n ≡ x → Rattle.std.specs.Prelude.option_and_then (λ def. cond (is_resource_itself def.kind && same_owner def.owner o) (optional_text def.name) None) x ≡ Some name → IsResourceOf o n name
+      go : (x : Option TypeDef) → type_at r n ≡ x
+          → Rattle.std.specs.Prelude.option_and_then (λ def. cond (is_resource_itself def.kind && same_owner def.owner o) (optional_text def.name) None) x ≡ Some name → IsResourceOf o n name
       go None e h = let wrong : ⊥ = cc in absurd wrong
       go (Some def) e h = tested def e (is_resource_itself def.kind && same_owner def.owner o) refl h
 
@@ -220,7 +229,8 @@ module _ (r : Resolve) (v : IsValid r) where
         → ((n : ℕ) (name : Text) → resource_of f.kind ≡ Some n → IsResourceOf o n name → Contains resources name)
         → is_function (place_of r o) resources (text_of f.name) (signature_of r f) ≡ true
     function-shown range labelled stay flat member home =
-        both _ _ (signature-from (place_of r o) r f (first_true (are_member_labels (map (λ p. text_of p.name) f.params.items)) _ (second_true (not (is_freestanding f.kind) || is_label (text_of f.name)) _ labelled)) values)
+        both _ _ (signature-from (place_of r o) r f (first_true (are_member_labels (map (λ p. text_of p.name) f.params.items)) _
+        (second_true (not (is_freestanding f.kind) || is_label (text_of f.name)) _ labelled)) values)
         (go (resource_of f.kind) refl member)
       where
         inside : list_all (in_list r.types.items) (filter_map number_of (function_types f)) ≡ true
@@ -239,10 +249,13 @@ module _ (r : Resolve) (v : IsValid r) where
             let c = home n name e is in
             or-second (is_label (text_of f.name)) _ (any-there resources name c (member-shown (place_of r o) name n tree f (ap is_some e) h))
           where
-            any-there : (ts : List Text) (t : Text) → Contains ts t → is_function_of (place_of r o) (text_of f.name) (signature_of r f) t ≡ true → list_any (is_function_of (place_of r o) (text_of f.name) (signature_of r f)) ts ≡ true
-            any-there ts t c h = Rattle.std.proofs.lemmas.List.Folds.list_any_at (is_function_of (place_of r o) (text_of f.name) (signature_of r f)) ts c.0 t c.1 (ap (is_function_of (place_of r o) (text_of f.name) (signature_of r f)) c.2 ∙ h)
+            any-there : (ts : List Text) (t : Text) → Contains ts t → is_function_of (place_of r o) (text_of f.name) (signature_of r f) t ≡ true
+                → list_any (is_function_of (place_of r o) (text_of f.name) (signature_of r f)) ts ≡ true
+            any-there ts t c h = Rattle.std.proofs.lemmas.List.Folds.list_any_at (is_function_of (place_of r o) (text_of f.name) (signature_of r f)) ts c.0 t c.1
+                (ap (is_function_of (place_of r o) (text_of f.name) (signature_of r f)) c.2 ∙ h)
 
         go : (x : Option ℕ) → resource_of f.kind ≡ x → passes (λ n. option_map_or (λ name. is_member_of r n name f f.kind) (resource_name r o n) false) x ≡ true
             → (is_label (text_of f.name) || list_any (is_function_of (place_of r o) (text_of f.name) (signature_of r f)) resources) ≡ true
-        go None e h = or-first (is_label (text_of f.name)) _ (given-not (is_freestanding f.kind) (is_label (text_of f.name)) (ap is_none e) (first_true (not (is_freestanding f.kind) || is_label (text_of f.name)) _ labelled))
+        go None e h = or-first (is_label (text_of f.name)) _ (given-not (is_freestanding f.kind) (is_label (text_of f.name)) (ap is_none e)
+            (first_true (not (is_freestanding f.kind) || is_label (text_of f.name)) _ labelled))
         go (Some n) e h = of-resource n e (resource_name r o n) refl h

@@ -43,8 +43,6 @@ use Rattle.base_lemmas.proofs.Elements.{all-contained, all_pass as all-from, con
 use Rattle.std.proofs.lemmas.Bool.{and_from as both, not-true as no-longer}
 use Rattle.wit_model.proofs.TextLemmas.{text_same as text-same}
 
--- an element of a list that is mapped is that of one that it is from
-
 -- a resource of the list is one of its resources
 pub resource-listed : (ts : List ShownType) (t : ShownType) → Contains ts t → is_resource t.meaning.declaration ≡ true → Contains (resources_of ts) t.name
 resource-listed [] t c h = absurd (let l = c.1 in omega (arith, l))
@@ -88,7 +86,8 @@ module _ (r : Resolve) (v : IsValid r) (n : ℕ) (i : Interface) (there : interf
   resource-home : (m : ℕ) (name : Text) → IsResourceOf r v (as_interface n) m name → Contains resources name
   resource-home m name is =
       let e = entry-of r v n i there m is.def is.string is.there is.named_ is.owned in
-      let declared : is_resource (type_meaning_at r e.entry.1.0).declaration ≡ true = ap (λ k. is_resource (type_meaning_at r k).declaration) e.number ∙ resource-declared r m is.def is.there is.itself in
+      let declared : is_resource (type_meaning_at r e.entry.1.0).declaration ≡ true =
+      ap (λ k. is_resource (type_meaning_at r k).declaration) e.number ∙ resource-declared r m is.def is.there is.itself in
       subst (λ (t : Text). Contains resources t) (e.text ∙ sym is.text)
       (resource-listed (types_of r n i) (shown_type r (home_of r n) e.entry) (contains-map (shown_type r (home_of r n)) i.types.entries e.entry e.there) declared)
 
@@ -96,11 +95,14 @@ module _ (r : Resolve) (v : IsValid r) (n : ℕ) (i : Interface) (there : interf
   unfolding labels owners depths function_names numbers_in_range
   function-test e c =
       let listed = contains-map (λ x. x.1) i.functions.entries e c in
-      let numbers = second_true _ _ (second_true (passes (in_list r.packages.items) (package_number i.package)) _ (second_true (is_place n) _ (interface-passes numbers_in_range r v.rules.numbers_in_range n i there))) in
-      let named = first_true (list_all function_labels (functions_of_interface i)) _ (second_true (is_stability i.stability) _ (second_true (passes (λ name. is_label (text_of name)) i.name) _ (interface-passes labels r v.rules.labels n i there))) in
+      let numbers = second_true _ _ (second_true (passes (in_list r.packages.items) (package_number i.package)) _
+      (second_true (is_place n) _ (interface-passes numbers_in_range r v.rules.numbers_in_range n i there))) in
+      let named = first_true (list_all function_labels (functions_of_interface i)) _
+      (second_true (is_stability i.stability) _ (second_true (passes (λ name. is_label (text_of name)) i.name) _ (interface-passes labels r v.rules.labels n i there))) in
       let stay = first_true (list_all (function_stays r (as_interface n)) (functions_of_interface i)) _ (interface-passes owners r v.rules.owners n i there) in
       let flat = interface-passes depths r v.rules.depths n i there in
-      let keyed = all-contained (λ e. text_eq (text_of e.0) (text_of e.1.name) && is_member r (as_interface n) e.1) i.functions.entries e (interface-passes function_names r v.rules.function_names n i there) c in
+      let keyed = all-contained (λ e. text_eq (text_of e.0) (text_of e.1.name) && is_member r (as_interface n) e.1) i.functions.entries e
+      (interface-passes function_names r v.rules.function_names n i there) c in
       ap (λ t. is_function (home_of r n) resources t (signature_of r e.1)) (text-same (text_of e.0) (text_of e.1.name) (first_true (text_eq (text_of e.0) (text_of e.1.name)) _ keyed))
       ∙ function-shown r v (as_interface n) e.1 resources
       (all-contained (function_in_range r) (functions_of_interface i) e.1 numbers listed)
@@ -128,7 +130,8 @@ module _ (r : Resolve) (v : IsValid r) (n : ℕ) (i : Interface) (there : interf
   names-apart : (t : Text) → Contains (map (λ (t : ShownType). t.name) (types_of r n i)) t → list_any (text_eq t) (map (λ f. f.0) (functions_of r i)) ≡ false
   unfolding labels
   names-apart t c =
-      let rest = second_true (list_all function_labels (functions_of_interface i)) _ (second_true (is_stability i.stability) _ (second_true (passes (λ name. is_label (text_of name)) i.name) _ (interface-passes labels r v.rules.labels n i there))) in
+      let rest = second_true (list_all function_labels (functions_of_interface i)) _
+      (second_true (is_stability i.stability) _ (second_true (passes (λ name. is_label (text_of name)) i.name) _ (interface-passes labels r v.rules.labels n i there))) in
       let key = contains-mapped text_of (keys i.types) t (subst (λ (ts : List Text). Contains ts t) type-names c) in
       let one = no-longer (list_any (λ other. text_eq (text_of key.0) (text_of other)) (keys i.functions))
       (all-contained (λ name. not (list_any (λ other. text_eq (text_of name) (text_of other)) (keys i.functions))) (keys i.types) key.0 rest key.1) in
@@ -146,7 +149,8 @@ module _ (r : Resolve) (v : IsValid r) (n : ℕ) (i : Interface) (there : interf
 
     shown-functions : list_all (λ f. is_function (home_of r n) (resources_of view.types) f.0 f.1.signature) view.functions ≡ true
     shown-functions = all-from (λ f. is_function (home_of r n) (resources_of view.types) f.0 f.1.signature) view.functions (λ f c.
-        let from = contains-mapped (λ e. (text_of e.0, function_meaning r e.1)) i.functions.entries f (Contains-permutation view.functions (functions_of r i) f (IsPermutation-sym (functions_of r i) view.functions functions-are) c) in
+        let from = contains-mapped (λ e. (text_of e.0, function_meaning r e.1)) i.functions.entries f
+        (Contains-permutation view.functions (functions_of r i) f (IsPermutation-sym (functions_of r i) view.functions functions-are) c) in
         ap (λ (ts : List ShownType). is_function (home_of r n) (resources_of ts) f.0 f.1.signature) types-are
         ∙ ap (λ (g : Text × FunctionMeaning). is_function (home_of r n) resources g.0 g.1.signature) (sym from.2) ∙ function-test from.0 from.1)
 
@@ -155,7 +159,8 @@ module _ (r : Resolve) (v : IsValid r) (n : ℕ) (i : Interface) (there : interf
         let order = IsPermutation-map (λ f. f.0) (functions_of r i) view.functions functions-are in
         ap (λ (ts : List ShownType). distinct (map (λ t. t.name) ts ++ map (λ f. f.0) view.functions)) types-are
         ∙ distinct-both (map (λ (t : ShownType). t.name) (types_of r n i)) (map (λ f. f.0) view.functions) types-distinct
-        (distinct-from _ (Rattle.std.proofs.lemmas.Map.Keys.IsDistinct-IsPermutation text_eq nat_list_eq_equiv.symm (map (λ f. f.0) (functions_of r i)) (map (λ f. f.0) view.functions) order functions-distinct))
+        (distinct-from _ (Rattle.std.proofs.lemmas.Map.Keys.IsDistinct-IsPermutation text_eq nat_list_eq_equiv.symm (map (λ f. f.0) (functions_of r i)) (map (λ f. f.0) view.functions) order
+        functions-distinct))
         (λ t c. sym (list_any-IsPermutation (text_eq t) (map (λ f. f.0) (functions_of r i)) (map (λ f. f.0) view.functions) order) ∙ names-apart t c)
 
     shown-obeys : is_interface (home_of r n) view ≡ true

@@ -115,7 +115,8 @@ module _ (r : Resolve) (v : IsValid r) (n : ℕ) where
   abbrev pub HasHome : List Text → WorldItem → Type 0
   HasHome resources i = (f : Function) → i ≡ item.Function f → (m : ℕ) (name : Text) → resource_of f.kind ≡ Some m → IsResourceOf r v (as_world n) m name → Contains resources name
 
-  function-obeys : (resources : List Text) (k : WorldKey) (f : Function) → IsEntry r n (k, item.Function f) → HasHome resources (item.Function f) → is_function Place.here resources (key_text r k) (signature_of r f) ≡ true
+  function-obeys : (resources : List Text) (k : WorldKey) (f : Function) → IsEntry r n (k, item.Function f) → HasHome resources (item.Function f)
+      → is_function Place.here resources (key_text r k) (signature_of r f) ≡ true
   function-obeys resources k f is home =
       let named = named-key k (text_of f.name) (first_true (is_name_key (text_of f.name) k) _ is.named_) in
       ap (λ t. is_function Place.here resources t (signature_of r f)) (ap (key_text r) named.1 ∙ named.2)
@@ -129,7 +130,8 @@ module _ (r : Resolve) (v : IsValid r) (n : ℕ) where
       ∙ (λ j. is_declared (place_of r (sym t.owned j)) (declaration_of r t.def))
       ∙ number-declared r v id.0 t.def t.there (ap (λ o. same_owner o owner.None) t.owned))
 
-  pub item-obeys : (resources : List Text) (k : WorldKey) (i : WorldItem) (view : View) → IsEntry r n (k, i) → IsViewOf r i view → HasHome resources i → is_item resources (key_text r k) (shown_item r k i view) ≡ true
+  pub item-obeys : (resources : List Text) (k : WorldKey) (i : WorldItem) (view : View) → IsEntry r n (k, i) → IsViewOf r i view → HasHome resources i
+      → is_item resources (key_text r k) (shown_item r k i view) ≡ true
   item-obeys resources k (item.Interface id stability docs external_id) view is shows home =
       ap (λ o. is_interface (follow.place_of o) view) (instance-home k (interface_path r id.0) (entry-home k (item.Interface id stability docs external_id) is id.0 refl))
       ∙ ap (λ p. is_interface p view) (path-home (interface_path r id.0)) ∙ interface-obeys r v id.0 view shows
@@ -144,9 +146,12 @@ module _ (r : Resolve) (v : IsValid r) (n : ℕ) where
   -- a function uses its resource
   resource-used : (f : Function) (m : ℕ) (name : Text) → resource_of f.kind ≡ Some m → IsResourceOf r v (as_world n) m name → Contains (used_types r n (item.Function f)) m
   resource-used f m name e is =
-      let number : Contains (function_numbers f) m = Contains-append_right (filter_map number_of (function_types f)) (option_to_list (resource_of f.kind)) m (subst (λ (o : Option ℕ). Contains (option_to_list o) m) (sym e) (contains-one m)) in
-      let meets : Contains (met_by (met_of r) m) m = subst (λ (ns : List ℕ). Contains ns m) (sym (met_step r (valid-references r v) m is.def is.there ∙ ap (λ o. option_map_or (λ x. m ∷ []) o (used_by_type r is.def)) is.named_)) (contains-one m) in
-      let own : has_owner r (as_world n) m ≡ true = ap (λ o. option_map_or (λ def. same_owner def.owner (as_world n)) o false) is.there ∙ ap (λ o. same_owner o (as_world n)) is.owned ∙ Rattle.base_lemmas.proofs.Numbers.same-number n in
+      let number : Contains (function_numbers f) m = Contains-append_right (filter_map number_of (function_types f)) (option_to_list (resource_of f.kind)) m
+      (subst (λ (o : Option ℕ). Contains (option_to_list o) m) (sym e) (contains-one m)) in
+      let meets : Contains (met_by (met_of r) m) m = subst (λ (ns : List ℕ). Contains ns m)
+      (sym (met_step r (valid-references r v) m is.def is.there ∙ ap (λ o. option_map_or (λ x. m ∷ []) o (used_by_type r is.def)) is.named_)) (contains-one m) in
+      let own : has_owner r (as_world n) m ≡ true = ap (λ o. option_map_or (λ def. same_owner def.owner (as_world n)) o false) is.there ∙ ap (λ o. same_owner o (as_world n)) is.owned
+      ∙ Rattle.base_lemmas.proofs.Numbers.same-number n in
       contains-filter (has_owner r (as_world n)) (used_by_function r f) m (contains-flat (met_by (met_of r)) (function_numbers f) m m number meets) own
 
   -- a resource of the world that stands among these is seen
@@ -159,7 +164,8 @@ module _ (r : Resolve) (v : IsValid r) (n : ℕ) where
       let seen = zip-right (ShowsItem r) before ss entry.0 z entry.1 in
       of-type entry.0.0 entry.0.1 (entries entry.0 entry.1) typed.0 typed.1 typed.2 seen.0 seen.1 seen.2
     where
-      of-type : (k : WorldKey) (i : WorldItem) → IsEntry r n (k, i) → (id : TypeId) → i ≡ item.Type_ id → id.0 ≡ m → (s : Seen) → Contains ss s → ShowsItem r (k, i) s → Contains (resources_seen ss) name
+      of-type : (k : WorldKey) (i : WorldItem) → IsEntry r n (k, i) → (id : TypeId) → i ≡ item.Type_ id → id.0 ≡ m → (s : Seen) → Contains ss s → ShowsItem r (k, i) s
+          → Contains (resources_seen ss) name
       of-type k i entry id e q s c shows =
           let t = world-type k id (subst (λ (x : WorldItem). IsEntry r n (k, x)) e entry) in
           let same : t.def ≡ is.def = same-some t.def is.def (sym t.there ∙ ap (type_at r) q ∙ is.there) in
@@ -172,6 +178,7 @@ module _ (r : Resolve) (v : IsValid r) (n : ℕ) where
   pub import-home : (before : List (WorldKey × WorldItem)) (ss : List Seen) → AllZip (ShowsItem r) before ss → ((e : WorldKey × WorldItem) → Contains before e → IsEntry r n e)
       → (i : WorldItem) → uses_stand_before r n (map (λ e. e.1) before) i ≡ true → HasHome (resources_seen ss) i
   import-home before ss z entries i h f e m name q is =
-      let used : list_all (has (filter_map item_type (map (λ e. e.1) before))) (used_types r n i) ≡ true = second_true (list_all (has (filter_map item_interface (map (λ e. e.1) before))) (used_interfaces r i)) _ h in
+      let used : list_all (has (filter_map item_type (map (λ e. e.1) before))) (used_types r n i) ≡ true =
+      second_true (list_all (has (filter_map item_interface (map (λ e. e.1) before))) (used_interfaces r i)) _ h in
       resource-seen before ss z entries m name
       (all-contained (has (filter_map item_type (map (λ e. e.1) before))) (used_types r n i) m used (subst (λ x. Contains (used_types r n x) m) (sym e) (resource-used f m name q is))) is

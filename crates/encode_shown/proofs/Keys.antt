@@ -78,7 +78,8 @@ module _ (r : Resolve) (v : IsValid r) (n : ℕ) where
       of-name m e None h = let wrong : ⊥ = cc in absurd wrong
       of-name m e (Some t) h = ap begins_with_letter same ∙ member-first r m t f f.kind (ap is_some e) h
 
-      go : (o : Option ℕ) → resource_of f.kind ≡ o → passes (λ m. option_map_or (λ t. is_member_of r m t f f.kind) (resource_name r (as_world n) m) false) o ≡ true → begins_with_letter (text_of name) ≡ false
+      go : (o : Option ℕ) → resource_of f.kind ≡ o → passes (λ m. option_map_or (λ t. is_member_of r m t f f.kind) (resource_name r (as_world n) m) false) o ≡ true
+          → begins_with_letter (text_of name) ≡ false
       go None e h = let wrong : true ≡ false = sym (ap is_none e) ∙ free in let z : ⊥ = cc in absurd z
       go (Some m) e h = of-name m e (resource_name r (as_world n) m) h
 
@@ -91,7 +92,8 @@ module _ (r : Resolve) (v : IsValid r) (n : ℕ) where
     where
       go : (b : Bool) → is_freestanding f.kind ≡ b → (not b || is_label (text_of name)) ≡ true → IsKey r (key.Name name)
       go true e h = inl h
-      go false e h = inr (member-key name f e (text-same (text_of name) (text_of f.name) (first_true (text_eq (text_of name) (text_of f.name)) _ is.named_)) (second_true (text_eq (text_of name) (text_of f.name)) _ is.named_))
+      go false e h = inr (member-key name f e (text-same (text_of name) (text_of f.name) (first_true (text_eq (text_of name) (text_of f.name)) _ is.named_))
+          (second_true (text_eq (text_of name) (text_of f.name)) _ is.named_))
 
   -- ---- texts
 
@@ -139,7 +141,8 @@ module _ (r : Resolve) (v : IsValid r) (n : ℕ) where
           let z : ⊥ = cc in absurd z
       go x y s t false q = refl
 
-  all-apart : (k : WorldKey) (ks : List WorldKey) → IsKey r k → ((l : WorldKey) → Contains ks l → IsKey r l) → AllByRecursion (λ l. key_eq k l ≡ false) ks → AllByRecursion (λ y. text_eq (key_text r k) y ≡ false) (map (key_text r) ks)
+  all-apart : (k : WorldKey) (ks : List WorldKey) → IsKey r k → ((l : WorldKey) → Contains ks l → IsKey r l) → AllByRecursion (λ l. key_eq k l ≡ false) ks
+      → AllByRecursion (λ y. text_eq (key_text r k) y ≡ false) (map (key_text r) ks)
   all-apart k [] h g a = tt
   all-apart k (l ∷ ks) h g a = (keys-apart k l h (g l (0, omega arith, refl)) a.0, all-apart k ks h (λ m c. g m (contains-later l ks m c)) a.1)
 

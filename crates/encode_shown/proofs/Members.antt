@@ -39,7 +39,8 @@ pub found-entry : {V : Type 0} (number : V → ℕ) (es : List (String Global ×
 found-entry number [] n t h = let wrong : ⊥ = cc in absurd wrong
 found-entry number (e ∷ es) n t h = go (found-entry number es n t) (bytes_eq t (text_of e.0)) refl h
   where
-    go : (is_id n (option_map number (lookup (λ k. bytes_eq t (text_of k)) es)) ≡ true → (e : String Global × _) × Contains es e × (number e.1 ≡ n) × (text_of e.0 ≡ t)) → (b : Bool) → bytes_eq t (text_of e.0) ≡ b
+    go : (is_id n (option_map number (lookup (λ k. bytes_eq t (text_of k)) es)) ≡ true → (e : String Global × _) × Contains es e × (number e.1 ≡ n) × (text_of e.0 ≡ t)) → (b : Bool)
+        → bytes_eq t (text_of e.0) ≡ b
         → is_id n (option_map number (cond b (Some e.1) (lookup (λ k. bytes_eq t (text_of k)) es))) ≡ true → (x : String Global × _) × Contains (e ∷ es) x × (number x.1 ≡ n) × (text_of x.0 ≡ t)
     go more true q h = (e, (0, omega arith, refl), equal (number e.1) n h, sym (text-same t (text_of e.0) q))
     go more false q h = let rest = more h in (rest.0, contains-later e es rest.0 rest.1, rest.2, rest.3)
@@ -75,7 +76,8 @@ module _ (r : Resolve) (v : IsValid r) where
   -- its name is a label
   pub name-label : (n : ℕ) (def : TypeDef) (name : String Global) → type_at r n ≡ Some def → def.name ≡ Some name → is_label (text_of name) ≡ true
   unfolding labels
-  name-label n def name at named = ap (passes (λ name. is_label (text_of name))) (sym named) ∙ first_true (passes (λ name. is_label (text_of name)) def.name) _ (type-passes labels r v.rules.labels n def at)
+  name-label n def name at named = ap (passes (λ name. is_label (text_of name))) (sym named) ∙ first_true (passes (λ name. is_label (text_of name)) def.name) _
+      (type-passes labels r v.rules.labels n def at)
 
   module _ (i : ℕ) (interface : Interface) (there : interface_at r i ≡ Some interface) where
     -- a named type of the interface has an entry
@@ -83,7 +85,8 @@ module _ (r : Resolve) (v : IsValid r) where
     entry-of n def name at named here =
         let listed : is_listed r n (text_of name) (as_interface i) ≡ true = ap (is_listed r n (text_of name)) (sym here) ∙ valid-listed n def name at named in
         let at_home : is_listed_in_interface n (text_of name) interface ≡ true = ap (passes (is_listed_in_interface n (text_of name))) (sym there) ∙ listed in
-        let found = found-entry (λ (id : TypeId). id.0) interface.types.entries n (text_of name) (first_true (is_id n (option_map (λ id. id.0) (get_by_text interface.types (text_of name)))) _ at_home) in
+        let found = found-entry (λ (id : TypeId). id.0) interface.types.entries n (text_of name)
+        (first_true (is_id n (option_map (λ id. id.0) (get_by_text interface.types (text_of name)))) _ at_home) in
         record { entry = found.0; there = found.1; number = found.2; text = found.3 }
 
     all-named : list_all (is_named_of r (as_interface i)) (interface_type_numbers interface) ≡ true
@@ -93,7 +96,8 @@ module _ (r : Resolve) (v : IsValid r) where
 
     inside : list_all (λ (id : TypeId). in_list r.types.items id.0) (values interface.types) ≡ true
     unfolding numbers_in_range
-    inside = first_true _ _ (second_true (passes (in_list r.packages.items) (package_number interface.package)) _ (second_true (is_place i) _ (interface-passes numbers_in_range r v.rules.numbers_in_range i interface there)))
+    inside = first_true _ _ (second_true (passes (in_list r.packages.items) (package_number interface.package)) _
+        (second_true (is_place i) _ (interface-passes numbers_in_range r v.rules.numbers_in_range i interface there)))
 
     -- an entry is a named type of the interface, under its name
     pub entry-type : (e : String Global × TypeId) → Contains interface.types.entries e → IsNamedType r (as_interface i) e.1.0 (text_of e.0)

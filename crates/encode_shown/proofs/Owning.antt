@@ -79,12 +79,15 @@ module _ (r : Resolve) (v : IsValid r) (n : ℕ) (p : Package) (at : package_at 
   pub own-interface : (e : String Global × InterfaceId) → Contains p.interfaces.entries e → IsOwn e
   unfolding places names_in_packages
   own-interface e c =
-      let within = all-contained (λ (id : InterfaceId). in_list r.interfaces.items id.0) (values p.interfaces) e.1 (first_true (list_all (λ (id : InterfaceId). in_list r.interfaces.items id.0) (values p.interfaces)) _ inside) (contains-map (λ x. x.1) p.interfaces.entries e c) in
+      let within = all-contained (λ (id : InterfaceId). in_list r.interfaces.items id.0) (values p.interfaces) e.1
+      (first_true (list_all (λ (id : InterfaceId). in_list r.interfaces.items id.0) (values p.interfaces)) _ inside) (contains-map (λ x. x.1) p.interfaces.entries e c) in
       let found = found-in r.interfaces.items e.1.0 within in
       let named = all-contained (λ (e : String Global × InterfaceId). passes (λ i. text_is i.name (text_of e.0)) (interface_at r e.1.0)) p.interfaces.entries e
-      (first_true (list_all (λ (e : String Global × InterfaceId). passes (λ i. text_is i.name (text_of e.0)) (interface_at r e.1.0)) p.interfaces.entries) _ (package-passes names_in_packages r v.rules.names_in_packages n p at)) c in
+      (first_true (list_all (λ (e : String Global × InterfaceId). passes (λ i. text_is i.name (text_of e.0)) (interface_at r e.1.0)) p.interfaces.entries) _
+      (package-passes names_in_packages r v.rules.names_in_packages n p at)) c in
       let name = named-as found.0.name (text_of e.0) (ap (passes (λ (i : Interface). text_is i.name (text_of e.0))) (sym found.1) ∙ named) in
-      let belongs = all-contained (interface_belongs r n) p.interfaces.entries e (first_true (list_all (interface_belongs r n) p.interfaces.entries) _ (package-passes places r v.rules.places n p at)) c in
+      let belongs = all-contained (interface_belongs r n) p.interfaces.entries e
+      (first_true (list_all (interface_belongs r n) p.interfaces.entries) _ (package-passes places r v.rules.places n p at)) c in
       let named_belongs = ap (passes (λ name. is_id n (package_number found.0.package) && text_eq (text_of name) (text_of e.0))) (sym name.1)
       ∙ (ap (passes (λ (i : Interface). passes (λ name. is_id n (package_number i.package) && text_eq (text_of name) (text_of e.0)) i.name)) (sym found.1) ∙ belongs) in
       let home = numbered-as found.0.package (first_true (is_id n (package_number found.0.package)) _ named_belongs) in
@@ -107,13 +110,16 @@ module _ (r : Resolve) (v : IsValid r) (n : ℕ) (p : Package) (at : package_at 
   no-world-name e c =
       let is = own-interface e c in
       let rule = second_true (is_some is.def.package) _ (interface-passes places r v.rules.places e.1.0 is.def is.there) in
-      let home : option_and_then (package_at r) (package_number is.def.package) ≡ Some p = ap (λ o. option_and_then (package_at r) (package_number o)) is.in_package ∙ ap (package_at r) is.number ∙ at in
+      let home : option_and_then (package_at r) (package_number is.def.package) ≡ Some p =
+      ap (λ o. option_and_then (package_at r) (package_number o)) is.in_package ∙ ap (package_at r) is.number ∙ at in
       ap (is_world_name p) (sym is.text) ∙ no-longer (is_world_name p (text_of is.string)) (second_true (interface_is_listed e.1.0 (text_of is.string) p) _
       (given-test (λ p. interface_is_listed e.1.0 (text_of is.string) p && not (is_world_name p (text_of is.string))) (option_and_then (package_at r) (package_number is.def.package)) true p home
-      (given-test (λ name. option_map_or (λ p. interface_is_listed e.1.0 (text_of name) p && not (is_world_name p (text_of name))) (option_and_then (package_at r) (package_number is.def.package)) true) is.def.name _ is.string is.named_ rule)))
+      (given-test (λ name. option_map_or (λ p. interface_is_listed e.1.0 (text_of name) p && not (is_world_name p (text_of name))) (option_and_then (package_at r) (package_number is.def.package))
+      true) is.def.name _ is.string is.named_ rule)))
 
   -- a world of the package's map
-  pub own-world : (e : String Global × WorldId) → Contains p.worlds.entries e → (w : World) → world_at r e.1.0 ≡ Some w → (text_of w.name ≡ text_of e.0) × ((home : PackageId) × (w.package ≡ Some home) × (home.0 ≡ n))
+  pub own-world : (e : String Global × WorldId) → Contains p.worlds.entries e → (w : World) → world_at r e.1.0 ≡ Some w → (text_of w.name ≡ text_of e.0)
+      × ((home : PackageId) × (w.package ≡ Some home) × (home.0 ≡ n))
   unfolding places
   own-world e c w there =
       let belongs = all-contained (world_belongs r n) p.worlds.entries e
@@ -132,7 +138,8 @@ module _ (r : Resolve) (v : IsValid r) (n : ℕ) (p : Package) (at : package_at 
 
     same-package : same_identity (identity_of p.name) (identity_of h.package_.name) ≡ true → h.home.0 ≡ n
     same-package e = package-once r v n h.home.0 p h.package_ at h.stands
-        ((same_name p.name h.package_.name (package-name r v n p at).version (package-name r v h.home.0 h.package_ h.stands).version).1 (identity-same (identity_of p.name) (identity_of h.package_.name) e))
+        ((same_name p.name h.package_.name (package-name r v n p at).version (package-name r v h.home.0 h.package_ h.stands).version).1
+        (identity-same (identity_of p.name) (identity_of h.package_.name) e))
 
     -- a path is of the package where the interface's package is this one
     of-package : is_of (identity_of p.name) path ≡ (h.home.0 == n)

@@ -41,7 +41,8 @@ use Rattle.wit_model.proofs.TextLemmas.{text_alike as text-alike, text_same as t
 use Rattle.wit_model.proofs.ValidLemmas.{world_passes as world-passes}
 
 -- what stands behind others passes the test behind some of them
-after-item : {A : Type 0} (q : List A → A → Bool) (before xs : List A) (x : A) → each_after q before xs ≡ true → Contains xs x → (front : List A) × (q front x ≡ true) × ((y : A) → Contains front y → Contains (before ++ xs) y)
+after-item : {A : Type 0} (q : List A → A → Bool) (before xs : List A) (x : A) → each_after q before xs ≡ true → Contains xs x → (front : List A) × (q front x ≡ true)
+    × ((y : A) → Contains front y → Contains (before ++ xs) y)
 after-item q before [] x h c = none-in x c
 after-item q before (z ∷ xs) x h (zero, l, e) = (before, ap (q before) (sym e) ∙ first_true (q before z) _ h, λ y d. Contains-append_left before (z ∷ xs) y d)
 after-item q before (z ∷ xs) x h (suc k, l, e) =
@@ -75,11 +76,13 @@ path-within r m path e = go (interface_at r m) refl
 
 module _ (r : Resolve) (v : IsValid r) where
   -- an interface that an item of a world uses is an item of the world
-  world-closed : (n : ℕ) (w : World) → world_at r n ≡ Some w → (i : WorldItem) → Contains (items_of w) i → (k : ℕ) → Contains (used_interfaces r i) k → Contains (filter_map item_interface (items_of w)) k
+  world-closed : (n : ℕ) (w : World) → world_at r n ≡ Some w → (i : WorldItem) → Contains (items_of w) i → (k : ℕ) → Contains (used_interfaces r i) k
+      → Contains (filter_map item_interface (items_of w)) k
   unfolding order_of_items
   world-closed n w there i c k d =
       let front = after-item (uses_stand_before r n) [] (items_of w) i (world-passes order_of_items r v.rules.order_of_items n w there) c in
-      let among = has-contains _ k (all-contained (has (filter_map item_interface front.0)) (used_interfaces r i) k (first_true (list_all (has (filter_map item_interface front.0)) (used_interfaces r i)) _ front.1) d) in
+      let among = has-contains _ k (all-contained (has (filter_map item_interface front.0)) (used_interfaces r i) k
+      (first_true (list_all (has (filter_map item_interface front.0)) (used_interfaces r i)) _ front.1) d) in
       let given = given-contains item_interface front.0 k among in
       contains-filter_map item_interface (items_of w) given.0 k (front.2 given.0 given.1) (subst (λ (o : Option ℕ). Contains (option_to_list o) k) (sym given.2) (contains-one k))
 
@@ -162,13 +165,15 @@ module _ (r : Resolve) (v : IsValid r) where
         )
 
     world-listed : (e : String Global × WorldId) → Contains p.worlds.entries e → (w : World) → world_at r e.1.0 ≡ Some w → Contains (worlds_of r p) w
-    world-listed e c w there = contains-filter_map (λ (id : WorldId). world_at r id.0) (values p.worlds) e.1 w (contains-map (λ (x : String Global × WorldId). x.1) p.worlds.entries e c) (subst (λ (o : Option World). Contains (option_to_list o) w) (sym there) (contains-one w))
+    world-listed e c w there = contains-filter_map (λ (id : WorldId). world_at r id.0) (values p.worlds) e.1 w (contains-map (λ (x : String Global × WorldId). x.1) p.worlds.entries e c)
+        (subst (λ (o : Option World). Contains (option_to_list o) w) (sym there) (contains-one w))
 
     world-reached : (w : World) → Contains (worlds_of r p) w → (m : ℕ) (path : Text) → interface_path r m ≡ Some path → Contains (shown_by r w) m → Contains (reached_by_package r p) m
     world-reached w c m path e d =
         let given = given-contains item_interface (items_of w) m (filter-contains (λ k. is_some (interface_path r k)) (filter_map item_interface (items_of w)) m d).0 in
         let of_world = contains-flat (interfaces_of_item r) (items_of w) given.0 m given.1 (item-is r given.0 m given.2) in
-        let start = Contains-append_right (map (λ (id : InterfaceId). id.0) (values p.interfaces)) (flat_map (interfaces_of_world r) (worlds_of r p)) m (contains-flat (interfaces_of_world r) (worlds_of r p) w m c of_world) in
+        let start = Contains-append_right (map (λ (id : InterfaceId). id.0) (values p.interfaces)) (flat_map (interfaces_of_world r) (worlds_of r p)) m
+        (contains-flat (interfaces_of_world r) (worlds_of r p) w m c of_world) in
         chain-reached r v starts m 0 m start (path-within r m path e) refl
 
     world-seen : (e : String Global × WorldId) → Contains p.worlds.entries e → (m : Member) → (shown : ShowsWorldMember r named e m) → (s : Sight) → Contains (sights m) s → (k : ℕ) × IsSeen k s
@@ -180,7 +185,8 @@ module _ (r : Resolve) (v : IsValid r) where
           record {
             is = from.2.is;
             reached = world-reached shown.world there from.0 s.path from.2.is.has_path from.1;
-            shown = λ h. inr (list_any_at (λ w. has (shown_by r w) from.0) (worlds_of r p) there.0 shown.world there.1 (ap (λ w. has (shown_by r w) from.0) there.2 ∙ contains-has (shown_by r shown.world) from.0 from.1));
+            shown = λ h. inr (list_any_at (λ w. has (shown_by r w) from.0) (worlds_of r p) there.0 shown.world there.1
+                (ap (λ w. has (shown_by r w) from.0) there.2 ∙ contains-has (shown_by r shown.world) from.0 from.1));
           },
         )
 
@@ -289,15 +295,23 @@ module _ (r : Resolve) (v : IsValid r) where
         go : Contains i.shown.reached.numbers m ⊎ Contains (i.entry.1.0 ∷ []) m → HasSight m
         go (inl c) =
             let found = zip-right (ShowsImport r) i.shown.reached.numbers i.shown.imports m i.shown.reached.shown_imports c in
-            record { sight = import_sight found.0; there = stands (import_sight found.0) (Contains-append_left (map import_sight i.shown.imports) (export_sight i.entry i.shown.exported ∷ []) (import_sight found.0) (contains-map import_sight i.shown.imports found.0 found.1)); is = import-seen m found.0 found.2 }
+            record {
+              sight = import_sight found.0;
+              there = stands (import_sight found.0)
+                  (Contains-append_left (map import_sight i.shown.imports) (export_sight i.entry i.shown.exported ∷ []) (import_sight found.0)
+                  (contains-map import_sight i.shown.imports found.0 found.1));
+              is = import-seen m found.0 found.2;
+            }
         go (inr c) = record {
           sight = export_sight i.entry i.shown.exported;
-          there = stands (export_sight i.entry i.shown.exported) (Contains-append_right (map import_sight i.shown.imports) (export_sight i.entry i.shown.exported ∷ []) (export_sight i.entry i.shown.exported) (contains-one (export_sight i.entry i.shown.exported)));
+          there = stands (export_sight i.entry i.shown.exported) (Contains-append_right (map import_sight i.shown.imports) (export_sight i.entry i.shown.exported ∷ [])
+              (export_sight i.entry i.shown.exported) (contains-one (export_sight i.entry i.shown.exported)));
           is = subst (λ (k : ℕ). IsSight r k (export_sight i.entry i.shown.exported)) (one-contained i.entry.1.0 m c) (export-seen i.entry i.listed i.shown.exported i.shown.reached.shows);
         }
     met-sight m path e (inr w) =
         let shown = contains-filter (λ k. is_some (interface_path r k)) (filter_map item_interface (items_of w.shown.world)) m w.among (ap is_some e) in
-        let found = zip-right (IsWhole r v w.entry.1.0) (shown_by r w.shown.world) (Rattle.encode_shown.proofs.WorldMeans.seen r v w.entry.1.0 w.shown.world w.shown.there w.shown.scope w.shown.shows) m
+        let found = zip-right (IsWhole r v w.entry.1.0) (shown_by r w.shown.world)
+        (Rattle.encode_shown.proofs.WorldMeans.seen r v w.entry.1.0 w.shown.world w.shown.there w.shown.scope w.shown.shows) m
         (seen-whole r v w.entry.1.0 w.shown.world w.shown.there w.shown.scope w.shown.shows) shown in
         record { sight = found.0; there = in-members w.member found.0 w.there (subst (λ (x : Member). Contains (sights x) found.0) (sym w.shown.is) found.1); is = found.2.is }
 
@@ -330,7 +344,8 @@ module _ (r : Resolve) (v : IsValid r) where
             let found = world-member entry.0 entry.1 in
             let same : found.2.world ≡ w.0 = same-some found.2.world w.0 (sym found.2.there ∙ ap (λ (id : WorldId). world_at r id.0) entry.2 ∙ given.2) in
             let shown = has-contains (shown_by r found.2.world) m (ap (λ x. has (shown_by r x) m) same ∙ w.2) in
-            let sight = zip-right (IsWhole r v entry.0.1.0) (shown_by r found.2.world) (Rattle.encode_shown.proofs.WorldMeans.seen r v entry.0.1.0 found.2.world found.2.there found.2.scope found.2.shows) m
+            let sight = zip-right (IsWhole r v entry.0.1.0) (shown_by r found.2.world)
+            (Rattle.encode_shown.proofs.WorldMeans.seen r v entry.0.1.0 found.2.world found.2.there found.2.scope found.2.shows) m
             (seen-whole r v entry.0.1.0 found.2.world found.2.there found.2.scope found.2.shows) shown in
             let there = in-members found.0 sight.0 found.1 (subst (λ (x : Member). Contains (sights x) sight.0) (sym found.2.is) sight.1) in
             let path_is : path ≡ sight.0.path = same-some path sight.0.path (sym e ∙ sight.2.is.has_path) in

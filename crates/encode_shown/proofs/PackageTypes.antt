@@ -46,7 +46,8 @@ each-append : {A B : Type 0} (f : A → Option B) (xs ys : List A) (us vs : List
 each-append f [] ys us vs e h = h ∙ ap (λ (o : Option (List _)). Some (Rattle.std.proofs.Common.unwrap_or o [] ++ vs)) e
 each-append f (x ∷ xs) ys us vs e h = go (λ ws q. each-append f xs ys ws vs q h) (f x) (each f xs) refl e
   where
-    go : ((ws : List _) → each f xs ≡ Some ws → each f (xs ++ ys) ≡ Some (ws ++ vs)) → (o : Option _) (p : Option (List _)) → each f xs ≡ p → (o >>= λ y. p >>= λ ys. Some (y ∷ ys)) ≡ Some us → (o >>= λ y. each f (xs ++ ys) >>= λ ys. Some (y ∷ ys)) ≡ Some (us ++ vs)
+    go : ((ws : List _) → each f xs ≡ Some ws → each f (xs ++ ys) ≡ Some (ws ++ vs)) → (o : Option _) (p : Option (List _)) → each f xs ≡ p → (o >>= λ y. p >>= λ ys. Some (y ∷ ys)) ≡ Some us
+        → (o >>= λ y. each f (xs ++ ys) >>= λ ys. Some (y ∷ ys)) ≡ Some (us ++ vs)
     go more None p q e = let wrong : ⊥ = cc in absurd wrong
     go more (Some y) None q e = let wrong : ⊥ = cc in absurd wrong
     go more (Some y) (Some ws) q e = ap (λ (o : Option (List _)). o >>= λ ys. Some (y ∷ ys)) (more ws q) ∙ ap (λ (o : Option (List _)). Some (Rattle.std.proofs.Common.unwrap_or o [] ++ vs)) e
@@ -67,7 +68,8 @@ record AreRead {E : Type 0} (R : E → Member → Type 0) (es : List E) (xs : Li
   pub read : each member xs ≡ Some members
   pub shown : AllZip R es members
 
-one-read : {E : Type 0} (R : E → Member → Type 0) (e : E) (es : List E) (x : Text × Declarations) (xs : List (Text × Declarations)) (m : Member) → member x ≡ Some m → R e m → AreRead R es xs → AreRead R (e ∷ es) (x ∷ xs)
+one-read : {E : Type 0} (R : E → Member → Type 0) (e : E) (es : List E) (x : Text × Declarations) (xs : List (Text × Declarations)) (m : Member) → member x ≡ Some m → R e m → AreRead R es xs
+    → AreRead R (e ∷ es) (x ∷ xs)
 one-read R e es x xs m h shown rest = record {
   members = m ∷ rest.members;
   read = ap (λ (o : Option Member). o >>= λ y. each member xs >>= λ ys. Some (y ∷ ys)) h ∙ ap (λ (o : Option (List Member)). o >>= λ ys. Some (m ∷ ys)) rest.read;
@@ -78,25 +80,30 @@ module _ (r : Resolve) (v : IsValid r) (n : ℕ) (p : Package) (at : package_at 
   abbrev named : PackageIdentity
   named = identity_of p.name
 
-  interface-read : (e : String Global × InterfaceId) (x : Text × Declarations) → Contains p.interfaces.entries e → (is : IsInterfaceType r p e x) → member x ≡ Some (record { label = text_of e.0; package_ = named; part = Part.interface is.exported is.imports })
+  interface-read : (e : String Global × InterfaceId) (x : Text × Declarations) → Contains p.interfaces.entries e → (is : IsInterfaceType r p e x)
+      → member x ≡ Some (record { label = text_of e.0; package_ = named; part = Part.interface is.exported is.imports })
   interface-read e x c is =
       ap (as_member x.0) (part-of-interface x.0 x.1 is.scope is.follows) ∙ ap (λ t. as_member t (interface_part t x.1)) is.label
       ∙ ap (as_member (text_of e.0)) (interface-part-read r v n p at e c x.1 is.scope is.imports is.exported is.follows is.shows)
 
   -- the wrapper of a world is read as a member
-  pub wrapper-read : (m : ℕ) (label : Text) (x : Text × Declarations) (is : IsWorldType r p m label x) → text_of is.world.name ≡ label → member x ≡ Some (record { label = label; package_ = named; part = Part.world is.scope })
+  pub wrapper-read : (m : ℕ) (label : Text) (x : Text × Declarations) (is : IsWorldType r p m label x) → text_of is.world.name ≡ label
+      → member x ≡ Some (record { label = label; package_ = named; part = Part.world is.scope })
   wrapper-read m label x is name = ap member is.is ∙ ap (as_member label) (world-read r v n p at m is.world is.there label name is.inner is.scope is.follows is.shows)
 
-  interfaces-read : (es : List (String Global × InterfaceId)) (xs : List (Text × Declarations)) → AllZip (IsInterfaceType r p) es xs → ((e : String Global × InterfaceId) → Contains es e → Contains p.interfaces.entries e) → AreRead (ShowsInterfaceMember r named) es xs
+  interfaces-read : (es : List (String Global × InterfaceId)) (xs : List (Text × Declarations)) → AllZip (IsInterfaceType r p) es xs
+      → ((e : String Global × InterfaceId) → Contains es e → Contains p.interfaces.entries e) → AreRead (ShowsInterfaceMember r named) es xs
   interfaces-read [] [] z c = record { members = []; read = refl; shown = tt }
   interfaces-read [] (x ∷ xs) z c = absurd z
   interfaces-read (e ∷ es) [] z c = absurd z
   interfaces-read (e ∷ es) (x ∷ xs) z c =
-      one-read (ShowsInterfaceMember r named) e es x xs (record { label = text_of e.0; package_ = named; part = Part.interface z.0.exported z.0.imports }) (interface-read e x (c e (0, omega arith, refl)) z.0)
+      one-read (ShowsInterfaceMember r named) e es x xs (record { label = text_of e.0; package_ = named; part = Part.interface z.0.exported z.0.imports })
+      (interface-read e x (c e (0, omega arith, refl)) z.0)
       (record { imports = z.0.imports; exported = z.0.exported; reached = z.0.shows.reached; is = refl })
       (interfaces-read es xs z.1 (λ y d. c y (contains-later e es y d)))
 
-  worlds-read : (es : List (String Global × WorldId)) (xs : List (Text × Declarations)) → AllZip (IsListedWorldType r p) es xs → ((e : String Global × WorldId) → Contains es e → Contains p.worlds.entries e) → AreRead (ShowsWorldMember r named) es xs
+  worlds-read : (es : List (String Global × WorldId)) (xs : List (Text × Declarations)) → AllZip (IsListedWorldType r p) es xs
+      → ((e : String Global × WorldId) → Contains es e → Contains p.worlds.entries e) → AreRead (ShowsWorldMember r named) es xs
   worlds-read [] [] z c = record { members = []; read = refl; shown = tt }
   worlds-read [] (x ∷ xs) z c = absurd z
   worlds-read (e ∷ es) [] z c = absurd z
@@ -115,7 +122,8 @@ module _ (r : Resolve) (v : IsValid r) (n : ℕ) (p : Package) (at : package_at 
       go (Some y) None e = let wrong : ⊥ = cc in absurd wrong
       go (Some y) (Some ys) e = ap (λ (o : Option (List Member)). is_filled (Rattle.std.proofs.Common.unwrap_or o (y ∷ ys))) (sym e)
 
-  pub sections-mean : (xs : List (Text × Declarations)) (sections : List Section) → ArePackageTypes r p xs → is_filled xs ≡ true → exported_types sections ≡ Some xs → reads.package_meaning sections ≡ Some (meant.package_meaning r n p)
+  pub sections-mean : (xs : List (Text × Declarations)) (sections : List Section) → ArePackageTypes r p xs → is_filled xs ≡ true → exported_types sections ≡ Some xs
+      → reads.package_meaning sections ≡ Some (meant.package_meaning r n p)
   sections-mean xs sections types some e =
       let interfaces = interfaces-read p.interfaces.entries types.interface_types types.interfaces (λ e c. c) in
       let worlds = worlds-read p.worlds.entries types.world_types types.worlds (λ e c. c) in
@@ -135,7 +143,8 @@ module _ (r : Resolve) (v : IsValid r) (n : ℕ) (p : Package) (at : package_at 
       ∙ sym (map-map text_of (λ e. e.0) p.interfaces.entries)
 
   world-names : map (λ x. x.0) types.world_types ≡ map text_of (keys p.worlds)
-  world-names = zip-same (IsListedWorldType r p) (λ e. text_of e.0) (λ (x : Text × Declarations). x.0) (λ e x is. ap (λ (y : Text × Declarations). y.0) is.is) p.worlds.entries types.world_types types.worlds
+  world-names = zip-same (IsListedWorldType r p) (λ e. text_of e.0) (λ (x : Text × Declarations). x.0) (λ e x is. ap (λ (y : Text × Declarations). y.0) is.is) p.worlds.entries types.world_types
+      types.worlds
       ∙ sym (map-map text_of (λ e. e.0) p.worlds.entries)
 
   names-are : map (λ x. x.0) xs ≡ map text_of (keys p.interfaces) ++ map text_of (keys p.worlds)
@@ -158,11 +167,13 @@ module _ (r : Resolve) (v : IsValid r) (n : ℕ) (p : Package) (at : package_at 
       go x (inl c) = let e = zip-left (IsInterfaceType r p) p.interfaces.entries types.interface_types x types.interfaces c in ap is_label e.2.label ∙ own-label r v n p at e.0 e.1
       go x (inr c) =
           let e = zip-left (IsListedWorldType r p) p.worlds.entries types.world_types x types.worlds c in
-          ap (λ (y : Text × Declarations). is_label y.0) e.2.is ∙ ap is_label (sym (own-world r v n p at e.0 e.1 e.2.world e.2.there).0) ∙ world-label r v e.0.1.0 e.2.world e.2.there e.2.scope e.2.shows
+          ap (λ (y : Text × Declarations). is_label y.0) e.2.is ∙ ap is_label (sym (own-world r v n p at e.0 e.1 e.2.world e.2.there).0) ∙ world-label r v e.0.1.0 e.2.world e.2.there
+          e.2.scope e.2.shows
 
 -- ---- one world
 
-pub world-sections-mean : (r : Resolve) → IsValid r → (n : ℕ) (w : World) (p : Package) → world_at r n ≡ Some w → package_of_world r w ≡ Some p → (x : Text × Declarations) (sections : List Section) → IsWorldType r p n (text_of w.name) x
+pub world-sections-mean : (r : Resolve) → IsValid r → (n : ℕ) (w : World) (p : Package) → world_at r n ≡ Some w → package_of_world r w ≡ Some p → (x : Text × Declarations) (sections : List Section)
+    → IsWorldType r p n (text_of w.name) x
     → exported_types sections ≡ Some (x ∷ []) → reads.world_package sections ≡ Some (meant.world_package r p w)
 world-sections-mean r v n w p there home x sections is e = go w.package refl home
   where
@@ -189,7 +200,8 @@ meant-is r n p m at = (
 )
 
 -- The bytes mean what the package means, and nothing else.
-pub bytes-mean : (r : Resolve) → IsValid r → (n : ℕ) (p : Package) → package_at r n ≡ Some p → (xs : List (Text × Declarations)) (sections : List Section) (bytes : List ℕ) → ArePackageTypes r p xs → is_filled xs ≡ true
+pub bytes-mean : (r : Resolve) → IsValid r → (n : ℕ) (p : Package) → package_at r n ≡ Some p → (xs : List (Text × Declarations)) (sections : List Section) (bytes : List ℕ) → ArePackageTypes r p xs
+    → is_filled xs ≡ true
     → exported_types sections ≡ Some xs → IsComponent sections bytes → (m : PackageMeaning) → Meant r n m ↔ Reads bytes m
 bytes-mean r v n p at xs sections bytes types some e spelled m =
     let means = sections-mean r v n p at xs sections types some e in
@@ -207,7 +219,8 @@ world-meant-is r n w p m at home =
       λ e. is ∙ ap Some e,
     )
 
-pub world-bytes-mean : (r : Resolve) → IsValid r → (n : ℕ) (w : World) (p : Package) → world_at r n ≡ Some w → package_of_world r w ≡ Some p → (x : Text × Declarations) (sections : List Section) (bytes : List ℕ) → IsWorldType r p n (text_of w.name) x
+pub world-bytes-mean : (r : Resolve) → IsValid r → (n : ℕ) (w : World) (p : Package) → world_at r n ≡ Some w → package_of_world r w ≡ Some p
+    → (x : Text × Declarations) (sections : List Section) (bytes : List ℕ) → IsWorldType r p n (text_of w.name) x
     → exported_types sections ≡ Some (x ∷ []) → IsComponent sections bytes → (m : WorldPackage) → MeantWorld r n m ↔ ReadsWorld bytes m
 world-bytes-mean r v n w p there home x sections bytes is e spelled m =
     let means = world-sections-mean r v n w p there home x sections is e in

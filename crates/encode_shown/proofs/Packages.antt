@@ -61,7 +61,8 @@ module _ (r : Resolve) (v : IsValid r) (n : ℕ) (p : Package) (at : package_at 
   -- ---- one package
 
   one-package : list_all (λ m. same_identity named m.package_) members ≡ true
-  one-package = all-from (λ m. same_identity named m.package_) members (λ m c. go m (Contains-append_cases shows.interface_members shows.world_members m (subst (λ (ms : List Member). Contains ms m) shows.are c)))
+  one-package = all-from (λ m. same_identity named m.package_) members (λ m c. go m
+      (Contains-append_cases shows.interface_members shows.world_members m (subst (λ (ms : List Member). Contains ms m) shows.are c)))
     where
       go : (m : Member) → Contains shows.interface_members m ⊎ Contains shows.world_members m → same_identity named m.package_ ≡ true
       go m (inl c) = let e = zip-left (ShowsInterfaceMember r named) p.interfaces.entries shows.interface_members m shows.interfaces c in
@@ -104,7 +105,11 @@ module _ (r : Resolve) (v : IsValid r) (n : ℕ) (p : Package) (at : package_at 
   no-world e m shown = ap worlds_of shown.is
 
   world-meant : (e : String Global × WorldId) (m : Member) → ShowsWorldMember r named e m → worlds_of m ≡ world_named e ∷ []
-  world-meant e m shown = ap worlds_of shown.is ∙ (λ j. (text_of e.0, (world-means r v e.1.0 shown.world shown.there shown.scope shown.shows ∙ sym (ap (λ o. option_map_or (meant.world_meaning r) o meant.no_world) shown.there)) j) ∷ [])
+  world-meant e m shown = ap worlds_of shown.is ∙ (λ j. (
+    text_of e.0,
+    (world-means r v e.1.0 shown.world shown.there shown.scope shown.shows ∙ sym
+        (ap (λ o. option_map_or (meant.world_meaning r) o meant.no_world) shown.there)) j,
+  ) ∷ [])
 
   interfaces-meant : flat_map interfaces_of members ≡ map interface_named p.interfaces.entries
   interfaces-meant =
@@ -207,7 +212,8 @@ pub members-mean : (r : Resolve) → IsValid r → (n : ℕ) (p : Package) → p
     → package_of_members members ≡ Some (meant.package_meaning r n p)
 members-mean r v n p at [] shows h = let wrong : ⊥ = cc in absurd wrong
 members-mean r v n p at (m ∷ ms) shows h =
-    let first : m.package_ ≡ identity_of p.name = go (Contains-append_cases shows.interface_members shows.world_members m (subst (λ (xs : List Member). Contains xs m) shows.are (0, omega arith, refl))) in
+    let first : m.package_ ≡ identity_of p.name = go (Contains-append_cases shows.interface_members shows.world_members m
+    (subst (λ (xs : List Member). Contains xs m) shows.are (0, omega arith, refl))) in
     ap (λ q. package_with q (m ∷ ms)) first ∙ package-means r v n p at (m ∷ ms) shows
   where
     go : Contains shows.interface_members m ⊎ Contains shows.world_members m → m.package_ ≡ identity_of p.name

@@ -99,7 +99,8 @@ module _ (r : Resolve) (v : IsValid r) where
 
   named-kind : (n : ℕ) (def : TypeDef) → type_at r n ≡ Some def → is_named_kind def.kind ≡ true → is_some def.name ≡ true
   unfolding named_kinds
-  named-kind n def at e = given-not (is_named_kind def.kind) (is_some def.name) e (first_true (not (is_named_kind def.kind) || is_some def.name) (passes (is_named_number r) (alias_target def.kind)) (type-passes named_kinds r v.rules.named_kinds n def at))
+  named-kind n def at e = given-not (is_named_kind def.kind) (is_some def.name) e
+      (first_true (not (is_named_kind def.kind) || is_some def.name) (passes (is_named_number r) (alias_target def.kind)) (type-passes named_kinds r v.rules.named_kinds n def at))
 
   unnamed-kind : (n : ℕ) (def : TypeDef) → type_at r n ≡ Some def → def.name ≡ None → is_named_kind def.kind ≡ false
   unnamed-kind n def at none = go (is_named_kind def.kind) refl
@@ -149,7 +150,8 @@ module _ (r : Resolve) (v : IsValid r) where
         ∙ list_all-append test (map (tree_of (trees_of r)) (member_types k)) (map (tree_at (trees_of r)) (option_to_list (handled k)))
         ∙ both _ _ (values-pass (member_types k) (λ m c. h m (Contains-append_left (filter_map number_of (member_types k)) _ m c)))
         (list_all-map test (tree_at (trees_of r)) (option_to_list (handled k))
-        ∙ all-from (λ m. test (tree_at (trees_of r) m)) (option_to_list (handled k)) (λ m c. h m (Contains-append_right (filter_map number_of (member_types k)) _ m (Contains-append_left (option_to_list (handled k)) _ m c))))
+        ∙ all-from (λ m. test (tree_at (trees_of r) m)) (option_to_list (handled k))
+        (λ m c. h m (Contains-append_right (filter_map number_of (member_types k)) _ m (Contains-append_left (option_to_list (handled k)) _ m c))))
 
   -- ---- what is met
 
@@ -167,7 +169,8 @@ module _ (r : Resolve) (v : IsValid r) where
         let found = found-in r.types.items n (lt-ltb n (length r.types.items) inside) in
         at-def (part-at s) found.0 found.1 found.0.name refl
       where
-        at-def : ((m : ℕ) → m < s → m < length r.types.items → all_met m ≡ true → is_part (place_of r o) (number_tree r m) ≡ true) → (def : TypeDef) → type_at r n ≡ Some def → (name : Option (String Global)) → def.name ≡ name → is_part (place_of r o) (number_tree r n) ≡ true
+        at-def : ((m : ℕ) → m < s → m < length r.types.items → all_met m ≡ true → is_part (place_of r o) (number_tree r m) ≡ true) → (def : TypeDef) → type_at r n ≡ Some def
+            → (name : Option (String Global)) → def.name ≡ name → is_part (place_of r o) (number_tree r n) ≡ true
         at-def more def at (Some name) is =
             let own : same_owner def.owner o ≡ true = named_met r (valid-references r v) n def at o (ap is_some is) ∙ met in
             ap (is_part (place_of r o)) (named-tree n def name at is) ∙ ap (λ (a : TypeOwner). same_place (place_of r o) (place_of r a)) (same-owner def.owner o own) ∙ place-alike (place_of r o)
@@ -199,7 +202,8 @@ module _ (r : Resolve) (v : IsValid r) where
   handled-level n def at m c =
       let passed = second_true (list_all (λ t. not (is_resource_type r t)) (member_types def.kind)) _ (type-passes handles r v.rules.handles n def at) in
       let is_one : is_resource r m ≡ true = go (handled def.kind) c passed in
-      let below = smaller n def at m (Contains-append_right (filter_map number_of (member_types def.kind)) _ m (Contains-append_left (option_to_list (handled def.kind)) (option_to_list (alias_target def.kind)) m c)) in
+      let below = smaller n def at m (Contains-append_right (filter_map number_of (member_types def.kind)) _ m
+      (Contains-append_left (option_to_list (handled def.kind)) (option_to_list (alias_target def.kind)) m c)) in
       let inside : n < length r.types.items = slice_get_within r.types.items n def at in
       let less : m < length r.types.items = omega (arith, below, inside) in
       let found = found-in r.types.items m (lt-ltb m (length r.types.items) less) in
@@ -217,10 +221,12 @@ module _ (r : Resolve) (v : IsValid r) where
       ap (list_all (λ t. nat_le (levels t) 100)) (children-are (trees_of r) def.kind e)
       ∙ list_all-append (λ t. nat_le (levels t) 100) (map (tree_of (trees_of r)) (member_types def.kind)) (map (tree_at (trees_of r)) (option_to_list (handled def.kind)))
       ∙ both _ _ (list_all-map (λ t. nat_le (levels t) 100) (tree_of (trees_of r)) (member_types def.kind) ∙ type-passes depths r v.rules.depths n def at)
-      (list_all-map (λ t. nat_le (levels t) 100) (tree_at (trees_of r)) (option_to_list (handled def.kind)) ∙ all-from (λ m. nat_le (levels (tree_at (trees_of r) m)) 100) (option_to_list (handled def.kind)) (handled-level n def at))
+      (list_all-map (λ t. nat_le (levels t) 100) (tree_at (trees_of r)) (option_to_list (handled def.kind)) ∙ all-from (λ m. nat_le (levels (tree_at (trees_of r) m)) 100)
+      (option_to_list (handled def.kind)) (handled-level n def at))
 
   -- an alias of a primitive or a named type
-  alias-declared : (place : Place) (t : ValueType) → passes (is_named_number r) (number_of t) ≡ true → passes (in_list r.types.items) (number_of t) ≡ true → is_declared place (type_ (type_tree r t)) ≡ true
+  alias-declared : (place : Place) (t : ValueType) → passes (is_named_number r) (number_of t) ≡ true → passes (in_list r.types.items) (number_of t) ≡ true
+      → is_declared place (type_ (type_tree r t)) ≡ true
   alias-declared place (ty.Id id) h inside =
       let found = found-in r.types.items id.0 inside in
       let name = some-of found.0.name (ap (passes (λ def. is_some def.name)) (sym found.1) ∙ h) in

@@ -55,7 +55,8 @@ module _ (r : Resolve) where
   stays_in ns n h = has_once n (ns ++ flat_map (direct_deps r) ns) (list_any-append (λ k. nat_eq k n) ns (flat_map (direct_deps r) ns) ∙ or-first (has ns n) _ h)
 
   comes_in : (ns : List ℕ) (n m : ℕ) → has ns n ≡ true → has (direct_deps r n) m ≡ true → has (once (ns ++ flat_map (direct_deps r) ns)) m ≡ true
-  comes_in ns n m h g = has_once m (ns ++ flat_map (direct_deps r) ns) (list_any-append (λ k. nat_eq k m) ns (flat_map (direct_deps r) ns) ∙ or-second (has ns m) _ (has_flat (direct_deps r) n m ns h g))
+  comes_in ns n m h g = has_once m (ns ++ flat_map (direct_deps r) ns) (list_any-append (λ k. nat_eq k m) ns (flat_map (direct_deps r) ns) ∙ or-second (has ns m) _
+      (has_flat (direct_deps r) n m ns h g))
 
   reach : (steps : ℕ) (ns : List ℕ) (n k m : ℕ) → has ns n ≡ true → k ≤ steps → Chain r k n m → has (reached_in r steps ns) m ≡ true
   unfolding reached_in
@@ -78,7 +79,8 @@ module _ (r : Resolve) where
       go (Some i) e = ltb-true m n (all-contained (λ m. nat_lt m n) (direct_deps r n) m
           (second_true (list_all (function_stays r (as_interface n)) (functions_of_interface i)) _ (interface-passes owners r v.rules.owners n i e)) (has-contains (direct_deps r n) m h))
       go None e =
-          let none : has (direct_deps r n) m ≡ false = ap (λ o. has (filter (λ m. not (nat_eq m n)) (once (Rattle.std.specs.Option.option_map_or (Rattle.wit_model.specs.Uses.interfaces_used_by r) o []))) m) e in
+          let none : has (direct_deps r n) m ≡ false = ap (λ o. has (filter (λ m. not (nat_eq m n))
+          (once (Rattle.std.specs.Option.option_map_or (Rattle.wit_model.specs.Uses.interfaces_used_by r) o []))) m) e in
           let wrong : true ≡ false = sym h ∙ none in
           let z : ⊥ = cc in absurd z
 
@@ -93,7 +95,8 @@ module _ (r : Resolve) where
     holds-in : (steps : ℕ) (ns : List ℕ) → ((n : ℕ) → Contains ns n → P n) → (m : ℕ) → Contains (reached_in r steps ns) m → P m
     unfolding reached_in
     holds-in zero ns all m c = all m c
-    holds-in (suc steps) ns all m c = holds-in steps (once (ns ++ flat_map (direct_deps r) ns)) (λ n d. go n (Contains-append_cases ns (flat_map (direct_deps r) ns) n (once_from n (ns ++ flat_map (direct_deps r) ns) d))) m c
+    holds-in (suc steps) ns all m c = holds-in steps (once (ns ++ flat_map (direct_deps r) ns))
+        (λ n d. go n (Contains-append_cases ns (flat_map (direct_deps r) ns) n (once_from n (ns ++ flat_map (direct_deps r) ns) d))) m c
       where
         go : (n : ℕ) → Contains ns n ⊎ Contains (flat_map (direct_deps r) ns) n → P n
         go n (inl d) = all n d

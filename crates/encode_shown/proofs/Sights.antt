@@ -75,7 +75,8 @@ module _ (r : Resolve) where
         functions e true false p q = refl
         functions e false b p q = refl
 
-        go : (b : Bool) → text_eq s.path t.path ≡ b → (not b || (pointwise same_shown s.view.types t.view.types && (not (s.whole && t.whole) || same_functions s.view.functions t.view.functions))) ≡ true
+        go : (b : Bool) → text_eq s.path t.path ≡ b
+            → (not b || (pointwise same_shown s.view.types t.view.types && (not (s.whole && t.whole) || same_functions s.view.functions t.view.functions))) ≡ true
         go false e = refl
         go true e =
             let same : m ≡ n = path-once r v m n s.path is.has_path (other.has_path ∙ ap Some (sym (text-same s.path t.path e))) in
@@ -136,7 +137,8 @@ module _ (r : Resolve) where
     pub sight-means : (ns : List ℕ) (ss : List Sight) → AllZip (IsSight r) ns ss → (n : ℕ) (s : Sight) → IsSight r n s → (whole : Bool) → is_seen_whole ss s.path ≡ whole
         → seen_meaning ss s ≡ (s.path, meaning_as n whole)
     sight-means ns ss z n s is true h =
-        let shows : ShowsInterface r n (record { types = s.view.types; functions = functions_of s.path ss }) = record { types = sight-types n s.whole s.view is.shows; functions = functions-found ns ss z n s.path is.has_path h } in
+        let shows : ShowsInterface r n (record { types = s.view.types; functions = functions_of s.path ss }) =
+        record { types = sight-types n s.whole s.view is.shows; functions = functions-found ns ss z n s.path is.has_path h } in
         λ j. (s.path, interface-means r v n (record { types = s.view.types; functions = functions_of s.path ss }) shows j)
     sight-means ns ss z n s is false h =
         let shows : ShowsTypes r n (record { types = s.view.types; functions = [] }) = record { types = sight-types n s.whole s.view is.shows; functions = refl } in

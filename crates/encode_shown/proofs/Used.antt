@@ -134,11 +134,13 @@ module _ (r : Resolve) (v : IsValid r) where
   -- ---- interfaces
 
   -- an interface that a type of another uses is one of its dependencies
-  used-dependency : (n : ℕ) (i : Interface) → interface_at r n ≡ Some i → (e : String Global × TypeId) → Contains i.types.entries e → (m : ℕ) → interface_used_by r e.1.0 ≡ Some m → (m == n) ≡ false → Contains (direct_deps r n) m
+  used-dependency : (n : ℕ) (i : Interface) → interface_at r n ≡ Some i → (e : String Global × TypeId) → Contains i.types.entries e → (m : ℕ) → interface_used_by r e.1.0 ≡ Some m → (m == n) ≡ false
+      → Contains (direct_deps r n) m
   used-dependency n i there e c m used other =
       let all : list_all (λ id. list_all (λ k. (k == n) || has (direct_deps r n) k) (option_to_list (interface_used_by r id.0))) (values i.types) ≡ true =
       deps_pass (has (direct_deps r n)) r n i there ∙ all-from (has (direct_deps r n)) (direct_deps r n) (contains-has (direct_deps r n)) in
-      let one = all-contained (λ (id : TypeId). list_all (λ k. (k == n) || has (direct_deps r n) k) (option_to_list (interface_used_by r id.0))) (values i.types) e.1 all (contains-map (λ x. x.1) i.types.entries e c) in
+      let one = all-contained (λ (id : TypeId). list_all (λ k. (k == n) || has (direct_deps r n) k) (option_to_list (interface_used_by r id.0))) (values i.types) e.1 all
+      (contains-map (λ x. x.1) i.types.entries e c) in
       let passed : (((m == n) || has (direct_deps r n) m) && true) ≡ true = ap (λ o. list_all (λ k. (k == n) || has (direct_deps r n) k) (option_to_list o)) (sym used) ∙ one in
       has-contains (direct_deps r n) m (sym (ap (λ b. b || has (direct_deps r n) m) other) ∙ first_true ((m == n) || has (direct_deps r n) m) true passed)
 
@@ -170,7 +172,8 @@ others-used None ps p c = (c, λ e. let wrong : ⊥ = cc in wrong)
 others-used (Some own) [] p c = none-in p c
 others-used (Some own) (q ∷ ps) p c = go (others-used (Some own) ps p) (text_eq own q) refl c
   where
-    go : (Contains (others_than (Some own) ps) p → Contains ps p × ((Some own ≡ Some p) → ⊥)) → (b : Bool) → text_eq own q ≡ b → Contains (cond b (others_than (Some own) ps) (q ∷ others_than (Some own) ps)) p → Contains (q ∷ ps) p × ((Some own ≡ Some p) → ⊥)
+    go : (Contains (others_than (Some own) ps) p → Contains ps p × ((Some own ≡ Some p) → ⊥)) → (b : Bool) → text_eq own q ≡ b
+        → Contains (cond b (others_than (Some own) ps) (q ∷ others_than (Some own) ps)) p → Contains (q ∷ ps) p × ((Some own ≡ Some p) → ⊥)
     go more true e c = let rest = more c in (contains-later q ps p rest.0, rest.1)
     go more false e (zero, l, h) = (
       (0, omega arith, h),

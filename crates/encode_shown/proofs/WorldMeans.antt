@@ -99,7 +99,8 @@ module _ (r : Resolve) (v : IsValid r) (n : ℕ) where
   item-sight k (item.Type_ id) view entry shows is ss z = z
   item-sight k (item.Interface id stability docs external_id) view entry shows is ss z =
       let home = instance-home k (interface_path r id.0) (entry-home r v n k (item.Interface id stability docs external_id) entry id.0 refl) in
-      subst (λ (xs : List Sight). AllZip IsWhole (named_in (item.Interface id stability docs external_id ∷ is)) xs) (seam (of_instance (record { interface = interface_of (instance_key k (interface_path r id.0)); view = view })) ss)
+      subst (λ (xs : List Sight). AllZip IsWhole (named_in (item.Interface id stability docs external_id ∷ is)) xs)
+      (seam (of_instance (record { interface = interface_of (instance_key k (interface_path r id.0)); view = view })) ss)
       (one-sight id.0 view (interface_of (instance_key k (interface_path r id.0))) (sym home) shows (filter_map item_interface is) ss z)
     where
       seam : (xs ss : List Sight) → xs ++ ss ≡ (xs ++ []) ++ ss
@@ -135,7 +136,8 @@ module _ (r : Resolve) (v : IsValid r) (n : ℕ) where
       let there = c s (0, omega arith, refl) in
       let whole : is_seen_whole r v all s.path ≡ true = list_any_at (λ (t : Sight). text_eq s.path t.path && t.whole) all there.0 s there.1
       (ap (λ (t : Sight). text_eq s.path t.path && t.whole) there.2 ∙ both _ _ (text-alike s.path) z.0.whole) in
-      let this : seen_meaning all s ≡ (unwrap_or (interface_path r m) [], interface_meaning_at r m) = sight-means r v ns all w m s z.0.is true whole ∙ (λ j. (unwrap_or (sym z.0.is.has_path j) [], interface_meaning_at r m)) in
+      let this : seen_meaning all s ≡ (unwrap_or (interface_path r m) [], interface_meaning_at r m) =
+      sight-means r v ns all w m s z.0.is true whole ∙ (λ j. (unwrap_or (sym z.0.is.has_path j) [], interface_meaning_at r m)) in
       λ j. this j ∷ wholes-mean all ns w ms ss z.1 (λ t d. c t (contains-later s ss t d)) j
 
   -- ---- the world
@@ -154,7 +156,8 @@ module _ (r : Resolve) (v : IsValid r) (n : ℕ) where
     seen-whole =
         let all = entries-sights (w.imports.entries ++ w.exports.entries) (scope.imports ++ scope.exports) (all-shown r v n w there scope shows) (all-entries r v n w there scope shows) in
         subst (λ (is : List Instance). AllZip IsWhole (shown_by r w) (flat_map of_instance is)) (sym shows.instances)
-        (subst (λ (is : List WorldItem). AllZip IsWhole (named_in is) (flat_map of_instance (flat_map (λ (s : Seen). instances_of s.shown) (scope.imports ++ scope.exports)))) (map-append (λ e. e.1) w.imports.entries w.exports.entries) all)
+        (subst (λ (is : List WorldItem). AllZip IsWhole (named_in is) (flat_map of_instance (flat_map (λ (s : Seen). instances_of s.shown) (scope.imports ++ scope.exports))))
+        (map-append (λ e. e.1) w.imports.entries w.exports.entries) all)
 
     pub seen-sights : AllZip (IsSight r) (shown_by r w) seen
     seen-sights = forget (shown_by r w) seen seen-whole
@@ -190,7 +193,8 @@ module _ (r : Resolve) (v : IsValid r) (n : ℕ) where
           let home_of : option_and_then (package_at r) (package_number h.def.package) ≡ Some p = ap (λ o. option_and_then (package_at r) (package_number o)) h.in_package ∙ h.stands ∙ ap Some same in
           no-longer (is_world_name p (text_of h.name)) (second_true (interface_is_listed m (text_of h.name) p) _
           (given-test (λ p. interface_is_listed m (text_of h.name) p && not (is_world_name p (text_of h.name))) (option_and_then (package_at r) (package_number h.def.package)) true p home_of
-          (given-test (λ name. option_map_or (λ p. interface_is_listed m (text_of name) p && not (is_world_name p (text_of name))) (option_and_then (package_at r) (package_number h.def.package)) true) h.def.name _ h.name h.named_ rule)))
+          (given-test (λ name. option_map_or (λ p. interface_is_listed m (text_of name) p && not (is_world_name p (text_of name))) (option_and_then (package_at r) (package_number h.def.package)) true)
+          h.def.name _ h.name h.named_ rule)))
 
       path-apart : (m : ℕ) (path : Text) → interface_path r m ≡ Some path → text_eq path (path_in (identity_of p.name) (text_of w.name)) ≡ false
       path-apart m path e = go (text_eq path (path_in (identity_of p.name) (text_of w.name))) refl

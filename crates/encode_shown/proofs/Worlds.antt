@@ -54,7 +54,8 @@ module _ (r : Resolve) (v : IsValid r) (n : ℕ) where
 
   -- ---- imports
 
-  imports-obey : (before : List (WorldKey × WorldItem)) (ss : List Seen) → AllZip (ShowsItem r) before ss → AreEntries before → (es : List (WorldKey × WorldItem)) (ts : List Seen) → AllZip (ShowsItem r) es ts
+  imports-obey : (before : List (WorldKey × WorldItem)) (ss : List Seen) → AllZip (ShowsItem r) before ss → AreEntries before → (es : List (WorldKey × WorldItem)) (ts : List Seen)
+      → AllZip (ShowsItem r) es ts
       → AreEntries es → each_after (uses_stand_before r n) (map (λ e. e.1) before) (map (λ e. e.1) es) ≡ true → are_imports ss ts ≡ true
   imports-obey before ss z entries [] [] w more h = refl
   imports-obey before ss z entries [] (t ∷ ts) w more h = absurd w
@@ -65,7 +66,8 @@ module _ (r : Resolve) (v : IsValid r) (n : ℕ) where
       let rest : each_after (uses_stand_before r n) (map (λ e. e.1) (before ++ e ∷ [])) (map (λ e. e.1) es) ≡ true =
       ap (λ bs. each_after (uses_stand_before r n) bs (map (λ e. e.1) es)) (map-append (λ e. e.1) before (e ∷ [])) ∙ second_true (uses_stand_before r n (map (λ e. e.1) before) e.1) _ h in
       both _ _ (seen-obeys r v n (resources_seen ss) e t this w.0 (import-home r v n before ss z entries e.1 stands))
-      (imports-obey (before ++ e ∷ []) (ss ++ t ∷ []) (zip-append (ShowsItem r) before ss (e ∷ []) (t ∷ []) z (w.0, tt)) (one-more before e entries this) es ts w.1 (λ x c. more x (contains-later e es x c)) rest)
+      (imports-obey (before ++ e ∷ []) (ss ++ t ∷ []) (zip-append (ShowsItem r) before ss (e ∷ []) (t ∷ []) z (w.0, tt)) (one-more before e entries this) es ts w.1
+      (λ x c. more x (contains-later e es x c)) rest)
 
   -- ---- what is used stands earlier
 
@@ -80,7 +82,8 @@ module _ (r : Resolve) (v : IsValid r) (n : ℕ) where
 
   uses-stand : (before : List WorldItem) (earlier : List Text) → ArePaths before earlier → (k : WorldKey) (i : WorldItem) (view : View) (s : Seen) → IsEntry r n (k, i) → IsViewOf r i view
       → s.shown ≡ shown_item r k i view → list_all (has (filter_map item_interface before)) (used_interfaces r i) ≡ true → list_all (λ p. list_any (text_eq p) earlier) (uses s) ≡ true
-  uses-stand before earlier paths k (item.Function f) view s is shows e h = subst (λ (sh : Shown). list_all (λ p. list_any (text_eq p) earlier) (uses (record { key = s.key; shown = sh; external_id = s.external_id })) ≡ true) (sym e) refl
+  uses-stand before earlier paths k (item.Function f) view s is shows e h =
+      subst (λ (sh : Shown). list_all (λ p. list_any (text_eq p) earlier) (uses (record { key = s.key; shown = sh; external_id = s.external_id })) ≡ true) (sym e) refl
   uses-stand before earlier paths k (item.Type_ id) view s is shows e h =
       subst (λ (sh : Shown). list_all (λ p. list_any (text_eq p) earlier) (uses (record { key = s.key; shown = sh; external_id = s.external_id })) ≡ true) (sym e)
       (all-from (λ p. list_any (text_eq p) earlier) (used_by (type_meaning_at r id.0).declaration) (λ p c.
@@ -92,12 +95,14 @@ module _ (r : Resolve) (v : IsValid r) (n : ℕ) where
       let others = others-used (interface_of (instance_key k (interface_path r id.0))) (used_by_view view) p c in
       of-view p others.1 (view-used r v id.0 view shows.types p others.0)))
     where
-      of-view : (p : Text) → ((interface_of (instance_key k (interface_path r id.0)) ≡ Some p) → ⊥) → (interface_path r id.0 ≡ Some p) ⊎ ((m : ℕ) × Contains (direct_deps r id.0) m × (interface_path r m ≡ Some p)) → list_any (text_eq p) earlier ≡ true
+      of-view : (p : Text) → ((interface_of (instance_key k (interface_path r id.0)) ≡ Some p) → ⊥) → (interface_path r id.0 ≡ Some p)
+          ⊎ ((m : ℕ) × Contains (direct_deps r id.0) m × (interface_path r m ≡ Some p)) → list_any (text_eq p) earlier ≡ true
       of-view p other (inl own) = absurd (other (instance-home k (interface_path r id.0) (entry-home r v n k (item.Interface id stability docs external_id) is id.0 refl) ∙ own))
       of-view p other (inr dep) = stands-among before earlier paths (item.Interface id stability docs external_id) h dep.0 p dep.1 dep.2
 
   -- an interface that is shown has its path among those that have been seen
-  seen-path : (k : WorldKey) (i : WorldItem) (view : View) → IsEntry r n (k, i) → (m : ℕ) (path : Text) → item_interface i ≡ Some m → interface_path r m ≡ Some path → Contains (path_seen (shown_item r k i view)) path
+  seen-path : (k : WorldKey) (i : WorldItem) (view : View) → IsEntry r n (k, i) → (m : ℕ) (path : Text) → item_interface i ≡ Some m → interface_path r m ≡ Some path
+      → Contains (path_seen (shown_item r k i view)) path
   seen-path k (item.Function f) view is m path e p = let wrong : ⊥ = cc in absurd wrong
   seen-path k (item.Type_ id) view is m path e p = let wrong : ⊥ = cc in absurd wrong
   seen-path k (item.Interface id stability docs external_id) view is m path e p =
@@ -108,8 +113,10 @@ module _ (r : Resolve) (v : IsValid r) (n : ℕ) where
       of-key (Rattle.wit_model.specs.declared.model.WorldKey.TheVariants.Interface j) = contains-one path
       of-key (Rattle.wit_model.specs.declared.model.WorldKey.TheVariants.Name name) = contains-one path
 
-  more-paths : (before : List WorldItem) (earlier : List Text) → ArePaths before earlier → (e : WorldKey × WorldItem) (t : Seen) → IsEntry r n e → ShowsItem r e t → ArePaths (before ++ e.1 ∷ []) (earlier ++ path_seen t.shown)
-  more-paths before earlier paths e t is shows m path c p = go (Contains-append_cases (filter_map item_interface before) (filter_map item_interface (e.1 ∷ [])) m (subst (λ (ms : List ℕ). Contains ms m) (filter_map-append item_interface before (e.1 ∷ [])) c))
+  more-paths : (before : List WorldItem) (earlier : List Text) → ArePaths before earlier → (e : WorldKey × WorldItem) (t : Seen) → IsEntry r n e → ShowsItem r e t
+      → ArePaths (before ++ e.1 ∷ []) (earlier ++ path_seen t.shown)
+  more-paths before earlier paths e t is shows m path c p = go (Contains-append_cases (filter_map item_interface before) (filter_map item_interface (e.1 ∷ [])) m
+      (subst (λ (ms : List ℕ). Contains ms m) (filter_map-append item_interface before (e.1 ∷ [])) c))
     where
       go : Contains (filter_map item_interface before) m ⊎ Contains (filter_map item_interface (e.1 ∷ [])) m → Contains (earlier ++ path_seen t.shown) path
       go (inl c) = Contains-append_left earlier (path_seen t.shown) path (paths m path c p)
@@ -127,9 +134,11 @@ module _ (r : Resolve) (v : IsValid r) (n : ℕ) where
   earlier-stand before earlier paths (e ∷ es) (t ∷ ts) z entries h =
       let is = entries e (0, omega arith, refl) in
       let stands = first_true (uses_stand_before r n before e.1) _ h in
-      let interfaces : list_all (has (filter_map item_interface before)) (used_interfaces r e.1) ≡ true = first_true (list_all (has (filter_map item_interface before)) (used_interfaces r e.1)) _ stands in
+      let interfaces : list_all (has (filter_map item_interface before)) (used_interfaces r e.1) ≡ true =
+      first_true (list_all (has (filter_map item_interface before)) (used_interfaces r e.1)) _ stands in
       both _ _ (uses-stand before earlier paths e.0 e.1 z.0.view t is z.0.is_view (ap (λ (x : Seen). x.shown) z.0.is) interfaces)
-      (earlier-stand (before ++ e.1 ∷ []) (earlier ++ path_seen t.shown) (more-paths before earlier paths e t is z.0) es ts z.1 (λ x c. entries x (contains-later e es x c)) (second_true (uses_stand_before r n before e.1) _ h))
+      (earlier-stand (before ++ e.1 ∷ []) (earlier ++ path_seen t.shown) (more-paths before earlier paths e t is z.0) es ts z.1 (λ x c. entries x (contains-later e es x c))
+      (second_true (uses_stand_before r n before e.1) _ h))
 
   -- ---- the world
 
@@ -159,7 +168,8 @@ module _ (r : Resolve) (v : IsValid r) (n : ℕ) where
             let wrong : false ≡ true = sym (ap is_none at) ∙ none in
             let z : ⊥ = cc in absurd z
 
-    names : (es : List (WorldKey × WorldItem)) (ss : List Seen) → AllZip (ShowsItem r) es ss → AreEntries es → IsDistinct Rattle.wit_model.specs.Valid.key_eq (map (λ e. e.0) es) → distinct (map (λ s. s.key) ss) ≡ true
+    names : (es : List (WorldKey × WorldItem)) (ss : List Seen) → AllZip (ShowsItem r) es ss → AreEntries es → IsDistinct Rattle.wit_model.specs.Valid.key_eq (map (λ e. e.0) es)
+        → distinct (map (λ s. s.key) ss) ≡ true
     names es ss z entries d =
         ap distinct (zip-same (ShowsItem r) (λ e. key_text r e.0) (λ (s : Seen). s.key) (key-seen r) es ss z ∙ sym (map-map (key_text r) (λ e. e.0) es))
         ∙ distinct-from _ (keys-distinct r v n (map (λ e. e.0) es) (λ k c.

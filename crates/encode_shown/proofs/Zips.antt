@@ -19,14 +19,13 @@ zip-right R (a ∷ xs) [] x z c = absurd z
 zip-right R (a ∷ xs) (b ∷ ys) x z (zero, l, e) = (b, (0, omega arith, refl), subst (λ w. R w b) e z.0)
 zip-right R (a ∷ xs) (b ∷ ys) x z (suc k, l, e) = let rest = zip-right R xs ys x z.1 (k, omega (arith, l), e) in (rest.0, contains-later b ys rest.0 rest.1, rest.2)
 
--- what elements at the same place give alike
-
 -- what is given is given by an element
 pub given-contains : {A B : Type 0} (h : A → Option B) (xs : List A) (y : B) → Contains (filter_map h xs) y → (x : A) × Contains xs x × (h x ≡ Some y)
 given-contains h [] y c = none-in y c
 given-contains h (x ∷ xs) y c = go (given-contains h xs y) (h x) refl c
   where
-    go : (Contains (filter_map h xs) y → (z : _) × Contains xs z × (h z ≡ Some y)) → (o : Option _) → h x ≡ o → Contains (cons_option o (filter_map h xs)) y → (z : _) × Contains (x ∷ xs) z × (h z ≡ Some y)
+    go : (Contains (filter_map h xs) y → (z : _) × Contains xs z × (h z ≡ Some y)) → (o : Option _) → h x ≡ o → Contains (cons_option o (filter_map h xs)) y → (z : _) × Contains (x ∷ xs) z
+        × (h z ≡ Some y)
     go more None e c = let rest = more c in (rest.0, contains-later x xs rest.0 rest.1, rest.2)
     go more (Some w) e (zero, l, q) = (x, (0, omega arith, refl), e ∙ ap Some q)
     go more (Some w) e (suc k, l, q) = let rest = more (k, omega (arith, l), q) in (rest.0, contains-later x xs rest.0 rest.1, rest.2)
@@ -38,5 +37,3 @@ zip-all R (y ∷ ys) h =
     let first = h y (0, omega arith, refl) in
     let rest = zip-all R ys (λ z c. h z (contains-later y ys z c)) in
     (first.0 ∷ rest.0, (first.1, rest.1))
-
--- an element that passes

@@ -42,18 +42,21 @@ abbrev pub WorldsObey : Type 0
 WorldsObey = (r : Resolve) (n : ℕ) (w : World) (scope : Scope) → IsValid r → world_at r n ≡ Some w → ShowsWorld r w scope → is_world scope ≡ true
 
 abbrev pub WorldsMean : Type 0
-WorldsMean = (r : Resolve) (n : ℕ) (w : World) (scope : Scope) → IsValid r → world_at r n ≡ Some w → ShowsWorld r w scope → world_meaning scope ≡ meant.world_meaning r w
+WorldsMean = (r : Resolve) (n : ℕ) (w : World) (scope : Scope) → IsValid r → world_at r n ≡ Some w → ShowsWorld r w scope
+    → world_meaning scope ≡ meant.world_meaning r w
 
 -- By itself it means the world of its package, with each interface that it shows.
 abbrev pub WorldsAloneMean : Type 0
-WorldsAloneMean = (r : Resolve) (n : ℕ) (w : World) (p : Package) (scope : Scope) → IsValid r → world_at r n ≡ Some w → package_of_world r w ≡ Some p → ShowsWorld r w scope
+WorldsAloneMean = (r : Resolve) (n : ℕ) (w : World) (p : Package) (scope : Scope) → IsValid r → world_at r n ≡ Some w → package_of_world r w ≡ Some p
+    → ShowsWorld r w scope
     → world_with (identity_of p.name) (text_of w.name) scope ≡ Some (meant.world_package r p w)
 
 -- ---- packages
 
 -- What imports the interfaces that an interface of a package reaches, and exports it, is read as a part of the package.
 abbrev pub InterfacePartsAreRead : Type 0
-InterfacePartsAreRead = (r : Resolve) (n : ℕ) (p : Package) (e : String Global × InterfaceId) (ds : Declarations) (scope : Scope) (imports : List (Text × View)) (exported : View)
+InterfacePartsAreRead = (r : Resolve) (n : ℕ) (p : Package) (e : String Global × InterfaceId) (ds : Declarations) (scope : Scope) (imports : List (Text × View))
+    (exported : View)
     → IsValid r → package_at r n ≡ Some p → Contains p.interfaces.entries e → component_scope ds ≡ Some scope
     → ShowsDependencies r e.1.0 (path_in (identity_of p.name) (text_of e.0)) scope imports exported
     → interface_part (text_of e.0) ds ≡ Some (identity_of p.name, Part.interface exported imports)
@@ -66,26 +69,31 @@ WorldPartsAreRead = (r : Resolve) (n : ℕ) (p : Package) (e : String Global × 
 
 -- The parts together mean the package, each interface of another package that it reaches included.
 abbrev pub PackagesMean : Type 0
-PackagesMean = (r : Resolve) (n : ℕ) (p : Package) (members : List Member) → IsValid r → package_at r n ≡ Some p → ShowsPackage r p members → is_filled members ≡ true
+PackagesMean = (r : Resolve) (n : ℕ) (p : Package) (members : List Member) → IsValid r → package_at r n ≡ Some p → ShowsPackage r p members
+    → is_filled members ≡ true
     → package_of_members members ≡ Some (meant.package_meaning r n p)
 
 -- So do the sections of a component that exports the component types of the package, each under its label.
 abbrev pub SectionsMean : Type 0
-SectionsMean = (r : Resolve) (n : ℕ) (p : Package) (xs : List (Text × Declarations)) (sections : List Section) → IsValid r → package_at r n ≡ Some p → ArePackageTypes r p xs
+SectionsMean = (r : Resolve) (n : ℕ) (p : Package) (xs : List (Text × Declarations)) (sections : List Section) → IsValid r → package_at r n ≡ Some p
+    → ArePackageTypes r p xs
     → is_filled xs ≡ true → exported_types sections ≡ Some xs → reads.package_meaning sections ≡ Some (meant.package_meaning r n p)
 
 -- A component that exports the wrapper of one world alone, under its name, means the world.
 abbrev pub WorldSectionsMean : Type 0
 WorldSectionsMean = (r : Resolve) (n : ℕ) (w : World) (p : Package) (x : Text × Declarations) (sections : List Section) → IsValid r → world_at r n ≡ Some w
-    → package_of_world r w ≡ Some p → IsWorldType r p n (text_of w.name) x → exported_types sections ≡ Some (x ∷ []) → reads.world_package sections ≡ Some (meant.world_package r p w)
+    → package_of_world r w ≡ Some p → IsWorldType r p n (text_of w.name) x → exported_types sections ≡ Some (x ∷ [])
+    → reads.world_package sections ≡ Some (meant.world_package r p w)
 
 -- So bytes that spell such a component mean exactly what the package means, or what the world means.
 abbrev pub BytesMean : Type 0
-BytesMean = (r : Resolve) (n : ℕ) (p : Package) (xs : List (Text × Declarations)) (sections : List Section) (bytes : List ℕ) → IsValid r → package_at r n ≡ Some p → ArePackageTypes r p xs
+BytesMean = (r : Resolve) (n : ℕ) (p : Package) (xs : List (Text × Declarations)) (sections : List Section) (bytes : List ℕ) → IsValid r
+    → package_at r n ≡ Some p → ArePackageTypes r p xs
     → is_filled xs ≡ true → exported_types sections ≡ Some xs → IsComponent sections bytes → (m : PackageMeaning) → Meant r n m ↔ Reads bytes m
 
 abbrev pub WorldBytesMean : Type 0
-WorldBytesMean = (r : Resolve) (n : ℕ) (w : World) (p : Package) (x : Text × Declarations) (sections : List Section) (bytes : List ℕ) → IsValid r → world_at r n ≡ Some w
+WorldBytesMean = (r : Resolve) (n : ℕ) (w : World) (p : Package) (x : Text × Declarations) (sections : List Section) (bytes : List ℕ) → IsValid r
+    → world_at r n ≡ Some w
     → package_of_world r w ≡ Some p → IsWorldType r p n (text_of w.name) x → exported_types sections ≡ Some (x ∷ []) → IsComponent sections bytes
     → (m : WorldPackage) → MeantWorld r n m ↔ ReadsWorld bytes m
 

@@ -20,7 +20,8 @@ use Rattle.encode_types.specs.declared.key.FunctionKey.{FunctionKey}
 use Rattle.encode_types.specs.Codes.{kind_code, names_of, lists_of, IsKeyList, ListKey}
 use Rattle.encode_types.specs.Slots.{Pairs, Standing, tree, function, Keeps}
 use Rattle.encode_types.specs.View.{View, SameRest}
-use Rattle.encode_types.specs.Leaves.{Leaves}
+use Rattle.encode_types.specs.Counts.{SameUnits}
+use Rattle.encode_types.specs.Leaves.{Leaves, LeavesSlots}
 use Rattle.encode_types.specs.Maps.{Known, by_number, by_kind, by_key, by_unit_future, by_unit_stream, Holds, standing_of, IsOnce, IsSomeKeyList, AreNumbered, MapsAgree, MapsGrow, IsKnown, LacksList, StandsAsKind, StandsAsKey, SameMaps, NamesGrow, AddsNames, LearnsNumber, LearnsList, LearnsKeyList, LearnsOne}
 use Rattle.encode_types.proofs.Around.{around-same}
 use Rattle.encode_types.proofs.EqualLists.{kinds-of-lists, keys-of-lists, key-shrink}
@@ -336,10 +337,41 @@ pub changes-unit : (r : Resolve) (m m' : TypeEncodingMaps) (S S' : Pairs) (k : K
     → Changes r m m' S'
 changes-unit r m m' S S' k i keeps l a s = changes-learns r m m' S' i _ l (record { says = λ k j h. keeps j (standing_of r k) (a.says k j h); once = a.once }) (keeps i (standing_of r k) s)
 
-pub leaves-changed : (r : Resolve) (v v' : View) → SameRest v v' → Changes r v.maps v'.maps v'.stands → Leaves r v v'
-leaves-changed r v v' s c = record {
+-- the two caches are the same after a call that writes to another part of the maps
+units-call : {A E : Type 0} (x : Result A E) (m₀ m m₁ m' : TypeEncodingMaps) → m₀ ≡ m → m' ≡ m₁ → OnOk x (SameUnits m₀ m₁) → OnErr x (SameMaps m₀ m₁) → SameUnits m m'
+units-call x m₀ m m₁ m' e e' ok err =
+    let u : SameUnits m₀ m₁ = elim (either x _ _ ok err) [ inl u ↦ u | inr s ↦ record { future_ = s.unit_future_; stream_ = s.unit_stream_ } ] in
+    subst (λ (z : TypeEncodingMaps). SameUnits m z) (sym e') (subst (λ (z : TypeEncodingMaps). SameUnits z m₁) e u)
+
+module _ {E : Type 0} (x : Result (Unit {0}) E) (m₀ m m₁ m' : TypeEncodingMaps) (e : m₀ ≡ m) (e' : m' ≡ m₁) where
+  pub units-number : (id : TypeId) (i : ℕ) → OnOk x (LearnsNumber m₀ m₁ id i) → OnErr x (SameMaps m₀ m₁) → SameUnits m m'
+  units-number id i ok err = units-call x m₀ m m₁ m' e e' (on_ok x _ _ (λ l. record { future_ = l.rest.unit_future_; stream_ = l.rest.unit_stream_ }) ok) err
+
+  pub units-kind : (xs : List ℕ) (i : ℕ) → OnOk x (LearnsList m₀ m₁ xs i) → OnErr x (SameMaps m₀ m₁) → SameUnits m m'
+  units-kind xs i ok err = units-call x m₀ m m₁ m' e e' (on_ok x _ _ (λ l. record { future_ = l.rest.unit_future_; stream_ = l.rest.unit_stream_ }) ok) err
+
+  pub units-key : (xs : List ℕ) (i : ℕ) → OnOk x (LearnsKeyList m₀ m₁ xs i) → OnErr x (SameMaps m₀ m₁) → SameUnits m m'
+  units-key xs i ok err = units-call x m₀ m m₁ m' e e' (on_ok x _ _ (λ l. record { future_ = l.rest.unit_future_; stream_ = l.rest.unit_stream_ }) ok) err
+
+pub units-listed : (m₀ m m₁ m' : TypeEncodingMaps) → m₀ ≡ m → m' ≡ m₁ → AddsNames m₀ m₁ → SameUnits m m'
+units-listed m₀ m m₁ m' e e' l = subst (λ (z : TypeEncodingMaps). SameUnits m z) (sym e')
+    (subst (λ (z : TypeEncodingMaps). SameUnits z m₁) e (record { future_ = l.rest.unit_future_; stream_ = l.rest.unit_stream_ }))
+
+-- a call that fills one of the two caches
+pub leaves-filled : (r : Resolve) (v v' : View) → SameRest v v' → Changes r v.maps v'.maps v'.stands → LeavesSlots r v v'
+leaves-filled r v v' s c = record {
   agree = c.agree;
   maps_grow = c.grow;
+  grows =
+      record { kept = s.kept; more = (let e = s.slot_count_ in omega arith); around_ = around-same s.around_; own_ = s.own_ };
+  scope_stays = s.scope_;
+}
+
+pub leaves-changed : (r : Resolve) (v v' : View) → SameRest v v' → Changes r v.maps v'.maps v'.stands → SameUnits v.maps v'.maps → Leaves r v v'
+leaves-changed r v v' s c u = record {
+  agree = c.agree;
+  maps_grow = c.grow;
+  units = u;
   grows =
       record { kept = s.kept; more = (let e = s.slot_count_ in omega arith); around_ = around-same s.around_; own_ = s.own_ };
   scope_stays = s.scope_;

@@ -34,7 +34,7 @@ use Rattle.encode_types.proofs.Marking.{more-then, slots-none, slots-then, slots
 use Rattle.encode_types.specs.Known.{GrowsAround}
 use Rattle.encode_types.proofs.Around.{around-trans}
 use Rattle.encode_types.specs.View.{View, Agrees, Grows}
-use Rattle.encode_types.specs.Leaves.{Leaves}
+use Rattle.encode_types.specs.Leaves.{Leaves, LeavesSlots}
 use Rattle.encode_types.proofs.Written.{written-stands}
 use Rattle.wit_model.proofs.Elements.{zip-along}
 use Rattle.base_lemmas.proofs.Elements.{last_of as one-contained, zip-kept}
@@ -242,12 +242,28 @@ pub leaves-kept : {r : Resolve} {v v' : View} → Agrees r v → Grows v v' → 
 leaves-kept {r} {v} {v'} a g s e = record {
   agree = subst (λ (z : TypeEncodingMaps). MapsAgree r z v'.stands) (sym e) (record { says = λ k i h. g.kept i _ (a.says k i h); once = a.once });
   maps_grow = record { keeps = λ k i h. subst (λ (z : TypeEncodingMaps). Holds z k i) (sym e) h };
+  units = record { future_ = ap (λ (z : TypeEncodingMaps). z.unit_future) e; stream_ = ap (λ (z : TypeEncodingMaps). z.unit_stream) e };
   grows = g;
   scope_stays = s;
 }
 
 pub leaves-trans : {r : Resolve} {v v' v'' : View} → Leaves r v v' → Leaves r v' v'' → Leaves r v v''
 leaves-trans {r} {v} {v'} {v''} p q = record {
+  agree = q.agree;
+  maps_grow = record { keeps = λ k i h. q.maps_grow.keeps k i (p.maps_grow.keeps k i h) };
+  units = record { future_ = q.units.future_ ∙ p.units.future_; stream_ = q.units.stream_ ∙ p.units.stream_ };
+  grows = record {
+    kept = λ i x h. q.grows.kept i x (p.grows.kept i x h);
+    more = (let x = p.grows.more in let y = q.grows.more in omega arith);
+    around_ = around-trans p.grows.around_ (subst (λ (z : Scope). GrowsAround z.packages v'.around v''.around) p.scope_stays q.grows.around_);
+    own_ = λ ns h. q.grows.own_ ns (p.grows.own_ ns h);
+  };
+  scope_stays = q.scope_stays ∙ p.scope_stays;
+}
+
+-- with a call behind it that fills one of the two caches
+pub leaves-fill : {r : Resolve} {v v' v'' : View} → Leaves r v v' → LeavesSlots r v' v'' → LeavesSlots r v v''
+leaves-fill {r} {v} {v'} {v''} p q = record {
   agree = q.agree;
   maps_grow = record { keeps = λ k i h. q.maps_grow.keeps k i (p.maps_grow.keeps k i h) };
   grows = record {

@@ -4,9 +4,10 @@ use Rattle.std.specs.Prelude.{IsPermutation, AllPairs, ◌⊎◌, IfSome, IfNone
 use Rattle.std.specs.Cmp.{IsTotalOrder}
 use Rattle.std.proofs.lemmas.Cmp.{nat_cmp_total, nat_list_cmp_total}
 use Rattle.std.specs.declared.cmp.Ordering.TheVariants.{Less, Equal, Greater}
-use Rattle.std.specs.Ordering.{is_eq, match_ordering, ordering_reverse}
+use Rattle.std.specs.Ordering.{is_eq, match_ordering, ordering_reverse, ordering_then}
 use Rattle.std.specs.List.{Contains, swap}
-use Rattle.std.specs.Map.{lookup}
+use Rattle.std.specs.Map.{keys_of, lookup}
+use Rattle.std.specs.Option.{is_some, unwrap_or}
 use Rattle.std.specs.Borrow.{Bor}
 use Rattle.std.specs.BTreeMap.{insert_entry, is_at}
 use Rattle.std.specs.Cmp.Lexicographic.{slice_cmp}
@@ -15,11 +16,12 @@ use Rattle.std.proofs.lemmas.Bool.{cases_Bool, cond-true, cond-false, cases_lt, 
 use Rattle.std.proofs.lemmas.List.Edits.{swapped_from_swap}
 use Rattle.std.proofs.lemmas.List.Elements.{Contains-append_left, Contains-push, Contains-push_cases}
 use Rattle.std.proofs.lemmas.List.Sorted.{IsPermutation-refl, IsPermutation-sym, IsPermutation-cons, IsPermutation-to_front, IsPermutation-trans, IsPermutation-swap, IsPermutation-keeps, length_permutation, Contains-permutation, IsPermutation-map}
-use Rattle.std.proofs.lemmas.List.{map-append, take_more}
+use Rattle.std.proofs.lemmas.List.{length-map, map-append, take_more}
 use Rattle.wit_model.specs.Text.{Text, text_of}
 use Rattle.wit_model.specs.declared.model.Param.{Param}
 use Rattle.encode_types.specs.declared.key.FunctionKey.{FunctionKey}
-use Rattle.encode_types.specs.Codes.{names_of, lists_of, Names, ListKey, IsTable, AreListed, AddsParams, AddsParam, IsKeyList, type_code}
+use Rattle.encode_types.specs.Codes.{names_of, lists_of, Names, ListKey, IsTable, HasNumber, AreListed, AddsParams, AddsParam, IsKeyList, type_code}
+use Rattle.encode_types.specs.Heads.{head_of, name_order}
 use Rattle.encode_types.specs.KeyLaws.{key_equiv}
 use Rattle.encode_types.proofs.EqualLists.{lists-of-keys}
 use Rattle.encode_types.specs.Maps.{AreNumbered, NamesGrow, AddsNames, IsOnce, LacksKey, LacksList}
@@ -67,6 +69,23 @@ module _ {K X : Type 0} (cmp : K → K → Ordering) (k : K) (v : X) where
           let n : is_eq (cmp k e.0) ≡ false = ap is_eq q in
           IsPermutation-trans ((k, v) ∷ e ∷ es) (e ∷ (k, v) ∷ es) (e ∷ insert_entry cmp es k v) (IsPermutation-swap ((k, v) ∷ e ∷ es) (e ∷ (k, v) ∷ es) 0 1 (omega arith) (omega arith) refl)
           (IsPermutation-cons e _ _ (more n))
+
+  -- where the entry is there already, the entries stay
+  pub stays : (es : List (K × X)) → lookup (is_at (cmp k)) es ≡ Some v → keys_of (insert_entry cmp es k v) ≡ keys_of es → insert_entry cmp es k v ≡ es
+  stays [] h q = absurd (let z : ⊥ = cc in z)
+  stays (e ∷ es) h q = by (cmp k e.0) refl q (λ n r. stays es (sym (cond-false _ _ _ n) ∙ h) r)
+    where
+      by : (o : Ordering) → cmp k e.0 ≡ o → keys_of (match_ordering o ((k, v) ∷ e ∷ es) ((e.0, v) ∷ es) (e ∷ insert_entry cmp es k v)) ≡ keys_of (e ∷ es)
+          → (is_eq (cmp k e.0) ≡ false → keys_of (insert_entry cmp es k v) ≡ keys_of es → insert_entry cmp es k v ≡ es)
+          → match_ordering o ((k, v) ∷ e ∷ es) ((e.0, v) ∷ es) (e ∷ insert_entry cmp es k v) ≡ e ∷ es
+      by Less p r more = absurd (let l : suc (suc (length (keys_of es))) ≡ suc (length (keys_of es)) = ap length r in omega (arith, l))
+      by Equal p r more =
+          let found_is : Some e.1 ≡ Some v = sym (cond-true _ _ _ (ap is_eq p)) ∙ h in
+          let same : e.1 ≡ v = cc in
+          ap (λ x. (e.0, x) ∷ es) (sym same)
+      by Greater p r more =
+          let rest : keys_of (insert_entry cmp es k v) ≡ keys_of es = cc in
+          ap (λ xs. e ∷ xs) (more (ap is_eq p) rest)
 
   pub inserted : (es fs : List (K × X)) → lookup (is_at (cmp k)) es ≡ None → fs ≡ insert_entry cmp es k v → IsPermutation (es ++ (k, v) ∷ []) fs
   inserted es fs h e = subst (IsPermutation (es ++ (k, v) ∷ [])) (sym e) (IsPermutation-trans _ _ _ (IsPermutation-to_front es (k, v)) (placed es h))
@@ -140,6 +159,11 @@ some-when (Some v) P f = f v refl
 pub none-when : {X : Type 0} (o : Option X) (Q : Type 0) → (o ≡ None → Q) → IfNone o Q
 none-when None Q f = f refl
 none-when (Some v) Q f = tt
+
+-- what some holds of is found, where none says that it holds of none
+pub some-where : {X : Type 0} (o : Option X) (P : X → Type 0) → IfNone o ((x : X) → P x → ⊥) → (x : X) × P x → IsSome o
+some-where None P h k = absurd (h k.0 k.1)
+some-where (Some x) P h k = refl
 
 some-or : {X : Type 0} (o : Option X) → (o ≡ None → ⊥) → IsSome o
 some-or None f = absurd (f refl)
@@ -224,22 +248,26 @@ key-inserted es fs k i none e = list-inserted (λ (k : ListKey). k.0.items) (λ 
 
 -- ---- names
 
-abbrev at_text : Text → Bor Text → Bool
-at_text t k = is_eq (slice_cmp nat_cmp t k.now)
+abbrev at_name : Bor Text → Bor Text → Bool
+at_name k j = is_at (name_order k) j
 
-tells-text : (t : Text) (k : Bor Text) → at_text t k ≡ true → k.now ≡ t
-tells-text t k h = sym (exact_bytes t k.now (equal-is _ h))
+abbrev texts_of : List (Bor Text × ℕ) → Names
+texts_of es = map (λ e. (e.0.now, e.1)) es
 
-pub text-found : (es : List (Bor Text × ℕ)) (t : Text) (v : ℕ) → lookup (at_text t) es ≡ Some v → Contains (map {B = Text × ℕ} (λ e. (e.0.now, e.1)) es) (t, v)
-text-found es t v h = reads (λ (k : Bor Text). k.now) t (at_text t) (tells-text t) es v h
+second-equal : (a b : Ordering) → is_eq (ordering_then a b) ≡ true → is_eq b ≡ true
+second-equal Less b h = absurd (let z : ⊥ = cc in z)
+second-equal Equal b h = h
+second-equal Greater b h = absurd (let z : ⊥ = cc in z)
 
-pub text-lacks : (es : List (Bor Text × ℕ)) (t : Text) → lookup (at_text t) es ≡ None → (i : ℕ) → Contains (map {B = Text × ℕ} (λ e. (e.0.now, e.1)) es) (t, i) → ⊥
-text-lacks es t h = lacks (λ (k : Bor Text). k.now) t (at_text t) es (λ k v c s. ap (λ xs. is_eq (slice_cmp nat_cmp t xs)) s ∙ ap is_eq (equal-self nat_list_cmp_total t)) h
+tells-name : (k j : Bor Text) → at_name k j ≡ true → j.now ≡ k.now
+tells-name k j h = sym (exact_bytes k.now j.now (equal-is _ (second-equal (nat_cmp (head_of k.now) (head_of j.now)) (slice_cmp nat_cmp k.now j.now) h)))
 
-pub text-inserted : (es fs : List (Bor Text × ℕ)) (k : Bor Text) (i : ℕ) → ((j : ℕ) → Contains (map {B = Text × ℕ} (λ e. (e.0.now, e.1)) es) (k.now, j) → ⊥)
-    → fs ≡ insert_entry (λ a b. slice_cmp nat_cmp a.now b.now) es k i
-    → IsPermutation (map {B = Text × ℕ} (λ e. (e.0.now, e.1)) es ++ (k.now, i) ∷ []) (map {B = Text × ℕ} (λ e. (e.0.now, e.1)) fs)
-text-inserted es fs k i none e = list-inserted (λ (t : Bor Text). t.now) (λ a b. slice_cmp nat_cmp a.now b.now) k (λ j h. tells-text k.now j h) es fs i none e
+same-name : (k j : Bor Text) → j.now ≡ k.now → at_name k j ≡ true
+same-name k j s = ap (λ t. is_eq (ordering_then (nat_cmp (head_of k.now) (head_of t)) (slice_cmp nat_cmp k.now t))) s
+    ∙ (λ i. is_eq (ordering_then (equal-self nat_cmp_total (head_of k.now) i) (equal-self nat_list_cmp_total k.now i)))
+
+name-lacks : (es : List (Bor Text × ℕ)) (k : Bor Text) → lookup (at_name k) es ≡ None → (i : ℕ) → Contains (texts_of es) (k.now, i) → ⊥
+name-lacks es k h = lacks (λ (j : Bor Text). j.now) k.now (at_name k) es (λ j v c s. same-name k j s) h
 
 pub names-grow : (names names' : Names) (t : Text) → IsPermutation (names ++ (t, length names) ∷ []) names' → ((n : ℕ) → Contains names (t, n) → ⊥) → NamesGrow names names'
 names-grow names names' t p none = record { kept = λ u n c. kept-in names names' (t, length names) p (u, n) c; numbered = numbered }
@@ -290,6 +318,39 @@ names-same names names' e = subst (NamesGrow names) (sym e) (record { kept = λ 
 
 pub names-then : {a b c : Names} → NamesGrow a b → NamesGrow b c → NamesGrow a c
 names-then p q = record { kept = λ t n h. q.kept t n (p.kept t n h); numbered = λ h. q.numbered (p.numbered h) }
+
+-- what is learnt of a name that is given a number unless it has one
+pub record LearnsName (es fs : List (Bor Text × ℕ)) (k : Bor Text) (n : ℕ) : Type 0 where
+  pub grow : NamesGrow (texts_of es) (texts_of fs)
+  pub known : HasNumber (texts_of es) k.now → fs ≡ es
+  pub there : Contains (texts_of fs) (k.now, n)
+
+pub name-learnt : (es fs : List (Bor Text × ℕ)) (k : Bor Text) (n : ℕ) → fs ≡ insert_entry name_order es k n
+    → n ≡ unwrap_or (lookup (is_at (name_order k)) es) (length es)
+    → (IsSome (lookup (is_at (name_order k)) es) → keys_of fs ≡ keys_of es) → LearnsName es fs k n
+name-learnt es fs k n e q s = by (lookup (at_name k) es) refl
+  where
+    by : (o : Option ℕ) → lookup (at_name k) es ≡ o → LearnsName es fs k n
+    by None h =
+        let long : n ≡ length (texts_of es) = q ∙ ap (λ o. unwrap_or o (length es)) h ∙ sym (length-map es (λ (e : Bor Text × ℕ). (e.0.now, e.1))) in
+        let more : IsPermutation (texts_of es ++ (k.now, n) ∷ []) (texts_of fs) =
+        list-inserted (λ (j : Bor Text). j.now) name_order k (λ j t. tells-name k j t) es fs n (name-lacks es k h) e in
+        record {
+          grow = names-grow (texts_of es) (texts_of fs) k.now (subst (λ (m : ℕ). IsPermutation (texts_of es ++ (k.now, m) ∷ []) (texts_of fs)) long more) (name-lacks es k h);
+          known = λ has. absurd (name-lacks es k h has.0 has.1);
+          there = new-in (texts_of es) (texts_of fs) (k.now, n) more;
+        }
+    by (Some v) h =
+        let same : n ≡ v = q ∙ ap (λ o. unwrap_or o (length es)) h in
+        let put : fs ≡ insert_entry name_order es k v = e ∙ ap (insert_entry name_order es k) same in
+        let stay : fs ≡ es = put ∙ stays name_order k v es h (ap keys_of (sym put) ∙ s (ap is_some h)) in
+        record {
+          grow = names-same (texts_of es) (texts_of fs) (ap texts_of stay);
+          known = λ has. stay;
+          there = subst (λ (m : ℕ). Contains (texts_of fs) (k.now, m)) (sym same)
+              (subst (λ (gs : List (Bor Text × ℕ)). Contains (texts_of gs) (k.now, v)) (sym stay)
+              (reads (λ (j : Bor Text). j.now) k.now (at_name k) (tells-name k) es v h));
+        }
 
 -- ---- lists of parameters
 

@@ -14,7 +14,7 @@ use Rattle.wit_model.specs.declared.model.Function.{Function}
 use Rattle.encode_types.specs.declared.key.FunctionKey.{FunctionKey}
 use Rattle.encode_types.specs.MetKinds.{Learns, LearnsMet}
 use Rattle.encode_types.specs.Maps.{MapsGrow}
-use Rattle.encode_types.specs.Counts.{Definitions, one_type_more, type_more_if, AddsTypes, AddsFunction}
+use Rattle.encode_types.specs.Counts.{Definitions, SameUnits, one_type_more, type_more_if, AddsTypes, AddsFunction}
 use Rattle.encode_types.specs.Fits.{CanEncode}
 use Rattle.encode_types.specs.Formed.{IsFormed}
 use Rattle.encode_types.specs.Slots.{StandsFor}
@@ -25,9 +25,17 @@ use Rattle.encode_types.specs.View.{View, Agrees, Grows, HoldsLearnt}
 use Rattle.encode_types.specs.Aliases.{ImportsMet, MakesMet}
 
 -- The maps agree with the slots and have lost no entry, old slots stand for what they did, and the surroundings are the same.
+pub record LeavesSlots (r : Resolve) (v v' : View) : Type 0 where
+  pub agree : Agrees r v'
+  pub maps_grow : MapsGrow v.maps v'.maps
+  pub grows : Grows v v'
+  pub scope_stays : v'.scope ≡ v.scope
+
+-- The same, and the caches of a future and a stream without an element are as they were.
 pub record Leaves (r : Resolve) (v v' : View) : Type 0 where
   pub agree : Agrees r v'
   pub maps_grow : MapsGrow v.maps v'.maps
+  pub units : SameUnits v.maps v'.maps
   pub grows : Grows v v'
   pub scope_stays : v'.scope ≡ v.scope
 

@@ -23,3 +23,5 @@ pub mod MetKinds
 pub mod Numbers
 pub mod Codes
 pub mod CodeLaws
+pub mod Heads
+pub mod NumberMaps

@@ -117,7 +117,8 @@ fn define_kind<'a, E: ValtypeEncoder<'a>>(
     ensures imports_stay { (E.view enc.new).imports ≡ (E.view enc.old).imports }
     ensures maps_stay { (E.view enc.new).maps ≡ (E.view enc.old).maps }
     ensures counts { IfOk result (DefinesIf (has_definition kind.now) (E.view enc.old) (E.view enc.new)) }
-    ensures known { (id : _) → kind.now ≡ TypeDefKind.Type_ (ValueType.Id id) → IfOk result (λ i. Contains (E.view enc.old).maps.id_to_index.entries (id.0, i)) }
+    ensures known { (id : _) → kind.now ≡ TypeDefKind.Type_ (ValueType.Id id)
+        → IfOk result (λ i. Contains (E.view enc.old).maps.id_to_index.entries (id.0, i)) }
     ensures held { HoldsMore (kind_count kind.now) (E.view enc.old) (E.view enc.new) }
     ensures written { OnOk result (Writes (tree_extent (kind_tree resolve.now kind.entry.now)) (E.view enc.old) (E.view enc.new)) }
     ensures size { result ≡ Err Size → Refuses (E.view enc.old) (E.view enc.new) (value_type (kind_tree resolve.now kind.entry.now)) }
@@ -301,7 +302,8 @@ fn define_named<'a, E: ValtypeEncoder<'a>>(
     ensures counts { OnOk result (CountsTypes resolve.now (E.view enc.old) (E.view enc.new)) }
     ensures kinds { OnOk result ((E.view enc.new).maps.def_to_index.entries ≡ (E.view enc.old).maps.def_to_index.entries) }
     ensures held { HoldsMore (kind_count def.now.kind + 1) (E.view enc.old) (E.view enc.new) }
-    ensures written { OnOk result (Writes (tree_extent (kind_tree resolve.now def.entry.now.kind) + name_extent (raw_name name.entry)) (E.view enc.old) (E.view enc.new)) }
+    ensures written { OnOk result (Writes (tree_extent (kind_tree resolve.now def.entry.now.kind) + name_extent (raw_name name.entry)) (E.view enc.old)
+        (E.view enc.new)) }
     ensures size { result ≡ Err Size → NamedLacksRoom resolve.now def.entry.now (raw_name name.entry) (E.view enc.old) (E.view enc.new) }
     ensures refuses { IfErr result IsMemoryOrSize }
 {

@@ -3,7 +3,7 @@
 //! Each function answers a slot, or a type by it, that stands for the tree asked for. Also after a refusal the old slots stand for
 //! what they did and the maps agree with the slots. An unnamed kind that `encode_valtype` meets, or another function on its way to the
 //! parts, is defined only where the maps lack it, and then it is in the maps. What a function is named after it defines at each call. The caches of
-//! a future and a stream without an element are filled by `encode_unit_future` and `encode_unit_stream` alone.
+//! a future and a stream without an element are filled by `encode_unit_future` and `encode_unit_stream` alone, also where a call is refused.
 //!
 //! `Error::Size` comes only from a call of the encoder, for what has no room in the encoder that is left: the definition, the name or the
 //! import of a type that is met from those asked for, or what the function is named after. By then the encoder holds what it held, and less
@@ -30,7 +30,7 @@ ghost use Rattle.encode_types.specs.Counts.{one_type_more};
 ghost use Rattle.encode_types.specs.Room.{value_type, import_of};
 ghost use Rattle.encode_types.specs.Aliases.{ImportsMet, MakesMet};
 ghost use Rattle.encode_types.specs.View.{Agrees, Grows, ImportsOne, HoldsMore, HoldsIf, HoldsLearnt, Refuses, WritesLearnt};
-ghost use Rattle.encode_types.specs.Leaves.{Leaves, LearnsFrom, CountsTypes, CanDefine, DefinesKind, DefinesValue, DefinesIf, LacksRoom};
+ghost use Rattle.encode_types.specs.Leaves.{Leaves, LeavesSlots, LearnsFrom, CountsTypes, CanDefine, DefinesKind, DefinesValue, DefinesIf, LacksRoom};
 
 use crate::define::{define_parts, define_shape};
 use crate::definition::{case_names, flag_names};
@@ -338,7 +338,7 @@ pub fn encode_unit_future<'a, E: ValtypeEncoder<'a>>(
     ensures cached { IfOk result (λ i. (E.view enc.new).maps.unit_future ≡ Some i) }
     ensures first { IfSome (E.view enc.old).maps.unit_future (λ i. result ≡ Ok i) }
     ensures rest { (E.view enc.new).maps ≡ record (E.view enc.old).maps { unit_future = (E.view enc.new).maps.unit_future } }
-    ensures leaves { Leaves (E.view enc.old).scope.packages (E.view enc.old) (E.view enc.new) }
+    ensures leaves { LeavesSlots (E.view enc.old).scope.packages (E.view enc.old) (E.view enc.new) }
     ensures around_stays { (E.view enc.new).around ≡ (E.view enc.old).around }
     ensures imports_stay { (E.view enc.new).imports ≡ (E.view enc.old).imports }
     ensures counts { IfOk result (DefinesIf (is_none (E.view enc.old).maps.unit_future) (E.view enc.old) (E.view enc.new)) }
@@ -360,7 +360,7 @@ fn define_unit_future<'a, E: ValtypeEncoder<'a>>(enc: &mut E) -> Result<u32, Err
     ensures ok { IfOk result (λ i. (E.view enc.new).stands i (tree (future_tree None))) }
     ensures cached { IfOk result (λ i. (E.view enc.new).maps.unit_future ≡ Some i) }
     ensures rest { (E.view enc.new).maps ≡ record (E.view enc.old).maps { unit_future = (E.view enc.new).maps.unit_future } }
-    ensures leaves { Leaves (E.view enc.old).scope.packages (E.view enc.old) (E.view enc.new) }
+    ensures leaves { LeavesSlots (E.view enc.old).scope.packages (E.view enc.old) (E.view enc.new) }
     ensures around_stays { (E.view enc.new).around ≡ (E.view enc.old).around }
     ensures imports_stay { (E.view enc.new).imports ≡ (E.view enc.old).imports }
     ensures counts { IfOk result (λ i. (E.view enc.new).definitions ≡ one_type_more i (E.view enc.old).definitions) }
@@ -386,7 +386,7 @@ pub fn encode_unit_stream<'a, E: ValtypeEncoder<'a>>(
     ensures cached { IfOk result (λ i. (E.view enc.new).maps.unit_stream ≡ Some i) }
     ensures first { IfSome (E.view enc.old).maps.unit_stream (λ i. result ≡ Ok i) }
     ensures rest { (E.view enc.new).maps ≡ record (E.view enc.old).maps { unit_stream = (E.view enc.new).maps.unit_stream } }
-    ensures leaves { Leaves (E.view enc.old).scope.packages (E.view enc.old) (E.view enc.new) }
+    ensures leaves { LeavesSlots (E.view enc.old).scope.packages (E.view enc.old) (E.view enc.new) }
     ensures around_stays { (E.view enc.new).around ≡ (E.view enc.old).around }
     ensures imports_stay { (E.view enc.new).imports ≡ (E.view enc.old).imports }
     ensures counts { IfOk result (DefinesIf (is_none (E.view enc.old).maps.unit_stream) (E.view enc.old) (E.view enc.new)) }
@@ -408,7 +408,7 @@ fn define_unit_stream<'a, E: ValtypeEncoder<'a>>(enc: &mut E) -> Result<u32, Err
     ensures ok { IfOk result (λ i. (E.view enc.new).stands i (tree (stream_tree None))) }
     ensures cached { IfOk result (λ i. (E.view enc.new).maps.unit_stream ≡ Some i) }
     ensures rest { (E.view enc.new).maps ≡ record (E.view enc.old).maps { unit_stream = (E.view enc.new).maps.unit_stream } }
-    ensures leaves { Leaves (E.view enc.old).scope.packages (E.view enc.old) (E.view enc.new) }
+    ensures leaves { LeavesSlots (E.view enc.old).scope.packages (E.view enc.old) (E.view enc.new) }
     ensures around_stays { (E.view enc.new).around ≡ (E.view enc.old).around }
     ensures imports_stay { (E.view enc.new).imports ≡ (E.view enc.old).imports }
     ensures counts { IfOk result (λ i. (E.view enc.new).definitions ≡ one_type_more i (E.view enc.old).definitions) }

@@ -13,7 +13,7 @@ ghost use Rattle.encode_types.specs.Maps.{IsKnown, LacksList, StandsAsKind, Stan
 ghost use Rattle.encode_types.specs.Definition.{IsWrittenParam, FollowsKind};
 ghost use Rattle.encode_types.specs.Plan.{IsLayered, AllInRange, IsOrderOf};
 ghost use Rattle.encode_types.specs.View.{Agrees};
-ghost use Rattle.encode_types.specs.Leaves.{Leaves};
+ghost use Rattle.encode_types.specs.Leaves.{Leaves, LeavesSlots};
 
 use crate::codes::ListKey;
 use crate::definition::{definition, params_in};
@@ -205,7 +205,7 @@ pub(crate) fn remember_unit_future<'a, E: ValtypeEncoder<'a>>(enc: &mut E, index
     requires fresh { (E.view enc.old).maps.unit_future ≡ None }
     requires agree { Agrees (E.view enc.old).scope.packages (E.view enc.old) }
     ensures value { (E.view enc.new).maps ≡ record (E.view enc.old).maps { unit_future = Some index } }
-    ensures leaves { Leaves (E.view enc.old).scope.packages (E.view enc.old) (E.view enc.new) }
+    ensures leaves { LeavesSlots (E.view enc.old).scope.packages (E.view enc.old) (E.view enc.new) }
     ensures around_stays { (E.view enc.new).around ≡ (E.view enc.old).around }
     ensures imports_stay { (E.view enc.new).imports ≡ (E.view enc.old).imports }
     ensures counts { (E.view enc.new).definitions ≡ (E.view enc.old).definitions }
@@ -220,7 +220,7 @@ pub(crate) fn remember_unit_stream<'a, E: ValtypeEncoder<'a>>(enc: &mut E, index
     requires fresh { (E.view enc.old).maps.unit_stream ≡ None }
     requires agree { Agrees (E.view enc.old).scope.packages (E.view enc.old) }
     ensures value { (E.view enc.new).maps ≡ record (E.view enc.old).maps { unit_stream = Some index } }
-    ensures leaves { Leaves (E.view enc.old).scope.packages (E.view enc.old) (E.view enc.new) }
+    ensures leaves { LeavesSlots (E.view enc.old).scope.packages (E.view enc.old) (E.view enc.new) }
     ensures around_stays { (E.view enc.new).around ≡ (E.view enc.old).around }
     ensures imports_stay { (E.view enc.new).imports ≡ (E.view enc.old).imports }
     ensures counts { (E.view enc.new).definitions ≡ (E.view enc.old).definitions }

@@ -12,6 +12,8 @@ pub mod laws;
 mod lend;
 mod maps;
 mod name;
+mod number_map;
+mod param_names;
 mod plan;
 mod shape;
 
@@ -25,3 +27,5 @@ pub use func_type::encode_func_type;
 pub use key::{FunctionKey, ParamSignatures, key_of};
 pub use maps::TypeEncodingMaps;
 pub use name::{extern_name, name_of};
+pub use number_map::NumberMap;
+pub use param_names::NameKey;

@@ -8,6 +8,8 @@ ghost use Rattle.encode_types.specs.Maps.{IsReady, IsWritten};
 
 use crate::codes::{ListKey, key_start, push_optional, push_param};
 use crate::key::FunctionKey;
+use crate::number_map::NumberMap;
+use crate::param_names::{NameKey, number_in};
 use comp_bytes::{ComponentValType, PrimitiveValType};
 use std::alloc::{AllocError, Global};
 use std::cmp::Reverse;
@@ -17,17 +19,17 @@ use wit_model::{Error, Param, Type, TypeId};
 /// The indexes of what a scope has defined, in ordered maps.
 ///
 /// Unnamed kinds and the types of functions are found by lists of numbers (`laws::equal_lists`), which stand in falling order: what is new mostly
-/// has the greatest numbers, and so stands first.
+/// has the greatest numbers, and so stands first. Types mostly come by ascending numbers, and are found by their distance from the first.
 #[derive(Drop)]
 pub struct TypeEncodingMaps<'a> {
     /// The types that have been met, by number.
-    pub id_to_index: BTreeMap<u32, u32>,
+    pub id_to_index: NumberMap,
     /// The unnamed types, by the lists of their kinds.
     pub def_to_index: BTreeMap<Reverse<Vec<u64>>, u32>,
     /// The types of functions, by the lists of their keys.
     pub func_type_map: BTreeMap<Reverse<Vec<u64>>, u32>,
     /// The names of the parameters of these functions, each with a number.
-    pub names: BTreeMap<&'a str, u64>,
+    pub names: BTreeMap<NameKey<'a>, u64>,
     /// The future without an element that `encode_unit_future` defined.
     pub unit_future: Option<u32>,
     /// The stream without an element that `encode_unit_stream` defined.
@@ -49,7 +51,7 @@ impl<'a> TypeEncodingMaps<'a> {
         ensures unit_stream { result.unit_stream ≡ None }
     {
         TypeEncodingMaps {
-            id_to_index: BTreeMap::new(alloc),
+            id_to_index: NumberMap::new(alloc),
             def_to_index: BTreeMap::new(alloc),
             func_type_map: BTreeMap::new(alloc),
             names: BTreeMap::new(alloc),
@@ -58,16 +60,12 @@ impl<'a> TypeEncodingMaps<'a> {
         }
     }
 
-    /// The index under which a type number is known. Types are mostly defined by ascending numbers: the last is asked for most.
+    /// The index under which a type number is known.
     pub(crate) fn index_of(&self, id: TypeId) -> Option<u32>
         ensures some { IfSome result (λ i. Contains self.now.id_to_index.entries (id.0, i)) }
         ensures none { IsKnown self.now id.0 → IsSome result }
     {
-        let (last, index) = self.id_to_index.last_key_value()?;
-        if id.0 < *last {
-            return self.id_to_index.get(&id.0).copied();
-        }
-        if id.0 == *last { Some(*index) } else { None }
+        self.id_to_index.get(id.0)
     }
 
     /// The index under which the list of a kind is known.
@@ -86,27 +84,14 @@ impl<'a> TypeEncodingMaps<'a> {
         self.func_type_map.get(list).copied()
     }
 
-    /// Gives a name without a number one, and answers it.
-    fn give_number(&mut self, name: &'a str) -> Result<u64, AllocError>
-        requires { HasNumber (names_of self.old.names) name.now → ⊥ }
-        ensures names { AddsNames self.old self.new }
-        ensures ok { IfOk result (λ n. Contains (names_of self.new.names) (name.entry.now, n)) }
-    {
-        let number = self.names.len() as u64;
-        self.names.insert(name, number)?;
-        Ok(number)
-    }
-
     /// The number of a name, which is given one unless it has one.
     fn number_of(&mut self, name: &'a str) -> Result<u64, AllocError>
         ensures names { AddsNames self.old self.new }
         ensures known { HasNumber (names_of self.old.names) name.entry.now → self.new.names.entries ≡ self.old.names.entries }
         ensures ok { IfOk result (λ n. Contains (names_of self.new.names) (name.entry.now, n)) }
     {
-        if let Some(number) = self.names.get(name).copied() {
-            return Ok(number);
-        }
-        self.give_number(name)
+        let number = number_in(&mut self.names, name)?;
+        Ok(number)
     }
 
     /// Adds a parameter, whose name is given a number unless it has one.

@@ -28,8 +28,10 @@ module _ {A C : Type 0} (g : A → C) (xs : List A) (i : ℕ) (x : A) (within : 
     one_more before here = ap (map f) added ∙ (map-append f out (y ∷ []) ∙ (ap (λ zs. zs ++ f y ∷ []) before ∙ (ap (λ z. map g (take i xs) ++ z ∷ []) here ∙ sym taken_made)))
 
     -- the same where all pass a test
-    pub one_more_if : (test : C → Bool) → (list_all test (map g xs) ≡ true → map f out ≡ map g (take i xs)) → (test (g x) ≡ true → f y ≡ g x) → list_all test (map g xs) ≡ true → map f new ≡ map g (take (i + 1) xs)
+    pub one_more_if : (test : C → Bool) → (list_all test (map g xs) ≡ true → map f out ≡ map g (take i xs)) → (test (g x) ≡ true → f y ≡ g x) → list_all test (map g xs) ≡ true
+        → map f new ≡ map g (take (i + 1) xs)
     one_more_if test before here all = one_more (before all) (here (passes_here test all))
 
-    pub all_more_if : (test : C → Bool) (bare : B → Bool) → (list_all test (map g xs) ≡ true → list_all bare out ≡ true) → (test (g x) ≡ true → bare y ≡ true) → list_all test (map g xs) ≡ true → list_all bare new ≡ true
+    pub all_more_if : (test : C → Bool) (bare : B → Bool) → (list_all test (map g xs) ≡ true → list_all bare out ≡ true) → (test (g x) ≡ true → bare y ≡ true) → list_all test (map g xs) ≡ true
+        → list_all bare new ≡ true
     all_more_if test bare before here all = all_more bare out new y (before all) (here (passes_here test all)) added

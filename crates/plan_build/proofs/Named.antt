@@ -54,7 +54,8 @@ same_keys (key.Interface m) (key.Interface n) = refl
 -- ---- numbers under their names
 
 -- maps of the same numbers, read as any kind of number
-pub numbers_agree : {N : Type 0} (f : N → ℕ) (es : List (String Global × N)) (xs : List (Bor Text × N)) → map built_number es ≡ map stated_number xs → map {B = Text × ℕ} (λ e. (text_of e.0, f e.1)) es ≡ map {B = Text × ℕ} (λ e. (e.0.now, f e.1)) xs
+pub numbers_agree : {N : Type 0} (f : N → ℕ) (es : List (String Global × N)) (xs : List (Bor Text × N)) → map built_number es ≡ map stated_number xs
+    → map {B = Text × ℕ} (λ e. (text_of e.0, f e.1)) es ≡ map {B = Text × ℕ} (λ e. (e.0.now, f e.1)) xs
 numbers_agree {N} f es xs h =
     let read : Text × N → Text × ℕ = λ x. (x.0, f x.1) in
     sym (map_of_map read built_number es) ∙ (ap (map read) h ∙ map_of_map read stated_number xs)
@@ -63,7 +64,8 @@ pub numbers_apart : {N : Type 0} (f : N → ℕ) (xs : List (Bor Text × N)) →
 numbers_apart {N} f xs h = let read : Bor Text × N → Text × ℕ = λ e. (e.0.now, f e.1) in names_apart read xs h
 
 -- the same, where the map was built of a list that is this one, if no name stands twice
-pub numbers_stand : {N : Type 0} (f : N → ℕ) (es : List (String Global × N)) (xs ys : List (Bor Text × N)) → ys ≡ xs → (are_distinct (map (λ e. e.0.now) ys) ≡ true → map built_number es ≡ map stated_number ys)
+pub numbers_stand : {N : Type 0} (f : N → ℕ) (es : List (String Global × N)) (xs ys : List (Bor Text × N)) → ys ≡ xs
+    → (are_distinct (map (λ e. e.0.now) ys) ≡ true → map built_number es ≡ map stated_number ys)
     → are_distinct (names_of (map {B = Text × ℕ} (λ e. (e.0.now, f e.1)) xs)) ≡ true → map {B = Text × ℕ} (λ e. (text_of e.0, f e.1)) es ≡ map {B = Text × ℕ} (λ e. (e.0.now, f e.1)) xs
 numbers_stand {N} f es xs ys is h apart =
     let here = subst (λ (zs : List (Bor Text × N)). are_distinct (map (λ e. e.0.now) zs) ≡ true → map built_number es ≡ map stated_number zs) is h in

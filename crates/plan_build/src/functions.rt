@@ -50,7 +50,8 @@ pub(crate) fn functions_of(
     alloc: Global,
     functions: &[PlannedFunction<'_>],
 ) -> Result<Map<String, Function>, AllocError>
-    ensures built { IfOk result (λ m. are_distinct (map (λ f. f.name.now) functions.now) ≡ true → map built_function m.entries ≡ map named_function functions.now) }
+    ensures built { IfOk result (λ m. are_distinct (map (λ f. f.name.now) functions.now) ≡ true
+        → map built_function m.entries ≡ map named_function functions.now) }
     ensures bare { IfOk result (λ m. are_distinct (map (λ f. f.name.now) functions.now) ≡ true → list_all is_bare_function (values m) ≡ true) }
 {
     let mut built = Map::with_capacity(alloc, functions.len())?;

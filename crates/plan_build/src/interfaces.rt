@@ -35,7 +35,8 @@ pub(crate) fn interfaces_of(
     alloc: Global,
     interfaces: &[PlannedInterface<'_>],
 ) -> Result<Vec<Interface>, AllocError>
-    ensures built { IfOk result (λ xs. list_all interface_differs (map stated_interface interfaces.now) ≡ true → map planned_interface xs.items ≡ map stated_interface interfaces.now) }
+    ensures built { IfOk result (λ xs. list_all interface_differs (map stated_interface interfaces.now) ≡ true
+        → map planned_interface xs.items ≡ map stated_interface interfaces.now) }
     ensures bare { IfOk result (λ xs. list_all interface_differs (map stated_interface interfaces.now) ≡ true → list_all is_bare_interface xs.items ≡ true) }
 {
     let mut built = Vec::with_capacity(alloc, interfaces.len())?;

@@ -90,7 +90,8 @@ pub(crate) fn packages_of(
     alloc: Global,
     packages: &[PlannedPackage<'_>],
 ) -> Result<Vec<Package>, Error>
-    ensures built { IfOk result (λ xs. list_all package_differs (map stated_package packages.now) ≡ true → map planned_package xs.items ≡ map stated_package packages.now) }
+    ensures built { IfOk result (λ xs. list_all package_differs (map stated_package packages.now) ≡ true
+        → map planned_package xs.items ≡ map stated_package packages.now) }
     ensures memory { list_all has_version (map stated_package packages.now) ≡ true → IsOkUnless result errors.Memory }
     ensures versions { IfOk result (λ xs. list_all (λ p. passes is_version p.name.version) xs.items ≡ true) }
     ensures bare { IfOk result (λ xs. list_all (λ p. is_undocumented p.docs) xs.items ≡ true) }

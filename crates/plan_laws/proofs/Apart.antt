@@ -165,7 +165,8 @@ module _ (t : Tables) (h : Homes) (known : ℕ → Fact) (n : ℕ) (ms : List Me
   -- as many views and worlds of a member have no path as it has places of its own
   part_many : (m : Member) → Contains ms m → (a : Part) → m.part ≡ a
       → length (own (map (λ (s : NumberedSight). s.place) (views_of_part (numbered_part a)))) + length (own (home_of_part (numbered_part a))) ≡ length (own (places_of_part (numbered_part a)))
-  part_many m c (parts.World w) is = by (places_of_seen (numbered_scope w).imports ++ places_of_seen (numbered_scope w).exports) refl (as_many t (numbered_scope w) followed.scope followed.good followed.shows followed.stands.seen)
+  part_many m c (parts.World w) is = by (places_of_seen (numbered_scope w).imports ++ places_of_seen (numbered_scope w).exports) refl
+      (as_many t (numbered_scope w) followed.scope followed.good followed.shows followed.stands.seen)
     where
       followed : IsWorldOf t h ms members given.input given.placed.apart w
       followed = world_is m c w is
@@ -173,10 +174,13 @@ module _ (t : Tables) (h : Homes) (known : ℕ → Fact) (n : ℕ) (ms : List Me
       home : has_no_path t w.home ≡ true
       home = ap is_none followed.good.home
 
-      by : (shown : List ℕ) → places_of_seen (numbered_scope w).imports ++ places_of_seen (numbered_scope w).exports ≡ shown → length (own (map (λ (i : NumberedInstance). i.place) (numbered_scope w).instances)) ≡ length (own shown)
-          → length (own (map (λ (s : NumberedSight). s.place) (map whole_view (numbered_scope w).instances))) + length (own (w.home ∷ [])) ≡ length (own (w.home ∷ (places_of_seen (numbered_scope w).imports ++ places_of_seen (numbered_scope w).exports)))
+      by : (shown : List ℕ) → places_of_seen (numbered_scope w).imports ++ places_of_seen (numbered_scope w).exports ≡ shown
+          → length (own (map (λ (i : NumberedInstance). i.place) (numbered_scope w).instances)) ≡ length (own shown)
+          → length (own (map (λ (s : NumberedSight). s.place) (map whole_view (numbered_scope w).instances))) + length (own (w.home ∷ [])) ≡ length
+          (own (w.home ∷ (places_of_seen (numbered_scope w).imports ++ places_of_seen (numbered_scope w).exports)))
       by shown e many =
-          let viewed_many : length (own (map (λ (s : NumberedSight). s.place) (map whole_view (numbered_scope w).instances))) ≡ length (own shown) = ap (λ ps. length (own ps)) (map_of_map (λ (s : NumberedSight). s.place) whole_view (numbered_scope w).instances) ∙ many in
+          let viewed_many : length (own (map (λ (s : NumberedSight). s.place) (map whole_view (numbered_scope w).instances))) ≡ length (own shown) =
+          ap (λ ps. length (own ps)) (map_of_map (λ (s : NumberedSight). s.place) whole_view (numbered_scope w).instances) ∙ many in
           let one : length (own (w.home ∷ [])) ≡ 1 = ap (λ b. length (cond b (w.home ∷ []) [])) home in
           let all : length (own (w.home ∷ (places_of_seen (numbered_scope w).imports ++ places_of_seen (numbered_scope w).exports))) ≡ suc (length (own shown)) =
           ap (λ ps. length (own (w.home ∷ ps))) e ∙ ap (λ b. length (cond b (w.home ∷ own shown) (own shown))) home in
@@ -189,7 +193,8 @@ module _ (t : Tables) (h : Homes) (known : ℕ → Fact) (n : ℕ) (ms : List Me
       omega (arith, many)
     where
       good : IsPartIn t (numbered_part (parts.Interface q v imports))
-      good = subst (λ a. IsPartIn t (numbered_part a)) is (all_at (λ (x : NumberedMember). IsPartIn t x.part) (numbered_members ms) given.input.numbers (numbered_member m) (contains-map numbered_member ms m c))
+      good = subst (λ a. IsPartIn t (numbered_part a)) is (all_at (λ (x : NumberedMember). IsPartIn t x.part) (numbered_members ms) given.input.numbers (numbered_member m)
+          (contains-map numbered_member ms m c))
 
       with_path : (p : ℕ) → HasPath t p → has_no_path t p ≡ false
       with_path p path = ap is_none path.1
@@ -212,7 +217,8 @@ module _ (t : Tables) (h : Homes) (known : ℕ → Fact) (n : ℕ) (ms : List Me
       let part = part_many m (among m (0, omega arith, refl)) m.part refl in
       let rest = all_many xs (λ y c. among y (contains-later m xs y c)) in
       let a : length (own (viewed (m ∷ xs))) ≡ length (own (map (λ (s : NumberedSight). s.place) (views_of_part (numbered_part m.part)))) + length (own (viewed xs)) =
-      ap (λ ps. length (own ps)) (append_of_map (λ (s : NumberedSight). s.place) (views_of_part (numbered_part m.part)) (views_of_members (numbered_members xs))) ∙ split_many (map (λ (s : NumberedSight). s.place) (views_of_part (numbered_part m.part))) (viewed xs) in
+      ap (λ ps. length (own ps)) (append_of_map (λ (s : NumberedSight). s.place) (views_of_part (numbered_part m.part)) (views_of_members (numbered_members xs))) ∙ split_many
+      (map (λ (s : NumberedSight). s.place) (views_of_part (numbered_part m.part))) (viewed xs) in
       let b : length (own (homes (m ∷ xs))) ≡ length (own (home_of_part (numbered_part m.part))) + length (own (homes xs)) = split_many (home_of_part (numbered_part m.part)) (homes xs) in
       let c : length (own_places t (numbered_members (m ∷ xs))) ≡ length (own (places_of_part (numbered_part m.part))) + length (own_places t (numbered_members xs)) =
       split_many (places_of_part (numbered_part m.part)) (flat_map (λ (y : NumberedMember). places_of_part y.part) (numbered_members xs)) in
@@ -235,7 +241,8 @@ module _ (t : Tables) (h : Homes) (known : ℕ → Fact) (n : ℕ) (ms : List Me
           let there = one_of t (numbered_scope w) followed.scope followed.good followed.shows followed.stands.seen x (i, omega (arith, low), same) in
           let one = from_map (λ (y : NumberedInstance). y.place) (numbered_scope w).instances x there in
           let sight = subst (λ a. Contains (views_of_part (numbered_part a)) (whole_view one.0)) (sym is) (contains-map whole_view (numbered_scope w).instances one.0 one.1) in
-          inl (subst (Contains (viewed ms)) one.2 (contains-map (λ (s : NumberedSight). s.place) (views_of_members (numbered_members ms)) (whole_view one.0) (view_among ms m m_in (whole_view one.0) sight)))
+          inl (subst (Contains (viewed ms)) one.2 (contains-map (λ (s : NumberedSight). s.place) (views_of_members (numbered_members ms)) (whole_view one.0)
+          (view_among ms m m_in (whole_view one.0) sight)))
 
   all_once : IsOnce (own (viewed ms) ++ own (homes ms))
   all_once =
@@ -253,10 +260,12 @@ module _ (t : Tables) (h : Homes) (known : ℕ → Fact) (n : ℕ) (ms : List Me
 
   -- ---- what follows
 
-  viewed_once : (i j : ℕ) (s u : NumberedSight) → slice_get (views_of_members (numbered_members ms)) i ≡ Some s → slice_get (views_of_members (numbered_members ms)) j ≡ Some u → path_at t s.place ≡ None → s.place ≡ u.place → i ≡ j
+  viewed_once : (i j : ℕ) (s u : NumberedSight) → slice_get (views_of_members (numbered_members ms)) i ≡ Some s → slice_get (views_of_members (numbered_members ms)) j ≡ Some u
+      → path_at t s.place ≡ None → s.place ≡ u.place → i ≡ j
   viewed_once i j s u at_i at_j none same =
       unfiltered_once (has_no_path t) (viewed ms) (first_once (own (viewed ms)) (own (homes ms)) all_once) i j s.place
-      (mapped_get (λ (x : NumberedSight). x.place) (views_of_members (numbered_members ms)) i s at_i) (mapped_get (λ (x : NumberedSight). x.place) (views_of_members (numbered_members ms)) j u at_j ∙ ap Some (sym same)) (ap is_none none)
+      (mapped_get (λ (x : NumberedSight). x.place) (views_of_members (numbered_members ms)) i s at_i)
+      (mapped_get (λ (x : NumberedSight). x.place) (views_of_members (numbered_members ms)) j u at_j ∙ ap Some (sym same)) (ap is_none none)
 
   views_apart : (s : NumberedSight) → Contains (views_of_members (numbered_members ms)) s → Contains (homes_in ms) s.place → ⊥
   views_apart s c home = by (from_joined [] (homes ms) s.place home)
@@ -267,14 +276,16 @@ module _ (t : Tables) (h : Homes) (known : ℕ → Fact) (n : ℕ) (ms : List Me
       by : Contains [] s.place ⊎ Contains (homes ms) s.place → ⊥
       by (inl no_home) = none-in s.place no_home
       by (inr among) =
-          both_apart (own (viewed ms)) (own (homes ms)) all_once s.place (filtered_there (has_no_path t) (viewed ms) s.place (contains-map (λ (x : NumberedSight). x.place) (views_of_members (numbered_members ms)) s c) none)
+          both_apart (own (viewed ms)) (own (homes ms)) all_once s.place (filtered_there (has_no_path t) (viewed ms) s.place
+          (contains-map (λ (x : NumberedSight). x.place) (views_of_members (numbered_members ms)) s c) none)
           (filtered_there (has_no_path t) (homes ms) s.place among none)
 
   homes_are : (xs : List Member) → homes xs ≡ map (λ (w : Text × Scope). w.1.home) (worlds_in xs)
   homes_are [] = refl
   homes_are (m ∷ xs) = by m.part (homes_are xs)
     where
-      by : (a : Part) → homes xs ≡ map (λ (w : Text × Scope). w.1.home) (worlds_in xs) → home_of_part (numbered_part a) ++ homes xs ≡ map (λ (w : Text × Scope). w.1.home) (world_in_part m.label.now a ++ worlds_in xs)
+      by : (a : Part) → homes xs ≡ map (λ (w : Text × Scope). w.1.home) (worlds_in xs)
+          → home_of_part (numbered_part a) ++ homes xs ≡ map (λ (w : Text × Scope). w.1.home) (world_in_part m.label.now a ++ worlds_in xs)
       by (parts.World w) rest = ap (λ hs. w.home ∷ hs) rest
       by (parts.Interface p v imports) rest = rest
 

@@ -36,12 +36,14 @@ one_type : (xs : List NumberedType) → distinct (map (λ (x : NumberedType). x.
 one_type xs apart a b c d e =
     let i = contains-get xs a c in
     let j = contains-get xs b d in
-    let same : i.0 ≡ j.0 = one_place (map (λ (x : NumberedType). x.name) xs) apart i.0 j.0 b.name (mapped_get (λ (x : NumberedType). x.name) xs i.0 a i.1 ∙ ap Some e) (mapped_get (λ (x : NumberedType). x.name) xs j.0 b j.1) in
+    let same : i.0 ≡ j.0 = one_place (map (λ (x : NumberedType). x.name) xs) apart i.0 j.0 b.name (mapped_get (λ (x : NumberedType). x.name) xs i.0 a i.1 ∙ ap Some e)
+    (mapped_get (λ (x : NumberedType). x.name) xs j.0 b j.1) in
     same-some a b (sym i.1 ∙ (ap (slice_get xs) same ∙ j.1))
 
 module _ (t : Tables) (h : Homes) (ms : List Member) (members : List reads.Member) (input : IsInput t h ms members) (apart : are_once (own_places t (numbered_members ms)) ≡ true) (agrees : agree_in_numbers (sights_of_members t (numbered_members ms)) ≡ true) where
   -- each showing of the number declares what the view does, whose names differ
-  pub shown_alike : (s : NumberedSight) → Contains (views_of_members (numbered_members ms)) s → distinct (map (λ (x : NumberedType). x.name) s.view.types) ≡ true → (x : NumberedType) → Contains s.view.types x
+  pub shown_alike : (s : NumberedSight) → Contains (views_of_members (numbered_members ms)) s → distinct (map (λ (x : NumberedType). x.name) s.view.types) ≡ true → (x : NumberedType)
+      → Contains s.view.types x
       → (n : ℕ) → slice_get t.shapes n ≡ Some (named_shape s.place x.name) → (y : NumberedShowing) → Contains (showings_of_members ms) y → y.part ≡ 14 + n → y.declared ≡ x.declared
   shown_alike s in_views names x in_types n at y shown part = by (shown_from t h ms members input apart y shown)
     where
@@ -63,7 +65,8 @@ module _ (t : Tables) (h : Homes) (ms : List Member) (members : List reads.Membe
           sym (ap (λ (v : NumberedShowing). v.declared) shows) ∙ (sym (ap (λ (e : Text × Option ℕ). e.1) from.2) ∙ ap (λ (v : NumberedType). v.declared) is)
       by (of_import m c w is_world seen among e) =
           let other = world_of t h ms members input apart m c w is_world in
-          let named = subst (λ (k : Shown). DeclaresName t w.home (record { key = seen.key; shown = k; external_id = seen.external_id })) e (all_at (DeclaresName t w.home) w.imports.now other.declares seen among) in
+          let named = subst (λ (k : Shown). DeclaresName t w.home (record { key = seen.key; shown = k; external_id = seen.external_id })) e
+          (all_at (DeclaresName t w.home) w.imports.now other.declares seen among) in
           let one : named.0 ≡ n = (let a = named.1 in omega (arith, a, part)) in
           let same = same_name w.home seen.key.now (sym (ap (slice_get t.shapes) one) ∙ named.2) in
           let none : path_at t s.place ≡ None = ap (path_at t) (sym same.0) ∙ other.good.home in

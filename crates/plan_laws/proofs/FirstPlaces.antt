@@ -35,7 +35,12 @@ first_split q (x ∷ xs) s e = by (q == x.place) refl e (first_split q xs s)
     by : (b : Bool) → (q == x.place) ≡ b → cond b (Some x) (find (λ (y : NumberedSight). q == y.place) xs) ≡ Some s → (first_at q xs ≡ Some s → IsFirst q xs s) → IsFirst q (x ∷ xs) s
     by true here e later =
         let same : x ≡ s = same-some x s e in
-        record { split = record { front = []; back = xs; is = ap (λ y. y ∷ xs) same }; place = sym (eqb-true q s.place (ap (λ (y : NumberedSight). q == y.place) (sym same) ∙ here)); none = λ u c p. none-in u c }
+        record {
+          split = record { front = []; back = xs; is = ap (λ y. y ∷ xs) same };
+          place = sym (eqb-true q s.place (ap (λ (y : NumberedSight). q == y.place) (sym same) ∙ here));
+          none =
+              λ u c p. none-in u c;
+        }
     by false other e later =
         let found = later e in
         record {
@@ -50,11 +55,12 @@ first_split q (x ∷ xs) s e = by (q == x.place) refl e (first_split q xs s)
 
 -- ---- numbers
 
-joined_more : (met ps : List ℕ) → (more : List ℕ) × (joined_all met ps ≡ met ++ more)
+pub joined_more : (met ps : List ℕ) → (more : List ℕ) × (joined_all met ps ≡ met ++ more)
 joined_more met [] = ([], sym (append-nil met))
 joined_more met (p ∷ ps) = by (has met p) refl (joined_more met ps) (joined_more (met ++ p ∷ []) ps)
   where
-    by : (b : Bool) → has met p ≡ b → (more : List ℕ) × (joined_all met ps ≡ met ++ more) → (more : List ℕ) × (joined_all (met ++ p ∷ []) ps ≡ (met ++ p ∷ []) ++ more) → (more : List ℕ) × (joined_all (joined met p) ps ≡ met ++ more)
+    by : (b : Bool) → has met p ≡ b → (more : List ℕ) × (joined_all met ps ≡ met ++ more) → (more : List ℕ) × (joined_all (met ++ p ∷ []) ps ≡ (met ++ p ∷ []) ++ more) → (more : List ℕ)
+        × (joined_all (joined met p) ps ≡ met ++ more)
     by true there here later = (here.0, ap (λ b. joined_all (cond b met (met ++ p ∷ [])) ps) there ∙ here.1)
     by false none here later = (p ∷ later.0, ap (λ b. joined_all (cond b met (met ++ p ∷ [])) ps) none ∙ (later.1 ∙ append_assoc met (p ∷ []) later.0))
 

@@ -78,11 +78,13 @@ module _ (t : Tables) (h : Homes) (ms : List Member) (members : List reads.Membe
     first_place = (first_is q views first is_first).1
 
     -- what another view shows under the number is told by the first
-    told_by_view : (x : NumberedType) → Contains first.view.types x → (is : IsShownIn t first.place x) → (s : NumberedSight) → Contains views s → (z : NumberedType) → Contains s.view.types z → slot_part z.slot ≡ 14 + is.number → told z ≡ told x
+    told_by_view : (x : NumberedType) → Contains first.view.types x → (is : IsShownIn t first.place x) → (s : NumberedSight) → Contains views s → (z : NumberedType) → Contains s.view.types z
+        → slot_part z.slot ≡ 14 + is.number → told z ≡ told x
     told_by_view x among is s c z there part =
         let other = number_is s c z there in
         let one : other.number ≡ is.number = (let a = slot_is t input.tables z.slot other.number other.slot in omega (arith, a, part)) in
-        let shape : named_shape s.place z.name ≡ named_shape first.place x.name = same-some (named_shape s.place z.name) (named_shape first.place x.name) (sym other.name.named ∙ (ap (slice_get t.shapes) one ∙ is.name.named)) in
+        let shape : named_shape s.place z.name ≡ named_shape first.place x.name =
+        same-some (named_shape s.place z.name) (named_shape first.place x.name) (sym other.name.named ∙ (ap (slice_get t.shapes) one ∙ is.name.named)) in
         let place : s.place ≡ first.place = ap (λ (y : Shape). y.number) shape in
         let name : z.name ≡ x.name = ap (λ (y : Shape). unlabel y.labels) shape in
         let same = views_told s first c first_among place in
@@ -100,16 +102,19 @@ module _ (t : Tables) (h : Homes) (ms : List Member) (members : List reads.Membe
         unlabel (l ∷ ls) = l.0
 
     -- no world imports it
-    not_imported : (x : NumberedType) (is : IsShownIn t first.place x) → (m : Member) → Contains ms m → (w : Scope) → m.part ≡ parts.World w → (c : Seen) → Contains w.imports.now c → (part : ℕ) (d : Option ℕ) → c.shown ≡ shown.Declares part d → part ≡ 14 + is.number → ⊥
+    not_imported : (x : NumberedType) (is : IsShownIn t first.place x) → (m : Member) → Contains ms m → (w : Scope) → m.part ≡ parts.World w → (c : Seen) → Contains w.imports.now c
+        → (part : ℕ) (d : Option ℕ) → c.shown ≡ shown.Declares part d → part ≡ 14 + is.number → ⊥
     not_imported x is m among w world c there part d declares same =
         let all : AllByRecursion (DeclaresName t w.home) w.imports.now = subst (PartDeclaresNames t) world (all_at (λ (y : Member). PartDeclaresNames t y.part) ms input.declared m among) in
         let named = subst (λ z. DeclaresName t w.home (record { key = c.key; shown = z; external_id = c.external_id })) declares (all_at (DeclaresName t w.home) w.imports.now all c there) in
         let one : named.0 ≡ is.number = (let a = named.1 in omega (arith, a, same)) in
-        let shape : named_shape w.home c.key.now ≡ named_shape first.place x.name = same-some (named_shape w.home c.key.now) (named_shape first.place x.name) (sym named.2 ∙ (ap (slice_get t.shapes) one ∙ is.name.named)) in
+        let shape : named_shape w.home c.key.now ≡ named_shape first.place x.name =
+        same-some (named_shape w.home c.key.now) (named_shape first.place x.name) (sym named.2 ∙ (ap (slice_get t.shapes) one ∙ is.name.named)) in
         ordered.apart first first_among (subst (Contains (homes_in ms)) (ap (λ (y : Shape). y.number) shape) (home_met ms m among w world))
 
     -- a type of the first view is shown first as it shows it
-    pub first_told : (x : NumberedType) → Contains first.view.types x → (is : IsShownIn t first.place x) → (y : NumberedShowing) → shown_first ms is.number ≡ Some y → (y.declared ≡ x.declared) × (y.external_id ≡ x.external_id)
+    pub first_told : (x : NumberedType) → Contains first.view.types x → (is : IsShownIn t first.place x) → (y : NumberedShowing) → shown_first ms is.number ≡ Some y → (y.declared ≡ x.declared)
+        × (y.external_id ≡ x.external_id)
     first_told x among is y shown =
         let found = (firsts_found (showings_of_members ms)).0 is.number y shown in
         let from = origin t h ms members input y found.0 in

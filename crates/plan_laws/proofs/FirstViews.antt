@@ -110,6 +110,7 @@ first_is q (x ∷ xs) s e = by (q == x.place) refl e (first_is q xs s)
     later : Contains xs s → Contains (x ∷ xs) s
     later (i, low, same) = (suc i, omega (arith, low), same)
 
-    by : (b : Bool) → (q == x.place) ≡ b → cond b (Some x) (find (λ (y : NumberedSight). q == y.place) xs) ≡ Some s → (first_at q xs ≡ Some s → Contains xs s × (s.place ≡ q)) → Contains (x ∷ xs) s × (s.place ≡ q)
+    by : (b : Bool) → (q == x.place) ≡ b → cond b (Some x) (find (λ (y : NumberedSight). q == y.place) xs) ≡ Some s → (first_at q xs ≡ Some s → Contains xs s × (s.place ≡ q)) → Contains (x ∷ xs) s
+        × (s.place ≡ q)
     by true here e deeper = let same : x ≡ s = same-some x s e in ((0, omega arith, same), ap (λ (y : NumberedSight). y.place) (sym same) ∙ sym (eqb-true q x.place here))
     by false none e deeper = let found = deeper e in (later found.0, found.1)

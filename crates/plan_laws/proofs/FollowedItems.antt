@@ -42,11 +42,13 @@ seen_resource (s ∷ ss) r any = by (is_resource_seen s.shown) refl any (λ more
     later : IsSeenResource ss r → IsSeenResource (s ∷ ss) r
     later is = record { number = suc is.number; seen = is.seen; at = is.at; key = is.key; declared = is.declared; shown = is.shown }
 
-    which : (b : Bool) → text_eq r s.key ≡ b → is_resource_seen s.shown ≡ true → (b || list_any (text_eq r) (resources_seen ss)) ≡ true → (list_any (text_eq r) (resources_seen ss) ≡ true → IsSeenResource (s ∷ ss) r) → IsSeenResource (s ∷ ss) r
+    which : (b : Bool) → text_eq r s.key ≡ b → is_resource_seen s.shown ≡ true → (b || list_any (text_eq r) (resources_seen ss)) ≡ true
+        → (list_any (text_eq r) (resources_seen ss) ≡ true → IsSeenResource (s ∷ ss) r) → IsSeenResource (s ∷ ss) r
     which true e is h more = let shown = declares_it s.shown is in record { number = zero; seen = s; at = refl; key = sym ((bytes_eq-Decides r s.key).0 e); declared = shown.0; shown = shown.1 }
     which false e is h more = more h
 
-    by : (b : Bool) → is_resource_seen s.shown ≡ b → list_any (text_eq r) (if b then s.key ∷ resources_seen ss else resources_seen ss) ≡ true → (list_any (text_eq r) (resources_seen ss) ≡ true → IsSeenResource (s ∷ ss) r) → IsSeenResource (s ∷ ss) r
+    by : (b : Bool) → is_resource_seen s.shown ≡ b → list_any (text_eq r) (if b then s.key ∷ resources_seen ss else resources_seen ss) ≡ true
+        → (list_any (text_eq r) (resources_seen ss) ≡ true → IsSeenResource (s ∷ ss) r) → IsSeenResource (s ∷ ss) r
     by true e h more = which (text_eq r s.key) refl e h more
     by false e h more = more h
 
@@ -57,7 +59,8 @@ module _ (t : Tables) (known : ℕ → Fact) (home : ℕ) where
     pub is : is_item t known home (resources_seen before) s.key s.shown ≡ true
     pub there : (i : ℕ) (x : NumberedSeen) → slice_get before i ≡ Some x → (i < n) × (slice_get all i ≡ Some x)
 
-  pub items_behind : (all earlier ss : List NumberedSeen) → all ≡ earlier ++ ss → are_imports t known home earlier ss ≡ true → (j : ℕ) (s : NumberedSeen) → slice_get ss j ≡ Some s → IsItemBehind all (length earlier + j) s
+  pub items_behind : (all earlier ss : List NumberedSeen) → all ≡ earlier ++ ss → are_imports t known home earlier ss ≡ true → (j : ℕ) (s : NumberedSeen) → slice_get ss j ≡ Some s
+      → IsItemBehind all (length earlier + j) s
   items_behind all earlier [] same ok j s e = let wrong : None ≡ Some s = e in absurd cc
   items_behind all earlier (y ∷ ss) same ok zero s e = record {
     before = earlier;
@@ -68,7 +71,8 @@ module _ (t : Tables) (known : ℕ → Fact) (home : ℕ) where
   items_behind all earlier (y ∷ ss) same ok (suc j) s e =
       let many : length (earlier ++ y ∷ []) + j ≡ length earlier + suc j = (let l = length-append earlier (y ∷ []) in omega (arith, l)) in
       subst (λ n. IsItemBehind all n s) many
-      (items_behind all (earlier ++ y ∷ []) ss (same ∙ sym (append_assoc earlier (y ∷ []) ss)) (second_true (is_item t known home (resources_seen earlier) y.key y.shown) (are_imports t known home (earlier ++ y ∷ []) ss) ok) j s e)
+      (items_behind all (earlier ++ y ∷ []) ss (same ∙ sym (append_assoc earlier (y ∷ []) ss))
+      (second_true (is_item t known home (resources_seen earlier) y.key y.shown) (are_imports t known home (earlier ++ y ∷ []) ss) ok) j s e)
 
 -- ---- items
 
@@ -94,7 +98,8 @@ items_listed (s ∷ ss) [] cs a b = absurd (omega (arith, a))
 items_listed (s ∷ ss) (e ∷ es) [] a b = absurd (omega (arith, b))
 items_listed (s ∷ ss) (e ∷ es) (c ∷ cs) a b = ap (λ xs. e ∷ xs) (items_listed ss es cs (omega (arith, a)) (omega (arith, b)))
 
-pub items_at : (ss : List NumberedSeen) (es : List (PlannedKey × PlannedItem)) (cs : List ℕ) (j : ℕ) (x : ReadItem) → slice_get (items ss es cs) j ≡ Some x → (slice_get ss j ≡ Some x.seen) × (slice_get es j ≡ Some x.entry) × (slice_get cs j ≡ Some x.count)
+pub items_at : (ss : List NumberedSeen) (es : List (PlannedKey × PlannedItem)) (cs : List ℕ) (j : ℕ) (x : ReadItem) → slice_get (items ss es cs) j ≡ Some x → (slice_get ss j ≡ Some x.seen)
+    × (slice_get es j ≡ Some x.entry) × (slice_get cs j ≡ Some x.count)
 unfolding items
 items_at [] es cs j x at = let wrong : None ≡ Some x = at in absurd cc
 items_at (s ∷ ss) [] cs j x at = let wrong : None ≡ Some x = at in absurd cc
@@ -105,11 +110,13 @@ items_at (s ∷ ss) (e ∷ es) (c ∷ cs) zero x at =
 items_at (s ∷ ss) (e ∷ es) (c ∷ cs) (suc j) x at = items_at ss es cs j x at
 
 -- each type is behind all that is followed before, where its count is greater
-pub types_behind : (xs : List ReadItem) → ((i j : ℕ) (x y : ReadItem) → slice_get xs i ≡ Some x → slice_get xs j ≡ Some y → i < j → is_type_seen y.seen.shown ≡ true → x.count < y.count) → types_follow xs ≡ true
+pub types_behind : (xs : List ReadItem) → ((i j : ℕ) (x y : ReadItem) → slice_get xs i ≡ Some x → slice_get xs j ≡ Some y → i < j → is_type_seen y.seen.shown ≡ true → x.count < y.count)
+    → types_follow xs ≡ true
 types_behind [] more = refl
 types_behind (x ∷ xs) more =
     both (list_all (λ (y : ReadItem). not (is_type_seen y.seen.shown) || nat_lt x.count y.count) xs) (types_follow xs)
-    (all_by_number (λ (y : ReadItem). not (is_type_seen y.seen.shown) || nat_lt x.count y.count) xs (λ j y at. by j y at (is_type_seen y.seen.shown) refl)) (types_behind xs (λ i j a y at_a at_y low. more (suc i) (suc j) a y at_a at_y (omega (arith, low))))
+    (all_by_number (λ (y : ReadItem). not (is_type_seen y.seen.shown) || nat_lt x.count y.count) xs (λ j y at. by j y at (is_type_seen y.seen.shown) refl))
+    (types_behind xs (λ i j a y at_a at_y low. more (suc i) (suc j) a y at_a at_y (omega (arith, low))))
   where
     by : (j : ℕ) (y : ReadItem) → slice_get xs j ≡ Some y → (b : Bool) → is_type_seen y.seen.shown ≡ b → (not b || nat_lt x.count y.count) ≡ true
     by j y at true e = lt-ltb x.count y.count (more zero (suc j) x y refl at (omega arith) e)
@@ -119,7 +126,8 @@ types_behind (x ∷ xs) more =
 
 -- what holds of the parts of a function's type holds of those of the type by which it is read
 module _ (t : Tables) (kept : List ℕ) (p : Plan) (P : ℕ → Type 0) where
-  params_back : (fs ss gs : List (Text × ℕ)) → AllZip (KeptParam kept) fs gs → AllZip (ParamBecomes t kept p) ss gs → AllByRecursion (λ (x : Text × ℕ). P x.1) fs → AllByRecursion (λ (x : Text × ℕ). P x.1) ss
+  params_back : (fs ss gs : List (Text × ℕ)) → AllZip (KeptParam kept) fs gs → AllZip (ParamBecomes t kept p) ss gs → AllByRecursion (λ (x : Text × ℕ). P x.1) fs
+      → AllByRecursion (λ (x : Text × ℕ). P x.1) ss
   params_back [] [] gs a b all = tt
   params_back [] (s ∷ ss) [] a b all = absurd b
   params_back [] (s ∷ ss) (g ∷ gs) a b all = absurd a
@@ -134,4 +142,7 @@ module _ (t : Tables) (kept : List ℕ) (p : Plan) (P : ℕ → Type 0) where
   result_back (Some f) (Some s) (Some g) a b all = subst P (one_old kept f s g a b.part) all
 
   pub parts_back : (f shape : FunctionShape) (id : Option Text) (g : PlannedFunction) → TakesAndGives kept f g → FunctionBecomes t kept p shape id g → PartsOf P f → PartsOf P shape
-  parts_back f shape id g takes becomes all = (params_back f.params shape.params g.params takes.params becomes.params all.0, result_back f.result shape.result g.result takes.result becomes.result all.1)
+  parts_back f shape id g takes becomes all = (
+    params_back f.params shape.params g.params takes.params becomes.params all.0,
+    result_back f.result shape.result g.result takes.result becomes.result all.1,
+  )

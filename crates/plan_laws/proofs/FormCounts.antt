@@ -46,7 +46,8 @@ module _ (t : Tables) where
   form_counts : (form : Form) (parts : List ℕ) (n : ℕ) → slice_get t.shapes n ≡ Some (node_shape form parts) → is_formed form (map (tree_at t) parts) ≡ true → HasCount form parts
   form_counts (Form.record_of names) parts n at h = same parts (length names) (second_true (is_filled names) (many parts == length names) h)
   form_counts (Form.variant_of cases) parts n at h =
-      ap (λ k. length parts == k) (sym (given_many cases)) ∙ same parts (count_true (map (λ (c : Text × Bool). c.1) cases)) (second_true (is_filled cases) (many parts == count_true (map (λ (c : Text × Bool). c.1) cases)) h)
+      ap (λ k. length parts == k) (sym (given_many cases)) ∙ same parts (count_true (map (λ (c : Text × Bool). c.1) cases))
+      (second_true (is_filled cases) (many parts == count_true (map (λ (c : Text × Bool). c.1) cases)) h)
   form_counts Form.list_of parts n at h = same parts 1 h
   form_counts (Form.fixed_list_of l) parts n at h = same parts 1 (second_true (nat_le 1 l) (many parts == 1) h)
   form_counts Form.option_of parts n at h = same parts 1 h
@@ -114,7 +115,8 @@ module _ (t : Tables) (h : Homes) (ms : List Member) (members : List reads.Membe
       by false high = ltb-false k 14 high
       by true low = no_true (sym (marks.primitives k (ltb-true k 14 low)) ∙ first_true (marks.marks k) (list_all marks.marks parts) h)
 
-  pub form_over : (kept : List ℕ) (n : ℕ) (s : Shape) → slice_get t.shapes n ≡ Some s → name_in s ≡ None → EachForm t HasCount (14 + n) → EachForm t (FormIsMarked marks.marks) (14 + n) → AllByRecursion (IsKeptPart kept) s.parts → IsFormOver kept s
+  pub form_over : (kept : List ℕ) (n : ℕ) (s : Shape) → slice_get t.shapes n ≡ Some s → name_in s ≡ None → EachForm t HasCount (14 + n) → EachForm t (FormIsMarked marks.marks) (14 + n)
+      → AllByRecursion (IsKeptPart kept) s.parts → IsFormOver kept s
   form_over kept n s at none counts marked parts = by (form_there n s none (input.tables.shapes.each n s at))
     where
       by : (form : Form) × (parts : List ℕ) × (s ≡ node_shape form parts) → IsFormOver kept s

@@ -52,10 +52,9 @@ use Rattle.base_lemmas.proofs.Elements.{all_at, contains-later, contains-map, co
 use Rattle.std.proofs.lemmas.Option.{same_Some as same-some}
 use Rattle.plan_package.proofs.ReadPackageLaws.{number_at as number_there}
 
--- what holds of the elements of each number
-
 -- what is told of types alone says what they become
-told_listed : (t : Tables) (kept : List ℕ) (p : Plan) (xs ys : List NumberedType) (es : List (Text × ℕ)) → map told xs ≡ map told ys → AllZip (TypeListed t kept p) xs es → AllZip (TypeListed t kept p) ys es
+told_listed : (t : Tables) (kept : List ℕ) (p : Plan) (xs ys : List NumberedType) (es : List (Text × ℕ)) → map told xs ≡ map told ys → AllZip (TypeListed t kept p) xs es
+    → AllZip (TypeListed t kept p) ys es
 told_listed t kept p [] [] es e zip = zip
 told_listed t kept p [] (y ∷ ys) es e zip = let wrong : ⊥ = cc in absurd wrong
 told_listed t kept p (x ∷ xs) [] es e zip = let wrong : ⊥ = cc in absurd wrong
@@ -65,7 +64,8 @@ told_listed t kept p (x ∷ xs) (y ∷ ys) (z ∷ zs) e zip =
     let rest : map told xs ≡ map told ys = cc in
     (subst (λ (a : Text × (Option ℕ × Option Text)). (z.0 ≡ a.0) × TypeBecomes t kept p a.1.0 a.1.1 z.1) one zip.0, told_listed t kept p xs ys zs rest zip.1)
 
-module _ (t : Tables) (h : Homes) (known : ℕ → Fact) (n : ℕ) (ms : List Member) (members : List reads.Member) (given : IsPackageInput t h known n ms members) (ordered : ViewsAreOrdered t ms) (p : Plan) (planned : PlansWhole t h.packages (home_at h) n ms p)
+module _ (t : Tables) (h : Homes) (known : ℕ → Fact) (n : ℕ) (ms : List Member) (members : List reads.Member) (given : IsPackageInput t h known n ms members) (ordered : ViewsAreOrdered t ms)
+    (p : Plan) (planned : PlansWhole t h.packages (home_at h) n ms p)
     (b : Beside) (owned : b.owners ≡ owners_of ms) where
   abbrev places : List ℕ
   places = places_in ms
@@ -81,7 +81,8 @@ module _ (t : Tables) (h : Homes) (known : ℕ → Fact) (n : ℕ) (ms : List Me
 
   -- ---- an interface, by any view of it
 
-  types_listed : (k q : ℕ) → slice_get places k ≡ Some q → (i : PlannedInterface) → interface_in p k ≡ Some i → (first : NumberedSight) → first_at q views ≡ Some first → AllZip (TypeListed t planned.kept p) first.view.types i.types
+  types_listed : (k q : ℕ) → slice_get places k ≡ Some q → (i : PlannedInterface) → interface_in p k ≡ Some i → (first : NumberedSight) → first_at q views ≡ Some first
+      → AllZip (TypeListed t planned.kept p) first.view.types i.types
   types_listed k q at i there first is_first =
       let viewed = planned_interfaces_are_viewed t h ms members given.input given.alone ruled.agree ordered n p planned b owned k i there in
       let place : viewed.read.place ≡ q = one_owner ms b owned viewed.read.place q (as_interface k) viewed.read.owned (ap (λ f. f q) owned ∙ owner_numbered ms q k (place_number ms k q at)) in
@@ -89,13 +90,15 @@ module _ (t : Tables) (h : Homes) (known : ℕ → Fact) (n : ℕ) (ms : List Me
       let types : viewed.read.view.types ≡ first.view.types = ap (λ (v : NumberedView). v.types) (sym view) ∙ ap (λ o. option_map_or (λ (s : NumberedSight). s.view.types) o []) is_first in
       subst (λ xs. AllZip (TypeListed t planned.kept p) xs i.types) types viewed.types
 
-  interface_by : (u : NumberedSight) → Contains views u → (k : ℕ) → number_in places u.place ≡ Some k → (i : PlannedInterface) → interface_in p k ≡ Some i → InterfaceBecomes t planned.kept p u.view (functions_seen u.place views) i
+  interface_by : (u : NumberedSight) → Contains views u → (k : ℕ) → number_in places u.place ≡ Some k → (i : PlannedInterface) → interface_in p k ≡ Some i
+      → InterfaceBecomes t planned.kept p u.view (functions_seen u.place views) i
   interface_by u c k number i there =
       let at = number_there places u.place k number in
       let first = first_there t h ms members given.input n p planned k u.place at in
       let is = first_is u.place views first.0 first.1 in
       record {
-        types = told_listed t planned.kept p first.0.view.types u.view.types i.types (views_told t h ms members given.input ruled.agree ordered first.0 u is.0 c is.1) (types_listed k u.place at i there first.0 first.1);
+        types = told_listed t planned.kept p first.0.view.types u.view.types i.types (views_told t h ms members given.input ruled.agree ordered first.0 u is.0 c is.1)
+            (types_listed k u.place at i there first.0 first.1);
         functions = functions_listed t h known n ms members given p planned b owned k u.place at i there;
       }
 
@@ -115,7 +118,8 @@ module _ (t : Tables) (h : Homes) (known : ℕ → Fact) (n : ℕ) (ms : List Me
 
   -- ---- the interfaces at the top
 
-  exported_listed : (xs : List Member) → ((m : Member) → Contains xs m → Contains ms m) → (es : List (Text × ℕ)) → AllZip (ListsPlace places) (interfaces_in xs) es → AllZip (InterfacesListed t planned.kept p sights) (interfaces_listed (numbered_members xs)) es
+  exported_listed : (xs : List Member) → ((m : Member) → Contains xs m → Contains ms m) → (es : List (Text × ℕ)) → AllZip (ListsPlace places) (interfaces_in xs) es
+      → AllZip (InterfacesListed t planned.kept p sights) (interfaces_listed (numbered_members xs)) es
   exported_listed [] among es zip = zip
   exported_listed (m ∷ xs) among es zip = by m.part refl es zip (exported_listed xs (λ y c. among y (contains-later m xs y c)))
     where
@@ -128,7 +132,9 @@ module _ (t : Tables) (h : Homes) (known : ℕ → Fact) (n : ℕ) (ms : List Me
           let s : NumberedSight = record { place = q; view = numbered_view v; whole = true } in
           let last : Contains (views_of_part (numbered_part (parts.Interface q v imports))) s = Contains-append_right (map types_alone (map numbered_import imports.now)) (s ∷ []) s (contains-one s) in
           let viewed : Contains views s = view_among ms m (among m (0, omega arith, refl)) s (subst (λ a. Contains (views_of_part (numbered_part a)) s) (sym is) last) in
-          let path : HasPath t q = (subst (λ a. IsPartIn t (numbered_part a)) is (all_at (λ (x : NumberedMember). IsPartIn t x.part) (numbered_members ms) given.input.numbers (numbered_member m) (contains-map numbered_member ms m (among m (0, omega arith, refl))))).0.0 in (
+          let path : HasPath t q = (subst (λ a. IsPartIn t (numbered_part a)) is
+          (all_at (λ (x : NumberedMember). IsPartIn t x.part) (numbered_members ms) given.input.numbers (numbered_member m)
+          (contains-map numbered_member ms m (among m (0, omega arith, refl))))).0.0 in (
             record {
               name = zip.0.0;
               there = subst (λ fs. InterfaceAt t planned.kept p (numbered_view v) fs e.1) (seen_same t q path (numbered_members ms)) (interface_at s viewed e.1 zip.0.1);
@@ -147,7 +153,8 @@ module _ (t : Tables) (h : Homes) (known : ℕ → Fact) (n : ℕ) (ms : List Me
     pub met : (q : ℕ) → Contains places q → wanted q ≡ true → HasPath t q → (s : NumberedSight) × Contains seen s × (s.place ≡ q)
     pub functions : (s : NumberedSight) → Contains seen s → functions_seen s.place sights ≡ functions_seen s.place seen
 
-  module _ (wanted : ℕ → Bool) (leaves : PlannedInterface → Bool) (told : (k q : ℕ) → slice_get places k ≡ Some q → HasPath t q → (i : PlannedInterface) → interface_in p k ≡ Some i → leaves i ≡ not (wanted q))
+  module _ (wanted : ℕ → Bool) (leaves : PlannedInterface → Bool) (told : (k q : ℕ) → slice_get places k ≡ Some q → HasPath t q → (i : PlannedInterface) → interface_in p k ≡ Some i
+      → leaves i ≡ not (wanted q))
       (seen : List NumberedSight) (show : ShowPlaces wanted seen) where
     abbrev pick : PlannedInterface → Option (Text × PlannedInterface)
     pick i = cond (leaves i) None (under_path p i)
@@ -207,7 +214,8 @@ module _ (t : Tables) (h : Homes) (known : ℕ → Fact) (n : ℕ) (ms : List Me
       let found = interface_there t h ms members given.input n p planned k q at in
       let first = first_there t h ms members given.input n p planned k q at in
       let package_is : i.package_ ≡ Some home.package_ =
-      ap (λ (x : PlannedInterface). x.package_) (same-some i found.0 (sym there ∙ found.1)) ∙ ((found.2 first.0 first.1).package_ ∙ ap (λ o. Some (option_map_or (λ (x : ℕ × Text). x.0) o n)) home.home) in
+      ap (λ (x : PlannedInterface). x.package_) (same-some i found.0 (sym there ∙ found.1))
+      ∙ ((found.2 first.0 first.1).package_ ∙ ap (λ o. Some (option_map_or (λ (x : ℕ × Text). x.0) o n)) home.home) in
       let main : is_id p.main i.package_ ≡ (home.package_ == n) = ap (is_id p.main) package_is ∙ ap (λ m. home.package_ == m) planned.main in
       let own : is_of_package h n q ≡ (home.package_ == n) = ap (λ o. option_map_or (λ (x : ℕ × Text). x.0 == n) o false) home.home in
       main ∙ (twice (home.package_ == n) ∙ ap (λ c. not (cond c false true)) (sym own))

@@ -59,13 +59,15 @@ use Rattle.plan_laws.proofs.WorldKeys.{keys_apart}
 use Rattle.base_lemmas.proofs.Elements.{all_at, contains-later, contains-map, get-contains, zip_at}
 use Rattle.base_lemmas.proofs.Lists.{mapped_get}
 
-zip_mapped : {A B C : Type 0} (P : A → B → Type 0) (Q : C → B → Type 0) (f : A → C) (xs : List A) → ((x : A) → Contains xs x → (y : B) → P x y → Q (f x) y) → (ys : List B) → AllZip P xs ys → AllZip Q (map f xs) ys
+zip_mapped : {A B C : Type 0} (P : A → B → Type 0) (Q : C → B → Type 0) (f : A → C) (xs : List A) → ((x : A) → Contains xs x → (y : B) → P x y → Q (f x) y) → (ys : List B) → AllZip P xs ys
+    → AllZip Q (map f xs) ys
 zip_mapped P Q f [] each [] zip = tt
 zip_mapped P Q f [] each (y ∷ ys) zip = absurd zip
 zip_mapped P Q f (x ∷ xs) each [] zip = absurd zip
 zip_mapped P Q f (x ∷ xs) each (y ∷ ys) zip = (each x (0, omega arith, refl) y zip.0, zip_mapped P Q f xs (λ z c. each z (contains-later x xs z c)) ys zip.1)
 
-module _ (t : Tables) (h : Homes) (known : ℕ → Fact) (n : ℕ) (ms : List Member) (members : List reads.Member) (given : IsPackageInput t h known n ms members) (ordered : ViewsAreOrdered t ms) (apart : WorldsAreApart ms) (under : WorldsAreFollowed t ms) (p : Plan) (planned : PlansWhole t h.packages (home_at h) n ms p)
+module _ (t : Tables) (h : Homes) (known : ℕ → Fact) (n : ℕ) (ms : List Member) (members : List reads.Member) (given : IsPackageInput t h known n ms members) (ordered : ViewsAreOrdered t ms)
+    (apart : WorldsAreApart ms) (under : WorldsAreFollowed t ms) (p : Plan) (planned : PlansWhole t h.packages (home_at h) n ms p)
     (whole : TypesAreWhole t planned.kept ms p) where
   abbrev b : Beside
   b = beside_tables known whole.marks.marks ms
@@ -87,15 +89,19 @@ module _ (t : Tables) (h : Homes) (known : ℕ → Fact) (n : ℕ) (ms : List Me
     seen_in s (inr among) = all_at (IsSeenIn t w.home) (map numbered_seen w.exports.now) of.good.exports (numbered_seen s) (contains-map numbered_seen w.exports.now s among)
 
     one_of : (s : Seen) → Contains w.imports.now s ⊎ Contains w.exports.now s → IsOneOf t (map numbered_instance w.instances.now) (numbered_shown s.shown)
-    one_of s (inl among) = all_at (λ (x : NumberedSeen). IsOneOf t (map numbered_instance w.instances.now) x.shown) (map numbered_seen w.imports.now) of.good.imported (numbered_seen s) (contains-map numbered_seen w.imports.now s among)
-    one_of s (inr among) = all_at (λ (x : NumberedSeen). IsOneOf t (map numbered_instance w.instances.now) x.shown) (map numbered_seen w.exports.now) of.good.exported (numbered_seen s) (contains-map numbered_seen w.exports.now s among)
+    one_of s (inl among) = all_at (λ (x : NumberedSeen). IsOneOf t (map numbered_instance w.instances.now) x.shown) (map numbered_seen w.imports.now) of.good.imported (numbered_seen s)
+        (contains-map numbered_seen w.imports.now s among)
+    one_of s (inr among) = all_at (λ (x : NumberedSeen). IsOneOf t (map numbered_instance w.instances.now) x.shown) (map numbered_seen w.exports.now) of.good.exported (numbered_seen s)
+        (contains-map numbered_seen w.exports.now s among)
 
     keys_there : WorldIsFollowed t (numbered_scope w)
     keys_there = all_at (λ (x : Text × Scope). WorldIsFollowed t (numbered_scope x.1)) (worlds_in ms) under (m.label.now, w) (world_among ms m c w is)
 
     key_there : (s : Seen) → Contains w.imports.now s ⊎ Contains w.exports.now s → IsUnderKey t s.key.now (numbered_shown s.shown)
-    key_there s (inl among) = all_at (λ (x : NumberedSeen). IsUnderKey t x.key x.shown) (map numbered_seen w.imports.now) keys_there.imports (numbered_seen s) (contains-map numbered_seen w.imports.now s among)
-    key_there s (inr among) = all_at (λ (x : NumberedSeen). IsUnderKey t x.key x.shown) (map numbered_seen w.exports.now) keys_there.exports (numbered_seen s) (contains-map numbered_seen w.exports.now s among)
+    key_there s (inl among) = all_at (λ (x : NumberedSeen). IsUnderKey t x.key x.shown) (map numbered_seen w.imports.now) keys_there.imports (numbered_seen s)
+        (contains-map numbered_seen w.imports.now s among)
+    key_there s (inr among) = all_at (λ (x : NumberedSeen). IsUnderKey t x.key x.shown) (map numbered_seen w.exports.now) keys_there.exports (numbered_seen s)
+        (contains-map numbered_seen w.exports.now s among)
 
     -- ---- instances
 
@@ -106,28 +112,35 @@ module _ (t : Tables) (h : Homes) (known : ℕ → Fact) (n : ℕ) (ms : List Me
     inline_functions : (q : ℕ) (v : View) → Contains views (view_at q v) → path_at t q ≡ None → functions_seen q views ≡ (numbered_view v).functions
     inline_functions q v viewed none =
         let first = first_whole q views (view_at q v) viewed refl refl in
-        let first_frame = subst (λ r. Contains (frames (numbered_members ms)) (r, a_view first.sight.view)) first.place (view_frame t h ms members given.input given.placed.apart first.sight first.among (ap (path_at t) first.place ∙ none)) in
+        let first_frame = subst (λ r. Contains (frames (numbered_members ms)) (r, a_view first.sight.view)) first.place
+        (view_frame t h ms members given.input given.placed.apart first.sight first.among (ap (path_at t) first.place ∙ none)) in
         let own_frame = view_frame t h ms members given.input given.placed.apart (view_at q v) viewed none in
         let one = one_owned t (numbered_members ms) given.placed.apart q none (a_view first.sight.view) (a_view (numbered_view v)) first_frame own_frame in
         first.functions ∙ ap (λ x. (view_owned (numbered_view v) x).functions) one
 
     instance_view : (q : ℕ) (v : View) → Contains (map numbered_instance w.instances.now) (record { place = q; view = numbered_view v }) → Contains views (view_at q v)
     instance_view q v among =
-        view_among ms m c (view_at q v) (subst (λ a. Contains (views_of_part (numbered_part a)) (view_at q v)) (sym is) (contains-map whole_view (map numbered_instance w.instances.now) (record { place = q; view = numbered_view v }) among))
+        view_among ms m c (view_at q v) (subst (λ a. Contains (views_of_part (numbered_part a)) (view_at q v)) (sym is)
+        (contains-map whole_view (map numbered_instance w.instances.now) (record { place = q; view = numbered_view v }) among))
 
-    instance_becomes : (s : Seen) → Contains w.imports.now s ⊎ Contains w.exports.now s → (key : InstanceKey) (v : View) → s.shown ≡ shown.Instance key v → (number : ℕ) → number_in (places_in ms) (place_of_key (numbered_key key)) ≡ Some number
+    instance_becomes : (s : Seen) → Contains w.imports.now s ⊎ Contains w.exports.now s → (key : InstanceKey) (v : View) → s.shown ≡ shown.Instance key v → (number : ℕ)
+        → number_in (places_in ms) (place_of_key (numbered_key key)) ≡ Some number
         → SeenBecomes t planned.kept p (numbered_seen s) (planned_key (numbered_key key) number, plan.interface number (given_text s.external_id))
     instance_becomes s side key v shows number found =
-        subst (λ (x : Shown). SeenBecomes t planned.kept p (record { key = s.key.now; shown = numbered_shown x; external_id = given_text s.external_id }) (planned_key (numbered_key key) number, plan.interface number (given_text s.external_id))) (sym shows)
-        (by key found (subst (λ (x : Shown). IsSeenIn t w.home (record { key = s.key.now; shown = numbered_shown x; external_id = given_text s.external_id })) shows (seen_in s side)).0 (subst (λ (x : Shown). IsUnderKey t s.key.now (numbered_shown x)) shows (key_there s side))
+        subst (λ (x : Shown). SeenBecomes t planned.kept p (record { key = s.key.now; shown = numbered_shown x; external_id = given_text s.external_id })
+        (planned_key (numbered_key key) number, plan.interface number (given_text s.external_id))) (sym shows)
+        (by key found (subst (λ (x : Shown). IsSeenIn t w.home (record { key = s.key.now; shown = numbered_shown x; external_id = given_text s.external_id })) shows (seen_in s side)).0
+        (subst (λ (x : Shown). IsUnderKey t s.key.now (numbered_shown x)) shows (key_there s side))
         (subst (λ (x : Shown). IsOneOf t (map numbered_instance w.instances.now) (numbered_shown x)) shows (one_of s side)))
       where
         path_there : (q : ℕ) → number_in (places_in ms) q ≡ Some number → HasPath t q → plan.path_at p number ≡ Some (path_text t q)
         path_there q at path = path_same t h known n ms members given ordered p planned b refl q number at ∙ (path.1 ∙ ap Some (sym (path_is t q path)))
 
-        by : (k : InstanceKey) → number_in (places_in ms) (place_of_key (numbered_key k)) ≡ Some number → KeyStands t (numbered_key k) → IsUnderKey t s.key.now (worlds.instance (numbered_key k) (numbered_view v))
+        by : (k : InstanceKey) → number_in (places_in ms) (place_of_key (numbered_key k)) ≡ Some number → KeyStands t (numbered_key k)
+            → IsUnderKey t s.key.now (worlds.instance (numbered_key k) (numbered_view v))
             → Contains (map numbered_instance w.instances.now) (record { place = place_of_key (numbered_key k); view = numbered_view v })
-            → SeenBecomes t planned.kept p (record { key = s.key.now; shown = worlds.instance (numbered_key k) (numbered_view v); external_id = given_text s.external_id }) (planned_key (numbered_key k) number, plan.interface number (given_text s.external_id))
+            → SeenBecomes t planned.kept p (record { key = s.key.now; shown = worlds.instance (numbered_key k) (numbered_view v); external_id = given_text s.external_id })
+            (planned_key (numbered_key k) number, plan.interface number (given_text s.external_id))
         by (keys.Path q) at stands text among = (ap (λ o. unwrap_or o []) (path_there q at stands) ∙ sym text, (refl, path_there q at stands))
         by (keys.Implementing l q) at stands text among = (sym text.0, (refl, path_there q at stands))
         by (keys.Label l q) at stands text among =
@@ -137,7 +150,8 @@ module _ (t : Tables) (h : Homes) (known : ℕ → Fact) (n : ℕ) (ms : List Me
                 refl,
                 (
                   path_same t h known n ms members given ordered p planned b refl q number at ∙ stands,
-                  subst (λ fs. InterfaceAt t planned.kept p (numbered_view v) fs number) (inline_functions q v viewed stands) (interface_at t h known n ms members given ordered p planned b refl (view_at q v) viewed number at),
+                  subst (λ fs. InterfaceAt t planned.kept p (numbered_view v) fs number) (inline_functions q v viewed stands)
+                      (interface_at t h known n ms members given ordered p planned b refl (view_at q v) viewed number at),
                 ),
               ),
             )
@@ -145,25 +159,32 @@ module _ (t : Tables) (h : Homes) (known : ℕ → Fact) (n : ℕ) (ms : List Me
     -- ---- items
 
     module _ (have : AreResources planned.kept (flat_map types_seen w.imports.now) find) (types : TypesAreRead t ms planned.kept p b w) where
-      item_becomes : (s : Seen) → Contains w.imports.now s ⊎ Contains w.exports.now s → (e : PlannedKey × PlannedItem) → PlansItem t planned.kept (places_in ms) find s e → SeenBecomes t planned.kept p (numbered_seen s) e
+      item_becomes : (s : Seen) → Contains w.imports.now s ⊎ Contains w.exports.now s → (e : PlannedKey × PlannedItem) → PlansItem t planned.kept (places_in ms) find s e
+          → SeenBecomes t planned.kept p (numbered_seen s) e
       item_becomes s side e (an_instance key v shows made) = subst (SeenBecomes t planned.kept p (numbered_seen s)) (sym made.is) (instance_becomes s side key v shows made.number made.found)
       item_becomes s side e (a_function f shows key made) =
           let becomes = seen_becomes t h ms members ruled n p planned whole known m c w is b refl find have s side f shows made.function made.planned in
           let same : e ≡ (plan.label s.key.now, plan.function made.function) = λ i. (key i, made.is i) in
           subst (SeenBecomes t planned.kept p (numbered_seen s)) (sym same)
-          (subst (λ (x : Shown). SeenBecomes t planned.kept p (record { key = s.key.now; shown = numbered_shown x; external_id = given_text s.external_id }) (plan.label s.key.now, plan.function made.function)) (sym shows) (refl, becomes))
+          (subst (λ (x : Shown). SeenBecomes t planned.kept p (record { key = s.key.now; shown = numbered_shown x; external_id = given_text s.external_id })
+          (plan.label s.key.now, plan.function made.function)) (sym shows) (refl, becomes))
       item_becomes s (inl among) e (a_type part d k shows entry is_part) =
           let read = types s among part d shows k is_part in
           subst (SeenBecomes t planned.kept p (numbered_seen s)) (sym entry)
-          (subst (λ (x : Shown). SeenBecomes t planned.kept p (record { key = s.key.now; shown = numbered_shown x; external_id = given_text s.external_id }) (plan.label s.key.now, plan.declares k)) (sym shows) (refl, read.3))
+          (subst (λ (x : Shown). SeenBecomes t planned.kept p (record { key = s.key.now; shown = numbered_shown x; external_id = given_text s.external_id }) (plan.label s.key.now, plan.declares k))
+          (sym shows) (refl, read.3))
       item_becomes s (inr among) e (a_type part d k shows entry is_part) =
-          let none = all_at (λ (z : Seen). scopes.is_type (shown_of t (numbered_shown z.shown)) ≡ false) w.exports.now (no_types t given.input.tables w of.scope of.shows of.good of.declares of.stands) s among in
+          let none = all_at (λ (z : Seen). scopes.is_type (shown_of t (numbered_shown z.shown)) ≡ false) w.exports.now
+          (no_types t given.input.tables w of.scope of.shows of.good of.declares of.stands) s among in
           no_true (sym none ∙ ap (λ z. scopes.is_type (shown_of t (numbered_shown z))) shows)
 
-      pub world_becomes : (x : PlannedWorld) → AllZip (PlansItem t planned.kept (places_in ms) find) w.imports.now x.imports → AllZip (PlansItem t planned.kept (places_in ms) find) w.exports.now x.exports → WorldBecomes t planned.kept p (numbered_scope w) x
+      pub world_becomes : (x : PlannedWorld) → AllZip (PlansItem t planned.kept (places_in ms) find) w.imports.now x.imports
+          → AllZip (PlansItem t planned.kept (places_in ms) find) w.exports.now x.exports → WorldBecomes t planned.kept p (numbered_scope w) x
       world_becomes x imports exports = record {
-        imports = zip_mapped (PlansItem t planned.kept (places_in ms) find) (SeenBecomes t planned.kept p) numbered_seen w.imports.now (λ s among e item. item_becomes s (inl among) e item) x.imports imports;
-        exports = zip_mapped (PlansItem t planned.kept (places_in ms) find) (SeenBecomes t planned.kept p) numbered_seen w.exports.now (λ s among e item. item_becomes s (inr among) e item) x.exports exports;
+        imports = zip_mapped (PlansItem t planned.kept (places_in ms) find) (SeenBecomes t planned.kept p) numbered_seen w.imports.now (λ s among e item. item_becomes s (inl among) e item)
+            x.imports imports;
+        exports = zip_mapped (PlansItem t planned.kept (places_in ms) find) (SeenBecomes t planned.kept p) numbered_seen w.exports.now (λ s among e item. item_becomes s (inr among) e item)
+            x.exports exports;
       }
 
   -- ---- all worlds
@@ -187,7 +208,8 @@ module _ (t : Tables) (h : Homes) (known : ℕ → Fact) (n : ℕ) (ms : List Me
   abbrev entry : Text × Scope → Text × NumberedScope
   entry w = (w.0, numbered_scope w.1)
 
-  labels_listed : (j : ℕ) (ws : List (Text × Scope)) → ((i : ℕ) (w : Text × Scope) → slice_get ws i ≡ Some w → WorldAt t planned.kept p (numbered_scope w.1) (j + i)) → AllZip (WorldsListed t planned.kept p) (map entry ws) (numbered_labels j ws)
+  labels_listed : (j : ℕ) (ws : List (Text × Scope)) → ((i : ℕ) (w : Text × Scope) → slice_get ws i ≡ Some w → WorldAt t planned.kept p (numbered_scope w.1) (j + i))
+      → AllZip (WorldsListed t planned.kept p) (map entry ws) (numbered_labels j ws)
   labels_listed j [] each = tt
   labels_listed j (w ∷ ws) each =
       let here : j + 0 ≡ j = omega arith in (

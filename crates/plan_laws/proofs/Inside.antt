@@ -58,7 +58,8 @@ within [] n is = let wrong : false ≡ true = is in absurd cc
 within (b ∷ marks) zero is = omega arith
 within (b ∷ marks) (suc n) is = let low = within marks n is in omega (arith, low)
 
-pub used_inside : (t : Tables) (parts : List ℕ) (marks : List Bool) (used : AreUsed t parts marks) (n : ℕ) → IsUsed (map (λ s. s.parts) t.shapes) used.roots n → (k : ℕ) × Contains parts k × IsIn t.shapes k n
+pub used_inside : (t : Tables) (parts : List ℕ) (marks : List Bool) (used : AreUsed t parts marks) (n : ℕ) → IsUsed (map (λ s. s.parts) t.shapes) used.roots n → (k : ℕ) × Contains parts k
+    × IsIn t.shapes k n
 used_inside t parts marks used n (marked m is) =
     let low : n < length t.shapes = (let root = within used.roots n is in let many = used.many in omega (arith, root, many)) in
     (14 + n, has-contains parts (14 + n) (sym (used.shown n low) ∙ is), itself (14 + n) n refl)

@@ -38,15 +38,18 @@ module _ (t : Tables) (tables : AreTables t) where
   key_place (worlds.implementing l r) stands q path at e = tables.paths r q path (stands.1 ∙ ap Some (sym (path_is t r stands)) ∙ e) at
 
   -- an import or an export that is an instance of the place
-  shown_place : (home : ℕ) (ss : List NumberedSeen) → AllByRecursion (IsSeenIn t home) ss → (i : NumberedInstance) → HasPath t i.place → Contains (instances_in (map (seen_of t) ss)) (instance_of t i) → (s : NumberedSeen) × Contains ss s × (place_shown s.shown ≡ Some i.place)
+  shown_place : (home : ℕ) (ss : List NumberedSeen) → AllByRecursion (IsSeenIn t home) ss → (i : NumberedInstance) → HasPath t i.place → Contains (instances_in (map (seen_of t) ss)) (instance_of t i)
+      → (s : NumberedSeen) × Contains ss s × (place_shown s.shown ≡ Some i.place)
   shown_place home ss seen i path c =
       let from = flat_cases (λ (s : follow.Seen). tree.instance_of s.shown) (map (seen_of t) ss) (instance_of t i) c in
       let s = from_map (seen_of t) ss from.0 from.1 in
       (s.0, s.1, by s.0.key s.0.external_id s.0.shown (all_at (IsSeenIn t home) ss seen s.0 s.1) (subst (λ (x : follow.Seen). Contains (tree.instance_of x.shown) (instance_of t i)) (sym s.2) from.2))
     where
-      by : (key : Text) (id : Option Text) (x : NumberedShown) → IsSeenIn t home (record { key = key; shown = x; external_id = id }) → Contains (tree.instance_of (shown_of t x)) (instance_of t i) → place_shown x ≡ Some i.place
+      by : (key : Text) (id : Option Text) (x : NumberedShown) → IsSeenIn t home (record { key = key; shown = x; external_id = id }) → Contains (tree.instance_of (shown_of t x)) (instance_of t i)
+          → place_shown x ≡ Some i.place
       by key id (worlds.instance k v) is there =
-          ap Some (key_place k is.0 i.place path.0 path.1 (ap (λ (y : Instance). y.interface) (one-contained (record { interface = interface_of (key_of t k); view = _ }) (instance_of t i) there) ∙ path.1))
+          ap Some (key_place k is.0 i.place path.0 path.1 (ap (λ (y : Instance). y.interface)
+          (one-contained (record { interface = interface_of (key_of t k); view = _ }) (instance_of t i) there) ∙ path.1))
       by key id (worlds.function n) is there = none-in (instance_of t i) there
       by key id (worlds.declares d) is there = none-in (instance_of t i) there
 
@@ -78,9 +81,11 @@ module _ (t : Tables) (h : Homes) (ms : List Member) (members : List reads.Membe
     where
       with_path : HasPath t i.place → Contains (going import_ is.stands.seen.seen) (instance_of t i) ⊎ Contains (going export_ is.stands.seen.seen) (instance_of t i) → IsSeen i
       with_path path (inl there) =
-          imported i (shown_place t input.tables w.home (map numbered_seen w.imports.now) is.good.imports i path (subst (λ xs. Contains xs (instance_of t i)) (is.stands.seen.imported ∙ ap instances_in is.shows.imports) there))
+          imported i (shown_place t input.tables w.home (map numbered_seen w.imports.now) is.good.imports i path
+          (subst (λ xs. Contains xs (instance_of t i)) (is.stands.seen.imported ∙ ap instances_in is.shows.imports) there))
       with_path path (inr there) =
-          exported i (shown_place t input.tables w.home (map numbered_seen w.exports.now) is.good.exports i path (subst (λ xs. Contains xs (instance_of t i)) (is.stands.seen.exported ∙ ap instances_in is.shows.exports) there))
+          exported i (shown_place t input.tables w.home (map numbered_seen w.exports.now) is.good.exports i path
+          (subst (λ xs. Contains xs (instance_of t i)) (is.stands.seen.exported ∙ ap instances_in is.shows.exports) there))
 
       without : Contains (inlines t (map numbered_seen w.imports.now)) i ⊎ Contains (inlines t (map numbered_seen w.exports.now)) i → IsSeen i
       without (inl there) = imported i (inline_place (map numbered_seen w.imports.now) i there)
@@ -88,6 +93,8 @@ module _ (t : Tables) (h : Homes) (ms : List Member) (members : List reads.Membe
 
       by : (o : Option Text) → path_at t i.place ≡ o → IsSeen i
       by (Some path) e =
-          with_path (path, e) (either_way is.stands.seen.seen (instance_of t i) (subst (λ xs. Contains xs (instance_of t i)) (sym (is.stands.seen.all ∙ is.shows.instances)) (contains-map (instance_of t) (numbered_scope w).instances i c)))
+          with_path (path, e) (either_way is.stands.seen.seen (instance_of t i)
+          (subst (λ xs. Contains xs (instance_of t i)) (sym (is.stands.seen.all ∙ is.shows.instances)) (contains-map (instance_of t) (numbered_scope w).instances i c)))
       by None e =
-          without (Contains-append_cases (inlines t (map numbered_seen w.imports.now)) (inlines t (map numbered_seen w.exports.now)) i (inline_seen t (numbered_scope w) is.good is.scope is.shows is.stands.seen is.once i c e))
+          without (Contains-append_cases (inlines t (map numbered_seen w.imports.now)) (inlines t (map numbered_seen w.exports.now)) i
+          (inline_seen t (numbered_scope w) is.good is.scope is.shows is.stands.seen is.once i c e))

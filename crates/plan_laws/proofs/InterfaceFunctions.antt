@@ -36,21 +36,26 @@ use Rattle.plan_laws.proofs.WholeFunctions.{kept_number, nothing_declared}
 use Rattle.base_lemmas.proofs.Elements.{all_at, contains-later, contains-map, get-contains, map_from as from_map}
 
 -- a name of a resource is that of a type which is declared as one
-resource_listed : (t : Tables) (xs : List NumberedType) (r : Text) → list_any (text_eq r) (rules.resources_of (map (shown_type t) xs)) ≡ true → (x : NumberedType) × Contains xs x × (x.declared ≡ None) × (r ≡ x.name)
+resource_listed : (t : Tables) (xs : List NumberedType) (r : Text) → list_any (text_eq r) (rules.resources_of (map (shown_type t) xs)) ≡ true → (x : NumberedType) × Contains xs x × (x.declared ≡ None)
+    × (r ≡ x.name)
 resource_listed t [] r any = let wrong : false ≡ true = any in absurd cc
 resource_listed t (x ∷ xs) r any = by x.declared refl any (λ more. let found = resource_listed t xs r more in (found.0, contains-later x xs found.0 found.1, found.2, found.3))
   where
     which : (b : Bool) → text_eq r x.name ≡ b → x.declared ≡ None → (b || list_any (text_eq r) (rules.resources_of (map (shown_type t) xs))) ≡ true
-        → (list_any (text_eq r) (rules.resources_of (map (shown_type t) xs)) ≡ true → (z : NumberedType) × Contains (x ∷ xs) z × (z.declared ≡ None) × (r ≡ z.name)) → (z : NumberedType) × Contains (x ∷ xs) z × (z.declared ≡ None) × (r ≡ z.name)
+        → (list_any (text_eq r) (rules.resources_of (map (shown_type t) xs)) ≡ true → (z : NumberedType) × Contains (x ∷ xs) z × (z.declared ≡ None) × (r ≡ z.name)) → (z : NumberedType)
+        × Contains (x ∷ xs) z × (z.declared ≡ None) × (r ≡ z.name)
     which true e none h later = (x, (zero, omega arith, refl), none, (bytes_eq-Decides r x.name).0 e)
     which false e none h later = later h
 
-    by : (d : Option ℕ) → x.declared ≡ d → list_any (text_eq r) (cond (rules.is_resource (declaration_of t d)) (x.name ∷ rules.resources_of (map (shown_type t) xs)) (rules.resources_of (map (shown_type t) xs))) ≡ true
-        → (list_any (text_eq r) (rules.resources_of (map (shown_type t) xs)) ≡ true → (z : NumberedType) × Contains (x ∷ xs) z × (z.declared ≡ None) × (r ≡ z.name)) → (z : NumberedType) × Contains (x ∷ xs) z × (z.declared ≡ None) × (r ≡ z.name)
+    by : (d : Option ℕ) → x.declared ≡ d
+        → list_any (text_eq r) (cond (rules.is_resource (declaration_of t d)) (x.name ∷ rules.resources_of (map (shown_type t) xs)) (rules.resources_of (map (shown_type t) xs))) ≡ true
+        → (list_any (text_eq r) (rules.resources_of (map (shown_type t) xs)) ≡ true → (z : NumberedType) × Contains (x ∷ xs) z × (z.declared ≡ None) × (r ≡ z.name)) → (z : NumberedType)
+        × Contains (x ∷ xs) z × (z.declared ≡ None) × (r ≡ z.name)
     by None e h later = which (text_eq r x.name) refl e h later
     by (Some k) e h later = later h
 
-module _ (t : Tables) (h : Homes) (ms : List Member) (members : List reads.Member) (ruled : IsRuledInput t h ms members) (main : ℕ) (p : Plan) (planned : PlansWhole t h.packages (home_at h) main ms p) (first : NumberedSight) (first_in : Contains (views_of_members (numbered_members ms)) first) (good : IsViewIn t first.place first.view)
+module _ (t : Tables) (h : Homes) (ms : List Member) (members : List reads.Member) (ruled : IsRuledInput t h ms members) (main : ℕ) (p : Plan) (planned : PlansWhole t h.packages (home_at h) main ms p)
+    (first : NumberedSight) (first_in : Contains (views_of_members (numbered_members ms)) first) (good : IsViewIn t first.place first.view)
     (names : distinct (map (λ (x : NumberedType). x.name) first.view.types) ≡ true) (find : Text → Option TypeId) (have : AreResources planned.kept first.view.types find) where
   view_resource : (r : Text) (id : TypeId) → find r ≡ Some id → IsResource t (told_of t first.place) planned.kept p (owners_of ms first.place) first.place r id.0
   view_resource r id found =
@@ -63,7 +68,8 @@ module _ (t : Tables) (h : Homes) (ms : List Member) (members : List reads.Membe
       shown_alike t h ms members ruled.input ruled.placed.apart ruled.agree first first_in names at.1 in_types is.number is.name.named y is_first.0 is_first.1 ∙ nothing_declared at.1.declared at.3)
 
   -- a resource of another view of the place is found
-  resource_found : (s : NumberedSight) → Contains (views_of_members (numbered_members ms)) s → s.place ≡ first.place → (r : Text) → list_any (text_eq r) (rules.resources_of (view_of t s.view).types) ≡ true → (id : TypeId) × (find r ≡ Some id)
+  resource_found : (s : NumberedSight) → Contains (views_of_members (numbered_members ms)) s → s.place ≡ first.place → (r : Text)
+      → list_any (text_eq r) (rules.resources_of (view_of t s.view).types) ≡ true → (id : TypeId) × (find r ≡ Some id)
   resource_found s s_in same r any =
       let listed = resource_listed t s.view.types r any in
       let tells = views_tell t h ms members ruled.input ruled.placed.apart ruled.agree s first s_in first_in same in
@@ -74,19 +80,24 @@ module _ (t : Tables) (h : Homes) (ms : List Member) (members : List reads.Membe
       (found.0, ap find (listed.3 ∙ sym (ap (λ (z : Text × Option ℕ). z.0) from.2)) ∙ found.1)
 
   -- a function of another view of the place
-  module _ (b : Beside) (s : NumberedSight) (s_in : Contains (views_of_members (numbered_members ms)) s) (same : s.place ≡ first.place) (s_good : IsViewIn t s.place s.view) (obeys : ViewObeys t s) (owned : b.owners first.place ≡ owners_of ms first.place)
+  module _ (b : Beside) (s : NumberedSight) (s_in : Contains (views_of_members (numbered_members ms)) s) (same : s.place ≡ first.place) (s_good : IsViewIn t s.place s.view) (obeys : ViewObeys t s)
+      (owned : b.owners first.place ≡ owners_of ms first.place)
       (f : Text × NumberedFunction) (f_in : Contains s.view.functions f) where
     met : PartsOf (IsMetFrom t first.place) (function_at t f.1.signature)
     met = (subst (λ q. IsCalledIn t q f.1.signature) same (all_at (λ (g : Text × NumberedFunction). IsCalledIn t s.place g.1.signature) s.view.functions s_good.functions f f_in)).parts
 
     rule : rules.is_function (place_at t first.place) (rules.resources_of (view_of t s.view).types) f.0 (signature_at t f.1.signature) ≡ true
-    rule = subst (λ q. rules.is_function (place_at t q) (rules.resources_of (view_of t s.view).types) f.0 (signature_at t f.1.signature) ≡ true) same (function_obeys t ruled.input.tables s s_good obeys f f_in)
+    rule = subst (λ q. rules.is_function (place_at t q) (rules.resources_of (view_of t s.view).types) f.0 (signature_at t f.1.signature) ≡ true) same
+        (function_obeys t ruled.input.tables s s_good obeys f f_in)
 
     resource_is : (r : Text) (id : TypeId) → find r ≡ Some id → IsResource t (told_of t first.place) planned.kept p (b.owners first.place) first.place r id.0
     resource_is r id found = subst (λ o. IsResource t (told_of t first.place) planned.kept p o first.place r id.0) (sym owned) (view_resource r id found)
 
-    pub view_function : PartsOf (λ k. b.marks k ≡ false) (function_at t f.1.signature) → (e : Text × PlannedFunction) → IsPlannedFunction t planned.kept find f e → IsReadFunction t planned.kept p b (b.owners first.place) e.1
-    view_function values e made = read_function t h ms members ruled.input main p planned b first.place find (rules.resources_of (view_of t s.view).types) (resource_found s s_in same) resource_is f e made met rule values
+    pub view_function : PartsOf (λ k. b.marks k ≡ false) (function_at t f.1.signature) → (e : Text × PlannedFunction) → IsPlannedFunction t planned.kept find f e
+        → IsReadFunction t planned.kept p b (b.owners first.place) e.1
+    view_function values e made = read_function t h ms members ruled.input main p planned b first.place find (rules.resources_of (view_of t s.view).types) (resource_found s s_in same) resource_is f e
+        made met rule values
 
     pub view_becomes : (e : Text × PlannedFunction) → IsPlannedFunction t planned.kept find f e → FunctionBecomes t planned.kept p (function_at t f.1.signature) f.1.external_id e.1
-    view_becomes e made = function_becomes t h ms members ruled.input main p planned b first.place find (rules.resources_of (view_of t s.view).types) (resource_found s s_in same) resource_is f e made met rule
+    view_becomes e made = function_becomes t h ms members ruled.input main p planned b first.place find (rules.resources_of (view_of t s.view).types) (resource_found s s_in same) resource_is f e
+        made met rule

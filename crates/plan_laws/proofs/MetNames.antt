@@ -57,12 +57,14 @@ module _ (t : Tables) (tables : AreTables t) (Met : Place → Text → Bool → 
   in_handle (k ∷ l ∷ ks) ranges stands j c found = absurd (two_stand (tree_at t k) (tree_at t l) (children (map (tree_at t) ks)) stands)
 
   -- a part among others
-  in_parts : (ks : List ℕ) → AllByRecursion (λ k. IsPart t k) ks → PartsStand Met false (children (map (tree_at t) ks)) → (j : ℕ) → Contains ks j → (IsPart t j → TreeStands Met (tree_at t j) → IsMet) → IsMet
+  in_parts : (ks : List ℕ) → AllByRecursion (λ k. IsPart t k) ks → PartsStand Met false (children (map (tree_at t) ks)) → (j : ℕ) → Contains ks j
+      → (IsPart t j → TreeStands Met (tree_at t j) → IsMet) → IsMet
   in_parts [] ranges stands j c later = none-in j c
   in_parts (k ∷ ks) ranges stands j (zero, low, e) later = later (subst (IsPart t) e ranges.0) (subst (λ y. TreeStands Met (tree_at t y)) e stands.0)
   in_parts (k ∷ ks) ranges stands j (suc i, low, e) later = in_parts ks ranges.1 stands.1 j (i, omega (arith, low), e) later
 
-  in_form : (b : Bool) (ks : List ℕ) → AllByRecursion (λ k. IsPart t k) ks → PartsStand Met b (children (map (tree_at t) ks)) → (j : ℕ) → Contains ks j → IsIn t.shapes j n → (IsPart t j → TreeStands Met (tree_at t j) → IsMet) → IsMet
+  in_form : (b : Bool) (ks : List ℕ) → AllByRecursion (λ k. IsPart t k) ks → PartsStand Met b (children (map (tree_at t) ks)) → (j : ℕ) → Contains ks j → IsIn t.shapes j n
+      → (IsPart t j → TreeStands Met (tree_at t j) → IsMet) → IsMet
   in_form true ks ranges stands j c found later = in_handle ks ranges stands j c found
   in_form false ks ranges stands j c found later = in_parts ks ranges stands j c later
 
@@ -83,7 +85,8 @@ module _ (t : Tables) (tables : AreTables t) (Met : Place → Text → Bool → 
       no_sort f (ap (λ (s : Shape). s.sort) (same-some (node_shape f ks) (named_shape q name) (sym there ∙ (ap (slice_get t.shapes) one ∙ at))))
 
   -- a part that is a form stands deeper
-  in_node : (k m j : ℕ) (s : Shape) → k ≡ 14 + m → slice_get t.shapes m ≡ Some s → Contains s.parts j → IsIn t.shapes j n → (IsPart t j → TreeStands Met (tree_at t j) → IsMet) → View k → TreeStands Met (tree_at t k) → IsMet
+  in_node : (k m j : ℕ) (s : Shape) → k ≡ 14 + m → slice_get t.shapes m ≡ Some s → Contains s.parts j → IsIn t.shapes j n → (IsPart t j → TreeStands Met (tree_at t j) → IsMet) → View k
+      → TreeStands Met (tree_at t k) → IsMet
   in_node k m j s is here c found later (is_primitive p low e number) stands = absurd (omega (arith, low, is))
   in_node k m j s is here c found later (is_name i r x at_k there e) stands = met_here k i r x false at_k there (inside k m j n s is here c found) (subst (TreeStands Met) e stands)
   in_node k m j s is here c found later (is_node i f ks at_k there e ranges) stands =

@@ -46,11 +46,13 @@ module _ {X : Type 0} (test : ℕ → Bool) where
           let there = contains-has (numbers fs) x.0 (number_among fs x later tested) in
           let wrong : false ≡ true = sym none ∙ (ap (has (numbers fs)) same ∙ there) in cc
 
-      by : (b : Bool) → test k.0 ≡ b → are_once (if b then k.0 ∷ numbers fs else numbers fs) ≡ true → (are_once (numbers fs) ≡ true → Contains fs f → Contains fs g → f ≡ g) → Contains (k ∷ fs) f → Contains (k ∷ fs) g → f ≡ g
+      by : (b : Bool) → test k.0 ≡ b → are_once (if b then k.0 ∷ numbers fs else numbers fs) ≡ true → (are_once (numbers fs) ≡ true → Contains fs f → Contains fs g → f ≡ g) → Contains (k ∷ fs) f
+          → Contains (k ∷ fs) g → f ≡ g
       by true t apart more (zero, i_low, i_same) (zero, j_low, j_same) = sym i_same ∙ j_same
       by true t apart more (zero, i_low, i_same) (suc j, j_low, j_same) = absurd (not_later g apart (j, omega (arith, j_low), j_same) (ap test (sym e) ∙ h) (ap (λ (x : ℕ × X). x.0) i_same ∙ e))
       by true t apart more (suc i, i_low, i_same) (zero, j_low, j_same) = absurd (not_later f apart (i, omega (arith, i_low), i_same) h (ap (λ (x : ℕ × X). x.0) j_same ∙ sym e))
-      by true t apart more (suc i, i_low, i_same) (suc j, j_low, j_same) = more (second_true (not (has (numbers fs) k.0)) (are_once (numbers fs)) apart) (i, omega (arith, i_low), i_same) (j, omega (arith, j_low), j_same)
+      by true t apart more (suc i, i_low, i_same) (suc j, j_low, j_same) =
+          more (second_true (not (has (numbers fs) k.0)) (are_once (numbers fs)) apart) (i, omega (arith, i_low), i_same) (j, omega (arith, j_low), j_same)
       by false t apart more (zero, i_low, i_same) d_in = let wrong : false ≡ true = sym t ∙ (ap (λ (x : ℕ × X). test x.0) i_same ∙ h) in absurd cc
       by false t apart more (suc i, i_low, i_same) (zero, j_low, j_same) = let wrong : false ≡ true = sym t ∙ (ap (λ (x : ℕ × X). test x.0) j_same ∙ (ap test (sym e) ∙ h)) in absurd cc
       by false t apart more (suc i, i_low, i_same) (suc j, j_low, j_same) = more apart (i, omega (arith, i_low), i_same) (j, omega (arith, j_low), j_same)
@@ -94,7 +96,8 @@ all_taken {A = A} (c ∷ cs) is apart among many x there = by (λ rest each as_m
     still less y d (inl same) = absurd (apart.0 (subst (Contains cs) same d))
     still less y d (inr rest) = rest
 
-    which : ((rest : List A) → ((y : A) → Contains cs y → Contains rest y) → length rest ≡ length cs → Contains rest x → Contains cs x) → (less : Without is c) → (x ≡ c) ⊎ Contains less.rest x → Contains (c ∷ cs) x
+    which : ((rest : List A) → ((y : A) → Contains cs y → Contains rest y) → length rest ≡ length cs → Contains rest x → Contains cs x) → (less : Without is c) → (x ≡ c) ⊎ Contains less.rest x
+        → Contains (c ∷ cs) x
     which more less (inl same) = (zero, omega arith, sym same)
     which more less (inr rest) = contains-later c cs x (more less.rest (λ y d. still less y d (less.cases y (among y (contains-later c cs y d)))) (let a = less.many in omega (arith, a, many)) rest)
 
@@ -147,7 +150,8 @@ all_places [] = refl
 all_places (m ∷ ms) = append_of_map place_of_frame (frames_of_part m.part) (frames ms) ∙ λ i. part_places m.part i ++ all_places ms i
 
 -- one thing stands in each place without a path
-pub one_owned : (t : Tables) (ms : List NumberedMember) → are_once (own_places t ms) ≡ true → (q : ℕ) → path_at t q ≡ None → (x y : Owned) → Contains (frames ms) (q, x) → Contains (frames ms) (q, y) → x ≡ y
+pub one_owned : (t : Tables) (ms : List NumberedMember) → are_once (own_places t ms) ≡ true → (q : ℕ) → path_at t q ≡ None → (x y : Owned) → Contains (frames ms) (q, x)
+    → Contains (frames ms) (q, y) → x ≡ y
 one_owned t ms apart q none x y c d =
     ap (λ (f : Frame). f.1) (one_there (has_no_path t) (frames ms) (ap (λ ps. are_once (filter (has_no_path t) ps)) (all_places ms) ∙ apart) (q, x) (q, y) c d refl (ap is_none none))
 
@@ -196,7 +200,8 @@ module _ (t : Tables) where
   seen_nones [] = refl
   seen_nones (s ∷ ss) = by s.shown (seen_nones ss)
     where
-      by : (x : NumberedShown) → nones (instances_in (map (seen_of t) ss)) ≡ length (inlines ss) → nones (shown_instances.instance_of (shown_of t x) ++ instances_in (map (seen_of t) ss)) ≡ length (inline_of x ++ inlines ss)
+      by : (x : NumberedShown) → nones (instances_in (map (seen_of t) ss)) ≡ length (inlines ss)
+          → nones (shown_instances.instance_of (shown_of t x) ++ instances_in (map (seen_of t) ss)) ≡ length (inline_of x ++ inlines ss)
       by (instance (path p) v) rest = rest
       by (instance (label l p) v) rest = ap suc rest
       by (instance (implementing l p) v) rest = rest
@@ -208,7 +213,8 @@ module _ (t : Tables) where
   kept_nones (i ∷ is) = by (no_path i) (kept_nones is)
     where
       by : (b : Bool) → nones (map (instance_of t) is) ≡ length (filter no_path is)
-          → length (if b then instance_of t i ∷ filter (λ (x : Instance). is_none x.interface) (map (instance_of t) is) else filter (λ (x : Instance). is_none x.interface) (map (instance_of t) is)) ≡ length (if b then i ∷ filter no_path is else filter no_path is)
+          → length (if b then instance_of t i ∷ filter (λ (x : Instance). is_none x.interface) (map (instance_of t) is) else filter (λ (x : Instance). is_none x.interface) (map (instance_of t) is))
+          ≡ length (if b then i ∷ filter no_path is else filter no_path is)
       by true rest = ap suc rest
       by false rest = rest
 
@@ -232,15 +238,17 @@ none_is n ns none = by (has ns n) refl
     by true e = absurd (none (has-contains ns n e))
     by false e = e
 
-once_first : (xs ys : List ℕ) → are_once (xs ++ ys) ≡ true → are_once xs ≡ true
+pub once_first : (xs ys : List ℕ) → are_once (xs ++ ys) ≡ true → are_once xs ≡ true
 once_first [] ys once = refl
 once_first (x ∷ xs) ys once =
     both (not (has xs x)) (are_once xs) (ap not (none_is x xs (λ c. not_among x (xs ++ ys) once (Contains-append_left xs ys x c)))) (once_first xs ys (once_behind x (xs ++ ys) once))
 
 pub once_inside : {A : Type 0} (test : ℕ → Bool) (f : A → List ℕ) (xs : List A) → are_once (filter test (flat_map f xs)) ≡ true → (x : A) → Contains xs x → are_once (filter test (f x)) ≡ true
 once_inside test f [] once x c = none-in x c
-once_inside test f (y ∷ xs) once x (zero, low, e) = subst (λ z. are_once (filter test (f z)) ≡ true) e (once_first (filter test (f y)) (filter test (flat_map f xs)) (ap are_once (sym (filter-append test (f y) (flat_map f xs))) ∙ once))
-once_inside test f (y ∷ xs) once x (suc i, low, e) = once_inside test f xs (once_last (filter test (f y)) (filter test (flat_map f xs)) (ap are_once (sym (filter-append test (f y) (flat_map f xs))) ∙ once)) x (i, omega (arith, low), e)
+once_inside test f (y ∷ xs) once x (zero, low, e) = subst (λ z. are_once (filter test (f z)) ≡ true) e
+    (once_first (filter test (f y)) (filter test (flat_map f xs)) (ap are_once (sym (filter-append test (f y) (flat_map f xs))) ∙ once))
+once_inside test f (y ∷ xs) once x (suc i, low, e) = once_inside test f xs
+    (once_last (filter test (f y)) (filter test (flat_map f xs)) (ap are_once (sym (filter-append test (f y) (flat_map f xs))) ∙ once)) x (i, omega (arith, low), e)
 
 different : {A : Type 0} (f : A → ℕ) (xs : List A) → are_once (map f xs) ≡ true → AreDifferent xs
 different f [] once = tt
@@ -255,27 +263,33 @@ module _ (t : Tables) (w : NumberedScope) (good : IsScopeIn t w) where
   inline_places [] all = refl
   inline_places (s ∷ ss) all = by s.key s.external_id s.shown all.0 (inline_places ss all.1)
     where
-      dropped : (p : ℕ) → HasPath t p → (is : List NumberedInstance) → map (λ (i : NumberedInstance). i.place) is ≡ filter (has_no_path t) (places_of_seen ss) → map (λ (i : NumberedInstance). i.place) is ≡ filter (has_no_path t) (p ∷ places_of_seen ss)
+      dropped : (p : ℕ) → HasPath t p → (is : List NumberedInstance) → map (λ (i : NumberedInstance). i.place) is ≡ filter (has_no_path t) (places_of_seen ss)
+          → map (λ (i : NumberedInstance). i.place) is ≡ filter (has_no_path t) (p ∷ places_of_seen ss)
       dropped p there is rest = rest ∙ ap (λ o. if is_none o then p ∷ filter (has_no_path t) (places_of_seen ss) else filter (has_no_path t) (places_of_seen ss)) (sym there.1)
 
-      by : (key : Text) (id : Option Text) (x : NumberedShown) → Keyed (record { key = key; shown = x; external_id = id }) → map (λ (i : NumberedInstance). i.place) (inlines t ss) ≡ filter (has_no_path t) (places_of_seen ss)
+      by : (key : Text) (id : Option Text) (x : NumberedShown) → Keyed (record { key = key; shown = x; external_id = id })
+          → map (λ (i : NumberedInstance). i.place) (inlines t ss) ≡ filter (has_no_path t) (places_of_seen ss)
           → map (λ (i : NumberedInstance). i.place) (inline_of t x ++ inlines t ss) ≡ filter (has_no_path t) (places_of_shown x ++ places_of_seen ss)
       by key id (instance (path p) v) seen rest = dropped p seen.0 (inlines t ss) rest
-      by key id (instance (label l p) v) seen rest = ap (λ ps. p ∷ ps) rest ∙ ap (λ o. if is_none o then p ∷ filter (has_no_path t) (places_of_seen ss) else filter (has_no_path t) (places_of_seen ss)) (sym seen.0)
+      by key id (instance (label l p) v) seen rest = ap (λ ps. p ∷ ps) rest ∙ ap (λ o. if is_none o then p ∷ filter (has_no_path t) (places_of_seen ss) else filter (has_no_path t) (places_of_seen ss))
+          (sym seen.0)
       by key id (instance (implementing l p) v) seen rest = dropped p seen.0 (inlines t ss) rest
       by key id (function n) seen rest = rest
       by key id (declares d) seen rest = rest
 
   -- each of them is an instance
-  inline_kept : (ss : List NumberedSeen) → AllByRecursion Keyed ss → AllByRecursion (λ (s : NumberedSeen). IsOneOf t w.instances s.shown) ss → (i : NumberedInstance) → Contains (inlines t ss) i → Contains (filter (no_path t) w.instances) i
+  inline_kept : (ss : List NumberedSeen) → AllByRecursion Keyed ss → AllByRecursion (λ (s : NumberedSeen). IsOneOf t w.instances s.shown) ss → (i : NumberedInstance) → Contains (inlines t ss) i
+      → Contains (filter (no_path t) w.instances) i
   inline_kept ss keyed one i c =
       let from = flat_cases (λ (s : NumberedSeen). inline_of t s.shown) ss i c in
       by from.0.key from.0.external_id from.0.shown (all_at Keyed ss keyed from.0 from.1) (all_at (λ (s : NumberedSeen). IsOneOf t w.instances s.shown) ss one from.0 from.1) from.2
     where
-      by : (key : Text) (id : Option Text) (x : NumberedShown) → Keyed (record { key = key; shown = x; external_id = id }) → IsOneOf t w.instances x → Contains (inline_of t x) i → Contains (filter (no_path t) w.instances) i
+      by : (key : Text) (id : Option Text) (x : NumberedShown) → Keyed (record { key = key; shown = x; external_id = id }) → IsOneOf t w.instances x → Contains (inline_of t x) i
+          → Contains (filter (no_path t) w.instances) i
       by key id (instance (path p) v) seen there among = none-in i among
       by key id (instance (label l p) v) seen there among =
-          subst (Contains (filter (no_path t) w.instances)) (one-contained (record { place = p; view = v }) i among) (in_filter (no_path t) w.instances (record { place = p; view = v }) there (ap is_none seen.0))
+          subst (Contains (filter (no_path t) w.instances)) (one-contained (record { place = p; view = v }) i among)
+          (in_filter (no_path t) w.instances (record { place = p; view = v }) there (ap is_none seen.0))
       by key id (instance (implementing l p) v) seen there among = none-in i among
       by key id (function n) seen there among = none-in i among
       by key id (declares d) seen there among = none-in i among
@@ -284,7 +298,8 @@ module _ (t : Tables) (w : NumberedScope) (good : IsScopeIn t w) where
   all_inline = inlines t w.imports ++ inlines t w.exports
 
   -- an instance without a path is an inline interface that is imported or exported
-  pub inline_seen : (scope : follow.Scope) → Shows t w scope → InstancesAreSeen scope → are_once (filter (has_no_path t) (places_of_part (world w))) ≡ true → (i : NumberedInstance) → Contains w.instances i → path_at t i.place ≡ None → Contains all_inline i
+  pub inline_seen : (scope : follow.Scope) → Shows t w scope → InstancesAreSeen scope → are_once (filter (has_no_path t) (places_of_part (world w))) ≡ true → (i : NumberedInstance)
+      → Contains w.instances i → path_at t i.place ≡ None → Contains all_inline i
   inline_seen scope shows seen apart i c none =
       all_taken all_inline (filter (no_path t) w.instances) (different (λ (x : NumberedInstance). x.place) all_inline once) kept many i (in_filter (no_path t) w.instances i c (ap is_none none))
     where
@@ -294,7 +309,8 @@ module _ (t : Tables) (w : NumberedScope) (good : IsScopeIn t w) where
           ∙ ((λ j. inline_places w.imports good.imports j ++ inline_places w.exports good.exports j) ∙ sym (filter-append (has_no_path t) (places_of_seen w.imports) (places_of_seen w.exports)))
 
       once : are_once (map (λ (x : NumberedInstance). x.place) all_inline) ≡ true
-      once = ap are_once places_are ∙ once_last (filter (has_no_path t) (w.home ∷ [])) (filter (has_no_path t) (places_of_seen w.imports ++ places_of_seen w.exports)) (ap are_once (sym (filter-append (has_no_path t) (w.home ∷ []) (places_of_seen w.imports ++ places_of_seen w.exports))) ∙ apart)
+      once = ap are_once places_are ∙ once_last (filter (has_no_path t) (w.home ∷ [])) (filter (has_no_path t) (places_of_seen w.imports ++ places_of_seen w.exports))
+          (ap are_once (sym (filter-append (has_no_path t) (w.home ∷ []) (places_of_seen w.imports ++ places_of_seen w.exports))) ∙ apart)
 
       kept : (x : NumberedInstance) → Contains all_inline x → Contains (filter (no_path t) w.instances) x
       kept x there = by (Contains-append_cases (inlines t w.imports) (inlines t w.exports) x there)

@@ -56,7 +56,8 @@ module _ (t : Tables) (h : Homes) (ms : List Member) (members : List reads.Membe
   interface_number : (m n : ℕ) → as_interface m ≡ as_interface n → m ≡ n
   interface_number m n e = same-some m n (ap owner_interface e)
 
-  owned_place : (a m : ℕ) (i : PlannedInterface) → interface_in p m ≡ Some i → (pa ha : Option ℕ) → number_in places a ≡ pa → option_map_or as_interface pa (option_map_or as_world ha (as_interface (length places + a))) ≡ as_interface m → Contains places a
+  owned_place : (a m : ℕ) (i : PlannedInterface) → interface_in p m ≡ Some i → (pa ha : Option ℕ) → number_in places a ≡ pa
+      → option_map_or as_interface pa (option_map_or as_world ha (as_interface (length places + a))) ≡ as_interface m → Contains places a
   owned_place a m i there (Some k) ha e is = get-contains places k a (number_there places a k e)
   owned_place a m i there None (Some k) e is = let wrong : as_world k ≡ as_interface m = is in absurd cc
   owned_place a m i there None None e is =
@@ -104,7 +105,8 @@ module _ (t : Tables) (h : Homes) (ms : List Member) (members : List reads.Membe
         met = subst (λ r. AllOf (IsMetFrom t r) y.declared) place is.is.met;
       }
 
-  pub planned_name : (j n : ℕ) (x : PlannedType) (q : ℕ) (name : Text) → slice_get p.types j ≡ Some x → slice_get planned.kept j ≡ Some n → slice_get t.shapes n ≡ Some (named_shape q name) → IsPlannedName n q name x
+  pub planned_name : (j n : ℕ) (x : PlannedType) (q : ℕ) (name : Text) → slice_get p.types j ≡ Some x → slice_get planned.kept j ≡ Some n → slice_get t.shapes n ≡ Some (named_shape q name)
+      → IsPlannedName n q name x
   planned_name j n x q name e stands at =
       let found = zip_get (PlansType t planned.kept (shown_first ms) (owner_in places homes)) planned.kept p.types planned.types j x e in
       by (subst (λ m. PlansType t planned.kept (shown_first ms) (owner_in places homes) m x) (same-some found.0 n (sym found.1 ∙ stands)) found.2)
@@ -122,7 +124,8 @@ module _ (t : Tables) (h : Homes) (ms : List Member) (members : List reads.Membe
             named = a ∙ ap (λ (z : ℕ × Text). Some z.1) same;
             owned = b ∙ ap (λ (z : ℕ × Text). owner_in places homes z.0) same;
             same_id = c;
-            kind = kinds_declared t input.tables planned.kept p (zip_length (PlansType t planned.kept (shown_first ms) (owner_in places homes)) planned.kept p.types planned.types) y.declared x.kind kind;
+            kind = kinds_declared t input.tables planned.kept p (zip_length (PlansType t planned.kept (shown_first ms) (owner_in places homes)) planned.kept p.types planned.types) y.declared
+                x.kind kind;
             is = showing_is n q name at y first;
           }
 

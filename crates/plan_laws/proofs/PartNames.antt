@@ -109,25 +109,31 @@ module _ (t : Tables) (tables : AreTables t) (h : Homes) (stand : HomesStand t h
 
   -- ---- some views
 
-  module _ (n q : ℕ) (name : Text) (at : slice_get t.shapes n ≡ Some (named_shape q name)) (views : List NumberedSight) (instances : List Instance) (trees : instances ≡ map (instance_tree t tables) views)
+  module _ (n q : ℕ) (name : Text) (at : slice_get t.shapes n ≡ Some (named_shape q name)) (views : List NumberedSight) (instances : List Instance)
+      (trees : instances ≡ map (instance_tree t tables) views)
       (all_good : AllByRecursion (λ (s : NumberedSight). IsViewIn t s.place s.view) views)
       (stands : (k : ℕ) (s : NumberedSight) → slice_get views k ≡ Some s → ViewStands (IsShownBefore instances k) (place_at t s.place) (view_of t s.view)) where
     -- what a view shows
-    pub view_showing : (s : NumberedSight) → Contains views s → (y : NumberedShowing) → Contains (showings_of_view s.view) y → (k : ℕ) → Contains (showing_parts t y) k → IsIn t.shapes k n → ShowsNumber t views q n
+    pub view_showing : (s : NumberedSight) → Contains views s → (y : NumberedShowing) → Contains (showings_of_view s.view) y → (k : ℕ) → Contains (showing_parts t y) k → IsIn t.shapes k n
+        → ShowsNumber t views q n
     view_showing s c y among k used found =
         let there = contains-get views s c in
         let from = from_map showing_of s.view.types y among in
-        part_shows t tables views all_good n q name at instances trees s there.0 there.1 (stands there.0 s there.1) from.0 from.1 k (subst (λ (z : NumberedShowing). Contains (showing_parts t z) k) (sym from.2) used) found
+        part_shows t tables views all_good n q name at instances trees s there.0 there.1 (stands there.0 s there.1) from.0 from.1 k
+        (subst (λ (z : NumberedShowing). Contains (showing_parts t z) k) (sym from.2) used) found
 
-    pub view_signature : (s : NumberedSight) → Contains views s → (f : ℕ) → Contains (signatures_of_view s.view) f → (k : ℕ) → Contains (function_parts t f) k → IsIn t.shapes k n → ShowsNumber t views q n
+    pub view_signature : (s : NumberedSight) → Contains views s → (f : ℕ) → Contains (signatures_of_view s.view) f → (k : ℕ) → Contains (function_parts t f) k → IsIn t.shapes k n
+        → ShowsNumber t views q n
     view_signature s c f among k used found =
         let there = contains-get views s c in
         let from = from_map (λ (g : Text × NumberedFunction). g.1.signature) s.view.functions f among in
-        function_shows t tables views all_good n q name at instances trees s there.0 there.1 (stands there.0 s there.1) from.0 from.1 k (subst (λ z. Contains (function_parts t z) k) (sym from.2) used) found
+        function_shows t tables views all_good n q name at instances trees s there.0 there.1 (stands there.0 s there.1) from.0 from.1 k
+        (subst (λ z. Contains (function_parts t z) k) (sym from.2) used) found
 
   -- ---- the component type of an interface
 
-  module _ (n q : ℕ) (name : Text) (at : slice_get t.shapes n ≡ Some (named_shape q name)) (views : List NumberedSight) (instances : List Instance) (trees : instances ≡ map (instance_tree t tables) views)
+  module _ (n q : ℕ) (name : Text) (at : slice_get t.shapes n ≡ Some (named_shape q name)) (views : List NumberedSight) (instances : List Instance)
+      (trees : instances ≡ map (instance_tree t tables) views)
       (all_good : AllByRecursion (λ (s : NumberedSight). IsViewIn t s.place s.view) views)
       (stands : (k : ℕ) (s : NumberedSight) → slice_get views k ≡ Some s → ViewStands (IsShownBefore instances k) (place_at t s.place) (view_of t s.view))
       (p : ℕ) (v : View) (imports : Bor (List ImportedView)) (within : (s : NumberedSight) → Contains (views_of_part (numbered_part (parts.Interface p v imports))) s → Contains views s) where
@@ -145,7 +151,8 @@ module _ (t : Tables) (tables : AreTables t) (h : Homes) (stand : HomesStand t h
             let from = flat_cases showings_of_import imports.now y imported in
             let sight = types_alone (numbered_import from.0) in
             view_showing n q name at views instances trees all_good stands sight
-            (within sight (Contains-append_left (map types_alone (map numbered_import imports.now)) (own_sight ∷ []) sight (contains-map types_alone (map numbered_import imports.now) (numbered_import from.0) (contains-map numbered_import imports.now from.0 from.1))))
+            (within sight (Contains-append_left (map types_alone (map numbered_import imports.now)) (own_sight ∷ []) sight
+            (contains-map types_alone (map numbered_import imports.now) (numbered_import from.0) (contains-map numbered_import imports.now from.0 from.1))))
             y from.2 k used found
         by (inr shown) = view_showing n q name at views instances trees all_good stands own_sight (within own_sight own_there) y shown k used found
 
@@ -154,10 +161,12 @@ module _ (t : Tables) (tables : AreTables t) (h : Homes) (stand : HomesStand t h
 
   -- ---- a world
 
-  module _ (n q : ℕ) (name : Text) (at : slice_get t.shapes n ≡ Some (named_shape q name)) (views : List NumberedSight) (instances : List Instance) (trees : instances ≡ map (instance_tree t tables) views)
+  module _ (n q : ℕ) (name : Text) (at : slice_get t.shapes n ≡ Some (named_shape q name)) (views : List NumberedSight) (instances : List Instance)
+      (trees : instances ≡ map (instance_tree t tables) views)
       (all_good : AllByRecursion (λ (s : NumberedSight). IsViewIn t s.place s.view) views)
       (stands : (k : ℕ) (s : NumberedSight) → slice_get views k ≡ Some s → ViewStands (IsShownBefore instances k) (place_at t s.place) (view_of t s.view))
-      (w : Scope) (within : (s : NumberedSight) → Contains (map whole_view (map numbered_instance w.instances.now)) s → Contains views s) (scope : follow.Scope) (shows : Shows t (numbered_scope w) scope)
+      (w : Scope) (within : (s : NumberedSight) → Contains (map whole_view (map numbered_instance w.instances.now)) s → Contains views s) (scope : follow.Scope)
+      (shows : Shows t (numbered_scope w) scope)
       (good : IsScopeIn t (numbered_scope w)) (declares : AllByRecursion (DeclaresName t w.home) w.imports.now) (scope_stands : ScopeStands scope) where
     -- a view shows the type, or the world imports it
     abbrev Goal : Type 0
@@ -179,13 +188,17 @@ module _ (t : Tables) (tables : AreTables t) (h : Homes) (stand : HomesStand t h
         let there = contains-get w.imports.now c among in (
           there.0,
           there.1,
-          subst (λ ss. slice_get ss there.0 ≡ Some (seen_of t (numbered_seen c))) (sym shows.imports) (mapped_get (seen_of t) (map numbered_seen w.imports.now) there.0 (numbered_seen c) (mapped_get numbered_seen w.imports.now there.0 c there.1)),
+          subst (λ ss. slice_get ss there.0 ≡ Some (seen_of t (numbered_seen c))) (sym shows.imports)
+              (mapped_get (seen_of t) (map numbered_seen w.imports.now) there.0 (numbered_seen c) (mapped_get numbered_seen w.imports.now there.0 c there.1)),
         )
 
     export_tree : (c : Seen) → Contains w.exports.now c → (i : ℕ) × (slice_get scope.exports i ≡ Some (seen_of t (numbered_seen c)))
     export_tree c among =
-        let there = contains-get w.exports.now c among in
-        (there.0, subst (λ ss. slice_get ss there.0 ≡ Some (seen_of t (numbered_seen c))) (sym shows.exports) (mapped_get (seen_of t) (map numbered_seen w.exports.now) there.0 (numbered_seen c) (mapped_get numbered_seen w.exports.now there.0 c there.1)))
+        let there = contains-get w.exports.now c among in (
+          there.0,
+          subst (λ ss. slice_get ss there.0 ≡ Some (seen_of t (numbered_seen c))) (sym shows.exports)
+              (mapped_get (seen_of t) (map numbered_seen w.exports.now) there.0 (numbered_seen c) (mapped_get numbered_seen w.exports.now there.0 c there.1)),
+        )
 
     import_good : (c : Seen) → Contains w.imports.now c → IsSeenIn t w.home (numbered_seen c)
     import_good c among = all_at (IsSeenIn t w.home) (map numbered_seen w.imports.now) good.imports (numbered_seen c) (contains-map numbered_seen w.imports.now c among)
@@ -253,7 +266,8 @@ module _ (t : Tables) (tables : AreTables t) (h : Homes) (stand : HomesStand t h
     no_path path here = let wrong : Place.of_interface path.0 ≡ Place.here = sym (ap place_of path.1) ∙ here in cc
 
     met_shows : (count : ℕ) (b : Bool) → (q ≡ w.home) ⊎ HasPath t q → IsMetInScope scope.instances scope.imports count (place_at t q) name b → Goal
-    met_shows count b own (scopes.by_instance before) = inl (within_all (outside_shows t tables own_views (views_are_good (world (numbered_scope w)) good) n q name at scope.instances own_trees (length scope.instances) b before))
+    met_shows count b own (scopes.by_instance before) = inl (within_all (outside_shows t tables own_views (views_are_good (world (numbered_scope w)) good) n q name at scope.instances own_trees
+        (length scope.instances) b before))
     met_shows count b (inl home) (scopes.by_import here declared) = let found = imported declared in import_shows found.0 found.1 found.2 home
     met_shows count b (inr path) (scopes.by_import here declared) = absurd (no_path path here)
 
@@ -266,12 +280,14 @@ module _ (t : Tables) (tables : AreTables t) (h : Homes) (stand : HomesStand t h
     instance_showing : (key : InstanceKey) (v : View) → IsOneOf t (map numbered_instance w.instances.now) (numbered_shown (shown.Instance key v))
         → (y : NumberedShowing) → Contains (showings_of_view (numbered_view v)) y → (k : ℕ) → Contains (showing_parts t y) k → IsIn t.shapes k n → Goal
     instance_showing key v c y among k used found =
-        let s : NumberedSight = record { place = place_of_key (numbered_key key); view = numbered_view v; whole = true } in inl (view_showing n q name at views instances trees all_good stands s (within s (instance_there key v c)) y among k used found)
+        let s : NumberedSight = record { place = place_of_key (numbered_key key); view = numbered_view v; whole = true } in
+        inl (view_showing n q name at views instances trees all_good stands s (within s (instance_there key v c)) y among k used found)
 
     instance_signature : (key : InstanceKey) (v : View) → IsOneOf t (map numbered_instance w.instances.now) (numbered_shown (shown.Instance key v))
         → (f : ℕ) → Contains (signatures_of_view (numbered_view v)) f → (k : ℕ) → Contains (function_parts t f) k → IsIn t.shapes k n → Goal
     instance_signature key v c f among k used found =
-        let s : NumberedSight = record { place = place_of_key (numbered_key key); view = numbered_view v; whole = true } in inl (view_signature n q name at views instances trees all_good stands s (within s (instance_there key v c)) f among k used found)
+        let s : NumberedSight = record { place = place_of_key (numbered_key key); view = numbered_view v; whole = true } in
+        inl (view_signature n q name at views instances trees all_good stands s (within s (instance_there key v c)) f among k used found)
 
     -- a type that is declared, of which a part is used
     declared_shows : (c : Seen) → Contains w.imports.now c → (part : ℕ) (d : Option ℕ) → c.shown ≡ shown.Declares part d → (k : ℕ) → Contains (part ∷ declared_parts t d) k → IsIn t.shapes k n → Goal
@@ -285,29 +301,38 @@ module _ (t : Tables) (tables : AreTables t) (h : Homes) (stand : HomesStand t h
         let met : IsMetFrom t w.home inner.0 = subst (AllOf (IsMetFrom t w.home)) inner.1 named.2.met in
         let tree = import_tree c among in
         let Met = IsMetInScope scope.instances scope.imports tree.0 in
-        let shown_stands = subst (λ x. scopes.ShownStands scope.instances scope.imports tree.0 (shown_of t (numbered_shown x))) (e ∙ ap (shown.Declares part) inner.1) (scope_stands.imports tree.0 (seen_of t (numbered_seen c)) tree.2) in
+        let shown_stands = subst (λ x. scopes.ShownStands scope.instances scope.imports tree.0 (shown_of t (numbered_shown x))) (e ∙ ap (shown.Declares part) inner.1)
+        (scope_stands.imports tree.0 (seen_of t (numbered_seen c)) tree.2) in
         let name_met = in_declared t tables Met n q name at inner.0 met.range inner.2 shown_stands.0 shown_stands.1 in
         met_shows tree.0 name_met.0 (met.names q (name_in t.shapes tables.shapes inner.0 n q name inner.2 at)) name_met.1
 
     -- a function, of which a part is used
-    called_shows : (f : ℕ) → IsCalledIn t w.home f → (count : ℕ) → SignatureStands (IsMetInScope scope.instances scope.imports count) (signature_at t f) → (k : ℕ) → Contains (function_parts t f) k → IsIn t.shapes k n → Goal
+    called_shows : (f : ℕ) → IsCalledIn t w.home f → (count : ℕ) → SignatureStands (IsMetInScope scope.instances scope.imports count) (signature_at t f) → (k : ℕ) → Contains (function_parts t f) k
+        → IsIn t.shapes k n → Goal
     called_shows f called count signature k used found =
         let met : IsMetFrom t w.home k = part_of_function (IsMetFrom t w.home) (function_at t f) called.parts k used in
         let ranges = parts_weaker (IsMetFrom t w.home) (IsPart t) (λ i m. m.range) (function_at t f) called.parts in
         let name_met = in_signature t tables (IsMetInScope scope.instances scope.imports count) n q name at (function_at t f) ranges signature k used found in
         met_shows count name_met.0 (met.names q (name_in t.shapes tables.shapes k n q name found at)) name_met.1
 
-    import_showing : (c : Seen) → Contains w.imports.now c → (x : Shown) → c.shown ≡ x → (id : Option Text) (y : NumberedShowing) → Contains (showings_of_shown x id) y → (k : ℕ) → Contains (showing_parts t y) k → IsIn t.shapes k n → Goal
+    import_showing : (c : Seen) → Contains w.imports.now c → (x : Shown) → c.shown ≡ x → (id : Option Text) (y : NumberedShowing) → Contains (showings_of_shown x id) y → (k : ℕ)
+        → Contains (showing_parts t y) k → IsIn t.shapes k n → Goal
     import_showing c among (shown.Instance key v) e id y showing k used found =
-        instance_showing key v (subst (λ x. IsOneOf t (map numbered_instance w.instances.now) (numbered_shown x)) e (all_at (λ (s : NumberedSeen). IsOneOf t (map numbered_instance w.instances.now) s.shown) (map numbered_seen w.imports.now) good.imported (numbered_seen c) (contains-map numbered_seen w.imports.now c among)))
+        instance_showing key v (subst (λ x. IsOneOf t (map numbered_instance w.instances.now) (numbered_shown x)) e
+        (all_at (λ (s : NumberedSeen). IsOneOf t (map numbered_instance w.instances.now) s.shown) (map numbered_seen w.imports.now) good.imported (numbered_seen c)
+        (contains-map numbered_seen w.imports.now c among)))
         y showing k used found
     import_showing c among (shown.Function f) e id y showing k used found = none-in y showing
     import_showing c among (shown.Declares part d) e id y showing k used found =
-        declared_shows c among part d e k (subst (λ (z : NumberedShowing). Contains (showing_parts t z) k) (sym (one-contained (record { part = part; declared = d; external_id = id }) y showing)) used) found
+        declared_shows c among part d e k (subst (λ (z : NumberedShowing). Contains (showing_parts t z) k)
+        (sym (one-contained (record { part = part; declared = d; external_id = id }) y showing)) used) found
 
-    export_showing : (c : Seen) → Contains w.exports.now c → (x : Shown) → c.shown ≡ x → (id : Option Text) (y : NumberedShowing) → Contains (showings_of_shown x id) y → (k : ℕ) → Contains (showing_parts t y) k → IsIn t.shapes k n → Goal
+    export_showing : (c : Seen) → Contains w.exports.now c → (x : Shown) → c.shown ≡ x → (id : Option Text) (y : NumberedShowing) → Contains (showings_of_shown x id) y → (k : ℕ)
+        → Contains (showing_parts t y) k → IsIn t.shapes k n → Goal
     export_showing c among (shown.Instance key v) e id y showing k used found =
-        instance_showing key v (subst (λ x. IsOneOf t (map numbered_instance w.instances.now) (numbered_shown x)) e (all_at (λ (s : NumberedSeen). IsOneOf t (map numbered_instance w.instances.now) s.shown) (map numbered_seen w.exports.now) good.exported (numbered_seen c) (contains-map numbered_seen w.exports.now c among)))
+        instance_showing key v (subst (λ x. IsOneOf t (map numbered_instance w.instances.now) (numbered_shown x)) e
+        (all_at (λ (s : NumberedSeen). IsOneOf t (map numbered_instance w.instances.now) s.shown) (map numbered_seen w.exports.now) good.exported (numbered_seen c)
+        (contains-map numbered_seen w.exports.now c among)))
         y showing k used found
     export_showing c among (shown.Function f) e id y showing k used found = none-in y showing
     export_showing c among (shown.Declares part d) e id y showing k used found =
@@ -315,9 +340,12 @@ module _ (t : Tables) (tables : AreTables t) (h : Homes) (stand : HomesStand t h
         let wrong : true ≡ false = subst (λ x. scopes.is_type (shown_of t (numbered_shown x)) ≡ false) e (scope_stands.no_types tree.0 (seen_of t (numbered_seen c)) tree.1) in
         absurd cc
 
-    import_signature : (c : Seen) → Contains w.imports.now c → (x : Shown) → c.shown ≡ x → (f : ℕ) → Contains (signatures_of_shown x) f → (k : ℕ) → Contains (function_parts t f) k → IsIn t.shapes k n → Goal
+    import_signature : (c : Seen) → Contains w.imports.now c → (x : Shown) → c.shown ≡ x → (f : ℕ) → Contains (signatures_of_shown x) f → (k : ℕ) → Contains (function_parts t f) k
+        → IsIn t.shapes k n → Goal
     import_signature c among (shown.Instance key v) e f signature k used found =
-        instance_signature key v (subst (λ x. IsOneOf t (map numbered_instance w.instances.now) (numbered_shown x)) e (all_at (λ (s : NumberedSeen). IsOneOf t (map numbered_instance w.instances.now) s.shown) (map numbered_seen w.imports.now) good.imported (numbered_seen c) (contains-map numbered_seen w.imports.now c among)))
+        instance_signature key v (subst (λ x. IsOneOf t (map numbered_instance w.instances.now) (numbered_shown x)) e
+        (all_at (λ (s : NumberedSeen). IsOneOf t (map numbered_instance w.instances.now) s.shown) (map numbered_seen w.imports.now) good.imported (numbered_seen c)
+        (contains-map numbered_seen w.imports.now c among)))
         f signature k used found
     import_signature c among (shown.Function g) e f signature k used found =
         let tree = import_tree c among in
@@ -326,14 +354,18 @@ module _ (t : Tables) (tables : AreTables t) (h : Homes) (stand : HomesStand t h
         called_shows g called tree.0 stand k (subst (λ z. Contains (function_parts t z) k) (sym (one-contained g f signature)) used) found
     import_signature c among (shown.Declares part d) e f signature k used found = none-in f signature
 
-    export_signature : (c : Seen) → Contains w.exports.now c → (x : Shown) → c.shown ≡ x → (f : ℕ) → Contains (signatures_of_shown x) f → (k : ℕ) → Contains (function_parts t f) k → IsIn t.shapes k n → Goal
+    export_signature : (c : Seen) → Contains w.exports.now c → (x : Shown) → c.shown ≡ x → (f : ℕ) → Contains (signatures_of_shown x) f → (k : ℕ) → Contains (function_parts t f) k
+        → IsIn t.shapes k n → Goal
     export_signature c among (shown.Instance key v) e f signature k used found =
-        instance_signature key v (subst (λ x. IsOneOf t (map numbered_instance w.instances.now) (numbered_shown x)) e (all_at (λ (s : NumberedSeen). IsOneOf t (map numbered_instance w.instances.now) s.shown) (map numbered_seen w.exports.now) good.exported (numbered_seen c) (contains-map numbered_seen w.exports.now c among)))
+        instance_signature key v (subst (λ x. IsOneOf t (map numbered_instance w.instances.now) (numbered_shown x)) e
+        (all_at (λ (s : NumberedSeen). IsOneOf t (map numbered_instance w.instances.now) s.shown) (map numbered_seen w.exports.now) good.exported (numbered_seen c)
+        (contains-map numbered_seen w.exports.now c among)))
         f signature k used found
     export_signature c among (shown.Function g) e f signature k used found =
         let tree = export_tree c among in
         let called = subst (λ x. IsSeenIn t w.home (record { key = c.key.now; shown = numbered_shown x; external_id = given_text c.external_id })) e (export_good c among) in
-        let stand = subst (λ x. scopes.ShownStands scope.instances scope.imports (length scope.imports) (shown_of t (numbered_shown x))) e (scope_stands.exports tree.0 (seen_of t (numbered_seen c)) tree.1) in
+        let stand = subst (λ x. scopes.ShownStands scope.instances scope.imports (length scope.imports) (shown_of t (numbered_shown x))) e
+        (scope_stands.exports tree.0 (seen_of t (numbered_seen c)) tree.1) in
         called_shows g called (length scope.imports) stand k (subst (λ z. Contains (function_parts t z) k) (sym (one-contained g f signature)) used) found
     export_signature c among (shown.Declares part d) e f signature k used found = none-in f signature
 

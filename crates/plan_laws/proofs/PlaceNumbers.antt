@@ -168,7 +168,8 @@ module _ (places homes : List ℕ) where
 
   -- the owner of a place that is met
   pub owner_met : (q : ℕ) → Contains places q ⊎ Contains homes q → owner_in places homes q ≡ owner_of places homes q
-  owner_met q (inl among) = let given = number_given places q among in ap (λ o. option_map_or as_interface o (option_map_or as_world (number_in homes q) owner.None)) given.1 ∙ sym (ap (λ o. owner_by o (number_in homes q) q) given.1)
+  owner_met q (inl among) = let given = number_given places q among in ap (λ o. option_map_or as_interface o (option_map_or as_world (number_in homes q) owner.None)) given.1 ∙ sym
+      (ap (λ o. owner_by o (number_in homes q) q) given.1)
   owner_met q (inr among) =
       let given = number_given homes q among in
       ap (λ o. option_map_or as_interface (number_in places q) (option_map_or as_world o owner.None)) given.1 ∙ sym (ap (λ o. owner_by (number_in places q) o q) given.1)

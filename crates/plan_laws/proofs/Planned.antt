@@ -98,13 +98,15 @@ home_alone t h ms members input q c = by (from_joined [] (flat_map (λ (x : Numb
 module _ (t : Tables) (h : Homes) (ms : List Member) (members : List reads.Member) (input : IsInput t h ms members) (main : ℕ) (p : Plan) (planned : PlansWhole t h.packages (home_at h) main ms p) where
   -- where a name of the plan is shown
   pub name_shown : (j n q : ℕ) (name : Text) → slice_get planned.kept j ≡ Some n → slice_get t.shapes n ≡ Some (named_shape q name) → (m : Member) × Contains ms m × IsShownByPart t m.part q n
-  name_shown j n q name stands at = names_are_shown t h ms members input planned.kept_for.marks planned.kept_for.used n q name (mark_there planned.kept_for.marks n (planned.kept_for.marked.among j n stands)) at
+  name_shown j n q name stands at = names_are_shown t h ms members input planned.kept_for.marks planned.kept_for.used n q name
+      (mark_there planned.kept_for.marks n (planned.kept_for.marked.among j n stands)) at
 
   pub name_met : (j n q : ℕ) (name : Text) → slice_get planned.kept j ≡ Some n → slice_get t.shapes n ≡ Some (named_shape q name) → Contains (places_in ms) q ⊎ Contains (homes_in ms) q
   name_met j n q name stands at = let shown = name_shown j n q name stands at in shown_met ms t shown.0 shown.1 q n shown.2
 
   -- the interface of a place, and the first view of it
-  pub interface_there : (m q : ℕ) → slice_get (places_in ms) m ≡ Some q → (i : PlannedInterface) × (interface_in p m ≡ Some i) × PlansPlace t planned.kept main (home_at h) (views_of_members (numbered_members ms)) q i
+  pub interface_there : (m q : ℕ) → slice_get (places_in ms) m ≡ Some q → (i : PlannedInterface) × (interface_in p m ≡ Some i)
+      × PlansPlace t planned.kept main (home_at h) (views_of_members (numbered_members ms)) q i
   interface_there m q e = zip_at (PlansPlace t planned.kept main (home_at h) (views_of_members (numbered_members ms))) (places_in ms) p.interfaces planned.interfaces m q e
 
   pub first_there : (m q : ℕ) → slice_get (places_in ms) m ≡ Some q → (s : NumberedSight) × (first_at q (views_of_members (numbered_members ms)) ≡ Some s)

@@ -78,12 +78,14 @@ function_of q (s ∷ seen) f c = by (s.place == q) refl s.whole refl c (λ later
     further : IsFunctionOf q seen f → IsFunctionOf q (s ∷ seen) f
     further is = record { sight = is.sight; among = contains-later s seen is.sight is.among; place = is.place; whole = is.whole; there = is.there }
 
-    by : (a : Bool) → (s.place == q) ≡ a → (b : Bool) → s.whole ≡ b → Contains (cond (a && b) s.view.functions (functions_seen q seen)) f → (Contains (functions_seen q seen) f → IsFunctionOf q seen f) → IsFunctionOf q (s ∷ seen) f
+    by : (a : Bool) → (s.place == q) ≡ a → (b : Bool) → s.whole ≡ b → Contains (cond (a && b) s.view.functions (functions_seen q seen)) f → (Contains (functions_seen q seen) f → IsFunctionOf q seen f)
+        → IsFunctionOf q (s ∷ seen) f
     by true same true whole here later = record { sight = s; among = get-contains (s ∷ seen) 0 s refl; place = eqb-true s.place q same; whole = whole; there = here }
     by true same false whole more later = further (later more)
     by false other b whole more later = further (later more)
 
-module _ (t : Tables) (h : Homes) (ms : List Member) (members : List reads.Member) (ruled : IsRuledInput t h ms members) (alike : AreShownAlike ms) (ordered : ViewsAreOrdered t ms) (worlds_apart : WorldsAreApart ms)
+module _ (t : Tables) (h : Homes) (ms : List Member) (members : List reads.Member) (ruled : IsRuledInput t h ms members) (alike : AreShownAlike ms) (ordered : ViewsAreOrdered t ms)
+    (worlds_apart : WorldsAreApart ms)
     (main : ℕ) (p : Plan) (planned : PlansWhole t h.packages (home_at h) main ms p) (whole : TypesAreWhole t planned.kept ms p) (known : ℕ → Fact) where
   abbrev numbered : List NumberedMember
   numbered = numbered_members ms
@@ -102,7 +104,8 @@ module _ (t : Tables) (h : Homes) (ms : List Member) (members : List reads.Membe
   called : (m : Member) → Contains ms m → (f : ℕ) → Contains (signatures_of_part m.part) f → AreValues f
   called m c f among = all_at AreValues (signatures_of_members ms) whole.marks.values f (contains-flat (λ (x : Member). signatures_of_part x.part) ms m f c among)
 
-  by_world : (m : Member) → Contains ms m → (w : Scope) → m.part ≡ parts.World w → (s : NumberedSight) → Contains views s → s.whole ≡ true → Contains (map whole_view (map numbered_instance w.instances.now)) s → (f : Text × NumberedFunction) → Contains s.view.functions f
+  by_world : (m : Member) → Contains ms m → (w : Scope) → m.part ≡ parts.World w → (s : NumberedSight) → Contains views s → s.whole ≡ true
+      → Contains (map whole_view (map numbered_instance w.instances.now)) s → (f : Text × NumberedFunction) → Contains s.view.functions f
       → AreValues f.1.signature
   by_world m c w is s s_in is_whole viewed f there =
       let from = from_map whole_view (map numbered_instance w.instances.now) s viewed in
@@ -113,23 +116,30 @@ module _ (t : Tables) (h : Homes) (ms : List Member) (members : List reads.Membe
       world = world_of t h ms members ruled.input ruled.placed.apart m c w is
 
       one_of : (x : Seen) → Contains w.imports.now x ⊎ Contains w.exports.now x → IsOneOf t (numbered_scope w).instances (numbered_shown x.shown)
-      one_of x (inl among) = all_at (λ (y : NumberedSeen). IsOneOf t (numbered_scope w).instances y.shown) (map numbered_seen w.imports.now) world.good.imported (numbered_seen x) (contains-map numbered_seen w.imports.now x among)
-      one_of x (inr among) = all_at (λ (y : NumberedSeen). IsOneOf t (numbered_scope w).instances y.shown) (map numbered_seen w.exports.now) world.good.exported (numbered_seen x) (contains-map numbered_seen w.exports.now x among)
+      one_of x (inl among) = all_at (λ (y : NumberedSeen). IsOneOf t (numbered_scope w).instances y.shown) (map numbered_seen w.imports.now) world.good.imported (numbered_seen x)
+          (contains-map numbered_seen w.imports.now x among)
+      one_of x (inr among) = all_at (λ (y : NumberedSeen). IsOneOf t (numbered_scope w).instances y.shown) (map numbered_seen w.exports.now) world.good.exported (numbered_seen x)
+          (contains-map numbered_seen w.exports.now x among)
 
       signed : (x : Seen) → Contains w.imports.now x ⊎ Contains w.exports.now x → (k : ℕ) → Contains (signatures_of_seen x) k → Contains (signatures_of_part (parts.World w)) k
-      signed x (inl among) k calls = Contains-append_left (flat_map signatures_of_seen w.imports.now) (flat_map signatures_of_seen w.exports.now) k (contains-flat signatures_of_seen w.imports.now x k among calls)
-      signed x (inr among) k calls = Contains-append_right (flat_map signatures_of_seen w.imports.now) (flat_map signatures_of_seen w.exports.now) k (contains-flat signatures_of_seen w.exports.now x k among calls)
+      signed x (inl among) k calls = Contains-append_left (flat_map signatures_of_seen w.imports.now) (flat_map signatures_of_seen w.exports.now) k
+          (contains-flat signatures_of_seen w.imports.now x k among calls)
+      signed x (inr among) k calls = Contains-append_right (flat_map signatures_of_seen w.imports.now) (flat_map signatures_of_seen w.exports.now) k
+          (contains-flat signatures_of_seen w.exports.now x k among calls)
 
-      with_instance : (x : Seen) → Contains w.imports.now x ⊎ Contains w.exports.now x → (key : InstanceKey) (v : View) → x.shown ≡ shown.Instance key v → place_of_key (numbered_key key) ≡ s.place → AreValues f.1.signature
+      with_instance : (x : Seen) → Contains w.imports.now x ⊎ Contains w.exports.now x → (key : InstanceKey) (v : View) → x.shown ≡ shown.Instance key v → place_of_key (numbered_key key) ≡ s.place
+          → AreValues f.1.signature
       with_instance x side key v shows same =
           let view = numbered_view v in
           let sight : NumberedSight = record { place = place_of_key (numbered_key key); view = view; whole = true } in
           let instance = subst (λ y. IsOneOf t (numbered_scope w).instances (numbered_shown y)) shows (one_of x side) in
           let in_part : Contains (views_of_part (numbered_part m.part)) sight =
-          subst (λ a. Contains (views_of_part (numbered_part a)) sight) (sym is) (contains-map whole_view (numbered_scope w).instances (record { place = place_of_key (numbered_key key); view = view }) instance) in
+          subst (λ a. Contains (views_of_part (numbered_part a)) sight) (sym is)
+          (contains-map whole_view (numbered_scope w).instances (record { place = place_of_key (numbered_key key); view = view }) instance) in
           let sight_in : Contains views sight = contains-flat (λ (y : NumberedMember). views_of_part y.part) numbered (numbered_member m) sight (contains-map numbered_member ms m c) in_part in
           let g = alike.functions s sight s_in sight_in (sym same) is_whole refl f there in
-          let calls : Contains (signatures_of_seen x) g.0.1.signature = subst (λ y. Contains (signatures_of_shown y) g.0.1.signature) (sym shows) (contains-map (λ (y : Text × NumberedFunction). y.1.signature) view.functions g.0 g.1) in
+          let calls : Contains (signatures_of_seen x) g.0.1.signature = subst (λ y. Contains (signatures_of_shown y) g.0.1.signature) (sym shows)
+          (contains-map (λ (y : Text × NumberedFunction). y.1.signature) view.functions g.0 g.1) in
           subst AreValues g.2 (called m c g.0.1.signature (subst (λ a. Contains (signatures_of_part a) g.0.1.signature) (sym is) (signed x side g.0.1.signature calls)))
 
       by : (x : Seen) → Contains w.imports.now x ⊎ Contains w.exports.now x → (y : Shown) → x.shown ≡ y → place_shown (numbered_shown y) ≡ Some s.place → AreValues f.1.signature
@@ -146,7 +156,8 @@ module _ (t : Tables) (h : Homes) (ms : List Member) (members : List reads.Membe
     where
       by : (m : Member) → Contains ms m → (a : Part) → m.part ≡ a → Contains (views_of_part (numbered_part a)) s → AreValues f.1.signature
       by m among (parts.World w) is viewed = by_world m among w is s c is_whole viewed f there
-      by m among (parts.Interface q v imports) is viewed = which (Contains-append_cases (map types_alone (map numbered_import imports.now)) (record { place = q; view = numbered_view v; whole = true } ∷ []) s viewed)
+      by m among (parts.Interface q v imports) is viewed = which (Contains-append_cases (map types_alone (map numbered_import imports.now))
+          (record { place = q; view = numbered_view v; whole = true } ∷ []) s viewed)
         where
           which : Contains (map types_alone (map numbered_import imports.now)) s ⊎ Contains (record { place = q; view = numbered_view v; whole = true } ∷ []) s → AreValues f.1.signature
           which (inl imported) =
@@ -156,7 +167,8 @@ module _ (t : Tables) (h : Homes) (ms : List Member) (members : List reads.Membe
           which (inr own) =
               let same = one-contained (record { place = q; view = numbered_view v; whole = true }) s own in
               let in_view : Contains (numbered_view v).functions f = subst (λ (x : NumberedSight). Contains x.view.functions f) (sym same) there in
-              called m among f.1.signature (subst (λ a. Contains (signatures_of_part a) f.1.signature) (sym is) (contains-map (λ (x : Text × NumberedFunction). x.1.signature) (numbered_view v).functions f in_view))
+              called m among f.1.signature (subst (λ a. Contains (signatures_of_part a) f.1.signature) (sym is)
+              (contains-map (λ (x : Text × NumberedFunction). x.1.signature) (numbered_view v).functions f in_view))
 
   -- ---- interfaces
 
@@ -176,8 +188,10 @@ module _ (t : Tables) (h : Homes) (ms : List Member) (members : List reads.Membe
         let f = zip_get (IsPlannedFunction t planned.kept made.find) (functions_seen q views) i.functions made.functions j.0 e j.1 in
         let of = function_of q views f.0 (get-contains (functions_seen q views) j.0 f.0 f.1) in
         subst (λ o. IsReadFunction t planned.kept p beside o e.1) owner
-        (view_function t h ms members ruled main p planned first first_in (view_good t h ms members ruled.input ruled.agree ordered first first_in) (names_differ first first_in) made.find made.resources beside of.sight of.among (of.place ∙ sym place)
-        (view_good t h ms members ruled.input ruled.agree ordered of.sight of.among) (all_at (ViewObeys t) views ruled.rules.views of.sight of.among) refl f.0 of.there (values_of of.sight of.among of.whole f.0 of.there) e f.2)
+        (view_function t h ms members ruled main p planned first first_in (view_good t h ms members ruled.input ruled.agree ordered first first_in) (names_differ first first_in) made.find
+        made.resources beside of.sight of.among (of.place ∙ sym place)
+        (view_good t h ms members ruled.input ruled.agree ordered of.sight of.among) (all_at (ViewObeys t) views ruled.rules.views of.sight of.among) refl f.0 of.there
+        (values_of of.sight of.among of.whole f.0 of.there) e f.2)
 
     interface_read : AllByRecursion (IsReadFunction t planned.kept p beside (as_interface n)) (functions_of i)
     interface_read = all_of (IsReadFunction t planned.kept p beside (as_interface n)) (functions_of i) (λ g c.
@@ -203,4 +217,8 @@ module _ (t : Tables) (h : Homes) (ms : List Member) (members : List reads.Membe
 
 pub planned_functions_are_read : PlannedFunctionsAreRead
 planned_functions_are_read t h ms members ruled alike ordered apart main p planned whole known =
-    record { of_interfaces = interfaces_read t h ms members ruled alike ordered apart main p planned whole known; of_worlds = worlds_read t h ms members ruled alike ordered apart main p planned whole known }
+    record {
+      of_interfaces = interfaces_read t h ms members ruled alike ordered apart main p planned whole known;
+      of_worlds =
+          worlds_read t h ms members ruled alike ordered apart main p planned whole known;
+    }

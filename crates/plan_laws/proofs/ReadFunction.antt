@@ -53,7 +53,13 @@ module _ (t : Tables) (q : ℕ) where
   parts_good (Tree.node form ts) = are_parts (place_at t q) ts
 
   abbrev pub told : ℕ → Fact
-  told k = record { levels = min most_counted (levels (tree_at t k)); names = nowhere; is_plain = rules.is_part (place_at t q) (tree_at t k); has_plain_parts = parts_good (tree_at t k); has_good_labels = labels_good (tree_at t k) }
+  told k = record {
+    levels = min most_counted (levels (tree_at t k));
+    names = nowhere;
+    is_plain = rules.is_part (place_at t q) (tree_at t k);
+    has_plain_parts = parts_good (tree_at t k);
+    has_good_labels = labels_good (tree_at t k);
+  }
 
   pub is_told : (k : ℕ) → IsPart t k → IsSeenFrom t q k → IsKnown t told q k
   is_told k part seen = record {
@@ -96,7 +102,8 @@ module _ (t : Tables) (h : Homes) (ms : List Member) (members : List reads.Membe
   as_many = zip_length (PlansType t planned.kept (shown_first ms) (owners_in ms)) planned.kept p.types planned.types
 
   -- a name that is kept and is first shown as a resource is one of the plan
-  pub resource_at : (known : ℕ → Fact) (q j n : ℕ) (r : Text) → slice_get planned.kept j ≡ Some n → slice_get t.shapes n ≡ Some (named_shape q r) → ((y : NumberedShowing) → shown_first ms n ≡ Some y → y.declared ≡ None)
+  pub resource_at : (known : ℕ → Fact) (q j n : ℕ) (r : Text) → slice_get planned.kept j ≡ Some n → slice_get t.shapes n ≡ Some (named_shape q r)
+      → ((y : NumberedShowing) → shown_first ms n ≡ Some y → y.declared ≡ None)
       → IsResource t known planned.kept p (owners_of ms q) q r j
   resource_at known q j n r stands at none =
       let low : j < length p.types = (let within = slice_get_within planned.kept j n stands in let many = as_many in omega (arith, within, many)) in
@@ -120,15 +127,18 @@ module _ (t : Tables) (h : Homes) (ms : List Member) (members : List reads.Membe
 
   -- the function of a place, which may stand there behind these resources
   module _ (b : Beside) (q : ℕ) (find : Text → Option TypeId) (resources : List Text) (found : (r : Text) → list_any (text_eq r) resources ≡ true → (id : TypeId) × (find r ≡ Some id))
-      (are : (r : Text) (id : TypeId) → find r ≡ Some id → IsResource t (told t q) planned.kept p (b.owners q) q r id.0) (f : Text × NumberedFunction) (e : Text × PlannedFunction) (made : IsPlannedFunction t planned.kept find f e)
+      (are : (r : Text) (id : TypeId) → find r ≡ Some id → IsResource t (told t q) planned.kept p (b.owners q) q r id.0) (f : Text × NumberedFunction) (e : Text × PlannedFunction)
+      (made : IsPlannedFunction t planned.kept find f e)
       (met : PartsOf (IsMetFrom t q) (function_at t f.1.signature)) (obeys : rules.is_function (place_at t q) resources f.0 (signature_at t f.1.signature) ≡ true) where
     abbrev shape : FunctionShape
     shape = function_at t f.1.signature
 
     kind_is : IsKindOf t (told t q) planned.kept p (b.owners q) q f.0 shape e.1.kind × (is_async e.1.kind ≡ shape.is_async)
     kind_is =
-        let known : PartsOf (IsKnown t (told t q) q) shape = parts_weaker (IsMetFrom t q) (IsKnown t (told t q) q) (λ k m. is_told t q k m.range (seen_from t h ms members input main p planned q k m)) shape met in
-        kinds_are_named t (told t q) planned.kept p (b.owners q) q find resources found are f.0 shape e.1.kind (sym (function_same t input.tables.shapes (told t q) q resources f.0 shape known) ∙ obeys) made.kind
+        let known : PartsOf (IsKnown t (told t q) q) shape = parts_weaker (IsMetFrom t q) (IsKnown t (told t q) q) (λ k m. is_told t q k m.range (seen_from t h ms members input main p planned q k m))
+        shape met in
+        kinds_are_named t (told t q) planned.kept p (b.owners q) q find resources found are f.0 shape e.1.kind
+        (sym (function_same t input.tables.shapes (told t q) q resources f.0 shape known) ∙ obeys) made.kind
 
     pub function_becomes : FunctionBecomes t planned.kept p shape f.1.external_id e.1
     function_becomes = functions_become t planned.kept p as_many shape f.1.external_id e.1 made.parts kind_is.1 made.same_id

@@ -62,7 +62,8 @@ module _ (a b : NumberedSight) (agrees : agree a b ≡ true) (place : a.place �
       (sym (both_ways same_function same_decides a.view.functions b.view.functions one two) ∙ whole_same a b agrees place a_whole b_whole)) f c
 
 -- so a function of one is one of each other
-pub function_shared : (all : List NumberedSight) → agree_in_numbers all ≡ true → ((s : NumberedSight) → Contains all s → IsOnce s) → (a b : NumberedSight) → Contains all a → Contains all b → a.place ≡ b.place → a.whole ≡ true → b.whole ≡ true
+pub function_shared : (all : List NumberedSight) → agree_in_numbers all ≡ true → ((s : NumberedSight) → Contains all s → IsOnce s) → (a b : NumberedSight) → Contains all a → Contains all b
+    → a.place ≡ b.place → a.whole ≡ true → b.whole ≡ true
     → (f : Text × NumberedFunction) → Contains a.view.functions f → Contains b.view.functions f
 function_shared [] h once a b c d place p q f there = none-in a c
 function_shared (x ∷ xs) h once a b (zero, l, e) (zero, k, g) place p q f there = subst (λ (s : NumberedSight). Contains s.view.functions f) (sym e ∙ g) there
@@ -72,4 +73,5 @@ function_shared (x ∷ xs) h once a b (suc i, l, e) (zero, k, g) place p q f the
     back b a (ap (λ y. agree y a) (sym g) ∙ all-contained (agree x) xs a (first_true (list_all (agree x) xs) (agree_in_numbers xs) h) (i, omega (arith, l), e)) (sym place) q p f
     (once b (zero, k, g)) (once a (suc i, l, e)) there
 function_shared (x ∷ xs) h once a b (suc i, l, e) (suc j, k, g) place p q f there =
-    function_shared xs (second_true (list_all (agree x) xs) (agree_in_numbers xs) h) (λ s c. once s (suc c.0, (let low = c.1 in omega (arith, low)), c.2)) a b (i, omega (arith, l), e) (j, omega (arith, k), g) place p q f there
+    function_shared xs (second_true (list_all (agree x) xs) (agree_in_numbers xs) h) (λ s c. once s (suc c.0, (let low = c.1 in omega (arith, low)), c.2)) a b (i, omega (arith, l), e)
+    (j, omega (arith, k), g) place p q f there

@@ -66,24 +66,29 @@ module _ (t : Tables) (tables : AreTables t) where
       subst IsNamed (one-contained (record { part = part; declared = d; external_id = given_text id }) y c)
       (record { place = home; name = key.now; number = named.0; part = named.1; is = subst (IsNameOf t home key.now d) one good.1 })
 
-  seen_named : (home : ℕ) (ss : List Seen) → AllByRecursion (IsSeenIn t home) (map numbered_seen ss) → AllByRecursion (DeclaresName t home) ss → (y : NumberedShowing) → Contains (flat_map showings_of_seen ss) y → IsNamed y
+  seen_named : (home : ℕ) (ss : List Seen) → AllByRecursion (IsSeenIn t home) (map numbered_seen ss) → AllByRecursion (DeclaresName t home) ss → (y : NumberedShowing)
+      → Contains (flat_map showings_of_seen ss) y → IsNamed y
   seen_named home ss good named y c =
       let from = flat_cases showings_of_seen ss y c in
       let s = from.0 in
-      shown_named home s.key s.external_id s.shown (all_at (IsSeenIn t home) (map numbered_seen ss) good (numbered_seen s) (contains-map numbered_seen ss s from.1)) (all_at (DeclaresName t home) ss named s from.1) y from.2
+      shown_named home s.key s.external_id s.shown (all_at (IsSeenIn t home) (map numbered_seen ss) good (numbered_seen s) (contains-map numbered_seen ss s from.1))
+      (all_at (DeclaresName t home) ss named s from.1) y from.2
 
   -- an export of a world, which is no type
-  export_named : (home : ℕ) (s : NumberedSeen) (x : Shown) (id : Option Text) → IsSeenIn t home (record { key = s.key; shown = numbered_shown x; external_id = s.external_id }) → is_type_seen (numbered_shown x) ≡ false
+  export_named : (home : ℕ) (s : NumberedSeen) (x : Shown) (id : Option Text) → IsSeenIn t home (record { key = s.key; shown = numbered_shown x; external_id = s.external_id })
+      → is_type_seen (numbered_shown x) ≡ false
       → (y : NumberedShowing) → Contains (showings_of_shown x id) y → IsNamed y
   export_named home s (shown.Instance k v) id good no_type y c = view_named (place_of_key (numbered_key k)) (numbered_view v) good.1 y c
   export_named home s (shown.Function f) id good no_type y c = none-in y c
   export_named home s (shown.Declares part d) id good no_type y c = let wrong : true ≡ false = no_type in absurd cc
 
-  exports_named : (home : ℕ) (ss : List Seen) → AllByRecursion (IsSeenIn t home) (map numbered_seen ss) → AllByRecursion (λ (s : Seen). is_type_seen (numbered_shown s.shown) ≡ false) ss → (y : NumberedShowing) → Contains (flat_map showings_of_seen ss) y → IsNamed y
+  exports_named : (home : ℕ) (ss : List Seen) → AllByRecursion (IsSeenIn t home) (map numbered_seen ss) → AllByRecursion (λ (s : Seen). is_type_seen (numbered_shown s.shown) ≡ false) ss
+      → (y : NumberedShowing) → Contains (flat_map showings_of_seen ss) y → IsNamed y
   exports_named home ss good no_types y c =
       let from = flat_cases showings_of_seen ss y c in
       let s = from.0 in
-      export_named home (numbered_seen s) s.shown (given_text s.external_id) (all_at (IsSeenIn t home) (map numbered_seen ss) good (numbered_seen s) (contains-map numbered_seen ss s from.1)) (all_at (λ (x : Seen). is_type_seen (numbered_shown x.shown) ≡ false) ss no_types s from.1) y from.2
+      export_named home (numbered_seen s) s.shown (given_text s.external_id) (all_at (IsSeenIn t home) (map numbered_seen ss) good (numbered_seen s) (contains-map numbered_seen ss s from.1))
+      (all_at (λ (x : Seen). is_type_seen (numbered_shown x.shown) ≡ false) ss no_types s from.1) y from.2
 
   -- no world exports a type
   abbrev pub ExportsNoType : Part → Type 0
@@ -101,7 +106,8 @@ module _ (t : Tables) (tables : AreTables t) where
       by : Contains (flat_map showings_of_import imports.now) y ⊎ Contains (showings_of_view (numbered_view v)) y → IsNamed y
       by (inl among) =
           let from = flat_cases showings_of_import imports.now y among in
-          let is = all_at (λ (i : ℕ × NumberedView). HasPath t i.0 × IsViewIn t i.0 i.1) (map numbered_import imports.now) good.1 (numbered_import from.0) (contains-map numbered_import imports.now from.0 from.1) in
+          let is = all_at (λ (i : ℕ × NumberedView). HasPath t i.0 × IsViewIn t i.0 i.1) (map numbered_import imports.now) good.1 (numbered_import from.0)
+          (contains-map numbered_import imports.now from.0 from.1) in
           view_named from.0.place (numbered_view from.0.view) is.1 y from.2
       by (inr among) = view_named p (numbered_view v) good.0.1 y among
 
@@ -118,7 +124,8 @@ module _ (t : Tables) (tables : AreTables t) where
         one : (n : ℕ) (s : Seen) → slice_get w.exports.now n ≡ Some s → is_type_seen (numbered_shown s.shown) ≡ false
         one n s there =
             same_type s.shown
-            (stands.stands.no_types n (seen_of t (numbered_seen s)) (subst (λ ss. slice_get ss n ≡ Some (seen_of t (numbered_seen s))) (sym shows.exports) (mapped_get (seen_of t) (map numbered_seen w.exports.now) n (numbered_seen s) (mapped_get numbered_seen w.exports.now n s there))))
+            (stands.stands.no_types n (seen_of t (numbered_seen s)) (subst (λ ss. slice_get ss n ≡ Some (seen_of t (numbered_seen s))) (sym shows.exports)
+            (mapped_get (seen_of t) (map numbered_seen w.exports.now) n (numbered_seen s) (mapped_get numbered_seen w.exports.now n s there))))
     exports_no_type (parts.Interface p v imports) b m shows stands = tt
     exports_no_type (parts.World w) (reads.Part.interface view views) m shows stands = absurd shows
 

@@ -68,13 +68,15 @@ module _ (t : Tables) (h : Homes) (known : ℕ → Fact) (n : ℕ) (ms : List Me
   interfaces =
       second_true (agree_in_numbers sights) (are_interfaces t known sights)
       (second_true (list_all (stands_at_top h n numbered) sights) (agree_in_numbers sights && are_interfaces t known sights)
-      (second_true (list_all (λ (m : NumberedMember). n == m.package_) numbered) (list_all (stands_at_top h n numbered) sights && (agree_in_numbers sights && are_interfaces t known sights)) given.obeys))
+      (second_true (list_all (λ (m : NumberedMember). n == m.package_) numbered) (list_all (stands_at_top h n numbered) sights && (agree_in_numbers sights && are_interfaces t known sights))
+      given.obeys))
 
   functions_once : (s : NumberedSight) → Contains sights s → IsOnce s
   functions_once s c =
       let v = s.view in
       distinct_behind (map (λ (x : NumberedType). x.name) v.types) (map (λ (f : Text × NumberedFunction). f.0) v.functions)
-      (second_true (list_all (is_type t known s.place) v.types && list_all (λ (f : Text × NumberedFunction). is_function t known s.place (resources_of v.types) f.0 (function_at t f.1.signature)) v.functions)
+      (second_true (list_all (is_type t known s.place) v.types && list_all (λ (f : Text × NumberedFunction). is_function t known s.place (resources_of v.types) f.0 (function_at t f.1.signature))
+      v.functions)
       (distinct (map (λ (x : NumberedType). x.name) v.types ++ map (λ (f : Text × NumberedFunction). f.0) v.functions))
       (all-contained (λ (x : NumberedSight). is_interface t known x.place x.view) sights s interfaces c))
 
@@ -91,12 +93,14 @@ module _ (t : Tables) (h : Homes) (known : ℕ → Fact) (n : ℕ) (ms : List Me
       sym (ap distinct (map_of_map (λ (x : ShownType). x.name) (shown_type t) s.view.types))
       ∙ agreement.names_differ (place_at t s.place) (view_of t s.view) (all_at (ViewObeys t) views ruled.rules.views s c)
 
-  pub functions_alike : (r s : NumberedSight) → Contains views r → Contains views s → r.place ≡ s.place → r.whole ≡ true → s.whole ≡ true → (f : Text × NumberedFunction) → Contains r.view.functions f → Contains s.view.functions f
+  pub functions_alike : (r s : NumberedSight) → Contains views r → Contains views s → r.place ≡ s.place → r.whole ≡ true → s.whole ≡ true → (f : Text × NumberedFunction) → Contains r.view.functions f
+      → Contains s.view.functions f
   functions_alike r s c d same r_whole s_whole f there = by (path_at t s.place) refl
     where
       by : (o : Option Text) → path_at t s.place ≡ o → Contains s.view.functions f
       by (Some path) e =
-          function_shared sights ruled.agree functions_once r s (sight_there t h ms members given.input given.placed.apart r c path (ap (path_at t) same ∙ e)) (sight_there t h ms members given.input given.placed.apart s d path e)
+          function_shared sights ruled.agree functions_once r s (sight_there t h ms members given.input given.placed.apart r c path (ap (path_at t) same ∙ e))
+          (sight_there t h ms members given.input given.placed.apart s d path e)
           same r_whole s_whole f there
       by None e =
           let r_frame = subst (λ q. Contains (frames numbered) (q, a_view r.view)) same (view_frame t h ms members given.input given.placed.apart r c (ap (path_at t) same ∙ e)) in
@@ -111,7 +115,8 @@ module _ (t : Tables) (h : Homes) (known : ℕ → Fact) (n : ℕ) (ms : List Me
   From = IsFrom t h ms members given.input given.placed.apart
 
   -- what a view shows of a type is what is shown of it
-  by_view : (s : NumberedSight) → Contains views s → IsViewIn t s.place s.view → (x : NumberedType) → Contains s.view.types x → (y z : NumberedShowing) → y.part ≡ z.part → x.declared ≡ y.declared → slot_part x.slot ≡ y.part → Contains (showings_of_members ms) z
+  by_view : (s : NumberedSight) → Contains views s → IsViewIn t s.place s.view → (x : NumberedType) → Contains s.view.types x → (y z : NumberedShowing) → y.part ≡ z.part → x.declared ≡ y.declared
+      → slot_part x.slot ≡ y.part → Contains (showings_of_members ms) z
       → z.declared ≡ y.declared
   by_view s in_views good x in_types y z same declared part z_shown =
       let is = all_at (IsShownIn t s.place) s.view.types good.types x in_types in
@@ -120,18 +125,24 @@ module _ (t : Tables) (h : Homes) (known : ℕ → Fact) (n : ℕ) (ms : List Me
 
   -- imports of worlds that are of one name are one
   by_imports : (m : Member) → Contains ms m → (w : Scope) → m.part ≡ parts.World w → (a : Seen) → Contains w.imports.now a → (part : ℕ) (d : Option ℕ) → a.shown ≡ shown.Declares part d
-      → (k : Member) → Contains ms k → (v : Scope) → k.part ≡ parts.World v → (b : Seen) → Contains v.imports.now b → (other : ℕ) (e : Option ℕ) → b.shown ≡ shown.Declares other e → part ≡ other → d ≡ e
+      → (k : Member) → Contains ms k → (v : Scope) → k.part ≡ parts.World v → (b : Seen) → Contains v.imports.now b → (other : ℕ) (e : Option ℕ) → b.shown ≡ shown.Declares other e
+      → part ≡ other → d ≡ e
   by_imports m c w is_w a a_in part d a_shows k g v is_v b b_in other e b_shows same =
       let first = world_of t h ms members given.input given.placed.apart m c w is_w in
       let second = world_of t h ms members given.input given.placed.apart k g v is_v in
-      let a_name = subst (λ (x : Shown). DeclaresName t w.home (record { key = a.key; shown = x; external_id = a.external_id })) a_shows (all_at (DeclaresName t w.home) w.imports.now first.declares a a_in) in
-      let b_name = subst (λ (x : Shown). DeclaresName t v.home (record { key = b.key; shown = x; external_id = b.external_id })) b_shows (all_at (DeclaresName t v.home) v.imports.now second.declares b b_in) in
+      let a_name = subst (λ (x : Shown). DeclaresName t w.home (record { key = a.key; shown = x; external_id = a.external_id })) a_shows
+      (all_at (DeclaresName t w.home) w.imports.now first.declares a a_in) in
+      let b_name = subst (λ (x : Shown). DeclaresName t v.home (record { key = b.key; shown = x; external_id = b.external_id })) b_shows
+      (all_at (DeclaresName t v.home) v.imports.now second.declares b b_in) in
       let one : a_name.0 ≡ b_name.0 = (let p = a_name.1 in let q = b_name.1 in omega (arith, p, q, same)) in
-      let shape : named_shape w.home a.key.now ≡ named_shape v.home b.key.now = same-some (named_shape w.home a.key.now) (named_shape v.home b.key.now) (sym a_name.2 ∙ (ap (slice_get t.shapes) one ∙ b_name.2)) in
+      let shape : named_shape w.home a.key.now ≡ named_shape v.home b.key.now =
+      same-some (named_shape w.home a.key.now) (named_shape v.home b.key.now) (sym a_name.2 ∙ (ap (slice_get t.shapes) one ∙ b_name.2)) in
       let scope = one_world t h ms members given.input given.placed.apart m k c g w v is_w is_v (ap (λ (x : Shape). x.number) shape) in
-      let here : Contains (map numbered_seen v.imports.now) (numbered_seen a) = subst (λ (x : NumberedScope). Contains x.imports (numbered_seen a)) scope (contains-map numbered_seen w.imports.now a a_in) in
+      let here : Contains (map numbered_seen v.imports.now) (numbered_seen a) =
+      subst (λ (x : NumberedScope). Contains x.imports (numbered_seen a)) scope (contains-map numbered_seen w.imports.now a a_in) in
       let seen =
-      one_key (map numbered_seen v.imports.now) (keys_apart t h ms members given.input given.placed.apart v second) (numbered_seen a) (numbered_seen b) here (contains-map numbered_seen v.imports.now b b_in)
+      one_key (map numbered_seen v.imports.now) (keys_apart t h ms members given.input given.placed.apart v second) (numbered_seen a) (numbered_seen b) here
+      (contains-map numbered_seen v.imports.now b b_in)
       (ap (λ (x : Shape). first_label x.labels) shape) in
       let shown_same : worlds.declares d ≡ worlds.declares e = sym (ap numbered_shown a_shows) ∙ (ap (λ (x : NumberedSeen). x.shown) seen ∙ ap numbered_shown b_shows) in
       ap (declared_in e) shown_same

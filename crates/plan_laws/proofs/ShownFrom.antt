@@ -60,7 +60,8 @@ module _ (t : Tables) (h : Homes) (ms : List Member) (members : List reads.Membe
       let good = all_at (λ (x : NumberedMember). IsPartIn t x.part) numbered input.numbers (numbered_member m) (contains-map numbered_member ms m c) in
       let named = all_at (λ (x : Member). PartDeclaresNames t x.part) ms input.declared m c in
       let once = once_inside (has_no_path t) (λ (x : NumberedMember). places_of_part x.part) numbered apart (numbered_member m) (contains-map numbered_member ms m c) in
-      by there.0.part (numbered_member m) (subst (λ a. ShowsPart t h (numbered_member m) (numbered_part a) there.0.part) is there.2.part) stand (subst (λ a. IsPartIn t (numbered_part a)) is good) (subst (PartDeclaresNames t) is named)
+      by there.0.part (numbered_member m) (subst (λ a. ShowsPart t h (numbered_member m) (numbered_part a) there.0.part) is there.2.part) stand (subst (λ a. IsPartIn t (numbered_part a)) is good)
+      (subst (PartDeclaresNames t) is named)
       (subst (λ a. are_once (filter (has_no_path t) (places_of_part (numbered_part a))) ≡ true) is once)
     where
       by : (b : reads.Part) (n : NumberedMember) → ShowsPart t h n (world (numbered_scope w)) b → PartStands b → IsScopeIn t (numbered_scope w) → AllByRecursion (DeclaresName t w.home) w.imports.now
@@ -74,7 +75,8 @@ module _ (t : Tables) (h : Homes) (ms : List Member) (members : List reads.Membe
   member_frame m c f among = contains-flat (λ (x : NumberedMember). frames_of_part x.part) numbered (numbered_member m) f (contains-map numbered_member ms m c) among
 
   pub home_frame : (m : Member) → Contains ms m → (w : Scope) → m.part ≡ parts.World w → Contains (frames numbered) (w.home, a_world (numbered_scope w))
-  home_frame m c w is = member_frame m c (w.home, a_world (numbered_scope w)) (subst (λ a. Contains (frames_of_part (numbered_part a)) (w.home, a_world (numbered_scope w))) (sym is) (zero, omega arith, refl))
+  home_frame m c w is = member_frame m c (w.home, a_world (numbered_scope w))
+      (subst (λ a. Contains (frames_of_part (numbered_part a)) (w.home, a_world (numbered_scope w))) (sym is) (zero, omega arith, refl))
 
   inline_frame : (ss : List NumberedSeen) (i : NumberedInstance) → Contains (inlines t ss) i → Contains (frames_of_seen ss) (i.place, a_view i.view)
   inline_frame ss i c =
@@ -83,7 +85,8 @@ module _ (t : Tables) (h : Homes) (ms : List Member) (members : List reads.Membe
     where
       by : (x : NumberedShown) → Contains (inline_of t x) i → Contains (frames_of_shown x) (i.place, a_view i.view)
       by (worlds.instance (worlds.path p) v) among = none-in i among
-      by (worlds.instance (worlds.label l p) v) among = subst (λ (j : NumberedInstance). Contains {X = Frame} ((p, a_view v) ∷ []) (j.place, a_view j.view)) (one-contained (record { place = p; view = v }) i among) (zero, omega arith, refl)
+      by (worlds.instance (worlds.label l p) v) among = subst (λ (j : NumberedInstance). Contains {X = Frame} ((p, a_view v) ∷ []) (j.place, a_view j.view))
+          (one-contained (record { place = p; view = v }) i among) (zero, omega arith, refl)
       by (worlds.instance (worlds.implementing l p) v) among = none-in i among
       by (worlds.function n) among = none-in i among
       by (worlds.declares d) among = none-in i among
@@ -99,7 +102,8 @@ module _ (t : Tables) (h : Homes) (ms : List Member) (members : List reads.Membe
       outside : (p : ℕ) → HasPath t p → p ≡ s.place → ⊥
       outside p path e = let wrong : None ≡ Some path.0 = sym none ∙ (ap (path_at t) (sym e) ∙ path.1) in cc
 
-      by : (a : Part) → ((w : Scope) → a ≡ parts.World w → IsWorldOf w) → IsPartIn t (numbered_part a) → Contains (views_of_part (numbered_part a)) s → Contains (frames_of_part (numbered_part a)) (s.place, a_view s.view)
+      by : (a : Part) → ((w : Scope) → a ≡ parts.World w → IsWorldOf w) → IsPartIn t (numbered_part a) → Contains (views_of_part (numbered_part a)) s
+          → Contains (frames_of_part (numbered_part a)) (s.place, a_view s.view)
       by (parts.World w) of good among =
           let is = of w refl in
           let from = from_map whole_view (map numbered_instance w.instances.now) s among in
@@ -107,17 +111,22 @@ module _ (t : Tables) (h : Homes) (ms : List Member) (members : List reads.Membe
           let seen = inline_seen t (numbered_scope w) is.good is.scope is.shows is.stands.seen is.once from.0 from.1 (ap (path_at t) same ∙ none) in
           subst (λ (x : NumberedSight). Contains (frames_of_part (world (numbered_scope w))) (x.place, a_view x.view)) from.2
           (contains-later (w.home, a_world (numbered_scope w)) (frames_of_seen (map numbered_seen w.imports.now) ++ frames_of_seen (map numbered_seen w.exports.now)) (from.0.place, a_view from.0.view)
-          (either (map numbered_seen w.imports.now) (map numbered_seen w.exports.now) from.0 (Contains-append_cases (inlines t (map numbered_seen w.imports.now)) (inlines t (map numbered_seen w.exports.now)) from.0 seen)))
+          (either (map numbered_seen w.imports.now) (map numbered_seen w.exports.now) from.0
+          (Contains-append_cases (inlines t (map numbered_seen w.imports.now)) (inlines t (map numbered_seen w.exports.now)) from.0 seen)))
         where
-          either : (xs ys : List NumberedSeen) (i : NumberedInstance) → Contains (inlines t xs) i ⊎ Contains (inlines t ys) i → Contains (frames_of_seen xs ++ frames_of_seen ys) (i.place, a_view i.view)
+          either : (xs ys : List NumberedSeen) (i : NumberedInstance) → Contains (inlines t xs) i ⊎ Contains (inlines t ys) i
+              → Contains (frames_of_seen xs ++ frames_of_seen ys) (i.place, a_view i.view)
           either xs ys i (inl there) = Contains-append_left (frames_of_seen xs) (frames_of_seen ys) (i.place, a_view i.view) (inline_frame xs i there)
           either xs ys i (inr there) = Contains-append_right (frames_of_seen xs) (frames_of_seen ys) (i.place, a_view i.view) (inline_frame ys i there)
-      by (parts.Interface p v imports) of good among = which (Contains-append_cases (map types_alone (map numbered_import imports.now)) (record { place = p; view = numbered_view v; whole = true } ∷ []) s among)
+      by (parts.Interface p v imports) of good among = which (Contains-append_cases (map types_alone (map numbered_import imports.now))
+          (record { place = p; view = numbered_view v; whole = true } ∷ []) s among)
         where
-          which : Contains (map types_alone (map numbered_import imports.now)) s ⊎ Contains (record { place = p; view = numbered_view v; whole = true } ∷ []) s → Contains {X = Frame} [] (s.place, a_view s.view)
+          which : Contains (map types_alone (map numbered_import imports.now)) s ⊎ Contains (record { place = p; view = numbered_view v; whole = true } ∷ []) s
+              → Contains {X = Frame} [] (s.place, a_view s.view)
           which (inl there) =
               let from = from_map types_alone (map numbered_import imports.now) s there in
-              absurd (outside from.0.0 (all_at (λ (i : ℕ × NumberedView). HasPath t i.0 × IsViewIn t i.0 i.1) (map numbered_import imports.now) good.1 from.0 from.1).0 (ap (λ (x : NumberedSight). x.place) from.2))
+              absurd (outside from.0.0 (all_at (λ (i : ℕ × NumberedView). HasPath t i.0 × IsViewIn t i.0 i.1) (map numbered_import imports.now) good.1 from.0 from.1).0
+              (ap (λ (x : NumberedSight). x.place) from.2))
           which (inr own) = absurd (outside p good.0.0 (ap (λ (x : NumberedSight). x.place) (one-contained (record { place = p; view = numbered_view v; whole = true }) s own)))
 
   -- ---- sources
@@ -140,31 +149,41 @@ module _ (t : Tables) (h : Homes) (ms : List Member) (members : List reads.Membe
       by from.0.part (λ w is. world_of from.0 from.1 w is) (λ s among. member_view from.0 from.1 s among) (λ w is x among e. of_import from.0 from.1 w is x among e) good from.2
     where
       by : (a : Part) → ((w : Scope) → a ≡ parts.World w → IsWorldOf w) → ((s : NumberedSight) → Contains (views_of_part (numbered_part a)) s → Contains views s)
-          → ((w : Scope) → a ≡ parts.World w → (x : Seen) → Contains w.imports.now x → x.shown ≡ shown.Declares y.part y.declared → IsFrom y) → IsPartIn t (numbered_part a) → Contains (showings_of_part a) y → IsFrom y
+          → ((w : Scope) → a ≡ parts.World w → (x : Seen) → Contains w.imports.now x → x.shown ≡ shown.Declares y.part y.declared → IsFrom y) → IsPartIn t (numbered_part a)
+          → Contains (showings_of_part a) y → IsFrom y
       by (parts.World w) of view import_of good among = which (Contains-append_cases (flat_map showings_of_seen w.imports.now) (flat_map showings_of_seen w.exports.now) y among)
         where
-          one : (cs : List Seen) → AllByRecursion (IsSeenIn t w.home) (map numbered_seen cs) → AllByRecursion (λ (x : NumberedSeen). IsOneOf t (map numbered_instance w.instances.now) x.shown) (map numbered_seen cs)
-              → ((x : Seen) → Contains cs x → (part : ℕ) (d : Option ℕ) → x.shown ≡ shown.Declares part d → Contains (record { part = part; declared = d; external_id = given_text x.external_id } ∷ []) y → IsFrom y) → Contains (flat_map showings_of_seen cs) y → IsFrom y
+          one : (cs : List Seen) → AllByRecursion (IsSeenIn t w.home) (map numbered_seen cs)
+              → AllByRecursion (λ (x : NumberedSeen). IsOneOf t (map numbered_instance w.instances.now) x.shown) (map numbered_seen cs)
+              → ((x : Seen) → Contains cs x → (part : ℕ) (d : Option ℕ) → x.shown ≡ shown.Declares part d
+              → Contains (record { part = part; declared = d; external_id = given_text x.external_id } ∷ []) y → IsFrom y) → Contains (flat_map showings_of_seen cs) y → IsFrom y
           one cs seen kept declared there =
               let from = flat_cases showings_of_seen cs y there in
               let s = from.0 in
               shown_as s.shown (given_text s.external_id) s.key.now (all_at (IsSeenIn t w.home) (map numbered_seen cs) seen (numbered_seen s) (contains-map numbered_seen cs s from.1))
-              (all_at (λ (x : NumberedSeen). IsOneOf t (map numbered_instance w.instances.now) x.shown) (map numbered_seen cs) kept (numbered_seen s) (contains-map numbered_seen cs s from.1)) (λ part d e in_one. declared s from.1 part d e in_one) from.2
+              (all_at (λ (x : NumberedSeen). IsOneOf t (map numbered_instance w.instances.now) x.shown) (map numbered_seen cs) kept (numbered_seen s) (contains-map numbered_seen cs s from.1))
+              (λ part d e in_one. declared s from.1 part d e in_one) from.2
             where
-              shown_as : (x : Shown) (id : Option Text) (key : Text) → IsSeenIn t w.home (record { key = key; shown = numbered_shown x; external_id = id }) → IsOneOf t (map numbered_instance w.instances.now) (numbered_shown x)
-                  → ((part : ℕ) (d : Option ℕ) → x ≡ shown.Declares part d → Contains (record { part = part; declared = d; external_id = id } ∷ []) y → IsFrom y) → Contains (showings_of_shown x id) y → IsFrom y
+              shown_as : (x : Shown) (id : Option Text) (key : Text) → IsSeenIn t w.home (record { key = key; shown = numbered_shown x; external_id = id })
+                  → IsOneOf t (map numbered_instance w.instances.now) (numbered_shown x)
+                  → ((part : ℕ) (d : Option ℕ) → x ≡ shown.Declares part d → Contains (record { part = part; declared = d; external_id = id } ∷ []) y → IsFrom y)
+                  → Contains (showings_of_shown x id) y → IsFrom y
               shown_as (shown.Instance k v) id key is there more in_it =
                   let sight = whole_view (record { place = place_of_key (numbered_key k); view = numbered_view v }) in
-                  of_sight sight (view sight (contains-map whole_view (map numbered_instance w.instances.now) (record { place = place_of_key (numbered_key k); view = numbered_view v }) there)) is.1 y in_it
+                  of_sight sight (view sight (contains-map whole_view (map numbered_instance w.instances.now) (record { place = place_of_key (numbered_key k); view = numbered_view v }) there))
+                  is.1 y in_it
               shown_as (shown.Function f) id key is there more in_it = none-in y in_it
               shown_as (shown.Declares part d) id key is there more in_it = more part d refl in_it
 
-          as_it_is : (x : Seen) (part : ℕ) (d : Option ℕ) → x.shown ≡ shown.Declares part d → Contains (record { part = part; declared = d; external_id = given_text x.external_id } ∷ []) y → x.shown ≡ shown.Declares y.part y.declared
-          as_it_is x part d e there = subst (λ (z : NumberedShowing). x.shown ≡ shown.Declares z.part z.declared) (one-contained (record { part = part; declared = d; external_id = given_text x.external_id }) y there) e
+          as_it_is : (x : Seen) (part : ℕ) (d : Option ℕ) → x.shown ≡ shown.Declares part d → Contains (record { part = part; declared = d; external_id = given_text x.external_id } ∷ []) y
+              → x.shown ≡ shown.Declares y.part y.declared
+          as_it_is x part d e there = subst (λ (z : NumberedShowing). x.shown ≡ shown.Declares z.part z.declared)
+              (one-contained (record { part = part; declared = d; external_id = given_text x.external_id }) y there) e
 
           no_type_there : (is : IsWorldOf w) (x : Seen) → Contains w.exports.now x → (part : ℕ) (d : Option ℕ) → x.shown ≡ shown.Declares part d → ⊥
           no_type_there is x there part d e =
-              let none = all_at (λ (z : Seen). scopes.is_type (shown_of t (numbered_shown z.shown)) ≡ false) w.exports.now (no_types t input.tables w is.scope is.shows is.good is.declares is.stands) x there in
+              let none = all_at (λ (z : Seen). scopes.is_type (shown_of t (numbered_shown z.shown)) ≡ false) w.exports.now
+              (no_types t input.tables w is.scope is.shows is.good is.declares is.stands) x there in
               let wrong : true ≡ false = ap (λ z. scopes.is_type (shown_of t (numbered_shown z))) (sym e) ∙ none in cc
 
           which : Contains (flat_map showings_of_seen w.imports.now) y ⊎ Contains (flat_map showings_of_seen w.exports.now) y → IsFrom y
@@ -176,8 +195,10 @@ module _ (t : Tables) (h : Homes) (ms : List Member) (members : List reads.Membe
           which (inl there) =
               let from = flat_cases showings_of_import imports.now y there in
               let sight = types_alone (numbered_import from.0) in
-              let is = all_at (λ (i : ℕ × NumberedView). HasPath t i.0 × IsViewIn t i.0 i.1) (map numbered_import imports.now) good.1 (numbered_import from.0) (contains-map numbered_import imports.now from.0 from.1) in
-              of_sight sight (view sight (Contains-append_left (map types_alone (map numbered_import imports.now)) (record { place = p; view = numbered_view v; whole = true } ∷ []) sight (contains-map types_alone (map numbered_import imports.now) (numbered_import from.0) (contains-map numbered_import imports.now from.0 from.1)))) is.1 y from.2
+              let is = all_at (λ (i : ℕ × NumberedView). HasPath t i.0 × IsViewIn t i.0 i.1) (map numbered_import imports.now) good.1 (numbered_import from.0)
+              (contains-map numbered_import imports.now from.0 from.1) in
+              of_sight sight (view sight (Contains-append_left (map types_alone (map numbered_import imports.now)) (record { place = p; view = numbered_view v; whole = true } ∷ []) sight
+              (contains-map types_alone (map numbered_import imports.now) (numbered_import from.0) (contains-map numbered_import imports.now from.0 from.1)))) is.1 y from.2
           which (inr there) =
               let sight : NumberedSight = record { place = p; view = numbered_view v; whole = true } in
               of_sight sight (view sight (Contains-append_right (map types_alone (map numbered_import imports.now)) (sight ∷ []) sight (contains-one sight))) good.0.1 y there

@@ -63,11 +63,13 @@ module _ (t : Tables) (h : Homes) (ms : List Member) (members : List reads.Membe
   all_good : AllByRecursion (λ (s : NumberedSight). IsViewIn t s.place s.view) views
   all_good =
       all_flat (λ (s : NumberedSight). IsViewIn t s.place s.view) (λ (y : NumberedMember). views_of_part y.part) numbered
-      (recursion_weaker (λ (y : NumberedMember). IsPartIn t y.part) (λ (y : NumberedMember). AllByRecursion (λ (s : NumberedSight). IsViewIn t s.place s.view) (views_of_part y.part)) (λ y good. views_are_good t input.tables h input.homes y.part good) numbered input.numbers)
+      (recursion_weaker (λ (y : NumberedMember). IsPartIn t y.part) (λ (y : NumberedMember). AllByRecursion (λ (s : NumberedSight). IsViewIn t s.place s.view) (views_of_part y.part))
+      (λ y good. views_are_good t input.tables h input.homes y.part good) numbered input.numbers)
 
   stands : (k : ℕ) (s : NumberedSight) → slice_get views k ≡ Some s → ViewStands (IsShownBefore instances k) (place_at t s.place) (view_of t s.view)
   stands k s there =
-      input.stand.views k (instance_tree t input.tables s) (subst (λ is. slice_get is k ≡ Some (instance_tree t input.tables s)) (sym trees) (mapped_get (instance_tree t input.tables) views k s there))
+      input.stand.views k (instance_tree t input.tables s) (subst (λ is. slice_get is k ≡ Some (instance_tree t input.tables s)) (sym trees)
+      (mapped_get (instance_tree t input.tables) views k s there))
 
   abbrev IsShown : Type 0
   IsShown = (m : Member) × Contains ms m × IsShownByPart t m.part q n
@@ -79,7 +81,16 @@ module _ (t : Tables) (h : Homes) (ms : List Member) (members : List reads.Membe
       let m = from_map numbered_member ms from.0 from.1 in (
         m.0,
         m.1,
-        by_view (record { sight = s.sight; among = subst (λ (y : NumberedMember). Contains (views_of_part y.part) s.sight) (sym m.2) from.2; place = s.place; type_ = s.type_; there = s.there; named = s.named; slot = s.slot }),
+        by_view (record {
+          sight = s.sight;
+          among = subst (λ (y : NumberedMember). Contains (views_of_part y.part) s.sight) (sym m.2) from.2;
+          place = s.place;
+          type_ = s.type_;
+          there = s.there;
+          named =
+              s.named;
+          slot = s.slot;
+        }),
       )
 
   -- ---- one member
@@ -87,14 +98,18 @@ module _ (t : Tables) (h : Homes) (ms : List Member) (members : List reads.Membe
   module _ (m : Member) (c : Contains ms m) (k : ℕ) (found : IsIn t.shapes k n) where
     within : (a : Part) → m.part ≡ a → (s : NumberedSight) → Contains (views_of_part (numbered_part a)) s → Contains views s
     within a is s among =
-        contains-flat (λ (y : NumberedMember). views_of_part y.part) numbered (numbered_member m) s (contains-map numbered_member ms m c) (subst (λ (b : Part). Contains (views_of_part (numbered_part b)) s) (sym is) among)
+        contains-flat (λ (y : NumberedMember). views_of_part y.part) numbered (numbered_member m) s (contains-map numbered_member ms m c)
+        (subst (λ (b : Part). Contains (views_of_part (numbered_part b)) s) (sym is) among)
 
-    part_shows : (a : Part) → m.part ≡ a → (b : MeantPart) → ShowsPart t h (numbered_member m) (numbered_part a) b → IsPartIn t (numbered_part a) → PartDeclaresNames t a → PartStands b → Uses a k → IsShown
+    part_shows : (a : Part) → m.part ≡ a → (b : MeantPart) → ShowsPart t h (numbered_member m) (numbered_part a) b → IsPartIn t (numbered_part a) → PartDeclaresNames t a → PartStands b
+        → Uses a k → IsShown
     part_shows (parts.World w) is (MeantPart.world scope) shows good declared stand uses = either (by uses)
       where
         by : Uses (parts.World w) k → ShowsNumber t views q n ⊎ ((q ≡ w.home) × ImportsNumber t w n)
-        by (by_showing y d used) = world_showing t input.tables h input.homes n q name at views instances trees all_good stands w (within (parts.World w) is) scope shows good declared stand.stands y d k used found
-        by (by_signature f d used) = world_signature t input.tables h input.homes n q name at views instances trees all_good stands w (within (parts.World w) is) scope shows good declared stand.stands f d k used found
+        by (by_showing y d used) = world_showing t input.tables h input.homes n q name at views instances trees all_good stands w (within (parts.World w) is) scope shows good declared stand.stands y d
+            k used found
+        by (by_signature f d used) = world_signature t input.tables h input.homes n q name at views instances trees all_good stands w (within (parts.World w) is) scope shows good declared stand.stands
+            f d k used found
 
         either : ShowsNumber t views q n ⊎ ((q ≡ w.home) × ImportsNumber t w n) → IsShown
         either (inl shown) = view_shown shown
@@ -102,8 +117,10 @@ module _ (t : Tables) (h : Homes) (ms : List Member) (members : List reads.Membe
     part_shows (parts.Interface p v imports) is (MeantPart.interface view others) shows good declared stand uses = view_shown (by uses)
       where
         by : Uses (parts.Interface p v imports) k → ShowsNumber t views q n
-        by (by_showing y d used) = interface_showing t input.tables h input.homes n q name at views instances trees all_good stands p v imports (within (parts.Interface p v imports) is) y d k used found
-        by (by_signature f d used) = interface_signature t input.tables h input.homes n q name at views instances trees all_good stands p v imports (within (parts.Interface p v imports) is) f d k used found
+        by (by_showing y d used) = interface_showing t input.tables h input.homes n q name at views instances trees all_good stands p v imports (within (parts.Interface p v imports) is) y d
+            k used found
+        by (by_signature f d used) = interface_signature t input.tables h input.homes n q name at views instances trees all_good stands p v imports (within (parts.Interface p v imports) is) f d
+            k used found
     part_shows (parts.World w) is (MeantPart.interface view others) shows good declared stand uses = absurd shows
     part_shows (parts.Interface p v imports) is (MeantPart.world scope) shows good declared stand uses = absurd shows
 

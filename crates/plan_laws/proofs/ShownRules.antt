@@ -67,8 +67,12 @@ SeenIsItem s = IsItem s.key s.shown
 pub imports_are_items : (earlier ss : List follow.Seen) → rules.are_imports earlier ss ≡ true → AllByRecursion SeenIsItem ss
 imports_are_items earlier [] h = tt
 imports_are_items earlier (s ∷ ss) h =
-    let first : rules.is_item (rules.resources_seen earlier) s.key s.shown ≡ true = first_true (rules.is_item (rules.resources_seen earlier) s.key s.shown) (rules.are_imports (earlier ++ s ∷ []) ss) h in
-    (record { resources = rules.resources_seen earlier; is = first }, imports_are_items (earlier ++ s ∷ []) ss (second_true (rules.is_item (rules.resources_seen earlier) s.key s.shown) (rules.are_imports (earlier ++ s ∷ []) ss) h))
+    let first : rules.is_item (rules.resources_seen earlier) s.key s.shown ≡ true =
+    first_true (rules.is_item (rules.resources_seen earlier) s.key s.shown) (rules.are_imports (earlier ++ s ∷ []) ss) h in (
+      record { resources = rules.resources_seen earlier; is = first },
+      imports_are_items (earlier ++ s ∷ []) ss
+          (second_true (rules.is_item (rules.resources_seen earlier) s.key s.shown) (rules.are_imports (earlier ++ s ∷ []) ss) h),
+    )
 
 pub exports_are_items : (ss : List follow.Seen) → list_all (λ (s : follow.Seen). rules.is_item [] s.key s.shown) ss ≡ true → AllByRecursion SeenIsItem ss
 exports_are_items ss h = all_of SeenIsItem ss (λ s c. record { resources = []; is = all-contained (λ (x : follow.Seen). rules.is_item [] x.key x.shown) ss s h c })
@@ -78,7 +82,8 @@ abbrev pub InstanceObeys : Instance → Type 0
 InstanceObeys x = rules.is_interface (place_of x.interface) x.view ≡ true
 
 instance_obeys : (ss : List follow.Seen) → AllByRecursion SeenIsItem ss → (x : Instance) → Contains (instances_in ss) x → InstanceObeys x
-instance_obeys ss items x c = let from = flat_cases (λ (s : follow.Seen). shown_instances.instance_of s.shown) ss x c in let item = all_at SeenIsItem ss items from.0 from.1 in by from.0.shown item.resources from.0.key item.is from.2
+instance_obeys ss items x c = let from = flat_cases (λ (s : follow.Seen). shown_instances.instance_of s.shown) ss x c in let item = all_at SeenIsItem ss items from.0 from.1 in
+    by from.0.shown item.resources from.0.key item.is from.2
   where
     by : (k : follow.Shown) (resources : List Text) (key : Text) → rules.is_item resources key k ≡ true → Contains (shown_instances.instance_of k) x → InstanceObeys x
     by (follow.Shown.instance key view) resources name is among = subst InstanceObeys (one-contained (record { interface = interface_of key; view = view }) x among) is
@@ -109,7 +114,8 @@ pub record WorldObeys (scope : follow.Scope) : Type 0 where
 pub world_obeys : (scope : follow.Scope) → rules.is_world scope ≡ true → WorldObeys scope
 world_obeys scope h =
     let both =
-    two_of (rules.are_imports [] scope.imports) (list_all (λ (s : follow.Seen). rules.is_item [] s.key s.shown) scope.exports) (distinct (map (λ (s : follow.Seen). s.key) scope.imports)) (distinct (map (λ (s : follow.Seen). s.key) scope.exports))
+    two_of (rules.are_imports [] scope.imports) (list_all (λ (s : follow.Seen). rules.is_item [] s.key s.shown) scope.exports) (distinct (map (λ (s : follow.Seen). s.key) scope.imports))
+    (distinct (map (λ (s : follow.Seen). s.key) scope.exports))
     (rules.stand_earlier [] (scope.imports ++ scope.exports)) h in
     record { imports = both.0; exports = both.1 }
 
@@ -138,13 +144,17 @@ module _ (t : Tables) (tables : AreTables t) where
 
     type_obeys : (x : NumberedType) → Contains s.view.types x → (is_label x.name ≡ true) × (rules.is_declared (place_at t s.place) (declaration_of t x.declared) ≡ true)
     type_obeys x c =
-        let both = all-contained (λ (y : follow.ShownType). is_label y.name && rules.is_declared (place_at t s.place) y.meaning.declaration) (map (shown_type t) s.view.types) (shown_type t x) (first_true types_obey functions_obey (first_true (types_obey && functions_obey) names_differ obeys)) (contains-map (shown_type t) s.view.types x c) in
-        (first_true (is_label x.name) (rules.is_declared (place_at t s.place) (declaration_of t x.declared)) both, second_true (is_label x.name) (rules.is_declared (place_at t s.place) (declaration_of t x.declared)) both)
+        let both = all-contained (λ (y : follow.ShownType). is_label y.name && rules.is_declared (place_at t s.place) y.meaning.declaration) (map (shown_type t) s.view.types) (shown_type t x)
+        (first_true types_obey functions_obey (first_true (types_obey && functions_obey) names_differ obeys)) (contains-map (shown_type t) s.view.types x c) in (
+          first_true (is_label x.name) (rules.is_declared (place_at t s.place) (declaration_of t x.declared)) both,
+          second_true (is_label x.name) (rules.is_declared (place_at t s.place) (declaration_of t x.declared)) both,
+        )
 
     -- each function that is shown is one of the interface's
     pub function_obeys : (f : Text × NumberedFunction) → Contains s.view.functions f → rules.is_function (place_at t s.place) (rules.resources_of place.types) f.0 (signature_at t f.1.signature) ≡ true
     function_obeys f c =
-        all-contained (λ (g : Text × FunctionMeaning). rules.is_function (place_at t s.place) (rules.resources_of place.types) g.0 g.1.signature) (map (shown_function t) s.view.functions) (shown_function t f)
+        all-contained (λ (g : Text × FunctionMeaning). rules.is_function (place_at t s.place) (rules.resources_of place.types) g.0 g.1.signature) (map (shown_function t) s.view.functions)
+        (shown_function t f)
         (second_true types_obey functions_obey (first_true (types_obey && functions_obey) names_differ obeys)) (contains-map (shown_function t) s.view.functions f c)
 
     view_types : (y : NumberedShowing) → Contains (showings_of_view s.view) y → TypeObeys t y
@@ -152,7 +162,15 @@ module _ (t : Tables) (tables : AreTables t) where
         let from = from_map showing_of s.view.types y c in
         let is = all_at (IsShownIn t s.place) s.view.types good.types from.0 from.1 in
         let rule = type_obeys from.0 from.1 in
-        subst (TypeObeys t) from.2 (record { place = s.place; name = from.0.name; number = is.number; part = slot_is t tables from.0.slot is.number is.slot; is = is.name; label = rule.0; obeys = rule.1 })
+        subst (TypeObeys t) from.2 (record {
+          place = s.place;
+          name = from.0.name;
+          number = is.number;
+          part = slot_is t tables from.0.slot is.number is.slot;
+          is = is.name;
+          label = rule.0;
+          obeys = rule.1;
+        })
 
     view_signatures : (f : ℕ) → Contains (signatures_of_view s.view) f → SignatureObeys t f
     view_signatures f c =
@@ -178,7 +196,8 @@ module _ (t : Tables) (tables : AreTables t) where
     abbrev ItemObeys : Seen → Type 0
     ItemObeys c = IsItem c.key.now (shown_of t (numbered_shown c.shown))
 
-    unnumbered : (P : follow.Seen → Type 0) (cs : List Seen) (ss : List follow.Seen) → ss ≡ map (seen_of t) (map numbered_seen cs) → AllByRecursion P ss → AllByRecursion (λ (c : Seen). P (seen_of t (numbered_seen c))) cs
+    unnumbered : (P : follow.Seen → Type 0) (cs : List Seen) (ss : List follow.Seen) → ss ≡ map (seen_of t) (map numbered_seen cs) → AllByRecursion P ss
+        → AllByRecursion (λ (c : Seen). P (seen_of t (numbered_seen c))) cs
     unnumbered P cs ss is all = all_unmapped (λ (s : NumberedSeen). P (seen_of t s)) numbered_seen cs (all_unmapped P (seen_of t) (map numbered_seen cs) (subst (AllByRecursion P) is all))
 
     imports_obey : AllByRecursion ItemObeys w.imports.now
@@ -189,7 +208,8 @@ module _ (t : Tables) (tables : AreTables t) where
 
     pub no_types : AllByRecursion (λ (c : Seen). scopes.is_type (shown_of t (numbered_shown c.shown)) ≡ false) w.exports.now
     no_types =
-        let none : AllByRecursion (λ (s : follow.Seen). scopes.is_type s.shown ≡ false) scope.exports = all_given (λ (s : follow.Seen). scopes.is_type s.shown ≡ false) scope.exports (λ n s e. stands.stands.no_types n s e) in
+        let none : AllByRecursion (λ (s : follow.Seen). scopes.is_type s.shown ≡ false) scope.exports =
+        all_given (λ (s : follow.Seen). scopes.is_type s.shown ≡ false) scope.exports (λ n s e. stands.stands.no_types n s e) in
         unnumbered (λ (s : follow.Seen). scopes.is_type s.shown ≡ false) w.exports.now scope.exports shows.exports none
 
     world_part_obeys : PartObeys t (parts.World w)
@@ -201,16 +221,20 @@ module _ (t : Tables) (tables : AreTables t) where
     world_views : (s : NumberedSight) → Contains (views_of_part (numbered_part (parts.World w))) s → ViewObeys t s
     world_views s c =
         let from = from_map whole_view (map numbered_instance w.instances.now) s c in
-        subst (ViewObeys t) from.2 (instances_obey scope stands (instance_of t from.0) (subst (λ is. Contains is (instance_of t from.0)) (sym shows.instances) (contains-map (instance_of t) (map numbered_instance w.instances.now) from.0 from.1)))
+        subst (ViewObeys t) from.2 (instances_obey scope stands (instance_of t from.0)
+        (subst (λ is. Contains is (instance_of t from.0)) (sym shows.instances) (contains-map (instance_of t) (map numbered_instance w.instances.now) from.0 from.1)))
 
     -- ---- what is imported and exported
 
-    instance_view : (key : NumberedKey) (v : NumberedView) → KeyStands t key → (resources : List Text) (name : Text) → rules.is_item resources name (shown_of t (instance key v)) ≡ true → ViewObeys t (record { place = place_of_key key; view = v; whole = true })
+    instance_view : (key : NumberedKey) (v : NumberedView) → KeyStands t key → (resources : List Text) (name : Text) → rules.is_item resources name (shown_of t (instance key v)) ≡ true
+        → ViewObeys t (record { place = place_of_key key; view = v; whole = true })
     instance_view key v key_stands resources name is = subst (λ place. rules.is_interface place (view_of t v) ≡ true) (key_place key key_stands) is
 
-    import_types : (key : Bor (List ℕ)) (id : Option (Bor (List ℕ))) (x : Shown) → IsSeenIn t w.home (record { key = key.now; shown = numbered_shown x; external_id = given_text id }) → DeclaresName t w.home (record { key = key; shown = x; external_id = id })
+    import_types : (key : Bor (List ℕ)) (id : Option (Bor (List ℕ))) (x : Shown) → IsSeenIn t w.home (record { key = key.now; shown = numbered_shown x; external_id = given_text id })
+        → DeclaresName t w.home (record { key = key; shown = x; external_id = id })
         → (item : IsItem key.now (shown_of t (numbered_shown x))) → (y : NumberedShowing) → Contains (showings_of_shown x (given_text id)) y → TypeObeys t y
-    import_types key id (shown.Instance k v) seen named item y c = view_types (record { place = place_of_key (numbered_key k); view = numbered_view v; whole = true }) seen.1 (instance_view (numbered_key k) (numbered_view v) seen.0 item.resources key.now item.is) y c
+    import_types key id (shown.Instance k v) seen named item y c = view_types (record { place = place_of_key (numbered_key k); view = numbered_view v; whole = true }) seen.1
+        (instance_view (numbered_key k) (numbered_view v) seen.0 item.resources key.now item.is) y c
     import_types key id (shown.Function f) seen named item y c = none-in y c
     import_types key id (shown.Declares part d) seen named item y c =
         let one : seen.0 ≡ named.0 = tables.shapes.apart seen.0 named.0 (named_shape w.home key.now) seen.1.named named.2 in
@@ -225,14 +249,18 @@ module _ (t : Tables) (tables : AreTables t) where
           obeys = ap (λ place. rules.is_declared place (declaration_of t d)) home_here ∙ second_true (is_label key.now) declared item.is;
         })
 
-    export_types : (key : Text) (id : Option Text) (x : Shown) → IsSeenIn t w.home (record { key = key; shown = numbered_shown x; external_id = id }) → scopes.is_type (shown_of t (numbered_shown x)) ≡ false
+    export_types : (key : Text) (id : Option Text) (x : Shown) → IsSeenIn t w.home (record { key = key; shown = numbered_shown x; external_id = id })
+        → scopes.is_type (shown_of t (numbered_shown x)) ≡ false
         → (item : IsItem key (shown_of t (numbered_shown x))) → (y : NumberedShowing) → Contains (showings_of_shown x id) y → TypeObeys t y
-    export_types key id (shown.Instance k v) seen none item y c = view_types (record { place = place_of_key (numbered_key k); view = numbered_view v; whole = true }) seen.1 (instance_view (numbered_key k) (numbered_view v) seen.0 item.resources key item.is) y c
+    export_types key id (shown.Instance k v) seen none item y c = view_types (record { place = place_of_key (numbered_key k); view = numbered_view v; whole = true }) seen.1
+        (instance_view (numbered_key k) (numbered_view v) seen.0 item.resources key item.is) y c
     export_types key id (shown.Function f) seen none item y c = none-in y c
     export_types key id (shown.Declares part d) seen none item y c = let wrong : true ≡ false = none in absurd cc
 
-    shown_signatures : (key : Text) (id : Option Text) (x : Shown) → IsSeenIn t w.home (record { key = key; shown = numbered_shown x; external_id = id }) → (item : IsItem key (shown_of t (numbered_shown x))) → (f : ℕ) → Contains (signatures_of_shown x) f → SignatureObeys t f
-    shown_signatures key id (shown.Instance k v) seen item f c = view_signatures (record { place = place_of_key (numbered_key k); view = numbered_view v; whole = true }) seen.1 (instance_view (numbered_key k) (numbered_view v) seen.0 item.resources key item.is) f c
+    shown_signatures : (key : Text) (id : Option Text) (x : Shown) → IsSeenIn t w.home (record { key = key; shown = numbered_shown x; external_id = id })
+        → (item : IsItem key (shown_of t (numbered_shown x))) → (f : ℕ) → Contains (signatures_of_shown x) f → SignatureObeys t f
+    shown_signatures key id (shown.Instance k v) seen item f c = view_signatures (record { place = place_of_key (numbered_key k); view = numbered_view v; whole = true }) seen.1
+        (instance_view (numbered_key k) (numbered_view v) seen.0 item.resources key item.is) f c
     shown_signatures key id (shown.Function g) seen item f c = subst (SignatureObeys t) (one-contained g f c) (record {
       place = Place.here;
       range = parts_weaker (IsMetFrom t w.home) (IsPart t) (λ i m. m.range) (function_at t g) seen.parts;
@@ -250,11 +278,13 @@ module _ (t : Tables) (tables : AreTables t) where
         by (inl among) =
             let from = flat_cases showings_of_seen w.imports.now y among in
             let s = from.0 in
-            import_types s.key s.external_id s.shown (seen_in w.imports.now good.imports s from.1) (all_at (DeclaresName t w.home) w.imports.now declares s from.1) (all_at ItemObeys w.imports.now imports_obey s from.1) y from.2
+            import_types s.key s.external_id s.shown (seen_in w.imports.now good.imports s from.1) (all_at (DeclaresName t w.home) w.imports.now declares s from.1)
+            (all_at ItemObeys w.imports.now imports_obey s from.1) y from.2
         by (inr among) =
             let from = flat_cases showings_of_seen w.exports.now y among in
             let s = from.0 in
-            export_types s.key.now (given_text s.external_id) s.shown (seen_in w.exports.now good.exports s from.1) (all_at (λ (x : Seen). scopes.is_type (shown_of t (numbered_shown x.shown)) ≡ false) w.exports.now no_types s from.1)
+            export_types s.key.now (given_text s.external_id) s.shown (seen_in w.exports.now good.exports s from.1)
+            (all_at (λ (x : Seen). scopes.is_type (shown_of t (numbered_shown x.shown)) ≡ false) w.exports.now no_types s from.1)
             (all_at ItemObeys w.exports.now exports_obey s from.1) y from.2
 
     world_signatures : (f : ℕ) → Contains (signatures_of_part (parts.World w)) f → SignatureObeys t f
@@ -272,7 +302,8 @@ module _ (t : Tables) (tables : AreTables t) where
 
   -- ---- all that is exported
 
-  module _ (h : Homes) (ms : List Member) (members : List reads.Member) (input : IsInput t h ms members) (known : ℕ → Fact) (sights : AllByRecursion (IsKnownSight t known) (sights_of_members t (numbered_members ms)))
+  module _ (h : Homes) (ms : List Member) (members : List reads.Member) (input : IsInput t h ms members) (known : ℕ → Fact)
+      (sights : AllByRecursion (IsKnownSight t known) (sights_of_members t (numbered_members ms)))
       (fine : are_interfaces t known (sights_of_members t (numbered_members ms)) ≡ true) where
     abbrev seen : List NumberedSight
     seen = sights_of_members t (numbered_members ms)
@@ -306,7 +337,8 @@ module _ (t : Tables) (tables : AreTables t) where
       rule : PartObeys t a
       signatures : (f : ℕ) → Contains (signatures_of_part a) f → SignatureObeys t f
 
-    interface_follows : (p : ℕ) (v : View) (imports : Bor (List ImportedView)) → IsPartIn t (numbered_part (parts.Interface p v imports)) → ((s : NumberedSight) → Contains (views_of_part (numbered_part (parts.Interface p v imports))) s → ViewObeys t s)
+    interface_follows : (p : ℕ) (v : View) (imports : Bor (List ImportedView)) → IsPartIn t (numbered_part (parts.Interface p v imports))
+        → ((s : NumberedSight) → Contains (views_of_part (numbered_part (parts.Interface p v imports))) s → ViewObeys t s)
         → PartFollows (parts.Interface p v imports)
     interface_follows p v imports good each = record {
       views = each;
@@ -322,12 +354,14 @@ module _ (t : Tables) (tables : AreTables t) where
         own_there = Contains-append_right (map types_alone (map numbered_import imports.now)) (own ∷ []) own (contains-one own)
 
         import_there : (i : ImportedView) → Contains imports.now i → Contains (map types_alone (map numbered_import imports.now) ++ own ∷ []) (types_alone (numbered_import i))
-        import_there i c = Contains-append_left (map types_alone (map numbered_import imports.now)) (own ∷ []) (types_alone (numbered_import i)) (contains-map types_alone (map numbered_import imports.now) (numbered_import i) (contains-map numbered_import imports.now i c))
+        import_there i c = Contains-append_left (map types_alone (map numbered_import imports.now)) (own ∷ []) (types_alone (numbered_import i))
+            (contains-map types_alone (map numbered_import imports.now) (numbered_import i) (contains-map numbered_import imports.now i c))
 
         by_type : (y : NumberedShowing) → Contains (flat_map showings_of_import imports.now) y ⊎ Contains (showings_of_view (numbered_view v)) y → TypeObeys t y
         by_type y (inl among) =
             let from = flat_cases showings_of_import imports.now y among in
-            let is = all_at (λ (i : ℕ × NumberedView). HasPath t i.0 × IsViewIn t i.0 i.1) (map numbered_import imports.now) good.1 (numbered_import from.0) (contains-map numbered_import imports.now from.0 from.1) in
+            let is = all_at (λ (i : ℕ × NumberedView). HasPath t i.0 × IsViewIn t i.0 i.1) (map numbered_import imports.now) good.1 (numbered_import from.0)
+            (contains-map numbered_import imports.now from.0 from.1) in
             view_types (types_alone (numbered_import from.0)) is.1 (each (types_alone (numbered_import from.0)) (import_there from.0 from.1)) y from.2
         by_type y (inr among) = view_types own good.0.1 (each own own_there) y among
 
@@ -353,7 +387,8 @@ module _ (t : Tables) (tables : AreTables t) where
           (member_follows m.0 m.1).views s (subst (λ (x : NumberedMember). Contains (views_of_part x.part) s) (sym m.2) from.2));
       types = all_of (TypeObeys t) (showings_of_members ms) (λ y c. let from = flat_cases (λ (m : Member). showings_of_part m.part) ms y c in (member_follows from.0 from.1).types y from.2);
       worlds = all_of (λ (m : Member). PartObeys t m.part) ms (λ m c. (member_follows m c).rule);
-      signatures = all_of (SignatureObeys t) (signatures_of_members ms) (λ f c. let from = flat_cases (λ (m : Member). signatures_of_part m.part) ms f c in (member_follows from.0 from.1).signatures f from.2);
+      signatures = all_of (SignatureObeys t) (signatures_of_members ms) (λ f c. let from = flat_cases (λ (m : Member). signatures_of_part m.part) ms f c in
+          (member_follows from.0 from.1).signatures f from.2);
     }
 
 pub shown_obeys_rules : ShownObeysRules

@@ -71,7 +71,8 @@ sight_viewed t ms s c =
         let from = flat_cases (sights_of_instance t) w.instances s there in
         subst (Contains (map whole_view w.instances)) (view_given t from.0 s from.2) (contains-map whole_view w.instances from.0 from.1)
 
-module _ (t : Tables) (h : Homes) (known : ℕ → Fact) (n : ℕ) (ms : List Member) (members : List reads.Member) (given : IsPackageInput t h known n ms members) (ordered : ViewsAreOrdered t ms) (p : Plan)
+module _ (t : Tables) (h : Homes) (known : ℕ → Fact) (n : ℕ) (ms : List Member) (members : List reads.Member) (given : IsPackageInput t h known n ms members)
+    (ordered : ViewsAreOrdered t ms) (p : Plan)
     (planned : PlansWhole t h.packages (home_at h) n ms p) (b : Beside) (owned : b.owners ≡ owners_of ms) (read : IsReadPlan t h planned.kept p b (views_read ms)) where
   abbrev sights : List NumberedSight
   sights = sights_of_members t (numbered_members ms)
@@ -98,7 +99,8 @@ module _ (t : Tables) (h : Homes) (known : ℕ → Fact) (n : ℕ) (ms : List Me
   Read = IsReadWorld t planned.kept p b (views_read ms)
 
   -- the item that is the interface of a place shows the place
-  item_shows : (o : TypeOwner) (home : ℕ) (x : ReadItem) → IsReadItem t planned.kept p b (views_read ms) o home x → (q k : ℕ) → b.owners q ≡ as_interface k → item_interface x.entry.1 ≡ Some k → place_shown x.seen.shown ≡ Some q
+  item_shows : (o : TypeOwner) (home : ℕ) (x : ReadItem) → IsReadItem t planned.kept p b (views_read ms) o home x → (q k : ℕ) → b.owners q ≡ as_interface k → item_interface x.entry.1 ≡ Some k
+      → place_shown x.seen.shown ≡ Some q
   item_shows o home x is q k own at = by is
     where
       one_place : (r m : ℕ) (key : PlannedKey) (id : Option Text) → b.owners r ≡ as_interface m → x.entry ≡ (key, plan.interface m id) → r ≡ q
@@ -122,7 +124,8 @@ module _ (t : Tables) (h : Homes) (known : ℕ → Fact) (n : ℕ) (ms : List Me
   owned_as : (q k : ℕ) → number_in (places_in ms) q ≡ Some k → b.owners q ≡ as_interface k
   owned_as q k e = ap (λ (f : ℕ → TypeOwner). f q) owned ∙ owner_numbered ms q k e
 
-  planned_as : (find : Text → Option TypeId) (s : Seen) (e : PlannedKey × PlannedItem) (q : ℕ) → PlansItem t planned.kept (places_in ms) find s e → place_shown (numbered_shown s.shown) ≡ Some q → IsPlannedAs q e
+  planned_as : (find : Text → Option TypeId) (s : Seen) (e : PlannedKey × PlannedItem) (q : ℕ) → PlansItem t planned.kept (places_in ms) find s e → place_shown (numbered_shown s.shown) ≡ Some q
+      → IsPlannedAs q e
   planned_as find s e q (items.an_instance key v shows is) at =
       let place : place_of_key (numbered_key key) ≡ q = same-some (place_of_key (numbered_key key)) q (sym (ap (λ k. place_shown (numbered_shown k)) shows) ∙ at) in
       record { number = is.number; own = owned_as q is.number (ap (number_in (places_in ms)) (sym place) ∙ is.found); is = ap (λ (x : PlannedKey × PlannedItem). item_interface x.1) is.is }
@@ -130,17 +133,24 @@ module _ (t : Tables) (h : Homes) (known : ℕ → Fact) (n : ℕ) (ms : List Me
   planned_as find s e q (items.a_type part d k shows entry is) at = let wrong : ◌≡◌ {A = Option ℕ} None (Some q) = sym (ap (λ k. place_shown (numbered_shown k)) shows) ∙ at in absurd cc
 
   -- what a list of imports or exports is read as shows the place
-  listed_shows : (find : Text → Option TypeId) (o : TypeOwner) (home : ℕ) (ss : List Seen) (es : List (PlannedKey × PlannedItem)) → AllZip (PlansItem t planned.kept (places_in ms) find) ss es → (xs : List ReadItem) → map (λ (x : ReadItem). x.entry) xs ≡ es
-      → AllByRecursion (IsReadItem t planned.kept p b (views_read ms) o home) xs → (q : ℕ) (s : Seen) → Contains ss s → place_shown (numbered_shown s.shown) ≡ Some q → (x : ReadItem) × Contains xs x × (place_shown x.seen.shown ≡ Some q)
+  listed_shows : (find : Text → Option TypeId) (o : TypeOwner) (home : ℕ) (ss : List Seen) (es : List (PlannedKey × PlannedItem)) → AllZip (PlansItem t planned.kept (places_in ms) find) ss es
+      → (xs : List ReadItem) → map (λ (x : ReadItem). x.entry) xs ≡ es
+      → AllByRecursion (IsReadItem t planned.kept p b (views_read ms) o home) xs → (q : ℕ) (s : Seen) → Contains ss s → place_shown (numbered_shown s.shown) ≡ Some q → (x : ReadItem) × Contains xs x
+      × (place_shown x.seen.shown ≡ Some q)
   listed_shows find o home ss es zip xs listed all q s c at =
       let j = contains-get ss s c in
       let e = zip_at (PlansItem t planned.kept (places_in ms) find) ss es zip j.0 s j.1 in
       let becomes = planned_as find s e.0 q e.2 at in
       let item = unmapped_get (λ (x : ReadItem). x.entry) xs j.0 e.0 (ap (λ ys. slice_get ys j.0) listed ∙ e.1) in
-      let among = get-contains xs j.0 item.0 item.1 in
-      (item.0, among, item_shows o home item.0 (all_at (IsReadItem t planned.kept p b (views_read ms) o home) xs all item.0 among) q becomes.number becomes.own (ap (λ (x : PlannedKey × PlannedItem). item_interface x.1) item.2 ∙ becomes.is))
+      let among = get-contains xs j.0 item.0 item.1 in (
+        item.0,
+        among,
+        item_shows o home item.0 (all_at (IsReadItem t planned.kept p b (views_read ms) o home) xs all item.0 among) q becomes.number becomes.own
+            (ap (λ (x : PlannedKey × PlannedItem). item_interface x.1) item.2 ∙ becomes.is),
+      )
 
-  pub worlds_show : (m : Member) → Contains ms m → (w : Scope) → m.part ≡ parts.World w → (i : NumberedInstance) → Contains (numbered_scope w).instances i → IsShownByWorld t h planned.kept p b (views_read ms) read i.place
+  pub worlds_show : (m : Member) → Contains ms m → (w : Scope) → m.part ≡ parts.World w → (i : NumberedInstance) → Contains (numbered_scope w).instances i
+      → IsShownByWorld t h planned.kept p b (views_read ms) read i.place
   worlds_show m c w is i among =
       let j = contains-get (worlds_in ms) (m.label.now, w) (world_among ms m c w is) in
       let x = zip_at (PlansWorld t planned.kept (places_in ms) n) (worlds_in ms) p.worlds planned.worlds j.0 (m.label.now, w) j.1 in

@@ -134,7 +134,8 @@ module _ (t : Tables) (tables : AreTables t) where
         among : Contains views s
         among = get-contains views k s there
 
-        met_shows : (count : ℕ) (b : Bool) → (q ≡ s.place) ⊎ HasPath t q → IsMetInView (IsShownBefore instances k) (place_at t s.place) (view_of t s.view) count (place_at t q) name b → ShowsNumber t views q n
+        met_shows : (count : ℕ) (b : Bool) → (q ≡ s.place) ⊎ HasPath t q → IsMetInView (IsShownBefore instances k) (place_at t s.place) (view_of t s.view) count (place_at t q) name b
+            → ShowsNumber t views q n
         met_shows count b here (met_outside before) = outside_shows k b before
         met_shows count b (inl same) (met_inside own shows) = view_shows s among (sym same) count (place_at t s.place) b shows
         met_shows count b (inr path) (met_inside own shows) = view_shows s among (same_place s.place q path (sym own)) count (place_at t s.place) b shows
@@ -145,7 +146,8 @@ module _ (t : Tables) (tables : AreTables t) where
             let is = all_at (IsShownIn t s.place) s.view.types (good_view s among).types x (get-contains s.view.types i x e) in
             let met : IsMetFrom t s.place j = subst (AllOf (IsMetFrom t s.place)) some is.name.met in
             let type_ = stands.types i (shown_type t x) (mapped_get (shown_type t) s.view.types i x e) in
-            let declared = subst (λ d. DeclarationStands (IsMetInView (IsShownBefore instances k) (place_at t s.place) (view_of t s.view) i) (declaration_of t d) type_.is_resource) some type_.declared in
+            let declared = subst (λ d. DeclarationStands (IsMetInView (IsShownBefore instances k) (place_at t s.place) (view_of t s.view) i) (declaration_of t d) type_.is_resource) some
+            type_.declared in
             let name_met = in_declared t tables (IsMetInView (IsShownBefore instances k) (place_at t s.place) (view_of t s.view) i) n q name at j met.range found type_.is_resource declared in
             met_shows i name_met.0 (met.names q (name_in t.shapes tables.shapes j n q name found at)) name_met.1
 
@@ -167,7 +169,8 @@ module _ (t : Tables) (tables : AreTables t) where
             declared_shows there.0 x there.1 inner.0 inner.1 inner.2
 
         -- a part of a function that is shown
-        pub function_shows : (f : Text × NumberedFunction) → Contains s.view.functions f → (j : ℕ) → Contains (signature_parts (function_at t f.1.signature)) j → IsIn t.shapes j n → ShowsNumber t views q n
+        pub function_shows : (f : Text × NumberedFunction) → Contains s.view.functions f → (j : ℕ) → Contains (signature_parts (function_at t f.1.signature)) j → IsIn t.shapes j n
+            → ShowsNumber t views q n
         function_shows f c j part found =
             let there = contains-get s.view.functions f c in
             let called = all_at (λ (g : Text × NumberedFunction). IsCalledIn t s.place g.1.signature) s.view.functions (good_view s among).functions f c in

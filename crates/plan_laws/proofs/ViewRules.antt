@@ -87,7 +87,8 @@ module _ (t : Tables) (place : Place) where
 -- ---- the functions that are seen
 
 module _ (t : Tables) (q : ℕ) (xs : List NumberedType) (gs : List (Text × NumberedFunction)) (first : obeys t (place_at t q) xs gs ≡ true) where
-  pub seen_obeys : (seen : List NumberedSight) → ((s : NumberedSight) → Contains seen s → s.place ≡ q → map told xs ≡ map told s.view.types) → ((s : NumberedSight) → Contains seen s → rules.is_interface (place_at t s.place) (view_of t s.view) ≡ true)
+  pub seen_obeys : (seen : List NumberedSight) → ((s : NumberedSight) → Contains seen s → s.place ≡ q → map told xs ≡ map told s.view.types)
+      → ((s : NumberedSight) → Contains seen s → rules.is_interface (place_at t s.place) (view_of t s.view) ≡ true)
       → obeys t (place_at t q) xs (functions_seen q seen) ≡ true
   seen_obeys [] same obey = types_obey t (place_at t q) xs gs first
   seen_obeys (s ∷ rest) same obey = by (s.place == q && s.whole) refl (seen_obeys rest (λ u c e. same u (later u c) e) (λ u c. obey u (later u c)))
@@ -95,7 +96,8 @@ module _ (t : Tables) (q : ℕ) (xs : List NumberedType) (gs : List (Text × Num
       later : (u : NumberedSight) → Contains rest u → Contains (s ∷ rest) u
       later u (i, low, e) = (suc i, omega (arith, low), e)
 
-      by : (b : Bool) → (s.place == q && s.whole) ≡ b → obeys t (place_at t q) xs (functions_seen q rest) ≡ true → obeys t (place_at t q) xs (if b then s.view.functions else functions_seen q rest) ≡ true
+      by : (b : Bool) → (s.place == q && s.whole) ≡ b → obeys t (place_at t q) xs (functions_seen q rest) ≡ true
+          → obeys t (place_at t q) xs (if b then s.view.functions else functions_seen q rest) ≡ true
       by true here more =
           let place : s.place ≡ q = eqb-true s.place q (first_true (s.place == q) s.whole here) in
           joined_obeys t (place_at t q) xs s.view.types gs s.view.functions (same s (0, omega arith, refl) place) first

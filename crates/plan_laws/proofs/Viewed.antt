@@ -58,13 +58,17 @@ use Rattle.plan_package.proofs.PlacedLaws.{part_placed as places_of_views}
 use Rattle.plan_package.proofs.ReadPackageLaws.{number_at as number_there}
 
 -- what stands beside the same elements
-zip_beside : {A B C : Type 0} (P : A → B → Type 0) (Q : A → C → Type 0) (R : B → C → Type 0) (xs : List A) → ((x : A) → Contains xs x → (b : B) (c : C) → P x b → Q x c → R b c) → (bs : List B) (cs : List C) → AllZip P xs bs → AllZip Q xs cs → AllZip R bs cs
+zip_beside : {A B C : Type 0} (P : A → B → Type 0) (Q : A → C → Type 0) (R : B → C → Type 0) (xs : List A) → ((x : A) → Contains xs x → (b : B) (c : C) → P x b → Q x c → R b c)
+    → (bs : List B) (cs : List C) → AllZip P xs bs → AllZip Q xs cs → AllZip R bs cs
 zip_beside P Q R [] each [] [] p q = tt
 zip_beside P Q R [] each [] (c ∷ cs) p q = absurd q
 zip_beside P Q R [] each (b ∷ bs) cs p q = absurd p
 zip_beside P Q R (x ∷ xs) each [] cs p q = absurd p
 zip_beside P Q R (x ∷ xs) each (b ∷ bs) [] p q = absurd q
-zip_beside P Q R (x ∷ xs) each (b ∷ bs) (c ∷ cs) p q = (each x (0, omega arith, refl) b c p.0 q.0, zip_beside P Q R xs (λ y at. each y (suc at.0, (let low = at.1 in omega (arith, low)), at.2)) bs cs p.1 q.1)
+zip_beside P Q R (x ∷ xs) each (b ∷ bs) (c ∷ cs) p q = (
+  each x (0, omega arith, refl) b c p.0 q.0,
+  zip_beside P Q R xs (λ y at. each y (suc at.0, (let low = at.1 in omega (arith, low)), at.2)) bs cs p.1 q.1,
+)
 
 pub zip_within : {A B : Type 0} (P Q : A → B → Type 0) (xs : List A) → ((x : A) → Contains xs x → (b : B) → P x b → Q x b) → (bs : List B) → AllZip P xs bs → AllZip Q xs bs
 zip_within P Q [] each [] p = tt
@@ -72,7 +76,8 @@ zip_within P Q [] each (b ∷ bs) p = absurd p
 zip_within P Q (x ∷ xs) each [] p = absurd p
 zip_within P Q (x ∷ xs) each (b ∷ bs) p = (each x (0, omega arith, refl) b p.0, zip_within P Q xs (λ y at. each y (suc at.0, (let low = at.1 in omega (arith, low)), at.2)) bs p.1)
 
-module _ (t : Tables) (h : Homes) (ms : List Member) (members : List reads.Member) (input : IsInput t h ms members) (alone : (q : ℕ) → path_at t q ≡ None → home_at h q ≡ None) (agreed : agree_in_numbers (sights_of_members t (numbered_members ms)) ≡ true) (ordered : ViewsAreOrdered t ms)
+module _ (t : Tables) (h : Homes) (ms : List Member) (members : List reads.Member) (input : IsInput t h ms members) (alone : (q : ℕ) → path_at t q ≡ None → home_at h q ≡ None)
+    (agreed : agree_in_numbers (sights_of_members t (numbered_members ms)) ≡ true) (ordered : ViewsAreOrdered t ms)
     (n : ℕ) (p : Plan) (planned : PlansWhole t h.packages (home_at h) n ms p) (b : Beside) (beside_owners : b.owners ≡ owners_of ms) where
   abbrev views : List NumberedSight
   views = views_of_members (numbered_members ms)
@@ -83,9 +88,11 @@ module _ (t : Tables) (h : Homes) (ms : List Member) (members : List reads.Membe
   owner_at : (m q : ℕ) → slice_get places m ≡ Some q → b.owners q ≡ as_interface m
   owner_at m q e = ap (λ (o : ℕ → TypeOwner). o q) beside_owners ∙ owner_numbered ms q m (place_number ms m q e)
 
-  places_of_all : (xs : List NumberedMember) → map (λ (s : NumberedSight). s.place) (flat_map (λ (m : NumberedMember). views_of_part m.part) xs) ≡ flat_map (λ (m : NumberedMember). places_of_part m.part) xs
+  places_of_all : (xs : List NumberedMember)
+      → map (λ (s : NumberedSight). s.place) (flat_map (λ (m : NumberedMember). views_of_part m.part) xs) ≡ flat_map (λ (m : NumberedMember). places_of_part m.part) xs
   places_of_all [] = refl
-  places_of_all (m ∷ xs) = append_of_map (λ (s : NumberedSight). s.place) (views_of_part m.part) (flat_map (λ (x : NumberedMember). views_of_part x.part) xs) ∙ (λ i. places_of_views m.part i ++ places_of_all xs i)
+  places_of_all (m ∷ xs) = append_of_map (λ (s : NumberedSight). s.place) (views_of_part m.part) (flat_map (λ (x : NumberedMember). views_of_part x.part) xs)
+      ∙ (λ i. places_of_views m.part i ++ places_of_all xs i)
 
   -- ---- one interface
 
@@ -97,7 +104,8 @@ module _ (t : Tables) (h : Homes) (ms : List Member) (members : List reads.Membe
     place = (first_is q views first is_first).1
 
     -- the new number of a type
-    type_listed : (x : NumberedType) → Contains first.view.types x → (e : Text × ℕ) → ListsNumber planned.kept x e → (is : IsShownIn t first.place x) → (slice_get planned.kept e.1 ≡ Some is.number) × (e.1 < length p.types)
+    type_listed : (x : NumberedType) → Contains first.view.types x → (e : Text × ℕ) → ListsNumber planned.kept x e → (is : IsShownIn t first.place x) → (slice_get planned.kept e.1 ≡ Some is.number)
+        × (e.1 < length p.types)
     type_listed x c e lists is = by lists.1
       where
         part : slot_part x.slot ≡ 14 + is.number
@@ -174,7 +182,8 @@ module _ (t : Tables) (h : Homes) (ms : List Member) (members : List reads.Membe
     -- ---- what it uses
 
     declares_parts : DeclaresParts t first.view
-    declares_parts = recursion_weaker (IsShownIn t first.place) (λ (x : NumberedType). AllOf (IsPart t) x.declared) (λ x is. ranges x.declared is.name.met) first.view.types (view_good t h ms members input agreed ordered first among).types
+    declares_parts = recursion_weaker (IsShownIn t first.place) (λ (x : NumberedType). AllOf (IsPart t) x.declared) (λ x is. ranges x.declared is.name.met) first.view.types
+        (view_good t h ms members input agreed ordered first among).types
       where
         ranges : (d : Option ℕ) → AllOf (IsMetFrom t first.place) d → AllOf (IsPart t) d
         ranges None met = tt
@@ -191,16 +200,22 @@ module _ (t : Tables) (h : Homes) (ms : List Member) (members : List reads.Membe
       same_path o e = e ∙ ap Some (path_is t r r_path)
 
       -- a place before the first view has a smaller number
-      used_before : (front back : List NumberedSight) → views ≡ front ++ first ∷ back → ((u : NumberedSight) → Contains front u → u.place ≡ q → ⊥) → (u : NumberedSight) → Contains front u → u.place ≡ r → IsUsedPlace b.owners m q r
+      used_before : (front back : List NumberedSight) → views ≡ front ++ first ∷ back → ((u : NumberedSight) → Contains front u → u.place ≡ q → ⊥) → (u : NumberedSight) → Contains front u
+          → u.place ≡ r → IsUsedPlace b.owners m q r
       used_before front back split new u c same =
           let flat : flat_map (λ (x : NumberedMember). places_of_part x.part) (numbered_members ms) ≡ map (λ (s : NumberedSight). s.place) front ++ q ∷ map (λ (s : NumberedSight). s.place) back =
           sym (places_of_all (numbered_members ms))
-          ∙ (ap (map (λ (s : NumberedSight). s.place)) split ∙ (append_of_map (λ (s : NumberedSight). s.place) front (first ∷ back) ∙ ap (λ x. map (λ (s : NumberedSight). s.place) front ++ x ∷ map (λ (s : NumberedSight). s.place) back) place)) in
-          let r_there : Contains (map (λ (s : NumberedSight). s.place) front) r = subst (Contains (map (λ (s : NumberedSight). s.place) front)) same (contains-map (λ (s : NumberedSight). s.place) front u c) in
+          ∙ (ap (map (λ (s : NumberedSight). s.place)) split ∙ (append_of_map (λ (s : NumberedSight). s.place) front (first ∷ back) ∙ ap
+          (λ x. map (λ (s : NumberedSight). s.place) front ++ x ∷ map (λ (s : NumberedSight). s.place) back) place)) in
+          let r_there : Contains (map (λ (s : NumberedSight). s.place) front) r =
+          subst (Contains (map (λ (s : NumberedSight). s.place) front)) same (contains-map (λ (s : NumberedSight). s.place) front u c) in
           let fresh : Contains (map (λ (s : NumberedSight). s.place) front) q → ⊥ = λ d. (let s = from_map (λ (x : NumberedSight). x.place) front q d in new s.0 s.1 s.2) in
           let all : places ≡ joined_all [] (map (λ (s : NumberedSight). s.place) front ++ q ∷ map (λ (s : NumberedSight). s.place) back) = ap (joined_all []) flat in
-          let given = number_given places r (subst (λ ps. Contains ps r) (sym all) (all_joined [] (map (λ (s : NumberedSight). s.place) front ++ q ∷ map (λ (s : NumberedSight). s.place) back) r (inr (Contains-append_left (map (λ (s : NumberedSight). s.place) front) (q ∷ map (λ (s : NumberedSight). s.place) back) r r_there)))) in
-          let low = number_before (map (λ (s : NumberedSight). s.place) front) (map (λ (s : NumberedSight). s.place) back) q fresh r given.0 m r_there (subst (λ ps. number_in ps r ≡ Some given.0) all given.1) (subst (λ ps. number_in ps q ≡ Some m) all (place_number ms m q at)) in
+          let given = number_given places r (subst (λ ps. Contains ps r) (sym all)
+          (all_joined [] (map (λ (s : NumberedSight). s.place) front ++ q ∷ map (λ (s : NumberedSight). s.place) back) r
+          (inr (Contains-append_left (map (λ (s : NumberedSight). s.place) front) (q ∷ map (λ (s : NumberedSight). s.place) back) r r_there)))) in
+          let low = number_before (map (λ (s : NumberedSight). s.place) front) (map (λ (s : NumberedSight). s.place) back) q fresh r given.0 m r_there
+          (subst (λ ps. number_in ps r ≡ Some given.0) all given.1) (subst (λ ps. number_in ps q ≡ Some m) all (place_number ms m q at)) in
           smaller given.0 (owner_at given.0 r (number_there places r given.0 given.1)) low
 
       uses : IsUsedPlace b.owners m q r
@@ -209,19 +224,22 @@ module _ (t : Tables) (h : Homes) (ms : List Member) (members : List reads.Membe
           let front = split.split.front in
           let trees = trees_of_all t input.tables h input.homes (numbered_members ms) members input.shown input.numbers in
           let here : slice_get views (length front) ≡ Some first = ap (λ xs. slice_get xs (length front)) split.split.is ∙ middle_get front first split.split.back in
-          let stands = input.stand.views (length front) (instance_tree t input.tables first) (subst (λ xs. slice_get xs (length front) ≡ Some (instance_tree t input.tables first)) (sym trees) (mapped_get (instance_tree t input.tables) views (length front) first here)) in
+          let stands = input.stand.views (length front) (instance_tree t input.tables first)
+          (subst (λ xs. slice_get xs (length front) ≡ Some (instance_tree t input.tables first)) (sym trees) (mapped_get (instance_tree t input.tables) views (length front) first here)) in
           by front split.split.back split.split.is split.none (all_instances members) trees
           (use_stands_before (all_instances members) (length front) (instance_tree t input.tables first) stands (path_text t r) path_used)
         where
           by : (front back : List NumberedSight) → views ≡ front ++ first ∷ back → ((u : NumberedSight) → Contains front u → u.place ≡ q → ⊥)
-              → (instances : List Instance) → instances ≡ map (instance_tree t input.tables) views → (path_at t first.place ≡ Some (path_text t r)) ⊎ IsInstanceBefore instances (length front) (path_text t r) → IsUsedPlace b.owners m q r
+              → (instances : List Instance) → instances ≡ map (instance_tree t input.tables) views → (path_at t first.place ≡ Some (path_text t r))
+              ⊎ IsInstanceBefore instances (length front) (path_text t r) → IsUsedPlace b.owners m q r
           by front back split new instances trees (inl own) = itself (input.tables.paths r q r_path.0 r_path.1 (ap (path_at t) (sym place) ∙ same_path (path_at t first.place) own))
           by front back split new instances trees (inr earlier) =
               let from = unmapped_get (instance_tree t input.tables) views earlier.number earlier.shown (subst (λ xs. slice_get xs earlier.number ≡ Some earlier.shown) trees earlier.at) in
               let u = from.0 in
               let path : path_at t u.place ≡ Some r_path.0 = ap (λ (x : Instance). x.interface) from.2 ∙ same_path earlier.shown.interface earlier.of_path in
               let same : u.place ≡ r = input.tables.paths u.place r r_path.0 path r_path.1 in
-              let inside : slice_get front earlier.number ≡ Some u = sym (front_get front (first ∷ back) earlier.number earlier.below) ∙ (ap (λ xs. slice_get xs earlier.number) (sym split) ∙ from.1) in
+              let inside : slice_get front earlier.number ≡ Some u = sym (front_get front (first ∷ back) earlier.number earlier.below)
+              ∙ (ap (λ xs. slice_get xs earlier.number) (sym split) ∙ from.1) in
               used_before front back split new u (get-contains front earlier.number u inside) same
 
     pub viewed : IsViewedInterface t planned.kept p b (views_read ms) m i

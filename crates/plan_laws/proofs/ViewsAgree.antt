@@ -34,7 +34,8 @@ same_told (x ∷ xs) [] h = absurd cc
 same_told (x ∷ xs) (y ∷ ys) h =
     let first = first_true (same_shown x y) (pointwise same_shown xs ys) h in
     let name = (bytes_eq-Decides x.name y.name).0 (first_true (text_eq x.name y.name) (same_number x.declared y.declared && same_id x.external_id y.external_id) first) in
-    let declared = same_declared x.declared y.declared (first_true (same_number x.declared y.declared) (same_id x.external_id y.external_id) (second_true (text_eq x.name y.name) (same_number x.declared y.declared && same_id x.external_id y.external_id) first)) in
+    let declared = same_declared x.declared y.declared (first_true (same_number x.declared y.declared) (same_id x.external_id y.external_id)
+    (second_true (text_eq x.name y.name) (same_number x.declared y.declared && same_id x.external_id y.external_id) first)) in
     let rest = same_told xs ys (second_true (same_shown x y) (pointwise same_shown xs ys) h) in
     λ i. (name i, declared i) ∷ rest i
 
@@ -50,10 +51,13 @@ pub all_agree : (xs : List NumberedSight) → agree_in_numbers xs ≡ true → (
 all_agree [] h a b c d same = none-in a c
 all_agree (x ∷ xs) h a b (zero, i_low, i_same) (zero, j_low, j_same) same = ap (λ (s : NumberedSight). map told s.view.types) (sym i_same ∙ j_same)
 all_agree (x ∷ xs) h a b (zero, i_low, i_same) (suc j, j_low, j_same) same =
-    ap (λ (s : NumberedSight). map told s.view.types) (sym i_same) ∙ agree_told x b (all-contained (agree x) xs b (first_true (list_all (agree x) xs) (agree_in_numbers xs) h) (j, omega (arith, j_low), j_same)) (ap (λ (s : NumberedSight). s.place) i_same ∙ same)
+    ap (λ (s : NumberedSight). map told s.view.types) (sym i_same) ∙ agree_told x b
+    (all-contained (agree x) xs b (first_true (list_all (agree x) xs) (agree_in_numbers xs) h) (j, omega (arith, j_low), j_same)) (ap (λ (s : NumberedSight). s.place) i_same ∙ same)
 all_agree (x ∷ xs) h a b (suc i, i_low, i_same) (zero, j_low, j_same) same =
-    sym (agree_told x a (all-contained (agree x) xs a (first_true (list_all (agree x) xs) (agree_in_numbers xs) h) (i, omega (arith, i_low), i_same)) (ap (λ (s : NumberedSight). s.place) j_same ∙ sym same)) ∙ ap (λ (s : NumberedSight). map told s.view.types) j_same
-all_agree (x ∷ xs) h a b (suc i, i_low, i_same) (suc j, j_low, j_same) same = all_agree xs (second_true (list_all (agree x) xs) (agree_in_numbers xs) h) a b (i, omega (arith, i_low), i_same) (j, omega (arith, j_low), j_same) same
+    sym (agree_told x a (all-contained (agree x) xs a (first_true (list_all (agree x) xs) (agree_in_numbers xs) h) (i, omega (arith, i_low), i_same))
+    (ap (λ (s : NumberedSight). s.place) j_same ∙ sym same)) ∙ ap (λ (s : NumberedSight). map told s.view.types) j_same
+all_agree (x ∷ xs) h a b (suc i, i_low, i_same) (suc j, j_low, j_same) same =
+    all_agree xs (second_true (list_all (agree x) xs) (agree_in_numbers xs) h) a b (i, omega (arith, i_low), i_same) (j, omega (arith, j_low), j_same) same
 
 abbrev owned_view : NumberedView → Owned → NumberedView
 owned_view default (a_view v) = v
@@ -67,7 +71,8 @@ module _ (t : Tables) (h : Homes) (ms : List Member) (members : List reads.Membe
   part_sight (world w) s c path e =
       let from = from_map whole_view w.instances s c in
       contains-flat (sights_of_instance t) w.instances from.0 s from.1
-      (subst (λ o. Contains (option_map_or (λ (p : Text). record { place = from.0.place; view = from.0.view; whole = true } ∷ []) o []) s) (sym (ap (path_at t) (ap (λ (x : NumberedSight). x.place) from.2) ∙ e))
+      (subst (λ o. Contains (option_map_or (λ (p : Text). record { place = from.0.place; view = from.0.view; whole = true } ∷ []) o []) s)
+      (sym (ap (path_at t) (ap (λ (x : NumberedSight). x.place) from.2) ∙ e))
       (subst (Contains (whole_view from.0 ∷ [])) from.2 (contains-one (whole_view from.0))))
   part_sight (interface p v imports) s c path e = c
 
@@ -78,11 +83,13 @@ module _ (t : Tables) (h : Homes) (ms : List Member) (members : List reads.Membe
       contains-flat (λ (m : NumberedMember). sights_of_part t m.part) numbered from.0 s from.1 (part_sight from.0.part s from.2 path e)
 
   -- two views of one place tell the same types
-  pub views_tell : agree_in_numbers (sights_of_members t numbered) ≡ true → (a b : NumberedSight) → Contains (views_of_members numbered) a → Contains (views_of_members numbered) b → a.place ≡ b.place → map told a.view.types ≡ map told b.view.types
+  pub views_tell : agree_in_numbers (sights_of_members t numbered) ≡ true → (a b : NumberedSight) → Contains (views_of_members numbered) a → Contains (views_of_members numbered) b → a.place ≡ b.place
+      → map told a.view.types ≡ map told b.view.types
   views_tell agrees a b c d same = by (path_at t b.place) refl
     where
       by : (o : Option Text) → path_at t b.place ≡ o → map told a.view.types ≡ map told b.view.types
       by (Some path) e = all_agree (sights_of_members t numbered) agrees a b (sight_there a c path (ap (path_at t) same ∙ e)) (sight_there b d path e) same
       by None e =
-          let at_a : Contains {X = Frame} (frames numbered) (b.place, a_view a.view) = subst (λ q. Contains {X = Frame} (frames numbered) (q, a_view a.view)) same (view_frame t h ms members input apart a c (ap (path_at t) same ∙ e)) in
+          let at_a : Contains {X = Frame} (frames numbered) (b.place, a_view a.view) =
+          subst (λ q. Contains {X = Frame} (frames numbered) (q, a_view a.view)) same (view_frame t h ms members input apart a c (ap (path_at t) same ∙ e)) in
           ap (λ (x : Owned). map told (owned_view b.view x).types) (one_owned t numbered apart b.place e (a_view a.view) (a_view b.view) at_a (view_frame t h ms members input apart b d e))

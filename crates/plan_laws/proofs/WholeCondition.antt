@@ -79,8 +79,10 @@ use Rattle.plan_laws.proofs.ViewNames.{part_of_function as part_of}
 -- ---- parts of functions
 
 parts_each : (P : ℕ → Type 0) (f : FunctionShape) → ((k : ℕ) → Contains (signature_parts f) k → P k) → PartsOf P f
-parts_each P f each =
-    (params f.params (λ k c. each k (Contains-append_left (map (λ (x : Text × ℕ). x.1) f.params) (option_to_list f.result) k c)), result f.result (λ k c. each k (Contains-append_right (map (λ (x : Text × ℕ). x.1) f.params) (option_to_list f.result) k c)))
+parts_each P f each = (
+  params f.params (λ k c. each k (Contains-append_left (map (λ (x : Text × ℕ). x.1) f.params) (option_to_list f.result) k c)),
+  result f.result (λ k c. each k (Contains-append_right (map (λ (x : Text × ℕ). x.1) f.params) (option_to_list f.result) k c)),
+)
   where
     params : (xs : List (Text × ℕ)) → ((k : ℕ) → Contains (map (λ (x : Text × ℕ). x.1) xs) k → P k) → AllByRecursion (λ (x : Text × ℕ). P x.1) xs
     params xs one = all_of (λ (x : Text × ℕ). P x.1) xs (λ x c. one x.1 (contains-map (λ (y : Text × ℕ). y.1) xs x c))
@@ -132,25 +134,32 @@ module _ (t : Tables) (h : Homes) (known : ℕ → Fact) (n : ℕ) (ms : List Me
   module _ (m : Member) (c : Contains ms m) (w : Scope) (is : m.part ≡ parts.World w) where
     seen_showing : (s : Seen) → Contains w.imports.now s ⊎ Contains w.exports.now s → (y : NumberedShowing) → Contains (showings_of_seen s) y → Contains showings y
     seen_showing s (inl among) y there =
-        member_showing m c y (subst (λ a. Contains (showings_of_part a) y) (sym is) (Contains-append_left (flat_map showings_of_seen w.imports.now) (flat_map showings_of_seen w.exports.now) y (contains-flat showings_of_seen w.imports.now s y among there)))
+        member_showing m c y (subst (λ a. Contains (showings_of_part a) y) (sym is)
+        (Contains-append_left (flat_map showings_of_seen w.imports.now) (flat_map showings_of_seen w.exports.now) y (contains-flat showings_of_seen w.imports.now s y among there)))
     seen_showing s (inr among) y there =
-        member_showing m c y (subst (λ a. Contains (showings_of_part a) y) (sym is) (Contains-append_right (flat_map showings_of_seen w.imports.now) (flat_map showings_of_seen w.exports.now) y (contains-flat showings_of_seen w.exports.now s y among there)))
+        member_showing m c y (subst (λ a. Contains (showings_of_part a) y) (sym is)
+        (Contains-append_right (flat_map showings_of_seen w.imports.now) (flat_map showings_of_seen w.exports.now) y (contains-flat showings_of_seen w.exports.now s y among there)))
 
     seen_signature : (s : Seen) → Contains w.imports.now s ⊎ Contains w.exports.now s → (k : ℕ) → Contains (signatures_of_seen s) k → Contains signatures k
     seen_signature s (inl among) k there =
-        member_signature m c k (subst (λ a. Contains (signatures_of_part a) k) (sym is) (Contains-append_left (flat_map signatures_of_seen w.imports.now) (flat_map signatures_of_seen w.exports.now) k (contains-flat signatures_of_seen w.imports.now s k among there)))
+        member_signature m c k (subst (λ a. Contains (signatures_of_part a) k) (sym is)
+        (Contains-append_left (flat_map signatures_of_seen w.imports.now) (flat_map signatures_of_seen w.exports.now) k (contains-flat signatures_of_seen w.imports.now s k among there)))
     seen_signature s (inr among) k there =
-        member_signature m c k (subst (λ a. Contains (signatures_of_part a) k) (sym is) (Contains-append_right (flat_map signatures_of_seen w.imports.now) (flat_map signatures_of_seen w.exports.now) k (contains-flat signatures_of_seen w.exports.now s k among there)))
+        member_signature m c k (subst (λ a. Contains (signatures_of_part a) k) (sym is)
+        (Contains-append_right (flat_map signatures_of_seen w.imports.now) (flat_map signatures_of_seen w.exports.now) k (contains-flat signatures_of_seen w.exports.now s k among there)))
 
     scope_good : IsScopeIn t (numbered_scope w)
     scope_good = (world_of t h ms members given.input given.placed.apart m c w is).good
 
     one_of : (s : Seen) → Contains w.imports.now s ⊎ Contains w.exports.now s → IsOneOf t (map numbered_instance w.instances.now) (numbered_shown s.shown)
-    one_of s (inl among) = all_at (λ (x : NumberedSeen). IsOneOf t (map numbered_instance w.instances.now) x.shown) (map numbered_seen w.imports.now) scope_good.imported (numbered_seen s) (contains-map numbered_seen w.imports.now s among)
-    one_of s (inr among) = all_at (λ (x : NumberedSeen). IsOneOf t (map numbered_instance w.instances.now) x.shown) (map numbered_seen w.exports.now) scope_good.exported (numbered_seen s) (contains-map numbered_seen w.exports.now s among)
+    one_of s (inl among) = all_at (λ (x : NumberedSeen). IsOneOf t (map numbered_instance w.instances.now) x.shown) (map numbered_seen w.imports.now) scope_good.imported (numbered_seen s)
+        (contains-map numbered_seen w.imports.now s among)
+    one_of s (inr among) = all_at (λ (x : NumberedSeen). IsOneOf t (map numbered_instance w.instances.now) x.shown) (map numbered_seen w.exports.now) scope_good.exported (numbered_seen s)
+        (contains-map numbered_seen w.exports.now s among)
 
     instance_view : (i : NumberedInstance) → Contains (map numbered_instance w.instances.now) i → Contains views (whole_view i)
-    instance_view i among = view_among ms m c (whole_view i) (subst (λ a. Contains (views_of_part (numbered_part a)) (whole_view i)) (sym is) (contains-map whole_view (map numbered_instance w.instances.now) i among))
+    instance_view i among = view_among ms m c (whole_view i) (subst (λ a. Contains (views_of_part (numbered_part a)) (whole_view i)) (sym is)
+        (contains-map whole_view (map numbered_instance w.instances.now) i among))
 
     instance_shown : (i : NumberedInstance) → Contains (map numbered_instance w.instances.now) i → IsShownSo (whole_view i)
     instance_shown i among =
@@ -167,8 +176,10 @@ module _ (t : Tables) (h : Homes) (known : ℕ → Fact) (n : ℕ) (ms : List Me
               among = instance_view j (subst (λ x. IsOneOf t (map numbered_instance w.instances.now) (numbered_shown x)) e (one_of s side));
               place = same-some (place_of_key (numbered_key key)) i.place at;
               whole = λ f. refl;
-              types = λ x there. seen_showing s side (showing_of x) (subst (λ k. Contains (showings_of_shown k (given_text s.external_id)) (showing_of x)) (sym e) (contains-map showing_of (numbered_view v).types x there));
-              functions = λ f g there. seen_signature s side g.1.signature (subst (λ k. Contains (signatures_of_shown k) g.1.signature) (sym e) (contains-map (λ (y : Text × NumberedFunction). y.1.signature) (numbered_view v).functions g there));
+              types = λ x there. seen_showing s side (showing_of x) (subst (λ k. Contains (showings_of_shown k (given_text s.external_id)) (showing_of x)) (sym e)
+                  (contains-map showing_of (numbered_view v).types x there));
+              functions = λ f g there. seen_signature s side g.1.signature (subst (λ k. Contains (signatures_of_shown k) g.1.signature) (sym e)
+                  (contains-map (λ (y : Text × NumberedFunction). y.1.signature) (numbered_view v).functions g there));
               none = λ f. no_true (sym f);
             }
 
@@ -182,7 +193,8 @@ module _ (t : Tables) (h : Homes) (known : ℕ → Fact) (n : ℕ) (ms : List Me
       by m m_in (parts.World w) is there =
           let i = from_map whole_view (map numbered_instance w.instances.now) s there in
           subst IsShownSo i.2 (instance_shown m m_in w is i.0 i.1)
-      by m m_in (parts.Interface q v imports) is there = side (Contains-append_cases (map types_alone (map numbered_import imports.now)) (record { place = q; view = numbered_view v; whole = true } ∷ []) s there)
+      by m m_in (parts.Interface q v imports) is there = side (Contains-append_cases (map types_alone (map numbered_import imports.now))
+          (record { place = q; view = numbered_view v; whole = true } ∷ []) s there)
         where
           own : NumberedSight
           own = record { place = q; view = numbered_view v; whole = true }
@@ -203,7 +215,8 @@ module _ (t : Tables) (h : Homes) (known : ℕ → Fact) (n : ℕ) (ms : List Me
             place = refl;
             whole = λ f. f;
             types = λ x x_in. in_part (showing_of x)
-                (Contains-append_left (flat_map showings_of_import imports.now) (showings_of_view (numbered_view v)) (showing_of x) (contains-flat showings_of_import imports.now i (showing_of x) among (contains-map showing_of (numbered_view i.view).types x x_in)));
+                (Contains-append_left (flat_map showings_of_import imports.now) (showings_of_view (numbered_view v)) (showing_of x)
+                (contains-flat showings_of_import imports.now i (showing_of x) among (contains-map showing_of (numbered_view i.view).types x x_in)));
             functions = λ f. no_true f;
             none = λ f. bare_import i among;
           }
@@ -214,9 +227,11 @@ module _ (t : Tables) (h : Homes) (known : ℕ → Fact) (n : ℕ) (ms : List Me
             among = subst (Contains views) e c;
             place = refl;
             whole = λ f. f;
-            types = λ x x_in. in_part (showing_of x) (Contains-append_right (flat_map showings_of_import imports.now) (showings_of_view (numbered_view v)) (showing_of x) (contains-map showing_of (numbered_view v).types x x_in));
+            types = λ x x_in. in_part (showing_of x) (Contains-append_right (flat_map showings_of_import imports.now) (showings_of_view (numbered_view v)) (showing_of x)
+                (contains-map showing_of (numbered_view v).types x x_in));
             functions = λ f g g_in.
-                member_signature m m_in g.1.signature (subst (λ a. Contains (signatures_of_part a) g.1.signature) (sym is) (contains-map (λ (y : Text × NumberedFunction). y.1.signature) (numbered_view v).functions g g_in));
+                member_signature m m_in g.1.signature (subst (λ a. Contains (signatures_of_part a) g.1.signature) (sym is)
+                (contains-map (λ (y : Text × NumberedFunction). y.1.signature) (numbered_view v).functions g g_in));
             none = λ f. no_true (sym f);
           }
 
@@ -310,7 +325,8 @@ module _ (t : Tables) (h : Homes) (known : ℕ → Fact) (n : ℕ) (ms : List Me
         all_of (IsKeptPart kept) s.parts (λ k c. part_kept k (λ i e. part m i s.parts used (mapped_get (λ (x : Shape). x.parts) t.shapes m s at) (subst (Contains s.parts) e c)))
 
     are_names : AllByRecursion (λ (y : NumberedShowing). (x : ℕ × Text) × (name_at t y.part ≡ Some x)) showings
-    are_names = recursion_weaker (TypeObeys t) (λ (y : NumberedShowing). (x : ℕ × Text) × (name_at t y.part ≡ Some x)) (λ y is. ((is.place, is.name), name_there t y.part is.number is.place is.name is.part is.is.named)) showings ruled.rules.types
+    are_names = recursion_weaker (TypeObeys t) (λ (y : NumberedShowing). (x : ℕ × Text) × (name_at t y.part ≡ Some x))
+        (λ y is. ((is.place, is.name), name_there t y.part is.number is.place is.name is.part is.is.named)) showings ruled.rules.types
 
     form_kept : (m : ℕ) (s : Shape) → slice_get t.shapes m ≡ Some s → name_in s ≡ None → Used m → MayBePlanned t kept (shown_first ms) m
     form_kept m s at none used =
@@ -330,7 +346,8 @@ module _ (t : Tables) (h : Homes) (known : ℕ → Fact) (n : ℕ) (ms : List Me
         in_parts : (k : ℕ) → Contains (declared_parts t y.declared) k → Contains all_parts k
         in_parts k there = showing_root y c k (Contains-append_right (y.part ∷ []) (declared_parts t y.declared) k there)
 
-        of_form : (k : ℕ) → y.declared ≡ Some k → is_form t k ≡ true → EachForm t HasCount k → EachForm t (FormIsMarked marks.marks) k → (o : Option Shape) → shape_at t k ≡ o → option_map_or (λ (s : Shape). not (s.sort == 0)) o false ≡ true → MayBeDeclared t kept (Some k)
+        of_form : (k : ℕ) → y.declared ≡ Some k → is_form t k ≡ true → EachForm t HasCount k → EachForm t (FormIsMarked marks.marks) k → (o : Option Shape) → shape_at t k ≡ o
+            → option_map_or (λ (s : Shape). not (s.sort == 0)) o false ≡ true → MayBeDeclared t kept (Some k)
         of_form k e form counts held None at is = no_true is
         of_form k e form counts held (Some s) at is =
             let number = numbered_shape t k s at in
@@ -338,10 +355,12 @@ module _ (t : Tables) (h : Homes) (known : ℕ → Fact) (n : ℕ) (ms : List Me
             let inner : (j : ℕ) → Contains s.parts j → IsKeptPart kept j = λ j there.
             let below = all_at (λ i. i < 14 + number.0) s.parts (shape_parts number.0 s number.2) j there in
             root_kept j
-            (in_parts j (subst (λ d. Contains (declared_parts t d) j) (sym e) (subst (λ b. Contains (cond b (form_parts t k) (k ∷ [])) j) (sym form) (subst (λ o. Contains (option_map_or (λ (x : Shape). x.parts) o []) j) (sym at) there))))
+            (in_parts j (subst (λ d. Contains (declared_parts t d) j) (sym e) (subst (λ b. Contains (cond b (form_parts t k) (k ∷ [])) j) (sym form)
+            (subst (λ o. Contains (option_map_or (λ (x : Shape). x.parts) o []) j) (sym at) there))))
             (omega (arith, low, below)) in
             over_parts k s refl form at
-            (form_over t h ms members given.input marks kept number.0 s number.2 (form_unnamed s is) (subst (EachForm t HasCount) number.1 counts) (subst (EachForm t (FormIsMarked marks.marks)) number.1 held) (all_of (IsKeptPart kept) s.parts inner))
+            (form_over t h ms members given.input marks kept number.0 s number.2 (form_unnamed s is) (subst (EachForm t HasCount) number.1 counts)
+            (subst (EachForm t (FormIsMarked marks.marks)) number.1 held) (all_of (IsKeptPart kept) s.parts inner))
 
         by : (d : Option ℕ) → y.declared ≡ d → AllOf (IsMetFrom t (showing_is y c).place) d → AllOf (EachForm t HasCount) d → AllOf (EachForm t (FormIsMarked marks.marks)) d → MayBeDeclared t kept d
         by None e met counts held = nothing refl
@@ -364,8 +383,12 @@ module _ (t : Tables) (h : Homes) (known : ℕ → Fact) (n : ℕ) (ms : List Me
             let y = type_shown shows.sight (view_among ms x c shows.sight shows.among) shows.type_ shows.there in
             (y.0, y.1, y.2 ∙ slot_is t given.input.tables shows.type_.slot m shows.slot)
         by x c (by_import w is home imports) =
-            let y : NumberedShowing = record { part = 14 + m; declared = imports.declared; external_id = given_text imports.seen.external_id } in
-            (y, seen_showing x c w is imports.seen (inl imports.among) y (subst (λ k. Contains (showings_of_shown k (given_text imports.seen.external_id)) y) (sym imports.shown) (contains-one y)), refl)
+            let y : NumberedShowing = record { part = 14 + m; declared = imports.declared; external_id = given_text imports.seen.external_id } in (
+              y,
+              seen_showing x c w is imports.seen (inl imports.among) y (subst (λ k. Contains (showings_of_shown k (given_text imports.seen.external_id)) y) (sym imports.shown)
+                  (contains-one y)),
+              refl,
+            )
 
     type_kept : (m : ℕ) → Contains kept m → MayBePlanned t kept (shown_first ms) m
     type_kept m c =
@@ -426,7 +449,8 @@ module _ (t : Tables) (h : Homes) (known : ℕ → Fact) (n : ℕ) (ms : List Me
             subst (ShownIsKept t kept) (sym e) (signature_kept f (seen_signature m m_in w.1 is s side f (subst (λ k. Contains (signatures_of_shown k) f) (sym e) (contains-one f))))
         by m m_in is s side (shown.Declares q d) e =
             let y : NumberedShowing = record { part = q; declared = d; external_id = given_text s.external_id } in
-            subst (ShownIsKept t kept) (sym e) (showing_kept y (seen_showing m m_in w.1 is s side y (subst (λ k. Contains (showings_of_shown k (given_text s.external_id)) y) (sym e) (contains-one y))))
+            subst (ShownIsKept t kept) (sym e) (showing_kept y (seen_showing m m_in w.1 is s side y
+            (subst (λ k. Contains (showings_of_shown k (given_text s.external_id)) y) (sym e) (contains-one y))))
 
     kept_whole : IsKeptWhole t ms kept
     kept_whole = record {
@@ -445,13 +469,15 @@ module _ (t : Tables) (h : Homes) (known : ℕ → Fact) (n : ℕ) (ms : List Me
         exports = all_of (SeenIsPlaced (places_in ms)) w.1.exports.now (λ s among. by m.0 m.1 m.2 s (inr among) s.shown refl);
       }
     where
-      by : (m : Member) → Contains ms m → m.part ≡ parts.World w.1 → (s : Seen) → Contains w.1.imports.now s ⊎ Contains w.1.exports.now s → (x : Shown) → s.shown ≡ x → ShownIsPlaced (places_in ms) s.shown
+      by : (m : Member) → Contains ms m → m.part ≡ parts.World w.1 → (s : Seen) → Contains w.1.imports.now s ⊎ Contains w.1.exports.now s → (x : Shown) → s.shown ≡ x
+          → ShownIsPlaced (places_in ms) s.shown
       by m m_in is s side (shown.Function f) e = subst (ShownIsPlaced (places_in ms)) (sym e) tt
       by m m_in is s side (shown.Declares q d) e = subst (ShownIsPlaced (places_in ms)) (sym e) tt
       by m m_in is s side (shown.Instance key v) e =
           let i : NumberedInstance = record { place = place_of_key (numbered_key key); view = numbered_view v } in
           let one = subst (λ x. IsOneOf t (map numbered_instance w.1.instances.now) (numbered_shown x)) e (one_of m m_in w.1 is s side) in
-          let viewed : Contains (views_of_part (numbered_part m.part)) (whole_view i) = subst (λ a. Contains (views_of_part (numbered_part a)) (whole_view i)) (sym is) (contains-map whole_view (map numbered_instance w.1.instances.now) i one) in
+          let viewed : Contains (views_of_part (numbered_part m.part)) (whole_view i) =
+          subst (λ a. Contains (views_of_part (numbered_part a)) (whole_view i)) (sym is) (contains-map whole_view (map numbered_instance w.1.instances.now) i one) in
           subst (ShownIsPlaced (places_in ms)) (sym e) (contains-has (places_in ms) i.place (view_met ms (numbered_member m) (contains-map numbered_member ms m m_in) (whole_view i) viewed))
 
   parts_fall : (m : ℕ) (ks : List ℕ) → slice_get (map (λ (s : Shape). s.parts) t.shapes) m ≡ Some ks → AllByRecursion (λ k. k < 14 + m) ks

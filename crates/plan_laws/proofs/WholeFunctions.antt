@@ -83,11 +83,13 @@ resource_in r (s ∷ ss) any = by s.shown refl any (λ more. later (resource_in 
     later : IsResourceIn ss r → IsResourceIn (s ∷ ss) r
     later is = record { seen = is.seen; among = contains-later s ss is.seen is.among; shown = is.shown; named = is.named }
 
-    which : (b : Bool) → text_eq r s.key ≡ b → s.shown ≡ follow.Shown.declares Declaration.resource → (b || list_any (text_eq r) (rules.resources_seen ss)) ≡ true → (list_any (text_eq r) (rules.resources_seen ss) ≡ true → IsResourceIn (s ∷ ss) r) → IsResourceIn (s ∷ ss) r
+    which : (b : Bool) → text_eq r s.key ≡ b → s.shown ≡ follow.Shown.declares Declaration.resource → (b || list_any (text_eq r) (rules.resources_seen ss)) ≡ true
+        → (list_any (text_eq r) (rules.resources_seen ss) ≡ true → IsResourceIn (s ∷ ss) r) → IsResourceIn (s ∷ ss) r
     which true e is any more = record { seen = s; among = (zero, omega arith, refl); shown = is; named = (bytes_eq-Decides r s.key).0 e }
     which false e is any more = more any
 
-    by : (k : follow.Shown) → s.shown ≡ k → list_any (text_eq r) (rules.resources_seen (record { key = s.key; shown = k; external_id = s.external_id } ∷ ss)) ≡ true → (list_any (text_eq r) (rules.resources_seen ss) ≡ true → IsResourceIn (s ∷ ss) r) → IsResourceIn (s ∷ ss) r
+    by : (k : follow.Shown) → s.shown ≡ k → list_any (text_eq r) (rules.resources_seen (record { key = s.key; shown = k; external_id = s.external_id } ∷ ss)) ≡ true
+        → (list_any (text_eq r) (rules.resources_seen ss) ≡ true → IsResourceIn (s ∷ ss) r) → IsResourceIn (s ∷ ss) r
     by (follow.Shown.instance key view) e any more = more any
     by (follow.Shown.function f) e any more = more any
     by (follow.Shown.declares Declaration.resource) e any more = which (text_eq r s.key) refl e any more
@@ -102,11 +104,13 @@ pub record IsItemAmong (ss : List follow.Seen) (key : Text) (x : follow.Shown) :
 wider : (xs ys : List follow.Seen) (r : Text) → ((s : follow.Seen) → Contains xs s → Contains ys s) → IsResourceIn xs r → IsResourceIn ys r
 wider xs ys r into is = record { seen = is.seen; among = into is.seen is.among; shown = is.shown; named = is.named }
 
-import_items : (all earlier ss : List follow.Seen) → rules.are_imports earlier ss ≡ true → ((s : follow.Seen) → Contains earlier s → Contains all s) → ((s : follow.Seen) → Contains ss s → Contains all s)
+import_items : (all earlier ss : List follow.Seen) → rules.are_imports earlier ss ≡ true → ((s : follow.Seen) → Contains earlier s → Contains all s)
+    → ((s : follow.Seen) → Contains ss s → Contains all s)
     → AllByRecursion (λ (s : follow.Seen). IsItemAmong all s.key s.shown) ss
 import_items all earlier [] ok before behind = tt
 import_items all earlier (s ∷ ss) ok before behind =
-    let first : rules.is_item (rules.resources_seen earlier) s.key s.shown ≡ true = first_true (rules.is_item (rules.resources_seen earlier) s.key s.shown) (rules.are_imports (earlier ++ s ∷ []) ss) ok in
+    let first : rules.is_item (rules.resources_seen earlier) s.key s.shown ≡ true =
+    first_true (rules.is_item (rules.resources_seen earlier) s.key s.shown) (rules.are_imports (earlier ++ s ∷ []) ss) ok in
     let rest : rules.are_imports (earlier ++ s ∷ []) ss ≡ true = second_true (rules.is_item (rules.resources_seen earlier) s.key s.shown) (rules.are_imports (earlier ++ s ∷ []) ss) ok in (
       record { resources = rules.resources_seen earlier; is = first; from = λ r any. wider earlier all r before (resource_in r earlier any) },
       import_items all (earlier ++ s ∷ []) ss rest (λ z c. either z (Contains-append_cases earlier (s ∷ []) z c)) (λ z c. behind z (contains-later s ss z c)),
@@ -149,15 +153,19 @@ module _ (t : Tables) (h : Homes) (ms : List Member) (members : List reads.Membe
     is = world_of t h ms members input ruled.placed.apart m c w is_world
 
     -- the name of an import in the table
-    import_number : (s : Seen) → Contains w.imports.now s → (part : ℕ) (d : Option ℕ) → s.shown ≡ shown.Declares part d → (n : ℕ) × (part ≡ 14 + n) × (slice_get t.shapes n ≡ Some (named_shape w.home s.key.now))
-    import_number s among part d e = subst (λ (x : Shown). DeclaresName t w.home (record { key = s.key; shown = x; external_id = s.external_id })) e (all_at (DeclaresName t w.home) w.imports.now is.declares s among)
+    import_number : (s : Seen) → Contains w.imports.now s → (part : ℕ) (d : Option ℕ) → s.shown ≡ shown.Declares part d → (n : ℕ) × (part ≡ 14 + n)
+        × (slice_get t.shapes n ≡ Some (named_shape w.home s.key.now))
+    import_number s among part d e = subst (λ (x : Shown). DeclaresName t w.home (record { key = s.key; shown = x; external_id = s.external_id })) e
+        (all_at (DeclaresName t w.home) w.imports.now is.declares s among)
 
     -- a type that it imports is first shown so
-    first_import : (s : Seen) → Contains w.imports.now s → (part : ℕ) (d : Option ℕ) → s.shown ≡ shown.Declares part d → (n : ℕ) → part ≡ 14 + n → (y : NumberedShowing) → shown_first ms n ≡ Some y → y.declared ≡ d
+    first_import : (s : Seen) → Contains w.imports.now s → (part : ℕ) (d : Option ℕ) → s.shown ≡ shown.Declares part d → (n : ℕ) → part ≡ 14 + n → (y : NumberedShowing) → shown_first ms n ≡ Some y
+        → y.declared ≡ d
     first_import s among part d e n number y first = let from = first_from n y first in by from.0 from.1
       where
         there : slice_get t.shapes n ≡ Some (named_shape w.home s.key.now)
-        there = let at = import_number s among part d e in let one : at.0 ≡ n = (let a = at.1 in omega (arith, a, number)) in subst (λ k. slice_get t.shapes k ≡ Some (named_shape w.home s.key.now)) one at.2
+        there = let at = import_number s among part d e in let one : at.0 ≡ n = (let a = at.1 in omega (arith, a, number)) in
+            subst (λ k. slice_get t.shapes k ≡ Some (named_shape w.home s.key.now)) one at.2
 
         same_name : (q : ℕ) (name : Text) → slice_get t.shapes n ≡ Some (named_shape q name) → (q ≡ w.home) × (name ≡ s.key.now)
         same_name q name at =
@@ -175,25 +183,31 @@ module _ (t : Tables) (h : Homes) (ms : List Member) (members : List reads.Membe
             let one : stands.number ≡ n = omega (arith, own, part_is, at) in
             let same = same_name sight.place x.name (sym (ap (slice_get t.shapes) one) ∙ stands.name.named) in
             let view_there = view_frame t h ms members input ruled.placed.apart sight in_views (ap (path_at t) same.0 ∙ home_none) in
-            let owned = one_owned t numbered ruled.placed.apart w.home home_none (a_view sight.view) (a_world (numbered_scope w)) (subst (λ q. Contains {X = ℕ × Owned} (frames numbered) (q, a_view sight.view)) same.0 view_there) (home_frame t h ms members input ruled.placed.apart m c w is_world) in
+            let owned = one_owned t numbered ruled.placed.apart w.home home_none (a_view sight.view) (a_world (numbered_scope w))
+            (subst (λ q. Contains {X = ℕ × Owned} (frames numbered) (q, a_view sight.view)) same.0 view_there) (home_frame t h ms members input ruled.placed.apart m c w is_world) in
             let wrong : false ≡ true = ap is_world_owned owned in absurd cc
         by (of_import m2 c2 w2 is2 s2 among2 e2) at =
             let other = world_of t h ms members input ruled.placed.apart m2 c2 w2 is2 in
-            let named = subst (λ (x : Shown). DeclaresName t w2.home (record { key = s2.key; shown = x; external_id = s2.external_id })) e2 (all_at (DeclaresName t w2.home) w2.imports.now other.declares s2 among2) in
+            let named = subst (λ (x : Shown). DeclaresName t w2.home (record { key = s2.key; shown = x; external_id = s2.external_id })) e2
+            (all_at (DeclaresName t w2.home) w2.imports.now other.declares s2 among2) in
             let one : named.0 ≡ n = (let a = named.1 in omega (arith, a, at)) in
             let same = same_name w2.home s2.key.now (sym (ap (slice_get t.shapes) one) ∙ named.2) in
             let scopes_same = one_world t h ms members input ruled.placed.apart m2 m c2 c w2 w is2 is_world same.0 in
-            let here : Contains (map numbered_seen w.imports.now) (numbered_seen s2) = subst (λ (x : NumberedScope). Contains x.imports (numbered_seen s2)) scopes_same (contains-map numbered_seen w2.imports.now s2 among2) in
-            let one_seen = one_key (map numbered_seen w.imports.now) (keys_apart t h ms members input ruled.placed.apart w is) (numbered_seen s2) (numbered_seen s) here (contains-map numbered_seen w.imports.now s among) same.1 in
+            let here : Contains (map numbered_seen w.imports.now) (numbered_seen s2) =
+            subst (λ (x : NumberedScope). Contains x.imports (numbered_seen s2)) scopes_same (contains-map numbered_seen w2.imports.now s2 among2) in
+            let one_seen = one_key (map numbered_seen w.imports.now) (keys_apart t h ms members input ruled.placed.apart w is) (numbered_seen s2) (numbered_seen s) here
+            (contains-map numbered_seen w.imports.now s among) same.1 in
             let shown_same : worlds.declares y.declared ≡ worlds.declares d = sym (ap numbered_shown e2) ∙ (ap (λ (x : NumberedSeen). x.shown) one_seen ∙ ap numbered_shown e) in
             ap (declared_in d) shown_same
 
     -- the resources that it imports are types of the plan
     module _ (b : Beside) (owned : b.owners ≡ owners_of ms) (find : Text → Option TypeId) (have : AreResources planned.kept (flat_map types_seen w.imports.now) find) where
-      type_seen : (s : Seen) (x : NumberedType) → Contains (types_seen s) x → (part : ℕ) × (d : Option ℕ) × (s.shown ≡ shown.Declares part d) × (slot_part x.slot ≡ part) × (x.declared ≡ d) × (x.name ≡ s.key.now)
+      type_seen : (s : Seen) (x : NumberedType) → Contains (types_seen s) x → (part : ℕ) × (d : Option ℕ) × (s.shown ≡ shown.Declares part d) × (slot_part x.slot ≡ part) × (x.declared ≡ d)
+          × (x.name ≡ s.key.now)
       type_seen s x among = by s.shown (given_text s.external_id) among
         where
-          by : (k : Shown) (id : Option Text) → Contains (types_shown s.key.now id k) x → (part : ℕ) × (d : Option ℕ) × (k ≡ shown.Declares part d) × (slot_part x.slot ≡ part) × (x.declared ≡ d) × (x.name ≡ s.key.now)
+          by : (k : Shown) (id : Option Text) → Contains (types_shown s.key.now id k) x → (part : ℕ) × (d : Option ℕ) × (k ≡ shown.Declares part d) × (slot_part x.slot ≡ part) × (x.declared ≡ d)
+              × (x.name ≡ s.key.now)
           by (shown.Instance key v) id there = none-in x there
           by (shown.Function f) id there = none-in x there
           by (shown.Declares part d) id there =
@@ -220,7 +234,8 @@ module _ (t : Tables) (h : Homes) (ms : List Member) (members : List reads.Membe
           let same : seen_of t (numbered_seen from.0) ≡ among.seen = ap (seen_of t) from.2 ∙ outer.2 in
           by from.0 from.1 from.0.shown refl (ap (λ (s : follow.Seen). s.shown) same ∙ among.shown) (ap (λ (s : follow.Seen). s.key) same ∙ sym among.named)
         where
-          by : (s : Seen) → Contains w.imports.now s → (x : Shown) → s.shown ≡ x → shown_of t (numbered_shown x) ≡ follow.Shown.declares Declaration.resource → s.key.now ≡ r → (id : TypeId) × (find r ≡ Some id)
+          by : (s : Seen) → Contains w.imports.now s → (x : Shown) → s.shown ≡ x → shown_of t (numbered_shown x) ≡ follow.Shown.declares Declaration.resource → s.key.now ≡ r → (id : TypeId)
+              × (find r ≡ Some id)
           by s in_it (shown.Instance key v) e is name = let wrong : ⊥ = cc in absurd wrong
           by s in_it (shown.Function f) e is name = let wrong : ⊥ = cc in absurd wrong
           by s in_it (shown.Declares part (Some k)) e is name = let wrong : ⊥ = cc in absurd wrong
@@ -233,7 +248,8 @@ module _ (t : Tables) (h : Homes) (ms : List Member) (members : List reads.Membe
 
       -- ---- a function
 
-      module _ (s : Seen) (f : ℕ) (g : PlannedFunction) (called : IsCalledIn t w.home f) (item : IsItemAmong (map (seen_of t) (map numbered_seen w.imports.now)) s.key.now (follow.Shown.function (signature_at t f)))
+      module _ (s : Seen) (f : ℕ) (g : PlannedFunction) (called : IsCalledIn t w.home f)
+          (item : IsItemAmong (map (seen_of t) (map numbered_seen w.imports.now)) s.key.now (follow.Shown.function (signature_at t f)))
           (made : IsPlannedFunction t planned.kept find (s.key.now, record { signature = f; external_id = given_text s.external_id }) (s.key.now, g)) where
         resource_own : (r : Text) (id : TypeId) → find r ≡ Some id → IsResource t (told t w.home) planned.kept p (b.owners w.home) w.home r id.0
         resource_own r id found = subst (λ (os : ℕ → TypeOwner). IsResource t (told t w.home) planned.kept p (os w.home) w.home r id.0) (sym owned) (resource_is r id found)
@@ -243,11 +259,13 @@ module _ (t : Tables) (h : Homes) (ms : List Member) (members : List reads.Membe
 
         function_read : PartsOf (λ k. b.marks k ≡ false) (function_at t f) → IsReadFunction t planned.kept p b (b.owners w.home) g
         function_read values =
-            read_function t h ms members input main p planned b w.home find item.resources (λ r any. resource_found r (item.from r any)) resource_own (s.key.now, record { signature = f; external_id = given_text s.external_id }) (s.key.now, g) made called.parts rule values
+            read_function t h ms members input main p planned b w.home find item.resources (λ r any. resource_found r (item.from r any)) resource_own
+            (s.key.now, record { signature = f; external_id = given_text s.external_id }) (s.key.now, g) made called.parts rule values
 
         function_made : FunctionBecomes t planned.kept p (function_at t f) (given_text s.external_id) g
         function_made =
-            function_becomes t h ms members input main p planned b w.home find item.resources (λ r any. resource_found r (item.from r any)) resource_own (s.key.now, record { signature = f; external_id = given_text s.external_id }) (s.key.now, g) made called.parts rule
+            function_becomes t h ms members input main p planned b w.home find item.resources (λ r any. resource_found r (item.from r any)) resource_own
+            (s.key.now, record { signature = f; external_id = given_text s.external_id }) (s.key.now, g) made called.parts rule
 
       -- what it imports or exports
       abbrev all_imports : List follow.Seen
@@ -261,7 +279,8 @@ module _ (t : Tables) (h : Homes) (ms : List Member) (members : List reads.Membe
 
       import_item : (s : Seen) → Contains w.imports.now s → SeenItem s
       import_item s among =
-          all_at (λ (x : follow.Seen). IsItemAmong all_imports x.key x.shown) all_imports (import_items all_imports [] all_imports part_obeys.0 (λ x none. none-in x none) (λ x there. there)) (seen_of t (numbered_seen s))
+          all_at (λ (x : follow.Seen). IsItemAmong all_imports x.key x.shown) all_imports (import_items all_imports [] all_imports part_obeys.0 (λ x none. none-in x none) (λ x there. there))
+          (seen_of t (numbered_seen s))
           (contains-map (seen_of t) (map numbered_seen w.imports.now) (numbered_seen s) (contains-map numbered_seen w.imports.now s among))
 
       export_item : (s : Seen) → Contains w.exports.now s → SeenItem s
@@ -274,7 +293,8 @@ module _ (t : Tables) (h : Homes) (ms : List Member) (members : List reads.Membe
 
       -- what a function that it imports or exports becomes
       pub seen_becomes : (s : Seen) → Contains w.imports.now s ⊎ Contains w.exports.now s → (f : ℕ) → s.shown ≡ shown.Function f → (g : PlannedFunction)
-          → IsPlannedFunction t planned.kept find (s.key.now, record { signature = f; external_id = given_text s.external_id }) (s.key.now, g) → FunctionBecomes t planned.kept p (function_at t f) (given_text s.external_id) g
+          → IsPlannedFunction t planned.kept find (s.key.now, record { signature = f; external_id = given_text s.external_id }) (s.key.now, g)
+          → FunctionBecomes t planned.kept p (function_at t f) (given_text s.external_id) g
       seen_becomes s side f shows g made = by side
         where
           called : IsSeenIn t w.home (numbered_seen s) → IsCalledIn t w.home f
@@ -284,8 +304,10 @@ module _ (t : Tables) (h : Homes) (ms : List Member) (members : List reads.Membe
           may item = subst (λ (x : Shown). IsItemAmong all_imports s.key.now (shown_of t (numbered_shown x))) shows item
 
           by : Contains w.imports.now s ⊎ Contains w.exports.now s → FunctionBecomes t planned.kept p (function_at t f) (given_text s.external_id) g
-          by (inl among) = function_made s f g (called (all_at (IsSeenIn t w.home) (map numbered_seen w.imports.now) is.good.imports (numbered_seen s) (contains-map numbered_seen w.imports.now s among))) (may (import_item s among)) made
-          by (inr among) = function_made s f g (called (all_at (IsSeenIn t w.home) (map numbered_seen w.exports.now) is.good.exports (numbered_seen s) (contains-map numbered_seen w.exports.now s among))) (may (export_item s among)) made
+          by (inl among) = function_made s f g (called (all_at (IsSeenIn t w.home) (map numbered_seen w.imports.now) is.good.imports (numbered_seen s)
+              (contains-map numbered_seen w.imports.now s among))) (may (import_item s among)) made
+          by (inr among) = function_made s f g (called (all_at (IsSeenIn t w.home) (map numbered_seen w.exports.now) is.good.exports (numbered_seen s)
+              (contains-map numbered_seen w.exports.now s among))) (may (export_item s among)) made
 
       module _ (marks_are : b.marks ≡ whole.marks.marks) where
         values_of : (f : ℕ) → Contains (signatures_of_part (parts.World w)) f → PartsOf (λ k. b.marks k ≡ false) (function_at t f)
@@ -298,9 +320,12 @@ module _ (t : Tables) (h : Homes) (ms : List Member) (members : List reads.Membe
         ItemRead e = (g : PlannedFunction) → item_function e.1 ≡ Some g → IsReadFunction t planned.kept p b (b.owners w.home) g
 
         -- the item of an import or an export
-        item_read : (s : Seen) → IsSeenIn t w.home (numbered_seen s) → SeenItem s → ((f : ℕ) → Contains (signatures_of_seen s) f → PartsOf (λ k. b.marks k ≡ false) (function_at t f)) → (e : PlannedKey × PlannedItem) → PlansItem t planned.kept (places_in ms) find s e → ItemRead e
-        item_read s seen item values e (an_instance key v shown_is made) g function = let wrong : None ≡ Some g = sym (ap (λ (x : PlannedKey × PlannedItem). item_function x.1) made.is) ∙ function in absurd cc
-        item_read s seen item values e (a_type part d n shown_is made kept) g function = let wrong : None ≡ Some g = sym (ap (λ (x : PlannedKey × PlannedItem). item_function x.1) made) ∙ function in absurd cc
+        item_read : (s : Seen) → IsSeenIn t w.home (numbered_seen s) → SeenItem s → ((f : ℕ) → Contains (signatures_of_seen s) f → PartsOf (λ k. b.marks k ≡ false) (function_at t f))
+            → (e : PlannedKey × PlannedItem) → PlansItem t planned.kept (places_in ms) find s e → ItemRead e
+        item_read s seen item values e (an_instance key v shown_is made) g function = let wrong : None ≡ Some g =
+            sym (ap (λ (x : PlannedKey × PlannedItem). item_function x.1) made.is) ∙ function in absurd cc
+        item_read s seen item values e (a_type part d n shown_is made kept) g function = let wrong : None ≡ Some g =
+            sym (ap (λ (x : PlannedKey × PlannedItem). item_function x.1) made) ∙ function in absurd cc
         item_read s seen item values e (a_function n shown_is key_is made) g function =
             let same : made.function ≡ g = same-some made.function g (sym (ap item_function made.is) ∙ function) in
             let called = subst (λ (x : Shown). IsSeenIn t w.home (record { key = s.key.now; shown = numbered_shown x; external_id = given_text s.external_id })) shown_is seen in
@@ -308,7 +333,8 @@ module _ (t : Tables) (h : Homes) (ms : List Member) (members : List reads.Membe
             let there : Contains (signatures_of_seen s) n = subst (λ (x : Shown). Contains (signatures_of_shown x) n) (sym shown_is) (contains-one n) in
             subst (IsReadFunction t planned.kept p b (b.owners w.home)) same (function_read s n made.function called may made.planned (values n there))
 
-        items_read : (cs : List Seen) → AllByRecursion (IsSeenIn t w.home) (map numbered_seen cs) → ((s : Seen) → Contains cs s → SeenItem s) → ((f : ℕ) → Contains (flat_map signatures_of_seen cs) f → PartsOf (λ k. b.marks k ≡ false) (function_at t f))
+        items_read : (cs : List Seen) → AllByRecursion (IsSeenIn t w.home) (map numbered_seen cs) → ((s : Seen) → Contains cs s → SeenItem s)
+            → ((f : ℕ) → Contains (flat_map signatures_of_seen cs) f → PartsOf (λ k. b.marks k ≡ false) (function_at t f))
             → (es : List (PlannedKey × PlannedItem)) → AllZip (PlansItem t planned.kept (places_in ms) find) cs es → (e : PlannedKey × PlannedItem) → Contains es e → ItemRead e
         items_read cs seen items values es made e among =
             let at = contains-get es e among in
@@ -317,18 +343,24 @@ module _ (t : Tables) (h : Homes) (ms : List Member) (members : List reads.Membe
             item_read from.0 (all_at (IsSeenIn t w.home) (map numbered_seen cs) seen (numbered_seen from.0) (contains-map numbered_seen cs from.0 there)) (items from.0 there)
             (λ f in_it. values f (contains-flat signatures_of_seen cs from.0 f there in_it)) e from.2
 
-        pub world_read : (x : PlannedWorld) → AllZip (PlansItem t planned.kept (places_in ms) find) w.imports.now x.imports → AllZip (PlansItem t planned.kept (places_in ms) find) w.exports.now x.exports
+        pub world_read : (x : PlannedWorld) → AllZip (PlansItem t planned.kept (places_in ms) find) w.imports.now x.imports
+            → AllZip (PlansItem t planned.kept (places_in ms) find) w.exports.now x.exports
             → AllByRecursion (IsReadFunction t planned.kept p b (b.owners w.home)) (world_functions x)
-        world_read x imports exports = all_filtered (IsReadFunction t planned.kept p b (b.owners w.home)) item_function (items_of x) (λ i among g e. by i g e (Contains-append_cases (map second x.imports) (map second x.exports) i among))
+        world_read x imports exports = all_filtered (IsReadFunction t planned.kept p b (b.owners w.home)) item_function (items_of x)
+            (λ i among g e. by i g e (Contains-append_cases (map second x.imports) (map second x.exports) i among))
           where
-            of_list : (es : List (PlannedKey × PlannedItem)) → ((e : PlannedKey × PlannedItem) → Contains es e → ItemRead e) → (i : PlannedItem) (g : PlannedFunction) → item_function i ≡ Some g → Contains (map second es) i → IsReadFunction t planned.kept p b (b.owners w.home) g
+            of_list : (es : List (PlannedKey × PlannedItem)) → ((e : PlannedKey × PlannedItem) → Contains es e → ItemRead e) → (i : PlannedItem) (g : PlannedFunction) → item_function i ≡ Some g
+                → Contains (map second es) i → IsReadFunction t planned.kept p b (b.owners w.home) g
             of_list es each i g e there = let from = from_map second es i there in each from.0 from.1 g (ap item_function from.2 ∙ e)
 
-            by : (i : PlannedItem) (g : PlannedFunction) → item_function i ≡ Some g → Contains (map second x.imports) i ⊎ Contains (map second x.exports) i → IsReadFunction t planned.kept p b (b.owners w.home) g
+            by : (i : PlannedItem) (g : PlannedFunction) → item_function i ≡ Some g → Contains (map second x.imports) i ⊎ Contains (map second x.exports) i
+                → IsReadFunction t planned.kept p b (b.owners w.home) g
             by i g e (inl there) =
-                of_list x.imports (items_read w.imports.now is.good.imports import_item (λ f among. values_of f (Contains-append_left (flat_map signatures_of_seen w.imports.now) (flat_map signatures_of_seen w.exports.now) f among)) x.imports imports) i g e there
+                of_list x.imports (items_read w.imports.now is.good.imports import_item
+                (λ f among. values_of f (Contains-append_left (flat_map signatures_of_seen w.imports.now) (flat_map signatures_of_seen w.exports.now) f among)) x.imports imports) i g e there
             by i g e (inr there) =
-                of_list x.exports (items_read w.exports.now is.good.exports export_item (λ f among. values_of f (Contains-append_right (flat_map signatures_of_seen w.imports.now) (flat_map signatures_of_seen w.exports.now) f among)) x.exports exports) i g e there
+                of_list x.exports (items_read w.exports.now is.good.exports export_item
+                (λ f among. values_of f (Contains-append_right (flat_map signatures_of_seen w.imports.now) (flat_map signatures_of_seen w.exports.now) f among)) x.exports exports) i g e there
 
 -- a world that is exported
 

@@ -66,7 +66,8 @@ module _ (t : Tables) (h : Homes) (known : ℕ → Fact) (n : ℕ) (ms : List Me
     stands = ap (slice_get p.packages) planned.main ∙ main.there;
     identity = input.stands ∙ ap Some (sym main.made.is);
     interfaces = top_listed t h known n ms members given apart.0 p planned b refl main.package_.interfaces main.made.interfaces;
-    worlds = subst (AllZip (WorldsListed t planned.kept p) (worlds_listed (numbered_members ms))) (sym main.made.worlds) (worlds_are_listed t h known n ms members given apart.0 apart.1 input.followed p planned whole);
+    worlds = subst (AllZip (WorldsListed t planned.kept p) (worlds_listed (numbered_members ms))) (sym main.made.worlds)
+        (worlds_are_listed t h known n ms members given apart.0 apart.1 input.followed p planned whole);
     chosen = foreign.chosen;
     chosen_are = foreign.chosen_are;
     foreign = foreign.zip;

@@ -47,7 +47,8 @@ use Rattle.base_lemmas.proofs.Lists.{get_back as unmapped_get}
 use Rattle.std.proofs.lemmas.Option.{same_Some as same-some}
 use Rattle.plan_package.proofs.ReadPackageLaws.{number_at as number_there}
 
-module _ (t : Tables) (h : Homes) (known : ℕ → Fact) (n : ℕ) (ms : List Member) (members : List reads.Member) (given : IsPackageInput t h known n ms members) (ordered : ViewsAreOrdered t ms) (p : Plan) (planned : PlansWhole t h.packages (home_at h) n ms p)
+module _ (t : Tables) (h : Homes) (known : ℕ → Fact) (n : ℕ) (ms : List Member) (members : List reads.Member) (given : IsPackageInput t h known n ms members) (ordered : ViewsAreOrdered t ms)
+    (p : Plan) (planned : PlansWhole t h.packages (home_at h) n ms p)
     (b : Beside) (beside_owners : b.owners ≡ owners_of ms) (interfaces : InterfacesAreViewed t planned.kept p b (views_read ms)) (read : WorldsAreReadAs t ms planned.kept p b (views_read ms)) where
   abbrev kept : List ℕ
   kept = planned.kept
@@ -64,7 +65,8 @@ module _ (t : Tables) (h : Homes) (known : ℕ → Fact) (n : ℕ) (ms : List Me
   -- ---- interfaces
 
   -- a name that a view of the place shows is one of the interface
-  of_interface : (q k : ℕ) (u : ℕ) (i : PlannedInterface) (e : interface_in p u ≡ Some i) → b.owners q ≡ as_interface u → (first sight : NumberedSight) → Contains views first → Contains views sight → first.place ≡ q → sight.place ≡ q → (views_read ms q).types ≡ first.view.types
+  of_interface : (q k : ℕ) (u : ℕ) (i : PlannedInterface) (e : interface_in p u ≡ Some i) → b.owners q ≡ as_interface u → (first sight : NumberedSight) → Contains views first → Contains views sight
+      → first.place ≡ q → sight.place ≡ q → (views_read ms q).types ≡ first.view.types
       → (x : NumberedType) → Contains sight.view.types x → slice_get t.shapes k ≡ Some (named_shape q x.name) → IsThere q k
   of_interface q k u i e owned first sight first_in sight_in first_place sight_place first_types x x_in named =
       let viewed = interfaces u i e in
@@ -95,10 +97,12 @@ module _ (t : Tables) (h : Homes) (known : ℕ → Fact) (n : ℕ) (ms : List Me
   -- ---- worlds
 
   -- a type that the world imports is the last once it is followed
-  counted : (m : ℕ) (home : ℕ) (y : ReadItem) (d : Option ℕ) (k : ℕ) → y.seen.shown ≡ worlds.declares d → slice_get t.shapes k ≡ Some (named_shape home y.seen.key) → IsReadItem t kept p b (views_read ms) (as_world m) home y → y.count ≡ k + 1
+  counted : (m : ℕ) (home : ℕ) (y : ReadItem) (d : Option ℕ) (k : ℕ) → y.seen.shown ≡ worlds.declares d → slice_get t.shapes k ≡ Some (named_shape home y.seen.key)
+      → IsReadItem t kept p b (views_read ms) (as_world m) home y → y.count ≡ k + 1
   counted m home y d k shows shape (by_path q u v id path other key entry of) = let wrong : worlds.instance (worlds.path q) v ≡ worlds.declares d = sym other ∙ shows in absurd cc
   counted m home y d k shows shape (by_label q u v id other label entry of) = let wrong : worlds.instance (worlds.label y.seen.key q) v ≡ worlds.declares d = sym other ∙ shows in absurd cc
-  counted m home y d k shows shape (implementing_path q u v id path other label entry of) = let wrong : worlds.instance (worlds.implementing y.seen.key q) v ≡ worlds.declares d = sym other ∙ shows in absurd cc
+  counted m home y d k shows shape (implementing_path q u v id path other label entry of) = let wrong : worlds.instance (worlds.implementing y.seen.key q) v ≡ worlds.declares d =
+      sym other ∙ shows in absurd cc
   counted m home y d k shows shape (a_function f g other entry under) = let wrong : worlds.function f ≡ worlds.declares d = sym other ∙ shows in absurd cc
   counted m home y d k shows shape (a_type e i other entry under) =
       let one : under.number ≡ k = given.input.tables.shapes.apart under.number k (named_shape home y.seen.key) under.shape shape in

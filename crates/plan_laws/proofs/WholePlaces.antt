@@ -63,16 +63,19 @@ once_named places home n [] [] all homes differ = refl
 once_named places home n [] (e ∷ es) all homes differ = absurd all
 once_named places home n (x ∷ xs) [] all homes differ = absurd all
 once_named places home n (x ∷ xs) (e ∷ es) all homes differ =
-    both (not (has (numbers_of es) e.1)) (are_once (numbers_of es)) (ap not (absent xs es all.1 homes.1 (not_true (list_any (text_eq x.0) (names_of xs)) (first_true (not (list_any (text_eq x.0) (names_of xs))) (distinct (names_of xs)) differ))))
+    both (not (has (numbers_of es) e.1)) (are_once (numbers_of es)) (ap not
+    (absent xs es all.1 homes.1 (not_true (list_any (text_eq x.0) (names_of xs)) (first_true (not (list_any (text_eq x.0) (names_of xs))) (distinct (names_of xs)) differ))))
     (once_named places home n xs es all.1 homes.1 (second_true (not (list_any (text_eq x.0) (names_of xs))) (distinct (names_of xs)) differ))
   where
-    absent : (ys fs : List (Text × ℕ)) → AllZip (ListsPlace places) ys fs → AllByRecursion (λ (y : Text × ℕ). home y.1 ≡ Some (n, y.0)) ys → list_any (text_eq x.0) (names_of ys) ≡ false → has (numbers_of fs) e.1 ≡ false
+    absent : (ys fs : List (Text × ℕ)) → AllZip (ListsPlace places) ys fs → AllByRecursion (λ (y : Text × ℕ). home y.1 ≡ Some (n, y.0)) ys → list_any (text_eq x.0) (names_of ys) ≡ false
+        → has (numbers_of fs) e.1 ≡ false
     absent [] [] a k none = refl
     absent [] (f ∷ fs) a k none = absurd a
     absent (y ∷ ys) [] a k none = absurd a
     absent (y ∷ ys) (f ∷ fs) a k none = by (f.1 == e.1) refl (text_eq x.0 y.0) refl none (absent ys fs a.1 k.1)
       where
-        by : (b : Bool) → (f.1 == e.1) ≡ b → (c : Bool) → text_eq x.0 y.0 ≡ c → (c || list_any (text_eq x.0) (names_of ys)) ≡ false → (list_any (text_eq x.0) (names_of ys) ≡ false → has (numbers_of fs) e.1 ≡ false)
+        by : (b : Bool) → (f.1 == e.1) ≡ b → (c : Bool) → text_eq x.0 y.0 ≡ c → (c || list_any (text_eq x.0) (names_of ys)) ≡ false
+            → (list_any (text_eq x.0) (names_of ys) ≡ false → has (numbers_of fs) e.1 ≡ false)
             → (b || has (numbers_of fs) e.1) ≡ false
         by b same true other never_true later = no_true (sym never_true)
         by false same false other none_there later = later none_there
@@ -82,7 +85,8 @@ once_named places home n (x ∷ xs) (e ∷ es) all homes differ =
             let name : x.0 ≡ y.0 = ap (λ (z : ℕ × Text). z.1) (same-some (n, x.0) (n, y.0) (sym homes.0 ∙ (ap home place ∙ k.0))) in
             never (text_eq x.0 y.0) ((bytes_eq-Decides x.0 y.0).1 name) other
 
-module _ (t : Tables) (h : Homes) (known : ℕ → Fact) (n : ℕ) (ms : List Member) (members : List reads.Member) (given : IsPackageInput t h known n ms members) (stand : ArePackages h.packages) (labels : LabelsStand ms) (p : Plan)
+module _ (t : Tables) (h : Homes) (known : ℕ → Fact) (n : ℕ) (ms : List Member) (members : List reads.Member) (given : IsPackageInput t h known n ms members) (stand : ArePackages h.packages)
+    (labels : LabelsStand ms) (p : Plan)
     (planned : PlansWhole t h.packages (home_at h) n ms p) where
   abbrev places : List ℕ
   places = places_in ms
@@ -138,7 +142,14 @@ module _ (t : Tables) (h : Homes) (known : ℕ → Fact) (n : ℕ) (ms : List Me
   other_interface : (c : ℕ) (e : Text × ℕ) → IsHomeAt (home_at h) c places e → IsListedInterface t h p owners c e
   other_interface c e is =
       let there = interface_there t h ms members given.input n p planned e.1 is.place is.there in
-      record { place = is.place; path = path_given is.place (c, e.0) is.home; home = is.home; owned = owner_numbered ms is.place e.1 (place_number ms e.1 is.place is.there); interface = there.0; there = there.1 }
+      record {
+        place = is.place;
+        path = path_given is.place (c, e.0) is.home;
+        home = is.home;
+        owned = owner_numbered ms is.place e.1 (place_number ms e.1 is.place is.there);
+        interface = there.0;
+        there = there.1;
+      }
 
   main_package : (identity : PackageIdentity) (k : PlannedPackage) → slice_get h.packages n ≡ Some identity → IsMainPackage identity places ms k → IsReadPackage t h p owners n k
   main_package identity k there is =
@@ -156,14 +167,16 @@ module _ (t : Tables) (h : Homes) (known : ℕ → Fact) (n : ℕ) (ms : List Me
         once = once_named places (home_at h) n (interfaces_in ms) k.interfaces is.interfaces
             (all_given (λ (x : Text × ℕ). home_at h x.1 ≡ Some (n, x.0)) (interfaces_in ms) (λ j x at. home_of x (get-contains (interfaces_in ms) j x at))) (interfaces_differ ms labels.apart);
         worlds = subst (AllByRecursion (IsListedWorld t h p owners n)) (sym is.worlds)
-            (all_given (IsListedWorld t h p owners n) (numbered_labels 0 (worlds_in ms)) (λ j e at. main_world e (all_at (IsWorldAt (worlds_in ms)) (numbered_labels 0 (worlds_in ms)) listed.among e (get-contains (numbered_labels 0 (worlds_in ms)) j e at))));
+            (all_given (IsListedWorld t h p owners n) (numbered_labels 0 (worlds_in ms))
+            (λ j e at. main_world e (all_at (IsWorldAt (worlds_in ms)) (numbered_labels 0 (worlds_in ms)) listed.among e (get-contains (numbered_labels 0 (worlds_in ms)) j e at))));
         labels = ap distinct names ∙ worlds_differ ms labels.apart;
         apart = all_by_number (λ (e : Text × ℕ). not (list_any (text_eq e.0) (names_of k.worlds))) k.interfaces (λ j e at.
             let from = zip_get (ListsPlace places) (interfaces_in ms) k.interfaces is.interfaces j e at in
             (λ i. not (list_any (text_eq (from.2.0 i)) (names i))) ∙ ap not (no_world ms labels.apart from.0 (get-contains (interfaces_in ms) j from.0 from.1)));
       }
 
-  other_package : (c : ℕ) (identity : PackageIdentity) (k : PlannedPackage) → slice_get h.packages c ≡ Some identity → IsForeignPackage identity (entries_from (home_at h) c 0 places) k → IsReadPackage t h p owners c k
+  other_package : (c : ℕ) (identity : PackageIdentity) (k : PlannedPackage) → slice_get h.packages c ≡ Some identity → IsForeignPackage identity (entries_from (home_at h) c 0 places) k
+      → IsReadPackage t h p owners c k
   other_package c identity k there is =
       let read = stand.read c identity there in
       let es = entries_from (home_at h) c 0 places in
@@ -236,9 +249,11 @@ module _ (t : Tables) (h : Homes) (known : ℕ → Fact) (n : ℕ) (ms : List Me
   shown_inline : (q : ℕ) → path_at t q ≡ None → (own : IsOwnInstance t h known n ms members given q) → Contains (shown_of own.world) q
   shown_inline q none own =
       let followed = world_followed t h known n ms members given own.member own.among own.world own.is in
-      let once = once_within (has_no_path t) (λ (x : NumberedMember). places_of_part x.part) (numbered_members ms) given.placed.apart (numbered_member own.member) (contains-map numbered_member ms own.member own.among) in
+      let once = once_within (has_no_path t) (λ (x : NumberedMember). places_of_part x.part) (numbered_members ms) given.placed.apart (numbered_member own.member)
+      (contains-map numbered_member ms own.member own.among) in
       own_shown t (numbered_scope own.world) followed.scope followed.numbers followed.shows followed.stands.seen
-      (once_behind (has_no_path t own.world.home) own.world.home (filter (has_no_path t) (shown_of own.world)) (subst (λ a. are_once (filter (has_no_path t) (places_of_part (numbered_part a))) ≡ true) own.is once)) q none own.instance
+      (once_behind (has_no_path t own.world.home) own.world.home (filter (has_no_path t) (shown_of own.world))
+      (subst (λ a. are_once (filter (has_no_path t) (places_of_part (numbered_part a))) ≡ true) own.is once)) q none own.instance
 
   item_of : (m q : ℕ) → slice_get places m ≡ Some q → (label : Text) (w : Scope) → Contains (shown_of w) q → (j : ℕ) → slice_get (worlds_in ms) j ≡ Some (label, w) → IsItem m
   item_of m q at label w shown j here = by (zip_at (PlansWorld t planned.kept places n) (worlds_in ms) p.worlds planned.worlds j (label, w) here)
@@ -248,7 +263,13 @@ module _ (t : Tables) (h : Homes) (known : ℕ → Fact) (n : ℕ) (ms : List Me
           let k = contains-get (shown_of w) q shown in
           let item = zip_at (items.IsNumbered places) (shown_of w) (filter_map item_interface (items_of x)) (items.items_numbered places t planned.kept n (label, w) x is) k.0 q k.1 in
           let number : item.0 ≡ m = same-some item.0 m (sym item.2 ∙ place_number ms m q at) in
-          record { number = j; world = x; there = there; item = subst (Contains (filter_map item_interface (items_of x))) number (get-contains (filter_map item_interface (items_of x)) k.0 item.0 item.1) }
+          record {
+            number = j;
+            world = x;
+            there = there;
+            item = subst (Contains (filter_map item_interface (items_of x))) number
+                (get-contains (filter_map item_interface (items_of x)) k.0 item.0 item.1);
+          }
 
   inline_item : (m q : ℕ) → slice_get places m ≡ Some q → path_at t q ≡ None → IsItem m
   inline_item m q at none =
@@ -287,7 +308,8 @@ module _ (t : Tables) (h : Homes) (known : ℕ → Fact) (n : ℕ) (ms : List Me
         label = ap is_label (from.2.name ∙ sym member.label) ∙ all_at (λ (x : Member). is_label x.label.now ≡ true) ms labels.labels member.member member.among;
       }
     where
-      by : (x : Text × Scope) → slice_get (worlds_in ms) m ≡ Some x → w.name ≡ x.0 → (k : PlannedPackage) → PlansPackage h.packages n places ms (entries_from (home_at h) n 0 places) n k → Contains k.worlds (w.name, m)
+      by : (x : Text × Scope) → slice_get (worlds_in ms) m ≡ Some x → w.name ≡ x.0 → (k : PlannedPackage) → PlansPackage h.packages n places ms (entries_from (home_at h) n 0 places) n k
+          → Contains k.worlds (w.name, m)
       by x at name k (the_main identity same there is) =
           let es = numbered_labels 0 (worlds_in ms) in
           subst (λ ws. Contains ws (w.name, m)) (sym is.worlds) (get-contains es m (w.name, m) ((worlds_are_listed (worlds_in ms)).stand m x at ∙ ap (λ l. Some (l, m)) (sym name)))

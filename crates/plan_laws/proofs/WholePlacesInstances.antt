@@ -21,7 +21,8 @@ abbrev is_own : Instance → Bool
 is_own x = is_none x.interface
 
 -- those that go one way and those that go the other are all
-going_many : (seen : List (Direction × Instance)) → length (filter is_own (map (λ (x : Direction × Instance). x.1) seen)) ≡ length (filter is_own (going import_ seen)) + length (filter is_own (going export_ seen))
+going_many : (seen : List (Direction × Instance))
+    → length (filter is_own (map (λ (x : Direction × Instance). x.1) seen)) ≡ length (filter is_own (going import_ seen)) + length (filter is_own (going export_ seen))
 going_many [] = refl
 going_many ((import_, x) ∷ rest) = by (is_own x) (going_many rest)
   where
@@ -51,11 +52,13 @@ module _ (t : Tables) where
       by true = omega (arith, e)
       by false = e
 
-  seen_many : (home : ℕ) (ss : List NumberedSeen) → AllByRecursion (IsSeenIn t home) ss → length (filter is_own (instances_in (map (seen_of t) ss))) ≡ length (filter (has_no_path t) (places_of_seen ss))
+  seen_many : (home : ℕ) (ss : List NumberedSeen) → AllByRecursion (IsSeenIn t home) ss
+      → length (filter is_own (instances_in (map (seen_of t) ss))) ≡ length (filter (has_no_path t) (places_of_seen ss))
   seen_many home [] all = refl
   seen_many home (s ∷ ss) all = by s.key s.shown all.0 (seen_many home ss all.1)
     where
-      by : (key : List ℕ) (x : NumberedShown) → IsSeenIn t home (record { key = s.key; shown = x; external_id = s.external_id }) → length (filter is_own (instances_in (map (seen_of t) ss))) ≡ length (filter (has_no_path t) (places_of_seen ss))
+      by : (key : List ℕ) (x : NumberedShown) → IsSeenIn t home (record { key = s.key; shown = x; external_id = s.external_id })
+          → length (filter is_own (instances_in (map (seen_of t) ss))) ≡ length (filter (has_no_path t) (places_of_seen ss))
           → length (filter is_own (tree.instance_of (shown_of t x) ++ instances_in (map (seen_of t) ss))) ≡ length (filter (has_no_path t) (places_of_shown x ++ places_of_seen ss))
       by key (instance k v) is e =
           both_more (is_none (interface_of (key_of t k))) (has_no_path t (place_of_key k)) (own_key k is.0) (record { interface = interface_of (key_of t k); view = _ }) (place_of_key k)
@@ -66,10 +69,12 @@ module _ (t : Tables) where
   instances_many : (is : List NumberedInstance) → length (filter is_own (map (instance_of t) is)) ≡ length (filter (has_no_path t) (map (λ (i : NumberedInstance). i.place) is))
   instances_many [] = refl
   instances_many (i ∷ is) =
-      both_more (is_own (instance_of t i)) (has_no_path t i.place) refl (instance_of t i) i.place (filter is_own (map (instance_of t) is)) (filter (has_no_path t) (map (λ (j : NumberedInstance). j.place) is)) (instances_many is)
+      both_more (is_own (instance_of t i)) (has_no_path t i.place) refl (instance_of t i) i.place (filter is_own (map (instance_of t) is))
+      (filter (has_no_path t) (map (λ (j : NumberedInstance). j.place) is)) (instances_many is)
 
   -- the places of what is seen are those of instances
-  seen_there : (instances : List NumberedInstance) (ss : List NumberedSeen) → AllByRecursion (λ (s : NumberedSeen). IsOneOf t instances s.shown) ss → (q : ℕ) → Contains (places_of_seen ss) q → Contains (map (λ (i : NumberedInstance). i.place) instances) q
+  seen_there : (instances : List NumberedInstance) (ss : List NumberedSeen) → AllByRecursion (λ (s : NumberedSeen). IsOneOf t instances s.shown) ss → (q : ℕ) → Contains (places_of_seen ss) q
+      → Contains (map (λ (i : NumberedInstance). i.place) instances) q
   seen_there instances ss all q c =
       let from = flat_cases (λ (s : NumberedSeen). places_of_shown s.shown) ss q c in
       by from.0.shown (all_at (λ (s : NumberedSeen). IsOneOf t instances s.shown) ss all from.0 from.1) from.2
@@ -109,6 +114,7 @@ module _ (t : Tables) where
     own_shown once q none c =
         let many = as_many in
         let there = all_there (filter (has_no_path t) shown_places) (filter (has_no_path t) instance_places) once
-        (λ x f. let both = filter_has (has_no_path t) shown_places x f in has_filter (has_no_path t) instance_places x (contains-has instance_places x (one_of x (has-contains shown_places x both.0))) both.1)
+        (λ x f. let both = filter_has (has_no_path t) shown_places x f in has_filter (has_no_path t) instance_places x
+        (contains-has instance_places x (one_of x (has-contains shown_places x both.0))) both.1)
         (omega (arith, many)) q (has_filter (has_no_path t) instance_places q (contains-has instance_places q c) (ap is_none none)) in
         has-contains shown_places q (filter_has (has_no_path t) shown_places q there).0

@@ -45,16 +45,22 @@ module _ (places : List ℕ) where
     side find (s ∷ ss) (e ∷ es) all = by all.0 (side find ss es all.1)
       where
         by : PlansItem t kept places find s e → AllZip IsNumbered (places_of_seen (map numbered_seen ss)) (filter_map item_interface (map (λ (x : PlannedKey × PlannedItem). x.1) es))
-            → AllZip IsNumbered (places_of_shown (numbered_shown s.shown) ++ places_of_seen (map numbered_seen ss)) (cons_option (item_interface e.1) (filter_map item_interface (map (λ (x : PlannedKey × PlannedItem). x.1) es)))
+            → AllZip IsNumbered (places_of_shown (numbered_shown s.shown) ++ places_of_seen (map numbered_seen ss))
+            (cons_option (item_interface e.1) (filter_map item_interface (map (λ (x : PlannedKey × PlannedItem). x.1) es)))
         by (an_instance key v is found) rest =
-            subst (λ a. AllZip IsNumbered (places_of_shown (numbered_shown a) ++ places_of_seen (map numbered_seen ss)) (cons_option (item_interface e.1) (filter_map item_interface (map (λ (x : PlannedKey × PlannedItem). x.1) es)))) (sym is)
-            (subst (λ i. AllZip IsNumbered (place_of_key (numbered_key key) ∷ places_of_seen (map numbered_seen ss)) (cons_option (item_interface i) (filter_map item_interface (map (λ (x : PlannedKey × PlannedItem). x.1) es))))
+            subst (λ a. AllZip IsNumbered (places_of_shown (numbered_shown a) ++ places_of_seen (map numbered_seen ss))
+            (cons_option (item_interface e.1) (filter_map item_interface (map (λ (x : PlannedKey × PlannedItem). x.1) es)))) (sym is)
+            (subst (λ i. AllZip IsNumbered (place_of_key (numbered_key key) ∷ places_of_seen (map numbered_seen ss))
+            (cons_option (item_interface i) (filter_map item_interface (map (λ (x : PlannedKey × PlannedItem). x.1) es))))
             (sym (ap (λ (x : PlannedKey × PlannedItem). x.1) found.is)) (found.found, rest))
         by (a_function n is key f) rest =
-            subst (λ a. AllZip IsNumbered (places_of_shown (numbered_shown a) ++ places_of_seen (map numbered_seen ss)) (cons_option (item_interface e.1) (filter_map item_interface (map (λ (x : PlannedKey × PlannedItem). x.1) es)))) (sym is)
-            (subst (λ i. AllZip IsNumbered (places_of_seen (map numbered_seen ss)) (cons_option (item_interface i) (filter_map item_interface (map (λ (x : PlannedKey × PlannedItem). x.1) es)))) (sym f.is) rest)
+            subst (λ a. AllZip IsNumbered (places_of_shown (numbered_shown a) ++ places_of_seen (map numbered_seen ss))
+            (cons_option (item_interface e.1) (filter_map item_interface (map (λ (x : PlannedKey × PlannedItem). x.1) es)))) (sym is)
+            (subst (λ i. AllZip IsNumbered (places_of_seen (map numbered_seen ss)) (cons_option (item_interface i) (filter_map item_interface (map (λ (x : PlannedKey × PlannedItem). x.1) es))))
+            (sym f.is) rest)
         by (a_type part d n is entry part_is) rest =
-            subst (λ a. AllZip IsNumbered (places_of_shown (numbered_shown a) ++ places_of_seen (map numbered_seen ss)) (cons_option (item_interface e.1) (filter_map item_interface (map (λ (x : PlannedKey × PlannedItem). x.1) es)))) (sym is)
+            subst (λ a. AllZip IsNumbered (places_of_shown (numbered_shown a) ++ places_of_seen (map numbered_seen ss))
+            (cons_option (item_interface e.1) (filter_map item_interface (map (λ (x : PlannedKey × PlannedItem). x.1) es)))) (sym is)
             (subst (λ i. AllZip IsNumbered (places_of_seen (map numbered_seen ss)) (cons_option (item_interface i) (filter_map item_interface (map (λ (x : PlannedKey × PlannedItem). x.1) es))))
             (sym (ap (λ (x : PlannedKey × PlannedItem). x.1) entry)) rest)
 
@@ -64,7 +70,8 @@ module _ (places : List ℕ) where
         let imports = map (λ (e : PlannedKey × PlannedItem). e.1) x.imports in
         let exports = map (λ (e : PlannedKey × PlannedItem). e.1) x.exports in
         subst (AllZip IsNumbered (places_of_seen (map numbered_seen w.1.imports.now) ++ places_of_seen (map numbered_seen w.1.exports.now))) (sym (filter_map-append item_interface imports exports))
-        (zip_both IsNumbered (places_of_seen (map numbered_seen w.1.imports.now)) (filter_map item_interface imports) (places_of_seen (map numbered_seen w.1.exports.now)) (filter_map item_interface exports)
+        (zip_both IsNumbered (places_of_seen (map numbered_seen w.1.imports.now)) (filter_map item_interface imports) (places_of_seen (map numbered_seen w.1.exports.now))
+        (filter_map item_interface exports)
         (side is.find w.1.imports.now x.imports is.imports) (side is.find w.1.exports.now x.exports is.exports))
 
   -- ---- numbers of some of the places
@@ -141,7 +148,8 @@ module _ (places : List ℕ) where
         home_too false q qs ns more = more
 
         of_world : (w : Scope) (vs : List PlannedWorld) → AllZip (PlansWorld t kept places main) ((m.label.now, w) ∷ worlds_in ms) vs
-            → ((us : List PlannedWorld) → AllZip (PlansWorld t kept places main) (worlds_in ms) us → AreListed (own (flat_map (λ (n : NumberedMember). places_of_part n.part) (numbered_members ms))) (flat_map (inline_shown p) us))
+            → ((us : List PlannedWorld) → AllZip (PlansWorld t kept places main) (worlds_in ms) us
+            → AreListed (own (flat_map (λ (n : NumberedMember). places_of_part n.part) (numbered_members ms))) (flat_map (inline_shown p) us))
             → AreListed (own (places_of_part (numbered_part (parts.World w)) ++ flat_map (λ (n : NumberedMember). places_of_part n.part) (numbered_members ms))) (flat_map (inline_shown p) vs)
         of_world w [] a more = absurd a
         of_world w (x ∷ vs) a more =
@@ -154,7 +162,8 @@ module _ (places : List ℕ) where
             (more vs a.1)))
 
         by : (a : Part) → AllZip (PlansWorld t kept places main) (world_in_part m.label.now a ++ worlds_in ms) ws
-            → ((us : List PlannedWorld) → AllZip (PlansWorld t kept places main) (worlds_in ms) us → AreListed (own (flat_map (λ (n : NumberedMember). places_of_part n.part) (numbered_members ms))) (flat_map (inline_shown p) us))
+            → ((us : List PlannedWorld) → AllZip (PlansWorld t kept places main) (worlds_in ms) us
+            → AreListed (own (flat_map (λ (n : NumberedMember). places_of_part n.part) (numbered_members ms))) (flat_map (inline_shown p) us))
             → AreListed (own (places_of_part (numbered_part a) ++ flat_map (λ (n : NumberedMember). places_of_part n.part) (numbered_members ms))) (flat_map (inline_shown p) ws)
         by (parts.World w) a more = of_world w ws a more
         by (parts.Interface q v imports) a more = more ws a

@@ -83,7 +83,8 @@ world_of ms x c =
         let same : (m.label.now, w) ≡ x = one-contained (m.label.now, w) x there in
         record { member = m; among = among; label = ap (λ (y : Text × Scope). y.0) same; is = is ∙ ap (λ (y : Text × Scope). parts.World y.1) same }
 
-pub interface_among : (ms : List Member) (m : Member) → Contains ms m → (q : ℕ) (v : View) (imports : Bor (List ImportedView)) → m.part ≡ parts.Interface q v imports → Contains (interfaces_in ms) (m.label.now, q)
+pub interface_among : (ms : List Member) (m : Member) → Contains ms m → (q : ℕ) (v : View) (imports : Bor (List ImportedView)) → m.part ≡ parts.Interface q v imports
+    → Contains (interfaces_in ms) (m.label.now, q)
 interface_among ms m c q v imports is =
     contains-flat (λ (x : Member). interface_in_part x.label.now x.part) ms m (m.label.now, q) c
     (subst (λ a. Contains (interface_in_part m.label.now a) (m.label.now, q)) (sym is) (contains-one (m.label.now, q)))

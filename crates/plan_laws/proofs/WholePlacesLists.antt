@@ -45,8 +45,6 @@ once_parts (x ∷ xs) ys e =
     absent [] f = refl
     absent (z ∷ zs) f = (λ i. first_false (z == x) (has (zs ++ ys) x) f i || absent zs (later_false (z == x) (has (zs ++ ys) x) f) i)
 
--- those that pass in a part of what is listed
-
 -- as many numbers that are there, none twice, are all
 module _ (x : ℕ) where
   abbrev others : ℕ → Bool

@@ -78,7 +78,8 @@ module _ (t : Tables) (h : Homes) (known : ℕ → Fact) (n : ℕ) (ms : List Me
       (there.0.package_, ap (slice_get h.packages) (sym (one_package m c)) ∙ there.2.package_)
 
   -- an interface is under its path, whose home is the package under the label
-  pub interface_home : (m : Member) → Contains ms m → (q : ℕ) (v : View) (imports : Bor (List ImportedView)) → m.part ≡ parts.Interface q v imports → HasPath t q × (home_at h q ≡ Some (n, m.label.now))
+  pub interface_home : (m : Member) → Contains ms m → (q : ℕ) (v : View) (imports : Bor (List ImportedView)) → m.part ≡ parts.Interface q v imports → HasPath t q
+      × (home_at h q ≡ Some (n, m.label.now))
   interface_home m c q v imports is =
       let there = beside (IsMember t h) numbered_member ms members given.input.shown m c in
       by there.0.part (subst (λ a. ShowsPart t h (numbered_member m) (numbered_part a) there.0.part) is there.2.part)
@@ -106,7 +107,8 @@ module _ (t : Tables) (h : Homes) (known : ℕ → Fact) (n : ℕ) (ms : List Me
         scope = scope;
         shows = shows;
         stands = stands;
-        numbers = subst (λ a. IsPartIn t (numbered_part a)) is (all_at (λ (x : NumberedMember). IsPartIn t x.part) (numbered_members ms) given.input.numbers (numbered_member m) (contains-map numbered_member ms m c));
+        numbers = subst (λ a. IsPartIn t (numbered_part a)) is (all_at (λ (x : NumberedMember). IsPartIn t x.part) (numbered_members ms) given.input.numbers (numbered_member m)
+            (contains-map numbered_member ms m c));
       }
 
   -- ---- the package's own

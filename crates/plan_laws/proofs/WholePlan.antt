@@ -97,7 +97,8 @@ module _ (t : Tables) (h : Homes) (known : ℕ → Fact) (n : ℕ) (ms : List Me
     reasons = foreign_reasons t h known n ms members given p planned b refl (views_read ms) read (whole_is_shown t h known n ms members given apart.0 input.reached p planned b refl read)
 
     -- an interface of another package is under a path
-    foreign_path : (k q : ℕ) (i : PlannedInterface) → interface_in p k ≡ Some i → slice_get (places_in ms) k ≡ Some q → PlansPlace t planned.kept n (home_at h) (views_of_members (numbered_members ms)) q i → is_foreign p i ≡ true → HasPath t q
+    foreign_path : (k q : ℕ) (i : PlannedInterface) → interface_in p k ≡ Some i → slice_get (places_in ms) k ≡ Some q
+        → PlansPlace t planned.kept n (home_at h) (views_of_members (numbered_members ms)) q i → is_foreign p i ≡ true → HasPath t q
     foreign_path k q i there at plans foreign =
         let first = first_there t h ms members given.input n p planned k q at in
         let named : is_some i.name ≡ true = first_true (is_some i.name) (not (is_id p.main i.package_)) foreign in
@@ -107,7 +108,8 @@ module _ (t : Tables) (h : Homes) (known : ℕ → Fact) (n : ℕ) (ms : List Me
         some_home None e = no_true e
         some_home (Some x) e = refl
 
-    foreign_functions : (k q : ℕ) (i : PlannedInterface) → interface_in p k ≡ Some i → b.owners q ≡ as_interface k → is_foreign p i ≡ true → AllZip (FunctionListed t planned.kept p) (functions_seen q sights) i.functions
+    foreign_functions : (k q : ℕ) (i : PlannedInterface) → interface_in p k ≡ Some i → b.owners q ≡ as_interface k → is_foreign p i ≡ true
+        → AllZip (FunctionListed t planned.kept p) (functions_seen q sights) i.functions
     foreign_functions k q i there own foreign =
         let from = zip_get (PlansPlace t planned.kept n (home_at h) (views_of_members (numbered_members ms))) (places_in ms) p.interfaces planned.interfaces k i there in
         let same : q ≡ from.0 = one_owner ms b refl q from.0 (as_interface k) own (owner_numbered ms from.0 k (place_number ms k from.0 from.1)) in

@@ -103,14 +103,16 @@ module _ (t : Tables) (h : Homes) (known : ℕ → Fact) (n : ℕ) (ms : List Me
       by : Type_ m has.type_ → Kept k
       by (unnamed r r_at none a d e formed) =
           let same : r ≡ s = same-some r s (sym r_at ∙ at) in
-          of_type has.number has.type_ (shape_form r) r.parts formed.news has.there formed.is (parts_become t given.input.tables kept p many r.parts formed.news formed.parts) (subst (λ (x : Shape). Contains x.parts k) (sym same) c)
+          of_type has.number has.type_ (shape_form r) r.parts formed.news has.there formed.is (parts_become t given.input.tables kept p many r.parts formed.news formed.parts)
+          (subst (λ (x : Shape). Contains x.parts k) (sym same) c)
       by (named r q name y r_at is first a d e kind) = of_shape (given.input.tables.shapes.each m s at)
         where
           of_shape : IsShape m s → Kept k
           of_shape (shapes.a_name place other f) = no_parts s k place other f c
           of_shape (shapes.a_node form parts f low) =
               let same : r ≡ node_shape form parts = same-some r (node_shape form parts) (sym r_at ∙ (at ∙ ap Some f)) in
-              let none : name_in r ≡ None = ap name_in same ∙ ap (λ (x : Bool). cond x (Some ((node_shape form parts).number, shapes.first_label (node_shape form parts).labels)) None) (no_name form) in
+              let none : name_in r ≡ None = ap name_in same ∙ ap (λ (x : Bool). cond x (Some ((node_shape form parts).number, shapes.first_label (node_shape form parts).labels)) None)
+              (no_name form) in
               no_true (ap is_some (sym none ∙ is))
 
   -- ---- parts of what names are declared as
@@ -122,7 +124,8 @@ module _ (t : Tables) (h : Homes) (known : ℕ → Fact) (n : ℕ) (ms : List Me
       let same : shape_at t o ≡ Some (node_shape form olds) = ap (shape_at t) (same-some o old d) ∙ shape_there t old i (node_shape form olds) is at in
       of_type j x form olds news there kind zip (subst (λ (s : Option Shape). Contains (option_map_or (λ (y : Shape). y.parts) s []) k) same c)
 
-  by_showing : (k : ℕ) (s : Shape) → slice_get t.shapes k ≡ Some s → name_in s ≡ None → (y : NumberedShowing) → Contains (showings_of_members ms) y → Contains (showing_parts t y) (14 + k) → Kept (14 + k)
+  by_showing : (k : ℕ) (s : Shape) → slice_get t.shapes k ≡ Some s → name_in s ≡ None → (y : NumberedShowing) → Contains (showings_of_members ms) y → Contains (showing_parts t y) (14 + k)
+      → Kept (14 + k)
   by_showing k s at none y among c = by (Contains-append_cases (y.part ∷ []) (declared_parts t y.declared) (14 + k) c)
     where
       is : IsNamed t given.input.tables y
@@ -140,7 +143,8 @@ module _ (t : Tables) (h : Homes) (known : ℕ → Fact) (n : ℕ) (ms : List Me
           subst (Contains (used_parts t (showings_of_members ms) (signatures_of_members ms))) is.part
           (front (flat_map (showing_parts t) (showings_of_members ms)) (flat_map (function_parts t) (signatures_of_members ms)) y.part
           (contains-flat (showing_parts t) (showings_of_members ms) y y.part among (0, omega arith, refl))) in
-          marked is.number (planned.kept_for.used.shown is.number (slice_get_within t.shapes is.number (named_shape is.place is.name) is.is.named) ∙ contains-has (used_parts t (showings_of_members ms) (signatures_of_members ms)) (14 + is.number) among_parts)
+          marked is.number (planned.kept_for.used.shown is.number (slice_get_within t.shapes is.number (named_shape is.place is.name) is.is.named) ∙ contains-has
+          (used_parts t (showings_of_members ms) (signatures_of_members ms)) (14 + is.number) among_parts)
         where
           front : (xs ys : List ℕ) (x : ℕ) → Contains xs x → Contains (xs ++ ys) x
           front = Contains-append_left
@@ -212,7 +216,8 @@ module _ (t : Tables) (h : Homes) (known : ℕ → Fact) (n : ℕ) (ms : List Me
           name = is.name;
           home = home;
           number = number.0;
-          owned = ap (λ (f : ℕ → TypeOwner). f is.place) owned ∙ ap (λ o. option_map_or as_interface o (option_map_or as_world (number_in (homes_in ms) is.place) (as_interface (length (places_in ms) + is.place)))) number.1;
+          owned = ap (λ (f : ℕ → TypeOwner). f is.place) owned ∙ ap (λ o. option_map_or as_interface o
+              (option_map_or as_world (number_in (homes_in ms) is.place) (as_interface (length (places_in ms) + is.place)))) number.1;
           interface = there.0;
           there = there.1;
         }

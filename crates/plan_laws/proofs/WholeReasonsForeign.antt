@@ -66,7 +66,8 @@ module _ (t : Tables) (h : Homes) (known : ℕ → Fact) (n : ℕ) (ms : List Me
   own_package : (m : Member) → Contains ms m → (q : ℕ) (v : View) (imports : Bor (List ImportedView)) → m.part ≡ parts.Interface q v imports → is_of_package h n q ≡ true
   own_package m c q v imports is = ap (λ o. option_map_or (λ (x : ℕ × Text). x.0 == n) o false) (interface_home t h known n ms members given m c q v imports is).1 ∙ eq-eqb n n refl
 
-  from_instance : (m : Member) → Contains ms m → (w : Scope) → m.part ≡ parts.World w → (i : NumberedInstance) → Contains (numbered_scope w).instances i → (s : NumberedSight) → Contains (sights_of_instance t i) s → IsFrom s
+  from_instance : (m : Member) → Contains ms m → (w : Scope) → m.part ≡ parts.World w → (i : NumberedInstance) → Contains (numbered_scope w).instances i → (s : NumberedSight)
+      → Contains (sights_of_instance t i) s → IsFrom s
   from_instance m c w is i among s there = by (path_at t i.place) refl there
     where
       by : (o : Option Text) → path_at t i.place ≡ o → Contains (option_map_or (λ (path : Text). whole_view i ∷ []) o []) s → IsFrom s
@@ -83,14 +84,17 @@ module _ (t : Tables) (h : Homes) (known : ℕ → Fact) (n : ℕ) (ms : List Me
       by m among (parts.World w) is there =
           let i = flat_cases (sights_of_instance t) (numbered_scope w).instances s there in
           from_instance m among w is i.0 i.1 s i.2
-      by m among (parts.Interface q v imports) is there = side (record { place = q; view = numbered_view v; whole = true }) refl (Contains-append_cases (map types_alone (map numbered_import imports.now)) (record { place = q; view = numbered_view v; whole = true } ∷ []) s there)
+      by m among (parts.Interface q v imports) is there = side (record { place = q; view = numbered_view v; whole = true }) refl
+          (Contains-append_cases (map types_alone (map numbered_import imports.now)) (record { place = q; view = numbered_view v; whole = true } ∷ []) s there)
         where
           side : (own : NumberedSight) → own.place ≡ q → Contains (map types_alone (map numbered_import imports.now)) s ⊎ Contains (own ∷ []) s → IsFrom s
           side own place (inl import_) =
               let i = from_map types_alone (map numbered_import imports.now) s import_ in
               an_import m among q v imports is (ap (λ (x : NumberedSight). x.whole) (sym i.2))
-              (subst (Contains (map (λ (x : ℕ × NumberedView). x.0) (map numbered_import imports.now))) (ap (λ (x : NumberedSight). x.place) i.2) (contains-map (λ (x : ℕ × NumberedView). x.0) (map numbered_import imports.now) i.0 i.1))
-          side own place (inr last) = the_own (ap (λ (x : NumberedSight). is_of_package h n x.place) (sym (one-contained own s last)) ∙ (ap (λ (x : ℕ). is_of_package h n x) place ∙ own_package m among q v imports is))
+              (subst (Contains (map (λ (x : ℕ × NumberedView). x.0) (map numbered_import imports.now))) (ap (λ (x : NumberedSight). x.place) i.2)
+              (contains-map (λ (x : ℕ × NumberedView). x.0) (map numbered_import imports.now) i.0 i.1))
+          side own place (inr last) = the_own (ap (λ (x : NumberedSight). is_of_package h n x.place) (sym (one-contained own s last))
+              ∙ (ap (λ (x : ℕ). is_of_package h n x) place ∙ own_package m among q v imports is))
 
   whole : (s : NumberedSight) → Contains sights s → s.whole ≡ true → Shown s.place ⊎ (is_of_package h p.main s.place ≡ true)
   whole s c functions = by (from_sight s c)
@@ -112,7 +116,8 @@ module _ (t : Tables) (h : Homes) (known : ℕ → Fact) (n : ℕ) (ms : List Me
       subst (Contains (places_in ms)) (sym same) (get-contains (places_in ms) k from.0 from.1)
 
   -- a view that the component type of an interface shows
-  view_in : (m : Member) → Contains ms m → (s : NumberedSight) → Contains (views_of_part (numbered_part m.part)) s → Contains (sights_of_part t (numbered_part m.part)) s → IsViewOf t h planned.kept p b views read (s.place, s.view)
+  view_in : (m : Member) → Contains ms m → (s : NumberedSight) → Contains (views_of_part (numbered_part m.part)) s → Contains (sights_of_part t (numbered_part m.part)) s
+      → IsViewOf t h planned.kept p b views read (s.place, s.view)
   view_in m c s viewed seen =
       let numbered = contains-map numbered_member ms m c in
       let number = number_given (places_in ms) s.place (view_met ms (numbered_member m) numbered s viewed) in
@@ -128,11 +133,13 @@ module _ (t : Tables) (h : Homes) (known : ℕ → Fact) (n : ℕ) (ms : List Me
   by_import : (m : Member) → Contains ms m → (q : ℕ) (v : View) (imports : Bor (List ImportedView)) → m.part ≡ parts.Interface q v imports → (r : ℕ)
       → Contains (map (λ (i : ℕ × NumberedView). i.0) (map numbered_import imports.now)) r → IsSeenFor t h planned.kept p b views read r
   by_import m c q v imports is r there =
-      let reached = subst (λ a. PartIsReached t (numbered_part a)) is (all_at (λ (x : NumberedMember). PartIsReached t x.part) (numbered_members ms) is_shown.reached (numbered_member m) (contains-map numbered_member ms m c)) in
+      let reached = subst (λ a. PartIsReached t (numbered_part a)) is (all_at (λ (x : NumberedMember). PartIsReached t x.part) (numbered_members ms) is_shown.reached (numbered_member m)
+      (contains-map numbered_member ms m c)) in
       in_member (q, numbered_view v) (map numbered_import imports.now) reached.0 reached.1
       (own_view, all_given (IsViewOf t h planned.kept p b views read) (map numbered_import imports.now) import_) there
     where
-      view : (s : NumberedSight) → Contains (map types_alone (map numbered_import imports.now) ++ record { place = q; view = numbered_view v; whole = true } ∷ []) s → IsViewOf t h planned.kept p b views read (s.place, s.view)
+      view : (s : NumberedSight) → Contains (map types_alone (map numbered_import imports.now) ++ record { place = q; view = numbered_view v; whole = true } ∷ []) s
+          → IsViewOf t h planned.kept p b views read (s.place, s.view)
       view s among = view_in m c s (subst (λ a. Contains (views_of_part (numbered_part a)) s) (sym is) among) (subst (λ a. Contains (sights_of_part t (numbered_part a)) s) (sym is) among)
 
       own_view : IsViewOf t h planned.kept p b views read (q, numbered_view v)

@@ -53,7 +53,8 @@ use Rattle.plan_package.proofs.ReadPackageLaws.{number_at as number_there}
 
 module _ (t : Tables) (kept : List ℕ) (p : Plan) where
   -- a part of one is a part of the other, where both become this function
-  same_part : (f shape : FunctionShape) (id : Option Text) (g : PlannedFunction) → TakesAndGives kept f g → FunctionBecomes t kept p shape id g → (old : ℕ) → Contains (signature_parts f) old → IsPartOfFunction shape old
+  same_part : (f shape : FunctionShape) (id : Option Text) (g : PlannedFunction) → TakesAndGives kept f g → FunctionBecomes t kept p shape id g → (old : ℕ) → Contains (signature_parts f) old
+      → IsPartOfFunction shape old
   same_part f shape id g takes becomes old c = by (Contains-append_cases (map (λ (x : Text × ℕ). x.1) f.params) (option_to_list f.result) old c)
     where
       given : (a b d : Option ℕ) → shape.result ≡ d → KeptIfGiven kept a b → BecomesIfGiven t kept p d b → Contains (option_to_list a) old → IsPartOfFunction shape old
@@ -130,12 +131,14 @@ module _ (t : Tables) (h : Homes) (known : ℕ → Fact) (n : ℕ) (ms : List Me
   -- ---- functions of views
 
   module _ (old : ℕ) where
-    of_planned : (find : Text → Option TypeId) (m : ℕ) (i : PlannedInterface) (g : Text × NumberedFunction) → interface_in p m ≡ Some i → (e : Text × PlannedFunction) → Contains i.functions e → IsPlannedFunction t kept find g e
+    of_planned : (find : Text → Option TypeId) (m : ℕ) (i : PlannedInterface) (g : Text × NumberedFunction) → interface_in p m ≡ Some i → (e : Text × PlannedFunction) → Contains i.functions e
+        → IsPlannedFunction t kept find g e
         → Contains (function_parts t g.1.signature) old → Kept old
     of_planned find m i g there e c is part =
         let among = contains-map (λ (x : Text × PlannedFunction). x.1) i.functions e c in
         let f = all_at (IsReadFunction t kept p b (as_interface m)) (functions_of i) (read.of_interfaces m i there) e.1 among in
-        of_interface m i f.shape f.external_id e.1 there among f.kept_function.becomes (same_part t kept p (function_at t g.1.signature) f.shape f.external_id e.1 is.parts f.kept_function.becomes old part)
+        of_interface m i f.shape f.external_id e.1 there among f.kept_function.becomes
+        (same_part t kept p (function_at t g.1.signature) f.shape f.external_id e.1 is.parts f.kept_function.becomes old part)
 
     by_view : (s : NumberedSight) → Contains views s → s.whole ≡ true → (f : Text × NumberedFunction) → Contains s.view.functions f → Contains (function_parts t f.1.signature) old → Kept old
     by_view s c whole f there part =
@@ -148,7 +151,8 @@ module _ (t : Tables) (h : Homes) (known : ℕ → Fact) (n : ℕ) (ms : List Me
         let first = first_there t h ms members given.input n p planned m s.place at in
         with_view m i.0 i.1 first.0 (i.2 first.0 first.1)
       where
-        with_function : (m : ℕ) (i : PlannedInterface) → interface_in p m ≡ Some i → (find : Text → Option TypeId) → AllZip (IsPlannedFunction t kept find) (functions_seen s.place views) i.functions → IsFirstWhole s.place views → Kept old
+        with_function : (m : ℕ) (i : PlannedInterface) → interface_in p m ≡ Some i → (find : Text → Option TypeId) → AllZip (IsPlannedFunction t kept find) (functions_seen s.place views) i.functions
+            → IsFirstWhole s.place views → Kept old
         with_function m i at find zip first =
             let g = alike.functions s first.sight c first.among (sym first.place) whole first.whole f there in
             let among : Contains (functions_seen s.place views) g.0 = subst (λ fs. Contains fs g.0) (sym first.functions) g.1 in
@@ -161,7 +165,8 @@ module _ (t : Tables) (h : Homes) (known : ℕ → Fact) (n : ℕ) (ms : List Me
 
     -- ---- functions of worlds
 
-    by_world : (m : Member) → Contains ms m → (w : Scope) → m.part ≡ parts.World w → (s : Seen) → Contains w.imports.now s ⊎ Contains w.exports.now s → (k : ℕ) → s.shown ≡ shown.Function k → Contains (function_parts t k) old → Kept old
+    by_world : (m : Member) → Contains ms m → (w : Scope) → m.part ≡ parts.World w → (s : Seen) → Contains w.imports.now s ⊎ Contains w.exports.now s → (k : ℕ) → s.shown ≡ shown.Function k
+        → Contains (function_parts t k) old → Kept old
     by_world m c w is s side k shows part =
         let j = contains-get (worlds_in ms) (m.label.now, w) (world_among ms m c w is) in
         let x = zip_at (PlansWorld t kept (places_in ms) n) (worlds_in ms) p.worlds planned.worlds j.0 (m.label.now, w) j.1 in
@@ -175,27 +180,32 @@ module _ (t : Tables) (h : Homes) (known : ℕ → Fact) (n : ℕ) (ms : List Me
             number (shown.Instance key v) = k
             number (shown.Declares d q) = k
 
-        of_item : (j : ℕ) (x : PlannedWorld) → world_in p j ≡ Some x → (find : Text → Option TypeId) (e : PlannedKey × PlannedItem) → Contains (items_of x) e.1 → PlansItem t kept (places_in ms) find s e → Kept old
+        of_item : (j : ℕ) (x : PlannedWorld) → world_in p j ≡ Some x → (find : Text → Option TypeId) (e : PlannedKey × PlannedItem) → Contains (items_of x) e.1
+            → PlansItem t kept (places_in ms) find s e → Kept old
         of_item j x at find e there (an_instance key v other found) = let wrong : shown.Function k ≡ shown.Instance key v = sym shows ∙ other in absurd cc
         of_item j x at find e there (a_type d q l other entry is_part) = let wrong : shown.Function k ≡ shown.Declares d q = sym shows ∙ other in absurd cc
         of_item j x at find e there (a_function a other key f) =
             let g = f.function in
-            let among : Contains (world_functions x) g = contains-filter_map item_function (items_of x) e.1 g there (subst (λ i. Contains (option_to_list (item_function i)) g) (sym f.is) (contains-one g)) in
+            let among : Contains (world_functions x) g = contains-filter_map item_function (items_of x) e.1 g there
+            (subst (λ i. Contains (option_to_list (item_function i)) g) (sym f.is) (contains-one g)) in
             let r = all_at (IsReadFunction t kept p b (as_world j)) (world_functions x) (read.of_worlds j x at) g among in
             of_world j x r.shape r.external_id g at among r.kept_function.becomes
-            (same_part t kept p (function_at t a) r.shape r.external_id g f.planned.parts r.kept_function.becomes old (subst (λ z. Contains (function_parts t z) old) (same_function a (sym shows ∙ other)) part))
+            (same_part t kept p (function_at t a) r.shape r.external_id g f.planned.parts r.kept_function.becomes old
+            (subst (λ z. Contains (function_parts t z) old) (same_function a (sym shows ∙ other)) part))
 
         in_world : (j : ℕ) (x : PlannedWorld) → world_in p j ≡ Some x → PlansWorld t kept (places_in ms) n (m.label.now, w) x → Contains w.imports.now s ⊎ Contains w.exports.now s → Kept old
         in_world j x at is (inl among) =
             let i = contains-get w.imports.now s among in
             let e = zip_at (PlansItem t kept (places_in ms) is.find) w.imports.now x.imports is.imports i.0 s i.1 in
             of_item j x at is.find e.0
-            (Contains-append_left (map (λ (y : PlannedKey × PlannedItem). y.1) x.imports) (map (λ (y : PlannedKey × PlannedItem). y.1) x.exports) e.0.1 (contains-map (λ (y : PlannedKey × PlannedItem). y.1) x.imports e.0 (get-contains x.imports i.0 e.0 e.1))) e.2
+            (Contains-append_left (map (λ (y : PlannedKey × PlannedItem). y.1) x.imports) (map (λ (y : PlannedKey × PlannedItem). y.1) x.exports) e.0.1
+            (contains-map (λ (y : PlannedKey × PlannedItem). y.1) x.imports e.0 (get-contains x.imports i.0 e.0 e.1))) e.2
         in_world j x at is (inr among) =
             let i = contains-get w.exports.now s among in
             let e = zip_at (PlansItem t kept (places_in ms) is.find) w.exports.now x.exports is.exports i.0 s i.1 in
             of_item j x at is.find e.0
-            (Contains-append_right (map (λ (y : PlannedKey × PlannedItem). y.1) x.imports) (map (λ (y : PlannedKey × PlannedItem). y.1) x.exports) e.0.1 (contains-map (λ (y : PlannedKey × PlannedItem). y.1) x.exports e.0 (get-contains x.exports i.0 e.0 e.1))) e.2
+            (Contains-append_right (map (λ (y : PlannedKey × PlannedItem). y.1) x.imports) (map (λ (y : PlannedKey × PlannedItem). y.1) x.exports) e.0.1
+            (contains-map (λ (y : PlannedKey × PlannedItem). y.1) x.exports e.0 (get-contains x.exports i.0 e.0 e.1))) e.2
 
     -- ---- all functions
 
@@ -204,25 +214,30 @@ module _ (t : Tables) (h : Homes) (known : ℕ → Fact) (n : ℕ) (ms : List Me
     by_seen m c w is good s side k calls part = by s.shown refl calls
       where
         one_of : Contains w.imports.now s ⊎ Contains w.exports.now s → IsOneOf t (numbered_scope w).instances (numbered_shown s.shown)
-        one_of (inl among) = all_at (λ (x : NumberedSeen). IsOneOf t (numbered_scope w).instances x.shown) (map numbered_seen w.imports.now) good.imported (numbered_seen s) (contains-map numbered_seen w.imports.now s among)
-        one_of (inr among) = all_at (λ (x : NumberedSeen). IsOneOf t (numbered_scope w).instances x.shown) (map numbered_seen w.exports.now) good.exported (numbered_seen s) (contains-map numbered_seen w.exports.now s among)
+        one_of (inl among) = all_at (λ (x : NumberedSeen). IsOneOf t (numbered_scope w).instances x.shown) (map numbered_seen w.imports.now) good.imported (numbered_seen s)
+            (contains-map numbered_seen w.imports.now s among)
+        one_of (inr among) = all_at (λ (x : NumberedSeen). IsOneOf t (numbered_scope w).instances x.shown) (map numbered_seen w.exports.now) good.exported (numbered_seen s)
+            (contains-map numbered_seen w.exports.now s among)
 
         by : (x : Shown) → s.shown ≡ x → Contains (signatures_of_shown x) k → Kept old
         by (shown.Declares d q) shows there = none-in k there
         by (shown.Function f) shows there = by_world m c w is s side k (shows ∙ ap shown.Function (one-contained f k there)) part
         by (shown.Instance key v) shows there =
             let f = from_map (λ (x : Text × NumberedFunction). x.1.signature) (numbered_view v).functions k there in
-            let instance : Contains (numbered_scope w).instances (record { place = place_of_key (numbered_key key); view = numbered_view v }) = subst (λ x. IsOneOf t (numbered_scope w).instances (numbered_shown x)) shows (one_of side) in
+            let instance : Contains (numbered_scope w).instances (record { place = place_of_key (numbered_key key); view = numbered_view v }) =
+            subst (λ x. IsOneOf t (numbered_scope w).instances (numbered_shown x)) shows (one_of side) in
             let sight = whole_view (record { place = place_of_key (numbered_key key); view = numbered_view v }) in
             let viewed : Contains (views_of_part (numbered_part m.part)) sight =
-            subst (λ a. Contains (views_of_part (numbered_part a)) sight) (sym is) (contains-map whole_view (numbered_scope w).instances (record { place = place_of_key (numbered_key key); view = numbered_view v }) instance) in
+            subst (λ a. Contains (views_of_part (numbered_part a)) sight) (sym is)
+            (contains-map whole_view (numbered_scope w).instances (record { place = place_of_key (numbered_key key); view = numbered_view v }) instance) in
             by_view sight (contains-flat (λ (x : NumberedMember). views_of_part x.part) numbered (numbered_member m) sight (contains-map numbered_member ms m c) viewed) refl f.0 f.1
             (subst (λ z. Contains (function_parts t z) old) (sym f.2) part)
 
     pub by_function : (k : ℕ) → Contains (signatures_of_members ms) k → Contains (function_parts t k) old → Kept old
     by_function k calls part =
         let from = flat_cases (λ (m : Member). signatures_of_part m.part) ms k calls in
-        by from.0 from.1 from.0.part refl (all_at (λ (x : NumberedMember). IsPartIn t x.part) numbered given.input.numbers (numbered_member from.0) (contains-map numbered_member ms from.0 from.1)) from.2
+        by from.0 from.1 from.0.part refl (all_at (λ (x : NumberedMember). IsPartIn t x.part) numbered given.input.numbers (numbered_member from.0)
+        (contains-map numbered_member ms from.0 from.1)) from.2
       where
         by : (m : Member) → Contains ms m → (a : Part) → m.part ≡ a → IsPartIn t (numbered_part m.part) → Contains (signatures_of_part a) k → Kept old
         by m c (parts.Interface q v imports) is good there =

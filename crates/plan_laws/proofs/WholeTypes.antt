@@ -84,7 +84,8 @@ module _ (t : Tables) (h : Homes) (ms : List Member) (members : List reads.Membe
       by k (another other differs there made) = made.is ∙ same-some other identity (sym there ∙ at)
 
   -- the path of an interface of the plan
-  pub path_planned : (i : PlannedInterface) (q : ℕ) (home : Option Home) → i.name ≡ option_map (λ (x : Home). x.1) home → i.package_ ≡ Some (option_map_or (λ (x : Home). x.0) home main) → home_at h q ≡ home → (o : Option Text) → path_at t q ≡ o → path_of_planned p i ≡ o
+  pub path_planned : (i : PlannedInterface) (q : ℕ) (home : Option Home) → i.name ≡ option_map (λ (x : Home). x.1) home → i.package_ ≡ Some (option_map_or (λ (x : Home). x.0) home main)
+      → home_at h q ≡ home → (o : Option Text) → path_at t q ≡ o → path_of_planned p i ≡ o
   path_planned i q home name package_ at (Some path) e =
       let is = ruled.input.homes.homes q path e in
       let same : home ≡ Some (is.package_, is.name) = sym at ∙ is.home in
@@ -115,7 +116,8 @@ module _ (t : Tables) (h : Homes) (ms : List Member) (members : List reads.Membe
   pub places_stand : (q : ℕ) → Contains places q ⊎ Contains homes q → place_in p (owners_of ms q) ≡ place_at t q
   places_stand q met = by (number_in places q) refl met
     where
-      by : (o : Option ℕ) → number_in places q ≡ o → Contains places q ⊎ Contains homes q → place_in p (option_map_or as_interface o (option_map_or as_world (number_in homes q) (as_interface (length places + q)))) ≡ place_at t q
+      by : (o : Option ℕ) → number_in places q ≡ o → Contains places q ⊎ Contains homes q
+          → place_in p (option_map_or as_interface o (option_map_or as_world (number_in homes q) (as_interface (length places + q)))) ≡ place_at t q
       by (Some m) e met = interface_place m q e
       by None e (inl among) = let given = number_given places q among in let wrong : ◌≡◌ {A = Option ℕ} None (Some given.0) = sym e ∙ given.1 in absurd cc
       by None e (inr among) =
@@ -129,7 +131,8 @@ module _ (t : Tables) (h : Homes) (ms : List Member) (members : List reads.Membe
       let found = (firsts_found (showings_of_members ms)).0 n y first in
       let obeys = all_at (TypeObeys t) (showings_of_members ms) ruled.rules.types y found.0 in
       let one : obeys.number ≡ n = (let a = obeys.part in let b = found.1 in omega (arith, a, b)) in
-      let shape : named_shape obeys.place obeys.name ≡ named_shape q name = same-some (named_shape obeys.place obeys.name) (named_shape q name) (sym obeys.is.named ∙ (ap (slice_get t.shapes) one ∙ at)) in
+      let shape : named_shape obeys.place obeys.name ≡ named_shape q name =
+      same-some (named_shape obeys.place obeys.name) (named_shape q name) (sym obeys.is.named ∙ (ap (slice_get t.shapes) one ∙ at)) in
       let place : obeys.place ≡ q = ap (λ (s : Shape). s.number) shape in
       let shown = names_are_shown t h ms members ruled.input planned.kept_for.marks planned.kept_for.used n q name mark at in
       let met = shown_met ms t shown.0 shown.1 q n shown.2 in
@@ -161,9 +164,11 @@ module _ (t : Tables) (h : Homes) (ms : List Member) (members : List reads.Membe
   types_whole = record {
     types =
         types_are_kept t input.tables showings (all_of (ShowingObeys t) showings (λ y c. showing_obeys t y (all_at (TypeObeys t) showings ruled.rules.types y c))) signatures ruled.rules.signatures
-        (forms_obeyed t input.tables ruled.lengths h ms members input.shown input.stand) planned.kept_for.marks planned.kept_for.used planned.kept planned.kept_for.marked p (owners_in ms) (shown_first ms) finds planned.types name_obeys;
+        (forms_obeyed t input.tables ruled.lengths h ms members input.shown input.stand) planned.kept_for.marks planned.kept_for.used planned.kept planned.kept_for.marked p (owners_in ms)
+        (shown_first ms) finds planned.types name_obeys;
     marks = marks;
-    marked = marks_kept t input.tables showings signatures marks planned.kept_for.marks planned.kept_for.used planned.kept planned.kept_for.marked p (owners_in ms) (shown_first ms) finds planned.types;
+    marked = marks_kept t input.tables showings signatures marks planned.kept_for.marks planned.kept_for.used planned.kept planned.kept_for.marked p (owners_in ms) (shown_first ms) finds
+        planned.types;
     places = places_stand;
   }
 
@@ -179,12 +184,15 @@ packages_are_ruled t h known n ms members is = record {
   kinds = is.kinds;
   placed = is.placed;
   lengths = is.lengths;
-  rules = rules_obeyed t is.input.tables h ms members is.input known is.sights (second_true (agree_in_numbers (sights_of_members t (numbered_members ms))) (are_interfaces t known (sights_of_members t (numbered_members ms))) both_hold);
+  rules = rules_obeyed t is.input.tables h ms members is.input known is.sights
+      (second_true (agree_in_numbers (sights_of_members t (numbered_members ms))) (are_interfaces t known (sights_of_members t (numbered_members ms))) both_hold);
   agree = first_true (agree_in_numbers (sights_of_members t (numbered_members ms))) (are_interfaces t known (sights_of_members t (numbered_members ms))) both_hold;
 }
   where
     both_hold : (agree_in_numbers (sights_of_members t (numbered_members ms)) && are_interfaces t known (sights_of_members t (numbered_members ms))) ≡ true
     both_hold =
-        second_true (list_all (stands_at_top h n (numbered_members ms)) (sights_of_members t (numbered_members ms))) (agree_in_numbers (sights_of_members t (numbered_members ms)) && are_interfaces t known (sights_of_members t (numbered_members ms)))
+        second_true (list_all (stands_at_top h n (numbered_members ms)) (sights_of_members t (numbered_members ms)))
+        (agree_in_numbers (sights_of_members t (numbered_members ms)) && are_interfaces t known (sights_of_members t (numbered_members ms)))
         (second_true (list_all (λ (m : NumberedMember). n == m.package_) (numbered_members ms))
-        (list_all (stands_at_top h n (numbered_members ms)) (sights_of_members t (numbered_members ms)) && (agree_in_numbers (sights_of_members t (numbered_members ms)) && are_interfaces t known (sights_of_members t (numbered_members ms)))) is.obeys)
+        (list_all (stands_at_top h n (numbered_members ms)) (sights_of_members t (numbered_members ms))
+        && (agree_in_numbers (sights_of_members t (numbered_members ms)) && are_interfaces t known (sights_of_members t (numbered_members ms)))) is.obeys)

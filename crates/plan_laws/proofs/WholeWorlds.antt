@@ -73,8 +73,10 @@ first_and_third true true false d e h = absurd cc
 first_and_third true false c d e h = absurd cc
 first_and_third false b c d e h = absurd cc
 
-module _ (t : Tables) (h : Homes) (known : ℕ → Fact) (n : ℕ) (ms : List Member) (members : List reads.Member) (given : IsPackageInput t h known n ms members) (ordered : ViewsAreOrdered t ms) (worlds_apart : WorldsAreApart ms) (followed : WorldsAreFollowed t ms)
-    (p : Plan) (planned : PlansWhole t h.packages (home_at h) n ms p) (b : Beside) (beside_known : b.known ≡ known) (beside_owners : b.owners ≡ owners_of ms) (functions : FunctionsAreRead t planned.kept p b) where
+module _ (t : Tables) (h : Homes) (known : ℕ → Fact) (n : ℕ) (ms : List Member) (members : List reads.Member) (given : IsPackageInput t h known n ms members) (ordered : ViewsAreOrdered t ms)
+    (worlds_apart : WorldsAreApart ms) (followed : WorldsAreFollowed t ms)
+    (p : Plan) (planned : PlansWhole t h.packages (home_at h) n ms p) (b : Beside) (beside_known : b.known ≡ known) (beside_owners : b.owners ≡ owners_of ms)
+    (functions : FunctionsAreRead t planned.kept p b) where
   abbrev kept : List ℕ
   kept = planned.kept
 
@@ -98,14 +100,16 @@ module _ (t : Tables) (h : Homes) (known : ℕ → Fact) (n : ℕ) (ms : List Me
     was = all_at (λ (y : Text × Scope). WorldIsFollowed t (numbered_scope y.1)) (worlds_in ms) followed w (get-contains (worlds_in ms) m w at)
 
     is_known : ScopeStands t known scope
-    is_known = subst (λ a. PartIsKnown t known (numbered_part a)) member.2 (all_at (λ (y : NumberedMember). PartIsKnown t known y.part) (numbered_members ms) given.scopes (numbered_member member.0) (contains-map numbered_member ms member.0 member.1))
+    is_known = subst (λ a. PartIsKnown t known (numbered_part a)) member.2
+        (all_at (λ (y : NumberedMember). PartIsKnown t known y.part) (numbered_members ms) given.scopes (numbered_member member.0) (contains-map numbered_member ms member.0 member.1))
 
     obeys : is_world t known scope ≡ true
     obeys = sym (worlds_in_numbers t given.input.tables known scope world.scope is_known world.shows) ∙ world.stands.obeys
 
     rules_hold : (are_imports t known scope.home [] scope.imports ≡ true) × (distinct (map (λ (s : NumberedSeen). s.key) scope.imports) ≡ true)
     rules_hold =
-        first_and_third (are_imports t known scope.home [] scope.imports) (list_all (λ (s : NumberedSeen). is_item t known scope.home [] s.key s.shown) scope.exports) (distinct (map (λ (s : NumberedSeen). s.key) scope.imports))
+        first_and_third (are_imports t known scope.home [] scope.imports) (list_all (λ (s : NumberedSeen). is_item t known scope.home [] s.key s.shown) scope.exports)
+        (distinct (map (λ (s : NumberedSeen). s.key) scope.imports))
         (distinct (map (λ (s : NumberedSeen). s.key) scope.exports)) (stand_earlier t [] (scope.imports ++ scope.exports)) obeys
 
     keys_apart : KeysAreApart w.1
@@ -126,8 +130,15 @@ module _ (t : Tables) (h : Homes) (known : ℕ → Fact) (n : ℕ) (ms : List Me
     abbrev ResourceBelow : Text → ℕ → Type 0
     ResourceBelow key c = (r : Text) → IsNamedAfter key r → (k : ℕ) → slice_get t.shapes k ≡ Some (named_shape scope.home r) → k < c
 
-    function_under : (key : Text) (f c : ℕ) (g : PlannedFunction) → Contains (world_functions x) g → g.name ≡ key → TakesAndGives kept (function_at t f) g → PartsOf (λ k. k < 14 + c) (function_at t f) → ResourceBelow key c → Under key c g
-    function_under key f c g among named takes parts below = record { read = is_read; named = named; parts = parts_back t kept p (λ k. k < 14 + c) (function_at t f) is_read.shape is_read.external_id g takes is_read.kept_function.becomes parts; resource = resource }
+    function_under : (key : Text) (f c : ℕ) (g : PlannedFunction) → Contains (world_functions x) g → g.name ≡ key → TakesAndGives kept (function_at t f) g → PartsOf (λ k. k < 14 + c) (function_at t f)
+        → ResourceBelow key c → Under key c g
+    function_under key f c g among named takes parts below = record {
+      read = is_read;
+      named = named;
+      parts =
+          parts_back t kept p (λ k. k < 14 + c) (function_at t f) is_read.shape is_read.external_id g takes is_read.kept_function.becomes parts;
+      resource = resource;
+    }
       where
         is_read : IsReadFunction t kept p b (as_world m) g
         is_read = all_at (IsReadFunction t kept p b (as_world m)) (world_functions x) (functions.of_worlds m x there) g among
@@ -159,14 +170,16 @@ module _ (t : Tables) (h : Homes) (known : ℕ → Fact) (n : ℕ) (ms : List Me
     imported_below : (j c : ℕ) (s : NumberedSeen) (f : ℕ) → slice_get scope.imports j ≡ Some s → slice_get was.counted.counts j ≡ Some c → s.shown ≡ worlds.function f → ResourceBelow s.key c
     imported_below j c s f at_s at_c shows r after k shape =
         let behind = items_behind t known scope.home scope.imports [] scope.imports refl rules_hold.0 j s at_s in
-        let rule : is_function t known scope.home (resources_seen behind.before) s.key (function_at t f) ≡ true = subst (λ y. is_item t known scope.home (resources_seen behind.before) s.key y ≡ true) shows behind.is in
+        let rule : is_function t known scope.home (resources_seen behind.before) s.key (function_at t f) ≡ true =
+        subst (λ y. is_item t known scope.home (resources_seen behind.before) s.key y ≡ true) shows behind.is in
         let res = seen_resource behind.before r (resource_among t known scope.home s.key (function_at t f) (resources_seen behind.before) rule r after) in
         let earlier = behind.there res.number res.seen res.at in
         let low : res.number < j = (let l : res.number < 0 + j = earlier.0 in omega (arith, l)) in
         let many : length was.counted.counts ≡ length scope.imports = was.counted.many in
         let within = slice_get_within scope.imports res.number res.seen earlier.1 in
         let count = slice_there was.counted.counts res.number (omega (arith, many, within)) in
-        let last : IsLastType t scope.home was.counted.counts res.number count.0 res.seen.key = subst (IsCounted t scope.home was.counted.counts res.number count.0 res.seen.key) res.shown (was.counted.counted res.number count.0 res.seen earlier.1 count.1) in
+        let last : IsLastType t scope.home was.counted.counts res.number count.0 res.seen.key =
+        subst (IsCounted t scope.home was.counted.counts res.number count.0 res.seen.key) res.shown (was.counted.counted res.number count.0 res.seen earlier.1 count.1) in
         let one : last.number ≡ k = given.input.tables.shapes.apart last.number k (named_shape scope.home r) (last.shape ∙ ap (λ z. Some (named_shape scope.home z)) res.key) shape in
         let below = was.counted.rising res.number j count.0 c count.1 at_c low in
         let is = last.last in
@@ -174,20 +187,26 @@ module _ (t : Tables) (h : Homes) (known : ℕ → Fact) (n : ℕ) (ms : List Me
 
     -- ---- instances
 
-    instance_item : (s : Seen) → Contains w.1.imports.now s ⊎ Contains w.1.exports.now s → IsSeenIn t scope.home (numbered_seen s) → IsUnderKey t s.key.now (numbered_shown s.shown) → (key : InstanceKey) (v : View) → s.shown ≡ shown.Instance key v
+    instance_item : (s : Seen) → Contains w.1.imports.now s ⊎ Contains w.1.exports.now s → IsSeenIn t scope.home (numbered_seen s) → IsUnderKey t s.key.now (numbered_shown s.shown)
+        → (key : InstanceKey) (v : View) → s.shown ≡ shown.Instance key v
         → (e : PlannedKey × PlannedItem) → PlansInstance (places_in ms) (numbered_key key) (given_text s.external_id) e → (c : ℕ) → Item (record { seen = numbered_seen s; entry = e; count = c })
     instance_item s side seen under key v shows e plans c =
-        by key shows plans (subst (λ y. IsSeenIn t scope.home (record { key = s.key.now; shown = numbered_shown y; external_id = given_text s.external_id })) shows seen).0 (subst (λ y. IsUnderKey t s.key.now (numbered_shown y)) shows under)
+        by key shows plans (subst (λ y. IsSeenIn t scope.home (record { key = s.key.now; shown = numbered_shown y; external_id = given_text s.external_id })) shows seen).0
+        (subst (λ y. IsUnderKey t s.key.now (numbered_shown y)) shows under)
         (stands.instances s side key v shows plans.number plans.found)
       where
-        by : (k : InstanceKey) → s.shown ≡ shown.Instance k v → (made : PlansInstance (places_in ms) (numbered_key k) (given_text s.external_id) e) → KeyStands t (numbered_key k) → IsUnderKey t s.key.now (worlds.instance (numbered_key k) (numbered_view v))
-            → IsInterfaceOf t kept p b (views_read ms) (as_world m) scope.home (place_of_key (numbered_key k)) (numbered_view v) made.number → Item (record { seen = numbered_seen s; entry = e; count = c })
+        by : (k : InstanceKey) → s.shown ≡ shown.Instance k v → (made : PlansInstance (places_in ms) (numbered_key k) (given_text s.external_id) e) → KeyStands t (numbered_key k)
+            → IsUnderKey t s.key.now (worlds.instance (numbered_key k) (numbered_view v))
+            → IsInterfaceOf t kept p b (views_read ms) (as_world m) scope.home (place_of_key (numbered_key k)) (numbered_view v) made.number
+            → Item (record { seen = numbered_seen s; entry = e; count = c })
         by (keys.Path q) is made path named of = by_path q made.number (numbered_view v) (given_text s.external_id) path (ap numbered_shown is) named made.is of
         by (keys.Label l q) is made none named of =
-            by_label q made.number (numbered_view v) (given_text s.external_id) (ap numbered_shown is ∙ ap (λ z. worlds.instance (worlds.label z q) (numbered_view v)) (sym named.0)) (ap is_label named.0 ∙ named.1)
+            by_label q made.number (numbered_view v) (given_text s.external_id) (ap numbered_shown is ∙ ap (λ z. worlds.instance (worlds.label z q) (numbered_view v)) (sym named.0))
+            (ap is_label named.0 ∙ named.1)
             (made.is ∙ ap (λ z. (plan.label z, plan.interface made.number (given_text s.external_id))) (sym named.0)) of
         by (keys.Implementing l q) is made path named of =
-            implementing_path q made.number (numbered_view v) (given_text s.external_id) path (ap numbered_shown is ∙ ap (λ z. worlds.instance (worlds.implementing z q) (numbered_view v)) (sym named.0)) (ap is_label named.0 ∙ named.1)
+            implementing_path q made.number (numbered_view v) (given_text s.external_id) path
+            (ap numbered_shown is ∙ ap (λ z. worlds.instance (worlds.implementing z q) (numbered_view v)) (sym named.0)) (ap is_label named.0 ∙ named.1)
             (made.is ∙ ap (λ z. (plan.label z, plan.interface made.number (given_text s.external_id))) (sym named.0)) of
 
     -- ---- items
@@ -195,14 +214,17 @@ module _ (t : Tables) (h : Homes) (known : ℕ → Fact) (n : ℕ) (ms : List Me
     abbrev Plans : Seen → PlannedKey × PlannedItem → Type 0
     Plans = PlansItem t kept (places_in ms) made.find
 
-    function_item : (s : Seen) (f : ℕ) → s.shown ≡ shown.Function f → (e : PlannedKey × PlannedItem) → Contains (items_of x) e.1 → e.0 ≡ plan.label s.key.now → PlansFunction t kept made.find s.key.now f (given_text s.external_id) e.1
+    function_item : (s : Seen) (f : ℕ) → s.shown ≡ shown.Function f → (e : PlannedKey × PlannedItem) → Contains (items_of x) e.1 → e.0 ≡ plan.label s.key.now
+        → PlansFunction t kept made.find s.key.now f (given_text s.external_id) e.1
         → (c : ℕ) → PartsOf (λ k. k < 14 + c) (function_at t f) → ResourceBelow s.key.now c → Item (record { seen = numbered_seen s; entry = e; count = c })
     function_item s f shows e e_in key plans c parts below =
         let g = plans.function in
-        let among : Contains (world_functions x) g = contains-filter_map item_function (items_of x) e.1 g e_in (subst (λ i. Contains (option_to_list (item_function i)) g) (sym plans.is) (contains-one g)) in
+        let among : Contains (world_functions x) g = contains-filter_map item_function (items_of x) e.1 g
+        e_in (subst (λ i. Contains (option_to_list (item_function i)) g) (sym plans.is) (contains-one g)) in
         read.a_function f g (ap numbered_shown shows) (λ i. (key i, plans.is i)) (function_under s.key.now f c g among plans.planned.named plans.planned.parts parts below)
 
-    import_item : (j : ℕ) (s : Seen) → slice_get w.1.imports.now j ≡ Some s → (e : PlannedKey × PlannedItem) → Contains (items_of x) e.1 → Plans s e → (c : ℕ) → slice_get was.counted.counts j ≡ Some c → Item (record { seen = numbered_seen s; entry = e; count = c })
+    import_item : (j : ℕ) (s : Seen) → slice_get w.1.imports.now j ≡ Some s → (e : PlannedKey × PlannedItem) → Contains (items_of x) e.1 → Plans s e → (c : ℕ) → slice_get was.counted.counts j ≡ Some c
+        → Item (record { seen = numbered_seen s; entry = e; count = c })
     import_item j s at_s e e_in plans c at_c = by plans
       where
         in_it : Contains w.1.imports.now s
@@ -226,7 +248,8 @@ module _ (t : Tables) (h : Homes) (known : ℕ → Fact) (n : ℕ) (ms : List Me
         by : Plans s e → Item (record { seen = numbered_seen s; entry = e; count = c })
         by (an_instance key v shows instance_plans) = instance_item s (inl in_it) seen under key v shows e instance_plans c
         by (a_function f shows key function_plans) =
-            function_item s f shows e e_in key function_plans c (subst (IsCounted t scope.home was.counted.counts j c s.key.now) (ap numbered_shown shows) counted) (imported_below j c (numbered_seen s) f at_scope at_c (ap numbered_shown shows))
+            function_item s f shows e e_in key function_plans c (subst (IsCounted t scope.home was.counted.counts j c s.key.now) (ap numbered_shown shows) counted)
+            (imported_below j c (numbered_seen s) f at_scope at_c (ap numbered_shown shows))
         by (a_type part d i shows is part_is) =
             let type_ = stands.types keys_apart s in_it part d shows i part_is in
             let last : IsLastType t scope.home was.counted.counts j c s.key.now = subst (IsCounted t scope.home was.counted.counts j c s.key.now) (ap numbered_shown shows) counted in
@@ -236,7 +259,8 @@ module _ (t : Tables) (h : Homes) (known : ℕ → Fact) (n : ℕ) (ms : List Me
     none_exported : AllByRecursion (λ (c : Seen). scopes.is_type (shown_of t (numbered_shown c.shown)) ≡ false) w.1.exports.now
     none_exported = no_types t given.input.tables w.1 world.scope world.shows world.good world.declares world.stands
 
-    export_item : (j : ℕ) (s : Seen) → slice_get w.1.exports.now j ≡ Some s → (e : PlannedKey × PlannedItem) → Contains (items_of x) e.1 → Plans s e → Item (record { seen = numbered_seen s; entry = e; count = length t.shapes })
+    export_item : (j : ℕ) (s : Seen) → slice_get w.1.exports.now j ≡ Some s → (e : PlannedKey × PlannedItem) → Contains (items_of x) e.1 → Plans s e
+        → Item (record { seen = numbered_seen s; entry = e; count = length t.shapes })
     export_item j s at_s e e_in plans = by plans
       where
         in_it : Contains w.1.exports.now s
@@ -255,10 +279,12 @@ module _ (t : Tables) (h : Homes) (known : ℕ → Fact) (n : ℕ) (ms : List Me
         by (an_instance key v shows instance_plans) = instance_item s (inr in_it) seen under key v shows e instance_plans (length t.shapes)
         by (a_function f shows key function_plans) =
             let called : IsCalledIn t scope.home f = subst (λ y. IsSeenIn t scope.home (record { key = s.key.now; shown = numbered_shown y; external_id = given_text s.external_id })) shows seen in
-            function_item s f shows e e_in key function_plans (length t.shapes) (parts_weaker (IsMetFrom t scope.home) (λ k. k < 14 + length t.shapes) (λ k met. met.range) (function_at t f) called.parts)
+            function_item s f shows e e_in key function_plans (length t.shapes)
+            (parts_weaker (IsMetFrom t scope.home) (λ k. k < 14 + length t.shapes) (λ k met. met.range) (function_at t f) called.parts)
             (λ r after k shape. slice_get_within t.shapes k (named_shape scope.home r) shape)
         by (a_type part d i shows is part_is) =
-            no_true (sym (all_at (λ (c : Seen). scopes.is_type (shown_of t (numbered_shown c.shown)) ≡ false) w.1.exports.now none_exported s in_it) ∙ ap (λ y. scopes.is_type (shown_of t (numbered_shown y))) shows)
+            no_true (sym (all_at (λ (c : Seen). scopes.is_type (shown_of t (numbered_shown c.shown)) ≡ false) w.1.exports.now none_exported s in_it) ∙ ap
+            (λ y. scopes.is_type (shown_of t (numbered_shown y))) shows)
 
     -- ---- the world
 
@@ -276,7 +302,8 @@ module _ (t : Tables) (h : Homes) (known : ℕ → Fact) (n : ℕ) (ms : List Me
         let is = items_at scope.imports x.imports was.counted.counts j y e in
         let from = zip_get Plans w.1.imports.now x.imports made.imports j y.entry is.1 in
         let seen : numbered_seen from.0 ≡ y.seen = same-some (numbered_seen from.0) y.seen (sym (mapped_get numbered_seen w.1.imports.now j from.0 from.1) ∙ is.0) in
-        let among = Contains-append_left (map (λ (z : PlannedKey × PlannedItem). z.1) x.imports) (map (λ (z : PlannedKey × PlannedItem). z.1) x.exports) y.entry.1 (contains-map (λ (z : PlannedKey × PlannedItem). z.1) x.imports y.entry (get-contains x.imports j y.entry is.1)) in
+        let among = Contains-append_left (map (λ (z : PlannedKey × PlannedItem). z.1) x.imports) (map (λ (z : PlannedKey × PlannedItem). z.1) x.exports) y.entry.1
+        (contains-map (λ (z : PlannedKey × PlannedItem). z.1) x.imports y.entry (get-contains x.imports j y.entry is.1)) in
         subst (λ (z : NumberedSeen). Item (record { seen = z; entry = y.entry; count = y.count })) seen (import_item j from.0 from.1 y.entry among from.2 y.count is.2))
 
     exports_read : AllByRecursion Item exported
@@ -284,7 +311,8 @@ module _ (t : Tables) (h : Homes) (known : ℕ → Fact) (n : ℕ) (ms : List Me
         let is = items_at scope.exports x.exports counts j y e in
         let from = zip_get Plans w.1.exports.now x.exports made.exports j y.entry is.1 in
         let seen : numbered_seen from.0 ≡ y.seen = same-some (numbered_seen from.0) y.seen (sym (mapped_get numbered_seen w.1.exports.now j from.0 from.1) ∙ is.0) in
-        let among = Contains-append_right (map (λ (z : PlannedKey × PlannedItem). z.1) x.imports) (map (λ (z : PlannedKey × PlannedItem). z.1) x.exports) y.entry.1 (contains-map (λ (z : PlannedKey × PlannedItem). z.1) x.exports y.entry (get-contains x.exports j y.entry is.1)) in
+        let among = Contains-append_right (map (λ (z : PlannedKey × PlannedItem). z.1) x.imports) (map (λ (z : PlannedKey × PlannedItem). z.1) x.exports) y.entry.1
+        (contains-map (λ (z : PlannedKey × PlannedItem). z.1) x.exports y.entry (get-contains x.exports j y.entry is.1)) in
         let count = unmapped_get (λ (s : NumberedSeen). length t.shapes) scope.exports j y.count is.2 in
         subst (λ (c : ℕ). Item (record { seen = y.seen; entry = y.entry; count = c })) count.2
         (subst (λ (z : NumberedSeen). Item (record { seen = z; entry = y.entry; count = length t.shapes })) seen (export_item j from.0 from.1 y.entry among from.2)))
@@ -294,7 +322,8 @@ module _ (t : Tables) (h : Homes) (known : ℕ → Fact) (n : ℕ) (ms : List Me
         let is_a = items_at scope.imports x.imports was.counted.counts i a at_a in
         let is_y = items_at scope.imports x.imports was.counted.counts j y at_y in
         let shows = type_there y.seen.shown typed in
-        let last : IsLastType t scope.home was.counted.counts j y.count y.seen.key = subst (IsCounted t scope.home was.counted.counts j y.count y.seen.key) shows.1 (was.counted.counted j y.count y.seen is_y.0 is_y.2) in
+        let last : IsLastType t scope.home was.counted.counts j y.count y.seen.key =
+        subst (IsCounted t scope.home was.counted.counts j y.count y.seen.key) shows.1 (was.counted.counted j y.count y.seen is_y.0 is_y.2) in
         last.behind i a.count is_a.2 low)
       where
         type_there : (y : NumberedShown) → is_type_seen y ≡ true → (d : Option ℕ) × (y ≡ worlds.declares d)
@@ -347,4 +376,5 @@ module _ (t : Tables) (h : Homes) (known : ℕ → Fact) (n : ℕ) (ms : List Me
   worlds_are_read = record { worlds = λ m x e. (each_read m x e).0; followed = λ m x e. (each_read m x e).1 }
 
 pub planned_worlds_are_read : PlannedWorldsAreRead
-planned_worlds_are_read t h known n ms members given ordered apart followed p planned b known_is owned functions = worlds_are_read t h known n ms members given ordered apart followed p planned b known_is owned functions
+planned_worlds_are_read t h known n ms members given ordered apart followed p planned b known_is owned functions =
+    worlds_are_read t h known n ms members given ordered apart followed p planned b known_is owned functions

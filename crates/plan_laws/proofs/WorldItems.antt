@@ -109,7 +109,8 @@ world_member ms w c =
     of_part l (parts.World x) among = ap parts.World (ap (λ (y : Text × Scope). y.1) (one-contained (l, x) w among))
     of_part l (parts.Interface p v imports) among = none-in w among
 
-module _ (t : Tables) (h : Homes) (ms : List Member) (members : List reads.Member) (input : IsInput t h ms members) (agreed : agree_in_numbers (sights_of_members t (numbered_members ms)) ≡ true) (ordered : ViewsAreOrdered t ms) (worlds_apart : WorldsAreApart ms)
+module _ (t : Tables) (h : Homes) (ms : List Member) (members : List reads.Member) (input : IsInput t h ms members) (agreed : agree_in_numbers (sights_of_members t (numbered_members ms)) ≡ true)
+    (ordered : ViewsAreOrdered t ms) (worlds_apart : WorldsAreApart ms)
     (n : ℕ) (p : Plan) (planned : PlansWhole t h.packages (home_at h) n ms p) (b : Beside) (beside_owners : b.owners ≡ owners_of ms) where
   abbrev views : List NumberedSight
   views = views_of_members (numbered_members ms)
@@ -154,7 +155,8 @@ module _ (t : Tables) (h : Homes) (ms : List Member) (members : List reads.Membe
     owned : b.owners w.1.home ≡ as_world m
     owned =
         ap (λ (o : ℕ → TypeOwner). o w.1.home) beside_owners
-        ∙ (ap (λ o. option_map_or as_interface o (option_map_or as_world (number_in homes w.1.home) (as_interface (length places + w.1.home)))) (no_place w.1.home (get-contains homes m w.1.home home_there))
+        ∙ (ap (λ o. option_map_or as_interface o (option_map_or as_world (number_in homes w.1.home) (as_interface (length places + w.1.home))))
+        (no_place w.1.home (get-contains homes m w.1.home home_there))
         ∙ ap (λ o. option_map_or as_world o (as_interface (length places + w.1.home))) home_number)
 
     -- ---- the member
@@ -163,7 +165,8 @@ module _ (t : Tables) (h : Homes) (ms : List Member) (members : List reads.Membe
     member = world_member ms w (get-contains (worlds_in ms) m w at)
 
     good : IsPartIn t (numbered_part (parts.World w.1))
-    good = subst (λ a. IsPartIn t (numbered_part a)) member.2 (all_at (λ (x : NumberedMember). IsPartIn t x.part) (numbered_members ms) input.numbers (numbered_member member.0) (contains-map numbered_member ms member.0 member.1))
+    good = subst (λ a. IsPartIn t (numbered_part a)) member.2 (all_at (λ (x : NumberedMember). IsPartIn t x.part) (numbered_members ms) input.numbers (numbered_member member.0)
+        (contains-map numbered_member ms member.0 member.1))
 
     named : AllByRecursion (DeclaresName t w.1.home) w.1.imports.now
     named = subst (PartDeclaresNames t) member.2 (all_at (λ (x : Member). PartDeclaresNames t x.part) ms input.declared member.0 member.1)
@@ -171,15 +174,18 @@ module _ (t : Tables) (h : Homes) (ms : List Member) (members : List reads.Membe
     -- ---- instances
 
     one_of : (s : Seen) → Contains w.1.imports.now s ⊎ Contains w.1.exports.now s → IsOneOf t (map numbered_instance w.1.instances.now) (numbered_shown s.shown)
-    one_of s (inl c) = all_at (λ (x : NumberedSeen). IsOneOf t (map numbered_instance w.1.instances.now) x.shown) (map numbered_seen w.1.imports.now) good.imported (numbered_seen s) (contains-map numbered_seen w.1.imports.now s c)
-    one_of s (inr c) = all_at (λ (x : NumberedSeen). IsOneOf t (map numbered_instance w.1.instances.now) x.shown) (map numbered_seen w.1.exports.now) good.exported (numbered_seen s) (contains-map numbered_seen w.1.exports.now s c)
+    one_of s (inl c) = all_at (λ (x : NumberedSeen). IsOneOf t (map numbered_instance w.1.instances.now) x.shown) (map numbered_seen w.1.imports.now) good.imported (numbered_seen s)
+        (contains-map numbered_seen w.1.imports.now s c)
+    one_of s (inr c) = all_at (λ (x : NumberedSeen). IsOneOf t (map numbered_instance w.1.instances.now) x.shown) (map numbered_seen w.1.exports.now) good.exported (numbered_seen s)
+        (contains-map numbered_seen w.1.exports.now s c)
 
     view_there : (s : Seen) → Contains w.1.imports.now s ⊎ Contains w.1.exports.now s → (key : InstanceKey) (v : View) → s.shown ≡ shown.Instance key v
         → Contains views (record { place = place_of_key (numbered_key key); view = numbered_view v; whole = true })
     view_there s c key v e =
         let sight : NumberedSight = record { place = place_of_key (numbered_key key); view = numbered_view v; whole = true } in
         let one = subst (λ x. IsOneOf t (map numbered_instance w.1.instances.now) (numbered_shown x)) e (one_of s c) in
-        let here : Contains (views_of_part (numbered_part (parts.World w.1))) sight = contains-map whole_view (map numbered_instance w.1.instances.now) (record { place = place_of_key (numbered_key key); view = numbered_view v }) one in
+        let here : Contains (views_of_part (numbered_part (parts.World w.1))) sight =
+        contains-map whole_view (map numbered_instance w.1.instances.now) (record { place = place_of_key (numbered_key key); view = numbered_view v }) one in
         view_among ms member.0 member.1 sight (subst (λ a. Contains (views_of_part (numbered_part a)) sight) (sym member.2) here)
 
     instances_read : InstancesAreRead t ms planned.kept p b m w.1
@@ -195,7 +201,8 @@ module _ (t : Tables) (h : Homes) (ms : List Member) (members : List reads.Membe
           owned = ap (λ (o : ℕ → TypeOwner). o q) beside_owners ∙ ap (λ o. option_map_or as_interface o (option_map_or as_world (number_in homes q) (as_interface (length places + q)))) number;
           interface = found.0;
           there = found.1;
-          agrees = ap (λ o. pointwise same_shown (option_map_or (λ (x : NumberedSight). x.view.types) o []) (numbered_view v).types) first.1 ∙ told_types first.0.view.types (numbered_view v).types same;
+          agrees = ap (λ o. pointwise same_shown (option_map_or (λ (x : NumberedSight). x.view.types) o []) (numbered_view v).types) first.1 ∙ told_types first.0.view.types
+              (numbered_view v).types same;
         }
 
     -- ---- types
@@ -215,7 +222,8 @@ module _ (t : Tables) (h : Homes) (ms : List Member) (members : List reads.Membe
 
     module _ (keys : KeysAreApart w.1) where
       -- what is shown of the type first is this import
-      import_first : (s : Seen) → Contains w.1.imports.now s → (part : ℕ) (d : Option ℕ) → s.shown ≡ shown.Declares part d → (k : ℕ) → slice_get t.shapes k ≡ Some (named_shape w.1.home s.key.now) → (y : NumberedShowing) → shown_first ms k ≡ Some y
+      import_first : (s : Seen) → Contains w.1.imports.now s → (part : ℕ) (d : Option ℕ) → s.shown ≡ shown.Declares part d → (k : ℕ) → slice_get t.shapes k ≡ Some (named_shape w.1.home s.key.now)
+          → (y : NumberedShowing) → shown_first ms k ≡ Some y
           → (y.declared ≡ d) × (y.external_id ≡ given_text s.external_id)
       import_first s c part d e k shape y first =
           let found = (firsts_found (showings_of_members ms)).0 k y first in
@@ -232,7 +240,8 @@ module _ (t : Tables) (h : Homes) (ms : List Member) (members : List reads.Membe
               absurd (ordered.apart u among (subst (Contains homes) (sym here.0) (get-contains homes m w.1.home home_there)))
           by x x_there (origins.of_world v world other other_there kk dd declares same) number =
               let all : AllByRecursion (DeclaresName t v.home) v.imports.now = subst (PartDeclaresNames t) world (all_at (λ (g : Member). PartDeclaresNames t g.part) ms input.declared x x_there) in
-              let name = subst (λ g. DeclaresName t v.home (record { key = other.key; shown = g; external_id = other.external_id })) declares (all_at (DeclaresName t v.home) v.imports.now all other other_there) in
+              let name = subst (λ g. DeclaresName t v.home (record { key = other.key; shown = g; external_id = other.external_id })) declares
+              (all_at (DeclaresName t v.home) v.imports.now all other other_there) in
               let equal : name.0 ≡ k = (let a = ap (λ (g : NumberedShowing). g.part) same in let u = name.1 in omega (arith, a, number, u)) in
               let here = name_same v.home w.1.home other.key.now s.key.now name.0 k name.2 shape equal in
               let one = same_world x x_there v world here.0 in
@@ -250,7 +259,8 @@ module _ (t : Tables) (h : Homes) (ms : List Member) (members : List reads.Membe
           name : (k : ℕ) × (part ≡ 14 + k) × (slice_get t.shapes k ≡ Some (named_shape w.1.home s.key.now))
           name = subst (λ g. DeclaresName t w.1.home (record { key = s.key; shown = g; external_id = s.external_id })) e (all_at (DeclaresName t w.1.home) w.1.imports.now named s c)
 
-          by : IsPart planned.kept part (14 + j) → (k : ℕ) × (slice_get planned.kept j ≡ Some k) × (slice_get t.shapes k ≡ Some (named_shape w.1.home s.key.now)) × TypeBecomes t planned.kept p d (given_text s.external_id) j
+          by : IsPart planned.kept part (14 + j) → (k : ℕ) × (slice_get planned.kept j ≡ Some k) × (slice_get t.shapes k ≡ Some (named_shape w.1.home s.key.now))
+              × TypeBecomes t planned.kept p d (given_text s.external_id) j
           by (a_primitive low same) = let part_is = name.1 in absurd (omega (arith, low, part_is))
           by (a_shape k i from stands to) =
               let part_is = name.1 in

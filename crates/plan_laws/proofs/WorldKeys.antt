@@ -29,7 +29,8 @@ pub one_key : (ss : List NumberedSeen) → distinct (map (λ (s : NumberedSeen).
 one_key ss apart a b c d e =
     let i = contains-get ss a c in
     let j = contains-get ss b d in
-    let same : i.0 ≡ j.0 = one_place (map (λ (s : NumberedSeen). s.key) ss) apart i.0 j.0 b.key (mapped_get (λ (s : NumberedSeen). s.key) ss i.0 a i.1 ∙ ap Some e) (mapped_get (λ (s : NumberedSeen). s.key) ss j.0 b j.1) in
+    let same : i.0 ≡ j.0 = one_place (map (λ (s : NumberedSeen). s.key) ss) apart i.0 j.0 b.key (mapped_get (λ (s : NumberedSeen). s.key) ss i.0 a i.1 ∙ ap Some e)
+    (mapped_get (λ (s : NumberedSeen). s.key) ss j.0 b j.1) in
     same-some a b (sym i.1 ∙ (ap (slice_get ss) same ∙ j.1))
 
 abbrev pub declared_in : Option ℕ → NumberedShown → Option ℕ
@@ -49,7 +50,8 @@ module _ (t : Tables) (h : Homes) (ms : List Member) (members : List reads.Membe
   pub keys_apart : (w : Scope) → IsWorldOf t h ms members input apart w → distinct (map (λ (s : NumberedSeen). s.key) (map numbered_seen w.imports.now)) ≡ true
   keys_apart w is =
       let scope = is.scope in
-      let tree = third_of (rules.are_imports [] scope.imports) (list_all (λ (s : follow.Seen). rules.is_item [] s.key s.shown) scope.exports) (distinct (map (λ (s : follow.Seen). s.key) scope.imports)) (distinct (map (λ (s : follow.Seen). s.key) scope.exports))
+      let tree = third_of (rules.are_imports [] scope.imports) (list_all (λ (s : follow.Seen). rules.is_item [] s.key s.shown) scope.exports)
+      (distinct (map (λ (s : follow.Seen). s.key) scope.imports)) (distinct (map (λ (s : follow.Seen). s.key) scope.exports))
       (rules.stand_earlier [] (scope.imports ++ scope.exports)) is.stands.obeys in
       ap distinct (sym (ap (map (λ (s : follow.Seen). s.key)) is.shows.imports ∙ map_of_map (λ (s : follow.Seen). s.key) (seen_of t) (map numbered_seen w.imports.now))) ∙ tree
 
@@ -59,5 +61,6 @@ module _ (t : Tables) (h : Homes) (ms : List Member) (members : List reads.Membe
       let scope = numbered_scope v in
       let owned : a_world (numbered_scope w) ≡ a_world scope =
       one_owned t (numbered_members ms) apart v.home (world_of t h ms members input apart n d v is_v).good.home (a_world (numbered_scope w)) (a_world scope)
-      (subst (λ q. Contains {X = ℕ × Owned} (frames (numbered_members ms)) (q, a_world (numbered_scope w))) same (home_frame t h ms members input apart m c w is_w)) (home_frame t h ms members input apart n d v is_v) in
+      (subst (λ q. Contains {X = ℕ × Owned} (frames (numbered_members ms)) (q, a_world (numbered_scope w))) same (home_frame t h ms members input apart m c w is_w))
+      (home_frame t h ms members input apart n d v is_v) in
       ap (world_owned scope) owned

@@ -40,8 +40,10 @@ use Rattle.plan_laws.proofs.WholeTypes.{packages_are_ruled, planned_types_are_wh
 use Rattle.plan_laws.proofs.WorldPlan.{world_plan_read}
 use Rattle.std.proofs.lemmas.Option.{same_Some as same-some}
 
-module _ (t : Tables) (h : Homes) (known : ℕ → Fact) (n : ℕ) (m : Member) (own : List Member) (members : List reads.Member) (given : IsPackageInput t h known n (m ∷ own) members) (input : IsWholeInput t h n (m ∷ own))
-    (scope : follow.Scope) (world : IsWorldInput t h known n m own scope) (p : Plan) (planned : PlansWhole t h.packages (home_at h) n (m ∷ own) p) (whole : TypesAreWhole t planned.kept (m ∷ own) p) where
+module _ (t : Tables) (h : Homes) (known : ℕ → Fact) (n : ℕ) (m : Member) (own : List Member) (members : List reads.Member) (given : IsPackageInput t h known n (m ∷ own) members)
+    (input : IsWholeInput t h n (m ∷ own))
+    (scope : follow.Scope) (world : IsWorldInput t h known n m own scope) (p : Plan) (planned : PlansWhole t h.packages (home_at h) n (m ∷ own) p)
+    (whole : TypesAreWhole t planned.kept (m ∷ own) p) where
   abbrev ms : List Member
   ms = m ∷ own
 
@@ -74,7 +76,8 @@ module _ (t : Tables) (h : Homes) (known : ℕ → Fact) (n : ℕ) (m : Member) 
   gathered =
       let own_package = main t h known n ms members given input p planned whole in
       let one = planned_alone t h n m own world.world world.is world.own_ p planned in
-      let at = world_at t h known n ms members given apart.0 apart.1 input.followed p planned whole 0 (m.label.now, world.world) (ap (λ ws. slice_get ws 0) (one_world t h n m own world.world world.is world.own_)) in
+      let at = world_at t h known n ms members given apart.0 apart.1 input.followed p planned whole 0 (m.label.now, world.world)
+      (ap (λ ws. slice_get ws 0) (one_world t h n m own world.world world.is world.own_)) in
       let first : world_in p 0 ≡ Some one.world = ap (λ ws. slice_get ws 0) one.alone in
       record {
         kept = planned.kept;

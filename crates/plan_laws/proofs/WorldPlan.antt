@@ -26,7 +26,8 @@ use Rattle.plan_laws.proofs.OneWorld.{instance_of_view, place_shown, planned_alo
 use Rattle.plan_laws.proofs.ShownWhole.{whole_is_shown}
 use Rattle.plan_laws.proofs.WholePlan.{plan_read}
 
-module _ (t : Tables) (h : Homes) (known : ℕ → Fact) (n : ℕ) (m : Member) (own : List Member) (members : List reads.Member) (given : IsPackageInput t h known n (m ∷ own) members) (input : IsWholeInput t h n (m ∷ own))
+module _ (t : Tables) (h : Homes) (known : ℕ → Fact) (n : ℕ) (m : Member) (own : List Member) (members : List reads.Member) (given : IsPackageInput t h known n (m ∷ own) members)
+    (input : IsWholeInput t h n (m ∷ own))
     (w : Scope) (is : m.part ≡ parts.World w) (own_are : AreOwnInterfaces t h n (numbered_scope w) (numbered_members own))
     (p : Plan) (planned : PlansWhole t h.packages (home_at h) n (m ∷ own) p) (fits : FitsInput p) (whole : TypesAreWhole t planned.kept (m ∷ own) p) where
   abbrev ms : List Member

@@ -17,4 +17,5 @@ FirstsRise t ms = (q : ℕ) (s : NumberedSight) → first_at q (views_of_members
 
 -- Then views are in order, an inline interface is viewed once, and each world has a place of its own.
 abbrev pub WholeStandsApart : Type 0
-WholeStandsApart = (t : Tables) (h : Homes) (known : ℕ → Fact) (n : ℕ) (ms : List Member) (members : List reads.Member) → IsPackageInput t h known n ms members → FirstsRise t ms → ViewsAreOrdered t ms × WorldsAreApart ms
+WholeStandsApart = (t : Tables) (h : Homes) (known : ℕ → Fact) (n : ℕ) (ms : List Member) (members : List reads.Member) → IsPackageInput t h known n ms members
+    → FirstsRise t ms → ViewsAreOrdered t ms × WorldsAreApart ms

@@ -25,6 +25,7 @@ pub record IsRisingView (t : Tables) (q : ℕ) (v : NumberedView) : Type 0 where
 -- names of the first view of a place rise in the table.
 pub record ViewsAreOrdered (t : Tables) (ms : List Member) : Type 0 where
   pub obey : (s : NumberedSight) → Contains (views_of_members (numbered_members ms)) s → rules.is_interface (place_at t s.place) (view_of t s.view) ≡ true
-  pub inline : (i j : ℕ) (s u : NumberedSight) → slice_get (views_of_members (numbered_members ms)) i ≡ Some s → slice_get (views_of_members (numbered_members ms)) j ≡ Some u → path_at t s.place ≡ None → s.place ≡ u.place → i ≡ j
+  pub inline : (i j : ℕ) (s u : NumberedSight) → slice_get (views_of_members (numbered_members ms)) i ≡ Some s
+      → slice_get (views_of_members (numbered_members ms)) j ≡ Some u → path_at t s.place ≡ None → s.place ≡ u.place → i ≡ j
   pub apart : (s : NumberedSight) → Contains (views_of_members (numbered_members ms)) s → Contains (homes_in ms) s.place → ⊥
   pub rising : (q : ℕ) (s : NumberedSight) → first_at q (views_of_members (numbered_members ms)) ≡ Some s → IsRisingView t q s.view

@@ -57,11 +57,14 @@ pub record IsWorldInput (t : Tables) (h : Homes) (known : ℕ → Fact) (n : ℕ
   pub shows : Shows t (numbered_scope world) scope
 
 -- The plan is that of one world, and means what the world does.
-pub record IsWholeWorldPlan (t : Tables) (h : Homes) (n : ℕ) (m : Member) (own : List Member) (input : IsWholeInput t h n (m ∷ own)) (scope : follow.Scope) (p : Plan) : Type 0 where
+pub record IsWholeWorldPlan (t : Tables) (h : Homes) (n : ℕ) (m : Member) (own : List Member) (input : IsWholeInput t h n (m ∷ own)) (scope : follow.Scope)
+    (p : Plan) : Type 0 where
   pub plan : IsWorldPlan p
   pub means : plan_world_meaning p ≡ world_with input.identity m.label.now scope
 
 -- Where the world and those interfaces are a package, the plan of that package is the plan of the world.
 abbrev pub WorldPlanIsWhole : Type 0
-WorldPlanIsWhole = (t : Tables) (h : Homes) (known : ℕ → Fact) (n : ℕ) (m : Member) (own : List Member) (members : List reads.Member) → IsPackageInput t h known n (m ∷ own) members → (input : IsWholeInput t h n (m ∷ own))
-    → (scope : follow.Scope) → IsWorldInput t h known n m own scope → (p : Plan) → PlansWhole t h.packages (home_at h) n (m ∷ own) p → FitsInput p → IsWholeWorldPlan t h n m own input scope p
+WorldPlanIsWhole = (t : Tables) (h : Homes) (known : ℕ → Fact) (n : ℕ) (m : Member) (own : List Member) (members : List reads.Member)
+    → IsPackageInput t h known n (m ∷ own) members → (input : IsWholeInput t h n (m ∷ own))
+    → (scope : follow.Scope) → IsWorldInput t h known n m own scope → (p : Plan) → PlansWhole t h.packages (home_at h) n (m ∷ own) p → FitsInput p
+    → IsWholeWorldPlan t h n m own input scope p

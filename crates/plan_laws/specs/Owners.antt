@@ -29,4 +29,5 @@ owners_of ms = owner_of (places_in ms) (homes_in ms)
 
 -- Then each type is its owner's, and is seen from there.
 abbrev pub PlannedTypesAreOwned : Type 0
-PlannedTypesAreOwned = (t : Tables) (h : Homes) (ms : List Member) (members : List reads.Member) → IsInput t h ms members → (n : ℕ) (p : Plan) (planned : PlansWhole t h.packages (home_at h) n ms p) → AreOwned t planned.kept p (owners_of ms)
+PlannedTypesAreOwned = (t : Tables) (h : Homes) (ms : List Member) (members : List reads.Member) → IsInput t h ms members
+    → (n : ℕ) (p : Plan) (planned : PlansWhole t h.packages (home_at h) n ms p) → AreOwned t planned.kept p (owners_of ms)

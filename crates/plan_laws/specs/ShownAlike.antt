@@ -10,4 +10,5 @@ use Rattle.plan_laws.specs.Whole.{IsPackageInput}
 use Rattle.plan_laws.specs.WholeReasons.{AreShownAlike}
 
 abbrev pub WholeIsShownAlike : Type 0
-WholeIsShownAlike = (t : Tables) (h : Homes) (known : ℕ → Fact) (n : ℕ) (ms : List Member) (members : List reads.Member) → IsPackageInput t h known n ms members → AreShownAlike ms
+WholeIsShownAlike = (t : Tables) (h : Homes) (known : ℕ → Fact) (n : ℕ) (ms : List Member) (members : List reads.Member) → IsPackageInput t h known n ms members
+    → AreShownAlike ms

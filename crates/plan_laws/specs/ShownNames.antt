@@ -71,5 +71,7 @@ pub record IsInput (t : Tables) (h : Homes) (ms : List Member) (members : List r
 
 -- Each name that is used is shown by one of the parts.
 abbrev pub UsedNamesAreShown : Type 0
-UsedNamesAreShown = (t : Tables) (h : Homes) (ms : List Member) (members : List reads.Member) → IsInput t h ms members → (marks : List Bool) → AreUsed t (used_parts t (showings_of_members ms) (signatures_of_members ms)) marks
-    → (n q : ℕ) (name : Text) → is_marked marks n ≡ true → slice_get t.shapes n ≡ Some (named_shape q name) → (m : Member) × Contains ms m × IsShownByPart t m.part q n
+UsedNamesAreShown = (t : Tables) (h : Homes) (ms : List Member) (members : List reads.Member) → IsInput t h ms members → (marks : List Bool)
+    → AreUsed t (used_parts t (showings_of_members ms) (signatures_of_members ms)) marks
+    → (n q : ℕ) (name : Text) → is_marked marks n ≡ true → slice_get t.shapes n ≡ Some (named_shape q name) → (m : Member) × Contains ms m
+    × IsShownByPart t m.part q n

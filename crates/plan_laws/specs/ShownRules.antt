@@ -38,7 +38,8 @@ module _ (t : Tables) where
   -- a world imports and exports what one may have
   abbrev pub PartObeys : Part → Type 0
   PartObeys (parts.World w) =
-      (rules.are_imports [] (map (seen_of t) (map numbered_seen w.imports.now)) ≡ true) × (list_all (λ s. rules.is_item [] s.key s.shown) (map (seen_of t) (map numbered_seen w.exports.now)) ≡ true)
+      (rules.are_imports [] (map (seen_of t) (map numbered_seen w.imports.now)) ≡ true)
+      × (list_all (λ s. rules.is_item [] s.key s.shown) (map (seen_of t) (map numbered_seen w.exports.now)) ≡ true)
   PartObeys (parts.Interface p v imports) = Unit {0}
 
 -- All views, all types, all worlds and the types of all functions obey the rules.
@@ -50,5 +51,6 @@ pub record RulesAreObeyed (t : Tables) (ms : List Member) : Type 0 where
 
 -- They do where each interface with a path obeys the rules by what is known of its parts.
 abbrev pub ShownObeysRules : Type 0
-ShownObeysRules = (t : Tables) (h : Homes) (ms : List Member) (members : List reads.Member) → IsInput t h ms members → (known : ℕ → Fact) → AllByRecursion (IsKnownSight t known) (sights_of_members t (numbered_members ms))
+ShownObeysRules = (t : Tables) (h : Homes) (ms : List Member) (members : List reads.Member) → IsInput t h ms members → (known : ℕ → Fact)
+    → AllByRecursion (IsKnownSight t known) (sights_of_members t (numbered_members ms))
     → are_interfaces t known (sights_of_members t (numbered_members ms)) ≡ true → RulesAreObeyed t ms

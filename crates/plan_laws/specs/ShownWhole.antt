@@ -23,5 +23,7 @@ abbrev pub AreReached : Tables → List Member → Type 0
 AreReached t ms = AllByRecursion (λ (m : NumberedMember). PartIsReached t m.part) (numbered_members ms)
 
 abbrev pub WholeIsShown : Type 0
-WholeIsShown = (t : Tables) (h : Homes) (known : ℕ → Fact) (n : ℕ) (ms : List Member) (members : List reads.Member) → IsPackageInput t h known n ms members → ViewsAreOrdered t ms → AreReached t ms
-    → (p : Plan) (planned : PlansWhole t h.packages (home_at h) n ms p) (b : Beside) → b.owners ≡ owners_of ms → (read : IsReadPlan t h planned.kept p b (views_read ms)) → IsShownWhole t h planned.kept p b (views_read ms) read ms
+WholeIsShown = (t : Tables) (h : Homes) (known : ℕ → Fact) (n : ℕ) (ms : List Member) (members : List reads.Member) → IsPackageInput t h known n ms members
+    → ViewsAreOrdered t ms → AreReached t ms
+    → (p : Plan) (planned : PlansWhole t h.packages (home_at h) n ms p) (b : Beside) → b.owners ≡ owners_of ms
+    → (read : IsReadPlan t h planned.kept p b (views_read ms)) → IsShownWhole t h planned.kept p b (views_read ms) read ms

@@ -25,5 +25,7 @@ views_read ms q = view_read (views_of_members (numbered_members ms)) q
 
 -- Each interface of the plan is read so.
 abbrev pub PlannedInterfacesAreViewed : Type 0
-PlannedInterfacesAreViewed = (t : Tables) (h : Homes) (ms : List Member) (members : List reads.Member) → IsInput t h ms members → ((q : ℕ) → path_at t q ≡ None → home_at h q ≡ None) → agree_in_numbers (sights_of_members t (numbered_members ms)) ≡ true → ViewsAreOrdered t ms
-    → (n : ℕ) (p : Plan) (planned : PlansWhole t h.packages (home_at h) n ms p) → (b : Beside) → b.owners ≡ owners_of ms → InterfacesAreViewed t planned.kept p b (views_read ms)
+PlannedInterfacesAreViewed = (t : Tables) (h : Homes) (ms : List Member) (members : List reads.Member) → IsInput t h ms members
+    → ((q : ℕ) → path_at t q ≡ None → home_at h q ≡ None) → agree_in_numbers (sights_of_members t (numbered_members ms)) ≡ true → ViewsAreOrdered t ms
+    → (n : ℕ) (p : Plan) (planned : PlansWhole t h.packages (home_at h) n ms p) → (b : Beside) → b.owners ≡ owners_of ms
+    → InterfacesAreViewed t planned.kept p b (views_read ms)

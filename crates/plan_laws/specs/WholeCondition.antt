@@ -19,4 +19,5 @@ abbrev pub ImportsAreBare : List Member → Type 0
 ImportsAreBare ms = AllByRecursion (λ (m : NumberedMember). PartIsBare m.part) (numbered_members ms)
 
 abbrev pub WholeMayBePlanned : Type 0
-WholeMayBePlanned = (t : Tables) (h : Homes) (known : ℕ → Fact) (n : ℕ) (ms : List Member) (members : List reads.Member) → IsPackageInput t h known n ms members → ImportsAreBare ms → MayBeWhole t ms
+WholeMayBePlanned = (t : Tables) (h : Homes) (known : ℕ → Fact) (n : ℕ) (ms : List Member) (members : List reads.Member) → IsPackageInput t h known n ms members
+    → ImportsAreBare ms → MayBeWhole t ms

@@ -25,11 +25,15 @@ beside_tables known marks ms = record { known = known; marks = marks; owners = o
 
 -- Each function of a world that is planned is read in the world's own place.
 abbrev pub WorldFunctionsAreRead : Type 0
-WorldFunctionsAreRead = (t : Tables) (h : Homes) (ms : List Member) (members : List reads.Member) → IsRuledInput t h ms members → (n : ℕ) (p : Plan) (planned : PlansWhole t h.packages (home_at h) n ms p)
-    → (whole : TypesAreWhole t planned.kept ms p) (known : ℕ → Fact) (w : Text × Scope) → Contains (worlds_in ms) w → (x : PlannedWorld) → PlansWorld t planned.kept (places_in ms) n w x
+WorldFunctionsAreRead = (t : Tables) (h : Homes) (ms : List Member) (members : List reads.Member) → IsRuledInput t h ms members
+    → (n : ℕ) (p : Plan) (planned : PlansWhole t h.packages (home_at h) n ms p)
+    → (whole : TypesAreWhole t planned.kept ms p) (known : ℕ → Fact) (w : Text × Scope) → Contains (worlds_in ms) w → (x : PlannedWorld)
+    → PlansWorld t planned.kept (places_in ms) n w x
     → AllByRecursion (IsReadFunction t planned.kept p (beside_tables known whole.marks.marks ms) (owners_of ms w.1.home)) (world_functions x)
 
 -- So is each function of the plan, where views of a place that show functions show the same ones.
 abbrev pub PlannedFunctionsAreRead : Type 0
-PlannedFunctionsAreRead = (t : Tables) (h : Homes) (ms : List Member) (members : List reads.Member) → IsRuledInput t h ms members → AreShownAlike ms → ViewsAreOrdered t ms → WorldsAreApart ms
-    → (n : ℕ) (p : Plan) (planned : PlansWhole t h.packages (home_at h) n ms p) → (whole : TypesAreWhole t planned.kept ms p) (known : ℕ → Fact) → FunctionsAreRead t planned.kept p (beside_tables known whole.marks.marks ms)
+PlannedFunctionsAreRead = (t : Tables) (h : Homes) (ms : List Member) (members : List reads.Member) → IsRuledInput t h ms members → AreShownAlike ms
+    → ViewsAreOrdered t ms → WorldsAreApart ms
+    → (n : ℕ) (p : Plan) (planned : PlansWhole t h.packages (home_at h) n ms p) → (whole : TypesAreWhole t planned.kept ms p) (known : ℕ → Fact)
+    → FunctionsAreRead t planned.kept p (beside_tables known whole.marks.marks ms)

@@ -23,5 +23,7 @@ pub record OrderIsReadAs (t : Tables) (ms : List Member) (kept : List ℕ) (p : 
 
 -- It is, where the functions of worlds are read.
 abbrev pub PlannedOrderIsRead : Type 0
-PlannedOrderIsRead = (t : Tables) (h : Homes) (known : ℕ → Fact) (n : ℕ) (ms : List Member) (members : List reads.Member) → IsPackageInput t h known n ms members → ViewsAreOrdered t ms → WorldsAreApart ms → WorldsAreFollowed t ms
-    → (p : Plan) (planned : PlansWhole t h.packages (home_at h) n ms p) (b : Beside) → b.known ≡ known → b.owners ≡ owners_of ms → FunctionsAreRead t planned.kept p b → OrderIsReadAs t ms planned.kept p b (views_read ms)
+PlannedOrderIsRead = (t : Tables) (h : Homes) (known : ℕ → Fact) (n : ℕ) (ms : List Member) (members : List reads.Member)
+    → IsPackageInput t h known n ms members → ViewsAreOrdered t ms → WorldsAreApart ms → WorldsAreFollowed t ms
+    → (p : Plan) (planned : PlansWhole t h.packages (home_at h) n ms p) (b : Beside) → b.known ≡ known → b.owners ≡ owners_of ms
+    → FunctionsAreRead t planned.kept p b → OrderIsReadAs t ms planned.kept p b (views_read ms)

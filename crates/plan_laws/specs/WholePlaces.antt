@@ -22,5 +22,6 @@ pub record LabelsStand (ms : List Member) : Type 0 where
 
 -- Then packages, interfaces and worlds are read as such, each place under the owner of its own.
 abbrev pub WholePlacesAreRead : Type 0
-WholePlacesAreRead = (t : Tables) (h : Homes) (known : ℕ → Fact) (n : ℕ) (ms : List Member) (members : List reads.Member) → IsPackageInput t h known n ms members → ArePackages h.packages → LabelsStand ms
+WholePlacesAreRead = (t : Tables) (h : Homes) (known : ℕ → Fact) (n : ℕ) (ms : List Member) (members : List reads.Member)
+    → IsPackageInput t h known n ms members → ArePackages h.packages → LabelsStand ms
     → (p : Plan) → PlansWhole t h.packages (home_at h) n ms p → PlacesAreRead t h p (owners_of ms)

@@ -46,7 +46,8 @@ pub record IsWholeInput (t : Tables) (h : Homes) (n : ℕ) (ms : List Member) : 
   pub reached : AreReached t ms
 
 -- The plan is read as a package, so it is the plan of one, and it means what the members do.
-pub record IsWholePlan (t : Tables) (h : Homes) (known : ℕ → Fact) (n : ℕ) (ms : List Member) (members : List reads.Member) (identity : PackageIdentity) (p : Plan) (planned : PlansWhole t h.packages (home_at h) n ms p) : Type 0 where
+pub record IsWholePlan (t : Tables) (h : Homes) (known : ℕ → Fact) (n : ℕ) (ms : List Member) (members : List reads.Member) (identity : PackageIdentity)
+    (p : Plan) (planned : PlansWhole t h.packages (home_at h) n ms p) : Type 0 where
   pub whole : TypesAreWhole t planned.kept ms p
   pub read : IsReadPackagePlan t h planned.kept p (beside_tables known whole.marks.marks ms) (views_read ms)
   pub plan : IsPackagePlan p
@@ -54,5 +55,6 @@ pub record IsWholePlan (t : Tables) (h : Homes) (known : ℕ → Fact) (n : ℕ)
 
 -- The plan of what was followed of a package is so, where it fits in numbers of 32 bits.
 abbrev pub PlanIsWhole : Type 0
-PlanIsWhole = (t : Tables) (h : Homes) (known : ℕ → Fact) (n : ℕ) (ms : List Member) (members : List reads.Member) → IsPackageInput t h known n ms members → (input : IsWholeInput t h n ms)
+PlanIsWhole = (t : Tables) (h : Homes) (known : ℕ → Fact) (n : ℕ) (ms : List Member) (members : List reads.Member) → IsPackageInput t h known n ms members
+    → (input : IsWholeInput t h n ms)
     → (p : Plan) (planned : PlansWhole t h.packages (home_at h) n ms p) → FitsInput p → IsWholePlan t h known n ms members input.identity p planned

@@ -30,17 +30,22 @@ module _ (t : Tables) (h : Homes) (kept : List ℕ) (p : Plan) (b : Beside) (vie
   -- A world of the plan shows each interface under a path that a world at the top shows, the view of a place shows the types that each view of it
   -- does, and what an interface imports is reached.
   pub record IsShownWhole (ms : List Member) : Type 0 where
-    pub worlds : (m : Member) → Contains ms m → (w : Scope) → m.part ≡ parts.World w → (i : NumberedInstance) → Contains (numbered_scope w).instances i → HasPath t i.place → IsShownByWorld t h kept p b views read i.place
+    pub worlds : (m : Member) → Contains ms m → (w : Scope) → m.part ≡ parts.World w → (i : NumberedInstance) → Contains (numbered_scope w).instances i
+        → HasPath t i.place → IsShownByWorld t h kept p b views read i.place
     pub agree : (s : NumberedSight) → Contains (sights_of_members t (numbered_members ms)) s → pointwise same_shown (views s.place).types s.view.types ≡ true
     pub reached : AllByRecursion (λ (m : NumberedMember). PartIsReached t m.part) (numbered_members ms)
 
   -- An interface of another package is there for a reason, and only a world or the package itself shows functions.
   pub record HasForeignReasons (seen : List NumberedSight) : Type 0 where
-    pub reasons : (q n : ℕ) (i : PlannedInterface) → HasPath t q → b.owners q ≡ as_interface n → interface_in p n ≡ Some i → is_of_package h p.main q ≡ false → IsSeenFor t h kept p b views read q
-    pub whole : (s : NumberedSight) → Contains seen s → s.whole ≡ true → IsShownByWorld t h kept p b views read s.place ⊎ (is_of_package h p.main s.place ≡ true)
+    pub reasons : (q n : ℕ) (i : PlannedInterface) → HasPath t q → b.owners q ≡ as_interface n → interface_in p n ≡ Some i → is_of_package h p.main q ≡ false
+        → IsSeenFor t h kept p b views read q
+    pub whole : (s : NumberedSight) → Contains seen s → s.whole ≡ true → IsShownByWorld t h kept p b views read s.place
+        ⊎ (is_of_package h p.main s.place ≡ true)
 
 -- Then all views that were followed are of such.
 abbrev pub ForeignHasReasons : Type 0
-ForeignHasReasons = (t : Tables) (h : Homes) (known : ℕ → Fact) (n : ℕ) (ms : List Member) (members : List reads.Member) → IsPackageInput t h known n ms members → (p : Plan) (planned : PlansWhole t h.packages (home_at h) n ms p)
-    (b : Beside) → b.owners ≡ owners_of ms → (views : ℕ → NumberedView) (read : IsReadPlan t h planned.kept p b views) → IsShownWhole t h planned.kept p b views read ms
+ForeignHasReasons = (t : Tables) (h : Homes) (known : ℕ → Fact) (n : ℕ) (ms : List Member) (members : List reads.Member) → IsPackageInput t h known n ms members
+    → (p : Plan) (planned : PlansWhole t h.packages (home_at h) n ms p)
+    (b : Beside) → b.owners ≡ owners_of ms → (views : ℕ → NumberedView) (read : IsReadPlan t h planned.kept p b views)
+    → IsShownWhole t h planned.kept p b views read ms
     → HasForeignReasons t h planned.kept p b views read (sights_of_members t (numbered_members ms))

@@ -22,7 +22,8 @@ use Rattle.plan_laws.specs.Whole.{IsPackageInput}
 
 -- ---- what was followed, under the rules
 
--- What was followed obeys the rules: the views of each interface agree, each name is a resource wherever it is met, or nowhere, each world and each inline interface has a place of its
+-- What was followed obeys the rules: the views of each interface agree, each name is a resource wherever it is met, or nowhere, each world and each inline
+-- interface has a place of its
 -- own, and only a path has a home.
 pub record IsRuledInput (t : Tables) (h : Homes) (ms : List Member) (members : List reads.Member) : Type 0 where
   pub input : IsInput t h ms members
@@ -35,7 +36,8 @@ pub record IsRuledInput (t : Tables) (h : Homes) (ms : List Member) (members : L
 
 -- A package that was followed is such.
 abbrev pub PackagesAreRuled : Type 0
-PackagesAreRuled = (t : Tables) (h : Homes) (known : ℕ → Fact) (n : ℕ) (ms : List Member) (members : List reads.Member) → IsPackageInput t h known n ms members → IsRuledInput t h ms members
+PackagesAreRuled = (t : Tables) (h : Homes) (known : ℕ → Fact) (n : ℕ) (ms : List Member) (members : List reads.Member) → IsPackageInput t h known n ms members
+    → IsRuledInput t h ms members
 
 -- ---- the plan's types
 
@@ -49,4 +51,5 @@ pub record TypesAreWhole (t : Tables) (kept : List ℕ) (ms : List Member) (p : 
 
 -- So are those of the plan of what obeys the rules.
 abbrev pub PlannedTypesAreWhole : Type 0
-PlannedTypesAreWhole = (t : Tables) (h : Homes) (ms : List Member) (members : List reads.Member) → IsRuledInput t h ms members → (n : ℕ) (p : Plan) (planned : PlansWhole t h.packages (home_at h) n ms p) → TypesAreWhole t planned.kept ms p
+PlannedTypesAreWhole = (t : Tables) (h : Homes) (ms : List Member) (members : List reads.Member) → IsRuledInput t h ms members
+    → (n : ℕ) (p : Plan) (planned : PlansWhole t h.packages (home_at h) n ms p) → TypesAreWhole t planned.kept ms p

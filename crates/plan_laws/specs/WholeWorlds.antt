@@ -78,5 +78,7 @@ pub record WorldsAreReadAs (t : Tables) (ms : List Member) (kept : List ℕ) (p 
 
 -- They are, where their functions are read.
 abbrev pub PlannedWorldsAreRead : Type 0
-PlannedWorldsAreRead = (t : Tables) (h : Homes) (known : ℕ → Fact) (n : ℕ) (ms : List Member) (members : List reads.Member) → IsPackageInput t h known n ms members → ViewsAreOrdered t ms → WorldsAreApart ms → WorldsAreFollowed t ms
-    → (p : Plan) (planned : PlansWhole t h.packages (home_at h) n ms p) (b : Beside) → b.known ≡ known → b.owners ≡ owners_of ms → FunctionsAreRead t planned.kept p b → WorldsAreReadAs t ms planned.kept p b (views_read ms)
+PlannedWorldsAreRead = (t : Tables) (h : Homes) (known : ℕ → Fact) (n : ℕ) (ms : List Member) (members : List reads.Member)
+    → IsPackageInput t h known n ms members → ViewsAreOrdered t ms → WorldsAreApart ms → WorldsAreFollowed t ms
+    → (p : Plan) (planned : PlansWhole t h.packages (home_at h) n ms p) (b : Beside) → b.known ≡ known → b.owners ≡ owners_of ms
+    → FunctionsAreRead t planned.kept p b → WorldsAreReadAs t ms planned.kept p b (views_read ms)

@@ -42,13 +42,15 @@ KeysAreApart w = (i j : ℕ) (a b : Seen) → slice_get w.imports.now i ≡ Some
 module _ (t : Tables) (ms : List Member) (kept : List ℕ) (p : Plan) (b : Beside) where
   -- an instance of the world of this number is one of the interface of its place
   abbrev pub InstancesAreRead : ℕ → Scope → Type 0
-  InstancesAreRead m w = (s : Seen) → Contains w.imports.now s ⊎ Contains w.exports.now s → (key : InstanceKey) (v : View) → s.shown ≡ shown.Instance key v → (u : ℕ) → number_in (places_in ms) (place_of_key (numbered_key key)) ≡ Some u
+  InstancesAreRead m w = (s : Seen) → Contains w.imports.now s ⊎ Contains w.exports.now s → (key : InstanceKey) (v : View) → s.shown ≡ shown.Instance key v
+      → (u : ℕ) → number_in (places_in ms) (place_of_key (numbered_key key)) ≡ Some u
       → IsInterfaceOf t kept p b (views_read ms) (as_world m) w.home (place_of_key (numbered_key key)) (numbered_view v) u
 
   -- a type that the world imports is what it is declared as
   abbrev pub TypesAreRead : Scope → Type 0
   TypesAreRead w = (s : Seen) → Contains w.imports.now s → (part : ℕ) (d : Option ℕ) → s.shown ≡ shown.Declares part d → (n : ℕ) → IsPart kept part (14 + n)
-      → (k : ℕ) × (slice_get kept n ≡ Some k) × (slice_get t.shapes k ≡ Some (named_shape w.home s.key.now)) × TypeBecomes t kept p d (given_text s.external_id) n
+      → (k : ℕ) × (slice_get kept n ≡ Some k) × (slice_get t.shapes k ≡ Some (named_shape w.home s.key.now))
+      × TypeBecomes t kept p d (given_text s.external_id) n
 
 -- Each world has its place, and imports and exports instances of the plan's interfaces and types of its own.
 pub record WorldIsPlanned (t : Tables) (ms : List Member) (kept : List ℕ) (p : Plan) (b : Beside) (m : ℕ) (w : Scope) : Type 0 where
@@ -57,5 +59,7 @@ pub record WorldIsPlanned (t : Tables) (ms : List Member) (kept : List ℕ) (p :
   pub types : KeysAreApart w → TypesAreRead t ms kept p b w
 
 abbrev pub PlannedWorldsStand : Type 0
-PlannedWorldsStand = (t : Tables) (h : Homes) (ms : List Member) (members : List reads.Member) → IsInput t h ms members → agree_in_numbers (sights_of_members t (numbered_members ms)) ≡ true → ViewsAreOrdered t ms → WorldsAreApart ms
-    → (n : ℕ) (p : Plan) (planned : PlansWhole t h.packages (home_at h) n ms p) → (b : Beside) → b.owners ≡ owners_of ms → (m : ℕ) (w : Text × Scope) → slice_get (worlds_in ms) m ≡ Some w → WorldIsPlanned t ms planned.kept p b m w.1
+PlannedWorldsStand = (t : Tables) (h : Homes) (ms : List Member) (members : List reads.Member) → IsInput t h ms members
+    → agree_in_numbers (sights_of_members t (numbered_members ms)) ≡ true → ViewsAreOrdered t ms → WorldsAreApart ms
+    → (n : ℕ) (p : Plan) (planned : PlansWhole t h.packages (home_at h) n ms p) → (b : Beside) → b.owners ≡ owners_of ms → (m : ℕ) (w : Text × Scope)
+    → slice_get (worlds_in ms) m ≡ Some w → WorldIsPlanned t ms planned.kept p b m w.1

@@ -32,7 +32,8 @@ module _ (r : Resolve) (m : ℕ) (is : IsPlan (plan_of r m)) where
   function_shallow o f = list_all (rules.is_shallow r) (function_types f)
 
   function_passes : (o : TypeOwner) (f : Function) → planned.function_is_shallow (plan_of r m) (planned_function f) ≡ true → function_shallow o f ≡ true
-  function_passes o f h = parts_pass (planned.is_shallow (plan_of r m)) (rules.is_shallow r) shallow (function_types f) (ap (list_all (planned.is_shallow (plan_of r m))) (sym (function_parts_are f)) ∙ h)
+  function_passes o f h = parts_pass (planned.is_shallow (plan_of r m)) (rules.is_shallow r) shallow (function_types f)
+      (ap (list_all (planned.is_shallow (plan_of r m))) (sym (function_parts_are f)) ∙ h)
 
   as_formed : (k : PlannedKind) → planned.parts_are_shallow (plan_of r m) k ≡ formed_pass (planned.is_shallow (plan_of r m)) k
   as_formed resource = refl
@@ -47,4 +48,5 @@ module _ (r : Resolve) (m : ℕ) (is : IsPlan (plan_of r m)) where
   depths_kept = keeps_three depths r refl
       (interfaces_pass r m (λ o f. planned.function_is_shallow (plan_of r m) f) function_shallow function_passes is.functions_shallow)
       (worlds_pass r m (λ o f. planned.function_is_shallow (plan_of r m) f) function_shallow function_passes is.functions_shallow)
-      (each_from_built planned_type (λ t. planned.parts_are_shallow (plan_of r m) t.kind) (λ def. list_all (rules.is_shallow r) (member_types def.kind)) (λ def h. kind_passes def.kind h) r.types.items is.depths)
+      (each_from_built planned_type (λ t. planned.parts_are_shallow (plan_of r m) t.kind) (λ def. list_all (rules.is_shallow r) (member_types def.kind)) (λ def h. kind_passes def.kind h)
+      r.types.items is.depths)

@@ -66,10 +66,12 @@ same_key_is (key.Name a) (key.Interface b) = refl
 same_key_is (key.Interface a) (key.Name b) = refl
 same_key_is (key.Interface a) (key.Interface b) = refl
 
-other_keys : (k : WorldKey) (es : List (WorldKey × WorldItem)) → not (list_any (λ other. same_key (planned_key k) other.0) (planned_entries es)) ≡ true → AllByRecursion (λ y. key_eq k y ≡ false) (keys_of es)
+other_keys : (k : WorldKey) (es : List (WorldKey × WorldItem)) → not (list_any (λ other. same_key (planned_key k) other.0) (planned_entries es)) ≡ true
+    → AllByRecursion (λ y. key_eq k y ≡ false) (keys_of es)
 other_keys k [] h = tt
 other_keys k (e ∷ es) h =
-    let split = none_same (same_key (planned_key k) (planned_key e.0)) (list_any (λ other. same_key (planned_key k) other.0) (planned_entries es)) h in (sym (same_key_is k e.0) ∙ split.0, other_keys k es split.1)
+    let split = none_same (same_key (planned_key k) (planned_key e.0)) (list_any (λ other. same_key (planned_key k) other.0) (planned_entries es)) h in
+    (sym (same_key_is k e.0) ∙ split.0, other_keys k es split.1)
 
 keys_distinct : (es : List (WorldKey × WorldItem)) → keys_differ (planned_entries es) ≡ true → IsDistinct key_eq (keys_of es)
 unfolding IsDistinct
@@ -86,11 +88,13 @@ module _ (r : Resolve) (m : ℕ) (is : IsPlan (plan_of r m)) where
   interface_keys n i e =
       both_distinct (λ id. id.0) planned_function i.types.entries i.functions.entries
       (second_true (passes is_label (optional_text i.name)) _
-      (all_get planned.interface_labels (map planned_interface r.interfaces.items) n (planned_interface i) is.interface_labels (get_of_map planned_interface r.interfaces.items n ∙ ap (option_map planned_interface) e)))
+      (all_get planned.interface_labels (map planned_interface r.interfaces.items) n (planned_interface i) is.interface_labels
+      (get_of_map planned_interface r.interfaces.items n ∙ ap (option_map planned_interface) e)))
 
   world_keys : (n : ℕ) (w : World) → world_at r n ≡ Some w → IsUnique key_eq w.imports × IsUnique key_eq w.exports
   world_keys n w e =
-      let differ = all_get (λ x. keys_differ x.imports && keys_differ x.exports) (map planned_world r.worlds.items) n (planned_world w) is.keys_differ (get_of_map planned_world r.worlds.items n ∙ ap (option_map planned_world) e) in
+      let differ = all_get (λ x. keys_differ x.imports && keys_differ x.exports) (map planned_world r.worlds.items) n (planned_world w) is.keys_differ
+      (get_of_map planned_world r.worlds.items n ∙ ap (option_map planned_world) e) in
       (keys_distinct w.imports.entries (first_true _ _ differ), keys_distinct w.exports.entries (second_true (keys_differ (planned_entries w.imports.entries)) _ differ))
 
   pub keys_are_distinct : HasDistinctKeys r

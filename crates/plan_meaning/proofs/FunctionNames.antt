@@ -112,14 +112,16 @@ module _ (r : Resolve) (m : ℕ) where
   -- a test of the type that a part is
   module _ (test : PlannedType → Bool) (rule : TypeDef → Bool) (same : (def : TypeDef) → test (planned_type def) ≡ rule def) where
     type_there : (n : ℕ) → option_map_or test (type_in (plan_of r m) n) false ≡ option_map_or rule (type_at r n) false
-    type_there n = ap (λ o. option_map_or test o false) (get_of_map planned_type r.types.items n) ∙ (or_of_map test planned_type false (type_at r n) ∙ same_or (λ def. test (planned_type def)) rule false same (type_at r n))
+    type_there n = ap (λ o. option_map_or test o false) (get_of_map planned_type r.types.items n)
+        ∙ (or_of_map test planned_type false (type_at r n) ∙ same_or (λ def. test (planned_type def)) rule false same (type_at r n))
 
     part_is : (t : ValueType) → planned.part_is (plan_of r m) test (part_of t) ≡ rules.type_is r rule t
     part_is t =
         ap (λ o. option_map_or (λ n. option_map_or test (type_in (plan_of r m) n) false) o false) (number_part t)
         ∙ same_or (λ n. option_map_or test (type_in (plan_of r m) n) false) (λ n. option_map_or rule (type_at r n) false) false type_there (number_of t)
 
-  own_ok : (n : ℕ) (ok err : Option ValueType) → planned.has_own_ok (plan_of r m) n (plan.formed (Form.result_of (is_some ok) (is_some err)) (given_parts (ok ∷ err ∷ []))) ≡ option_map_or (rules.type_is r (rules.is_own_of n)) ok false
+  own_ok : (n : ℕ) (ok err : Option ValueType)
+      → planned.has_own_ok (plan_of r m) n (plan.formed (Form.result_of (is_some ok) (is_some err)) (given_parts (ok ∷ err ∷ []))) ≡ option_map_or (rules.type_is r (rules.is_own_of n)) ok false
   own_ok n None err = refl
   own_ok n (Some t) err = part_is (planned.is_own_of n) (rules.is_own_of n) (own_of_is n) t
 
@@ -153,9 +155,12 @@ module _ (r : Resolve) (m : ℕ) where
 
   takes_self_is : (n : ℕ) (f : Function) → planned.takes_self (plan_of r m) n (planned_function f) ≡ rules.takes_self r n f
   takes_self_is n f =
-      ap (λ o. option_map_or (λ (x : Text × ℕ). text_eq x.0 (codes "self") && planned.part_is (plan_of r m) (planned.is_borrow_of n) x.1) o false) (get_of_map (λ (x : Param). (text_of x.name, part_of x.ty)) f.params.items 0)
-      ∙ (or_of_map (λ (x : Text × ℕ). text_eq x.0 (codes "self") && planned.part_is (plan_of r m) (planned.is_borrow_of n) x.1) (λ (x : Param). (text_of x.name, part_of x.ty)) false (slice_get f.params.items 0)
-      ∙ same_or (λ (x : Param). text_eq (text_of x.name) (codes "self") && planned.part_is (plan_of r m) (planned.is_borrow_of n) (part_of x.ty)) (λ p. text_eq (text_of p.name) (codes "self") && rules.type_is r (rules.is_borrow_of n) p.ty) false
+      ap (λ o. option_map_or (λ (x : Text × ℕ). text_eq x.0 (codes "self") && planned.part_is (plan_of r m) (planned.is_borrow_of n) x.1) o false)
+      (get_of_map (λ (x : Param). (text_of x.name, part_of x.ty)) f.params.items 0)
+      ∙ (or_of_map (λ (x : Text × ℕ). text_eq x.0 (codes "self") && planned.part_is (plan_of r m) (planned.is_borrow_of n) x.1) (λ (x : Param). (text_of x.name, part_of x.ty)) false
+      (slice_get f.params.items 0)
+      ∙ same_or (λ (x : Param). text_eq (text_of x.name) (codes "self") && planned.part_is (plan_of r m) (planned.is_borrow_of n) (part_of x.ty))
+      (λ p. text_eq (text_of p.name) (codes "self") && rules.type_is r (rules.is_borrow_of n) p.ty) false
       (λ x. ap (λ b. text_eq (text_of x.name) (codes "self") && b) (part_is (planned.is_borrow_of n) (rules.is_borrow_of n) (borrow_of_is n) x.ty)) (slice_get f.params.items 0))
 
   member_of_is : (n : ℕ) (name : Text) (f : Function) (k : FunctionKind) → planned.is_member_of (plan_of r m) n name (planned_function f) k ≡ rules.is_member_of r n name f k
@@ -167,7 +172,9 @@ module _ (r : Resolve) (m : ℕ) where
   member_of_is n name f call.Freestanding = refl
   member_of_is n name f call.AsyncFreestanding = refl
 
-  resource_by : (o : TypeOwner) (def : TypeDef) → (if planned.is_resource_kind (planned_kind def.kind) && same_owner def.owner o then optional_text def.name else None) ≡ (if rules.is_resource_itself def.kind && same_owner def.owner o then optional_text def.name else None)
+  resource_by : (o : TypeOwner) (def : TypeDef)
+      → (if planned.is_resource_kind (planned_kind def.kind) && same_owner def.owner o then optional_text def.name else None)
+      ≡ (if rules.is_resource_itself def.kind && same_owner def.owner o then optional_text def.name else None)
   resource_by o def = ap (λ b. if b && same_owner def.owner o then optional_text def.name else None) (resource_itself def.kind)
 
   resource_name_is : (o : TypeOwner) (n : ℕ) → planned.resource_name (plan_of r m) o n ≡ rules.resource_name r o n
@@ -180,17 +187,20 @@ module _ (r : Resolve) (m : ℕ) where
   pub member_is : (o : TypeOwner) (f : Function) → planned.is_member (plan_of r m) o (planned_function f) ≡ rules.is_member r o f
   member_is o f = ap (λ test. passes test (resource_of f.kind)) (λ i n. at n i)
     where
-      at : (n : ℕ) → option_map_or (λ name. planned.is_member_of (plan_of r m) n name (planned_function f) f.kind) (planned.resource_name (plan_of r m) o n) false ≡ option_map_or (λ name. rules.is_member_of r n name f f.kind) (rules.resource_name r o n) false
+      at : (n : ℕ) → option_map_or (λ name. planned.is_member_of (plan_of r m) n name (planned_function f) f.kind) (planned.resource_name (plan_of r m) o n) false ≡ option_map_or
+          (λ name. rules.is_member_of r n name f f.kind) (rules.resource_name r o n) false
       at n =
           ap (λ x. option_map_or (λ name. planned.is_member_of (plan_of r m) n name (planned_function f) f.kind) x false) (resource_name_is o n)
-          ∙ same_or (λ name. planned.is_member_of (plan_of r m) n name (planned_function f) f.kind) (λ name. rules.is_member_of r n name f f.kind) false (λ name. member_of_is n name f f.kind) (rules.resource_name r o n)
+          ∙ same_or (λ name. planned.is_member_of (plan_of r m) n name (planned_function f) f.kind) (λ name. rules.is_member_of r n name f f.kind) false (λ name. member_of_is n name f f.kind)
+          (rules.resource_name r o n)
 
   pub belongs : (o : TypeOwner) (f : Function) → planned.is_member (plan_of r m) o (planned_function f) ≡ true → rules.is_member r o f ≡ true
   belongs o f h = sym (member_is o f) ∙ h
 
   -- ---- keys
 
-  import_key : (n : ℕ) (k : WorldKey) (x : WorldItem) → planned.import_stands (plan_of r m) n (planned_key k, planned_item x) ≡ true → passes (λ f. is_name_key (text_of f.name) k) (item_function x) ≡ true
+  import_key : (n : ℕ) (k : WorldKey) (x : WorldItem) → planned.import_stands (plan_of r m) n (planned_key k, planned_item x) ≡ true
+      → passes (λ f. is_name_key (text_of f.name) k) (item_function x) ≡ true
   import_key n (key.Interface id) (item.Interface other stability docs external_id) h = refl
   import_key n (key.Interface id) (item.Function f) h = no_true h
   import_key n (key.Interface id) (item.Type_ other) h = refl
@@ -229,22 +239,29 @@ module _ (r : Resolve) (m : ℕ) where
     world_passes n w h functions =
         let members = entries_pass (rules.is_member r (as_world n)) w functions in
         list_all-append (λ e. passes (λ f. is_name_key (text_of f.name) e.0 && rules.is_member r (as_world n) f) (item_function e.1)) w.imports.entries w.exports.entries
-        ∙ both _ _ (all_two (λ e. passes (λ f. is_name_key (text_of f.name) e.0) (item_function e.1)) (λ e. passes (rules.is_member r (as_world n)) (item_function e.1)) (λ e. passes (λ f. is_name_key (text_of f.name) e.0 && rules.is_member r (as_world n) f) (item_function e.1)) (together n) w.imports.entries (first_true _ _ h) members.0) (all_two (λ e. passes (λ f. is_name_key (text_of f.name) e.0) (item_function e.1)) (λ e. passes (rules.is_member r (as_world n)) (item_function e.1)) (λ e. passes (λ f. is_name_key (text_of f.name) e.0 && rules.is_member r (as_world n) f) (item_function e.1)) (together n) w.exports.entries (second_true (imports_right n w) _ h) members.1)
+        ∙ both _ _ (all_two (λ e. passes (λ f. is_name_key (text_of f.name) e.0) (item_function e.1)) (λ e. passes (rules.is_member r (as_world n)) (item_function e.1))
+        (λ e. passes (λ f. is_name_key (text_of f.name) e.0 && rules.is_member r (as_world n) f) (item_function e.1)) (together n) w.imports.entries (first_true _ _ h) members.0)
+        (all_two (λ e. passes (λ f. is_name_key (text_of f.name) e.0) (item_function e.1)) (λ e. passes (rules.is_member r (as_world n)) (item_function e.1))
+        (λ e. passes (λ f. is_name_key (text_of f.name) e.0 && rules.is_member r (as_world n) f) (item_function e.1)) (together n) w.exports.entries (second_true (imports_right n w) _ h) members.1)
 
     pub function_names_kept : Keeps function_names r
     unfolding function_names
     function_names_kept = keeps_two function_names r refl refl
         (each_two (λ n i. list_all (λ e. text_eq (text_of e.0) (text_of e.1.name)) i.functions.entries) (λ n i. list_all (rules.is_member r (as_interface n)) (functions_of_interface i))
         (λ n i. function_names.interface_ r n i)
-        (λ n i a b. all_two (λ e. text_eq (text_of e.0) (text_of e.1.name)) (λ e. rules.is_member r (as_interface n) e.1) (λ e. text_eq (text_of e.0) (text_of e.1.name) && rules.is_member r (as_interface n) e.1) (λ e x y. both _ _ x y) i.functions.entries a
+        (λ n i a b. all_two (λ e. text_eq (text_of e.0) (text_of e.1.name)) (λ e. rules.is_member r (as_interface n) e.1)
+        (λ e. text_eq (text_of e.0) (text_of e.1.name) && rules.is_member r (as_interface n) e.1) (λ e x y. both _ _ x y) i.functions.entries a
         (sym (list_all-map (rules.is_member r (as_interface n)) (λ e. e.1) i.functions.entries) ∙ b)) 0 r.interfaces.items
         (each_from_built planned_interface (λ i. list_all (λ e. text_eq e.0 e.1.name) i.functions) (λ i. list_all (λ e. text_eq (text_of e.0) (text_of e.1.name)) i.functions.entries)
-        (λ i h. all_built (λ e. (text_of e.0, planned_function e.1)) (λ (e : Text × PlannedFunction). text_eq e.0 e.1.name) (λ e. text_eq (text_of e.0) (text_of e.1.name)) (λ e k. k) i.functions.entries h) r.interfaces.items is.function_keys)
+        (λ i h. all_built (λ e. (text_of e.0, planned_function e.1)) (λ (e : Text × PlannedFunction). text_eq e.0 e.1.name) (λ e. text_eq (text_of e.0) (text_of e.1.name)) (λ e k. k)
+        i.functions.entries h) r.interfaces.items is.function_keys)
         (interfaces_pass r m (planned.is_member (plan_of r m)) (rules.is_member r) belongs is.functions_belong))
         (each_two (λ n w. imports_right n w && exports_right w) all_belong (λ n w. function_names.world_ r n w) world_passes 0 r.worlds.items
         (each_two imports_right (λ n w. exports_right w) (λ n w. imports_right n w && exports_right w) (λ n w a b. both _ _ a b) 0 r.worlds.items
         (each_built planned_world (λ n w. list_all (planned.import_stands (plan_of r m) n) w.imports) imports_right
-        (λ n w h. all_built (λ e. (planned_key e.0, planned_item e.1)) (planned.import_stands (plan_of r m) n) (λ e. passes (λ f. is_name_key (text_of f.name) e.0) (item_function e.1)) (λ e k. import_key n e.0 e.1 k) w.imports.entries h) r.worlds.items is.imports_stand)
+        (λ n w h. all_built (λ e. (planned_key e.0, planned_item e.1)) (planned.import_stands (plan_of r m) n) (λ e. passes (λ f. is_name_key (text_of f.name) e.0) (item_function e.1))
+        (λ e k. import_key n e.0 e.1 k) w.imports.entries h) r.worlds.items is.imports_stand)
         (each_from_built planned_world (λ w. list_all (planned.export_stands (plan_of r m)) w.exports) exports_right
-        (λ w h. all_built (λ e. (planned_key e.0, planned_item e.1)) (planned.export_stands (plan_of r m)) (λ e. passes (λ f. is_name_key (text_of f.name) e.0) (item_function e.1)) (λ e k. export_key e.0 e.1 k) w.exports.entries h) r.worlds.items is.exports_stand))
+        (λ w h. all_built (λ e. (planned_key e.0, planned_item e.1)) (planned.export_stands (plan_of r m)) (λ e. passes (λ f. is_name_key (text_of f.name) e.0) (item_function e.1))
+        (λ e k. export_key e.0 e.1 k) w.exports.entries h) r.worlds.items is.exports_stand))
         (worlds_pass r m (planned.is_member (plan_of r m)) (rules.is_member r) belongs is.functions_belong))

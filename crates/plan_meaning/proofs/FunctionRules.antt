@@ -58,7 +58,8 @@ module _ (r : Resolve) (m : ℕ) (test : TypeOwner → PlannedFunction → Bool)
     (weaker : (o : TypeOwner) (f : Function) → test o (planned_function f) ≡ true → rule o f ≡ true) (pass : FunctionsPass (plan_of r m) test) where
   pub interfaces_pass : each_from (λ n i. list_all (rule (as_interface n)) (functions_of_interface i)) 0 r.interfaces.items ≡ true
   interfaces_pass = each_built planned_interface (λ n i. list_all (test (as_interface n)) (functions_of i)) (λ n i. list_all (rule (as_interface n)) (functions_of_interface i))
-      (λ n i h. all_built planned_function (test (as_interface n)) (rule (as_interface n)) (weaker (as_interface n)) (functions_of_interface i) (ap (list_all (test (as_interface n))) (sym (functions_are i)) ∙ h))
+      (λ n i h. all_built planned_function (test (as_interface n)) (rule (as_interface n)) (weaker (as_interface n)) (functions_of_interface i)
+      (ap (list_all (test (as_interface n))) (sym (functions_are i)) ∙ h))
       r.interfaces.items pass.of_interfaces
 
   pub worlds_pass : each_from (λ n w. list_all (rule (as_world n)) (functions_of_world w)) 0 r.worlds.items ≡ true

@@ -60,7 +60,8 @@ module _ (t : Tables) (tables : AreTables t) (kept : List ℕ) (p : Plan) (keeps
   pub form_tree : (old n : ℕ) (form : Form) (olds : List ℕ) → old ≡ 14 + n → slice_get t.shapes n ≡ Some (node_shape form olds) → tree_at t old ≡ Tree.node form (children (map (tree_at t) olds))
   form_tree old n form olds is there =
       let trees = shape_trees (place_at t) t.shapes in
-      ap (tree_at t) is ∙ (part_behind trees n ∙ (ap (λ o. unwrap_or o no_tree) (tree_at_number (place_at t) t.shapes tables.shapes n (node_shape form olds) there) ∙ node_tree (place_at t) trees form olds))
+      ap (tree_at t) is ∙ (part_behind trees n ∙ (ap (λ o. unwrap_or o no_tree) (tree_at_number (place_at t) t.shapes tables.shapes n (node_shape form olds) there) ∙ node_tree (place_at t)
+      trees form olds))
 
   declared_kept : (d : Option ℕ) (kind : PlannedKind) → DeclaresKind t kept p d kind → declared_as (trees_in p) kind ≡ declaration_of t d
   declared_kept d kind (a_resource e k) = ap (declared_as (trees_in p)) k ∙ sym (ap (declaration_of t) e)
@@ -101,7 +102,8 @@ module _ (t : Tables) (tables : AreTables t) (kept : List ℕ) (p : Plan) (keeps
   signature_kept : (f : FunctionShape) (id : Option Text) (g : PlannedFunction) → FunctionBecomes t kept p f id g → planned.signature_of p g ≡ signature_over (tree_at t) f
   signature_kept f id g b = λ i. record { is_async = b.waits i; params = params_kept f.params g.params b.params i; result = result_kept f.result g.result b.result i }
 
-  function_kept : (f : FunctionShape) (id : Option Text) (g : PlannedFunction) → FunctionBecomes t kept p f id g → function_meaning p g ≡ record { signature = signature_over (tree_at t) f; external_id = id }
+  function_kept : (f : FunctionShape) (id : Option Text) (g : PlannedFunction) → FunctionBecomes t kept p f id g
+      → function_meaning p g ≡ record { signature = signature_over (tree_at t) f; external_id = id }
   function_kept f id g b = λ i. record { signature = signature_kept f id g b i; external_id = b.same_id i }
 
   abbrev function_entry : Text × PlannedFunction → Text × FunctionMeaning
@@ -113,10 +115,12 @@ module _ (t : Tables) (tables : AreTables t) (kept : List ℕ) (p : Plan) (keeps
   functions_kept (f ∷ fs) [] z = absurd z
   functions_kept (f ∷ fs) (e ∷ es) z = λ i. (z.0.0 i, function_kept (function_at t f.1.signature) f.1.external_id e.1 z.0.1 i) ∷ functions_kept fs es z.1 i
 
-  interface_kept : (v : NumberedView) (fs : List (Text × NumberedFunction)) (x : PlannedInterface) → InterfaceBecomes t kept p v fs x → planned.interface_meaning p x ≡ reads.interface_meaning (view_of t v) (map (shown_function t) fs)
+  interface_kept : (v : NumberedView) (fs : List (Text × NumberedFunction)) (x : PlannedInterface) → InterfaceBecomes t kept p v fs x
+      → planned.interface_meaning p x ≡ reads.interface_meaning (view_of t v) (map (shown_function t) fs)
   interface_kept v fs x b = λ i. record { types = types_kept v.types x.types b.types i; functions = from_entries (functions_kept fs x.functions b.functions i) }
 
-  interface_there : (v : NumberedView) (fs : List (Text × NumberedFunction)) (n : ℕ) → InterfaceAt t kept p v fs n → interface_meaning_in p n ≡ reads.interface_meaning (view_of t v) (map (shown_function t) fs)
+  interface_there : (v : NumberedView) (fs : List (Text × NumberedFunction)) (n : ℕ) → InterfaceAt t kept p v fs n
+      → interface_meaning_in p n ≡ reads.interface_meaning (view_of t v) (map (shown_function t) fs)
   interface_there v fs n b = ap (λ o. option_map_or (planned.interface_meaning p) o no_interface) b.stands ∙ interface_kept v fs b.interface b.becomes
 
   -- ---- worlds
@@ -162,10 +166,12 @@ module _ (t : Tables) (tables : AreTables t) (kept : List ℕ) (p : Plan) (keeps
 
   -- ---- interfaces that are seen
 
-  functions_alike : (q : ℕ) → HasPath t q → (seen : List NumberedSight) → AllByRecursion (IsSight t) seen → reads.functions_of (path_text t q) (map (sight_of t) seen) ≡ map (shown_function t) (functions_seen q seen)
+  functions_alike : (q : ℕ) → HasPath t q → (seen : List NumberedSight) → AllByRecursion (IsSight t) seen
+      → reads.functions_of (path_text t q) (map (sight_of t) seen) ≡ map (shown_function t) (functions_seen q seen)
   functions_alike q at [] all = refl
   functions_alike q at (s ∷ seen) all =
-      by (text_eq (path_text t q) (path_text t s.place) && s.whole) (s.place == q && s.whole) (ap (λ b. b && s.whole) (path_number t tables q s.place at (all.0.path, all.0.home))) (functions_alike q at seen all.1)
+      by (text_eq (path_text t q) (path_text t s.place) && s.whole) (s.place == q && s.whole) (ap (λ b. b && s.whole) (path_number t tables q s.place at (all.0.path, all.0.home)))
+      (functions_alike q at seen all.1)
     where
       by : (a b : Bool) → a ≡ b → reads.functions_of (path_text t q) (map (sight_of t) seen) ≡ map (shown_function t) (functions_seen q seen)
           → cond a (map (shown_function t) s.view.functions) (reads.functions_of (path_text t q) (map (sight_of t) seen)) ≡ map (shown_function t) (cond b s.view.functions (functions_seen q seen))
@@ -175,7 +181,8 @@ module _ (t : Tables) (tables : AreTables t) (kept : List ℕ) (p : Plan) (keeps
       by false false e more = more
 
   -- the interface of a view that shows functions
-  whole_kept : (seen : List NumberedSight) → AllByRecursion (IsSight t) seen → reads.all_agree (map (sight_of t) seen) ≡ true → reads.are_interfaces (map (sight_of t) seen) ≡ true → (s : NumberedSight) → Contains seen s → s.whole ≡ true
+  whole_kept : (seen : List NumberedSight) → AllByRecursion (IsSight t) seen → reads.all_agree (map (sight_of t) seen) ≡ true → reads.are_interfaces (map (sight_of t) seen) ≡ true
+      → (s : NumberedSight) → Contains seen s → s.whole ≡ true
       → (n : ℕ) → InterfaceAt t kept p s.view (functions_seen s.place seen) n → interface_meaning_in p n ≡ reads.interface_meaning (view_of t s.view) (view_of t s.view).functions
   whole_kept seen all agrees obey s c whole n b =
       let is = all_at (IsSight t) seen all s c in
@@ -193,7 +200,8 @@ module _ (t : Tables) (tables : AreTables t) (kept : List ℕ) (p : Plan) (keeps
     world_entry e = (e.0, world_meaning_in p e.1)
 
     module _ (seen : List NumberedSight) (sights : AllByRecursion (IsSight t) seen) (agrees : reads.all_agree (map (sight_of t) seen) ≡ true) (obey : reads.are_interfaces (map (sight_of t) seen) ≡ true) where
-      interfaces_kept : (ms : List NumberedMember) → ((m : NumberedMember) → Contains ms m → (s : NumberedSight) → Contains (sights_of_part t m.part) s → Contains seen s) → (members : List Member) → AllZip (IsMember t h) ms members
+      interfaces_kept : (ms : List NumberedMember) → ((m : NumberedMember) → Contains ms m → (s : NumberedSight) → Contains (sights_of_part t m.part) s → Contains seen s) → (members : List Member)
+          → AllZip (IsMember t h) ms members
           → (es : List (Text × ℕ)) → AllZip (InterfacesListed t kept p seen) (interfaces_listed ms) es → map interface_entry es ≡ flat_map reads.interfaces_of members
       interfaces_kept [] among [] z [] listed = refl
       interfaces_kept [] among [] z (e ∷ es) listed = absurd listed
@@ -225,14 +233,16 @@ module _ (t : Tables) (tables : AreTables t) (kept : List ℕ) (p : Plan) (keeps
     worlds_kept (m ∷ ms) [] z es listed = absurd z
     worlds_kept (m ∷ ms) (x ∷ members) z es listed = by m.part x.part z.0.part es listed (worlds_kept ms members z.1)
       where
-        by : (a : NumberedPart) (b : Part) → ShowsPart t h m a b → (es : List (Text × ℕ)) → AllZip (WorldsListed t kept p) (worlds_listed (record { label = m.label; package_ = m.package_; part = a } ∷ ms)) es
+        by : (a : NumberedPart) (b : Part) → ShowsPart t h m a b → (es : List (Text × ℕ))
+            → AllZip (WorldsListed t kept p) (worlds_listed (record { label = m.label; package_ = m.package_; part = a } ∷ ms)) es
             → ((fs : List (Text × ℕ)) → AllZip (WorldsListed t kept p) (worlds_listed ms) fs → map world_entry fs ≡ flat_map reads.worlds_of members)
             → map world_entry es ≡ reads.worlds_of (record { label = x.label; package_ = x.package_; part = b }) ++ flat_map reads.worlds_of members
         by (interface q v imports) (Part.interface view views) is es listed more = more es listed
         by (world w) (Part.world scope) is [] listed more = absurd listed
         by (world w) (Part.world scope) is (e ∷ es) listed more =
             let there = listed.0.there in
-            let one : world_meaning_in p e.1 ≡ reads.world_meaning scope = ap (λ o. option_map_or (planned.world_meaning p) o no_world) there.stands ∙ world_kept w there.world there.becomes scope is in
+            let one : world_meaning_in p e.1 ≡ reads.world_meaning scope = ap (λ o. option_map_or (planned.world_meaning p) o no_world) there.stands ∙ world_kept w there.world
+            there.becomes scope is in
             λ i. ((listed.0.name ∙ sym z.0.label) i, one i) ∷ more es listed.1 i
         by (world w) (Part.interface view views) is es listed more = absurd is
         by (interface q v imports) (Part.world scope) is es listed more = absurd is
@@ -281,7 +291,8 @@ module _ (t : Tables) (tables : AreTables t) (kept : List ℕ) (p : Plan) (keeps
           → ◌≡◌ {A = TextMap InterfaceMeaning} (from_entries (map entry_of xs)) (from_entries (map (seen_meaning seen_all) shown))
       gathered chosen are xs z =
           ap from_entries (chosen_kept chosen (λ s c. (are.among s c).0) xs z)
-          ∙ one_view_is_enough seen_all (map (sight_of t) chosen) shown agree (λ s c. let from = into s c in subst (Contains seen_all) from.3 (contains-map (sight_of t) seen from.0 from.1)) (enough chosen are)
+          ∙ one_view_is_enough seen_all (map (sight_of t) chosen) shown agree (λ s c. let from = into s c in subst (Contains seen_all) from.3 (contains-map (sight_of t) seen from.0 from.1))
+          (enough chosen are)
 
 -- ---- the entries of a plan
 
@@ -350,16 +361,19 @@ module _ (t : Tables) (tables : AreTables t) (h : Homes) (stand : HomesStand t h
   back : (x : NumberedSight) → Contains seen x → is_foreign h n x ≡ true → Contains (filter is_other (map (sight_of t) seen)) (sight_of t x)
   back x c foreign = filter_keeps is_other (map (sight_of t) seen) (sight_of t x) (contains-map (sight_of t) seen x c) (foreign_same x c ∙ foreign)
 
-  foreign_means : ◌≡◌ {A = TextMap InterfaceMeaning} (from_entries (filter_map (foreign_entry p) p.interfaces)) (from_entries (map (seen_meaning (flat_map reads.sights members)) (filter is_other (flat_map reads.sights members))))
+  foreign_means : ◌≡◌ {A = TextMap InterfaceMeaning} (from_entries (filter_map (foreign_entry p) p.interfaces))
+      (from_entries (map (seen_meaning (flat_map reads.sights members)) (filter is_other (flat_map reads.sights members))))
   foreign_means =
       ap from_entries (filter_mapped (foreign_entry p) (foreign_interface p) (meant_entry p) (foreign_is p) p.interfaces)
-      ∙ (gathered t tables g.kept p g.keeps seen sights (is_foreign h n) (filter is_other (map (sight_of t) seen)) agree into back g.chosen g.chosen_are (filter_map (foreign_interface p) p.interfaces) g.foreign
+      ∙ (gathered t tables g.kept p g.keeps seen sights (is_foreign h n) (filter is_other (map (sight_of t) seen)) agree into back g.chosen g.chosen_are
+      (filter_map (foreign_interface p) p.interfaces) g.foreign
       ∙ ap (λ ss. from_entries (map (seen_meaning ss) (filter is_other ss))) (sym (all_sights t tables h stand ms members z)))
 
   package_means : planned.package_meaning p g.main ≡ package_shown g.main.identity members
   package_means = λ i. record {
     identity = g.main.identity;
-    interfaces = interfaces_kept t tables g.kept p g.keeps h seen sights agree obey ms (λ m c s among. contains-flat (λ (x : NumberedMember). sights_of_part t x.part) ms m s c among) members z g.main.interfaces g.interfaces i;
+    interfaces = interfaces_kept t tables g.kept p g.keeps h seen sights agree obey ms (λ m c s among. contains-flat (λ (x : NumberedMember). sights_of_part t x.part) ms m s c among) members z
+        g.main.interfaces g.interfaces i;
     worlds = worlds_kept t tables g.kept p g.keeps h ms members z g.main.worlds g.worlds i;
     foreign = foreign_means i;
   }
@@ -392,7 +406,8 @@ gathered_world_is_meant t tables h stand known n name w scope shows all are p g 
         agree_same t tables h stand known (sights_of_scope t w) all
         ∙ first_true (agree_in_numbers (sights_of_scope t w)) (are_interfaces t known (sights_of_scope t w) && not (list_any (λ s. is_named_in h n name s.place) (sights_of_scope t w))) are
 
-    shown_means : ◌≡◌ {A = TextMap InterfaceMeaning} (from_entries (filter_map (shown_entry p) p.interfaces)) (from_entries (map (seen_meaning (flat_map reads.of_instance scope.instances)) (flat_map reads.of_instance scope.instances)))
+    shown_means : ◌≡◌ {A = TextMap InterfaceMeaning} (from_entries (filter_map (shown_entry p) p.interfaces))
+        (from_entries (map (seen_meaning (flat_map reads.of_instance scope.instances)) (flat_map reads.of_instance scope.instances)))
     shown_means =
         ap from_entries (filter_mapped (shown_entry p) (under_path p) (meant_entry p) (shown_is p) p.interfaces)
         ∙ (gathered t tables g.kept p g.keeps (sights_of_scope t w) sights (λ s. true) (map (sight_of t) (sights_of_scope t w)) agree

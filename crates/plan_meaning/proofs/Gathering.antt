@@ -79,7 +79,8 @@ functions_mean_one (x ∷ xs) h i s c whole =
         (functions_make_one_map x.view.functions s.view.functions (once x (0, omega arith, refl)) (once s (suc j, l, e))).0
         (same_whole x s (all-contained (agree x) xs s (first_true (list_all (agree x) xs) (all_agree xs) h) (j, omega (arith, l), e)) path (second_true (text_eq s.path x.path) x.whole first) whole)
 
-    by : (b : Bool) → (text_eq s.path x.path && x.whole) ≡ b → Contains (x ∷ xs) s → (Contains xs s → MeanThose s (functions_of s.path xs)) → MeanThose s (cond b x.view.functions (functions_of s.path xs))
+    by : (b : Bool) → (text_eq s.path x.path && x.whole) ≡ b → Contains (x ∷ xs) s → (Contains xs s → MeanThose s (functions_of s.path xs))
+        → MeanThose s (cond b x.view.functions (functions_of s.path xs))
     by true first d later = this first d
     by false first (zero, l, e) later =
         let own : text_eq s.path x.path ≡ true = (bytes_eq-Decides s.path x.path).1 (ap (λ (y : Sight). y.path) (sym e)) in

@@ -63,4 +63,5 @@ module _ (r : Resolve) (m : ℕ) where
   pub order_of_items_kept : IsPlan (plan_of r m) → Keeps order_of_items r
   unfolding order_of_items
   order_of_items_kept is = worlds_keep (λ r n w. each_after (rules.uses_stand_before r n) [] (items_of w)) r
-      (each_built planned_world (λ n w. each_after (planned.uses_stand_before (plan_of r m) n) [] (plan.items_of w)) (λ n w. each_after (rules.uses_stand_before r n) [] (items_of w)) (λ n w h. sym (world_is n w) ∙ h) r.worlds.items is.items_in_order)
+      (each_built planned_world (λ n w. each_after (planned.uses_stand_before (plan_of r m) n) [] (plan.items_of w)) (λ n w. each_after (rules.uses_stand_before r n) [] (items_of w))
+      (λ n w h. sym (world_is n w) ∙ h) r.worlds.items is.items_in_order)

@@ -85,7 +85,8 @@ module _ (t : Tables) (tables : AreTables t) (known : ℕ → Fact) (kept : List
     | inl low ↦ ap (λ b. list_all (in_list p.types) (cons_option (cond b None (Some (n - 14))) ms)) (lt-ltb n 14 low) ∙ more
     | inr j ↦
         ap (λ k. list_all (in_list p.types) (cons_option (part_number k) ms)) j.1
-        ∙ (ap (λ x. list_all (in_list p.types) (cons_option x ms)) (behind j.0) ∙ both (in_list p.types j.0) (list_all (in_list p.types) ms) (lt-ltb j.0 (length p.types) (let is = j.1 in omega (arith, h, is))) more)
+        ∙ (ap (λ x. list_all (in_list p.types) (cons_option x ms)) (behind j.0) ∙ both (in_list p.types j.0) (list_all (in_list p.types) ms)
+        (lt-ltb j.0 (length p.types) (let is = j.1 in omega (arith, h, is))) more)
   ]
 
   abbrev Becoming : ℕ → ℕ → Type 0
@@ -104,7 +105,8 @@ module _ (t : Tables) (tables : AreTables t) (known : ℕ → Fact) (kept : List
       let number : is.0 ≡ m = same-some is.0 m (sym is.1 ∙ stands) in
       (found.0, found.1, subst (λ k. IsKeptType t kept p k found.0) number is.2)
 
-  params_in_range : (xs ys : List (Text × ℕ)) → AllZip (ParamBecomes t kept p) xs ys → (zs : List ℕ) → list_all (in_list p.types) (filter_map part_number zs) ≡ true → list_all (in_list p.types) (filter_map part_number (map (λ (y : Text × ℕ). y.1) ys ++ zs)) ≡ true
+  params_in_range : (xs ys : List (Text × ℕ)) → AllZip (ParamBecomes t kept p) xs ys → (zs : List ℕ) → list_all (in_list p.types) (filter_map part_number zs) ≡ true
+      → list_all (in_list p.types) (filter_map part_number (map (λ (y : Text × ℕ). y.1) ys ++ zs)) ≡ true
   params_in_range [] [] z zs more = more
   params_in_range [] (y ∷ ys) z zs more = absurd z
   params_in_range (x ∷ xs) [] z zs more = absurd z
@@ -119,15 +121,18 @@ module _ (t : Tables) (tables : AreTables t) (known : ℕ → Fact) (kept : List
   all_in_both : (xs ys : List ℕ) → list_all (in_list p.types) xs ≡ true → list_all (in_list p.types) ys ≡ true → list_all (in_list p.types) (xs ++ ys) ≡ true
   all_in_both [] ys h k = k
   all_in_both (x ∷ xs) ys h k =
-      both (in_list p.types x) (list_all (in_list p.types) (xs ++ ys)) (first_true (in_list p.types x) (list_all (in_list p.types) xs) h) (all_in_both xs ys (second_true (in_list p.types x) (list_all (in_list p.types) xs) h) k)
+      both (in_list p.types x) (list_all (in_list p.types) (xs ++ ys)) (first_true (in_list p.types x) (list_all (in_list p.types) xs) h)
+      (all_in_both xs ys (second_true (in_list p.types x) (list_all (in_list p.types) xs) h) k)
 
   -- ---- levels
 
   shallow_part : (place : Place) (old new : ℕ) → Becoming old new → rules.is_parameter_type place (tree_at t old) ≡ true → is_shallow p new ≡ true
   shallow_part place old new b h =
-      ap (λ x. nat_le (levels x) most_levels) (part_kept t tables kept p (keeps t tables kept p are) old new b) ∙ second_true (rules.is_part place (tree_at t old)) (nat_le (levels (tree_at t old)) most_levels) h
+      ap (λ x. nat_le (levels x) most_levels) (part_kept t tables kept p (keeps t tables kept p are) old new b) ∙ second_true (rules.is_part place (tree_at t old))
+      (nat_le (levels (tree_at t old)) most_levels) h
 
-  params_shallow : (place : Place) (xs ys : List (Text × ℕ)) → AllZip (ParamBecomes t kept p) xs ys → list_all (λ (x : Text × Tree). rules.is_parameter_type place x.1) (map (λ (x : Text × ℕ). (x.0, tree_at t x.1)) xs) ≡ true
+  params_shallow : (place : Place) (xs ys : List (Text × ℕ)) → AllZip (ParamBecomes t kept p) xs ys
+      → list_all (λ (x : Text × Tree). rules.is_parameter_type place x.1) (map (λ (x : Text × ℕ). (x.0, tree_at t x.1)) xs) ≡ true
       → (zs : List ℕ) → list_all (is_shallow p) zs ≡ true → list_all (is_shallow p) (map (λ (y : Text × ℕ). y.1) ys ++ zs) ≡ true
   params_shallow place [] [] z h zs more = more
   params_shallow place [] (y ∷ ys) z h zs more = absurd z
@@ -158,7 +163,8 @@ module _ (t : Tables) (tables : AreTables t) (known : ℕ → Fact) (kept : List
       resource_has_name : resource_name p o n ≡ Some name
       resource_has_name =
           ap (option_and_then (λ x. cond (plan.is_resource_kind x.kind && same_owner x.owner o) x.name None)) is.there
-          ∙ (ap (λ b. cond b is.type_.name None) (both (plan.is_resource_kind is.type_.kind) (same_owner is.type_.owner o) (ap plan.is_resource_kind is.kind) (ap (λ x. same_owner x o) is.owned ∙ owner_itself o)) ∙ is.named)
+          ∙ (ap (λ b. cond b is.type_.name None) (both (plan.is_resource_kind is.type_.kind) (same_owner is.type_.owner o) (ap plan.is_resource_kind is.kind)
+          (ap (λ x. same_owner x o) is.owned ∙ owner_itself o)) ∙ is.named)
 
       resource_in_range : in_list p.types n ≡ true
       resource_in_range = lt-ltb n (length p.types) (slice_get_within p.types n is.type_ is.there)
@@ -206,7 +212,8 @@ module _ (t : Tables) (tables : AreTables t) (known : ℕ → Fact) (kept : List
 
       module _ (handle : Form) (sort : ℕ) (by_sort : (f : Form) → ((form_code f).sort == sort) ≡ true → f ≡ handle) (not_name : (0 == sort) ≡ false) where
         -- the parts of a shape that is a handle of the resource
-        handle_parts : (form : Form) (olds : List ℕ) → option_map_or (is_name t known q name) (held_in sort (node_shape form olds)) false ≡ true → (k : ℕ) × (form ≡ handle) × (olds ≡ k ∷ []) × (is_name t known q name k ≡ true)
+        handle_parts : (form : Form) (olds : List ℕ) → option_map_or (is_name t known q name) (held_in sort (node_shape form olds)) false ≡ true → (k : ℕ) × (form ≡ handle) × (olds ≡ k ∷ [])
+            × (is_name t known q name k ≡ true)
         handle_parts form olds h = by ((form_code form).sort == sort) refl (only_of olds) refl h
           where
             by : (b : Bool) → ((form_code form).sort == sort) ≡ b → (found : Option ℕ) → only_of olds ≡ found → option_map_or (is_name t known q name) (cond b found None) false ≡ true
@@ -233,7 +240,8 @@ module _ (t : Tables) (tables : AreTables t) (known : ℕ → Fact) (kept : List
             let first = one_new parts.0 [] news (subst (λ (ks : List ℕ). AllZip Becoming ks news) parts.2 z) in
             record { none = none; part = first.0; rest = first.1; kind = kind ∙ (λ i. formed (parts.1 i) (first.2 i)); number = name_becomes parts.0 first.0 parts.3 first.3 }
 
-        handle_becomes : (test : PlannedType → Bool) → ((x : PlannedType) → IsHandleType x → test x ≡ true) → (old new : ℕ) → is_handle t known q sort name old ≡ true → Becoming old new → part_is p test new ≡ true
+        handle_becomes : (test : PlannedType → Bool) → ((x : PlannedType) → IsHandleType x → test x ≡ true) → (old new : ℕ) → is_handle t known q sort name old ≡ true → Becoming old new
+            → part_is p test new ≡ true
         handle_becomes test passes_test old new h b = by b.part
           where
             by : IsPart kept old new → part_is p test new ≡ true
@@ -244,14 +252,17 @@ module _ (t : Tables) (tables : AreTables t) (known : ℕ → Fact) (kept : List
                 ∙ (ap (λ o. option_map_or test o false) there.1 ∙ passes_test there.0 (handle_type old m from h there.0 there.2))
 
       own_becomes : (old new : ℕ) → is_handle t known q own_sort name old ≡ true → Becoming old new → part_is p (is_own_of n) new ≡ true
-      own_becomes = handle_becomes Form.own_of own_sort own_form refl (is_own_of n) (λ x is_type. both (is_none x.name) (plan.is_own_kind n x.kind) (ap is_none is_type.none) (ap (plan.is_own_kind n) is_type.kind ∙ is_type.number))
+      own_becomes = handle_becomes Form.own_of own_sort own_form refl (is_own_of n)
+          (λ x is_type. both (is_none x.name) (plan.is_own_kind n x.kind) (ap is_none is_type.none) (ap (plan.is_own_kind n) is_type.kind ∙ is_type.number))
 
       borrow_becomes : (old new : ℕ) → is_handle t known q borrow_sort name old ≡ true → Becoming old new → part_is p (is_borrow_of n) new ≡ true
-      borrow_becomes = handle_becomes Form.borrow_of borrow_sort borrow_form refl (is_borrow_of n) (λ x is_type. both (is_none x.name) (plan.is_borrow_kind n x.kind) (ap is_none is_type.none) (ap (plan.is_borrow_kind n) is_type.kind ∙ is_type.number))
+      borrow_becomes = handle_becomes Form.borrow_of borrow_sort borrow_form refl (is_borrow_of n)
+          (λ x is_type. both (is_none x.name) (plan.is_borrow_kind n x.kind) (ap is_none is_type.none) (ap (plan.is_borrow_kind n) is_type.kind ∙ is_type.number))
 
       -- ---- constructors and methods
 
-      result_type : (old m i : ℕ) → old ≡ 14 + m → option_and_then ok_in (shape_at t old) ≡ Some i → is_handle t known q own_sort name i ≡ true → (x : PlannedType) → IsKeptType t kept p m x → is_result_of_own p n x ≡ true
+      result_type : (old m i : ℕ) → old ≡ 14 + m → option_and_then ok_in (shape_at t old) ≡ Some i → is_handle t known q own_sort name i ≡ true → (x : PlannedType) → IsKeptType t kept p m x
+          → is_result_of_own p n x ≡ true
       result_type old m i e ok h x (declared place label d there named home kind before good obeys) =
           let nothing : None ≡ Some i = sym (ap (option_and_then ok_in) (shape_there t old m (named_shape place label) e there)) ∙ ok in absurd cc
       result_type old m i e ok h x (unnamed place form olds news there z none unowned kind part low) =
@@ -270,7 +281,8 @@ module _ (t : Tables) (tables : AreTables t) (known : ℕ → Fact) (kept : List
               ap (λ o. option_map_or (λ k. option_map_or (is_result_of_own p n) (type_in p k) false) o false) (ap part_number to ∙ behind j)
               ∙ (ap (λ o. option_map_or (is_result_of_own p n) o false) there.1 ∙ result_type old m i from ok h there.0 there.2)
 
-      constructs_becomes : (a b : Option ℕ) → BecomesIfGiven t kept p a b → constructs t known q name a ≡ true → option_map_or (λ k. part_is p (is_own_of n) k || part_is p (is_result_of_own p n) k) b false ≡ true
+      constructs_becomes : (a b : Option ℕ) → BecomesIfGiven t kept p a b → constructs t known q name a ≡ true
+          → option_map_or (λ k. part_is p (is_own_of n) k || part_is p (is_result_of_own p n) k) b false ≡ true
       constructs_becomes None b becomes h = no_true h
       constructs_becomes (Some old) None becomes h = absurd becomes
       constructs_becomes (Some old) (Some new) becomes h = by (option_and_then ok_in (shape_at t old)) refl h
@@ -285,13 +297,15 @@ module _ (t : Tables) (tables : AreTables t) (known : ℕ → Fact) (kept : List
       self_becomes [] ys z h = no_true h
       self_becomes (x ∷ xs) [] z h = absurd z
       self_becomes (x ∷ xs) (y ∷ ys) z h =
-          both (text_eq y.0 (codes "self")) (part_is p (is_borrow_of n) y.1) (ap (λ u. text_eq u (codes "self")) z.0.0 ∙ first_true (text_eq x.0 (codes "self")) (is_handle t known q borrow_sort name x.1) h)
+          both (text_eq y.0 (codes "self")) (part_is p (is_borrow_of n) y.1) (ap (λ u. text_eq u (codes "self")) z.0.0 ∙ first_true (text_eq x.0 (codes "self"))
+          (is_handle t known q borrow_sort name x.1) h)
           (borrow_becomes x.1 y.1 (second_true (text_eq x.0 (codes "self")) (is_handle t known q borrow_sort name x.1) h) z.0.1)
 
       member_is : (g : PlannedFunction) (kind : FunctionKind) → g.kind ≡ kind → resource_of kind ≡ Some n → is_member_of p n name g kind ≡ true → is_member p o g ≡ true
       member_is g kind e own h =
           ap (λ k. passes (λ m. option_map_or (λ r. is_member_of p m r g k) (resource_name p o m) false) (resource_of k)) e
-          ∙ (ap (passes (λ m. option_map_or (λ r. is_member_of p m r g kind) (resource_name p o m) false)) own ∙ (ap (λ x. option_map_or (λ r. is_member_of p n r g kind) x false) resource_has_name ∙ h))
+          ∙ (ap (passes (λ m. option_map_or (λ r. is_member_of p m r g kind) (resource_name p o m) false)) own
+          ∙ (ap (λ x. option_map_or (λ r. is_member_of p n r g kind) x false) resource_has_name ∙ h))
 
       number_is : (kind : FunctionKind) → resource_of kind ≡ Some n → list_all (in_list p.types) (option_to_list (resource_of kind)) ≡ true
       number_is kind e = ap (λ x. list_all (in_list p.types) (option_to_list x)) e ∙ both (in_list p.types n) true resource_in_range refl
@@ -305,11 +319,14 @@ module _ (t : Tables) (tables : AreTables t) (known : ℕ → Fact) (kept : List
       belongs : IsKindOf t known kept p o q name f g.kind → is_member p o g ≡ true
       belongs (of_none label e) = ap (passes (λ m. option_map_or (λ r. is_member_of p m r g g.kind) (resource_name p o m) false)) e
       belongs (a_constructor id r e there named made) =
-          member_is r id.0 there g (call.Constructor id) e refl (both (text_eq g.name (constructor_name r)) (plan.constructs p id.0 g) (same_text g.name (constructor_name r) (is.named ∙ named)) (constructs_becomes r id.0 there f.result g.result is.becomes.result made))
+          member_is r id.0 there g (call.Constructor id) e refl (both (text_eq g.name (constructor_name r)) (plan.constructs p id.0 g) (same_text g.name (constructor_name r) (is.named ∙ named))
+          (constructs_becomes r id.0 there f.result g.result is.becomes.result made))
       belongs (a_method id r e there named self) =
-          member_is r id.0 there g (call.Method id) e refl (both (is_member_name (method_name r []) g) (takes_self p id.0 g) (name_behind (method_name r []) named) (self_becomes r id.0 there f.params g.params is.becomes.params self))
+          member_is r id.0 there g (call.Method id) e refl (both (is_member_name (method_name r []) g) (takes_self p id.0 g) (name_behind (method_name r []) named)
+          (self_becomes r id.0 there f.params g.params is.becomes.params self))
       belongs (an_async_method id r e there named self) =
-          member_is r id.0 there g (call.AsyncMethod id) e refl (both (is_member_name (method_name r []) g) (takes_self p id.0 g) (name_behind (method_name r []) named) (self_becomes r id.0 there f.params g.params is.becomes.params self))
+          member_is r id.0 there g (call.AsyncMethod id) e refl (both (is_member_name (method_name r []) g) (takes_self p id.0 g) (name_behind (method_name r []) named)
+          (self_becomes r id.0 there f.params g.params is.becomes.params self))
       belongs (a_static id r e there named) = member_is r id.0 there g (call.Static id) e refl (name_behind (static_name r []) named)
       belongs (an_async_static id r e there named) = member_is r id.0 there g (call.AsyncStatic id) e refl (name_behind (static_name r []) named)
 
@@ -347,14 +364,16 @@ module _ (t : Tables) (tables : AreTables t) (known : ℕ → Fact) (kept : List
       labels_obey : are_member_labels (names_of g.params) ≡ true
       labels_obey =
           member_labels (names_of g.params)
-          (ap are_labels (names_kept f.params g.params is.becomes.params ∙ sym (map_of_map (λ (x : Text × Tree). x.0) (λ (x : Text × ℕ). (x.0, tree_at t x.1)) f.params)) ∙ first_true good_labels good_params params_obey)
+          (ap are_labels (names_kept f.params g.params is.becomes.params ∙ sym (map_of_map (λ (x : Text × Tree). x.0) (λ (x : Text × ℕ). (x.0, tree_at t x.1)) f.params)) ∙ first_true good_labels
+          good_params params_obey)
 
       function_passes : FunctionPasses p o g
       function_passes = record {
         in_range = all_in_both (filter_map part_number (function_parts g)) (option_to_list (resource_of g.kind))
             (params_in_range f.params g.params is.becomes.params (option_to_list g.result) (result_in_range f.result g.result is.becomes.result)) (resource_number is.kind);
         labels = both (not (is_freestanding g.kind) || is_label g.name) (are_member_labels (names_of g.params)) (name_is_label is.kind) labels_obey;
-        shallow = params_shallow is.place f.params g.params is.becomes.params (second_true good_labels good_params params_obey) (option_to_list g.result) (result_shallow is.place f.result g.result is.becomes.result result_obeys);
+        shallow = params_shallow is.place f.params g.params is.becomes.params (second_true good_labels good_params params_obey) (option_to_list g.result)
+            (result_shallow is.place f.result g.result is.becomes.result result_obeys);
         belongs = belongs is.kind;
       }
 

@@ -84,7 +84,8 @@ module _ (t : Tables) (tables : AreTables t) (kept : List ℕ) (p : Plan) (are :
     met_number table new i to own ms more =
         ap (λ o. list_all (has_owner p (owners q)) (flat_map (met_by table) (cons_option o ms))) (ap part_number to ∙ behind i) ∙ own_both (met_by table i) (flat_map (met_by table) ms) own more
 
-    parts_met : (table : List (List ℕ)) (olds news : List ℕ) → ((old new : ℕ) → Contains olds old → Becomes t kept p old new → IsMetAs table new) → AllZip (Becomes t kept p) olds news → IsOwn (flat_map (met_by table) (filter_map part_number news))
+    parts_met : (table : List (List ℕ)) (olds news : List ℕ) → ((old new : ℕ) → Contains olds old → Becomes t kept p old new → IsMetAs table new) → AllZip (Becomes t kept p) olds news
+        → IsOwn (flat_map (met_by table) (filter_map part_number news))
     parts_met table [] [] each z = refl
     parts_met table [] (new ∷ news) each z = absurd z
     parts_met table (old ∷ olds) [] each z = absurd z
@@ -93,12 +94,15 @@ module _ (t : Tables) (tables : AreTables t) (kept : List ℕ) (p : Plan) (are :
 
     part_of_form : (place : Place) (ks : List ℕ) → are_parts place (children (map (tree_at t) ks)) ≡ true → (k : ℕ) → Contains ks k → rules.is_part place (tree_at t k) ≡ true
     part_of_form place [] h k (i, low, e) = absurd (omega (arith, low))
-    part_of_form place (l ∷ ks) h k (zero, low, e) = ap (λ m. rules.is_part place (tree_at t m)) (sym e) ∙ first_true (rules.is_part place (tree_at t l)) (are_parts place (children (map (tree_at t) ks))) h
-    part_of_form place (l ∷ ks) h k (suc i, low, e) = part_of_form place ks (second_true (rules.is_part place (tree_at t l)) (are_parts place (children (map (tree_at t) ks))) h) k (i, omega (arith, low), e)
+    part_of_form place (l ∷ ks) h k (zero, low, e) = ap (λ m. rules.is_part place (tree_at t m)) (sym e) ∙ first_true (rules.is_part place (tree_at t l))
+        (are_parts place (children (map (tree_at t) ks))) h
+    part_of_form place (l ∷ ks) h k (suc i, low, e) = part_of_form place ks (second_true (rules.is_part place (tree_at t l)) (are_parts place (children (map (tree_at t) ks))) h) k
+        (i, omega (arith, low), e)
 
     -- ---- a type of the plan
 
-    named_here : (j n : ℕ) (x : PlannedType) (r : ℕ) (name : Text) → slice_get p.types j ≡ Some x → slice_get kept j ≡ Some n → slice_get t.shapes n ≡ Some (named_shape r name) → r ≡ q → has_owner p (owners q) j ≡ true
+    named_here : (j n : ℕ) (x : PlannedType) (r : ℕ) (name : Text) → slice_get p.types j ≡ Some x → slice_get kept j ≡ Some n → slice_get t.shapes n ≡ Some (named_shape r name) → r ≡ q
+        → has_owner p (owners q) j ≡ true
     named_here j n x r name e stands there same =
         ap (λ o. option_map_or (λ y. same_owner y.owner (owners q)) o false) e
         ∙ (ap (λ y. same_owner y (owners q)) (owned.owned j n x r name e stands there ∙ ap owners same) ∙ owner_itself (owners q))
@@ -120,7 +124,8 @@ module _ (t : Tables) (tables : AreTables t) (kept : List ℕ) (p : Plan) (are :
                 met_number table new i to
                 (lookup i m at (omega (arith, from, low_old)) (omega (arith, range, to)) (subst IsPartHere from (record { part = part_of_form (place_at t q) olds parts old c; seen = seen old c })))
 
-    type_met : (j n : ℕ) → Smaller j → (x : PlannedType) → slice_get p.types j ≡ Some x → slice_get kept j ≡ Some n → IsKeptType t kept p n x → IsPartHere (14 + n) → IsOwn (met_at (take j all_met) (j, x))
+    type_met : (j n : ℕ) → Smaller j → (x : PlannedType) → slice_get p.types j ≡ Some x → slice_get kept j ≡ Some n → IsKeptType t kept p n x → IsPartHere (14 + n)
+        → IsOwn (met_at (take j all_met) (j, x))
     type_met j n smaller x e stands (declared r name d there named home kind before good obeys) here =
         let same_place : place_at t q ≡ place_at t r =
         (places_decide (place_at t q) (place_at t r)).0 (sym (ap (rules.is_part (place_at t q)) (name_there n r name there)) ∙ here.part) in
@@ -129,7 +134,8 @@ module _ (t : Tables) (tables : AreTables t) (kept : List ℕ) (p : Plan) (are :
         ∙ both (has_owner p (owners q) j) true (named_here j n x r name e stands there same) refl
     type_met j n smaller x e stands (unnamed place form olds news there z name unowned kind part low) here =
         let parts : are_parts (place_at t q) (children (map (tree_at t) olds)) ≡ true =
-        second_true (not (is_named_form form)) (are_parts (place_at t q) (children (map (tree_at t) olds))) (sym (ap (rules.is_part (place_at t q)) (form_tree t tables kept p (keeps t tables kept p are) (14 + n) n form olds refl there)) ∙ here.part) in
+        second_true (not (is_named_form form)) (are_parts (place_at t q) (children (map (tree_at t) olds)))
+        (sym (ap (rules.is_part (place_at t q)) (form_tree t tables kept p (keeps t tables kept p are) (14 + n) n form olds refl there)) ∙ here.part) in
         ap (λ o. list_all (has_owner p (owners q)) (option_map_or (λ y. j ∷ []) o (flat_map (met_by (take j all_met)) (kind_numbers x.kind)))) name
         ∙ (ap (λ k. list_all (has_owner p (owners q)) (flat_map (met_by (take j all_met)) (kind_numbers k))) kind
         ∙ form_met (take j all_met) n form olds news there z parts (λ old c r has. here.seen r (inside (14 + n) n old r form olds refl there c has))
@@ -167,13 +173,15 @@ module _ (t : Tables) (tables : AreTables t) (kept : List ℕ) (p : Plan) (are :
         part_met x.1 y.1 (record { part = first_true (rules.is_part (place_at t q) (tree_at t x.1)) _ one; seen = seen.0 }) z.0.1 (filter_map part_number (map (λ (u : Text × ℕ). u.1) ys ++ zs))
         (params_met xs ys z.1 seen.1 (second_true (rules.is_parameter_type (place_at t q) (tree_at t x.1)) rest_test h) zs more)
 
-    result_met : (a b : Option ℕ) → BecomesIfGiven t kept p a b → AllOf (IsSeenFrom t q) a → rules.is_result_type (place_at t q) (option_map (tree_at t) a) ≡ true → IsOwn (flat_map (met_by all_met) (filter_map part_number (option_to_list b)))
+    result_met : (a b : Option ℕ) → BecomesIfGiven t kept p a b → AllOf (IsSeenFrom t q) a → rules.is_result_type (place_at t q) (option_map (tree_at t) a) ≡ true
+        → IsOwn (flat_map (met_by all_met) (filter_map part_number (option_to_list b)))
     result_met None None b seen h = refl
     result_met (Some a) (Some c) b seen h = part_met a c (record { part = first_true (rules.is_part (place_at t q) (tree_at t a)) _ h; seen = seen }) b [] refl
     result_met None (Some c) b seen h = absurd b
     result_met (Some a) None b seen h = absurd b
 
-    function_own : (f : FunctionShape) (id : Option Text) (g : PlannedFunction) → FunctionBecomes t kept p f id g → PartsOf (IsSeenFrom t q) f → rules.is_signature (place_at t q) (signature_over (tree_at t) f) ≡ true
+    function_own : (f : FunctionShape) (id : Option Text) (g : PlannedFunction) → FunctionBecomes t kept p f id g → PartsOf (IsSeenFrom t q) f
+        → rules.is_signature (place_at t q) (signature_over (tree_at t) f) ≡ true
         → function_stays p (owners q) g ≡ true
     function_own f id g b seen h =
         let trees = map (λ (x : Text × ℕ). (x.0, tree_at t x.1)) f.params in
@@ -193,7 +201,8 @@ module _ (t : Tables) (tables : AreTables t) (kept : List ℕ) (p : Plan) (are :
     own_numbers : IsOwn r (flat_map (met_by all_met) (kind_numbers x.kind)) → IsFine x
     own_numbers h = ap (λ b. b || (is_some x.name && is_use p x)) (ap (λ o. list_all (has_owner p o) (flat_map (met_by all_met) (kind_numbers x.kind))) home ∙ h)
 
-    alias_fine : (old new m i : ℕ) → x.kind ≡ plan.alias new → DeclaresKind t kept p (Some (14 + m)) x.kind → new ≡ 14 + i → (u : PlannedType) → slice_get p.types i ≡ Some u → slice_get kept i ≡ Some m
+    alias_fine : (old new m i : ℕ) → x.kind ≡ plan.alias new → DeclaresKind t kept p (Some (14 + m)) x.kind → new ≡ 14 + i → (u : PlannedType) → slice_get p.types i ≡ Some u
+        → slice_get kept i ≡ Some m
         → (s : ℕ) (other : Text) → slice_get t.shapes m ≡ Some (named_shape s other) → u.name ≡ Some other → IsFine x
     alias_fine old new m i k kind to u e stands s other at called = by (s == r) refl
       where
@@ -209,8 +218,10 @@ module _ (t : Tables) (tables : AreTables t) (kept : List ℕ) (p : Plan) (are :
 
         a_use : (s == r) ≡ false → IsNamedInterface p (owners s) → is_use p x ≡ true
         a_use none is =
-            ap (λ k. option_map_or (λ m. option_map_or (λ u. not (same_owner u.owner x.owner) && option_map_or (has_name p) (owner_interface u.owner) false) (type_in p m) false) (alias_number k) false) k
-            ∙ (ap (λ o. option_map_or (λ m. option_map_or (λ u. not (same_owner u.owner x.owner) && option_map_or (has_name p) (owner_interface u.owner) false) (type_in p m) false) o false) (ap part_number to ∙ behind i)
+            ap (λ k. option_map_or (λ m. option_map_or (λ u. not (same_owner u.owner x.owner) && option_map_or (has_name p) (owner_interface u.owner) false) (type_in p m) false)
+            (alias_number k) false) k
+            ∙ (ap (λ o. option_map_or (λ m. option_map_or (λ u. not (same_owner u.owner x.owner) && option_map_or (has_name p) (owner_interface u.owner) false) (type_in p m) false) o false)
+            (ap part_number to ∙ behind i)
             ∙ (ap (λ o. option_map_or (λ u. not (same_owner u.owner x.owner) && option_map_or (has_name p) (owner_interface u.owner) false) o false) e
             ∙ both (not (same_owner u.owner x.owner)) (option_map_or (has_name p) (owner_interface u.owner) false)
             ((λ j. not (same_owner (owner_of j) (home j))) ∙ ap not (apart none))
@@ -219,7 +230,8 @@ module _ (t : Tables) (tables : AreTables t) (kept : List ℕ) (p : Plan) (are :
         by : (b : Bool) → (s == r) ≡ b → IsFine x
         by true same =
             let met : met_by all_met i ≡ i ∷ [] = met_there p i u e ∙ ap (λ o. option_map_or (λ y. i ∷ []) o (flat_map (met_by (take i all_met)) (kind_numbers u.kind))) called in
-            let own : IsOwn r (met_by all_met i) = ap (list_all (has_owner p (owners r))) met ∙ both (has_owner p (owners r) i) true (named_here r i m u s other e stands at (eqb-true s r same)) refl in
+            let own : IsOwn r (met_by all_met i) = ap (list_all (has_owner p (owners r))) met ∙ both (has_owner p (owners r) i) true
+            (named_here r i m u s other e stands at (eqb-true s r same)) refl in
             own_numbers (ap (λ k. list_all (has_owner p (owners r)) (flat_map (met_by all_met) (kind_numbers k))) k ∙ met_number r all_met new i to own [] refl)
         by false none = elim (owned.used j n x r name m s other planned_there kept_there there kind at) [
           | inl same ↦ no_true (sym none ∙ eq-eqb s r same)
@@ -238,7 +250,8 @@ module _ (t : Tables) (tables : AreTables t) (kept : List ℕ) (p : Plan) (are :
         let low = nat_le (deepest (children (map (tree_at t) olds))) most_levels in
         let good : parts ≡ true = second_true labels parts (first_true (labels && parts) low (form_obeys t tables kept p are old m form olds from at (place_at t r) d some obeys)) in
         own_numbers (ap (λ y. list_all (has_owner p (owners r)) (flat_map (met_by all_met) (kind_numbers y))) k
-        ∙ form_met r all_met m form olds news at z good (λ part c s has. seen_old s (inside old m part s form olds from at c has)) (λ i l stands less range here. all_own r (suc i) i l (omega arith) range stands here))
+        ∙ form_met r all_met m form olds news at z good (λ part c s has. seen_old s (inside old m part s form olds from at c has))
+        (λ i l stands less range here. all_own r (suc i) i l (omega arith) range stands here))
     kind_fine d obeys (gathered.a_name old new some no_form b k) = by b.part
       where
         by : IsPart kept old new → IsFine x

@@ -46,7 +46,8 @@ module _ (t : Tables) (tables : AreTables t) (kept : List ℕ) (p : Plan) (are :
       where
         by : IsPart kept old new → option_map_or (λ m. unwrap_or (slice_get (take j all_marks) m) false) (part_number new) false ≡ marks old
         by (a_primitive small same) =
-            ap (λ c. option_map_or (λ m. unwrap_or (slice_get (take j all_marks) m) false) (cond c None (Some (new - 14))) false) (lt-ltb new 14 (omega (arith, small, same))) ∙ sym (marked.primitives old small)
+            ap (λ c. option_map_or (λ m. unwrap_or (slice_get (take j all_marks) m) false) (cond c None (Some (new - 14))) false) (lt-ltb new 14 (omega (arith, small, same))) ∙ sym
+            (marked.primitives old small)
         by (a_shape m i from there to) =
             let before : i < j = are.rise i j m n there stands (omega (arith, from, low)) in
             let range = b.range in
@@ -79,7 +80,8 @@ module _ (t : Tables) (tables : AreTables t) (kept : List ℕ) (p : Plan) (are :
   -- ---- parts
 
   module _ (test : Bool → Bool) where
-    part_tested : (old new : ℕ) → Becomes t kept p old new → test (marks old) ≡ true → (ms : List ℕ) → list_all (λ m. test (is_resource p m)) ms ≡ true → list_all (λ m. test (is_resource p m)) (cons_option (part_number new) ms) ≡ true
+    part_tested : (old new : ℕ) → Becomes t kept p old new → test (marks old) ≡ true → (ms : List ℕ) → list_all (λ m. test (is_resource p m)) ms ≡ true
+        → list_all (λ m. test (is_resource p m)) (cons_option (part_number new) ms) ≡ true
     part_tested old new b h ms more = by b.part
       where
         by : IsPart kept old new → list_all (λ m. test (is_resource p m)) (cons_option (part_number new) ms) ≡ true
@@ -87,21 +89,25 @@ module _ (t : Tables) (tables : AreTables t) (kept : List ℕ) (p : Plan) (are :
         by (a_shape m i from there to) =
             let range = b.range in
             let is : is_resource p i ≡ marks old = marks_are (suc i) i m (omega arith) (omega (arith, range, to)) there ∙ ap marks (sym from) in
-            ap (λ o. list_all (λ k. test (is_resource p k)) (cons_option o ms)) (ap part_number to ∙ behind i) ∙ both (test (is_resource p i)) (list_all (λ k. test (is_resource p k)) ms) (ap test is ∙ h) more
+            ap (λ o. list_all (λ k. test (is_resource p k)) (cons_option o ms)) (ap part_number to ∙ behind i) ∙ both (test (is_resource p i)) (list_all (λ k. test (is_resource p k)) ms)
+            (ap test is ∙ h) more
 
     parts_tested : (olds news : List ℕ) → AllZip (Becomes t kept p) olds news → list_all (λ k. test (marks k)) olds ≡ true → list_all (λ m. test (is_resource p m)) (filter_map part_number news) ≡ true
     parts_tested [] [] z h = refl
     parts_tested [] (new ∷ news) z h = absurd z
     parts_tested (old ∷ olds) [] z h = absurd z
     parts_tested (old ∷ olds) (new ∷ news) z h =
-        part_tested old new z.0 (first_true (test (marks old)) (list_all (λ k. test (marks k)) olds) h) (filter_map part_number news) (parts_tested olds news z.1 (second_true (test (marks old)) (list_all (λ k. test (marks k)) olds) h))
+        part_tested old new z.0 (first_true (test (marks old)) (list_all (λ k. test (marks k)) olds) h) (filter_map part_number news)
+        (parts_tested olds news z.1 (second_true (test (marks old)) (list_all (λ k. test (marks k)) olds) h))
 
   form_handles : (form : Form) (olds news : List ℕ) → AllZip (Becomes t kept p) olds news → FormIsMarked marks form olds → handles_resources p (formed form news) ≡ true
   form_handles form olds news z is = by (is_handle_form form) refl
     where
-      by : (b : Bool) → is_handle_form form ≡ b → cond (is_handle_form form) (list_all (is_resource p) (filter_map part_number news)) (list_all (λ m. not (is_resource p m)) (filter_map part_number news)) ≡ true
+      by : (b : Bool) → is_handle_form form ≡ b
+          → cond (is_handle_form form) (list_all (is_resource p) (filter_map part_number news)) (list_all (λ m. not (is_resource p m)) (filter_map part_number news)) ≡ true
       by true e =
-          ap (λ b. cond b (list_all (is_resource p) (filter_map part_number news)) (list_all (λ m. not (is_resource p m)) (filter_map part_number news))) e ∙ parts_tested (λ b. b) olds news z (is.handle e)
+          ap (λ b. cond b (list_all (is_resource p) (filter_map part_number news)) (list_all (λ m. not (is_resource p m)) (filter_map part_number news))) e ∙ parts_tested (λ b. b) olds news z
+          (is.handle e)
       by false e =
           ap (λ b. cond b (list_all (is_resource p) (filter_map part_number news)) (list_all (λ m. not (is_resource p m)) (filter_map part_number news))) e ∙ parts_tested not olds news z (is.other e)
 
@@ -121,7 +127,8 @@ module _ (t : Tables) (tables : AreTables t) (kept : List ℕ) (p : Plan) (are :
 
   -- ---- functions
 
-  params_values : (xs ys : List (Text × ℕ)) → AllZip (ParamBecomes t kept p) xs ys → AllByRecursion (λ (x : Text × ℕ). marks x.1 ≡ false) xs → (zs : List ℕ) → list_all (λ m. not (is_resource p m)) (filter_map part_number zs) ≡ true
+  params_values : (xs ys : List (Text × ℕ)) → AllZip (ParamBecomes t kept p) xs ys → AllByRecursion (λ (x : Text × ℕ). marks x.1 ≡ false) xs → (zs : List ℕ)
+      → list_all (λ m. not (is_resource p m)) (filter_map part_number zs) ≡ true
       → list_all (λ m. not (is_resource p m)) (filter_map part_number (map (λ (y : Text × ℕ). y.1) ys ++ zs)) ≡ true
   params_values [] [] z h zs more = more
   params_values [] (y ∷ ys) z h zs more = absurd z

@@ -168,7 +168,8 @@ module _ (t : Tables) (tables : AreTables t) (kept : List ℕ) (p : Plan) (are :
   module _ (old n : ℕ) (form : Form) (olds : List ℕ) (is : old ≡ 14 + n) (there : slice_get t.shapes n ≡ Some (node_shape form olds)) (place : Place) (d : Option ℕ) (e : d ≡ Some old)
       (obeys : rules.is_declared place (declaration_of t d) ≡ true) where
     pub form_obeys : (are_labels (form_labels form) && are_parts place (children (map (tree_at t) olds)) && nat_le (deepest (children (map (tree_at t) olds))) most_levels) ≡ true
-    form_obeys = sym (ap (λ x. rules.is_declared place (declaration_of t x)) e ∙ ap (λ x. rules.is_declared place (Declaration.type_ x)) (form_tree t tables kept p keeps old n form olds is there)) ∙ obeys
+    form_obeys = sym (ap (λ x. rules.is_declared place (declaration_of t x)) e ∙ ap (λ x. rules.is_declared place (Declaration.type_ x))
+        (form_tree t tables kept p keeps old n form olds is there)) ∙ obeys
 
     form_has_labels : are_labels (form_labels form) ≡ true
     form_has_labels =
@@ -184,7 +185,8 @@ module _ (t : Tables) (tables : AreTables t) (kept : List ℕ) (p : Plan) (are :
 
   module _ (j n : ℕ) (x : PlannedType) (e : slice_get p.types j ≡ Some x) (stands : slice_get kept j ≡ Some n) where
     -- what the name is declared as
-    pub form_of_name : (q : ℕ) (name : Text) → slice_get t.shapes n ≡ Some (named_shape q name) → (d : Option ℕ) → DeclaresKind t kept p d x.kind → (old m : ℕ) → d ≡ Some old → old ≡ 14 + m → IsKeptForm t kept p m
+    pub form_of_name : (q : ℕ) (name : Text) → slice_get t.shapes n ≡ Some (named_shape q name) → (d : Option ℕ) → DeclaresKind t kept p d x.kind → (old m : ℕ) → d ≡ Some old → old ≡ 14 + m
+        → IsKeptForm t kept p m
     form_of_name q name there d kind old m some is = of_name j n x q name e stands there (subst (λ o. DeclaresKind t kept p o x.kind) (some ∙ ap Some is) kind)
 
     kind_shaped : (q : ℕ) (name : Text) → slice_get t.shapes n ≡ Some (named_shape q name) → (d : Option ℕ) → DeclaresKind t kept p d x.kind → has_shape x.kind ≡ true
@@ -193,7 +195,8 @@ module _ (t : Tables) (tables : AreTables t) (kept : List ℕ) (p : Plan) (are :
         by : DeclaresKind t kept p d x.kind → has_shape x.kind ≡ true
         by (a_resource none k) = ap has_shape k
         by (gathered.a_name old new some no_form b k) = ap has_shape k
-        by (a_form old m form olds news some is form_there z k) = ap has_shape k ∙ form_same t kept p form olds news z (are.forms m form olds (form_of_name q name there d kind old m some is) form_there)
+        by (a_form old m form olds news some is form_there z k) = ap has_shape k ∙ form_same t kept p form olds news z
+            (are.forms m form olds (form_of_name q name there d kind old m some is) form_there)
 
     type_shaped : IsKeptType t kept p n x → has_shape x.kind ≡ true
     type_shaped (unnamed place form olds news there z name owner kind part low) = ap has_shape kind ∙ form_same t kept p form olds news z (are.forms n form olds (alone j x e stands) there)
@@ -201,10 +204,12 @@ module _ (t : Tables) (tables : AreTables t) (kept : List ℕ) (p : Plan) (are :
 
   -- ---- labels
 
-  kind_has_labels : (place : Place) (d : Option ℕ) (kind : PlannedKind) → rules.is_declared place (declaration_of t d) ≡ true → DeclaresKind t kept p d kind → are_member_labels (kind_labels kind) ≡ true
+  kind_has_labels : (place : Place) (d : Option ℕ) (kind : PlannedKind) → rules.is_declared place (declaration_of t d) ≡ true → DeclaresKind t kept p d kind
+      → are_member_labels (kind_labels kind) ≡ true
   kind_has_labels place d kind obeys (a_resource e k) = ap (λ x. are_member_labels (kind_labels x)) k
   kind_has_labels place d kind obeys (gathered.a_name old new e no_form b k) = ap (λ x. are_member_labels (kind_labels x)) k
-  kind_has_labels place d kind obeys (a_form old m form olds news e is there z k) = ap (λ x. are_member_labels (kind_labels x)) k ∙ member_labels (form_labels form) (form_has_labels old m form olds is there place d e obeys)
+  kind_has_labels place d kind obeys (a_form old m form olds news e is there z k) =
+      ap (λ x. are_member_labels (kind_labels x)) k ∙ member_labels (form_labels form) (form_has_labels old m form olds is there place d e obeys)
 
   type_has_labels : (n : ℕ) (x : PlannedType) → IsKeptType t kept p n x → type_labels x ≡ true
   type_has_labels n x (unnamed place form olds news there z name owner kind part low) =
@@ -230,7 +235,8 @@ module _ (t : Tables) (tables : AreTables t) (kept : List ℕ) (p : Plan) (are :
   named_type : (old n : ℕ) → old ≡ 14 + n → numbered.is_form t old ≡ false → (x : PlannedType) → IsKeptType t kept p n x → is_some x.name ≡ true
   named_type old n is no_form x (declared q name d there named home kind before good obeys) = ap is_some named
   named_type old n is no_form x (unnamed place form olds news there z name owner kind part low) =
-      let form_there : numbered.is_form t old ≡ true = ap (λ o. option_map_or (λ (s : Shape). not (s.sort == 0)) o false) (shape_there t old n (node_shape form olds) is there) ∙ ap not (no_name form) in
+      let form_there : numbered.is_form t old ≡ true = ap (λ o. option_map_or (λ (s : Shape). not (s.sort == 0)) o false) (shape_there t old n (node_shape form olds) is there) ∙ ap not
+      (no_name form) in
       no_true (sym no_form ∙ form_there)
 
   alias_named : (old new : ℕ) → numbered.is_form t old ≡ false → Becomes t kept p old new → passes (is_named_number p) (part_number new) ≡ true

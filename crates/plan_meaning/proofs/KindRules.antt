@@ -105,12 +105,15 @@ module _ (r : Resolve) (m : ℕ) (is : IsPlan (plan_of r m)) where
   kind_named : (def : TypeDef) → planned.kind_is_named (plan_of r m) (planned_type def) ≡ true
       → ((not (rules.is_named_kind def.kind) || is_some def.name) && passes (rules.is_named_number r) (alias_target def.kind)) ≡ true
   kind_named def h =
-      let front = first_true (not (planned.is_named_kind (planned_kind def.kind)) || is_some (optional_text def.name)) (passes (planned.is_named_number (plan_of r m)) (alias_number (planned_kind def.kind))) h in
-      let target = second_true (not (planned.is_named_kind (planned_kind def.kind)) || is_some (optional_text def.name)) (passes (planned.is_named_number (plan_of r m)) (alias_number (planned_kind def.kind))) h in
+      let front = first_true (not (planned.is_named_kind (planned_kind def.kind)) || is_some (optional_text def.name))
+      (passes (planned.is_named_number (plan_of r m)) (alias_number (planned_kind def.kind))) h in
+      let target = second_true (not (planned.is_named_kind (planned_kind def.kind)) || is_some (optional_text def.name))
+      (passes (planned.is_named_number (plan_of r m)) (alias_number (planned_kind def.kind))) h in
       both _ _ ((λ i. not (sym (named_is def.kind) i) || sym (has_text def.name) i) ∙ front)
       (target_named (alias_target def.kind) (ap (passes (planned.is_named_number (plan_of r m))) (sym (alias_is def.kind)) ∙ target))
 
   pub named_kinds_kept : Keeps named_kinds r
   unfolding named_kinds
   named_kinds_kept = types_keep (λ r n def. (not (rules.is_named_kind def.kind) || is_some def.name) && passes (rules.is_named_number r) (alias_target def.kind)) r
-      (each_from_built planned_type (planned.kind_is_named (plan_of r m)) (λ def. (not (rules.is_named_kind def.kind) || is_some def.name) && passes (rules.is_named_number r) (alias_target def.kind)) kind_named r.types.items is.kinds_named)
+      (each_from_built planned_type (planned.kind_is_named (plan_of r m)) (λ def. (not (rules.is_named_kind def.kind) || is_some def.name) && passes (rules.is_named_number r) (alias_target def.kind))
+      kind_named r.types.items is.kinds_named)

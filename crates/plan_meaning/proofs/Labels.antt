@@ -83,7 +83,8 @@ type_passes def h bare =
 function_passes : (f : Function) → planned.function_labels (planned_function f) ≡ true → is_bare_function f ≡ true → rules.function_labels f ≡ true
 function_passes f h bare =
     both _ _ (first_true (not (is_freestanding f.kind) || is_label (text_of f.name)) _ h)
-    (both _ _ (ap are_member_labels (sym (map_of_map (λ (x : Text × ℕ). x.0) (λ x. (text_of x.name, part_of x.ty)) f.params.items)) ∙ second_true (not (is_freestanding f.kind) || is_label (text_of f.name)) _ h)
+    (both _ _ (ap are_member_labels (sym (map_of_map (λ (x : Text × ℕ). x.0) (λ x. (text_of x.name, part_of x.ty)) f.params.items)) ∙ second_true
+    (not (is_freestanding f.kind) || is_label (text_of f.name)) _ h)
     (bare_stability f.docs f.stability bare))
 
 -- ---- names that differ
@@ -103,7 +104,8 @@ pub names_are : {A B : Type 0} (g : A → B) (es : List (String Global × A)) �
 names_are g [] = refl
 names_are g (e ∷ es) = ap (λ ts. text_of e.0 ∷ ts) (names_are g es)
 
-pub keys_apart : (ks fs : List (String Global)) → are_distinct (map text_of ks ++ map text_of fs) ≡ true → list_all (λ name. not (list_any (λ other. text_eq (text_of name) (text_of other)) fs)) ks ≡ true
+pub keys_apart : (ks fs : List (String Global)) → are_distinct (map text_of ks ++ map text_of fs) ≡ true
+    → list_all (λ name. not (list_any (λ other. text_eq (text_of name) (text_of other)) fs)) ks ≡ true
 keys_apart ks fs h =
     all_built text_of (λ x. not (list_any (text_eq x) (map text_of fs))) (λ name. not (list_any (λ other. text_eq (text_of name) (text_of other)) fs))
     (λ name k. ap not (sym (any_of_map (text_eq (text_of name)) text_of fs)) ∙ k) ks (apart (map text_of ks) (map text_of fs) h)
@@ -112,13 +114,15 @@ module _ (r : Resolve) (m : ℕ) (is : IsPlan (plan_of r m)) (bare : IsBare r) w
   abbrev labelled : TypeOwner → Function → Bool
   labelled o f = planned.function_labels (planned_function f)
 
-  interface_passes : (i : Interface) → planned.interface_labels (planned_interface i) ≡ true → is_bare_interface i ≡ true → list_all (λ f. planned.function_labels (planned_function f)) (functions_of_interface i) ≡ true
+  interface_passes : (i : Interface) → planned.interface_labels (planned_interface i) ≡ true → is_bare_interface i ≡ true
+      → list_all (λ f. planned.function_labels (planned_function f)) (functions_of_interface i) ≡ true
       → (passes (λ name. is_label (text_of name)) i.name && (is_stability i.stability && (list_all rules.function_labels (functions_of_interface i)
       && list_all (λ name. not (list_any (λ other. text_eq (text_of name) (text_of other)) (keys i.functions))) (keys i.types)))) ≡ true
   interface_passes i h bare functions =
       both _ _ (sym (name_is i.name) ∙ first_true (passes is_label (optional_text i.name)) _ h)
       (both _ _ (bare_stability i.docs i.stability (first_true (is_bare i.docs i.stability) _ bare))
-      (both _ _ (all_two (λ f. planned.function_labels (planned_function f)) is_bare_function rules.function_labels function_passes (functions_of_interface i) functions (second_true (is_bare i.docs i.stability) _ bare))
+      (both _ _ (all_two (λ f. planned.function_labels (planned_function f)) is_bare_function rules.function_labels function_passes (functions_of_interface i) functions
+      (second_true (is_bare i.docs i.stability) _ bare))
       (keys_apart (keys i.types) (keys i.functions)
       (ap are_distinct (λ j. sym (names_are (λ id. id.0) i.types.entries) j ++ sym (names_are planned_function i.functions.entries) j) ∙ second_true (passes is_label (optional_text i.name)) _ h))))
 
@@ -183,10 +187,12 @@ module _ (r : Resolve) (m : ℕ) (is : IsPlan (plan_of r m)) (bare : IsBare r) w
       (each_two (λ n w. is_label (text_of w.name)) (λ n w. list_all (planned.import_stands (plan_of r m) n) (planned_entries w.imports.entries))
       (λ n w. is_label (text_of w.name) && list_all (planned.import_stands (plan_of r m) n) (planned_entries w.imports.entries)) (λ n w a b. both _ _ a b) 0 r.worlds.items
       (each_from_built planned_world (λ w. is_label w.name) (λ w. is_label (text_of w.name)) (λ w h. h) r.worlds.items is.world_labels)
-      (each_built planned_world (λ n w. list_all (planned.import_stands (plan_of r m) n) w.imports) (λ n w. list_all (planned.import_stands (plan_of r m) n) (planned_entries w.imports.entries)) (λ n w h. h) r.worlds.items is.imports_stand))
+      (each_built planned_world (λ n w. list_all (planned.import_stands (plan_of r m) n) w.imports) (λ n w. list_all (planned.import_stands (plan_of r m) n) (planned_entries w.imports.entries))
+      (λ n w h. h) r.worlds.items is.imports_stand))
       (each_two (λ n w. list_all (planned.export_stands (plan_of r m)) (planned_entries w.exports.entries)) (λ n w. is_bare_world w)
       (λ n w. list_all (planned.export_stands (plan_of r m)) (planned_entries w.exports.entries) && is_bare_world w) (λ n w a b. both _ _ a b) 0 r.worlds.items
-      (each_from_built planned_world (λ w. list_all (planned.export_stands (plan_of r m)) w.exports) (λ w. list_all (planned.export_stands (plan_of r m)) (planned_entries w.exports.entries)) (λ w h. h) r.worlds.items is.exports_stand)
+      (each_from_built planned_world (λ w. list_all (planned.export_stands (plan_of r m)) w.exports) (λ w. list_all (planned.export_stands (plan_of r m)) (planned_entries w.exports.entries))
+      (λ w h. h) r.worlds.items is.exports_stand)
       (each_all is_bare_world 0 r.worlds.items ∙ bare.worlds))
 
   pub labels_kept : Keeps labels r
@@ -194,14 +200,17 @@ module _ (r : Resolve) (m : ℕ) (is : IsPlan (plan_of r m)) (bare : IsBare r) w
   labels_kept = keeps_three labels r refl
       (each_two (λ n i. planned.interface_labels (planned_interface i) && is_bare_interface i) (λ n i. list_all (λ f. planned.function_labels (planned_function f)) (functions_of_interface i))
       (λ n i. labels.interface_ r n i) (λ n i a b. interface_passes i (first_true _ _ a) (second_true (planned.interface_labels (planned_interface i)) _ a) b) 0 r.interfaces.items
-      (each_two (λ n i. planned.interface_labels (planned_interface i)) (λ n i. is_bare_interface i) (λ n i. planned.interface_labels (planned_interface i) && is_bare_interface i) (λ n i a b. both _ _ a b) 0 r.interfaces.items
-      (each_from_built planned_interface planned.interface_labels (λ i. planned.interface_labels (planned_interface i)) (λ i h. h) r.interfaces.items is.interface_labels) (each_all is_bare_interface 0 r.interfaces.items ∙ bare.interfaces))
+      (each_two (λ n i. planned.interface_labels (planned_interface i)) (λ n i. is_bare_interface i) (λ n i. planned.interface_labels (planned_interface i) && is_bare_interface i)
+      (λ n i a b. both _ _ a b) 0 r.interfaces.items
+      (each_from_built planned_interface planned.interface_labels (λ i. planned.interface_labels (planned_interface i)) (λ i h. h) r.interfaces.items is.interface_labels)
+      (each_all is_bare_interface 0 r.interfaces.items ∙ bare.interfaces))
       (interfaces_pass r m (λ o f. planned.function_labels f) labelled (λ o f h. h) is.functions_labelled))
       (each_two stands_right (λ n w. list_all (λ f. planned.function_labels (planned_function f)) (functions_of_world w)) (λ n w. labels.world_ r n w)
       (λ n w a b.
       let front = first_true (is_label (text_of w.name) && list_all (planned.import_stands (plan_of r m) n) (planned_entries w.imports.entries)) _ a in
       let back = second_true (is_label (text_of w.name) && list_all (planned.import_stands (plan_of r m) n) (planned_entries w.imports.entries)) _ a in
-      world_passes n w (first_true _ _ front) (second_true (is_label (text_of w.name)) _ front) (first_true _ _ back) b (second_true (list_all (planned.export_stands (plan_of r m)) (planned_entries w.exports.entries)) _ back))
+      world_passes n w (first_true _ _ front) (second_true (is_label (text_of w.name)) _ front) (first_true _ _ back) b
+      (second_true (list_all (planned.export_stands (plan_of r m)) (planned_entries w.exports.entries)) _ back))
       0 r.worlds.items all_stand (worlds_pass r m (λ o f. planned.function_labels f) labelled (λ o f h. h) is.functions_labelled))
       (each_two (λ n def. planned.type_labels (planned_type def)) (λ n def. is_bare_type def) (λ n def. labels.type_ r n def) (λ n def a b. type_passes def a b) 0 r.types.items
       (each_from_built planned_type planned.type_labels (λ def. planned.type_labels (planned_type def)) (λ def h. h) r.types.items is.type_labels) (each_all is_bare_type 0 r.types.items ∙ bare.types))

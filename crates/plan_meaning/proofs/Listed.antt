@@ -64,7 +64,8 @@ module _ (r : Resolve) (m : ℕ) (is : IsPlan (plan_of r m)) where
   interface_there n e h = sym (ap (λ o. option_map_or (λ i. bears (text_of e.0) i.name && is_id n i.package_) o false) (get_of_map planned_interface r.interfaces.items e.1.0)) ∙ h
 
   pub interface_listed : (n : ℕ) (e : String Global × InterfaceId) → lists_interface (plan_of r m) n (text_of e.0, e.1.0) ≡ true
-      → (in_list r.interfaces.items e.1.0 ≡ true) × (passes (λ i. text_is i.name (text_of e.0)) (interface_at r e.1.0) ≡ true) × (passes (λ i. is_id n (package_number i.package)) (interface_at r e.1.0) ≡ true)
+      → (in_list r.interfaces.items e.1.0 ≡ true) × (passes (λ i. text_is i.name (text_of e.0)) (interface_at r e.1.0) ≡ true)
+      × (passes (λ i. is_id n (package_number i.package)) (interface_at r e.1.0) ≡ true)
   interface_listed n e h =
       let found = interface_there n e h in
       let kept = there planned_interface (λ i. bears (text_of e.0) i.name && is_id n i.package_) (interface_at r e.1.0) found in (
@@ -74,7 +75,8 @@ module _ (r : Resolve) (m : ℕ) (is : IsPlan (plan_of r m)) where
       )
 
   pub world_listed : (n : ℕ) (e : String Global × WorldId) → lists_world (plan_of r m) n (text_of e.0, e.1.0) ≡ true
-      → (in_list r.worlds.items e.1.0 ≡ true) × (passes (λ w. text_eq (text_of w.name) (text_of e.0)) (world_at r e.1.0) ≡ true) × (passes (λ w. is_id n (package_number w.package)) (world_at r e.1.0) ≡ true)
+      → (in_list r.worlds.items e.1.0 ≡ true) × (passes (λ w. text_eq (text_of w.name) (text_of e.0)) (world_at r e.1.0) ≡ true)
+      × (passes (λ w. is_id n (package_number w.package)) (world_at r e.1.0) ≡ true)
   world_listed n e h =
       let found = sym (ap (λ o. option_map_or (λ w. text_eq w.name (text_of e.0) && is_id n w.package_) o false) (get_of_map planned_world r.worlds.items e.1.0)) ∙ h in
       let kept = there planned_world (λ w. text_eq w.name (text_of e.0) && is_id n w.package_) (world_at r e.1.0) found in (
@@ -91,13 +93,15 @@ module _ (r : Resolve) (m : ℕ) (is : IsPlan (plan_of r m)) where
     members_pass = each_built planned_package (lists_members (plan_of r m)) (λ n p. list_all (q n) p.interfaces.entries && list_all (s n) p.worlds.entries)
         (λ n p h. both _ _
         (all_built (λ e. (text_of e.0, e.1.0)) (lists_interface (plan_of r m) n) (q n) (interfaces n) p.interfaces.entries (first_true _ _ h))
-        (all_built (λ e. (text_of e.0, e.1.0)) (lists_world (plan_of r m) n) (s n) (worlds n) p.worlds.entries (second_true (list_all (lists_interface (plan_of r m) n) (map (λ e. (text_of e.0, e.1.0)) p.interfaces.entries)) _ h)))
+        (all_built (λ e. (text_of e.0, e.1.0)) (lists_world (plan_of r m) n) (s n) (worlds n) p.worlds.entries
+        (second_true (list_all (lists_interface (plan_of r m) n) (map (λ e. (text_of e.0, e.1.0)) p.interfaces.entries)) _ h)))
         r.packages.items is.members
 
   pub names_in_packages_kept : Keeps names_in_packages r
   unfolding names_in_packages
   names_in_packages_kept = packages_keep
-      (λ r n p. list_all (λ e. passes (λ i. text_is i.name (text_of e.0)) (interface_at r e.1.0)) p.interfaces.entries && list_all (λ e. passes (λ w. text_eq (text_of w.name) (text_of e.0)) (world_at r e.1.0)) p.worlds.entries) r
+      (λ r n p. list_all (λ e. passes (λ i. text_is i.name (text_of e.0)) (interface_at r e.1.0)) p.interfaces.entries && list_all
+      (λ e. passes (λ w. text_eq (text_of w.name) (text_of e.0)) (world_at r e.1.0)) p.worlds.entries) r
       (members_pass (λ n e. passes (λ i. text_is i.name (text_of e.0)) (interface_at r e.1.0)) (λ n e. passes (λ w. text_eq (text_of w.name) (text_of e.0)) (world_at r e.1.0))
       (λ n e h. (interface_listed n e h).1) (λ n e h. (world_listed n e h).1))
 
@@ -112,7 +116,8 @@ module _ (r : Resolve) (m : ℕ) (is : IsPlan (plan_of r m)) where
         at (x ∷ xs) zero h e = let same : x ≡ p = ap (λ o. unwrap_or o x) e in ap (λ k. passes is_version k.name.version) (sym same) ∙ first_true _ _ h
         at (x ∷ xs) (suc n) h e = at xs n (second_true (passes is_version x.name.version) _ h) e
 
-    apart : (a b : PackageName) → passes is_version a.version ≡ true → passes is_version b.version ≡ true → not (same_identity (identity_of a) (identity_of b)) ≡ true → not (same_package_name a b) ≡ true
+    apart : (a b : PackageName) → passes is_version a.version ≡ true → passes is_version b.version ≡ true → not (same_identity (identity_of a) (identity_of b)) ≡ true
+        → not (same_package_name a b) ≡ true
     apart a b va vb h = go (same_package_name a b) refl
       where
         go : (c : Bool) → same_package_name a b ≡ c → not c ≡ true
@@ -124,7 +129,8 @@ module _ (r : Resolve) (m : ℕ) (is : IsPlan (plan_of r m)) where
     either false b c f h = f h
 
     named : (n : ℕ) (p : Package) → package_at r n ≡ Some p → is_identity (identity_of p.name) ≡ true → is_alone (plan_of r m) n (planned_package p) ≡ true
-        → ((is_label (text_of p.name.namespace) && (is_label (text_of p.name.name) && passes is_version p.name.version)) && each_from (λ k other. (k == n) || not (same_package_name p.name other.name)) 0 r.packages.items) ≡ true
+        → ((is_label (text_of p.name.namespace) && (is_label (text_of p.name.name) && passes is_version p.name.version)) && each_from (λ k other. (k == n) || not (same_package_name p.name other.name))
+        0 r.packages.items) ≡ true
     named n p e identity alone =
         let rest = second_true (is_label (text_of p.name.namespace)) _ identity in
         both _ _ (both _ _ (first_true _ _ identity) (both _ _ (first_true (is_label (text_of p.name.name)) _ rest) (version_at n p e)))
@@ -137,11 +143,14 @@ module _ (r : Resolve) (m : ℕ) (is : IsPlan (plan_of r m)) where
     pub package_names_kept : Keeps package_names r
     unfolding package_names
     package_names_kept = packages_keep
-        (λ r n p. (is_label (text_of p.name.namespace) && (is_label (text_of p.name.name) && passes is_version p.name.version)) && each_from (λ k other. (k == n) || not (same_package_name p.name other.name)) 0 r.packages.items) r
-        (each_from_all (λ n p. (is_label (text_of p.name.namespace) && (is_label (text_of p.name.name) && passes is_version p.name.version)) && each_from (λ k other. (k == n) || not (same_package_name p.name other.name)) 0 r.packages.items) 0 r.packages.items
+        (λ r n p. (is_label (text_of p.name.namespace) && (is_label (text_of p.name.name) && passes is_version p.name.version)) && each_from
+        (λ k other. (k == n) || not (same_package_name p.name other.name)) 0 r.packages.items) r
+        (each_from_all (λ n p. (is_label (text_of p.name.namespace) && (is_label (text_of p.name.name) && passes is_version p.name.version)) && each_from
+        (λ k other. (k == n) || not (same_package_name p.name other.name)) 0 r.packages.items) 0 r.packages.items
         (λ n p e.
         let here : n ≡ 0 + n = omega arith in
-        subst (λ k. ((is_label (text_of p.name.namespace) && (is_label (text_of p.name.name) && passes is_version p.name.version)) && each_from (λ j other. (j == k) || not (same_package_name p.name other.name)) 0 r.packages.items) ≡ true) here
+        subst (λ k. ((is_label (text_of p.name.namespace) && (is_label (text_of p.name.name) && passes is_version p.name.version)) && each_from
+        (λ j other. (j == k) || not (same_package_name p.name other.name)) 0 r.packages.items) ≡ true) here
         (named n p e
         (identity_at r.packages.items n (sym (list_all-map (λ k. is_identity k.identity) planned_package r.packages.items) ∙ is.identities) p e)
         (let at : 0 + n ≡ n = omega arith in subst (λ k. is_alone (plan_of r m) k (planned_package p) ≡ true) at

@@ -49,7 +49,8 @@ no_key : (key : PlannedKey) (name : Text) (item : PlannedItem) → same_key key 
     → list_any (λ (other : PlannedKey × PlannedItem). same_key key other.0) es ≡ true
 no_key key name item h [] (i, low, e) = absurd (omega (arith, low))
 no_key key name item h (x ∷ es) (zero, low, e) = ap (λ b. b || list_any (λ (other : PlannedKey × PlannedItem). same_key key other.0) es) (ap (λ (y : PlannedKey × PlannedItem). same_key key y.0) e ∙ h)
-no_key key name item h (x ∷ es) (suc i, low, e) = or_right (same_key key x.0) (list_any (λ (other : PlannedKey × PlannedItem). same_key key other.0) es) (no_key key name item h es (i, omega (arith, low), e))
+no_key key name item h (x ∷ es) (suc i, low, e) = or_right (same_key key x.0) (list_any (λ (other : PlannedKey × PlannedItem). same_key key other.0) es)
+    (no_key key name item h es (i, omega (arith, low), e))
 
 under_same : (name : Text) (key : PlannedKey) → is_under_label name key ≡ true → same_key key (plan.label name) ≡ true
 under_same name (plan.label l) h = h
@@ -59,13 +60,15 @@ under_same name (plan.path_of n) h = no_true h
 pub key_there : (name : Text) (item : PlannedItem) (es : List (PlannedKey × PlannedItem)) → keys_differ es ≡ true → Contains es (plan.label name, item) → lookup (is_under_label name) es ≡ Some item
 key_there name item [] d (i, low, e) = absurd (omega (arith, low))
 key_there name item (x ∷ es) d (zero, low, e) =
-    ap (λ b. cond b (Some x.1) (lookup (is_under_label name) es)) (ap (λ (y : PlannedKey × PlannedItem). is_under_label name y.0) e ∙ same_text name name refl) ∙ ap (λ (y : PlannedKey × PlannedItem). Some y.1) e
+    ap (λ b. cond b (Some x.1) (lookup (is_under_label name) es)) (ap (λ (y : PlannedKey × PlannedItem). is_under_label name y.0) e ∙ same_text name name refl) ∙ ap
+    (λ (y : PlannedKey × PlannedItem). Some y.1) e
 key_there name item (x ∷ es) d (suc i, low, e) =
     let later : Contains es (plan.label name, item) = (i, omega (arith, low), e) in
     let others = list_any (λ (other : PlannedKey × PlannedItem). same_key x.0 other.0) es in
     go (is_under_label name x.0) refl later (not_true others (first_true (not others) (keys_differ es) d)) (key_there name item es (second_true (not others) (keys_differ es) d) later)
   where
-    go : (b : Bool) → is_under_label name x.0 ≡ b → Contains es (plan.label name, item) → list_any (λ (other : PlannedKey × PlannedItem). same_key x.0 other.0) es ≡ false → lookup (is_under_label name) es ≡ Some item
+    go : (b : Bool) → is_under_label name x.0 ≡ b → Contains es (plan.label name, item) → list_any (λ (other : PlannedKey × PlannedItem). same_key x.0 other.0) es ≡ false
+        → lookup (is_under_label name) es ≡ Some item
         → cond b (Some x.1) (lookup (is_under_label name) es) ≡ Some item
     go true f later absent rest = never (list_any (λ (other : PlannedKey × PlannedItem). same_key x.0 other.0) es) (no_key x.0 name item (under_same name x.0 f) es later) absent
     go false f later absent rest = rest
@@ -83,7 +86,8 @@ module _ (t : Tables) (tables : AreTables t) (kept : List ℕ) (p : Plan) (are :
     stands : slice_get kept entry.1 ≡ Some k
     shape : slice_get t.shapes k ≡ Some (named_shape q entry.0)
 
-  entry_of : (q k : ℕ) (xs : List NumberedType) (ns : List ℕ) (es : List (Text × ℕ)) → AllZip (IsNumberOf t q) xs ns → AllZip (IsKeptAs kept p) ns es → AllZip HasName xs es → Contains ns k → IsEntry q k es
+  entry_of : (q k : ℕ) (xs : List NumberedType) (ns : List ℕ) (es : List (Text × ℕ)) → AllZip (IsNumberOf t q) xs ns → AllZip (IsKeptAs kept p) ns es → AllZip HasName xs es → Contains ns k
+      → IsEntry q k es
   entry_of q k xs [] es y z names (i, low, e) = absurd (omega (arith, low))
   entry_of q k [] (n ∷ ns) es y z names c = absurd y
   entry_of q k (x ∷ xs) (n ∷ ns) [] y z names c = absurd z
@@ -139,7 +143,8 @@ module _ (t : Tables) (tables : AreTables t) (kept : List ℕ) (p : Plan) (are :
   pub listed : (j : ℕ) (x : PlannedType) → slice_get p.types j ≡ Some x → is_listed p j x ≡ true
   listed j x e = let is = are.each j x e in by is.0 is.1 is.2
     where
-      by_place : (k q : ℕ) (name : Text) → slice_get kept j ≡ Some k → slice_get t.shapes k ≡ Some (named_shape q name) → IsShownThere t kept p b views read.interfaces read.worlds q k → is_listed_in p j name (b.owners q) ≡ true
+      by_place : (k q : ℕ) (name : Text) → slice_get kept j ≡ Some k → slice_get t.shapes k ≡ Some (named_shape q name) → IsShownThere t kept p b views read.interfaces read.worlds q k
+          → is_listed_in p j name (b.owners q) ≡ true
       by_place k q name at there (in_interface m i f is c) = ap (is_listed_in p j name) is ∙ interface_lists j k q name m i f at there c
       by_place k q name at there (in_world m w f y is c seen last) = ap (is_listed_in p j name) is ∙ world_lists j k q name m w f y at there c seen last
 

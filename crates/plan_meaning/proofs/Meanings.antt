@@ -62,7 +62,11 @@ module _ (r : Resolve) (m : ℕ) where
   function_is f = λ i. record { signature = signature_is f i; external_id = optional_text f.external_id }
 
   type_is : (def : TypeDef) → planned.type_meaning (plan_of r m) (planned_type def) ≡ meant.type_meaning r def
-  type_is def = λ i. record { declaration = (ap (λ trees. declared_as trees (planned_kind def.kind)) (trees_are r m) ∙ declared_is (trees_of r) def.kind) i; external_id = optional_text def.external_id }
+  type_is def = λ i. record {
+    declaration = (ap (λ trees. declared_as trees (planned_kind def.kind)) (trees_are r m) ∙ declared_is (trees_of r) def.kind) i;
+    external_id =
+        optional_text def.external_id;
+  }
 
   pub type_at_is : (n : ℕ) → planned.type_meaning_in (plan_of r m) n ≡ meant.type_meaning_at r n
   type_at_is n =
@@ -100,7 +104,8 @@ module _ (r : Resolve) (m : ℕ) where
   function_entry_is e = λ i. (text_of e.0, function_is e.1 i)
 
   pub functions_are : (i : Interface) → map planned_function_entry (planned_interface i).functions ≡ map meant_function_entry i.functions.entries
-  functions_are i = map_of_map planned_function_entry function_pair i.functions.entries ∙ same_map (λ e. planned_function_entry (function_pair e)) meant_function_entry function_entry_is i.functions.entries
+  functions_are i = map_of_map planned_function_entry function_pair i.functions.entries ∙ same_map (λ e. planned_function_entry (function_pair e)) meant_function_entry function_entry_is
+      i.functions.entries
 
   pub interface_is : (i : Interface) → planned.interface_meaning (plan_of r m) (planned_interface i) ≡ meant.interface_meaning r i
   interface_is i = λ j. record { types = types_are i j; functions = from_entries (functions_are i j) }

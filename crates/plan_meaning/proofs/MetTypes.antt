@@ -33,9 +33,11 @@ module _ (p : Plan) (fall : each_from (λ n x. list_all (λ m. nat_lt m n) (kind
   within n ns small h =
       all_flat (λ m. nat_le m n) (met_by (take n (met_in p))) ns
       ∙ all_weaker (λ j. nat_lt j n) (λ j. list_all (λ m. nat_le m n) (met_by (take n (met_in p)) j))
-      (λ j less. all_weaker (λ m. nat_le m j) (λ m. nat_le m n) (λ m le. let l = less_than j n less in grind (arith, nat_tests, l, le)) (met_by (take n (met_in p)) j) (small j (less_than j n less))) ns h
+      (λ j less. all_weaker (λ m. nat_le m j) (λ m. nat_le m n) (λ m le. let l = less_than j n less in grind (arith, nat_tests, l, le)) (met_by (take n (met_in p)) j)
+      (small j (less_than j n less))) ns h
 
-  at_type : (n : ℕ) (x : PlannedType) → list_all (λ j. nat_lt j n) (kind_numbers x.kind) ≡ true → ((j : ℕ) → j < n → IsLow j (met_by (take n (met_in p)) j)) → IsLow n (met_at (take n (met_in p)) (n, x))
+  at_type : (n : ℕ) (x : PlannedType) → list_all (λ j. nat_lt j n) (kind_numbers x.kind) ≡ true → ((j : ℕ) → j < n → IsLow j (met_by (take n (met_in p)) j))
+      → IsLow n (met_at (take n (met_in p)) (n, x))
   at_type n x below small = by x.name
     where
       self : nat_le n n ≡ true

@@ -78,7 +78,8 @@ module _ (r : Resolve) (m : ℕ) where
   pub packages_used : HoldsNoMore (plan_of r m) → PackagesAreUsed r m
   packages_used more k q e =
       ap (λ b. (k == m) || b) (sym (some_items (λ x. (text_of x.0, x.1.0)) q.interfaces.entries))
-      ∙ each_at (λ n x. (n == m) || has_items (planned_package x).interfaces) r.packages.items k q (sym (each_of_map (λ n x. (n == m) || has_items x.interfaces) planned_package 0 r.packages.items) ∙ more.packages) e
+      ∙ each_at (λ n x. (n == m) || has_items (planned_package x).interfaces) r.packages.items k q
+      (sym (each_of_map (λ n x. (n == m) || has_items x.interfaces) planned_package 0 r.packages.items) ∙ more.packages) e
 
   -- ---- one world
 
@@ -102,7 +103,8 @@ module _ (r : Resolve) (m : ℕ) where
         only : (j : ℕ) (x : PlannedWorld) → slice_get (is.world ∷ []) j ≡ Some x → planned.is_shown_in x n ≡ true → planned.is_shown_in is.world n ≡ true
         only zero x e h = let one : is.world ≡ x = ap (λ o. unwrap_or o is.world) e in ap (λ y. planned.is_shown_in y n) one ∙ h
         only (suc j) x e h = absurd (let wrong : ⊥ = cc in wrong)
-    item_by n i e (Some s) is_named test rest h = is.shows n (planned_interface i) (get_of_map planned_interface r.interfaces.items n ∙ ap (option_map planned_interface) e) (ap (λ o. is_some (optional_text o)) is_named)
+    item_by n i e (Some s) is_named test rest h = is.shows n (planned_interface i) (get_of_map planned_interface r.interfaces.items n ∙ ap (option_map planned_interface) e)
+        (ap (λ o. is_some (optional_text o)) is_named)
 
     is_item : (n : ℕ) (i : Interface) → interface_at r n ≡ Some i → has (filter_map uses.item_interface (items_of w)) n ≡ true
     is_item n i e =
@@ -110,7 +112,8 @@ module _ (r : Resolve) (m : ℕ) where
         ∙ (ap (λ y. planned.is_shown_in y n) same
         ∙ item_by n i e i.name refl (λ t. option_map_or (λ k. is_id n (number_under t k.interfaces)) (option_and_then (package_in (plan_of r m)) (option_map (λ id. id.0) i.package)) false)
         (option_map_or (in_list (map planned_package r.packages.items)) (option_map (λ id. id.0) i.package) false)
-        (each_at (λ k x. planned.is_placed (plan_of r m) k (planned_interface x)) r.interfaces.items n i (sym (each_of_map (planned.is_placed (plan_of r m)) planned_interface 0 r.interfaces.items) ∙ is.plan.interfaces_placed) e))
+        (each_at (λ k x. planned.is_placed (plan_of r m) k (planned_interface x)) r.interfaces.items n i
+        (sym (each_of_map (planned.is_placed (plan_of r m)) planned_interface 0 r.interfaces.items) ∙ is.plan.interfaces_placed) e))
 
     pub world_alone : HoldsWorldAlone r m w
     world_alone = record { one = one_world; interfaces = is_item; packages = packages_used is.no_more; types = types_used is.no_more }

@@ -67,7 +67,8 @@ module _ (t : Tables) (tables : AreTables t) (h : Homes) (stand : HomesStand t h
         into : (home : IsHomeOf h p x.0) → text_eq (path_text t p) (path_in identity name) ≡ true → ((home.package_ == n) && text_eq home.name name) ≡ true
         into home e =
             let same_path : x.0 ≡ path_in identity name = sym (path_is t p x) ∙ text_same (path_text t p) (path_in identity name) e in
-            let pair : ◌≡◌ {A = PackageIdentity × Text} (home.identity, home.name) (identity, name) = same-some (home.identity, home.name) (identity, name) (sym home.reads ∙ (ap read_path same_path ∙ reads)) in
+            let pair : ◌≡◌ {A = PackageIdentity × Text} (home.identity, home.name) (identity, name) =
+            same-some (home.identity, home.name) (identity, name) (sym home.reads ∙ (ap read_path same_path ∙ reads)) in
             let number : n ≡ home.package_ = stand.apart n home.package_ home.identity (there ∙ ap Some (sym (ap (λ (y : PackageIdentity × Text). y.0) pair))) home.stands in
             both (home.package_ == n) (text_eq home.name name) (eq-eqb home.package_ n (sym number)) (same_text home.name name (ap (λ (y : PackageIdentity × Text). y.1) pair))
 
@@ -81,7 +82,8 @@ module _ (t : Tables) (tables : AreTables t) (h : Homes) (stand : HomesStand t h
   -- ---- members
 
   -- the path of an interface that is exported
-  exported_path : (m : NumberedMember) (x : Member) → slice_get h.packages m.package_ ≡ Some x.package_ → x.label ≡ m.label → (p : ℕ) (v : NumberedView) (imports : List (ℕ × NumberedView)) (view : View) (views : List (Text × View))
+  exported_path : (m : NumberedMember) (x : Member) → slice_get h.packages m.package_ ≡ Some x.package_ → x.label ≡ m.label
+      → (p : ℕ) (v : NumberedView) (imports : List (ℕ × NumberedView)) (view : View) (views : List (Text × View))
       → ShowsInterface t h m p v imports view views → path_in x.package_ x.label ≡ path_text t p
   exported_path m x package_ under p v imports view views is =
       let home = stand.homes p is.path.0 is.path.1 in
@@ -129,14 +131,16 @@ module _ (t : Tables) (tables : AreTables t) (h : Homes) (stand : HomesStand t h
     agree_same seen all = all_agree_in_numbers t tables seen (only_sights t known seen all)
 
     module _ (n : ℕ) (identity : PackageIdentity) (there : slice_get h.packages n ≡ Some identity) where
-      packages_same : (ms : List NumberedMember) (members : List Member) → AllZip (IsMember t h) ms members → list_all (λ x. same_identity identity x.package_) members ≡ list_all (λ m. n == m.package_) ms
+      packages_same : (ms : List NumberedMember) (members : List Member) → AllZip (IsMember t h) ms members
+          → list_all (λ x. same_identity identity x.package_) members ≡ list_all (λ m. n == m.package_) ms
       packages_same [] [] z = refl
       packages_same [] (x ∷ members) z = absurd z
       packages_same (m ∷ ms) [] z = absurd z
       packages_same (m ∷ ms) (x ∷ members) z = λ i. package_number n identity there m.package_ x.package_ z.0.package_ i && packages_same ms members z.1 i
 
       -- one member is the interface of a place that is seen
-      part_is : (s : NumberedSight) → HasPath t s.place → (m : NumberedMember) (x : Member) → slice_get h.packages m.package_ ≡ Some x.package_ → x.label ≡ m.label → same_identity identity x.package_ ≡ true
+      part_is : (s : NumberedSight) → HasPath t s.place → (m : NumberedMember) (x : Member) → slice_get h.packages m.package_ ≡ Some x.package_ → x.label ≡ m.label
+          → same_identity identity x.package_ ≡ true
           → (a : NumberedPart) (b : Part) → ShowsPart t h m a b → (is_interface_part b && text_eq (path_text t s.place) (path_in identity x.label)) ≡ is_interface_of s.place a
       part_is s at m x package_ under same (world w) (Part.world scope) is = refl
       part_is s at m x package_ under same (interface p v imports) (Part.interface view views) is =
@@ -145,7 +149,8 @@ module _ (t : Tables) (tables : AreTables t) (h : Homes) (stand : HomesStand t h
       part_is s at m x package_ under same (world w) (Part.interface view views) is = absurd is
       part_is s at m x package_ under same (interface p v imports) (Part.world scope) is = absurd is
 
-      one_is : (s : NumberedSight) → HasPath t s.place → (ms : List NumberedMember) (members : List Member) → AllZip (IsMember t h) ms members → list_all (λ x. same_identity identity x.package_) members ≡ true
+      one_is : (s : NumberedSight) → HasPath t s.place → (ms : List NumberedMember) (members : List Member) → AllZip (IsMember t h) ms members
+          → list_all (λ x. same_identity identity x.package_) members ≡ true
           → list_any (λ x. is_interface_part x.part && text_eq (path_text t s.place) (path_in identity x.label)) members ≡ list_any (λ m. is_interface_of s.place m.part) ms
       one_is s at [] [] z same = refl
       one_is s at [] (x ∷ members) z same = absurd z
@@ -163,12 +168,14 @@ module _ (t : Tables) (tables : AreTables t) (h : Homes) (stand : HomesStand t h
           λ i. (not (of_package n identity there s.place at i) || one_is s at ms members z same i) && top_same ms members z same seen all.1 i
 
       test_same : (ms : List NumberedMember) (members : List Member) → AllZip (IsMember t h) ms members → (seen : List NumberedSight) → AllByRecursion (IsKnownSight t known) seen
-          → (list_all (λ x. same_identity identity x.package_) members && (list_all (reads.stands_at_top identity members) (map (sight_of t) seen) && (all_agree (map (sight_of t) seen) && reads.are_interfaces (map (sight_of t) seen))))
+          → (list_all (λ x. same_identity identity x.package_) members && (list_all (reads.stands_at_top identity members) (map (sight_of t) seen)
+          && (all_agree (map (sight_of t) seen) && reads.are_interfaces (map (sight_of t) seen))))
           ≡ (list_all (λ m. n == m.package_) ms && (list_all (stands_at_top h n ms) seen && (agree_in_numbers seen && are_interfaces t known seen)))
       test_same ms members z seen all = by (list_all (λ x. same_identity identity x.package_) members) refl
         where
           by : (b : Bool) → list_all (λ x. same_identity identity x.package_) members ≡ b
-              → (list_all (λ x. same_identity identity x.package_) members && (list_all (reads.stands_at_top identity members) (map (sight_of t) seen) && (all_agree (map (sight_of t) seen) && reads.are_interfaces (map (sight_of t) seen))))
+              → (list_all (λ x. same_identity identity x.package_) members && (list_all (reads.stands_at_top identity members) (map (sight_of t) seen)
+              && (all_agree (map (sight_of t) seen) && reads.are_interfaces (map (sight_of t) seen))))
               ≡ (list_all (λ m. n == m.package_) ms && (list_all (stands_at_top h n ms) seen && (agree_in_numbers seen && are_interfaces t known seen)))
           by true e = λ i. packages_same ms members z i && (top_same ms members z e seen all i && (agree_same seen all i && interfaces_same seen all i))
           by false e =
@@ -193,9 +200,12 @@ provided_map f false x = refl
 import_same : (t : Tables) (s : NumberedSeen) → reads.imported_view (seen_of t s) ≡ option_map (shown_view t) (imported_view s)
 import_same t s = by s.shown
   where
-    by : (x : NumberedShown) → reads.imported_view (record { key = s.key; shown = shown_of t x; external_id = s.external_id }) ≡ option_map (shown_view t) (imported_view (record { key = s.key; shown = x; external_id = s.external_id }))
+    by : (x : NumberedShown)
+        → reads.imported_view (record { key = s.key; shown = shown_of t x; external_id = s.external_id }) ≡ option_map (shown_view t)
+        (imported_view (record { key = s.key; shown = x; external_id = s.external_id }))
     by (instance (path p) v) =
-        ap (λ b. provided (is_none s.external_id && not b) (shown_view t (p, v))) (filled_same (shown_function t) v.functions) ∙ provided_map (shown_view t) (is_none s.external_id && not (is_filled v.functions)) (p, v)
+        ap (λ b. provided (is_none s.external_id && not b) (shown_view t (p, v))) (filled_same (shown_function t) v.functions) ∙ provided_map (shown_view t)
+        (is_none s.external_id && not (is_filled v.functions)) (p, v)
     by (instance (label l p) v) = refl
     by (instance (implementing l p) v) = refl
     by (function n) = refl
@@ -220,7 +230,9 @@ export_same t [] = refl
 export_same t (s ∷ r ∷ ss) = refl
 export_same t (s ∷ []) = by s.shown
   where
-    by : (x : NumberedShown) → reads.exported_view (record { key = s.key; shown = shown_of t x; external_id = s.external_id } ∷ []) ≡ option_map (shown_view t) (exported_view (record { key = s.key; shown = x; external_id = s.external_id } ∷ []))
+    by : (x : NumberedShown)
+        → reads.exported_view (record { key = s.key; shown = shown_of t x; external_id = s.external_id } ∷ []) ≡ option_map (shown_view t)
+        (exported_view (record { key = s.key; shown = x; external_id = s.external_id } ∷ []))
     by (instance (path p) v) = provided_map (shown_view t) (is_none s.external_id) (p, v)
     by (instance (label l p) v) = refl
     by (instance (implementing l p) v) = refl
@@ -235,11 +247,13 @@ export_in_numbers t w scope shows = ap reads.exported_view shows.exports ∙ exp
 pub packages_in_numbers : PackagesInNumbers
 packages_in_numbers t tables h stand known n identity there ms members z all =
     ap (λ test. provided test (package_shown identity members))
-    (ap (λ seen. list_all (λ x. same_identity identity x.package_) members && (list_all (reads.stands_at_top identity members) seen && (all_agree seen && reads.are_interfaces seen))) (all_sights t tables h stand ms members z)
+    (ap (λ seen. list_all (λ x. same_identity identity x.package_) members && (list_all (reads.stands_at_top identity members) seen && (all_agree seen && reads.are_interfaces seen)))
+    (all_sights t tables h stand ms members z)
     ∙ test_same t tables h stand known n identity there ms members z (sights_of_members t ms) all)
 
 pub one_world_in_numbers : OneWorldInNumbers
 one_world_in_numbers t tables h stand known n identity there name reads_ w scope shows all =
     ap (λ test. provided test (world_shown identity name scope))
     (ap (λ seen. all_agree seen && (reads.are_interfaces seen && not (list_any (λ s. text_eq s.path (path_in identity name)) seen))) (sights_in_numbers t w scope shows)
-    ∙ λ i. agree_same t tables h stand known (sights_of_scope t w) all i && (interfaces_same t tables h stand known (sights_of_scope t w) all i && not (named_same t tables h stand known n identity there name reads_ (sights_of_scope t w) all i)))
+    ∙ λ i. agree_same t tables h stand known (sights_of_scope t w) all i && (interfaces_same t tables h stand known (sights_of_scope t w) all i && not
+    (named_same t tables h stand known n identity there name reads_ (sights_of_scope t w) all i)))

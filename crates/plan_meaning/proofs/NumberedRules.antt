@@ -63,7 +63,8 @@ resources_same t [] = refl
 resources_same t (x ∷ xs) = by x.declared (resources_same t xs)
   where
     by : (d : Option ℕ) → rules.resources_of (map (shown_type t) xs) ≡ resources_of xs
-        → cond (rules.is_resource (declaration_of t d)) (x.name ∷ rules.resources_of (map (shown_type t) xs)) (rules.resources_of (map (shown_type t) xs)) ≡ cond (is_no_part d) (x.name ∷ resources_of xs) (resources_of xs)
+        → cond (rules.is_resource (declaration_of t d)) (x.name ∷ rules.resources_of (map (shown_type t) xs)) (rules.resources_of (map (shown_type t) xs)) ≡ cond (is_no_part d)
+        (x.name ∷ resources_of xs) (resources_of xs)
     by None more = ap (λ names. x.name ∷ names) more
     by (Some k) more = more
 
@@ -82,7 +83,8 @@ module _ (t : Tables) (table : IsTable t.shapes) (known : ℕ → Fact) (p : ℕ
   form_same : (form : Form) (ts : Trees) (k : ℕ) → Known k → tree_at t k ≡ Tree.node form ts
       → (are_labels (form_labels form) && are_parts here ts && nat_le (deepest ts) most_levels) ≡ is_declared_form p (known k)
   form_same form ts k h e =
-      let most : nat_le (known k).levels (most_levels + 1) ≡ nat_le (deepest ts) most_levels = ap (λ n. nat_le n (most_levels + 1)) (h.tells.levels ∙ ap (λ x. min most_counted (levels x)) e) ∙ one_level_more (deepest ts) in
+      let most : nat_le (known k).levels (most_levels + 1) ≡ nat_le (deepest ts) most_levels =
+      ap (λ n. nat_le n (most_levels + 1)) (h.tells.levels ∙ ap (λ x. min most_counted (levels x)) e) ∙ one_level_more (deepest ts) in
       λ i. sym (h.tells.labels form ts e) i && sym (h.tells.parts form ts e) i && sym most i
 
   declared_view : (k : ℕ) → Known k → PartView (place_at t) t.shapes table k (tree_at t k) → rules.is_declared here (declaration_of t (Some k)) ≡ is_declared t known p (Some k)
@@ -103,7 +105,8 @@ module _ (t : Tables) (table : IsTable t.shapes) (known : ℕ → Fact) (p : ℕ
 
   -- ---- signatures
 
-  params_same : (ps : List (Text × ℕ)) → AllByRecursion (λ (x : Text × ℕ). Known x.1) ps → list_all (λ (x : Text × Tree). rules.is_parameter_type here x.1) (map (λ (x : Text × ℕ). (x.0, tree_at t x.1)) ps) ≡ list_all (λ (x : Text × ℕ). is_parameter_type p (known x.1)) ps
+  params_same : (ps : List (Text × ℕ)) → AllByRecursion (λ (x : Text × ℕ). Known x.1) ps
+      → list_all (λ (x : Text × Tree). rules.is_parameter_type here x.1) (map (λ (x : Text × ℕ). (x.0, tree_at t x.1)) ps) ≡ list_all (λ (x : Text × ℕ). is_parameter_type p (known x.1)) ps
   params_same [] h = refl
   params_same (x ∷ ps) h = λ i. parameter_same x.1 h.0 i && params_same ps h.1 i
 
@@ -121,7 +124,8 @@ module _ (t : Tables) (table : IsTable t.shapes) (known : ℕ → Fact) (p : ℕ
     itself_named = Tree.named here resource
 
     place_number : (q : ℕ) → (place_at t q ≡ here → q ≡ p) → same_place (place_at t q) here ≡ (q == p)
-    place_number q one = either_way (same_place (place_at t q) here) (q == p) (λ h. eq-eqb q p (one ((places_decide (place_at t q) here).0 h))) (λ h. (places_decide (place_at t q) here).1 (ap (place_at t) (eqb-true q p h)))
+    place_number q one = either_way (same_place (place_at t q) here) (q == p) (λ h. eq-eqb q p (one ((places_decide (place_at t q) here).0 h)))
+        (λ h. (places_decide (place_at t q) here).1 (ap (place_at t) (eqb-true q p h)))
 
     name_view : (k : ℕ) → IsSeenFrom t p k → PartView (place_at t) t.shapes table k (tree_at t k) → same_tree (tree_at t k) itself_named ≡ is_name t known p resource k
     name_view k seen (is_primitive q small e number) =
@@ -148,7 +152,8 @@ module _ (t : Tables) (table : IsTable t.shapes) (known : ℕ → Fact) (p : ℕ
       abbrev handle_tree : Tree
       handle_tree = Tree.node handle (Trees.child itself_named Trees.no_children)
 
-      handle_cases : (a b : Bool) (x : Bool) (o : Option ℕ) → a ≡ b → x ≡ option_map_or (is_name t known p resource) o false → (a && x) ≡ option_map_or (is_name t known p resource) (cond b o None) false
+      handle_cases : (a b : Bool) (x : Bool) (o : Option ℕ) → a ≡ b → x ≡ option_map_or (is_name t known p resource) o false
+          → (a && x) ≡ option_map_or (is_name t known p resource) (cond b o None) false
       handle_cases true true x o e h = h
       handle_cases true false x o e h = absurd cc
       handle_cases false true x o e h = absurd cc
@@ -176,7 +181,8 @@ module _ (t : Tables) (table : IsTable t.shapes) (known : ℕ → Fact) (p : ℕ
     borrow_same : (k : ℕ) → IsPart t k → IsSeenFrom t p k → same_tree (tree_at t k) (borrow_name here resource) ≡ is_handle t known p borrow_sort resource k
     borrow_same k part seen = handle_same Form.borrow_of borrow_sort borrow_by_sort refl k part seen
 
-    begins_same : (ps : List (Text × ℕ)) → AllByRecursion (λ (x : Text × ℕ). Known x.1) ps → rules.begins_with_self (borrow_name here resource) (map (λ x. (x.0, tree_at t x.1)) ps) ≡ begins_with_self t known p resource ps
+    begins_same : (ps : List (Text × ℕ)) → AllByRecursion (λ (x : Text × ℕ). Known x.1) ps
+        → rules.begins_with_self (borrow_name here resource) (map (λ x. (x.0, tree_at t x.1)) ps) ≡ begins_with_self t known p resource ps
     begins_same [] h = refl
     begins_same (x ∷ ps) h = ap (λ b. text_eq x.0 (codes "self") && b) (borrow_same x.1 h.0.part h.0.seen)
 
@@ -225,12 +231,14 @@ module _ (t : Tables) (table : IsTable t.shapes) (known : ℕ → Fact) (p : ℕ
         || (is_label_behind (method_name resource []) name && begins_same f.params h.0 i)
         || is_label_behind (static_name resource []) name
 
-  pub function_same : (resources : List Text) (name : Text) (f : FunctionShape) → PartsOf Known f → rules.is_function here resources name (signature_over (tree_at t) f) ≡ is_function t known p resources name f
+  pub function_same : (resources : List Text) (name : Text) (f : FunctionShape) → PartsOf Known f
+      → rules.is_function here resources name (signature_over (tree_at t) f) ≡ is_function t known p resources name f
   function_same resources name f h = λ i. signature_same f h i && (is_label name || list_any (λ r. function_of_same r name f h i) resources)
 
   -- ---- interfaces
 
-  type_same : (xs : List NumberedType) → AllByRecursion (TypePasses Known) xs → list_all (λ x. is_label x.name && rules.is_declared here x.meaning.declaration) (map (shown_type t) xs) ≡ list_all (is_type t known p) xs
+  type_same : (xs : List NumberedType) → AllByRecursion (TypePasses Known) xs
+      → list_all (λ x. is_label x.name && rules.is_declared here x.meaning.declaration) (map (shown_type t) xs) ≡ list_all (is_type t known p) xs
   type_same [] h = refl
   type_same (x ∷ xs) h = λ i. (is_label x.name && declared_same x.declared h.0 i) && type_same xs h.1 i
 
@@ -243,7 +251,8 @@ module _ (t : Tables) (table : IsTable t.shapes) (known : ℕ → Fact) (p : ℕ
   interface_same v h =
       let names : (map (λ x. x.name) (map (shown_type t) v.types) ++ map (λ f. f.0) (map (shown_function t) v.functions)) ≡ (map (λ x. x.name) v.types ++ map (λ f. f.0) v.functions) =
       λ i. map_of_map (λ (x : ShownType). x.name) (shown_type t) v.types i ++ map_of_map (λ (f : Text × FunctionMeaning). f.0) (shown_function t) v.functions i in
-      let functions = ap (λ resources. list_all (λ f. rules.is_function here resources f.0 f.1.signature) (map (shown_function t) v.functions)) (resources_same t v.types) ∙ functions_same (resources_of v.types) v.functions h.functions in
+      let functions = ap (λ resources. list_all (λ f. rules.is_function here resources f.0 f.1.signature) (map (shown_function t) v.functions)) (resources_same t v.types) ∙ functions_same
+      (resources_of v.types) v.functions h.functions in
       λ i. type_same v.types h.types i && functions i && distinct (names i)
 
 pub each_rule_in_numbers : EachRuleInNumbers

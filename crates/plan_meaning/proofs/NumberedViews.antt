@@ -66,7 +66,8 @@ module _ (t : Tables) (tables : AreTables t) where
   abbrev param_tree : Text × ℕ → Text × Tree
   param_tree p = (p.0, tree_at t p.1)
 
-  one_params : (ps qs : List (Text × ℕ)) → AllByRecursion (λ (p : Text × ℕ). IsOutsidePart t p.1) ps → AllByRecursion (λ (p : Text × ℕ). IsOutsidePart t p.1) qs → map param_tree ps ≡ map param_tree qs → ps ≡ qs
+  one_params : (ps qs : List (Text × ℕ)) → AllByRecursion (λ (p : Text × ℕ). IsOutsidePart t p.1) ps → AllByRecursion (λ (p : Text × ℕ). IsOutsidePart t p.1) qs
+      → map param_tree ps ≡ map param_tree qs → ps ≡ qs
   one_params [] [] hp hq e = refl
   one_params [] (q ∷ qs) hp hq e = absurd cc
   one_params (p ∷ ps) [] hp hq e = absurd cc
@@ -172,7 +173,8 @@ module _ (t : Tables) (tables : AreTables t) where
   agree_number : (a b : NumberedSight) → IsSight t a → IsSight t b → reads.agree (sight_of t a) (sight_of t b) ≡ agree a b
   agree_number a b ha hb = λ i. not (path_number a b ha hb i) || (same_in_types a b ha hb i && (not (a.whole && b.whole) || same_in_functions a b ha hb i))
 
-  agree_with : (s : NumberedSight) → IsSight t s → (rest : List NumberedSight) → AllByRecursion (IsSight t) rest → list_all (reads.agree (sight_of t s)) (map (sight_of t) rest) ≡ list_all (agree s) rest
+  agree_with : (s : NumberedSight) → IsSight t s → (rest : List NumberedSight) → AllByRecursion (IsSight t) rest
+      → list_all (reads.agree (sight_of t s)) (map (sight_of t) rest) ≡ list_all (agree s) rest
   agree_with s hs [] h = refl
   agree_with s hs (x ∷ rest) h = λ i. agree_number s x hs h.0 i && agree_with s hs rest h.1 i
 
@@ -195,13 +197,17 @@ module _ (t : Tables) (tables : AreTables t) where
       by false true e more = absurd cc
       by false false e more = more
 
-  first_alike : (earlier : List NumberedSight) (s : NumberedSight) → AllByRecursion (IsSight t) earlier → IsSight t s → agreement.agrees_with_first (map (sight_of t) earlier) (sight_of t s) ≡ agrees_with_first earlier s
+  first_alike : (earlier : List NumberedSight) (s : NumberedSight) → AllByRecursion (IsSight t) earlier → IsSight t s
+      → agreement.agrees_with_first (map (sight_of t) earlier) (sight_of t s) ≡ agrees_with_first earlier s
   first_alike earlier s h hs =
-      let types : option_map_or (λ f. agreement.same_types f (sight_of t s)) (first_of (path_text t s.place) (map (sight_of t) earlier)) true ≡ option_map_or (λ f. same_types f s) (first_at s.place earlier) true =
+      let types : option_map_or (λ f. agreement.same_types f (sight_of t s)) (first_of (path_text t s.place) (map (sight_of t) earlier)) true ≡ option_map_or (λ f. same_types f s)
+      (first_at s.place earlier) true =
       found_alike (λ f. text_eq (path_text t s.place) f.path) (λ f. s.place == f.place) (λ f. agreement.same_types f (sight_of t s)) (λ f. same_types f s)
       (λ f hf. path_number s f hs hf) (λ f hf. same_in_types f s hf hs) earlier h in
-      let functions : option_map_or (λ f. reads.same_functions f.view.functions (sight_of t s).view.functions) (first_whole (path_text t s.place) (map (sight_of t) earlier)) true ≡ option_map_or (λ f. same_whole f s) (first_whole_at s.place earlier) true =
-      found_alike (λ f. text_eq (path_text t s.place) f.path && f.whole) (λ f. s.place == f.place && f.whole) (λ f. reads.same_functions f.view.functions (sight_of t s).view.functions) (λ f. same_whole f s)
+      let functions : option_map_or (λ f. reads.same_functions f.view.functions (sight_of t s).view.functions) (first_whole (path_text t s.place) (map (sight_of t) earlier)) true ≡ option_map_or
+      (λ f. same_whole f s) (first_whole_at s.place earlier) true =
+      found_alike (λ f. text_eq (path_text t s.place) f.path && f.whole) (λ f. s.place == f.place && f.whole) (λ f. reads.same_functions f.view.functions (sight_of t s).view.functions)
+      (λ f. same_whole f s)
       (λ f hf. ap (λ b. b && f.whole) (path_number s f hs hf)) (λ f hf. same_in_functions f s hf hs) earlier h in
       λ i. types i && (not s.whole || functions i)
 

@@ -113,12 +113,14 @@ module _ (t : Tables) (tables : AreTables t) where
       by true more = more
       by false more = (hs.0, more)
 
-  others_of_path : (own : ℕ) (h : HasPath t own) (ps : List ℕ) → AllByRecursion (HasPath t) ps → rules.others_than (Some (path_text t own)) (map (path_text t) ps) ≡ map (path_text t) (others_than own ps)
+  others_of_path : (own : ℕ) (h : HasPath t own) (ps : List ℕ) → AllByRecursion (HasPath t) ps
+      → rules.others_than (Some (path_text t own)) (map (path_text t) ps) ≡ map (path_text t) (others_than own ps)
   others_of_path own h [] hs = refl
   others_of_path own h (p ∷ ps) hs = by (text_eq (path_text t own) (path_text t p)) (p == own) (path_number own p h hs.0) (others_of_path own h ps hs.1)
     where
       by : (a b : Bool) → a ≡ b → rules.others_than (Some (path_text t own)) (map (path_text t) ps) ≡ map (path_text t) (others_than own ps)
-          → cond a (rules.others_than (Some (path_text t own)) (map (path_text t) ps)) (path_text t p ∷ rules.others_than (Some (path_text t own)) (map (path_text t) ps)) ≡ map (path_text t) (cond b (others_than own ps) (p ∷ others_than own ps))
+          → cond a (rules.others_than (Some (path_text t own)) (map (path_text t) ps)) (path_text t p ∷ rules.others_than (Some (path_text t own)) (map (path_text t) ps)) ≡ map (path_text t)
+          (cond b (others_than own ps) (p ∷ others_than own ps))
       by true true e more = more
       by true false e more = absurd cc
       by false true e more = absurd cc
@@ -133,7 +135,8 @@ module _ (t : Tables) (tables : AreTables t) where
       by true e more = let wrong : Some hs.0.0 ≡ None = sym hs.0.1 ∙ (ap (path_at t) (eqb-true p own e) ∙ none) in absurd cc
       by false e more = ap (λ xs. p ∷ xs) more
 
-  others_same : (key : NumberedKey) → KeyStands t key → (ps : List ℕ) → AllByRecursion (HasPath t) ps → rules.others_than (interface_of (key_of t key)) (map (path_text t) ps) ≡ map (path_text t) (others_than (place_of_key key) ps)
+  others_same : (key : NumberedKey) → KeyStands t key → (ps : List ℕ) → AllByRecursion (HasPath t) ps
+      → rules.others_than (interface_of (key_of t key)) (map (path_text t) ps) ≡ map (path_text t) (others_than (place_of_key key) ps)
   others_same (path p) h ps hs = others_of_path p h ps hs
   others_same (label l p) h ps hs = ap (map (path_text t)) (others_of_none p h ps hs)
   others_same (implementing l p) h ps hs = others_of_path p h ps hs
@@ -176,18 +179,21 @@ module _ (t : Tables) (tables : AreTables t) where
   seen_paths (function n) h = tt
   seen_paths (declares d) h = tt
 
-  all_stand : (earlier ps : List ℕ) → AllByRecursion (HasPath t) earlier → AllByRecursion (HasPath t) ps → list_all (λ x. list_any (text_eq x) (map (path_text t) earlier)) (map (path_text t) ps) ≡ list_all (has earlier) ps
+  all_stand : (earlier ps : List ℕ) → AllByRecursion (HasPath t) earlier → AllByRecursion (HasPath t) ps
+      → list_all (λ x. list_any (text_eq x) (map (path_text t) earlier)) (map (path_text t) ps) ≡ list_all (has earlier) ps
   all_stand earlier [] he hs = refl
   all_stand earlier (p ∷ ps) he hs = λ i. has_path earlier p he hs.0 i && all_stand earlier ps he hs.1 i
 
-  pub earlier_same : (earlier : List ℕ) (ss : List NumberedSeen) → AllByRecursion (HasPath t) earlier → AreOver ss → rules.stand_earlier (map (path_text t) earlier) (map (seen_of t) ss) ≡ stand_earlier t earlier ss
+  pub earlier_same : (earlier : List ℕ) (ss : List NumberedSeen) → AllByRecursion (HasPath t) earlier → AreOver ss
+      → rules.stand_earlier (map (path_text t) earlier) (map (seen_of t) ss) ≡ stand_earlier t earlier ss
   earlier_same earlier [] he h = refl
   earlier_same earlier (s ∷ ss) he h =
       let here : list_all (λ x. list_any (text_eq x) (map (path_text t) earlier)) (rules.uses (seen_of t s)) ≡ list_all (has earlier) (uses_of t s.shown) =
       ap (list_all (λ x. list_any (text_eq x) (map (path_text t) earlier))) (uses_same s h.0) ∙ all_stand earlier (uses_of t s.shown) he (uses_paths s.shown) in
       let more : map (path_text t) earlier ++ rules.path_seen (shown_of t s.shown) ≡ map (path_text t) (earlier ++ path_seen s.shown) =
       ap (λ xs. map (path_text t) earlier ++ xs) (seen_same s.shown) ∙ sym (append_of_map (path_text t) earlier (path_seen s.shown)) in
-      let rest = ap (λ xs. rules.stand_earlier xs (map (seen_of t) ss)) more ∙ earlier_same (earlier ++ path_seen s.shown) ss (all_in_both (HasPath t) earlier (path_seen s.shown) he (seen_paths s.shown h.0)) h.1 in
+      let rest = ap (λ xs. rules.stand_earlier xs (map (seen_of t) ss)) more ∙ earlier_same (earlier ++ path_seen s.shown) ss
+      (all_in_both (HasPath t) earlier (path_seen s.shown) he (seen_paths s.shown h.0)) h.1 in
       λ i. here i && rest i
 
   -- ---- reached
@@ -210,10 +216,12 @@ module _ (t : Tables) (tables : AreTables t) where
       → reads.are_reached (map seen_view imports) (view_of t exported) ≡ are_reached t imports exported
   reached_same [] exported h he = refl
   reached_same (i ∷ later) exported h he =
-      let all : flat_map (λ l. rules.used_by_view l.1) (map seen_view later) ++ rules.used_by_view (view_of t exported) ≡ map (path_text t) (flat_map (λ l. used_by_view t l.1) later ++ used_by_view t exported) =
+      let all : flat_map (λ l. rules.used_by_view l.1) (map seen_view later) ++ rules.used_by_view (view_of t exported) ≡ map (path_text t)
+      (flat_map (λ l. used_by_view t l.1) later ++ used_by_view t exported) =
       (λ j. later_uses later h.1 j ++ view_uses exported he j) ∙ sym (append_of_map (path_text t) (flat_map (λ l. used_by_view t l.1) later) (used_by_view t exported)) in
       let one = ap (list_any (text_eq (path_text t i.0))) all
-      ∙ has_path (flat_map (λ l. used_by_view t l.1) later ++ used_by_view t exported) i.0 (all_in_both (HasPath t) (flat_map (λ l. used_by_view t l.1) later) (used_by_view t exported) (later_paths later) (view_paths exported)) h.0.0 in
+      ∙ has_path (flat_map (λ l. used_by_view t l.1) later ++ used_by_view t exported) i.0
+      (all_in_both (HasPath t) (flat_map (λ l. used_by_view t l.1) later) (used_by_view t exported) (later_paths later) (view_paths exported)) h.0.0 in
       λ j. one j && reached_same later exported h.1 he j
 
 -- ---- worlds
@@ -223,7 +231,8 @@ resources_same t [] = refl
 resources_same t (s ∷ ss) = by s.shown (resources_same t ss)
   where
     by : (x : NumberedShown) → rules.resources_seen (map (seen_of t) ss) ≡ resources_seen ss
-        → rules.resources_seen (record { key = s.key; shown = shown_of t x; external_id = s.external_id } ∷ map (seen_of t) ss) ≡ cond (is_resource_seen x) (s.key ∷ resources_seen ss) (resources_seen ss)
+        → rules.resources_seen (record { key = s.key; shown = shown_of t x; external_id = s.external_id } ∷ map (seen_of t) ss) ≡ cond (is_resource_seen x) (s.key ∷ resources_seen ss)
+        (resources_seen ss)
     by (instance key v) more = more
     by (function n) more = more
     by (declares None) more = ap (λ names. s.key ∷ names) more
@@ -288,9 +297,11 @@ module _ (t : Tables) (tables : AreTables t) (known : ℕ → Fact) (home : ℕ)
 
 pub worlds_in_numbers : WorldsInNumbers
 worlds_in_numbers t tables known w scope h shows =
-    (λ i. rules.are_imports [] (shows.imports i) && list_all (λ s. rules.is_item [] s.key s.shown) (shows.exports i) && distinct (map (λ s. s.key) (shows.imports i)) && distinct (map (λ s. s.key) (shows.exports i))
+    (λ i. rules.are_imports [] (shows.imports i) && list_all (λ s. rules.is_item [] s.key s.shown) (shows.exports i) && distinct (map (λ s. s.key) (shows.imports i)) && distinct
+    (map (λ s. s.key) (shows.exports i))
     && rules.stand_earlier [] (shows.imports i ++ shows.exports i))
-    ∙ (λ i. imports_same t tables known w.home h.home [] w.imports h.imports i && exports_same t tables known w.home h.home w.exports h.exports i && keys_same t tables known w.home h.home w.imports i && keys_same t tables known w.home h.home w.exports i
+    ∙ (λ i. imports_same t tables known w.home h.home [] w.imports h.imports i && exports_same t tables known w.home h.home w.exports h.exports i && keys_same t tables known w.home h.home w.imports i
+    && keys_same t tables known w.home h.home w.exports i
     && order_same t tables known w.home h.home w.imports w.exports h.imports h.exports i)
 
 pub uses_in_numbers : UsesInNumbers
@@ -308,7 +319,8 @@ sights_in_numbers t w scope shows = ap (flat_map reads.of_instance) shows.instan
     one : (i : NumberedInstance) → reads.of_instance (instance_of t i) ≡ map (sight_of t) (sights_of_instance t i)
     one i = by (path_at t i.place) refl
       where
-        by : (o : Option Text) → path_at t i.place ≡ o → reads.of_instance (record { interface = o; view = view_of t i.view }) ≡ map (sight_of t) (option_map_or (λ x. record { place = i.place; view = i.view; whole = true } ∷ []) o [])
+        by : (o : Option Text) → path_at t i.place ≡ o
+            → reads.of_instance (record { interface = o; view = view_of t i.view }) ≡ map (sight_of t) (option_map_or (λ x. record { place = i.place; view = i.view; whole = true } ∷ []) o [])
         by None e = refl
         by (Some x) e = ap (λ y. record { path = y; view = view_of t i.view; whole = true } ∷ []) (sym (ap (λ o. unwrap_or o []) e))
 

@@ -65,16 +65,19 @@ below : (n l : ℕ) → n < l → (ns : List ℕ) → list_all (λ k. nat_lt k n
 below n l less ns h = all_weaker (λ k. nat_lt k n) (λ k. nat_lt k l) (λ k e. grind (arith, nat_tests, less, e)) ns h
 
 module _ (r : Resolve) (m : ℕ) (is : IsPlan (plan_of r m)) where
-  package_found : (test : PlannedPackage → Bool) (o : Option PackageId) → option_map_or test (option_and_then (package_in (plan_of r m)) (option_map (λ id. id.0) o)) false ≡ true → passes (in_list r.packages.items) (package_number o) ≡ true
+  package_found : (test : PlannedPackage → Bool) (o : Option PackageId) → option_map_or test (option_and_then (package_in (plan_of r m)) (option_map (λ id. id.0) o)) false ≡ true
+      → passes (in_list r.packages.items) (package_number o) ≡ true
   package_found test None h = refl
   package_found test (Some id) h = found_range planned_package r.packages.items id.0 test h
 
-  package_inline : (o : Option PackageId) → option_map_or (in_list (map planned_package r.packages.items)) (option_map (λ id. id.0) o) false ≡ true → passes (in_list r.packages.items) (package_number o) ≡ true
+  package_inline : (o : Option PackageId) → option_map_or (in_list (map planned_package r.packages.items)) (option_map (λ id. id.0) o) false ≡ true
+      → passes (in_list r.packages.items) (package_number o) ≡ true
   package_inline None h = refl
   package_inline (Some id) h = mapped_range planned_package r.packages.items id.0 h
 
   interface_package : (test : Text → PlannedPackage → Bool) (rest : Bool) (name : Option (String Global)) (o : Option PackageId) →
-      option_map_or (λ t. option_map_or (test t) (option_and_then (package_in (plan_of r m)) (option_map (λ id. id.0) o)) false) (optional_text name) (option_map_or (in_list (map planned_package r.packages.items)) (option_map (λ id. id.0) o) false && rest) ≡ true
+      option_map_or (λ t. option_map_or (test t) (option_and_then (package_in (plan_of r m)) (option_map (λ id. id.0) o)) false) (optional_text name)
+      (option_map_or (in_list (map planned_package r.packages.items)) (option_map (λ id. id.0) o) false && rest) ≡ true
       → passes (in_list r.packages.items) (package_number o) ≡ true
   interface_package test rest (Some s) o h = package_found (test (text_of s)) o h
   interface_package test rest None o h = package_inline o (first_true _ rest h)
@@ -92,24 +95,32 @@ module _ (r : Resolve) (m : ℕ) (is : IsPlan (plan_of r m)) where
 
   -- ---- packages and interfaces
 
-  packages_range : each_from (λ n p. is_place n && (list_all (λ id. in_list r.interfaces.items id.0) (values p.interfaces) && list_all (λ id. in_list r.worlds.items id.0) (values p.worlds))) 0 r.packages.items ≡ true
+  packages_range : each_from (λ n p. is_place n && (list_all (λ id. in_list r.interfaces.items id.0) (values p.interfaces) && list_all (λ id. in_list r.worlds.items id.0) (values p.worlds))) 0
+      r.packages.items ≡ true
   packages_range =
       each_two (λ n p. is_place n) (λ n p. list_all (λ e. in_list r.interfaces.items e.1.0) p.interfaces.entries && list_all (λ e. in_list r.worlds.items e.1.0) p.worlds.entries)
       (λ n p. is_place n && (list_all (λ id. in_list r.interfaces.items id.0) (values p.interfaces) && list_all (λ id. in_list r.worlds.items id.0) (values p.worlds)))
-      (λ n p a b. both _ _ a ((λ j. list_all-map (λ id. in_list r.interfaces.items id.0) (λ e. e.1) p.interfaces.entries j && list_all-map (λ id. in_list r.worlds.items id.0) (λ e. e.1) p.worlds.entries j) ∙ b)) 0 r.packages.items
+      (λ n p a b. both _ _ a ((λ j. list_all-map (λ id. in_list r.interfaces.items id.0) (λ e. e.1) p.interfaces.entries j && list_all-map (λ id. in_list r.worlds.items id.0) (λ e. e.1)
+      p.worlds.entries j) ∙ b)) 0 r.packages.items
       (places_fit planned_package r.packages.items is.packages_fit)
       (members_pass r m is (λ n e. in_list r.interfaces.items e.1.0) (λ n e. in_list r.worlds.items e.1.0) (λ n e h. (interface_listed r m is n e h).0) (λ n e h. (world_listed r m is n e h).0))
 
-  interfaces_range : each_from (λ n i. is_place n && (passes (in_list r.packages.items) (package_number i.package) && (list_all (λ id. in_list r.types.items id.0) (values i.types) && list_all (rules.function_in_range r) (values i.functions)))) 0 r.interfaces.items ≡ true
+  interfaces_range : each_from (λ n i. is_place n && (passes (in_list r.packages.items) (package_number i.package)
+      && (list_all (λ id. in_list r.types.items id.0) (values i.types) && list_all (rules.function_in_range r) (values i.functions)))) 0 r.interfaces.items ≡ true
   interfaces_range =
-      each_two (λ n i. is_place n) (λ n i. passes (in_list r.packages.items) (package_number i.package) && (list_all (λ id. in_list r.types.items id.0) (values i.types) && list_all (rules.function_in_range r) (values i.functions)))
+      each_two (λ n i. is_place n) (λ n i. passes (in_list r.packages.items) (package_number i.package)
+      && (list_all (λ id. in_list r.types.items id.0) (values i.types) && list_all (rules.function_in_range r) (values i.functions)))
       _ (λ n i a b. both _ _ a b) 0 r.interfaces.items (places_fit planned_interface r.interfaces.items is.interfaces_fit)
-      (each_two (λ n i. passes (in_list r.packages.items) (package_number i.package)) (λ n i. list_all (λ id. in_list r.types.items id.0) (values i.types) && list_all (rules.function_in_range r) (values i.functions))
-      _ (λ n i a b. both _ _ a b) 0 r.interfaces.items (each_built planned_interface (planned.is_placed (plan_of r m)) (λ n i. passes (in_list r.packages.items) (package_number i.package)) interface_home r.interfaces.items is.interfaces_placed)
-      (each_two (λ n i. list_all (λ id. in_list r.types.items id.0) (values i.types)) (λ n i. list_all (rules.function_in_range r) (functions_of_interface i)) _ (λ n i a b. both _ _ a b) 0 r.interfaces.items
+      (each_two (λ n i. passes (in_list r.packages.items) (package_number i.package))
+      (λ n i. list_all (λ id. in_list r.types.items id.0) (values i.types) && list_all (rules.function_in_range r) (values i.functions))
+      _ (λ n i a b. both _ _ a b) 0 r.interfaces.items (each_built planned_interface (planned.is_placed (plan_of r m)) (λ n i. passes (in_list r.packages.items) (package_number i.package))
+      interface_home r.interfaces.items is.interfaces_placed)
+      (each_two (λ n i. list_all (λ id. in_list r.types.items id.0) (values i.types)) (λ n i. list_all (rules.function_in_range r) (functions_of_interface i)) _ (λ n i a b. both _ _ a b) 0
+      r.interfaces.items
       (each_built planned_interface (λ n i. list_all (planned.is_type_of (plan_of r m) (as_interface n)) i.types) (λ n i. list_all (λ id. in_list r.types.items id.0) (values i.types))
       (λ n i h. list_all-map (λ id. in_list r.types.items id.0) (λ e. e.1) i.types.entries
-      ∙ all_built (λ e. (text_of e.0, e.1.0)) (planned.is_type_of (plan_of r m) (as_interface n)) (λ e. in_list r.types.items e.1.0) (λ e k. type_found (as_interface n) (text_of e.0) e.1.0 k) i.types.entries h) r.interfaces.items is.interface_types)
+      ∙ all_built (λ e. (text_of e.0, e.1.0)) (planned.is_type_of (plan_of r m) (as_interface n)) (λ e. in_list r.types.items e.1.0) (λ e k. type_found (as_interface n) (text_of e.0) e.1.0 k)
+      i.types.entries h) r.interfaces.items is.interface_types)
       (interfaces_pass r m (λ o f. planned.function_in_range (plan_of r m) f) (λ o f. rules.function_in_range r f) function_range is.functions_in_range)))
 
   -- ---- worlds
@@ -117,44 +128,56 @@ module _ (r : Resolve) (m : ℕ) (is : IsPlan (plan_of r m)) where
   key_found : (n : ℕ) (x : WorldItem) → (is_id n (plan.item_interface (planned_item x)) && planned.has_name (plan_of r m) n) ≡ true → in_list r.interfaces.items n ≡ true
   key_found n x h = found_range planned_interface r.interfaces.items n (λ i. is_some i.name) (second_true (is_id n (plan.item_interface (planned_item x))) _ h)
 
-  under_path : (n : ℕ) (x : WorldItem) → (is_id n (plan.item_interface (planned_item x)) && planned.has_name (plan_of r m) n) ≡ true → passes (rules.function_in_range r) (item_function x) ≡ true → item_in_range r x ≡ true
+  under_path : (n : ℕ) (x : WorldItem) → (is_id n (plan.item_interface (planned_item x)) && planned.has_name (plan_of r m) n) ≡ true → passes (rules.function_in_range r) (item_function x) ≡ true
+      → item_in_range r x ≡ true
   under_path n (item.Interface id stability docs external_id) h f =
       let same : id.0 ≡ n = eqb-true id.0 n (first_true (id.0 == n) _ h) in
       ap (in_list r.interfaces.items) same ∙ key_found n (item.Interface id stability docs external_id) h
   under_path n (item.Function g) h f = f
   under_path n (item.Type_ id) h f = no_true h
 
-  import_range : (n : ℕ) (e : WorldKey × WorldItem) → planned.import_stands (plan_of r m) n (planned_key e.0, planned_item e.1) ≡ true → passes (rules.function_in_range r) (item_function e.1) ≡ true → (key_in_range r e.0 && item_in_range r e.1) ≡ true
+  import_range : (n : ℕ) (e : WorldKey × WorldItem) → planned.import_stands (plan_of r m) n (planned_key e.0, planned_item e.1) ≡ true → passes (rules.function_in_range r) (item_function e.1) ≡ true
+      → (key_in_range r e.0 && item_in_range r e.1) ≡ true
   import_range n (key.Interface id, x) h f = both _ _ (key_found id.0 x h) (under_path id.0 x h f)
   import_range n (key.Name name, item.Interface id stability docs external_id) h f = mapped_range planned_interface r.interfaces.items id.0 (second_true _ _ h)
   import_range n (key.Name name, item.Function g) h f = f
   import_range n (key.Name name, item.Type_ id) h f = type_found (as_world n) (text_of name) id.0 (second_true _ _ h)
 
-  export_range : (e : WorldKey × WorldItem) → planned.export_stands (plan_of r m) (planned_key e.0, planned_item e.1) ≡ true → passes (rules.function_in_range r) (item_function e.1) ≡ true → (key_in_range r e.0 && item_in_range r e.1) ≡ true
+  export_range : (e : WorldKey × WorldItem) → planned.export_stands (plan_of r m) (planned_key e.0, planned_item e.1) ≡ true → passes (rules.function_in_range r) (item_function e.1) ≡ true
+      → (key_in_range r e.0 && item_in_range r e.1) ≡ true
   export_range (key.Interface id, x) h f = both _ _ (key_found id.0 x h) (under_path id.0 x h f)
   export_range (key.Name name, item.Interface id stability docs external_id) h f = mapped_range planned_interface r.interfaces.items id.0 (second_true _ _ h)
   export_range (key.Name name, item.Function g) h f = f
   export_range (key.Name name, item.Type_ id) h f = no_true h
 
-  worlds_range : each_from (λ n w. is_place n && (passes (in_list r.packages.items) (package_number w.package) && (entries_in_range r w.imports.entries && entries_in_range r w.exports.entries))) 0 r.worlds.items ≡ true
+  worlds_range : each_from (λ n w. is_place n && (passes (in_list r.packages.items) (package_number w.package) && (entries_in_range r w.imports.entries && entries_in_range r w.exports.entries))) 0
+      r.worlds.items ≡ true
   worlds_range =
       each_two (λ n w. is_place n) (λ n w. passes (in_list r.packages.items) (package_number w.package) && (entries_in_range r w.imports.entries && entries_in_range r w.exports.entries))
       _ (λ n w a b. both _ _ a b) 0 r.worlds.items (places_fit planned_world r.worlds.items is.worlds_fit)
       (each_two (λ n w. passes (in_list r.packages.items) (package_number w.package)) (λ n w. entries_in_range r w.imports.entries && entries_in_range r w.exports.entries)
       _ (λ n w a b. both _ _ a b) 0 r.worlds.items
-      (each_built planned_world (planned.is_world_placed (plan_of r m)) (λ n w. passes (in_list r.packages.items) (package_number w.package)) (λ n w h. package_found (λ k. is_id n (plan.number_under (text_of w.name) k.worlds)) w.package h) r.worlds.items is.worlds_placed)
-      (each_two (λ n w. list_all (planned.import_stands (plan_of r m) n) (planned_world w).imports && list_all (planned.export_stands (plan_of r m)) (planned_world w).exports) (λ n w. list_all (rules.function_in_range r) (functions_of_world w))
+      (each_built planned_world (planned.is_world_placed (plan_of r m)) (λ n w. passes (in_list r.packages.items) (package_number w.package))
+      (λ n w h. package_found (λ k. is_id n (plan.number_under (text_of w.name) k.worlds)) w.package h) r.worlds.items is.worlds_placed)
+      (each_two (λ n w. list_all (planned.import_stands (plan_of r m) n) (planned_world w).imports && list_all (planned.export_stands (plan_of r m)) (planned_world w).exports)
+      (λ n w. list_all (rules.function_in_range r) (functions_of_world w))
       (λ n w. entries_in_range r w.imports.entries && entries_in_range r w.exports.entries)
       (λ n w a b.
       let fs = entries_pass (rules.function_in_range r) w b in
       both _ _
-      (all_two (λ e. planned.import_stands (plan_of r m) n (planned_key e.0, planned_item e.1)) (λ e. passes (rules.function_in_range r) (item_function e.1)) (λ e. key_in_range r e.0 && item_in_range r e.1) (import_range n) w.imports.entries
+      (all_two (λ e. planned.import_stands (plan_of r m) n (planned_key e.0, planned_item e.1)) (λ e. passes (rules.function_in_range r) (item_function e.1))
+      (λ e. key_in_range r e.0 && item_in_range r e.1) (import_range n) w.imports.entries
       (sym (list_all-map (planned.import_stands (plan_of r m) n) (λ e. (planned_key e.0, planned_item e.1)) w.imports.entries) ∙ first_true _ _ a) fs.0)
-      (all_two (λ e. planned.export_stands (plan_of r m) (planned_key e.0, planned_item e.1)) (λ e. passes (rules.function_in_range r) (item_function e.1)) (λ e. key_in_range r e.0 && item_in_range r e.1) export_range w.exports.entries
-      (sym (list_all-map (planned.export_stands (plan_of r m)) (λ e. (planned_key e.0, planned_item e.1)) w.exports.entries) ∙ second_true (list_all (planned.import_stands (plan_of r m) n) (planned_world w).imports) _ a) fs.1)) 0 r.worlds.items
-      (each_two (λ n w. list_all (planned.import_stands (plan_of r m) n) (planned_world w).imports) (λ n w. list_all (planned.export_stands (plan_of r m)) (planned_world w).exports) _ (λ n w a b. both _ _ a b) 0 r.worlds.items
-      (each_built planned_world (λ n w. list_all (planned.import_stands (plan_of r m) n) w.imports) (λ n w. list_all (planned.import_stands (plan_of r m) n) (planned_world w).imports) (λ n w h. h) r.worlds.items is.imports_stand)
-      (each_from_built planned_world (λ w. list_all (planned.export_stands (plan_of r m)) w.exports) (λ w. list_all (planned.export_stands (plan_of r m)) (planned_world w).exports) (λ w h. h) r.worlds.items is.exports_stand))
+      (all_two (λ e. planned.export_stands (plan_of r m) (planned_key e.0, planned_item e.1)) (λ e. passes (rules.function_in_range r) (item_function e.1))
+      (λ e. key_in_range r e.0 && item_in_range r e.1) export_range w.exports.entries
+      (sym (list_all-map (planned.export_stands (plan_of r m)) (λ e. (planned_key e.0, planned_item e.1)) w.exports.entries) ∙ second_true
+      (list_all (planned.import_stands (plan_of r m) n) (planned_world w).imports) _ a) fs.1)) 0 r.worlds.items
+      (each_two (λ n w. list_all (planned.import_stands (plan_of r m) n) (planned_world w).imports) (λ n w. list_all (planned.export_stands (plan_of r m)) (planned_world w).exports) _
+      (λ n w a b. both _ _ a b) 0 r.worlds.items
+      (each_built planned_world (λ n w. list_all (planned.import_stands (plan_of r m) n) w.imports) (λ n w. list_all (planned.import_stands (plan_of r m) n) (planned_world w).imports) (λ n w h. h)
+      r.worlds.items is.imports_stand)
+      (each_from_built planned_world (λ w. list_all (planned.export_stands (plan_of r m)) w.exports) (λ w. list_all (planned.export_stands (plan_of r m)) (planned_world w).exports) (λ w h. h)
+      r.worlds.items is.exports_stand))
       (worlds_pass r m (λ o f. planned.function_in_range (plan_of r m) f) (λ o f. rules.function_in_range r f) function_range is.functions_in_range)))
 
   -- ---- types
@@ -169,13 +192,15 @@ module _ (r : Resolve) (m : ℕ) (is : IsPlan (plan_of r m)) where
   unowned (owner.World id) h = no_true h
   unowned owner.None h = refl
 
-  owner_by : (n : ℕ) (name : Option (String Global)) (o : TypeOwner) → option_map_or (λ t. planned.is_listed_in (plan_of r m) n t o) (optional_text name) (same_owner o owner.None) ≡ true → owner_in_range r o ≡ true
+  owner_by : (n : ℕ) (name : Option (String Global)) (o : TypeOwner) → option_map_or (λ t. planned.is_listed_in (plan_of r m) n t o) (optional_text name) (same_owner o owner.None) ≡ true
+      → owner_in_range r o ≡ true
   owner_by n None o h = unowned o h
   owner_by n (Some s) o h = owned n (text_of s) o h
 
   types_range : each_from (λ n def. is_place n && (list_all (in_list r.types.items) (parts.kind_numbers def.kind) && owner_in_range r def.owner)) 0 r.types.items ≡ true
   types_range =
-      each_two (λ n def. is_place n) (λ n def. list_all (in_list r.types.items) (parts.kind_numbers def.kind) && owner_in_range r def.owner) _ (λ n def a b. both _ _ a b) 0 r.types.items (places_fit planned_type r.types.items is.types_fit)
+      each_two (λ n def. is_place n) (λ n def. list_all (in_list r.types.items) (parts.kind_numbers def.kind) && owner_in_range r def.owner) _ (λ n def a b. both _ _ a b) 0 r.types.items
+      (places_fit planned_type r.types.items is.types_fit)
       (each_two (λ n def. list_all (in_list r.types.items) (parts.kind_numbers def.kind)) (λ n def. owner_in_range r def.owner) _ (λ n def a b. both _ _ a b) 0 r.types.items
       (each_from_all (λ n def. list_all (in_list r.types.items) (parts.kind_numbers def.kind)) 0 r.types.items (λ n def e.
       below n (length r.types.items) (slice_get_within r.types.items n def e) (parts.kind_numbers def.kind)
@@ -186,7 +211,8 @@ module _ (r : Resolve) (m : ℕ) (is : IsPlan (plan_of r m)) where
       falls n def e =
           let at : 0 + n ≡ n = omega arith in
           subst (λ j. list_all (λ k. nat_lt k j) (plan.kind_numbers (planned_kind def.kind)) ≡ true) at
-          (each_from_at (λ j x. list_all (λ k. nat_lt k j) (plan.kind_numbers (planned_kind x.kind))) 0 r.types.items n def (sym (each_of_map (λ j t. list_all (λ k. nat_lt k j) (plan.kind_numbers t.kind)) planned_type 0 r.types.items) ∙ is.types_fall) e)
+          (each_from_at (λ j x. list_all (λ k. nat_lt k j) (plan.kind_numbers (planned_kind x.kind))) 0 r.types.items n def
+          (sym (each_of_map (λ j t. list_all (λ k. nat_lt k j) (plan.kind_numbers t.kind)) planned_type 0 r.types.items) ∙ is.types_fall) e)
 
   pub numbers_kept : Keeps numbers_in_range r
   unfolding numbers_in_range

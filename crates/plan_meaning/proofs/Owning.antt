@@ -38,25 +38,32 @@ module _ (r : Resolve) (m : ℕ) where
   has_name_is : (n : ℕ) → planned.has_name (plan_of r m) n ≡ option_map_or (λ other. is_some other.name) (interface_at r n) false
   has_name_is n =
       ap (λ o. option_map_or (λ i. is_some i.name) o false) (get_of_map planned_interface r.interfaces.items n)
-      ∙ (or_of_map (λ i. is_some i.name) planned_interface false (interface_at r n) ∙ same_or (λ i. is_some (optional_text i.name)) (λ i. is_some i.name) false (λ i. has_text i.name) (interface_at r n))
+      ∙ (or_of_map (λ i. is_some i.name) planned_interface false (interface_at r n) ∙ same_or (λ i. is_some (optional_text i.name)) (λ i. is_some i.name) false (λ i. has_text i.name)
+      (interface_at r n))
 
   other_owner : (o : TypeOwner) (def : TypeDef) → (not (same_owner def.owner o) && option_map_or (planned.has_name (plan_of r m)) (owner_interface def.owner) false)
       ≡ (not (same_owner def.owner o) && option_map_or (λ i. option_map_or (λ other. is_some other.name) (interface_at r i) false) (owner_interface def.owner) false)
-  other_owner o def = ap (λ b. not (same_owner def.owner o) && b) (same_or (planned.has_name (plan_of r m)) (λ i. option_map_or (λ other. is_some other.name) (interface_at r i) false) false has_name_is (owner_interface def.owner))
+  other_owner o def = ap (λ b. not (same_owner def.owner o) && b) (same_or (planned.has_name (plan_of r m)) (λ i. option_map_or (λ other. is_some other.name) (interface_at r i) false) false
+      has_name_is (owner_interface def.owner))
 
-  target_is : (o : TypeOwner) (n : ℕ) → option_map_or (λ u. not (same_owner u.owner o) && option_map_or (planned.has_name (plan_of r m)) (owner_interface u.owner) false) (type_in (plan_of r m) n) false
-      ≡ option_map_or (λ target. not (same_owner target.owner o) && option_map_or (λ i. option_map_or (λ other. is_some other.name) (interface_at r i) false) (owner_interface target.owner) false) (type_at r n) false
+  target_is : (o : TypeOwner) (n : ℕ)
+      → option_map_or (λ u. not (same_owner u.owner o) && option_map_or (planned.has_name (plan_of r m)) (owner_interface u.owner) false) (type_in (plan_of r m) n) false
+      ≡ option_map_or (λ target. not (same_owner target.owner o) && option_map_or (λ i. option_map_or (λ other. is_some other.name) (interface_at r i) false) (owner_interface target.owner) false)
+      (type_at r n) false
   target_is o n =
       ap (λ x. option_map_or (λ u. not (same_owner u.owner o) && option_map_or (planned.has_name (plan_of r m)) (owner_interface u.owner) false) x false) (get_of_map planned_type r.types.items n)
       ∙ (or_of_map (λ u. not (same_owner u.owner o) && option_map_or (planned.has_name (plan_of r m)) (owner_interface u.owner) false) planned_type false (type_at r n)
       ∙ same_or (λ def. not (same_owner def.owner o) && option_map_or (planned.has_name (plan_of r m)) (owner_interface def.owner) false)
-      (λ target. not (same_owner target.owner o) && option_map_or (λ i. option_map_or (λ other. is_some other.name) (interface_at r i) false) (owner_interface target.owner) false) false (other_owner o) (type_at r n))
+      (λ target. not (same_owner target.owner o) && option_map_or (λ i. option_map_or (λ other. is_some other.name) (interface_at r i) false) (owner_interface target.owner) false) false
+      (other_owner o) (type_at r n))
 
   use_is : (def : TypeDef) → planned.is_use (plan_of r m) (planned_type def) ≡ rules.is_use r def
   use_is def =
-      ap (λ o. option_map_or (λ n. option_map_or (λ u. not (same_owner u.owner def.owner) && option_map_or (planned.has_name (plan_of r m)) (owner_interface u.owner) false) (type_in (plan_of r m) n) false) o false) (alias_is def.kind)
+      ap (λ o. option_map_or (λ n. option_map_or (λ u. not (same_owner u.owner def.owner) && option_map_or (planned.has_name (plan_of r m)) (owner_interface u.owner) false) (type_in (plan_of r m) n)
+      false) o false) (alias_is def.kind)
       ∙ same_or (λ n. option_map_or (λ u. not (same_owner u.owner def.owner) && option_map_or (planned.has_name (plan_of r m)) (owner_interface u.owner) false) (type_in (plan_of r m) n) false)
-      (λ n. option_map_or (λ target. not (same_owner target.owner def.owner) && option_map_or (λ i. option_map_or (λ other. is_some other.name) (interface_at r i) false) (owner_interface target.owner) false) (type_at r n) false)
+      (λ n. option_map_or (λ target. not (same_owner target.owner def.owner) && option_map_or (λ i. option_map_or (λ other. is_some other.name) (interface_at r i) false) (owner_interface target.owner)
+      false) (type_at r n) false)
       false (target_is def.owner) (alias_target def.kind)
 
   type_stays_is : (def : TypeDef) → planned.type_stays (plan_of r m) (planned_type def) ≡ rules.type_stays r def
@@ -84,7 +91,8 @@ module _ (r : Resolve) (m : ℕ) where
     pub owners_kept : Keeps owners r
     unfolding owners
     owners_kept = keeps_three owners r refl
-        (each_two (λ n i. list_all (rules.function_stays r (as_interface n)) (functions_of_interface i)) (λ n i. list_all (λ k. nat_lt k n) (direct_deps r n)) (λ n i. owners.interface_ r n i) (λ n i a b. both _ _ a b) 0 r.interfaces.items
+        (each_two (λ n i. list_all (rules.function_stays r (as_interface n)) (functions_of_interface i)) (λ n i. list_all (λ k. nat_lt k n) (direct_deps r n)) (λ n i. owners.interface_ r n i)
+        (λ n i a b. both _ _ a b) 0 r.interfaces.items
         (interfaces_pass r m (planned.function_stays (plan_of r m)) (rules.function_stays r) stays is.functions_stay)
         (each_by_number (λ n i. list_all (λ k. nat_lt k n) (direct_deps r n)) r.interfaces.items falls))
         (worlds_pass r m (planned.function_stays (plan_of r m)) (rules.function_stays r) stays is.functions_stay)

@@ -83,7 +83,8 @@ module _ (r : Resolve) (m : ℕ) where
             means = ap (λ (q : Text × InterfaceMeaning). q.1) (sym found.2) ∙ interface_is r m i;
           }
 
-  entry_of : (i : Interface) (k : Text) → is_id m (package_number i.package) ≡ false → path_of_interface r i ≡ Some k → foreign_entry (plan_of r m) (planned_interface i) ≡ Some (k, meant.interface_meaning r i)
+  entry_of : (i : Interface) (k : Text) → is_id m (package_number i.package) ≡ false → path_of_interface r i ≡ Some k
+      → foreign_entry (plan_of r m) (planned_interface i) ≡ Some (k, meant.interface_meaning r i)
   entry_of i k other path =
       ap (λ b. if b then None else option_map (under i) (path_of_planned (plan_of r m) (planned_interface i))) other
       ∙ (ap (option_map (under i)) (path_of_planned_is r m i ∙ path)
@@ -99,7 +100,8 @@ module _ (r : Resolve) (m : ℕ) where
 
 module _ (r : Resolve) (m : ℕ) (is : IsPackagePlan (plan_of r m)) (v : IsValid r) (p : Package) (at : package_at r m ≡ Some p) where
   -- without a world that shows it, an interface of another package has no functions
-  plans_none : (n : ℕ) (i : Interface) → interface_at r n ≡ Some i → is_some (interface_path r n) ≡ true → rules.is_foreign (plan_of r m) (planned_interface i) ≡ true → is_shown_in r p n ≡ false → (planned_interface i).functions ≡ []
+  plans_none : (n : ℕ) (i : Interface) → interface_at r n ≡ Some i → is_some (interface_path r n) ≡ true → rules.is_foreign (plan_of r m) (planned_interface i) ≡ true → is_shown_in r p n ≡ false
+      → (planned_interface i).functions ≡ []
   plans_none n i e path foreign hidden =
       is.bare n (planned_interface i) (get_of_map planned_interface r.interfaces.items n ∙ ap (option_map planned_interface) e) foreign
       (unseen (list_any (λ w. rules.is_shown_in w n) (map planned_world r.worlds.items)) refl)
@@ -110,20 +112,23 @@ module _ (r : Resolve) (m : ℕ) (is : IsPackagePlan (plan_of r m)) (v : IsValid
           let w = any_get (λ w. rules.is_shown_in w n) (map planned_world r.worlds.items) h in
           sym (shown_in r m is.plan v p at is.worlds n w.0 w.1 w.2 w.3 path) ∙ hidden
 
-  bare_means : (n : ℕ) (i : Interface) → interface_at r n ≡ Some i → is_some (interface_path r n) ≡ true → rules.is_foreign (plan_of r m) (planned_interface i) ≡ true → is_shown_in r p n ≡ false → types_alone (meant.interface_meaning r i) ≡ meant.interface_meaning r i
+  bare_means : (n : ℕ) (i : Interface) → interface_at r n ≡ Some i → is_some (interface_path r n) ≡ true → rules.is_foreign (plan_of r m) (planned_interface i) ≡ true → is_shown_in r p n ≡ false
+      → types_alone (meant.interface_meaning r i) ≡ meant.interface_meaning r i
   bare_means n i e path foreign hidden =
       let empty_list = plans_none n i e path foreign hidden in
       let listed : map (meant_function_entry r m) i.functions.entries ≡ [] = sym (functions_are r m i) ∙ ap (map (planned_function_entry r m)) empty_list in
       λ j. record { types = (meant.interface_meaning r i).types; functions = from_entries (sym listed j) }
 
-  foreign_means : (n : ℕ) (i : Interface) → interface_at r n ≡ Some i → is_some (interface_path r n) ≡ true → rules.is_foreign (plan_of r m) (planned_interface i) ≡ true → foreign_meaning r p n ≡ meant.interface_meaning r i
+  foreign_means : (n : ℕ) (i : Interface) → interface_at r n ≡ Some i → is_some (interface_path r n) ≡ true → rules.is_foreign (plan_of r m) (planned_interface i) ≡ true
+      → foreign_meaning r p n ≡ meant.interface_meaning r i
   foreign_means n i e path foreign = go (is_shown_in r p n) refl
     where
       go : (b : Bool) → is_shown_in r p n ≡ b → foreign_meaning r p n ≡ meant.interface_meaning r i
       go true h = ap (λ b. if b then interface_meaning_at r n else types_alone (interface_meaning_at r n)) h ∙ meaning_there r n i e
       go false h = ap (λ b. if b then interface_meaning_at r n else types_alone (interface_meaning_at r n)) h ∙ (ap types_alone (meaning_there r n i e) ∙ bare_means n i e path foreign h)
 
-  is_other : (n : ℕ) (i : Interface) → interface_at r n ≡ Some i → (k : Text) → path_of_interface r i ≡ Some k → is_id m (package_number i.package) ≡ false → rules.is_foreign (plan_of r m) (planned_interface i) ≡ true
+  is_other : (n : ℕ) (i : Interface) → interface_at r n ≡ Some i → (k : Text) → path_of_interface r i ≡ Some k → is_id m (package_number i.package) ≡ false
+      → rules.is_foreign (plan_of r m) (planned_interface i) ≡ true
   is_other n i e k path other = both _ _ (named r i k path) (ap not other)
 
   abbrev planned_entries : List (Text × InterfaceMeaning)
@@ -153,7 +158,8 @@ module _ (r : Resolve) (m : ℕ) (is : IsPackagePlan (plan_of r m)) (v : IsValid
       let path : interface_path r s.number ≡ Some k = path_there r s.number s.from s.stands ∙ s.entry.path in
       let some : is_some (interface_path r s.number) ≡ true = ap is_some path in
       let foreign : is_foreign r m s.number ≡ true = foreign_is r m s.number s.from s.stands ∙ both _ _ some (ap not (same_test r m s.from.package ∙ s.entry.other)) in
-      let among = has-contains (foreign_of r m p) s.number (has_filter (is_foreign r m) (reached_by_package r p) s.number (all_reached r m is.plan v p at is.worlds is.wanted s.number s.from s.stands) foreign) in
+      let among = has-contains (foreign_of r m p) s.number (has_filter (is_foreign r m) (reached_by_package r p) s.number
+      (all_reached r m is.plan v p at is.worlds is.wanted s.number s.from s.stands) foreign) in
       let means : foreign_meaning r p s.number ≡ x = foreign_means s.number s.from s.stands some (is_other s.number s.from s.stands k s.entry.path s.entry.other) ∙ sym s.entry.means in
       let same : foreign_at s.number ≡ (k, x) = λ j. (unwrap_or (path j) [], means j) in
       subst (λ (q : Text × InterfaceMeaning). Contains meant_entries q) same (contains-map foreign_at (foreign_of r m p) s.number among)
@@ -170,7 +176,8 @@ module _ (r : Resolve) (m : ℕ) (is : IsPackagePlan (plan_of r m)) (v : IsValid
   no_functions n i e foreign hidden =
       let some = first_true (is_some (interface_path r n)) _ (sym (foreign_is r m n i e) ∙ foreign) in
       let path = some-of (interface_path r n) some in
-      none_mapped (λ e. (text_of e.0, planned_function e.1)) i.functions.entries (plans_none n i e some (is_other n i e path.0 (sym (path_there r n i e) ∙ path.1) (other_package n i e foreign)) hidden)
+      none_mapped (λ e. (text_of e.0, planned_function e.1)) i.functions.entries
+      (plans_none n i e some (is_other n i e path.0 (sym (path_there r n i e) ∙ path.1) (other_package n i e foreign)) hidden)
 
   from_number : (n : ℕ) (k : Text) (x : InterfaceMeaning) → has (foreign_of r m p) n ≡ true → foreign_at n ≡ (k, x) → (path : Text) → interface_path r n ≡ Some path → Contains planned_entries (k, x)
   from_number n k x h e path there =
@@ -224,7 +231,8 @@ module _ (r : Resolve) (m : ℕ) (is : IsPackagePlan (plan_of r m)) (v : IsValid
   interface_entry_is e = λ i. (text_of e.0, interface_at_is r m e.1.0 i)
 
   interfaces_are : map planned_interface_entry (planned_package p).interfaces ≡ map meant_interface_entry p.interfaces.entries
-  interfaces_are = map_of_map planned_interface_entry interface_pair p.interfaces.entries ∙ same_map (λ e. planned_interface_entry (interface_pair e)) meant_interface_entry interface_entry_is p.interfaces.entries
+  interfaces_are = map_of_map planned_interface_entry interface_pair p.interfaces.entries ∙ same_map (λ e. planned_interface_entry (interface_pair e)) meant_interface_entry interface_entry_is
+      p.interfaces.entries
 
   abbrev world_pair : String Global × WorldId → Text × ℕ
   world_pair e = (text_of e.0, e.1.0)

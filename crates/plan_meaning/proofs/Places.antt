@@ -47,7 +47,8 @@ pub under_passes : (test : Text → Bool) (name : Text) (n : ℕ) (es : List (Te
 under_passes test name n [] h all = no_true h
 under_passes test name n (e ∷ es) h all = go (text_eq name e.0) refl (under_passes test name n es) h
   where
-    go : (b : Bool) → text_eq name e.0 ≡ b → (is_id n (number_under name es) ≡ true → list_all (λ x. test x.0) es ≡ true → test name ≡ true) → is_id n (cond b (Some e.1) (number_under name es)) ≡ true → test name ≡ true
+    go : (b : Bool) → text_eq name e.0 ≡ b → (is_id n (number_under name es) ≡ true → list_all (λ x. test x.0) es ≡ true → test name ≡ true) → is_id n (cond b (Some e.1) (number_under name es)) ≡ true
+        → test name ≡ true
     go true same rest h = let equal : name ≡ e.0 = (bytes_eq-Decides name e.0).0 same in ap test equal ∙ first_true (test e.0) _ all
     go false same rest h = rest h (second_true (test e.0) _ all)
 
@@ -94,46 +95,57 @@ module _ (r : Resolve) (m : ℕ) (is : IsPlan (plan_of r m)) where
   interface_there : (n : ℕ) (e : String Global × InterfaceId) → planned.lists_interface (plan_of r m) n (text_of e.0, e.1.0) ≡ true → interface_belongs r n e ≡ true
   interface_there n e h =
       let found = interface_listed r m is n e h in
-      passes_both (λ i. text_is i.name (text_of e.0)) (λ i. is_id n (package_number i.package)) (λ i. passes (λ name. is_id n (package_number i.package) && text_eq (text_of name) (text_of e.0)) i.name)
+      passes_both (λ i. text_is i.name (text_of e.0)) (λ i. is_id n (package_number i.package))
+      (λ i. passes (λ name. is_id n (package_number i.package) && text_eq (text_of name) (text_of e.0)) i.name)
       (λ i a b. name_belongs i.name (text_of e.0) (is_id n (package_number i.package)) a b) (interface_at r e.1.0) found.1 found.2
 
   world_there : (n : ℕ) (e : String Global × WorldId) → planned.lists_world (plan_of r m) n (text_of e.0, e.1.0) ≡ true → world_belongs r n e ≡ true
   world_there n e h =
       let found = world_listed r m is n e h in
-      passes_both (λ w. text_eq (text_of w.name) (text_of e.0)) (λ w. is_id n (package_number w.package)) (λ w. is_id n (package_number w.package) && text_eq (text_of w.name) (text_of e.0)) (λ w a b. both _ _ b a) (world_at r e.1.0) found.1 found.2
+      passes_both (λ w. text_eq (text_of w.name) (text_of e.0)) (λ w. is_id n (package_number w.package)) (λ w. is_id n (package_number w.package) && text_eq (text_of w.name) (text_of e.0))
+      (λ w a b. both _ _ b a) (world_at r e.1.0) found.1 found.2
 
   names_differ : (p : Package) → members_differ (planned_package p) ≡ true → list_all (λ e. not (is_world_name p (text_of e.0)) || names_itself r e) p.interfaces.entries ≡ true
   names_differ p h =
       all_two (λ e. not (is_world_name p (text_of e.0))) (λ e. true) (λ e. not (is_world_name p (text_of e.0)) || names_itself r e) (λ e a b. or_first _ (names_itself r e) a) p.interfaces.entries
       (sym (list_all-map (λ name. not (is_world_name p (text_of name))) (λ e. e.0) p.interfaces.entries)
-      ∙ keys_apart (keys p.interfaces) (keys p.worlds) (ap are_distinct (λ j. sym (names_are (λ (id : InterfaceId). id.0) p.interfaces.entries) j ++ sym (names_are (λ (id : WorldId). id.0) p.worlds.entries) j) ∙ h))
+      ∙ keys_apart (keys p.interfaces) (keys p.worlds) (ap are_distinct (λ j. sym (names_are (λ (id : InterfaceId). id.0) p.interfaces.entries) j ++ sym
+      (names_are (λ (id : WorldId). id.0) p.worlds.entries) j) ∙ h))
       (always p.interfaces.entries)
     where
       always : {A : Type 0} (xs : List A) → list_all (λ x. true) xs ≡ true
       always [] = refl
       always (x ∷ xs) = always xs
 
-  packages_placed : each_from (λ n p. list_all (interface_belongs r n) p.interfaces.entries && (list_all (world_belongs r n) p.worlds.entries && list_all (λ e. not (is_world_name p (text_of e.0)) || names_itself r e) p.interfaces.entries)) 0 r.packages.items ≡ true
+  packages_placed : each_from (λ n p. list_all (interface_belongs r n) p.interfaces.entries
+      && (list_all (world_belongs r n) p.worlds.entries && list_all (λ e. not (is_world_name p (text_of e.0)) || names_itself r e) p.interfaces.entries)) 0 r.packages.items ≡ true
   packages_placed =
-      each_two (λ n p. list_all (interface_belongs r n) p.interfaces.entries && list_all (world_belongs r n) p.worlds.entries) (λ n p. list_all (λ e. not (is_world_name p (text_of e.0)) || names_itself r e) p.interfaces.entries)
+      each_two (λ n p. list_all (interface_belongs r n) p.interfaces.entries && list_all (world_belongs r n) p.worlds.entries)
+      (λ n p. list_all (λ e. not (is_world_name p (text_of e.0)) || names_itself r e) p.interfaces.entries)
       _ (λ n p a b. both _ _ (first_true _ _ a) (both _ _ (second_true (list_all (interface_belongs r n) p.interfaces.entries) _ a) b)) 0 r.packages.items
       (members_pass r m is (interface_belongs r) (world_belongs r) interface_there world_there)
-      (each_from_built planned_package members_differ (λ p. list_all (λ e. not (is_world_name p (text_of e.0)) || names_itself r e) p.interfaces.entries) names_differ r.packages.items is.members_differ)
+      (each_from_built planned_package members_differ (λ p. list_all (λ e. not (is_world_name p (text_of e.0)) || names_itself r e) p.interfaces.entries) names_differ r.packages.items
+      is.members_differ)
 
   -- ---- interfaces
 
   differs_at : (q : ℕ) (p : Package) → package_at r q ≡ Some p → members_differ (planned_package p) ≡ true
-  differs_at q p e = all_get members_differ (map planned_package r.packages.items) q (planned_package p) is.members_differ (get_of_map planned_package r.packages.items q ∙ ap (option_map planned_package) e)
+  differs_at q p e = all_get members_differ (map planned_package r.packages.items) q (planned_package p) is.members_differ
+      (get_of_map planned_package r.packages.items q ∙ ap (option_map planned_package) e)
 
-  listed_in : (n : ℕ) (name : Text) (p : Package) → members_differ (planned_package p) ≡ true → is_id n (number_under name (planned_package p).interfaces) ≡ true → (interface_is_listed n name p && not (is_world_name p name)) ≡ true
+  listed_in : (n : ℕ) (name : Text) (p : Package) → members_differ (planned_package p) ≡ true → is_id n (number_under name (planned_package p).interfaces) ≡ true
+      → (interface_is_listed n name p && not (is_world_name p name)) ≡ true
   listed_in n name p d h = both _ _ (ap (is_id n) (sym (interface_number p name)) ∙ h) (no_world p name n d h)
 
-  named_at : (n : ℕ) (name : Text) (o : Option PackageId) → option_map_or (λ k. is_id n (number_under name k.interfaces)) (option_and_then (package_in (plan_of r m)) (option_map (λ id. id.0) o)) false ≡ true
+  named_at : (n : ℕ) (name : Text) (o : Option PackageId)
+      → option_map_or (λ k. is_id n (number_under name k.interfaces)) (option_and_then (package_in (plan_of r m)) (option_map (λ id. id.0) o)) false ≡ true
       → (is_some o && option_map_or (λ p. interface_is_listed n name p && not (is_world_name p name)) (option_and_then (package_at r) (package_number o)) true) ≡ true
   named_at n name None h = no_true h
-  named_at n name (Some id) h = go (package_at r id.0) refl (sym (ap (λ o. option_map_or (λ k. is_id n (number_under name k.interfaces)) o false) (get_of_map planned_package r.packages.items id.0)) ∙ h)
+  named_at n name (Some id) h = go (package_at r id.0) refl (sym (ap (λ o. option_map_or (λ k. is_id n (number_under name k.interfaces)) o false)
+      (get_of_map planned_package r.packages.items id.0)) ∙ h)
     where
-      go : (o : Option Package) → package_at r id.0 ≡ o → option_map_or (λ k. is_id n (number_under name k.interfaces)) (option_map planned_package o) false ≡ true → option_map_or (λ p. interface_is_listed n name p && not (is_world_name p name)) (package_at r id.0) true ≡ true
+      go : (o : Option Package) → package_at r id.0 ≡ o → option_map_or (λ k. is_id n (number_under name k.interfaces)) (option_map planned_package o) false ≡ true
+          → option_map_or (λ p. interface_is_listed n name p && not (is_world_name p name)) (package_at r id.0) true ≡ true
       go None e h = no_true h
       go (Some p) e h = ap (λ o. option_map_or (λ p. interface_is_listed n name p && not (is_world_name p name)) o true) e ∙ listed_in n name p (differs_at id.0 p e) h
 
@@ -145,22 +157,28 @@ module _ (r : Resolve) (m : ℕ) (is : IsPlan (plan_of r m)) where
   shown_once n o = (sum_by (rules.times_shown n) r.worlds.items == 1) && list_all (λ w. (rules.times_shown n w == 0) || option_eq ◌==◌ (package_number w.package) (package_number o)) r.worlds.items
 
   inline_at : (n : ℕ) (o : Option PackageId) →
-      ((sum_by (planned.times_shown n) (map planned_world r.worlds.items) == 1) && list_all (λ w. (planned.times_shown n w == 0) || option_eq ◌==◌ w.package_ (option_map (λ id. id.0) o)) (map planned_world r.worlds.items)) ≡ shown_once n o
+      ((sum_by (planned.times_shown n) (map planned_world r.worlds.items) == 1) && list_all (λ w. (planned.times_shown n w == 0) || option_eq ◌==◌ w.package_ (option_map (λ id. id.0) o))
+      (map planned_world r.worlds.items)) ≡ shown_once n o
   inline_at n o = λ i. (all_times_are n r.worlds.items i == 1)
-      && all_of_map (λ w. (planned.times_shown n w == 0) || option_eq ◌==◌ w.package_ (option_map (λ id. id.0) o)) (λ w. (rules.times_shown n w == 0) || option_eq ◌==◌ (package_number w.package) (package_number o)) planned_world
+      && all_of_map (λ w. (planned.times_shown n w == 0) || option_eq ◌==◌ w.package_ (option_map (λ id. id.0) o))
+      (λ w. (rules.times_shown n w == 0) || option_eq ◌==◌ (package_number w.package) (package_number o)) planned_world
       (λ w. ap (λ t. (t == 0) || option_eq ◌==◌ (package_number w.package) (package_number o)) (times_are n w)) r.worlds.items i
 
   interface_by : (n : ℕ) (name : Option (String Global)) (o : Option PackageId) →
       option_map_or (λ t. option_map_or (λ k. is_id n (number_under t k.interfaces)) (option_and_then (package_in (plan_of r m)) (option_map (λ id. id.0) o)) false) (optional_text name)
       (option_map_or (rules.in_list (map planned_package r.packages.items)) (option_map (λ id. id.0) o) false
-      && ((sum_by (planned.times_shown n) (map planned_world r.worlds.items) == 1) && list_all (λ w. (planned.times_shown n w == 0) || option_eq ◌==◌ w.package_ (option_map (λ id. id.0) o)) (map planned_world r.worlds.items))) ≡ true
-      → (is_some o && option_map_or (λ s. option_map_or (λ p. interface_is_listed n (text_of s) p && not (is_world_name p (text_of s))) (option_and_then (package_at r) (package_number o)) true) name (shown_once n o)) ≡ true
+      && ((sum_by (planned.times_shown n) (map planned_world r.worlds.items) == 1) && list_all (λ w. (planned.times_shown n w == 0) || option_eq ◌==◌ w.package_ (option_map (λ id. id.0) o))
+      (map planned_world r.worlds.items))) ≡ true
+      → (is_some o && option_map_or (λ s. option_map_or (λ p. interface_is_listed n (text_of s) p && not (is_world_name p (text_of s))) (option_and_then (package_at r) (package_number o)) true) name
+      (shown_once n o)) ≡ true
   interface_by n (Some s) o h = named_at n (text_of s) o h
-  interface_by n None o h = both _ _ (some_package o (rules.in_list (map planned_package r.packages.items)) (first_true _ _ h)) (sym (inline_at n o) ∙ second_true (option_map_or (rules.in_list (map planned_package r.packages.items)) (option_map (λ id. id.0) o) false) _ h)
+  interface_by n None o h = both _ _ (some_package o (rules.in_list (map planned_package r.packages.items)) (first_true _ _ h))
+      (sym (inline_at n o) ∙ second_true (option_map_or (rules.in_list (map planned_package r.packages.items)) (option_map (λ id. id.0) o) false) _ h)
 
   -- ---- worlds
 
-  world_by : (n : ℕ) (name : Text) (o : Option PackageId) → option_map_or (λ k. is_id n (number_under name k.worlds)) (option_and_then (package_in (plan_of r m)) (option_map (λ id. id.0) o)) false ≡ true
+  world_by : (n : ℕ) (name : Text) (o : Option PackageId)
+      → option_map_or (λ k. is_id n (number_under name k.worlds)) (option_and_then (package_in (plan_of r m)) (option_map (λ id. id.0) o)) false ≡ true
       → (is_some o && option_map_or (world_is_listed n name) (option_and_then (package_at r) (package_number o)) true) ≡ true
   world_by n name None h = no_true h
   world_by n name (Some id) h = go (package_at r id.0) (sym (ap (λ o. option_map_or (λ k. is_id n (number_under name k.worlds)) o false) (get_of_map planned_package r.packages.items id.0)) ∙ h)

@@ -50,8 +50,6 @@ pub further : (r : Resolve) (k n m j : ℕ) → Chain r k n m → has (direct_de
 further r zero n m j c h = (j, ap (λ i. has (direct_deps r i) j) c ∙ h, refl)
 further r (suc k) n m j c h = (c.0, c.1, further r k c.0 m j c.2 h)
 
--- only an interface that stands there uses any
-
 -- ---- what is shown once is shown somewhere
 
 times_more : (n : ℕ) (o : Option ℕ) (ns : List ℕ) (t : ℕ) → (has ns n ≡ false → t ≡ 0) → has (cons_option o ns) n ≡ false → cond (is_id n o) 1 0 + t ≡ 0
@@ -85,7 +83,8 @@ item_among : (r : Resolve) (n : ℕ) (xs : List WorldItem) → has (filter_map u
 item_among r n [] h = no_true h
 item_among r n (item.Interface id stability docs external_id ∷ xs) h = go (id.0 == n) refl h (item_among r n xs)
   where
-    go : (b : Bool) → (id.0 == n) ≡ b → (b || has (filter_map uses.item_interface xs) n) ≡ true → (has (filter_map uses.item_interface xs) n ≡ true → has (flat_map (interfaces_of_item r) xs) n ≡ true) → ((id.0 == n) || has (flat_map (interfaces_of_item r) xs) n) ≡ true
+    go : (b : Bool) → (id.0 == n) ≡ b → (b || has (filter_map uses.item_interface xs) n) ≡ true → (has (filter_map uses.item_interface xs) n ≡ true → has (flat_map (interfaces_of_item r) xs) n ≡ true)
+        → ((id.0 == n) || has (flat_map (interfaces_of_item r) xs) n) ≡ true
     go true e h rest = or_left (id.0 == n) (has (flat_map (interfaces_of_item r) xs) n) e
     go false e h rest = or_right (id.0 == n) (has (flat_map (interfaces_of_item r) xs) n) (rest h)
 item_among r n (item.Function f ∷ xs) h = item_among r n xs h
@@ -97,7 +96,8 @@ pub shows_is : (n : ℕ) (w : World) → planned.is_shown_in (planned_world w) n
 shows_is n w = ap (λ xs. has (filter_map plan.item_interface xs) n) (items_are w) ∙ ap (λ ns. has ns n) (item_interfaces_are (items_of w))
 
 -- the number under a name is one of those that a list of a package holds
-listed_number : {A : Type 0} (number : A → ℕ) (es : List (String Global × A)) (name : Text) (n : ℕ) → is_id n (number_under name (map (λ e. (text_of e.0, number e.1)) es)) ≡ true → has (map number (map (λ e. e.1) es)) n ≡ true
+listed_number : {A : Type 0} (number : A → ℕ) (es : List (String Global × A)) (name : Text) (n : ℕ) → is_id n (number_under name (map (λ e. (text_of e.0, number e.1)) es)) ≡ true
+    → has (map number (map (λ e. e.1) es)) n ≡ true
 listed_number number es name n h =
     ap (λ ns. has ns n) (map_of_map number (λ e. e.1) es ∙ sym (map_of_map (λ (e : Text × ℕ). e.1) (λ e. (text_of e.0, number e.1)) es))
     ∙ under_has name n (map (λ e. (text_of e.0, number e.1)) es) h
@@ -105,20 +105,27 @@ listed_number number es name n h =
 module _ (r : Resolve) (m : ℕ) (is : IsPlan (plan_of r m)) (v : IsValid r) (p : Package) (at : package_at r m ≡ Some p)
     (home : list_all (λ w. is_id m w.package_) (map planned_world r.worlds.items) ≡ true) where
   -- what stands in the main package
-  main_package : (test : PlannedPackage → Bool) (o : Option PackageId) → is_id m (option_map (λ id. id.0) o) ≡ true → option_map_or test (option_and_then (package_in (plan_of r m)) (option_map (λ id. id.0) o)) false ≡ true → test (planned_package p) ≡ true
+  main_package : (test : PlannedPackage → Bool) (o : Option PackageId) → is_id m (option_map (λ id. id.0) o) ≡ true
+      → option_map_or test (option_and_then (package_in (plan_of r m)) (option_map (λ id. id.0) o)) false ≡ true → test (planned_package p) ≡ true
   main_package test None same h = no_true same
   main_package test (Some id) same h =
       let number : id.0 ≡ m = eqb-true id.0 m same in
-      let there : slice_get (map planned_package r.packages.items) id.0 ≡ Some (planned_package p) = ap (slice_get (map planned_package r.packages.items)) number ∙ (get_of_map planned_package r.packages.items m ∙ ap (option_map planned_package) at) in
+      let there : slice_get (map planned_package r.packages.items) id.0 ≡ Some (planned_package p) =
+      ap (slice_get (map planned_package r.packages.items)) number ∙ (get_of_map planned_package r.packages.items m ∙ ap (option_map planned_package) at) in
       ap (λ o. option_map_or test o false) (sym there) ∙ h
 
   pub world_among : (j : ℕ) (w : World) → world_at r j ≡ Some w → Contains (worlds_of r p) w
   world_among j w e =
       let planned_at : slice_get (map planned_world r.worlds.items) j ≡ Some (planned_world w) = get_of_map planned_world r.worlds.items j ∙ ap (option_map planned_world) e in
-      let placed = each_at (λ k x. planned.is_world_placed (plan_of r m) k (planned_world x)) r.worlds.items j w (sym (each_of_map (planned.is_world_placed (plan_of r m)) planned_world 0 r.worlds.items) ∙ is.worlds_placed) e in
-      let listed = main_package (λ k. is_id j (number_under (text_of w.name) k.worlds)) w.package (all_get (λ x. is_id m x.package_) (map planned_world r.worlds.items) j (planned_world w) home planned_at) placed in
-      let stands = map_from (λ (id : WorldId). id.0) (values p.worlds) j (has-contains (map (λ id. id.0) (values p.worlds)) j (listed_number (λ id. id.0) p.worlds.entries (text_of w.name) j listed)) in
-      contains-filter_map (λ id. world_at r id.0) (values p.worlds) stands.0 w stands.1 (let found : world_at r stands.0.0 ≡ Some w = ap (world_at r) stands.2 ∙ e in let one : option_to_list (Some w) ≡ option_to_list (world_at r stands.0.0) = ap option_to_list (sym found) in subst (λ (xs : List World). Contains xs w) one (contains-one w))
+      let placed = each_at (λ k x. planned.is_world_placed (plan_of r m) k (planned_world x)) r.worlds.items j w
+      (sym (each_of_map (planned.is_world_placed (plan_of r m)) planned_world 0 r.worlds.items) ∙ is.worlds_placed) e in
+      let listed = main_package (λ k. is_id j (number_under (text_of w.name) k.worlds)) w.package
+      (all_get (λ x. is_id m x.package_) (map planned_world r.worlds.items) j (planned_world w) home planned_at) placed in
+      let stands = map_from (λ (id : WorldId). id.0) (values p.worlds) j (has-contains (map (λ id. id.0) (values p.worlds)) j
+      (listed_number (λ id. id.0) p.worlds.entries (text_of w.name) j listed)) in
+      contains-filter_map (λ id. world_at r id.0) (values p.worlds) stands.0 w stands.1
+      (let found : world_at r stands.0.0 ≡ Some w = ap (world_at r) stands.2 ∙ e in let one : option_to_list (Some w) ≡ option_to_list (world_at r stands.0.0) = ap option_to_list (sym found) in
+      subst (λ (xs : List World). Contains xs w) one (contains-one w))
 
   abbrev pub starts : List ℕ
   starts = map (λ id. id.0) (values p.interfaces) ++ flat_map (interfaces_of_world r) (worlds_of r p)
@@ -142,7 +149,8 @@ module _ (r : Resolve) (m : ℕ) (is : IsPlan (plan_of r m)) (v : IsValid r) (p 
       shown_starts n j w.0 w.1 (sym (shows_is n w.0) ∙ (ap (λ y. planned.is_shown_in y n) w.2 ∙ h))
 
   -- an interface with a path that a world shows is shown in the package
-  pub shown_in : (n j : ℕ) (x : PlannedWorld) → slice_get (map planned_world r.worlds.items) j ≡ Some x → planned.is_shown_in x n ≡ true → is_some (interface_path r n) ≡ true → is_shown_in r p n ≡ true
+  pub shown_in : (n j : ℕ) (x : PlannedWorld) → slice_get (map planned_world r.worlds.items) j ≡ Some x → planned.is_shown_in x n ≡ true → is_some (interface_path r n) ≡ true
+      → is_shown_in r p n ≡ true
   shown_in n j x e h path =
       let w = get_back planned_world r.worlds.items j x e in
       let among = contains-get (worlds_of r p) w.0 (world_among j w.0 w.1) in
@@ -161,10 +169,12 @@ module _ (r : Resolve) (m : ℕ) (is : IsPlan (plan_of r m)) (v : IsValid r) (p 
     why_by : (n : ℕ) (i : Interface) → interface_at r n ≡ Some i → (name : Option (String Global)) → i.name ≡ name →
         option_map_or (λ t. option_map_or (λ k. is_id n (number_under t k.interfaces)) (option_and_then (package_in (plan_of r m)) (option_map (λ id. id.0) i.package)) false) (optional_text name)
         (option_map_or (in_list (map planned_package r.packages.items)) (option_map (λ id. id.0) i.package) false
-        && ((sum_by (planned.times_shown n) (map planned_world r.worlds.items) == 1) && list_all (λ w. (planned.times_shown n w == 0) || option_eq ◌==◌ w.package_ (option_map (λ id. id.0) i.package)) (map planned_world r.worlds.items))) ≡ true → Why n
+        && ((sum_by (planned.times_shown n) (map planned_world r.worlds.items) == 1) && list_all (λ w. (planned.times_shown n w == 0) || option_eq ◌==◌ w.package_ (option_map (λ id. id.0) i.package))
+        (map planned_world r.worlds.items))) ≡ true → Why n
     why_by n i e None unnamed h =
         let somewhere = any_get (λ w. planned.is_shown_in w n) (map planned_world r.worlds.items)
-        (shown_somewhere n (map planned_world r.worlds.items) (first_true _ _ (second_true (option_map_or (in_list (map planned_package r.packages.items)) (option_map (λ id. id.0) i.package) false) _ h))) in
+        (shown_somewhere n (map planned_world r.worlds.items) (first_true _ _
+        (second_true (option_map_or (in_list (map planned_package r.packages.items)) (option_map (λ id. id.0) i.package) false) _ h))) in
         inl (planned_starts n somewhere.0 somewhere.1 somewhere.2 somewhere.3)
     why_by n i e (Some s) named h = go (is_id m (option_map (λ id. id.0) i.package)) refl
       where
@@ -176,7 +186,8 @@ module _ (r : Resolve) (m : ℕ) (is : IsPlan (plan_of r m)) (v : IsValid r) (p 
         go false other = by_reason n (wanted n (planned_interface i) (get_of_map planned_interface r.interfaces.items n ∙ ap (option_map planned_interface) e) (foreign other))
 
     why : (n : ℕ) (i : Interface) → interface_at r n ≡ Some i → Why n
-    why n i e = why_by n i e i.name refl (each_at (λ k x. planned.is_placed (plan_of r m) k (planned_interface x)) r.interfaces.items n i (sym (each_of_map (planned.is_placed (plan_of r m)) planned_interface 0 r.interfaces.items) ∙ is.interfaces_placed) e)
+    why n i e = why_by n i e i.name refl (each_at (λ k x. planned.is_placed (plan_of r m) k (planned_interface x)) r.interfaces.items n i
+        (sym (each_of_map (planned.is_placed (plan_of r m)) planned_interface 0 r.interfaces.items) ∙ is.interfaces_placed) e)
 
     abbrev Leads : ℕ → Type 0
     Leads n = (s : ℕ) × (k : ℕ) × (has starts s ≡ true) × Chain r k s n

@@ -50,25 +50,29 @@ keys_are_names : (fs : List (Text × NumberedFunction)) (es : List (Text × Plan
 keys_are_names [] [] z = refl
 keys_are_names [] (e ∷ es) z = absurd z
 keys_are_names (f ∷ fs) [] z = absurd z
-keys_are_names (f ∷ fs) (e ∷ es) z = both (text_eq e.0 e.1.name) (list_all (λ (x : Text × PlannedFunction). text_eq x.0 x.1.name) es) (same_text e.0 e.1.name (z.0.0 ∙ sym z.0.1)) (keys_are_names fs es z.1)
+keys_are_names (f ∷ fs) (e ∷ es) z = both (text_eq e.0 e.1.name) (list_all (λ (x : Text × PlannedFunction). text_eq x.0 x.1.name) es) (same_text e.0 e.1.name (z.0.0 ∙ sym z.0.1))
+    (keys_are_names fs es z.1)
 
 module _ (t : Tables) (kept : List ℕ) (p : Plan) (are : TypesAreKept t kept p) where
   -- ---- order
 
-  later_rise : (n : ℕ) (e : Text × ℕ) → slice_get kept e.1 ≡ Some n → (ns : List ℕ) (es : List (Text × ℕ)) → AllZip (IsKeptAs kept p) ns es → list_all (nat_lt n) ns ≡ true → list_all (nat_lt e.1) (numbers_of es) ≡ true
+  later_rise : (n : ℕ) (e : Text × ℕ) → slice_get kept e.1 ≡ Some n → (ns : List ℕ) (es : List (Text × ℕ)) → AllZip (IsKeptAs kept p) ns es → list_all (nat_lt n) ns ≡ true
+      → list_all (nat_lt e.1) (numbers_of es) ≡ true
   later_rise n e at [] [] z h = refl
   later_rise n e at [] (x ∷ es) z h = absurd z
   later_rise n e at (m ∷ ns) [] z h = absurd z
   later_rise n e at (m ∷ ns) (x ∷ es) z h =
       let less : n < m = ltb→lt n m (subst T (sym (first_true (nat_lt n m) (list_all (nat_lt n) ns) h)) tt) in
-      both (nat_lt e.1 x.1) (list_all (nat_lt e.1) (numbers_of es)) (lt-ltb e.1 x.1 (are.rise e.1 x.1 n m at z.0.0 less)) (later_rise n e at ns es z.1 (second_true (nat_lt n m) (list_all (nat_lt n) ns) h))
+      both (nat_lt e.1 x.1) (list_all (nat_lt e.1) (numbers_of es)) (lt-ltb e.1 x.1 (are.rise e.1 x.1 n m at z.0.0 less))
+      (later_rise n e at ns es z.1 (second_true (nat_lt n m) (list_all (nat_lt n) ns) h))
 
   all_rise : (ns : List ℕ) (es : List (Text × ℕ)) → AllZip (IsKeptAs kept p) ns es → are_rising ns ≡ true → are_rising (numbers_of es) ≡ true
   all_rise [] [] z h = refl
   all_rise [] (e ∷ es) z h = absurd z
   all_rise (n ∷ ns) [] z h = absurd z
   all_rise (n ∷ ns) (e ∷ es) z h =
-      both (list_all (nat_lt e.1) (numbers_of es)) (are_rising (numbers_of es)) (later_rise n e z.0.0 ns es z.1 (first_true (list_all (nat_lt n) ns) (are_rising ns) h)) (all_rise ns es z.1 (second_true (list_all (nat_lt n) ns) (are_rising ns) h))
+      both (list_all (nat_lt e.1) (numbers_of es)) (are_rising (numbers_of es)) (later_rise n e z.0.0 ns es z.1 (first_true (list_all (nat_lt n) ns) (are_rising ns) h))
+      (all_rise ns es z.1 (second_true (list_all (nat_lt n) ns) (are_rising ns) h))
 
   -- ---- types
 
@@ -90,13 +94,16 @@ module _ (t : Tables) (kept : List ℕ) (p : Plan) (are : TypesAreKept t kept p)
         let owner_is = owned.owned e.1 n found.0 q x.name found.1 at.0 there ∙ home in
         ap (λ o. option_map_or (λ y. bears e.0 y.name && same_owner y.owner (as_interface m)) o false) found.1
         ∙ both (bears e.0 found.0.name) (same_owner found.0.owner (as_interface m))
-        (ap (λ y. bears y found.0.name) name ∙ bears_name q n x.name found.0 there (subst (λ k. IsKeptType t kept p k found.0) number is.2)) (ap (λ o. same_owner o (as_interface m)) owner_is ∙ owner_itself (as_interface m))
+        (ap (λ y. bears y found.0.name) name ∙ bears_name q n x.name found.0 there (subst (λ k. IsKeptType t kept p k found.0) number is.2))
+        (ap (λ o. same_owner o (as_interface m)) owner_is ∙ owner_itself (as_interface m))
 
-    types_are : (xs : List NumberedType) (ns : List ℕ) (es : List (Text × ℕ)) → AllZip (IsNumberOf t q) xs ns → AllZip (IsKeptAs kept p) ns es → AllZip HasName xs es → list_all (is_type_of p (as_interface m)) es ≡ true
+    types_are : (xs : List NumberedType) (ns : List ℕ) (es : List (Text × ℕ)) → AllZip (IsNumberOf t q) xs ns → AllZip (IsKeptAs kept p) ns es → AllZip HasName xs es
+        → list_all (is_type_of p (as_interface m)) es ≡ true
     types_are xs ns [] y z names = refl
     types_are [] ns (e ∷ es) y z names = absurd names
     types_are (x ∷ xs) [] (e ∷ es) y z names = absurd y
-    types_are (x ∷ xs) (n ∷ ns) (e ∷ es) y z names = both (is_type_of p (as_interface m) e) (list_all (is_type_of p (as_interface m)) es) (type_is x n e y.0 z.0 names.0) (types_are xs ns es y.1 z.1 names.1)
+    types_are (x ∷ xs) (n ∷ ns) (e ∷ es) y z names = both (is_type_of p (as_interface m) e) (list_all (is_type_of p (as_interface m)) es) (type_is x n e y.0 z.0 names.0)
+        (types_are xs ns es y.1 z.1 names.1)
 
   -- ---- one interface
 

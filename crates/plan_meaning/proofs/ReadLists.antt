@@ -92,7 +92,8 @@ number_there name n (x ∷ es) d (suc i, low, e) =
   where
     go : (b : Bool) → text_eq name x.0 ≡ b → list_any (text_eq x.0) (names_of es) ≡ false → is_id n (number_under name es) ≡ true → list_any (text_eq name) (names_of es) ≡ true
         → is_id n (cond b (Some x.1) (number_under name es)) ≡ true
-    go true f absent rest there = let same : name ≡ x.0 = (bytes_eq-Decides name x.0).0 f in never (list_any (text_eq x.0) (names_of es)) (ap (λ y. list_any (text_eq y) (names_of es)) (sym same) ∙ there) absent
+    go true f absent rest there = let same : name ≡ x.0 = (bytes_eq-Decides name x.0).0 f in
+        never (list_any (text_eq x.0) (names_of es)) (ap (λ y. list_any (text_eq y) (names_of es)) (sym same) ∙ there) absent
     go false f absent rest there = rest
 
 pub distinct_both : (xs ys : List Text) → are_distinct xs ≡ true → are_distinct ys ≡ true → list_all (λ x. not (list_any (text_eq x) ys)) xs ≡ true → are_distinct (xs ++ ys) ≡ true

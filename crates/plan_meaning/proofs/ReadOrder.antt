@@ -68,13 +68,15 @@ same_declared (Some x) (Some y) h = ap Some (eqb-true x y h)
 same_declared None (Some y) h = no_true h
 same_declared (Some x) None h = no_true h
 
-pub same_uses : (t : Tables) (xs ys : List NumberedType) → pointwise same_shown xs ys ≡ true → flat_map (λ (x : NumberedType). used_by t x.declared) xs ≡ flat_map (λ (x : NumberedType). used_by t x.declared) ys
+pub same_uses : (t : Tables) (xs ys : List NumberedType) → pointwise same_shown xs ys ≡ true
+    → flat_map (λ (x : NumberedType). used_by t x.declared) xs ≡ flat_map (λ (x : NumberedType). used_by t x.declared) ys
 same_uses t [] [] h = refl
 same_uses t [] (y ∷ ys) h = no_true h
 same_uses t (x ∷ xs) [] h = no_true h
 same_uses t (x ∷ xs) (y ∷ ys) h =
     let front = first_true (same_shown x y) (pointwise same_shown xs ys) h in
-    let one : x.declared ≡ y.declared = same_declared x.declared y.declared (first_true (same_number x.declared y.declared) (same_id x.external_id y.external_id) (second_true _ (same_number x.declared y.declared && same_id x.external_id y.external_id) front)) in
+    let one : x.declared ≡ y.declared = same_declared x.declared y.declared
+    (first_true (same_number x.declared y.declared) (same_id x.external_id y.external_id) (second_true _ (same_number x.declared y.declared && same_id x.external_id y.external_id) front)) in
     λ i. used_by t (one i) ++ same_uses t xs ys (second_true (same_shown x y) (pointwise same_shown xs ys) h) i
 
 pub has_front : (xs ys : List ℕ) (n : ℕ) → has xs n ≡ true → has (xs ++ ys) n ≡ true
@@ -113,7 +115,8 @@ module _ (t : Tables) (tables : AreTables t) (kept : List ℕ) (p : Plan) (are :
   fall = (kept_types_pass t tables kept p are).1.types_fall
 
   part_below : (n : ℕ) (x : PlannedType) → slice_get p.types n ≡ Some x → (i : ℕ) → Contains (kind_numbers x.kind) i → i < n
-  part_below n x e i c = ltb→lt i n (subst T (sym (all-contained (λ j. nat_lt j n) (kind_numbers x.kind) i (each_at (λ n x. list_all (λ m. nat_lt m n) (kind_numbers x.kind)) p.types n x fall e) c)) tt)
+  part_below n x e i c = ltb→lt i n (subst T (sym (all-contained (λ j. nat_lt j n) (kind_numbers x.kind) i
+      (each_at (λ n x. list_all (λ m. nat_lt m n) (kind_numbers x.kind)) p.types n x fall e) c)) tt)
 
   -- ---- one world
 
@@ -189,11 +192,13 @@ module _ (t : Tables) (tables : AreTables t) (kept : List ℕ) (p : Plan) (are :
             let all = option_map_or (interfaces_used_by p) (interface_in p n) [] in
             let kept_u = filter_has (λ k. not (k == n)) (once all) u (contains-has (direct_uses p n) u c) in
             let in_all : has all u ≡ true = sym (has_once u all) ∙ kept_u.0 in
-            let listed_u : Contains (interfaces_used_by p is.interface) u = has-contains (interfaces_used_by p is.interface) u (sym (ap (λ o. has (option_map_or (interfaces_used_by p) o []) u) is.there) ∙ in_all) in
+            let listed_u : Contains (interfaces_used_by p is.interface) u = has-contains (interfaces_used_by p is.interface) u
+            (sym (ap (λ o. has (option_map_or (interfaces_used_by p) o []) u) is.there) ∙ in_all) in
             by u (not_true (u == n) kept_u.1) (interface_uses t tables kept p are b owned views n is.interface viewed u listed_u)
 
     type_uses_there : (key : Text) (count : ℕ) (d : Option ℕ) (id : Option Text) (n : ℕ) → IsTypeUnder t kept p b views (as_world m) home key count d id n → (earlier found : List ℕ)
-        → ((r u : ℕ) → has earlier r ≡ true → b.owners r ≡ as_interface u → has found u ≡ true) → list_all (has earlier) (used_by t d) ≡ true → list_all (has found) (option_to_list (interface_used_by p n)) ≡ true
+        → ((r u : ℕ) → has earlier r ≡ true → b.owners r ≡ as_interface u → has found u ≡ true) → list_all (has earlier) (used_by t d) ≡ true
+        → list_all (has found) (option_to_list (interface_used_by p n)) ≡ true
     type_uses_there key count d id n is earlier found inv h = by (type_uses t tables kept p are b owned n is.number home key d id is.stands is.shape is.becomes)
       where
         given : (o : Option ℕ) → (r : ℕ) → Contains (used_by t d) r → o ≡ owner_interface (b.owners r) → list_all (has found) (option_to_list o) ≡ true
@@ -207,10 +212,12 @@ module _ (t : Tables) (tables : AreTables t) (kept : List ℕ) (p : Plan) (are :
 
     -- ---- types
 
-    stands_first : (x : ReadItem) (rest : List ReadItem) (j : ℕ) (w : IsWorldType j) → list_all (λ (y : ReadItem). not (is_type_seen y.seen.shown) || nat_lt x.count y.count) rest ≡ true → w.number < x.count
+    stands_first : (x : ReadItem) (rest : List ReadItem) (j : ℕ) (w : IsWorldType j) → list_all (λ (y : ReadItem). not (is_type_seen y.seen.shown) || nat_lt x.count y.count) rest ≡ true
+        → w.number < x.count
         → (is_type_seen x.seen.shown ≡ true → x.count ≡ w.number + 1 → ⊥) → (found : List ℕ) → (has found j ≡ true) ⊎ Waits (x ∷ rest) w.number → has found j ≡ true
     stands_first x rest j w follow low here found (inl h) = h
-    stands_first x rest j w follow low here found (inr (y, (zero, l, e), seen, count)) = absurd (here (ap (λ (z : ReadItem). is_type_seen z.seen.shown) e ∙ seen) (ap (λ (z : ReadItem). z.count) e ∙ count))
+    stands_first x rest j w follow low here found (inr (y, (zero, l, e), seen, count)) =
+        absurd (here (ap (λ (z : ReadItem). is_type_seen z.seen.shown) e ∙ seen) (ap (λ (z : ReadItem). z.count) e ∙ count))
     stands_first x rest j w follow low here found (inr (y, (suc i, l, e), seen, count)) =
         let test = all-contained (λ (z : ReadItem). not (is_type_seen z.seen.shown) || nat_lt x.count z.count) rest y follow (i, omega (arith, l), e) in
         let above : x.count < y.count = ltb→lt x.count y.count (subst T (sym (sym (ap (λ v. not v || nat_lt x.count y.count) seen) ∙ test)) tt) in
@@ -253,7 +260,8 @@ module _ (t : Tables) (tables : AreTables t) (kept : List ℕ) (p : Plan) (are :
         let found = filter_map_from part_number (map (λ (y : Text × ℕ). y.1) ys) n c in
         let entry = get_back (λ (y : Text × ℕ). y.1) ys found.0 found.1 found.2 in
         let param = zip_at (ParamBecomes t kept p) xs ys z found.0 entry.0 entry.1 in
-        part_low count param.0.1 found.1 (all_at (λ (x : Text × ℕ). x.1 < 14 + count) xs low param.0 (get-contains xs found.0 param.0 param.1)) (subst (Becomes t kept p param.0.1) entry.2 param.2.1) n found.3
+        part_low count param.0.1 found.1 (all_at (λ (x : Text × ℕ). x.1 < 14 + count) xs low param.0 (get-contains xs found.0 param.0 param.1))
+        (subst (Becomes t kept p param.0.1) entry.2 param.2.1) n found.3
 
     result_low : (count : ℕ) (d e : Option ℕ) → BecomesIfGiven t kept p d e → AllOf (λ k. k < 14 + count) d → (n : ℕ) → Contains (filter_map part_number (option_to_list e)) n
         → (k : ℕ) × (slice_get kept n ≡ Some k) × (k < count) × (n < length p.types)
@@ -272,7 +280,8 @@ module _ (t : Tables) (tables : AreTables t) (kept : List ℕ) (p : Plan) (are :
         becomes : FunctionBecomes t kept p is.read.shape is.read.external_id g
         becomes = is.read.kept_function.becomes
 
-        parts : Contains (filter_map part_number (map (λ (y : Text × ℕ). y.1) g.params)) n ⊎ Contains (filter_map part_number (option_to_list g.result)) n → (k : ℕ) × (slice_get kept n ≡ Some k) × (k < count) × (n < length p.types)
+        parts : Contains (filter_map part_number (map (λ (y : Text × ℕ). y.1) g.params)) n ⊎ Contains (filter_map part_number (option_to_list g.result)) n → (k : ℕ) × (slice_get kept n ≡ Some k)
+            × (k < count) × (n < length p.types)
         parts (inl d) = params_low count is.read.shape.params g.params becomes.params is.parts.0 n d
         parts (inr d) = result_low count is.read.shape.result g.result becomes.result is.parts.1 n d
 
@@ -308,7 +317,8 @@ module _ (t : Tables) (tables : AreTables t) (kept : List ℕ) (p : Plan) (are :
         let low = kept_order i n is.0 k is.1 at less in
         (is.0, is.1, omega (arith, low, last), range)
 
-    own_number : (n k : ℕ) (x : PlannedType) → slice_get p.types n ≡ Some x → slice_get kept n ≡ Some k → (j : ℕ) (w : IsWorldType j) → Contains (used_by_numbers p (kind_numbers x.kind)) j → k + 1 ≡ w.number + 1 → ⊥
+    own_number : (n k : ℕ) (x : PlannedType) → slice_get p.types n ≡ Some x → slice_get kept n ≡ Some k → (j : ℕ) (w : IsWorldType j) → Contains (used_by_numbers p (kind_numbers x.kind)) j
+        → k + 1 ≡ w.number + 1 → ⊥
     own_number n k x e at j w c same =
         let range_n = slice_get_within p.types n x e in
         let from = used_among p fall (kind_numbers x.kind) (λ i d. let less = part_below n x e i d in omega (arith, less, range_n)) j c in
@@ -321,41 +331,53 @@ module _ (t : Tables) (tables : AreTables t) (kept : List ℕ) (p : Plan) (are :
         → list_all (λ (y : ReadItem). not (is_type_seen y.seen.shown) || nat_lt x.count y.count) rest ≡ true → uses_stand_before p m before x.entry.1 ≡ true
     stands x rest (by_path q n v id path shown key entry is) earlier before inv h follow =
         ap (λ (e : PlannedKey × PlannedItem). uses_stand_before p m before e.1) entry
-        ∙ both (list_all (has (filter_map item_interface before)) (direct_uses p n)) true (uses_there q n v is earlier (filter_map item_interface before) inv.interfaces (sym (ap (λ s. list_all (has earlier) (uses_of t s)) shown) ∙ h)) refl
+        ∙ both (list_all (has (filter_map item_interface before)) (direct_uses p n)) true
+        (uses_there q n v is earlier (filter_map item_interface before) inv.interfaces (sym (ap (λ s. list_all (has earlier) (uses_of t s)) shown) ∙ h)) refl
     stands x rest (by_label q n v id shown good entry is) earlier before inv h follow =
         ap (λ (e : PlannedKey × PlannedItem). uses_stand_before p m before e.1) entry
-        ∙ both (list_all (has (filter_map item_interface before)) (direct_uses p n)) true (uses_there q n v is earlier (filter_map item_interface before) inv.interfaces (sym (ap (λ s. list_all (has earlier) (uses_of t s)) shown) ∙ h)) refl
+        ∙ both (list_all (has (filter_map item_interface before)) (direct_uses p n)) true
+        (uses_there q n v is earlier (filter_map item_interface before) inv.interfaces (sym (ap (λ s. list_all (has earlier) (uses_of t s)) shown) ∙ h)) refl
     stands x rest (implementing_path q n v id path shown good entry is) earlier before inv h follow =
         ap (λ (e : PlannedKey × PlannedItem). uses_stand_before p m before e.1) entry
-        ∙ both (list_all (has (filter_map item_interface before)) (direct_uses p n)) true (uses_there q n v is earlier (filter_map item_interface before) inv.interfaces (sym (ap (λ s. list_all (has earlier) (uses_of t s)) shown) ∙ h)) refl
+        ∙ both (list_all (has (filter_map item_interface before)) (direct_uses p n)) true
+        (uses_there q n v is earlier (filter_map item_interface before) inv.interfaces (sym (ap (λ s. list_all (has earlier) (uses_of t s)) shown) ∙ h)) refl
     stands x rest (a_function f g shown entry is) earlier before inv h follow =
         ap (λ (e : PlannedKey × PlannedItem). uses_stand_before p m before e.1) entry
-        ∙ used_stand x rest (function_numbers g) (function_low x.seen.key x.count g is) follow (λ j w c seen count. no_true (sym (ap is_type_seen shown) ∙ seen)) (filter_map item_type before) inv.types
+        ∙ used_stand x rest (function_numbers g) (function_low x.seen.key x.count g is) follow (λ j w c seen count. no_true (sym (ap is_type_seen shown) ∙ seen))
+        (filter_map item_type before) inv.types
     stands x rest (a_type d n shown entry is) earlier before inv h follow =
         let ns = kind_numbers is.becomes.type_.kind in
         ap (λ (e : PlannedKey × PlannedItem). uses_stand_before p m before e.1) entry
         ∙ both (list_all (has (filter_map item_interface before)) (option_to_list (interface_used_by p n))) (list_all (has (filter_map item_type before)) (used_types p m (plan.declares n)))
         (type_uses_there x.seen.key x.count d x.seen.external_id n is earlier (filter_map item_interface before) inv.interfaces (sym (ap (λ s. list_all (has earlier) (uses_of t s)) shown) ∙ h))
-        (ap (λ o. list_all (has (filter_map item_type before)) (filter (has_owner p (as_world m)) (option_map_or (λ (y : PlannedType). used_by_numbers p (kind_numbers y.kind)) o []))) is.becomes.stands
+        (ap (λ o. list_all (has (filter_map item_type before)) (filter (has_owner p (as_world m)) (option_map_or (λ (y : PlannedType). used_by_numbers p (kind_numbers y.kind)) o [])))
+        is.becomes.stands
         ∙ used_stand x rest ns (numbers_low x.count n is.number is.becomes.type_ is.becomes.stands is.stands is.last) follow
         (λ j w c seen count. own_number n is.number is.becomes.type_ is.becomes.stands is.stands j w c (sym is.last ∙ count)) (filter_map item_type before) inv.types)
 
     -- ---- from item to item
 
-    next : (x : ReadItem) (rest : List ReadItem) → Item x → (earlier : List ℕ) (before : List PlannedItem) → Before earlier before (x ∷ rest) → Before (earlier ++ path_seen x.seen.shown) (before ++ x.entry.1 ∷ []) rest
-    next x rest is earlier before inv = record { interfaces = λ r u h at. seen_interface r u at is (either (has earlier r) (has (path_seen x.seen.shown) r) (sym (list_any-append (λ k. k == r) earlier (path_seen x.seen.shown)) ∙ h)); types = λ j w. seen_type j w (inv.types j w) }
+    next : (x : ReadItem) (rest : List ReadItem) → Item x → (earlier : List ℕ) (before : List PlannedItem) → Before earlier before (x ∷ rest)
+        → Before (earlier ++ path_seen x.seen.shown) (before ++ x.entry.1 ∷ []) rest
+    next x rest is earlier before inv = record {
+      interfaces = λ r u h at. seen_interface r u at is
+          (either (has earlier r) (has (path_seen x.seen.shown) r) (sym (list_any-append (λ k. k == r) earlier (path_seen x.seen.shown)) ∙ h));
+      types = λ j w. seen_type j w (inv.types j w);
+    }
       where
         either : (a c : Bool) → (a || c) ≡ true → (a ≡ true) ⊎ (c ≡ true)
         either true c h = inl refl
         either false c h = inr h
 
         interface_front : (u : ℕ) → has (filter_map item_interface before) u ≡ true → has (filter_map item_interface (before ++ x.entry.1 ∷ [])) u ≡ true
-        interface_front u h = ap (λ ns. has ns u) (filter_map-append item_interface before (x.entry.1 ∷ [])) ∙ has_front (filter_map item_interface before) (filter_map item_interface (x.entry.1 ∷ [])) u h
+        interface_front u h = ap (λ ns. has ns u) (filter_map-append item_interface before (x.entry.1 ∷ [])) ∙ has_front (filter_map item_interface before)
+            (filter_map item_interface (x.entry.1 ∷ [])) u h
 
         interface_last : (u n : ℕ) (id : Option Text) → x.entry.1 ≡ plan.interface n id → u ≡ n → has (filter_map item_interface (before ++ x.entry.1 ∷ [])) u ≡ true
         interface_last u n id e same =
             ap (λ ns. has ns u) (filter_map-append item_interface before (x.entry.1 ∷ []))
-            ∙ has_end (filter_map item_interface before) (filter_map item_interface (x.entry.1 ∷ [])) u (ap (λ i. has (filter_map item_interface (i ∷ [])) u) e ∙ both_or (n == u) (eq-eqb n u (sym same)))
+            ∙ has_end (filter_map item_interface before) (filter_map item_interface (x.entry.1 ∷ [])) u
+            (ap (λ i. has (filter_map item_interface (i ∷ [])) u) e ∙ both_or (n == u) (eq-eqb n u (sym same)))
           where
             both_or : (a : Bool) → a ≡ true → (a || false) ≡ true
             both_or a e = ap (λ v. v || false) e
@@ -363,7 +385,8 @@ module _ (t : Tables) (tables : AreTables t) (kept : List ℕ) (p : Plan) (are :
         one_place : (q r : ℕ) → ((q == r) || false) ≡ true → q ≡ r
         one_place q r h = eqb-true q r (or_nothing (q == r) h)
 
-        seen_interface : (r u : ℕ) → b.owners r ≡ as_interface u → Item x → (has earlier r ≡ true) ⊎ (has (path_seen x.seen.shown) r ≡ true) → has (filter_map item_interface (before ++ x.entry.1 ∷ [])) u ≡ true
+        seen_interface : (r u : ℕ) → b.owners r ≡ as_interface u → Item x → (has earlier r ≡ true) ⊎ (has (path_seen x.seen.shown) r ≡ true)
+            → has (filter_map item_interface (before ++ x.entry.1 ∷ [])) u ≡ true
         seen_interface r u at it (inl h) = interface_front u (inv.interfaces r u h at)
         seen_interface r u at (by_path q n v id path shown key entry is) (inr h) =
             let same = one_place q r (sym (ap (λ s. has (path_seen s) r) shown) ∙ h) in
@@ -385,15 +408,18 @@ module _ (t : Tables) (tables : AreTables t) (kept : List ℕ) (p : Plan) (are :
             let number : is.number ≡ w.number = omega (arith, last, count) in
             let same : n ≡ j = are.once n j w.number (is.stands ∙ ap Some number) w.stands in
             ap (λ ns. has ns j) (filter_map-append item_type before (x.entry.1 ∷ []))
-            ∙ has_end (filter_map item_type before) (filter_map item_type (x.entry.1 ∷ [])) j (ap (λ (e : PlannedKey × PlannedItem). has (filter_map item_type (e.1 ∷ [])) j) entry ∙ ap (λ v. v || false) (eq-eqb n j same))
+            ∙ has_end (filter_map item_type before) (filter_map item_type (x.entry.1 ∷ [])) j
+            (ap (λ (e : PlannedKey × PlannedItem). has (filter_map item_type (e.1 ∷ [])) j) entry ∙ ap (λ v. v || false) (eq-eqb n j same))
 
-        seen_type : (j : ℕ) (w : IsWorldType j) → (has (filter_map item_type before) j ≡ true) ⊎ Waits (x ∷ rest) w.number → (has (filter_map item_type (before ++ x.entry.1 ∷ [])) j ≡ true) ⊎ Waits rest w.number
+        seen_type : (j : ℕ) (w : IsWorldType j) → (has (filter_map item_type before) j ≡ true) ⊎ Waits (x ∷ rest) w.number → (has (filter_map item_type (before ++ x.entry.1 ∷ [])) j ≡ true)
+            ⊎ Waits rest w.number
         seen_type j w (inl h) = inl (ap (λ ns. has ns j) (filter_map-append item_type before (x.entry.1 ∷ [])) ∙ has_front (filter_map item_type before) (filter_map item_type (x.entry.1 ∷ [])) j h)
         seen_type j w (inr (y, (zero, l, e), seen, count)) = inl (type_last j w (ap (λ (z : ReadItem). is_type_seen z.seen.shown) e ∙ seen) (ap (λ (z : ReadItem). z.count) e ∙ count) is)
         seen_type j w (inr (y, (suc i, l, e), seen, count)) = inr (y, (i, omega (arith, l), e), seen, count)
 
     in_order : (xs : List ReadItem) → AllByRecursion Item xs → types_follow xs ≡ true → (earlier : List ℕ) (before : List PlannedItem) → Before earlier before xs
-        → stand_earlier t earlier (map (λ (x : ReadItem). x.seen) xs) ≡ true → each_after (uses_stand_before p m) before (map (λ (e : PlannedKey × PlannedItem). e.1) (map (λ (x : ReadItem). x.entry) xs)) ≡ true
+        → stand_earlier t earlier (map (λ (x : ReadItem). x.seen) xs) ≡ true
+        → each_after (uses_stand_before p m) before (map (λ (e : PlannedKey × PlannedItem). e.1) (map (λ (x : ReadItem). x.entry) xs)) ≡ true
     in_order [] a follow earlier before inv h = refl
     in_order (x ∷ xs) a follow earlier before inv h =
         let behind_x = list_all (λ (y : ReadItem). not (is_type_seen y.seen.shown) || nat_lt x.count y.count) xs in
@@ -406,7 +432,8 @@ module _ (t : Tables) (tables : AreTables t) (kept : List ℕ) (p : Plan) (are :
     -- ---- all items
 
     -- the type of the world that stands under a label
-    waits_there : (j : ℕ) (w : IsWorldType j) (test : PlannedKey → Bool) (xs : List ReadItem) → AllByRecursion Item xs → is_id j (option_and_then item_type (lookup test (map (λ (x : ReadItem). x.entry) xs))) ≡ true → Waits xs w.number
+    waits_there : (j : ℕ) (w : IsWorldType j) (test : PlannedKey → Bool) (xs : List ReadItem) → AllByRecursion Item xs
+        → is_id j (option_and_then item_type (lookup test (map (λ (x : ReadItem). x.entry) xs))) ≡ true → Waits xs w.number
     waits_there j w test [] a h = no_true h
     waits_there j w test (x ∷ xs) a h = go (test x.entry.0) h (waits_there j w test xs a.1)
       where
@@ -428,7 +455,8 @@ module _ (t : Tables) (tables : AreTables t) (kept : List ℕ) (p : Plan) (are :
     all_follow : (xs ys : List ReadItem) → types_follow xs ≡ true → list_all (λ (y : ReadItem). not (is_type_seen y.seen.shown)) ys ≡ true → types_follow (xs ++ ys) ≡ true
     all_follow [] [] h none = refl
     all_follow [] (y ∷ ys) h none = both (list_all (λ (z : ReadItem). not (is_type_seen z.seen.shown) || nat_lt y.count z.count) ys) (types_follow ys)
-        (all_weaker (λ (z : ReadItem). not (is_type_seen z.seen.shown)) (λ (z : ReadItem). not (is_type_seen z.seen.shown) || nat_lt y.count z.count) (λ z e. ap (λ v. v || nat_lt y.count z.count) e) ys
+        (all_weaker (λ (z : ReadItem). not (is_type_seen z.seen.shown)) (λ (z : ReadItem). not (is_type_seen z.seen.shown) || nat_lt y.count z.count)
+        (λ z e. ap (λ v. v || nat_lt y.count z.count) e) ys
         (second_true (not (is_type_seen y.seen.shown)) (list_all (λ (z : ReadItem). not (is_type_seen z.seen.shown)) ys) none))
         (all_follow [] ys refl (second_true (not (is_type_seen y.seen.shown)) (list_all (λ (z : ReadItem). not (is_type_seen z.seen.shown)) ys) none))
     all_follow (x ∷ xs) ys h none =
@@ -449,22 +477,26 @@ module _ (t : Tables) (tables : AreTables t) (kept : List ℕ) (p : Plan) (are :
       let items : map (λ (z : PlannedKey × PlannedItem). z.1) (map (λ (x : ReadItem). x.entry) (xs ++ ys)) ≡ items_of w =
       ap (map (λ (z : PlannedKey × PlannedItem). z.1)) entries ∙ append_of_map (λ (z : PlannedKey × PlannedItem). z.1) w.imports w.exports in
       let none : list_all (λ (y : ReadItem). not (is_type_seen y.seen.shown)) ys ≡ true =
-      sym (list_all-map (λ (s : NumberedSeen). not (is_type_seen s.shown)) (λ (y : ReadItem). y.seen) ys) ∙ (ap (list_all (λ (s : NumberedSeen). not (is_type_seen s.shown))) is.exports_seen ∙ is.no_types) in
+      sym (list_all-map (λ (s : NumberedSeen). not (is_type_seen s.shown)) (λ (y : ReadItem). y.seen) ys)
+      ∙ (ap (list_all (λ (s : NumberedSeen). not (is_type_seen s.shown))) is.exports_seen ∙ is.no_types) in
       let begin : Before m is.scope.home is.owned [] [] (xs ++ ys) = record {
         interfaces = λ r u h at. no_true h;
         types = λ j v. inr (waiting m w e j v);
       } in
       ap (each_after (uses_stand_before p m) []) (sym items)
-      ∙ in_order m is.scope.home is.owned (xs ++ ys) (all_both (Item m is.scope.home is.owned) xs ys is.imports_read is.exports_read) (all_follow m is.scope.home is.owned xs ys is.follow none) [] [] begin
+      ∙ in_order m is.scope.home is.owned (xs ++ ys) (all_both (Item m is.scope.home is.owned) xs ys is.imports_read is.exports_read)
+      (all_follow m is.scope.home is.owned xs ys is.follow none) [] [] begin
       (ap (stand_earlier t []) seen ∙ order_obeys t tables kept p are b owned views m w is)
     where
-      waiting : (m : ℕ) (w : PlannedWorld) (e : world_in p m ≡ Some w) → let is = read.worlds m w e in (j : ℕ) (v : IsWorldType m is.scope.home is.owned j) → Waits m is.scope.home is.owned (is.imports ++ is.exports) v.number
+      waiting : (m : ℕ) (w : PlannedWorld) (e : world_in p m ≡ Some w) → let is = read.worlds m w e in (j : ℕ) (v : IsWorldType m is.scope.home is.owned j)
+          → Waits m is.scope.home is.owned (is.imports ++ is.exports) v.number
       waiting m w e j v =
           let is = read.worlds m w e in
           let owner_is = owned.owned j v.number v.type_ is.scope.home v.name v.there v.stands v.shape ∙ is.owned in
           let found = waits_there m is.scope.home is.owned j v (is_under_label v.name) is.imports is.imports_read
           (ap (λ es. is_id j (option_and_then item_type (lookup (is_under_label v.name) es))) is.imports_listed
-          ∙ (sym (ap (λ o. option_map_or (λ (y : PlannedWorld). is_id j (option_and_then item_type (lookup (is_under_label v.name) y.imports))) o false) e) ∙ by v.type_ v.name (named_type j v) owner_is (listed t tables kept p are b owned views read j v.type_ v.there))) in
+          ∙ (sym (ap (λ o. option_map_or (λ (y : PlannedWorld). is_id j (option_and_then item_type (lookup (is_under_label v.name) y.imports))) o false) e) ∙ by v.type_ v.name (named_type j v)
+          owner_is (listed t tables kept p are b owned views read j v.type_ v.there))) in
           (found.0, Contains-append_left is.imports is.exports found.0 found.1, found.2, found.3)
         where
           by : (x : PlannedType) (name : Text) → x.name ≡ Some name → x.owner ≡ as_world m → is_listed p j x ≡ true → is_listed_in p j name (as_world m) ≡ true

@@ -65,7 +65,8 @@ module _ (t : Tables) (tables : AreTables t) (h : Homes) (homes : HomesStand t h
     identity_there : (n : ℕ) (k : PlannedPackage) → package_in p n ≡ Some k → is_identity k.identity ≡ true
     identity_there n k e = let is = read.packages n k e in (read_path_is_spelled is.path k.identity is.name is.reads).identity
 
-    other_identity : (n : ℕ) (k : PlannedPackage) → package_in p n ≡ Some k → (m : ℕ) (other : PlannedPackage) → package_in p m ≡ Some other → ((m == n) || not (same_identity k.identity other.identity)) ≡ true
+    other_identity : (n : ℕ) (k : PlannedPackage) → package_in p n ≡ Some k → (m : ℕ) (other : PlannedPackage) → package_in p m ≡ Some other
+        → ((m == n) || not (same_identity k.identity other.identity)) ≡ true
     other_identity n k e m other f = go (same_identity k.identity other.identity) refl
       where
         go : (b : Bool) → same_identity k.identity other.identity ≡ b → ((m == n) || not (same_identity k.identity other.identity)) ≡ true
@@ -88,7 +89,8 @@ module _ (t : Tables) (tables : AreTables t) (h : Homes) (homes : HomesStand t h
             let place : q ≡ a.0.place = read.apart q a.0.place (ap (same_owner (owners q)) (a.0.owned ∙ sym owned) ∙ owner_itself (owners q)) in
             let one = same-some (k, name) (n, e.0) (sym home ∙ (ap (home_at h) place ∙ a.0.home)) in
             ap (λ o. option_map_or (λ (i : PlannedInterface). bears e.0 i.name && is_id n i.package_) o false) a.0.there
-            ∙ ((λ j. bears e.0 (named j) && is_id n (of_package j)) ∙ both (text_eq name e.0) (k == n) (same_text name e.0 (ap (λ (x : ℕ × Text). x.1) one)) (eq-eqb k n (ap (λ (x : ℕ × Text). x.0) one)))
+            ∙ ((λ j. bears e.0 (named j) && is_id n (of_package j)) ∙ both (text_eq name e.0) (k == n) (same_text name e.0 (ap (λ (x : ℕ × Text). x.1) one))
+            (eq-eqb k n (ap (λ (x : ℕ × Text). x.0) one)))
         by (inline q k w none owned unnamed there shown) =
             let place : q ≡ a.0.place = read.apart q a.0.place (ap (same_owner (owners q)) (a.0.owned ∙ sym owned) ∙ owner_itself (owners q)) in
             absurd (no_path q a.0.place place none a.0.path)
@@ -180,13 +182,15 @@ module _ (t : Tables) (tables : AreTables t) (h : Homes) (homes : HomesStand t h
             let home : i.package_ ≡ w.package_ = read.inline_home n w m i there shown e none in
             let at = read.worlds n w there in
             let unnamed = is_inline m i e none in
-            let in_world : has (inline_shown p w) m ≡ true = has_filter (λ k. not (has_name p k)) (filter_map item_interface (items_of w)) m (contains-has (filter_map item_interface (items_of w)) m shown) (ap not unnamed) in
+            let in_world : has (inline_shown p w) m ≡ true = has_filter (λ k. not (has_name p k)) (filter_map item_interface (items_of w)) m
+            (contains-has (filter_map item_interface (items_of w)) m shown) (ap not unnamed) in
             let in_all : has (flat_map (inline_shown p) p.worlds) m ≡ true =
             contains-has (flat_map (inline_shown p) p.worlds) m (contains-flat (inline_shown p) p.worlds w m (get-contains p.worlds n w there) (has-contains (inline_shown p w) m in_world)) in
             ap (λ o. option_map_or (λ x. option_map_or (λ (y : PlannedPackage). is_id m (number_under x y.interfaces)) (option_and_then (package_in p) i.package_) false) o
             (option_map_or (in_list p.packages) i.package_ false
             && ((sum_by (times_shown m) p.worlds == 1) && list_all (λ w. (times_shown m w == 0) || option_eq ◌==◌ w.package_ i.package_) p.worlds))) none
-            ∙ both (option_map_or (in_list p.packages) i.package_ false) ((sum_by (times_shown m) p.worlds == 1) && list_all (λ w. (times_shown m w == 0) || option_eq ◌==◌ w.package_ i.package_) p.worlds)
+            ∙ both (option_map_or (in_list p.packages) i.package_ false) ((sum_by (times_shown m) p.worlds == 1) && list_all
+            (λ w. (times_shown m w == 0) || option_eq ◌==◌ w.package_ i.package_) p.worlds)
             (ap (λ o. option_map_or (in_list p.packages) o false) (home ∙ at.home) ∙ in_range p.packages at.number (ap is_some at.there))
             (both (sum_by (times_shown m) p.worlds == 1) (list_all (λ w. (times_shown m w == 0) || option_eq ◌==◌ w.package_ i.package_) p.worlds)
             (ap (λ k. k == 1) (shown_times m unnamed p.worlds ∙ times_once m (flat_map (inline_shown p) p.worlds) read.inline_once in_all))
@@ -207,7 +211,8 @@ module _ (t : Tables) (tables : AreTables t) (h : Homes) (homes : HomesStand t h
       alone = each_by_number (is_alone p) p.packages
           (λ n k e. each_by_number (λ m other. (m == n) || not (same_identity k.identity other.identity)) p.packages (λ m other f. other_identity n k e m other f));
       members = each_by_number (lists_members p) p.packages
-          (λ n k e. let is = read.packages n k e in both (list_all (lists_interface p n) k.interfaces) (list_all (lists_world p n) k.worlds) (all_interfaces n k.interfaces is.interfaces) (all_worlds n k.worlds is.worlds));
+          (λ n k e. let is = read.packages n k e in both (list_all (lists_interface p n) k.interfaces) (list_all (lists_world p n) k.worlds) (all_interfaces n k.interfaces is.interfaces)
+          (all_worlds n k.worlds is.worlds));
       members_differ = all_by_number members_differ p.packages all_differ;
       interfaces_placed = each_by_number (is_placed p) p.interfaces placed;
       worlds_placed = each_by_number (is_world_placed p) p.worlds world_placed;

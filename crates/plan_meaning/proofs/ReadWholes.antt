@@ -62,7 +62,8 @@ module _ (t : Tables) (tables : AreTables t) (h : Homes) (homes : HomesStand t h
     number_there : (news : List ℕ) (new : ℕ) → Contains news new → part_number new ≡ Some j → has (filter_map part_number news) j ≡ true
     number_there news new c e = contains-has (filter_map part_number news) j (contains-filter_map part_number news new j c (subst (λ o. Contains (option_to_list o) j) (sym e) (0, omega arith, refl)))
 
-    of_kind : (x : PlannedType) (olds news : List ℕ) → kind_numbers x.kind ≡ filter_map part_number news → AllZip (Becomes t kept p) olds news → Contains olds (14 + k) → has (kind_numbers x.kind) j ≡ true
+    of_kind : (x : PlannedType) (olds news : List ℕ) → kind_numbers x.kind ≡ filter_map part_number news → AllZip (Becomes t kept p) olds news → Contains olds (14 + k)
+        → has (kind_numbers x.kind) j ≡ true
     of_kind x olds news kind z c =
         let index = contains-get olds (14 + k) c in
         let found = zip_there (Becomes t kept p) olds news z index.0 (14 + k) index.1 in
@@ -70,7 +71,8 @@ module _ (t : Tables) (tables : AreTables t) (h : Homes) (homes : HomesStand t h
 
     of_function : (f : FunctionShape) (id : Option Text) (g : PlannedFunction) → FunctionBecomes t kept p f id g → IsPartOfFunction f (14 + k) → has (function_numbers g) j ≡ true
     of_function f id g is part =
-        contains-has (function_numbers g) j (Contains-append_left (filter_map part_number (function_parts g)) (option_to_list (resource_of g.kind)) j (has-contains (filter_map part_number (function_parts g)) j (by part)))
+        contains-has (function_numbers g) j (Contains-append_left (filter_map part_number (function_parts g)) (option_to_list (resource_of g.kind)) j
+        (has-contains (filter_map part_number (function_parts g)) j (by part)))
       where
         given : (a c : Option ℕ) → BecomesIfGiven t kept p a c → a ≡ Some (14 + k) → (new : ℕ) × Contains (option_to_list c) new × (part_number new ≡ Some j)
         given None None z e = no_true (ap is_some e)
@@ -83,7 +85,8 @@ module _ (t : Tables) (tables : AreTables t) (h : Homes) (homes : HomesStand t h
             let index = contains-get f.params (name, 14 + k) c in
             let found = zip_there (ParamBecomes t kept p) f.params g.params is.params index.0 (name, 14 + k) index.1 in
             let there = contains-map (λ (y : Text × ℕ). y.1) g.params found.0 (get-contains g.params index.0 found.0 found.1) in
-            number_there (function_parts g) found.0.1 (Contains-append_left (map (λ (y : Text × ℕ). y.1) g.params) (option_to_list g.result) found.0.1 there) (part_there (14 + k) found.0.1 refl found.2.1)
+            number_there (function_parts g) found.0.1 (Contains-append_left (map (λ (y : Text × ℕ). y.1) g.params) (option_to_list g.result) found.0.1 there)
+            (part_there (14 + k) found.0.1 refl found.2.1)
         by (a_result e) =
             let found = given f.result g.result is.result e in
             number_there (function_parts g) found.0 (Contains-append_right (map (λ (y : Text × ℕ). y.1) g.params) (option_to_list g.result) found.0 found.1) found.2
@@ -149,7 +152,8 @@ module _ (t : Tables) (tables : AreTables t) (h : Homes) (homes : HomesStand t h
 
   -- ---- interfaces that a world shows
 
-  item_shows : (o : TypeOwner) (home : ℕ) (q n : ℕ) → b.owners q ≡ as_interface n → (x : ReadItem) → IsReadItem t kept p b views o home x → place_shown x.seen.shown ≡ Some q → item_interface x.entry.1 ≡ Some n
+  item_shows : (o : TypeOwner) (home : ℕ) (q n : ℕ) → b.owners q ≡ as_interface n → (x : ReadItem) → IsReadItem t kept p b views o home x → place_shown x.seen.shown ≡ Some q
+      → item_interface x.entry.1 ≡ Some n
   item_shows o home q n at x (by_path r m v id path shows key entry is) e =
       let place : r ≡ q = same-some r q (sym (ap place_shown shows) ∙ e) in
       ap (λ (z : PlannedKey × PlannedItem). item_interface z.1) entry ∙ ap Some (one_interface m n (sym is.owned ∙ (ap b.owners place ∙ at)))
@@ -179,7 +183,8 @@ module _ (t : Tables) (tables : AreTables t) (h : Homes) (homes : HomesStand t h
 
   -- ---- interfaces that another uses
 
-  uses_it : (x : ℕ × NumberedView) → (is : IsViewOf t h kept p b views read x) → (q n : ℕ) → b.owners q ≡ as_interface n → Contains (used_by_view t x.1) q → (q ≡ x.0 → ⊥) → has (direct_uses p is.number) n ≡ true
+  uses_it : (x : ℕ × NumberedView) → (is : IsViewOf t h kept p b views read x) → (q n : ℕ) → b.owners q ≡ as_interface n → Contains (used_by_view t x.1) q → (q ≡ x.0 → ⊥)
+      → has (direct_uses p is.number) n ≡ true
   uses_it x is q n at c away =
       let m = is.number in
       let viewed = read.order.interfaces m is.interface is.there in
@@ -219,7 +224,8 @@ module _ (t : Tables) (tables : AreTables t) (h : Homes) (homes : HomesStand t h
       at : i.0 ≡ q → Contains (flat_map (λ (l : ℕ × NumberedView). used_by_view t l.1) later) q ⊎ Contains (used_by_view t exported.1) q → IsUsedBy exported (i ∷ later) q
       at same (inl c) =
           let found = flat_among (λ (l : ℕ × NumberedView). used_by_view t l.1) later q c in
-          let none = not_true (has (map (λ (l : ℕ × NumberedView). l.0) later) i.0) (first_true (not (has (map (λ (l : ℕ × NumberedView). l.0) later) i.0)) (are_once (map (λ (l : ℕ × NumberedView). l.0) later)) apart) in
+          let none = not_true (has (map (λ (l : ℕ × NumberedView). l.0) later) i.0)
+          (first_true (not (has (map (λ (l : ℕ × NumberedView). l.0) later) i.0)) (are_once (map (λ (l : ℕ × NumberedView). l.0) later)) apart) in
           record {
             by_view = found.0;
             among = contains-later exported (i ∷ later) found.0 (contains-later i later found.0 found.1);
@@ -252,7 +258,8 @@ module _ (t : Tables) (tables : AreTables t) (h : Homes) (homes : HomesStand t h
   wanted_for q n at (in_world is) = shown is.number is.world is.there (world_shows q n at is)
   wanted_for q n at (in_member exported imports reached apart are c) =
       let places = map (λ (i : ℕ × NumberedView). i.0) imports in
-      let found = used_later exported imports q reached (second_true (not (has places exported.0)) (are_once places) apart) (not_true (has places exported.0) (first_true (not (has places exported.0)) (are_once places) apart)) (contains-has places q c) in
+      let found = used_later exported imports q reached (second_true (not (has places exported.0)) (are_once places) apart)
+      (not_true (has places exported.0) (first_true (not (has places exported.0)) (are_once places) apart)) (contains-has places q c) in
       let is = all_at (IsViewOf t h kept p b views read) (exported ∷ imports) are found.by_view found.among in
       used is.number (uses_it found.by_view is q n at found.uses found.away)
 
@@ -303,7 +310,8 @@ module _ (t : Tables) (tables : AreTables t) (h : Homes) (homes : HomesStand t h
     bare : (n : ℕ) (i : PlannedInterface) → interface_in p n ≡ Some i → is_foreign p i ≡ true → list_any (λ w. is_shown_in w n) p.worlds ≡ false → i.functions ≡ []
     bare n i e foreign hidden =
         let at = place_of n i e (first_true (is_some i.name) (not (is_id p.main i.package_)) foreign) in
-        zip_nothing (FunctionListed t kept p) (functions_seen at.place seen) i.functions (no_functions at.place seen (λ s c w same. by at s same (foreign_read.whole s c w))) (foreign_read.functions n at.place i e at.owned foreign)
+        zip_nothing (FunctionListed t kept p) (functions_seen at.place seen) i.functions (no_functions at.place seen (λ s c w same. by at s same (foreign_read.whole s c w)))
+        (foreign_read.functions n at.place i e at.owned foreign)
       where
         by : (at : HasPlace n i) (s : NumberedSight) → at.place ≡ s.place → IsShownByWorld t h kept p b views read s.place ⊎ (is_of_package h p.main s.place ≡ true) → ⊥
         by at s same (inl is) =

@@ -96,7 +96,8 @@ module _ (t : Tables) (tables : AreTables t) (kept : List ℕ) (p : Plan) (are :
         let owner_is = owned.owned n is.number x home key is.becomes.stands is.stands is.shape ∙ owned_home in (
           labelled is.number x is.shape kept_type,
           ap (λ o. option_map_or (λ (y : PlannedType). bears key y.name && same_owner y.owner (as_world m)) o false) is.becomes.stands
-              ∙ both (bears key x.name) (same_owner x.owner (as_world m)) (bears_name t kept p are home is.number key x is.shape kept_type) (ap (λ o. same_owner o (as_world m)) owner_is ∙ owner_itself (as_world m)),
+              ∙ both (bears key x.name) (same_owner x.owner (as_world m)) (bears_name t kept p are home is.number key x is.shape kept_type)
+              (ap (λ o. same_owner o (as_world m)) owner_is ∙ owner_itself (as_world m)),
         )
       where
         labelled : (k : ℕ) (x : PlannedType) → slice_get t.shapes k ≡ Some (named_shape home key) → IsKeptType t kept p k x → is_label key ≡ true
@@ -120,7 +121,8 @@ module _ (t : Tables) (tables : AreTables t) (kept : List ℕ) (p : Plan) (are :
     all_imports (x ∷ xs) a = both (import_stands p m x.entry) (list_all (import_stands p m) (map (λ (y : ReadItem). y.entry) xs)) (imports_itself x a.0) (all_imports xs a.1)
 
     exports_itself : (x : ReadItem) → Item x → is_item t b.known home [] x.seen.key x.seen.shown ≡ true → not (is_type_seen x.seen.shown) ≡ true → export_stands p x.entry ≡ true
-    exports_itself x (by_path q n v id path shown key entry is) obeys none = ap (export_stands p) entry ∙ both (n == n) (has_name p n) (same-number n) (named_there q n path is.owned is.interface is.there)
+    exports_itself x (by_path q n v id path shown key entry is) obeys none =
+        ap (export_stands p) entry ∙ both (n == n) (has_name p n) (same-number n) (named_there q n path is.owned is.interface is.there)
     exports_itself x (by_label q n v id shown good entry is) obeys none = ap (export_stands p) entry ∙ both (is_label x.seen.key) (in_list p.interfaces n) good (there q n v is)
     exports_itself x (implementing_path q n v id path shown good entry is) obeys none = ap (export_stands p) entry ∙ both (is_label x.seen.key) (in_list p.interfaces n) good (there q n v is)
     exports_itself x (a_function f g shown entry is) obeys none =
@@ -171,12 +173,14 @@ module _ (t : Tables) (tables : AreTables t) (kept : List ℕ) (p : Plan) (are :
         let place : q ≡ r = owned.apart q r (ap (same_owner (b.owners q)) (at ∙ (ap as_interface (sym number) ∙ sym is)) ∙ owner_itself (b.owners q)) in
         same_text x.seen.key y.seen.key (text ∙ (ap (path_text t) place ∙ sym other))
 
-    no_other_key : (x : ReadItem) → Item x → (ys : List ReadItem) → AllByRecursion Item ys → list_any (text_eq x.seen.key) (map (λ (s : NumberedSeen). s.key) (map (λ (y : ReadItem). y.seen) ys)) ≡ false
+    no_other_key : (x : ReadItem) → Item x → (ys : List ReadItem) → AllByRecursion Item ys
+        → list_any (text_eq x.seen.key) (map (λ (s : NumberedSeen). s.key) (map (λ (y : ReadItem). y.seen) ys)) ≡ false
         → list_any (λ (other : PlannedKey × PlannedItem). same_key x.entry.0 other.0) (map (λ (y : ReadItem). y.entry) ys) ≡ false
     no_other_key x is [] a h = refl
     no_other_key x is (y ∷ ys) a h =
         neither (same_key x.entry.0 y.entry.0) (list_any (λ (other : PlannedKey × PlannedItem). same_key x.entry.0 other.0) (map (λ (z : ReadItem). z.entry) ys))
-        (differs (same_key x.entry.0 y.entry.0) refl) (no_other_key x is ys a.1 (none_second (text_eq x.seen.key y.seen.key) (list_any (text_eq x.seen.key) (map (λ (s : NumberedSeen). s.key) (map (λ (z : ReadItem). z.seen) ys))) h))
+        (differs (same_key x.entry.0 y.entry.0) refl) (no_other_key x is ys a.1
+        (none_second (text_eq x.seen.key y.seen.key) (list_any (text_eq x.seen.key) (map (λ (s : NumberedSeen). s.key) (map (λ (z : ReadItem). z.seen) ys))) h))
       where
         differs : (v : Bool) → same_key x.entry.0 y.entry.0 ≡ v → same_key x.entry.0 y.entry.0 ≡ false
         differs false e = e
@@ -184,7 +188,8 @@ module _ (t : Tables) (tables : AreTables t) (kept : List ℕ) (p : Plan) (are :
             never (text_eq x.seen.key y.seen.key) (same_keys x y (key_is x is) (key_is y a.0) e)
             (none_first (text_eq x.seen.key y.seen.key) (list_any (text_eq x.seen.key) (map (λ (s : NumberedSeen). s.key) (map (λ (z : ReadItem). z.seen) ys))) h)
 
-    all_keys : (xs : List ReadItem) → AllByRecursion Item xs → distinct (map (λ (s : NumberedSeen). s.key) (map (λ (x : ReadItem). x.seen) xs)) ≡ true → keys_differ (map (λ (x : ReadItem). x.entry) xs) ≡ true
+    all_keys : (xs : List ReadItem) → AllByRecursion Item xs → distinct (map (λ (s : NumberedSeen). s.key) (map (λ (x : ReadItem). x.seen) xs)) ≡ true
+        → keys_differ (map (λ (x : ReadItem). x.entry) xs) ≡ true
     all_keys [] a h = refl
     all_keys (x ∷ xs) a h =
         let keys = map (λ (s : NumberedSeen). s.key) (map (λ (y : ReadItem). y.seen) xs) in
@@ -204,11 +209,13 @@ module _ (t : Tables) (tables : AreTables t) (kept : List ℕ) (p : Plan) (are :
     Rise xs e = are_rising (cons_option (item_type e) (types_in xs)) ≡ true
 
     -- the number of a type of the world, with its number in the table behind this, if the item is one
-    later_types : (n k low : ℕ) → slice_get kept n ≡ Some k → k < low → (xs : List ReadItem) → AllByRecursion Item xs → list_all (λ (y : ReadItem). not (is_type_seen y.seen.shown) || nat_lt low y.count) xs ≡ true
+    later_types : (n k low : ℕ) → slice_get kept n ≡ Some k → k < low → (xs : List ReadItem) → AllByRecursion Item xs
+        → list_all (λ (y : ReadItem). not (is_type_seen y.seen.shown) || nat_lt low y.count) xs ≡ true
         → list_all (nat_lt n) (types_in xs) ≡ true
     later_types n k low at less [] a h = refl
     later_types n k low at less (y ∷ ys) a h =
-        let rest = later_types n k low at less ys a.1 (second_true (not (is_type_seen y.seen.shown) || nat_lt low y.count) (list_all (λ (z : ReadItem). not (is_type_seen z.seen.shown) || nat_lt low z.count) ys) h) in
+        let rest = later_types n k low at less ys a.1 (second_true (not (is_type_seen y.seen.shown) || nat_lt low y.count)
+        (list_all (λ (z : ReadItem). not (is_type_seen z.seen.shown) || nat_lt low z.count) ys) h) in
         by a.0 (first_true (not (is_type_seen y.seen.shown) || nat_lt low y.count) (list_all (λ (z : ReadItem). not (is_type_seen z.seen.shown) || nat_lt low z.count) ys) h) rest
       where
         by : Item y → (not (is_type_seen y.seen.shown) || nat_lt low y.count) ≡ true → list_all (nat_lt n) (types_in ys) ≡ true → Later n ys y.entry.1
@@ -285,13 +292,15 @@ module _ (t : Tables) (tables : AreTables t) (kept : List ℕ) (p : Plan) (are :
         (ap (λ ss. distinct (map (λ (s : NumberedSeen). s.key) ss)) is.exports_seen ∙ export_keys_obey)
 
     types_rise : are_rising (world_types w) ≡ true
-    types_rise = ap (λ es. are_rising (filter_map item_type (map (λ (e : PlannedKey × PlannedItem). e.1) es))) (sym is.imports_listed) ∙ all_types m is.scope.home is.owned is.imports is.imports_read is.follow
+    types_rise = ap (λ es. are_rising (filter_map item_type (map (λ (e : PlannedKey × PlannedItem). e.1) es))) (sym is.imports_listed) ∙ all_types m is.scope.home is.owned is.imports
+        is.imports_read is.follow
 
 pub read_worlds_pass : ReadWorldsPass
 read_worlds_pass t tables kept p are b owned views read = record {
   imports_stand = each_by_number (λ n w. list_all (import_stands p n) w.imports) p.worlds (λ m w e. all_import t tables kept p are b owned views m w (read m w e));
   exports_stand = all_by_number (λ w. list_all (export_stands p) w.exports) p.worlds (λ m w e. all_export t tables kept p are b owned views m w (read m w e));
   keys_differ = all_by_number (λ w. keys_differ w.imports && keys_differ w.exports) p.worlds
-      (λ m w e. both (keys_differ w.imports) (keys_differ w.exports) (import_keys_differ t tables kept p are b owned views m w (read m w e)) (export_keys_differ t tables kept p are b owned views m w (read m w e)));
+      (λ m w e. both (keys_differ w.imports) (keys_differ w.exports) (import_keys_differ t tables kept p are b owned views m w (read m w e))
+      (export_keys_differ t tables kept p are b owned views m w (read m w e)));
   world_types_rise = all_by_number (λ w. are_rising (world_types w)) p.worlds (λ m w e. types_rise t tables kept p are b owned views m w (read m w e));
 }

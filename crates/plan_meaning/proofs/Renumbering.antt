@@ -38,7 +38,8 @@ module _ (place : ℕ → Place) (shapes : List Shape) (kept : List ℕ) (p : Pl
   abbrev Smaller : ℕ → Type 0
   Smaller j = (i n : ℕ) → i < j → slice_get kept i ≡ Some n → tree_of_number (trees_in p) i ≡ tree_of_number old_trees n
 
-  part_kept : (j : ℕ) → Smaller j → (old new : ℕ) → IsPart kept old new → (ns : List ℕ) → list_all (λ k. nat_lt k j) (cons_option (part_number new) ns) ≡ true → part_tree (take j (trees_in p)) new ≡ part_tree old_trees old
+  part_kept : (j : ℕ) → Smaller j → (old new : ℕ) → IsPart kept old new → (ns : List ℕ) → list_all (λ k. nat_lt k j) (cons_option (part_number new) ns) ≡ true
+      → part_tree (take j (trees_in p)) new ≡ part_tree old_trees old
   part_kept j small old new (a_primitive low same) ns h =
       let new_low : new < 14 = omega (arith, low, same) in
       part_front (take j (trees_in p)) new new_low ∙ (ap (λ k. unwrap_or (slice_get (map Tree.primitive primitives) k) no_tree) same ∙ sym (part_front old_trees old low))
@@ -49,7 +50,8 @@ module _ (place : ℕ → Place) (shapes : List Shape) (kept : List ℕ) (p : Pl
       ∙ (ap (λ o. unwrap_or o no_tree) (slice_take (trees_in p) j i low)
       ∙ (small i n low stands ∙ (sym (part_behind old_trees n) ∙ ap (part_tree old_trees) (sym from)))))
 
-  parts_kept : (j : ℕ) → Smaller j → (old new : List ℕ) → AllZip (IsPart kept) old new → list_all (λ k. nat_lt k j) (filter_map part_number new) ≡ true → map (part_tree (take j (trees_in p))) new ≡ map (part_tree old_trees) old
+  parts_kept : (j : ℕ) → Smaller j → (old new : List ℕ) → AllZip (IsPart kept) old new → list_all (λ k. nat_lt k j) (filter_map part_number new) ≡ true
+      → map (part_tree (take j (trees_in p))) new ≡ map (part_tree old_trees) old
   parts_kept j small [] [] zip h = refl
   parts_kept j small [] (w ∷ new) zip h = absurd zip
   parts_kept j small (o ∷ old) [] zip h = absurd zip
@@ -58,7 +60,8 @@ module _ (place : ℕ → Place) (shapes : List Shape) (kept : List ℕ) (p : Pl
       let here = part_kept j small o w zip.0 (filter_map part_number new) h in
       λ i. here i ∷ rest i
 
-  made_tree : (j : ℕ) → Smaller j → (t : PlannedType) (s : Shape) → list_all (λ k. nat_lt k j) (kind_numbers t.kind) ≡ true → IsTypeOf place kept p s t → tree_of_planned p (take j (trees_in p)) t ≡ shape_tree place old_trees s
+  made_tree : (j : ℕ) → Smaller j → (t : PlannedType) (s : Shape) → list_all (λ k. nat_lt k j) (kind_numbers t.kind) ≡ true → IsTypeOf place kept p s t
+      → tree_of_planned p (take j (trees_in p)) t ≡ shape_tree place old_trees s
   made_tree j small t s h (of_name q name is named_ home) =
       ap (λ o. option_map_or (λ x. named (place_in p t.owner) x) o (tree_of_declaration (declared_as (take j (trees_in p)) t.kind))) named_
       ∙ (ap (λ x. named x name) home ∙ (sym (name_tree place old_trees q name) ∙ ap (shape_tree place old_trees) (sym is)))

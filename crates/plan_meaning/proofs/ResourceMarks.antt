@@ -52,13 +52,15 @@ module _ (r : Resolve) (m : ℕ) (below : Keeps references r) where
         → option_map_or (λ j. unwrap_or (slice_get (take n marks) j) false) (part_number (part_of t)) false ≡ option_map_or (parts.is_resource r) (number_of t) false
     alias_mark t low = ap (λ o. option_map_or (λ j. unwrap_or (slice_get (take n marks) j) false) o false) (number_part t) ∙ go (number_of t) low
       where
-        go : (o : Option ℕ) → list_all (λ j. nat_lt j n) (option_to_list o) ≡ true → option_map_or (λ j. unwrap_or (slice_get (take n marks) j) false) o false ≡ option_map_or (parts.is_resource r) o false
+        go : (o : Option ℕ) → list_all (λ j. nat_lt j n) (option_to_list o) ≡ true
+            → option_map_or (λ j. unwrap_or (slice_get (take n marks) j) false) o false ≡ option_map_or (parts.is_resource r) o false
         go None low = refl
         go (Some j) low =
             let less : j < n = ltb→lt j n (subst T (sym (first_true (nat_lt j n) true low)) tt) in
             ap (λ o. unwrap_or o false) (slice_take marks n j less) ∙ same j less
 
-    mark_is : (k : TypeDefKind) (x : PlannedType) → x.kind ≡ planned_kind k → list_all (λ j. nat_lt j n) (parts.kind_numbers k) ≡ true → marked_at (take n marks) x ≡ is_resource_kind (parts.is_resource r) k
+    mark_is : (k : TypeDefKind) (x : PlannedType) → x.kind ≡ planned_kind k → list_all (λ j. nat_lt j n) (parts.kind_numbers k) ≡ true
+        → marked_at (take n marks) x ≡ is_resource_kind (parts.is_resource r) k
     mark_is (kind.Type_ t) x e low = ap (λ y. marked_at (take n marks) (record x { kind = y })) e ∙ alias_mark t low
     mark_is kind.Resource x e low = ap (λ y. marked_at (take n marks) (record x { kind = y })) e
     mark_is (kind.Record y) x e low = ap (λ z. marked_at (take n marks) (record x { kind = z })) e
@@ -137,7 +139,8 @@ module _ (r : Resolve) (m : ℕ) (is : IsPlan (plan_of r m)) where
   of_values : (k : TypeDefKind) (ks : List ℕ) → formed_pass value_part (planned_kind k) ≡ list_all value_part ks → handled k ≡ None → list_all no_resource_at (filter_map part_number ks) ≡ true
       → (list_all (λ t. not (is_resource_type r t)) (member_types k) && passes (parts.is_resource r) (handled k)) ≡ true
   of_values k ks same none h =
-      both _ _ (members_pass value_part (λ t. not (is_resource_type r t)) value_passes k (same ∙ (sym (list_all_filter_map no_resource_at part_number ks) ∙ h))) (ap (passes (parts.is_resource r)) none)
+      both _ _ (members_pass value_part (λ t. not (is_resource_type r t)) value_passes k (same ∙ (sym (list_all_filter_map no_resource_at part_number ks) ∙ h)))
+      (ap (passes (parts.is_resource r)) none)
 
   of_handle : (n : ℕ) → list_all (plan.is_resource (plan_of r m)) (filter_map part_number ((14 + n) ∷ [])) ≡ true → parts.is_resource r n ≡ true
   of_handle n h = sym (resource_is r m references_hold n) ∙ first_true _ true (ap (λ o. list_all (plan.is_resource (plan_of r m)) (cons_option o [])) (sym (behind n)) ∙ h)
@@ -166,4 +169,5 @@ module _ (r : Resolve) (m : ℕ) (is : IsPlan (plan_of r m)) where
   handles_kept = keeps_three handles r refl
       (interfaces_pass r m (λ o f. planned.takes_values (plan_of r m) f) takes_values function_passes is.functions_take_values)
       (worlds_pass r m (λ o f. planned.takes_values (plan_of r m) f) takes_values function_passes is.functions_take_values)
-      (each_from_built planned_type (λ t. planned.handles_resources (plan_of r m) t.kind) (λ def. list_all (λ t. not (is_resource_type r t)) (member_types def.kind) && passes (parts.is_resource r) (handled def.kind)) (λ def h. kind_passes def.kind h) r.types.items is.handles)
+      (each_from_built planned_type (λ t. planned.handles_resources (plan_of r m) t.kind)
+      (λ def. list_all (λ t. not (is_resource_type r t)) (member_types def.kind) && passes (parts.is_resource r) (handled def.kind)) (λ def h. kind_passes def.kind h) r.types.items is.handles)

@@ -84,14 +84,16 @@ pub in_order : (used : ℕ → List ℕ) → ((n : ℕ) → list_all (λ m. nat_
 in_order used low all before [] split rise = refl
 in_order used low all before (n ∷ rest) split rise =
     both _ _
-    (all_weaker (λ m. nat_lt m n) (λ m. not (has all m) || has before m) (λ m h. covered (has all m) (has before m) (has (n ∷ rest) m) (split m) (absent_here m n rest (less_than m n h) (first_true (list_all (nat_lt n) rest) _ rise))) (used n) (low n))
+    (all_weaker (λ m. nat_lt m n) (λ m. not (has all m) || has before m) (λ m h. covered (has all m) (has before m) (has (n ∷ rest) m) (split m)
+    (absent_here m n rest (less_than m n h) (first_true (list_all (nat_lt n) rest) _ rise))) (used n) (low n))
     (in_order used low all (before ++ n ∷ []) rest
     (λ m. split m ∙ (grouped (has before m) (n == m) (has rest m) ∙ ap (λ b. b || has rest m) (sym (list_any-append (λ k. k == m) before (n ∷ []))))) (second_true (list_all (nat_lt n) rest) _ rise))
 
 -- ---- what is met is smaller
 
 module _ (r : Resolve) (below : Keeps references r) where
-  within : (n : ℕ) (ns : List ℕ) → ((j : ℕ) → j < n → list_all (λ m. nat_le m j) (met_by (met_of r) j) ≡ true) → list_all (λ j. nat_lt j n) ns ≡ true → list_all (λ m. nat_lt m n) (flat_map (met_by (met_of r)) ns) ≡ true
+  within : (n : ℕ) (ns : List ℕ) → ((j : ℕ) → j < n → list_all (λ m. nat_le m j) (met_by (met_of r) j) ≡ true) → list_all (λ j. nat_lt j n) ns ≡ true
+      → list_all (λ m. nat_lt m n) (flat_map (met_by (met_of r)) ns) ≡ true
   within n ns small h =
       all_flat (λ m. nat_lt m n) (met_by (met_of r)) ns
       ∙ all_weaker (λ j. nat_lt j n) (λ j. list_all (λ m. nat_lt m n) (met_by (met_of r) j))

@@ -101,7 +101,8 @@ numbered_at o (p ∷ ps) n zero h = n.0 ∙ omega arith
 numbered_at o (p ∷ ps) n (suc k) h = numbered_at (o + 1) ps n.1 k (omega (arith, h)) ∙ omega arith
 
 primitive_at : (T : List Tree) (k : ℕ) → k < 14 → number_in (part_tree T k) ≡ k
-primitive_at T k h = ap number_in (part_front T k h) ∙ (numbered_at 0 primitives (refl, (refl, (refl, (refl, (refl, (refl, (refl, (refl, (refl, (refl, (refl, (refl, (refl, (refl, tt)))))))))))))) k h ∙ omega arith)
+primitive_at T k h = ap number_in (part_front T k h) ∙ (numbered_at 0 primitives (refl, (refl, (refl, (refl, (refl, (refl, (refl, (refl, (refl, (refl, (refl, (refl, (refl, (refl, tt)))))))))))))) k h
+    ∙ omega arith)
 
 -- ---- the tree of a number
 
@@ -121,9 +122,11 @@ module _ (T : List Tree) (n : ℕ) where
   shape_same : (place : ℕ → Place) (s : Shape) → IsShape n s → shape_tree place (take n T) s ≡ shape_tree place T s
   shape_same place s (a_name p x is) = ap (shape_tree place (take n T)) is ∙ (name_tree place (take n T) p x ∙ (sym (name_tree place T p x) ∙ ap (shape_tree place T) (sym is)))
   shape_same place s (a_node f ks is below) =
-      ap (shape_tree place (take n T)) is ∙ (node_tree place (take n T) f ks ∙ (ap (λ ts. Tree.node f (children ts)) (parts_same ks below) ∙ (sym (node_tree place T f ks) ∙ ap (shape_tree place T) (sym is))))
+      ap (shape_tree place (take n T)) is ∙ (node_tree place (take n T) f ks
+      ∙ (ap (λ ts. Tree.node f (children ts)) (parts_same ks below) ∙ (sym (node_tree place T f ks) ∙ ap (shape_tree place T) (sym is))))
 
-pub tree_at_number : (place : ℕ → Place) (ss : List Shape) → IsTable ss → (n : ℕ) (s : Shape) → slice_get ss n ≡ Some s → slice_get (shape_trees place ss) n ≡ Some (shape_tree place (shape_trees place ss) s)
+pub tree_at_number : (place : ℕ → Place) (ss : List Shape) → IsTable ss → (n : ℕ) (s : Shape) → slice_get ss n ≡ Some s
+    → slice_get (shape_trees place ss) n ≡ Some (shape_tree place (shape_trees place ss) s)
 unfolding shape_trees
 tree_at_number place ss table n s e =
     grow_at (shape_tree place) ss n s e ∙ ap Some (shape_same (grow (shape_tree place) [] ss) n place s (table.each n s e))
@@ -155,7 +158,8 @@ module _ (place : ℕ → Place) (ss : List Shape) (table : IsTable ss) where
   viewed k h = elim (split_part k) [
     | inl small ↦
         let found = slice_there primitives k small in
-        let stands : part_tree trees k ≡ Tree.primitive found.0 = part_front trees k small ∙ ap (λ o. unwrap_or o no_tree) (get_of_map Tree.primitive primitives k ∙ ap (option_map Tree.primitive) found.1) in
+        let stands : part_tree trees k ≡ Tree.primitive found.0 = part_front trees k small ∙ ap (λ o. unwrap_or o no_tree)
+        (get_of_map Tree.primitive primitives k ∙ ap (option_map Tree.primitive) found.1) in
         is_primitive found.0 small stands (sym (ap number_in stands) ∙ primitive_at trees k small)
     | inr m ↦
         let below : m.0 < length ss = omega (arith, h, m.1) in

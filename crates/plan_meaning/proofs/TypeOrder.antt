@@ -92,16 +92,19 @@ module _ (r : Resolve) (m : ℕ) (is : IsPlan (plan_of r m)) where
 
   -- ---- interfaces and worlds
 
-  interface_passes : (n : ℕ) (i : Interface) → list_all (planned.is_type_of (plan_of r m) (as_interface n)) (planned_interface i).types ≡ true → are_rising (numbers_of (planned_interface i).types) ≡ true
+  interface_passes : (n : ℕ) (i : Interface) → list_all (planned.is_type_of (plan_of r m) (as_interface n)) (planned_interface i).types ≡ true
+      → are_rising (numbers_of (planned_interface i).types) ≡ true
       → (list_all (is_named_of r (as_interface n)) (interface_type_numbers i) && are_in_order r (interface_type_numbers i)) ≡ true
   interface_passes n i own rise =
       both _ _
       (list_all-map (is_named_of r (as_interface n)) (λ id. id.0) (values i.types)
       ∙ (list_all-map (λ id. is_named_of r (as_interface n) id.0) (λ e. e.1) i.types.entries
-      ∙ all_built (λ e. (text_of e.0, e.1.0)) (planned.is_type_of (plan_of r m) (as_interface n)) (λ e. is_named_of r (as_interface n) e.1.0) (λ e k. named_of (as_interface n) (text_of e.0) e.1.0 k) i.types.entries own))
+      ∙ all_built (λ e. (text_of e.0, e.1.0)) (planned.is_type_of (plan_of r m) (as_interface n)) (λ e. is_named_of r (as_interface n) e.1.0) (λ e k. named_of (as_interface n) (text_of e.0) e.1.0 k)
+      i.types.entries own))
       (ordered (interface_type_numbers i) (ap are_rising (sym (type_numbers_are i)) ∙ rise))
 
-  import_named : (n : ℕ) (e : WorldKey × WorldItem) → planned.import_stands (plan_of r m) n (planned_key e.0, planned_item e.1) ≡ true → list_all (is_named_of r (as_world n)) (option_to_list (rules.item_type e.1)) ≡ true
+  import_named : (n : ℕ) (e : WorldKey × WorldItem) → planned.import_stands (plan_of r m) n (planned_key e.0, planned_item e.1) ≡ true
+      → list_all (is_named_of r (as_world n)) (option_to_list (rules.item_type e.1)) ≡ true
   import_named n (key.Interface id, item.Interface other stability docs external_id) h = refl
   import_named n (key.Interface id, item.Function f) h = refl
   import_named n (key.Interface id, item.Type_ other) h = no_true h
@@ -115,7 +118,8 @@ module _ (r : Resolve) (m : ℕ) (is : IsPlan (plan_of r m)) where
       both _ _
       (list_all_filter_map (is_named_of r (as_world n)) rules.item_type (values w.imports)
       ∙ (list_all-map (λ x. list_all (is_named_of r (as_world n)) (option_to_list (rules.item_type x))) (λ e. e.1) w.imports.entries
-      ∙ all_built (λ e. (planned_key e.0, planned_item e.1)) (planned.import_stands (plan_of r m) n) (λ e. list_all (is_named_of r (as_world n)) (option_to_list (rules.item_type e.1))) (import_named n) w.imports.entries imports))
+      ∙ all_built (λ e. (planned_key e.0, planned_item e.1)) (planned.import_stands (plan_of r m) n) (λ e. list_all (is_named_of r (as_world n)) (option_to_list (rules.item_type e.1)))
+      (import_named n) w.imports.entries imports))
       (ordered (world_type_numbers w) (ap are_rising (sym (world_types_are w)) ∙ rise))
 
   -- ---- types
@@ -123,37 +127,47 @@ module _ (r : Resolve) (m : ℕ) (is : IsPlan (plan_of r m)) where
   rises_at : (n : ℕ) (i : Interface) → interface_at r n ≡ Some i → are_rising (interface_type_numbers i) ≡ true
   rises_at n i e =
       ap are_rising (sym (type_numbers_are i))
-      ∙ all_get (λ x. are_rising (numbers_of x.types)) (map planned_interface r.interfaces.items) n (planned_interface i) is.types_rise (get_of_map planned_interface r.interfaces.items n ∙ ap (option_map planned_interface) e)
+      ∙ all_get (λ x. are_rising (numbers_of x.types)) (map planned_interface r.interfaces.items) n (planned_interface i) is.types_rise
+      (get_of_map planned_interface r.interfaces.items n ∙ ap (option_map planned_interface) e)
 
   world_rises_at : (n : ℕ) (w : World) → world_at r n ≡ Some w → are_rising (world_type_numbers w) ≡ true
   world_rises_at n w e =
       ap are_rising (sym (world_types_are w))
-      ∙ all_get (λ x. are_rising (plan.world_types x)) (map planned_world r.worlds.items) n (planned_world w) is.world_types_rise (get_of_map planned_world r.worlds.items n ∙ ap (option_map planned_world) e)
+      ∙ all_get (λ x. are_rising (plan.world_types x)) (map planned_world r.worlds.items) n (planned_world w) is.world_types_rise
+      (get_of_map planned_world r.worlds.items n ∙ ap (option_map planned_world) e)
 
-  in_interface : (n : ℕ) (name : Text) (i : Interface) → are_rising (interface_type_numbers i) ≡ true → is_id n (number_under name (planned_interface i).types) ≡ true → is_listed_in_interface n name i ≡ true
+  in_interface : (n : ℕ) (name : Text) (i : Interface) → are_rising (interface_type_numbers i) ≡ true → is_id n (number_under name (planned_interface i).types) ≡ true
+      → is_listed_in_interface n name i ≡ true
   in_interface n name i rise h =
       both _ _ (ap (is_id n) (sym (lookup_of_map (text_eq name) text_of (λ (id : TypeId). id.0) i.types.entries)) ∙ h)
       (stands_once n (interface_type_numbers i) rise (ap (λ ns. has ns n) (sym (type_numbers_are i)) ∙ under_has name n (planned_interface i).types h))
 
-  in_world : (n : ℕ) (name : Text) (w : World) → are_rising (world_type_numbers w) ≡ true → is_id n (option_and_then plan.item_type (lookup (is_under_label name) (planned_world w).imports)) ≡ true → is_listed_in_world n name w ≡ true
+  in_world : (n : ℕ) (name : Text) (w : World) → are_rising (world_type_numbers w) ≡ true → is_id n (option_and_then plan.item_type (lookup (is_under_label name) (planned_world w).imports)) ≡ true
+      → is_listed_in_world n name w ≡ true
   in_world n name w rise h =
       both _ _ found (stands_once n (world_type_numbers w) rise (found_stands (is_name_key name) rules.item_type n w.imports.entries found))
     where
       found : is_id n (option_and_then rules.item_type (get_by (is_name_key name) w.imports)) ≡ true
       found =
-          ap (is_id n) (sym (ap (option_and_then plan.item_type) (lookup_of_map (is_under_label name) planned_key planned_item w.imports.entries ∙ ap (λ test. option_map planned_item (lookup test w.imports.entries)) (λ i k. key_is name k i))
-          ∙ (then_of_map plan.item_type planned_item (lookup (is_name_key name) w.imports.entries) ∙ same_then (λ x. plan.item_type (planned_item x)) rules.item_type item_type_is (lookup (is_name_key name) w.imports.entries)))) ∙ h
+          ap (is_id n) (sym (ap (option_and_then plan.item_type) (lookup_of_map (is_under_label name) planned_key planned_item w.imports.entries ∙ ap
+          (λ test. option_map planned_item (lookup test w.imports.entries)) (λ i k. key_is name k i))
+          ∙ (then_of_map plan.item_type planned_item (lookup (is_name_key name) w.imports.entries) ∙ same_then (λ x. plan.item_type (planned_item x)) rules.item_type item_type_is
+          (lookup (is_name_key name) w.imports.entries)))) ∙ h
 
   listed_in : (n : ℕ) (name : Text) (o : TypeOwner) → planned.is_listed_in (plan_of r m) n name o ≡ true → rules.is_listed r n name o ≡ true
-  listed_in n name (owner.Interface id) h = go (interface_at r id.0) refl (sym (ap (λ o. option_map_or (λ i. is_id n (number_under name i.types)) o false) (get_of_map planned_interface r.interfaces.items id.0)) ∙ h)
+  listed_in n name (owner.Interface id) h = go (interface_at r id.0) refl
+      (sym (ap (λ o. option_map_or (λ i. is_id n (number_under name i.types)) o false) (get_of_map planned_interface r.interfaces.items id.0)) ∙ h)
     where
-      go : (o : Option Interface) → interface_at r id.0 ≡ o → option_map_or (λ i. is_id n (number_under name i.types)) (option_map planned_interface o) false ≡ true → passes (is_listed_in_interface n name) (interface_at r id.0) ≡ true
+      go : (o : Option Interface) → interface_at r id.0 ≡ o → option_map_or (λ i. is_id n (number_under name i.types)) (option_map planned_interface o) false ≡ true
+          → passes (is_listed_in_interface n name) (interface_at r id.0) ≡ true
       go None e h = no_true h
       go (Some i) e h = ap (passes (is_listed_in_interface n name)) e ∙ in_interface n name i (rises_at id.0 i e) h
   listed_in n name (owner.World id) h =
-      go (world_at r id.0) refl (sym (ap (λ o. option_map_or (λ w. is_id n (option_and_then plan.item_type (lookup (is_under_label name) w.imports))) o false) (get_of_map planned_world r.worlds.items id.0)) ∙ h)
+      go (world_at r id.0) refl (sym (ap (λ o. option_map_or (λ w. is_id n (option_and_then plan.item_type (lookup (is_under_label name) w.imports))) o false)
+      (get_of_map planned_world r.worlds.items id.0)) ∙ h)
     where
-      go : (o : Option World) → world_at r id.0 ≡ o → option_map_or (λ w. is_id n (option_and_then plan.item_type (lookup (is_under_label name) w.imports))) (option_map planned_world o) false ≡ true → passes (is_listed_in_world n name) (world_at r id.0) ≡ true
+      go : (o : Option World) → world_at r id.0 ≡ o → option_map_or (λ w. is_id n (option_and_then plan.item_type (lookup (is_under_label name) w.imports))) (option_map planned_world o) false ≡ true
+          → passes (is_listed_in_world n name) (world_at r id.0) ≡ true
       go None e h = no_true h
       go (Some w) e h = ap (passes (is_listed_in_world n name)) e ∙ in_world n name w (world_rises_at id.0 w e) h
   listed_in n name owner.None h = no_true h
@@ -166,12 +180,19 @@ module _ (r : Resolve) (m : ℕ) (is : IsPlan (plan_of r m)) where
   pub order_of_types_kept : Keeps order_of_types r
   unfolding order_of_types
   order_of_types_kept = keeps_three order_of_types r refl
-      (each_two (λ n i. list_all (planned.is_type_of (plan_of r m) (as_interface n)) (planned_interface i).types) (λ n i. are_rising (numbers_of (planned_interface i).types)) (λ n i. order_of_types.interface_ r n i) interface_passes 0 r.interfaces.items
-      (each_built planned_interface (λ n i. list_all (planned.is_type_of (plan_of r m) (as_interface n)) i.types) (λ n i. list_all (planned.is_type_of (plan_of r m) (as_interface n)) (planned_interface i).types) (λ n i h. h) r.interfaces.items is.interface_types)
+      (each_two (λ n i. list_all (planned.is_type_of (plan_of r m) (as_interface n)) (planned_interface i).types) (λ n i. are_rising (numbers_of (planned_interface i).types))
+      (λ n i. order_of_types.interface_ r n i) interface_passes 0 r.interfaces.items
+      (each_built planned_interface (λ n i. list_all (planned.is_type_of (plan_of r m) (as_interface n)) i.types)
+      (λ n i. list_all (planned.is_type_of (plan_of r m) (as_interface n)) (planned_interface i).types) (λ n i h. h) r.interfaces.items is.interface_types)
       (each_from_built planned_interface (λ i. are_rising (numbers_of i.types)) (λ i. are_rising (numbers_of (planned_interface i).types)) (λ i h. h) r.interfaces.items is.types_rise))
-      (each_two (λ n w. list_all (planned.import_stands (plan_of r m) n) (planned_world w).imports) (λ n w. are_rising (plan.world_types (planned_world w))) (λ n w. order_of_types.world_ r n w) world_passes 0 r.worlds.items
-      (each_built planned_world (λ n w. list_all (planned.import_stands (plan_of r m) n) w.imports) (λ n w. list_all (planned.import_stands (plan_of r m) n) (planned_world w).imports) (λ n w h. h) r.worlds.items is.imports_stand)
+      (each_two (λ n w. list_all (planned.import_stands (plan_of r m) n) (planned_world w).imports) (λ n w. are_rising (plan.world_types (planned_world w))) (λ n w. order_of_types.world_ r n w)
+      world_passes 0 r.worlds.items
+      (each_built planned_world (λ n w. list_all (planned.import_stands (plan_of r m) n) w.imports) (λ n w. list_all (planned.import_stands (plan_of r m) n) (planned_world w).imports) (λ n w h. h)
+      r.worlds.items is.imports_stand)
       (each_from_built planned_world (λ w. are_rising (plan.world_types w)) (λ w. are_rising (plan.world_types (planned_world w))) (λ w h. h) r.worlds.items is.world_types_rise))
-      (each_two (λ n def. list_all (λ j. nat_lt j n) (parts.kind_numbers def.kind)) (λ n def. option_map_or (λ s. rules.is_listed r n (text_of s) def.owner) def.name (same_owner def.owner owner.None)) (λ n def. order_of_types.type_ r n def) (λ n def a b. both _ _ a b) 0 r.types.items
-      (each_built planned_type (λ n t. list_all (λ j. nat_lt j n) (plan.kind_numbers t.kind)) (λ n def. list_all (λ j. nat_lt j n) (parts.kind_numbers def.kind)) (λ n def h. ap (list_all (λ j. nat_lt j n)) (sym (kind_numbers_are def.kind)) ∙ h) r.types.items is.types_fall)
-      (each_built planned_type (planned.is_listed (plan_of r m)) (λ n def. option_map_or (λ s. rules.is_listed r n (text_of s) def.owner) def.name (same_owner def.owner owner.None)) (λ n def h. listed_by n def.name def.owner h) r.types.items is.types_listed))
+      (each_two (λ n def. list_all (λ j. nat_lt j n) (parts.kind_numbers def.kind)) (λ n def. option_map_or (λ s. rules.is_listed r n (text_of s) def.owner) def.name (same_owner def.owner owner.None))
+      (λ n def. order_of_types.type_ r n def) (λ n def a b. both _ _ a b) 0 r.types.items
+      (each_built planned_type (λ n t. list_all (λ j. nat_lt j n) (plan.kind_numbers t.kind)) (λ n def. list_all (λ j. nat_lt j n) (parts.kind_numbers def.kind))
+      (λ n def h. ap (list_all (λ j. nat_lt j n)) (sym (kind_numbers_are def.kind)) ∙ h) r.types.items is.types_fall)
+      (each_built planned_type (planned.is_listed (plan_of r m)) (λ n def. option_map_or (λ s. rules.is_listed r n (text_of s) def.owner) def.name (same_owner def.owner owner.None))
+      (λ n def h. listed_by n def.name def.owner h) r.types.items is.types_listed))

@@ -72,7 +72,8 @@ module _ (t : Tables) (tables : AreTables t) (kept : List ℕ) (p : Plan) (are :
 
   -- the type of the number of a name
   name_used : (n k q : ℕ) (name : Text) (x : PlannedType) → type_in p n ≡ Some x → slice_get kept n ≡ Some k → slice_get t.shapes k ≡ Some (named_shape q name)
-      → (d : Option ℕ) (old new i m : ℕ) → DeclaresKind t kept p d x.kind → d ≡ Some old → numbered.is_form t old ≡ false → Becomes t kept p old new → old ≡ 14 + m → slice_get kept i ≡ Some m → new ≡ 14 + i
+      → (d : Option ℕ) (old new i m : ℕ) → DeclaresKind t kept p d x.kind → d ≡ Some old → numbered.is_form t old ≡ false → Becomes t kept p old new → old ≡ 14 + m → slice_get kept i ≡ Some m
+      → new ≡ 14 + i
       → UsedBy q d (option_and_then (λ (u : PlannedType). owner_interface u.owner) (type_in p i))
   name_used n k q name x there at shape d old new i m kind is no_form becomes from stands to =
       let range = becomes.range in
@@ -88,14 +89,16 @@ module _ (t : Tables) (tables : AreTables t) (kept : List ℕ) (p : Plan) (are :
 
       by : (y : PlannedType) → slice_get p.types i ≡ Some y → IsKeptType t kept p m y → UsedBy q d (option_and_then (λ (u : PlannedType). owner_interface u.owner) (type_in p i))
       by y e (unnamed place form olds news form_there z none unowned kind_y part low) =
-          let form_is : numbered.is_form t old ≡ true = ap (λ o. option_map_or (λ (s : Shape). not (s.sort == 0)) o false) (shape_there t old m (node_shape form olds) from form_there) ∙ ap not (no_name form) in
+          let form_is : numbered.is_form t old ≡ true = ap (λ o. option_map_or (λ (s : Shape). not (s.sort == 0)) o false) (shape_there t old m (node_shape form olds) from form_there) ∙ ap not
+          (no_name form) in
           no_true (sym no_form ∙ form_is)
       by y e (declared r label c name_there called home kind_y before good obeys) =
           let owner_is : option_and_then (λ (u : PlannedType). owner_interface u.owner) (type_in p i) ≡ owner_interface (b.owners r) =
           ap (option_and_then (λ (u : PlannedType). owner_interface u.owner)) e ∙ ap owner_interface (owned.owned i m y r label e stands name_there) in
           place owner_is name_there (owned.used n k x q name m r label there at shape (subst (λ o. DeclaresKind t kept p o x.kind) (is ∙ ap Some from) kind) name_there)
 
-  pub type_uses : (n k q : ℕ) (name : Text) (d : Option ℕ) (id : Option Text) → slice_get kept n ≡ Some k → slice_get t.shapes k ≡ Some (named_shape q name) → TypeBecomes t kept p d id n → UsedBy q d (interface_used_by p n)
+  pub type_uses : (n k q : ℕ) (name : Text) (d : Option ℕ) (id : Option Text) → slice_get kept n ≡ Some k → slice_get t.shapes k ≡ Some (named_shape q name) → TypeBecomes t kept p d id n
+      → UsedBy q d (interface_used_by p n)
   type_uses n k q name d id at shape is = subst (UsedBy q d) (sym there) (by is.kind)
     where
       abbrev_of : PlannedKind → Option ℕ
@@ -107,12 +110,14 @@ module _ (t : Tables) (tables : AreTables t) (kept : List ℕ) (p : Plan) (are :
       by : DeclaresKind t kept p d is.type_.kind → UsedBy q d (abbrev_of is.type_.kind)
       by (a_resource none kind) = nothing (ap abbrev_of kind) (ap (used_by t) none)
       by (a_form old m form olds news e from f z kind) =
-          nothing (ap abbrev_of kind) (no_uses d old e (ap (option_and_then name_in) (shape_there t old m (node_shape form olds) from f) ∙ ap (λ v. cond v (Some ((node_shape form olds).number, first_label (node_shape form olds).labels)) None) (no_name form)))
+          nothing (ap abbrev_of kind) (no_uses d old e (ap (option_and_then name_in) (shape_there t old m (node_shape form olds) from f) ∙ ap
+          (λ v. cond v (Some ((node_shape form olds).number, first_label (node_shape form olds).labels)) None) (no_name form)))
       by (gathered.a_name old new e no_form becomes kind) = subst (λ x. UsedBy q d (abbrev_of x)) (sym kind) (part becomes.part)
         where
           part : IsPart kept old new → UsedBy q d (abbrev_of (plan.alias new))
           part (a_primitive low same) =
-              nothing (ap (λ c. option_and_then (λ m. option_and_then (λ (u : PlannedType). owner_interface u.owner) (type_in p m)) (cond c None (Some (new - 14)))) (lt-ltb new 14 (omega (arith, low, same))))
+              nothing (ap (λ c. option_and_then (λ m. option_and_then (λ (u : PlannedType). owner_interface u.owner) (type_in p m)) (cond c None (Some (new - 14))))
+              (lt-ltb new 14 (omega (arith, low, same))))
               (no_uses d old e (ap (option_and_then name_in) (no_shape t old low)))
           part (a_shape m i from stands to) =
               subst (UsedBy q d) (sym (ap (option_and_then (λ m. option_and_then (λ (u : PlannedType). owner_interface u.owner) (type_in p m))) (ap part_number to ∙ behind i)))
@@ -136,7 +141,12 @@ module _ (t : Tables) (tables : AreTables t) (kept : List ℕ) (p : Plan) (are :
             → (u ≡ m) ⊎ ((r : ℕ) × Contains (used_by_view t is.read.view) r × (b.owners r ≡ as_interface u))
         by x there used (nothing none nowhere) = no_true (ap is_some (sym none ∙ used))
         by x there used (own same only) = inl (one_interface u m (sym (owned_by (b.owners is.read.place) u (sym same ∙ used)) ∙ is.read.owned))
-        by x there used (other r all same) = inr (r, contains-flat (λ (y : NumberedType). used_by t y.declared) is.read.view.types x r there (subst (λ ns. Contains ns r) (sym all) (0, omega arith, refl)), owned_by (b.owners r) u (sym same ∙ used))
+        by x there used (other r all same) = inr (
+          r,
+          contains-flat (λ (y : NumberedType). used_by t y.declared) is.read.view.types x r there
+              (subst (λ ns. Contains ns r) (sym all) (0, omega arith, refl)),
+          owned_by (b.owners r) u (sym same ∙ used),
+        )
 
     -- the place that a view uses is that of an interface that the interface uses
     pub interface_uses_back : (r u : ℕ) → Contains (used_by_view t is.read.view) r → (r ≡ is.read.place → ⊥) → b.owners r ≡ as_interface u → Contains (interfaces_used_by p i) u

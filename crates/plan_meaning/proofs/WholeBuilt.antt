@@ -155,7 +155,12 @@ module _ (alloc : Global) (hasher : BuildHasherDefault FoldHasher) where
   abbrev whole : Resolve
   whole = record {
     packages = vec_of alloc (
-        record { name = record { namespace = text-s; name = text-r; version = None }; docs = no_docs; interfaces = map_of ((text-j, record { 0 = 0 }) ∷ (text-k, record { 0 = 1 }) ∷ []); worlds = map_of [] }
+        record {
+          name = record { namespace = text-s; name = text-r; version = None };
+          docs = no_docs;
+          interfaces = map_of ((text-j, record { 0 = 0 }) ∷ (text-k, record { 0 = 1 }) ∷ []);
+          worlds = map_of [];
+        }
         ∷ record {
           name = record { namespace = text-a; name = text-b; version = None };
           docs = no_docs;
@@ -167,7 +172,8 @@ module _ (alloc : Global) (hasher : BuildHasherDefault FoldHasher) where
         ∷ face (Some text-k) 0 ((text-t, type-id 1) ∷ []) []
         ∷ face (Some text-i) 1 ((text-t, type-id 2) ∷ []) ((text-f, func text-f call.Freestanding text-x (of_type 3) None) ∷ [])
         ∷ face (Some text-s) 1 ((text-r, type-id 4) ∷ (text-h, type-id 6) ∷ [])
-        ((text-constructor, func text-constructor (call.Constructor (type-id 4)) text-x ty.U8 (Some (of_type 7))) ∷ (text-method, func text-method (call.AsyncMethod (type-id 4)) text-self (of_type 8) None) ∷ [])
+        ((text-constructor, func text-constructor (call.Constructor (type-id 4)) text-x ty.U8 (Some (of_type 7)))
+        ∷ (text-method, func text-method (call.AsyncMethod (type-id 4)) text-self (of_type 8) None) ∷ [])
         ∷ face None 1 ((text-t, type-id 10) ∷ []) ((text-f, func text-f call.AsyncFreestanding text-x (of_type 10) None) ∷ []) ∷ []) (lit< tt);
     worlds = vec_of alloc (world ∷ []) (lit< tt);
     types = vec_of alloc (

@@ -148,7 +148,8 @@ wanted (suc (suc (suc zero))) i e h = shown 0 planned_world refl refl
 wanted (suc (suc (suc (suc zero)))) i e h = shown 0 planned_world refl refl
 wanted (suc (suc (suc (suc (suc n))))) i e h = absurd (let wrong : ⊥ = cc in wrong)
 
-bare : (n : ℕ) (i : PlannedInterface) → interface_in whole_plan n ≡ Some i → rules.is_foreign whole_plan i ≡ true → list_any (λ w. rules.is_shown_in w n) (planned_world ∷ []) ≡ false → i.functions ≡ []
+bare : (n : ℕ) (i : PlannedInterface) → interface_in whole_plan n ≡ Some i → rules.is_foreign whole_plan i ≡ true → list_any (λ w. rules.is_shown_in w n) (planned_world ∷ []) ≡ false
+    → i.functions ≡ []
 bare zero i e h hidden = no_true (sym hidden)
 bare (suc zero) i e h hidden = ap (λ (x : PlannedInterface). x.functions) (sym (same-some _ i e))
 bare (suc (suc zero)) i e h hidden = absurd (own_interface i e h)

@@ -145,7 +145,8 @@ params_result (p ∷ ps) o = ap (λ ks. part_of p ∷ ks) (params_result ps o)
 
 pub function_parts_are : (f : Function) → function_parts (planned_function f) ≡ map part_of (function_types f)
 function_parts_are f =
-    ap (λ ks. ks ++ option_to_list (option_map part_of f.result)) (map_of_map (λ (x : Text × ℕ). x.1) (λ x. (text_of x.name, part_of x.ty)) f.params.items ∙ sym (map_of_map part_of (λ x. x.ty) f.params.items))
+    ap (λ ks. ks ++ option_to_list (option_map part_of f.result)) (map_of_map (λ (x : Text × ℕ). x.1) (λ x. (text_of x.name, part_of x.ty)) f.params.items ∙ sym
+    (map_of_map part_of (λ x. x.ty) f.params.items))
     ∙ params_result (map (λ x. x.ty) f.params.items) f.result
 
 pub value_numbers_are : (f : Function) → filter_map part_number (function_parts (planned_function f)) ≡ filter_map number_of (function_types f)
@@ -231,7 +232,8 @@ module _ (r : Resolve) (m : ℕ) where
       ≡ option_and_then (λ s. option_and_then (λ p. path_in_package r p.0 (text_of s)) package_) name
   path_by None package_ = refl
   path_by (Some s) None = refl
-  path_by (Some s) (Some id) = ap (option_map (λ k. path_in k.identity (text_of s))) (get_of_map planned_package r.packages.items id.0) ∙ option_of_map (λ k. path_in k.identity (text_of s)) planned_package (package_at r id.0)
+  path_by (Some s) (Some id) = ap (option_map (λ k. path_in k.identity (text_of s))) (get_of_map planned_package r.packages.items id.0) ∙ option_of_map (λ k. path_in k.identity (text_of s))
+      planned_package (package_at r id.0)
 
   pub path_of_planned_is : (i : Interface) → path_of_planned P (planned_interface i) ≡ path_of_interface r i
   path_of_planned_is i = path_by i.name i.package
@@ -298,7 +300,8 @@ module _ (r : Resolve) (m : ℕ) where
   interface_used_is n =
       ap (option_and_then (λ t. option_and_then (λ m. option_and_then (λ u. owner_interface u.owner) (type_in P m)) (alias_number t.kind))) (get_of_map planned_type r.types.items n)
       ∙ (then_of_map (λ t. option_and_then (λ m. option_and_then (λ u. owner_interface u.owner) (type_in P m)) (alias_number t.kind)) planned_type (type_at r n)
-      ∙ same_then (λ def. option_and_then (λ m. option_and_then (λ u. owner_interface u.owner) (type_in P m)) (alias_number (planned_kind def.kind))) (used_interface r) used_interface_is (type_at r n))
+      ∙ same_then (λ def. option_and_then (λ m. option_and_then (λ u. owner_interface u.owner) (type_in P m)) (alias_number (planned_kind def.kind))) (used_interface r) used_interface_is
+      (type_at r n))
 
   pub interfaces_used_are : (i : Interface) → interfaces_used_by P (planned_interface i) ≡ uses.interfaces_used_by r i
   interfaces_used_are i =

@@ -83,7 +83,8 @@ module _ (r : Resolve) (m : ℕ) (is : IsWorldPlan (plan_of r m)) (v : IsValid r
   there k x c =
       let s = source k x c in
       let path : interface_path r s.number ≡ Some k = path_there r s.number s.from s.stands ∙ s.entry.path in
-      let shows = is.shows s.number (planned_interface s.from) (get_of_map planned_interface r.interfaces.items s.number ∙ ap (option_map planned_interface) s.stands) (named r s.from k s.entry.path) in
+      let shows = is.shows s.number (planned_interface s.from) (get_of_map planned_interface r.interfaces.items s.number ∙ ap (option_map planned_interface) s.stands)
+      (named r s.from k s.entry.path) in
       let items : has (filter_map uses.item_interface (items_of w)) s.number ≡ true = sym (shows_is s.number w) ∙ (ap (λ y. rules.is_shown_in y s.number) same ∙ shows) in
       let among = has-contains (shown_by r w) s.number (has_filter (λ n. is_some (interface_path r n)) (filter_map uses.item_interface (items_of w)) s.number items (ap is_some path)) in
       let means : interface_meaning_at r s.number ≡ x = meaning_there r s.number s.from s.stands ∙ sym s.entry.means in
@@ -138,12 +139,14 @@ world_plan_means r m is v =
     home w None e h = no_true h
     home w (Some id) e h = ap (option_and_then (λ p. package_at r p.0)) e ∙ ap (package_at r) (eqb-true id.0 m h)
 
-    by : (w : World) → planned_world w ≡ is.world → (o : Option Package) → option_and_then (λ k. option_map (planned.world_package (plan_of r m) k) (Some (planned_world w))) (option_map planned_package o) ≡ option_map (λ p. meant.world_package r p w) o
+    by : (w : World) → planned_world w ≡ is.world → (o : Option Package)
+        → option_and_then (λ k. option_map (planned.world_package (plan_of r m) k) (Some (planned_world w))) (option_map planned_package o) ≡ option_map (λ p. meant.world_package r p w) o
     by w same None = refl
     by w same (Some p) = ap Some (world_package_is r m is v w same p)
 
     at : (w : World) → world_at r 0 ≡ Some w → planned_world w ≡ is.world
-        → option_and_then (λ k. option_map (planned.world_package (plan_of r m) k) (slice_get (map planned_world r.worlds.items) 0)) (package_in (plan_of r m) m) ≡ option_and_then (λ w. option_map (λ p. meant.world_package r p w) (package_of_world r w)) (world_at r 0)
+        → option_and_then (λ k. option_map (planned.world_package (plan_of r m) k) (slice_get (map planned_world r.worlds.items) 0)) (package_in (plan_of r m) m) ≡ option_and_then
+        (λ w. option_map (λ p. meant.world_package r p w) (package_of_world r w)) (world_at r 0)
     at w there same =
         let planned_there : slice_get (map planned_world r.worlds.items) 0 ≡ Some (planned_world w) = get_of_map planned_world r.worlds.items 0 ∙ ap (option_map planned_world) there in
         let found = home w w.package refl (ap (λ (y : PlannedWorld). is_id m y.package_) same ∙ is.home) in
@@ -156,5 +159,6 @@ pub world_means : (p : Plan) (r : Resolve) → IsWorldPlan p → IsBuilt p r →
 unfolding MeantWorld
 world_means p r is built x =
     let same = world_plan_means r p.main (subst IsWorldPlan (sym (plan_is p r built)) is) (built_is_valid p r is.plan built) in
-    let whole : plan_world_meaning p ≡ option_and_then (λ w. option_map (λ q. meant.world_package r q w) (package_of_world r w)) (world_at r 0) = ap plan_world_meaning (sym (plan_is p r built)) ∙ same in
+    let whole : plan_world_meaning p ≡ option_and_then (λ w. option_map (λ q. meant.world_package r q w) (package_of_world r w)) (world_at r 0) =
+    ap plan_world_meaning (sym (plan_is p r built)) ∙ same in
     (λ h. whole ∙ h, λ h. sym whole ∙ h)

@@ -47,7 +47,8 @@ module _ (r : Resolve) (m : ℕ) (is : IsPlan (plan_of r m)) where
   own_type o t n h =
       passes_weaker (λ def. bears t (optional_text def.name) && same_owner def.owner o) (λ def. text_is def.name t && same_owner def.owner o)
       (λ def k. ap (λ b. b && same_owner def.owner o) (sym (bears_is def.name t)) ∙ k) (type_at r n)
-      (there planned_type (λ x. bears t x.name && same_owner x.owner o) (type_at r n) (sym (ap (λ x. option_map_or (λ y. bears t y.name && same_owner y.owner o) x false) (get_of_map planned_type r.types.items n)) ∙ h))
+      (there planned_type (λ x. bears t x.name && same_owner x.owner o) (type_at r n)
+      (sym (ap (λ x. option_map_or (λ y. bears t y.name && same_owner y.owner o) x false) (get_of_map planned_type r.types.items n)) ∙ h))
 
   import_passes : (w : ℕ) (k : WorldKey) (x : WorldItem) → planned.import_stands (plan_of r m) w (planned_key k, planned_item x) ≡ true → rules.import_stands r w k x ≡ true
   import_passes w (key.Interface id) x h = key_stands id.0 x h
@@ -67,6 +68,8 @@ module _ (r : Resolve) (m : ℕ) (is : IsPlan (plan_of r m)) where
       (each_two (λ n w. list_all (λ e. rules.import_stands r n e.0 e.1) w.imports.entries) (λ n w. list_all (λ e. rules.export_stands r e.0 e.1) w.exports.entries)
       (λ n w. list_all (λ e. rules.import_stands r n e.0 e.1) w.imports.entries && list_all (λ e. rules.export_stands r e.0 e.1) w.exports.entries) (λ n w a b. both _ _ a b) 0 r.worlds.items
       (each_built planned_world (λ n w. list_all (planned.import_stands (plan_of r m) n) w.imports) (λ n w. list_all (λ e. rules.import_stands r n e.0 e.1) w.imports.entries)
-      (λ n w h. all_built (λ e. (planned_key e.0, planned_item e.1)) (planned.import_stands (plan_of r m) n) (λ e. rules.import_stands r n e.0 e.1) (λ e k. import_passes n e.0 e.1 k) w.imports.entries h) r.worlds.items is.imports_stand)
+      (λ n w h. all_built (λ e. (planned_key e.0, planned_item e.1)) (planned.import_stands (plan_of r m) n) (λ e. rules.import_stands r n e.0 e.1) (λ e k. import_passes n e.0 e.1 k) w.imports.entries
+      h) r.worlds.items is.imports_stand)
       (each_from_built planned_world (λ w. list_all (planned.export_stands (plan_of r m)) w.exports) (λ w. list_all (λ e. rules.export_stands r e.0 e.1) w.exports.entries)
-      (λ w h. all_built (λ e. (planned_key e.0, planned_item e.1)) (planned.export_stands (plan_of r m)) (λ e. rules.export_stands r e.0 e.1) (λ e k. export_passes e.0 e.1 k) w.exports.entries h) r.worlds.items is.exports_stand))
+      (λ w h. all_built (λ e. (planned_key e.0, planned_item e.1)) (planned.export_stands (plan_of r m)) (λ e. rules.export_stands r e.0 e.1) (λ e k. export_passes e.0 e.1 k) w.exports.entries h)
+      r.worlds.items is.exports_stand))

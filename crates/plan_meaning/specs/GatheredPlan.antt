@@ -58,7 +58,8 @@ module _ (t : Tables) (kept : List ℕ) (p : Plan) where
   pub data DeclaresKind (d : Option ℕ) (kind : PlannedKind) : Type 0 where
     a_resource : d ≡ None → kind ≡ plan.resource → DeclaresKind d kind
     a_name : (old new : ℕ) → d ≡ Some old → is_form t old ≡ false → Becomes old new → kind ≡ plan.alias new → DeclaresKind d kind
-    a_form : (old n : ℕ) (form : Form) (olds news : List ℕ) → d ≡ Some old → old ≡ 14 + n → slice_get t.shapes n ≡ Some (node_shape form olds) → AllZip Becomes olds news → kind ≡ plan.formed form news → DeclaresKind d kind
+    a_form : (old n : ℕ) (form : Form) (olds news : List ℕ) → d ≡ Some old → old ≡ 14 + n → slice_get t.shapes n ≡ Some (node_shape form olds)
+        → AllZip Becomes olds news → kind ≡ plan.formed form news → DeclaresKind d kind
 
   -- the type of this number, by what it declares
   pub record TypeBecomes (d : Option ℕ) (external_id : Option Text) (n : ℕ) : Type 0 where
@@ -192,11 +193,14 @@ pub record IsGatheredWorld (t : Tables) (h : Homes) (n : ℕ) (name : Text) (w :
 
 -- A plan that is gathered from a package's members means what they mean.
 abbrev pub GatheredPackageIsMeant : Type 0
-GatheredPackageIsMeant = (t : Tables) → AreTables t → (h : Homes) → HomesStand t h → (known : ℕ → Fact) (n : ℕ) (ms : List NumberedMember) (members : List Member) → AllZip (IsMember t h) ms members
-    → AllByRecursion (IsKnownSight t known) (sights_of_members t ms) → are_package t h known n ms ≡ true → (p : Plan) (g : IsGathered t h n ms p) → plan_meaning p ≡ package_with g.main.identity members
+GatheredPackageIsMeant = (t : Tables) → AreTables t → (h : Homes) → HomesStand t h
+    → (known : ℕ → Fact) (n : ℕ) (ms : List NumberedMember) (members : List Member) → AllZip (IsMember t h) ms members
+    → AllByRecursion (IsKnownSight t known) (sights_of_members t ms) → are_package t h known n ms ≡ true → (p : Plan) (g : IsGathered t h n ms p)
+    → plan_meaning p ≡ package_with g.main.identity members
 
 -- A plan that is gathered from one world means what that means.
 abbrev pub GatheredWorldIsMeant : Type 0
-GatheredWorldIsMeant = (t : Tables) → AreTables t → (h : Homes) → HomesStand t h → (known : ℕ → Fact) (n : ℕ) (name : Text) (w : NumberedScope) (scope : Scope) → Shows t w scope
+GatheredWorldIsMeant = (t : Tables) → AreTables t → (h : Homes) → HomesStand t h → (known : ℕ → Fact) (n : ℕ) (name : Text) (w : NumberedScope) (scope : Scope)
+    → Shows t w scope
     → AllByRecursion (IsKnownSight t known) (sights_of_scope t w) → is_one_world t h known n name w ≡ true → (p : Plan) (g : IsGatheredWorld t h n name w p)
     → read_path (path_in g.main.identity name) ≡ Some (g.main.identity, name) → plan_world_meaning p ≡ world_with g.main.identity name scope

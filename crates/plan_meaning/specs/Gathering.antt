@@ -13,7 +13,8 @@ pub record AreEnough (chosen shown : List Sight) : Type 0 where
 
 -- Where all views agree, those of one path mean one interface.
 abbrev pub ViewsMeanOne : Type 0
-ViewsMeanOne = (all : List Sight) → all_agree all ≡ true → (s t : Sight) → Contains all s → Contains all t → s.path ≡ t.path → seen_meaning all s ≡ seen_meaning all t
+ViewsMeanOne = (all : List Sight) → all_agree all ≡ true → (s t : Sight) → Contains all s → Contains all t → s.path ≡ t.path
+    → seen_meaning all s ≡ seen_meaning all t
 
 -- So any views, one of each path at least, gather to the same map.
 abbrev pub OneViewIsEnough : Type 0

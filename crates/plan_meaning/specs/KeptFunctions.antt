@@ -34,11 +34,15 @@ module _ (t : Tables) (known : ℕ → Fact) (kept : List ℕ) (p : Plan) (o : T
   -- The kind of a function by its name: of no resource, or its constructor, a method or a static function of it.
   pub data IsKindOf (name : Text) (f : FunctionShape) (kind : FunctionKind) : Type 0 where
     of_none : is_label name ≡ true → resource_of kind ≡ None → IsKindOf name f kind
-    a_constructor : (id : TypeId) (r : Text) → kind ≡ call.Constructor id → IsResource r id.0 → name ≡ constructor_name r → constructs t known q r f.result ≡ true → IsKindOf name f kind
-    a_method : (id : TypeId) (r : Text) → kind ≡ call.Method id → IsResource r id.0 → is_label_behind (method_name r []) name ≡ true → begins_with_self t known q r f.params ≡ true → IsKindOf name f kind
-    an_async_method : (id : TypeId) (r : Text) → kind ≡ call.AsyncMethod id → IsResource r id.0 → is_label_behind (method_name r []) name ≡ true → begins_with_self t known q r f.params ≡ true → IsKindOf name f kind
+    a_constructor : (id : TypeId) (r : Text) → kind ≡ call.Constructor id → IsResource r id.0 → name ≡ constructor_name r
+        → constructs t known q r f.result ≡ true → IsKindOf name f kind
+    a_method : (id : TypeId) (r : Text) → kind ≡ call.Method id → IsResource r id.0 → is_label_behind (method_name r []) name ≡ true
+        → begins_with_self t known q r f.params ≡ true → IsKindOf name f kind
+    an_async_method : (id : TypeId) (r : Text) → kind ≡ call.AsyncMethod id → IsResource r id.0 → is_label_behind (method_name r []) name ≡ true
+        → begins_with_self t known q r f.params ≡ true → IsKindOf name f kind
     a_static : (id : TypeId) (r : Text) → kind ≡ call.Static id → IsResource r id.0 → is_label_behind (static_name r []) name ≡ true → IsKindOf name f kind
-    an_async_static : (id : TypeId) (r : Text) → kind ≡ call.AsyncStatic id → IsResource r id.0 → is_label_behind (static_name r []) name ≡ true → IsKindOf name f kind
+    an_async_static : (id : TypeId) (r : Text) → kind ≡ call.AsyncStatic id → IsResource r id.0 → is_label_behind (static_name r []) name ≡ true
+        → IsKindOf name f kind
 
   -- The function is that of a type in the tables, which obeys the rule on signatures in some place.
   pub record IsKeptFunction (name : Text) (f : FunctionShape) (external_id : Option Text) (g : PlannedFunction) : Type 0 where
@@ -57,5 +61,6 @@ pub record FunctionPasses (p : Plan) (o : TypeOwner) (g : PlannedFunction) : Typ
 
 -- Each function that is kept so passes them.
 abbrev pub KeptFunctionsPass : Type 0
-KeptFunctionsPass = (t : Tables) → AreTables t → (known : ℕ → Fact) (kept : List ℕ) (p : Plan) → TypesAreKept t kept p → (o : TypeOwner) (q : ℕ) (name : Text) (f : FunctionShape) (external_id : Option Text) (g : PlannedFunction)
+KeptFunctionsPass = (t : Tables) → AreTables t → (known : ℕ → Fact) (kept : List ℕ) (p : Plan) → TypesAreKept t kept p
+    → (o : TypeOwner) (q : ℕ) (name : Text) (f : FunctionShape) (external_id : Option Text) (g : PlannedFunction)
     → IsKeptFunction t known kept p o q name f external_id g → FunctionPasses p o g

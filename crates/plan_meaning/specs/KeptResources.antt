@@ -25,13 +25,17 @@ pub record FormIsMarked (marks : ℕ → Bool) (form : Form) (parts : List ℕ) 
 -- The marks tell the parts that are resources, by name or by another name.
 pub record AreMarked (t : Tables) (kept : List ℕ) (p : Plan) (marks : ℕ → Bool) : Type 0 where
   pub primitives : (k : ℕ) → k < 14 → marks k ≡ false
-  pub forms : (n : ℕ) (form : Form) (parts : List ℕ) → IsKeptForm t kept p n → slice_get t.shapes n ≡ Some (node_shape form parts) → (marks (14 + n) ≡ false) × FormIsMarked marks form parts
-  pub names : (j n : ℕ) (x : PlannedType) (q : ℕ) (name : Text) → slice_get p.types j ≡ Some x → slice_get kept j ≡ Some n → slice_get t.shapes n ≡ Some (named_shape q name) → MarkedBy t kept p marks x.kind (marks (14 + n))
+  pub forms : (n : ℕ) (form : Form) (parts : List ℕ) → IsKeptForm t kept p n → slice_get t.shapes n ≡ Some (node_shape form parts) → (marks (14 + n) ≡ false)
+      × FormIsMarked marks form parts
+  pub names : (j n : ℕ) (x : PlannedType) (q : ℕ) (name : Text) → slice_get p.types j ≡ Some x → slice_get kept j ≡ Some n
+      → slice_get t.shapes n ≡ Some (named_shape q name) → MarkedBy t kept p marks x.kind (marks (14 + n))
 
 -- So handles are of resources, and no other type has one as a part, nor has a function that takes and gives none.
 pub record ResourcesStand (t : Tables) (kept : List ℕ) (p : Plan) (marks : ℕ → Bool) : Type 0 where
   pub handles : list_all (λ x. handles_resources p x.kind) p.types ≡ true
-  pub functions : (f : FunctionShape) (external_id : Option Text) (g : PlannedFunction) → FunctionBecomes t kept p f external_id g → PartsOf (λ k. marks k ≡ false) f → takes_values p g ≡ true
+  pub functions : (f : FunctionShape) (external_id : Option Text) (g : PlannedFunction) → FunctionBecomes t kept p f external_id g
+      → PartsOf (λ k. marks k ≡ false) f → takes_values p g ≡ true
 
 abbrev pub KeptResourcesStand : Type 0
-KeptResourcesStand = (t : Tables) → AreTables t → (kept : List ℕ) (p : Plan) → TypesAreKept t kept p → (marks : ℕ → Bool) → AreMarked t kept p marks → ResourcesStand t kept p marks
+KeptResourcesStand = (t : Tables) → AreTables t → (kept : List ℕ) (p : Plan) → TypesAreKept t kept p → (marks : ℕ → Bool) → AreMarked t kept p marks
+    → ResourcesStand t kept p marks

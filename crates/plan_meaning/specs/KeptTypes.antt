@@ -19,14 +19,17 @@ use Rattle.plan_meaning.specs.GatheredPlan.{Becomes, DeclaresKind, Keeps}
 -- may be declared as in its place, and stands behind that.
 pub data IsKeptType (t : Tables) (kept : List ℕ) (p : Plan) (n : ℕ) (x : PlannedType) : Type 0 where
   unnamed : (place : Place) (form : Form) (olds news : List ℕ) → slice_get t.shapes n ≡ Some (node_shape form olds) → AllZip (Becomes t kept p) olds news
-      → x.name ≡ None → x.owner ≡ owner.None → x.kind ≡ formed form news → rules.is_part place (tree_at t (14 + n)) ≡ true → nat_le (levels (tree_at t (14 + n))) most_levels ≡ true → IsKeptType t kept p n x
-  declared : (q : ℕ) (name : Text) (d : Option ℕ) → slice_get t.shapes n ≡ Some (named_shape q name) → x.name ≡ Some name → place_in p x.owner ≡ place_at t q → DeclaresKind t kept p d x.kind
+      → x.name ≡ None → x.owner ≡ owner.None → x.kind ≡ formed form news → rules.is_part place (tree_at t (14 + n)) ≡ true
+      → nat_le (levels (tree_at t (14 + n))) most_levels ≡ true → IsKeptType t kept p n x
+  declared : (q : ℕ) (name : Text) (d : Option ℕ) → slice_get t.shapes n ≡ Some (named_shape q name) → x.name ≡ Some name → place_in p x.owner ≡ place_at t q
+      → DeclaresKind t kept p d x.kind
       → AllOf (λ k. k < 14 + n) d → is_label name ≡ true → rules.is_declared (place_at t q) (declaration_of t d) ≡ true → IsKeptType t kept p n x
 
 -- A form of the plan: one that is kept as an unnamed type, or what a name that is kept is declared as.
 pub data IsKeptForm (t : Tables) (kept : List ℕ) (p : Plan) (m : ℕ) : Type 0 where
   alone : (j : ℕ) (x : PlannedType) → slice_get p.types j ≡ Some x → slice_get kept j ≡ Some m → IsKeptForm t kept p m
-  of_name : (j n : ℕ) (x : PlannedType) (q : ℕ) (name : Text) → slice_get p.types j ≡ Some x → slice_get kept j ≡ Some n → slice_get t.shapes n ≡ Some (named_shape q name) → DeclaresKind t kept p (Some (14 + m)) x.kind → IsKeptForm t kept p m
+  of_name : (j n : ℕ) (x : PlannedType) (q : ℕ) (name : Text) → slice_get p.types j ≡ Some x → slice_get kept j ≡ Some n
+      → slice_get t.shapes n ≡ Some (named_shape q name) → DeclaresKind t kept p (Some (14 + m)) x.kind → IsKeptForm t kept p m
 
 -- The forms of the plan are as a definition has them, the numbers that are kept are in the order of the table, each once, and each type is that
 -- of the shape kept there.

@@ -58,13 +58,15 @@ pub record NumberedMember : Type 0 where
 
 abbrev pub sights_of_part : Tables → NumberedPart → List NumberedSight
 sights_of_part t (world w) = sights_of_scope t w
-sights_of_part t (interface p v imports) = map (λ i. record { place = i.0; view = i.1; whole = false }) imports ++ record { place = p; view = v; whole = true } ∷ []
+sights_of_part t (interface p v imports) = map (λ i. record { place = i.0; view = i.1; whole = false }) imports ++ record
+    { place = p; view = v; whole = true } ∷ []
 
 abbrev pub sights_of_members : Tables → List NumberedMember → List NumberedSight
 sights_of_members t ms = flat_map (λ m. sights_of_part t m.part) ms
 
 -- The interface is that of the place, which is its home under the label.
-pub record ShowsInterface (t : Tables) (h : Homes) (m : NumberedMember) (p : ℕ) (v : NumberedView) (imports : List (ℕ × NumberedView)) (view : View) (views : List (Text × View)) : Type 0 where
+pub record ShowsInterface (t : Tables) (h : Homes) (m : NumberedMember) (p : ℕ) (v : NumberedView) (imports : List (ℕ × NumberedView)) (view : View)
+    (views : List (Text × View)) : Type 0 where
   pub path : HasPath t p
   pub home : home_at h p ≡ Some (m.package_, m.label)
   pub shown : view ≡ view_of t v
@@ -155,19 +157,24 @@ IsKnownSight t known s = IsSight t s × ViewPasses t (IsKnown t known s.place) s
 
 -- A scope imports and exports the views of interfaces that its numbers import and export.
 abbrev pub ImportsInNumbers : Type 0
-ImportsInNumbers = (t : Tables) (w : NumberedScope) (scope : Scope) → Shows t w scope → each reads.imported_view scope.imports ≡ option_map (map (shown_view t)) (each imported_view w.imports)
+ImportsInNumbers = (t : Tables) (w : NumberedScope) (scope : Scope) → Shows t w scope
+    → each reads.imported_view scope.imports ≡ option_map (map (shown_view t)) (each imported_view w.imports)
 
 abbrev pub ExportInNumbers : Type 0
-ExportInNumbers = (t : Tables) (w : NumberedScope) (scope : Scope) → Shows t w scope → reads.exported_view scope.exports ≡ option_map (shown_view t) (exported_view w.exports)
+ExportInNumbers = (t : Tables) (w : NumberedScope) (scope : Scope) → Shows t w scope
+    → reads.exported_view scope.exports ≡ option_map (shown_view t) (exported_view w.exports)
 
 -- Members are a package exactly where their numbers are.
 abbrev pub PackagesInNumbers : Type 0
-PackagesInNumbers = (t : Tables) → AreTables t → (h : Homes) → HomesStand t h → (known : ℕ → Fact) (n : ℕ) (identity : PackageIdentity) → slice_get h.packages n ≡ Some identity
+PackagesInNumbers = (t : Tables) → AreTables t → (h : Homes) → HomesStand t h → (known : ℕ → Fact) (n : ℕ) (identity : PackageIdentity)
+    → slice_get h.packages n ≡ Some identity
     → (ms : List NumberedMember) (members : List Member) → AllZip (IsMember t h) ms members → AllByRecursion (IsKnownSight t known) (sights_of_members t ms)
     → package_with identity members ≡ provided (are_package t h known n ms) (package_shown identity members)
 
 -- A world stands alone exactly where its numbers do.
 abbrev pub OneWorldInNumbers : Type 0
-OneWorldInNumbers = (t : Tables) → AreTables t → (h : Homes) → HomesStand t h → (known : ℕ → Fact) (n : ℕ) (identity : PackageIdentity) → slice_get h.packages n ≡ Some identity
-    → (name : Text) → read_path (path_in identity name) ≡ Some (identity, name) → (w : NumberedScope) (scope : Scope) → Shows t w scope → AllByRecursion (IsKnownSight t known) (sights_of_scope t w)
+OneWorldInNumbers = (t : Tables) → AreTables t → (h : Homes) → HomesStand t h → (known : ℕ → Fact) (n : ℕ) (identity : PackageIdentity)
+    → slice_get h.packages n ≡ Some identity
+    → (name : Text) → read_path (path_in identity name) ≡ Some (identity, name) → (w : NumberedScope) (scope : Scope) → Shows t w scope
+    → AllByRecursion (IsKnownSight t known) (sights_of_scope t w)
     → world_with identity name scope ≡ provided (is_one_world t h known n name w) (world_shown identity name scope)

@@ -173,7 +173,8 @@ pub record IsKnown (t : Tables) (known : ℕ → Fact) (p k : ℕ) : Type 0 wher
 -- Each rule has the same answer in numbers.
 pub record RulesInNumbers (t : Tables) (known : ℕ → Fact) (p : ℕ) : Type 0 where
   pub declared : (d : Option ℕ) → AllOf (IsKnown t known p) d → rules.is_declared (place_at t p) (declaration_of t d) ≡ is_declared t known p d
-  pub signature : (f : FunctionShape) → PartsOf (IsKnown t known p) f → rules.is_signature (place_at t p) (signature_over (tree_at t) f) ≡ is_signature t known p f
+  pub signature : (f : FunctionShape) → PartsOf (IsKnown t known p) f
+      → rules.is_signature (place_at t p) (signature_over (tree_at t) f) ≡ is_signature t known p f
   pub function : (resources : List Text) (name : Text) (f : FunctionShape) → PartsOf (IsKnown t known p) f
       → rules.is_function (place_at t p) resources name (signature_over (tree_at t) f) ≡ is_function t known p resources name f
   pub interface : (v : NumberedView) → ViewPasses t (IsKnown t known p) v → rules.is_interface (place_at t p) (view_of t v) ≡ is_interface t known p v

@@ -76,7 +76,8 @@ pub record AreTables (t : Tables) : Type 0 where
 -- In the part stands a name that is of the place of this number.
 pub data HasNameIn (shapes : List Shape) : ℕ → ℕ → Type 0 where
   itself : (k n p : ℕ) (name : Text) → k ≡ 14 + n → slice_get shapes n ≡ Some (named_shape p name) → HasNameIn shapes k p
-  inside : (k n m p : ℕ) (form : Form) (parts : List ℕ) → k ≡ 14 + n → slice_get shapes n ≡ Some (node_shape form parts) → Contains parts m → HasNameIn shapes m p → HasNameIn shapes k p
+  inside : (k n m p : ℕ) (form : Form) (parts : List ℕ) → k ≡ 14 + n → slice_get shapes n ≡ Some (node_shape form parts) → Contains parts m
+      → HasNameIn shapes m p → HasNameIn shapes k p
 
 -- No two names in these parts are of one place under two numbers.
 abbrev pub AreApart : (ℕ → Place) → List Shape → ℕ → ℕ → Type 0
@@ -215,7 +216,8 @@ pub record IsSight (t : Tables) (s : NumberedSight) : Type 0 where
 -- Two parts are the same tree exactly where they are one number, and two functions have the same type exactly where that is one number.
 pub record NumbersTell (t : Tables) : Type 0 where
   pub trees : (a b : ℕ) → IsPart t a → IsPart t b → AreApart (place_at t) t.shapes a b → same_tree (tree_at t a) (tree_at t b) ≡ (a == b)
-  pub signatures : (m n : ℕ) → m < length t.functions → n < length t.functions → PartsOf (IsOutside t) (function_at t m) → PartsOf (IsOutside t) (function_at t n)
+  pub signatures : (m n : ℕ) → m < length t.functions → n < length t.functions → PartsOf (IsOutside t) (function_at t m)
+      → PartsOf (IsOutside t) (function_at t n)
       → same_signature (signature_at t m) (signature_at t n) ≡ (m == n)
 
 abbrev pub EachNumberTells : Type 0
@@ -223,7 +225,9 @@ EachNumberTells = (t : Tables) → AreTables t → NumbersTell t
 
 -- Views agree, each with each and each with the first, exactly where their numbers do.
 abbrev pub ViewsAgreeInNumbers : Type 0
-ViewsAgreeInNumbers = (t : Tables) → AreTables t → (seen : List NumberedSight) → AllByRecursion (IsSight t) seen → all_agree (map (sight_of t) seen) ≡ agree_in_numbers seen
+ViewsAgreeInNumbers = (t : Tables) → AreTables t → (seen : List NumberedSight) → AllByRecursion (IsSight t) seen
+    → all_agree (map (sight_of t) seen) ≡ agree_in_numbers seen
 
 abbrev pub FirstViewsAgreeInNumbers : Type 0
-FirstViewsAgreeInNumbers = (t : Tables) → AreTables t → (seen : List NumberedSight) → AllByRecursion (IsSight t) seen → agree_with_first [] (map (sight_of t) seen) ≡ agree_with_first_in_numbers [] seen
+FirstViewsAgreeInNumbers = (t : Tables) → AreTables t → (seen : List NumberedSight) → AllByRecursion (IsSight t) seen
+    → agree_with_first [] (map (sight_of t) seen) ≡ agree_with_first_in_numbers [] seen

@@ -196,8 +196,10 @@ PathsInNumbers = (t : Tables) → AreTables t → (ps : List ℕ) → AllByRecur
 
 -- What a scope shows obeys the rules on worlds exactly where its numbers do.
 abbrev pub WorldsInNumbers : Type 0
-WorldsInNumbers = (t : Tables) → AreTables t → (known : ℕ → Fact) (w : NumberedScope) (scope : Scope) → ScopeStands t known w → Shows t w scope → rules.is_world scope ≡ is_world t known w
+WorldsInNumbers = (t : Tables) → AreTables t → (known : ℕ → Fact) (w : NumberedScope) (scope : Scope) → ScopeStands t known w → Shows t w scope
+    → rules.is_world scope ≡ is_world t known w
 
 -- Its instances give the views that their numbers give.
 abbrev pub SightsInNumbers : Type 0
-SightsInNumbers = (t : Tables) (w : NumberedScope) (scope : Scope) → Shows t w scope → flat_map reads.of_instance scope.instances ≡ map (sight_of t) (sights_of_scope t w)
+SightsInNumbers = (t : Tables) (w : NumberedScope) (scope : Scope) → Shows t w scope
+    → flat_map reads.of_instance scope.instances ≡ map (sight_of t) (sights_of_scope t w)

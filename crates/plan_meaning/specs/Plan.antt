@@ -187,7 +187,8 @@ alias_number _ = None
 
 -- the interface whose type an alias of this number names
 abbrev pub interface_used_by : Plan → ℕ → Option ℕ
-interface_used_by p n = option_and_then (λ t. option_and_then (λ m. option_and_then (λ u. owner_interface u.owner) (type_in p m)) (alias_number t.kind)) (type_in p n)
+interface_used_by p n = option_and_then (λ t. option_and_then (λ m. option_and_then (λ u. owner_interface u.owner) (type_in p m)) (alias_number t.kind))
+    (type_in p n)
 
 abbrev pub interfaces_used_by : Plan → PlannedInterface → List ℕ
 interfaces_used_by p i = filter_map (interface_used_by p) (numbers_of i.types)

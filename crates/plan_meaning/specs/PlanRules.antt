@@ -94,7 +94,8 @@ is_under_label t (path_of n) = false
 -- A named type stands in its owner's list under its name.
 abbrev pub is_listed_in : Plan → ℕ → Text → TypeOwner → Bool
 is_listed_in p n name (owner.Interface id) = option_map_or (λ i. is_id n (number_under name i.types)) (interface_in p id.0) false
-is_listed_in p n name (owner.World id) = option_map_or (λ w. is_id n (option_and_then item_type (lookup (is_under_label name) w.imports))) (world_in p id.0) false
+is_listed_in p n name (owner.World id) = option_map_or (λ w. is_id n (option_and_then item_type (lookup (is_under_label name) w.imports)))
+    (world_in p id.0) false
 is_listed_in p n name owner.None = false
 
 abbrev pub is_listed : Plan → ℕ → PlannedType → Bool
@@ -109,7 +110,8 @@ type_labels t = passes is_label t.name && are_member_labels (kind_labels t.kind)
 
 -- an alias of a type of another interface, a named one
 abbrev pub is_use : Plan → PlannedType → Bool
-is_use p t = option_map_or (λ m. option_map_or (λ u. not (same_owner u.owner t.owner) && option_map_or (has_name p) (owner_interface u.owner) false) (type_in p m) false) (alias_number t.kind) false
+is_use p t = option_map_or (λ m. option_map_or (λ u. not (same_owner u.owner t.owner) && option_map_or (has_name p) (owner_interface u.owner) false)
+    (type_in p m) false) (alias_number t.kind) false
 
 -- the names in a type of an owner are the owner's, or it is another name for one of another interface
 abbrev pub type_stays : Plan → PlannedType → Bool
@@ -299,7 +301,8 @@ used_types p w (function f) = filter (has_owner p (as_world w)) (used_by_numbers
 
 -- what an item uses stands before it
 abbrev pub uses_stand_before : Plan → ℕ → List PlannedItem → PlannedItem → Bool
-uses_stand_before p w before x = list_all (has (filter_map item_interface before)) (used_interfaces p x) && list_all (has (filter_map item_type before)) (used_types p w x)
+uses_stand_before p w before x = list_all (has (filter_map item_interface before)) (used_interfaces p x) && list_all (has (filter_map item_type before))
+    (used_types p w x)
 
 -- ---- a plan that was read
 
@@ -363,7 +366,8 @@ pub data IsWanted (p : Plan) (n : ℕ) : Type 0 where
 -- a part of a type, or of a function
 abbrev pub is_part : Plan → ℕ → Bool
 is_part p n = list_any (λ t. has (kind_numbers t.kind) n) p.types
-    || (list_any (λ i. list_any (λ f. has (function_numbers f) n) (functions_of i)) p.interfaces || list_any (λ w. list_any (λ f. has (function_numbers f) n) (world_functions w)) p.worlds)
+    || (list_any (λ i. list_any (λ f. has (function_numbers f) n) (functions_of i)) p.interfaces || list_any
+    (λ w. list_any (λ f. has (function_numbers f) n) (world_functions w)) p.worlds)
 
 -- no type stands there but named ones and parts, which have no external id, and no package but the main one and those of interfaces
 pub record HoldsNoMore (p : Plan) : Type 0 where
@@ -378,7 +382,8 @@ pub record IsPackagePlan (p : Plan) : Type 0 where
   pub main : is_some (package_in p p.main) ≡ true
   pub worlds : list_all (λ w. is_id p.main w.package_) p.worlds ≡ true
   pub wanted : (n : ℕ) (i : PlannedInterface) → interface_in p n ≡ Some i → is_foreign p i ≡ true → IsWanted p n
-  pub bare : (n : ℕ) (i : PlannedInterface) → interface_in p n ≡ Some i → is_foreign p i ≡ true → list_any (λ w. is_shown_in w n) p.worlds ≡ false → i.functions ≡ []
+  pub bare : (n : ℕ) (i : PlannedInterface) → interface_in p n ≡ Some i → is_foreign p i ≡ true → list_any (λ w. is_shown_in w n) p.worlds ≡ false
+      → i.functions ≡ []
 
 -- The plan of one world: it shows each interface that has a name.
 pub record IsWorldPlan (p : Plan) : Type 0 where

@@ -48,4 +48,5 @@ pub record FunctionTests (p : Plan) : Type 0 where
   pub functions_belong : FunctionsPass p (is_member p)
 
 abbrev pub ReadFunctionsPass : Type 0
-ReadFunctionsPass = (t : Tables) → AreTables t → (kept : List ℕ) (p : Plan) → TypesAreKept t kept p → (b : Beside) → AreMarked t kept p b.marks → AreOwned t kept p b.owners → FunctionsAreRead t kept p b → FunctionTests p
+ReadFunctionsPass = (t : Tables) → AreTables t → (kept : List ℕ) (p : Plan) → TypesAreKept t kept p → (b : Beside) → AreMarked t kept p b.marks
+    → AreOwned t kept p b.owners → FunctionsAreRead t kept p b → FunctionTests p

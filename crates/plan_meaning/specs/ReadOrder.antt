@@ -36,15 +36,18 @@ module _ (t : Tables) (kept : List ℕ) (p : Plan) (b : Beside) (views : ℕ →
 
   -- A name of the place stands in the table under this number because it was shown there: by the interface's view, or by an import of the world.
   pub data IsShownThere (interfaces : InterfacesAreViewed) (worlds : WorldsAreRead t kept p b views) (q k : ℕ) : Type 0 where
-    in_interface : (m : ℕ) (i : PlannedInterface) (e : interface_in p m ≡ Some i) → b.owners q ≡ as_interface m → Contains (interfaces m i e).read.numbers k → IsShownThere interfaces worlds q k
-    in_world : (m : ℕ) (w : PlannedWorld) (e : world_in p m ≡ Some w) (x : ReadItem) → b.owners q ≡ as_world m → Contains (worlds m w e).imports x → is_type_seen x.seen.shown ≡ true → x.count ≡ k + 1
+    in_interface : (m : ℕ) (i : PlannedInterface) (e : interface_in p m ≡ Some i) → b.owners q ≡ as_interface m → Contains (interfaces m i e).read.numbers k
+        → IsShownThere interfaces worlds q k
+    in_world : (m : ℕ) (w : PlannedWorld) (e : world_in p m ≡ Some w) (x : ReadItem) → b.owners q ≡ as_world m → Contains (worlds m w e).imports x
+        → is_type_seen x.seen.shown ≡ true → x.count ≡ k + 1
         → IsShownThere interfaces worlds q k
 
   -- each name that is kept was shown in its own place
   pub record OrderIsRead : Type 0 where
     pub interfaces : InterfacesAreViewed
     pub worlds : WorldsAreRead t kept p b views
-    pub names : (j k q : ℕ) (x : PlannedType) (name : Text) → slice_get p.types j ≡ Some x → slice_get kept j ≡ Some k → slice_get t.shapes k ≡ Some (named_shape q name) → IsShownThere interfaces worlds q k
+    pub names : (j k q : ℕ) (x : PlannedType) (name : Text) → slice_get p.types j ≡ Some x → slice_get kept j ≡ Some k
+        → slice_get t.shapes k ≡ Some (named_shape q name) → IsShownThere interfaces worlds q k
 
 -- the tests of a plan on what stands before what
 pub record OrderTests (p : Plan) : Type 0 where
@@ -53,5 +56,6 @@ pub record OrderTests (p : Plan) : Type 0 where
   pub items_in_order : each_from (λ n w. each_after (uses_stand_before p n) [] (items_of w)) 0 p.worlds ≡ true
 
 abbrev pub ReadOrderPasses : Type 0
-ReadOrderPasses = (t : Tables) → AreTables t → (kept : List ℕ) (p : Plan) → TypesAreKept t kept p → (b : Beside) → AreOwned t kept p b.owners → (views : ℕ → NumberedView)
+ReadOrderPasses = (t : Tables) → AreTables t → (kept : List ℕ) (p : Plan) → TypesAreKept t kept p → (b : Beside) → AreOwned t kept p b.owners
+    → (views : ℕ → NumberedView)
     → OrderIsRead t kept p b views → OrderTests p

@@ -23,9 +23,11 @@ module _ (t : Tables) (h : Homes) (p : Plan) (owners : ℕ → TypeOwner) where
   -- The interface of this number is that of a place under a path, which is read as its package and its name. Its package lists it. An inline
   -- one has no name: it is an item of a world, and of the world's package.
   pub data IsPlacedInterface (m : ℕ) (i : PlannedInterface) : Type 0 where
-    under_path : (q n : ℕ) (name : Text) (k : PlannedPackage) → HasPath t q → owners q ≡ as_interface m → home_at h q ≡ Some (n, name) → i.name ≡ Some name → i.package_ ≡ Some n
+    under_path : (q n : ℕ) (name : Text) (k : PlannedPackage) → HasPath t q → owners q ≡ as_interface m → home_at h q ≡ Some (n, name) → i.name ≡ Some name
+        → i.package_ ≡ Some n
         → package_in p n ≡ Some k → Contains k.interfaces (name, m) → IsPlacedInterface m i
-    inline : (q n : ℕ) (w : PlannedWorld) → path_at t q ≡ None → owners q ≡ as_interface m → i.name ≡ None → world_in p n ≡ Some w → Contains (filter_map item_interface (items_of w)) m
+    inline : (q n : ℕ) (w : PlannedWorld) → path_at t q ≡ None → owners q ≡ as_interface m → i.name ≡ None → world_in p n ≡ Some w
+        → Contains (filter_map item_interface (items_of w)) m
         → IsPlacedInterface m i
 
   -- The world of this number is of a package that lists it under its label.

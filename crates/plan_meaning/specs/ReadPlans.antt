@@ -33,4 +33,5 @@ pub record IsReadPlan (t : Tables) (h : Homes) (kept : List ℕ) (p : Plan) (b :
   pub order : OrderIsRead t kept p b views
 
 abbrev pub ReadPlanStands : Type 0
-ReadPlanStands = (t : Tables) → AreTables t → (h : Homes) → HomesStand t h → (kept : List ℕ) (p : Plan) (b : Beside) (views : ℕ → NumberedView) → IsReadPlan t h kept p b views → IsPlan p
+ReadPlanStands = (t : Tables) → AreTables t → (h : Homes) → HomesStand t h → (kept : List ℕ) (p : Plan) (b : Beside) (views : ℕ → NumberedView)
+    → IsReadPlan t h kept p b views → IsPlan p

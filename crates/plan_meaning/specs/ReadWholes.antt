@@ -25,10 +25,13 @@ pub data IsPartOfFunction (f : FunctionShape) (old : ℕ) : Type 0 where
 module _ (t : Tables) (h : Homes) (kept : List ℕ) (p : Plan) (b : Beside) where
   -- The part of the tables is one of a type that is kept, or of a function of an interface or of a world.
   pub data IsPartOfKept (old : ℕ) : Type 0 where
-    of_type : (i : ℕ) (x : PlannedType) (form : Form) (olds news : List ℕ) → slice_get p.types i ≡ Some x → x.kind ≡ formed form news → AllZip (Becomes t kept p) olds news → Contains olds old → IsPartOfKept old
-    of_interface : (m : ℕ) (i : PlannedInterface) (f : FunctionShape) (id : Option Text) (g : PlannedFunction) → interface_in p m ≡ Some i → Contains (functions_of i) g → FunctionBecomes t kept p f id g
+    of_type : (i : ℕ) (x : PlannedType) (form : Form) (olds news : List ℕ) → slice_get p.types i ≡ Some x → x.kind ≡ formed form news
+        → AllZip (Becomes t kept p) olds news → Contains olds old → IsPartOfKept old
+    of_interface : (m : ℕ) (i : PlannedInterface) (f : FunctionShape) (id : Option Text) (g : PlannedFunction) → interface_in p m ≡ Some i
+        → Contains (functions_of i) g → FunctionBecomes t kept p f id g
         → IsPartOfFunction f old → IsPartOfKept old
-    of_world : (m : ℕ) (w : PlannedWorld) (f : FunctionShape) (id : Option Text) (g : PlannedFunction) → world_in p m ≡ Some w → Contains (world_functions w) g → FunctionBecomes t kept p f id g
+    of_world : (m : ℕ) (w : PlannedWorld) (f : FunctionShape) (id : Option Text) (g : PlannedFunction) → world_in p m ≡ Some w → Contains (world_functions w) g
+        → FunctionBecomes t kept p f id g
         → IsPartOfFunction f old → IsPartOfKept old
 
   -- some place under a path has its home in the package
@@ -76,14 +79,17 @@ module _ (t : Tables) (h : Homes) (kept : List ℕ) (p : Plan) (b : Beside) (vie
   -- Why the interface of the place was seen: a world shows it, or the component type of an interface imports it, each of whose imports is reached.
   pub data IsSeenFor (q : ℕ) : Type 0 where
     in_world : IsShownByWorld q → IsSeenFor q
-    in_member : (exported : ℕ × NumberedView) (imports : List (ℕ × NumberedView)) → are_reached t imports exported.1 ≡ true → are_once (exported.0 ∷ map (λ i. i.0) imports) ≡ true
+    in_member : (exported : ℕ × NumberedView) (imports : List (ℕ × NumberedView)) → are_reached t imports exported.1 ≡ true
+        → are_once (exported.0 ∷ map (λ i. i.0) imports) ≡ true
         → AllByRecursion IsViewOf (exported ∷ imports) → Contains (map (λ i. i.0) imports) q → IsSeenFor q
 
   -- An interface of another package is there for a reason. It has the functions of the first view that shows some, which is one of a world, or the
   -- package's own.
   pub record ForeignIsRead (seen : List NumberedSight) : Type 0 where
-    pub reasons : (q n : ℕ) (i : PlannedInterface) → HasPath t q → b.owners q ≡ as_interface n → interface_in p n ≡ Some i → is_of_package h p.main q ≡ false → IsSeenFor q
-    pub functions : (n q : ℕ) (i : PlannedInterface) → interface_in p n ≡ Some i → b.owners q ≡ as_interface n → is_foreign p i ≡ true → AllZip (FunctionListed t kept p) (functions_seen q seen) i.functions
+    pub reasons : (q n : ℕ) (i : PlannedInterface) → HasPath t q → b.owners q ≡ as_interface n → interface_in p n ≡ Some i → is_of_package h p.main q ≡ false
+        → IsSeenFor q
+    pub functions : (n q : ℕ) (i : PlannedInterface) → interface_in p n ≡ Some i → b.owners q ≡ as_interface n → is_foreign p i ≡ true
+        → AllZip (FunctionListed t kept p) (functions_seen q seen) i.functions
     pub whole : (s : NumberedSight) → Contains seen s → s.whole ≡ true → IsShownByWorld s.place ⊎ (is_of_package h p.main s.place ≡ true)
 
 -- ---- whole plans
@@ -105,10 +111,13 @@ pub record IsReadWorldPlan (t : Tables) (h : Homes) (kept : List ℕ) (p : Plan)
   pub world : PlannedWorld
   pub alone : p.worlds ≡ world ∷ []
   pub home : world.package_ ≡ Some p.main
-  pub shown : (q n : ℕ) (i : PlannedInterface) → HasPath t q → b.owners q ≡ as_interface n → interface_in p n ≡ Some i → IsShownByWorld t h kept p b views read q
+  pub shown : (q n : ℕ) (i : PlannedInterface) → HasPath t q → b.owners q ≡ as_interface n → interface_in p n ≡ Some i
+      → IsShownByWorld t h kept p b views read q
 
 abbrev pub ReadPackagePlanStands : Type 0
-ReadPackagePlanStands = (t : Tables) → AreTables t → (h : Homes) → HomesStand t h → (kept : List ℕ) (p : Plan) (b : Beside) (views : ℕ → NumberedView) → IsReadPackagePlan t h kept p b views → IsPackagePlan p
+ReadPackagePlanStands = (t : Tables) → AreTables t → (h : Homes) → HomesStand t h → (kept : List ℕ) (p : Plan) (b : Beside) (views : ℕ → NumberedView)
+    → IsReadPackagePlan t h kept p b views → IsPackagePlan p
 
 abbrev pub ReadWorldPlanStands : Type 0
-ReadWorldPlanStands = (t : Tables) → AreTables t → (h : Homes) → HomesStand t h → (kept : List ℕ) (p : Plan) (b : Beside) (views : ℕ → NumberedView) → IsReadWorldPlan t h kept p b views → IsWorldPlan p
+ReadWorldPlanStands = (t : Tables) → AreTables t → (h : Homes) → HomesStand t h → (kept : List ℕ) (p : Plan) (b : Beside) (views : ℕ → NumberedView)
+    → IsReadWorldPlan t h kept p b views → IsWorldPlan p

@@ -64,10 +64,13 @@ module _ (t : Tables) (kept : List ℕ) (p : Plan) (b : Beside) (views : ℕ →
         → x.entry ≡ (plan.path_of m, plan.interface m id) → IsInterfaceOf q v m → IsReadItem x
     by_label : (q m : ℕ) (v : NumberedView) (id : Option Text) → x.seen.shown ≡ instance (label x.seen.key q) v → is_label x.seen.key ≡ true
         → x.entry ≡ (plan.label x.seen.key, plan.interface m id) → IsInterfaceOf q v m → IsReadItem x
-    implementing_path : (q m : ℕ) (v : NumberedView) (id : Option Text) → HasPath t q → x.seen.shown ≡ instance (implementing x.seen.key q) v → is_label x.seen.key ≡ true
+    implementing_path : (q m : ℕ) (v : NumberedView) (id : Option Text) → HasPath t q → x.seen.shown ≡ instance (implementing x.seen.key q) v
+        → is_label x.seen.key ≡ true
         → x.entry ≡ (plan.label x.seen.key, plan.interface m id) → IsInterfaceOf q v m → IsReadItem x
-    a_function : (m : ℕ) (g : PlannedFunction) → x.seen.shown ≡ function m → x.entry ≡ (plan.label x.seen.key, plan.function g) → IsReadUnder x.seen.key x.count g → IsReadItem x
-    a_type : (d : Option ℕ) (n : ℕ) → x.seen.shown ≡ declares d → x.entry ≡ (plan.label x.seen.key, plan.declares n) → IsTypeUnder x.seen.key x.count d x.seen.external_id n → IsReadItem x
+    a_function : (m : ℕ) (g : PlannedFunction) → x.seen.shown ≡ function m → x.entry ≡ (plan.label x.seen.key, plan.function g)
+        → IsReadUnder x.seen.key x.count g → IsReadItem x
+    a_type : (d : Option ℕ) (n : ℕ) → x.seen.shown ≡ declares d → x.entry ≡ (plan.label x.seen.key, plan.declares n)
+        → IsTypeUnder x.seen.key x.count d x.seen.external_id n → IsReadItem x
 
 -- The world of this number is read in a place of its own, by what it shows: that obeys the rules on worlds, and exports no type.
 pub record IsReadWorld (t : Tables) (kept : List ℕ) (p : Plan) (b : Beside) (views : ℕ → NumberedView) (m : ℕ) (w : PlannedWorld) : Type 0 where
@@ -96,5 +99,6 @@ pub record WorldTests (p : Plan) : Type 0 where
   pub world_types_rise : list_all (λ w. are_rising (world_types w)) p.worlds ≡ true
 
 abbrev pub ReadWorldsPass : Type 0
-ReadWorldsPass = (t : Tables) → AreTables t → (kept : List ℕ) (p : Plan) → TypesAreKept t kept p → (b : Beside) → AreOwned t kept p b.owners → (views : ℕ → NumberedView)
+ReadWorldsPass = (t : Tables) → AreTables t → (kept : List ℕ) (p : Plan) → TypesAreKept t kept p → (b : Beside) → AreOwned t kept p b.owners
+    → (views : ℕ → NumberedView)
     → WorldsAreRead t kept p b views → WorldTests p

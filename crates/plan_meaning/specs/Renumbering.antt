@@ -14,12 +14,14 @@ pub data IsPart (kept : List ℕ) (old new : ℕ) : Type 0 where
 
 -- The type of a shape that is kept: a form, unnamed, over the new numbers of its parts, or what declares the name in its place.
 pub data IsTypeOf (place : ℕ → Place) (kept : List ℕ) (p : Plan) (s : Shape) (t : PlannedType) : Type 0 where
-  of_form : (form : Form) (old new : List ℕ) → s ≡ node_shape form old → AllZip (IsPart kept) old new → t.name ≡ None → t.kind ≡ formed form new → IsTypeOf place kept p s t
+  of_form : (form : Form) (old new : List ℕ) → s ≡ node_shape form old → AllZip (IsPart kept) old new → t.name ≡ None → t.kind ≡ formed form new
+      → IsTypeOf place kept p s t
   of_name : (q : ℕ) (name : Text) → s ≡ named_shape q name → t.name ≡ Some name → place_in p t.owner ≡ place q → IsTypeOf place kept p s t
 
 -- Each type of the plan is that of the shape that is kept in its place.
 pub record AreKept (place : ℕ → Place) (shapes : List Shape) (kept : List ℕ) (p : Plan) : Type 0 where
-  pub types : (j : ℕ) (t : PlannedType) → slice_get p.types j ≡ Some t → (n : ℕ) × (s : Shape) × (slice_get kept j ≡ Some n) × (slice_get shapes n ≡ Some s) × IsTypeOf place kept p s t
+  pub types : (j : ℕ) (t : PlannedType) → slice_get p.types j ≡ Some t → (n : ℕ) × (s : Shape) × (slice_get kept j ≡ Some n) × (slice_get shapes n ≡ Some s)
+      × IsTypeOf place kept p s t
 
 -- Then a part of the plan stands for the tree of the part of the table. (The parts of a plan's type stand before it.)
 abbrev pub TreesAreKept : Type 0

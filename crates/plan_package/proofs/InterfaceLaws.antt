@@ -18,7 +18,8 @@ use Rattle.plan_package.specs.WholeInterfaces.{AreSeen, Home, ListsNumber, Plans
 use Rattle.base_lemmas.proofs.Numbers.{turned as flip}
 use Rattle.std.proofs.lemmas.Option.{same_Some as same-some}
 
-pub numbers_listed : (kept : List ℕ) (xs : List NumberedType) (es : List (Bor Text × TypeId)) → AllZip (ListsType kept) xs (map stated_number es) → AllZip (ListsNumber kept) xs (map (λ (e : Bor Text × TypeId). (e.0.now, e.1.0)) es)
+pub numbers_listed : (kept : List ℕ) (xs : List NumberedType) (es : List (Bor Text × TypeId)) → AllZip (ListsType kept) xs (map stated_number es)
+    → AllZip (ListsNumber kept) xs (map (λ (e : Bor Text × TypeId). (e.0.now, e.1.0)) es)
 numbers_listed kept [] [] all = tt
 numbers_listed kept [] (e ∷ es) all = absurd all
 numbers_listed kept (x ∷ xs) [] all = absurd all
@@ -29,7 +30,8 @@ numbers_listed kept (x ∷ xs) (e ∷ es) all = ((all.0.0, all.0.1), numbers_lis
 functions_of_first : (p : ℕ) (seen : List NumberedSight) → option_map_or (λ (s : NumberedSight). s.view.functions) (first_whole_at p seen) [] ≡ functions_seen p seen
 functions_of_first p [] = refl
 functions_of_first p (s ∷ rest) =
-    ap (λ b. option_map_or (λ (s : NumberedSight). s.view.functions) (cond (b && s.whole) (Some s) (first_whole_at p rest)) []) (flip p s.place) ∙ by (s.place == p && s.whole) (functions_of_first p rest)
+    ap (λ b. option_map_or (λ (s : NumberedSight). s.view.functions) (cond (b && s.whole) (Some s) (first_whole_at p rest)) []) (flip p s.place) ∙ by (s.place == p && s.whole)
+    (functions_of_first p rest)
   where
     by : (b : Bool) → option_map_or (λ (s : NumberedSight). s.view.functions) (first_whole_at p rest) [] ≡ functions_seen p rest
         → option_map_or (λ (s : NumberedSight). s.view.functions) (cond b (Some s) (first_whole_at p rest)) [] ≡ (if b then s.view.functions else functions_seen p rest)
@@ -37,8 +39,10 @@ functions_of_first p (s ∷ rest) =
     by false later = later
 
 module _ (t : Tables) (kept : List ℕ) (main : ℕ) (homes : ℕ → Option Home) (seen : List NumberedSight) (p : ℕ) where
-  pub place_planned : {E : Type 0} (r : Result CodeInterface E) (home : Option Home) (v : NumberedView) (fs : List (Text × NumberedFunction)) (s : NumberedSight) → home ≡ homes p → first_at p seen ≡ Some s → s.view ≡ v
-      → fs ≡ option_map_or (λ (s : NumberedSight). s.view.functions) (first_whole_at p seen) [] → IfOk r (λ i. PlansInterface t kept main home v fs (stated_interface i)) → IfOk r (λ i. PlansPlace t kept main homes seen p (stated_interface i))
+  pub place_planned : {E : Type 0} (r : Result CodeInterface E) (home : Option Home) (v : NumberedView) (fs : List (Text × NumberedFunction)) (s : NumberedSight) → home ≡ homes p
+      → first_at p seen ≡ Some s → s.view ≡ v
+      → fs ≡ option_map_or (λ (s : NumberedSight). s.view.functions) (first_whole_at p seen) [] → IfOk r (λ i. PlansInterface t kept main home v fs (stated_interface i))
+      → IfOk r (λ i. PlansPlace t kept main homes seen p (stated_interface i))
   place_planned (Ok i) home v fs s at first same functions is = λ other there.
       let view : v ≡ other.view = sym same ∙ ap (λ (x : NumberedSight). x.view) (same-some s other (sym first ∙ there)) in
       subst (λ h. PlansInterface t kept main h other.view (functions_seen p seen) (stated_interface i)) at
@@ -47,7 +51,8 @@ module _ (t : Tables) (kept : List ℕ) (main : ℕ) (homes : ℕ → Option Hom
   place_planned (Err e) home v fs s at first same functions is = tt
 
 -- one more of two lists that go together
-pub zip_more : {A B C : Type 0} (P : A → C → Type 0) (h : B → C) (xs : List A) (i : ℕ) (d : A) → i < length xs → (old new : List B) (y : B) → new ≡ old ++ y ∷ [] → P (get_or xs i d) (h y) → AllZip P (take i xs) (map h old)
+pub zip_more : {A B C : Type 0} (P : A → C → Type 0) (h : B → C) (xs : List A) (i : ℕ) (d : A) → i < length xs → (old new : List B) (y : B) → new ≡ old ++ y ∷ [] → P (get_or xs i d) (h y)
+    → AllZip P (take i xs) (map h old)
     → AllZip P (take (i + 1) xs) (map h new)
 zip_more {A = A} P h xs i d within old new y added is before =
     subst (λ (ns : List A). AllZip P ns (map h new)) (sym (take_more xs i d within)) (subst (AllZip P (take i xs ++ get_or xs i d ∷ [])) (sym (ap (map h) added ∙ map-append h old (y ∷ [])))
@@ -63,10 +68,12 @@ seen_below : (n p : ℕ) (sights : List Sight) → AllByRecursion (λ (s : Sight
 seen_below n p [] all seen = let wrong : false ≡ true = seen in absurd cc
 seen_below n p (s ∷ rest) all seen = by (p == s.place) refl (seen_below n p rest all.1) seen
   where
-    by : (b : Bool) → (p == s.place) ≡ b → (is_some (first_at p (map numbered_sight rest)) ≡ true → p < n) → is_some (cond b (Some (numbered_sight s)) (first_at p (map numbered_sight rest))) ≡ true → p < n
+    by : (b : Bool) → (p == s.place) ≡ b → (is_some (first_at p (map numbered_sight rest)) ≡ true → p < n)
+        → is_some (cond b (Some (numbered_sight s)) (first_at p (map numbered_sight rest))) ≡ true → p < n
     by true e later seen = subst (λ (q : ℕ). q < n) (sym (eqb-true p s.place e)) all.0
     by false e later seen = later seen
 
-pub all_below : (n : ℕ) (sights : List Sight) (places : List ℕ) → AllByRecursion (λ (s : Sight). s.place < n) sights → AreSeen (map numbered_sight sights) places → AllByRecursion (λ (p : ℕ). p < n) places
+pub all_below : (n : ℕ) (sights : List Sight) (places : List ℕ) → AllByRecursion (λ (s : Sight). s.place < n) sights → AreSeen (map numbered_sight sights) places
+    → AllByRecursion (λ (p : ℕ). p < n) places
 all_below n sights [] all seen = tt
 all_below n sights (p ∷ places) all seen = (seen_below n p sights all seen.0, all_below n sights places all seen.1)

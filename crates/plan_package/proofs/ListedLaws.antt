@@ -83,7 +83,8 @@ module _ (homes : ℕ → Option Home) (q : ℕ) where
   rising n [] = tt
   rising n (p ∷ ps) =
       let rest = entries_from homes q (n + 1) ps in
-      let above : AllByRecursion (λ (f : Text × ℕ). n < f.1) rest = all_through (IsFrom homes q (n + 1) ps) (λ (f : Text × ℕ). n < f.1) (λ f from. omega (arith, from.number)) rest (among (n + 1) ps) in
+      let above : AllByRecursion (λ (f : Text × ℕ). n < f.1) rest = all_through (IsFrom homes q (n + 1) ps) (λ (f : Text × ℕ). n < f.1) (λ f from. omega (arith, from.number)) rest
+      (among (n + 1) ps) in
       entry_too Rising n p rest (rising (n + 1) ps) (λ name home. (above, rising (n + 1) ps))
 
   stand : (n : ℕ) (ps : List ℕ) (i place : ℕ) (name : Text) → slice_get ps i ≡ Some place → homes place ≡ Some (q, name) → (j : ℕ) × (slice_get (entries_from homes q n ps) j ≡ Some (name, n + i))

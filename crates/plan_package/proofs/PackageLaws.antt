@@ -28,7 +28,8 @@ in_list f None (x ∷ xs) (suc n) e within none = in_list f None xs n e (omega (
 
 -- worlds that are numbered, and those that are left
 module _ {A B : Type 0} (f : A → Text × Scope) (h : B → Text × ℕ) (xs : List A) (i : ℕ) (old : List B) {v : List (Text × ℕ)} (kept : map h old ++ numbered_labels i (map f (drop i xs)) ≡ v) where
-  pub one_numbered : (d : A) → i < length xs → (y : B) (new : List B) → new ≡ old ++ y ∷ [] → (h y).0 ≡ (f (get_or xs i d)).0 → (h y).1 ≡ i → map h new ++ numbered_labels (i + 1) (map f (drop (i + 1) xs)) ≡ v
+  pub one_numbered : (d : A) → i < length xs → (y : B) (new : List B) → new ≡ old ++ y ∷ [] → (h y).0 ≡ (f (get_or xs i d)).0 → (h y).1 ≡ i
+      → map h new ++ numbered_labels (i + 1) (map f (drop (i + 1) xs)) ≡ v
   one_numbered d more y new added name number =
       let is : h y ≡ ((f (get_or xs i d)).0, i) = λ j. (name j, number j) in
       let rest = numbered_labels (i + 1) (map f (drop (i + 1) xs)) in
@@ -62,7 +63,8 @@ set_length [] k y = refl
 set_length (x ∷ xs) zero y = refl
 set_length (x ∷ xs) (suc k) y = ap suc (set_length xs k y)
 
-pub lists_entry : (old : List Entries) (k n : ℕ) (d y : Entries) (name : Bor Text) (id : InterfaceId) → k < length old → y.items ≡ (slice_index_or old k d).items ++ (name, id) ∷ [] → id.0 ≡ n → (home : Option Home) → home ≡ Some (k, name.now)
+pub lists_entry : (old : List Entries) (k n : ℕ) (d y : Entries) (name : Bor Text) (id : InterfaceId) → k < length old → y.items ≡ (slice_index_or old k d).items ++ (name, id) ∷ [] → id.0 ≡ n
+    → (home : Option Home) → home ≡ Some (k, name.now)
     → ListsEntry home n old (slice_set old k y)
 lists_entry old k n d y name id within added number home is = record {
   many = set_length old k y;
@@ -93,16 +95,19 @@ module _ (homes : ℕ → Option Home) (places : List ℕ) (i : ℕ) (old : List
 
 -- ---- all packages
 
-pub main_planned : (packages : List PackageIdentity) (main : ℕ) (places : List ℕ) (ms : List Member) (es : List (Text × ℕ)) (n : ℕ) {E : Type 0} (r : Result CodePackage E) (identity : PackageIdentity) → n ≡ main → slice_get packages n ≡ Some identity
+pub main_planned : (packages : List PackageIdentity) (main : ℕ) (places : List ℕ) (ms : List Member) (es : List (Text × ℕ)) (n : ℕ) {E : Type 0} (r : Result CodePackage E) (identity : PackageIdentity)
+    → n ≡ main → slice_get packages n ≡ Some identity
     → IfOk r (λ k. IsMainPackage identity places ms (stated_package k)) → IfOk r (λ k. PlansPackage packages main places ms es n (stated_package k))
 main_planned packages main places ms es n (Ok k) identity own at is = the_main identity own at is
 main_planned packages main places ms es n (Err e) identity own at is = tt
 
 module _ (packages : List PackageIdentity) (main : ℕ) (places : List ℕ) (ms : List Member) (listed : ℕ → List (Text × ℕ)) where
   pub none_planned : (old : List CodePackage) → old ≡ [] → ArePlanned packages main places ms listed 0 (map stated_package old)
-  none_planned old none = subst (λ (l : List CodePackage). ArePlanned packages main places ms listed 0 (map stated_package l)) (sym none) (record { many = refl; each = λ n k e. absurd (none_there n k e) })
+  none_planned old none = subst (λ (l : List CodePackage). ArePlanned packages main places ms listed 0 (map stated_package l)) (sym none)
+      (record { many = refl; each = λ n k e. absurd (none_there n k e) })
 
-  pub one_planned : (count : ℕ) (old new : List CodePackage) (y : CodePackage) → new ≡ old ++ y ∷ [] → PlansPackage packages main places ms (listed count) count (stated_package y) → ArePlanned packages main places ms listed count (map stated_package old)
+  pub one_planned : (count : ℕ) (old new : List CodePackage) (y : CodePackage) → new ≡ old ++ y ∷ [] → PlansPackage packages main places ms (listed count) count (stated_package y)
+      → ArePlanned packages main places ms listed count (map stated_package old)
       → ArePlanned packages main places ms listed (count + 1) (map stated_package new)
   one_planned count old new y added is before = record {
     many = ap length news ∙ (length-append (map stated_package old) (stated_package y ∷ []) ∙ ap (λ (m : ℕ). m + 1) before.many);
@@ -112,20 +117,24 @@ module _ (packages : List PackageIdentity) (main : ℕ) (places : List ℕ) (ms 
       news : map stated_package new ≡ map stated_package old ++ stated_package y ∷ []
       news = ap (map stated_package) added ∙ map-append stated_package old (y ∷ [])
 
-      by : (n : ℕ) (k : PlannedPackage) → (slice_get (map stated_package old) n ≡ Some k) ⊎ ((n ≡ length (map stated_package old)) × (stated_package y ≡ k)) → PlansPackage packages main places ms (listed n) n k
+      by : (n : ℕ) (k : PlannedPackage) → (slice_get (map stated_package old) n ≡ Some k) ⊎ ((n ≡ length (map stated_package old)) × (stated_package y ≡ k))
+          → PlansPackage packages main places ms (listed n) n k
       by n k (inl e) = before.each n k e
       by n k (inr e) =
           subst (λ (m : ℕ). PlansPackage packages main places ms (listed m) m k) (sym (e.0 ∙ before.many)) (subst (PlansPackage packages main places ms (listed count) count) e.1 is)
 
   -- the same, by other lists that are the same for so many
-  planned_by : (other : ℕ → List (Text × ℕ)) (count : ℕ) (ks : List PlannedPackage) → ((n : ℕ) → n < count → listed n ≡ other n) → ArePlanned packages main places ms listed count ks → ArePlanned packages main places ms other count ks
+  planned_by : (other : ℕ → List (Text × ℕ)) (count : ℕ) (ks : List PlannedPackage) → ((n : ℕ) → n < count → listed n ≡ other n) → ArePlanned packages main places ms listed count ks
+      → ArePlanned packages main places ms other count ks
   planned_by other count ks same all = record {
     many = all.many;
     each = λ n k e. let within : n < count = omega (arith, below ks n k e, all.many) in subst (λ (es : List (Text × ℕ)). PlansPackage packages main places ms es n k) (same n within) (all.each n k e);
   }
 
-pub planned_as : (packages : List PackageIdentity) (main : ℕ) (places : List ℕ) (ms : List Member) (homes : ℕ → Option Home) (ks : List PlannedPackage) (table items : List Entries) → table ≡ items → length items ≡ length packages
+pub planned_as : (packages : List PackageIdentity) (main : ℕ) (places : List ℕ) (ms : List Member) (homes : ℕ → Option Home) (ks : List PlannedPackage) (table items : List Entries) → table ≡ items
+    → length items ≡ length packages
     → AreListed homes places items → ArePlanned packages main places ms (listed_at table) (length table) ks → PlansPackages packages homes main places ms ks
 planned_as packages main places ms homes ks table items same many listed all =
-    planned_by packages main places ms (listed_at table) (λ n. entries_from homes n 0 places) (length packages) ks (λ n h. ap (λ l. listed_at l n) same ∙ listed n (subst (λ (m : ℕ). n < m) (sym many) h))
+    planned_by packages main places ms (listed_at table) (λ n. entries_from homes n 0 places) (length packages) ks
+    (λ n h. ap (λ l. listed_at l n) same ∙ listed n (subst (λ (m : ℕ). n < m) (sym many) h))
     (subst (λ (m : ℕ). ArePlanned packages main places ms (listed_at table) m ks) (ap length same ∙ many) all)

@@ -35,7 +35,8 @@ number_there : (p : ℕ) (ps : List ℕ) → prefix_len (λ q. not (p == q)) ps 
 number_there p [] h = absurd (omega (arith, h))
 number_there p (q ∷ ps) h = by (p == q) refl (number_there p ps) h
   where
-    by : (b : Bool) → (p == q) ≡ b → (prefix_len (λ q. not (p == q)) ps < length ps → slice_get ps (prefix_len (λ q. not (p == q)) ps) ≡ Some p) → cond (not b) (1 + prefix_len (λ q. not (p == q)) ps) 0 < suc (length ps)
+    by : (b : Bool) → (p == q) ≡ b → (prefix_len (λ q. not (p == q)) ps < length ps → slice_get ps (prefix_len (λ q. not (p == q)) ps) ≡ Some p)
+        → cond (not b) (1 + prefix_len (λ q. not (p == q)) ps) 0 < suc (length ps)
         → slice_get (q ∷ ps) (cond (not b) (1 + prefix_len (λ q. not (p == q)) ps) 0) ≡ Some p
     by true e later h = ap Some (sym (eqb-true p q e))
     by false e later h =
@@ -47,7 +48,8 @@ number_at places p n is = by (nat_lt (prefix_len (λ q. not (p == q)) places) (l
   where
     by : (b : Bool) → nat_lt (prefix_len (λ q. not (p == q)) places) (length places) ≡ b → cond b (Some (prefix_len (λ q. not (p == q)) places)) None ≡ Some n → slice_get places n ≡ Some p
     by true e is =
-        subst (λ (m : ℕ). slice_get places m ≡ Some p) (same-some (prefix_len (λ q. not (p == q)) places) n is) (number_there p places (ltb-true (prefix_len (λ q. not (p == q)) places) (length places) e))
+        subst (λ (m : ℕ). slice_get places m ≡ Some p) (same-some (prefix_len (λ q. not (p == q)) places) n is)
+        (number_there p places (ltb-true (prefix_len (λ q. not (p == q)) places) (length places) e))
     by false e is = let wrong : None ≡ Some n = is in absurd cc
 
 -- ---- lists that go together
@@ -87,13 +89,15 @@ module _ (places : List ℕ) where
 
 -- ---- packages
 
-module _ (t : Tables) (h : Homes) (paths : (q : ℕ) (x : ℕ × Text) → home_at h q ≡ Some x → HasPath t q) (owners : ℕ → TypeOwner) (places : List ℕ) (own : (m q : ℕ) → slice_get places m ≡ Some q → owners q ≡ as_interface m)
+module _ (t : Tables) (h : Homes) (paths : (q : ℕ) (x : ℕ × Text) → home_at h q ≡ Some x → HasPath t q) (owners : ℕ → TypeOwner) (places : List ℕ)
+    (own : (m q : ℕ) → slice_get places m ≡ Some q → owners q ≡ as_interface m)
     (p : Plan) (R : ℕ → PlannedInterface → Type 0) (interfaces : AllZip R places p.interfaces) where
   listed_by : (m : ℕ) (e : Text × ℕ) (q : ℕ) → slice_get places e.1 ≡ Some q → home_at h q ≡ Some (m, e.0) → IsListedInterface t h p owners m e
   listed_by m e q there home =
       let found = zip_on R places p.interfaces interfaces e.1 q there in record { place = q; path = paths q (m, e.0) home; home = home; owned = own e.1 q there; interface = found.0; there = found.1 }
 
-  exported_listed : (n : ℕ) (xs es : List (Text × ℕ)) → AllByRecursion (λ (x : Text × ℕ). home_at h x.1 ≡ Some (n, x.0)) xs → AllZip (ListsPlace places) xs es → AllByRecursion (IsListedInterface t h p owners n) es
+  exported_listed : (n : ℕ) (xs es : List (Text × ℕ)) → AllByRecursion (λ (x : Text × ℕ). home_at h x.1 ≡ Some (n, x.0)) xs → AllZip (ListsPlace places) xs es
+      → AllByRecursion (IsListedInterface t h p owners n) es
   exported_listed n [] [] homes all = tt
   exported_listed n [] (e ∷ es) homes all = absurd all
   exported_listed n (x ∷ xs) [] homes all = absurd all
@@ -108,7 +112,8 @@ module _ (t : Tables) (h : Homes) (paths : (q : ℕ) (x : ℕ × Text) → home_
         let is = named at.world found.0 found.2 in
         record { world = found.0; there = found.1; named = is.0 ∙ sym at.name; home = is.1 }
 
-    foreign_read : (m : ℕ) (k : PlannedPackage) (identity : PackageIdentity) → slice_get h.packages m ≡ Some identity → IsForeignPackage identity (entries_from (home_at h) m 0 places) k → IsReadPackage t h p owners m k
+    foreign_read : (m : ℕ) (k : PlannedPackage) (identity : PackageIdentity) → slice_get h.packages m ≡ Some identity → IsForeignPackage identity (entries_from (home_at h) m 0 places) k
+        → IsReadPackage t h p owners m k
     foreign_read m k identity at is =
         let read = packages.read m identity at in
         let listed = homes_are_listed (home_at h) m places in
@@ -142,7 +147,8 @@ module _ (t : Tables) (h : Homes) (paths : (q : ℕ) (x : ℕ × Text) → home_
           reads = read.reads ∙ ap (λ (x : PackageIdentity). Some (x, read.name)) (sym is.is);
           interfaces = exported_listed n (interfaces_in ms) k.interfaces exported.homes is.interfaces;
           once = listed_once places (interfaces_in ms) k.interfaces is.interfaces exported.once;
-          worlds = subst (AllByRecursion (IsListedWorld t h p owners n)) (sym is.worlds) (all_through (IsWorldAt (worlds_in ms)) (IsListedWorld t h p owners n) world_listed (numbered_labels 0 (worlds_in ms)) listed.among);
+          worlds = subst (AllByRecursion (IsListedWorld t h p owners n)) (sym is.worlds)
+              (all_through (IsWorldAt (worlds_in ms)) (IsListedWorld t h p owners n) world_listed (numbered_labels 0 (worlds_in ms)) listed.among);
           labels = ap distinct names ∙ exported.labels;
           apart = ap (λ (ls : List Text). list_all (λ (e : Text × ℕ). not (list_any (text_eq e.0) ls)) k.interfaces) names
               ∙ names_pass places (λ name. not (list_any (text_eq name) (world_labels ms))) (interfaces_in ms) k.interfaces is.interfaces exported.apart;
@@ -155,4 +161,5 @@ module _ (t : Tables) (h : Homes) (paths : (q : ℕ) (x : ℕ × Text) → home_
 
 pub packages_are_read : PackagesAreRead
 packages_are_read t h packages paths n ms exported owners own p whole m k at =
-    package_read t h paths owners (places_in ms) own p _ whole.interfaces packages n ms exported (PlansWorld t whole.kept (places_in ms) n) (λ w x is. (is.name, is.package_)) whole.worlds m k (whole.packages.each m k at)
+    package_read t h paths owners (places_in ms) own p _ whole.interfaces packages n ms exported (PlansWorld t whole.kept (places_in ms) n) (λ w x is. (is.name, is.package_)) whole.worlds m k
+    (whole.packages.each m k at)

@@ -45,8 +45,10 @@ module _ (t : Tables) (kept : List ℕ) (showings : List NumberedShowing) (table
     all_planned (n ∷ ns) (x ∷ xs) all = (one_planned n x all.0, all_planned ns xs all.1)
 
 module _ (t : Tables) (packages : List PackageIdentity) (homes : ℕ → Option Home) (main : ℕ) (ms : List Member) where
-  pub plans_whole : (places : List ℕ) → places ≡ places_in ms → (kept : List ℕ) → AreKeptFor t ms kept → (p : Plan) → AllZip (PlansType t kept (shown_first ms) (owner_in places (homes_met (numbered_members ms)))) kept p.types
-      → AllZip (PlansPlace t kept main homes (views_of_members (numbered_members ms))) places p.interfaces → AllZip (PlansWorld t kept places main) (worlds_in ms) p.worlds → PlansPackages packages homes main places ms p.packages → p.main ≡ main
+  pub plans_whole : (places : List ℕ) → places ≡ places_in ms → (kept : List ℕ) → AreKeptFor t ms kept → (p : Plan)
+      → AllZip (PlansType t kept (shown_first ms) (owner_in places (homes_met (numbered_members ms)))) kept p.types
+      → AllZip (PlansPlace t kept main homes (views_of_members (numbered_members ms))) places p.interfaces → AllZip (PlansWorld t kept places main) (worlds_in ms) p.worlds
+      → PlansPackages packages homes main places ms p.packages → p.main ≡ main
       → PlansWhole t packages homes main ms p
   plans_whole places same kept kept_for p types interfaces worlds listed main_is = record {
     kept = kept;

@@ -18,7 +18,8 @@ use Rattle.plan_meaning.specs.NumberedViews.{Tables}
 use Rattle.plan_package.specs.WholeWorlds.{types_seen, types_shown, PlansInstance, PlansItem, SeenIsKept, ShownIsKept, an_instance}
 
 module _ (t : Tables) (kept : List ℕ) where
-  pub instance_planned : {E : Type 0} (places : List ℕ) (find : Text → Option TypeId) (s : Seen) (r : Result (PlannedKey × PlannedItem) E) (key : InstanceKey) (v : View) → s.shown ≡ shown.Instance key v
+  pub instance_planned : {E : Type 0} (places : List ℕ) (find : Text → Option TypeId) (s : Seen) (r : Result (PlannedKey × PlannedItem) E) (key : InstanceKey) (v : View)
+      → s.shown ≡ shown.Instance key v
       → IfOk r (λ e. PlansInstance places (numbered_key key) (given_text s.external_id) (stated_entry e)) → IfOk r (λ e. PlansItem t kept places find s (stated_entry e))
   instance_planned places find s (Ok e) key v is planned = an_instance key v is planned
   instance_planned places find s (Err e) key v is planned = tt
@@ -28,7 +29,8 @@ module _ (t : Tables) (kept : List ℕ) where
   types_kept [] all = tt
   types_kept (s ∷ rest) all = by s.shown all.0 (types_kept rest all.1)
     where
-      by : (x : Shown) → ShownIsKept t kept x → AllByRecursion (IsKeptSlot kept) (flat_map types_seen rest) → AllByRecursion (IsKeptSlot kept) (types_shown s.key.now (given_text s.external_id) x ++ flat_map types_seen rest)
+      by : (x : Shown) → ShownIsKept t kept x → AllByRecursion (IsKeptSlot kept) (flat_map types_seen rest)
+          → AllByRecursion (IsKeptSlot kept) (types_shown s.key.now (given_text s.external_id) x ++ flat_map types_seen rest)
       by (shown.Instance key v) is later = later
       by (shown.Function n) is later = later
       by (shown.Declares part d) is later = (is, later)

@@ -31,6 +31,7 @@ pub record AreExported (h : Homes) (n : ℕ) (ms : List Member) : Type 0 where
 -- Then each package of the plan of it is that of a plan that was read, where homes are those of places with a path, and a place that is met has the
 -- interface of its number as its owner.
 abbrev pub PackagesAreRead : Type 0
-PackagesAreRead = (t : Tables) (h : Homes) → ArePackages h.packages → ((q : ℕ) (x : ℕ × Text) → home_at h q ≡ Some x → HasPath t q) → (n : ℕ) (ms : List Member) → AreExported h n ms
+PackagesAreRead = (t : Tables) (h : Homes) → ArePackages h.packages → ((q : ℕ) (x : ℕ × Text) → home_at h q ≡ Some x → HasPath t q) → (n : ℕ) (ms : List Member)
+    → AreExported h n ms
     → (owners : ℕ → TypeOwner) → ((m q : ℕ) → slice_get (places_in ms) m ≡ Some q → owners q ≡ as_interface m)
     → (p : Plan) → PlansWhole t h.packages (home_at h) n ms p → (m : ℕ) (k : PlannedPackage) → package_in p m ≡ Some k → IsReadPackage t h p owners m k

@@ -19,7 +19,8 @@ abbrev pub ListsNumber : List ℕ → NumberedType → Text × ℕ → Type 0
 ListsNumber kept x e = (e.0 ≡ x.name) × IsPart kept (slot_part x.slot) (14 + e.1)
 
 -- Under its name in its package, or inline in the main package: the types of the view, and these functions, beside its resources.
-pub record PlansInterface (t : Tables) (kept : List ℕ) (main : ℕ) (home : Option Home) (v : NumberedView) (fs : List (Text × NumberedFunction)) (i : PlannedInterface) : Type 0 where
+pub record PlansInterface (t : Tables) (kept : List ℕ) (main : ℕ) (home : Option Home) (v : NumberedView) (fs : List (Text × NumberedFunction))
+    (i : PlannedInterface) : Type 0 where
   pub name : i.name ≡ option_map (λ (h : Home). h.1) home
   pub package_ : i.package_ ≡ Some (option_map_or (λ (h : Home). h.0) home main)
   pub types : AllZip (ListsNumber kept) v.types i.types

@@ -95,12 +95,16 @@ pub record IsForeignPackage (identity : PackageIdentity) (es : List (Text × ℕ
   pub worlds : k.worlds ≡ []
 
 -- the package of this number, which has these interfaces if it isn't the main one
-pub data PlansPackage (packages : List PackageIdentity) (main : ℕ) (places : List ℕ) (ms : List Member) (es : List (Text × ℕ)) (n : ℕ) (k : PlannedPackage) : Type 0 where
-  the_main : (identity : PackageIdentity) → n ≡ main → slice_get packages n ≡ Some identity → IsMainPackage identity places ms k → PlansPackage packages main places ms es n k
-  another : (identity : PackageIdentity) → (n ≡ main → ⊥) → slice_get packages n ≡ Some identity → IsForeignPackage identity es k → PlansPackage packages main places ms es n k
+pub data PlansPackage (packages : List PackageIdentity) (main : ℕ) (places : List ℕ) (ms : List Member) (es : List (Text × ℕ)) (n : ℕ)
+    (k : PlannedPackage) : Type 0 where
+  the_main : (identity : PackageIdentity) → n ≡ main → slice_get packages n ≡ Some identity → IsMainPackage identity places ms k
+      → PlansPackage packages main places ms es n k
+  another : (identity : PackageIdentity) → (n ≡ main → ⊥) → slice_get packages n ≡ Some identity → IsForeignPackage identity es k
+      → PlansPackage packages main places ms es n k
 
 -- So many packages, each of which has the interfaces that are listed for it, if it isn't the main one.
-pub record ArePlanned (packages : List PackageIdentity) (main : ℕ) (places : List ℕ) (ms : List Member) (listed : ℕ → List (Text × ℕ)) (count : ℕ) (ks : List PlannedPackage) : Type 0 where
+pub record ArePlanned (packages : List PackageIdentity) (main : ℕ) (places : List ℕ) (ms : List Member) (listed : ℕ → List (Text × ℕ)) (count : ℕ)
+    (ks : List PlannedPackage) : Type 0 where
   pub many : length ks ≡ count
   pub each : (n : ℕ) (k : PlannedPackage) → slice_get ks n ≡ Some k → PlansPackage packages main places ms (listed n) n k
 

@@ -50,16 +50,20 @@ pub record PlansInstance (places : List ℕ) (key : NumberedKey) (external_id : 
   pub is : e ≡ (planned_key key number, plan.interface number external_id)
 
 -- the function of the type of this number, under its name
-pub record PlansFunction (t : Tables) (kept : List ℕ) (find : Text → Option TypeId) (name : Text) (signature : ℕ) (external_id : Option Text) (i : PlannedItem) : Type 0 where
+pub record PlansFunction (t : Tables) (kept : List ℕ) (find : Text → Option TypeId) (name : Text) (signature : ℕ) (external_id : Option Text)
+    (i : PlannedItem) : Type 0 where
   pub function : PlannedFunction
   pub is : i ≡ plan.function function
   pub planned : IsPlannedFunction t kept find (name, record { signature = signature; external_id = external_id }) (name, function)
 
 -- What an import or an export becomes: an interface by its number, a function over the types that are kept, or the new number of a type.
 pub data PlansItem (t : Tables) (kept : List ℕ) (places : List ℕ) (find : Text → Option TypeId) (s : Seen) (e : PlannedKey × PlannedItem) : Type 0 where
-  an_instance : (key : InstanceKey) (v : View) → s.shown ≡ shown.Instance key v → PlansInstance places (numbered_key key) (given_text s.external_id) e → PlansItem t kept places find s e
-  a_function : (n : ℕ) → s.shown ≡ shown.Function n → e.0 ≡ plan.label s.key.now → PlansFunction t kept find s.key.now n (given_text s.external_id) e.1 → PlansItem t kept places find s e
-  a_type : (part : ℕ) (d : Option ℕ) (n : ℕ) → s.shown ≡ shown.Declares part d → e ≡ (plan.label s.key.now, plan.declares n) → IsPart kept part (14 + n) → PlansItem t kept places find s e
+  an_instance : (key : InstanceKey) (v : View) → s.shown ≡ shown.Instance key v → PlansInstance places (numbered_key key) (given_text s.external_id) e
+      → PlansItem t kept places find s e
+  a_function : (n : ℕ) → s.shown ≡ shown.Function n → e.0 ≡ plan.label s.key.now → PlansFunction t kept find s.key.now n (given_text s.external_id) e.1
+      → PlansItem t kept places find s e
+  a_type : (part : ℕ) (d : Option ℕ) (n : ℕ) → s.shown ≡ shown.Declares part d → e ≡ (plan.label s.key.now, plan.declares n) → IsPart kept part (14 + n)
+      → PlansItem t kept places find s e
 
 -- what it is over is kept: the parts of a function, or the name of a type
 abbrev pub ShownIsKept : Tables → List ℕ → Shown → Type 0

@@ -56,7 +56,8 @@ fn interface_of<'a>(
 ) -> Result<PlannedInterface<'a>, AllocError>
     requires types { AllByRecursion (IsKeptSlot kept.now) (numbered_view view).types }
     requires functions { AllByRecursion (IsFunctionOver (numbered_tables tables.now) kept.now) (map numbered_function functions.now) }
-    ensures { IfOk result (λ i. PlansInterface (numbered_tables tables.now) kept.now main (given_home home.entry) (numbered_view view.entry) (map numbered_function functions.entry.now) (stated_interface i)) }
+    ensures { IfOk result (λ i. PlansInterface (numbered_tables tables.now) kept.now main (given_home home.entry) (numbered_view view.entry)
+        (map numbered_function functions.entry.now) (stated_interface i)) }
 {
     let package = package_of(home, main)?;
     let (types, resources) = types_of(alloc, kept, view.types)?;
@@ -110,7 +111,8 @@ fn interface_at<'a>(
     requires place_too { place < length wholes.now }
     requires seen { is_some (first_in place (map numbered_sight sights.now)) ≡ true }
     requires kept { AllByRecursion (λ s. ViewIsKept (numbered_tables tables.now) kept.now s.view) (map numbered_sight sights.now) }
-    ensures { IfOk result (λ i. PlansPlace (numbered_tables tables.now) kept.now main (home_of_place homes.now) (map numbered_sight sights.now) place (stated_interface i)) }
+    ensures { IfOk result (λ i. PlansPlace (numbered_tables tables.now) kept.now main (home_of_place homes.now) (map numbered_sight sights.now) place
+        (stated_interface i)) }
 {
     let Some(first) = first_at(sights, firsts, place) else {
         unreachable!();
@@ -147,7 +149,8 @@ fn all_interfaces<'a>(
     requires places_too { AllByRecursion (λ p. p < length wholes.now) places.now }
     requires seen { AreSeen (map numbered_sight sights.now) places.now }
     requires kept { AllByRecursion (λ s. ViewIsKept (numbered_tables tables.now) kept.now s.view) (map numbered_sight sights.now) }
-    ensures { IfOk result (λ all. AllZip (PlansPlace (numbered_tables tables.now) kept.now main (home_of_place homes.now) (map numbered_sight sights.now)) places.now (map stated_interface all.items)) }
+    ensures { IfOk result (λ all. AllZip (PlansPlace (numbered_tables tables.now) kept.now main (home_of_place homes.now) (map numbered_sight sights.now))
+        places.now (map stated_interface all.items)) }
 {
     let mut all = Vec::new(alloc);
     for place in places {
@@ -181,7 +184,8 @@ pub(crate) fn interfaces_of<'a>(
 ) -> Result<Vec<PlannedInterface<'a>>, AllocError>
     requires seen { AreSeen (map numbered_sight sights.now) places.now.keys }
     requires kept { AllByRecursion (λ s. ViewIsKept (numbered_tables tables.now) kept.now s.view) (map numbered_sight sights.now) }
-    ensures { IfOk result (λ all. AllZip (PlansPlace (numbered_tables tables.now) kept.now main (home_of_place homes.now) (map numbered_sight sights.now)) places.now.keys (map stated_interface all.items)) }
+    ensures { IfOk result (λ all. AllZip (PlansPlace (numbered_tables tables.now) kept.now main (home_of_place homes.now) (map numbered_sight sights.now))
+        places.now.keys (map stated_interface all.items)) }
 {
     let (firsts, wholes) = first_tables(alloc, sights)?;
     let places = listed(alloc, places)?;

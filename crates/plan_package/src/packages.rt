@@ -27,7 +27,8 @@ fn add_interface<'a>(
     interfaces: &mut Vec<(&'a str, u32)>,
     member: Member<'a>,
 ) -> Result<(), AllocError>
-    ensures { IfOk result (λ _. map labelled_place interfaces.new.items ≡ map labelled_place interfaces.old.items ++ interface_in_part member.entry.label.now member.entry.part) }
+    ensures { IfOk result (λ _. map labelled_place interfaces.new.items ≡ map labelled_place interfaces.old.items
+        ++ interface_in_part member.entry.label.now member.entry.part) }
 {
     match member.part {
         Part::World(_) => Ok(()),
@@ -236,7 +237,8 @@ fn package_at<'a>(
 ) -> Result<PlannedPackage<'a>, AllocError>
     requires placed { AllByRecursion (IsPlaced places.now.keys) (interfaces_in members.now) }
     requires there { number < length packages.now }
-    ensures { IfOk result (λ k. PlansPackage packages.now main places.now.keys members.now (map numbered_interface interfaces.entry.items) number (stated_package k)) }
+    ensures { IfOk result (λ k. PlansPackage packages.now main places.now.keys members.now (map numbered_interface interfaces.entry.items) number
+        (stated_package k)) }
 {
     let Some(texts) = packages.texts(number) else {
         unreachable!();
@@ -259,7 +261,8 @@ fn all_packages<'a>(
 ) -> Result<Vec<PlannedPackage<'a>>, AllocError>
     requires placed { AllByRecursion (IsPlaced places.now.keys) (interfaces_in members.now) }
     requires many { length lists.old ≡ length packages.now }
-    ensures { IfOk result (λ all. ArePlanned packages.now main places.now.keys members.now (listed_at lists.old) (length lists.old) (map stated_package all.items)) }
+    ensures { IfOk result (λ all. ArePlanned packages.now main places.now.keys members.now (listed_at lists.old) (length lists.old)
+        (map stated_package all.items)) }
 {
     let mut all = Vec::new(alloc);
     for number in 0..lists.len() {

@@ -61,7 +61,8 @@ fn types_of<'a>(
     members: &[Member<'a>],
 ) -> Result<Vec<PlannedType<'a>>, AllocError>
     requires { AllByRecursion (MayBePlanned (numbered_tables tables.now) kept.now (showing_at firsts.now)) kept.now }
-    ensures { IfOk result (λ types. AllZip (PlansType (numbered_tables tables.now) kept.now (showing_at firsts.now) (owner_in places.now.keys (homes_met (numbered_members members.now)))) kept.now (map stated_type types.items)) }
+    ensures { IfOk result (λ types. AllZip (PlansType (numbered_tables tables.now) kept.now (showing_at firsts.now)
+        (owner_in places.now.keys (homes_met (numbered_members members.now)))) kept.now (map stated_type types.items)) }
 {
     let homes = homes_of_members(alloc, members)?;
     planned_types(alloc, tables, kept, firsts, places, &homes)
@@ -79,7 +80,8 @@ fn seen_interfaces<'a>(
 ) -> Result<Vec<PlannedInterface<'a>>, AllocError>
     requires seen { AreSeen (views_of_members_lem (numbered_members members.now)) places.now.keys }
     requires kept { AllByRecursion (λ s. ViewIsKept (numbered_tables tables.now) kept.now s.view) (views_of_members_lem (numbered_members members.now)) }
-    ensures { IfOk result (λ all. AllZip (PlansPlace (numbered_tables tables.now) kept.now main (home_of_place homes.now) (views_of_members_lem (numbered_members members.now))) places.now.keys (map stated_interface all.items)) }
+    ensures { IfOk result (λ all. AllZip (PlansPlace (numbered_tables tables.now) kept.now main (home_of_place homes.now)
+        (views_of_members_lem (numbered_members members.now))) places.now.keys (map stated_interface all.items)) }
 {
     let views = views_of_members(alloc, members)?;
     interfaces_of(alloc, tables, kept, main, homes, &views, places)

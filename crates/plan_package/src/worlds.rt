@@ -72,7 +72,8 @@ fn function_item<'a>(
     external_id: Option<&'a str>,
 ) -> Result<PlannedItem<'a>, AllocError>
     requires { PartsOf (IsKeptPart kept.now) (function_at_lem (numbered_tables tables.now) number) }
-    ensures { IfOk result (λ i. PlansFunction (numbered_tables tables.now) kept.now (found_under resources.now.entries) name.entry.now number (given_text external_id.entry) (stated_item i)) }
+    ensures { IfOk result (λ i. PlansFunction (numbered_tables tables.now) kept.now (found_under resources.now.entries) name.entry.now number
+        (given_text external_id.entry) (stated_item i)) }
 {
     let function = function_at(tables, number);
     let made = function_of(alloc, kept, resources, name, function, external_id)?;
@@ -90,7 +91,8 @@ fn item_of<'a>(
 ) -> Result<(PlannedKey<'a>, PlannedItem<'a>), AllocError>
     requires kept { SeenIsKept (numbered_tables tables.now) kept.now seen }
     requires placed { SeenIsPlaced places.now.keys seen }
-    ensures { IfOk result (λ e. PlansItem (numbered_tables tables.now) kept.now places.now.keys (found_under resources.now.entries) seen.entry (stated_entry e)) }
+    ensures { IfOk result (λ e. PlansItem (numbered_tables tables.now) kept.now places.now.keys (found_under resources.now.entries) seen.entry
+        (stated_entry e)) }
 {
     let label = PlannedKey::Label(seen.key);
     match seen.shown {
@@ -122,7 +124,8 @@ fn items_of<'a>(
 ) -> Result<Vec<(PlannedKey<'a>, PlannedItem<'a>)>, AllocError>
     requires kept { AllByRecursion (SeenIsKept (numbered_tables tables.now) kept.now) all_seen.now }
     requires placed { AllByRecursion (SeenIsPlaced places.now.keys) all_seen.now }
-    ensures { IfOk result (λ items. AllZip (PlansItem (numbered_tables tables.now) kept.now places.now.keys (found_under resources.now.entries)) all_seen.now (map stated_entry items.items)) }
+    ensures { IfOk result (λ items. AllZip (PlansItem (numbered_tables tables.now) kept.now places.now.keys (found_under resources.now.entries)) all_seen.now
+        (map stated_entry items.items)) }
 {
     let mut items = Vec::with_capacity(alloc, all_seen.len())?;
     for seen in all_seen {
@@ -244,7 +247,8 @@ fn all_worlds<'a>(
 ) -> Result<Vec<PlannedWorld<'a>>, AllocError>
     requires kept { AllByRecursion (λ w. WorldIsKept (numbered_tables tables.now) kept.now w.1) (map labelled worlds.now) }
     requires placed { AllByRecursion (λ w. WorldIsPlaced places.now.keys w.1) (map labelled worlds.now) }
-    ensures { IfOk result (λ all. AllZip (PlansWorld (numbered_tables tables.now) kept.now places.now.keys main.0) (map labelled worlds.now) (map stated_world all.items)) }
+    ensures { IfOk result (λ all. AllZip (PlansWorld (numbered_tables tables.now) kept.now places.now.keys main.0) (map labelled worlds.now)
+        (map stated_world all.items)) }
 {
     let mut all = Vec::new(alloc);
     for world in worlds {
@@ -268,7 +272,8 @@ pub(crate) fn worlds_of<'a>(
 ) -> Result<Vec<PlannedWorld<'a>>, AllocError>
     requires kept { AllByRecursion (λ w. WorldIsKept (numbered_tables tables.now) kept.now w.1) (worlds_in members.now) }
     requires placed { AllByRecursion (λ w. WorldIsPlaced places.now.keys w.1) (worlds_in members.now) }
-    ensures { IfOk result (λ all. AllZip (PlansWorld (numbered_tables tables.now) kept.now places.now.keys main) (worlds_in members.now) (map stated_world all.items)) }
+    ensures { IfOk result (λ all. AllZip (PlansWorld (numbered_tables tables.now) kept.now places.now.keys main) (worlds_in members.now)
+        (map stated_world all.items)) }
 {
     let main = package_id(main)?;
     let worlds = worlds_among(alloc, members)?;

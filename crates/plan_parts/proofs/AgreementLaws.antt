@@ -64,21 +64,25 @@ given_same (Some x) (Some y) h = ap Some ((bytes_eq-Decides x.now y.now).0 h)
 told_same : (a b : ToldFunction) → same_told a b ≡ true → told_function a ≡ told_function b
 told_same a b h =
     let rest = second_true (text_eq a.name.now b.name.now) ((a.signature == b.signature) && option_eq (λ x y. text_eq x.now y.now) a.external_id b.external_id) h in
-    let name = (bytes_eq-Decides a.name.now b.name.now).0 (first_true (text_eq a.name.now b.name.now) ((a.signature == b.signature) && option_eq (λ x y. text_eq x.now y.now) a.external_id b.external_id) h) in
+    let name = (bytes_eq-Decides a.name.now b.name.now).0 (first_true (text_eq a.name.now b.name.now)
+    ((a.signature == b.signature) && option_eq (λ x y. text_eq x.now y.now) a.external_id b.external_id) h) in
     let signature = eqb-true a.signature b.signature (first_true (a.signature == b.signature) (option_eq (λ x y. text_eq x.now y.now) a.external_id b.external_id) rest) in
     let id = given_same a.external_id b.external_id (second_true (a.signature == b.signature) (option_eq (λ x y. text_eq x.now y.now) a.external_id b.external_id) rest) in
     λ i. (name i, record { signature = signature i; external_id = id i })
 
 -- what passes is found where it stands
-stands : (test : Text × NumberedFunction → Bool) (a : ToldFunction) (ks : List ToldFunction) → list_any (same_told a) ks ≡ true → test (told_function a) ≡ true → list_any test (map told_function ks) ≡ true
+stands : (test : Text × NumberedFunction → Bool) (a : ToldFunction) (ks : List ToldFunction) → list_any (same_told a) ks ≡ true → test (told_function a) ≡ true
+    → list_any test (map told_function ks) ≡ true
 stands test a [] among passes = absurd cc
 stands test a (k ∷ ks) among passes = go (λ later. stands test a ks later passes) (same_told a k) refl among
   where
-    go : (list_any (same_told a) ks ≡ true → list_any test (map told_function ks) ≡ true) → (v : Bool) → same_told a k ≡ v → (v || list_any (same_told a) ks) ≡ true → (test (told_function k) || list_any test (map told_function ks)) ≡ true
+    go : (list_any (same_told a) ks ≡ true → list_any test (map told_function ks) ≡ true) → (v : Bool) → same_told a k ≡ v → (v || list_any (same_told a) ks) ≡ true
+        → (test (told_function k) || list_any test (map told_function ks)) ≡ true
     go again true e h = ap (λ b. b || list_any test (map told_function ks)) (ap test (sym (told_same a k e)) ∙ passes)
     go again false e h = second_of (test (told_function k)) (list_any test (map told_function ks)) (again h)
 
-pub function_added : (test : Text × NumberedFunction → Bool) (ks new : List ToldFunction) (a : ToldFunction) (f : Text × NumberedFunction) → told_function a ≡ f → new ≡ cond (list_any (same_told a) ks) ks (ks ++ a ∷ []) → list_any test (map told_function new) ≡ (list_any test (map told_function ks) || test f)
+pub function_added : (test : Text × NumberedFunction → Bool) (ks new : List ToldFunction) (a : ToldFunction) (f : Text × NumberedFunction) → told_function a ≡ f
+    → new ≡ cond (list_any (same_told a) ks) ks (ks ++ a ∷ []) → list_any test (map told_function new) ≡ (list_any test (map told_function ks) || test f)
 function_added test ks new a f is added = go (list_any (same_told a) ks) refl ∙ ap (λ g. list_any test (map told_function ks) || test g) is
   where
     go : (v : Bool) → list_any (same_told a) ks ≡ v → list_any test (map told_function new) ≡ (list_any test (map told_function ks) || test (told_function a))
@@ -109,7 +113,8 @@ told_among a f is (k ∷ ks) =
 
 -- ---- the same functions
 
-pub by_told : (told gs : List (Text × NumberedFunction)) → AreTold told gs → (fs : List (Text × NumberedFunction)) → are_told told fs ≡ list_all (λ f. list_any (λ g. text_eq f.0 g.0 && same_function f.1 g.1) gs) fs
+pub by_told : (told gs : List (Text × NumberedFunction)) → AreTold told gs → (fs : List (Text × NumberedFunction))
+    → are_told told fs ≡ list_all (λ f. list_any (λ g. text_eq f.0 g.0 && same_function f.1 g.1) gs) fs
 by_told told gs alike [] = refl
 by_told told gs alike (f ∷ fs) =
     ap (λ b. b && are_told told fs) (alike (λ g. text_eq f.0 g.0 && same_function f.1 g.1)) ∙ ap (λ b. list_any (λ g. text_eq f.0 g.0 && same_function f.1 g.1) gs && b) (by_told told gs alike fs)
@@ -123,7 +128,8 @@ same_told_functions told fs gs alike many = by_told told gs alike fs ∙ sym (ap
 -- ---- the same functions in the same order
 
 -- each stands among those of the other, whatever stands in front of these
-paired : (fs gs hs : List (Text × NumberedFunction)) → ((test : Text × NumberedFunction → Bool) → list_any test gs ≡ true → list_any test hs ≡ true) → pointwise tells_same fs gs ≡ true → list_all (λ f. list_any (λ g. text_eq f.0 g.0 && same_function f.1 g.1) hs) fs ≡ true
+paired : (fs gs hs : List (Text × NumberedFunction)) → ((test : Text × NumberedFunction → Bool) → list_any test gs ≡ true → list_any test hs ≡ true) → pointwise tells_same fs gs ≡ true
+    → list_all (λ f. list_any (λ g. text_eq f.0 g.0 && same_function f.1 g.1) hs) fs ≡ true
 paired [] gs hs within h = refl
 paired (f ∷ fs) [] hs within h = absurd cc
 paired (f ∷ fs) (g ∷ gs) hs within h =

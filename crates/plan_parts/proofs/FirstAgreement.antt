@@ -101,7 +101,8 @@ function_join f a b one two three p q =
     let zs = map as_function b.view.functions in
     sym (functions_alike a.view.functions b.view.functions)
     ∙ (functions_make_one_map ys zs (once_alike a two) (once_alike b three)).1
-    (sym ((functions_make_one_map xs ys (once_alike f one) (once_alike a two)).0 (functions_alike f.view.functions a.view.functions ∙ p)) ∙ (functions_make_one_map xs zs (once_alike f one) (once_alike b three)).0 (functions_alike f.view.functions b.view.functions ∙ q))
+    (sym ((functions_make_one_map xs ys (once_alike f one) (once_alike a two)).0 (functions_alike f.view.functions a.view.functions ∙ p))
+    ∙ (functions_make_one_map xs zs (once_alike f one) (once_alike b three)).0 (functions_alike f.view.functions b.view.functions ∙ q))
 
 function_itself : (a : NumberedSight) → IsOnce a → same_whole a a ≡ true
 function_itself a one =
@@ -132,11 +133,10 @@ agree_from a b types functions = by ((a.place == b.place)) refl
     by false e = refl
     by true e = let path = eqb-true a.place b.place e in and_from (same_types a b) (not (a.whole && b.whole) || same_whole a b) (types path) (whole path a.whole b.whole refl refl)
 
--- ---- look-ups
-
 -- ---- agreement with each is agreement with the first
 
-into : (rest earlier : List NumberedSight) → ((x : NumberedSight) → Contains earlier x → list_all (agree x) rest ≡ true) → agree_in_numbers rest ≡ true → agree_with_first_in_numbers earlier rest ≡ true
+into : (rest earlier : List NumberedSight) → ((x : NumberedSight) → Contains earlier x → list_all (agree x) rest ≡ true) → agree_in_numbers rest ≡ true
+    → agree_with_first_in_numbers earlier rest ≡ true
 into [] earlier before all = refl
 into (s ∷ rest) earlier before all =
     and_from (agrees_with_first earlier s) (agree_with_first_in_numbers (earlier ++ s ∷ []) rest)
@@ -197,11 +197,22 @@ module _ (earlier : List NumberedSight) (s : NumberedSight) (known : Known earli
   known_more : Known (earlier ++ s ∷ [])
   known_more = record {
     types = λ x c. elim (Contains-append_cases earlier (s ∷ []) x c) [
-      | inl there ↦ (let first = known.types x there in (first.0, find-append (λ y. x.place == y.place) earlier (s ∷ []) ∙ ap (λ o. option_or o (find (λ y. x.place == y.place) (s ∷ []))) first.1, first.2))
-      | inr last ↦ subst (λ (y : NumberedSight). (f : NumberedSight) × (first_at y.place (earlier ++ s ∷ []) ≡ Some f) × (same_types f y ≡ true)) (last_of s x last) (own_types (first_at s.place earlier) refl)
+      | inl there ↦ (let first = known.types x there in (
+        first.0,
+        find-append (λ y. x.place == y.place) earlier (s ∷ []) ∙ ap (λ o. option_or o (find (λ y. x.place == y.place) (s ∷ [])))
+            first.1,
+        first.2,
+      ))
+      | inr last ↦ subst (λ (y : NumberedSight). (f : NumberedSight) × (first_at y.place (earlier ++ s ∷ []) ≡ Some f) × (same_types f y ≡ true)) (last_of s x last)
+          (own_types (first_at s.place earlier) refl)
     ];
     functions = λ x c w. elim (Contains-append_cases earlier (s ∷ []) x c) [
-      | inl there ↦ (let first = known.functions x there w in (first.0, find-append (λ y. x.place == y.place && y.whole) earlier (s ∷ []) ∙ ap (λ o. option_or o (find (λ y. x.place == y.place && y.whole) (s ∷ []))) first.1, first.2))
+      | inl there ↦ (let first = known.functions x there w in (
+        first.0,
+        find-append (λ y. x.place == y.place && y.whole) earlier (s ∷ []) ∙ ap
+            (λ o. option_or o (find (λ y. x.place == y.place && y.whole) (s ∷ []))) first.1,
+        first.2,
+      ))
       | inr last ↦ subst (λ (y : NumberedSight). (f : NumberedSight) × (first_whole_at y.place (earlier ++ s ∷ []) ≡ Some f) × (same_whole f y ≡ true)) (last_of s x last)
           (own_functions (ap (λ y. y.whole) (last_of s x last) ∙ w) (first_whole_at s.place earlier) refl)
     ];
@@ -219,8 +230,13 @@ module _ (earlier : List NumberedSight) (s : NumberedSight) (known : Known earli
         type_itself s,
       )
 
-      own_functions : s.whole ≡ true → (o : Option NumberedSight) → first_whole_at s.place earlier ≡ o → (f : NumberedSight) × (first_whole_at s.place (earlier ++ s ∷ []) ≡ Some f) × (same_whole f s ≡ true)
-      own_functions w (Some f) e = (f, find-append (λ y. s.place == y.place && y.whole) earlier (s ∷ []) ∙ ap (λ o. option_or o (find (λ y. s.place == y.place && y.whole) (s ∷ []))) e, with_functions w f e)
+      own_functions : s.whole ≡ true → (o : Option NumberedSight) → first_whole_at s.place earlier ≡ o → (f : NumberedSight) × (first_whole_at s.place (earlier ++ s ∷ []) ≡ Some f)
+          × (same_whole f s ≡ true)
+      own_functions w (Some f) e = (
+        f,
+        find-append (λ y. s.place == y.place && y.whole) earlier (s ∷ []) ∙ ap (λ o. option_or o (find (λ y. s.place == y.place && y.whole) (s ∷ []))) e,
+        with_functions w f e,
+      )
       own_functions w None e = (
         s,
         find-append (λ y. s.place == y.place && y.whole) earlier (s ∷ [])
@@ -228,7 +244,8 @@ module _ (earlier : List NumberedSight) (s : NumberedSight) (known : Known earli
         function_itself s one,
       )
 
-back : (rest earlier : List NumberedSight) → Known earlier → ((x : NumberedSight) → Contains rest x → IsOnce x) → agree_with_first_in_numbers earlier rest ≡ true → ((x : NumberedSight) → Contains earlier x → list_all (agree x) rest ≡ true) × (agree_in_numbers rest ≡ true)
+back : (rest earlier : List NumberedSight) → Known earlier → ((x : NumberedSight) → Contains rest x → IsOnce x) → agree_with_first_in_numbers earlier rest ≡ true
+    → ((x : NumberedSight) → Contains earlier x → list_all (agree x) rest ≡ true) × (agree_in_numbers rest ≡ true)
 back [] earlier known once all = (λ x c. refl, refl)
 back (s ∷ rest) earlier known once all =
     let agrees = first_true (agrees_with_first earlier s) (agree_with_first_in_numbers (earlier ++ s ∷ []) rest) all in
@@ -251,7 +268,8 @@ module _ (t : Tables) (known : ℕ → Fact) where
   interfaces_once (s ∷ rest) e x (zero, low, h) = subst IsOnce h (of_interface (first_true (is_interface t known s.place s.view) (are_interfaces t known rest) e))
     where
       of_interface : is_interface t known s.place s.view ≡ true → IsOnce s
-      of_interface i = distinct_behind (map (λ x. x.name) s.view.types) (map (λ f. f.0) s.view.functions) (second_true _ (distinct (map (λ x. x.name) s.view.types ++ map (λ f. f.0) s.view.functions)) i)
+      of_interface i = distinct_behind (map (λ x. x.name) s.view.types) (map (λ f. f.0) s.view.functions)
+          (second_true _ (distinct (map (λ x. x.name) s.view.types ++ map (λ f. f.0) s.view.functions)) i)
 
   first_agrees : (seen : List NumberedSight) → are_interfaces t known seen ≡ true → agree_in_numbers seen ≡ agree_with_first_in_numbers [] seen
   first_agrees seen interfaces = either_way (agree_in_numbers seen) (agree_with_first_in_numbers [] seen)

@@ -114,13 +114,15 @@ module _ (t : Tables) (known : ℕ → Fact) (q : ℕ) (name : Text) (f : Functi
     static_of : is_behind static_mark name r → IsOf r
 
   is_of : (r : Text) → is_function_of t known q name f r ≡ true → IsOf r
-  is_of r h = by (text_eq name (constructor_name r)) (not f.is_async) (constructs t known q r f.result) (is_label_behind (method_name r []) name) (begins_with_self t known q r f.params) (is_label_behind (static_name r []) name) refl refl refl refl refl refl h
+  is_of r h = by (text_eq name (constructor_name r)) (not f.is_async) (constructs t known q r f.result) (is_label_behind (method_name r []) name) (begins_with_self t known q r f.params)
+      (is_label_behind (static_name r []) name) refl refl refl refl refl refl h
     where
       waits_not : (b : Bool) → not b ≡ true → b ≡ false
       waits_not true e = absurd cc
       waits_not false e = refl
 
-      by : (a b c d e g : Bool) → text_eq name (constructor_name r) ≡ a → not f.is_async ≡ b → constructs t known q r f.result ≡ c → is_label_behind (method_name r []) name ≡ d → begins_with_self t known q r f.params ≡ e → is_label_behind (static_name r []) name ≡ g
+      by : (a b c d e g : Bool) → text_eq name (constructor_name r) ≡ a → not f.is_async ≡ b → constructs t known q r f.result ≡ c → is_label_behind (method_name r []) name ≡ d
+          → begins_with_self t known q r f.params ≡ e → is_label_behind (static_name r []) name ≡ g
           → ((((a && b) && c) || (d && e)) || g) ≡ true → IsOf r
       by true true true d e g a1 a2 a3 a4 a5 a6 h = constructor_of ((bytes_eq-Decides name (constructor_name r)).0 a1) (waits_not f.is_async a2) a3
       by a b c true true g a1 a2 a3 a4 a5 a6 h = method_of a4 a5
@@ -139,7 +141,8 @@ pub data IsNamedAfter (name r : Text) : Type 0 where
   static_after : is_behind static_mark name r → IsNamedAfter name r
 
 -- A function that may stand behind some resources and is named after one is named after one of them.
-pub resource_among : (t : Tables) (known : ℕ → Fact) (q : ℕ) (name : Text) (f : FunctionShape) (resources : List Text) → is_function t known q resources name f ≡ true → (r : Text) → IsNamedAfter name r → list_any (text_eq r) resources ≡ true
+pub resource_among : (t : Tables) (known : ℕ → Fact) (q : ℕ) (name : Text) (f : FunctionShape) (resources : List Text) → is_function t known q resources name f ≡ true → (r : Text)
+    → IsNamedAfter name r → list_any (text_eq r) resources ≡ true
 resource_among t known q name f resources h r after = by (either_true (is_label name) (list_any (is_function_of t known q name f) resources) (second_true (is_signature t known q f) _ h))
   where
     no_label : is_label name ≡ true → IsNamedAfter name r → ⊥
@@ -187,7 +190,8 @@ module _ (t : Tables) (known : ℕ → Fact) (kept : List ℕ) (p : Plan) (o : T
   abbrev Answer : Type 0
   Answer = IsKindOf t known kept p o q name f kind × (is_async kind ≡ f.is_async)
 
-  a_method_is : (r : Text) (id : TypeId) → is_behind method_mark name r → find r ≡ Some id → begins_with_self t known q r f.params ≡ true → (b : Bool) → f.is_async ≡ b → kind ≡ method_kind id b → IsKindOf t known kept p o q name f kind
+  a_method_is : (r : Text) (id : TypeId) → is_behind method_mark name r → find r ≡ Some id → begins_with_self t known q r f.params ≡ true → (b : Bool) → f.is_async ≡ b → kind ≡ method_kind id b
+      → IsKindOf t known kept p o q name f kind
   a_method_is r id h found self true waits e = kinds.an_async_method id r e (is_res r id found) h self
   a_method_is r id h found self false waits e = kinds.a_method id r e (is_res r id found) h self
 
@@ -220,7 +224,8 @@ module _ (t : Tables) (known : ℕ → Fact) (kept : List ℕ) (p : Plan) (o : T
   of_resource s there (static_of h) (of_none c m st e) = absurd (nothing_found (find s) there.0 (st s h) there.1)
 
 pub kinds_are_named : KindsAreNamed
-kinds_are_named t known kept p o q find resources finds is_res name f kind h names = by (either_true (is_label name) (list_any (is_function_of t known q name f) resources) (second_true (is_signature t known q f) _ h))
+kinds_are_named t known kept p o q find resources finds is_res name f kind h names =
+    by (either_true (is_label name) (list_any (is_function_of t known q name f) resources) (second_true (is_signature t known q f) _ h))
   where
     by : (is_label name ≡ true) ⊎ (list_any (is_function_of t known q name f) resources ≡ true) → IsKindOf t known kept p o q name f kind × (is_async kind ≡ f.is_async)
     by (inl label) = labelled t known kept p o q find is_res name f kind label names
@@ -242,13 +247,15 @@ param_at P (x ∷ xs) zero d h all = all.0
 param_at P (x ∷ xs) (suc i) d h all = param_at P xs i d (omega (arith, h)) all.1
 
 -- one parameter more
-pub params_more : (kept : List ℕ) (xs : List (Bor Text × ℕ)) (i : ℕ) (d : Bor Text × ℕ) (ty : ValueType) (old new : List (Bor Text × ValueType)) → i < length xs → new ≡ old ++ ((get_or xs i d).0, ty) ∷ [] → IsPart kept (get_or xs i d).1 (part_of ty)
+pub params_more : (kept : List ℕ) (xs : List (Bor Text × ℕ)) (i : ℕ) (d : Bor Text × ℕ) (ty : ValueType) (old new : List (Bor Text × ValueType)) → i < length xs
+    → new ≡ old ++ ((get_or xs i d).0, ty) ∷ [] → IsPart kept (get_or xs i d).1 (part_of ty)
     → AllZip (KeptParam kept) (map param_of (take i xs)) (stated_params old) → AllZip (KeptParam kept) (map param_of (take (i + 1) xs)) (stated_params new)
 params_more kept xs i d ty old new within added is before =
     let x = get_or xs i d in
     let olds : map param_of (take (i + 1) xs) ≡ map param_of (take i xs) ++ param_of x ∷ [] = ap (map param_of) (take_more xs i d within) ∙ map-append param_of (take i xs) (x ∷ []) in
     let news : stated_params new ≡ stated_params old ++ (x.0.now, part_of ty) ∷ [] = ap stated_params added ∙ map-append (λ e. (e.0.now, part_of e.1)) old ((x.0, ty) ∷ []) in
-    subst (λ (xs : List (Text × ℕ)). AllZip (KeptParam kept) xs (stated_params new)) (sym olds) (subst (λ (ys : List (Text × ℕ)). AllZip (KeptParam kept) (map param_of (take i xs) ++ param_of x ∷ []) ys) (sym news)
+    subst (λ (xs : List (Text × ℕ)). AllZip (KeptParam kept) xs (stated_params new)) (sym olds)
+    (subst (λ (ys : List (Text × ℕ)). AllZip (KeptParam kept) (map param_of (take i xs) ++ param_of x ∷ []) ys) (sym news)
     (zip-push (KeptParam kept) (map param_of (take i xs)) (stated_params old) (param_of x) (x.0.now, part_of ty) before (refl, is)))
 
 module _ (t : Tables) (kept : List ℕ) (p : Plan) (many : length p.types ≡ length kept) where

@@ -22,7 +22,8 @@ mapped_at P g (x ∷ xs) zero d h all = all.0
 mapped_at P g (x ∷ xs) (suc i) d h all = mapped_at P g xs i d (omega (arith, h)) all.1
 
 -- one more of two lists that go together
-pub zip_next : {A B X Y : Type 0} (R : B → Y → Type 0) (g : A → B) (h : X → Y) (xs : List A) (i : ℕ) (d : A) (old new : List X) (y : X) → i < length xs → new ≡ old ++ y ∷ [] → R (g (get_or xs i d)) (h y)
+pub zip_next : {A B X Y : Type 0} (R : B → Y → Type 0) (g : A → B) (h : X → Y) (xs : List A) (i : ℕ) (d : A) (old new : List X) (y : X) → i < length xs → new ≡ old ++ y ∷ []
+    → R (g (get_or xs i d)) (h y)
     → AllZip R (map g (take i xs)) (map h old) → AllZip R (map g (take (i + 1) xs)) (map h new)
 zip_next {B = B} {Y = Y} R g h xs i d old new y within added is before =
     let olds : map g (take (i + 1) xs) ≡ map g (take i xs) ++ g (get_or xs i d) ∷ [] = ap (map g) (take_more xs i d within) ∙ map-append g (take i xs) (get_or xs i d ∷ []) in
@@ -32,7 +33,8 @@ zip_next {B = B} {Y = Y} R g h xs i d old new y within added is before =
 
 -- ---- resources
 
-pub noted_now : (d : Option ℕ) (name r : Text) (id : TypeId) (new old : Option TypeId) → is_some d ≡ false → new ≡ cond (text_eq name r) (Some id) old → new ≡ cond (is_no_part d && text_eq name r) (Some id) old
+pub noted_now : (d : Option ℕ) (name r : Text) (id : TypeId) (new old : Option TypeId) → is_some d ≡ false → new ≡ cond (text_eq name r) (Some id) old
+    → new ≡ cond (is_no_part d && text_eq name r) (Some id) old
 noted_now None name r id new old none e = e
 noted_now (Some k) name r id new old none e = absurd cc
 
@@ -42,7 +44,8 @@ no_resources kept find none = record {
   among = λ r id e. let wrong : None ≡ Some id = sym (none r) ∙ e in absurd (let w : ⊥ = cc in w);
 }
 
-module _ (kept : List ℕ) (xs : List NumberedType) (find after : Text → Option TypeId) (have : AreResources kept xs find) (x : NumberedType) (id : TypeId) (is : IsPart kept (slot_part x.slot) (14 + id.0))
+module _ (kept : List ℕ) (xs : List NumberedType) (find after : Text → Option TypeId) (have : AreResources kept xs find) (x : NumberedType) (id : TypeId)
+    (is : IsPart kept (slot_part x.slot) (14 + id.0))
     (adds : (r : Text) → after r ≡ noted x id r (find r)) where
   still_found : (name : Text) (before : (k : TypeId) × (find name ≡ Some k)) (b : Bool) → (is_no_part x.declared && text_eq x.name name) ≡ b → (k : TypeId) × (after name ≡ Some k)
   still_found name before true e = (id, adds name ∙ ap (λ v. cond v (Some id) (find name)) e)
@@ -59,8 +62,14 @@ module _ (kept : List ℕ) (xs : List NumberedType) (find after : Text → Optio
   from_which : (r : Text) (k : TypeId) → after r ≡ Some k → (b : Bool) → (is_no_part x.declared && text_eq x.name r) ≡ b → From r k
   from_which r k e true own =
       let this : Some id ≡ Some k = sym (adds r ∙ ap (λ v. cond v (Some id) (find r)) own) ∙ e in
-      let same : id ≡ k = cc in
-      (length xs, x, last_is xs x, first_true (is_no_part x.declared) (text_eq x.name r) own, (bytes_eq-Decides x.name r).0 (second_true (is_no_part x.declared) (text_eq x.name r) own), subst (λ (j : TypeId). IsPart kept (slot_part x.slot) (14 + j.0)) same is)
+      let same : id ≡ k = cc in (
+        length xs,
+        x,
+        last_is xs x,
+        first_true (is_no_part x.declared) (text_eq x.name r) own,
+        (bytes_eq-Decides x.name r).0 (second_true (is_no_part x.declared) (text_eq x.name r) own),
+        subst (λ (j : TypeId). IsPart kept (slot_part x.slot) (14 + j.0)) same is,
+      )
   from_which r k e false own =
       let old : find r ≡ Some k = sym (adds r ∙ ap (λ v. cond v (Some id) (find r)) own) ∙ e in
       let at = have.among r k old in
@@ -75,7 +84,8 @@ module _ (kept : List ℕ) (xs : List NumberedType) (find after : Text → Optio
     among = λ r k e. from_which r k e (is_no_part x.declared && text_eq x.name r) refl;
   }
 
-pub resources_next : {A : Type 0} (kept : List ℕ) (g : A → NumberedType) (xs : List A) (i : ℕ) (d : A) (find after : Text → Option TypeId) (id : TypeId) → i < length xs → IsPart kept (slot_part (g (get_or xs i d)).slot) (14 + id.0)
+pub resources_next : {A : Type 0} (kept : List ℕ) (g : A → NumberedType) (xs : List A) (i : ℕ) (d : A) (find after : Text → Option TypeId) (id : TypeId) → i < length xs
+    → IsPart kept (slot_part (g (get_or xs i d)).slot) (14 + id.0)
     → ((r : Text) → after r ≡ noted (g (get_or xs i d)) id r (find r)) → AreResources kept (map g (take i xs)) find → AreResources kept (map g (take (i + 1) xs)) after
 resources_next kept g xs i d find after id within is adds have =
     subst (λ (ys : List NumberedType). AreResources kept ys after) (sym (ap (map g) (take_more xs i d within) ∙ map-append g (take i xs) (get_or xs i d ∷ [])))
@@ -84,7 +94,8 @@ resources_next kept g xs i d find after id within is adds have =
 -- ---- functions
 
 -- a function that was made over its type
-pub is_planned : (t : Tables) (kept : List ℕ) (find : Text → Option TypeId) (f : Text × NumberedFunction) (g : PlannedFunction) (shape : FunctionShape) → shape ≡ function_at t f.1.signature → g.name ≡ f.0 → NamesKind find f.0 shape.is_async g.kind → TakesAndGives kept shape g → g.external_id ≡ f.1.external_id
+pub is_planned : (t : Tables) (kept : List ℕ) (find : Text → Option TypeId) (f : Text × NumberedFunction) (g : PlannedFunction) (shape : FunctionShape) → shape ≡ function_at t f.1.signature
+    → g.name ≡ f.0 → NamesKind find f.0 shape.is_async g.kind → TakesAndGives kept shape g → g.external_id ≡ f.1.external_id
     → IsPlannedFunction t kept find f (g.name, g)
 is_planned t kept find f g shape same named kind parts id = record {
   under = named;

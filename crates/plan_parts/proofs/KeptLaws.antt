@@ -26,15 +26,18 @@ taken marks i d within = take_more marks i d within
 so_many : (marks : List Bool) (i : ℕ) → i < length marks → length (take i marks) ≡ i
 so_many marks i within = length-take-le i marks (omega arith)
 
-pub next_shapes : (marks : List Bool) (i : ℕ) (d b : Bool) (old new : List ℕ) → i < length marks → get_or marks i d ≡ b → old ≡ marked_from 0 (take i marks) → new ≡ cond b (old ++ i ∷ []) old → new ≡ marked_from 0 (take (i + 1) marks)
+pub next_shapes : (marks : List Bool) (i : ℕ) (d b : Bool) (old new : List ℕ) → i < length marks → get_or marks i d ≡ b → old ≡ marked_from 0 (take i marks) → new ≡ cond b (old ++ i ∷ []) old
+    → new ≡ marked_from 0 (take (i + 1) marks)
 next_shapes marks i d b old new within is before added =
     let long : 0 + length (take i marks) ≡ i = omega (arith, so_many marks i within) in
-    let rest : (m : Bool) → cond m (old ++ i ∷ []) old ≡ old ++ cond m (i ∷ []) [] = λ m. elim m as (λ v. cond v (old ++ i ∷ []) old ≡ old ++ cond v (i ∷ []) []) [ true ↦ refl | false ↦ sym (append-nil old) ] in
+    let rest : (m : Bool) → cond m (old ++ i ∷ []) old ≡ old ++ cond m (i ∷ []) [] =
+    λ m. elim m as (λ v. cond v (old ++ i ∷ []) old ≡ old ++ cond v (i ∷ []) []) [ true ↦ refl | false ↦ sym (append-nil old) ] in
     added ∙ (rest b ∙ (ap (λ ns. ns ++ cond b (i ∷ []) []) before
     ∙ (ap (λ k. marked_from 0 (take i marks) ++ cond b (k ∷ []) []) (sym long)
     ∙ (sym (marked_more 0 (take i marks) b) ∙ (ap (λ v. marked_from 0 (take i marks ++ v ∷ [])) (sym is) ∙ ap (marked_from 0) (sym (taken marks i d within)))))))
 
-pub next_numbers : (marks : List Bool) (i : ℕ) (d : Bool) (shapes old new : List ℕ) (k : ℕ) → i < length marks → shapes ≡ marked_from 0 (take i marks) → k ≡ length shapes → old ≡ counted_from 0 (take i marks) → new ≡ old ++ k ∷ [] → new ≡ counted_from 0 (take (i + 1) marks)
+pub next_numbers : (marks : List Bool) (i : ℕ) (d : Bool) (shapes old new : List ℕ) (k : ℕ) → i < length marks → shapes ≡ marked_from 0 (take i marks) → k ≡ length shapes
+    → old ≡ counted_from 0 (take i marks) → new ≡ old ++ k ∷ [] → new ≡ counted_from 0 (take (i + 1) marks)
 next_numbers marks i d shapes old new k within found many before added =
     let e : k ≡ 0 + length (marked_from 0 (take i marks)) = omega (arith, many, ap length found) in
     added ∙ (ap (λ ns. ns ++ k ∷ []) before ∙ (ap (λ m. counted_from 0 (take i marks) ++ m ∷ []) e
@@ -49,7 +52,8 @@ pub record StandsAt (a c : ℕ) (marks : List Bool) (j n : ℕ) : Type 0 where
   pub mark : slice_get marks m ≡ Some true
   pub count : slice_get (counted_from c marks) m ≡ Some (c + j)
 
-stands_later : (a c : ℕ) (b : Bool) (marks : List Bool) (j n d : ℕ) → counted_from c (b ∷ marks) ≡ c ∷ counted_from d marks → (k : ℕ) → d + j ≡ c + k → StandsAt (a + 1) d marks j n → StandsAt a c (b ∷ marks) k n
+stands_later : (a c : ℕ) (b : Bool) (marks : List Bool) (j n d : ℕ) → counted_from c (b ∷ marks) ≡ c ∷ counted_from d marks → (k : ℕ) → d + j ≡ c + k → StandsAt (a + 1) d marks j n
+    → StandsAt a c (b ∷ marks) k n
 stands_later a c b marks j n d same k e s = record {
   m = suc s.m;
   is = omega (arith, s.is);

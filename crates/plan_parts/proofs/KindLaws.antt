@@ -126,13 +126,16 @@ label_next h xs i d old new y within added is before =
 
 -- ---- cases
 
-count_none : (i : ℕ) (xs : List (Bor Text × Bool)) (d : Bor Text × Bool) → i < length xs → (get_or xs i d).1 ≡ false → given_count (map label_of (drop i xs)) ≡ given_count (map label_of (drop (i + 1) xs))
+count_none : (i : ℕ) (xs : List (Bor Text × Bool)) (d : Bor Text × Bool) → i < length xs → (get_or xs i d).1 ≡ false
+    → given_count (map label_of (drop i xs)) ≡ given_count (map label_of (drop (i + 1) xs))
 count_none i xs d within e = ap (λ l. given_count (map label_of l)) (drop_more xs i d within) ∙ ap (λ b. given_count (((get_or xs i d).0.now, b) ∷ map label_of (drop (i + 1) xs))) e
 
-count_one : (i : ℕ) (xs : List (Bor Text × Bool)) (d : Bor Text × Bool) → i < length xs → (get_or xs i d).1 ≡ true → given_count (map label_of (drop i xs)) ≡ 1 + given_count (map label_of (drop (i + 1) xs))
+count_one : (i : ℕ) (xs : List (Bor Text × Bool)) (d : Bor Text × Bool) → i < length xs → (get_or xs i d).1 ≡ true
+    → given_count (map label_of (drop i xs)) ≡ 1 + given_count (map label_of (drop (i + 1) xs))
 count_one i xs d within e = ap (λ l. given_count (map label_of l)) (drop_more xs i d within) ∙ ap (λ b. given_count (((get_or xs i d).0.now, b) ∷ map label_of (drop (i + 1) xs))) e
 
-given_more : (cs : List (Bor Text × Option ValueType)) (t : Bor Text) (o : Option ValueType) → given_parts (map (λ c. c.1) (cs ++ (t, o) ∷ [])) ≡ given_parts (map (λ c. c.1) cs) ++ given_parts (o ∷ [])
+given_more : (cs : List (Bor Text × Option ValueType)) (t : Bor Text) (o : Option ValueType)
+    → given_parts (map (λ c. c.1) (cs ++ (t, o) ∷ [])) ≡ given_parts (map (λ c. c.1) cs) ++ given_parts (o ∷ [])
 given_more [] t o = refl
 given_more ((l, None) ∷ cs) t o = given_more cs t o
 given_more ((l, Some x) ∷ cs) t o = ap (λ ks. part_of x ∷ ks) (given_more cs t o)
@@ -153,7 +156,8 @@ module _ (kept ks : List ℕ) (xs : List (Bor Text × Bool)) (i next : ℕ) (d :
   no_payload e added = record {
     count = ap (λ n. next + n) (sym (count_none i xs d within e)) ∙ before.count;
     names = case_named None (sym e) added;
-    parts = subst (AllZip (IsPart kept) (take next ks)) (sym (ap (λ cs. given_parts (map (λ c. c.1) cs)) added ∙ (given_more old (get_or xs i d).0 None ∙ append_none (given_parts (map (λ c. c.1) old))))) before.parts;
+    parts = subst (AllZip (IsPart kept) (take next ks)) (sym (ap (λ cs. given_parts (map (λ c. c.1) cs)) added
+        ∙ (given_more old (get_or xs i d).0 None ∙ append_none (given_parts (map (λ c. c.1) old))))) before.parts;
   }
     where
       append_none : (ns : List ℕ) → ns ++ [] ≡ ns
@@ -163,7 +167,8 @@ module _ (kept ks : List ℕ) (xs : List (Bor Text × Bool)) (i next : ℕ) (d :
   pub payload_there : (get_or xs i d).1 ≡ true → next < length ks
   payload_there e = omega (arith, before.count, count_one i xs d within e)
 
-  pub one_payload : (ty : ValueType) → (get_or xs i d).1 ≡ true → IsPart kept (get_or ks next 0) (part_of ty) → new ≡ old ++ ((get_or xs i d).0, Some ty) ∷ [] → CasesSoFar kept ks xs (i + 1) (next + 1) new
+  pub one_payload : (ty : ValueType) → (get_or xs i d).1 ≡ true → IsPart kept (get_or ks next 0) (part_of ty) → new ≡ old ++ ((get_or xs i d).0, Some ty) ∷ []
+      → CasesSoFar kept ks xs (i + 1) (next + 1) new
   one_payload ty e is added = record {
     count = omega (arith, before.count, count_one i xs d within e);
     names = case_named (Some ty) (sym e) added;
@@ -173,7 +178,8 @@ module _ (kept ks : List ℕ) (xs : List (Bor Text × Bool)) (i next : ℕ) (d :
         (zip-push (IsPart kept) (take next ks) (given_parts (map (λ c. c.1) old)) (get_or ks next 0) (part_of ty) before.parts is));
   }
 
-pub cases_are : (kept ks : List ℕ) (xs : List (Bor Text × Bool)) (i m n : ℕ) (old new : List (Bor Text × Option ValueType)) → n ≡ m → new ≡ old → CasesSoFar kept ks xs i m old → CasesSoFar kept ks xs i n new
+pub cases_are : (kept ks : List ℕ) (xs : List (Bor Text × Bool)) (i m n : ℕ) (old new : List (Bor Text × Option ValueType)) → n ≡ m → new ≡ old → CasesSoFar kept ks xs i m old
+    → CasesSoFar kept ks xs i n new
 cases_are kept ks xs i m n old new e f so = subst (λ n. CasesSoFar kept ks xs i n new) (sym e) (subst (CasesSoFar kept ks xs i m) (sym f) so)
 
 -- ---- forms
@@ -207,7 +213,8 @@ last_labelled n (flags e) a b c = absurd (c e)
 last_labelled n (an_enum e) a b c = e
 
 -- what a future or a stream gives
-pub given_there : (kept : List ℕ) (number : ℕ) (ks : List ℕ) → length ks ≡ one_mark (number == 1) → number ≡ 1 → (new : ℕ) → IsPart kept (get_or ks 0 0) new → (true ≡ (number == 1)) × AllZip (IsPart kept) ks (new ∷ [])
+pub given_there : (kept : List ℕ) (number : ℕ) (ks : List ℕ) → length ks ≡ one_mark (number == 1) → number ≡ 1 → (new : ℕ) → IsPart kept (get_or ks 0 0) new → (true ≡ (number == 1))
+    × AllZip (IsPart kept) ks (new ∷ [])
 given_there kept number ks many e new is = (sym (eq-eqb number 1 e), one_part kept ks new (many ∙ ap one_mark (eq-eqb number 1 e)) is)
 
 -- what a result's number says
@@ -248,6 +255,7 @@ module _ (t : Tables) (kept : List ℕ) where
   an_over_form d k e (over_parts j r there yes_form shape over) form s at =
       subst (IsFormOver kept) (same-some r s (sym shape ∙ (ap (shape_at t) (same-some j k (sym there ∙ e)) ∙ at))) over
 
-  pub form_kind : {E : Type 0} (r : Result CodeKind E) (d : Option ℕ) (k : ℕ) (s : Shape) → d ≡ Some k → is_form t k ≡ true → shape_at t k ≡ Some s → IfOk r (λ kind. IsFormed kept s (stated_kind kind)) → IfOk r (λ kind. IsKindFor t kept d (stated_kind kind))
+  pub form_kind : {E : Type 0} (r : Result CodeKind E) (d : Option ℕ) (k : ℕ) (s : Shape) → d ≡ Some k → is_form t k ≡ true → shape_at t k ≡ Some s
+      → IfOk r (λ kind. IsFormed kept s (stated_kind kind)) → IfOk r (λ kind. IsKindFor t kept d (stated_kind kind))
   form_kind (Ok kind) d k s e form at is = a_form k s e form at is
   form_kind (Err x) d k s e form at is = tt

@@ -37,7 +37,8 @@ module _ (parts : List (List ℕ)) (roots now : List Bool) (from number : ℕ) (
   }
     where
       go : (b : Bool) (m n : ℕ) → (number == m) ≡ b → (ks : List ℕ) → number ≤ m → is_marked now m ≡ true → slice_get parts m ≡ Some ks → Contains ks (14 + n) → is_marked now n ≡ true
-      go true m n same ks behind e there in_parts = let equal : number ≡ m = eqb-true number m same in let is_not : is_marked now m ≡ false = subst (λ (k : ℕ). is_marked now k ≡ false) equal unmarked in absurd cc
+      go true m n same ks behind e there in_parts = let equal : number ≡ m = eqb-true number m same in let is_not : is_marked now m ≡ false =
+          subst (λ (k : ℕ). is_marked now k ≡ false) equal unmarked in absurd cc
       go false m n other ks behind e there in_parts = before.closed m n ks (grind (arith, nat_tests, other, behind, next)) e there in_parts
 
   module _ (here : List ℕ) (stands : slice_get parts number ≡ Some here) (falls : AllByRecursion (λ k. k < 14 + number) here)
@@ -107,7 +108,8 @@ module _ (ps : List (Bor (List ℕ))) (roots now : List Bool) (passed : ℕ) (le
   same_number = omega arith
 
   pub unmarked_turn : is_marked now (length ps - 1 - passed) ≡ false → AreClosed (parts_of ps) roots now (length ps - (passed + 1))
-  unmarked_turn unmarked = subst (λ (n : ℕ). AreClosed (parts_of ps) roots now n) same_number (stays_closed (parts_of ps) roots now (length ps - passed) (length ps - 1 - passed) next_number before unmarked)
+  unmarked_turn unmarked = subst (λ (n : ℕ). AreClosed (parts_of ps) roots now n) same_number
+      (stays_closed (parts_of ps) roots now (length ps - passed) (length ps - 1 - passed) next_number before unmarked)
 
   pub marked_turn : PartsFall (parts_of ps) → (d : Bor (List ℕ)) → is_marked now (length ps - 1 - passed) ≡ true
       → (new : List Bool) → ((n : ℕ) → is_marked new n ≡ (is_marked now n || has (get_or ps (length ps - 1 - passed) d).now (14 + n))) → AreClosed (parts_of ps) roots new (length ps - (passed + 1))

@@ -21,7 +21,8 @@ each_at P (x ∷ xs) (suc i) d h all = each_at P xs i d (omega (arith, h)) all.1
 
 -- ---- places
 
-pub sighted_more : (xs : List Sight) (i : ℕ) (d : Sight) (old new : List Sighted) (y : Sighted) → i < length xs → new ≡ old ++ y ∷ [] → sighted y ≡ in_numbers (numbered_sight (get_or xs i d)) → map sighted old ≡ map in_numbers (map numbered_sight (take i xs)) → map sighted new ≡ map in_numbers (map numbered_sight (take (i + 1) xs))
+pub sighted_more : (xs : List Sight) (i : ℕ) (d : Sight) (old new : List Sighted) (y : Sighted) → i < length xs → new ≡ old ++ y ∷ [] → sighted y ≡ in_numbers (numbered_sight (get_or xs i d))
+    → map sighted old ≡ map in_numbers (map numbered_sight (take i xs)) → map sighted new ≡ map in_numbers (map numbered_sight (take (i + 1) xs))
 sighted_more xs i d old new y within added is before =
     let x = get_or xs i d in
     ap (map sighted) added ∙ (map-append sighted old (y ∷ [])
@@ -40,7 +41,8 @@ number_self None = refl
 number_self (Some n) = eq-eqb n n refl
 
 type_self : (x : NumberedType) → same_shown x x ≡ true
-type_self x = both (text_eq x.name x.name) (same_number x.declared x.declared && same_id x.external_id x.external_id) (text_self x.name) (both (same_number x.declared x.declared) (same_id x.external_id x.external_id) (number_self x.declared) (id_self x.external_id))
+type_self x = both (text_eq x.name x.name) (same_number x.declared x.declared && same_id x.external_id x.external_id) (text_self x.name)
+    (both (same_number x.declared x.declared) (same_id x.external_id x.external_id) (number_self x.declared) (id_self x.external_id))
 
 types_self : (xs : List NumberedType) → pointwise same_shown xs xs ≡ true
 types_self [] = refl
@@ -89,7 +91,8 @@ find_past test (y ∷ xs) ys e = go (test y) (find_past test xs ys) e
     go false later e = later e
 
 -- what is said of the first is said alike, where it holds of the view itself
-alike : {A : Type 0} (test says : A → Bool) (before : List A) (s : A) (rest : List A) → test s ≡ true → says s ≡ true → (o : Option A) → find test before ≡ o → option_map_or says (find test before) true ≡ option_map_or says (find test (before ++ s ∷ rest)) true
+alike : {A : Type 0} (test says : A → Bool) (before : List A) (s : A) (rest : List A) → test s ≡ true → says s ≡ true → (o : Option A) → find test before ≡ o
+    → option_map_or says (find test before) true ≡ option_map_or says (find test (before ++ s ∷ rest)) true
 alike test says before s rest own self (Some x) e = ap (λ v. option_map_or says v true) (e ∙ sym (find_on test before (s ∷ rest) x e))
 alike test says before s rest own self None e =
     let first : find test (before ++ s ∷ rest) ≡ Some s = find_past test before (s ∷ rest) e ∙ ap (λ b. cond b (Some s) (find test rest)) own in
@@ -99,7 +102,8 @@ wholes_alike : (before : List NumberedSight) (s : NumberedSight) (rest : List Nu
     → (not w || option_map_or (λ f. same_whole f s) (first_whole_at s.place before) true) ≡ (not w || option_map_or (λ f. same_whole f s) (first_whole_at s.place (before ++ s ∷ rest)) true)
 wholes_alike before s rest false e = refl
 wholes_alike before s rest true e =
-    alike (λ f. s.place == f.place && f.whole) (λ f. same_whole f s) before s rest (both (s.place == s.place) s.whole (eq-eqb s.place s.place refl) e) (functions_self s.view.functions) (first_whole_at s.place before) refl
+    alike (λ f. s.place == f.place && f.whole) (λ f. same_whole f s) before s rest (both (s.place == s.place) s.whole (eq-eqb s.place s.place refl) e) (functions_self s.view.functions)
+    (first_whole_at s.place before) refl
 
 one_alike : (before : List NumberedSight) (s : NumberedSight) (rest : List NumberedSight) → agrees_with_first before s ≡ agrees_with_first (before ++ s ∷ rest) s
 one_alike before s rest =
@@ -123,13 +127,15 @@ and_last : (m : ℕ) (xs : List Sight) (x : Sight) → AllByRecursion (λ (s : S
 and_last m [] x h less = (less, tt)
 and_last m (y ∷ xs) x h less = (h.0, and_last m xs x h.1 less)
 
-pub place_more : (n m : ℕ) (xs : List Sight) (i : ℕ) (d : Sight) → i < length xs → n ≤ m → (get_or xs i d).place < m → AllByRecursion (λ (s : Sight). s.place < n) (take i xs) → AllByRecursion (λ (s : Sight). s.place < m) (take (i + 1) xs)
+pub place_more : (n m : ℕ) (xs : List Sight) (i : ℕ) (d : Sight) → i < length xs → n ≤ m → (get_or xs i d).place < m → AllByRecursion (λ (s : Sight). s.place < n) (take i xs)
+    → AllByRecursion (λ (s : Sight). s.place < m) (take (i + 1) xs)
 place_more n m xs i d inside le less h =
     subst (λ (l : List Sight). AllByRecursion (λ (s : Sight). s.place < m) l) (sym (take_more xs i d inside)) (and_last m (take i xs) (get_or xs i d) (within n m le (take i xs) h) less)
 
 -- ---- all views
 
-pub places_kept : (n : ℕ) (all : List Sighted) (xs : List Sight) → map sighted all ≡ map in_numbers (map numbered_sight xs) → AllByRecursion (λ (s : Sight). s.place < n) xs → AllByRecursion (λ (s : Sighted). s.place < n) all
+pub places_kept : (n : ℕ) (all : List Sighted) (xs : List Sight) → map sighted all ≡ map in_numbers (map numbered_sight xs) → AllByRecursion (λ (s : Sight). s.place < n) xs
+    → AllByRecursion (λ (s : Sighted). s.place < n) all
 places_kept n [] xs e h = tt
 places_kept n (y ∷ all) [] e h = absurd cc
 places_kept n (y ∷ all) (x ∷ xs) e h =

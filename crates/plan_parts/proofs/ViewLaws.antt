@@ -70,7 +70,8 @@ module _ (wholes : Bool) (places : ℕ) (xs : List Sighted) (i : ℕ) (s : Sight
       ∙ (index_more (passes wholes p) (take i xs) s ∙ ap (λ n. earlier_of (first_index (passes wholes p) (take i xs)) (cond (passes wholes p s) (Some n) None)) (length-take-le i xs (omega arith)))
 
   left_out : (p : ℕ) → p < places → passes wholes p s ≡ false → get_or table p None ≡ first_index (passes wholes p) (take (i + 1) xs)
-  left_out p few other = before p few ∙ sym (grown p ∙ (ap (λ b. earlier_of (first_index (passes wholes p) (take i xs)) (cond b (Some i) None)) other ∙ earlier_none (first_index (passes wholes p) (take i xs))))
+  left_out p few other = before p few ∙ sym (grown p ∙ (ap (λ b. earlier_of (first_index (passes wholes p) (take i xs)) (cond b (Some i) None)) other ∙ earlier_none
+      (first_index (passes wholes p) (take i xs))))
 
   -- the view doesn't count
   pub passed_by : counts wholes s.whole ≡ false → (p : ℕ) → p < places → get_or table p None ≡ first_index (passes wholes p) (take (i + 1) xs)
@@ -111,7 +112,8 @@ find_index test (x ∷ xs) = go (test x) (find_index test xs)
     later None = refl
     later (Some n) = refl
 
-    go : (b : Bool) → find test xs ≡ option_and_then (slice_get xs) (first_index test xs) → cond b (Some x) (find test xs) ≡ option_and_then (slice_get (x ∷ xs)) (cond b (Some zero) (option_map suc (first_index test xs)))
+    go : (b : Bool) → find test xs ≡ option_and_then (slice_get xs) (first_index test xs)
+        → cond b (Some x) (find test xs) ≡ option_and_then (slice_get (x ∷ xs)) (cond b (Some zero) (option_map suc (first_index test xs)))
     go true rest = refl
     go false rest = rest ∙ later (first_index test xs)
 

@@ -31,4 +31,5 @@ are_told fs gs = list_all (is_told fs) gs
 -- Views of interfaces agree, each with each, exactly where each agrees with the first of its place, and each that shows functions with the first
 -- that does.
 abbrev pub FirstViewsTell : Type 0
-FirstViewsTell = (t : Tables) (known : ℕ → Fact) (seen : List NumberedSight) → (agree_in_numbers seen && are_interfaces t known seen) ≡ (agree_with_first_in_numbers [] seen && are_interfaces t known seen)
+FirstViewsTell = (t : Tables) (known : ℕ → Fact) (seen : List NumberedSight)
+    → (agree_in_numbers seen && are_interfaces t known seen) ≡ (agree_with_first_in_numbers [] seen && are_interfaces t known seen)

@@ -59,7 +59,8 @@ pub data NamesKind (find : Text → Option TypeId) (name : Text) (waits : Bool) 
   a_constructor : (r : Text) (id : TypeId) → is_constructor_named name r → find r ≡ Some id → kind ≡ call.Constructor id → NamesKind find name waits kind
   a_method : (r : Text) (id : TypeId) → is_behind method_mark name r → find r ≡ Some id → kind ≡ method_kind id waits → NamesKind find name waits kind
   a_static : (r : Text) (id : TypeId) → is_behind static_mark name r → find r ≡ Some id → kind ≡ static_kind id waits → NamesKind find name waits kind
-  of_none : IsFoundBy (is_constructor_named name) find None → IsFoundBy (is_behind method_mark name) find None → IsFoundBy (is_behind static_mark name) find None → kind ≡ free_kind waits → NamesKind find name waits kind
+  of_none : IsFoundBy (is_constructor_named name) find None → IsFoundBy (is_behind method_mark name) find None
+      → IsFoundBy (is_behind static_mark name) find None → kind ≡ free_kind waits → NamesKind find name waits kind
 
 -- ---- types
 
@@ -81,7 +82,8 @@ pub record TakesAndGives (kept : List ℕ) (f : FunctionShape) (g : PlannedFunct
 -- A function that may stand behind some resources is of the kind that its name says, where each of them is found and is the type of its number.
 abbrev pub KindsAreNamed : Type 0
 KindsAreNamed = (t : Tables) (known : ℕ → Fact) (kept : List ℕ) (p : Plan) (o : TypeOwner) (q : ℕ) (find : Text → Option TypeId) (resources : List Text)
-    → ((r : Text) → list_any (text_eq r) resources ≡ true → (id : TypeId) × (find r ≡ Some id)) → ((r : Text) (id : TypeId) → find r ≡ Some id → IsResource t known kept p o q r id.0)
+    → ((r : Text) → list_any (text_eq r) resources ≡ true → (id : TypeId) × (find r ≡ Some id))
+    → ((r : Text) (id : TypeId) → find r ≡ Some id → IsResource t known kept p o q r id.0)
     → (name : Text) (f : FunctionShape) (kind : FunctionKind) → is_function t known q resources name f ≡ true → NamesKind find name f.is_async kind
     → IsKindOf t known kept p o q name f kind × (is_async kind ≡ f.is_async)
 

@@ -40,14 +40,16 @@ noted x id name before = cond (is_no_part x.declared && text_eq x.name name) (So
 -- The resources among some types are found by their names, each under its new number, and nothing else is.
 pub record AreResources (kept : List ℕ) (xs : List NumberedType) (find : Text → Option TypeId) : Type 0 where
   pub found : (n : ℕ) (x : NumberedType) → slice_get xs n ≡ Some x → is_no_part x.declared ≡ true → (id : TypeId) × (find x.name ≡ Some id)
-  pub among : (r : Text) (id : TypeId) → find r ≡ Some id → (n : ℕ) × (x : NumberedType) × (slice_get xs n ≡ Some x) × (is_no_part x.declared ≡ true) × (x.name ≡ r) × IsPart kept (slot_part x.slot) (14 + id.0)
+  pub among : (r : Text) (id : TypeId) → find r ≡ Some id → (n : ℕ) × (x : NumberedType) × (slice_get xs n ≡ Some x) × (is_no_part x.declared ≡ true)
+      × (x.name ≡ r) × IsPart kept (slot_part x.slot) (14 + id.0)
 
 -- the function is over types that are kept
 abbrev pub IsFunctionOver : Tables → List ℕ → Text × NumberedFunction → Type 0
 IsFunctionOver t kept f = PartsOf (IsKeptPart kept) (function_at t f.1.signature)
 
 -- The function of the plan under its name: of the kind that the name says, over the types that are kept.
-pub record IsPlannedFunction (t : Tables) (kept : List ℕ) (find : Text → Option TypeId) (f : Text × NumberedFunction) (e : Text × PlannedFunction) : Type 0 where
+pub record IsPlannedFunction (t : Tables) (kept : List ℕ) (find : Text → Option TypeId) (f : Text × NumberedFunction)
+    (e : Text × PlannedFunction) : Type 0 where
   pub under : e.0 ≡ f.0
   pub named : e.1.name ≡ f.0
   pub kind : NamesKind find f.0 (function_at t f.1.signature).is_async e.1.kind
@@ -56,15 +58,18 @@ pub record IsPlannedFunction (t : Tables) (kept : List ℕ) (find : Text → Opt
 
 -- the functions that were planned are those of the view, one for one, where the resources have these numbers
 abbrev pub PlansFunctions : KeptTables → List ℕ → List (Bor Text × TypeId) → List ViewFunction → List BuiltFunction → Type 0
-PlansFunctions t kept resources fs planned = AllZip (IsPlannedFunction (numbered_tables t) kept (found_under resources)) (map numbered_function fs) (map named_function planned)
+PlansFunctions t kept resources fs planned = AllZip (IsPlannedFunction (numbered_tables t) kept (found_under resources)) (map numbered_function fs)
+    (map named_function planned)
 
 -- ---- laws
 
 -- The functions of an interface that obeys the rules become what they are in the plan, each of the kind that its name says, where the plan has a
 -- type for each that is kept, and each resource that is shown is the type of its number.
 abbrev pub FunctionsAreListed : Type 0
-FunctionsAreListed = (t : Tables) (known : ℕ → Fact) (kept : List ℕ) (p : Plan) → length p.types ≡ length kept → (o : TypeOwner) (q : ℕ) (v : NumberedView) → is_interface t known q v ≡ true
+FunctionsAreListed = (t : Tables) (known : ℕ → Fact) (kept : List ℕ) (p : Plan) → length p.types ≡ length kept → (o : TypeOwner) (q : ℕ) (v : NumberedView)
+    → is_interface t known q v ≡ true
     → (find : Text → Option TypeId) → AreResources kept v.types find
-    → ((n : ℕ) (x : NumberedType) (id : TypeId) → slice_get v.types n ≡ Some x → is_no_part x.declared ≡ true → IsPart kept (slot_part x.slot) (14 + id.0) → IsResource t known kept p o q x.name id.0)
+    → ((n : ℕ) (x : NumberedType) (id : TypeId) → slice_get v.types n ≡ Some x → is_no_part x.declared ≡ true → IsPart kept (slot_part x.slot) (14 + id.0)
+    → IsResource t known kept p o q x.name id.0)
     → (es : List (Text × PlannedFunction)) → AllZip (IsPlannedFunction t kept find) v.functions es
     → AllZip (FunctionListed t kept p) v.functions es × AllZip (λ f e. IsKindOf t known kept p o q f.0 (function_at t f.1.signature) e.1.kind) v.functions es

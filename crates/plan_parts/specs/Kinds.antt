@@ -95,4 +95,5 @@ pub data MayBeDeclared (t : Tables) (kept : List ℕ) (d : Option ℕ) : Type 0 
 
 -- A type of such a kind declares what the plan's type of it says, where the plan has a type for each that is kept.
 abbrev pub KindsAreDeclared : Type 0
-KindsAreDeclared = (t : Tables) → AreTables t → (kept : List ℕ) (p : Plan) → length p.types ≡ length kept → (d : Option ℕ) (kind : PlannedKind) → IsKindFor t kept d kind → DeclaresKind t kept p d kind
+KindsAreDeclared = (t : Tables) → AreTables t → (kept : List ℕ) (p : Plan) → length p.types ≡ length kept → (d : Option ℕ) (kind : PlannedKind)
+    → IsKindFor t kept d kind → DeclaresKind t kept p d kind

@@ -65,7 +65,8 @@ fn hash_of(functions: &[ViewFunction<'_>]) -> KeyedHash {
 }
 
 fn add_told<'a>(all: &mut Told<'a>, function: ViewFunction<'a>) -> Result<(), AllocError>
-    ensures { IfOk result (λ _. (test : Text × NumberedFunction → Bool) → list_any test (map told_function all.new.keys) ≡ (list_any test (map told_function all.old.keys) || test (numbered_function function.entry))) }
+    ensures { IfOk result (λ _. (test : Text × NumberedFunction → Bool)
+        → list_any test (map told_function all.new.keys) ≡ (list_any test (map told_function all.old.keys) || test (numbered_function function.entry))) }
 {
     let _is_new = all.insert(told(function))?;
     Ok(())

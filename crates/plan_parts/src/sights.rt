@@ -40,7 +40,8 @@ fn functions_agree(
     first: Option<Sight<'_>>,
     sight: Sight<'_>,
 ) -> Result<bool, AllocError>
-    ensures { IfOk result (λ b. b ≡ (not sight.entry.whole || option_map_or (λ f. same_whole f (numbered_sight sight.entry)) (option_map numbered_sight first.entry) true)) }
+    ensures { IfOk result (λ b. b ≡ (not sight.entry.whole || option_map_or (λ f. same_whole f (numbered_sight sight.entry))
+        (option_map numbered_sight first.entry) true)) }
 {
     if !sight.whole {
         return Ok(true);

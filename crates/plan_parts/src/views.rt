@@ -61,7 +61,8 @@ pub fn first_views(
     requires { AllByRecursion (λ s. s.place < places) sights.now }
     ensures len { IfOk result (λ table. length table.items ≡ places) }
     ensures firsts { IfOk result (λ table. (p : ℕ) → p < places → slice_index_or table.items p None ≡ first_index (passes wholes p) sights.now) }
-    ensures told { IfOk result (λ table. (seen : List NumberedSight) → map in_numbers seen ≡ map sighted sights.now → TellsFirst wholes places seen table.items) }
+    ensures told { IfOk result (λ table. (seen : List NumberedSight) → map in_numbers seen ≡ map sighted sights.now
+        → TellsFirst wholes places seen table.items) }
 {
     let mut table = no_views(alloc, places)?;
     note_views(&mut table, sights, wholes);

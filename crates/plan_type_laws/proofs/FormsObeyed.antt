@@ -61,7 +61,8 @@ module _ (t : Tables) (tables : AreTables t) (fit : LengthsFit t) where
       by (is_primitive p small stands number) =
           let found = slice_there primitives k small in
           let trees = shape_trees (place_at t) t.shapes in
-          let tree : tree_at t k ≡ Tree.primitive found.0 = part_front trees k small ∙ ap (λ o. unwrap_or o no_tree) (get_of_map Tree.primitive primitives k ∙ ap (option_map Tree.primitive) found.1) in
+          let tree : tree_at t k ≡ Tree.primitive found.0 = part_front trees k small ∙ ap (λ o. unwrap_or o no_tree)
+          (get_of_map Tree.primitive primitives k ∙ ap (option_map Tree.primitive) found.1) in
           ap (λ o. option_map_or is_key_primitive o false) found.1 ∙ (sym (ap is_key tree) ∙ key)
       by (is_name n q x is at stands) = no_true (sym (ap is_key stands) ∙ key)
       by (is_node n f ks is at stands parts) = no_true (sym (ap is_key stands) ∙ key)
@@ -140,7 +141,8 @@ module _ (t : Tables) (tables : AreTables t) (Obeys : Form → List ℕ → Type
   view_functions : (Outside : Place → Text → Bool → Type 0) (own : Place) (v : NumberedView) → ViewStands Outside own (view_of t v) → AllByRecursion FunctionStands (signatures_of_view v)
   view_functions Outside own v stands =
       all_mapped FunctionStands (λ (f : Text × NumberedFunction). f.1.signature) v.functions
-      (at_each (shown_function t) (λ n (f : Text × FunctionMeaning). SignatureStands (IsMetInView Outside own (view_of t v) (length (view_of t v).types)) f.1.signature) (λ f. Unit {0}) (λ (f : Text × NumberedFunction). FunctionStands f.1.signature) v.functions
+      (at_each (shown_function t) (λ n (f : Text × FunctionMeaning). SignatureStands (IsMetInView Outside own (view_of t v) (length (view_of t v).types)) f.1.signature) (λ f. Unit {0})
+      (λ (f : Text × NumberedFunction). FunctionStands f.1.signature) v.functions
       (λ n f any is. signature_obeys (IsMetInView Outside own (view_of t v) (length (view_of t v).types)) f.1.signature is) (all_any v.functions) stands.functions)
 
   -- ---- worlds
@@ -149,11 +151,14 @@ module _ (t : Tables) (tables : AreTables t) (Obeys : Form → List ℕ → Type
   AreHeld showings signatures = AllByRecursion ShowingStands showings × AllByRecursion FunctionStands signatures
 
   module _ (scope : Scope) (stands : scopes.ScopeStands scope) where
-    seen_obeys : (n : ℕ) (s : NumberShown) (external_id : Option Text) → ShownStands scope.instances scope.imports n (shown_of t (numbered_shown s)) → AreHeld (showings_of_shown s external_id) (signatures_of_shown s)
+    seen_obeys : (n : ℕ) (s : NumberShown) (external_id : Option Text) → ShownStands scope.instances scope.imports n (shown_of t (numbered_shown s))
+        → AreHeld (showings_of_shown s external_id) (signatures_of_shown s)
     seen_obeys n (shown.Instance key v) external_id is =
         let x : Instance = record { interface = interface_of (key_of t (numbered_key key)); view = view_of t (numbered_view v) } in
-        let view = stands.instances is.0 x is.1 in
-        (view_types (IsShownBefore scope.instances is.0) (place_of x.interface) (numbered_view v) view, view_functions (IsShownBefore scope.instances is.0) (place_of x.interface) (numbered_view v) view)
+        let view = stands.instances is.0 x is.1 in (
+          view_types (IsShownBefore scope.instances is.0) (place_of x.interface) (numbered_view v) view,
+          view_functions (IsShownBefore scope.instances is.0) (place_of x.interface) (numbered_view v) view,
+        )
     seen_obeys n (shown.Function m) external_id is = (tt, (signature_obeys (IsMetInScope scope.instances scope.imports n) m is, tt))
     seen_obeys n (shown.Declares part d) external_id is = ((declared_obeys (IsMetInScope scope.instances scope.imports n) is.0 d is.1, tt), tt)
 
@@ -161,11 +166,14 @@ module _ (t : Tables) (tables : AreTables t) (Obeys : Form → List ℕ → Type
         → AreHeld (flat_map showings_of_seen ss) (flat_map signatures_of_seen ss)
     all_seen count ss all =
         let each : AllByRecursion (λ (s : NumberSeen). AreHeld (showings_of_seen s) (signatures_of_seen s)) ss =
-        at_each (λ (s : NumberSeen). seen_of t (numbered_seen s)) (λ n (s : Seen). ShownStands scope.instances scope.imports (count n) s.shown) (λ s. Unit {0}) (λ (s : NumberSeen). AreHeld (showings_of_seen s) (signatures_of_seen s)) ss
+        at_each (λ (s : NumberSeen). seen_of t (numbered_seen s)) (λ n (s : Seen). ShownStands scope.instances scope.imports (count n) s.shown) (λ s. Unit {0})
+        (λ (s : NumberSeen). AreHeld (showings_of_seen s) (signatures_of_seen s)) ss
         (λ n s any is. seen_obeys (count n) s.shown (given_text s.external_id) is) (all_any ss)
         (subst (AllAt (λ n (s : Seen). ShownStands scope.instances scope.imports (count n) s.shown)) (map_of_map (seen_of t) numbered_seen ss) all) in (
-          all_flat ShowingStands showings_of_seen ss (recursion_weaker (λ (s : NumberSeen). AreHeld (showings_of_seen s) (signatures_of_seen s)) (λ (s : NumberSeen). AllByRecursion ShowingStands (showings_of_seen s)) (λ s h. h.0) ss each),
-          all_flat FunctionStands signatures_of_seen ss (recursion_weaker (λ (s : NumberSeen). AreHeld (showings_of_seen s) (signatures_of_seen s)) (λ (s : NumberSeen). AllByRecursion FunctionStands (signatures_of_seen s)) (λ s h. h.1) ss each),
+          all_flat ShowingStands showings_of_seen ss (recursion_weaker (λ (s : NumberSeen). AreHeld (showings_of_seen s) (signatures_of_seen s))
+              (λ (s : NumberSeen). AllByRecursion ShowingStands (showings_of_seen s)) (λ s h. h.0) ss each),
+          all_flat FunctionStands signatures_of_seen ss (recursion_weaker (λ (s : NumberSeen). AreHeld (showings_of_seen s) (signatures_of_seen s))
+              (λ (s : NumberSeen). AllByRecursion FunctionStands (signatures_of_seen s)) (λ s h. h.1) ss each),
         )
 
   -- ---- members
@@ -175,12 +183,14 @@ module _ (t : Tables) (tables : AreTables t) (Obeys : Form → List ℕ → Type
   StandsAmong all x = (n : ℕ) × ViewStands (IsShownBefore all n) (place_of x.interface) x.view
 
   module _ (h : Homes) (all : List Instance) (m : Member) (label : Text) (identity : PackageIdentity) where
-    part_obeys_all : (part : Part) (y : reads.Part) → ShowsPart t h (numbered_member m) (numbered_part part) y → ((x : Instance) → Contains (instances_of (record { label = label; package_ = identity; part = y })) x → StandsAmong all x)
+    part_obeys_all : (part : Part) (y : reads.Part) → ShowsPart t h (numbered_member m) (numbered_part part) y
+        → ((x : Instance) → Contains (instances_of (record { label = label; package_ = identity; part = y })) x → StandsAmong all x)
         → PartStands y → AreHeld (showings_of_part part) (signatures_of_part part)
     part_obeys_all (parts.World w) (reads.Part.world scope) is views stands =
         let holds = stands.stands in
         let imports = all_seen scope holds (λ n. n) w.imports.now (subst (AllAt (λ n (s : Seen). ShownStands scope.instances scope.imports n s.shown)) is.imports holds.imports) in
-        let exports = all_seen scope holds (λ n. length scope.imports) w.exports.now (subst (AllAt (λ n (s : Seen). ShownStands scope.instances scope.imports (length scope.imports) s.shown)) is.exports holds.exports) in (
+        let exports = all_seen scope holds (λ n. length scope.imports) w.exports.now
+        (subst (AllAt (λ n (s : Seen). ShownStands scope.instances scope.imports (length scope.imports) s.shown)) is.exports holds.exports) in (
           all_both ShowingStands (flat_map showings_of_seen w.imports.now) (flat_map showings_of_seen w.exports.now) imports.0 exports.0,
           all_both FunctionStands (flat_map signatures_of_seen w.imports.now) (flat_map signatures_of_seen w.exports.now) imports.1 exports.1,
         )
@@ -192,9 +202,11 @@ module _ (t : Tables) (tables : AreTables t) (Obeys : Form → List ℕ → Type
         let own_view = subst (ViewStands (IsShownBefore all own.0) (place_of last.interface)) is.shown own.1 in
         let before : AllAt V (map (λ (i : ImportedView). named_instance (path_text t i.place, view_of t (numbered_view i.view))) imports.now) =
         subst (AllAt V) (ap (map named_instance) is.imported ∙ (map_of_map named_instance (λ (i : ℕ × NumberedView). (path_text t i.0, view_of t i.1)) (map numbered_import imports.now)
-        ∙ map_of_map (λ (i : ℕ × NumberedView). named_instance (path_text t i.0, view_of t i.1)) numbered_import imports.now)) (λ n x e. each_stands x (Contains-append_left front (last ∷ []) x (get-contains front n x e))) in
+        ∙ map_of_map (λ (i : ℕ × NumberedView). named_instance (path_text t i.0, view_of t i.1)) numbered_import imports.now))
+        (λ n x e. each_stands x (Contains-append_left front (last ∷ []) x (get-contains front n x e))) in
         let each : AllByRecursion (λ (i : ImportedView). AllByRecursion ShowingStands (showings_of_import i)) imports.now =
-        at_each (λ (i : ImportedView). named_instance (path_text t i.place, view_of t (numbered_view i.view))) V (λ i. Unit {0}) (λ (i : ImportedView). AllByRecursion ShowingStands (showings_of_import i)) imports.now
+        at_each (λ (i : ImportedView). named_instance (path_text t i.place, view_of t (numbered_view i.view))) V (λ i. Unit {0})
+        (λ (i : ImportedView). AllByRecursion ShowingStands (showings_of_import i)) imports.now
         (λ n i any is. view_types (IsShownBefore all is.0) (place_of (Some (path_text t i.place))) (numbered_view i.view) is.1) (all_any imports.now) before in (
           all_both ShowingStands (flat_map showings_of_import imports.now) (showings_of_view (numbered_view v)) (all_flat ShowingStands showings_of_import imports.now each)
               (view_types (IsShownBefore all own.0) (place_of last.interface) (numbered_view v) own_view),
@@ -203,7 +215,8 @@ module _ (t : Tables) (tables : AreTables t) (Obeys : Form → List ℕ → Type
     part_obeys_all (parts.World w) (reads.Part.interface view views) is each_stands stands = absurd is
     part_obeys_all (parts.Interface p v imports) (reads.Part.world scope) is each_stands stands = absurd is
 
-  members_obey : (h : Homes) (all : List Instance) (ms : List Member) (members : List reads.Member) → AllZip (IsMember t h) (numbered_members ms) members → ((x : Instance) → Contains (all_instances members) x → StandsAmong all x)
+  members_obey : (h : Homes) (all : List Instance) (ms : List Member) (members : List reads.Member) → AllZip (IsMember t h) (numbered_members ms) members
+      → ((x : Instance) → Contains (all_instances members) x → StandsAmong all x)
       → AllByRecursion (λ (x : reads.Member). PartStands x.part) members
       → AllByRecursion (λ (m : Member). AreHeld (showings_of_part m.part) (signatures_of_part m.part)) ms
   members_obey h all [] [] zip each stand = tt
@@ -214,15 +227,18 @@ module _ (t : Tables) (tables : AreTables t) (Obeys : Form → List ℕ → Type
     members_obey h all ms members zip.1 (λ y c. each y (Contains-append_right (instances_of x) (all_instances members) y c)) stand.1,
   )
 
-  pub forms_hold : (h : Homes) (ms : List Member) (members : List reads.Member) → AllZip (IsMember t h) (numbered_members ms) members → MembersStand members → FormsHold t Obeys (showings_of_members ms) (signatures_of_members ms)
+  pub forms_hold : (h : Homes) (ms : List Member) (members : List reads.Member) → AllZip (IsMember t h) (numbered_members ms) members → MembersStand members
+      → FormsHold t Obeys (showings_of_members ms) (signatures_of_members ms)
   forms_hold h ms members zip stand =
       let all = all_instances members in
       let each = members_obey h all ms members zip (λ x c. let at = contains-get all x c in (at.0, stand.views at.0 x at.1)) stand.parts in
       record {
         declared = all_flat ShowingStands (λ (m : Member). showings_of_part m.part) ms
-            (recursion_weaker (λ (m : Member). AreHeld (showings_of_part m.part) (signatures_of_part m.part)) (λ (m : Member). AllByRecursion ShowingStands (showings_of_part m.part)) (λ m held. held.0) ms each);
+            (recursion_weaker (λ (m : Member). AreHeld (showings_of_part m.part) (signatures_of_part m.part)) (λ (m : Member). AllByRecursion ShowingStands (showings_of_part m.part))
+            (λ m held. held.0) ms each);
         called = all_flat FunctionStands (λ (m : Member). signatures_of_part m.part) ms
-            (recursion_weaker (λ (m : Member). AreHeld (showings_of_part m.part) (signatures_of_part m.part)) (λ (m : Member). AllByRecursion FunctionStands (signatures_of_part m.part)) (λ m held. held.1) ms each);
+            (recursion_weaker (λ (m : Member). AreHeld (showings_of_part m.part) (signatures_of_part m.part)) (λ (m : Member). AllByRecursion FunctionStands (signatures_of_part m.part))
+            (λ m held. held.1) ms each);
       }
 
 pub forms_obeyed : FormsAreObeyed

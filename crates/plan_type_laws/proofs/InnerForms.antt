@@ -48,9 +48,12 @@ module _ (t : Tables) (tables : AreTables t) where
           subst (AllByRecursion (IsPart t)) (ap (λ (s : Shape). s.parts) shapes) range
 
   -- a name holds no form
-  pub name_alone : {A : Type 0} (k n : ℕ) (place : Place) (name : Text) (form : Form) (parts : List ℕ) → tree_at t k ≡ Tree.named place name → HasNumberIn t k n → slice_get t.shapes n ≡ Some (node_shape form parts) → A
-  name_alone k n place name form parts is (itself i m e) there = let wrong : Tree.named place name ≡ Tree.node form (children (map (tree_at t) parts)) = sym is ∙ (ap (tree_at t) e ∙ tree_of_form m form parts there) in absurd cc
-  name_alone k n place name form parts is (inside i m j l f ks e at c within) there = let wrong : Tree.named place name ≡ Tree.node f (children (map (tree_at t) ks)) = sym is ∙ (ap (tree_at t) e ∙ tree_of_form m f ks at) in absurd cc
+  pub name_alone : {A : Type 0} (k n : ℕ) (place : Place) (name : Text) (form : Form) (parts : List ℕ) → tree_at t k ≡ Tree.named place name → HasNumberIn t k n
+      → slice_get t.shapes n ≡ Some (node_shape form parts) → A
+  name_alone k n place name form parts is (itself i m e) there = let wrong : Tree.named place name ≡ Tree.node form (children (map (tree_at t) parts)) =
+      sym is ∙ (ap (tree_at t) e ∙ tree_of_form m form parts there) in absurd cc
+  name_alone k n place name form parts is (inside i m j l f ks e at c within) there = let wrong : Tree.named place name ≡ Tree.node f (children (map (tree_at t) ks)) =
+      sym is ∙ (ap (tree_at t) e ∙ tree_of_form m f ks at) in absurd cc
 
   -- the names in an inner form are names in the part
   pub inner_names : (k n q : ℕ) → HasNumberIn t k n → HasNameIn t.shapes (14 + n) q → HasNameIn t.shapes k q
@@ -102,10 +105,12 @@ module _ (t : Tables) (tables : AreTables t) where
             name_alone j l held.place held.name form parts (ap (tree_at t) (sym one) ∙ held.is) within there
 
     -- what holds of each well-formed part that a function has
-    pub signature_parts_hold : (R Q : ℕ → Type 0) → ((k : ℕ) → R k → TreeStands Met (tree_at t k) → Q k) → (f : FunctionShape) → PartsOf R f → SignatureStands Met (numbered.signature_over (tree_at t) f) → PartsOf Q f
+    pub signature_parts_hold : (R Q : ℕ → Type 0) → ((k : ℕ) → R k → TreeStands Met (tree_at t k) → Q k) → (f : FunctionShape) → PartsOf R f
+        → SignatureStands Met (numbered.signature_over (tree_at t) f) → PartsOf Q f
     signature_parts_hold R Q one f all stands = (params f.params all.0 stands.0, result f.result all.1 stands.1)
       where
-        params : (xs : List (Text × ℕ)) → AllByRecursion (λ (p : Text × ℕ). R p.1) xs → AllByRecursion (λ (p : Text × Tree). TreeStands Met p.1) (map (λ (p : Text × ℕ). (p.0, tree_at t p.1)) xs) → AllByRecursion (λ (p : Text × ℕ). Q p.1) xs
+        params : (xs : List (Text × ℕ)) → AllByRecursion (λ (p : Text × ℕ). R p.1) xs → AllByRecursion (λ (p : Text × Tree). TreeStands Met p.1) (map (λ (p : Text × ℕ). (p.0, tree_at t p.1)) xs)
+            → AllByRecursion (λ (p : Text × ℕ). Q p.1) xs
         params [] rs stand = tt
         params (x ∷ xs) rs stand = (one x.1 rs.0 stand.0, params xs rs.1 stand.1)
 

@@ -40,7 +40,8 @@ module _ (t : Tables) (tables : AreTables t) (kept : List ℕ) (p : Plan) where
       let rest : ks ≡ ls = same_olds ks ls news x.1 y.1 in
       λ i. first i ∷ rest i
 
-  same_form : (a b m n : ℕ) (f g : Form) (olds others news mores : List ℕ) → a ≡ 14 + m → b ≡ 14 + n → slice_get t.shapes m ≡ Some (node_shape f olds) → slice_get t.shapes n ≡ Some (node_shape g others)
+  same_form : (a b m n : ℕ) (f g : Form) (olds others news mores : List ℕ) → a ≡ 14 + m → b ≡ 14 + n → slice_get t.shapes m ≡ Some (node_shape f olds)
+      → slice_get t.shapes n ≡ Some (node_shape g others)
       → AllZip (Becomes t kept p) olds news → AllZip (Becomes t kept p) others mores → plan.formed f news ≡ plan.formed g mores → a ≡ b
   same_form a b m n f g olds others news mores am bn m_at n_at z y e =
       let forms : f ≡ g = cc in

@@ -29,7 +29,11 @@ marks_kept t tables showings signatures m marks used kept are p owners find find
     let named = recursion_weaker (ShowingIsMarked t m.marks) (λ (s : NumberedShowing). (x : ℕ × Text) × (name_at t s.part ≡ Some x)) (λ s is. (is.name, is.is)) showings m.names in
     record {
       primitives = m.primitives;
-      forms = λ n form parts is there. (m.forms n form parts there, kept_forms t tables (FormIsMarked m.marks) showings named signatures m.inner marks used kept are p owners find finds types n form parts is there);
+      forms = λ n form parts is there. (
+        m.forms n form parts there,
+        kept_forms t tables (FormIsMarked m.marks) showings named signatures m.inner marks used kept are p owners find finds types n form
+            parts is there,
+      );
       names = λ j n x q name at stands there.
           let y = shown_kind t tables (FormIsMarked m.marks) showings named signatures m.inner marks used kept are p owners find finds types j n x q name at stands there in
           let found = finds n y.0 y.1 in

@@ -25,7 +25,8 @@ behind_at (z ∷ xs) ys n x e = let found = behind_at xs ys n x e in (suc found.
 abbrev pub StandBehind : {A : Type 0} → ℕ → List A → List A → Type 0
 StandBehind {A} count xs all = (n : ℕ) (x : A) → slice_get xs n ≡ Some x → slice_get all (count + n) ≡ Some x
 
-pub shown_behind : (count : ℕ) (some all : List Instance) → StandBehind count some all → (n : ℕ) (place : Place) (name : Text) (b : Bool) → IsShownBefore some n place name b → IsShownBefore all (count + n) place name b
+pub shown_behind : (count : ℕ) (some all : List Instance) → StandBehind count some all → (n : ℕ) (place : Place) (name : Text) (b : Bool) → IsShownBefore some n place name b
+    → IsShownBefore all (count + n) place name b
 shown_behind count some all stand n place name b s = record {
   number = count + s.number;
   below = (let below = s.below in omega (arith, below));
@@ -54,8 +55,10 @@ module _ (all : List Instance) where
           subst (λ i. slice_get all i ≡ Some y) same (stand found.0 y found.2)
 
       by : AllAt (λ k (y : Instance). ViewStands (IsShownBefore all (count + length (instances_of m) + k)) (place_of y.interface) y.view) (all_instances members)
-          → (slice_get (instances_of m) n ≡ Some x) ⊎ ((k : ℕ) × (n ≡ length (instances_of m) + k) × (slice_get (all_instances members) k ≡ Some x)) → ViewStands (IsShownBefore all (count + n)) (place_of x.interface) x.view
-      by rest (inl own) = view_wider (IsShownBefore (instances_of m) n) (IsShownBefore all (count + n)) (shown_behind count (instances_of m) all here n) (place_of x.interface) x.view (each.0.views n x own)
+          → (slice_get (instances_of m) n ≡ Some x) ⊎ ((k : ℕ) × (n ≡ length (instances_of m) + k) × (slice_get (all_instances members) k ≡ Some x))
+          → ViewStands (IsShownBefore all (count + n)) (place_of x.interface) x.view
+      by rest (inl own) = view_wider (IsShownBefore (instances_of m) n) (IsShownBefore all (count + n)) (shown_behind count (instances_of m) all here n) (place_of x.interface) x.view
+          (each.0.views n x own)
       by rest (inr behind) =
           let is = behind.1 in
           let same : count + length (instances_of m) + behind.0 ≡ count + n = omega (arith, is) in
@@ -63,6 +66,7 @@ module _ (all : List Instance) where
 
 pub members_stand_together : MembersStandTogether
 members_stand_together members each = record {
-  views = λ n x e. subst (λ i. ViewStands (IsShownBefore (all_instances members) i) (place_of x.interface) x.view) (from_start n) (views_behind (all_instances members) 0 members (λ k y f. subst (λ i. slice_get (all_instances members) i ≡ Some y) (sym (from_start k)) f) each n x e);
+  views = λ n x e. subst (λ i. ViewStands (IsShownBefore (all_instances members) i) (place_of x.interface) x.view) (from_start n)
+      (views_behind (all_instances members) 0 members (λ k y f. subst (λ i. slice_get (all_instances members) i ≡ Some y) (sym (from_start k)) f) each n x e);
   parts = recursion_weaker MemberStands (λ (m : reads.Member). PartStands m.part) (λ m is. is.part) members each;
 }

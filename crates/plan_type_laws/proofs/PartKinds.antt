@@ -81,18 +81,22 @@ module _ (t : Tables) (kinds : Text → Text → Bool) where
     types = at_each (shown_type t) (λ n (x : ShownType). DeclarationStands (OfKind (kind_at kinds h.own)) x.meaning.declaration (kind_at kinds h.own (place_of interface) x.name)) (IsShownIn t p)
         (λ (x : NumberedType). IsShownIn t p x × DeclarationStands (OfKind (kind_at kinds h.own)) (declaration_of t x.declared) (kind_at kinds h.own (place_at t p) x.name)) v.types
         (λ n x is d. (is, subst (λ place. DeclarationStands (OfKind (kind_at kinds h.own)) (declaration_of t x.declared) (kind_at kinds h.own place x.name)) e d)) within.types h.types;
-    functions = at_each (shown_function t) (λ n (f : Text × FunctionMeaning). SignatureStands (OfKind (kind_at kinds h.own)) f.1.signature) (λ (f : Text × NumberedFunction). IsCalledIn t p f.1.signature)
-        (λ (f : Text × NumberedFunction). IsCalledIn t p f.1.signature × SignatureStands (OfKind (kind_at kinds h.own)) (signature_at t f.1.signature)) v.functions (λ n f is s. (is, s)) within.functions h.functions;
+    functions = at_each (shown_function t) (λ n (f : Text × FunctionMeaning). SignatureStands (OfKind (kind_at kinds h.own)) f.1.signature)
+        (λ (f : Text × NumberedFunction). IsCalledIn t p f.1.signature)
+        (λ (f : Text × NumberedFunction). IsCalledIn t p f.1.signature × SignatureStands (OfKind (kind_at kinds h.own)) (signature_at t f.1.signature)) v.functions (λ n f is s. (is, s))
+        within.functions h.functions;
   }
 
   -- ---- worlds
 
   module _ (scope : Scope) (stands : scopes.ScopeStands scope) (views : AllAt (ViewHasKinds kinds scope.instances) scope.instances) (home : ℕ) (no_path : path_at t home ≡ None) (own : Text → Bool) where
-    shown_kinds : (n : ℕ) (s : NumberShown) (key : Text) (external_id : Option Text) → IsSeenIn t home (record { key = key; shown = numbered_shown s; external_id = external_id }) → NamesShown t home key s
+    shown_kinds : (n : ℕ) (s : NumberShown) (key : Text) (external_id : Option Text) → IsSeenIn t home (record { key = key; shown = numbered_shown s; external_id = external_id })
+        → NamesShown t home key s
         → ShownStands scope.instances scope.imports n (shown_of t (numbered_shown s)) → ShownHasKind (kind_at kinds own) key (shown_of t (numbered_shown s)) → ShownKinds home own key s
     shown_kinds n (shown.Instance k v) key external_id within named is kind =
         let x = numbered_key k in
-        view_kinds scope.instances is.0 (interface_of (key_of t x)) (place_of_key x) (key_place t x within.0) (numbered_view v) within.1 (views is.0 (record { interface = interface_of (key_of t x); view = view_of t (numbered_view v) }) is.1)
+        view_kinds scope.instances is.0 (interface_of (key_of t x)) (place_of_key x) (key_place t x within.0) (numbered_view v) within.1
+        (views is.0 (record { interface = interface_of (key_of t x); view = view_of t (numbered_view v) }) is.1)
     shown_kinds n (shown.Function m) key external_id within named is kind = (within, kind)
     shown_kinds n (shown.Declares part d) key external_id within named is kind = record {
       is = name_there t part named.0 home key named.1 named.2;
@@ -101,7 +105,8 @@ module _ (t : Tables) (kinds : Text → Text → Bool) where
     }
 
     seen_kinds : (count : ℕ → ℕ) (ss : List NumberSeen) → AllByRecursion (IsSeenIn t home) (map numbered_seen ss) → AllByRecursion (NamesSeen t home) ss
-        → AllAt (λ n (s : Seen). ShownStands scope.instances scope.imports (count n) s.shown) (map (seen_of t) (map numbered_seen ss)) → AllAt (λ n (s : Seen). ShownHasKind (kind_at kinds own) s.key s.shown) (map (seen_of t) (map numbered_seen ss))
+        → AllAt (λ n (s : Seen). ShownStands scope.instances scope.imports (count n) s.shown) (map (seen_of t) (map numbered_seen ss))
+        → AllAt (λ n (s : Seen). ShownHasKind (kind_at kinds own) s.key s.shown) (map (seen_of t) (map numbered_seen ss))
         → AllByRecursion (SeenKinds home own) ss
     seen_kinds count ss within named stand kind =
         let P = λ (n : ℕ) (s : Seen). ShownStands scope.instances scope.imports (count n) s.shown × ShownHasKind (kind_at kinds own) s.key s.shown in
@@ -114,7 +119,8 @@ module _ (t : Tables) (kinds : Text → Text → Bool) where
       → IsScopeIn t (numbered_scope w) → AllByRecursion (NamesSeen t w.home) w.imports.now → WorldKinds w
   world_kinds w scope is stands views has within names = record {
     own = has.own;
-    imports = seen_kinds scope stands views w.home within.home has.own (λ n. n) w.imports.now within.imports names (subst (AllAt (λ n (s : Seen). ShownStands scope.instances scope.imports n s.shown)) is.imports stands.imports)
+    imports = seen_kinds scope stands views w.home within.home has.own (λ n. n) w.imports.now within.imports names
+        (subst (AllAt (λ n (s : Seen). ShownStands scope.instances scope.imports n s.shown)) is.imports stands.imports)
         (subst (AllAt (λ n (s : Seen). ShownHasKind (kind_at kinds has.own) s.key s.shown)) is.imports has.imports);
     exports = seen_kinds scope stands views w.home within.home has.own (λ n. length scope.imports) w.exports.now within.exports
         (no_names t w.home w.exports.now (subst (AllAt (λ n (s : Seen). scopes.is_type s.shown ≡ false)) is.exports stands.no_types))
@@ -125,7 +131,8 @@ module _ (t : Tables) (kinds : Text → Text → Bool) where
   -- ---- members
 
   module _ (h : Homes) (stand : HomesStand t h) (m : Member) (identity : PackageIdentity) (there : slice_get h.packages m.package_number ≡ Some identity) (name : Text) (under : name ≡ m.label.now) where
-    part_kinds : (part : Part) (y : reads.Part) → ShowsPart t h (numbered_member m) (numbered_part part) y → PartStands y → MemberHasKinds kinds (record { label = name; package_ = identity; part = y })
+    part_kinds : (part : Part) (y : reads.Part) → ShowsPart t h (numbered_member m) (numbered_part part) y → PartStands y
+        → MemberHasKinds kinds (record { label = name; package_ = identity; part = y })
         → IsPartIn t (numbered_part part) → PartNames t part → PartKinds part
     part_kinds (parts.World w) (reads.Part.world scope) is stands has within names = world_kinds w scope is stands.stands has.views has.world within names
     part_kinds (parts.Interface p v imports) (reads.Part.interface view views) is stands has within names =
@@ -136,22 +143,27 @@ module _ (t : Tables) (kinds : Text → Text → Bool) where
         let own_view = subst (λ x. ViewHasKinds kinds all (length front) (record { interface = Some (path_in identity name); view = x })) is.shown own in
         let f = λ (i : ImportedView). named_instance (path_text t i.place, view_of t (numbered_view i.view)) in
         let before : AllAt (ViewHasKinds kinds all) (map f imports.now) =
-        subst (AllAt (ViewHasKinds kinds all)) (ap (map named_instance) is.imported ∙ (map_of_map named_instance (λ (i : ℕ × NumberedView). (path_text t i.0, view_of t i.1)) (map numbered_import imports.now)
+        subst (AllAt (ViewHasKinds kinds all)) (ap (map named_instance) is.imported
+        ∙ (map_of_map named_instance (λ (i : ℕ × NumberedView). (path_text t i.0, view_of t i.1)) (map numbered_import imports.now)
         ∙ map_of_map (λ (i : ℕ × NumberedView). named_instance (path_text t i.0, view_of t i.1)) numbered_import imports.now)) (λ n x e. has.views n x (at_front front (last ∷ []) n x e)) in
         record {
           home = is.path;
           view = view_kinds all (length front) (Some (path_in identity name)) p (exported_place t h stand m identity there name under p is.path is.home) (numbered_view v) within.0.1 own_view;
-          imported = at_each f (ViewHasKinds kinds all) (λ (i : ImportedView). HasPath t i.place × IsViewIn t i.place (numbered_view i.view)) (λ (i : ImportedView). HasPath t i.place × ViewKinds i.place (numbered_view i.view)) imports.now
+          imported = at_each f (ViewHasKinds kinds all) (λ (i : ImportedView). HasPath t i.place × IsViewIn t i.place (numbered_view i.view))
+              (λ (i : ImportedView). HasPath t i.place × ViewKinds i.place (numbered_view i.view)) imports.now
               (λ n i both is. (both.0, view_kinds all n (Some (path_text t i.place)) i.place (path_place t i.place both.0) (numbered_view i.view) both.1 is))
               (all_unmapped (λ (i : ℕ × NumberedView). HasPath t i.0 × IsViewIn t i.0 i.1) numbered_import imports.now within.1) before;
         }
     part_kinds (parts.World w) (reads.Part.interface view views) is stands has within names = absurd is
     part_kinds (parts.Interface p v imports) (reads.Part.world scope) is stands has within names = absurd is
 
-  pub member_kinds : (h : Homes) → HomesStand t h → (ms : List Member) (members : List reads.Member) → AllZip (IsMember t h) (numbered_members ms) members → AllByRecursion (λ (x : reads.Member). PartStands x.part) members → AllByRecursion (MemberHasKinds kinds) members
+  pub member_kinds : (h : Homes) → HomesStand t h → (ms : List Member) (members : List reads.Member) → AllZip (IsMember t h) (numbered_members ms) members
+      → AllByRecursion (λ (x : reads.Member). PartStands x.part) members → AllByRecursion (MemberHasKinds kinds) members
       → AreMembersIn t (numbered_members ms) → AllByRecursion (λ (m : Member). PartNames t m.part) ms → AllByRecursion (λ (m : Member). PartKinds m.part) ms
   member_kinds h stand [] [] zip stands has within names = tt
   member_kinds h stand [] (x ∷ members) zip stands has within names = tt
   member_kinds h stand (m ∷ ms) [] zip stands has within names = absurd zip
-  member_kinds h stand (m ∷ ms) (x ∷ members) zip stands has within names =
-      (part_kinds h stand m x.package_ zip.0.package_ x.label zip.0.label m.part x.part zip.0.part stands.0 has.0 within.0 names.0, member_kinds h stand ms members zip.1 stands.1 has.1 within.1 names.1)
+  member_kinds h stand (m ∷ ms) (x ∷ members) zip stands has within names = (
+    part_kinds h stand m x.package_ zip.0.package_ x.label zip.0.label m.part x.part zip.0.part stands.0 has.0 within.0 names.0,
+    member_kinds h stand ms members zip.1 stands.1 has.1 within.1 names.1,
+  )

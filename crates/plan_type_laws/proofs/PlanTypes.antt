@@ -31,8 +31,10 @@ use Rattle.std.proofs.lemmas.Slice.Zip.{AllZip-long as zip_length}
 no_some : {A : Type 0} {B : Type 0} (x : A) → None ≡ Some x → B
 no_some x e = let wrong : ⊥ = cc in absurd wrong
 
-module _ (t : Tables) (tables : AreTables t) (showings : List NumberedShowing) (shown : AllByRecursion (ShowingObeys t) showings) (signatures : List ℕ) (called : AllByRecursion (SignatureObeys t) signatures) (marks : List Bool)
-    (used : AreUsed t (used_parts t showings signatures) marks) (kept : List ℕ) (are : AreMarked marks kept) (p : Plan) (owners : ℕ → TypeOwner) (find : ℕ → Option NumberedShowing) (many : length p.types ≡ length kept) (names : NamesObey t p owners find marks) where
+module _ (t : Tables) (tables : AreTables t) (showings : List NumberedShowing) (shown : AllByRecursion (ShowingObeys t) showings) (signatures : List ℕ)
+    (called : AllByRecursion (SignatureObeys t) signatures) (marks : List Bool)
+    (used : AreUsed t (used_parts t showings signatures) marks) (kept : List ℕ) (are : AreMarked marks kept) (p : Plan) (owners : ℕ → TypeOwner) (find : ℕ → Option NumberedShowing)
+    (many : length p.types ≡ length kept) (names : NamesObey t p owners find marks) where
   one_kept : (n : ℕ) (x : PlannedType) → is_marked marks n ≡ true → PlansType t kept find owners n x → IsKeptType t kept p n x
   one_kept n x mark (unnamed s at no_name a b c formed_so) = by (tables.shapes.each n s at)
     where
@@ -40,7 +42,8 @@ module _ (t : Tables) (tables : AreTables t) (showings : List NumberedShowing) (
       by (a_name q name e) = no_some (q, name) (sym no_name ∙ ap name_in e)
       by (a_node form olds e below) =
           let fine = used_are_fine t tables showings shown signatures called marks used n s mark at no_name in
-          kept_unnamed fine.place form olds formed_so.news (at ∙ ap Some e) (subst (λ ks. AllZip (Becomes t kept p) ks formed_so.news) (ap (λ (s : Shape). s.parts) e) (parts_become t tables kept p many s.parts formed_so.news formed_so.parts))
+          kept_unnamed fine.place form olds formed_so.news (at ∙ ap Some e) (subst (λ ks. AllZip (Becomes t kept p) ks formed_so.news) (ap (λ (s : Shape). s.parts) e)
+          (parts_become t tables kept p many s.parts formed_so.news formed_so.parts))
           a b (formed_so.is ∙ ap (λ f. formed f formed_so.news) (ap shape_form e ∙ form_back form)) fine.part fine.shallow
   one_kept n x mark (named s q name y at is first a b c kind) = by (tables.shapes.each n s at)
     where
@@ -57,10 +60,15 @@ name_shown t xs all = recursion_weaker (ShowingObeys t) (λ (s : NumberedShowing
 
 pub types_are_kept : PlannedTypesAreKept
 types_are_kept t tables showings shown signatures called obey marks used kept are p owners find finds types names = record {
-  forms = λ n form parts is at. kept_forms t tables (λ f ps. is_form f ps ≡ true) showings (name_shown t showings shown) signatures obey marks used kept are p owners find finds types n form parts is at;
+  forms = λ n form parts is at. kept_forms t tables (λ f ps. is_form f ps ≡ true) showings (name_shown t showings shown) signatures obey marks used kept are p owners find finds types n form
+      parts is at;
   rise = are.rise;
   once = are.once;
   each = λ j x e.
-      let found = zip_get (PlansType t kept find owners) kept p.types types j x e in
-      (found.0, found.1, one_kept t tables showings shown signatures called marks used kept are p owners find (zip_length (PlansType t kept find owners) kept p.types types) names found.0 x (mark_there marks found.0 (are.among j found.0 found.1)) found.2);
+      let found = zip_get (PlansType t kept find owners) kept p.types types j x e in (
+        found.0,
+        found.1,
+        one_kept t tables showings shown signatures called marks used kept are p owners find (zip_length (PlansType t kept find owners) kept p.types types) names found.0 x
+            (mark_there marks found.0 (are.among j found.0 found.1)) found.2,
+      );
 }

@@ -74,16 +74,19 @@ module _ (test : ℕ → Bool) where
 
   found_behind : (f : Frame) (fs : List Frame) → AllByRecursion (Differ f.0) fs → AllByRecursion (Found (own_in fs)) fs → AllByRecursion (Found (own_in (f ∷ fs))) fs
   found_behind f fs apart found =
-      recursion_weaker (λ (g : Frame). Differ f.0 g × Found (own_in fs) g) (Found (own_in (f ∷ fs))) (λ g both h. ap (λ b. if b then f.1 else own_in fs g.0) (both.0 h) ∙ both.1 h) fs (all_two (Differ f.0) (Found (own_in fs)) fs apart found)
+      recursion_weaker (λ (g : Frame). Differ f.0 g × Found (own_in fs) g) (Found (own_in (f ∷ fs))) (λ g both h. ap (λ b. if b then f.1 else own_in fs g.0) (both.0 h) ∙ both.1 h) fs
+      (all_two (Differ f.0) (Found (own_in fs)) fs apart found)
 
   -- each place without another of its number is found
   each_found : (fs : List Frame) → are_once (places fs) ≡ true → AllByRecursion (Found (own_in fs)) fs
   each_found [] once = tt
   each_found (f ∷ fs) once = ((λ h. ap (λ b. if b then f.1 else own_in fs f.0) (same-number f.0)), by (test f.0) refl once (each_found fs))
     where
-      by : (b : Bool) → test f.0 ≡ b → are_once (if b then f.0 ∷ places fs else places fs) ≡ true → (are_once (places fs) ≡ true → AllByRecursion (Found (own_in fs)) fs) → AllByRecursion (Found (own_in (f ∷ fs))) fs
+      by : (b : Bool) → test f.0 ≡ b → are_once (if b then f.0 ∷ places fs else places fs) ≡ true → (are_once (places fs) ≡ true → AllByRecursion (Found (own_in fs)) fs)
+          → AllByRecursion (Found (own_in (f ∷ fs))) fs
       by true e once later =
-          found_behind f fs (others_differ f.0 fs (not-true (has (places fs) f.0) (first_true (not (has (places fs) f.0)) (are_once (places fs)) once))) (later (second_true (not (has (places fs) f.0)) (are_once (places fs)) once))
+          found_behind f fs (others_differ f.0 fs (not-true (has (places fs) f.0) (first_true (not (has (places fs) f.0)) (are_once (places fs)) once)))
+          (later (second_true (not (has (places fs) f.0)) (are_once (places fs)) once))
       by false e once later = found_behind f fs (past f.0 e fs) (later once)
 
 -- ---- the frames of what is shown
@@ -106,12 +109,14 @@ module _ (t : Tables) (kinds : Text → Text → Bool) where
   frames [] all = []
   frames (m ∷ ms) all = frames_of_part m.part all.0 ++ frames ms all.1
 
-  places_shown : (home : ℕ) (own : Text → Bool) (key : Text) (s : NumberShown) (is : ShownKinds t kinds home own key s) → map (λ (f : Frame). f.0) (frames_of_shown home own key s is) ≡ places_of_shown (numbered_shown s)
+  places_shown : (home : ℕ) (own : Text → Bool) (key : Text) (s : NumberShown) (is : ShownKinds t kinds home own key s)
+      → map (λ (f : Frame). f.0) (frames_of_shown home own key s is) ≡ places_of_shown (numbered_shown s)
   places_shown home own key (shown.Instance k v) is = refl
   places_shown home own key (shown.Function n) is = refl
   places_shown home own key (shown.Declares part d) is = refl
 
-  places_seen : (home : ℕ) (own : Text → Bool) (ss : List Seen) (all : AllByRecursion (SeenKinds t kinds home own) ss) → map (λ (f : Frame). f.0) (frames_of_seen home own ss all) ≡ places_of_seen (map numbered_seen ss)
+  places_seen : (home : ℕ) (own : Text → Bool) (ss : List Seen) (all : AllByRecursion (SeenKinds t kinds home own) ss)
+      → map (λ (f : Frame). f.0) (frames_of_seen home own ss all) ≡ places_of_seen (map numbered_seen ss)
   places_seen home own [] all = refl
   places_seen home own (s ∷ ss) all =
       append_of_map (λ (f : Frame). f.0) (frames_of_shown home own s.key.now s.shown all.0) (frames_of_seen home own ss all.1)
@@ -123,7 +128,8 @@ module _ (t : Tables) (kinds : Text → Text → Bool) where
       ∙ λ i. places_seen w.home is.own w.imports.now is.imports i ++ places_seen w.home is.own w.exports.now is.exports i)
   places_part (parts.Interface p v imports) is = refl
 
-  places_are : (ms : List Member) (all : AllByRecursion (λ (m : Member). PartKinds t kinds m.part) ms) → map (λ (f : Frame). f.0) (frames ms all) ≡ flat_map (λ (m : NumberedMember). places_of_part m.part) (numbered_members ms)
+  places_are : (ms : List Member) (all : AllByRecursion (λ (m : Member). PartKinds t kinds m.part) ms)
+      → map (λ (f : Frame). f.0) (frames ms all) ≡ flat_map (λ (m : NumberedMember). places_of_part m.part) (numbered_members ms)
   places_are [] all = refl
   places_are (m ∷ ms) all = append_of_map (λ (f : Frame). f.0) (frames_of_part m.part all.0) (frames ms all.1) ∙ λ i. places_part m.part all.0 i ++ places_are ms all.1 i
 
@@ -147,18 +153,22 @@ module _ (t : Tables) (tables : AreTables t) (kinds : Text → Text → Bool) (o
   two_held xs ys ms ns a b = (all_both (Shown t tables kinds own_at) xs ys a.0 b.0, all_both (Called t tables kinds own_at) ms ns a.1 b.1)
 
   module _ (home : ℕ) (own : Text → Bool) (has_own : HasOwn t tables kinds own_at home own) where
-    shown_held : (key : Text) (s : NumberShown) (external_id : Option Text) (is : ShownKinds t kinds home own key s) → AllByRecursion Owned (frames_of_shown t kinds home own key s is) → Holds (showings_of_shown s external_id) (signatures_of_shown s)
+    shown_held : (key : Text) (s : NumberShown) (external_id : Option Text) (is : ShownKinds t kinds home own key s) → AllByRecursion Owned (frames_of_shown t kinds home own key s is)
+        → Holds (showings_of_shown s external_id) (signatures_of_shown s)
     shown_held key (shown.Instance k v) external_id is all = view_marked t tables kinds own_at (place_of_key (numbered_key k)) (numbered_view v) is (owned (place_of_key (numbered_key k)) is.own all.0)
     shown_held key (shown.Function n) external_id is all = (tt, (call_marked t tables kinds own_at home own has_own n is, tt))
     shown_held key (shown.Declares part d) external_id is all = ((name_marked t tables kinds own_at home own has_own key part d external_id is, tt), tt)
 
-    seen_held : (ss : List Seen) (is : AllByRecursion (SeenKinds t kinds home own) ss) → AllByRecursion Owned (frames_of_seen t kinds home own ss is) → Holds (flat_map showings_of_seen ss) (flat_map signatures_of_seen ss)
+    seen_held : (ss : List Seen) (is : AllByRecursion (SeenKinds t kinds home own) ss) → AllByRecursion Owned (frames_of_seen t kinds home own ss is)
+        → Holds (flat_map showings_of_seen ss) (flat_map signatures_of_seen ss)
     seen_held [] is all = (tt, tt)
     seen_held (s ∷ ss) is all =
         let split = all_split Owned (frames_of_shown t kinds home own s.key.now s.shown is.0) (frames_of_seen t kinds home own ss is.1) all in
-        two_held (showings_of_seen s) (flat_map showings_of_seen ss) (signatures_of_seen s) (flat_map signatures_of_seen ss) (shown_held s.key.now s.shown (given_text s.external_id) is.0 split.0) (seen_held ss is.1 split.1)
+        two_held (showings_of_seen s) (flat_map showings_of_seen ss) (signatures_of_seen s) (flat_map signatures_of_seen ss) (shown_held s.key.now s.shown (given_text s.external_id) is.0 split.0)
+        (seen_held ss is.1 split.1)
 
-  imports_held : (is : List ImportedView) → AllByRecursion (λ (i : ImportedView). HasPath t i.place × ViewKinds t kinds i.place (numbered_view i.view)) is → AllByRecursion (Shown t tables kinds own_at) (flat_map showings_of_import is)
+  imports_held : (is : List ImportedView) → AllByRecursion (λ (i : ImportedView). HasPath t i.place × ViewKinds t kinds i.place (numbered_view i.view)) is
+      → AllByRecursion (Shown t tables kinds own_at) (flat_map showings_of_import is)
   imports_held [] all = tt
   imports_held (i ∷ is) all =
       all_both (Shown t tables kinds own_at) (showings_of_import i) (flat_map showings_of_import is)
@@ -174,7 +184,8 @@ module _ (t : Tables) (tables : AreTables t) (kinds : Text → Text → Bool) (o
       let view = view_marked t tables kinds own_at p (numbered_view v) is.view (own_by_path t tables kinds own_at p is.view.own is.home) in
       (all_both (Shown t tables kinds own_at) (flat_map showings_of_import imports.now) (showings_of_view (numbered_view v)) (imports_held imports.now is.imported) view.0, view.1)
 
-  members_held : (ms : List Member) (is : AllByRecursion (λ (m : Member). PartKinds t kinds m.part) ms) → AllByRecursion Owned (frames t kinds ms is) → Holds (showings_of_members ms) (signatures_of_members ms)
+  members_held : (ms : List Member) (is : AllByRecursion (λ (m : Member). PartKinds t kinds m.part) ms) → AllByRecursion Owned (frames t kinds ms is)
+      → Holds (showings_of_members ms) (signatures_of_members ms)
   members_held [] is all = (tt, tt)
   members_held (m ∷ ms) is all =
       let split = all_split Owned (frames_of_part t kinds m.part is.0) (frames t kinds ms is.1) all in
@@ -200,7 +211,8 @@ names_marked t tables h stand ms members zip stands has within placed =
       names = recursion_weaker (Shown t tables kinds own_at) (ShowingIsMarked t (marks t tables kinds own_at)) (λ s h. h.0) showings held.0;
       inner = record {
         declared = recursion_weaker (Shown t tables kinds own_at) (λ (s : NumberedShowing). AllOf Form s.declared) (λ s h. h.1) showings held.0;
-        called = recursion_weaker (Called t tables kinds own_at) (λ n. PartsOf Form (function_at t n)) (λ n h. parts_weaker (IsValue t tables kinds own_at) Form (λ k v. v.1) (function_at t n) h) signatures held.1;
+        called = recursion_weaker (Called t tables kinds own_at) (λ n. PartsOf Form (function_at t n)) (λ n h. parts_weaker (IsValue t tables kinds own_at) Form (λ k v. v.1) (function_at t n) h)
+            signatures held.1;
       };
       values = recursion_weaker (Called t tables kinds own_at) (λ n. PartsOf (λ k. marks t tables kinds own_at k ≡ false) (function_at t n))
           (λ n h. parts_weaker (IsValue t tables kinds own_at) (λ k. marks t tables kinds own_at k ≡ false) (λ k v. v.0) (function_at t n) h) signatures held.1;

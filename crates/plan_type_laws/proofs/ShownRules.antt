@@ -63,13 +63,16 @@ module _ (t : Tables) (tables : AreTables t) where
   function_signature place resources name f h = first_true (rules.is_signature place f) (is_function_of_any place resources name f) h
 
   functions_obey : (p : ℕ) (place : Place) (resources : List Text) (fs : List (Text × NumberedFunction)) → AllByRecursion (λ (f : Text × NumberedFunction). IsCalledIn t p f.1.signature) fs
-      → list_all (λ (f : Text × FunctionMeaning). rules.is_function place resources f.0 f.1.signature) (map (shown_function t) fs) ≡ true → AllByRecursion (SignatureObeys t) (map (λ (f : Text × NumberedFunction). f.1.signature) fs)
+      → list_all (λ (f : Text × FunctionMeaning). rules.is_function place resources f.0 f.1.signature) (map (shown_function t) fs) ≡ true
+      → AllByRecursion (SignatureObeys t) (map (λ (f : Text × NumberedFunction). f.1.signature) fs)
   functions_obey p place resources [] called h = tt
   functions_obey p place resources (f ∷ fs) called h =
       let test = λ (f : Text × FunctionMeaning). rules.is_function place resources f.0 f.1.signature in
       let one = test (shown_function t f) in
-      let rest = list_all test (map (shown_function t) fs) in
-      (call_obeys p f.1.signature place called.0 (function_signature place resources f.0 (signature_at t f.1.signature) (first_true one rest h)), functions_obey p place resources fs called.1 (second_true one rest h))
+      let rest = list_all test (map (shown_function t) fs) in (
+        call_obeys p f.1.signature place called.0 (function_signature place resources f.0 (signature_at t f.1.signature) (first_true one rest h)),
+        functions_obey p place resources fs called.1 (second_true one rest h),
+      )
 
   -- ---- types
 
@@ -89,7 +92,8 @@ module _ (t : Tables) (tables : AreTables t) where
     obeys = second_true (is_label x.name) (rules.is_declared (place_at t p) (declaration_of t x.declared)) h;
   }
 
-  types_obey : (p : ℕ) (xs : List NumberedType) → AllByRecursion (IsShownIn t p) xs → list_all (λ (x : ShownType). is_label x.name && rules.is_declared (place_at t p) x.meaning.declaration) (map (shown_type t) xs) ≡ true
+  types_obey : (p : ℕ) (xs : List NumberedType) → AllByRecursion (IsShownIn t p) xs
+      → list_all (λ (x : ShownType). is_label x.name && rules.is_declared (place_at t p) x.meaning.declaration) (map (shown_type t) xs) ≡ true
       → AllByRecursion (ShowingIsName t) (map showing_of xs)
   types_obey p [] is h = tt
   types_obey p (x ∷ xs) is h =
@@ -113,7 +117,8 @@ module _ (t : Tables) (tables : AreTables t) where
   -- ---- worlds
 
   module _ (home : ℕ) (no_path : path_at t home ≡ None) where
-    name_obeys : (key : Text) (part : ℕ) (d : Option ℕ) (external_id : Option Text) → NamesShown t home key (shown.Declares part d) → IsSeenIn t home (record { key = key; shown = numbered_shown (shown.Declares part d); external_id = external_id })
+    name_obeys : (key : Text) (part : ℕ) (d : Option ℕ) (external_id : Option Text) → NamesShown t home key (shown.Declares part d)
+        → IsSeenIn t home (record { key = key; shown = numbered_shown (shown.Declares part d); external_id = external_id })
         → (is_label key && rules.is_declared Place.here (declaration_of t d)) ≡ true → ShowingIsName t (record { part = part; declared = d; external_id = external_id })
     name_obeys key part d external_id named within h =
         let same : within.0 ≡ named.0 = tables.shapes.apart within.0 named.0 (named_shape home key) within.1.named named.2 in
@@ -128,7 +133,8 @@ module _ (t : Tables) (tables : AreTables t) where
           obeys = ap (λ o. rules.is_declared (place_of o) (declaration_of t d)) no_path ∙ second_true (is_label key) (rules.is_declared Place.here (declaration_of t d)) h;
         }
 
-    item_obeys : (resources : List Text) (key : Text) (s : NumberShown) (external_id : Option Text) → IsSeenIn t home (record { key = key; shown = numbered_shown s; external_id = external_id }) → NamesShown t home key s
+    item_obeys : (resources : List Text) (key : Text) (s : NumberShown) (external_id : Option Text) → IsSeenIn t home (record { key = key; shown = numbered_shown s; external_id = external_id })
+        → NamesShown t home key s
         → rules.is_item resources key (shown_of t (numbered_shown s)) ≡ true → Hold (showings_of_shown s external_id) (signatures_of_shown s)
     item_obeys resources key (shown.Instance k v) external_id within named h =
         view_obeys (place_of_key (numbered_key k)) (numbered_view v) within.1 (place_of (interface_of (key_of t (numbered_key k)))) (key_place t (numbered_key k) within.0) h
@@ -143,7 +149,8 @@ module _ (t : Tables) (tables : AreTables t) where
         let one = rules.is_item (rules.resources_seen earlier) x.key x.shown in
         let rest = rules.are_imports (earlier ++ x ∷ []) (map (seen_of t) (map numbered_seen ss)) in
         two_hold (showings_of_seen s) (flat_map showings_of_seen ss) (signatures_of_seen s) (flat_map signatures_of_seen ss)
-        (item_obeys (rules.resources_seen earlier) s.key.now s.shown (given_text s.external_id) within.0 named.0 (first_true one rest h)) (imports_obey (earlier ++ x ∷ []) ss within.1 named.1 (second_true one rest h))
+        (item_obeys (rules.resources_seen earlier) s.key.now s.shown (given_text s.external_id) within.0 named.0 (first_true one rest h))
+        (imports_obey (earlier ++ x ∷ []) ss within.1 named.1 (second_true one rest h))
 
     exports_obey : (ss : List NumberSeen) → AllByRecursion (IsSeenIn t home) (map numbered_seen ss) → AllByRecursion (NamesSeen t home) ss
         → list_all (λ (s : Seen). rules.is_item [] s.key s.shown) (map (seen_of t) (map numbered_seen ss)) ≡ true → Hold (flat_map showings_of_seen ss) (flat_map signatures_of_seen ss)
@@ -155,7 +162,8 @@ module _ (t : Tables) (tables : AreTables t) where
         two_hold (showings_of_seen s) (flat_map showings_of_seen ss) (signatures_of_seen s) (flat_map signatures_of_seen ss)
         (item_obeys [] s.key.now s.shown (given_text s.external_id) within.0 named.0 (first_true one rest h)) (exports_obey ss within.1 named.1 (second_true one rest h))
 
-  world_obeys : (w : NumberScope) (scope : Scope) → Shows t (numbered_scope w) scope → scopes.ScopeStands scope → rules.is_world scope ≡ true → IsScopeIn t (numbered_scope w) → AllByRecursion (NamesSeen t w.home) w.imports.now
+  world_obeys : (w : NumberScope) (scope : Scope) → Shows t (numbered_scope w) scope → scopes.ScopeStands scope → rules.is_world scope ≡ true → IsScopeIn t (numbered_scope w)
+      → AllByRecursion (NamesSeen t w.home) w.imports.now
       → Hold (flat_map showings_of_seen w.imports.now ++ flat_map showings_of_seen w.exports.now) (flat_map signatures_of_seen w.imports.now ++ flat_map signatures_of_seen w.exports.now)
   world_obeys w scope is stands h within names =
       let imports = rules.are_imports [] scope.imports in
@@ -180,24 +188,28 @@ module _ (t : Tables) (tables : AreTables t) where
   imported i = record { path = i.0; view = i.1; whole = false }
 
   views_obey : (is : List ImportedView) → AllByRecursion (λ (i : ℕ × NumberedView). HasPath t i.0 × IsViewIn t i.0 i.1) (map numbered_import is)
-      → list_all may_be (map imported (map (λ (i : ℕ × NumberedView). (path_text t i.0, view_of t i.1)) (map numbered_import is))) ≡ true → AllByRecursion (ShowingIsName t) (flat_map showings_of_import is)
+      → list_all may_be (map imported (map (λ (i : ℕ × NumberedView). (path_text t i.0, view_of t i.1)) (map numbered_import is))) ≡ true
+      → AllByRecursion (ShowingIsName t) (flat_map showings_of_import is)
   views_obey [] within h = tt
   views_obey (i ∷ is) within h =
       let one = rules.is_interface (Place.of_interface (path_text t i.place)) (view_of t (numbered_view i.view)) in
       let rest = list_all may_be (map imported (map (λ (i : ℕ × NumberedView). (path_text t i.0, view_of t i.1)) (map numbered_import is))) in
       all_both (ShowingIsName t) (showings_of_import i) (flat_map showings_of_import is)
-      (view_obeys i.place (numbered_view i.view) within.0.1 (Place.of_interface (path_text t i.place)) (path_place t i.place within.0.0) (first_true one rest h)).0 (views_obey is within.1 (second_true one rest h))
+      (view_obeys i.place (numbered_view i.view) within.0.1 (Place.of_interface (path_text t i.place)) (path_place t i.place within.0.0) (first_true one rest h)).0
+      (views_obey is within.1 (second_true one rest h))
 
   module _ (h : Homes) (stand : HomesStand t h) (m : Member) (identity : PackageIdentity) (there : slice_get h.packages m.package_number ≡ Some identity) (name : Text) (under : name ≡ m.label.now) where
     part_obeys : (part : Part) (y : reads.Part) → ShowsPart t h (numbered_member m) (numbered_part part) y → PartStands y
-        → list_all may_be (reads.sights (record { label = name; package_ = identity; part = y })) ≡ true → IsPartIn t (numbered_part part) → PartNames t part → Hold (showings_of_part part) (signatures_of_part part)
+        → list_all may_be (reads.sights (record { label = name; package_ = identity; part = y })) ≡ true → IsPartIn t (numbered_part part) → PartNames t part
+        → Hold (showings_of_part part) (signatures_of_part part)
     part_obeys (parts.World w) (reads.Part.world scope) is stands may within names = world_obeys w scope is stands.stands stands.obeys within names
     part_obeys (parts.Interface p v imports) (reads.Part.interface view views) is stands may within names =
         let own : Sight = record { path = path_in identity name; view = view; whole = true } in
         let front = list_all may_be (map imported views) in
         let split : (front && list_all may_be (own ∷ [])) ≡ true = sym (list_all-append may_be (map imported views) (own ∷ [])) ∙ may in
         let last = first_true (may_be own) true (second_true front (list_all may_be (own ∷ [])) split) in
-        let view_same : rules.is_interface (Place.of_interface (path_in identity name)) (view_of t (numbered_view v)) ≡ true = ap (rules.is_interface (Place.of_interface (path_in identity name))) (sym is.shown) ∙ last in
+        let view_same : rules.is_interface (Place.of_interface (path_in identity name)) (view_of t (numbered_view v)) ≡ true =
+        ap (rules.is_interface (Place.of_interface (path_in identity name))) (sym is.shown) ∙ last in
         let shown = view_obeys p (numbered_view v) within.0.1 (Place.of_interface (path_in identity name)) (exported_place t h stand m identity there name under p is.path is.home) view_same in (
           all_both (ShowingIsName t) (flat_map showings_of_import imports.now) (showings_of_view (numbered_view v))
               (views_obey imports.now within.1 (ap (λ vs. list_all may_be (map imported vs)) (sym is.imported) ∙ first_true front (list_all may_be (own ∷ [])) split)) shown.0,
@@ -206,8 +218,10 @@ module _ (t : Tables) (tables : AreTables t) where
     part_obeys (parts.World w) (reads.Part.interface view views) is stands may within names = absurd is
     part_obeys (parts.Interface p v imports) (reads.Part.world scope) is stands may within names = absurd is
 
-  members_obey : (h : Homes) → HomesStand t h → (ms : List Member) (members : List reads.Member) → AllZip (IsMember t h) (numbered_members ms) members → AllByRecursion (λ (x : reads.Member). PartStands x.part) members
-      → list_all may_be (flat_map reads.sights members) ≡ true → AreMembersIn t (numbered_members ms) → AllByRecursion (λ (m : Member). PartNames t m.part) ms → Hold (showings_of_members ms) (signatures_of_members ms)
+  members_obey : (h : Homes) → HomesStand t h → (ms : List Member) (members : List reads.Member) → AllZip (IsMember t h) (numbered_members ms) members
+      → AllByRecursion (λ (x : reads.Member). PartStands x.part) members
+      → list_all may_be (flat_map reads.sights members) ≡ true → AreMembersIn t (numbered_members ms) → AllByRecursion (λ (m : Member). PartNames t m.part) ms
+      → Hold (showings_of_members ms) (signatures_of_members ms)
   members_obey h stand [] [] zip stands may within names = (tt, tt)
   members_obey h stand [] (x ∷ members) zip stands may within names = (tt, tt)
   members_obey h stand (m ∷ ms) [] zip stands may within names = absurd zip

@@ -32,7 +32,8 @@ low_form t k small = ap (λ b. option_map_or (λ (s : Shape). not (s.sort == 0))
 
 module _ (t : Tables) (tables : AreTables t) where
   -- a part among the parts of a form that stand in a place, and aren't too deep
-  among_parts : (place : Place) (ks : List ℕ) → are_parts place (children (map (tree_at t) ks)) ≡ true → deepest (children (map (tree_at t) ks)) ≤ most_levels → (k : ℕ) → has ks k ≡ true → IsFinePart t k
+  among_parts : (place : Place) (ks : List ℕ) → are_parts place (children (map (tree_at t) ks)) ≡ true → deepest (children (map (tree_at t) ks)) ≤ most_levels → (k : ℕ) → has ks k ≡ true
+      → IsFinePart t k
   among_parts place [] h deep k there = let wrong : false ≡ true = there in absurd cc
   among_parts place (j ∷ ks) h deep k there =
       by (j == k) refl there (among_parts place ks (second_true (rules.is_part place (tree_at t j)) (are_parts place (children (map (tree_at t) ks))) h) (omega (arith, deep)) k)
@@ -49,7 +50,8 @@ module _ (t : Tables) (tables : AreTables t) where
   node_of : (n : ℕ) (s : Shape) → slice_get t.shapes n ≡ Some s → name_in s ≡ None → (f : Form) × (tree_at t (14 + n) ≡ Tree.node f (children (map (tree_at t) s.parts)))
   node_of n s at no_name = by (viewed (place_at t) t.shapes tables.shapes (14 + n) (omega (arith, slice_get_within t.shapes n s at)))
     where
-      by : PartView (place_at t) t.shapes tables.shapes (14 + n) (part_tree (shape_trees (place_at t) t.shapes) (14 + n)) → (f : Form) × (tree_at t (14 + n) ≡ Tree.node f (children (map (tree_at t) s.parts)))
+      by : PartView (place_at t) t.shapes tables.shapes (14 + n) (part_tree (shape_trees (place_at t) t.shapes) (14 + n)) → (f : Form)
+          × (tree_at t (14 + n) ≡ Tree.node f (children (map (tree_at t) s.parts)))
       by (is_primitive p small stands number) = absurd (omega (arith, small))
       by (is_name m q x is there stands) =
           let same : n ≡ m = omega (arith, is) in
@@ -71,7 +73,8 @@ module _ (t : Tables) (tables : AreTables t) where
 
   module _ (n : ℕ) (s : Shape) (at : slice_get t.shapes n ≡ Some s) (no_name : name_in s ≡ None) where
     sort_named : (b : Bool) → (s.sort == 0) ≡ b → not b ≡ true
-    sort_named true e = let wrong : ◌≡◌ {A = Option (ℕ × Text)} None (Some (s.number, first_label s.labels)) = sym no_name ∙ ap (λ b. if b then Some (s.number, first_label s.labels) else None) e in absurd cc
+    sort_named true e = let wrong : ◌≡◌ {A = Option (ℕ × Text)} None (Some (s.number, first_label s.labels)) =
+        sym no_name ∙ ap (λ b. if b then Some (s.number, first_label s.labels) else None) e in absurd cc
     sort_named false e = refl
 
     has_form : (k : ℕ) → k ≡ 14 + n → is_form t k ≡ true
@@ -86,12 +89,16 @@ module _ (t : Tables) (tables : AreTables t) where
       where
         by : PartView (place_at t) t.shapes tables.shapes k (part_tree (shape_trees (place_at t) t.shapes) k) → IsFinePart t (14 + n)
         by (is_primitive q small stands number) = let wrong : false ≡ true = sym (low_form t k small) ∙ form in absurd cc
-        by (is_name m q x is at stands) = let wrong : false ≡ true = sym (ap (is_form t) is ∙ ap (λ o. option_map_or (λ (s : Shape). not (s.sort == 0)) o false) (shape_here t m (named_shape q x) at)) ∙ form in absurd cc
+        by (is_name m q x is at stands) = let wrong : false ≡ true = sym (ap (is_form t) is ∙ ap (λ o. option_map_or (λ (s : Shape). not (s.sort == 0)) o false) (shape_here t m (named_shape q x) at))
+            ∙ form in absurd cc
         by (is_node m f ks is at stands parts) =
-            let rule : (are_labels (form_labels f) && are_parts place (children (map (tree_at t) ks)) && nat_le (deepest (children (map (tree_at t) ks))) most_levels) ≡ true = sym (ap (λ x. rules.is_declared place (Declaration.type_ x)) stands) ∙ obeys in
+            let rule : (are_labels (form_labels f) && are_parts place (children (map (tree_at t) ks)) && nat_le (deepest (children (map (tree_at t) ks))) most_levels) ≡ true =
+            sym (ap (λ x. rules.is_declared place (Declaration.type_ x)) stands) ∙ obeys in
             among_parts place ks
-            (second_true (are_labels (form_labels f)) (are_parts place (children (map (tree_at t) ks))) (first_true (are_labels (form_labels f) && are_parts place (children (map (tree_at t) ks))) (nat_le (deepest (children (map (tree_at t) ks))) most_levels) rule))
-            (leb-true (deepest (children (map (tree_at t) ks))) most_levels (second_true (are_labels (form_labels f) && are_parts place (children (map (tree_at t) ks))) (nat_le (deepest (children (map (tree_at t) ks))) most_levels) rule))
+            (second_true (are_labels (form_labels f)) (are_parts place (children (map (tree_at t) ks)))
+            (first_true (are_labels (form_labels f) && are_parts place (children (map (tree_at t) ks))) (nat_le (deepest (children (map (tree_at t) ks))) most_levels) rule))
+            (leb-true (deepest (children (map (tree_at t) ks))) most_levels (second_true (are_labels (form_labels f) && are_parts place (children (map (tree_at t) ks)))
+            (nat_le (deepest (children (map (tree_at t) ks))) most_levels) rule))
             (14 + n) (sym (ap (λ l. has l (14 + n)) (ap (form_parts t) is ∙ ap (λ o. option_map_or (λ (s : Shape). s.parts) o []) (shape_here t m (node_shape f ks) at))) ∙ there)
 
     declared_fine : (place : Place) (d : Option ℕ) → AllOf (IsPart t) d → rules.is_declared place (declaration_of t d) ≡ true → has (declared_parts t d) (14 + n) ≡ true → IsFinePart t (14 + n)
@@ -122,13 +129,17 @@ module _ (t : Tables) (tables : AreTables t) where
       shallow = second_true (rules.is_part place (tree_at t k)) (nat_le (levels (tree_at t k)) most_levels) h;
     })
 
-    params_fine : (place : Place) (xs : List (Text × ℕ)) → list_all (λ (x : Text × Tree). rules.is_parameter_type place x.1) (map (λ (p : Text × ℕ). (p.0, tree_at t p.1)) xs) ≡ true → has (map (λ (x : Text × ℕ). x.1) xs) (14 + n) ≡ true → IsFinePart t (14 + n)
+    params_fine : (place : Place) (xs : List (Text × ℕ)) → list_all (λ (x : Text × Tree). rules.is_parameter_type place x.1) (map (λ (p : Text × ℕ). (p.0, tree_at t p.1)) xs) ≡ true
+        → has (map (λ (x : Text × ℕ). x.1) xs) (14 + n) ≡ true → IsFinePart t (14 + n)
     params_fine place [] h there = let wrong : false ≡ true = there in absurd cc
     params_fine place (x ∷ xs) h there =
-        by (x.1 == 14 + n) refl there (params_fine place xs (second_true (rules.is_parameter_type place (tree_at t x.1)) (list_all (λ (x : Text × Tree). rules.is_parameter_type place x.1) (map (λ (p : Text × ℕ). (p.0, tree_at t p.1)) xs)) h))
+        by (x.1 == 14 + n) refl there (params_fine place xs (second_true (rules.is_parameter_type place (tree_at t x.1))
+        (list_all (λ (x : Text × Tree). rules.is_parameter_type place x.1) (map (λ (p : Text × ℕ). (p.0, tree_at t p.1)) xs)) h))
       where
-        by : (b : Bool) → (x.1 == 14 + n) ≡ b → (b || has (map (λ (x : Text × ℕ). x.1) xs) (14 + n)) ≡ true → (has (map (λ (x : Text × ℕ). x.1) xs) (14 + n) ≡ true → IsFinePart t (14 + n)) → IsFinePart t (14 + n)
-        by true e there later = parameter_fine place x.1 (first_true (rules.is_parameter_type place (tree_at t x.1)) (list_all (λ (x : Text × Tree). rules.is_parameter_type place x.1) (map (λ (p : Text × ℕ). (p.0, tree_at t p.1)) xs)) h) (eqb-true x.1 (14 + n) e)
+        by : (b : Bool) → (x.1 == 14 + n) ≡ b → (b || has (map (λ (x : Text × ℕ). x.1) xs) (14 + n)) ≡ true → (has (map (λ (x : Text × ℕ). x.1) xs) (14 + n) ≡ true → IsFinePart t (14 + n))
+            → IsFinePart t (14 + n)
+        by true e there later = parameter_fine place x.1 (first_true (rules.is_parameter_type place (tree_at t x.1))
+            (list_all (λ (x : Text × Tree). rules.is_parameter_type place x.1) (map (λ (p : Text × ℕ). (p.0, tree_at t p.1)) xs)) h) (eqb-true x.1 (14 + n) e)
         by false e there later = later there
 
     result_fine : (place : Place) (r : Option ℕ) → rules.is_result_type place (option_map (tree_at t) r) ≡ true → has (option_to_list r) (14 + n) ≡ true → IsFinePart t (14 + n)
@@ -150,5 +161,6 @@ module _ (t : Tables) (tables : AreTables t) where
 
 pub used_are_fine : UsedPartsAreFine
 used_are_fine t tables showings shown signatures called marks used n s is at no_name =
-    used_fine t tables (IsFinePart t) (parts_of_fine t tables) showings signatures (λ m r r_at none. showings_fine t tables m r r_at none showings shown) (λ m r r_at none. functions_fine t tables m r r_at none signatures called)
+    used_fine t tables (IsFinePart t) (parts_of_fine t tables) showings signatures (λ m r r_at none. showings_fine t tables m r r_at none showings shown)
+    (λ m r r_at none. functions_fine t tables m r r_at none signatures called)
     marks used n s is at no_name

@@ -61,11 +61,14 @@ no_parts n s x is (a_node f ks e below) = let wrong : None ≡ Some x = sym (unn
 
 -- ---- what is used
 
-module _ (t : Tables) (tables : AreTables t) (Fine : ℕ → Type 0) (inner : (n : ℕ) (s : Shape) → slice_get t.shapes n ≡ Some s → name_in s ≡ None → Fine (14 + n) → (k : ℕ) → has s.parts k ≡ true → Fine k)
-    (showings : List NumberedShowing) (signatures : List ℕ) (shown : (n : ℕ) (s : Shape) → slice_get t.shapes n ≡ Some s → name_in s ≡ None → has (flat_map (showing_parts t) showings) (14 + n) ≡ true → Fine (14 + n))
+module _ (t : Tables) (tables : AreTables t) (Fine : ℕ → Type 0) (inner : (n : ℕ) (s : Shape) → slice_get t.shapes n ≡ Some s → name_in s ≡ None → Fine (14 + n) → (k : ℕ)
+    → has s.parts k ≡ true → Fine k)
+    (showings : List NumberedShowing) (signatures : List ℕ) (shown : (n : ℕ) (s : Shape) → slice_get t.shapes n ≡ Some s → name_in s ≡ None → has (flat_map (showing_parts t) showings) (14 + n) ≡ true
+    → Fine (14 + n))
     (called : (n : ℕ) (s : Shape) → slice_get t.shapes n ≡ Some s → name_in s ≡ None → has (flat_map (function_parts t) signatures) (14 + n) ≡ true → Fine (14 + n))
     (marks : List Bool) (used : AreUsed t (used_parts t showings signatures) marks) where
-  part_fine : (m k : ℕ) (ks : List ℕ) → ((r : Shape) → slice_get t.shapes m ≡ Some r → name_in r ≡ None → Fine (14 + m)) → slice_get (map (λ (s : Shape). s.parts) t.shapes) m ≡ Some ks → Contains ks (14 + k) → Fine (14 + k)
+  part_fine : (m k : ℕ) (ks : List ℕ) → ((r : Shape) → slice_get t.shapes m ≡ Some r → name_in r ≡ None → Fine (14 + m)) → slice_get (map (λ (s : Shape). s.parts) t.shapes) m ≡ Some ks
+      → Contains ks (14 + k) → Fine (14 + k)
   part_fine m k ks whole parts there = by (slice_get t.shapes m) refl (sym (get_of_map (λ (s : Shape). s.parts) t.shapes m) ∙ parts)
     where
       later : (r : Shape) → slice_get t.shapes m ≡ Some r → has r.parts (14 + k) ≡ true → (o : Option (ℕ × Text)) → name_in r ≡ o → Fine (14 + k)

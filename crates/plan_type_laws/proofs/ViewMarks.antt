@@ -142,7 +142,8 @@ module _ (t : Tables) (tables : AreTables t) (kinds : Text → Text → Bool) (o
         by [] all = tt
         by (k ∷ ks) all = (all k (get-contains (k ∷ ks) 0 k refl), by ks (λ j c. all j (contains-later k ks j c)))
 
-    form_marked : (n : ℕ) (form : Form) (parts : List ℕ) → slice_get t.shapes n ≡ Some (node_shape form parts) → From (14 + n) → TreeStands Kind (Tree.node form (children (map (tree_at t) parts))) → FormIsMarked marks form parts
+    form_marked : (n : ℕ) (form : Form) (parts : List ℕ) → slice_get t.shapes n ≡ Some (node_shape form parts) → From (14 + n) → TreeStands Kind (Tree.node form (children (map (tree_at t) parts)))
+        → FormIsMarked marks form parts
     form_marked n form parts at from stands = by (is_handle form) refl stands.1
       where
         range : AllByRecursion (IsPart t) parts
@@ -191,7 +192,11 @@ module _ (t : Tables) (tables : AreTables t) (kinds : Text → Text → Bool) (o
             record { tells = λ k e. e ∙ (kind ∙ sym (mark_of_primitive old small)); inner = no_form old small }
         by (is_name n q name en at is) =
             let kind : b ≡ kind_at kinds own (place_at t q) name = subst (λ y. DeclarationStands Kind (Declaration.type_ y) b) is stands in
-            record { tells = λ k e. e ∙ (kind ∙ name_mark old n q name en at met.names); inner = record { holds = λ m form parts within there. name_alone t tables old m (place_at t q) name form parts is within there } }
+            record {
+              tells = λ k e. e ∙ (kind ∙ name_mark old n q name en at met.names);
+              inner =
+                  record { holds = λ m form parts within there. name_alone t tables old m (place_at t q) name form parts is within there };
+            }
         by (is_node n form parts en at is low) =
             let kind = subst (λ y. DeclarationStands Kind (Declaration.type_ y) b) is stands in
             record { tells = λ k e. e ∙ (kind.0 ∙ sym (ap marks en ∙ mark_of_form n form parts at)); inner = part_marked old met.names (subst (TreeStands Kind) (sym is) kind.1) }
@@ -204,7 +209,8 @@ module _ (t : Tables) (tables : AreTables t) (kinds : Text → Text → Bool) (o
 
     -- ---- what is shown
 
-    showing_marked : (s : NumberedShowing) (name : Text) → name_at t s.part ≡ Some (p, name) → AllOf (IsMetFrom t p) s.declared → DeclarationStands Kind (declaration_of t s.declared) (kind_at kinds own (place_at t p) name) → Shown s
+    showing_marked : (s : NumberedShowing) (name : Text) → name_at t s.part ≡ Some (p, name) → AllOf (IsMetFrom t p) s.declared
+        → DeclarationStands Kind (declaration_of t s.declared) (kind_at kinds own (place_at t p) name) → Shown s
     showing_marked s name is met stands =
         let declared = declared_marked (kind_at kinds own (place_at t p) name) s.declared met stands in
         (record { name = (p, name); is = is; marked = declared.tells s.part (mark_of_name s.part p name is ∙ sym (has name)) }, declared.inner)
@@ -225,9 +231,11 @@ module _ (t : Tables) (tables : AreTables t) (kinds : Text → Text → Bool) (o
   pub view_marked : (p : ℕ) (v : NumberedView) (k : ViewKinds t kinds p v) → HasOwn p k.own → AreShown (showings_of_view v) (signatures_of_view v)
   view_marked p v k has = (
     all_mapped Shown showing_of v.types
-        (recursion_weaker (λ (x : NumberedType). IsShownIn t p x × DeclarationStands (OfKind (kind_at kinds k.own)) (declaration_of t x.declared) (kind_at kinds k.own (place_at t p) x.name)) (λ (x : NumberedType). Shown (showing_of x))
+        (recursion_weaker (λ (x : NumberedType). IsShownIn t p x × DeclarationStands (OfKind (kind_at kinds k.own)) (declaration_of t x.declared) (kind_at kinds k.own (place_at t p) x.name))
+        (λ (x : NumberedType). Shown (showing_of x))
         (λ x is. type_marked p k.own has x is.0 is.1) v.types k.types),
     all_mapped Called (λ (f : Text × NumberedFunction). f.1.signature) v.functions
-        (recursion_weaker (λ (f : Text × NumberedFunction). IsCalledIn t p f.1.signature × SignatureStands (OfKind (kind_at kinds k.own)) (signature_at t f.1.signature)) (λ (f : Text × NumberedFunction). Called f.1.signature)
+        (recursion_weaker (λ (f : Text × NumberedFunction). IsCalledIn t p f.1.signature × SignatureStands (OfKind (kind_at kinds k.own)) (signature_at t f.1.signature))
+        (λ (f : Text × NumberedFunction). Called f.1.signature)
         (λ f is. call_marked p k.own has f.1.signature is) v.functions k.functions),
   )

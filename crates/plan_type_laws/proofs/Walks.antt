@@ -13,7 +13,8 @@ all_flat P f [] all = tt
 all_flat P f (x ∷ xs) all = all_both P (f x) (flat_map f xs) all.0 (all_flat P f xs all.1)
 
 -- what holds of each item and of what it stands for
-pub at_each : {A B : Type 0} (f : A → B) (P : ℕ → B → Type 0) (R Q : A → Type 0) (xs : List A) → ((n : ℕ) (x : A) → R x → P n (f x) → Q x) → AllByRecursion R xs → AllAt P (map f xs) → AllByRecursion Q xs
+pub at_each : {A B : Type 0} (f : A → B) (P : ℕ → B → Type 0) (R Q : A → Type 0) (xs : List A) → ((n : ℕ) (x : A) → R x → P n (f x) → Q x) → AllByRecursion R xs → AllAt P (map f xs)
+    → AllByRecursion Q xs
 at_each f P R Q [] one all at = tt
 at_each f P R Q (x ∷ xs) one all at = (one zero x all.0 (at zero (f x) refl), at_each f (λ n y. P (suc n) y) R Q xs (λ n y r p. one (suc n) y r p) all.1 (λ n y e. at (suc n) y e))
 
@@ -28,5 +29,3 @@ all_two P Q (x ∷ xs) ps qs = ((ps.0, qs.0), all_two P Q xs ps.1 qs.1)
 pub all_split : {A : Type 0} (P : A → Type 0) (xs ys : List A) → AllByRecursion P (xs ++ ys) → AllByRecursion P xs × AllByRecursion P ys
 all_split P [] ys all = (tt, all)
 all_split P (x ∷ xs) ys all = let rest = all_split P xs ys all.1 in ((all.0, rest.0), rest.1)
-
--- ---- tests that fail

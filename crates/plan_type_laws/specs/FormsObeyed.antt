@@ -18,5 +18,6 @@ LengthsFit t = (n l : ℕ) (parts : List ℕ) → slice_get t.shapes n ≡ Some 
 
 -- Where the parts at the top are well-formed, each form that they show is one that a definition may have.
 abbrev pub FormsAreObeyed : Type 0
-FormsAreObeyed = (t : Tables) → AreTables t → LengthsFit t → (h : Homes) (ms : List Member) (members : List reads.Member) → AllZip (IsMember t h) (numbered_members ms) members → MembersStand members
+FormsAreObeyed = (t : Tables) → AreTables t → LengthsFit t → (h : Homes) (ms : List Member) (members : List reads.Member)
+    → AllZip (IsMember t h) (numbered_members ms) members → MembersStand members
     → FormsObey t (showings_of_members ms) (signatures_of_members ms)

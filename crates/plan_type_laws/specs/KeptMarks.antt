@@ -14,6 +14,8 @@ use Rattle.plan_type_laws.specs.ShownMarks.{MarksStand}
 
 -- The marks of what is shown are those of the types that are made of what is used.
 abbrev pub MarksAreKept : Type 0
-MarksAreKept = (t : Tables) → AreTables t → (showings : List NumberedShowing) (signatures : List ℕ) (m : MarksStand t showings signatures) (marks : List Bool) → AreUsed t (used_parts t showings signatures) marks
-    → (kept : List ℕ) → AreMarked marks kept → (p : Plan) (owners : ℕ → TypeOwner) (find : ℕ → Option NumberedShowing) → FindsShown showings find → AllZip (PlansType t kept find owners) kept p.types
+MarksAreKept = (t : Tables) → AreTables t → (showings : List NumberedShowing) (signatures : List ℕ) (m : MarksStand t showings signatures) (marks : List Bool)
+    → AreUsed t (used_parts t showings signatures) marks
+    → (kept : List ℕ) → AreMarked marks kept → (p : Plan) (owners : ℕ → TypeOwner) (find : ℕ → Option NumberedShowing) → FindsShown showings find
+    → AllZip (PlansType t kept find owners) kept p.types
     → resources.AreMarked t kept p m.marks

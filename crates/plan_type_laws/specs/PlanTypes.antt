@@ -26,10 +26,13 @@ pub record NameObeys (t : Tables) (p : Plan) (owners : ℕ → TypeOwner) (n q :
 
 -- each name that is used does
 abbrev pub NamesObey : Tables → Plan → (ℕ → TypeOwner) → (ℕ → Option NumberedShowing) → List Bool → Type 0
-NamesObey t p owners find marks = (n q : ℕ) (name : Text) (s : NumberedShowing) → is_marked marks n ≡ true → slice_get t.shapes n ≡ Some (named_shape q name) → find n ≡ Some s → NameObeys t p owners n q name s
+NamesObey t p owners find marks = (n q : ℕ) (name : Text) (s : NumberedShowing) → is_marked marks n ≡ true → slice_get t.shapes n ≡ Some (named_shape q name)
+    → find n ≡ Some s → NameObeys t p owners n q name s
 
 -- Types that are made so of the types that are used are those of a plan that was read.
 abbrev pub PlannedTypesAreKept : Type 0
-PlannedTypesAreKept = (t : Tables) → AreTables t → (showings : List NumberedShowing) → AllByRecursion (ShowingObeys t) showings → (signatures : List ℕ) → AllByRecursion (SignatureObeys t) signatures → FormsObey t showings signatures
-    → (marks : List Bool) → AreUsed t (used_parts t showings signatures) marks → (kept : List ℕ) → AreMarked marks kept → (p : Plan) (owners : ℕ → TypeOwner) (find : ℕ → Option NumberedShowing) → FindsShown showings find
+PlannedTypesAreKept = (t : Tables) → AreTables t → (showings : List NumberedShowing) → AllByRecursion (ShowingObeys t) showings → (signatures : List ℕ)
+    → AllByRecursion (SignatureObeys t) signatures → FormsObey t showings signatures
+    → (marks : List Bool) → AreUsed t (used_parts t showings signatures) marks → (kept : List ℕ) → AreMarked marks kept
+    → (p : Plan) (owners : ℕ → TypeOwner) (find : ℕ → Option NumberedShowing) → FindsShown showings find
     → AllZip (PlansType t kept find owners) kept p.types → NamesObey t p owners find marks → TypesAreKept t kept p

@@ -53,4 +53,5 @@ pub record TypesAreRead (t : Tables) (ms : List Member) (kept : List ℕ) (p : P
   pub marked : resources.AreMarked t kept p told.marks
 
 abbrev pub PlannedTypesAreRead : Type 0
-PlannedTypesAreRead = (t : Tables) (h : Homes) (ms : List Member) (members : List reads.Member) → IsFollowed t h ms members → (kept : List ℕ) (p : Plan) (owners : ℕ → TypeOwner) → TypesArePlanned t ms kept p owners → TypesAreRead t ms kept p
+PlannedTypesAreRead = (t : Tables) (h : Homes) (ms : List Member) (members : List reads.Member) → IsFollowed t h ms members
+    → (kept : List ℕ) (p : Plan) (owners : ℕ → TypeOwner) → TypesArePlanned t ms kept p owners → TypesAreRead t ms kept p

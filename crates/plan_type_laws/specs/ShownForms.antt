@@ -13,7 +13,8 @@ module _ (t : Tables) where
   -- In the part stands the number, as itself or among the parts of a form.
   pub data HasNumberIn : ℕ → ℕ → Type 0 where
     itself : (k n : ℕ) → k ≡ 14 + n → HasNumberIn k n
-    inside : (k n m i : ℕ) (form : Form) (parts : List ℕ) → k ≡ 14 + n → slice_get t.shapes n ≡ Some (node_shape form parts) → Contains parts m → HasNumberIn m i → HasNumberIn k i
+    inside : (k n m i : ℕ) (form : Form) (parts : List ℕ) → k ≡ 14 + n → slice_get t.shapes n ≡ Some (node_shape form parts) → Contains parts m
+        → HasNumberIn m i → HasNumberIn k i
 
   -- Each form in the part is so.
   pub record EachForm (P : Form → List ℕ → Type 0) (k : ℕ) : Type 0 where
@@ -34,4 +35,5 @@ FindsShown showings find = (n : ℕ) (s : NumberedShowing) → find n ≡ Some s
 
 -- The first showing of each type is found so, also by a table that tells it.
 abbrev pub FirstsAreFound : Type 0
-FirstsAreFound = (showings : List NumberedShowing) → FindsShown showings (λ n. first_showing n showings) × ((table : List (Option Showing)) → TellsFirst showings table → FindsShown showings (showing_at table))
+FirstsAreFound = (showings : List NumberedShowing) → FindsShown showings (λ n. first_showing n showings)
+    × ((table : List (Option Showing)) → TellsFirst showings table → FindsShown showings (showing_at table))

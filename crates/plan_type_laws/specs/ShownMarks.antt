@@ -88,5 +88,6 @@ pub record MarksStand (t : Tables) (showings : List NumberedShowing) (signatures
 
 -- Where the parts at the top are well-formed, and each name is a resource wherever it is met, or nowhere, there are such marks.
 abbrev pub NamesAreMarked : Type 0
-NamesAreMarked = (t : Tables) → AreTables t → (h : Homes) → HomesStand t h → (ms : List Member) (members : List reads.Member) → AllZip (IsMember t h) (numbered_members ms) members → MembersStand members
+NamesAreMarked = (t : Tables) → AreTables t → (h : Homes) → HomesStand t h → (ms : List Member) (members : List reads.Member)
+    → AllZip (IsMember t h) (numbered_members ms) members → MembersStand members
     → NamesHaveKinds members → AreMembersIn t (numbered_members ms) → ArePlaced t ms → MarksStand t (showings_of_members ms) (signatures_of_members ms)

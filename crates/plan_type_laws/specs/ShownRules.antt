@@ -40,11 +40,15 @@ pub record RulesHold (t : Tables) (showings : List NumberedShowing) (signatures 
 
 -- Where the parts at the top are well-formed, and the views of interfaces may be ones, all that they show obeys the rules.
 abbrev pub ShownObeysRules : Type 0
-ShownObeysRules = (t : Tables) → AreTables t → (h : Homes) → HomesStand t h → (ms : List Member) (members : List reads.Member) → AllZip (IsMember t h) (numbered_members ms) members → MembersStand members
-    → reads.are_interfaces (flat_map reads.sights members) ≡ true → AreMembersIn t (numbered_members ms) → AllByRecursion (λ (m : Member). PartNames t m.part) ms → RulesHold t (showings_of_members ms) (signatures_of_members ms)
+ShownObeysRules = (t : Tables) → AreTables t → (h : Homes) → HomesStand t h → (ms : List Member) (members : List reads.Member)
+    → AllZip (IsMember t h) (numbered_members ms) members → MembersStand members
+    → reads.are_interfaces (flat_map reads.sights members) ≡ true → AreMembersIn t (numbered_members ms)
+    → AllByRecursion (λ (m : Member). PartNames t m.part) ms → RulesHold t (showings_of_members ms) (signatures_of_members ms)
 
 -- Then each name that is used obeys them too, where its place is its owner's.
 abbrev pub NamesObeyRules : Type 0
-NamesObeyRules = (t : Tables) → AreTables t → (showings : List NumberedShowing) → AllByRecursion (ShowingIsName t) showings → (find : ℕ → Option NumberedShowing) → FindsShown showings find
-    → (p : Plan) (owners : ℕ → TypeOwner) (marks : List Bool) → ((n q : ℕ) (name : Text) → is_marked marks n ≡ true → slice_get t.shapes n ≡ Some (named_shape q name) → place_in p (owners q) ≡ place_at t q)
+NamesObeyRules = (t : Tables) → AreTables t → (showings : List NumberedShowing) → AllByRecursion (ShowingIsName t) showings
+    → (find : ℕ → Option NumberedShowing) → FindsShown showings find
+    → (p : Plan) (owners : ℕ → TypeOwner) (marks : List Bool)
+    → ((n q : ℕ) (name : Text) → is_marked marks n ≡ true → slice_get t.shapes n ≡ Some (named_shape q name) → place_in p (owners q) ≡ place_at t q)
     → NamesObey t p owners find marks

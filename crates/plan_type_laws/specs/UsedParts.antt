@@ -35,5 +35,7 @@ module _ (t : Tables) where
 
 -- Each unnamed type that is used is such a part.
 abbrev pub UsedPartsAreFine : Type 0
-UsedPartsAreFine = (t : Tables) → AreTables t → (showings : List NumberedShowing) → AllByRecursion (ShowingObeys t) showings → (signatures : List ℕ) → AllByRecursion (SignatureObeys t) signatures
-    → (marks : List Bool) → AreUsed t (used_parts t showings signatures) marks → (n : ℕ) (s : Shape) → is_marked marks n ≡ true → slice_get t.shapes n ≡ Some s → name_in s ≡ None → IsFinePart t (14 + n)
+UsedPartsAreFine = (t : Tables) → AreTables t → (showings : List NumberedShowing) → AllByRecursion (ShowingObeys t) showings → (signatures : List ℕ)
+    → AllByRecursion (SignatureObeys t) signatures
+    → (marks : List Bool) → AreUsed t (used_parts t showings signatures) marks → (n : ℕ) (s : Shape) → is_marked marks n ≡ true → slice_get t.shapes n ≡ Some s
+    → name_in s ≡ None → IsFinePart t (14 + n)

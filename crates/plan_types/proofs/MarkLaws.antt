@@ -36,7 +36,8 @@ flat_append f (y ∷ xs) x = ap (λ l. f y ++ l) (flat_append f xs x) ∙ sym (a
     append_line (a ∷ ws) bs cs = ap (λ l. a ∷ l) (append_line ws bs cs)
 
 -- the marks of so many items, and of one more
-pub marks_next : {A : Type 0} (f : A → List ℕ) (xs : List A) (i : ℕ) (d : A) (a b c : List Bool) → i < length xs → Marks (flat_map f (take i xs)) a b → Marks (f (get_or xs i d)) b c → Marks (flat_map f (take (i + 1) xs)) a c
+pub marks_next : {A : Type 0} (f : A → List ℕ) (xs : List A) (i : ℕ) (d : A) (a b c : List Bool) → i < length xs → Marks (flat_map f (take i xs)) a b → Marks (f (get_or xs i d)) b c
+    → Marks (flat_map f (take (i + 1) xs)) a c
 marks_next f xs i d a b c within before now =
     subst (λ ps. Marks ps a c) (sym (ap (flat_map f) (take_more xs i d within) ∙ flat_append f (take i xs) (get_or xs i d))) (marks_both (flat_map f (take i xs)) (f (get_or xs i d)) a b c before now)
 
@@ -44,7 +45,8 @@ pub marks_all : {A : Type 0} (f : A → List ℕ) (xs : List A) (i : ℕ) (a b :
 marks_all f xs i a b past all = subst (λ l. Marks (flat_map f l) a b) (take_all i xs past) all
 
 -- the same, where each item is a part
-pub part_next : {A : Type 0} (f : A → ℕ) (xs : List A) (i : ℕ) (d : A) (a b c : List Bool) → i < length xs → Marks (map f (take i xs)) a b → Marks (f (get_or xs i d) ∷ []) b c → Marks (map f (take (i + 1) xs)) a c
+pub part_next : {A : Type 0} (f : A → ℕ) (xs : List A) (i : ℕ) (d : A) (a b c : List Bool) → i < length xs → Marks (map f (take i xs)) a b → Marks (f (get_or xs i d) ∷ []) b c
+    → Marks (map f (take (i + 1) xs)) a c
 part_next f xs i d a b c within before now =
     subst (λ ps. Marks ps a c) (sym (ap (map f) (take_more xs i d within) ∙ map-append f (take i xs) (get_or xs i d ∷ []))) (marks_both (map f (take i xs)) (f (get_or xs i d) ∷ []) a b c before now)
 

@@ -33,12 +33,15 @@ module _ (t : Tables) (kept : List ℕ) (find : ℕ → Option NumberedShowing) 
   -- What it is made of is kept: the parts of a form, or what a name is shown as.
   pub data MayBePlanned (n : ℕ) : Type 0 where
     a_form : (s : Shape) → slice_get t.shapes n ≡ Some s → name_in s ≡ None → IsFormOver kept s → MayBePlanned n
-    a_name : (s : Shape) (q : ℕ) (name : Text) (x : NumberedShowing) → slice_get t.shapes n ≡ Some s → name_in s ≡ Some (q, name) → find n ≡ Some x → MayBeDeclared t kept x.declared → MayBePlanned n
+    a_name : (s : Shape) (q : ℕ) (name : Text) (x : NumberedShowing) → slice_get t.shapes n ≡ Some s → name_in s ≡ Some (q, name) → find n ≡ Some x
+        → MayBeDeclared t kept x.declared → MayBePlanned n
 
   -- The type of the plan: unnamed, of its form over the types that are kept, or named in its place, of the kind that it is shown as.
   pub data PlansType (owners : ℕ → TypeOwner) (n : ℕ) (x : PlannedType) : Type 0 where
-    unnamed : (s : Shape) → slice_get t.shapes n ≡ Some s → name_in s ≡ None → x.name ≡ None → x.owner ≡ owner.None → x.external_id ≡ None → IsFormed kept s x.kind → PlansType owners n x
-    named : (s : Shape) (q : ℕ) (name : Text) (y : NumberedShowing) → slice_get t.shapes n ≡ Some s → name_in s ≡ Some (q, name) → find n ≡ Some y → x.name ≡ Some name → x.owner ≡ owners q → x.external_id ≡ y.external_id
+    unnamed : (s : Shape) → slice_get t.shapes n ≡ Some s → name_in s ≡ None → x.name ≡ None → x.owner ≡ owner.None → x.external_id ≡ None
+        → IsFormed kept s x.kind → PlansType owners n x
+    named : (s : Shape) (q : ℕ) (name : Text) (y : NumberedShowing) → slice_get t.shapes n ≡ Some s → name_in s ≡ Some (q, name) → find n ≡ Some y
+        → x.name ≡ Some name → x.owner ≡ owners q → x.external_id ≡ y.external_id
         → IsKindFor t kept y.declared x.kind → PlansType owners n x
 
 -- the types of the plan for those of the table that are kept, in order, by the table of what each is shown as first

@@ -128,7 +128,8 @@ fn planned_type<'a>(
     number: usize,
 ) -> Result<PlannedType<'a>, AllocError>
     requires { MayBePlanned (numbered_tables tables.now) kept.now (showing_at first.now) number }
-    ensures { IfOk result (λ x. PlansType (numbered_tables tables.now) kept.now (showing_at first.now) (owner_in places.now.keys homes.now.keys) number (stated_type x)) }
+    ensures { IfOk result (λ x. PlansType (numbered_tables tables.now) kept.now (showing_at first.now) (owner_in places.now.keys homes.now.keys) number
+        (stated_type x)) }
 {
     let shape = shape_of(tables, number);
     let Some((place, name)) = name_in(shape) else {

@@ -1,4 +1,4 @@
--- The tokens and the tree of a text with every kind of declared type but a record.
+-- Worked examples: the tokens and the tree of a text with every kind of declared type but a record.
 use Rattle.std.proofs.Common.{◌≡◌, [], ◌∷◌, ◌++◌, List, ℕ, refl, codes, None, Some, false, true}
 use Rattle.print_grammar.specs.Keyword.Keyword.{PrimitiveWord, Package, Interface, Func, Variant, Flags, Enum, Resource, Async, Type_}
 use Rattle.print_grammar.specs.Keyword.{Keyword}
@@ -40,7 +40,13 @@ use Rattle.print_grammar.specs.Grammar.ReadsFile.{file}
 use Rattle.print_grammar.specs.Reading.{IsReading}
 
 abbrev declared_text : List ℕ
-declared_text = codes "package a:b;" ++ (10 ∷ 10 ∷ (codes "interface i {" ++ (10 ∷ (codes "  resource r {" ++ (10 ∷ (codes "    constructor(x: u8);" ++ (10 ∷ (codes "    m: func();" ++ (10 ∷ (codes "    s: static async func() -> r;" ++ (10 ∷ (codes "  }" ++ (10 ∷ 10 ∷ (codes "  variant v {" ++ (10 ∷ (codes "    a," ++ (10 ∷ (codes "    b(r)," ++ (10 ∷ (codes "  }" ++ (10 ∷ 10 ∷ (codes "  flags f {" ++ (10 ∷ (codes "    c," ++ (10 ∷ (codes "  }" ++ (10 ∷ 10 ∷ (codes "  enum e {" ++ (10 ∷ (codes "    d," ++ (10 ∷ (codes "  }" ++ (10 ∷ 10 ∷ (codes "  type t = own<r>;" ++ (10 ∷ (codes "}" ++ (10 ∷ 10 ∷ [])))))))))))))))))))))))))))))))))))))
+declared_text = codes "package a:b;" ++ (10 ∷ 10 ∷ (codes "interface i {"
+    ++ (10 ∷ (codes "  resource r {" ++ (10 ∷ (codes "    constructor(x: u8);"
+    ++ (10 ∷ (codes "    m: func();" ++ (10 ∷ (codes "    s: static async func() -> r;"
+    ++ (10 ∷ (codes "  }" ++ (10 ∷ 10 ∷ (codes "  variant v {" ++ (10 ∷ (codes "    a,"
+    ++ (10 ∷ (codes "    b(r)," ++ (10 ∷ (codes "  }" ++ (10 ∷ 10 ∷ (codes "  flags f {"
+    ++ (10 ∷ (codes "    c," ++ (10 ∷ (codes "  }" ++ (10 ∷ 10 ∷ (codes "  enum e {"
+    ++ (10 ∷ (codes "    d," ++ (10 ∷ (codes "  }" ++ (10 ∷ 10 ∷ (codes "  type t = own<r>;" ++ (10 ∷ (codes "}" ++ (10 ∷ 10 ∷ [])))))))))))))))))))))))))))))))))))))
 
 abbrev declared_tokens : List Token
 declared_tokens =

@@ -3,6 +3,7 @@ use Rattle.std.proofs.Common.{◌≡◌, refl, ap, ◌∙◌, ℕ, ◌+◌, ◌-
 use Rattle.std.specs.List.{list_all, flat_map}
 use Rattle.std.specs.Prelude.{option_map}
 use Rattle.wit_model.specs.Names.{is_label, begins_with_letter}
+use Rattle.wit_model.specs.Rules.{passes}
 use Rattle.print_grammar.specs.Keyword.{Keyword as WordKey, escaped}
 use Rattle.print_output.specs.OutputCall.{OutputCall, is_one_line}
 use Rattle.print_output.specs.OutputCall.OutputCall.{Keyword, Ty, Param, Case, Str, Semicolon, IndentStart, IndentEnd, Newline}
@@ -18,7 +19,7 @@ use Rattle.print_grammar.specs.AsRead.{type_as_read, bare_prefix, bare_field, ba
 use Rattle.print_grammar.specs.Grammar.{ReadsSignature, ReadsType, ReadsField, ReadsCase, ReadsLabel, ReadsResourceMember, ReadsDeclared, ReadsPrefix, Listed, Repeated}
 use Rattle.print_grammar.specs.Grammar.Listed.{last_with_comma, next}
 use Rattle.print_grammar.specs.Grammar.Repeated.{closed, again}
-use Rattle.print_grammar.specs.WellNamed.{is_well_type, is_well_optional, is_well_param, is_well_signature, is_well_prefix, is_well_field, is_well_case, is_well_label, is_well_resource_member, is_well_declared, are_well_some}
+use Rattle.print_grammar.specs.WellNamed.{is_well_type, is_well_param, is_well_signature, is_well_prefix, is_well_field, is_well_case, is_well_label, is_well_resource_member, is_well_declared, are_well_some}
 use Rattle.print_output.specs.declared.type_kind.TypeKind.{TypeKind}
 use Rattle.print_output.specs.declared.type_kind.TypeKind.TheVariants as kind
 use Rattle.print_grammar.proofs.TokenFacts.{id_token, id_is}
@@ -31,9 +32,11 @@ use Rattle.base_lemmas.proofs.Bools.{left_of, right_of}
 
 -- ---- what `type` declares
 
-pub alias_body_reads : (ty : TypeTree) → is_well_type ty ≡ true → {more : List OutputCall} {ts : List Token} → Ended more ts → Printed false (alias_body_calls ty ++ more) (λ before. ReadsType before (type_as_read ty) ts)
+pub alias_body_reads : (ty : TypeTree) → is_well_type ty ≡ true → {more : List OutputCall} {ts : List Token} → Ended more ts
+    → Printed false (alias_body_calls ty ++ more) (λ before. ReadsType before (type_as_read ty) ts)
 alias_body_reads (ListOf ty) h e = angled (type_calls ty) WordKey.List_ by_type refl refl by_str by_str e (λ f. type_reads ty h f) (λ b r. ReadsType.list r)
-alias_body_reads (FixedListOf ty n) h e = angled_length (type_calls ty) n WordKey.List_ by_type refl refl by_str by_str by_str (right_of (is_well_type ty) _ h) e (λ f. type_reads ty (left_of _ _ h) f) (λ b r. ReadsType.fixed_list r)
+alias_body_reads (FixedListOf ty n) h e = angled_length (type_calls ty) n WordKey.List_ by_type refl refl by_str by_str by_str (right_of (is_well_type ty) _ h) e (λ f. type_reads ty (left_of _ _ h) f)
+    (λ b r. ReadsType.fixed_list r)
 alias_body_reads (MapOf key value) h e =
     angled_two (type_calls key) (type_calls value) {P = λ after before. ReadsType before (type_as_read key) after} WordKey.Map by_type refl refl by_str by_str e
     (λ rest after f. type_reads key (left_of _ _ h) f) (λ f. type_reads value (right_of (is_well_type key) _ h) f) (λ b c r s. ReadsType.map r s)
@@ -68,7 +71,8 @@ comma_line : {more : List OutputCall} {ts : List Token} → Follows true more ts
 comma_line f = record { follows = record { at = λ level. comma (line_feed (f.at level)) }; word = λ level. refl }
 
 -- a word, a name and a block
-pub block_reads : {word : List ℕ} (k : WordKey) (name : List ℕ) (of_kind : TypeKind) (body more : List OutputCall) {P Q : List Token → Type 0} → begins_with_letter word ≡ true → spelled word ≡ Some (Key k) → is_label name ≡ true
+pub block_reads : {word : List ℕ} (k : WordKey) (name : List ℕ) (of_kind : TypeKind) (body more : List OutputCall) {P Q : List Token → Type 0} → begins_with_letter word ≡ true
+    → spelled word ≡ Some (Key k) → is_label name ≡ true
     → Printed true (body ++ (IndentEnd ∷ more)) P → ((tokens : List Token) → P tokens → Q (Key k ∷ id_token name ∷ Punctuation OpenBrace ∷ tokens))
     → Printed true (block_calls word name of_kind body ++ more) Q
 block_reads {word} k name of_kind body more letter s h inside make =
@@ -86,7 +90,8 @@ pub lines_read : {X : Type 0} (calls : X → List OutputCall) (well : X → Bool
 lines_read {X} calls well read Reads each [] h f = absurd cc
 lines_read {X} calls well read Reads each (x ∷ xs) h {more} {after} f = go x xs (right_of (nat_lt 0 (length (x ∷ xs))) _ h)
   where
-    go : (y : X) (ys : List X) → list_all well (y ∷ ys) ≡ true → Printed true (flat_map calls (y ∷ ys) ++ (IndentEnd ∷ more)) (λ before. Listed Reads (Punctuation CloseBrace) before (map read (y ∷ ys)) after)
+    go : (y : X) (ys : List X) → list_all well (y ∷ ys) ≡ true
+        → Printed true (flat_map calls (y ∷ ys) ++ (IndentEnd ∷ more)) (λ before. Listed Reads (Punctuation CloseBrace) before (map read (y ∷ ys)) after)
     go y [] g =
         let i = each y (left_of _ _ g) (IndentEnd ∷ more) (Punctuation CloseBrace ∷ after) (end_call f) in
         relist (ap (λ x. x ++ (IndentEnd ∷ more)) (append-nil (calls y))) (i.0, i.1, last_with_comma i.2)
@@ -109,7 +114,8 @@ members_repeat calls well read Reads each (x ∷ xs) h {more} f =
 -- ---- entries
 
 module _ (emits_docs : Bool) where
-  field_reads : (x : FieldTree) → is_well_field x ≡ true → (more : List OutputCall) (ts : List Token) → Follows true more ts → Printed true (field_calls emits_docs x ++ more) (λ before. ReadsField before (bare_field type_as_read x) (Punctuation Comma ∷ ts))
+  field_reads : (x : FieldTree) → is_well_field x ≡ true → (more : List OutputCall) (ts : List Token) → Follows true more ts
+      → Printed true (field_calls emits_docs x ++ more) (λ before. ReadsField before (bare_field type_as_read x) (Punctuation Comma ∷ ts))
   field_reads x h more ts f =
       let named = right_of (list_all is_one_line x.docs) _ h in
       let i = type_reads x.ty (right_of (is_label x.name) _ named) (comma_line f) in
@@ -118,13 +124,16 @@ module _ (emits_docs : Bool) where
       ∙ ap (λ y. doc_calls emits_docs x.docs ++ (Param (escaped x.name) ∷ Str (codes ": ") ∷ y)) (append_assoc (type_calls x.ty) (Str (codes ",") ∷ Newline ∷ []) more))
       (id_token x.name ∷ Punctuation Colon ∷ i.0, docs_read emits_docs x.docs (left_of _ _ h) (line_begins (Param (escaped x.name)) refl line), ReadsField.field (id_is x.name) i.2)
 
-  case_reads : (x : CaseTree) → is_well_case x ≡ true → (more : List OutputCall) (ts : List Token) → Follows true more ts → Printed true (case_calls emits_docs x ++ more) (λ before. ReadsCase before (bare_case type_as_read x) (Punctuation Comma ∷ ts))
+  case_reads : (x : CaseTree) → is_well_case x ≡ true → (more : List OutputCall) (ts : List Token) → Follows true more ts
+      → Printed true (case_calls emits_docs x ++ more) (λ before. ReadsCase before (bare_case type_as_read x) (Punctuation Comma ∷ ts))
   case_reads x h more ts f = go x.payload (right_of (is_label x.name) _ named)
     where
-      named : (is_label x.name && is_well_optional is_well_type x.payload) ≡ true
+      named : (is_label x.name && passes is_well_type x.payload) ≡ true
       named = right_of (list_all is_one_line x.docs) _ h
 
-      go : (payload : Option TypeTree) → is_well_optional is_well_type payload ≡ true → Printed true ((doc_calls emits_docs x.docs ++ (Case (escaped x.name) ∷ (payload_calls payload ++ (Str (codes ",") ∷ Newline ∷ [])))) ++ more) (λ before. ReadsCase before (record { docs = []; name = x.name; payload = option_map type_as_read payload }) (Punctuation Comma ∷ ts))
+      go : (payload : Option TypeTree) → passes is_well_type payload ≡ true
+          → Printed true ((doc_calls emits_docs x.docs ++ (Case (escaped x.name) ∷ (payload_calls payload ++ (Str (codes ",") ∷ Newline ∷ [])))) ++ more)
+          (λ before. ReadsCase before (record { docs = []; name = x.name; payload = option_map type_as_read payload }) (Punctuation Comma ∷ ts))
       go None g =
           let e = comma_line f in
           let line = id_call x.name (by_case {text = escaped x.name}) (left_of _ _ named) e.word e.follows in
@@ -133,13 +142,15 @@ module _ (emits_docs : Bool) where
       go (Some ty) g =
           let e = comma_line f in
           let i = type_reads ty g (paren_call e.follows) in
-          let inside : Follows false (Str (codes "(") ∷ (type_calls ty ++ (Str (codes ")") ∷ Str (codes ",") ∷ Newline ∷ more))) (Punctuation OpenParen ∷ i.0) = record { at = λ level. open_paren (i.1.at level) } in
+          let inside : Follows false (Str (codes "(") ∷ (type_calls ty ++ (Str (codes ")") ∷ Str (codes ",") ∷ Newline ∷ more))) (Punctuation OpenParen ∷ i.0) =
+          record { at = λ level. open_paren (i.1.at level) } in
           let line = id_call x.name (by_case {text = escaped x.name}) (left_of _ _ named) (λ level. refl) inside in
           relist (append_assoc (doc_calls emits_docs x.docs) (Case (escaped x.name) ∷ (payload_calls (Some ty) ++ (Str (codes ",") ∷ Newline ∷ []))) more
           ∙ ap (λ y. doc_calls emits_docs x.docs ++ (Case (escaped x.name) ∷ Str (codes "(") ∷ y)) (three_lists (type_calls ty) (Str (codes ")") ∷ []) (Str (codes ",") ∷ Newline ∷ []) more))
           (id_token x.name ∷ Punctuation OpenParen ∷ i.0, docs_read emits_docs x.docs (left_of _ _ h) (line_begins (Case (escaped x.name)) refl line), ReadsCase.case_of (id_is x.name) i.2)
 
-  label_reads : (x : LabelTree) → is_well_label x ≡ true → (more : List OutputCall) (ts : List Token) → Follows true more ts → Printed true (label_calls emits_docs x ++ more) (λ before. ReadsLabel before (bare_label type_as_read x) (Punctuation Comma ∷ ts))
+  label_reads : (x : LabelTree) → is_well_label x ≡ true → (more : List OutputCall) (ts : List Token) → Follows true more ts
+      → Printed true (label_calls emits_docs x ++ more) (λ before. ReadsLabel before (bare_label type_as_read x) (Punctuation Comma ∷ ts))
   label_reads x h more ts f =
       let e = comma_line f in
       let line = id_call x.name (by_case {text = escaped x.name}) (right_of (list_all is_one_line x.docs) _ h) e.word e.follows in
@@ -150,9 +161,11 @@ module _ (emits_docs : Bool) where
 
   -- What is printed of a function with its name is read as what stands in front of it, its name and its signature.
   abbrev pub ReadsFunction : Prefix → List ℕ → SignatureTree → List Token → List Token → Type 0
-  ReadsFunction prefix name s after before = (between : List Token) × ReadsPrefix before (bare_prefix type_as_read prefix) (id_token name ∷ Punctuation Colon ∷ between) × ReadsSignature between (bare_signature type_as_read s) (Punctuation Semi ∷ after)
+  ReadsFunction prefix name s after before = (between : List Token) × ReadsPrefix before (bare_prefix type_as_read prefix) (id_token name ∷ Punctuation Colon ∷ between)
+      × ReadsSignature between (bare_signature type_as_read s) (Punctuation Semi ∷ after)
 
-  pub function_reads : (prefix : Prefix) (name : List ℕ) (of_kind : TypeKind) (s : SignatureTree) → (is_well_prefix prefix && (is_label name && is_well_signature s)) ≡ true → (more : List OutputCall) (ts : List Token) → Follows true more ts
+  pub function_reads : (prefix : Prefix) (name : List ℕ) (of_kind : TypeKind) (s : SignatureTree) → (is_well_prefix prefix && (is_label name && is_well_signature s)) ≡ true
+      → (more : List OutputCall) (ts : List Token) → Follows true more ts
       → Printed true ((prefix_calls emits_docs prefix ++ (Ty (escaped name) of_kind ∷ Str (codes ": ") ∷ (signature_calls s ++ (Semicolon ∷ [])))) ++ more) (ReadsFunction prefix name s ts)
   function_reads prefix name of_kind s h more ts f =
       let g = right_of (is_well_prefix prefix) _ h in
@@ -163,7 +176,8 @@ module _ (emits_docs : Bool) where
       ∙ ap (λ y. prefix_calls emits_docs prefix ++ (Ty (escaped name) of_kind ∷ Str (codes ": ") ∷ y)) (append_assoc (signature_calls s) (Semicolon ∷ []) more))
       (p.0, p.1, (i.0, p.2, i.2))
 
-  resource_member_reads : (x : ResourceMember) → is_well_resource_member x ≡ true → (more : List OutputCall) (ts : List Token) → Follows true more ts → Printed true (resource_member_calls emits_docs x ++ more) (λ before. ReadsResourceMember before (bare_resource_member type_as_read x) ts)
+  resource_member_reads : (x : ResourceMember) → is_well_resource_member x ≡ true → (more : List OutputCall) (ts : List Token) → Follows true more ts
+      → Printed true (resource_member_calls emits_docs x ++ more) (λ before. ReadsResourceMember before (bare_resource_member type_as_read x) ts)
   resource_member_reads (Constructor prefix params result) h more ts f =
       let g = right_of (is_well_prefix prefix) _ h in
       let i = arguments_reads params result (left_of _ _ g) (right_of (list_all is_well_param params) _ g) (semicolon_call f) in
@@ -178,11 +192,14 @@ module _ (emits_docs : Bool) where
   resource_member_reads (Static prefix name s) h more ts f =
       let g = right_of (is_well_prefix prefix) _ h in
       let i = signature_reads s (right_of (is_label name) _ g) (semicolon_call f) in
-      let static : Follows false (Keyword (codes "static") ∷ space_call ∷ (signature_calls s ++ (Semicolon ∷ more))) (Key WordKey.Static ∷ i.0) = word_call (Key WordKey.Static) by_keyword refl refl (λ level. refl) (space_before i.1) in
+      let static : Follows false (Keyword (codes "static") ∷ space_call ∷ (signature_calls s ++ (Semicolon ∷ more))) (Key WordKey.Static ∷ i.0) =
+      word_call (Key WordKey.Static) by_keyword refl refl (λ level. refl) (space_before i.1) in
       let line = line_begins (Ty (escaped name) kind.FunctionStatic) refl (id_call name by_type (left_of _ _ g) (λ level. refl) (colon_call static)) in
       let p = prefix_reads emits_docs prefix (left_of _ _ h) line in
-      relist (append_assoc (prefix_calls emits_docs prefix) (Ty (escaped name) kind.FunctionStatic ∷ Str (codes ": ") ∷ Keyword (codes "static") ∷ space_call ∷ (signature_calls s ++ (Semicolon ∷ []))) more
-      ∙ ap (λ y. prefix_calls emits_docs prefix ++ (Ty (escaped name) kind.FunctionStatic ∷ Str (codes ": ") ∷ Keyword (codes "static") ∷ space_call ∷ y)) (append_assoc (signature_calls s) (Semicolon ∷ []) more))
+      relist (append_assoc (prefix_calls emits_docs prefix) (Ty (escaped name) kind.FunctionStatic ∷ Str (codes ": ") ∷ Keyword (codes "static") ∷ space_call
+      ∷ (signature_calls s ++ (Semicolon ∷ []))) more
+      ∙ ap (λ y. prefix_calls emits_docs prefix ++ (Ty (escaped name) kind.FunctionStatic ∷ Str (codes ": ") ∷ Keyword (codes "static") ∷ space_call ∷ y))
+      (append_assoc (signature_calls s) (Semicolon ∷ []) more))
       (p.0, p.1, ReadsResourceMember.static p.2 (id_is name) i.2)
 
   -- ---- declarations
@@ -191,23 +208,28 @@ module _ (emits_docs : Bool) where
   abbrev pub DeclaredIs : Declared → List Token → List Token → Type 0
   DeclaredIs declared after before = ReadsDeclared before (bare_declared type_as_read declared) after
 
-  resource_reads : (name : List ℕ) (members : List ResourceMember) → is_label name ≡ true → list_all is_well_resource_member members ≡ true → (more : List OutputCall) (ts : List Token) → Follows true more ts
+  resource_reads : (name : List ℕ) (members : List ResourceMember) → is_label name ≡ true → list_all is_well_resource_member members ≡ true → (more : List OutputCall) (ts : List Token)
+      → Follows true more ts
       → Printed true (declared_calls emits_docs (ResourceOf name members) ++ more) (DeclaredIs (ResourceOf name members) ts)
   resource_reads name [] h g more ts f = (
     Key WordKey.Resource ∷ id_token name ∷ Punctuation Semi ∷ ts,
-    line_begins (Ty (codes "resource") kind.BuiltIn) refl (word_call (Key WordKey.Resource) by_type refl refl (λ level. refl) (space_before (id_call name by_type h (λ level. refl) (semicolon_call f).follows))),
+    line_begins (Ty (codes "resource") kind.BuiltIn) refl (word_call (Key WordKey.Resource) by_type refl refl (λ level. refl)
+        (space_before (id_call name by_type h (λ level. refl) (semicolon_call f).follows))),
     ReadsDeclared.resource (id_is name),
   )
   resource_reads name (m ∷ ms) h g more ts f =
       let i = members_repeat (resource_member_calls emits_docs) is_well_resource_member (bare_resource_member type_as_read) ReadsResourceMember resource_member_reads (m ∷ ms) g f in
-      relist (ap (λ y. Ty (codes "resource") kind.BuiltIn ∷ space_call ∷ Ty (escaped name) kind.Resource ∷ IndentStart ∷ y) (append_assoc (flat_map (resource_member_calls emits_docs) (m ∷ ms)) (IndentEnd ∷ []) more)) (
+      relist (ap (λ y. Ty (codes "resource") kind.BuiltIn ∷ space_call ∷ Ty (escaped name) kind.Resource ∷ IndentStart ∷ y)
+      (append_assoc (flat_map (resource_member_calls emits_docs) (m ∷ ms)) (IndentEnd ∷ []) more)) (
         Key WordKey.Resource ∷ id_token name ∷ Punctuation OpenBrace ∷ i.0,
-        line_begins (Ty (codes "resource") kind.BuiltIn) refl (word_call (Key WordKey.Resource) by_type refl refl (λ level. refl) (space_before (id_call name by_type h (λ level. refl) (start_call i.1)))),
+        line_begins (Ty (codes "resource") kind.BuiltIn) refl (word_call (Key WordKey.Resource) by_type refl refl (λ level. refl)
+            (space_before (id_call name by_type h (λ level. refl) (start_call i.1)))),
         ReadsDeclared.resource_with (id_is name) i.2,
       )
 
   -- What is printed of a declared type is read as it.
-  pub declared_reads : (d : Declared) → is_well_declared d ≡ true → (more : List OutputCall) (ts : List Token) → Follows true more ts → Printed true (declared_calls emits_docs d ++ more) (DeclaredIs d ts)
+  pub declared_reads : (d : Declared) → is_well_declared d ≡ true → (more : List OutputCall) (ts : List Token) → Follows true more ts
+      → Printed true (declared_calls emits_docs d ++ more) (DeclaredIs d ts)
   declared_reads (RecordOf name fields) h more ts f =
       block_reads WordKey.Record name kind.Record (flat_map (field_calls emits_docs) fields) more refl refl (left_of _ _ h)
       (lines_read (field_calls emits_docs) is_well_field (bare_field type_as_read) ReadsField field_reads fields (right_of (is_label name) _ h) f)

@@ -42,30 +42,37 @@ module _ (emits_docs : Bool) where
   -- ---- items
 
   -- What is printed of an interface or a world of a package is read as it.
-  pub item_reads : (is_main : Bool) (item : ItemTree) → is_well_item item ≡ true → (more : List OutputCall) (ts : List Token) → Follows true more ts → Printed true (package_item_calls emits_docs is_main item ++ more) (λ before. ReadsItem before (bare_item type_as_read item) ts)
+  pub item_reads : (is_main : Bool) (item : ItemTree) → is_well_item item ≡ true → (more : List OutputCall) (ts : List Token) → Follows true more ts
+      → Printed true (package_item_calls emits_docs is_main item ++ more) (λ before. ReadsItem before (bare_item type_as_read item) ts)
   item_reads is_main (InterfaceItem docs gates name members) h more ts f =
       let g = right_of (list_all is_one_line docs) _ h in
       let n = right_of (is_well_gates gates) _ g in
       let body = members_calls emits_docs false members in
       let i = members_read emits_docs false members (right_of (is_label name) _ n) (line_after is_main f) in
-      let line = line_begins (Keyword (codes "interface")) refl (word_call (Key WordKey.Interface) by_keyword refl refl (λ level. refl) (space_before (id_call name (by_type {kind = kind.InterfaceDeclaration}) (left_of _ _ n) (λ level. refl) (start_call i.1)))) in
+      let line = line_begins (Keyword (codes "interface")) refl (word_call (Key WordKey.Interface) by_keyword refl refl (λ level. refl)
+      (space_before (id_call name (by_type {kind = kind.InterfaceDeclaration}) (left_of _ _ n) (λ level. refl) (start_call i.1)))) in
       let p = gates_read gates (left_of _ _ g) line in
-      relist (five_lists (doc_calls emits_docs docs) (gates_calls gates) (Keyword (codes "interface") ∷ space_call ∷ Ty (escaped name) kind.InterfaceDeclaration ∷ []) (IndentStart ∷ (body ++ (IndentEnd ∷ line_after_calls is_main))) more
-      ∙ ap (λ y. doc_calls emits_docs docs ++ (gates_calls gates ++ (Keyword (codes "interface") ∷ space_call ∷ Ty (escaped name) kind.InterfaceDeclaration ∷ IndentStart ∷ y))) (append_assoc body (IndentEnd ∷ line_after_calls is_main) more))
+      relist (five_lists (doc_calls emits_docs docs) (gates_calls gates) (Keyword (codes "interface") ∷ space_call ∷ Ty (escaped name) kind.InterfaceDeclaration ∷ [])
+      (IndentStart ∷ (body ++ (IndentEnd ∷ line_after_calls is_main))) more
+      ∙ ap (λ y. doc_calls emits_docs docs ++ (gates_calls gates ++ (Keyword (codes "interface") ∷ space_call ∷ Ty (escaped name) kind.InterfaceDeclaration ∷ IndentStart ∷ y)))
+      (append_assoc body (IndentEnd ∷ line_after_calls is_main) more))
       (p.0, docs_read emits_docs docs (left_of _ _ h) p.1, ReadsItem.interface_item p.2 (id_is name) i.2)
   item_reads is_main (WorldItem docs gates name members) h more ts f =
       let g = right_of (list_all is_one_line docs) _ h in
       let n = right_of (is_well_gates gates) _ g in
       let body = world_members_calls emits_docs false false members in
       let i = world_members_read emits_docs false false members (right_of (is_label name) _ n) f in
-      let line = line_begins (Keyword (codes "world")) refl (word_call (Key WordKey.World) by_keyword refl refl (λ level. refl) (space_before (id_call name (by_type {kind = kind.WorldDeclaration}) (left_of _ _ n) (λ level. refl) (start_call i.1)))) in
+      let line = line_begins (Keyword (codes "world")) refl (word_call (Key WordKey.World) by_keyword refl refl (λ level. refl)
+      (space_before (id_call name (by_type {kind = kind.WorldDeclaration}) (left_of _ _ n) (λ level. refl) (start_call i.1)))) in
       let p = gates_read gates (left_of _ _ g) line in
       relist (four_lists (doc_calls emits_docs docs) (gates_calls gates) (block_calls (codes "world") name kind.WorldDeclaration body) more
-      ∙ ap (λ y. doc_calls emits_docs docs ++ (gates_calls gates ++ (Keyword (codes "world") ∷ space_call ∷ Ty (escaped name) kind.WorldDeclaration ∷ IndentStart ∷ y))) (append_assoc body (IndentEnd ∷ []) more))
+      ∙ ap (λ y. doc_calls emits_docs docs ++ (gates_calls gates ++ (Keyword (codes "world") ∷ space_call ∷ Ty (escaped name) kind.WorldDeclaration ∷ IndentStart ∷ y)))
+      (append_assoc body (IndentEnd ∷ []) more))
       (p.0, docs_read emits_docs docs (left_of _ _ h) p.1, ReadsItem.world_item p.2 (id_is name) i.2)
 
   -- items up to a nested package or the end
-  items_read : (items : List ItemTree) → list_all is_well_item items ≡ true → {more : List OutputCall} {ts : List Token} → Follows true more ts → Printed true (flat_map (package_item_calls emits_docs true) items ++ more) (λ before. ReadsItems before (map (bare_item type_as_read) items) ts)
+  items_read : (items : List ItemTree) → list_all is_well_item items ≡ true → {more : List OutputCall} {ts : List Token} → Follows true more ts
+      → Printed true (flat_map (package_item_calls emits_docs true) items ++ more) (λ before. ReadsItems before (map (bare_item type_as_read) items) ts)
   items_read [] h {ts = ts} f = (ts, f, ReadsItems.no_items)
   items_read (item ∷ items) h {more} f =
       let r = items_read items (right_of (is_well_item item) _ h) f in
@@ -87,16 +94,19 @@ module _ (emits_docs : Bool) where
       let n = right_of (list_all is_one_line head.docs) _ h in
       let m = right_of (is_label head.namespace) _ n in
       let v = version_reads head.version kind.VersionDeclaration (right_of (is_label head.name) _ m) f ends in
-      let named = colon_id_call head.namespace kind.NamespaceDeclaration (left_of _ _ n) (id_call head.name (by_type {kind = kind.PackageNameDeclaration}) (left_of _ _ m) (version_ends_word head.version kind.VersionDeclaration more word) v.1) in
+      let named = colon_id_call head.namespace kind.NamespaceDeclaration (left_of _ _ n)
+      (id_call head.name (by_type {kind = kind.PackageNameDeclaration}) (left_of _ _ m) (version_ends_word head.version kind.VersionDeclaration more word) v.1) in
       let line = line_begins (Keyword (codes "package")) refl (word_call (Key WordKey.Package) by_keyword refl refl (λ level. refl) (space_before named)) in
-      relist (append_assoc (doc_calls emits_docs head.docs) (Keyword (codes "package") ∷ space_call ∷ Ty (escaped head.namespace) kind.NamespaceDeclaration ∷ Str (codes ":") ∷ Ty (escaped head.name) kind.PackageNameDeclaration ∷ version_calls head.version kind.VersionDeclaration) more) (
+      relist (append_assoc (doc_calls emits_docs head.docs) (Keyword (codes "package") ∷ space_call ∷ Ty (escaped head.namespace) kind.NamespaceDeclaration ∷ Str (codes ":") ∷ Ty (escaped head.name)
+      kind.PackageNameDeclaration ∷ version_calls head.version kind.VersionDeclaration) more) (
         Key WordKey.Package ∷ id_token head.namespace ∷ Punctuation Colon ∷ id_token head.name ∷ v.0,
         docs_read emits_docs head.docs (left_of _ _ h) line,
         (id_token head.namespace ∷ Punctuation Colon ∷ id_token head.name ∷ v.0, refl, ReadsHead.head (id_is head.namespace) (id_is head.name) v.2),
       )
 
   -- a nested package
-  nested_reads : (tree : PackageTree) → is_well_package tree ≡ true → (more : List OutputCall) (ts : List Token) → Follows true more ts → Printed true (package_calls emits_docs false tree ++ more) (λ before. ReadsNested before (bare_package type_as_read tree) ts)
+  nested_reads : (tree : PackageTree) → is_well_package tree ≡ true → (more : List OutputCall) (ts : List Token) → Follows true more ts
+      → Printed true (package_calls emits_docs false tree ++ more) (λ before. ReadsNested before (bare_package type_as_read tree) ts)
   nested_reads tree h more ts f =
       let items = flat_map (package_item_calls emits_docs false) tree.items in
       let i = members_repeat (package_item_calls emits_docs false) is_well_item (bare_item type_as_read) ReadsItem (item_reads false) tree.items (right_of (is_well_head tree.head) _ h) f in
@@ -167,7 +177,14 @@ file_begins : (emits_docs : Bool) (file : FileTree) → first_indents (file_call
 file_begins false file = refl
 file_begins true file = go file.main.head.docs
   where
-    go : (docs : List (List ℕ)) → first_indents (file_calls true (record { main = record { head = record { docs = docs; namespace = file.main.head.namespace; name = file.main.head.name; version = file.main.head.version }; items = file.main.items }; nested = file.nested })) ≡ true
+    go : (docs : List (List ℕ))
+        → first_indents (file_calls true (record {
+          main = record {
+            head = record { docs = docs; namespace = file.main.head.namespace; name = file.main.head.name; version = file.main.head.version };
+            items = file.main.items;
+          };
+          nested = file.nested;
+        })) ≡ true
     go [] = refl
     go (line ∷ docs) = refl
 

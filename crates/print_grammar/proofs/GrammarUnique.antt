@@ -49,16 +49,22 @@ member-unique _ _ _ _ _ (member_use p a) (member_use {after = rest} {path = path
     let h = prefix-unique (use_no_at a) (use_no_at b) p q in
     let k = use-unique a (subst (λ x. ReadsUse x path names rest) (sym h.1) b) in
     let e = h.0 in let f = k.0 in let g = k.1 in (cc, k.2)
-member-unique _ _ _ _ _ (member_use p a) (member_type {after = rest} {declared = d} q b) = absurd (use_or_declared a (subst (λ x. ReadsDeclared x d rest) (sym (prefix-unique (use_no_at a) (declared_no_at b) p q).1) b))
-member-unique _ _ _ _ _ (member_use {after = rest} {path = path} {names = names} p a) (member_function q j b) = absurd (use_or_id (subst (λ x. ReadsUse x path names rest) (prefix-unique (use_no_at a) (id_no_at _ j) p q).1 a) j)
-member-unique _ _ _ _ _ (member_type {after = rest} {declared = d} p a) (member_use q b) = absurd (use_or_declared b (subst (λ x. ReadsDeclared x d rest) (prefix-unique (declared_no_at a) (use_no_at b) p q).1 a))
+member-unique _ _ _ _ _ (member_use p a) (member_type {after = rest} {declared = d} q b) =
+    absurd (use_or_declared a (subst (λ x. ReadsDeclared x d rest) (sym (prefix-unique (use_no_at a) (declared_no_at b) p q).1) b))
+member-unique _ _ _ _ _ (member_use {after = rest} {path = path} {names = names} p a) (member_function q j b) =
+    absurd (use_or_id (subst (λ x. ReadsUse x path names rest) (prefix-unique (use_no_at a) (id_no_at _ j) p q).1 a) j)
+member-unique _ _ _ _ _ (member_type {after = rest} {declared = d} p a) (member_use q b) =
+    absurd (use_or_declared b (subst (λ x. ReadsDeclared x d rest) (prefix-unique (declared_no_at a) (use_no_at b) p q).1 a))
 member-unique _ _ _ _ _ (member_type p a) (member_type {after = rest} {declared = d} q b) =
     let h = prefix-unique (declared_no_at a) (declared_no_at b) p q in
     let k = declared-unique a (subst (λ x. ReadsDeclared x d rest) (sym h.1) b) in
     let e = h.0 in let f = k.0 in (cc, k.1)
-member-unique _ _ _ _ _ (member_type {after = rest} {declared = d} p a) (member_function q j b) = absurd (declared_or_id (subst (λ x. ReadsDeclared x d rest) (prefix-unique (declared_no_at a) (id_no_at _ j) p q).1 a) j)
-member-unique _ _ _ _ _ (member_function p i a) (member_use {after = rest} {path = path} {names = names} q b) = absurd (use_or_id (subst (λ x. ReadsUse x path names rest) (sym (prefix-unique (id_no_at _ i) (use_no_at b) p q).1) b) i)
-member-unique _ _ _ _ _ (member_function p i a) (member_type {after = rest} {declared = d} q b) = absurd (declared_or_id (subst (λ x. ReadsDeclared x d rest) (sym (prefix-unique (id_no_at _ i) (declared_no_at b) p q).1) b) i)
+member-unique _ _ _ _ _ (member_type {after = rest} {declared = d} p a) (member_function q j b) =
+    absurd (declared_or_id (subst (λ x. ReadsDeclared x d rest) (prefix-unique (declared_no_at a) (id_no_at _ j) p q).1 a) j)
+member-unique _ _ _ _ _ (member_function p i a) (member_use {after = rest} {path = path} {names = names} q b) =
+    absurd (use_or_id (subst (λ x. ReadsUse x path names rest) (sym (prefix-unique (id_no_at _ i) (use_no_at b) p q).1) b) i)
+member-unique _ _ _ _ _ (member_function p i a) (member_type {after = rest} {declared = d} q b) =
+    absurd (declared_or_id (subst (λ x. ReadsDeclared x d rest) (sym (prefix-unique (id_no_at _ i) (declared_no_at b) p q).1) b) i)
 member-unique _ _ _ _ _ (member_function p i a) (member_function q j b) = let h = function-unique p i a q j b in let e = h.0 in let f = h.1 in let g = h.2 in (cc, h.3)
 
 -- nothing but a prefix stands before these
@@ -133,25 +139,35 @@ world_member-unique _ _ _ _ _ (world_use p a) (world_use {after = rest} {path = 
     let h = prefix-unique (use_no_at a) (use_no_at b) p q in
     let k = use-unique a (subst (λ x. ReadsUse x path names rest) (sym h.1) b) in
     let e = h.0 in let f = k.0 in let g = k.1 in (cc, k.2)
-world_member-unique _ _ _ _ _ (world_use p a) (world_type {after = rest} {declared = d} q b) = absurd (use_or_declared a (subst (λ x. ReadsDeclared x d rest) (sym (prefix-unique (use_no_at a) (declared_no_at b) p q).1) b))
-world_member-unique _ _ _ _ _ (world_use {after = rest} {path = path} {names = names} p a) (world_import q b) = absurd (import_use (subst (λ x. ReadsUse x path names rest) (prefix-unique (use_no_at a) refl p q).1 a))
-world_member-unique _ _ _ _ _ (world_use {after = rest} {path = path} {names = names} p a) (world_export q b) = absurd (export_use (subst (λ x. ReadsUse x path names rest) (prefix-unique (use_no_at a) refl p q).1 a))
-world_member-unique _ _ _ _ _ (world_type {after = rest} {declared = d} p a) (world_use q b) = absurd (use_or_declared b (subst (λ x. ReadsDeclared x d rest) (prefix-unique (declared_no_at a) (use_no_at b) p q).1 a))
+world_member-unique _ _ _ _ _ (world_use p a) (world_type {after = rest} {declared = d} q b) =
+    absurd (use_or_declared a (subst (λ x. ReadsDeclared x d rest) (sym (prefix-unique (use_no_at a) (declared_no_at b) p q).1) b))
+world_member-unique _ _ _ _ _ (world_use {after = rest} {path = path} {names = names} p a) (world_import q b) =
+    absurd (import_use (subst (λ x. ReadsUse x path names rest) (prefix-unique (use_no_at a) refl p q).1 a))
+world_member-unique _ _ _ _ _ (world_use {after = rest} {path = path} {names = names} p a) (world_export q b) =
+    absurd (export_use (subst (λ x. ReadsUse x path names rest) (prefix-unique (use_no_at a) refl p q).1 a))
+world_member-unique _ _ _ _ _ (world_type {after = rest} {declared = d} p a) (world_use q b) =
+    absurd (use_or_declared b (subst (λ x. ReadsDeclared x d rest) (prefix-unique (declared_no_at a) (use_no_at b) p q).1 a))
 world_member-unique _ _ _ _ _ (world_type p a) (world_type {after = rest} {declared = d} q b) =
     let h = prefix-unique (declared_no_at a) (declared_no_at b) p q in
     let k = declared-unique a (subst (λ x. ReadsDeclared x d rest) (sym h.1) b) in
     let e = h.0 in let f = k.0 in (cc, k.1)
-world_member-unique _ _ _ _ _ (world_type {after = rest} {declared = d} p a) (world_import q b) = absurd (import_declared (subst (λ x. ReadsDeclared x d rest) (prefix-unique (declared_no_at a) refl p q).1 a))
-world_member-unique _ _ _ _ _ (world_type {after = rest} {declared = d} p a) (world_export q b) = absurd (export_declared (subst (λ x. ReadsDeclared x d rest) (prefix-unique (declared_no_at a) refl p q).1 a))
-world_member-unique _ _ _ _ _ (world_import p a) (world_use {after = rest} {path = path} {names = names} q b) = absurd (import_use (subst (λ x. ReadsUse x path names rest) (sym (prefix-unique refl (use_no_at b) p q).1) b))
-world_member-unique _ _ _ _ _ (world_import p a) (world_type {after = rest} {declared = d} q b) = absurd (import_declared (subst (λ x. ReadsDeclared x d rest) (sym (prefix-unique refl (declared_no_at b) p q).1) b))
+world_member-unique _ _ _ _ _ (world_type {after = rest} {declared = d} p a) (world_import q b) =
+    absurd (import_declared (subst (λ x. ReadsDeclared x d rest) (prefix-unique (declared_no_at a) refl p q).1 a))
+world_member-unique _ _ _ _ _ (world_type {after = rest} {declared = d} p a) (world_export q b) =
+    absurd (export_declared (subst (λ x. ReadsDeclared x d rest) (prefix-unique (declared_no_at a) refl p q).1 a))
+world_member-unique _ _ _ _ _ (world_import p a) (world_use {after = rest} {path = path} {names = names} q b) =
+    absurd (import_use (subst (λ x. ReadsUse x path names rest) (sym (prefix-unique refl (use_no_at b) p q).1) b))
+world_member-unique _ _ _ _ _ (world_import p a) (world_type {after = rest} {declared = d} q b) =
+    absurd (import_declared (subst (λ x. ReadsDeclared x d rest) (sym (prefix-unique refl (declared_no_at b) p q).1) b))
 world_member-unique _ _ _ _ _ (world_import p a) (world_import {after = rest} {e = x} q b) =
     let h = prefix-unique refl refl p q in
     let k = extern-unique a (subst (λ t. ReadsExtern t x rest) (sym (tail_same h.1)) b) in
     let e = h.0 in let f = k.0 in (cc, k.1)
 world_member-unique _ _ _ _ _ (world_import p a) (world_export q b) = absurd (import_or_export (prefix-unique refl refl p q).1)
-world_member-unique _ _ _ _ _ (world_export p a) (world_use {after = rest} {path = path} {names = names} q b) = absurd (export_use (subst (λ x. ReadsUse x path names rest) (sym (prefix-unique refl (use_no_at b) p q).1) b))
-world_member-unique _ _ _ _ _ (world_export p a) (world_type {after = rest} {declared = d} q b) = absurd (export_declared (subst (λ x. ReadsDeclared x d rest) (sym (prefix-unique refl (declared_no_at b) p q).1) b))
+world_member-unique _ _ _ _ _ (world_export p a) (world_use {after = rest} {path = path} {names = names} q b) =
+    absurd (export_use (subst (λ x. ReadsUse x path names rest) (sym (prefix-unique refl (use_no_at b) p q).1) b))
+world_member-unique _ _ _ _ _ (world_export p a) (world_type {after = rest} {declared = d} q b) =
+    absurd (export_declared (subst (λ x. ReadsDeclared x d rest) (sym (prefix-unique refl (declared_no_at b) p q).1) b))
 world_member-unique _ _ _ _ _ (world_export p a) (world_import q b) = absurd (import_or_export (sym (prefix-unique refl refl p q).1))
 world_member-unique _ _ _ _ _ (world_export p a) (world_export {after = rest} {e = x} q b) =
     let h = prefix-unique refl refl p q in
@@ -228,7 +244,8 @@ items-unique e f (next_item a l) (next_item {after = rest} {items = is} b m) =
 
 -- ---- packages
 
-head-unique : {before after rest : List Token} {a b : PackageHead} → begins_with_at after ≡ false → begins_with_at rest ≡ false → ReadsHead before a after → ReadsHead before b rest → Same a b after rest
+head-unique : {before after rest : List Token} {a b : PackageHead} → begins_with_at after ≡ false → begins_with_at rest ≡ false → ReadsHead before a after → ReadsHead before b rest
+    → Same a b after rest
 head-unique n o (head i j v) (head k l w) = let h = version-unique n o v w in let e = id-unique i k in let f = id-unique j l in let g = h.0 in (cc, h.1)
 
 nested-unique : {before after rest : List Token} {a b : PackageTree} → ReadsNested before a after → ReadsNested before b rest → Same a b after rest

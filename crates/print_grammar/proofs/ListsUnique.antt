@@ -37,10 +37,12 @@ never_listed never (last a) = never _ _ _ a
 never_listed never (last_with_comma a) = never _ _ _ a
 never_listed never (next a l) = never _ _ _ a
 
-never_at : {X : Type 0} {Reads : List Token → X → List Token → Type 0} {close t : Token} {before after rest : List Token} {xs : List X} → Never Reads t → t ∷ after ≡ before → Listed Reads close before xs rest → ⊥
+never_at : {X : Type 0} {Reads : List Token → X → List Token → Type 0} {close t : Token} {before after rest : List Token} {xs : List X} → Never Reads t → t ∷ after ≡ before
+    → Listed Reads close before xs rest → ⊥
 never_at {Reads = Reads} {close} {rest = rest} {xs} never e l = never_listed never (subst (λ x. Listed Reads close x xs rest) (sym e) l)
 
-pub listed-unique : {X : Type 0} {Reads : List Token → X → List Token → Type 0} {close : Token} → UniqueBefore Reads → ((ts : List Token) → stops (close ∷ ts) ≡ true) → (close ≡ Punctuation Comma → ⊥) → Never Reads close
+pub listed-unique : {X : Type 0} {Reads : List Token → X → List Token → Type 0} {close : Token} → UniqueBefore Reads → ((ts : List Token) → stops (close ∷ ts) ≡ true) → (close ≡ Punctuation Comma → ⊥)
+    → Never Reads close
     → {before after rest : List Token} {xs ys : List X} → Listed Reads close before xs after → Listed Reads close before ys rest → Same xs ys after rest
 listed-unique one stop other never (last a) (last b) = let h = one _ _ _ _ _ (stop _) (stop _) a b in (ap (λ x. x ∷ []) h.0, tail_same h.1)
 listed-unique one stop other never (last a) (last_with_comma b) = let h = one _ _ _ _ _ (stop _) refl a b in absurd (other (head_same h.1))
@@ -102,12 +104,14 @@ result-unique s t (with_result a) no_result = absurd (cc t)
 result-unique {after} {rest} s t (with_result a) (with_result b) = let h = type-unique (no_less after s) (no_less rest t) a b in (ap (λ t. Some t) h.0, h.1)
 
 -- parameters and then a result
-pub arguments-unique : {before between middle after rest : List Token} {p q : List ParamTree} {s t : Option TypeTree} → stops after ≡ true → stops rest ≡ true → ReadsParams before p between → ReadsResult between s after → ReadsParams before q middle → ReadsResult middle t rest → (p ≡ q) × (s ≡ t) × (after ≡ rest)
+pub arguments-unique : {before between middle after rest : List Token} {p q : List ParamTree} {s t : Option TypeTree} → stops after ≡ true → stops rest ≡ true → ReadsParams before p between
+    → ReadsResult between s after → ReadsParams before q middle → ReadsResult middle t rest → (p ≡ q) × (s ≡ t) × (after ≡ rest)
 arguments-unique {rest = rest} {t = t} e f a c b d =
     let h = params-unique a b in
     let k = result-unique e f c (subst (λ x. ReadsResult x t rest) (sym h.1) d) in
     (h.0, k.0, k.1)
 
-pub signature-unique : {before after rest : List Token} {a b : SignatureTree} → stops after ≡ true → stops rest ≡ true → ReadsSignature before a after → ReadsSignature before b rest → Same a b after rest
+pub signature-unique : {before after rest : List Token} {a b : SignatureTree} → stops after ≡ true → stops rest ≡ true → ReadsSignature before a after → ReadsSignature before b rest
+    → Same a b after rest
 signature-unique s t (func a c) (func b d) = let h = arguments-unique s t a c b d in let e = h.0 in let f = h.1 in (cc, h.2)
 signature-unique s t (async_func a c) (async_func b d) = let h = arguments-unique s t a c b d in let e = h.0 in let f = h.1 in (cc, h.2)

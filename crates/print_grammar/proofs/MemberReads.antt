@@ -41,17 +41,20 @@ module _ (emits_docs : Bool) where
   abbrev pub Prefixed : Prefix → (List Token → Type 0) → List Token → Type 0
   Prefixed prefix P before = (between : List Token) × ReadsPrefix before (bare_prefix type_as_read prefix) between × P between
 
-  pub with_prefix : (prefix : Prefix) (body more : List OutputCall) {P : List Token → Type 0} → is_well_prefix prefix ≡ true → Printed true (body ++ more) P → Printed true ((prefix_calls emits_docs prefix ++ body) ++ more) (Prefixed prefix P)
+  pub with_prefix : (prefix : Prefix) (body more : List OutputCall) {P : List Token → Type 0} → is_well_prefix prefix ≡ true → Printed true (body ++ more) P
+      → Printed true ((prefix_calls emits_docs prefix ++ body) ++ more) (Prefixed prefix P)
   with_prefix prefix body more h i =
       let p = prefix_reads emits_docs prefix h i.1 in
       relist (append_assoc (prefix_calls emits_docs prefix) body more) (p.0, p.1, (i.0, p.2, i.2))
 
   -- a use, with what stands in front of it
-  pub whole_use_reads : (prefix : Prefix) (path : PathTree) (names : List UsedName) → (is_well_prefix prefix && is_well_use path names) ≡ true → (more : List OutputCall) (ts : List Token) → Follows true more ts
+  pub whole_use_reads : (prefix : Prefix) (path : PathTree) (names : List UsedName) → (is_well_prefix prefix && is_well_use path names) ≡ true → (more : List OutputCall) (ts : List Token)
+      → Follows true more ts
       → Printed true (use_calls emits_docs prefix path names ++ more) (Prefixed prefix (λ between. ReadsUse between path names ts))
   whole_use_reads prefix path names h more ts f =
       let i = use_reads path names (right_of (is_well_prefix prefix) _ h) f in
-      with_prefix prefix (Keyword (codes "use") ∷ space_call ∷ (path_calls path ++ (Str (codes ".{") ∷ (separated (Str (codes ", ")) (map used_name_calls names) ++ (Str (codes "}") ∷ Semicolon ∷ []))))) more (left_of _ _ h)
+      with_prefix prefix (Keyword (codes "use") ∷ space_call ∷ (path_calls path
+      ++ (Str (codes ".{") ∷ (separated (Str (codes ", ")) (map used_name_calls names) ++ (Str (codes "}") ∷ Semicolon ∷ []))))) more (left_of _ _ h)
       (i.0, line_begins (Keyword (codes "use")) refl i.1, i.2)
 
   -- a declared type, with what stands in front of it
@@ -73,19 +76,22 @@ module _ (emits_docs : Bool) where
       (i.0, i.1, again (ReadsMember.member_use i.2.1 i.2.2) r.2)
   members_read printed (TypeMember prefix declared ∷ members) h {more} f =
       let r = members_read true members (right_of (is_well_member (TypeMember prefix declared)) _ h) f in
-      let i = item_reads printed (prefix_calls emits_docs prefix ++ declared_calls emits_docs declared) (members_calls emits_docs true members ++ (IndentEnd ∷ more)) (whole_declared_reads prefix declared (left_of _ _ h) (members_calls emits_docs true members ++ (IndentEnd ∷ more)) r.0 r.1) in
+      let i = item_reads printed (prefix_calls emits_docs prefix ++ declared_calls emits_docs declared) (members_calls emits_docs true members ++ (IndentEnd ∷ more))
+      (whole_declared_reads prefix declared (left_of _ _ h) (members_calls emits_docs true members ++ (IndentEnd ∷ more)) r.0 r.1) in
       relist (append_assoc (item_calls printed (prefix_calls emits_docs prefix ++ declared_calls emits_docs declared)) (members_calls emits_docs true members) (IndentEnd ∷ more))
       (i.0, i.1, again (ReadsMember.member_type i.2.1 i.2.2) r.2)
   members_read printed (FunctionMember prefix name s ∷ members) h {more} f =
       let r = members_read true members (right_of (is_well_member (FunctionMember prefix name s)) _ h) f in
-      let i = item_reads printed (function_calls emits_docs prefix name kind.FunctionFreestanding s) (members_calls emits_docs true members ++ (IndentEnd ∷ more)) (function_reads emits_docs prefix name kind.FunctionFreestanding s (left_of _ _ h) (members_calls emits_docs true members ++ (IndentEnd ∷ more)) r.0 r.1) in
+      let i = item_reads printed (function_calls emits_docs prefix name kind.FunctionFreestanding s) (members_calls emits_docs true members ++ (IndentEnd ∷ more))
+      (function_reads emits_docs prefix name kind.FunctionFreestanding s (left_of _ _ h) (members_calls emits_docs true members ++ (IndentEnd ∷ more)) r.0 r.1) in
       relist (append_assoc (item_calls printed (function_calls emits_docs prefix name kind.FunctionFreestanding s)) (members_calls emits_docs true members) (IndentEnd ∷ more))
       (i.0, i.1, again (ReadsMember.member_function i.2.1 (id_is name) i.2.2) r.2)
 
   -- ---- imports and exports
 
   -- What is printed of an import or an export is read as it.
-  pub extern_reads : (e : ExternTree) → is_well_extern e ≡ true → {more : List OutputCall} {ts : List Token} → Follows true more ts → Printed false (extern_calls emits_docs e ++ more) (λ before. ReadsExtern before (bare_extern type_as_read e) ts)
+  pub extern_reads : (e : ExternTree) → is_well_extern e ≡ true → {more : List OutputCall} {ts : List Token} → Follows true more ts
+      → Printed false (extern_calls emits_docs e ++ more) (λ before. ReadsExtern before (bare_extern type_as_read e) ts)
   extern_reads (Path path) h {more} f =
       let i = path_reads path h (semicolon_call f).follows (λ level. refl) (λ level. refl) in
       relist (append_assoc (path_calls path) (Semicolon ∷ []) more) (i.0, i.1, ReadsExtern.extern_path i.2)
@@ -105,8 +111,10 @@ module _ (emits_docs : Bool) where
         ReadsExtern.extern_interface (id_is name) i.2,
       )
 
-  world_extern_reads : (prefix : Prefix) (word : List ℕ) (k : WordKey) (e : ExternTree) → begins_with_letter word ≡ true → spelled word ≡ Some (Key k) → (is_well_prefix prefix && is_well_extern e) ≡ true → (more : List OutputCall) (ts : List Token) → Follows true more ts
-      → Printed true (world_extern_calls emits_docs prefix word e ++ more) (Prefixed prefix (λ tokens. (between : List Token) × (tokens ≡ Key k ∷ between) × ReadsExtern between (bare_extern type_as_read e) ts))
+  world_extern_reads : (prefix : Prefix) (word : List ℕ) (k : WordKey) (e : ExternTree) → begins_with_letter word ≡ true → spelled word ≡ Some (Key k)
+      → (is_well_prefix prefix && is_well_extern e) ≡ true → (more : List OutputCall) (ts : List Token) → Follows true more ts
+      → Printed true (world_extern_calls emits_docs prefix word e ++ more)
+      (Prefixed prefix (λ tokens. (between : List Token) × (tokens ≡ Key k ∷ between) × ReadsExtern between (bare_extern type_as_read e) ts))
   world_extern_reads prefix word k e letter s h more ts f =
       let i = extern_reads e (right_of (is_well_prefix prefix) _ h) f in
       with_prefix prefix (Keyword word ∷ space_call ∷ extern_calls emits_docs e) more (left_of _ _ h)
@@ -118,8 +126,10 @@ module _ (emits_docs : Bool) where
   reads_word {before} {pre = pre} r e = subst (λ t. ReadsPrefix before pre t) e r
 
   -- What is printed of what a world has is read as it.
-  pub world_members_read : (printed exported : Bool) (members : List WorldMember) → list_all is_well_world_member members ≡ true → {more : List OutputCall} {after : List Token} → Follows true more after
-      → Printed true (world_members_calls emits_docs printed exported members ++ (IndentEnd ∷ more)) (λ before. Repeated ReadsWorldMember (Punctuation CloseBrace) before (map (bare_world_member type_as_read) members) after)
+  pub world_members_read : (printed exported : Bool) (members : List WorldMember) → list_all is_well_world_member members ≡ true → {more : List OutputCall} {after : List Token}
+      → Follows true more after
+      → Printed true (world_members_calls emits_docs printed exported members ++ (IndentEnd ∷ more))
+      (λ before. Repeated ReadsWorldMember (Punctuation CloseBrace) before (map (bare_world_member type_as_read) members) after)
   world_members_read printed exported [] h {after = after} f = (Punctuation CloseBrace ∷ after, end_call f, closed)
   world_members_read printed exported (WorldUse prefix path names ∷ members) h {more} f =
       let r = world_members_read true exported members (right_of (is_well_world_member (WorldUse prefix path names)) _ h) f in
@@ -128,7 +138,8 @@ module _ (emits_docs : Bool) where
       (i.0, i.1, again (ReadsWorldMember.world_use i.2.1 i.2.2) r.2)
   world_members_read printed exported (WorldType prefix declared ∷ members) h {more} f =
       let r = world_members_read true exported members (right_of (is_well_world_member (WorldType prefix declared)) _ h) f in
-      let i = item_reads printed (prefix_calls emits_docs prefix ++ declared_calls emits_docs declared) (world_members_calls emits_docs true exported members ++ (IndentEnd ∷ more)) (whole_declared_reads prefix declared (left_of _ _ h) (world_members_calls emits_docs true exported members ++ (IndentEnd ∷ more)) r.0 r.1) in
+      let i = item_reads printed (prefix_calls emits_docs prefix ++ declared_calls emits_docs declared) (world_members_calls emits_docs true exported members ++ (IndentEnd ∷ more))
+      (whole_declared_reads prefix declared (left_of _ _ h) (world_members_calls emits_docs true exported members ++ (IndentEnd ∷ more)) r.0 r.1) in
       relist (append_assoc (item_calls printed (prefix_calls emits_docs prefix ++ declared_calls emits_docs declared)) (world_members_calls emits_docs true exported members) (IndentEnd ∷ more))
       (i.0, i.1, again (ReadsWorldMember.world_type i.2.1 i.2.2) r.2)
   world_members_read printed exported (WorldImport prefix e ∷ members) h {more} f =
@@ -138,6 +149,7 @@ module _ (emits_docs : Bool) where
       (i.0, i.1, again (ReadsWorldMember.world_import (reads_word i.2.1 i.2.2.1) i.2.2.2) r.2)
   world_members_read printed exported (WorldExport prefix e ∷ members) h {more} f =
       let r = world_members_read true true members (right_of (is_well_world_member (WorldExport prefix e)) _ h) f in
-      let i = item_reads (printed && not exported) (world_extern_calls emits_docs prefix (codes "export") e) (world_members_calls emits_docs true true members ++ (IndentEnd ∷ more)) (world_extern_reads prefix (codes "export") WordKey.Export e refl refl (left_of _ _ h) (world_members_calls emits_docs true true members ++ (IndentEnd ∷ more)) r.0 r.1) in
+      let i = item_reads (printed && not exported) (world_extern_calls emits_docs prefix (codes "export") e) (world_members_calls emits_docs true true members ++ (IndentEnd ∷ more))
+      (world_extern_reads prefix (codes "export") WordKey.Export e refl refl (left_of _ _ h) (world_members_calls emits_docs true true members ++ (IndentEnd ∷ more)) r.0 r.1) in
       relist (append_assoc (item_calls (printed && not exported) (world_extern_calls emits_docs prefix (codes "export") e)) (world_members_calls emits_docs true true members) (IndentEnd ∷ more))
       (i.0, i.1, again (ReadsWorldMember.world_export (reads_word i.2.1 i.2.2.1) i.2.2.2) r.2)

@@ -1,6 +1,7 @@
 -- What is printed of a path and of a use is read as it.
 use Rattle.std.proofs.Common.{◌≡◌, refl, ap, subst, ℕ, true, false, nat_lt, length, List, [], ◌∷◌, ◌++◌, codes, Option, Some, None, map}
 use Rattle.wit_model.specs.Names.{is_label, is_version_text}
+use Rattle.wit_model.specs.Rules.{passes}
 use Rattle.print_grammar.specs.Keyword.{escaped}
 use Rattle.print_grammar.specs.Keyword.Keyword.{As, Use}
 use Rattle.print_output.specs.OutputCall.{OutputCall}
@@ -12,7 +13,7 @@ use Rattle.print_grammar.specs.Token.Mark.{Colon, Slash, At, Dot, OpenBrace, Clo
 use Rattle.print_grammar.specs.Tree.{PathTree, UsedName}
 use Rattle.print_grammar.specs.Tree.PathTree.{Local, Full}
 use Rattle.print_grammar.specs.Grammar.{Listed, ReadsPath, ReadsVersion, ReadsUsedName, ReadsUse}
-use Rattle.print_grammar.specs.WellNamed.{is_well_optional, is_well_path, is_well_used, is_well_use, are_well_some}
+use Rattle.print_grammar.specs.WellNamed.{is_well_path, is_well_used, is_well_use, are_well_some}
 use Rattle.print_output.specs.declared.type_kind.TypeKind.{TypeKind}
 use Rattle.print_output.specs.declared.type_kind.TypeKind.TheVariants as kind
 use Rattle.print_grammar.proofs.TokenFacts.{id_at, slash_at, id_token, id_is}
@@ -28,7 +29,8 @@ use Rattle.base_lemmas.proofs.Lists.{identity}
 abbrev pub EndsVersion : List OutputCall → Type 0
 EndsVersion calls = (level : ℕ) → ends_version (text_of false level calls) ≡ true
 
-pub version_reads : (version : Option (List ℕ)) (of_kind : TypeKind) → is_well_optional is_version_text version ≡ true → {more : List OutputCall} {ts : List Token} → Follows false more ts → EndsVersion more
+pub version_reads : (version : Option (List ℕ)) (of_kind : TypeKind) → passes is_version_text version ≡ true → {more : List OutputCall} {ts : List Token} → Follows false more ts
+    → EndsVersion more
     → Printed false (version_calls version of_kind ++ more) (λ before. ReadsVersion before version ts)
 version_reads None of_kind h {ts = ts} f ends = (ts, f, ReadsVersion.no_version)
 version_reads (Some version) of_kind h {more} {ts} f ends =
@@ -39,11 +41,13 @@ version_ends_word None of_kind more ends = ends
 version_ends_word (Some version) of_kind more ends = λ level. refl
 
 -- an id, a colon and more
-pub colon_id_call : (label : List ℕ) (of_kind : TypeKind) {more : List OutputCall} {ts : List Token} → is_label label ≡ true → Follows false more ts → Follows false (Ty (escaped label) of_kind ∷ Str (codes ":") ∷ more) (id_token label ∷ Punctuation Colon ∷ ts)
+pub colon_id_call : (label : List ℕ) (of_kind : TypeKind) {more : List OutputCall} {ts : List Token} → is_label label ≡ true → Follows false more ts
+    → Follows false (Ty (escaped label) of_kind ∷ Str (codes ":") ∷ more) (id_token label ∷ Punctuation Colon ∷ ts)
 colon_id_call label of_kind h f = id_call label by_type h (λ level. refl) (record { at = λ level. colon (f.at level) })
 
 -- a slash and an id
-slash_call : (label : List ℕ) (of_kind : TypeKind) {more : List OutputCall} {ts : List Token} → is_label label ≡ true → EndsWord more → Follows false more ts → Follows false (Str (codes "/") ∷ Ty (escaped label) of_kind ∷ more) (Punctuation Slash ∷ id_token label ∷ ts)
+slash_call : (label : List ℕ) (of_kind : TypeKind) {more : List OutputCall} {ts : List Token} → is_label label ≡ true → EndsWord more → Follows false more ts
+    → Follows false (Str (codes "/") ∷ Ty (escaped label) of_kind ∷ more) (Punctuation Slash ∷ id_token label ∷ ts)
 slash_call label of_kind {more} h ends f = record { at = λ level. slash_at label (text_of false level more) h (id_at label (text_of false level more) h (ends level) (f.at level)) }
 
 pub path_reads : (path : PathTree) → is_well_path path ≡ true → {more : List OutputCall} {ts : List Token} → Follows false more ts → EndsWord more → EndsVersion more
@@ -62,10 +66,12 @@ path_reads (Full namespace name interface version) h {more} f word ends =
 
 -- ---- uses
 
-used_reads : (used : UsedName) → is_well_used used ≡ true → (more : List OutputCall) (ts : List Token) → Ended more ts → Printed false (used_name_calls used ++ more) (λ before. ReadsUsedName before used ts)
+used_reads : (used : UsedName) → is_well_used used ≡ true → (more : List OutputCall) (ts : List Token) → Ended more ts
+    → Printed false (used_name_calls used ++ more) (λ before. ReadsUsedName before used ts)
 used_reads used h more ts e = go used.own (right_of (is_label used.other) _ h)
   where
-    go : (own : Option (List ℕ)) → is_well_optional is_label own ≡ true → Printed false (own_name_calls used.other own ++ more) (λ before. ReadsUsedName before (record { other = used.other; own = own }) ts)
+    go : (own : Option (List ℕ)) → passes is_label own ≡ true
+        → Printed false (own_name_calls used.other own ++ more) (λ before. ReadsUsedName before (record { other = used.other; own = own }) ts)
     go None g = (id_token used.other ∷ ts, id_call used.other by_type (left_of _ _ h) e.word e.follows, ReadsUsedName.same_name (id_is used.other))
     go (Some own) g = (
       id_token used.other ∷ Key As ∷ id_token own ∷ ts,
@@ -76,21 +82,26 @@ used_reads used h more ts e = go used.own (right_of (is_label used.other) _ h)
 
 -- the names of a use, and its end
 names_read : (names : List UsedName) → are_well_some is_well_used names ≡ true → {more : List OutputCall} {ts : List Token} → Follows true more ts
-    → Printed false (separated (Str (codes ", ")) (map used_name_calls names) ++ (Str (codes "}") ∷ Semicolon ∷ more)) (λ before. Listed ReadsUsedName (Punctuation CloseBrace) before names (Punctuation Semi ∷ ts))
+    → Printed false (separated (Str (codes ", ")) (map used_name_calls names) ++ (Str (codes "}") ∷ Semicolon ∷ more))
+    (λ before. Listed ReadsUsedName (Punctuation CloseBrace) before names (Punctuation Semi ∷ ts))
 names_read [] h f = absurd cc
 names_read (n ∷ ns) h {more} {ts} f =
-    let close : Ended (Str (codes "}") ∷ Semicolon ∷ more) (Punctuation CloseBrace ∷ Punctuation Semi ∷ ts) = record { follows = record { at = λ level. close_brace (semi (line_feed (f.at level))) }; word = λ level. refl } in
+    let close : Ended (Str (codes "}") ∷ Semicolon ∷ more) (Punctuation CloseBrace ∷ Punctuation Semi ∷ ts) =
+    record { follows = record { at = λ level. close_brace (semi (line_feed (f.at level))) }; word = λ level. refl } in
     let i = listed_reads used_name_calls is_well_used (λ x. x) ReadsUsedName CloseBrace used_reads n ns (right_of (nat_lt 0 (length (n ∷ ns))) _ h) close in
     (i.0, i.1, subst (λ xs. Listed ReadsUsedName (Punctuation CloseBrace) i.0 xs (Punctuation Semi ∷ ts)) (identity (n ∷ ns)) i.2)
 
 -- What is printed of a use, behind what stands in front of it, is read as it.
 pub use_reads : (path : PathTree) (names : List UsedName) → is_well_use path names ≡ true → {more : List OutputCall} {ts : List Token} → Follows true more ts
-    → Printed false ((Keyword (codes "use") ∷ space_call ∷ (path_calls path ++ (Str (codes ".{") ∷ (separated (Str (codes ", ")) (map used_name_calls names) ++ (Str (codes "}") ∷ Semicolon ∷ []))))) ++ more) (λ before. ReadsUse before path names ts)
+    → Printed false ((Keyword (codes "use") ∷ space_call ∷ (path_calls path ++ (Str (codes ".{") ∷ (separated (Str (codes ", ")) (map used_name_calls names) ++ (Str (codes "}") ∷ Semicolon ∷ [])))))
+    ++ more) (λ before. ReadsUse before path names ts)
 use_reads path names h {more} f =
     let n = names_read names (right_of (is_well_path path) _ h) f in
-    let braced : Follows false (Str (codes ".{") ∷ (separated (Str (codes ", ")) (map used_name_calls names) ++ (Str (codes "}") ∷ Semicolon ∷ more))) (Punctuation Dot ∷ Punctuation OpenBrace ∷ n.0) = record { at = λ level. dot (open_brace (n.1.at level)) } in
+    let braced : Follows false (Str (codes ".{") ∷ (separated (Str (codes ", ")) (map used_name_calls names) ++ (Str (codes "}") ∷ Semicolon ∷ more))) (Punctuation Dot ∷ Punctuation OpenBrace ∷ n.0) =
+    record { at = λ level. dot (open_brace (n.1.at level)) } in
     let p = path_reads path (left_of _ _ h) braced (λ level. refl) (λ level. refl) in
-    relist (ap (λ x. Keyword (codes "use") ∷ space_call ∷ x) (two_lists (path_calls path) (Str (codes ".{")) (separated (Str (codes ", ")) (map used_name_calls names)) (Str (codes "}") ∷ Semicolon ∷ []) more)) (
+    relist (ap (λ x. Keyword (codes "use") ∷ space_call ∷ x) (two_lists (path_calls path) (Str (codes ".{")) (separated (Str (codes ", ")) (map used_name_calls names))
+    (Str (codes "}") ∷ Semicolon ∷ []) more)) (
       Key Use ∷ p.0,
       word_call (Key Use) by_keyword refl refl (λ level. refl) (space_before p.1),
       ReadsUse.use_names p.2 n.2,

@@ -2,6 +2,7 @@
 use Rattle.std.proofs.Common.{◌≡◌, refl, sym, ap, ◌∙◌, subst, ℕ, Bool, true, false, not, ◌==◌, List, [], ◌∷◌, ◌++◌, append_assoc, codes, Option, Some, None, map}
 use Rattle.std.specs.List.{list_all}
 use Rattle.wit_model.specs.Names.{is_label, is_version_text, begins_with_letter}
+use Rattle.wit_model.specs.Rules.{passes}
 use Rattle.print_grammar.specs.Keyword.{escaped}
 use Rattle.print_output.specs.OutputCall.{OutputCall, is_one_line}
 use Rattle.print_output.specs.OutputCall.OutputCall.{Keyword, Ty, Str, Newline, Doc}
@@ -16,7 +17,7 @@ use Rattle.print_grammar.specs.Token.Mark.{OpenParen, CloseParen, At, Equals}
 use Rattle.print_grammar.specs.Tree.{Gates, Prefix}
 use Rattle.print_grammar.specs.Tree.Gates.{Ungated, Since, Unstable}
 use Rattle.print_grammar.specs.Grammar.{ReadsPrefix, ReadsExternalId, ReadsGates, ReadsDeprecated, ReadsVersionArgument}
-use Rattle.print_grammar.specs.WellNamed.{is_well_optional, is_well_gates, is_well_prefix}
+use Rattle.print_grammar.specs.WellNamed.{is_well_gates, is_well_prefix}
 use Rattle.print_grammar.specs.AsRead.{type_as_read, bare_prefix}
 use Rattle.print_grammar.proofs.StringReads.{body, quoted_at}
 use Rattle.print_output.specs.declared.type_kind.TypeKind.TheVariants as kind
@@ -46,7 +47,8 @@ doc_skipped (c ∷ cs) rest h more =
     skip (ap Skipped (ap after_comment (append_assoc (47 ∷ 32 ∷ c ∷ cs) (10 ∷ []) rest) ∙ comment_ends (c ∷ cs) rest h)) (line_feed more)
 
 -- Documentation is no token.
-pub docs_read : (emits_docs : Bool) (docs : List (List ℕ)) → list_all is_one_line docs ≡ true → {more : List OutputCall} {ts : List Token} → Follows true more ts → Follows true (doc_calls emits_docs docs ++ more) ts
+pub docs_read : (emits_docs : Bool) (docs : List (List ℕ)) → list_all is_one_line docs ≡ true → {more : List OutputCall} {ts : List Token} → Follows true more ts
+    → Follows true (doc_calls emits_docs docs ++ more) ts
 docs_read false docs h f = f
 docs_read true [] h f = f
 docs_read true (line ∷ docs) h {more} f =
@@ -56,20 +58,22 @@ docs_read true (line ∷ docs) h {more} f =
 -- ---- gates
 
 -- an attribute's mark and word
-attribute_call : (word : List ℕ) {more : List OutputCall} {ts : List Token} → begins_with_letter word ≡ true → spelled word ≡ Some (Word word) → EndsWord more → Follows false more ts → Follows true (Keyword (64 ∷ word) ∷ more) (Punctuation At ∷ Word word ∷ ts)
+attribute_call : (word : List ℕ) {more : List OutputCall} {ts : List Token} → begins_with_letter word ≡ true → spelled word ≡ Some (Word word) → EndsWord more → Follows false more ts
+    → Follows true (Keyword (64 ∷ word) ∷ more) (Punctuation At ∷ Word word ∷ ts)
 attribute_call word {more} letter s ends f =
     line_begins (Keyword (64 ∷ word)) refl (record { at = λ level. at_sign (word_at word (text_of false level more) (Word word) letter s (ends level) (f.at level)) })
 
 -- a version in parentheses, and a line's end
 argument_call : (version : List ℕ) {more : List OutputCall} {ts : List Token} → is_version_text version ≡ true → Follows true more ts
-    → Follows false (Str (codes "(") ∷ Keyword (codes "version") ∷ Str (codes " = ") ∷ Ty version kind.VersionAnnotation ∷ Str (codes ")") ∷ Newline ∷ more) (Punctuation OpenParen ∷ Word (codes "version") ∷ Punctuation Equals ∷ VersionText version ∷ Punctuation CloseParen ∷ ts)
+    → Follows false (Str (codes "(") ∷ Keyword (codes "version") ∷ Str (codes " = ") ∷ Ty version kind.VersionAnnotation ∷ Str (codes ")") ∷ Newline ∷ more)
+    (Punctuation OpenParen ∷ Word (codes "version") ∷ Punctuation Equals ∷ VersionText version ∷ Punctuation CloseParen ∷ ts)
 argument_call version {more} h f = record {
   at = λ level.
       open_paren (word_at (codes "version") (32 ∷ 61 ∷ 32 ∷ (version ++ (41 ∷ 10 ∷ text_of true level more))) (Word (codes "version")) refl refl refl
       (space (equals (space (version_at version (41 ∷ 10 ∷ text_of true level more) h refl (close_paren (line_feed (f.at level))))))));
 }
 
-deprecated_reads : (deprecated : Option (List ℕ)) → is_well_optional is_version_text deprecated ≡ true → {more : List OutputCall} {ts : List Token} → Follows true more ts
+deprecated_reads : (deprecated : Option (List ℕ)) → passes is_version_text deprecated ≡ true → {more : List OutputCall} {ts : List Token} → Follows true more ts
     → Printed true (deprecated_calls deprecated ++ more) (λ before. ReadsDeprecated before deprecated ts)
 deprecated_reads None h {ts = ts} f = (ts, f, ReadsDeprecated.not_deprecated)
 deprecated_reads (Some version) h f =
@@ -87,7 +91,11 @@ gates_read (Unstable feature deprecated) h {more} f =
     let close : Follows false (Str (codes ")") ∷ Newline ∷ (deprecated_calls deprecated ++ more)) (Punctuation CloseParen ∷ d.0) = record { at = λ level. close_paren (line_feed (d.1.at level)) } in
     let named = id_call feature (by_str {text = escaped feature}) (left_of _ _ h) (λ level. refl) close in (
       _,
-      attribute_call (codes "unstable") refl refl (λ level. refl) (record { at = λ level. open_paren (word_at (codes "feature") (32 ∷ 61 ∷ 32 ∷ text_of false level (Str (escaped feature) ∷ Str (codes ")") ∷ Newline ∷ (deprecated_calls deprecated ++ more))) (Word (codes "feature")) refl refl refl (space (equals (space (named.at level))))) }),
+      attribute_call (codes "unstable") refl refl (λ level. refl) (record {
+        at =
+            λ level. open_paren (word_at (codes "feature") (32 ∷ 61 ∷ 32 ∷ text_of false level (Str (escaped feature) ∷ Str (codes ")") ∷ Newline ∷ (deprecated_calls deprecated ++ more)))
+            (Word (codes "feature")) refl refl refl (space (equals (space (named.at level)))));
+      }),
       ReadsGates.unstable refl refl (id_is feature) d.2,
     )
 
@@ -101,13 +109,14 @@ string_call : (cs : List ℕ) {more : List OutputCall} {ts : List Token} → lis
     → Follows false (Str (codes "(\"") ∷ ((map character_call cs ++ (Str (codes "\")") ∷ Newline ∷ [])) ++ more)) (Punctuation OpenParen ∷ Quoted cs ∷ Punctuation CloseParen ∷ ts)
 string_call cs {more} {ts} h f = record {
   at = λ level.
-      open_paren (subst (λ x. Tokens (34 ∷ x) (Quoted cs ∷ Punctuation CloseParen ∷ ts)) (sym (text level)) (quoted_at cs (41 ∷ 10 ∷ text_of true level more) h (close_paren (line_feed (f.at level)))));
+      open_paren (subst (λ x. Tokens (34 ∷ x) (Quoted cs ∷ Punctuation CloseParen ∷ ts)) (sym (text level))
+      (quoted_at cs (41 ∷ 10 ∷ text_of true level more) h (close_paren (line_feed (f.at level)))));
 }
   where
     text : (level : ℕ) → text_of false level ((map character_call cs ++ (Str (codes "\")") ∷ Newline ∷ [])) ++ more) ≡ body cs ++ (34 ∷ 41 ∷ 10 ∷ text_of true level more)
     text level = ap (text_of false level) (append_assoc (map character_call cs) (Str (codes "\")") ∷ Newline ∷ []) more) ∙ pushed_text level cs (Str (codes "\")") ∷ Newline ∷ more)
 
-external_id_reads : (external_id : Option (List ℕ)) → is_well_optional (list_all scalar) external_id ≡ true → {more : List OutputCall} {ts : List Token} → Follows true more ts
+external_id_reads : (external_id : Option (List ℕ)) → passes (list_all scalar) external_id ≡ true → {more : List OutputCall} {ts : List Token} → Follows true more ts
     → Printed true (external_id_calls external_id ++ more) (λ before. ReadsExternalId before external_id ts)
 external_id_reads None h {ts = ts} f = (ts, f, ReadsExternalId.no_external_id)
 external_id_reads (Some cs) h f =

@@ -28,7 +28,8 @@ use Rattle.print_grammar.proofs.ListsUnique.{Same, Unique, UniqueBefore, Never, 
 
 -- ---- gates and external ids
 
-pub version-unique : {before after rest : List Token} {a b : Option (List ℕ)} → begins_with_at after ≡ false → begins_with_at rest ≡ false → ReadsVersion before a after → ReadsVersion before b rest → Same a b after rest
+pub version-unique : {before after rest : List Token} {a b : Option (List ℕ)} → begins_with_at after ≡ false → begins_with_at rest ≡ false → ReadsVersion before a after → ReadsVersion before b rest
+    → Same a b after rest
 version-unique e f no_version no_version = (refl, refl)
 version-unique e f no_version with_version = absurd (cc e)
 version-unique e f with_version no_version = absurd (cc f)
@@ -82,7 +83,8 @@ gates_before n o (unstable l m i c) (unstable p q j d) =
     let f = id-unique i j in let g = k.0 in (cc, k.1)
 
 -- Gates are determined where no `@` follows them.
-pub gates-unique : {before after rest : List Token} {a b : Gates} → begins_with_at after ≡ false → begins_with_at rest ≡ false → ReadsGates before a after → ReadsGates before b rest → Same a b after rest
+pub gates-unique : {before after rest : List Token} {a b : Gates} → begins_with_at after ≡ false → begins_with_at rest ≡ false → ReadsGates before a after → ReadsGates before b rest
+    → Same a b after rest
 gates-unique {after = after} {rest = rest} e f g h = gates_before (no_gates_on after e) (no_gates_on rest f) g h
 
 -- no gate goes on in front of an external id
@@ -93,14 +95,16 @@ no_gates_at_id e (external_id {label = word} l) = (other (codes "deprecated") re
     other : (text : List ℕ) → text_eq (codes "external-id") text ≡ false → text_eq word text ≡ false
     other text f = ap (λ w. text_eq w text) l ∙ f
 
-external_id-unique : {before after rest : List Token} {a b : Option (List ℕ)} → begins_with_at after ≡ false → begins_with_at rest ≡ false → ReadsExternalId before a after → ReadsExternalId before b rest → Same a b after rest
+external_id-unique : {before after rest : List Token} {a b : Option (List ℕ)} → begins_with_at after ≡ false → begins_with_at rest ≡ false → ReadsExternalId before a after
+    → ReadsExternalId before b rest → Same a b after rest
 external_id-unique e f no_external_id no_external_id = (refl, refl)
 external_id-unique e f no_external_id (external_id l) = absurd (cc e)
 external_id-unique e f (external_id l) no_external_id = absurd (cc f)
 external_id-unique e f (external_id l) (external_id m) = (refl, refl)
 
 -- What stands in front of an item is determined where no `@` follows it.
-pub prefix-unique : {before after rest : List Token} {a b : Prefix} → begins_with_at after ≡ false → begins_with_at rest ≡ false → ReadsPrefix before a after → ReadsPrefix before b rest → Same a b after rest
+pub prefix-unique : {before after rest : List Token} {a b : Prefix} → begins_with_at after ≡ false → begins_with_at rest ≡ false → ReadsPrefix before a after → ReadsPrefix before b rest
+    → Same a b after rest
 prefix-unique n o (prefix g a) (prefix {after = rest} {external_id = x} h b) =
     let e = gates_before (no_gates_at_id n a) (no_gates_at_id o b) g h in
     let k = external_id-unique n o a (subst (λ t. ReadsExternalId t x rest) (sym e.1) b) in
@@ -164,7 +168,8 @@ used-never _ _ _ (other_name i k) = no_id_mark i
 pub use-unique : {before after rest : List Token} {a b : PathTree} {xs ys : List UsedName} → ReadsUse before a xs after → ReadsUse before b ys rest → (a ≡ b) × (xs ≡ ys) × (after ≡ rest)
 use-unique (use_names p l) (use_names {after = rest} {names = ys} q m) =
     let h = path-unique refl refl p q in
-    let k = listed-unique used-unique (λ ts. refl) (λ e. cc e) used-never l (subst (λ x. Listed ReadsUsedName (Punctuation CloseBrace) x ys (Punctuation Semi ∷ rest)) (sym (tail_same (tail_same h.1))) m) in
+    let k = listed-unique used-unique (λ ts. refl) (λ e. cc e) used-never l
+    (subst (λ x. Listed ReadsUsedName (Punctuation CloseBrace) x ys (Punctuation Semi ∷ rest)) (sym (tail_same (tail_same h.1))) m) in
     (h.0, k.0, tail_same k.1)
 
 -- ---- declared types

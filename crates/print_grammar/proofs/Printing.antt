@@ -111,15 +111,18 @@ printed_text by_start level more = refl
 printed_text by_end level more = refl
 
 -- a call, by what its text is with any text behind it
-pub call_is : {call : OutputCall} {text : List ℕ} {more : List OutputCall} {ts : List Token} → Prints call text → ((level : ℕ) → Tokens (text ++ text_of false level more) ts) → Follows false (call ∷ more) ts
+pub call_is : {call : OutputCall} {text : List ℕ} {more : List OutputCall} {ts : List Token} → Prints call text → ((level : ℕ) → Tokens (text ++ text_of false level more) ts)
+    → Follows false (call ∷ more) ts
 call_is {more = more} {ts = ts} p f = record { at = λ level. subst (λ x. Tokens x ts) (sym (printed_text p level more)) (f level) }
 
 -- a word
-pub word_call : {call : OutputCall} {text : List ℕ} {more : List OutputCall} {ts : List Token} (t : Token) → Prints call text → begins_with_letter text ≡ true → spelled text ≡ Some t → EndsWord more → Follows false more ts → Follows false (call ∷ more) (t ∷ ts)
+pub word_call : {call : OutputCall} {text : List ℕ} {more : List OutputCall} {ts : List Token} (t : Token) → Prints call text → begins_with_letter text ≡ true → spelled text ≡ Some t → EndsWord more
+    → Follows false more ts → Follows false (call ∷ more) (t ∷ ts)
 word_call {text = text} {more = more} t p letter s ends f = call_is p (λ level. word_at text (text_of false level more) t letter s (ends level) (f.at level))
 
 -- an id
-pub id_call : {call : OutputCall} (label : List ℕ) {more : List OutputCall} {ts : List Token} → Prints call (escaped label) → is_label label ≡ true → EndsWord more → Follows false more ts → Follows false (call ∷ more) (id_token label ∷ ts)
+pub id_call : {call : OutputCall} (label : List ℕ) {more : List OutputCall} {ts : List Token} → Prints call (escaped label) → is_label label ≡ true → EndsWord more → Follows false more ts
+    → Follows false (call ∷ more) (id_token label ∷ ts)
 id_call label {more = more} p h ends f = call_is p (λ level. id_at label (text_of false level more) h (ends level) (f.at level))
 
 -- a text that begins with what is no part of a word

@@ -1,4 +1,4 @@
--- The tokens and the tree of short texts.
+-- Worked examples: the tokens and the tree of short texts.
 use Rattle.std.proofs.Common.{◌≡◌, length, [], ◌∷◌, ◌++◌, List, ℕ, refl, codes, None, Some, false, true}
 use Rattle.print_grammar.specs.Keyword.Keyword.{Package, World, Import, Export, Func, Map}
 use Rattle.print_grammar.specs.Keyword.Primitive.{U32, Bool_}
@@ -59,7 +59,8 @@ abbrev two_functions : FileTree
 two_functions = record {
   main = record {
     head = record { docs = []; namespace = codes "a"; name = codes "b"; version = None };
-    items = WorldItem [] Ungated (codes "foo") (WorldImport plain_prefix (NamedFunction (codes "host") no_parameters) ∷ WorldExport plain_prefix (NamedFunction (codes "guest") no_parameters) ∷ []) ∷ [];
+    items = WorldItem [] Ungated (codes "foo") (WorldImport plain_prefix (NamedFunction (codes "host") no_parameters) ∷ WorldExport plain_prefix
+        (NamedFunction (codes "guest") no_parameters) ∷ []) ∷ [];
   };
   nested = [];
 }
@@ -144,7 +145,8 @@ with_keywords = record {
   nested = [];
 }
 
-pub with-keywords-text : render (file_calls false with_keywords) ≡ codes "package a:b@1.0.0-rc.1;" ++ (10 ∷ 10 ∷ codes "world foo {") ++ (10 ∷ codes "  import %map: func(%type: u32) -> bool;") ++ (10 ∷ codes "  import z: async func();") ++ (10 ∷ codes "}") ++ (10 ∷ [])
+pub with-keywords-text : render (file_calls false with_keywords) ≡ codes "package a:b@1.0.0-rc.1;" ++ (10 ∷ 10 ∷ codes "world foo {") ++ (10 ∷ codes "  import %map: func(%type: u32) -> bool;")
+    ++ (10 ∷ codes "  import z: async func();") ++ (10 ∷ codes "}") ++ (10 ∷ [])
 with-keywords-text = refl
 
 -- without `%` in front of the keyword the text is no file

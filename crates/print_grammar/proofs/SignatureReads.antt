@@ -3,6 +3,7 @@ use Rattle.std.proofs.Common.{◌≡◌, refl, ap, Bool, true, false, List, [], 
 use Rattle.std.specs.List.{list_all}
 use Rattle.std.specs.Prelude.{option_map}
 use Rattle.wit_model.specs.Names.{is_label}
+use Rattle.wit_model.specs.Rules.{passes}
 use Rattle.print_grammar.specs.Keyword.Keyword.{Func, Async}
 use Rattle.print_output.specs.OutputCall.{OutputCall}
 use Rattle.print_output.specs.OutputCall.OutputCall.{Str}
@@ -14,7 +15,7 @@ use Rattle.print_grammar.specs.Tree.{TypeTree, ParamTree, SignatureTree}
 use Rattle.print_grammar.specs.AsRead.{type_as_read, bare_param, bare_signature}
 use Rattle.print_grammar.specs.Grammar.{ReadsParam, ReadsParams, ReadsResult, ReadsSignature, Listed}
 use Rattle.print_grammar.specs.Grammar.Listed.{last, next}
-use Rattle.print_grammar.specs.WellNamed.{is_well_type, is_well_optional, is_well_param, is_well_signature}
+use Rattle.print_grammar.specs.WellNamed.{is_well_type, is_well_param, is_well_signature}
 use Rattle.print_grammar.proofs.TokenFacts.{id_token, id_is}
 use Rattle.print_grammar.proofs.TextOf.{text_of}
 use Rattle.print_grammar.proofs.Printing.{Follows, Printed, EndsWord, Ended, relist, word_call, id_call, comma_call, paren_call, colon, space, open_paren, close_paren, arrow}
@@ -43,14 +44,16 @@ listed_reads calls well read Reads close each x (y ∷ ys) h {more} e =
     let i = each x (left_of _ _ h) (Str (codes ", ") ∷ (separated (Str (codes ", ")) (map calls (y ∷ ys)) ++ more)) (Punctuation Comma ∷ r.0) (comma_call r.1) in
     relist (append_assoc (calls x) (Str (codes ", ") ∷ separated (Str (codes ", ")) (map calls (y ∷ ys))) more) (i.0, i.1, next i.2 r.2)
 
-param_reads : (p : ParamTree) → is_well_param p ≡ true → (more : List OutputCall) (ts : List Token) → Ended more ts → Printed false (param_calls p ++ more) (λ before. ReadsParam before (bare_param type_as_read p) ts)
+param_reads : (p : ParamTree) → is_well_param p ≡ true → (more : List OutputCall) (ts : List Token) → Ended more ts
+    → Printed false (param_calls p ++ more) (λ before. ReadsParam before (bare_param type_as_read p) ts)
 param_reads p h more ts e =
     let i = type_reads p.ty (right_of (is_label p.name) _ h) e in
     (id_token p.name ∷ Punctuation Colon ∷ i.0, id_call p.name by_param (left_of _ _ h) (λ level. refl) (colon_call i.1), ReadsParam.param (id_is p.name) i.2)
 
 -- parameters in parentheses
 pub args_reads : (params : List ParamTree) → list_all is_well_param params ≡ true → {more : List OutputCall} {after : List Token} → Follows false more after
-    → Printed false (Str (codes "(") ∷ ((separated (Str (codes ", ")) (map param_calls params) ++ (Str (codes ")") ∷ [])) ++ more)) (λ before. ReadsParams before (map (bare_param type_as_read) params) after)
+    → Printed false (Str (codes "(") ∷ ((separated (Str (codes ", ")) (map param_calls params) ++ (Str (codes ")") ∷ [])) ++ more))
+    (λ before. ReadsParams before (map (bare_param type_as_read) params) after)
 args_reads [] h {more} {after} f =
     (Punctuation OpenParen ∷ Punctuation CloseParen ∷ after, record { at = λ level. open_paren (close_paren (f.at level)) }, ReadsParams.no_params)
 args_reads (p ∷ ps) h {more} f =
@@ -58,7 +61,8 @@ args_reads (p ∷ ps) h {more} f =
     relist (ap (λ x. Str (codes "(") ∷ x) (append_assoc (separated (Str (codes ", ")) (map param_calls (p ∷ ps))) (Str (codes ")") ∷ []) more))
     (Punctuation OpenParen ∷ i.0, record { at = λ level. open_paren (i.1.at level) }, ReadsParams.params i.2)
 
-pub result_reads : (result : Option TypeTree) → is_well_optional is_well_type result ≡ true → {more : List OutputCall} {ts : List Token} → Ended more ts → Printed false (result_calls result ++ more) (λ before. ReadsResult before (option_map type_as_read result) ts)
+pub result_reads : (result : Option TypeTree) → passes is_well_type result ≡ true → {more : List OutputCall} {ts : List Token} → Ended more ts
+    → Printed false (result_calls result ++ more) (λ before. ReadsResult before (option_map type_as_read result) ts)
 result_reads None h {ts = ts} e = (ts, e.follows, ReadsResult.no_result)
 result_reads (Some ty) h {more} e =
     let i = type_reads ty h e in
@@ -68,7 +72,8 @@ result_reads (Some ty) h {more} e =
 abbrev pub ReadsArguments : List ParamTree → Option TypeTree → List Token → List Token → Type 0
 ReadsArguments params result after before = (between : List Token) × ReadsParams before (map (bare_param type_as_read) params) between × ReadsResult between (option_map type_as_read result) after
 
-pub arguments_reads : (params : List ParamTree) (result : Option TypeTree) → list_all is_well_param params ≡ true → is_well_optional is_well_type result ≡ true → {more : List OutputCall} {ts : List Token} → Ended more ts
+pub arguments_reads : (params : List ParamTree) (result : Option TypeTree) → list_all is_well_param params ≡ true → passes is_well_type result ≡ true
+    → {more : List OutputCall} {ts : List Token} → Ended more ts
     → Printed false (params_calls params result ++ more) (ReadsArguments params result ts)
 arguments_reads params result h g {more} e =
     let r = result_reads result g e in
@@ -80,8 +85,10 @@ arguments_reads params result h g {more} e =
 pub arguments_end : (params : List ParamTree) (result : Option TypeTree) (more : List OutputCall) → EndsWord (params_calls params result ++ more)
 arguments_end params result more level = refl
 
-func_reads : (is_async : Bool) (params : List ParamTree) (result : Option TypeTree) → list_all is_well_param params ≡ true → is_well_optional is_well_type result ≡ true → {more : List OutputCall} {ts : List Token} → Ended more ts
-    → Printed false (signature_calls (record { is_async = is_async; params = params; result = result }) ++ more) (λ before. ReadsSignature before (bare_signature type_as_read (record { is_async = is_async; params = params; result = result })) ts)
+func_reads : (is_async : Bool) (params : List ParamTree) (result : Option TypeTree) → list_all is_well_param params ≡ true → passes is_well_type result ≡ true
+    → {more : List OutputCall} {ts : List Token} → Ended more ts
+    → Printed false (signature_calls (record { is_async = is_async; params = params; result = result }) ++ more)
+    (λ before. ReadsSignature before (bare_signature type_as_read (record { is_async = is_async; params = params; result = result })) ts)
 func_reads false params result h g {more} e =
     let i = arguments_reads params result h g e in
     (Key Func ∷ i.0, word_call (Key Func) by_keyword refl refl (arguments_end params result more) i.1, ReadsSignature.func i.2.1 i.2.2)
@@ -93,5 +100,6 @@ func_reads true params result h g {more} e =
     )
 
 -- What is printed of a signature is read as it.
-pub signature_reads : (s : SignatureTree) → is_well_signature s ≡ true → {more : List OutputCall} {ts : List Token} → Ended more ts → Printed false (signature_calls s ++ more) (λ before. ReadsSignature before (bare_signature type_as_read s) ts)
+pub signature_reads : (s : SignatureTree) → is_well_signature s ≡ true → {more : List OutputCall} {ts : List Token} → Ended more ts
+    → Printed false (signature_calls s ++ more) (λ before. ReadsSignature before (bare_signature type_as_read s) ts)
 signature_reads s h e = func_reads s.is_async s.params s.result (left_of _ _ h) (right_of (list_all is_well_param s.params) _ h) e

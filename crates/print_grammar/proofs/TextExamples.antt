@@ -1,4 +1,4 @@
--- The tokens and the trees of texts of every kind: types, strings with escapes, nested packages.
+-- Worked examples: the tokens and the trees of texts of every kind: types, strings with escapes, nested packages.
 use Rattle.std.proofs.Common.{◌≡◌, [], ◌∷◌, ◌++◌, List, ℕ, refl, codes, None, Some, false, true}
 use Rattle.std.specs.Fmt.{digits}
 use Rattle.wit_model.specs.Names.{cut}
@@ -71,10 +71,16 @@ primitives-tokens =
     (token refl (skip refl (token refl (token refl (skip refl (token refl (token refl (no_tokens refl)))))))))))))))))))))))))))))))))))))))))))
 
 abbrev primitives : TypeTree
-primitives = TupleOf (AndTypes (PrimitiveType Bool_) (AndTypes (PrimitiveType U8) (AndTypes (PrimitiveType U16) (AndTypes (PrimitiveType U32) (AndTypes (PrimitiveType U64) (AndTypes (PrimitiveType S8) (AndTypes (PrimitiveType S16) (AndTypes (PrimitiveType S32) (AndTypes (PrimitiveType S64) (AndTypes (PrimitiveType F32) (AndTypes (PrimitiveType F64) (AndTypes (PrimitiveType Char) (AndTypes (PrimitiveType String) (AndTypes (PrimitiveType ErrorContext) NoTypes))))))))))))))
+primitives = TupleOf (AndTypes (PrimitiveType Bool_) (AndTypes (PrimitiveType U8)
+    (AndTypes (PrimitiveType U16) (AndTypes (PrimitiveType U32) (AndTypes (PrimitiveType U64)
+    (AndTypes (PrimitiveType S8) (AndTypes (PrimitiveType S16) (AndTypes (PrimitiveType S32)
+    (AndTypes (PrimitiveType S64) (AndTypes (PrimitiveType F32) (AndTypes (PrimitiveType F64)
+    (AndTypes (PrimitiveType Char) (AndTypes (PrimitiveType String) (AndTypes (PrimitiveType ErrorContext) NoTypes))))))))))))))
 
 pub primitives-tree : ReadsType primitives_tokens primitives []
-primitives-tree = tuple (next_type primitive (next_type primitive (next_type primitive (next_type primitive (next_type primitive (next_type primitive (next_type primitive (next_type primitive (next_type primitive (next_type primitive (next_type primitive (next_type primitive (next_type primitive (last_type primitive))))))))))))))
+primitives-tree = tuple (next_type primitive (next_type primitive (next_type primitive
+    (next_type primitive (next_type primitive (next_type primitive (next_type primitive
+    (next_type primitive (next_type primitive (next_type primitive (next_type primitive (next_type primitive (next_type primitive (last_type primitive))))))))))))))
 
 pub primitives-text : render (type_calls primitives) ≡ primitives_text
 primitives-text = refl
@@ -109,10 +115,18 @@ forms-tokens =
     refl))))))))))))))))))))))))))))))))))))))))))))))))))))))))))))))))))))))))))))))))))))))))
 
 abbrev forms : TypeTree
-forms = TupleOf (AndTypes (OptionOf (Name (codes "t"))) (AndTypes (ListOf (PrimitiveType U8)) (AndTypes (FixedListOf (PrimitiveType U8) 4) (AndTypes (MapOf (PrimitiveType String) (PrimitiveType U32)) (AndTypes Result (AndTypes (ResultOk (PrimitiveType U8)) (AndTypes (ResultErr (PrimitiveType U8)) (AndTypes (ResultOf (PrimitiveType U8) (PrimitiveType String)) (AndTypes Future (AndTypes (FutureOf (PrimitiveType U8)) (AndTypes Stream (AndTypes (StreamOf (PrimitiveType U8)) (AndTypes (Own (codes "r")) (AndTypes (Borrow (codes "r")) NoTypes))))))))))))))
+forms = TupleOf (AndTypes (OptionOf (Name (codes "t"))) (AndTypes (ListOf (PrimitiveType U8))
+    (AndTypes (FixedListOf (PrimitiveType U8) 4) (AndTypes (MapOf (PrimitiveType String) (PrimitiveType U32))
+    (AndTypes Result (AndTypes (ResultOk (PrimitiveType U8)) (AndTypes (ResultErr (PrimitiveType U8))
+    (AndTypes (ResultOf (PrimitiveType U8) (PrimitiveType String)) (AndTypes Future
+    (AndTypes (FutureOf (PrimitiveType U8)) (AndTypes Stream (AndTypes (StreamOf (PrimitiveType U8)) (AndTypes (Own (codes "r")) (AndTypes (Borrow (codes "r")) NoTypes))))))))))))))
 
 pub forms-tree : ReadsType forms_tokens forms []
-forms-tree = tuple (next_type (option named) (next_type (list primitive) (next_type (fixed_list primitive) (next_type (map primitive primitive) (next_type result (next_type (result_ok primitive) (next_type (result_err primitive) (next_type (result_of primitive primitive) (next_type future (next_type (future_of primitive) (next_type stream (next_type (stream_of primitive) (next_type (own plain) (last_type (borrow plain)))))))))))))))
+forms-tree = tuple (next_type (option named) (next_type (list primitive)
+    (next_type (fixed_list primitive) (next_type (map primitive primitive)
+    (next_type result (next_type (result_ok primitive) (next_type (result_err primitive)
+    (next_type (result_of primitive primitive) (next_type future (next_type (future_of primitive)
+    (next_type stream (next_type (stream_of primitive) (next_type (own plain) (last_type (borrow plain)))))))))))))))
 
 pub forms-text : render (type_calls forms) ≡ forms_text
 unfolding digits
@@ -140,7 +154,9 @@ bare-is-no-name text r = elim r [ ]
 -- ---- a string with escapes
 
 abbrev escapes_text : List ℕ
-escapes_text = codes "package a:b;" ++ (10 ∷ 10 ∷ (codes "interface i {" ++ (10 ∷ (codes "  @unstable(feature = %async)" ++ (10 ∷ (codes "  @external-id(\"a\\\"\\u{e9}\")" ++ (10 ∷ (codes "  record p {" ++ (10 ∷ (codes "    %type: u32," ++ (10 ∷ (codes "    %map: string," ++ (10 ∷ (codes "  }" ++ (10 ∷ (codes "}" ++ (10 ∷ 10 ∷ [])))))))))))))))))
+escapes_text = codes "package a:b;" ++ (10 ∷ 10 ∷ (codes "interface i {"
+    ++ (10 ∷ (codes "  @unstable(feature = %async)" ++ (10 ∷ (codes "  @external-id(\"a\\\"\\u{e9}\")"
+    ++ (10 ∷ (codes "  record p {" ++ (10 ∷ (codes "    %type: u32," ++ (10 ∷ (codes "    %map: string," ++ (10 ∷ (codes "  }" ++ (10 ∷ (codes "}" ++ (10 ∷ 10 ∷ [])))))))))))))))))
 
 abbrev escapes_tokens : List Token
 escapes_tokens =
@@ -192,7 +208,8 @@ escapes-text = refl
 -- ---- a nested package
 
 abbrev inner_text : List ℕ
-inner_text = codes "package a:b;" ++ (10 ∷ 10 ∷ (codes "package c:d@1.0.0 {" ++ (10 ∷ (codes "  interface i {" ++ (10 ∷ (codes "    f: func();" ++ (10 ∷ (codes "  }" ++ (10 ∷ (codes "}" ++ (10 ∷ [])))))))))))
+inner_text = codes "package a:b;" ++ (10 ∷ 10 ∷ (codes "package c:d@1.0.0 {"
+    ++ (10 ∷ (codes "  interface i {" ++ (10 ∷ (codes "    f: func();" ++ (10 ∷ (codes "  }" ++ (10 ∷ (codes "}" ++ (10 ∷ [])))))))))))
 
 abbrev inner_tokens : List Token
 inner_tokens =

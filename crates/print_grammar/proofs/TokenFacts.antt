@@ -55,14 +55,16 @@ longest-goes front (c ∷ cs) rest t s h =
     rw r refl
 
 -- A text that is a token, with what ends it behind it.
-pub token_at : (c : ℕ) (cs rest : List ℕ) (t : Token) {ts : List Token} → is_blank c ≡ false → begins_comment (c ∷ (cs ++ rest)) ≡ false → spelled (c ∷ cs) ≡ Some t → EndsToken (c ∷ cs) rest → Tokens rest ts → Tokens (c ∷ (cs ++ rest)) (t ∷ ts)
+pub token_at : (c : ℕ) (cs rest : List ℕ) (t : Token) {ts : List Token} → is_blank c ≡ false → begins_comment (c ∷ (cs ++ rest)) ≡ false → spelled (c ∷ cs) ≡ Some t → EndsToken (c ∷ cs) rest
+    → Tokens rest ts → Tokens (c ∷ (cs ++ rest)) (t ∷ ts)
 token_at c cs rest t blank comment s h more = token front more
   where
     front : front_of_text (c ∷ (cs ++ rest)) ≡ Found t rest
     front = rw (blank, comment, front_of_text) (ap found (longest-goes [] (c ∷ cs) rest t s h))
 
 -- A text of one byte that begins no longer token.
-pub mark_at : (c : ℕ) (t : Token) → is_blank c ≡ false → (c == 47) ≡ false → spelled (c ∷ []) ≡ Some t → ((d : ℕ) (more : List ℕ) → spelled (c ∷ d ∷ more) ≡ None) → {rest : List ℕ} {ts : List Token} → Tokens rest ts → Tokens (c ∷ rest) (t ∷ ts)
+pub mark_at : (c : ℕ) (t : Token) → is_blank c ≡ false → (c == 47) ≡ false → spelled (c ∷ []) ≡ Some t → ((d : ℕ) (more : List ℕ) → spelled (c ∷ d ∷ more) ≡ None) → {rest : List ℕ} {ts : List Token}
+    → Tokens rest ts → Tokens (c ∷ rest) (t ∷ ts)
 mark_at c t blank slash s longer {rest} more = token_at c [] rest t blank (rw slash refl) s (ends rest) more
   where
     ends : (text : List ℕ) → EndsToken (c ∷ []) text

@@ -63,22 +63,28 @@ named_reads _ label after IsId.plain = ReadsType.named
 named_reads _ label after IsId.with_percent = ReadsType.named_with_percent
 
 -- the name of a type or of a resource
-name_reads : {call : OutputCall} (label : List ℕ) {more : List OutputCall} {ts : List Token} → Prints call (escaped label) → is_label label ≡ true → Ended more ts → Printed false (call ∷ more) (λ before. ReadsType before (Name label) ts)
+name_reads : {call : OutputCall} (label : List ℕ) {more : List OutputCall} {ts : List Token} → Prints call (escaped label) → is_label label ≡ true → Ended more ts
+    → Printed false (call ∷ more) (λ before. ReadsType before (Name label) ts)
 name_reads label {ts = ts} p h e = (id_token label ∷ ts, id_call label p h e.word e.follows, named_reads (id_token label) label ts (id_is label))
 
 -- a word alone
-pub word_reads : {call : OutputCall} {text : List ℕ} {more : List OutputCall} {ts : List Token} {P : List Token → Type 0} (k : Keyword) → Prints call text → begins_with_letter text ≡ true → spelled text ≡ Some (Key k) → Ended more ts → P (Key k ∷ ts) → Printed false (call ∷ more) P
+pub word_reads : {call : OutputCall} {text : List ℕ} {more : List OutputCall} {ts : List Token} {P : List Token → Type 0} (k : Keyword) → Prints call text → begins_with_letter text ≡ true
+    → spelled text ≡ Some (Key k) → Ended more ts → P (Key k ∷ ts) → Printed false (call ∷ more) P
 word_reads {ts = ts} k p letter s e r = (Key k ∷ ts, word_call (Key k) p letter s e.word e.follows, r)
 
 -- a word, and something between angle brackets
-pub angled : {first start end : OutputCall} {word : List ℕ} (inner : List OutputCall) {more : List OutputCall} {ts : List Token} {P Q : List Token → Type 0} (k : Keyword) → Prints first word → begins_with_letter word ≡ true → spelled word ≡ Some (Key k) → Prints start (60 ∷ []) → Prints end (62 ∷ []) → Ended more ts → (Ended (end ∷ more) (Punctuation Greater ∷ ts) → Printed false (inner ++ (end ∷ more)) P) → ((tokens : List Token) → P tokens → Q (Key k ∷ Punctuation Less ∷ tokens)) → Printed false (first ∷ start ∷ ((inner ++ (end ∷ [])) ++ more)) Q
+pub angled : {first start end : OutputCall} {word : List ℕ} (inner : List OutputCall) {more : List OutputCall} {ts : List Token} {P Q : List Token → Type 0} (k : Keyword) → Prints first word
+    → begins_with_letter word ≡ true → spelled word ≡ Some (Key k) → Prints start (60 ∷ []) → Prints end (62 ∷ []) → Ended more ts
+    → (Ended (end ∷ more) (Punctuation Greater ∷ ts) → Printed false (inner ++ (end ∷ more)) P) → ((tokens : List Token) → P tokens → Q (Key k ∷ Punctuation Less ∷ tokens))
+    → Printed false (first ∷ start ∷ ((inner ++ (end ∷ [])) ++ more)) Q
 angled {first} {start} {end} {word} inner {more} {ts} {P} {Q} k p letter s q r e inside make =
     let i = inside (greater_call r e.follows) in
     relist (ap (λ x. first ∷ start ∷ x) (append_assoc inner (end ∷ []) more))
     (Key k ∷ Punctuation Less ∷ i.0, word_call (Key k) p letter s (no_word q refl _) (less_call q i.1), make i.0 i.2)
 
 -- a word, and two parts between angle brackets
-pub angled_two : {first start end : OutputCall} {word : List ℕ} (inner other : List OutputCall) {more : List OutputCall} {ts : List Token} {P : List Token → List Token → Type 0} {R Q : List Token → Type 0} (k : Keyword) → Prints first word → begins_with_letter word ≡ true → spelled word ≡ Some (Key k) → Prints start (60 ∷ []) → Prints end (62 ∷ []) → Ended more ts
+pub angled_two : {first start end : OutputCall} {word : List ℕ} (inner other : List OutputCall) {more : List OutputCall} {ts : List Token} {P : List Token → List Token → Type 0}
+    {R Q : List Token → Type 0} (k : Keyword) → Prints first word → begins_with_letter word ≡ true → spelled word ≡ Some (Key k) → Prints start (60 ∷ []) → Prints end (62 ∷ []) → Ended more ts
     → ((rest : List OutputCall) (after : List Token) → Ended rest after → Printed false (inner ++ rest) (P after))
     → (Ended (end ∷ more) (Punctuation Greater ∷ ts) → Printed false (other ++ (end ∷ more)) R)
     → ((tokens between : List Token) → P (Punctuation Comma ∷ between) tokens → R between → Q (Key k ∷ Punctuation Less ∷ tokens))
@@ -93,14 +99,17 @@ angled_two {first} {start} {end} {word} inner other {more} {ts} {P} {R} {Q} k p 
 abbrev pub length_text : ℕ → List ℕ
 length_text n = codes ", " ++ decimal n
 
-length_call : {call end : OutputCall} (n : ℕ) {more : List OutputCall} {ts : List Token} → nat_lt n (2 ^ 64) ≡ true → Prints call (length_text n) → Prints end (62 ∷ []) → Ended (end ∷ more) (Punctuation Greater ∷ ts) → Ended (call ∷ end ∷ more) (Punctuation Comma ∷ Digits n ∷ Punctuation Greater ∷ ts)
+length_call : {call end : OutputCall} (n : ℕ) {more : List OutputCall} {ts : List Token} → nat_lt n (2 ^ 64) ≡ true → Prints call (length_text n) → Prints end (62 ∷ [])
+    → Ended (end ∷ more) (Punctuation Greater ∷ ts) → Ended (call ∷ end ∷ more) (Punctuation Comma ∷ Digits n ∷ Punctuation Greater ∷ ts)
 length_call {call} {end} n {more} small p q e = record {
   follows = call_is p (λ level. comma (space (number_at n (text_of false level (end ∷ more)) (ltb-true n (2 ^ 64) small) (ap ends_version (printed_text q level more)) (e.follows.at level))));
   word = no_word p refl (end ∷ more);
 }
 
 -- a word, and a type and a number between angle brackets
-pub angled_length : {first start call end : OutputCall} {word : List ℕ} (inner : List OutputCall) (n : ℕ) {more : List OutputCall} {ts : List Token} {P Q : List Token → Type 0} (k : Keyword) → Prints first word → begins_with_letter word ≡ true → spelled word ≡ Some (Key k) → Prints start (60 ∷ []) → Prints call (length_text n) → Prints end (62 ∷ []) → nat_lt n (2 ^ 64) ≡ true → Ended more ts
+pub angled_length : {first start call end : OutputCall} {word : List ℕ} (inner : List OutputCall) (n : ℕ) {more : List OutputCall} {ts : List Token} {P Q : List Token → Type 0} (k : Keyword)
+    → Prints first word → begins_with_letter word ≡ true → spelled word ≡ Some (Key k) → Prints start (60 ∷ []) → Prints call (length_text n) → Prints end (62 ∷ []) → nat_lt n (2 ^ 64) ≡ true
+    → Ended more ts
     → (Ended (call ∷ end ∷ more) (Punctuation Comma ∷ Digits n ∷ Punctuation Greater ∷ ts) → Printed false (inner ++ (call ∷ end ∷ more)) P)
     → ((tokens : List Token) → P tokens → Q (Key k ∷ Punctuation Less ∷ tokens))
     → Printed false (first ∷ start ∷ ((inner ++ (call ∷ end ∷ [])) ++ more)) Q
@@ -110,7 +119,8 @@ angled_length {first} {start} {call} {end} {word} inner n {more} {ts} {P} {Q} k 
     (Key k ∷ Punctuation Less ∷ i.0, word_call (Key k) p letter s (no_word q refl _) (less_call q i.1), make i.0 i.2)
 
 -- a word with its angle bracket in one call
-pub pushed_angled : (word : List ℕ) {text : List ℕ} (inner : List OutputCall) {more : List OutputCall} {ts : List Token} {P Q : List Token → Type 0} (k : Keyword) → text ≡ word ++ (60 ∷ []) → begins_with_letter word ≡ true → spelled word ≡ Some (Key k) → Ended more ts
+pub pushed_angled : (word : List ℕ) {text : List ℕ} (inner : List OutputCall) {more : List OutputCall} {ts : List Token} {P Q : List Token → Type 0} (k : Keyword) → text ≡ word ++ (60 ∷ [])
+    → begins_with_letter word ≡ true → spelled word ≡ Some (Key k) → Ended more ts
     → (Ended (PushStr (codes ">") ∷ more) (Punctuation Greater ∷ ts) → Printed false (inner ++ (PushStr (codes ">") ∷ more)) P)
     → ((tokens : List Token) → P tokens → Q (Key k ∷ Punctuation Less ∷ tokens))
     → Printed false (PushStr text ∷ ((inner ++ (PushStr (codes ">") ∷ [])) ++ more)) Q
@@ -119,14 +129,18 @@ pushed_angled word {text} inner {more} {ts} {P} {Q} k t letter s e inside make =
     relist (ap (λ x. PushStr text ∷ x) (append_assoc inner (PushStr (codes ">") ∷ []) more))
     (Key k ∷ Punctuation Less ∷ i.0, begins i.1, make i.0 i.2)
   where
-    begins : {tokens : List Token} → Follows false (inner ++ (PushStr (codes ">") ∷ more)) tokens → Follows false (PushStr text ∷ (inner ++ (PushStr (codes ">") ∷ more))) (Key k ∷ Punctuation Less ∷ tokens)
+    begins : {tokens : List Token} → Follows false (inner ++ (PushStr (codes ">") ∷ more)) tokens
+        → Follows false (PushStr text ∷ (inner ++ (PushStr (codes ">") ∷ more))) (Key k ∷ Punctuation Less ∷ tokens)
     begins {tokens} f = call_is by_push (λ level.
         let rest = text_of false level (inner ++ (PushStr (codes ">") ∷ more)) in
         subst (λ x. Tokens x (Key k ∷ Punctuation Less ∷ tokens)) (sym (ap (λ x. x ++ rest) t ∙ append_assoc word (60 ∷ []) rest))
         (word_at word (60 ∷ rest) (Key k) letter s refl (less (f.at level))))
 
 -- a resource between angle brackets
-handle_reads : {first : OutputCall} {word : List ℕ} (resource : List ℕ) {more : List OutputCall} {ts : List Token} {Q : List Token → Type 0} (k : Keyword) → Prints first word → begins_with_letter word ≡ true → spelled word ≡ Some (Key k) → is_label resource ≡ true → Ended more ts → ((t : Token) → IsId t resource → Q (Key k ∷ Punctuation Less ∷ t ∷ Punctuation Greater ∷ ts)) → Printed false (first ∷ GenericArgsStart ∷ Ty (escaped resource) kind.Resource ∷ GenericArgsEnd ∷ more) Q
+handle_reads : {first : OutputCall} {word : List ℕ} (resource : List ℕ) {more : List OutputCall} {ts : List Token} {Q : List Token → Type 0} (k : Keyword) → Prints first word
+    → begins_with_letter word ≡ true → spelled word ≡ Some (Key k) → is_label resource ≡ true → Ended more ts
+    → ((t : Token) → IsId t resource → Q (Key k ∷ Punctuation Less ∷ t ∷ Punctuation Greater ∷ ts))
+    → Printed false (first ∷ GenericArgsStart ∷ Ty (escaped resource) kind.Resource ∷ GenericArgsEnd ∷ more) Q
 handle_reads resource {more = more} {ts = ts} k p letter s h e make =
     let close = greater_call by_end e.follows in (
       Key k ∷ Punctuation Less ∷ id_token resource ∷ Punctuation Greater ∷ ts,
@@ -139,7 +153,8 @@ err_call : {more : List OutputCall} {ts : List Token} → Follows false more ts 
 err_call f = record { at = λ level. mark_at 95 (Key Keyword.Underscore) refl refl refl (λ d more. refl) (comma (space (f.at level))) }
 
 mutual
-  pub type_reads : (ty : TypeTree) → is_well_type ty ≡ true → {more : List OutputCall} {ts : List Token} → Ended more ts → Printed false (type_calls ty ++ more) (λ before. ReadsType before (type_as_read ty) ts)
+  pub type_reads : (ty : TypeTree) → is_well_type ty ≡ true → {more : List OutputCall} {ts : List Token} → Ended more ts
+      → Printed false (type_calls ty ++ more) (λ before. ReadsType before (type_as_read ty) ts)
   type_reads (PrimitiveType p) h e = word_reads (Keyword.PrimitiveWord p) by_type (primitive_letter p) (primitive_spelled p) e ReadsType.primitive
   type_reads (Name name) h e = name_reads name by_type h e
   type_reads (Handle resource) h e = name_reads resource by_type h e
@@ -148,14 +163,16 @@ mutual
   type_reads (TupleOf types) h e = angled (types_calls types) Keyword.Tuple by_type refl refl by_start by_end e (λ f. types_reads types h f) (λ b r. ReadsType.tuple r)
   type_reads (OptionOf ty) h e = angled (type_calls ty) Keyword.Option_ by_type refl refl by_start by_end e (λ f. type_reads ty h f) (λ b r. ReadsType.option r)
   type_reads (ListOf ty) h e = angled (type_calls ty) Keyword.List_ by_type refl refl by_start by_end e (λ f. type_reads ty h f) (λ b r. ReadsType.list r)
-  type_reads (FixedListOf ty n) h e = angled_length (type_calls ty) n Keyword.List_ by_type refl refl by_start by_push by_end (right_of (is_well_type ty) _ h) e (λ f. type_reads ty (left_of _ _ h) f) (λ b r. ReadsType.fixed_list r)
+  type_reads (FixedListOf ty n) h e = angled_length (type_calls ty) n Keyword.List_ by_type refl refl by_start by_push by_end (right_of (is_well_type ty) _ h) e (λ f. type_reads ty (left_of _ _ h) f)
+      (λ b r. ReadsType.fixed_list r)
   type_reads (MapOf key value) h e =
       angled_two (type_calls key) (type_calls value) {P = λ after before. ReadsType before (type_as_read key) after} Keyword.Map by_type refl refl by_start by_end e
       (λ rest after f. type_reads key (left_of _ _ h) f) (λ f. type_reads value (right_of (is_well_type key) _ h) f) (λ b c r s. ReadsType.map r s)
   type_reads Result h {ts = ts} e = word_reads Keyword.Result by_type refl refl e ReadsType.result
   type_reads (ResultOk ok) h e = angled (type_calls ok) Keyword.Result by_type refl refl by_start by_end e (λ f. type_reads ok h f) (λ b r. ReadsType.result_ok r)
   type_reads (ResultErr err) h {ts = ts} e =
-      angled (Str (codes "_, ") ∷ type_calls err) {P = λ before. ReadsType (Key Keyword.Result ∷ Punctuation Less ∷ before) (ResultErr (type_as_read err)) ts} Keyword.Result by_type refl refl by_start by_end e
+      angled (Str (codes "_, ") ∷ type_calls err) {P = λ before. ReadsType (Key Keyword.Result ∷ Punctuation Less ∷ before) (ResultErr (type_as_read err)) ts} Keyword.Result by_type refl refl
+      by_start by_end e
       (λ f. let i = type_reads err h f in (Key Keyword.Underscore ∷ Punctuation Comma ∷ i.0, err_call i.1, ReadsType.result_err i.2))
       (λ b r. r)
   type_reads (ResultOf ok err) h e =
@@ -166,7 +183,8 @@ mutual
   type_reads Stream h {ts = ts} e = word_reads Keyword.Stream by_push refl refl e ReadsType.stream
   type_reads (StreamOf ty) h e = pushed_angled (codes "stream") (type_calls ty) Keyword.Stream refl refl refl e (λ f. type_reads ty h f) (λ b r. ReadsType.stream_of r)
 
-  types_reads : (types : TypeTrees) → are_well_types types ≡ true → {more : List OutputCall} {ts : List Token} → Ended more (Punctuation Greater ∷ ts) → Printed false (types_calls types ++ more) (λ before. ReadsTypes before (types_as_read types) ts)
+  types_reads : (types : TypeTrees) → are_well_types types ≡ true → {more : List OutputCall} {ts : List Token} → Ended more (Punctuation Greater ∷ ts)
+      → Printed false (types_calls types ++ more) (λ before. ReadsTypes before (types_as_read types) ts)
   types_reads NoTypes h e = absurd cc
   types_reads (AndTypes ty NoTypes) h {more} e =
       let i = type_reads ty (left_of _ _ h) e in

@@ -71,7 +71,8 @@ no_types_at_end (last_type_with_comma a) = elim a [ ]
 no_types_at_end (next_type a c) = elim a [ ]
 
 mutual
-  pub type-unique : {before after rest : List Token} {t s : TypeTree} → begins_with_less after ≡ false → begins_with_less rest ≡ false → ReadsType before t after → ReadsType before s rest → Same t s after rest
+  pub type-unique : {before after rest : List Token} {t s : TypeTree} → begins_with_less after ≡ false → begins_with_less rest ≡ false → ReadsType before t after → ReadsType before s rest
+      → Same t s after rest
   type-unique first second primitive primitive = (refl, refl)
   type-unique first second named named = (refl, refl)
   type-unique first second named_with_percent named_with_percent = (refl, refl)

@@ -53,7 +53,8 @@ cut-sound c (x ∷ xs) p e = elim (cases_Bool (x == c)) [
   | inr other ↦ go (cut-sound c xs) (cut c xs) refl (rw other at e)
 ]
   where
-    go : ((q : List ℕ × List ℕ) → cut c xs ≡ Some q → xs ≡ q.0 ++ c ∷ q.1) → (o : Option (List ℕ × List ℕ)) → cut c xs ≡ o → option_map (λ (q : List ℕ × List ℕ). (x ∷ q.0, q.1)) o ≡ Some p → x ∷ xs ≡ p.0 ++ c ∷ p.1
+    go : ((q : List ℕ × List ℕ) → cut c xs ≡ Some q → xs ≡ q.0 ++ c ∷ q.1) → (o : Option (List ℕ × List ℕ)) → cut c xs ≡ o → option_map (λ (q : List ℕ × List ℕ). (x ∷ q.0, q.1)) o ≡ Some p
+        → x ∷ xs ≡ p.0 ++ c ∷ p.1
     go sound None f g = cc g
     go sound (Some q) f g = ap (λ b. x ∷ b) (sound q f) ∙ ap (λ (r : List ℕ × List ℕ). r.0 ++ c ∷ r.1) (given_pair (x ∷ q.0, q.1) p g)
 
@@ -107,7 +108,8 @@ cut_pass P c text p e here front back =
 number_bytes : (text : List ℕ) → is_version_number text ≡ true → list_all is_version_byte text ≡ true
 number_bytes text h = go (cut 45 text) refl h
   where
-    go : (o : Option (List ℕ × List ℕ)) → cut 45 text ≡ o → option_map_or (λ (p : List ℕ × List ℕ). is_version_core p.0 && is_given is_pre_release p.1) o (is_version_core text) ≡ true → list_all is_version_byte text ≡ true
+    go : (o : Option (List ℕ × List ℕ)) → cut 45 text ≡ o → option_map_or (λ (p : List ℕ × List ℕ). is_version_core p.0 && is_given is_pre_release p.1) o (is_version_core text) ≡ true
+        → list_all is_version_byte text ≡ true
     go None e g = core_bytes text g
     go (Some p) e g =
         cut_pass is_version_byte 45 text p e refl (core_bytes p.0 (left_of _ _ g))
@@ -116,7 +118,8 @@ number_bytes text h = go (cut 45 text) refl h
 version_bytes : (text : List ℕ) → is_semantic_version text ≡ true → list_all is_version_byte text ≡ true
 version_bytes text h = go (cut 43 text) refl h
   where
-    go : (o : Option (List ℕ × List ℕ)) → cut 43 text ≡ o → option_map_or (λ (p : List ℕ × List ℕ). is_version_number p.0 && is_given is_build p.1) o (is_version_number text) ≡ true → list_all is_version_byte text ≡ true
+    go : (o : Option (List ℕ × List ℕ)) → cut 43 text ≡ o → option_map_or (λ (p : List ℕ × List ℕ). is_version_number p.0 && is_given is_build p.1) o (is_version_number text) ≡ true
+        → list_all is_version_byte text ≡ true
     go None e g = number_bytes text g
     go (Some p) e g =
         cut_pass is_version_byte 43 text p e refl (number_bytes p.0 (left_of _ _ g))
@@ -300,7 +303,8 @@ build_no_dot (x ∷ xs) = refuted _ (λ h. no_empty_last is_build_identifier (x 
 with_dot : List ℕ × List ℕ → List ℕ × List ℕ
 with_dot p = (p.0, p.1 ++ 46 ∷ [])
 
-moved_in : (x : ℕ) (o : Option (List ℕ × List ℕ)) → option_map (λ (p : List ℕ × List ℕ). (x ∷ p.0, p.1)) (option_map with_dot o) ≡ option_map with_dot (option_map (λ (p : List ℕ × List ℕ). (x ∷ p.0, p.1)) o)
+moved_in : (x : ℕ) (o : Option (List ℕ × List ℕ))
+    → option_map (λ (p : List ℕ × List ℕ). (x ∷ p.0, p.1)) (option_map with_dot o) ≡ option_map with_dot (option_map (λ (p : List ℕ × List ℕ). (x ∷ p.0, p.1)) o)
 unfolding with_dot
 moved_in x None = refl
 moved_in x (Some p) = refl
@@ -315,15 +319,18 @@ cut_dot c (x ∷ xs) e = elim (cases_Bool (x == c)) [
 
 number_no_dot : (text : List ℕ) → is_version_number (text ++ 46 ∷ []) ≡ false
 unfolding with_dot
-number_no_dot text = ap (λ o. option_map_or (λ (p : List ℕ × List ℕ). is_version_core p.0 && is_given is_pre_release p.1) o (is_version_core (text ++ 46 ∷ []))) (cut_dot 45 text refl) ∙ go (cut 45 text)
+number_no_dot text = ap (λ o. option_map_or (λ (p : List ℕ × List ℕ). is_version_core p.0 && is_given is_pre_release p.1) o (is_version_core (text ++ 46 ∷ []))) (cut_dot 45 text refl) ∙ go
+    (cut 45 text)
   where
-    go : (o : Option (List ℕ × List ℕ)) → option_map_or (λ (p : List ℕ × List ℕ). is_version_core p.0 && is_given is_pre_release p.1) (option_map with_dot o) (is_version_core (text ++ 46 ∷ [])) ≡ false
+    go : (o : Option (List ℕ × List ℕ))
+        → option_map_or (λ (p : List ℕ × List ℕ). is_version_core p.0 && is_given is_pre_release p.1) (option_map with_dot o) (is_version_core (text ++ 46 ∷ [])) ≡ false
     go None = core_no_dot text
     go (Some p) = and_false (is_version_core p.0) _ (and_false (nat_lt 0 (length (p.1 ++ 46 ∷ []))) _ (pre_release_no_dot p.1))
 
 version_no_dot : (text : List ℕ) → is_semantic_version (text ++ 46 ∷ []) ≡ false
 unfolding with_dot
-version_no_dot text = ap (λ o. option_map_or (λ (p : List ℕ × List ℕ). is_version_number p.0 && is_given is_build p.1) o (is_version_number (text ++ 46 ∷ []))) (cut_dot 43 text refl) ∙ go (cut 43 text)
+version_no_dot text = ap (λ o. option_map_or (λ (p : List ℕ × List ℕ). is_version_number p.0 && is_given is_build p.1) o (is_version_number (text ++ 46 ∷ []))) (cut_dot 43 text refl) ∙ go
+    (cut 43 text)
   where
     go : (o : Option (List ℕ × List ℕ)) → option_map_or (λ (p : List ℕ × List ℕ). is_version_number p.0 && is_given is_build p.1) (option_map with_dot o) (is_version_number (text ++ 46 ∷ [])) ≡ false
     go None = number_no_dot text
@@ -387,7 +394,8 @@ digits_first [] more h = absurd cc
 digits_first (c ∷ cs) more h = left_of _ _ (left_of _ _ (right_of (nat_lt 0 (length (c ∷ cs))) _ h))
 
 -- a text that is a version, with what ends it behind it
-digits_at : (text rest : List ℕ) {ts : List Token} → begins_with_digit text ≡ true → is_numeric text ≡ false → is_semantic_version text ≡ true → ends_version rest ≡ true → Tokens rest ts → Tokens (text ++ rest) (Token.VersionText text ∷ ts)
+digits_at : (text rest : List ℕ) {ts : List Token} → begins_with_digit text ≡ true → is_numeric text ≡ false → is_semantic_version text ≡ true → ends_version rest ≡ true → Tokens rest ts
+    → Tokens (text ++ rest) (Token.VersionText text ∷ ts)
 digits_at [] rest digit e f ends more = absurd cc
 digits_at (c ∷ cs) rest digit e f ends more =
     token_at c cs rest (Token.VersionText (c ∷ cs)) (digit_no_blank c digit) (no_comment c (cs ++ rest) (digit_no_slash c digit))

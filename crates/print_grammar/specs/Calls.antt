@@ -59,7 +59,8 @@ gates_calls (Unstable feature deprecated) =
 -- a letter, a digit, or one of `-`, `_`, `.`, `/`, `:` and a space
 abbrev pub is_plain : ℕ → Bool
 is_plain c =
-    (nat_le 97 c && nat_le c 122) || (nat_le 65 c && nat_le c 90) || (nat_le 48 c && nat_le c 57) || (c == 45) || (c == 95) || (c == 46) || (c == 47) || (c == 58) || (c == 32)
+    (nat_le 97 c && nat_le c 122) || (nat_le 65 c && nat_le c 90) || (nat_le 48 c && nat_le c 57) || (c == 45) || (c == 95) || (c == 46) || (c == 47)
+    || (c == 58) || (c == 32)
 
 -- how a character is written in a string
 abbrev pub escaped_character : ℕ → Text
@@ -190,7 +191,8 @@ block_calls word name of_kind body = Keyword word ∷ space ∷ Ty (escaped name
 abbrev pub path_calls : PathTree → List OutputCall
 path_calls (Local interface) = name_calls interface kind.InterfacePath
 path_calls (Full namespace name interface version) =
-    Ty (escaped namespace) kind.NamespacePath ∷ Str (codes ":") ∷ Ty (escaped name) kind.PackageNamePath ∷ Str (codes "/") ∷ Ty (escaped interface) kind.InterfacePath
+    Ty (escaped namespace) kind.NamespacePath ∷ Str (codes ":") ∷ Ty (escaped name) kind.PackageNamePath ∷ Str (codes "/") ∷ Ty (escaped interface)
+    kind.InterfacePath
     ∷ version_calls version kind.VersionPath
 
 -- a name that is used, and what it is called here, after `as`
@@ -212,7 +214,7 @@ abbrev pub printed_after : Bool → List MemberTree → Bool
 printed_after printed [] = printed
 printed_after printed (member ∷ members) = true
 
--- an empty line after an interface of the main package
+-- an empty line if one is wanted: after an interface of the main package, before what comes behind something printed
 abbrev pub line_after_calls : Bool → List OutputCall
 line_after_calls true = Newline ∷ []
 line_after_calls false = []
@@ -263,7 +265,8 @@ module _ (emits_docs : Bool) where
   resource_member_calls (Method prefix name signature) =
       prefix_calls prefix ++ (Ty (escaped name) kind.FunctionMethod ∷ Str (codes ": ") ∷ (signature_calls signature ++ (Semicolon ∷ [])))
   resource_member_calls (Static prefix name signature) =
-      prefix_calls prefix ++ (Ty (escaped name) kind.FunctionStatic ∷ Str (codes ": ") ∷ Keyword (codes "static") ∷ space ∷ (signature_calls signature ++ (Semicolon ∷ [])))
+      prefix_calls prefix ++ (Ty (escaped name) kind.FunctionStatic ∷ Str (codes ": ") ∷ Keyword (codes "static") ∷ space
+      ∷ (signature_calls signature ++ (Semicolon ∷ [])))
 
   -- a resource's functions, or the end of its line
   abbrev pub resource_body_calls : List ResourceMember → List OutputCall
@@ -290,7 +293,8 @@ module _ (emits_docs : Bool) where
 
   -- a function under its name
   abbrev pub function_calls : Prefix → Text → TypeKind → SignatureTree → List OutputCall
-  function_calls prefix name of_kind signature = prefix_calls prefix ++ (Ty (escaped name) of_kind ∷ Str (codes ": ") ∷ (signature_calls signature ++ (Semicolon ∷ [])))
+  function_calls prefix name of_kind signature = prefix_calls prefix
+      ++ (Ty (escaped name) of_kind ∷ Str (codes ": ") ∷ (signature_calls signature ++ (Semicolon ∷ [])))
 
   -- What an interface has, by whether its block has printed something already.
   abbrev pub members_calls : Bool → List MemberTree → List OutputCall
@@ -327,7 +331,8 @@ module _ (emits_docs : Bool) where
 
   -- an interface's documentation, gates and name
   abbrev pub interface_outer_calls : List Text → Gates → Text → List OutputCall
-  interface_outer_calls docs gates name = doc_calls docs ++ gates_calls gates ++ (Keyword (codes "interface") ∷ space ∷ Ty (escaped name) kind.InterfaceDeclaration ∷ [])
+  interface_outer_calls docs gates name = doc_calls docs ++ gates_calls gates
+      ++ (Keyword (codes "interface") ∷ space ∷ Ty (escaped name) kind.InterfaceDeclaration ∷ [])
 
   -- an interface or a world of a package
   abbrev pub package_item_calls : Bool → ItemTree → List OutputCall
@@ -342,7 +347,8 @@ module _ (emits_docs : Bool) where
 
   -- a package: its documentation, its name and its items
   abbrev pub package_calls : Bool → PackageTree → List OutputCall
-  package_calls is_main tree = package_outer_calls tree.head ++ package_start_calls is_main ++ flat_map (package_item_calls is_main) tree.items ++ package_end_calls is_main
+  package_calls is_main tree = package_outer_calls tree.head ++ package_start_calls is_main ++ flat_map (package_item_calls is_main) tree.items
+      ++ package_end_calls is_main
 
   -- nested packages, each after two line ends
   abbrev pub more_nested_calls : List PackageTree → List OutputCall

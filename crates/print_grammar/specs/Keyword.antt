@@ -26,14 +26,18 @@ primitive_text ErrorContext = codes "error-context"
 -- A keyword: a primitive type's, or another.
 pub data Keyword : Type 0 where
   PrimitiveWord : Primitive → Keyword
-  Use Type_ Func Float32 Float64 Resource Record Flags Variant Enum Option_ Result Future Stream List_ Own Borrow Underscore As From Static Interface Tuple World Import Export Package With Include Constructor Async Map : Keyword
+  Use Type_ Func Float32 Float64 Resource Record Flags Variant Enum Option_ Result Future Stream List_ Own Borrow Underscore As From Static Interface Tuple
+      World Import Export Package With Include Constructor Async Map : Keyword
 
 -- each keyword's text
 abbrev pub keyword_texts : List (Text × Keyword)
 keyword_texts =
-    (codes "bool", PrimitiveWord Bool_) ∷ (codes "u8", PrimitiveWord U8) ∷ (codes "u16", PrimitiveWord U16) ∷ (codes "u32", PrimitiveWord U32) ∷ (codes "u64", PrimitiveWord U64)
-    ∷ (codes "s8", PrimitiveWord S8) ∷ (codes "s16", PrimitiveWord S16) ∷ (codes "s32", PrimitiveWord S32) ∷ (codes "s64", PrimitiveWord S64) ∷ (codes "f32", PrimitiveWord F32)
-    ∷ (codes "f64", PrimitiveWord F64) ∷ (codes "char", PrimitiveWord Char) ∷ (codes "string", PrimitiveWord String) ∷ (codes "error-context", PrimitiveWord ErrorContext) ∷ (codes "use", Use)
+    (codes "bool", PrimitiveWord Bool_) ∷ (codes "u8", PrimitiveWord U8) ∷ (codes "u16", PrimitiveWord U16) ∷ (codes "u32", PrimitiveWord U32)
+    ∷ (codes "u64", PrimitiveWord U64)
+    ∷ (codes "s8", PrimitiveWord S8) ∷ (codes "s16", PrimitiveWord S16) ∷ (codes "s32", PrimitiveWord S32) ∷ (codes "s64", PrimitiveWord S64)
+    ∷ (codes "f32", PrimitiveWord F32)
+    ∷ (codes "f64", PrimitiveWord F64) ∷ (codes "char", PrimitiveWord Char) ∷ (codes "string", PrimitiveWord String)
+    ∷ (codes "error-context", PrimitiveWord ErrorContext) ∷ (codes "use", Use)
     ∷ (codes "type", Type_) ∷ (codes "func", Func) ∷ (codes "float32", Float32) ∷ (codes "float64", Float64) ∷ (codes "resource", Resource)
     ∷ (codes "record", Record) ∷ (codes "flags", Flags) ∷ (codes "variant", Variant) ∷ (codes "enum", Enum) ∷ (codes "option", Option_)
     ∷ (codes "result", Result) ∷ (codes "future", Future) ∷ (codes "stream", Stream) ∷ (codes "list", List_) ∷ (codes "own", Own)

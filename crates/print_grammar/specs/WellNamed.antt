@@ -1,8 +1,9 @@
 -- Trees whose ids are labels, whose versions are versions, and whose parts are there: what can be written so that it is read again.
-use Rattle.std.specs.Prelude.{Bool, true, false, List, ◌&&◌, nat_lt, length, ◌^◌, Option, None, Some}
+use Rattle.std.specs.Prelude.{Bool, true, false, List, ◌&&◌, nat_lt, length, ◌^◌}
 use Rattle.std.specs.List.{list_all}
 use lib.Utf8.{scalar}
 use Rattle.wit_model.specs.Names.{is_label, is_version_text}
+use Rattle.wit_model.specs.Rules.{passes}
 use Rattle.print_output.specs.OutputCall.{is_one_line}
 use Rattle.print_grammar.specs.Tree.{TypeTree, TypeTrees, Gates, Prefix, ParamTree, FieldTree, CaseTree, LabelTree, SignatureTree, ResourceMember, Declared, PathTree, UsedName, MemberTree, ExternTree, WorldMember, ItemTree, PackageHead, PackageTree, FileTree}
 use Rattle.print_grammar.specs.Tree.ResourceMember.{Constructor, Method, Static}
@@ -46,36 +47,31 @@ abbrev mutual
   are_well_more NoTypes = true
   are_well_more (AndTypes ty types) = is_well_type ty && are_well_more types
 
--- a test of what is there
-abbrev pub is_well_optional : {X : Type 0} → (X → Bool) → Option X → Bool
-is_well_optional test None = true
-is_well_optional test (Some x) = test x
-
 abbrev pub is_well_param : ParamTree → Bool
 is_well_param param = is_label param.name && is_well_type param.ty
 
 abbrev pub is_well_signature : SignatureTree → Bool
-is_well_signature signature = list_all is_well_param signature.params && is_well_optional is_well_type signature.result
+is_well_signature signature = list_all is_well_param signature.params && passes is_well_type signature.result
 
 -- ---- in front of an item
 
 abbrev pub is_well_gates : Gates → Bool
 is_well_gates Ungated = true
-is_well_gates (Since version deprecated) = is_version_text version && is_well_optional is_version_text deprecated
-is_well_gates (Unstable feature deprecated) = is_label feature && is_well_optional is_version_text deprecated
+is_well_gates (Since version deprecated) = is_version_text version && passes is_version_text deprecated
+is_well_gates (Unstable feature deprecated) = is_label feature && passes is_version_text deprecated
 
 -- lines, versions, a label, and characters
 abbrev pub is_well_prefix : Prefix → Bool
-is_well_prefix prefix = list_all is_one_line prefix.docs && (is_well_gates prefix.gates && is_well_optional (list_all scalar) prefix.external_id)
+is_well_prefix prefix = list_all is_one_line prefix.docs && (is_well_gates prefix.gates && passes (list_all scalar) prefix.external_id)
 
 -- ---- paths and uses
 
 abbrev pub is_well_path : PathTree → Bool
 is_well_path (Local interface) = is_label interface
-is_well_path (Full namespace name interface version) = is_label namespace && (is_label name && (is_label interface && is_well_optional is_version_text version))
+is_well_path (Full namespace name interface version) = is_label namespace && (is_label name && (is_label interface && passes is_version_text version))
 
 abbrev pub is_well_used : UsedName → Bool
-is_well_used used = is_label used.other && is_well_optional is_label used.own
+is_well_used used = is_label used.other && passes is_label used.own
 
 -- one entry and more, each of which passes the test
 abbrev pub are_well_some : {X : Type 0} → (X → Bool) → List X → Bool
@@ -90,13 +86,13 @@ abbrev pub is_well_field : FieldTree → Bool
 is_well_field field = list_all is_one_line field.docs && (is_label field.name && is_well_type field.ty)
 
 abbrev pub is_well_case : CaseTree → Bool
-is_well_case c = list_all is_one_line c.docs && (is_label c.name && is_well_optional is_well_type c.payload)
+is_well_case c = list_all is_one_line c.docs && (is_label c.name && passes is_well_type c.payload)
 
 abbrev pub is_well_label : LabelTree → Bool
 is_well_label label = list_all is_one_line label.docs && is_label label.name
 
 abbrev pub is_well_resource_member : ResourceMember → Bool
-is_well_resource_member (Constructor prefix params result) = is_well_prefix prefix && (list_all is_well_param params && is_well_optional is_well_type result)
+is_well_resource_member (Constructor prefix params result) = is_well_prefix prefix && (list_all is_well_param params && passes is_well_type result)
 is_well_resource_member (Method prefix name signature) = is_well_prefix prefix && (is_label name && is_well_signature signature)
 is_well_resource_member (Static prefix name signature) = is_well_prefix prefix && (is_label name && is_well_signature signature)
 
@@ -129,10 +125,11 @@ is_well_world_member (WorldExport prefix extern_) = is_well_prefix prefix && is_
 
 abbrev pub is_well_item : ItemTree → Bool
 is_well_item (InterfaceItem docs gates name members) = list_all is_one_line docs && (is_well_gates gates && (is_label name && list_all is_well_member members))
-is_well_item (WorldItem docs gates name members) = list_all is_one_line docs && (is_well_gates gates && (is_label name && list_all is_well_world_member members))
+is_well_item (WorldItem docs gates name members) = list_all is_one_line docs
+    && (is_well_gates gates && (is_label name && list_all is_well_world_member members))
 
 abbrev pub is_well_head : PackageHead → Bool
-is_well_head head = list_all is_one_line head.docs && (is_label head.namespace && (is_label head.name && is_well_optional is_version_text head.version))
+is_well_head head = list_all is_one_line head.docs && (is_label head.namespace && (is_label head.name && passes is_version_text head.version))
 
 abbrev pub is_well_package : PackageTree → Bool
 is_well_package tree = is_well_head tree.head && list_all is_well_item tree.items

@@ -14,13 +14,13 @@ use Rattle.wit_model.specs.declared.model.«Type».{«Type» as ValueType}
 use Rattle.wit_model.specs.declared.model.«Type».TheVariants as value
 use Rattle.wit_model.specs.Calls.{is_constructor_shorthand, is_shorthand, item_name}
 use Rattle.wit_model.specs.Names.{is_label}
-use Rattle.wit_model.specs.Rules.{is_own_of, type_is}
+use Rattle.wit_model.specs.Rules.{is_own_of, type_is, passes}
 use Rattle.print_grammar.specs.Tree.{TypeTree}
 use Rattle.print_items.specs.Shown.{constructor_result, function_prefix, is_method, shown_param, shown_params, shown_resource_member, shown_signature, shown_type}
 use Rattle.print_grammar.specs.Calls.{prefix_calls, resource_body_calls, resource_member_calls}
 use Rattle.print_output.specs.OutputCall.OutputCall.{IndentEnd, IndentStart}
 use Rattle.print_items.specs.DeclaredCalls.{bare_member_calls}
-use Rattle.print_grammar.specs.WellNamed.{is_well_optional, is_well_param, is_well_prefix, is_well_resource_member, is_well_signature, is_well_type}
+use Rattle.print_grammar.specs.WellNamed.{is_well_param, is_well_prefix, is_well_resource_member, is_well_signature, is_well_type}
 use Rattle.base_lemmas.proofs.Bools.{left_of, right_of}
 
 module _ (r : Resolve) (id : TypeId) where
@@ -48,7 +48,7 @@ module _ (r : Resolve) (id : TypeId) where
 
   -- and are well named, as its result
   pub constructor_well : (f : Function) → f.kind ≡ call.Constructor id → is_well_resource_member (shown_resource_member r f) ≡ true → (list_all is_well_param (shown_params r f) ≡ true)
-      × (is_well_optional is_well_type (constructor_result r id f.result) ≡ true)
+      × (passes is_well_type (constructor_result r id f.result) ≡ true)
   constructor_well f e well =
       let known = subst (λ k. is_well_resource_member (shown_resource_member r (record f { kind = k })) ≡ true) e well in
       let rest = right_of (is_well_prefix (function_prefix f)) _ known in (

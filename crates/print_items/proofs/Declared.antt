@@ -28,7 +28,7 @@ use Rattle.print_items.specs.Shown.{future_tree, kind_tree, shown_type, stream_t
 use Rattle.print_grammar.specs.Calls.{declared_calls, type_calls}
 use Rattle.print_items.specs.DeclaredCalls.{alias_calls, carrier_calls, is_word}
 use Rattle.print_items.specs.TypeParts.{handles_label, is_labelled, kind_calls, may_be_unnamed}
-use Rattle.print_grammar.specs.WellNamed.{are_well_some, is_well_optional, is_well_type}
+use Rattle.print_grammar.specs.WellNamed.{are_well_some, is_well_type}
 use Rattle.print_output.specs.declared.type_kind.TypeKind.TheVariants as kind
 use Rattle.print_items.proofs.TypesWell.{type_rule}
 use Rattle.print_items.proofs.TypeParts.{handles_at, shown_at, type_stays, well_in_range}
@@ -56,11 +56,11 @@ pub stream_alias : (name : Text) (o : Option TypeTree) → alias_calls name kind
 stream_alias name None = refl
 stream_alias name (Some t) = refl
 
-pub future_payload : (o : Option TypeTree) → is_well_type (future_tree o) ≡ true → is_well_optional is_well_type o ≡ true
+pub future_payload : (o : Option TypeTree) → is_well_type (future_tree o) ≡ true → passes is_well_type o ≡ true
 future_payload None h = refl
 future_payload (Some t) h = h
 
-pub stream_payload : (o : Option TypeTree) → is_well_type (stream_tree o) ≡ true → is_well_optional is_well_type o ≡ true
+pub stream_payload : (o : Option TypeTree) → is_well_type (stream_tree o) ≡ true → passes is_well_type o ≡ true
 stream_payload None h = refl
 stream_payload (Some t) h = h
 

@@ -46,8 +46,6 @@ module _ {Kept : Type 0} (keeps : View Kept → OutputCall → Kept) where
   pub Counts-line : (u : View Kept) (call : OutputCall) (v : View Kept) → Counts keeps u call v → v.line_begun ≡ line_begun_after call u.line_begun
   Counts-line u call v h = elim h [ inl e ↦ ap (λ x. x.line_begun) e | inr e ↦ ap (λ x. x.line_begun) e ∙ line_after_body call u ]
 
--- a fact of an error, whichever result it is
-
 -- a fact of a value, whichever result it is
 
 module _ {Kept : Type 0} {keeps : View Kept → OutputCall → Kept} where

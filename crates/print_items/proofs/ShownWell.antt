@@ -21,7 +21,7 @@ use Rattle.wit_model.specs.Lookup.{optional_version_text}
 use Rattle.std.proofs.lemmas.Bool.{ltb-true, and_from as both}
 use Rattle.print_output.specs.OutputCall.{is_one_line}
 use Rattle.print_items.specs.Shown.{present_name, shown_docs, shown_gates, shown_external_id, shown_prefix}
-use Rattle.print_grammar.specs.WellNamed.{is_well_optional, is_well_gates, is_well_prefix}
+use Rattle.print_grammar.specs.WellNamed.{is_well_gates, is_well_prefix}
 use Rattle.print_items.proofs.DocLines.{line_one_line}
 use Rattle.base_lemmas.proofs.Bools.{left_of, right_of}
 
@@ -48,7 +48,7 @@ version_is_text v h = ap is_ok (version_parts-complete (parts_of v) valid)
       right_of (is_pre_release (pre_text v.pre)) _ after_patch,
     )
 
-pub optional_version : (v : Option Version) → passes is_version v ≡ true → is_well_optional is_version_text (optional_version_text v) ≡ true
+pub optional_version : (v : Option Version) → passes is_version v ≡ true → passes is_version_text (optional_version_text v) ≡ true
 optional_version None h = refl
 optional_version (Some v) h = version_is_text v h
 
@@ -85,7 +85,7 @@ all_scalar [] h = refl
 all_scalar (c ∷ cs) h = both (scalar c) _ (left_of _ _ h) (all_scalar cs (right_of (scalar c) _ h))
 
 -- The characters of an external id are characters.
-pub external_id_well : (id : Option (String Global)) → is_well_optional (list_all scalar) (shown_external_id id) ≡ true
+pub external_id_well : (id : Option (String Global)) → passes (list_all scalar) (shown_external_id id) ≡ true
 external_id_well None = refl
 external_id_well (Some s) = all_scalar (chars (text_of s)) (scalars-chars (text_of s) (IsUtf8-string_bytes s))
 

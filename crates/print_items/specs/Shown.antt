@@ -45,6 +45,7 @@ use Rattle.wit_model.specs.Lookup.{package_at, interface_at, world_at, type_at, 
 use Rattle.wit_model.specs.Parts.{same_owner}
 use Rattle.wit_model.specs.Rules.{is_freestanding, is_own_of}
 use Rattle.wit_model.specs.Calls.{item_name}
+use Rattle.wit_model.specs.Valid.{item_function}
 use Rattle.print_grammar.specs.Keyword.{Primitive}
 use Rattle.print_grammar.specs.Tree.{TypeTree, TypeTrees, Gates, Prefix, ParamTree, FieldTree, CaseTree, LabelTree, SignatureTree, ResourceMember, Declared, PathTree, UsedName, MemberTree, ExternTree, WorldMember, ItemTree, PackageHead, PackageTree, FileTree}
 use Rattle.print_grammar.specs.Tree.TypeTree.{PrimitiveType, Name, Handle, Own, Borrow, TupleOf, OptionOf, ListOf, FixedListOf, MapOf, Result, ResultOk, ResultErr, ResultOf, Future, FutureOf, Stream, StreamOf}
@@ -369,12 +370,6 @@ owner_package resolve owner.None = None
 abbrev pub path_from_owner : Resolve → Option PackageId → InterfaceId → PathTree
 path_from_owner resolve here other = option_map_or (λ p. shown_path resolve p other) here (Local [])
 
--- Types of an owner, with the functions among which a resource's stand: uses, then declared types.
-abbrev pub shown_types : Resolve → TypeOwner → List Function → List Listed → List MemberTree
-shown_types resolve here functions types =
-    map (λ used. UseMember used.prefix (path_from_owner resolve (owner_package resolve here) used.interface) used.names) (shown_uses resolve here types)
-    ++ map (λ d. TypeMember d.prefix d.declared) (shown_declarations resolve here functions types)
-
 -- ---- interfaces
 
 -- the types of an interface, under their names
@@ -440,14 +435,9 @@ abbrev pub is_interface_item : Item → Bool
 is_interface_item (item.Interface id gates docs external_id) = true
 is_interface_item other = false
 
--- the function that an item is, if it is one
-abbrev pub function_of_item : Item → Option Function
-function_of_item (item.Function f) = Some f
-function_of_item other = None
-
 -- whether an item is a freestanding function
 abbrev pub is_freestanding_item : Item → Bool
-is_freestanding_item item = option_map_or (λ f. is_freestanding f.kind) (function_of_item item) false
+is_freestanding_item item = option_map_or (λ f. is_freestanding f.kind) (item_function item) false
 
 -- the type that an import is, under its name, if it is one
 abbrev pub type_of_entry : WorldKey → Item → Option Listed
@@ -460,7 +450,7 @@ listed_imports world = filter_map (λ entry. type_of_entry entry.0 entry.1) worl
 
 -- the functions that a world imports itself
 abbrev pub imported_functions : World → List Function
-imported_functions world = filter_map (λ entry. function_of_item entry.1) world.imports.entries
+imported_functions world = filter_map (λ entry. item_function entry.1) world.imports.entries
 
 -- A world: imported interfaces, uses, declared types, imported functions, exports.
 abbrev pub shown_world_in : Resolve → WorldId → World → PackageId → List WorldMember

@@ -4,7 +4,7 @@
 ghost use Rattle.std.specs.Prelude.{◌≡◌, true, false, IsTrue};
 ghost use Rattle.wit_model.specs.Names.{is_label};
 ghost use Rattle.wit_model.specs.Parts.{handle_target};
-ghost use Rattle.wit_model.specs.Rules.{in_list};
+ghost use Rattle.wit_model.specs.Rules.{in_list, passes};
 ghost use Rattle.wit_model.specs.Valid.{IsValid};
 ghost use Rattle.print_items.specs.Drives.{Drives, LineIs};
 ghost use Rattle.print_output.specs.OutputCall.{is_one_line, has_no_space_first};
@@ -14,7 +14,7 @@ ghost use Rattle.print_grammar.specs.Tree.TypeTree.{FixedListOf, ListOf};
 ghost use Rattle.print_grammar.specs.Calls.{declared_calls, type_calls};
 ghost use Rattle.print_items.specs.DeclaredCalls.{alias_calls, alias_start_calls, angle_calls, angled_calls, carrier_calls, fixed_list_calls, is_word, map_calls, two_calls};
 ghost use Rattle.print_items.specs.TypeParts.{is_labelled, kind_calls, may_be_unnamed};
-ghost use Rattle.print_grammar.specs.WellNamed.{is_well_optional, is_well_type};
+ghost use Rattle.print_grammar.specs.WellNamed.{is_well_type};
 
 use crate::driver::Driver;
 use crate::type_name::{name_of, write_handle_of, write_type, write_unnamed};
@@ -228,7 +228,7 @@ fn write_carrier<O: Output>(
     requires one_line { IsTrue (is_one_line word.now) }
     requires front { IsTrue (has_no_space_first word.now) }
     requires valid { IsValid resolve.now }
-    requires well { is_well_optional is_well_type (shown_payload resolve.now payload.now) ≡ true }
+    requires well { passes is_well_type (shown_payload resolve.now payload.now) ≡ true }
     ensures calls { Drives O.view O.keeps driver.old (carrier_calls word.now (shown_payload resolve.now payload.now)) driver.new }
     ensures line { LineIs O.view false driver.new }
 {
@@ -251,7 +251,7 @@ pub fn write_carrier_alias<O: Output>(
     requires front { IsTrue (has_no_space_first word.now) }
     requires valid { IsValid resolve.now }
     requires label { is_label name.now ≡ true }
-    requires well { is_well_optional is_well_type (shown_payload resolve.now payload.now) ≡ true }
+    requires well { passes is_well_type (shown_payload resolve.now payload.now) ≡ true }
     ensures calls { Drives O.view O.keeps driver.old (alias_calls name.now kind (carrier_calls word.now (shown_payload resolve.now payload.now))) driver.new }
 {
     write_alias_start(driver, name, kind);

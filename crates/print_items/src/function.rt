@@ -6,12 +6,13 @@ ghost use Rattle.std.specs.List.{list_all, flat_map};
 ghost use Rattle.wit_model.specs.Names.{is_label};
 ghost use Rattle.wit_model.specs.Lookup.{is_async as is_async_lem};
 ghost use Rattle.wit_model.specs.Valid.{IsValid};
+ghost use Rattle.wit_model.specs.Rules.{passes};
 ghost use Rattle.print_items.specs.Drives.{Drives, LineIs};
 ghost use Rattle.print_output.specs.OutputCall.{OutputCall};
 ghost use Rattle.print_items.specs.Shown.{is_method as is_method_lem, shown_param, shown_signature, shown_type};
 ghost use Rattle.print_grammar.specs.Calls.{async_calls, param_calls, params_calls, result_calls, separated, signature_calls};
 ghost use Rattle.print_items.specs.ItemCalls.{named_calls, written_params as written_params_lem};
-ghost use Rattle.print_grammar.specs.WellNamed.{is_well_optional, is_well_param, is_well_signature, is_well_type};
+ghost use Rattle.print_grammar.specs.WellNamed.{is_well_param, is_well_signature, is_well_type};
 
 use crate::driver::Driver;
 use crate::type_name::write_type;
@@ -35,7 +36,8 @@ fn write_more_params<O: Output>(driver: &mut Driver<O>, resolve: &Resolve, param
     requires same_line { LineIs O.view false driver.old }
     requires valid { IsValid resolve.now }
     requires well { list_all (λ param. is_well_param (shown_param resolve.now param)) params.now ≡ true }
-    ensures calls { Drives O.view O.keeps driver.old (flat_map (λ param. OutputCall.Str (codes ", ") ∷ param_calls (shown_param resolve.now param)) params.now) driver.new }
+    ensures calls { Drives O.view O.keeps driver.old (flat_map (λ param. OutputCall.Str (codes ", ") ∷ param_calls (shown_param resolve.now param)) params.now)
+        driver.new }
     ensures line { LineIs O.view false driver.new }
 {
     for param in params {
@@ -52,7 +54,8 @@ fn write_params<O: Output>(driver: &mut Driver<O>, resolve: &Resolve, params: &[
     requires same_line { LineIs O.view false driver.old }
     requires valid { IsValid resolve.now }
     requires well { list_all (λ param. is_well_param (shown_param resolve.now param)) params.now ≡ true }
-    ensures calls { Drives O.view O.keeps driver.old (separated (OutputCall.Str (codes ", ")) (map param_calls (map (shown_param resolve.now) params.now))) driver.new }
+    ensures calls { Drives O.view O.keeps driver.old (separated (OutputCall.Str (codes ", ")) (map param_calls (map (shown_param resolve.now) params.now)))
+        driver.new }
     ensures line { LineIs O.view false driver.new }
 {
     if let Some((first, rest)) = params.split_first() {
@@ -65,7 +68,7 @@ fn write_params<O: Output>(driver: &mut Driver<O>, resolve: &Resolve, params: &[
 fn write_result<O: Output>(driver: &mut Driver<O>, resolve: &Resolve, returned: &Option<Type>)
     requires same_line { LineIs O.view false driver.old }
     requires valid { IsValid resolve.now }
-    requires well { is_well_optional is_well_type (option_map (shown_type resolve.now) returned.now) ≡ true }
+    requires well { passes is_well_type (option_map (shown_type resolve.now) returned.now) ≡ true }
     ensures calls { Drives O.view O.keeps driver.old (result_calls (option_map (shown_type resolve.now) returned.now)) driver.new }
     ensures line { LineIs O.view false driver.new }
 {
@@ -85,8 +88,9 @@ pub(crate) fn write_params_and_result<O: Output>(
     requires same_line { LineIs O.view false driver.old }
     requires valid { IsValid resolve.now }
     requires params { list_all (λ param. is_well_param (shown_param resolve.now param)) params.now ≡ true }
-    requires returned { is_well_optional is_well_type (option_map (shown_type resolve.now) returned.now) ≡ true }
-    ensures calls { Drives O.view O.keeps driver.old (params_calls (map (shown_param resolve.now) params.now) (option_map (shown_type resolve.now) returned.now)) driver.new }
+    requires returned { passes is_well_type (option_map (shown_type resolve.now) returned.now) ≡ true }
+    ensures calls { Drives O.view O.keeps driver.old (params_calls (map (shown_param resolve.now) params.now)
+        (option_map (shown_type resolve.now) returned.now)) driver.new }
     ensures line { LineIs O.view false driver.new }
 {
     driver.str("(");

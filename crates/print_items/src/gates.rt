@@ -5,12 +5,13 @@ ghost use Rattle.std.specs.Prelude.{◌≡◌, true, IsTrue};
 ghost use Rattle.semver.specs.Identifiers.{version_text};
 ghost use Rattle.wit_model.specs.Names.{is_label, is_version_text};
 ghost use Rattle.wit_model.specs.Lookup.{optional_version_text};
+ghost use Rattle.wit_model.specs.Rules.{passes};
 ghost use Rattle.print_items.specs.Drives.{Drives};
 ghost use Rattle.print_output.specs.OutputCall.{is_one_line, has_no_space_first};
 ghost use Rattle.print_items.specs.Shown.{shown_gates};
 ghost use Rattle.print_grammar.specs.Calls.{deprecated_calls, gates_calls, version_attribute_calls};
 ghost use Rattle.print_items.specs.ItemCalls.{feature_calls};
-ghost use Rattle.print_grammar.specs.WellNamed.{is_well_gates, is_well_optional};
+ghost use Rattle.print_grammar.specs.WellNamed.{is_well_gates};
 
 use crate::driver::Driver;
 use print_output::Output;
@@ -35,7 +36,7 @@ fn write_version_attribute<O: Output>(driver: &mut Driver<O>, word: &str, versio
 
 /// Since which version an item is deprecated, if it is.
 fn write_deprecated<O: Output>(driver: &mut Driver<O>, deprecated: &Option<Version>)
-    requires version { is_well_optional is_version_text (optional_version_text deprecated.now) ≡ true }
+    requires version { passes is_version_text (optional_version_text deprecated.now) ≡ true }
     ensures calls { Drives O.view O.keeps driver.old (deprecated_calls (optional_version_text deprecated.now)) driver.new }
 {
     match deprecated {

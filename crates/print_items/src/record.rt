@@ -25,7 +25,8 @@ fn write_typed<O: Output>(driver: &mut Driver<O>, resolve: &Resolve, name: &str,
     requires valid { IsValid resolve.now }
     requires label { is_label name.now ≡ true }
     requires well { is_well_type (shown_type resolve.now ty.now) ≡ true }
-    ensures calls { Drives O.view O.keeps driver.old (OutputCall.Param (escaped name.now) ∷ OutputCall.Str (codes ": ") ∷ type_calls (shown_type resolve.now ty.now)) driver.new }
+    ensures calls { Drives O.view O.keeps driver.old (OutputCall.Param (escaped name.now) ∷ OutputCall.Str (codes ": ")
+        ∷ type_calls (shown_type resolve.now ty.now)) driver.new }
     ensures line { LineIs O.view false driver.new }
 {
     driver.param(name);

@@ -7,13 +7,14 @@ ghost use Rattle.wit_model.specs.declared.model.FunctionKind.TheVariants as kind
 ghost use Rattle.wit_model.specs.Calls.{item_name};
 ghost use Rattle.wit_model.specs.Names.{is_label};
 ghost use Rattle.wit_model.specs.Valid.{IsValid};
+ghost use Rattle.wit_model.specs.Rules.{passes};
 ghost use Rattle.print_items.specs.Drives.{Drives, LineIs};
 ghost use Rattle.print_items.specs.Shown.{constructor_result, shown_params, shown_resource_member, shown_resource_members, shown_signature, shown_type};
 ghost use Rattle.print_grammar.specs.Tree.Declared.{ResourceOf};
 ghost use Rattle.print_grammar.specs.Calls.{declared_calls, resource_body_calls, resource_member_calls};
 ghost use Rattle.print_items.specs.DeclaredCalls.{bare_member_calls, constructor_calls, resource_name_calls, static_calls, static_start_calls};
 ghost use Rattle.print_items.specs.ItemCalls.{named_calls};
-ghost use Rattle.print_grammar.specs.WellNamed.{is_well_declared, is_well_optional, is_well_param, is_well_resource_member, is_well_signature, is_well_type};
+ghost use Rattle.print_grammar.specs.WellNamed.{is_well_declared, is_well_param, is_well_resource_member, is_well_signature, is_well_type};
 
 use crate::driver::Driver;
 use crate::function::{write_named, write_params_and_result, write_signature};
@@ -49,7 +50,8 @@ fn write_method<O: Output>(driver: &mut Driver<O>, resolve: &Resolve, function: 
     requires valid { IsValid resolve.now }
     requires label { is_label (item_name function.now) ≡ true }
     requires well { is_well_signature (shown_signature resolve.now function.now) ≡ true }
-    ensures calls { Drives O.view O.keeps driver.old (named_calls (item_name function.now) TypeKind.FunctionMethod (shown_signature resolve.now function.now)) driver.new }
+    ensures calls { Drives O.view O.keeps driver.old (named_calls (item_name function.now) TypeKind.FunctionMethod (shown_signature resolve.now function.now))
+        driver.new }
 {
     let name = function.item_name();
     write_named(driver, resolve, function, name, TypeKind::FunctionMethod);
@@ -57,7 +59,8 @@ fn write_method<O: Output>(driver: &mut Driver<O>, resolve: &Resolve, function: 
 
 /// What is written of a constructor's result: nothing where it is its resource.
 fn written_result(resolve: &Resolve, function: &Function) -> Option<Type>
-    ensures { (id : TypeId) → function.now.kind ≡ kinds.Constructor id → option_map (shown_type resolve.now) result ≡ constructor_result resolve.now id function.now.result }
+    ensures { (id : TypeId) → function.now.kind ≡ kinds.Constructor id
+        → option_map (shown_type resolve.now) result ≡ constructor_result resolve.now id function.now.result }
 {
     if function.is_constructor_shorthand(resolve) {
         None
@@ -76,8 +79,9 @@ fn write_constructor<O: Output>(
     requires kind { function.now.kind ≡ kinds.Constructor id }
     requires valid { IsValid resolve.now }
     requires params { list_all is_well_param (shown_params resolve.now function.now) ≡ true }
-    requires returned { is_well_optional is_well_type (constructor_result resolve.now id function.now.result) ≡ true }
-    ensures calls { Drives O.view O.keeps driver.old (constructor_calls (shown_params resolve.now function.now) (constructor_result resolve.now id function.now.result)) driver.new }
+    requires returned { passes is_well_type (constructor_result resolve.now id function.now.result) ≡ true }
+    ensures calls { Drives O.view O.keeps driver.old (constructor_calls (shown_params resolve.now function.now)
+        (constructor_result resolve.now id function.now.result)) driver.new }
 {
     let returned = written_result(resolve, function);
     driver.keyword("constructor");
@@ -131,7 +135,8 @@ fn write_members<O: Output>(
 )
     requires valid { IsValid resolve.now }
     requires well { list_all (λ f. is_well_resource_member (shown_resource_member resolve.now f.now)) functions.now ≡ true }
-    ensures calls { Drives O.view O.keeps driver.old (flat_map (λ f. resource_member_calls emits_docs (shown_resource_member resolve.now f.now)) functions.now) driver.new }
+    ensures calls { Drives O.view O.keeps driver.old (flat_map (λ f. resource_member_calls emits_docs (shown_resource_member resolve.now f.now)) functions.now)
+        driver.new }
 {
     for function in functions {
         if driver.refused {
@@ -182,7 +187,8 @@ pub fn write_resource<O: Output>(
 )
     requires valid { IsValid resolve.now }
     requires well { is_well_declared (ResourceOf name.now (shown_resource_members resolve.now functions.now)) ≡ true }
-    ensures calls { Drives O.view O.keeps driver.old (declared_calls emits_docs (ResourceOf name.now (shown_resource_members resolve.now functions.now))) driver.new }
+    ensures calls { Drives O.view O.keeps driver.old (declared_calls emits_docs (ResourceOf name.now (shown_resource_members resolve.now functions.now)))
+        driver.new }
 {
     write_resource_name(driver, name);
     write_resource_body(driver, emits_docs, resolve, functions);

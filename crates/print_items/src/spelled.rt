@@ -108,7 +108,8 @@ pub(crate) fn print_length<O: Output>(
 ) -> Result<(), Error>
     requires { IsTrue (may_stand (O.view output.old).line_begun (OutputCall.Str (codes ", " ++ decimal length))) }
     ensures ok { OnOk result (Moves O.keeps (O.view output.old) (OutputCall.Str (codes ", " ++ decimal length) ∷ []) (O.view output.new)) }
-    ensures line { OnOk result ((O.view output.new).line_begun ≡ line_begun_after (OutputCall.Str (codes ", " ++ decimal length)) (O.view output.old).line_begun) }
+    ensures line { OnOk result ((O.view output.new).line_begun
+        ≡ line_begun_after (OutputCall.Str (codes ", " ++ decimal length)) (O.view output.old).line_begun) }
     ensures err { OnErr result (Begins O.keeps (O.view output.old) (OutputCall.Str (codes ", " ++ decimal length) ∷ []) (O.view output.new)) }
     ensures memory { IsOkUnless result Memory }
 {
@@ -125,7 +126,8 @@ pub(crate) fn push_length<O: Output>(
 ) -> Result<(), Error>
     requires { IsTrue (may_stand (O.view output.old).line_begun (OutputCall.PushStr (codes ", " ++ decimal length))) }
     ensures ok { OnOk result (Moves O.keeps (O.view output.old) (OutputCall.PushStr (codes ", " ++ decimal length) ∷ []) (O.view output.new)) }
-    ensures line { OnOk result ((O.view output.new).line_begun ≡ line_begun_after (OutputCall.PushStr (codes ", " ++ decimal length)) (O.view output.old).line_begun) }
+    ensures line { OnOk result ((O.view output.new).line_begun
+        ≡ line_begun_after (OutputCall.PushStr (codes ", " ++ decimal length)) (O.view output.old).line_begun) }
     ensures err { OnErr result (Begins O.keeps (O.view output.old) (OutputCall.PushStr (codes ", " ++ decimal length) ∷ []) (O.view output.new)) }
     ensures memory { IsOkUnless result Memory }
 {
@@ -160,7 +162,8 @@ pub(crate) fn print_marked_version<O: Output>(
 ) -> Result<(), Error>
     requires { IsTrue (may_stand (O.view output.old).line_begun (OutputCall.Ty (64 ∷ version_text version.now) kind)) }
     ensures ok { OnOk result (Moves O.keeps (O.view output.old) (OutputCall.Ty (64 ∷ version_text version.now) kind ∷ []) (O.view output.new)) }
-    ensures line { OnOk result ((O.view output.new).line_begun ≡ line_begun_after (OutputCall.Ty (64 ∷ version_text version.now) kind) (O.view output.old).line_begun) }
+    ensures line { OnOk result ((O.view output.new).line_begun
+        ≡ line_begun_after (OutputCall.Ty (64 ∷ version_text version.now) kind) (O.view output.old).line_begun) }
     ensures err { OnErr result (Begins O.keeps (O.view output.old) (OutputCall.Ty (64 ∷ version_text version.now) kind ∷ []) (O.view output.new)) }
     ensures memory { IsOkUnless result Memory }
 {
@@ -176,9 +179,12 @@ pub(crate) fn print_plain_version<O: Output>(
     version: &Version,
 ) -> Result<(), Error>
     requires { IsTrue (may_stand (O.view output.old).line_begun (OutputCall.Ty (version_text version.now) TypeKind.VersionAnnotation)) }
-    ensures ok { OnOk result (Moves O.keeps (O.view output.old) (OutputCall.Ty (version_text version.now) TypeKind.VersionAnnotation ∷ []) (O.view output.new)) }
-    ensures line { OnOk result ((O.view output.new).line_begun ≡ line_begun_after (OutputCall.Ty (version_text version.now) TypeKind.VersionAnnotation) (O.view output.old).line_begun) }
-    ensures err { OnErr result (Begins O.keeps (O.view output.old) (OutputCall.Ty (version_text version.now) TypeKind.VersionAnnotation ∷ []) (O.view output.new)) }
+    ensures ok { OnOk result (Moves O.keeps (O.view output.old) (OutputCall.Ty (version_text version.now) TypeKind.VersionAnnotation ∷ [])
+        (O.view output.new)) }
+    ensures line { OnOk result ((O.view output.new).line_begun
+        ≡ line_begun_after (OutputCall.Ty (version_text version.now) TypeKind.VersionAnnotation) (O.view output.old).line_begun) }
+    ensures err { OnErr result (Begins O.keeps (O.view output.old) (OutputCall.Ty (version_text version.now) TypeKind.VersionAnnotation ∷ [])
+        (O.view output.new)) }
     ensures memory { IsOkUnless result Memory }
 {
     let text = format!(in alloc; "{version}")?;

@@ -4,11 +4,12 @@
 ghost use Rattle.std.specs.Prelude.{◌≡◌, true, false, map, option_map};
 ghost use Rattle.std.specs.List.{flat_map, list_all};
 ghost use Rattle.wit_model.specs.Valid.{IsValid};
+ghost use Rattle.wit_model.specs.Rules.{passes};
 ghost use Rattle.print_items.specs.Drives.{Drives, LineIs};
 ghost use Rattle.print_items.specs.Shown.{shown_case, shown_type};
 ghost use Rattle.print_grammar.specs.Tree.Declared.{VariantOf};
 ghost use Rattle.print_grammar.specs.Calls.{case_calls, declared_calls, payload_calls};
-ghost use Rattle.print_grammar.specs.WellNamed.{is_well_declared, is_well_case, is_well_optional, is_well_type};
+ghost use Rattle.print_grammar.specs.WellNamed.{is_well_declared, is_well_case, is_well_type};
 
 use crate::block::{write_block_start, write_line_end};
 use crate::driver::Driver;
@@ -21,7 +22,7 @@ use wit_model::{Case, Resolve, Type, Variant};
 fn write_payload<O: Output>(driver: &mut Driver<O>, resolve: &Resolve, payload: &Option<Type>)
     requires same_line { LineIs O.view false driver.old }
     requires valid { IsValid resolve.now }
-    requires well { is_well_optional is_well_type (option_map (shown_type resolve.now) payload.now) ≡ true }
+    requires well { passes is_well_type (option_map (shown_type resolve.now) payload.now) ≡ true }
     ensures calls { Drives O.view O.keeps driver.old (payload_calls (option_map (shown_type resolve.now) payload.now)) driver.new }
     ensures line { LineIs O.view false driver.new }
 {
@@ -72,7 +73,8 @@ pub fn write_variant<O: Output>(
 )
     requires valid { IsValid resolve.now }
     requires well { is_well_declared (VariantOf name.now (map (shown_case resolve.now) of.now.cases.items)) ≡ true }
-    ensures calls { Drives O.view O.keeps driver.old (declared_calls emits_docs (VariantOf name.now (map (shown_case resolve.now) of.now.cases.items))) driver.new }
+    ensures calls { Drives O.view O.keeps driver.old (declared_calls emits_docs (VariantOf name.now (map (shown_case resolve.now) of.now.cases.items)))
+        driver.new }
 {
     write_block_start(driver, "variant", name, TypeKind::Variant);
     write_cases(driver, emits_docs, resolve, &of.cases);

@@ -20,11 +20,6 @@ pub data OutputCall : Type 0 where
   Semicolon : OutputCall
   Str : List ℕ → OutputCall
 
--- a line of documentation after its three slashes
-abbrev pub doc_pushes : List ℕ → List OutputCall
-doc_pushes [] = []
-doc_pushes (c ∷ cs) = PushStr (codes " ") ∷ PushStr (c ∷ cs) ∷ []
-
 -- The calls that the body of a function in the trait makes. A function without a body counts as itself.
 abbrev pub body_calls : OutputCall → List OutputCall
 body_calls (IndentAndPrint text) = IndentIfNeeded ∷ PushStr text ∷ []
@@ -120,10 +115,12 @@ module _ {Kept : Type 0} (keeps : View Kept → OutputCall → Kept) where
 -- The calls moved the view, in order.
 pub data Moves {Kept : Type 0} (keeps : View Kept → OutputCall → Kept) : View Kept → List OutputCall → View Kept → Type 0 where
   nothing_moved : {old new : View Kept} → new ≡ old → Moves keeps old [] new
-  then_moved : {old between new : View Kept} {call : OutputCall} {calls : List OutputCall} → Counts keeps old call between → Moves keeps between calls new → Moves keeps old (call ∷ calls) new
+  then_moved : {old between new : View Kept} {call : OutputCall} {calls : List OutputCall} → Counts keeps old call between → Moves keeps between calls new
+      → Moves keeps old (call ∷ calls) new
 
 -- A beginning of the calls moved the view: some calls in order, and then a beginning of the calls that the body of the next one makes.
 pub data Begins {Kept : Type 0} (keeps : View Kept → OutputCall → Kept) : View Kept → List OutputCall → View Kept → Type 0 where
   nothing_begun : {old new : View Kept} {calls : List OutputCall} → new ≡ old → Begins keeps old calls new
   begun_in : {old new : View Kept} {call : OutputCall} {calls : List OutputCall} → Reaches keeps old (body_calls call) new → Begins keeps old (call ∷ calls) new
-  then_begun : {old between new : View Kept} {call : OutputCall} {calls : List OutputCall} → Counts keeps old call between → Begins keeps between calls new → Begins keeps old (call ∷ calls) new
+  then_begun : {old between new : View Kept} {call : OutputCall} {calls : List OutputCall} → Counts keeps old call between → Begins keeps between calls new
+      → Begins keeps old (call ∷ calls) new

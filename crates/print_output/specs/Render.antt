@@ -35,7 +35,11 @@ abbrev pub writes : View Written → OutputCall → Written
 writes view (PushStr text) = pushed view text
 writes view IndentIfNeeded = printed view []
 writes view IndentStart = record { text = view.kept.text ++ (codes " {" ++ (10 ∷ [])); level = view.kept.level + 1 }
-writes view IndentEnd = record { text = (view.kept.text ++ front_of view.line_begun (view.kept.level - 1)) ++ (codes "}" ++ (10 ∷ [])); level = view.kept.level - 1 }
+writes view IndentEnd = record {
+  text = (view.kept.text ++ front_of view.line_begun (view.kept.level - 1)) ++ (codes "}" ++ (10 ∷ []));
+  level =
+      view.kept.level - 1;
+}
 writes view Newline = pushed view (10 ∷ [])
 writes view (IndentAndPrint text) = printed view text
 writes view (Keyword text) = printed view text

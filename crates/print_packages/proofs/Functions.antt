@@ -15,9 +15,9 @@ use Rattle.wit_model.specs.Text.{text_of}
 use Rattle.wit_model.specs.Valid.{IsValid}
 use Rattle.print_grammar.specs.Tree.{MemberTree}
 use Rattle.print_items.specs.Shown.{function_prefix, listed_functions, shown_function, shown_signature}
-use Rattle.print_grammar.specs.Calls.{function_calls, item_calls, members_calls, prefix_calls}
+use Rattle.print_grammar.specs.Calls.{function_calls, item_calls, members_calls, prefix_calls, line_after_calls}
 use Rattle.print_items.specs.ItemCalls.{named_calls}
-use Rattle.print_uses.specs.Printable.{is_printable_function, line_between, shown_functions}
+use Rattle.print_uses.specs.Printable.{is_printable_function, shown_functions}
 use Rattle.print_grammar.specs.WellNamed.{is_well_member}
 use Rattle.print_output.specs.declared.type_kind.TypeKind.TheVariants.{FunctionFreestanding}
 use Rattle.print_uses.proofs.ValidDeclared.{is_known_function}
@@ -26,7 +26,7 @@ use Rattle.base_lemmas.proofs.Elements.{all_weaker as weaker_all}
 
 -- one function in its block
 pub function_alone : (emits printed : Bool) (r : Resolve) (f : Function)
-    → line_between printed ++ (prefix_calls emits (function_prefix f) ++ named_calls (text_of f.name) FunctionFreestanding (shown_signature r f)) ≡ members_calls emits printed
+    → line_after_calls printed ++ (prefix_calls emits (function_prefix f) ++ named_calls (text_of f.name) FunctionFreestanding (shown_signature r f)) ≡ members_calls emits printed
     (shown_function r f ∷ [])
 function_alone emits true r f = sym (append-nil _)
 function_alone emits false r f = sym (append-nil _)

@@ -23,10 +23,10 @@ use Rattle.print_grammar.specs.Tree.WorldMember.{WorldType, WorldUse}
 use Rattle.print_grammar.specs.Tree.MemberTree.{TypeMember, UseMember}
 use Rattle.print_uses.specs.UseGroups.{declared_members, is_listed_type, use_members}
 use Rattle.print_uses.proofs.Declarations.{after_printed, members_append, printed_append}
-use Rattle.print_uses.specs.Printable.{imports_interfaces, is_printable_entry, is_printable_import, printed_imports, is_printable_interface, is_printable_world, IsPrintableWorld, entry_calls, interface_entry_calls, line_between, world_body_calls, world_calls, is_printable_listed, listed_calls, listed_interface_calls, listed_package_calls, next_package_calls}
+use Rattle.print_uses.specs.Printable.{imports_interfaces, is_printable_entry, is_printable_import, printed_imports, is_printable_interface, is_printable_world, IsPrintableWorld, entry_calls, interface_entry_calls, world_body_calls, world_calls, is_printable_listed, listed_calls, listed_interface_calls, listed_package_calls, next_package_calls}
 use Rattle.print_items.specs.Shown.{DeclaredWith, Entry, Used, listed_imports, shown_declarations, shown_path, shown_uses, is_interface_item, is_freestanding_item, imported_functions, shown_import, shown_export, shown_interface, shown_world, shown_world_in, shown_world_item, shown_interface_item, shown_docs, shown_gates, shown_head, shown_package, shown_package_of}
 use Rattle.print_grammar.specs.Keyword.{escaped}
-use Rattle.print_grammar.specs.Calls.{declared_calls, item_calls, members_calls, prefix_calls, printed_after, space, use_calls, world_members_calls, package_item_calls, block_calls, doc_calls, gates_calls, more_nested_calls, nested_calls, package_outer_calls, package_start_calls, package_end_calls, package_calls}
+use Rattle.print_grammar.specs.Calls.{declared_calls, item_calls, members_calls, prefix_calls, printed_after, space, use_calls, world_members_calls, package_item_calls, block_calls, doc_calls, gates_calls, more_nested_calls, nested_calls, package_outer_calls, package_start_calls, package_end_calls, package_calls, line_after_calls}
 use Rattle.print_output.specs.declared.type_kind.TypeKind.TheVariants.{WorldDeclaration}
 use Rattle.print_grammar.specs.WellNamed.{is_well_gates, is_well_item}
 use Rattle.base_lemmas.proofs.Bools.{left_of as first_true, or_false, or_true, right_of as second_true}
@@ -57,7 +57,7 @@ module _ (emits : Bool) (r : Resolve) (here : PackageId) where
   more_exports (y ∷ ys) = ap (λ calls. entry_calls emits r here (codes "export") y ++ calls) (more_exports ys)
 
   exports_after : (printed : Bool) (ys : List Entry)
-      → world_members_calls emits printed false (map (shown_export r here) ys) ≡ line_between (printed && has_items ys) ++ flat_map (entry_calls emits r here (codes "export")) ys
+      → world_members_calls emits printed false (map (shown_export r here) ys) ≡ line_after_calls (printed && has_items ys) ++ flat_map (entry_calls emits r here (codes "export")) ys
   exports_after true [] = refl
   exports_after false [] = refl
   exports_after true (y ∷ ys) = ap (λ calls. (OutputCall.Newline ∷ entry_calls emits r here (codes "export") y) ++ calls) (more_exports ys)
@@ -116,7 +116,7 @@ members_shown emits r id w here =
     let ends = map (shown_export r here) w.exports.entries in
     let calls = map (shown_import r here) functions in
     let p = imports_interfaces xs in
-    let tail = line_between (printed_imports r here id w && has_items w.exports.entries) ++ flat_map (entry_calls emits r here (codes "export")) w.exports.entries in
+    let tail = line_after_calls (printed_imports r here id w && has_items w.exports.entries) ++ flat_map (entry_calls emits r here (codes "export")) w.exports.entries in
     let types = members_calls emits p (uses ++ declared) in
     ap (world_members_calls emits false false)
     (five (map (shown_import r here) interfaces) (map (λ used. WorldUse used.prefix (shown_path r here used.interface) used.names) us) (map (λ d. WorldType d.prefix d.declared) ds) calls ends)

@@ -22,12 +22,11 @@ use Rattle.wit_model.specs.Names.{is_label, is_version, is_version_text}
 use Rattle.wit_model.specs.Lookup.{interface_at, package_at, world_at, optional_version_text}
 use Rattle.wit_model.specs.declared.model.TypeOwner.TheVariants as owner
 use Rattle.wit_model.specs.Rules.{in_list, passes, key_in_range, item_in_range, key_label, item_labels, entries_labels, is_stability, interface_belongs, world_belongs, is_id, package_number, is_export_item, text_is}
-use Rattle.wit_model.specs.Valid.{IsValid, names_in_packages, numbers_in_range, package_names, places, labels, is_place}
+use Rattle.wit_model.specs.Valid.{IsValid, names_in_packages, numbers_in_range, package_names, places, labels, is_place, item_function}
 use Rattle.wit_model.proofs.Entries.{each_from_at, lists_pass}
 use Rattle.print_uses.specs.Printable.{is_printable_import, is_shown_item, is_printable_interface, is_printable_entry, is_printable_world, is_printable_listed}
-use Rattle.print_grammar.specs.WellNamed.{is_well_optional}
 use Rattle.print_grammar.specs.WellNamed.{is_well_item}
-use Rattle.print_items.specs.Shown.{Listed, function_of_item, imported_functions, listed_imports, shown_interface_item, type_of_entry}
+use Rattle.print_items.specs.Shown.{Listed, imported_functions, listed_imports, shown_interface_item, type_of_entry}
 use Rattle.wit_model.proofs.OnePath.{package-passes}
 use Rattle.print_uses.proofs.WellLists.{all_both, given_well}
 use Rattle.print_uses.specs.UseGroups.{is_listed_function, is_listed_type}
@@ -38,8 +37,6 @@ use Rattle.print_items.proofs.ShownWell.{gates_well, optional_version}
 use Rattle.base_lemmas.proofs.Bools.{left_of as first_true, right_of as second_true}
 use Rattle.base_lemmas.proofs.Elements.{all_weaker as weaker_all}
 use Rattle.base_lemmas.proofs.Lists.{within_there as found}
-
--- ---- lists
 
 -- ---- items
 
@@ -92,7 +89,7 @@ module _ (r : Resolve) (valid : IsValid r) (here : PackageId) (n : ℕ) where
       (given_well (is_known_entry r n) (λ e. type_of_entry e.0 e.1) (λ (t : Listed). in_list r.types.items t.id.0) entry_in_range w.imports.entries known) types
 
   functions_listed : (w : World) → list_all (is_known_entry r n) w.imports.entries ≡ true → list_all (is_listed_function r (owner.World (record { 0 = n }))) (imported_functions w) ≡ true
-  functions_listed w known = given_well (is_known_entry r n) (λ e. function_of_item e.1) (is_listed_function r (owner.World (record { 0 = n }))) (λ e k. entry_function_known r valid n e.0 e.1 k)
+  functions_listed w known = given_well (is_known_entry r n) (λ e. item_function e.1) (is_listed_function r (owner.World (record { 0 = n }))) (λ e k. entry_function_known r valid n e.0 e.1 k)
       w.imports.entries known
 
 -- ---- worlds
@@ -166,7 +163,7 @@ valid_worlds r here p v e = all_listed r here v p.worlds.entries (package_range 
 
 -- a package's name is one
 pub valid_name : (r : Resolve) (n : ℕ) (p : Package) → IsValid r → package_at r n ≡ Some p → (is_label (text_of p.name.namespace) ≡ true) × (is_label (text_of p.name.name) ≡ true)
-    × (is_well_optional is_version_text (optional_version_text p.name.version) ≡ true)
+    × (passes is_version_text (optional_version_text p.name.version) ≡ true)
 unfolding package_names
 valid_name r n p v e =
     let here = each_from_at (package_names.package_ r) 0 r.packages.items n p (lists_pass package_names r v.rules.package_names).0 e in

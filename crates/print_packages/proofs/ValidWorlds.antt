@@ -32,7 +32,7 @@ use Rattle.print_output.specs.OutputCall.{is_one_line}
 use Rattle.print_grammar.specs.Tree.ExternTree.{NamedPath, NamedInterface}
 use Rattle.print_grammar.specs.Tree.{WorldMember}
 use Rattle.print_grammar.specs.Tree.WorldMember.{WorldUse, WorldType}
-use Rattle.print_items.specs.Shown.{Entry, Used, shown_docs, shown_gates, shown_path, shown_uses, shown_declarations, shown_interface, function_prefix, extern_docs, extern_prefix, shown_extern, shown_import, shown_export, is_interface_item, is_freestanding_item, function_of_item, type_of_entry, listed_imports, imported_functions, shown_world_in, shown_world}
+use Rattle.print_items.specs.Shown.{Entry, Used, shown_docs, shown_gates, shown_path, shown_uses, shown_declarations, shown_interface, function_prefix, extern_docs, extern_prefix, shown_extern, shown_import, shown_export, is_interface_item, is_freestanding_item, type_of_entry, listed_imports, imported_functions, shown_world_in, shown_world}
 use Rattle.print_grammar.specs.WellNamed.{is_well_gates, is_well_prefix, is_well_path, is_well_member, is_well_extern, is_well_world_member}
 use Rattle.print_uses.proofs.WellLists.{all_both, each_well, kept_well, given_well}
 use Rattle.print_items.proofs.ShownWell.{docs_well, gates_well, external_id_well}
@@ -155,7 +155,7 @@ module _ (r : Resolve) (valid : IsValid r) where
 
   -- ---- types and functions of a world
 
-  pub entry_function_known : (n : ℕ) (k : WorldKey) (i : Item) → is_known_entry r n (k, i) ≡ true → passes (is_known_function r (owner.World (record { 0 = n }))) (function_of_item i) ≡ true
+  pub entry_function_known : (n : ℕ) (k : WorldKey) (i : Item) → is_known_entry r n (k, i) ≡ true → passes (is_known_function r (owner.World (record { 0 = n }))) (item_function i) ≡ true
   entry_function_known n k (item.Interface id gates docs external_id) known = refl
   entry_function_known n k (item.Type_ id) known = refl
   entry_function_known n k (item.Function f) known =
@@ -253,7 +253,7 @@ module _ (r : Resolve) (valid : IsValid r) where
       functions = map (shown_import r here) (filter (λ e. is_freestanding_item e.1) w.imports.entries)
 
       functions_known : list_all (is_known_function r (owner.World id)) (imported_functions w) ≡ true
-      functions_known = given_well (is_known_entry r id.0) (λ e. function_of_item e.1) (is_known_function r (owner.World id)) (λ e known. entry_function_known id.0 e.0 e.1 known)
+      functions_known = given_well (is_known_entry r id.0) (λ e. item_function e.1) (is_known_function r (owner.World id)) (λ e known. entry_function_known id.0 e.0 e.1 known)
           w.imports.entries h.imports
 
   -- What is shown of a world is well named.

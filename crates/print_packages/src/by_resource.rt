@@ -17,7 +17,8 @@ fn put<'a>(
     function: &'a Function,
 ) -> Result<(), AllocError>
     requires { resource_of function.now.kind ≡ Some resource.0 }
-    ensures { OnOk result ((id : TypeId) → functions_under grouped.new.entries id ≡ functions_under grouped.old.entries id ++ filter (belongs_to id) (function.now ∷ [])) }
+    ensures { OnOk result ((id : TypeId)
+        → functions_under grouped.new.entries id ≡ functions_under grouped.old.entries id ++ filter (belongs_to id) (function.now ∷ [])) }
 {
     let mut under = grouped.remove(&resource).unwrap_or(Vec::new(alloc));
     under.push(function)?;

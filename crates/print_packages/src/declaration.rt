@@ -111,8 +111,10 @@ fn print_declaration<'a, O: Output>(
     requires at { type_at resolve.now id.0 ≡ Some def.now }
     requires prefix { is_well_prefix (type_prefix def.now) ≡ true }
     requires well { is_well_declared (declared_under resolve.now (present_name def.now.name) functions.now def.now) ≡ true }
-    ensures ok { OnOk result (Moves O.keeps (O.view output.old) (members_calls emits_docs has_printed (type_member resolve.now functions.now def.now ∷ [])) (O.view output.new)) }
-    ensures err { OnErr result (Begins O.keeps (O.view output.old) (members_calls emits_docs has_printed (type_member resolve.now functions.now def.now ∷ [])) (O.view output.new)) }
+    ensures ok { OnOk result (Moves O.keeps (O.view output.old) (members_calls emits_docs has_printed (type_member resolve.now functions.now def.now ∷ []))
+        (O.view output.new)) }
+    ensures err { OnErr result (Begins O.keeps (O.view output.old) (members_calls emits_docs has_printed (type_member resolve.now functions.now def.now ∷ []))
+        (O.view output.new)) }
     ensures memory { IsOkUnless result Memory }
 {
     let mut driver = Driver::new(output, alloc);
@@ -168,8 +170,10 @@ fn print_owned<'a, O: Output>(
 ) -> Result<(), Error>
     requires valid { IsValid resolve.now }
     requires printable { is_printable_type resolve.now (map (λ f. f.now) functions.now) id ≡ true }
-    ensures ok { OnOk result (Moves O.keeps (O.view output.old) (members_calls emits_docs has_printed (declaration_of resolve.now (map (λ f. f.now) functions.now) id)) (O.view output.new)) }
-    ensures err { OnErr result (Begins O.keeps (O.view output.old) (members_calls emits_docs has_printed (declaration_of resolve.now (map (λ f. f.now) functions.now) id)) (O.view output.new)) }
+    ensures ok { OnOk result (Moves O.keeps (O.view output.old)
+        (members_calls emits_docs has_printed (declaration_of resolve.now (map (λ f. f.now) functions.now) id)) (O.view output.new)) }
+    ensures err { OnErr result (Begins O.keeps (O.view output.old)
+        (members_calls emits_docs has_printed (declaration_of resolve.now (map (λ f. f.now) functions.now) id)) (O.view output.new)) }
     ensures memory { IsOkUnless result Memory }
 {
     let def = &resolve.types[id.0 as usize];
@@ -200,9 +204,14 @@ fn print_listed_type<'a, O: Output>(
     requires valid { IsValid resolve.now }
     requires known { is_listed_type resolve.now owner (as_listed listed) ≡ true }
     requires functions { list_all (is_listed_function resolve.now owner) (map (λ f. f.now) functions.now) ≡ true }
-    ensures ok { OnOk result (Moves O.keeps (O.view output.old) (members_calls emits_docs has_printed (listed_declaration resolve.now owner (map (λ f. f.now) functions.now) (as_listed listed.entry))) (O.view output.new)) }
-    ensures err { OnErr result (Begins O.keeps (O.view output.old) (members_calls emits_docs has_printed (listed_declaration resolve.now owner (map (λ f. f.now) functions.now) (as_listed listed.entry))) (O.view output.new)) }
-    ensures printed { IfOk result (λ b. b ≡ printed_after has_printed (listed_declaration resolve.now owner (map (λ f. f.now) functions.now) (as_listed listed.entry))) }
+    ensures ok { OnOk result (Moves O.keeps (O.view output.old)
+        (members_calls emits_docs has_printed (listed_declaration resolve.now owner (map (λ f. f.now) functions.now) (as_listed listed.entry)))
+        (O.view output.new)) }
+    ensures err { OnErr result (Begins O.keeps (O.view output.old)
+        (members_calls emits_docs has_printed (listed_declaration resolve.now owner (map (λ f. f.now) functions.now) (as_listed listed.entry)))
+        (O.view output.new)) }
+    ensures printed { IfOk result (λ b. b ≡ printed_after has_printed
+        (listed_declaration resolve.now owner (map (λ f. f.now) functions.now) (as_listed listed.entry))) }
     ensures memory { IsOkUnless result Memory }
 {
     let def = &resolve.types[listed.1.0 as usize];
@@ -236,9 +245,14 @@ fn print_type_with_functions<'a, O: Output>(
     requires valid { IsValid resolve.now }
     requires known { is_listed_type resolve.now owner (as_listed listed) ≡ true }
     requires functions { list_all (is_listed_function resolve.now owner) (functions_under functions.now.entries listed.1) ≡ true }
-    ensures ok { OnOk result (Moves O.keeps (O.view output.old) (members_calls emits_docs has_printed (listed_declaration resolve.now owner (functions_under functions.now.entries listed.entry.1) (as_listed listed.entry))) (O.view output.new)) }
-    ensures err { OnErr result (Begins O.keeps (O.view output.old) (members_calls emits_docs has_printed (listed_declaration resolve.now owner (functions_under functions.now.entries listed.entry.1) (as_listed listed.entry))) (O.view output.new)) }
-    ensures printed { IfOk result (λ b. b ≡ printed_after has_printed (listed_declaration resolve.now owner (functions_under functions.now.entries listed.entry.1) (as_listed listed.entry))) }
+    ensures ok { OnOk result (Moves O.keeps (O.view output.old)
+        (members_calls emits_docs has_printed (listed_declaration resolve.now owner (functions_under functions.now.entries listed.entry.1)
+        (as_listed listed.entry))) (O.view output.new)) }
+    ensures err { OnErr result (Begins O.keeps (O.view output.old)
+        (members_calls emits_docs has_printed (listed_declaration resolve.now owner (functions_under functions.now.entries listed.entry.1)
+        (as_listed listed.entry))) (O.view output.new)) }
+    ensures printed { IfOk result (λ b. b ≡ printed_after has_printed
+        (listed_declaration resolve.now owner (functions_under functions.now.entries listed.entry.1) (as_listed listed.entry))) }
     ensures memory { IsOkUnless result Memory }
 {
     let found = match functions.get(&listed.1) {
@@ -283,8 +297,10 @@ pub(crate) fn print_declarations<'a, O: Output>(
     requires valid { IsValid resolve.now }
     requires known { list_all (is_listed_type resolve.now owner) (listed_of types.now) ≡ true }
     requires functions { (id : TypeId) → list_all (is_listed_function resolve.now owner) (functions_under functions.now.entries id) ≡ true }
-    ensures ok { OnOk result (Moves O.keeps (O.view output.old) (members_calls emits_docs has_printed (given_declarations resolve.now owner functions.now.entries (listed_of types.now))) (O.view output.new)) }
-    ensures err { OnErr result (Begins O.keeps (O.view output.old) (members_calls emits_docs has_printed (given_declarations resolve.now owner functions.now.entries (listed_of types.now))) (O.view output.new)) }
+    ensures ok { OnOk result (Moves O.keeps (O.view output.old)
+        (members_calls emits_docs has_printed (given_declarations resolve.now owner functions.now.entries (listed_of types.now))) (O.view output.new)) }
+    ensures err { OnErr result (Begins O.keeps (O.view output.old)
+        (members_calls emits_docs has_printed (given_declarations resolve.now owner functions.now.entries (listed_of types.now))) (O.view output.new)) }
     ensures printed { IfOk result (λ b. b ≡ printed_after has_printed (given_declarations resolve.now owner functions.now.entries (listed_of types.now))) }
     ensures memory { IsOkUnless result Memory }
 {

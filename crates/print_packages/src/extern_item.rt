@@ -63,8 +63,12 @@ pub(crate) fn print_keyed<'a, O: Output>(
     requires valid { IsValid resolve.now }
     requires in_range { in_list resolve.now.interfaces.items id.0 ≡ true }
     requires path { is_well_path (shown_path resolve.now here id) ≡ true }
-    ensures ok { OnOk result (Moves O.keeps (O.view output.old) (world_extern_calls emits_docs (shown_prefix docs.now stability.now external_id.now) word.now (Path (shown_path resolve.now here id))) (O.view output.new)) }
-    ensures err { OnErr result (Begins O.keeps (O.view output.old) (world_extern_calls emits_docs (shown_prefix docs.now stability.now external_id.now) word.now (Path (shown_path resolve.now here id))) (O.view output.new)) }
+    ensures ok { OnOk result (Moves O.keeps (O.view output.old)
+        (world_extern_calls emits_docs (shown_prefix docs.now stability.now external_id.now) word.now (Path (shown_path resolve.now here id)))
+        (O.view output.new)) }
+    ensures err { OnErr result (Begins O.keeps (O.view output.old)
+        (world_extern_calls emits_docs (shown_prefix docs.now stability.now external_id.now) word.now (Path (shown_path resolve.now here id)))
+        (O.view output.new)) }
     ensures memory { IsOkUnless result Memory }
 {
     let mut driver = Driver::new(output, alloc);
@@ -104,8 +108,12 @@ fn print_labelled_path<'a, O: Output>(
     requires in_range { in_list resolve.now.interfaces.items id.0 ≡ true }
     requires label { is_label label.now ≡ true }
     requires path { is_well_path (shown_path resolve.now here id) ≡ true }
-    ensures ok { OnOk result (Moves O.keeps (O.view output.old) (world_extern_calls emits_docs (shown_prefix docs.now stability.now external_id.now) word.now (NamedPath label.now (shown_path resolve.now here id))) (O.view output.new)) }
-    ensures err { OnErr result (Begins O.keeps (O.view output.old) (world_extern_calls emits_docs (shown_prefix docs.now stability.now external_id.now) word.now (NamedPath label.now (shown_path resolve.now here id))) (O.view output.new)) }
+    ensures ok { OnOk result (Moves O.keeps (O.view output.old)
+        (world_extern_calls emits_docs (shown_prefix docs.now stability.now external_id.now) word.now (NamedPath label.now (shown_path resolve.now here id)))
+        (O.view output.new)) }
+    ensures err { OnErr result (Begins O.keeps (O.view output.old)
+        (world_extern_calls emits_docs (shown_prefix docs.now stability.now external_id.now) word.now (NamedPath label.now (shown_path resolve.now here id)))
+        (O.view output.new)) }
     ensures memory { IsOkUnless result Memory }
 {
     let mut driver = Driver::new(output, alloc);
@@ -139,8 +147,10 @@ fn print_inline_start<'a, O: Output>(
     requires front { IsTrue (has_no_space_first word.now) }
     requires prefix { is_well_prefix (shown_prefix docs.now stability.now external_id.now) ≡ true }
     requires label { is_label label.now ≡ true }
-    ensures ok { OnOk result (Moves O.keeps (O.view output.old) (front_calls emits_docs (shown_prefix docs.now stability.now external_id.now) word.now ++ inline_start_calls label.now) (O.view output.new)) }
-    ensures err { OnErr result (Begins O.keeps (O.view output.old) (front_calls emits_docs (shown_prefix docs.now stability.now external_id.now) word.now ++ inline_start_calls label.now) (O.view output.new)) }
+    ensures ok { OnOk result (Moves O.keeps (O.view output.old)
+        (front_calls emits_docs (shown_prefix docs.now stability.now external_id.now) word.now ++ inline_start_calls label.now) (O.view output.new)) }
+    ensures err { OnErr result (Begins O.keeps (O.view output.old)
+        (front_calls emits_docs (shown_prefix docs.now stability.now external_id.now) word.now ++ inline_start_calls label.now) (O.view output.new)) }
     ensures memory { IsOkUnless result Memory }
 {
     let mut driver = Driver::new(output, alloc);
@@ -187,8 +197,12 @@ fn print_inline<'a, O: Output>(
     requires valid { IsValid resolve.now }
     requires at { interface_at resolve.now id.0 ≡ Some interface.now }
     requires label { is_label label.now ≡ true }
-    ensures ok { OnOk result (Moves O.keeps (O.view output.old) (world_extern_calls emits_docs (shown_prefix docs.now stability.now external_id.now) word.now (inline_interface resolve.now label.now id interface.now)) (O.view output.new)) }
-    ensures err { OnErr result (Begins O.keeps (O.view output.old) (world_extern_calls emits_docs (shown_prefix docs.now stability.now external_id.now) word.now (inline_interface resolve.now label.now id interface.now)) (O.view output.new)) }
+    ensures ok { OnOk result (Moves O.keeps (O.view output.old)
+        (world_extern_calls emits_docs (shown_prefix docs.now stability.now external_id.now) word.now (inline_interface resolve.now label.now id interface.now))
+        (O.view output.new)) }
+    ensures err { OnErr result (Begins O.keeps (O.view output.old)
+        (world_extern_calls emits_docs (shown_prefix docs.now stability.now external_id.now) word.now (inline_interface resolve.now label.now id interface.now))
+        (O.view output.new)) }
     ensures memory { IsOkUnless result Memory }
 {
     print_inline_start(
@@ -225,8 +239,12 @@ pub(crate) fn print_labelled<'a, O: Output>(
     requires valid { IsValid resolve.now }
     requires in_range { in_list resolve.now.interfaces.items id.0 ≡ true }
     requires well { is_well_extern (labelled_tree resolve.now here label.now id) ≡ true }
-    ensures ok { OnOk result (Moves O.keeps (O.view output.old) (world_extern_calls emits_docs (shown_prefix docs.now stability.now external_id.now) word.now (labelled_tree resolve.now here label.now id)) (O.view output.new)) }
-    ensures err { OnErr result (Begins O.keeps (O.view output.old) (world_extern_calls emits_docs (shown_prefix docs.now stability.now external_id.now) word.now (labelled_tree resolve.now here label.now id)) (O.view output.new)) }
+    ensures ok { OnOk result (Moves O.keeps (O.view output.old)
+        (world_extern_calls emits_docs (shown_prefix docs.now stability.now external_id.now) word.now (labelled_tree resolve.now here label.now id))
+        (O.view output.new)) }
+    ensures err { OnErr result (Begins O.keeps (O.view output.old)
+        (world_extern_calls emits_docs (shown_prefix docs.now stability.now external_id.now) word.now (labelled_tree resolve.now here label.now id))
+        (O.view output.new)) }
     ensures memory { IsOkUnless result Memory }
 {
     let interface = &resolve.interfaces[id.0 as usize];

@@ -61,7 +61,8 @@ pub fn print_given_types<'a, O: Output>(
     requires known { list_all (is_listed_type resolve.now owner) (listed_of types.now) ≡ true }
     requires functions { are_functions_of resolve.now owner functions.now.entries ≡ true }
     ensures ok { OnOk result (Makes O.view O.keeps output.old (given_calls emits_docs has_printed resolve.now owner functions.now types.now) output.new) }
-    ensures err { OnErr result (MakesInPart O.view O.keeps output.old (given_calls emits_docs has_printed resolve.now owner functions.now types.now) output.new) }
+    ensures err { OnErr result (MakesInPart O.view O.keeps output.old (given_calls emits_docs has_printed resolve.now owner functions.now types.now)
+        output.new) }
     ensures printed { IfOk result (λ b. b ≡ printed_after has_printed (given_with resolve.now owner functions.now (listed_of types.now))) }
     ensures memory { IsOkUnless result Memory }
 {

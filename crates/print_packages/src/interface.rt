@@ -10,9 +10,9 @@ ghost use Rattle.wit_model.specs.Rules.{is_freestanding as is_freestanding_lem};
 ghost use Rattle.wit_model.specs.Valid.{IsValid};
 ghost use Rattle.print_items.specs.Drives.{Drives, LineIs};
 ghost use Rattle.print_output.specs.OutputCall.{Moves, Begins};
-ghost use Rattle.print_grammar.specs.Calls.{members_calls};
+ghost use Rattle.print_grammar.specs.Calls.{members_calls, line_after_calls};
 ghost use Rattle.print_packages.specs.Heads.{head_calls, interface_block_calls};
-ghost use Rattle.print_uses.specs.Printable.{is_printable_function, line_between, shown_functions};
+ghost use Rattle.print_uses.specs.Printable.{is_printable_function, shown_functions};
 ghost use Rattle.print_items.specs.Shown.{shown_function, shown_gates};
 ghost use Rattle.print_grammar.specs.WellNamed.{is_well_gates, is_well_member};
 
@@ -62,7 +62,7 @@ pub fn print_head<'a, O: Output>(
 
 /// An empty line, where the block has printed something.
 pub(crate) fn write_line_before<O: Output>(driver: &mut Driver<O>, has_printed: bool)
-    ensures calls { Drives O.view O.keeps driver.old (line_between has_printed) driver.new }
+    ensures calls { Drives O.view O.keeps driver.old (line_after_calls has_printed) driver.new }
 {
     if has_printed {
         driver.newline();
@@ -109,8 +109,10 @@ fn print_function<'a, O: Output>(
 ) -> Result<(), Error>
     requires valid { IsValid resolve.now }
     requires well { is_well_member (shown_function resolve.now function.now) ≡ true }
-    ensures ok { OnOk result (Moves O.keeps (O.view output.old) (members_calls emits_docs has_printed (shown_function resolve.now function.now ∷ [])) (O.view output.new)) }
-    ensures err { OnErr result (Begins O.keeps (O.view output.old) (members_calls emits_docs has_printed (shown_function resolve.now function.now ∷ [])) (O.view output.new)) }
+    ensures ok { OnOk result (Moves O.keeps (O.view output.old) (members_calls emits_docs has_printed (shown_function resolve.now function.now ∷ []))
+        (O.view output.new)) }
+    ensures err { OnErr result (Begins O.keeps (O.view output.old) (members_calls emits_docs has_printed (shown_function resolve.now function.now ∷ []))
+        (O.view output.new)) }
     ensures memory { IsOkUnless result Memory }
 {
     let mut driver = Driver::new(output, alloc);
@@ -136,8 +138,10 @@ fn print_functions<'a, O: Output>(
 ) -> Result<(), Error>
     requires valid { IsValid resolve.now }
     requires printable { list_all (λ entry. is_printable_function resolve.now entry.1) functions.now.entries ≡ true }
-    ensures ok { OnOk result (Moves O.keeps (O.view output.old) (members_calls emits_docs has_printed (shown_functions resolve.now functions.now.entries)) (O.view output.new)) }
-    ensures err { OnErr result (Begins O.keeps (O.view output.old) (members_calls emits_docs has_printed (shown_functions resolve.now functions.now.entries)) (O.view output.new)) }
+    ensures ok { OnOk result (Moves O.keeps (O.view output.old) (members_calls emits_docs has_printed (shown_functions resolve.now functions.now.entries))
+        (O.view output.new)) }
+    ensures err { OnErr result (Begins O.keeps (O.view output.old) (members_calls emits_docs has_printed (shown_functions resolve.now functions.now.entries))
+        (O.view output.new)) }
     ensures memory { IsOkUnless result Memory }
 {
     let mut has_printed = has_printed;

@@ -6,8 +6,8 @@ ghost use Rattle.wit_model.specs.declared.error.Error.TheVariants.{Memory};
 ghost use Rattle.wit_model.specs.Rules.{has_items as has_items_lem};
 ghost use Rattle.wit_model.specs.Valid.{IsValid};
 ghost use Rattle.print_output.specs.OutputCall.{Moves, Begins, is_one_line, has_no_space_first};
-ghost use Rattle.print_grammar.specs.Calls.{world_extern_calls};
-ghost use Rattle.print_uses.specs.Printable.{entry_calls, function_entry_calls, imports_calls, imports_functions, imports_interfaces, interface_entry_calls, is_printable_entry, is_printable_import, IsPrintableWorld, line_between, printed_imports, world_body_calls};
+ghost use Rattle.print_grammar.specs.Calls.{world_extern_calls, line_after_calls};
+ghost use Rattle.print_uses.specs.Printable.{entry_calls, function_entry_calls, imports_calls, imports_functions, imports_interfaces, interface_entry_calls, is_printable_entry, is_printable_import, IsPrintableWorld, printed_imports, world_body_calls};
 ghost use Rattle.print_items.specs.Shown.{function_prefix, is_freestanding_item, is_interface_item};
 ghost use Rattle.print_grammar.specs.WellNamed.{is_well_extern, is_well_prefix};
 ghost use Rattle.print_packages.specs.Members.{named_function};
@@ -35,8 +35,10 @@ fn print_world_function<'a, O: Output>(
     requires valid { IsValid resolve.now }
     requires prefix { is_well_prefix (function_prefix function.now) ≡ true }
     requires well { is_well_extern (named_function resolve.now function.now) ≡ true }
-    ensures ok { OnOk result (Moves O.keeps (O.view output.old) (world_extern_calls emits_docs (function_prefix function.now) word.now (named_function resolve.now function.now)) (O.view output.new)) }
-    ensures err { OnErr result (Begins O.keeps (O.view output.old) (world_extern_calls emits_docs (function_prefix function.now) word.now (named_function resolve.now function.now)) (O.view output.new)) }
+    ensures ok { OnOk result (Moves O.keeps (O.view output.old)
+        (world_extern_calls emits_docs (function_prefix function.now) word.now (named_function resolve.now function.now)) (O.view output.new)) }
+    ensures err { OnErr result (Begins O.keeps (O.view output.old)
+        (world_extern_calls emits_docs (function_prefix function.now) word.now (named_function resolve.now function.now)) (O.view output.new)) }
     ensures memory { IsOkUnless result Memory }
 {
     let mut driver = Driver::new(output, alloc);
@@ -140,7 +142,8 @@ fn print_imported_interface<'a, O: Output>(
     requires valid { IsValid resolve.now }
     requires printable { is_printable_import resolve.now here (key.now, item.now) ≡ true }
     ensures ok { OnOk result (Moves O.keeps (O.view output.old) (interface_entry_calls emits_docs resolve.now here (key.now, item.now)) (O.view output.new)) }
-    ensures err { OnErr result (Begins O.keeps (O.view output.old) (interface_entry_calls emits_docs resolve.now here (key.now, item.now)) (O.view output.new)) }
+    ensures err { OnErr result (Begins O.keeps (O.view output.old) (interface_entry_calls emits_docs resolve.now here (key.now, item.now))
+        (O.view output.new)) }
     ensures memory { IsOkUnless result Memory }
 {
     if !is_interface(item) {
@@ -186,8 +189,10 @@ fn print_imported_interfaces<'a, O: Output>(
 ) -> Result<(), Error>
     requires valid { IsValid resolve.now }
     requires printable { list_all (is_printable_import resolve.now here) items.now.entries ≡ true }
-    ensures ok { OnOk result (Moves O.keeps (O.view output.old) (flat_map (interface_entry_calls emits_docs resolve.now here) items.now.entries) (O.view output.new)) }
-    ensures err { OnErr result (Begins O.keeps (O.view output.old) (flat_map (interface_entry_calls emits_docs resolve.now here) items.now.entries) (O.view output.new)) }
+    ensures ok { OnOk result (Moves O.keeps (O.view output.old) (flat_map (interface_entry_calls emits_docs resolve.now here) items.now.entries)
+        (O.view output.new)) }
+    ensures err { OnErr result (Begins O.keeps (O.view output.old) (flat_map (interface_entry_calls emits_docs resolve.now here) items.now.entries)
+        (O.view output.new)) }
     ensures memory { IsOkUnless result Memory }
 {
     for (key, item) in items {
@@ -207,8 +212,10 @@ fn print_imported_functions<'a, O: Output>(
 ) -> Result<(), Error>
     requires valid { IsValid resolve.now }
     requires printable { list_all (is_printable_import resolve.now here) items.now.entries ≡ true }
-    ensures ok { OnOk result (Moves O.keeps (O.view output.old) (flat_map (function_entry_calls emits_docs resolve.now here) items.now.entries) (O.view output.new)) }
-    ensures err { OnErr result (Begins O.keeps (O.view output.old) (flat_map (function_entry_calls emits_docs resolve.now here) items.now.entries) (O.view output.new)) }
+    ensures ok { OnOk result (Moves O.keeps (O.view output.old) (flat_map (function_entry_calls emits_docs resolve.now here) items.now.entries)
+        (O.view output.new)) }
+    ensures err { OnErr result (Begins O.keeps (O.view output.old) (flat_map (function_entry_calls emits_docs resolve.now here) items.now.entries)
+        (O.view output.new)) }
     ensures memory { IsOkUnless result Memory }
 {
     for (key, item) in items {
@@ -228,8 +235,10 @@ fn print_exports<'a, O: Output>(
 ) -> Result<(), Error>
     requires valid { IsValid resolve.now }
     requires printable { list_all (is_printable_entry resolve.now here) items.now.entries ≡ true }
-    ensures ok { OnOk result (Moves O.keeps (O.view output.old) (flat_map (entry_calls emits_docs resolve.now here (codes "export")) items.now.entries) (O.view output.new)) }
-    ensures err { OnErr result (Begins O.keeps (O.view output.old) (flat_map (entry_calls emits_docs resolve.now here (codes "export")) items.now.entries) (O.view output.new)) }
+    ensures ok { OnOk result (Moves O.keeps (O.view output.old) (flat_map (entry_calls emits_docs resolve.now here (codes "export")) items.now.entries)
+        (O.view output.new)) }
+    ensures err { OnErr result (Begins O.keeps (O.view output.old) (flat_map (entry_calls emits_docs resolve.now here (codes "export")) items.now.entries)
+        (O.view output.new)) }
     ensures memory { IsOkUnless result Memory }
 {
     for (key, item) in items {
@@ -308,8 +317,8 @@ fn both(a: bool, b: bool) -> bool
 /// An empty line before the first export, where something is imported.
 #[tactic(auto, using(print_items::proofs::Moves::moving))]
 fn print_line_between<O: Output>(output: &mut O, is_between: bool) -> Result<(), Error>
-    ensures ok { OnOk result (Moves O.keeps (O.view output.old) (line_between is_between) (O.view output.new)) }
-    ensures err { OnErr result (Begins O.keeps (O.view output.old) (line_between is_between) (O.view output.new)) }
+    ensures ok { OnOk result (Moves O.keeps (O.view output.old) (line_after_calls is_between) (O.view output.new)) }
+    ensures err { OnErr result (Begins O.keeps (O.view output.old) (line_after_calls is_between) (O.view output.new)) }
     ensures memory { IsOkUnless result Memory }
 {
     if is_between {

@@ -8,6 +8,7 @@ ghost use Rattle.wit_model.specs.Text.{text_of};
 ghost use Rattle.wit_model.specs.Names.{is_label, is_version_text};
 ghost use Rattle.wit_model.specs.Lookup.{interface_at, optional_version_text};
 ghost use Rattle.wit_model.specs.Valid.{IsValid};
+ghost use Rattle.wit_model.specs.Rules.{passes};
 ghost use Rattle.print_items.specs.Drives.{Drives, LineIs};
 ghost use Rattle.print_output.specs.OutputCall.{OutputCall, Moves, Begins};
 ghost use Rattle.print_uses.specs.Printable.{IsPrintableWorld, is_printable_interface, is_printable_listed, listed_calls, listed_interface_calls, listed_package_calls, world_start_calls, world_calls};
@@ -15,7 +16,7 @@ ghost use Rattle.print_items.specs.Shown.{shown_gates, shown_head, shown_package
 ghost use Rattle.print_grammar.specs.Calls.{line_after_calls, package_calls, package_item_calls, package_outer_calls, package_start_calls, package_end_calls};
 ghost use Rattle.print_packages.specs.Heads.{head_calls};
 ghost use Rattle.print_packages.specs.Members.{interface_item};
-ghost use Rattle.print_grammar.specs.WellNamed.{is_well_gates, is_well_optional};
+ghost use Rattle.print_grammar.specs.WellNamed.{is_well_gates};
 
 use crate::extern_item::print_block_end;
 use crate::interface::{print_interface_body, write_head};
@@ -147,8 +148,10 @@ fn print_interface_start<'a, O: Output>(
 ) -> Result<(), Error>
     requires gates { is_well_gates (shown_gates interface.now.stability) ≡ true }
     requires name { is_label name.now ≡ true }
-    ensures ok { OnOk result (Moves O.keeps (O.view output.old) (head_calls emits_docs interface.now name.now ++ OutputCall.IndentStart ∷ []) (O.view output.new)) }
-    ensures err { OnErr result (Begins O.keeps (O.view output.old) (head_calls emits_docs interface.now name.now ++ OutputCall.IndentStart ∷ []) (O.view output.new)) }
+    ensures ok { OnOk result (Moves O.keeps (O.view output.old) (head_calls emits_docs interface.now name.now ++ OutputCall.IndentStart ∷ [])
+        (O.view output.new)) }
+    ensures err { OnErr result (Begins O.keeps (O.view output.old) (head_calls emits_docs interface.now name.now ++ OutputCall.IndentStart ∷ [])
+        (O.view output.new)) }
     ensures memory { IsOkUnless result Memory }
 {
     let mut driver = Driver::new(output, alloc);
@@ -194,8 +197,10 @@ fn print_interface<'a, O: Output>(
     requires at { interface_at resolve.now id.0 ≡ Some interface.now }
     requires gates { is_well_gates (shown_gates interface.now.stability) ≡ true }
     requires name { is_label name.now ≡ true }
-    ensures ok { OnOk result (Moves O.keeps (O.view output.old) (package_item_calls emits_docs is_main (interface_item resolve.now name.now id interface.now)) (O.view output.new)) }
-    ensures err { OnErr result (Begins O.keeps (O.view output.old) (package_item_calls emits_docs is_main (interface_item resolve.now name.now id interface.now)) (O.view output.new)) }
+    ensures ok { OnOk result (Moves O.keeps (O.view output.old) (package_item_calls emits_docs is_main (interface_item resolve.now name.now id interface.now))
+        (O.view output.new)) }
+    ensures err { OnErr result (Begins O.keeps (O.view output.old)
+        (package_item_calls emits_docs is_main (interface_item resolve.now name.now id interface.now)) (O.view output.new)) }
     ensures memory { IsOkUnless result Memory }
 {
     print_interface_start(output, alloc, emits_docs, name, interface)?;
@@ -215,8 +220,10 @@ fn print_listed_interface<'a, O: Output>(
 ) -> Result<(), Error>
     requires valid { IsValid resolve.now }
     requires printable { is_printable_interface resolve.now (name.now, id.now) ≡ true }
-    ensures ok { OnOk result (Moves O.keeps (O.view output.old) (listed_interface_calls emits_docs is_main resolve.now (name.now, id.now)) (O.view output.new)) }
-    ensures err { OnErr result (Begins O.keeps (O.view output.old) (listed_interface_calls emits_docs is_main resolve.now (name.now, id.now)) (O.view output.new)) }
+    ensures ok { OnOk result (Moves O.keeps (O.view output.old) (listed_interface_calls emits_docs is_main resolve.now (name.now, id.now))
+        (O.view output.new)) }
+    ensures err { OnErr result (Begins O.keeps (O.view output.old) (listed_interface_calls emits_docs is_main resolve.now (name.now, id.now))
+        (O.view output.new)) }
     ensures memory { IsOkUnless result Memory }
 {
     let interface = &resolve.interfaces[id.0 as usize];
@@ -236,8 +243,10 @@ fn print_interfaces<'a, O: Output>(
 ) -> Result<(), Error>
     requires valid { IsValid resolve.now }
     requires printable { list_all (is_printable_interface resolve.now) interfaces.now.entries ≡ true }
-    ensures ok { OnOk result (Moves O.keeps (O.view output.old) (flat_map (listed_interface_calls emits_docs is_main resolve.now) interfaces.now.entries) (O.view output.new)) }
-    ensures err { OnErr result (Begins O.keeps (O.view output.old) (flat_map (listed_interface_calls emits_docs is_main resolve.now) interfaces.now.entries) (O.view output.new)) }
+    ensures ok { OnOk result (Moves O.keeps (O.view output.old) (flat_map (listed_interface_calls emits_docs is_main resolve.now) interfaces.now.entries)
+        (O.view output.new)) }
+    ensures err { OnErr result (Begins O.keeps (O.view output.old) (flat_map (listed_interface_calls emits_docs is_main resolve.now) interfaces.now.entries)
+        (O.view output.new)) }
     ensures memory { IsOkUnless result Memory }
 {
     for (name, id) in interfaces {
@@ -268,7 +277,7 @@ fn write_package_start<O: Output>(
 )
     requires namespace { is_label (text_of «package».now.name.namespace) ≡ true }
     requires name { is_label (text_of «package».now.name.name) ≡ true }
-    requires version { is_well_optional is_version_text (optional_version_text «package».now.name.version) ≡ true }
+    requires version { passes is_version_text (optional_version_text «package».now.name.version) ≡ true }
     ensures calls { Drives O.view O.keeps driver.old (package_outer_calls emits_docs (shown_head «package».now) ++ package_start_calls is_main) driver.new }
 {
     write_package_outer(driver, emits_docs, package);
@@ -285,9 +294,11 @@ fn print_package_start<'a, O: Output>(
 ) -> Result<(), Error>
     requires namespace { is_label (text_of «package».now.name.namespace) ≡ true }
     requires name { is_label (text_of «package».now.name.name) ≡ true }
-    requires version { is_well_optional is_version_text (optional_version_text «package».now.name.version) ≡ true }
-    ensures ok { OnOk result (Moves O.keeps (O.view output.old) (package_outer_calls emits_docs (shown_head «package».now) ++ package_start_calls is_main) (O.view output.new)) }
-    ensures err { OnErr result (Begins O.keeps (O.view output.old) (package_outer_calls emits_docs (shown_head «package».now) ++ package_start_calls is_main) (O.view output.new)) }
+    requires version { passes is_version_text (optional_version_text «package».now.name.version) ≡ true }
+    ensures ok { OnOk result (Moves O.keeps (O.view output.old) (package_outer_calls emits_docs (shown_head «package».now) ++ package_start_calls is_main)
+        (O.view output.new)) }
+    ensures err { OnErr result (Begins O.keeps (O.view output.old) (package_outer_calls emits_docs (shown_head «package».now) ++ package_start_calls is_main)
+        (O.view output.new)) }
     ensures memory { IsOkUnless result Memory }
 {
     let mut driver = Driver::new(output, alloc);
@@ -320,7 +331,7 @@ fn print_listed_package<'a, O: Output>(
 ) -> Result<(), Error>
     requires namespace { is_label (text_of «package».now.name.namespace) ≡ true }
     requires name { is_label (text_of «package».now.name.name) ≡ true }
-    requires version { is_well_optional is_version_text (optional_version_text «package».now.name.version) ≡ true }
+    requires version { passes is_version_text (optional_version_text «package».now.name.version) ≡ true }
     requires valid { IsValid resolve.now }
     requires interfaces { list_all (is_printable_interface resolve.now) «package».now.interfaces.entries ≡ true }
     requires worlds { list_all (is_printable_listed resolve.now here) «package».now.worlds.entries ≡ true }

@@ -6,10 +6,10 @@ ghost use Rattle.wit_model.specs.declared.error.Error.TheVariants.{Memory};
 ghost use Rattle.wit_model.specs.Lookup.{interface_at};
 ghost use Rattle.wit_model.specs.Parts.{same_owner};
 ghost use Rattle.wit_model.specs.Text.{text_of};
-ghost use Rattle.wit_model.specs.Valid.{IsValid};
+ghost use Rattle.wit_model.specs.Valid.{IsValid, item_function};
 ghost use Rattle.print_output.specs.OutputCall.{Moves, Begins};
 ghost use Rattle.print_grammar.specs.Calls.{members_calls, printed_after};
-ghost use Rattle.print_items.specs.Shown.{function_of_item as function_of_item_lem, imported_functions as imported_functions_lem, listed_imports, type_of_entry as type_of_entry_lem};
+ghost use Rattle.print_items.specs.Shown.{imported_functions as imported_functions_lem, listed_imports, type_of_entry as type_of_entry_lem};
 ghost use Rattle.print_packages.specs.Members.{interface_type_members};
 ghost use Rattle.print_uses.specs.Printable.{world_type_members};
 ghost use Rattle.print_uses.specs.UseGroups.{is_listed_function, is_listed_type, listed_of, type_members};
@@ -41,9 +41,14 @@ pub(crate) fn print_owned_types<'a, O: Output>(
     requires placed { same_owner owner TypeOwner.None ≡ false }
     requires known { list_all (is_listed_type resolve.now owner) (listed_of types.now) ≡ true }
     requires functions { list_all (is_listed_function resolve.now owner) (map (λ f. f.now) functions.now) ≡ true }
-    ensures ok { OnOk result (Moves O.keeps (O.view output.old) (members_calls emits_docs has_printed (type_members resolve.now here owner (map (λ f. f.now) functions.now) (listed_of types.now))) (O.view output.new)) }
-    ensures err { OnErr result (Begins O.keeps (O.view output.old) (members_calls emits_docs has_printed (type_members resolve.now here owner (map (λ f. f.now) functions.now) (listed_of types.now))) (O.view output.new)) }
-    ensures printed { IfOk result (λ b. b ≡ printed_after has_printed (type_members resolve.now here owner (map (λ f. f.now) functions.now) (listed_of types.now))) }
+    ensures ok { OnOk result (Moves O.keeps (O.view output.old)
+        (members_calls emits_docs has_printed (type_members resolve.now here owner (map (λ f. f.now) functions.now) (listed_of types.now)))
+        (O.view output.new)) }
+    ensures err { OnErr result (Begins O.keeps (O.view output.old)
+        (members_calls emits_docs has_printed (type_members resolve.now here owner (map (λ f. f.now) functions.now) (listed_of types.now)))
+        (O.view output.new)) }
+    ensures printed { IfOk result (λ b. b ≡ printed_after has_printed
+        (type_members resolve.now here owner (map (λ f. f.now) functions.now) (listed_of types.now))) }
     ensures memory { IsOkUnless result Memory }
 {
     let grouped = by_resource(alloc, functions)?;
@@ -105,8 +110,10 @@ pub(crate) fn print_interface_types<'a, O: Output>(
 ) -> Result<bool, Error>
     requires valid { IsValid resolve.now }
     requires at { interface_at resolve.now id.0 ≡ Some interface.now }
-    ensures ok { OnOk result (Moves O.keeps (O.view output.old) (members_calls emits_docs false (interface_type_members resolve.now here id interface.now)) (O.view output.new)) }
-    ensures err { OnErr result (Begins O.keeps (O.view output.old) (members_calls emits_docs false (interface_type_members resolve.now here id interface.now)) (O.view output.new)) }
+    ensures ok { OnOk result (Moves O.keeps (O.view output.old) (members_calls emits_docs false (interface_type_members resolve.now here id interface.now))
+        (O.view output.new)) }
+    ensures err { OnErr result (Begins O.keeps (O.view output.old) (members_calls emits_docs false (interface_type_members resolve.now here id interface.now))
+        (O.view output.new)) }
     ensures printed { IfOk result (λ b. b ≡ printed_after false (interface_type_members resolve.now here id interface.now)) }
     ensures memory { IsOkUnless result Memory }
 {
@@ -159,7 +166,7 @@ fn imported_types<'a>(
 }
 
 fn function_of_item<'a>(item: &'a WorldItem) -> Option<&'a Function>
-    ensures { option_map (λ f. f.now) result ≡ function_of_item_lem item.now }
+    ensures { option_map (λ f. f.now) result ≡ item_function item.now }
 {
     match item {
         WorldItem::Function(function) => Some(function),
@@ -173,7 +180,7 @@ fn imported_functions<'a>(
     alloc: Global,
     items: &'a Map<WorldKey, WorldItem>,
 ) -> Result<Vec<&'a Function>, AllocError>
-    ensures { IfOk result (λ listed. map (λ f. f.now) listed.items ≡ filter_map (λ entry. function_of_item_lem entry.1) items.now.entries) }
+    ensures { IfOk result (λ listed. map (λ f. f.now) listed.items ≡ filter_map (λ entry. item_function entry.1) items.now.entries) }
 {
     let mut listed = Vec::new(alloc);
     for (key, item) in items {
@@ -199,8 +206,10 @@ pub(crate) fn print_world_types<'a, O: Output>(
     requires valid { IsValid resolve.now }
     requires known { list_all (is_listed_type resolve.now (TypeOwner.World id)) (listed_imports world.now) ≡ true }
     requires functions { list_all (is_listed_function resolve.now (TypeOwner.World id)) (imported_functions_lem world.now) ≡ true }
-    ensures ok { OnOk result (Moves O.keeps (O.view output.old) (members_calls emits_docs has_printed (world_type_members resolve.now here id world.now)) (O.view output.new)) }
-    ensures err { OnErr result (Begins O.keeps (O.view output.old) (members_calls emits_docs has_printed (world_type_members resolve.now here id world.now)) (O.view output.new)) }
+    ensures ok { OnOk result (Moves O.keeps (O.view output.old) (members_calls emits_docs has_printed (world_type_members resolve.now here id world.now))
+        (O.view output.new)) }
+    ensures err { OnErr result (Begins O.keeps (O.view output.old) (members_calls emits_docs has_printed (world_type_members resolve.now here id world.now))
+        (O.view output.new)) }
     ensures printed { IfOk result (λ b. b ≡ printed_after has_printed (world_type_members resolve.now here id world.now)) }
     ensures memory { IsOkUnless result Memory }
 {

@@ -52,7 +52,8 @@ pub(crate) fn write_world_function<O: Output>(
     requires prefix { is_well_prefix (function_prefix function.now) ≡ true }
     requires label { is_label (text_of function.now.name) ≡ true }
     requires signature { is_well_signature (shown_signature resolve.now function.now) ≡ true }
-    ensures calls { Drives O.view O.keeps driver.old (world_extern_calls emits_docs (function_prefix function.now) word.now (NamedFunction (text_of function.now.name) (shown_signature resolve.now function.now))) driver.new }
+    ensures calls { Drives O.view O.keeps driver.old (world_extern_calls emits_docs (function_prefix function.now) word.now
+        (NamedFunction (text_of function.now.name) (shown_signature resolve.now function.now))) driver.new }
 {
     write_front(
         driver,
@@ -129,7 +130,8 @@ pub(crate) fn write_keyed<O: Output>(
     requires valid { IsValid resolve.now }
     requires in_range { in_list resolve.now.interfaces.items id.0 ≡ true }
     requires path { is_well_path (shown_path resolve.now here id) ≡ true }
-    ensures calls { Drives O.view O.keeps driver.old (world_extern_calls emits_docs (shown_prefix docs.now stability.now external_id.now) word.now (Path (shown_path resolve.now here id))) driver.new }
+    ensures calls { Drives O.view O.keeps driver.old (world_extern_calls emits_docs (shown_prefix docs.now stability.now external_id.now) word.now
+        (Path (shown_path resolve.now here id))) driver.new }
 {
     write_front(driver, emits_docs, docs, stability, external_id, word);
     write_path_line(driver, resolve, here, id);
@@ -155,7 +157,8 @@ pub(crate) fn write_labelled<O: Output>(
     requires in_range { in_list resolve.now.interfaces.items id.0 ≡ true }
     requires label { is_label label.now ≡ true }
     requires path { is_well_path (shown_path resolve.now here id) ≡ true }
-    ensures calls { Drives O.view O.keeps driver.old (world_extern_calls emits_docs (shown_prefix docs.now stability.now external_id.now) word.now (NamedPath label.now (shown_path resolve.now here id))) driver.new }
+    ensures calls { Drives O.view O.keeps driver.old (world_extern_calls emits_docs (shown_prefix docs.now stability.now external_id.now) word.now
+        (NamedPath label.now (shown_path resolve.now here id))) driver.new }
 {
     write_front(driver, emits_docs, docs, stability, external_id, word);
     write_labelled_path(driver, resolve, here, label, id);
@@ -175,7 +178,8 @@ pub(crate) fn write_inline<O: Output>(
     requires front { IsTrue (has_no_space_first word.now) }
     requires prefix { is_well_prefix (shown_prefix docs.now stability.now external_id.now) ≡ true }
     requires label { is_label label.now ≡ true }
-    ensures calls { Drives O.view O.keeps driver.old (front_calls emits_docs (shown_prefix docs.now stability.now external_id.now) word.now ++ inline_start_calls label.now) driver.new }
+    ensures calls { Drives O.view O.keeps driver.old (front_calls emits_docs (shown_prefix docs.now stability.now external_id.now) word.now
+        ++ inline_start_calls label.now) driver.new }
 {
     write_front(driver, emits_docs, docs, stability, external_id, word);
     write_inline_start(driver, label);

@@ -21,8 +21,8 @@ use Rattle.wit_model.specs.Valid.{IsValid}
 use Rattle.print_grammar.specs.Tree.{Declared, MemberTree, Prefix}
 use Rattle.print_grammar.specs.Tree.MemberTree.{FunctionMember, TypeMember, UseMember}
 use Rattle.print_items.specs.Shown.{Listed, listed_functions, listed_types, path_from_owner, shown_declared, shown_interface, shown_prefix, shown_resource_member, shown_uses}
-use Rattle.print_grammar.specs.Calls.{declared_calls, function_calls, item_calls, members_calls, prefix_calls, printed_after, use_calls}
-use Rattle.print_uses.specs.Printable.{declaration_of, is_printable_type, line_between, shown_functions}
+use Rattle.print_grammar.specs.Calls.{declared_calls, function_calls, item_calls, members_calls, prefix_calls, printed_after, use_calls, line_after_calls}
+use Rattle.print_uses.specs.Printable.{declaration_of, is_printable_type, shown_functions}
 use Rattle.print_uses.specs.UseGroups.{declared_members, is_listed_type, type_members}
 use Rattle.print_grammar.specs.WellNamed.{is_well_declared, is_well_prefix}
 use Rattle.print_output.specs.declared.type_kind.TypeKind.TheVariants.{FunctionFreestanding}
@@ -35,7 +35,7 @@ use Rattle.base_lemmas.proofs.Bools.{right_of}
 
 -- one declaration in its block
 pub declaration_alone : (emits printed : Bool) (prefix : Prefix) (declared : Declared)
-    → line_between printed ++ (prefix_calls emits prefix ++ declared_calls emits declared) ≡ members_calls emits printed (TypeMember prefix declared ∷ [])
+    → line_after_calls printed ++ (prefix_calls emits prefix ++ declared_calls emits declared) ≡ members_calls emits printed (TypeMember prefix declared ∷ [])
 declaration_alone emits true prefix declared = sym (append-nil _)
 declaration_alone emits false prefix declared = sym (append-nil _)
 

@@ -11,10 +11,10 @@ use Rattle.wit_model.specs.Text.{text_of}
 use Rattle.wit_model.specs.Names.{is_label}
 use Rattle.wit_model.specs.Lookup.{resource_of}
 use Rattle.wit_model.specs.Parts.{function_types}
-use Rattle.wit_model.specs.Rules.{function_in_range, function_labels, is_freestanding, are_member_labels}
+use Rattle.wit_model.specs.Rules.{function_in_range, function_labels, is_freestanding, are_member_labels, passes}
 use Rattle.wit_model.specs.Valid.{IsValid}
 use Rattle.print_items.specs.Shown.{shown_type, shown_param, shown_params, shown_signature, function_prefix, is_method}
-use Rattle.print_grammar.specs.WellNamed.{is_well_type, is_well_optional, is_well_param, is_well_signature, is_well_prefix}
+use Rattle.print_grammar.specs.WellNamed.{is_well_type, is_well_param, is_well_signature, is_well_prefix}
 use Rattle.print_uses.proofs.WellLists.{written_well}
 use Rattle.print_items.proofs.ShownWell.{shown_prefix_well}
 use Rattle.print_items.proofs.TypesWell.{is_below, below_of_numbers, shown_type_well}
@@ -44,7 +44,7 @@ module _ (r : Resolve) (valid : IsValid r) where
       (params_well ps (right_of (known_param p) _ h))
 
   -- So is a type that may be left out.
-  pub optional_type_well : (o : Option ValueType) → list_all (is_below (length r.types.items)) (option_to_list o) ≡ true → is_well_optional is_well_type (option_map (shown_type r) o) ≡ true
+  pub optional_type_well : (o : Option ValueType) → list_all (is_below (length r.types.items)) (option_to_list o) ≡ true → passes is_well_type (option_map (shown_type r) o) ≡ true
   optional_type_well None h = refl
   optional_type_well (Some t) h = shown_type_well r valid t (left_of _ _ h)
 

@@ -30,7 +30,7 @@ use Rattle.wit_model.specs.Valid.{IsValid, is_place, numbers_in_range, labels}
 use Rattle.wit_model.proofs.Lists.{list_all_filter_map}
 use Rattle.print_output.specs.OutputCall.{is_one_line}
 use Rattle.print_items.specs.Shown.{present_name, shown_docs, shown_type, type_name, type_trees, kind_tree, shown_field, shown_case, shown_flag, shown_enum_case, shown_params, function_prefix, shown_signature, constructor_result, shown_resource_member, belongs_to, shown_declared}
-use Rattle.print_grammar.specs.WellNamed.{is_well_type, is_well_optional, is_well_field, is_well_case, is_well_label, is_well_param, is_well_signature, is_well_prefix, is_well_resource_member, is_well_declared}
+use Rattle.print_grammar.specs.WellNamed.{is_well_type, is_well_field, is_well_case, is_well_label, is_well_param, is_well_signature, is_well_prefix, is_well_resource_member, is_well_declared}
 use Rattle.print_uses.proofs.WellLists.{kept_well, some_well}
 use Rattle.print_items.proofs.ShownWell.{docs_well}
 use Rattle.print_items.proofs.TypesWell.{is_below, below_of_numbers, type_rule, shape_of, handled_label, shown_type_well, shown_kind_well}
@@ -80,12 +80,12 @@ module _ (r : Resolve) (valid : IsValid r) where
 
   -- ---- functions of resources
 
-  constructor_well : (id : TypeId) (result : Option ValueType) → is_well_optional is_well_type (option_map (shown_type r) result) ≡ true
-      → is_well_optional is_well_type (constructor_result r id result) ≡ true
+  constructor_well : (id : TypeId) (result : Option ValueType) → passes is_well_type (option_map (shown_type r) result) ≡ true
+      → passes is_well_type (constructor_result r id result) ≡ true
   constructor_well id None h = refl
   constructor_well id (Some (value.Id n)) h = go (option_map_or (is_own_of id.0) (type_at r n.0) false)
     where
-      go : (b : Bool) → is_well_optional is_well_type (if b then None else Some (shown_type r (value.Id n))) ≡ true
+      go : (b : Bool) → passes is_well_type (if b then None else Some (shown_type r (value.Id n))) ≡ true
       go true = refl
       go false = h
   constructor_well id (Some t) h = h

@@ -41,8 +41,6 @@ after_first_dot xs ys h =
     ap (λ n. drop (n + 1) (xs ++ (46 ∷ ys))) (first_dot xs ys h)
     ∙ (ap (drop (length xs + 1)) (sym (append_assoc xs (46 ∷ []) ys)) ∙ drop_at (xs ++ (46 ∷ [])) ys (length xs + 1) (length_push xs 46))
 
--- the prefix stands before what follows it
-
 -- what follows a front, a label and a dot
 member_label : (front name : Text) (f : Function) → list_all is_no_dot front ≡ true → is_label name ≡ true → is_member_name (front ++ (name ++ (46 ∷ []))) f ≡ true
     → is_label (after_dot (text_of f.name)) ≡ true

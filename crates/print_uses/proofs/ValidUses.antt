@@ -28,7 +28,7 @@ use Rattle.wit_model.specs.Valid.{IsValid, package_names, labels, named_kinds}
 use Rattle.wit_model.proofs.OnePath.{package-passes, interface-passes}
 use Rattle.print_grammar.specs.Tree.PathTree.{Local}
 use Rattle.print_items.specs.Shown.{present_name, shown_prefix, full_path, path_from, shown_path, Used, own_name, used_of, same_group, grouped_with, grouped, Listed, shown_uses, DeclaredWith, shown_declared, declared_with, shown_declarations, path_from_owner}
-use Rattle.print_grammar.specs.WellNamed.{is_well_optional, is_well_prefix, is_well_path, is_well_used, are_well_some, is_well_declared}
+use Rattle.print_grammar.specs.WellNamed.{is_well_prefix, is_well_path, is_well_used, are_well_some, is_well_declared}
 use Rattle.print_uses.proofs.WellLists.{given_well, joined_some}
 use Rattle.print_items.proofs.ShownWell.{given_label, optional_version, shown_prefix_well}
 use Rattle.print_items.proofs.TypesWell.{type_rule, name_well}
@@ -43,10 +43,10 @@ is_known_use r used = is_named_interface r used.interface.0 && (is_well_prefix u
 abbrev pub is_well_declared_with : DeclaredWith → Bool
 is_well_declared_with d = is_well_prefix d.prefix && is_well_declared d.declared
 
-own_name_well : (own other : Text) → is_label own ≡ true → is_well_optional is_label (own_name own other) ≡ true
+own_name_well : (own other : Text) → is_label own ≡ true → passes is_label (own_name own other) ≡ true
 own_name_well own other label = go (text_eq own other)
   where
-    go : (b : Bool) → is_well_optional is_label (if b then None else Some own) ≡ true
+    go : (b : Bool) → passes is_label (if b then None else Some own) ≡ true
     go true = refl
     go false = label
 

@@ -8,8 +8,6 @@ use Rattle.print_grammar.specs.WellNamed.{are_well_some}
 use Rattle.base_lemmas.proofs.Bools.{left_of, right_of}
 use Rattle.base_lemmas.proofs.Elements.{joined_well}
 
--- what a test asks where another passes
-
 -- what is made of each element
 pub each_well : {X Y : Type 0} (known : X → Bool) (shown : X → Y) (well : Y → Bool) → ((x : X) → known x ≡ true → well (shown x) ≡ true) → (xs : List X) → list_all known xs ≡ true
     → list_all well (map shown xs) ≡ true
@@ -42,8 +40,6 @@ all_both p q (x ∷ xs) h g =
     let first : p x ≡ true = left_of _ _ h in
     let second : q x ≡ true = left_of _ _ g in
     both (p x && q x) _ (both (p x) (q x) first second) (all_both p q xs (right_of (p x) _ h) (right_of (q x) _ g))
-
--- one list behind another
 
 -- a list with an element, each of which passes
 pub some_well : {X Y : Type 0} (well : Y → Bool) (shown : X → Y) (xs : List X) → has_items xs ≡ true → list_all well (map shown xs) ≡ true → are_well_some well (map shown xs) ≡ true

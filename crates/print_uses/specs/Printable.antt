@@ -29,7 +29,7 @@ use Rattle.print_grammar.specs.Tree.MemberTree.{TypeMember}
 use Rattle.print_items.specs.Shown.{extern_prefix, imported_functions, is_freestanding_item, is_interface_item, listed_imports, shown_docs, shown_gates, shown_head, shown_extern, shown_function, shown_import, shown_interface_item, shown_declared, shown_package, shown_prefix, shown_world_item}
 use Rattle.print_uses.specs.UseGroups.{is_listed_function, is_listed_type, type_members}
 use Rattle.print_grammar.specs.WellNamed.{is_well_declared, is_well_gates, is_well_item, is_well_member, is_well_prefix, is_well_world_member}
-use Rattle.print_grammar.specs.Calls.{members_calls, printed_after, space, doc_calls, gates_calls, world_extern_calls, package_item_calls, package_outer_calls, package_start_calls, package_end_calls, package_calls}
+use Rattle.print_grammar.specs.Calls.{members_calls, printed_after, space, doc_calls, gates_calls, world_extern_calls, package_item_calls, package_outer_calls, package_start_calls, package_end_calls, package_calls, line_after_calls}
 
 -- a type of an owner, in range, whose declaration is well named with the functions among which a resource's stand
 abbrev pub is_printable_type : Resolve → List Function → TypeId → Bool
@@ -57,11 +57,6 @@ is_printable_entry r here entry = (key_in_range r entry.0 && item_in_range r ent
 -- the calls for an import or an export
 abbrev pub entry_calls : Bool → Resolve → PackageId → Text → WorldKey × WorldItem → List OutputCall
 entry_calls emits_docs r here word entry = world_extern_calls emits_docs (extern_prefix r entry.0 entry.1) word (shown_extern r here entry.0 entry.1)
-
--- an empty line before the first export, where something is imported
-abbrev pub line_between : Bool → List OutputCall
-line_between true = Newline ∷ []
-line_between false = []
 
 -- the calls for an import, if it is an interface, and if it is a function that belongs to no resource
 abbrev pub interface_entry_calls : Bool → Resolve → PackageId → WorldKey × WorldItem → List OutputCall
@@ -99,7 +94,7 @@ imports_calls emits_docs r here id w =
 abbrev pub world_body_calls : Bool → Resolve → PackageId → WorldId → World → List OutputCall
 world_body_calls emits_docs r here id w =
     imports_calls emits_docs r here id w
-    ++ (line_between (printed_imports r here id w && has_items w.exports.entries) ++ flat_map (entry_calls emits_docs r here (codes "export"))
+    ++ (line_after_calls (printed_imports r here id w && has_items w.exports.entries) ++ flat_map (entry_calls emits_docs r here (codes "export"))
     w.exports.entries)
 
 -- the calls for a world's documentation, gates and name, and the start of its block

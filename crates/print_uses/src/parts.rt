@@ -5,10 +5,10 @@ ghost use Rattle.std.specs.Prelude.{◌≡◌, true, false};
 ghost use Rattle.wit_model.specs.Text.{text_of};
 ghost use Rattle.wit_model.specs.Names.{is_label, is_version_text};
 ghost use Rattle.wit_model.specs.Lookup.{optional_version_text};
+ghost use Rattle.wit_model.specs.Rules.{passes};
 ghost use Rattle.print_items.specs.Drives.{Drives, LineIs};
 ghost use Rattle.print_items.specs.Shown.{shown_head};
 ghost use Rattle.print_grammar.specs.Calls.{package_name_calls, package_outer_calls, version_calls};
-ghost use Rattle.print_grammar.specs.WellNamed.{is_well_optional};
 
 use print_items::{Driver, write_docs};
 use print_output::{Output, TypeKind};
@@ -18,7 +18,7 @@ use wit_model::{Package, PackageName};
 /// A version after its mark, if there is one.
 pub fn write_version<O: Output>(driver: &mut Driver<O>, version: &Option<Version>, kind: TypeKind)
     requires same_line { LineIs O.view false driver.old }
-    requires version { is_well_optional is_version_text (optional_version_text version.now) ≡ true }
+    requires version { passes is_version_text (optional_version_text version.now) ≡ true }
     ensures calls { Drives O.view O.keeps driver.old (version_calls (optional_version_text version.now) kind) driver.new }
     ensures line { LineIs O.view false driver.new }
 {
@@ -32,8 +32,9 @@ pub fn write_version<O: Output>(driver: &mut Driver<O>, version: &Option<Version
 fn write_package_name<O: Output>(driver: &mut Driver<O>, name: &PackageName)
     requires namespace { is_label (text_of name.now.namespace) ≡ true }
     requires name { is_label (text_of name.now.name) ≡ true }
-    requires version { is_well_optional is_version_text (optional_version_text name.now.version) ≡ true }
-    ensures calls { Drives O.view O.keeps driver.old (package_name_calls (text_of name.now.namespace) (text_of name.now.name) (optional_version_text name.now.version)) driver.new }
+    requires version { passes is_version_text (optional_version_text name.now.version) ≡ true }
+    ensures calls { Drives O.view O.keeps driver.old (package_name_calls (text_of name.now.namespace) (text_of name.now.name)
+        (optional_version_text name.now.version)) driver.new }
     ensures line { LineIs O.view false driver.new }
 {
     driver.keyword_and_blank("package");
@@ -47,7 +48,7 @@ fn write_package_name<O: Output>(driver: &mut Driver<O>, name: &PackageName)
 pub fn write_package_outer<O: Output>(driver: &mut Driver<O>, emits_docs: bool, package: &Package)
     requires namespace { is_label (text_of «package».now.name.namespace) ≡ true }
     requires name { is_label (text_of «package».now.name.name) ≡ true }
-    requires version { is_well_optional is_version_text (optional_version_text «package».now.name.version) ≡ true }
+    requires version { passes is_version_text (optional_version_text «package».now.name.version) ≡ true }
     ensures calls { Drives O.view O.keeps driver.old (package_outer_calls emits_docs (shown_head «package».now)) driver.new }
     ensures line { LineIs O.view false driver.new }
 {

@@ -11,7 +11,7 @@ ghost use Rattle.print_items.specs.Drives.{Drives, LineIs};
 ghost use Rattle.print_items.specs.Shown.{path_from, shown_path};
 ghost use Rattle.print_grammar.specs.Tree.PathTree.{Full};
 ghost use Rattle.print_grammar.specs.Calls.{path_calls};
-ghost use Rattle.print_grammar.specs.WellNamed.{is_well_optional, is_well_path};
+ghost use Rattle.print_grammar.specs.WellNamed.{is_well_path};
 ghost use Rattle.print_uses.specs.Paths.{package_path_calls};
 
 use crate::parts::write_version;
@@ -36,9 +36,10 @@ fn write_package_path<O: Output>(driver: &mut Driver<O>, name: &PackageName)
 fn write_full_path<O: Output>(driver: &mut Driver<O>, name: &PackageName, interface: &str)
     requires namespace { is_label (text_of name.now.namespace) ≡ true }
     requires name { is_label (text_of name.now.name) ≡ true }
-    requires version { is_well_optional is_version_text (optional_version_text name.now.version) ≡ true }
+    requires version { passes is_version_text (optional_version_text name.now.version) ≡ true }
     requires interface { is_label interface.now ≡ true }
-    ensures calls { Drives O.view O.keeps driver.old (path_calls (Full (text_of name.now.namespace) (text_of name.now.name) interface.now (optional_version_text name.now.version))) driver.new }
+    ensures calls { Drives O.view O.keeps driver.old (path_calls
+        (Full (text_of name.now.namespace) (text_of name.now.name) interface.now (optional_version_text name.now.version))) driver.new }
     ensures line { LineIs O.view false driver.new }
 {
     write_package_path(driver, name);

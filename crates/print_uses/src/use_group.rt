@@ -269,7 +269,8 @@ fn same_group(a: Use, b: Use) -> bool
 fn write_own_name<O: Output>(driver: &mut Driver<O>, own: &str)
     requires same_line { LineIs O.view false driver.old }
     requires label { is_label own.now ≡ true }
-    ensures calls { Drives O.view O.keeps driver.old (space ∷ OutputCall.Keyword (codes "as") ∷ space ∷ OutputCall.Ty (escaped own.now) TypeKind.TypeAlias ∷ []) driver.new }
+    ensures calls { Drives O.view O.keeps driver.old (space ∷ OutputCall.Keyword (codes "as") ∷ space ∷ OutputCall.Ty (escaped own.now) TypeKind.TypeAlias ∷ [])
+        driver.new }
     ensures line { LineIs O.view false driver.new }
 {
     driver.str(" ");
@@ -301,7 +302,8 @@ fn write_use_path<O: Output>(
     requires valid { IsValid resolve.now }
     requires in_range { in_list resolve.now.interfaces.items interface.0 ≡ true }
     requires well { is_well_path (shown_path resolve.now here interface) ≡ true }
-    ensures calls { Drives O.view O.keeps driver.old (OutputCall.Keyword (codes "use") ∷ space ∷ (path_calls (shown_path resolve.now here interface) ++ (OutputCall.Str (codes ".{") ∷ []))) driver.new }
+    ensures calls { Drives O.view O.keeps driver.old (OutputCall.Keyword (codes "use") ∷ space
+        ∷ (path_calls (shown_path resolve.now here interface) ++ (OutputCall.Str (codes ".{") ∷ []))) driver.new }
     ensures line { LineIs O.view false driver.new }
 {
     driver.keyword_and_blank("use");
@@ -318,7 +320,8 @@ fn write_group_start<O: Output>(
 )
     requires valid { IsValid resolve.now }
     requires printable { is_printable_use resolve.now here used ≡ true }
-    ensures calls { Drives O.view O.keeps driver.old (group_start_calls (shown_use used.entry).prefix (shown_path resolve.now here used.entry.interface)) driver.new }
+    ensures calls { Drives O.view O.keeps driver.old (group_start_calls (shown_use used.entry).prefix (shown_path resolve.now here used.entry.interface))
+        driver.new }
     ensures line { LineIs O.view false driver.new }
 {
     write_gates(driver, &used.def.stability);
@@ -383,7 +386,8 @@ fn write_use<O: Output>(
     requires valid { IsValid resolve.now }
     requires before { passes (is_printable_use resolve.now here) before ≡ true }
     requires printable { is_printable_use resolve.now here used ≡ true }
-    ensures calls { Drives O.view O.keeps driver.old (use_run_calls (shown_path resolve.now here) (option_map shown_use before.entry) (shown_use used.entry)) driver.new }
+    ensures calls { Drives O.view O.keeps driver.old (use_run_calls (shown_path resolve.now here) (option_map shown_use before.entry) (shown_use used.entry))
+        driver.new }
     ensures line { LineIs O.view false driver.new }
 {
     let other = match before {
@@ -409,8 +413,10 @@ fn print_use<'a, O: Output>(
     requires valid { IsValid resolve.now }
     requires before { passes (is_printable_use resolve.now here) before ≡ true }
     requires printable { is_printable_use resolve.now here used ≡ true }
-    ensures ok { OnOk result (Moves O.keeps (O.view output.old) (use_run_calls (shown_path resolve.now here) (option_map shown_use before.entry) (shown_use used.entry)) (O.view output.new)) }
-    ensures err { OnErr result (Begins O.keeps (O.view output.old) (use_run_calls (shown_path resolve.now here) (option_map shown_use before.entry) (shown_use used.entry)) (O.view output.new)) }
+    ensures ok { OnOk result (Moves O.keeps (O.view output.old)
+        (use_run_calls (shown_path resolve.now here) (option_map shown_use before.entry) (shown_use used.entry)) (O.view output.new)) }
+    ensures err { OnErr result (Begins O.keeps (O.view output.old)
+        (use_run_calls (shown_path resolve.now here) (option_map shown_use before.entry) (shown_use used.entry)) (O.view output.new)) }
     ensures memory { IsOkUnless result Memory }
 {
     let mut driver = Driver::new(output, alloc);
@@ -459,9 +465,14 @@ fn print_listed_use<'a, O: Output>(
     requires placed { same_owner_lem owner TypeOwner.None ≡ false }
     requires before { passes (is_printable_use resolve.now here) before ≡ true }
     requires known { is_listed_type resolve.now owner (as_listed listed) ≡ true }
-    ensures ok { OnOk result (Moves O.keeps (O.view output.old) (listed_use_calls (shown_path resolve.now here) (option_map shown_use before.entry) (listed_use resolve.now owner (as_listed listed.entry))) (O.view output.new)) }
-    ensures err { OnErr result (Begins O.keeps (O.view output.old) (listed_use_calls (shown_path resolve.now here) (option_map shown_use before.entry) (listed_use resolve.now owner (as_listed listed.entry))) (O.view output.new)) }
-    ensures after { IfOk result (λ last. option_map shown_use last ≡ use_after (option_map shown_use before.entry) (listed_use resolve.now owner (as_listed listed.entry))) }
+    ensures ok { OnOk result (Moves O.keeps (O.view output.old)
+        (listed_use_calls (shown_path resolve.now here) (option_map shown_use before.entry) (listed_use resolve.now owner (as_listed listed.entry)))
+        (O.view output.new)) }
+    ensures err { OnErr result (Begins O.keeps (O.view output.old)
+        (listed_use_calls (shown_path resolve.now here) (option_map shown_use before.entry) (listed_use resolve.now owner (as_listed listed.entry)))
+        (O.view output.new)) }
+    ensures after { IfOk result (λ last. option_map shown_use last
+        ≡ use_after (option_map shown_use before.entry) (listed_use resolve.now owner (as_listed listed.entry))) }
     ensures printable { IfOk result (λ last. passes (is_printable_use resolve.now here) last ≡ true) }
     ensures memory { IsOkUnless result Memory }
 {
@@ -495,7 +506,8 @@ pub fn print_uses<'a, O: Output>(
     requires placed { same_owner_lem owner TypeOwner.None ≡ false }
     requires known { list_all (is_listed_type resolve.now owner) (listed_of types.now) ≡ true }
     ensures ok { OnOk result (Makes O.view O.keeps output.old (members_calls emits_docs has_printed (uses_of resolve.now here owner types.now)) output.new) }
-    ensures err { OnErr result (MakesInPart O.view O.keeps output.old (members_calls emits_docs has_printed (uses_of resolve.now here owner types.now)) output.new) }
+    ensures err { OnErr result (MakesInPart O.view O.keeps output.old (members_calls emits_docs has_printed (uses_of resolve.now here owner types.now))
+        output.new) }
     ensures printed { IfOk result (λ b. b ≡ printed_after has_printed (uses_of resolve.now here owner types.now)) }
     ensures memory { IsOkUnless result Memory }
 {

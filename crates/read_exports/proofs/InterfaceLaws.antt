@@ -49,11 +49,13 @@ module _ (t : Tables) (known : ℕ → Fact) (home : ℕ) where
       by (function n) h i e = no_some i e
       by (declares d) h i e = no_some i e
 
-  imports_stand : (ss : List NumberedSeen) → AllByRecursion (λ (s : NumberedSeen). ItemStands t known home s.shown) ss → (is : List Placed) → each imported_view ss ≡ Some is → AllByRecursion (PlacedStands t) is
+  imports_stand : (ss : List NumberedSeen) → AllByRecursion (λ (s : NumberedSeen). ItemStands t known home s.shown) ss → (is : List Placed) → each imported_view ss ≡ Some is
+      → AllByRecursion (PlacedStands t) is
   imports_stand [] h is e = subst (AllByRecursion (PlacedStands t)) (same-some [] is e) tt
   imports_stand (s ∷ ss) h is e = by (imported_view s) refl (each imported_view ss) (imports_stand ss h.1) e
     where
-      by : (o : Option Placed) → imported_view s ≡ o → (os : Option (List Placed)) → ((ys : List Placed) → os ≡ Some ys → AllByRecursion (PlacedStands t) ys) → (o >>= λ y. os >>= λ ys. Some (y ∷ ys)) ≡ Some is → AllByRecursion (PlacedStands t) is
+      by : (o : Option Placed) → imported_view s ≡ o → (os : Option (List Placed)) → ((ys : List Placed) → os ≡ Some ys → AllByRecursion (PlacedStands t) ys)
+          → (o >>= λ y. os >>= λ ys. Some (y ∷ ys)) ≡ Some is → AllByRecursion (PlacedStands t) is
       by None f os rest e = no_some is e
       by (Some y) f None rest e = no_some is e
       by (Some y) f (Some ys) rest e = subst (AllByRecursion (PlacedStands t)) (same-some (y ∷ ys) is e) (import_stands s h.0 y f, rest ys refl)
@@ -90,11 +92,13 @@ module _ (t : Tables) (tables : AreTables t) (h : Homes) (stand : HomesStand t h
       ∙ paths_in_numbers t tables (e.0 ∷ map (λ i. i.0) is) (s.0, paths_stand is all)
 
   test_same : (e : Placed) → PlacedStands t e → (is : List Placed) → AllByRecursion (PlacedStands t) is
-      → (distinct (path_text t e.0 ∷ map (λ i. i.0) (map (shown_view t) is)) && reads.are_reached (map (shown_view t) is) (view_of t e.1)) ≡ (are_once (e.0 ∷ map (λ i. i.0) is) && are_reached t is e.1)
+      → (distinct (path_text t e.0 ∷ map (λ i. i.0) (map (shown_view t) is)) && reads.are_reached (map (shown_view t) is) (view_of t e.1))
+      ≡ (are_once (e.0 ∷ map (λ i. i.0) is) && are_reached t is e.1)
   test_same e s is all = λ i. once_same e s is all i && reached_in_numbers t tables is e.1 all s.1 i
 
   -- it is read as its home
-  labelled : (e : Placed) (home : IsHomeOf h e.0 (path_text t e.0)) (x : PackageIdentity → Option (PackageIdentity × Part)) → (labelled_path wanted (path_text t e.0) >>= x) ≡ (provided (text_eq home.name wanted) home.identity >>= x)
+  labelled : (e : Placed) (home : IsHomeOf h e.0 (path_text t e.0)) (x : PackageIdentity → Option (PackageIdentity × Part))
+      → (labelled_path wanted (path_text t e.0) >>= x) ≡ (provided (text_eq home.name wanted) home.identity >>= x)
   labelled e home x = ap (λ o. (o >>= λ (p : PackageIdentity × Text). provided (text_eq p.1 wanted) p.0) >>= x) home.reads
 
   placed : (e : Placed) (is : List Placed) (home : IsHomeOf h e.0 (path_text t e.0)) (test : Bool) → test ≡ true → (found : Option (PackageIdentity × Part))
@@ -121,7 +125,8 @@ module _ (t : Tables) (tables : AreTables t) (h : Homes) (stand : HomesStand t h
       let home = home_of e s in
       placed e is home (distinct (path_text t e.0 ∷ map (λ i. i.0) (map (shown_view t) is)) && reads.are_reached (map (shown_view t) is) (view_of t e.1)) (test_same e s is all ∙ passes)
       (found_of (shown_view t e) (map (shown_view t) is))
-      (labelled e home (λ package_. provided (distinct (path_text t e.0 ∷ map (λ i. i.0) (map (shown_view t) is)) && reads.are_reached (map (shown_view t) is) (view_of t e.1)) (package_, reads.interface (view_of t e.1) (map (shown_view t) is))))
+      (labelled e home (λ package_. provided (distinct (path_text t e.0 ∷ map (λ i. i.0) (map (shown_view t) is)) && reads.are_reached (map (shown_view t) is) (view_of t e.1))
+      (package_, reads.interface (view_of t e.1) (map (shown_view t) is))))
   followed e s is all false fails =
       (λ i. labelled_path wanted (path_text t e.0) >>= λ package_. provided ((test_same e s is all ∙ fails) i) (one_part package_)) ∙ nothing (labelled_path wanted (path_text t e.0))
     where
@@ -139,7 +144,8 @@ module _ (t : Tables) (tables : AreTables t) (h : Homes) (stand : HomesStand t h
     by_views None f imports g = refl
     by_views (Some e) f None g = refl
     by_views (Some e) f (Some is) g =
-        followed e (export_stands t known w.home w.exports stands.exports e f) is (imports_stand t known w.home w.imports stands.imports is g) (are_once (e.0 ∷ map (λ i. i.0) is) && are_reached t is e.1) refl
+        followed e (export_stands t known w.home w.exports stands.exports e f) is (imports_stand t known w.home w.imports stands.imports is g)
+        (are_once (e.0 ∷ map (λ i. i.0) is) && are_reached t is e.1) refl
 
 pub scopes_are_parts : InterfaceScopesInNumbers
 scopes_are_parts t tables h stand known w stands scope shows wanted =

@@ -18,7 +18,8 @@ module _ (h : Homes) (n : ℕ) (ms : List NumberedMember) (places : List ℕ) (a
   all_at_top [] = refl
   all_at_top (s ∷ seen) = λ i. one_at_top s i && all_at_top seen i
 
-  pub package_decided : (t : Tables) (known : ℕ → Fact) (seen : List NumberedSight) → seen ≡ sights_of_members t ms → (one top do_agree shown : Bool) → one ≡ list_all (λ m. n == m.package_) ms → top ≡ list_all (stands_among h n places) seen
+  pub package_decided : (t : Tables) (known : ℕ → Fact) (seen : List NumberedSight) → seen ≡ sights_of_members t ms → (one top do_agree shown : Bool) → one ≡ list_all (λ m. n == m.package_) ms
+      → top ≡ list_all (stands_among h n places) seen
       → do_agree ≡ agree_with_first_in_numbers [] seen → shown ≡ are_interfaces t known seen → (((one && top) && do_agree) && shown) ≡ are_package t h known n ms
   package_decided t known seen same one top do_agree shown a b c d =
       ap (λ x. x && shown) (and_line one top do_agree) ∙ (and_line one (top && do_agree) shown ∙ (ap (λ x. one && x) (and_line top do_agree shown)
@@ -27,7 +28,8 @@ module _ (h : Homes) (n : ℕ) (ms : List NumberedMember) (places : List ℕ) (a
       ∙ ap (λ seen. list_all (λ m. n == m.package_) ms && (list_all (stands_at_top h n ms) seen && (agree_in_numbers seen && are_interfaces t known seen))) same))))
 
 pub world_decided : (t : Tables) (h : Homes) (known : ℕ → Fact) (n : ℕ) (name : Text) (w : NumberedScope) (seen : List NumberedSight) → seen ≡ sights_of_scope t w → (do_agree shown taken : Bool)
-    → do_agree ≡ agree_with_first_in_numbers [] seen → shown ≡ are_interfaces t known seen → taken ≡ list_any (λ s. is_named_in h n name s.place) seen → ((do_agree && shown) && not taken) ≡ is_one_world t h known n name w
+    → do_agree ≡ agree_with_first_in_numbers [] seen → shown ≡ are_interfaces t known seen → taken ≡ list_any (λ s. is_named_in h n name s.place) seen
+    → ((do_agree && shown) && not taken) ≡ is_one_world t h known n name w
 world_decided t h known n name w seen same do_agree shown taken a b c =
     (λ i. (a i && b i) && not (c i))
     ∙ (ap (λ x. x && not (list_any (λ s. is_named_in h n name s.place) seen)) (sym (agree_by_first t known seen))

@@ -14,7 +14,8 @@ imported_sight i = record { place = i.0; view = i.1; whole = false }
 
 -- A walk that adds behind what is there one for each item.
 module _ {A B C : Type 0} (f : A → B) (g : B → C) (xs : List A) (i : ℕ) (front : List C) {v : List C} (kept : front ++ map g (drop i (map f xs)) ≡ v) where
-  pub one_mapped : (d : A) → i < length xs → {D : Type 0} (h : D → C) (old : List D) (y : D) (new : List D) → map h old ≡ front → h y ≡ g (f (get_or xs i d)) → new ≡ old ++ y ∷ [] → map h new ++ map g (drop (i + 1) (map f xs)) ≡ v
+  pub one_mapped : (d : A) → i < length xs → {D : Type 0} (h : D → C) (old : List D) (y : D) (new : List D) → map h old ≡ front → h y ≡ g (f (get_or xs i d)) → new ≡ old ++ y ∷ []
+      → map h new ++ map g (drop (i + 1) (map f xs)) ≡ v
   one_mapped d more h old y new are is added =
       let x = get_or xs i d in
       ap (λ l. l ++ map g (drop (i + 1) (map f xs))) (ap (map h) added ∙ (map-append h old (y ∷ []) ∙ λ j. are j ++ is j ∷ []))
@@ -36,7 +37,8 @@ module _ {A B C D : Type 0} (f : B → Option C) (g : A → B) (h : D → C) (xs
   one_missing o none is =
       ap (λ o. option_map (λ ys. map h front ++ ys) (o >>= λ y. each f (map g (drop (i + 1) xs)) >>= λ ys. Some (y ∷ ys))) (sym (ap (option_map h) none) ∙ is) ∙ next
 
-  pub one_found : (o : Option D) (y : D) → o ≡ Some y → option_map h o ≡ f (g (get_or xs i d)) → (new : List D) → new ≡ front ++ y ∷ [] → option_map (λ ys. map h new ++ ys) (each f (drop (i + 1) (map g xs))) ≡ v
+  pub one_found : (o : Option D) (y : D) → o ≡ Some y → option_map h o ≡ f (g (get_or xs i d)) → (new : List D) → new ≡ front ++ y ∷ []
+      → option_map (λ ys. map h new ++ ys) (each f (drop (i + 1) (map g xs))) ≡ v
   one_found o y some is new added =
       (λ j. option_map (λ ys. (ap (map h) added ∙ map-append h front (y ∷ [])) j ++ ys) (each f (drop_mapped g (i + 1) xs j)))
       ∙ (behind (each f (map g (drop (i + 1) xs)))
@@ -51,7 +53,8 @@ none_left None not_some = refl
 none_left (Some x) not_some = absurd (not_some x refl)
 
 -- the same, where what is added is the item itself
-pub one_pushed : {A B C : Type 0} (f : A → B) (g : B → C) (xs : List A) (i : ℕ) (front : List C) {v : List C} (kept : front ++ map g (drop i (map f xs)) ≡ v) (d : A) → i < length xs → (new : List C) (y : C) → y ≡ g (f (get_or xs i d)) → new ≡ front ++ y ∷ []
+pub one_pushed : {A B C : Type 0} (f : A → B) (g : B → C) (xs : List A) (i : ℕ) (front : List C) {v : List C} (kept : front ++ map g (drop i (map f xs)) ≡ v) (d : A) → i < length xs
+    → (new : List C) (y : C) → y ≡ g (f (get_or xs i d)) → new ≡ front ++ y ∷ []
     → new ++ map g (drop (i + 1) (map f xs)) ≡ v
 one_pushed f g xs i front kept d more new y is added =
     let x = get_or xs i d in

@@ -55,10 +55,12 @@ interface_of_scope label scope =
 
 -- A component type that was followed is that of an interface, under a label, exactly where its numbers are.
 abbrev pub InterfacesInNumbers : Type 0
-InterfacesInNumbers = (t : Tables) → AreTables t → (h : Homes) → HomesStand t h → (known : ℕ → Fact) (w : NumberedScope) → ScopeStands t known w → (ds : Declarations) (scope : Scope) → component_scope ds ≡ Some scope → Shows t w scope
+InterfacesInNumbers = (t : Tables) → AreTables t → (h : Homes) → HomesStand t h → (known : ℕ → Fact) (w : NumberedScope) → ScopeStands t known w
+    → (ds : Declarations) (scope : Scope) → component_scope ds ≡ Some scope → Shows t w scope
     → (label : Text) → IsInterfacePart t h label (shown_interface t w) (interface_part label ds)
 
 -- The same of a scope alone, whichever component type it was followed of.
 abbrev pub InterfaceScopesInNumbers : Type 0
-InterfaceScopesInNumbers = (t : Tables) → AreTables t → (h : Homes) → HomesStand t h → (known : ℕ → Fact) (w : NumberedScope) → ScopeStands t known w → (scope : Scope) → Shows t w scope
+InterfaceScopesInNumbers = (t : Tables) → AreTables t → (h : Homes) → HomesStand t h → (known : ℕ → Fact) (w : NumberedScope) → ScopeStands t known w
+    → (scope : Scope) → Shows t w scope
     → (label : Text) → IsInterfacePart t h label (shown_interface t w) (interface_of_scope label scope)

@@ -18,7 +18,8 @@ fn add_imports<'a>(
     sights: &mut Vec<Sight<'a>>,
     imports: &[ImportedView<'a>],
 ) -> Result<(), AllocError>
-    ensures { IfOk result (λ _. AreBehind sights.old.items (map (λ i. record { place = i.0; view = i.1; whole = false }) (map numbered_import imports.now)) sights.new.items) }
+    ensures { IfOk result (λ _. AreBehind sights.old.items (map (λ i. record { place = i.0; view = i.1; whole = false }) (map numbered_import imports.now))
+        sights.new.items) }
 {
     for import in imports {
         sights.push(Sight {

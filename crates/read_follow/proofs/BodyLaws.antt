@@ -32,7 +32,8 @@ module _ {A : Type 0} {form : A → Spellings} {reader : Reader A} (law : IsRead
           let whole : length items ≡ length front + length rest = ap length parts ∙ length-append front rest in
           let k : length items - length rest ≡ length front = omega (arith, whole) in
           let is : take (length items - length rest) items ≡ front = ap (λ j. take j items) k ∙ (ap (take (length front)) parts ∙ take_at front rest (length front) refl) in
-          ap (λ j. sequence_at reader j (take (length items - length rest) items)) (sym many) ∙ (ap (sequence_at reader (length read.0)) (is ∙ sym (append-nil front)) ∙ sequence_again law read.0 front [] spelled)
+          ap (λ j. sequence_at reader j (take (length items - length rest) items)) (sym many)
+          ∙ (ap (sequence_at reader (length read.0)) (is ∙ sym (append-nil front)) ∙ sequence_again law read.0 front [] spelled)
 
   pub shorter : length rest ≤ length items
   shorter =

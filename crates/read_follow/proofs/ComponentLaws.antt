@@ -1,8 +1,10 @@
 -- One entry of a component type after the other.
-use Rattle.std.proofs.Common.{◌≡◌, inl, inr, refl, sym, ap, ◌∙◌, subst, ℕ, zero, suc, ◌+◌, ◌-◌, ◌<◌, ◌≤◌, ◌==◌, ◌&&◌, arith, Bool, true, false, cond, List, [], ◌∷◌, ◌++◌, map, length, Option, Some, None, slice_get, unwrap_or}
-use Rattle.std.specs.List.{AllByRecursion, list_any}
+use Rattle.std.proofs.Common.{◌≡◌, inl, inr, refl, sym, ap, ◌∙◌, subst, ℕ, zero, suc, ◌+◌, ◌-◌, ◌<◌, ◌≤◌, ◌==◌, ◌&&◌, arith, Bool, true, false, cond, List, [], ◌∷◌, ◌++◌, map, append_assoc, length, length-append, Option, Some, None, slice_get, unwrap_or}
+use Rattle.std.specs.List.{AllByRecursion, flat_map, list_any}
+use Rattle.std.specs.Option.{option_map_or}
 use Rattle.std.proofs.Math.ListN.{length-map}
-use Rattle.std.proofs.lemmas.List.{append-nil}
+use Rattle.std.proofs.lemmas.Bool.{cases_lt}
+use Rattle.std.proofs.lemmas.List.{append-nil, map-append}
 use Rattle.wit_model.specs.Meaning.{Signature}
 use Rattle.wit_model.specs.Text.{Text, text_eq}
 use Rattle.wit_model.specs.Tree.{Place, Tree}
@@ -24,13 +26,15 @@ use Rattle.read_follow.specs.Defining.{AddsForms, Grows, IsDefined, IsDefinedFun
 use Rattle.read_follow.specs.Following.{shown_type, AreTables, IsShownIn, IsSlotIn, IsTypeSlot}
 use Rattle.read_follow.specs.Found.{Refuses}
 use Rattle.read_follow.specs.Functions.{functions_in, signature_in, FunctionShape, IsFunctionIn}
+use Rattle.read_follow.specs.Numbering.{parts_in, slot_parts, slot_trees, trees_along, trees_since, CountUp}
 use Rattle.read_follow.specs.Placed.{apart, HasNoNames, MayMeet, SignatureOver, SlotOver}
 use Rattle.read_follow.specs.Places.{has_path, ArePlacesOf}
-use Rattle.read_follow.specs.Scopes.{are_settled, find_slot, instance_in, meant_at, path_of, slot_of_instance, start_of, taken_from, waiting, weight, weights, world_signatures, world_trees, Goes, IsFollowedTo, IsInstanceIn, IsPlacedWorld, IsScopeOf, IsWorld, Stops, World}
+use Rattle.read_follow.specs.Scopes.{are_settled, find_slot, instance_in, meant_at, path_of, slot_of_instance, start_of, taken_from, waiting, weight, weights, world_signatures, world_trees, Goes, HasStages, IsFollowedTo, IsInstanceIn, IsPlacedWorld, IsScopeOf, IsStage, IsWorld, Stops, World}
 use Rattle.read_follow.specs.Slots.{no_signature, resource_slot, slot_in, slots_in, AreNames, IsName}
 use Rattle.plan_meaning.specs.Shapes.{Shape, named_shape, node_shape, part_tree, shape_trees, IsTable}
-use Rattle.read_follow.proofs.DefiningLaws.{all_at, longer, no_shapes, same_list}
-use Rattle.read_follow.proofs.FollowingLaws.{functions_wider, joins_all, joins_grow, names_of, ranges_of}
+use Rattle.read_follow.proofs.DefiningLaws.{all_at, longer, no_shapes, parts_grown, same_list}
+use Rattle.read_follow.proofs.FollowingLaws.{functions_wider, joins_all, joins_grow, names_of, ranges_of, slot_counted}
+use Rattle.read_follow.proofs.NumberingLaws.{count_below, count_both, slots_declare}
 use Rattle.read_follow.proofs.OverLaws.{definition_over, signature_over}
 use Rattle.read_follow.proofs.PlaceLaws.{below_pathless}
 use Rattle.read_follow.proofs.PlacedLaws.{stood}
@@ -55,6 +59,10 @@ goes_as few f g old new same s = record {
   placed = s.placed;
   met = s.met;
   order = s.order;
+  numbers = s.numbers;
+  home = s.home;
+  instances_grow = s.instances_grow;
+  imports_grow = s.imports_grow;
   follows = λ place of. same (meant_at place old) ∙ s.follows place of;
 }
 
@@ -73,7 +81,8 @@ sequence_length {A = A} reader (suc n) bytes xs e = by (reader bytes) (sym (sequ
   where
     more : (x : A) (o : Option (List A × List ℕ)) → ((ys : List A × List ℕ) → o ≡ Some ys → length ys.0 ≡ n) → headed x o ≡ Some xs → length xs.0 ≡ suc n
     more x None f h = absurd cc
-    more x (Some ys) f h = let same : (x ∷ ys.0, ys.1) ≡ xs = cc in let long = f ys refl in let many : length xs.0 ≡ length (x ∷ ys.0) = ap (λ (p : List A × List ℕ). length p.0) (sym same) in omega (arith, long, many)
+    more x (Some ys) f h = let same : (x ∷ ys.0, ys.1) ≡ xs = cc in let long = f ys refl in let many : length xs.0 ≡ length (x ∷ ys.0) = ap (λ (p : List A × List ℕ). length p.0) (sym same) in
+        omega (arith, long, many)
 
     by : (o : Option (A × List ℕ)) → after_first reader n o ≡ Some xs → ((behind : List ℕ) (ys : List A × List ℕ) → sequence_at reader n behind ≡ Some ys → length ys.0 ≡ n) → length xs.0 ≡ suc n
     by None h f = absurd cc
@@ -87,11 +96,14 @@ module _ (old : World) (st : IsWorld old) where
 
   pushed : (more : List Shape) (more_fs : List FunctionShape) (gs : Grows old.shapes more) (gf : Grows old.signatures more_fs) (tables : AreTables (length old.paths) more more_fs)
       → (s : Slot) → IsSlotIn more more_fs s
-      → ((base : List Shape) (places : ℕ) → IsPlacedWorld base places old → SlotOver (MayMeet (map has_path old.paths) old.home) (slot_in (shape_trees apart more) (functions_in (shape_trees apart more) more_fs) s))
+      → ((base : List Shape) (places : ℕ) → IsPlacedWorld base places old → SlotOver (MayMeet (map has_path old.paths) old.home)
+      (slot_in (shape_trees apart more) (functions_in (shape_trees apart more) more_fs) s))
       → AddsForms old.shapes more → (few : ℕ) (step : MeantScope → Option MeantScope) (ss : List Slot) → ss ≡ old.slots ++ s ∷ [] → length more + waits s ≤ length old.shapes + few
-      → ((place : ℕ → Place) → ArePlacesOf old.paths place → step (meant_at place old) ≡ Some (in_scope (slot_in (shape_trees place more) (functions_in (shape_trees place more) more_fs) s) (meant_at place old)))
+      → CountUp (length old.shapes) (slot_parts s) (length more)
+      → ((place : ℕ → Place) → ArePlacesOf old.paths place → step (meant_at place old) ≡ Some
+      (in_scope (slot_in (shape_trees place more) (functions_in (shape_trees place more) more_fs) s) (meant_at place old)))
       → Goes few step old (with_slots more more_fs ss)
-  pushed more more_fs gs gf tables s is over forms few step ss next count follows =
+  pushed more more_fs gs gf tables s is over forms few step ss next count counted follows =
       goes_on old st more more_fs old.paths gs gf (same_list old.paths) tables (s ∷ []) [] [] [] [] few step (with_slots more more_fs ss)
       (λ i. record {
         home = old.home;
@@ -106,12 +118,20 @@ module _ (old : World) (st : IsWorld old) where
       })
       (extended_world old st more more_fs old.paths gs gf (same_list old.paths) tables (s ∷ []) [] [] [] [] (is, tt) tt tt tt)
       (λ base places p.
-      extended_placed old st more more_fs old.paths gs gf (same_list old.paths) tables (s ∷ []) [] [] [] [] base places (length old.shapes) p [] (length more) (omega arith) (over base places p, tt) (λ j x at past. absurd (none_past old.instances j x at past)) tt tt tt (tt, tt)
-      (λ j x at past. absurd (none_past old.instances j x at past)) (λ n q name low at. inl (forms.names n q name at)) (λ n form parts low at. forms.formed n form parts at) refl (λ j x c at here past. absurd (none_past old.imports j x at past)))
+      extended_placed old st more more_fs old.paths gs gf (same_list old.paths) tables (s ∷ []) [] [] [] [] base places (length old.shapes) p [] (length more) (omega arith) (over base places p, tt)
+      (λ j x at past. absurd (none_past old.instances j x at past)) tt tt tt (tt, tt)
+      (λ j x at past. absurd (none_past old.instances j x at past)) (λ n q name low at. inl (forms.names n q name at)) (λ n form parts low at. forms.formed n form parts at) refl
+      (λ j x c at here past. absurd (none_past old.imports j x at past)))
       (all_before old.paths (old.instances ++ [])) (none_behind (length old.paths) old.paths)
       (let same = ap (λ us. waiting us 0 (old.slots ++ s ∷ [])) (append-nil old.used) in
       let push = waiting_push old.used 0 old.slots s in
       omega (arith, same, push, count))
+      (parts_in (s ∷ [])) (
+        subst (λ (ps : List ℕ). CountUp (length old.shapes) ps (length more)) (sym (append-nil (slot_parts s))) counted,
+        (λ place of.
+            append-nil (flat_map slot_trees (slots_in (shape_trees place more) (functions_in (shape_trees place more) more_fs) (s ∷ [])))
+            ∙ slots_declare (shape_trees place more) (functions_in (shape_trees place more) more_fs) (s ∷ []) (names_of place more more_fs (s ∷ []) tables.table (is, tt))),
+      )
       (λ place of. follows place of ∙ ap Some (plus_slot (meant_at place old) (slot_in (shape_trees place more) (functions_in (shape_trees place more) more_fs) s)))
 
   names_at : (place : ℕ → Place) → AreNames (world_trees place old) old.slots
@@ -126,9 +146,10 @@ module _ (old : World) (st : IsWorld old) where
         signatures = functions_wider (length old.shapes) (length more) old.signatures (longer old.shapes more is.grown) st.tables.signatures;
       } in
       pushed more old.signatures is.grown (same_list old.signatures) tables (slots.Value is.part) is.range
-      (λ base places p. definition_over (MayMeet (map has_path old.paths) old.home) (meant_at apart old).slots p.slots d (part_tree (shape_trees apart more) is.part) (is.found apart (world_signatures apart old) (names_at apart)))
+      (λ base places p. definition_over (MayMeet (map has_path old.paths) old.home) (meant_at apart old).slots p.slots d (part_tree (shape_trees apart more) is.part)
+      (is.found apart (world_signatures apart old) (names_at apart)))
       is.forms 1 (λ m. component_step m (Declaration.defined d)) ss is.next
-      (let count = is.count in omega (arith, count))
+      (let count = is.count in omega (arith, count)) (length more, is.counted, refl)
       (λ place of. ap (λ o. o >>= λ t. Some (in_scope (follow.value t) (meant_at place old))) (is.found place (world_signatures place old) (names_at place)))
 
   pub defined_stops : (d : DefinedType) (e : Refusal) → IsUndefined old.shapes old.slots d e → Stops (λ m. component_step m (Declaration.defined d)) old old.paths e
@@ -143,19 +164,23 @@ module _ (old : World) (st : IsWorld old) where
       let tables : AreTables (length old.paths) old.shapes more_fs = record {
         table = st.tables.table;
         placed = st.tables.placed;
-        signatures = joins_all (IsFunctionIn (length old.shapes)) old.signatures more_fs is.shape is.joins st.tables.signatures (is.ranges (length old.shapes) (ranges_of old.shapes old.signatures old.slots st.slots));
+        signatures = joins_all (IsFunctionIn (length old.shapes)) old.signatures more_fs is.shape is.joins st.tables.signatures
+            (is.ranges (length old.shapes) (ranges_of old.shapes old.signatures old.slots st.slots));
       } in
       pushed old.shapes more_fs (same_list old.shapes) grows tables (slots.Function is.number) inside
       (λ base places p.
-      subst (λ (s : Signature). SignatureOver (MayMeet (map has_path old.paths) old.home) s) (sym (ap (λ o. unwrap_or o no_signature) (mapped_get (signature_in (world_trees apart old)) more_fs is.number is.shape is.at)))
-      (signature_over (MayMeet (map has_path old.paths) old.home) (meant_at apart old).slots p.slots f (signature_in (world_trees apart old) is.shape) (is.found (world_trees apart old) (world_signatures apart old))))
-      (no_shapes old.shapes) 1 (λ m. component_step m (Declaration.function f)) ss is.next (omega arith)
+      subst (λ (s : Signature). SignatureOver (MayMeet (map has_path old.paths) old.home) s)
+      (sym (ap (λ o. unwrap_or o no_signature) (mapped_get (signature_in (world_trees apart old)) more_fs is.number is.shape is.at)))
+      (signature_over (MayMeet (map has_path old.paths) old.home) (meant_at apart old).slots p.slots f (signature_in (world_trees apart old) is.shape)
+      (is.found (world_trees apart old) (world_signatures apart old))))
+      (no_shapes old.shapes) 1 (λ m. component_step m (Declaration.function f)) ss is.next (omega arith) refl
       (λ place of.
       ap (λ o. o >>= λ s. Some (in_scope (follow.function s) (meant_at place old))) (is.found (world_trees place old) (world_signatures place old))
       ∙ ap (λ s. Some (in_scope (follow.function s) (meant_at place old)))
       (sym (ap (λ o. unwrap_or o no_signature) (mapped_get (signature_in (world_trees place old)) more_fs is.number is.shape is.at))))
 
-  pub signed_stops : (f : FunctionType) (e : Refusal) → ((T : List Tree) (F : List Signature) → Refuses e (function_signature (slots_in T F old.slots) f)) → Stops (λ m. component_step m (Declaration.function f)) old old.paths e
+  pub signed_stops : (f : FunctionType) (e : Refusal) → ((T : List Tree) (F : List Signature) → Refuses e (function_signature (slots_in T F old.slots) f))
+      → Stops (λ m. component_step m (Declaration.function f)) old old.paths e
   signed_stops f e r place of = refused e (function_signature (meant_at place old).slots f) (component_step (meant_at place old) (Declaration.function f))
       (λ none. ap (λ o. o >>= λ s. Some (in_scope (follow.function s) (meant_at place old))) none) (r (world_trees place old) (world_signatures place old))
 
@@ -184,7 +209,8 @@ module _ (old : World) (st : IsWorld old) where
         same None = refl
         same (Some path) = refl
 
-        by : (ps : List (Option Text)) (k : ℕ) → k < length ps → ((o : Option Text) → slice_get ps k ≡ Some o → place p ≡ follow.place_of o) → has_path (path_of (place p)) ≡ has_path (unwrap_or (slice_get ps k) None)
+        by : (ps : List (Option Text)) (k : ℕ) → k < length ps → ((o : Option Text) → slice_get ps k ≡ Some o → place p ≡ follow.place_of o)
+            → has_path (path_of (place p)) ≡ has_path (unwrap_or (slice_get ps k) None)
         by [] k h f = absurd (omega (arith, h))
         by (q ∷ ps) zero h f = ap (λ x. has_path (path_of x)) (f q refl) ∙ same q
         by (q ∷ ps) (suc k) h f = by ps k (omega (arith, h)) f
@@ -193,10 +219,12 @@ module _ (old : World) (st : IsWorld old) where
     provided_slot b None = refl
     provided_slot b (Some s) = guarded b s (slot_in T F)
 
-    exported_meant : (name : Text) (m : ℕ) → exported_slot name (slice_get (meant_at place old).instances m) ≡ (slot_of_instance old.paths name (slice_get old.instances m) >>= λ s. Some (slot_in T F s))
+    exported_meant : (name : Text) (m : ℕ)
+        → exported_slot name (slice_get (meant_at place old).instances m) ≡ (slot_of_instance old.paths name (slice_get old.instances m) >>= λ s. Some (slot_in T F s))
     exported_meant name m = by (slice_get old.instances m) refl
       where
-        by : (o : Option Instance) → slice_get old.instances m ≡ o → exported_slot name (slice_get (map (instance_in place T F) old.instances) m) ≡ (slot_of_instance old.paths name o >>= λ s. Some (slot_in T F s))
+        by : (o : Option Instance) → slice_get old.instances m ≡ o
+            → exported_slot name (slice_get (map (instance_in place T F) old.instances) m) ≡ (slot_of_instance old.paths name o >>= λ s. Some (slot_in T F s))
         by None e = ap (exported_slot name) (mapped_none (instance_in place T F) old.instances m e)
         by (Some x) e =
             let inside = all_at (IsInstanceIn old.shapes old.signatures old.paths) old.instances m x st.instances e in
@@ -213,11 +241,13 @@ module _ (old : World) (st : IsWorld old) where
         by None = refl
         by (Some s) = refl
 
-  found_in : (name : Text) (ts : List ShownType) → AllByRecursion (IsShownIn old.shapes old.signatures) ts → (s : Slot) → find_slot name ts ≡ Some s → IsSlotIn old.shapes old.signatures s × IsTypeSlot s
+  found_in : (name : Text) (ts : List ShownType) → AllByRecursion (IsShownIn old.shapes old.signatures) ts → (s : Slot) → find_slot name ts ≡ Some s → IsSlotIn old.shapes old.signatures s
+      × IsTypeSlot s
   found_in name [] h s e = absurd cc
   found_in name (t ∷ ts) h s e = by (text_eq name t.name.now) e (found_in name ts h.1 s)
     where
-      by : (b : Bool) → cond b (Some t.slot) (find_slot name ts) ≡ Some s → (find_slot name ts ≡ Some s → IsSlotIn old.shapes old.signatures s × IsTypeSlot s) → IsSlotIn old.shapes old.signatures s × IsTypeSlot s
+      by : (b : Bool) → cond b (Some t.slot) (find_slot name ts) ≡ Some s → (find_slot name ts ≡ Some s → IsSlotIn old.shapes old.signatures s × IsTypeSlot s) → IsSlotIn old.shapes old.signatures s
+          × IsTypeSlot s
       by true f rest = let same : t.slot ≡ s = cc in (subst (λ (x : Slot). IsSlotIn old.shapes old.signatures x) same h.0.slot, subst (λ (x : Slot). IsTypeSlot x) same h.0.kind)
       by false f rest = rest f
 
@@ -247,7 +277,8 @@ module _ (old : World) (st : IsWorld old) where
       kept true (Some x) e = (refl, e)
       kept false (Some x) e = absurd cc
 
-      by : (o : Option Instance) → slice_get old.instances m ≡ o → slot_of_instance old.paths name o ≡ Some s → SlotOver (MayMeet (map has_path old.paths) old.home) (slot_in (world_trees apart old) (world_signatures apart old) s)
+      by : (o : Option Instance) → slice_get old.instances m ≡ o → slot_of_instance old.paths name o ≡ Some s
+          → SlotOver (MayMeet (map has_path old.paths) old.home) (slot_in (world_trees apart old) (world_signatures apart old) s)
       by None at f = absurd cc
       by (Some x) at f =
           let inside = all_at (IsInstanceIn old.shapes old.signatures old.paths) old.instances m x st.instances at in
@@ -267,7 +298,7 @@ module _ (old : World) (st : IsWorld old) where
       let h = taken_in a s taken in
       let none = no_wait s h.1 in
       pushed old.shapes old.signatures (same_list old.shapes) (same_list old.signatures) st.tables s h.0 (λ base places p. taken_over base places p a s taken) (no_shapes old.shapes)
-      1 (λ m. component_step m (Declaration.alias_of a)) ss next (omega (arith, none))
+      1 (λ m. component_step m (Declaration.alias_of a)) ss next (omega (arith, none)) (slot_counted old.shapes old.signatures s h.0)
       (λ place of. alias_meant place of a ∙ ap (λ o. o >>= λ x. Some (in_scope (slot_in (world_trees place old) (world_signatures place old) x) (meant_at place old))) taken)
 
   pub alias_stops : (a : Alias) (e : Refusal) → Refuses e (taken_from old.paths old.instances a) → Stops (λ m. component_step m (Declaration.alias_of a)) old old.paths e
@@ -280,9 +311,11 @@ module _ (old : World) (st : IsWorld old) where
       → Goes (weight (holds (items_in held_declaration_at b))) (λ m. entry_step m (holds (items_in held_declaration_at b))) old (with_slots old.shapes old.signatures ss)
   held_goes b around ss whole behind next =
       let many = sequence_length held_declaration_at b.count b.bytes.now (items_in held_declaration_at b, []) whole in
-      pushed old.shapes old.signatures (same_list old.shapes) (same_list old.signatures) st.tables (slots.Instance b around) whole (λ base places p. tt) (no_shapes old.shapes) (length (items_in held_declaration_at b))
-      (λ m. entry_step m (holds (items_in held_declaration_at b))) ss next (omega (arith, many))
-      (λ place of. ap (λ n. Some (in_scope (follow.instance (items_in held_declaration_at b) n) (meant_at place old))) (length-map old.slots (slot_in (world_trees place old) (world_signatures place old)) ∙ sym behind))
+      pushed old.shapes old.signatures (same_list old.shapes) (same_list old.signatures) st.tables (slots.Instance b around) whole (λ base places p. tt) (no_shapes old.shapes)
+      (length (items_in held_declaration_at b))
+      (λ m. entry_step m (holds (items_in held_declaration_at b))) ss next (omega (arith, many)) refl
+      (λ place of. ap (λ n. Some (in_scope (follow.instance (items_in held_declaration_at b) n) (meant_at place old)))
+      (length-map old.slots (slot_in (world_trees place old) (world_signatures place old)) ∙ sym behind))
 
 -- ---- all entries
 
@@ -292,8 +325,47 @@ place_in paths n = follow.place_of (unwrap_or (slice_get paths n) None)
 pub places_are : (paths : List (Option Text)) → ArePlacesOf paths (place_in paths)
 places_are paths n o e = ap (λ x. follow.place_of (unwrap_or x None)) e
 
-places_before : (paths more : List (Option Text)) → Grows paths more → (place : ℕ → Place) → ArePlacesOf more place → ArePlacesOf paths place
+pub places_before : (paths more : List (Option Text)) → Grows paths more → (place : ℕ → Place) → ArePlacesOf more place → ArePlacesOf paths place
 places_before paths more g place of n o e = of n o (ap (λ (ps : List (Option Text)). slice_get ps n) g.is ∙ (slice_front paths g.more n (found_below paths n o e) ∙ e))
+
+-- one entry more
+one_step : {S A : Type 0} (step : S → A → Option S) (state : S) (xs : List A) (x : A) → steps step state (xs ++ x ∷ []) ≡ (steps step state xs >>= λ next. step next x)
+one_step {S = S} step state [] x = by (step state x)
+  where
+    by : (o : Option S) → (o >>= λ next. Some next) ≡ o
+    by None = refl
+    by (Some next) = refl
+one_step {S = S} {A = A} step state (y ∷ xs) x = by (step state y) (λ next. one_step step next xs x)
+  where
+    by : (o : Option S) → ((next : S) → steps step next (xs ++ x ∷ []) ≡ (steps step next xs >>= λ last. step last x))
+        → (o >>= λ next. steps step next (xs ++ x ∷ [])) ≡ ((o >>= λ next. steps step next xs) >>= λ last. step last x)
+    by None more = refl
+    by (Some next) more = more next
+
+-- ---- stages
+
+module _ (base : List Shape) (count : ℕ) (es : List RawEntry) (now next : World) (few : ℕ) (step : MeantScope → Option MeantScope) (g : Goes few step now next) where
+  stage_on : (n : ℕ) (w : World) → IsStage base count es now n w → IsStage base count es next n w
+  stage_on n w s = record {
+    world = s.world;
+    home = g.home ∙ s.home;
+    shapes_grow = grow_on w.shapes now.shapes next.shapes s.shapes_grow g.shapes_grow;
+    paths_grow = grow_on w.paths now.paths next.paths s.paths_grow g.paths_grow;
+    instances_grow = grow_on w.instances now.instances next.instances s.instances_grow g.instances_grow;
+    imports_grow = grow_on w.imports now.imports next.imports s.imports_grow g.imports_grow;
+    placed = s.placed;
+    front = s.front;
+    back = s.back;
+    split = s.split;
+    long = s.long;
+    follows = s.follows;
+  }
+
+  stages_on : (i : ℕ) → HasStages base count es i now → IsStage base count es next (i + 1) next → HasStages base count es (i + 1) next
+  stages_on i stages last n low = elim (cases_lt i n) [
+    | inl past ↦ (let same : i + 1 ≡ n = omega (arith, low, past) in (next, subst (λ (k : ℕ). IsStage base count es next k next) same last))
+    | inr le ↦ (let s = stages n le in (s.0, stage_on n s.0 s.1))
+  ]
 
 module _ (start : World) (b : Body) where
   abbrev all : List RawEntry
@@ -315,7 +387,30 @@ module _ (start : World) (b : Body) where
           → (ys : List RawEntry) → f.es ≡ x ∷ ys → steps entry_step new_scope all ≡ (o >>= λ next. steps entry_step next ys)
       steps_on place of o e ys same = sym (f.follows place of) ∙ (ap (steps entry_step (meant_at place now)) same ∙ ap (λ p. p >>= λ next. steps entry_step next ys) e)
 
+      reached : (next : World) → Goes (weight x) (λ m. entry_step m x) now next → (ys : List RawEntry) → f.es ≡ x ∷ ys → IsStage start.shapes start.home all next (i + 1) next
+      reached next g ys same =
+          let front = f.stage.front in
+          let one = length-append front (x ∷ []) in
+          let long = f.stage.long in
+          record {
+            world = g.world;
+            home = refl;
+            shapes_grow = same_list next.shapes;
+            paths_grow = same_list next.paths;
+            instances_grow = same_list next.instances;
+            imports_grow = same_list next.imports;
+            placed = g.placed start.shapes start.home f.placed;
+            front = front ++ x ∷ [];
+            back = ys;
+            split = f.behind ∙ (ap (λ zs. front ++ zs) same ∙ sym (append_assoc front (x ∷ []) ys));
+            long = omega (arith, one, long);
+            follows = λ place of.
+                one_step entry_step new_scope front x
+                ∙ (ap (λ o. o >>= λ m. entry_step m x) (f.stage.follows place (places_before now.paths next.paths g.paths_grow place of)) ∙ g.follows place of);
+          }
+
       pub followed_on : (next : World) → Goes (weight x) (λ m. entry_step m x) now next → IsFollowedTo start b (i + 1) behind next
+      unfolding reached
       followed_on next g =
           let p = peeled entry_at (b.count - (i + 1)) rest f.es left_here x behind at in
           let before = f.count in
@@ -333,6 +428,24 @@ module _ (start : World) (b : Body) where
             left = p.1;
             count = omega (arith, before, step, split);
             follows = λ place of. sym (steps_on place (places_before now.paths next.paths g.paths_grow place of) (Some (meant_at place next)) (g.follows place of) p.0 p.2);
+            stage = reached next g p.0 p.2;
+            behind = (reached next g p.0 p.2).split;
+            parts = f.parts ++ g.numbers.parts;
+            counted = count_both (length start.shapes) f.parts (length now.shapes) g.numbers.parts (length next.shapes) f.counted g.numbers.counted;
+            trees = λ place of.
+                let before = places_before now.paths next.paths g.paths_grow place of in
+                let T = world_trees place now in
+                let U = world_trees place next in
+                let along = trees_along (meant_at place next) p.0 in
+                let kept = parts_grown place now.shapes next.shapes g.shapes_grow f.parts (count_below (length start.shapes) f.parts (length now.shapes) f.counted) in
+                let one : trees_along (meant_at place now) f.es ≡ map (part_tree U) g.numbers.parts ++ along =
+                ap (trees_along (meant_at place now)) p.2
+                ∙ (ap (λ o. option_map_or (λ last. trees_since (meant_at place now) last ++ trees_along last p.0) o []) (g.follows place of)
+                ∙ ap (λ ts. ts ++ along) (g.numbers.trees place of)) in
+                ap (λ ts. ts ++ along) (map-append (part_tree U) f.parts g.numbers.parts ∙ ap (λ ts. ts ++ map (part_tree U) g.numbers.parts) kept)
+                ∙ (append_assoc (map (part_tree T) f.parts) (map (part_tree U) g.numbers.parts) along
+                ∙ (ap (λ ts. map (part_tree T) f.parts ++ ts) (sym one) ∙ f.trees place before));
+            stages = stages_on start.shapes start.home all now next (weight x) (λ m. entry_step m x) g i f.stages (reached next g p.0 p.2);
           }
 
       pub nothing_on : (paths : List (Option Text)) (e : Refusal) → Grows now.paths paths → Stops (λ m. entry_step m x) now paths e → Refuses e (entry_scope all)
@@ -349,39 +462,68 @@ module _ (start : World) (b : Body) where
       subst (λ (n : ℕ). IsFollowedTo start b n [] now) same (subst (λ (bytes : List ℕ). IsFollowedTo start b i bytes now) none.1 f)
 
 -- nothing has been followed
-pub followed_none : (home : ℕ) (shapes : List Shape) (fs : List FunctionShape) (paths : List (Option Text)) (b : Body) → AreTables (length paths) shapes fs → slice_get paths home ≡ Some None → HasNoNames home shapes → IsBody entry_at b
+pub followed_none : (home : ℕ) (shapes : List Shape) (fs : List FunctionShape) (paths : List (Option Text)) (b : Body) → AreTables (length paths) shapes fs → slice_get paths home ≡ Some None
+    → HasNoNames home shapes → IsBody entry_at b
     → (new : World) → new ≡ start_of home shapes fs paths → IsFollowedTo (start_of home shapes fs paths) b 0 b.bytes.now new
 followed_none home shapes fs paths b tables own fresh whole new e = subst (λ (w : World). IsFollowedTo (start_of home shapes fs paths) b 0 b.bytes.now w) (sym e) (record {
-  world = record { tables = tables; own = own; slots = tt; instances = tt; imports = tt; exports = tt };
+  world = world;
   shapes_grow = same_list shapes;
   signatures_grow = same_list fs;
   paths_grow = same_list paths;
-  placed = record {
-    grows = same_list shapes;
-    within = omega arith;
-    home = omega arith;
-    fresh = fresh;
-    slots = tt;
-    imports = tt;
-    exports = tt;
-    named = tt;
-    imports_keyed = tt;
-    exports_keyed = tt;
-    formed = λ n form parts low at. inl (found_below shapes n (node_shape form parts) at);
-    instances = λ j x at. absurd cc;
-    seen = λ j x at. absurd cc;
-    names = λ n q name low at. inl (found_below shapes n (named_shape q name) at);
-    counts = [];
-    many = refl;
-    counted = λ j s c at here. absurd cc;
-  };
+  placed = placed;
   met = all_before paths [];
   order = λ j x at. absurd cc;
   es = items_in entry_at b;
   left = ap (λ n. sequence_at entry_at n b.bytes.now) (none_less b.count) ∙ whole;
   count = omega arith;
   follows = λ place of. refl;
+  stage = begun 0 refl;
+  behind = refl;
+  parts = [];
+  counted = refl;
+  trees = λ place of. refl;
+  stages = λ n low. (start_of home shapes fs paths, begun n (omega (arith, low)));
 })
+  where
+    world : IsWorld (start_of home shapes fs paths)
+    world = record { tables = tables; own = own; slots = tt; instances = tt; imports = tt; exports = tt }
+
+    placed : IsPlacedWorld shapes home (start_of home shapes fs paths)
+    placed = record {
+      grows = same_list shapes;
+      within = omega arith;
+      home = omega arith;
+      fresh = fresh;
+      slots = tt;
+      imports = tt;
+      exports = tt;
+      named = tt;
+      imports_keyed = tt;
+      exports_keyed = tt;
+      formed = λ n form parts low at. inl (found_below shapes n (node_shape form parts) at);
+      instances = λ j x at. absurd cc;
+      seen = λ j x at. absurd cc;
+      names = λ n q name low at. inl (found_below shapes n (named_shape q name) at);
+      counts = [];
+      many = refl;
+      counted = λ j s c at here. absurd cc;
+    }
+
+    begun : (n : ℕ) → 0 ≡ n → IsStage shapes home (items_in entry_at b) (start_of home shapes fs paths) n (start_of home shapes fs paths)
+    begun n none = record {
+      world = world;
+      home = refl;
+      shapes_grow = same_list shapes;
+      paths_grow = same_list paths;
+      instances_grow = same_list [];
+      imports_grow = same_list [];
+      placed = placed;
+      front = [];
+      back = items_in entry_at b;
+      split = refl;
+      long = none;
+      follows = λ place of. refl;
+    }
 
 -- ---- what is used at the end
 
@@ -409,6 +551,11 @@ module _ (home : ℕ) (shapes : List Shape) (fs : List FunctionShape) (before pa
       ∙ ap (λ w. provided w (meant_at place now))
       (settled_meant (world_trees place now) (world_signatures place now) now.used 0 now.slots (names_of place now.shapes now.signatures now.slots f.world.tables.table f.world.slots) ∙ e)
 
+  all_entries : length (items_in entry_at b) ≡ b.count
+  all_entries =
+      let none = none_left entry_at (b.count - b.count) [] f.es (omega arith) f.left in
+      ap (λ (es : List RawEntry). length es) (f.behind ∙ (ap (λ es. f.stage.front ++ es) none.0 ∙ append-nil f.stage.front)) ∙ f.stage.long
+
   pub scope_shown : are_settled now.used 0 now.slots ≡ true → IsScopeOf shapes fs before b now
   scope_shown e = record {
     world = f.world;
@@ -425,6 +572,13 @@ module _ (home : ℕ) (shapes : List Shape) (fs : List FunctionShape) (before pa
       | inl below ↦ inl (below_pathless before paths own q path (stood paths now.paths f.paths_grow q (Some path) below there))
       | inr met ↦ inr met
     ];
+    stages = λ n low. (let many = all_entries in subst (λ (k : ℕ). (w : World) × IsStage shapes k (items_in entry_at b) now n w) new_home (f.stages n (omega (arith, low, many))));
+    parts = f.parts;
+    counted = f.counted;
+    trees = λ place of.
+        let none = none_left entry_at (b.count - b.count) [] f.es (omega arith) f.left in
+        sym (append-nil (map (part_tree (world_trees place now)) f.parts))
+        ∙ (ap (λ es. map (part_tree (world_trees place now)) f.parts ++ trees_along (meant_at place now) es) (sym none.0) ∙ f.trees place of);
     shows = λ place of. scope_is place of true e;
   }
 

@@ -20,6 +20,7 @@ use Rattle.read_follow.specs.Slots.{slots_in, AreInRange, AreNames}
 use Rattle.plan_meaning.specs.PlanRules.{is_form}
 use Rattle.plan_meaning.specs.Shapes.{Shape, code, form_of, named_shape, node_shape, part_tree, shape_tree, shape_trees, Adds, stays, comes, IsShape, a_name, a_node, IsTable}
 use Rattle.plan_meaning.proofs.ShapeLaws.{form_back, name_tree, node_tree, one_number, part_behind, tree_at_number}
+use Rattle.read_follow.proofs.NumberingLaws.{adds_next}
 use Rattle.read_follow.proofs.TableGrowth.{part_kept, trees_length, trees_more}
 use Rattle.base_lemmas.proofs.Elements.{all_end}
 use Rattle.base_lemmas.proofs.Lists.{get_back as mapped_back, last_or, within_there as slice_there}
@@ -57,8 +58,6 @@ adds_no_name old new s (comes fresh) formed k q name e = elim (last_or old s k (
 pub adds_cases : (old new : List Shape) (s : Shape) → Adds old s new → (new ≡ old) ⊎ (new ≡ old ++ s ∷ [])
 adds_cases old new s stays = inl refl
 adds_cases old new s (comes fresh) = inr refl
-
--- no form has the number of a name
 
 -- where nothing comes into it
 pub no_shapes : (ss : List Shape) → AddsForms ss ss
@@ -165,6 +164,7 @@ part_defined ss old new d k small is found = record {
   range = omega (arith, small);
   grown = same_list ss;
   count = omega arith;
+  counted = inl (omega (arith, small), refl);
   placed = λ m placed. placed;
   forms = no_shapes ss;
   found = λ place F named. found (shape_trees place ss) F;
@@ -182,6 +182,7 @@ key_defined ss more old new d s n table wider ranges node at adds is =
       range = omega (arith, inside);
       grown = grown;
       count = adds_one ss more s adds;
+      counted = adds_next ss more s n adds at;
       placed = λ m placed. adds_placed m ss more s adds placed (λ none. absurd (no_name node.form (sym (ap (λ (x : Shape). x.sort) node.shape) ∙ none)));
       forms = record {
         names = adds_no_name ss more s adds (λ none. absurd (no_name node.form (sym (ap (λ (x : Shape). x.sort) node.shape) ∙ none)));
@@ -217,7 +218,8 @@ module _ (place : ℕ → Place) (distinct : (p q : ℕ) → place p ≡ place q
   abbrev trees : List Tree
   trees = shape_trees place ss
 
-  one_params : (ps qs : List (Text × ℕ)) → AllByRecursion (λ p. p.1 < 14 + length ss) ps → AllByRecursion (λ p. p.1 < 14 + length ss) qs → map (param_tree trees) ps ≡ map (param_tree trees) qs → ps ≡ qs
+  one_params : (ps qs : List (Text × ℕ)) → AllByRecursion (λ p. p.1 < 14 + length ss) ps → AllByRecursion (λ p. p.1 < 14 + length ss) qs
+      → map (param_tree trees) ps ≡ map (param_tree trees) qs → ps ≡ qs
   one_params [] [] hp hq e = refl
   one_params [] (q ∷ qs) hp hq e = absurd cc
   one_params (p ∷ ps) [] hp hq e = absurd cc
@@ -243,7 +245,8 @@ module _ (place : ℕ → Place) (distinct : (p q : ℕ) → place p ≡ place q
       let outcome = one_outcome s.outcome t.outcome hs.outcome ht.outcome (ap (λ (f : Signature). f.result) e) in
       λ i. record { is_async = kind i; params = params i; outcome = outcome i }
 
-  pub one_function : (fs : List FunctionShape) → AreFunctionsIn (length ss) fs → AreApart fs → (a b : ℕ) (f : Signature) → slice_get (functions_in trees fs) a ≡ Some f → slice_get (functions_in trees fs) b ≡ Some f → a ≡ b
+  pub one_function : (fs : List FunctionShape) → AreFunctionsIn (length ss) fs → AreApart fs → (a b : ℕ) (f : Signature) → slice_get (functions_in trees fs) a ≡ Some f
+      → slice_get (functions_in trees fs) b ≡ Some f → a ≡ b
   one_function fs ranges apart a b f ea eb =
       let s = mapped_back (signature_in trees) fs a f ea in
       let t = mapped_back (signature_in trees) fs b f eb in

@@ -43,7 +43,8 @@ two_in ss (Some k) None hp hq n ranges = (hp n ranges, tt)
 two_in ss None (Some l) hp hq n ranges = (hq n ranges, tt)
 two_in ss (Some k) (Some l) hp hq n ranges = (hp n ranges, (hq n ranges, tt))
 
-two_tree : (T : List Tree) (p q : Option ℕ) → result_tree (option_map (part_tree T) p) (option_map (part_tree T) q) ≡ Tree.node (Form.result_of (is_some p) (is_some q)) (children (map (part_tree T) (option_to_list p ++ option_to_list q)))
+two_tree : (T : List Tree) (p q : Option ℕ)
+    → result_tree (option_map (part_tree T) p) (option_map (part_tree T) q) ≡ Tree.node (Form.result_of (is_some p) (is_some q)) (children (map (part_tree T) (option_to_list p ++ option_to_list q)))
 two_tree T None None = refl
 two_tree T (Some k) None = refl
 two_tree T None (Some l) = refl
@@ -89,7 +90,8 @@ module _ (ss : List Slot) where
   module _ (d : DefinedType) (f : Form) (source : List Tree → List Signature → Option Tree)
       (is : (T : List Tree) (F : List Signature) → definition (slots_in T F ss) d ≡ (source T F >>= λ t. Some (Tree.node f (children (t ∷ []))))) where
     -- a form over one part
-    pub one_key : (part : ℕ) (r : Result Key Refusal) → IfOk r (λ k. shape_of k ≡ node_shape f (part ∷ [])) → IsOkUnless r refusals.Memory → ((n : ℕ) → AreInRange n ss → part < 14 + n) → formed_by f (part ∷ []) ≡ true
+    pub one_key : (part : ℕ) (r : Result Key Refusal) → IfOk r (λ k. shape_of k ≡ node_shape f (part ∷ [])) → IsOkUnless r refusals.Memory → ((n : ℕ) → AreInRange n ss → part < 14 + n)
+        → formed_by f (part ∷ []) ≡ true
         → ((T : List Tree) (F : List Signature) → AreNames T ss → source T F ≡ Some (part_tree T part)) → IsKeyOf ss d r
     one_key part r shape memory range formed found =
         passed d r f (part ∷ []) shape memory (λ n ranges. (range n ranges, tt)) formed (λ T F named apart. is T F ∙ ap (λ o. o >>= λ t. Some (Tree.node f (children (t ∷ [])))) (found T F named))
@@ -104,7 +106,8 @@ module _ (ss : List Slot) where
   fixed_list_is v n some T F = ap (λ b. value_type (slots_in T F ss) v >>= λ t. provided b (fixed_list_tree t n)) (le-leb 1 n (omega (arith, some)))
 
   pub no_fixed_list : (v : ComponentValType) (n : ℕ) → n ≡ 0 → (T : List Tree) (F : List Signature) → definition (slots_in T F ss) (DefinedType.fixed_length_list_of v n) ≡ None
-  no_fixed_list v n none T F = or_none (value_type (slots_in T F ss) v) (λ t. provided (nat_le 1 n) (fixed_list_tree t n)) (λ t. ap (λ b. provided b (fixed_list_tree t n)) (lt-leb 1 n (omega (arith, none))))
+  no_fixed_list v n none T F = or_none (value_type (slots_in T F ss) v) (λ t. provided (nat_le 1 n) (fixed_list_tree t n))
+      (λ t. ap (λ b. provided b (fixed_list_tree t n)) (lt-leb 1 n (omega (arith, none))))
 
   pub fixed_formed : (n part : ℕ) → (n ≡ 0 → ⊥) → n < 4294967296 → formed_by (Form.fixed_list_of n) (part ∷ []) ≡ true
   fixed_formed n part some small = λ i. le-leb 1 n (omega (arith, some)) i && lt-ltb n 4294967296 small i
@@ -115,7 +118,8 @@ module _ (ss : List Slot) where
 
     pub result_key_is : (p q : Option ℕ) (number : ℕ) (r : Result Key Refusal) → number ≡ two_marks (is_some p) (is_some q)
         → IfOk r (λ k. shape_of k ≡ record { sort = 12; number = number; labels = []; parts = option_to_list p ++ option_to_list q }) → IsOkUnless r refusals.Memory → IsIn ss p → IsIn ss q
-        → ((T : List Tree) (F : List Signature) → given (value_type (slots_in T F ss)) v ≡ Some (option_map (part_tree T) p)) → ((T : List Tree) (F : List Signature) → given (value_type (slots_in T F ss)) w ≡ Some (option_map (part_tree T) q))
+        → ((T : List Tree) (F : List Signature) → given (value_type (slots_in T F ss)) v ≡ Some (option_map (part_tree T) p))
+        → ((T : List Tree) (F : List Signature) → given (value_type (slots_in T F ss)) w ≡ Some (option_map (part_tree T) q))
         → IsKeyOf ss (DefinedType.result_of v w) r
     result_key_is p q number r marks shape memory hp hq fp fq =
         passed (DefinedType.result_of v w) r (Form.result_of (is_some p) (is_some q)) (option_to_list p ++ option_to_list q)
@@ -124,12 +128,14 @@ module _ (ss : List Slot) where
 
     pub no_ok : (e : Refusal) → ((T : List Tree) (F : List Signature) → Refuses e (given (value_type (slots_in T F ss)) v)) → IsKeyOf ss (DefinedType.result_of v w) (Err e)
     no_ok e r = λ T F named apart.
-        refused e (given (value_type (slots_in T F ss)) v) (definition (slots_in T F ss) (DefinedType.result_of v w)) (λ none. ap (λ o. both T F o (given (value_type (slots_in T F ss)) w)) none) (r T F)
+        refused e (given (value_type (slots_in T F ss)) v) (definition (slots_in T F ss) (DefinedType.result_of v w))
+        (λ none. ap (λ o. both T F o (given (value_type (slots_in T F ss)) w)) none) (r T F)
 
     pub no_err : (e : Refusal) → ((T : List Tree) (F : List Signature) → Refuses e (given (value_type (slots_in T F ss)) w)) → IsKeyOf ss (DefinedType.result_of v w) (Err e)
     no_err e r = λ T F named apart.
         refused e (given (value_type (slots_in T F ss)) w) (definition (slots_in T F ss) (DefinedType.result_of v w))
-        (λ none. or_none (given (value_type (slots_in T F ss)) v) (λ x. given (value_type (slots_in T F ss)) w >>= λ y. Some (result_tree x y)) (λ x. ap (λ o. o >>= λ y. Some (result_tree x y)) none)) (r T F)
+        (λ none. or_none (given (value_type (slots_in T F ss)) v) (λ x. given (value_type (slots_in T F ss)) w >>= λ y. Some (result_tree x y))
+        (λ x. ap (λ o. o >>= λ y. Some (result_tree x y)) none)) (r T F)
 
   module _ (v : Option ComponentValType) where
     pub future_key_is : (p : Option ℕ) (number : ℕ) (r : Result Key Refusal) → number ≡ one_mark (is_some p)
@@ -160,11 +166,13 @@ module _ (ss : List Slot) where
     abbrev entry : Option Tree → Option Tree → Option Tree
     entry a b = a >>= λ key. b >>= λ t. provided (is_key key) (map_tree key t)
 
-    mapped : (T : List Tree) (F : List Signature) (p q : ℕ) (b : Bool) → value_type (slots_in T F ss) k ≡ Some (part_tree T p) → value_type (slots_in T F ss) v ≡ Some (part_tree T q) → is_key (part_tree T p) ≡ b
+    mapped : (T : List Tree) (F : List Signature) (p q : ℕ) (b : Bool) → value_type (slots_in T F ss) k ≡ Some (part_tree T p) → value_type (slots_in T F ss) v ≡ Some (part_tree T q)
+        → is_key (part_tree T p) ≡ b
         → definition (slots_in T F ss) (DefinedType.map_of k v) ≡ provided b (map_tree (part_tree T p) (part_tree T q))
     mapped T F p q b fp fq e = (λ i. entry (fp i) (fq i)) ∙ ap (λ c. provided c (map_tree (part_tree T p) (part_tree T q))) e
 
-    module _ (p q : ℕ) (fp : (T : List Tree) (F : List Signature) → value_type (slots_in T F ss) k ≡ Some (part_tree T p)) (fq : (T : List Tree) (F : List Signature) → value_type (slots_in T F ss) v ≡ Some (part_tree T q)) (b : Bool)
+    module _ (p q : ℕ) (fp : (T : List Tree) (F : List Signature) → value_type (slots_in T F ss) k ≡ Some (part_tree T p))
+        (fq : (T : List Tree) (F : List Signature) → value_type (slots_in T F ss) v ≡ Some (part_tree T q)) (b : Bool)
         (test : b ≡ unwrap_or (slice_get key_marks p) false) where
       pub map_key_is : b ≡ true → (r : Result Key Refusal) → IfOk r (λ x. shape_of x ≡ node_shape Form.map_of (p ∷ q ∷ [])) → IsOkUnless r refusals.Memory
           → ((n : ℕ) → AreInRange n ss → p < 14 + n) → ((n : ℕ) → AreInRange n ss → q < 14 + n) → IsKeyOf ss (DefinedType.map_of k v) r
@@ -182,7 +190,8 @@ module _ (ss : List Slot) where
     pub no_second : (e : Refusal) → ((T : List Tree) (F : List Signature) → Refuses e (value_type (slots_in T F ss) v)) → IsKeyOf ss (DefinedType.map_of k v) (Err e)
     no_second e r = λ T F named apart.
         refused e (value_type (slots_in T F ss) v) (definition (slots_in T F ss) (DefinedType.map_of k v))
-        (λ none. or_none (value_type (slots_in T F ss) k) (λ key. value_type (slots_in T F ss) v >>= λ t. provided (is_key key) (map_tree key t)) (λ key. ap (λ o. o >>= λ t. provided (is_key key) (map_tree key t)) none)) (r T F)
+        (λ none. or_none (value_type (slots_in T F ss) k) (λ key. value_type (slots_in T F ss) v >>= λ t. provided (is_key key) (map_tree key t))
+        (λ key. ap (λ o. o >>= λ t. provided (is_key key) (map_tree key t)) none)) (r T F)
 
 pub is_form : (d : ComponentDefinedType) → ((p : PrimitiveValType) → d ≡ forms.Primitive p → ⊥) → IsForm d
 is_form (forms.Primitive p) other = other p refl

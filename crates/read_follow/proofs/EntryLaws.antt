@@ -18,7 +18,8 @@ module _ (bytes : List ℕ) where
   unfolding as_at
   by b e = entries_by_front bytes ∙ ap (λ c. cond c (as_held (held_at (drop 2 bytes))) (as_plain (declaration_at bytes))) e
 
-  pub held_front : (rest : List ℕ) (found : Option (List Declaration × List ℕ)) → starts_with nat_eq bytes (1 ∷ 0x42 ∷ []) ≡ true → rest ≡ drop 2 bytes → held_at rest ≡ found → entry_at bytes ≡ as_held found
+  pub held_front : (rest : List ℕ) (found : Option (List Declaration × List ℕ)) → starts_with nat_eq bytes (1 ∷ 0x42 ∷ []) ≡ true → rest ≡ drop 2 bytes → held_at rest ≡ found
+      → entry_at bytes ≡ as_held found
   held_front rest found begins is e = by true begins ∙ ap as_held (ap held_at (sym is) ∙ e)
 
   pub plain_front : (found : Option (Declaration × List ℕ)) → starts_with nat_eq bytes (1 ∷ 0x42 ∷ []) ≡ false → declaration_at bytes ≡ found → entry_at bytes ≡ as_plain found

@@ -94,7 +94,8 @@ sums_along s parts other e h = record {
 
 sums_more : (s : Summary) (f : Fact) (parts : (ℕ → Place) → List Tree) (t : (ℕ → Place) → Tree) → Sums s parts → Tells f t → Sums (with_fact s f) (λ place. parts place ++ t place ∷ [])
 sums_more s f parts t h one = record {
-  levels = λ place. (λ i. max (h.levels place i) (one.levels place i)) ∙ (cap_max (deepest (children (parts place))) (tree.levels (t place)) ∙ ap (min cap) (sym (deepest_more (parts place) (t place))));
+  levels = λ place. (λ i. max (h.levels place i) (one.levels place i)) ∙ (cap_max (deepest (children (parts place))) (tree.levels (t place)) ∙ ap (min cap)
+      (sym (deepest_more (parts place) (t place))));
   names = along (joined s.names f.names) (λ place. places_in (children (parts place)) ++ places (t place)) (λ place. places_in (children (parts place ++ t place ∷ [])))
       (λ place. sym (places_more (parts place) (t place)))
       (join_of s.names f.names (λ place. places_in (children (parts place))) (λ place. places (t place)) h.names one.names);
@@ -156,7 +157,8 @@ module _ (facts : List Fact) where
         → Sums s (λ place. map (part_tree (trees place)) (take i parts)) → Sums (with_fact s (fact_at facts (get_or parts i 0))) (λ place. map (part_tree (trees place)) (take (i + 1) parts))
     part_summed parts i s more all h =
         let k = get_or parts i 0 in
-        sums_along (with_fact s (fact_at facts k)) (λ place. map (part_tree (trees place)) (take i parts) ++ part_tree (trees place) k ∷ []) (λ place. map (part_tree (trees place)) (take (i + 1) parts))
+        sums_along (with_fact s (fact_at facts k)) (λ place. map (part_tree (trees place)) (take i parts) ++ part_tree (trees place) k ∷ [])
+        (λ place. map (part_tree (trees place)) (take (i + 1) parts))
         (λ place. sym (ap (map (part_tree (trees place))) (take_more parts i 0 more) ∙ map-append (part_tree (trees place)) (take i parts) (k ∷ [])))
         (sums_more s (fact_at facts k) (λ place. map (part_tree (trees place)) (take i parts)) (λ place. part_tree (trees place) k) h (tells_part k (in_range parts i more all)))
 
@@ -170,8 +172,10 @@ take_past [] (suc i) past = refl
 take_past (x ∷ xs) zero past = absurd (omega (arith, past))
 take_past (x ∷ xs) (suc i) past = ap (λ ys. x ∷ ys) (take_past xs i (omega (arith, past)))
 
-pub all_taken : (trees : (ℕ → Place) → List Tree) (parts : List ℕ) (i : ℕ) (s : Summary) → length parts ≤ i → Sums s (λ place. map (part_tree (trees place)) (take i parts)) → Sums s (λ place. map (part_tree (trees place)) parts)
-all_taken trees parts i s past = sums_along s (λ place. map (part_tree (trees place)) (take i parts)) (λ place. map (part_tree (trees place)) parts) (λ place. ap (map (part_tree (trees place))) (take_past parts i past))
+pub all_taken : (trees : (ℕ → Place) → List Tree) (parts : List ℕ) (i : ℕ) (s : Summary) → length parts ≤ i → Sums s (λ place. map (part_tree (trees place)) (take i parts))
+    → Sums s (λ place. map (part_tree (trees place)) parts)
+all_taken trees parts i s past = sums_along s (λ place. map (part_tree (trees place)) (take i parts)) (λ place. map (part_tree (trees place)) parts)
+    (λ place. ap (map (part_tree (trees place))) (take_past parts i past))
 
 pub first_labels : (ls : List (Bor (List ℕ) × Bool)) → map (λ l. l.0) (map label_of ls) ≡ map (λ l. l.0.now) ls
 first_labels [] = refl
@@ -225,7 +229,8 @@ module _ (trees : (ℕ → Place) → List Tree) (n : ℕ) where
   shape_named s (a_name p name is) e =
       let number : s.number ≡ p = ap (λ (t : Shape). t.number) is in
       subst (λ m. Tells (name_fact m) (λ place. shape_tree place (trees place) s)) (sym number)
-      (tells_along (name_fact p) (λ place. Tree.named (place p) name) (λ place. shape_tree place (trees place) s) (λ place. sym (ap (shape_tree place (trees place)) is ∙ name_tree place (trees place) p name)) (name_tells p name))
+      (tells_along (name_fact p) (λ place. Tree.named (place p) name) (λ place. shape_tree place (trees place) s)
+      (λ place. sym (ap (shape_tree place (trees place)) is ∙ name_tree place (trees place) p name)) (name_tells p name))
   shape_named s (a_node f ks is ranges) e = absurd (sort_of_form f (sym (ap (λ (t : Shape). t.sort) is) ∙ e))
 
   module _ (sum : Summary) (good : Bool) where
@@ -246,7 +251,8 @@ module _ (trees : (ℕ → Place) → List Tree) (n : ℕ) where
         let sort : s.sort ≡ (form_code f).sort = ap (λ (t : Shape). t.sort) is in
         let parts : s.parts ≡ ks = ap (λ (t : Shape). t.parts) is in
         let good_is : good ≡ are_labels (form_labels f) = labels ∙ (ap (λ (t : Shape). are_labels (map (λ l. l.0) t.labels)) is ∙ ap are_labels (labels_by_code f)) in
-        let sums : Sums sum (λ place. map (part_tree (trees place)) ks) = subst (λ (xs : List ℕ). Sums sum (λ place. map (part_tree (trees place)) xs)) parts (h (subst (AllByRecursion (λ k. k < 14 + n)) (sym parts) ranges)) in
+        let sums : Sums sum (λ place. map (part_tree (trees place)) ks) = subst (λ (xs : List ℕ). Sums sum (λ place. map (part_tree (trees place)) xs)) parts
+        (h (subst (AllByRecursion (λ k. k < 14 + n)) (sym parts) ranges)) in
         subst (λ (m : ℕ). Tells (node_fact sum m good) (λ place. shape_tree place (trees place) s)) (sym sort)
         (tells_along (node_fact sum (form_code f).sort good) (λ place. Tree.node f (children (map (part_tree (trees place)) ks))) (λ place. shape_tree place (trees place) s)
         (λ place. sym (ap (shape_tree place (trees place)) is ∙ node_tree place (trees place) f ks)) (form_tells f ks good_is sums))

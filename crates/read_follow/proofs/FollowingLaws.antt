@@ -1,5 +1,5 @@
 -- A scope of an instance type in tables that grow, and what each declaration does to it.
-use Rattle.std.proofs.Common.{◌≡◌, refl, sym, ap, ◌∙◌, subst, ℕ, ◌+◌, ◌<◌, ◌≤◌, arith, Bool, List, [], ◌∷◌, ◌++◌, map, length, Option, Some, None, option_map, IfSome, Result, Ok, Err, IfErr, OnOk, slice_get, unwrap_or}
+use Rattle.std.proofs.Common.{◌≡◌, refl, sym, ap, ◌∙◌, subst, ℕ, ◌+◌, ◌<◌, ◌≤◌, arith, inl, Bool, List, [], ◌∷◌, ◌++◌, map, length, Option, Some, None, option_map, IfSome, Result, Ok, Err, IfErr, OnOk, slice_get, unwrap_or}
 use Rattle.std.specs.List.{AllByRecursion}
 use Rattle.std.proofs.Math.ListN.{length-map}
 use Rattle.std.proofs.lemmas.List.{map-append}
@@ -22,11 +22,13 @@ use Rattle.read_follow.specs.Defining.{AddsForms, Grows, IsDefined, IsDefinedFun
 use Rattle.read_follow.specs.Following.{declared_in, scope_at, shown_function, shown_type, signatures_at, slots_at, trees_at, view_at, AreSlotsIn, AreTables, Halts, IsNamePart, IsPlacedState, IsShownFunctionIn, IsShownIn, IsSlotIn, IsState, State, Steps}
 use Rattle.read_follow.specs.Found.{Refuses}
 use Rattle.read_follow.specs.Functions.{functions_in, signature_in, AreFunctionsIn, FunctionShape, IsFunctionIn, Joins, stays, comes}
+use Rattle.read_follow.specs.Numbering.{slot_parts, CountUp}
 use Rattle.read_follow.specs.Placed.{apart, MayMeet, SignatureOver, SlotOver, ViewOver}
 use Rattle.read_follow.specs.Slots.{no_signature, resource_slot, slot_in, slots_in, AreInRange, AreNames, IsName}
 use Rattle.plan_meaning.specs.Shapes.{Shape, named_shape, part_tree, shape_trees, IsTable}
 use Rattle.plan_meaning.proofs.ShapeLaws.{name_tree, part_behind, tree_at_number}
 use Rattle.read_follow.proofs.DefiningLaws.{functions_grown, longer, no_shapes, one_longer, part_grown, same_list}
+use Rattle.read_follow.proofs.NumberingLaws.{count_pushed}
 use Rattle.read_follow.proofs.OverLaws.{definition_over, signature_over}
 use Rattle.read_follow.proofs.PlacedLaws.{same_types}
 use Rattle.read_follow.proofs.Refusing.{refused}
@@ -41,7 +43,8 @@ pub name_below : (shapes : List Shape) (part : ℕ) → IsNamePart shapes part �
 name_below shapes part named = let inside = found_below shapes named.number (named_shape named.place named.name) named.at in omega (arith, named.is, inside)
 
 -- a part that is a name stands for it
-pub name_part : (place : ℕ → Place) (shapes : List Shape) (part : ℕ) → IsTable shapes → (named : IsNamePart shapes part) → part_tree (shape_trees place shapes) part ≡ Tree.named (place named.place) named.name
+pub name_part : (place : ℕ → Place) (shapes : List Shape) (part : ℕ) → IsTable shapes → (named : IsNamePart shapes part)
+    → part_tree (shape_trees place shapes) part ≡ Tree.named (place named.place) named.name
 name_part place shapes part table named =
     let T = shape_trees place shapes in
     ap (part_tree T) named.is ∙ (part_behind T named.number
@@ -60,6 +63,13 @@ names_of place shapes fs (slots.Value part ∷ ss) table h = names_of place shap
 names_of place shapes fs (slots.Resource part ∷ ss) table h = (subst IsName (sym (name_part place shapes part table h.0)) tt, names_of place shapes fs ss table h.1)
 names_of place shapes fs (slots.Function n ∷ ss) table h = names_of place shapes fs ss table h.1
 names_of place shapes fs (slots.Instance b n ∷ ss) table h = names_of place shapes fs ss table h.1
+
+-- a slot over a table counts nothing more
+pub slot_counted : (shapes : List Shape) (fs : List FunctionShape) (s : Slot) → IsSlotIn shapes fs s → CountUp (length shapes) (slot_parts s) (length shapes)
+slot_counted shapes fs (slots.Value part) h = (length shapes, inl (h, refl), refl)
+slot_counted shapes fs (slots.Resource part) h = (length shapes, inl (name_below shapes part h, refl), refl)
+slot_counted shapes fs (slots.Function n) h = refl
+slot_counted shapes fs (slots.Instance b n) h = refl
 
 -- ---- empty tables
 
@@ -140,7 +150,12 @@ module _ (m : ℕ) (shapes more : List Shape) (fs more_fs : List FunctionShape) 
     declared_stays (Some k) h = ap tree.Declaration.type_ (part_stays k h)
 
     type_stays : (t : ShownType) → IsShownIn shapes fs t → shown_type U (functions_in U more_fs) t ≡ shown_type T (functions_in T fs) t
-    type_stays t h = λ i. record { name = t.name.now; meaning = record { declaration = declared_stays t.declared h.declared i; external_id = option_map text_of t.external_id }; slot = slot_stays t.slot h.slot i }
+    type_stays t h = λ i. record {
+      name = t.name.now;
+      meaning = record { declaration = declared_stays t.declared h.declared i; external_id = option_map text_of t.external_id };
+      slot =
+          slot_stays t.slot h.slot i;
+    }
 
     pub types_stay : (ts : List ShownType) → AllByRecursion (IsShownIn shapes fs) ts → map (shown_type U (functions_in U more_fs)) ts ≡ map (shown_type T (functions_in T fs)) ts
     types_stay [] h = refl
@@ -148,7 +163,8 @@ module _ (m : ℕ) (shapes more : List Shape) (fs more_fs : List FunctionShape) 
 
     pub functions_stay : (ts : List ShownFunction) → AllByRecursion (IsShownFunctionIn fs) ts → map (shown_function (functions_in U more_fs)) ts ≡ map (shown_function (functions_in T fs)) ts
     functions_stay [] h = refl
-    functions_stay (f ∷ ts) h = λ i. (f.name.now, record { signature = unwrap_or (signature_stays f.function h.0 i) no_signature; external_id = option_map text_of f.external_id }) ∷ functions_stay ts h.1 i
+    functions_stay (f ∷ ts) h = λ i. (f.name.now, record { signature = unwrap_or (signature_stays f.function h.0 i) no_signature; external_id = option_map text_of f.external_id })
+        ∷ functions_stay ts h.1 i
 
 pub functions_wider : (n m : ℕ) (fs : List FunctionShape) → n ≤ m → AreFunctionsIn n fs → AreFunctionsIn m fs
 functions_wider n m [] le h = tt
@@ -187,9 +203,11 @@ module _ (m : ℕ) (old : State) (st : IsState m old) (more : List Shape) (more_
 
   module _ (s : Slot) (is : IsSlotIn more more_fs s) (ss : List Slot) (next : ss ≡ old.slots ++ s ∷ []) where
     slots_in_grown : AreSlotsIn more more_fs ss
-    slots_in_grown = subst (λ (xs : List Slot). AreSlotsIn more more_fs xs) (sym next) (all_end (IsSlotIn more more_fs) old.slots s (wider_slots m old.shapes more old.signatures more_fs st.tables gs gf old.slots st.slots) is)
+    slots_in_grown = subst (λ (xs : List Slot). AreSlotsIn more more_fs xs) (sym next)
+        (all_end (IsSlotIn more more_fs) old.slots s (wider_slots m old.shapes more old.signatures more_fs st.tables gs gf old.slots st.slots) is)
 
-    slot_last : (place : ℕ → Place) → slots_at place (with_slots ss) ss ≡ slots_at place (with_slots ss) old.slots ++ slot_in (shape_trees place more) (functions_in (shape_trees place more) more_fs) s ∷ []
+    slot_last : (place : ℕ → Place)
+        → slots_at place (with_slots ss) ss ≡ slots_at place (with_slots ss) old.slots ++ slot_in (shape_trees place more) (functions_in (shape_trees place more) more_fs) s ∷ []
     slot_last place = ap (slots_at place (with_slots ss)) next ∙ map-append (slot_in (shape_trees place more) (functions_in (shape_trees place more) more_fs)) old.slots (s ∷ [])
 
     pub pushed_state : IsState m (with_slots ss)
@@ -205,12 +223,14 @@ module _ (m : ℕ) (old : State) (st : IsState m old) (more : List Shape) (more_
         (λ i. record { slots = slot_last place i; shown = view_at place (with_slots ss) old.types old.functions })
         ∙ ap (in_instance (slot_in (shape_trees place more) (functions_in (shape_trees place more) more_fs) s)) (scope_stays place)
 
-    pub pushed_placed : (marks : List Bool) (before : List Shape) (here : ℕ) → IsPlacedState marks before here old → SlotOver (MayMeet marks here) (slot_in (shape_trees apart more) (functions_in (shape_trees apart more) more_fs) s)
+    pub pushed_placed : (marks : List Bool) (before : List Shape) (here : ℕ) → IsPlacedState marks before here old
+        → SlotOver (MayMeet marks here) (slot_in (shape_trees apart more) (functions_in (shape_trees apart more) more_fs) s)
         → AddsForms old.shapes more → IsPlacedState marks before here (with_slots ss)
     pushed_placed marks before here p one forms =
         let meant = pushed_scope apart in
         same_types marks before here old (with_slots ss) p gs
-        (subst (λ (xs : List Meant). AllByRecursion (SlotOver (MayMeet marks here)) xs) (sym (ap (λ (x : MeantScope). x.slots) meant)) (all_end (SlotOver (MayMeet marks here)) (scope_at apart old).slots (slot_in (shape_trees apart more) (functions_in (shape_trees apart more) more_fs) s) p.slots one))
+        (subst (λ (xs : List Meant). AllByRecursion (SlotOver (MayMeet marks here)) xs) (sym (ap (λ (x : MeantScope). x.slots) meant))
+        (all_end (SlotOver (MayMeet marks here)) (scope_at apart old).slots (slot_in (shape_trees apart more) (functions_in (shape_trees apart more) more_fs) s) p.slots one))
         (subst (λ (v : follow.View). ViewOver (MayMeet marks here) v) (sym (ap (λ (x : MeantScope). x.shown) meant)) p.shown) refl forms
 
     -- a type that is shown with it
@@ -231,17 +251,21 @@ module _ (m : ℕ) (old : State) (st : IsState m old) (more : List Shape) (more_
       with_meant slot type scope = record { slots = scope.slots ++ slot ∷ []; shown = record { types = scope.shown.types ++ type ∷ []; functions = scope.shown.functions } }
 
       type_last : (place : ℕ → Place) → map (shown_type (shape_trees place more) (functions_in (shape_trees place more) more_fs)) ts
-          ≡ map (shown_type (shape_trees place more) (functions_in (shape_trees place more) more_fs)) old.types ++ shown_type (shape_trees place more) (functions_in (shape_trees place more) more_fs) t ∷ []
-      type_last place = ap (map (shown_type (shape_trees place more) (functions_in (shape_trees place more) more_fs))) last ∙ map-append (shown_type (shape_trees place more) (functions_in (shape_trees place more) more_fs)) old.types (t ∷ [])
+          ≡ map (shown_type (shape_trees place more) (functions_in (shape_trees place more) more_fs)) old.types ++ shown_type (shape_trees place more)
+          (functions_in (shape_trees place more) more_fs) t ∷ []
+      type_last place = ap (map (shown_type (shape_trees place more) (functions_in (shape_trees place more) more_fs))) last ∙ map-append
+          (shown_type (shape_trees place more) (functions_in (shape_trees place more) more_fs)) old.types (t ∷ [])
 
       pub shown_scope : (place : ℕ → Place) → scope_at place with_type
-          ≡ with_meant (slot_in (shape_trees place more) (functions_in (shape_trees place more) more_fs) s) (shown_type (shape_trees place more) (functions_in (shape_trees place more) more_fs) t) (scope_at place old)
+          ≡ with_meant (slot_in (shape_trees place more) (functions_in (shape_trees place more) more_fs) s) (shown_type (shape_trees place more) (functions_in (shape_trees place more) more_fs) t)
+          (scope_at place old)
       shown_scope place =
           (λ i. record {
             slots = slot_last place i;
             shown = record { types = type_last place i; functions = map (shown_function (functions_in (shape_trees place more) more_fs)) old.functions };
           })
-          ∙ ap (with_meant (slot_in (shape_trees place more) (functions_in (shape_trees place more) more_fs) s) (shown_type (shape_trees place more) (functions_in (shape_trees place more) more_fs) t)) (scope_stays place)
+          ∙ ap (with_meant (slot_in (shape_trees place more) (functions_in (shape_trees place more) more_fs) s) (shown_type (shape_trees place more) (functions_in (shape_trees place more) more_fs) t))
+          (scope_stays place)
 
 -- ---- definitions
 
@@ -262,12 +286,15 @@ module _ (marks : List Bool) (old : State) (st : IsState (length marks) old) (he
         shapes_grow = is.grown;
         signatures_grow = same_list old.signatures;
         count = is.count;
+        counted = count_pushed old.slots ss (slots.Value is.part) (length old.shapes) (length more) is.next (length more, is.counted, refl);
         placed = λ before p.
             pushed_placed (length marks) old st more old.signatures is.grown (same_list old.signatures) tables (slots.Value is.part) is.range ss is.next marks before here p
-            (definition_over (MayMeet marks here) (slots_at apart old old.slots) p.slots d (part_tree (shape_trees apart more) is.part) (is.found apart (signatures_at apart old) (names_of apart old.shapes old.signatures old.slots st.tables.table st.slots)))
+            (definition_over (MayMeet marks here) (slots_at apart old old.slots) p.slots d (part_tree (shape_trees apart more) is.part)
+            (is.found apart (signatures_at apart old) (names_of apart old.shapes old.signatures old.slots st.tables.table st.slots)))
             is.forms;
         follows = λ place marked.
-            ap (λ o. o >>= λ t. Some (in_instance (follow.value t) (scope_at place old))) (is.found place (signatures_at place old) (names_of place old.shapes old.signatures old.slots st.tables.table st.slots))
+            ap (λ o. o >>= λ t. Some (in_instance (follow.value t) (scope_at place old)))
+            (is.found place (signatures_at place old) (names_of place old.shapes old.signatures old.slots st.tables.table st.slots))
             ∙ ap Some (sym (pushed_scope (length marks) old st more old.signatures is.grown (same_list old.signatures) tables (slots.Value is.part) is.range ss is.next place));
       }
 
@@ -285,16 +312,19 @@ module _ (marks : List Bool) (old : State) (st : IsState (length marks) old) (he
       let tables : AreTables (length marks) old.shapes more_fs = record {
         table = st.tables.table;
         placed = st.tables.placed;
-        signatures = joins_all (IsFunctionIn (length old.shapes)) old.signatures more_fs is.shape is.joins st.tables.signatures (is.ranges (length old.shapes) (ranges_of old.shapes old.signatures old.slots st.slots));
+        signatures = joins_all (IsFunctionIn (length old.shapes)) old.signatures more_fs is.shape is.joins st.tables.signatures
+            (is.ranges (length old.shapes) (ranges_of old.shapes old.signatures old.slots st.slots));
       } in
       record {
         state = pushed_state (length marks) old st old.shapes more_fs (same_list old.shapes) grows tables (slots.Function is.number) inside ss is.next;
         shapes_grow = same_list old.shapes;
         signatures_grow = grows;
         count = omega arith;
+        counted = count_pushed old.slots ss (slots.Function is.number) (length old.shapes) (length old.shapes) is.next refl;
         placed = λ before p.
             pushed_placed (length marks) old st old.shapes more_fs (same_list old.shapes) grows tables (slots.Function is.number) inside ss is.next marks before here p
-            (subst (λ (s : Signature). SignatureOver (MayMeet marks here) s) (sym (ap (λ o. unwrap_or o no_signature) (mapped_get (signature_in (trees_at apart old)) more_fs is.number is.shape is.at)))
+            (subst (λ (s : Signature). SignatureOver (MayMeet marks here) s) (sym
+            (ap (λ o. unwrap_or o no_signature) (mapped_get (signature_in (trees_at apart old)) more_fs is.number is.shape is.at)))
             (signature_over (MayMeet marks here) (slots_at apart old old.slots) p.slots f (signature_in (trees_at apart old) is.shape) (is.found (trees_at apart old) (signatures_at apart old))))
             (no_shapes old.shapes);
         follows = λ place marked.
@@ -304,7 +334,8 @@ module _ (marks : List Bool) (old : State) (st : IsState (length marks) old) (he
             ∙ ap Some (sym (pushed_scope (length marks) old st old.shapes more_fs (same_list old.shapes) grows tables (slots.Function is.number) inside ss is.next place)));
       }
 
-  pub function_halts : (f : FunctionType) (e : Refusal) → ((T : List Tree) (F : List Signature) → Refuses e (function_signature (slots_in T F old.slots) f)) → Halts marks (step_of (Declaration.function f)) old e
+  pub function_halts : (f : FunctionType) (e : Refusal) → ((T : List Tree) (F : List Signature) → Refuses e (function_signature (slots_in T F old.slots) f))
+      → Halts marks (step_of (Declaration.function f)) old e
   function_halts f e r place marked =
       refused e (function_signature (scope_at place old).slots f) (step_of (Declaration.function f) place (scope_at place old))
       (λ none. ap (λ o. o >>= λ s. Some (in_instance (follow.function s) (scope_at place old))) none)
@@ -312,17 +343,20 @@ module _ (marks : List Bool) (old : State) (st : IsState (length marks) old) (he
 
 -- ---- the same step in other words
 
-pub steps_as : (marks : List Bool) (here few : ℕ) (f g : (ℕ → Place) → MeantScope → Option MeantScope) (old new : State) → ((place : ℕ → Place) (scope : MeantScope) → g place scope ≡ f place scope) → Steps marks here few f old new → Steps marks here few g old new
+pub steps_as : (marks : List Bool) (here few : ℕ) (f g : (ℕ → Place) → MeantScope → Option MeantScope) (old new : State) → ((place : ℕ → Place) (scope : MeantScope) → g place scope ≡ f place scope)
+    → Steps marks here few f old new → Steps marks here few g old new
 steps_as marks here few f g old new same s = record {
   state = s.state;
   shapes_grow = s.shapes_grow;
   signatures_grow = s.signatures_grow;
   count = s.count;
+  counted = s.counted;
   placed = s.placed;
   follows = λ place marked. same place (scope_at place old) ∙ s.follows place marked;
 }
 
-pub halts_as : (marks : List Bool) (f g : (ℕ → Place) → MeantScope → Option MeantScope) (old : State) (e : Refusal) → ((place : ℕ → Place) (scope : MeantScope) → g place scope ≡ f place scope) → Halts marks f old e → Halts marks g old e
+pub halts_as : (marks : List Bool) (f g : (ℕ → Place) → MeantScope → Option MeantScope) (old : State) (e : Refusal) → ((place : ℕ → Place) (scope : MeantScope) → g place scope ≡ f place scope)
+    → Halts marks f old e → Halts marks g old e
 halts_as marks f g old e same h place marked = refused e (f place (scope_at place old)) (g place (scope_at place old)) (λ none. same place (scope_at place old) ∙ none) (h place marked)
 
 pub on_ok : {A : Type 0} (P Q : Type 0) (r : Result A Refusal) → (P → Q) → OnOk r P → OnOk r Q

@@ -113,7 +113,8 @@ none_above P ks none = subst (λ (zs : Params). AllByRecursion P (map param_of z
 module _ (ss : List Slot) (all : List (Bor (List ℕ) × ComponentValType)) (i : ℕ) (ks : Params) (kept : ParamsSoFar ss all i ks) where
   module _ (d : Bor (List ℕ) × ComponentValType) (more : i < length all) where
     head : (T : List Tree) (F : List Signature) (o : Option Tree) → value_type (slots_in T F ss) (get_or all i d).1 ≡ o
-        → each (field_type (slots_in T F ss)) (drop i (map labeled all)) ≡ (o >>= λ t. each (field_type (slots_in T F ss)) (drop (i + 1) (map labeled all)) >>= λ ys. Some (((get_or all i d).0.now, t) ∷ ys))
+        → each (field_type (slots_in T F ss)) (drop i (map labeled all)) ≡ (o >>= λ t. each (field_type (slots_in T F ss)) (drop (i + 1) (map labeled all)) >>= λ ys. Some
+        (((get_or all i d).0.now, t) ∷ ys))
     head T F None e = ap (each (field_type (slots_in T F ss))) (raw_at labeled all i d more)
         ∙ ap (λ o. (o >>= λ t. Some ((get_or all i d).0.now, t)) >>= λ y. each (field_type (slots_in T F ss)) (drop (i + 1) (map labeled all)) >>= λ ys. Some (y ∷ ys)) e
     head T F (Some t) e = ap (each (field_type (slots_in T F ss))) (raw_at labeled all i d more)
@@ -127,7 +128,8 @@ module _ (ss : List Slot) (all : List (Bor (List ℕ) × ComponentValType)) (i :
         let y : Text × Tree = (x.0.now, part_tree T k) in
         let front = map (param_tree T) (map param_of ks) in
         let grown : map (param_tree T) (map param_of nks) ≡ front ++ y ∷ [] =
-        ap (λ (zs : Params). map (param_tree T) (map param_of zs)) is ∙ (ap (map (param_tree T)) (map-append param_of ks ((x.0, k) ∷ [])) ∙ map-append (param_tree T) (map param_of ks) ((x.0.now, k) ∷ [])) in
+        ap (λ (zs : Params). map (param_tree T) (map param_of zs)) is ∙ (ap (map (param_tree T)) (map-append param_of ks ((x.0, k) ∷ [])) ∙ map-append (param_tree T) (map param_of ks)
+        ((x.0.now, k) ∷ [])) in
         ap (λ zs. behind_rows zs found) grown ∙ (sym (behind_more front y found) ∙ (ap (behind_rows front) (sym (head T F (Some (part_tree T k)) (e T F))) ∙ kept T F))
 
     pub param_refused : (e : Refusal) → ((T : List Tree) (F : List Signature) → Refuses e (value_type (slots_in T F ss) (get_or all i d).1))
@@ -159,7 +161,8 @@ module _ (ss : List Slot) (f : FunctionType) where
   }
 
   pub no_params : (e : Refusal) (T : List Tree) (F : List Signature) → Refuses e (each (field_type (slots_in T F ss)) f.parameters) → Refuses e (function_signature (slots_in T F ss) f)
-  no_params e T F = refused e (each (field_type (slots_in T F ss)) f.parameters) (function_signature (slots_in T F ss) f) (λ none. ap (λ ps. signed ps (given (value_type (slots_in T F ss)) f.result_type)) none)
+  no_params e T F = refused e (each (field_type (slots_in T F ss)) f.parameters) (function_signature (slots_in T F ss) f)
+      (λ none. ap (λ ps. signed ps (given (value_type (slots_in T F ss)) f.result_type)) none)
 
   pub no_outcome : (e : Refusal) (T : List Tree) (F : List Signature) → Refuses e (given (value_type (slots_in T F ss)) f.result_type) → Refuses e (function_signature (slots_in T F ss) f)
   no_outcome e T F = refused e (given (value_type (slots_in T F ss)) f.result_type) (function_signature (slots_in T F ss) f)

@@ -1,35 +1,71 @@
+-- A key that is put into a table is put there once. Serves table::put.
 pub mod AddLaws
-pub mod AliasLaws
-pub mod BodyLaws
-pub mod ComponentLaws
-pub mod DeclarationLaws
-pub mod DefiningLaws
-pub mod DefinitionKeyLaws
-pub mod EntryLaws
+-- Parts that are declared one after the other, each there already or the next one. Serves ComponentLaws, DefiningLaws, FollowingLaws, ScopeLaws and 3 more; crates above.
+pub mod NumberingLaws
+-- Facts about types, by those about their parts. Serves facts::labelled_fact, facts::summary_of, table::fact; crates above.
 pub mod FactLaws
-pub mod FollowingLaws
-pub mod FrontReaders
-pub mod FunctionKeyLaws
-pub mod HeldLaws
-pub mod JoinLaws
-pub mod KeyLaws
-pub mod LookUpLaws
-pub mod OverLaws
-pub mod NameTableLaws
-pub mod PartTypeLaws
-pub mod PlacedLaws
-pub mod PlacedScopes
-pub mod PlaceLaws
-pub mod Refusing
-pub mod RowLaws
-pub mod ScopeLaws
-pub mod SectionLaws
-pub mod SeeLaws
-pub mod ShowLaws
-pub mod SkipLaws
-pub mod SlotLaws
-pub mod StepLaws
+-- A table with one type more. Serves table::put.
 pub mod TableGrowth
+-- Types of values and of functions in tables that grow. Serves components::follow_component, defining::define, laws::one_function_number; crates above.
+pub mod DefiningLaws
+-- What a definition stands for is over the places that the slots are over. Serves AliasLaws, ComponentLaws, FollowingLaws, PlacedScopes and 2 more.
+pub mod OverLaws
+-- Names stay in their places as a scope goes on. Serves ComponentLaws, FollowingLaws, PlacedScopes, ScopeLaws and 3 more; crates above.
+pub mod PlacedLaws
+-- A refusal is passed on. Serves bodies::entry_items, bodies::entry_of, bodies::held_items, bodies::held_of and 16 more; crates above.
+pub mod Refusing
+-- A scope of an instance type in tables that grow, and what each declaration does to it. Serves components::enter, components::see, components::step, instances::step and 2 more; crates above.
+pub mod FollowingLaws
+-- Which slots are names of interfaces with a path. Serves StepLaws.
+pub mod AliasLaws
+-- A body has all the bytes of its items. Serves bodies::entry_items, bodies::held_items.
+pub mod BodyLaws
+-- What is put into a list of things that each stand once. Serves functions::put, places::put.
+pub mod JoinLaws
+-- What the slots of a scope stand for, by number. Serves definition_keys::definition_of, shows::declared_by, signatures::function_in, slots::resource_in and 1 more; crates above.
+pub mod SlotLaws
+-- Places that are put into a table, each once. Serves instance_keys::path_number, places::are_apart, places::new_place, places::number_of and 2 more.
+pub mod PlaceLaws
+-- A scope of a component type in tables that grow, with something more in it. Serves ComponentLaws, PlacedScopes, SeeLaws, UsedLaws; crates above.
+pub mod ScopeLaws
+-- Names stay in their places as a scope of a component type goes on. Serves ComponentLaws, SeeLaws, UsedLaws; crates above.
+pub mod PlacedScopes
+-- One declaration of an instance type after the other. Serves instances::follow_body, instances::follow_instance, instances::step; crates above.
+pub mod StepLaws
+-- One entry of a component type after the other. Serves components::enter, components::follow_component, components::follow_entries, components::see and 1 more; crates above.
+pub mod ComponentLaws
+-- A declaration is read by its first bytes. Serves declarations::declaration_of.
+pub mod DeclarationLaws
+-- The key of each form, from the parts that its indexes stand for. Serves definition_keys::borrow_key, definition_keys::definition_of, definition_keys::enum_key, definition_keys::fixed_list_key and 8
+-- more.
+pub mod DefinitionKeyLaws
+-- An entry is read by the bytes in front of it. Serves bodies::entry_of, bodies::skip_entry.
+pub mod EntryLaws
+-- What a reader from an offset answers at the front is what the function that reads the form finds there. Serves front::index_of, front::name_of, front::u32_of, sections::custom_of.
+pub mod FrontReaders
+-- Keys are the same exactly where their shapes are. Serves table::put.
+pub mod KeyLaws
+-- Rows, one after the other. Serves definition_keys::case_parts, definition_keys::enum_key, definition_keys::field_parts, definition_keys::flags_key and 4 more.
+pub mod RowLaws
+-- Keys of types of functions are the same exactly where their shapes are; and what a key is made of. Serves functions::put, signatures::function_key_of, signatures::params_of.
+pub mod FunctionKeyLaws
+-- Declarations of an instance type: those of which none is an import. Serves bodies::held_items, bodies::held_of.
+pub mod HeldLaws
+-- Keys that are looked up by number. Serves functions::key, table::key.
+pub mod LookUpLaws
+-- Tables of the names of types: how one is made, and that they stay those of their instances. Serves components::follow_entries, components::step, name_tables::slots_by_name, seeing::exported_slot.
+pub mod NameTableLaws
+-- A type at the top is read by the bytes in front of it. Serves part_types::part_behind_of.
+pub mod PartTypeLaws
+-- Sections in front of bytes, and those behind them. Serves components::follow_entries, instances::follow_body, sections::component_of, sections::custom_of and 2 more; crates above.
+pub mod SectionLaws
+-- What the exports of an instance type show. Serves shows::declared_by, shows::show, shows::show_function, shows::show_type.
+pub mod ShowLaws
+-- What imports, exports and aliases of a component type show. Serves seeing::see_function, seeing::see_type.
+pub mod SeeLaws
+-- What is behind a form that is read to find its end. Serves bodies::skip_declaration, bodies::skip_entry, bodies::skip_held, skips::skip_definition and 7 more.
+pub mod SkipLaws
+-- What instances of a component type show, and what they use. Serves seeing::see_instance, seeing::used_view.
 pub mod UsedLaws
+-- Value types by their first byte. Serves skips::skip_value, value::value_type_of.
 pub mod ValueLaws
-pub mod WholeLaws

@@ -44,10 +44,12 @@ behind_on rest ts t old new h u q =
 
 -- the table under the number of an instance, if there is one, is that of its types
 pub table_of : (names : BTreeMap ℕ (BTreeMap (Bor Text) Slot)) (is : List Instance) → AreNamesOf names is → (m : ℕ) (i : Instance) → slice_get is m ≡ Some i → IsTableOf names m i.view.types.items
-table_of names is h m i at slots got = let t = h m slots got in let same : t.instance ≡ i = (let e : Some t.instance ≡ Some i = sym t.at ∙ at in cc) in subst (λ (x : Instance). AreSlotsOf slots x.view.types.items) same t.shown
+table_of names is h m i at slots got = let t = h m slots got in let same : t.instance ≡ i = (let e : Some t.instance ≡ Some i = sym t.at ∙ at in cc) in
+    subst (λ (x : Instance). AreSlotsOf slots x.view.types.items) same t.shown
 
 -- a table of an instance may be made
-pub names_stay : (names new : BTreeMap ℕ (BTreeMap (Bor Text) Slot)) (is : List Instance) → AreNamesOf names is → (m : ℕ) (i : Instance) → slice_get is m ≡ Some i → AddsTable names m i.view.types.items new → AreNamesOf new is
+pub names_stay : (names new : BTreeMap ℕ (BTreeMap (Bor Text) Slot)) (is : List Instance) → AreNamesOf names is → (m : ℕ) (i : Instance) → slice_get is m ≡ Some i
+    → AddsTable names m i.view.types.items new → AreNamesOf new is
 names_stay names new is h m i at adds n slots got = by (adds n slots got)
   where
     by : (get nat_cmp names n ≡ Some slots) ⊎ ((n ≡ m) × AreSlotsOf slots i.view.types.items) → IsTableIn is n slots

@@ -75,7 +75,8 @@ module _ (P : Place → Type 0) where
         by : (o : Option Meant) → slice_get slots n ≡ o → resource_in o ≡ Some t → AllByRecursion (TreeOver P) (t ∷ [])
         by None at h = absurd cc
         by (Some (value u)) at h = absurd cc
-        by (Some (resource place name)) at h = subst (λ u. AllByRecursion (TreeOver P) (u ∷ [])) (some_is (Tree.named place name) t h) (name_over place name (all_at (SlotOver P) slots n (resource place name) all at), tt)
+        by (Some (resource place name)) at h = subst (λ u. AllByRecursion (TreeOver P) (u ∷ [])) (some_is (Tree.named place name) t h)
+            (name_over place name (all_at (SlotOver P) slots n (resource place name) all at), tt)
         by (Some (function f)) at h = absurd cc
         by (Some (instance ds around)) at h = absurd cc
 

@@ -47,7 +47,8 @@ pub mark_is : (x : Text × ℕ) (b : Bool) → (x.1 == 0) ≡ b → b ≡ has_pa
 mark_is x true e = ap (λ v. is_some (cond v (Some x.0) None)) (sym e)
 mark_is x false e = ap (λ v. is_some (cond v (Some x.0) None)) (sym e)
 
-pub kept_more : (shapes : List (Text × ℕ)) (marks : List Bool) (x : Text × ℕ) → ArePlaces shapes marks → x.1 ≤ length shapes + 1 → IsReadIfGiven (path_in x) → ((n : ℕ) → slice_get shapes n ≡ Some x → ⊥)
+pub kept_more : (shapes : List (Text × ℕ)) (marks : List Bool) (x : Text × ℕ) → ArePlaces shapes marks → x.1 ≤ length shapes + 1 → IsReadIfGiven (path_in x)
+    → ((n : ℕ) → slice_get shapes n ≡ Some x → ⊥)
     → ArePlaces (shapes ++ x ∷ []) (marks ++ has_path (path_in x) ∷ [])
 kept_more shapes marks x kept few given fresh = record {
   apart = joined_apart shapes x kept.apart (shapes ++ x ∷ []) (comes fresh);
@@ -71,10 +72,11 @@ joined_paths shapes new x (comes fresh) = record { more = path_in x ∷ []; is =
 -- where a place joins the others, no other is new
 pub only_joined : (shapes new : List (Text × ℕ)) (x : Text × ℕ) (n : ℕ) → Joins shapes x new → slice_get new n ≡ Some x → IsOnlyNew (map path_in shapes) n (map path_in new)
 only_joined shapes new x n stays at q path e = inl (found_below (map path_in shapes) q (Some path) e)
-only_joined shapes new x n (comes fresh) at q path e = elim (last_or (map path_in shapes) (path_in x) q (Some path) (ap (λ (os : List (Option Text)). slice_get os q) (sym (map-append path_in shapes (x ∷ []))) ∙ e)) [
-  | inl h ↦ inl h.0
-  | inr h ↦ inr (h.0 ∙ (length-map shapes path_in ∙ sym last))
-]
+only_joined shapes new x n (comes fresh) at q path e = elim (last_or (map path_in shapes) (path_in x) q (Some path)
+    (ap (λ (os : List (Option Text)). slice_get os q) (sym (map-append path_in shapes (x ∷ []))) ∙ e)) [
+      | inl h ↦ inl h.0
+      | inr h ↦ inr (h.0 ∙ (length-map shapes path_in ∙ sym last))
+    ]
   where
     last : n ≡ length shapes
     last = elim (last_or shapes x n x at) [ inl h ↦ absurd (fresh n h.1) | inr h ↦ h.0 ]
@@ -87,7 +89,8 @@ below_pathless paths more is q path e = elim (last_or paths None q (Some path) (
     none f = cc
 
 -- a place whose number is beyond those that were is new
-pub behind_all : (shapes new : List (Text × ℕ)) (marks : List Bool) (x : Text × ℕ) (n : ℕ) → ArePlaces shapes marks → x.1 ≡ length shapes + 1 → Joins shapes x new → slice_get new n ≡ Some x → new ≡ shapes ++ x ∷ []
+pub behind_all : (shapes new : List (Text × ℕ)) (marks : List Bool) (x : Text × ℕ) (n : ℕ) → ArePlaces shapes marks → x.1 ≡ length shapes + 1 → Joins shapes x new → slice_get new n ≡ Some x
+    → new ≡ shapes ++ x ∷ []
 behind_all shapes new marks x n kept is stays at =
     let below = found_below shapes n x at in
     let few = kept.numbered n x at in

@@ -39,9 +39,11 @@ module _ (shapes more : List Shape) (g : Grows shapes more) where
 pub name_part_below : (shapes : List Shape) (place : ℕ) (name : Text) (part : ℕ) → IsNameAs shapes place name part → part < 14 + length shapes
 name_part_below shapes place name part h = let inside = found_below shapes h.number (named_shape place name) h.at in let is = h.is in omega (arith, inside, is)
 
-named_at : (shapes : List Shape) (place : ℕ) (ts : List ShownType) → AllByRecursion (IsTypeNamed shapes place) ts → (n : ℕ) (t : ShownType) → slice_get ts n ≡ Some t → slot_part t.slot < 14 + length shapes
+named_at : (shapes : List Shape) (place : ℕ) (ts : List ShownType) → AllByRecursion (IsTypeNamed shapes place) ts → (n : ℕ) (t : ShownType) → slice_get ts n ≡ Some t
+    → slot_part t.slot < 14 + length shapes
 named_at shapes place [] h n t e = absurd cc
-named_at shapes place (u ∷ ts) h zero t e = let same : u ≡ t = cc in subst (λ (x : ShownType). slot_part x.slot < 14 + length shapes) same (name_part_below shapes place u.name.now (slot_part u.slot) h.0)
+named_at shapes place (u ∷ ts) h zero t e = let same : u ≡ t = cc in subst (λ (x : ShownType). slot_part x.slot < 14 + length shapes) same
+    (name_part_below shapes place u.name.now (slot_part u.slot) h.0)
 named_at shapes place (u ∷ ts) h (suc n) t e = named_at shapes place ts h.1 n t e
 
 among_more : (old new : List ShownType) → Grows old new → (name : Text) (part : ℕ) → IsShownAmong old name part → IsShownAmong new name part
@@ -54,7 +56,8 @@ module _ (marks : List Bool) (before : List Shape) (here : ℕ) (old new : State
   grown_on = record { more = p.grows.more ++ g.more; is = g.is ∙ (ap (λ xs. xs ++ g.more) p.grows.is ∙ append_assoc before p.grows.more g.more) }
 
   -- a name that stood in the table
-  stood_before : (ts : List ShownType) → Grows old.types ts → (n q : ℕ) (name : Text) → n < length old.shapes → slice_get new.shapes n ≡ Some (named_shape q name) → (n < length before) ⊎ ((q ≡ here) × IsShownAmong ts name (14 + n))
+  stood_before : (ts : List ShownType) → Grows old.types ts → (n q : ℕ) (name : Text) → n < length old.shapes → slice_get new.shapes n ≡ Some (named_shape q name) → (n < length before)
+      ⊎ ((q ≡ here) × IsShownAmong ts name (14 + n))
   stood_before ts gt n q name below e = elim (p.names n q name (stood old.shapes new.shapes g n (named_shape q name) below e)) [
     | inl h ↦ inl h
     | inr h ↦ inr (h.0, among_more old.types ts gt name (14 + n) h.1)
@@ -85,7 +88,8 @@ module _ (marks : List Bool) (before : List Shape) (here : ℕ) (old new : State
 
     -- a type is shown
     module _ (t : ShownType) (number : ℕ) (is : slot_part t.slot ≡ 14 + number) (at : slice_get new.shapes number ≡ Some (named_shape here t.name.now))
-        (adds : Adds old.shapes (named_shape here t.name.now) new.shapes) (table : IsTable new.shapes) (declared : IfSome t.declared (λ k. k < 14 + length old.shapes)) (last : new.types ≡ old.types ++ t ∷ []) where
+        (adds : Adds old.shapes (named_shape here t.name.now) new.shapes) (table : IsTable new.shapes) (declared : IfSome t.declared (λ k. k < 14 + length old.shapes))
+        (last : new.types ≡ old.types ++ t ∷ []) where
       abbrev longer : List ShownType
       longer = old.types ++ t ∷ []
 
@@ -121,7 +125,8 @@ module _ (marks : List Bool) (before : List Shape) (here : ℕ) (old new : State
 
         repeated : number < length old.shapes → IsRepeated longer (length old.types) t
         repeated below = elim (p.names number here t.name.now (stood old.shapes new.shapes g number (named_shape here t.name.now) below at)) [
-          | inl h ↦ absurd (none number t.name.now (stood before old.shapes p.grows number (named_shape here t.name.now) h (stood old.shapes new.shapes g number (named_shape here t.name.now) below at)))
+          | inl h ↦ absurd (none number t.name.now (stood before old.shapes p.grows number (named_shape here t.name.now) h
+              (stood old.shapes new.shapes g number (named_shape here t.name.now) below at)))
           | inr h ↦ record {
             number = h.1.number;
             other = h.1.type;
@@ -157,7 +162,8 @@ module _ (marks : List Bool) (before : List Shape) (here : ℕ) (old new : State
         grows = grown_on;
         slots = slots_over;
         shown = shown;
-        named = subst (λ (ts : List ShownType). AllByRecursion (IsTypeNamed new.shapes here) ts) (sym last) (all_end (IsTypeNamed new.shapes here) old.types t (types_named_wider old.shapes new.shapes g here old.types p.named) one_named);
+        named = subst (λ (ts : List ShownType). AllByRecursion (IsTypeNamed new.shapes here) ts) (sym last)
+            (all_end (IsTypeNamed new.shapes here) old.types t (types_named_wider old.shapes new.shapes g here old.types p.named) one_named);
         names = λ n q name e. subst (λ (ts : List ShownType). (n < length before) ⊎ ((q ≡ here) × IsShownAmong ts name (14 + n))) (sym last) (new_names n q name e);
         rise = λ none. subst (λ (ts : List ShownType). Rise ts) (sym last) (rises none);
         formed = still_formed (adds_name old.shapes new.shapes here t.name.now adds);

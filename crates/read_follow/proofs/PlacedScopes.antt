@@ -162,7 +162,9 @@ module _ (old : World) (st : IsWorld old) (more : List Shape) (more_fs : List Fu
         let below = found_below old.instances j x at in
         let same = view_stays old st more more_fs more_paths gs gf gp tables ss xs im ex us apart x.view inside.types inside.functions in
         record {
-          shown = subst (λ (v : MeantView). ViewOver (New x.place) v) (sym same) (view_weaker (Old x.place) (New x.place) (met_still x.place) (view_in (T old st more more_fs more_paths gs gf gp tables ss xs im ex us apart) (F old st more more_fs more_paths gs gf gp tables ss xs im ex us apart) x.view) h.shown);
+          shown = subst (λ (v : MeantView). ViewOver (New x.place) v) (sym same)
+              (view_weaker (Old x.place) (New x.place) (met_still x.place) (view_in (T old st more more_fs more_paths gs gf gp tables ss xs im ex us apart)
+              (F old st more more_fs more_paths gs gf gp tables ss xs im ex us apart) x.view) h.shown);
           named = types_named_wider old.shapes more gs x.place x.view.types.items h.named;
           own = own_still j x below h.own;
           rise = λ none first. h.rise none (first_then j x first);
@@ -173,7 +175,8 @@ module _ (old : World) (st : IsWorld old) (more : List Shape) (more_fs : List Fu
       counts_grow : Grows p.counts (p.counts ++ cs)
       counts_grow = record { more = cs; is = refl }
 
-      kind_still : (j c : ℕ) → j < length p.counts → (x : Shown) → IsShownAs old.shapes old.signatures old.paths (length old.instances) x → IsCountedAs old p.counts j c x → IsCountedAs new (p.counts ++ cs) j c x
+      kind_still : (j c : ℕ) → j < length p.counts → (x : Shown) → IsShownAs old.shapes old.signatures old.paths (length old.instances) x → IsCountedAs old p.counts j c x
+          → IsCountedAs new (p.counts ++ cs) j c x
       kind_still j c below (shown.Instance key n) is h = tt
       kind_still j c below (shown.Function name f) is h = λ g at. h g (stood old.signatures more_fs gf f g is at)
       kind_still j c below (shown.Type name part d) is (inl r) = inl (record {
@@ -205,16 +208,21 @@ module _ (old : World) (st : IsWorld old) (more : List Shape) (more_fs : List Fu
             kind = kind_still j c below s.shown (all_at (λ (y : Seen). IsShownAs old.shapes old.signatures old.paths (length old.instances) y.shown) old.imports j s st.imports at) h.kind;
           }
 
-      pub extended_placed : (now : ℕ) → now ≤ length more → AllByRecursion (SlotOver (New old.home)) (slots_in (U old st more more_fs more_paths gs gf gp tables ss xs im ex us apart) (G old st more more_fs more_paths gs gf gp tables ss xs im ex us apart) ss)
+      pub extended_placed : (now : ℕ) → now ≤ length more
+          → AllByRecursion (SlotOver (New old.home)) (slots_in (U old st more more_fs more_paths gs gf gp tables ss xs im ex us apart)
+          (G old st more more_fs more_paths gs gf gp tables ss xs im ex us apart) ss)
           → ((j : ℕ) (x : Instance) → slice_get (old.instances ++ xs) j ≡ Some x → length old.instances ≤ j → IsPlacedInstance base count new j x)
-          → AllByRecursion (λ (s : MeantSeen). ShownOver (New old.home) s.shown) (map (seen_in apart (U old st more more_fs more_paths gs gf gp tables ss xs im ex us apart) (G old st more more_fs more_paths gs gf gp tables ss xs im ex us apart) (old.instances ++ xs)) im)
-          → AllByRecursion (λ (s : MeantSeen). ShownOver (New old.home) s.shown) (map (seen_in apart (U old st more more_fs more_paths gs gf gp tables ss xs im ex us apart) (G old st more more_fs more_paths gs gf gp tables ss xs im ex us apart) (old.instances ++ xs)) ex)
+          → AllByRecursion (λ (s : MeantSeen). ShownOver (New old.home) s.shown)
+          (map (seen_in apart (U old st more more_fs more_paths gs gf gp tables ss xs im ex us apart) (G old st more more_fs more_paths gs gf gp tables ss xs im ex us apart) (old.instances ++ xs)) im)
+          → AllByRecursion (λ (s : MeantSeen). ShownOver (New old.home) s.shown)
+          (map (seen_in apart (U old st more more_fs more_paths gs gf gp tables ss xs im ex us apart) (G old st more more_fs more_paths gs gf gp tables ss xs im ex us apart) (old.instances ++ xs)) ex)
           → AllByRecursion (λ (s : Seen). IsImportNamed more old.home s.shown) im
           → AllByRecursion (λ (s : Seen). IsKeyPlaced (old.instances ++ xs) s.shown) im × AllByRecursion (λ (s : Seen). IsKeyPlaced (old.instances ++ xs) s.shown) ex
           → ((j : ℕ) (x : Instance) → slice_get (old.instances ++ xs) j ≡ Some x → length old.instances ≤ j → IsInstanceSeen new j)
           → ((n q : ℕ) (name : Text) → n < now → slice_get more n ≡ Some (named_shape q name) → (n < till) ⊎ IsShownBy new q name (14 + n))
           → ((n : ℕ) (form : Form) (parts : List ℕ) → n < now → slice_get more n ≡ Some (node_shape form parts) → (n < till) ⊎ (is_form form parts ≡ true))
-          → length cs ≡ length im → ((j : ℕ) (s : Seen) (c : ℕ) → slice_get (old.imports ++ im) j ≡ Some s → slice_get (p.counts ++ cs) j ≡ Some c → length old.imports ≤ j → IsCounted new (p.counts ++ cs) j s c)
+          → length cs ≡ length im → ((j : ℕ) (s : Seen) (c : ℕ) → slice_get (old.imports ++ im) j ≡ Some s → slice_get (p.counts ++ cs) j ≡ Some c → length old.imports ≤ j
+          → IsCounted new (p.counts ++ cs) j s c)
           → IsPlacedAmong base count now new
       extended_placed now within hs hx hi he hn hk seen names forms many counted =
           let meant = extended_meant old st more more_fs more_paths gs gf gp tables ss xs im ex us apart in
@@ -249,7 +257,8 @@ module _ (old : World) (st : IsWorld old) (more : List Shape) (more_fs : List Fu
               | inr past ↦ seen j x at past
             ];
             names = λ n q name low at. elim (names n q name low at) [
-              | inl below ↦ elim (p.names n q name below (stood old.shapes more gs n (named_shape q name) (let inside = p.within in omega (arith, below, inside)) at)) [ inl first ↦ inl first | inr by ↦ inr (still_shown q name (14 + n) by) ]
+              | inl below ↦ elim (p.names n q name below (stood old.shapes more gs n (named_shape q name) (let inside = p.within in omega (arith, below, inside)) at))
+                  [ inl first ↦ inl first | inr by ↦ inr (still_shown q name (14 + n) by) ]
               | inr by ↦ inr by
             ];
             counts = p.counts ++ cs;
@@ -273,7 +282,8 @@ imported_many true x y = refl
 imported_many false x y = refl
 
 -- what is added as an instance is one that is seen
-pub added_seen : (w : World) (before after : List Seen) (b : Bool) (s : Seen) (key : InstanceKey) (j : ℕ) → w.imports ≡ before ++ imported b s → w.exports ≡ after ++ exported b s → s.shown ≡ shown.Instance key j → IsInstanceSeen w j
+pub added_seen : (w : World) (before after : List Seen) (b : Bool) (s : Seen) (key : InstanceKey) (j : ℕ) → w.imports ≡ before ++ imported b s → w.exports ≡ after ++ exported b s
+    → s.shown ≡ shown.Instance key j → IsInstanceSeen w j
 added_seen w before after true s key j im ex is = as_import (length before) s key (ap (λ (xs : List Seen). slice_get xs (length before)) im ∙ at_last before s) is
 added_seen w before after false s key j im ex is = as_export (length after) s key (ap (λ (xs : List Seen). slice_get xs (length after)) ex ∙ at_last after s) is
 
@@ -302,7 +312,8 @@ module _ (base : List Shape) (count till : ℕ) (old : World) (p : IsPlacedAmong
   -- an import that is counted, where one comes behind the others
   pub one_counted : (new : World) (b : Bool) (s : Seen) (c : ℕ) → new.imports ≡ old.imports ++ imported b s → length old.shapes ≤ c → c ≤ length new.shapes
       → IsCountedAs new (p.counts ++ imported b c) (length old.imports) c s.shown
-      → (j : ℕ) (t : Seen) (d : ℕ) → slice_get (old.imports ++ imported b s) j ≡ Some t → slice_get (p.counts ++ imported b c) j ≡ Some d → length old.imports ≤ j → IsCounted new (p.counts ++ imported b c) j t d
+      → (j : ℕ) (t : Seen) (d : ℕ) → slice_get (old.imports ++ imported b s) j ≡ Some t → slice_get (p.counts ++ imported b c) j ≡ Some d → length old.imports ≤ j
+      → IsCounted new (p.counts ++ imported b c) j t d
   one_counted new false s c is least most kind j t d at here past = absurd (none_past old.imports j t at past)
   one_counted new true s c is least most kind j t d at here past =
       let was = p.many in
@@ -335,9 +346,11 @@ module _ (shapes : List Shape) (table : IsTable shapes) (fs : List FunctionShape
   found_over name [] h named s e = absurd cc
   found_over name (t ∷ ts) h named s e = by (text_eq name t.name.now) e (found_over name ts h.1 named.1 s)
     where
-      by : (b : Bool) → cond b (Some t.slot) (find_slot name ts) ≡ Some s → (find_slot name ts ≡ Some s → SlotOver P (slot_in (shape_trees apart shapes) (functions_in (shape_trees apart shapes) fs) s))
+      by : (b : Bool) → cond b (Some t.slot) (find_slot name ts) ≡ Some s
+          → (find_slot name ts ≡ Some s → SlotOver P (slot_in (shape_trees apart shapes) (functions_in (shape_trees apart shapes) fs) s))
           → SlotOver P (slot_in (shape_trees apart shapes) (functions_in (shape_trees apart shapes) fs) s)
-      by true f rest = let same : t.slot ≡ s = cc in subst (λ (x : Slot). SlotOver P (slot_in (shape_trees apart shapes) (functions_in (shape_trees apart shapes) fs) x)) same (slot_over t.slot h.0.kind t.name.now named.0)
+      by true f rest = let same : t.slot ≡ s = cc in subst (λ (x : Slot). SlotOver P (slot_in (shape_trees apart shapes) (functions_in (shape_trees apart shapes) fs) x)) same
+          (slot_over t.slot h.0.kind t.name.now named.0)
       by false f rest = rest f
 
 -- a place with a path is marked

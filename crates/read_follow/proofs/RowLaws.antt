@@ -48,7 +48,8 @@ module _ {A Y : Type 0} (f : A → Option Y) (labs : Y → List (Text × Bool)) 
 
   module _ (i : ℕ) (labels : List (Text × Bool)) (ts : List Tree) (so_far : RowsSoFar f labs trees rows i labels ts) where
     module _ (x : A) (at : drop i rows ≡ x ∷ drop (i + 1) rows) where
-      pub rows_more : (y : Y) (more_labels : List (Text × Bool)) (more_ts : List Tree) → f x ≡ Some y → more_labels ≡ labels ++ labs y → more_ts ≡ ts ++ trees y → RowsSoFar f labs trees rows (i + 1) more_labels more_ts
+      pub rows_more : (y : Y) (more_labels : List (Text × Bool)) (more_ts : List Tree) → f x ≡ Some y → more_labels ≡ labels ++ labs y → more_ts ≡ ts ++ trees y
+          → RowsSoFar f labs trees rows (i + 1) more_labels more_ts
       rows_more y more_labels more_ts e el et = record {
         ys = so_far.ys ++ y ∷ [];
         kept = sym (behind_more so_far.ys y (each f (drop (i + 1) rows)))
@@ -61,7 +62,13 @@ module _ {A Y : Type 0} (f : A → Option Y) (labs : Y → List (Text × Bool)) 
       rows_absent e = sym so_far.kept ∙ ap (behind_rows so_far.ys) (ap (each f) at ∙ ap (λ o. o >>= λ z. each f (drop (i + 1) rows) >>= λ ys. Some (z ∷ ys)) e)
 
     pub rows_all : drop i rows ≡ [] → RowsOf f labs trees rows labels ts
-    rows_all none = record { ys = so_far.ys; found = sym so_far.kept ∙ (ap (λ xs. behind_rows so_far.ys (each f xs)) none ∙ ap Some (append-nil so_far.ys)); labels_are = so_far.labels_are; trees_are = so_far.trees_are }
+    rows_all none = record {
+      ys = so_far.ys;
+      found = sym so_far.kept ∙ (ap (λ xs. behind_rows so_far.ys (each f xs)) none ∙ ap Some (append-nil so_far.ys));
+      labels_are = so_far.labels_are;
+      trees_are =
+          so_far.trees_are;
+    }
 
 -- ---- what is made of them
 
@@ -113,7 +120,8 @@ module _ (ss : List Slot) (ks : List ℕ) (ranges : (n : ℕ) → AreInRange n s
         parts = ks;
         shape = λ i. record { sort = 1; number = 0; labels = marks i; parts = ks };
         ranges = ranges;
-        formed = mapped_items (λ (l : Text × Bool). l.0) labels ∙ (ap has_items (sym first.labels_are) ∙ flat_items (λ (f : Text × Tree). (f.0, true)) first.ys (rows_filled (field_type (slots_in [] [] ss)) fields first.ys first.found filled));
+        formed = mapped_items (λ (l : Text × Bool). l.0) labels ∙ (ap has_items (sym first.labels_are) ∙ flat_items (λ (f : Text × Tree). (f.0, true)) first.ys
+            (rows_filled (field_type (slots_in [] [] ss)) fields first.ys first.found filled));
         found = λ T F named apart.
             let r = rows T F in
             let names : map (λ f. f.0) r.ys ≡ map (λ l. l.0) labels = field_names r.ys ∙ ap (map (λ l. l.0)) r.labels_are in
@@ -130,7 +138,8 @@ module _ (ss : List Slot) (ks : List ℕ) (ranges : (n : ℕ) → AreInRange n s
     parts = ks;
     shape = refl;
     ranges = ranges;
-    formed = (let first = rows [] [] in ap has_items (sym first.labels_are) ∙ flat_items (λ (c : Text × Option Tree). (c.0, is_given c.1)) first.ys (rows_filled (case_type (slots_in [] [] ss)) cases first.ys first.found filled));
+    formed = (let first = rows [] [] in ap has_items (sym first.labels_are) ∙ flat_items (λ (c : Text × Option Tree). (c.0, is_given c.1)) first.ys
+        (rows_filled (case_type (slots_in [] [] ss)) cases first.ys first.found filled));
     found = λ T F named apart.
         let r = rows T F in
         let names : map (λ c. (c.0, is_given c.1)) r.ys ≡ labels = sym (flat_map_single (λ c. (c.0, is_given c.1)) r.ys) ∙ r.labels_are in
@@ -147,7 +156,8 @@ module _ (ss : List Slot) (ks : List ℕ) (ranges : (n : ℕ) → AreInRange n s
     parts = ks;
     shape = λ i. record { sort = 9; number = 0; labels = none i; parts = ks };
     ranges = ranges;
-    formed = (let first = rows [] [] in sym (mapped_items (part_tree []) ks) ∙ (ap has_items (sym first.trees_are) ∙ flat_items (λ (t : Tree). t) first.ys (rows_filled (value_type (slots_in [] [] ss)) vs first.ys first.found filled)));
+    formed = (let first = rows [] [] in sym (mapped_items (part_tree []) ks)
+        ∙ (ap has_items (sym first.trees_are) ∙ flat_items (λ (t : Tree). t) first.ys (rows_filled (value_type (slots_in [] [] ss)) vs first.ys first.found filled)));
     found = λ T F named apart.
         let r = rows T F in
         let ts : r.ys ≡ map (part_tree T) ks = sym (value_list r.ys) ∙ r.trees_are in
@@ -191,10 +201,12 @@ module _ (ss : List Slot) (all : List ComponentValType) (i : ℕ) (ks : List ℕ
   module _ (d : ComponentValType) (more : i < length all) where
     pub value_row : (k : ℕ) (nks : List ℕ) → ((T : List Tree) (F : List Signature) → value_type (slots_in T F ss) (get_or all i d) ≡ Some (part_tree T k)) → nks ≡ ks ++ k ∷ []
         → (T : List Tree) (F : List Signature) → RowsSoFar (value_type (slots_in T F ss)) value_labels value_trees all (i + 1) [] (map (part_tree T) nks)
-    value_row k nks e ek T F = rows_more (value_type (slots_in T F ss)) value_labels value_trees all i [] (map (part_tree T) ks) (kept T F) (get_or all i d) (drop_more all i d more) (part_tree T k) [] (map (part_tree T) nks)
+    value_row k nks e ek T F = rows_more (value_type (slots_in T F ss)) value_labels value_trees all i [] (map (part_tree T) ks) (kept T F) (get_or all i d) (drop_more all i d more) (part_tree T k) []
+        (map (part_tree T) nks)
         (e T F) refl (ap (map (part_tree T)) ek ∙ map-append (part_tree T) ks (k ∷ []))
 
-    pub value_refused : (e : Refusal) → ((T : List Tree) (F : List Signature) → Refuses e (value_type (slots_in T F ss) (get_or all i d))) → (T : List Tree) (F : List Signature) → Refuses e (each (value_type (slots_in T F ss)) all)
+    pub value_refused : (e : Refusal) → ((T : List Tree) (F : List Signature) → Refuses e (value_type (slots_in T F ss) (get_or all i d))) → (T : List Tree) (F : List Signature)
+        → Refuses e (each (value_type (slots_in T F ss)) all)
     value_refused e r T F = refused e (value_type (slots_in T F ss) (get_or all i d)) (each (value_type (slots_in T F ss)) all)
         (rows_absent (value_type (slots_in T F ss)) value_labels value_trees all i [] (map (part_tree T) ks) (kept T F) (get_or all i d) (drop_more all i d more)) (r T F)
 
@@ -209,14 +221,17 @@ module _ (ss : List Slot) (all : List (Bor (List ℕ) × ComponentValType)) (i :
         → (T : List Tree) (F : List Signature) → RowsSoFar (field_type (slots_in T F ss)) field_labels field_trees (map labeled all) (i + 1) nls (map (part_tree T) nks)
     field_row k nls nks e el ek T F =
         let x = get_or all i d in
-        rows_more (field_type (slots_in T F ss)) field_labels field_trees (map labeled all) i labels (map (part_tree T) ks) (kept T F) (labeled x) (raw_at labeled all i d more) (x.0.now, part_tree T k) nls (map (part_tree T) nks)
+        rows_more (field_type (slots_in T F ss)) field_labels field_trees (map labeled all) i labels (map (part_tree T) ks) (kept T F) (labeled x) (raw_at labeled all i d more)
+        (x.0.now, part_tree T k) nls (map (part_tree T) nks)
         (ap (λ o. o >>= λ t. Some (x.0.now, t)) (e T F)) el (ap (map (part_tree T)) ek ∙ map-append (part_tree T) ks (k ∷ []))
 
-    pub field_refused : (e : Refusal) → ((T : List Tree) (F : List Signature) → Refuses e (value_type (slots_in T F ss) (get_or all i d).1)) → (T : List Tree) (F : List Signature) → Refuses e (each (field_type (slots_in T F ss)) (map labeled all))
+    pub field_refused : (e : Refusal) → ((T : List Tree) (F : List Signature) → Refuses e (value_type (slots_in T F ss) (get_or all i d).1)) → (T : List Tree) (F : List Signature)
+        → Refuses e (each (field_type (slots_in T F ss)) (map labeled all))
     field_refused e r T F =
         let x = get_or all i d in
         refused e (value_type (slots_in T F ss) x.1) (each (field_type (slots_in T F ss)) (map labeled all))
-        (λ none. rows_absent (field_type (slots_in T F ss)) field_labels field_trees (map labeled all) i labels (map (part_tree T) ks) (kept T F) (labeled x) (raw_at labeled all i d more) (ap (λ o. o >>= λ t. Some (x.0.now, t)) none)) (r T F)
+        (λ none. rows_absent (field_type (slots_in T F ss)) field_labels field_trees (map labeled all) i labels (map (part_tree T) ks) (kept T F) (labeled x) (raw_at labeled all i d more)
+        (ap (λ o. o >>= λ t. Some (x.0.now, t)) none)) (r T F)
 
   pub field_rows : length all ≤ i → (T : List Tree) (F : List Signature) → RowsOf (field_type (slots_in T F ss)) field_labels field_trees (map labeled all) labels (map (part_tree T) ks)
   field_rows past T F = rows_all (field_type (slots_in T F ss)) field_labels field_trees (map labeled all) i labels (map (part_tree T) ks) (kept T F) (raw_end labeled all i past)
@@ -224,21 +239,25 @@ module _ (ss : List Slot) (all : List (Bor (List ℕ) × ComponentValType)) (i :
 module _ (ss : List Slot) (all : List (Bor (List ℕ) × Option ComponentValType)) (i : ℕ) (labels : List (Text × Bool)) (ks : List ℕ)
     (kept : (T : List Tree) (F : List Signature) → RowsSoFar (case_type (slots_in T F ss)) case_labels case_trees (map labeled all) i labels (map (part_tree T) ks)) where
   module _ (d : Bor (List ℕ) × Option ComponentValType) (more : i < length all) where
-    pub case_row : (p : Option ℕ) (b : Bool) (nls : List (Text × Bool)) (nks : List ℕ) → ((T : List Tree) (F : List Signature) → payload (value_type (slots_in T F ss)) (get_or all i d).1 ≡ Some (option_map (part_tree T) p))
+    pub case_row : (p : Option ℕ) (b : Bool) (nls : List (Text × Bool)) (nks : List ℕ)
+        → ((T : List Tree) (F : List Signature) → payload (value_type (slots_in T F ss)) (get_or all i d).1 ≡ Some (option_map (part_tree T) p))
         → b ≡ is_some p → nls ≡ labels ++ ((get_or all i d).0.now, b) ∷ [] → nks ≡ ks ++ option_to_list p
         → (T : List Tree) (F : List Signature) → RowsSoFar (case_type (slots_in T F ss)) case_labels case_trees (map labeled all) (i + 1) nls (map (part_tree T) nks)
     case_row p b nls nks e mark el ek T F =
         let x = get_or all i d in
-        rows_more (case_type (slots_in T F ss)) case_labels case_trees (map labeled all) i labels (map (part_tree T) ks) (kept T F) (labeled x) (raw_at labeled all i d more) (x.0.now, option_map (part_tree T) p) nls (map (part_tree T) nks)
+        rows_more (case_type (slots_in T F ss)) case_labels case_trees (map labeled all) i labels (map (part_tree T) ks) (kept T F) (labeled x) (raw_at labeled all i d more)
+        (x.0.now, option_map (part_tree T) p) nls (map (part_tree T) nks)
         (ap (λ o. o >>= λ t. Some (x.0.now, t)) (e T F))
         (el ∙ ap (λ c. labels ++ (x.0.now, c) ∷ []) (mark ∙ sym (given_mark (part_tree T) p)))
         (ap (map (part_tree T)) ek ∙ (map-append (part_tree T) ks (option_to_list p) ∙ ap (λ ts. map (part_tree T) ks ++ ts) (given_list (part_tree T) p)))
 
-    pub case_refused : (e : Refusal) → ((T : List Tree) (F : List Signature) → Refuses e (payload (value_type (slots_in T F ss)) (get_or all i d).1)) → (T : List Tree) (F : List Signature) → Refuses e (each (case_type (slots_in T F ss)) (map labeled all))
+    pub case_refused : (e : Refusal) → ((T : List Tree) (F : List Signature) → Refuses e (payload (value_type (slots_in T F ss)) (get_or all i d).1)) → (T : List Tree) (F : List Signature)
+        → Refuses e (each (case_type (slots_in T F ss)) (map labeled all))
     case_refused e r T F =
         let x = get_or all i d in
         refused e (payload (value_type (slots_in T F ss)) x.1) (each (case_type (slots_in T F ss)) (map labeled all))
-        (λ none. rows_absent (case_type (slots_in T F ss)) case_labels case_trees (map labeled all) i labels (map (part_tree T) ks) (kept T F) (labeled x) (raw_at labeled all i d more) (ap (λ o. o >>= λ t. Some (x.0.now, t)) none)) (r T F)
+        (λ none. rows_absent (case_type (slots_in T F ss)) case_labels case_trees (map labeled all) i labels (map (part_tree T) ks) (kept T F) (labeled x) (raw_at labeled all i d more)
+        (ap (λ o. o >>= λ t. Some (x.0.now, t)) none)) (r T F)
 
   pub case_rows : length all ≤ i → (T : List Tree) (F : List Signature) → RowsOf (case_type (slots_in T F ss)) case_labels case_trees (map labeled all) labels (map (part_tree T) ks)
   case_rows past T F = rows_all (case_type (slots_in T F ss)) case_labels case_trees (map labeled all) i labels (map (part_tree T) ks) (kept T F) (raw_end labeled all i past)
@@ -247,10 +266,12 @@ module _ (ss : List Slot) (all : List (Bor (List ℕ) × Option ComponentValType
 
 module _ (ss : List Slot) (e : Refusal) (T : List Tree) (F : List Signature) where
   pub no_record : (fields : List (Labeled ComponentValType)) → Refuses e (each (field_type (slots_in T F ss)) fields) → Refuses e (definition (slots_in T F ss) (DefinedType.record_of fields))
-  no_record fields = refused e (each (field_type (slots_in T F ss)) fields) (definition (slots_in T F ss) (DefinedType.record_of fields)) (λ none. ap (λ o. o >>= λ fs. provided (is_filled fields) (record_tree fs)) none)
+  no_record fields = refused e (each (field_type (slots_in T F ss)) fields) (definition (slots_in T F ss) (DefinedType.record_of fields))
+      (λ none. ap (λ o. o >>= λ fs. provided (is_filled fields) (record_tree fs)) none)
 
   pub no_variant : (cases : List (Labeled (Option ComponentValType))) → Refuses e (each (case_type (slots_in T F ss)) cases) → Refuses e (definition (slots_in T F ss) (DefinedType.variant_of cases))
-  no_variant cases = refused e (each (case_type (slots_in T F ss)) cases) (definition (slots_in T F ss) (DefinedType.variant_of cases)) (λ none. ap (λ o. o >>= λ cs. provided (is_filled cases) (variant_tree cs)) none)
+  no_variant cases = refused e (each (case_type (slots_in T F ss)) cases) (definition (slots_in T F ss) (DefinedType.variant_of cases))
+      (λ none. ap (λ o. o >>= λ cs. provided (is_filled cases) (variant_tree cs)) none)
 
   pub no_tuple : (vs : List ComponentValType) → Refuses e (each (value_type (slots_in T F ss)) vs) → Refuses e (definition (slots_in T F ss) (DefinedType.tuple_of vs))
   no_tuple vs = refused e (each (value_type (slots_in T F ss)) vs) (definition (slots_in T F ss) (DefinedType.tuple_of vs)) (λ none. ap (λ o. o >>= λ xs. provided (is_filled vs) (tuple_tree xs)) none)

@@ -1,6 +1,6 @@
 -- A scope of a component type in tables that grow, with something more in it.
 use Rattle.std.proofs.Common.{◌≡◌, ◌⊎◌, inl, inr, refl, sym, ap, ◌∙◌, subst, ℕ, zero, suc, ◌+◌, ◌<◌, ◌≤◌, ◌==◌, ◌||◌, arith, Bool, true, false, cond, List, [], ◌∷◌, ◌++◌, map, length, length-append, Option, Some, None, slice_get, unwrap_or, option_map}
-use Rattle.std.specs.List.{AllByRecursion, list_any}
+use Rattle.std.specs.List.{AllByRecursion, flat_map, list_any}
 use Rattle.std.proofs.lemmas.Bool.{eq-eqb}
 use Rattle.std.proofs.lemmas.List.{append-nil, map-append}
 use Rattle.wit_model.specs.Meaning.{Signature}
@@ -19,12 +19,14 @@ use Rattle.read_follow.specs.declared.views.View.{View}
 use Rattle.read_follow.specs.Defining.{Grows}
 use Rattle.read_follow.specs.Following.{AreSlotsIn, AreTables, IsShownFunctionIn, IsShownIn, IsSlotIn}
 use Rattle.read_follow.specs.Functions.{functions_in, FunctionShape}
+use Rattle.read_follow.specs.Numbering.{slot_trees, trees_since, used_trees, CountUp}
 use Rattle.read_follow.specs.Places.{key_at, ArePlacesOf, IsKeyIn}
-use Rattle.read_follow.specs.Scopes.{direction, instance_in, meant_at, seen_in, shown_in, view_in, viewed, waiting, ArePathsInOrder, ArePathsMet, AreSeenIn, Goes, IsInstanceIn, IsPlaceMet, IsPlaceMetBefore, IsPlacedWorld, IsShownAs, IsWorld, World}
+use Rattle.read_follow.specs.Scopes.{direction, instance_in, meant_at, seen_in, shown_in, view_in, viewed, waiting, ArePathsInOrder, ArePathsMet, AreSeenIn, Goes, IsInstanceIn, IsPlaceMet, IsPlaceMetBefore, IsPlacedWorld, IsShownAs, IsWorld, Numbers, World}
 use Rattle.read_follow.specs.Slots.{no_signature, slot_in, slots_in}
-use Rattle.plan_meaning.specs.Shapes.{Shape, shape_trees}
+use Rattle.plan_meaning.specs.Shapes.{Shape, part_tree, shape_trees}
 use Rattle.read_follow.proofs.DefiningLaws.{all_at, longer}
 use Rattle.read_follow.proofs.FollowingLaws.{declared_stays, functions_stay, signature_stays, slots_stay, types_stay, wider_declared, wider_functions, wider_number, wider_part, wider_slots, wider_types}
+use Rattle.read_follow.proofs.NumberingLaws.{since_plus}
 use Rattle.read_follow.proofs.PlacedLaws.{stands_on, stood}
 use Rattle.base_lemmas.proofs.Elements.{all_both}
 use Rattle.base_lemmas.proofs.Lists.{slice_front, split_at}
@@ -48,7 +50,14 @@ abbrev pub plus : MeantScope → List Meant → List MeantInstance → List Mean
 plus m ss is im ex us = record { slots = m.slots ++ ss; instances = m.instances ++ is; imports = m.imports ++ im; exports = m.exports ++ ex; used = m.used ++ us }
 
 pub plus_slot : (m : MeantScope) (s : Meant) → in_scope s m ≡ plus m (s ∷ []) [] [] [] []
-plus_slot m s = λ i. record { slots = m.slots ++ s ∷ []; instances = sym (append-nil m.instances) i; imports = sym (append-nil m.imports) i; exports = sym (append-nil m.exports) i; used = sym (append-nil m.used) i }
+plus_slot m s = λ i. record {
+  slots = m.slots ++ s ∷ [];
+  instances = sym (append-nil m.instances) i;
+  imports = sym (append-nil m.imports) i;
+  exports = sym (append-nil m.exports) i;
+  used =
+      sym (append-nil m.used) i;
+}
 
 -- what an import adds to the imports, and an export to the exports
 abbrev pub imported : {X : Type 0} → Bool → X → List X
@@ -60,16 +69,51 @@ exported true x = []
 exported false x = x ∷ []
 
 pub plus_seen : (b : Bool) (m : MeantScope) (s : MeantSeen) → see (direction b) s m ≡ plus m [] [] (imported b s) (exported b s) []
-plus_seen true m s = λ i. record { slots = sym (append-nil m.slots) i; instances = sym (append-nil m.instances) i; imports = m.imports ++ s ∷ []; exports = sym (append-nil m.exports) i; used = sym (append-nil m.used) i }
-plus_seen false m s = λ i. record { slots = sym (append-nil m.slots) i; instances = sym (append-nil m.instances) i; imports = sym (append-nil m.imports) i; exports = m.exports ++ s ∷ []; used = sym (append-nil m.used) i }
+plus_seen true m s = λ i. record {
+  slots = sym (append-nil m.slots) i;
+  instances = sym (append-nil m.instances) i;
+  imports = m.imports ++ s ∷ [];
+  exports = sym (append-nil m.exports) i;
+  used =
+      sym (append-nil m.used) i;
+}
+plus_seen false m s = λ i. record {
+  slots = sym (append-nil m.slots) i;
+  instances = sym (append-nil m.instances) i;
+  imports = sym (append-nil m.imports) i;
+  exports = m.exports ++ s ∷ [];
+  used =
+      sym (append-nil m.used) i;
+}
 
 pub plus_type : (m : MeantScope) (slot : Meant) (s : MeantSeen) → see (direction true) s (in_scope slot m) ≡ plus m (slot ∷ []) [] (s ∷ []) [] []
-plus_type m slot s = λ i. record { slots = m.slots ++ slot ∷ []; instances = sym (append-nil m.instances) i; imports = m.imports ++ s ∷ []; exports = sym (append-nil m.exports) i; used = sym (append-nil m.used) i }
+plus_type m slot s = λ i. record {
+  slots = m.slots ++ slot ∷ [];
+  instances = sym (append-nil m.instances) i;
+  imports = m.imports ++ s ∷ [];
+  exports = sym (append-nil m.exports) i;
+  used =
+      sym (append-nil m.used) i;
+}
 
 pub plus_instance : (b : Bool) (m : MeantScope) (x : MeantInstance) (s : MeantSeen) (n : ℕ)
     → see (direction b) s (record m { instances = m.instances ++ x ∷ []; used = m.used ++ n ∷ [] }) ≡ plus m [] (x ∷ []) (imported b s) (exported b s) (n ∷ [])
-plus_instance true m x s n = λ i. record { slots = sym (append-nil m.slots) i; instances = m.instances ++ x ∷ []; imports = m.imports ++ s ∷ []; exports = sym (append-nil m.exports) i; used = m.used ++ n ∷ [] }
-plus_instance false m x s n = λ i. record { slots = sym (append-nil m.slots) i; instances = m.instances ++ x ∷ []; imports = sym (append-nil m.imports) i; exports = m.exports ++ s ∷ []; used = m.used ++ n ∷ [] }
+plus_instance true m x s n = λ i. record {
+  slots = sym (append-nil m.slots) i;
+  instances = m.instances ++ x ∷ [];
+  imports = m.imports ++ s ∷ [];
+  exports = sym (append-nil m.exports) i;
+  used =
+      m.used ++ n ∷ [];
+}
+plus_instance false m x s n = λ i. record {
+  slots = sym (append-nil m.slots) i;
+  instances = m.instances ++ x ∷ [];
+  imports = sym (append-nil m.imports) i;
+  exports = m.exports ++ s ∷ [];
+  used =
+      m.used ++ n ∷ [];
+}
 
 -- a place that was met stays met
 pub met_still : (is more : List Instance) → Grows is more → (q : ℕ) → IsPlaceMet is q → IsPlaceMet more q
@@ -95,7 +139,8 @@ StandBehind many paths xs = (k : ℕ) (x : Instance) → slice_get xs k ≡ Some
 pub none_behind : (many : ℕ) (paths : List (Option (List ℕ))) → StandBehind many paths []
 none_behind many paths k x at q path there less = absurd cc
 
-pub one_behind : (many : ℕ) (paths : List (Option (List ℕ))) (x : Instance) → ((q : ℕ) (path : List ℕ) → slice_get paths q ≡ Some (Some path) → q < x.place → q < many) → StandBehind many paths (x ∷ [])
+pub one_behind : (many : ℕ) (paths : List (Option (List ℕ))) (x : Instance) → ((q : ℕ) (path : List ℕ) → slice_get paths q ≡ Some (Some path) → q < x.place → q < many)
+    → StandBehind many paths (x ∷ [])
 one_behind many paths x behind zero y at q path there less = let same : x ≡ y = cc in behind q path there (subst (λ (z : Instance). q < z.place) (sym same) less)
 one_behind many paths x behind (suc k) y at q path there less = absurd cc
 
@@ -198,7 +243,8 @@ module _ (old : World) (st : IsWorld old) (more : List Shape) (more_fs : List Fu
     abbrev pub G : List Signature
     G = functions_in (shape_trees place more) more_fs
 
-    pub view_stays : (v : View) → AllByRecursion (IsShownIn old.shapes old.signatures) v.types.items → AllByRecursion (IsShownFunctionIn old.signatures) v.functions.items → view_in U G v ≡ view_in T F v
+    pub view_stays : (v : View) → AllByRecursion (IsShownIn old.shapes old.signatures) v.types.items → AllByRecursion (IsShownFunctionIn old.signatures) v.functions.items
+        → view_in U G v ≡ view_in T F v
     view_stays v ht hf = λ i. record {
       types = types_stay m old.shapes more old.signatures more_fs st.tables gs gf place v.types.items ht i;
       functions = functions_stay m old.shapes more old.signatures more_fs st.tables gs gf place v.functions.items hf i;
@@ -220,7 +266,8 @@ module _ (old : World) (st : IsWorld old) (more : List Shape) (more_fs : List Fu
     shown_stays (shown.Function name f) h = ap (λ o. MeantShown.function (unwrap_or o no_signature)) (signature_stays m old.shapes more old.signatures more_fs st.tables gs gf place f h)
     shown_stays (shown.Type name part d) h = ap MeantShown.declares (declared_stays m old.shapes more old.signatures more_fs st.tables gs gf place d h.1)
 
-    seen_stays : (seen : List Seen) → AreSeenIn old.shapes old.signatures old.paths (length old.instances) seen → map (seen_in place U G (old.instances ++ xs)) seen ≡ map (seen_in place T F old.instances) seen
+    seen_stays : (seen : List Seen) → AreSeenIn old.shapes old.signatures old.paths (length old.instances) seen
+        → map (seen_in place U G (old.instances ++ xs)) seen ≡ map (seen_in place T F old.instances) seen
     seen_stays [] h = refl
     seen_stays (s ∷ seen) h = λ i. record { key = (seen_in place T F old.instances s).key; shown = shown_stays s.shown h.0 i; external_id = option_map text_of s.external_id } ∷ seen_stays seen h.1 i
 
@@ -244,16 +291,37 @@ module _ (old : World) (st : IsWorld old) (more : List Shape) (more_fs : List Fu
       used = old.used ++ us;
     }
 
+  -- what they declare comes into the table
+  abbrev pub IsNumbered : List ℕ → Type 0
+  IsNumbered parts = CountUp (length old.shapes) parts (length more)
+      × ((place : ℕ → Place) → ArePlacesOf more_paths place
+      → flat_map slot_trees (slots_in (U place) (G place) ss) ++ used_trees (slots_in (U place) (G place) (old.slots ++ ss)) (map (instance_in place (U place) (G place)) xs) us
+      ≡ map (part_tree (U place)) parts)
+
+  numbers_on : (parts : List ℕ) → IsNumbered parts → Numbers old extended
+  numbers_on parts is = record {
+    parts = parts;
+    counted = is.0;
+    trees = λ place of.
+        let S = slots_in (U place) (G place) ss in
+        let X = map (instance_in place (U place) (G place)) xs in
+        ap (trees_since (meant_at place old)) (extended_meant place)
+        ∙ (since_plus (meant_at place old) S X (map (seen_in place (U place) (G place) (old.instances ++ xs)) im) (map (seen_in place (U place) (G place) (old.instances ++ xs)) ex) us
+        ∙ (ap (λ zs. flat_map slot_trees S ++ used_trees zs X us) (sym (slots_plus place)) ∙ is.1 place of));
+  }
+
   -- the step of the definition makes the scope that stands for it
-  pub goes_on : (few : ℕ) (step : MeantScope → Option MeantScope) (new : World) → new ≡ extended → IsWorld extended → ((base : List Shape) (places : ℕ) → IsPlacedWorld base places old → IsPlacedWorld base places extended)
+  pub goes_on : (few : ℕ) (step : MeantScope → Option MeantScope) (new : World) → new ≡ extended → IsWorld extended
+      → ((base : List Shape) (places : ℕ) → IsPlacedWorld base places old → IsPlacedWorld base places extended)
       → ((q : ℕ) (path : List ℕ) → slice_get more_paths q ≡ Some (Some path) → (q < length old.paths) ⊎ IsPlaceMet (old.instances ++ xs) q)
       → StandBehind (length old.paths) more_paths xs
       → length more + waiting (old.used ++ us) 0 (old.slots ++ ss) ≤ length old.shapes + waiting old.used 0 old.slots + few
+      → (parts : List ℕ) → IsNumbered parts
       → ((place : ℕ → Place) → ArePlacesOf more_paths place
       → step (meant_at place old) ≡ Some (plus (meant_at place old) (slots_in (U place) (G place) ss) (map (instance_in place (U place) (G place)) xs)
       (map (seen_in place (U place) (G place) (old.instances ++ xs)) im) (map (seen_in place (U place) (G place) (old.instances ++ xs)) ex) us))
       → Goes few step old new
-  goes_on few step new e world placed met behind count follows = subst (λ (w : World). Goes few step old w) (sym e) (record {
+  goes_on few step new e world placed met behind count parts numbered follows = subst (λ (w : World). Goes few step old w) (sym e) (record {
     world = world;
     shapes_grow = gs;
     signatures_grow = gf;
@@ -261,7 +329,12 @@ module _ (old : World) (st : IsWorld old) (more : List Shape) (more_fs : List Fu
     count = count;
     placed = placed;
     met = paths_met old.paths more_paths gp old.instances (old.instances ++ xs) (record { more = xs; is = refl }) met;
-    order = λ before was. paths_in_order old.paths more_paths gp old.instances xs (λ j x at. (all_at (IsInstanceIn old.shapes old.signatures old.paths) old.instances j x st.instances at).place) behind before was;
+    order = λ before was. paths_in_order old.paths more_paths gp old.instances xs (λ j x at. (all_at (IsInstanceIn old.shapes old.signatures old.paths) old.instances j x st.instances at).place)
+        behind before was;
+    numbers = numbers_on parts numbered;
+    home = refl;
+    instances_grow = record { more = xs; is = refl };
+    imports_grow = record { more = im; is = refl };
     follows = λ place of. follows place of ∙ ap Some (sym (extended_meant place));
   })
 

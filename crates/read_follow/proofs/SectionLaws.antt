@@ -66,7 +66,8 @@ module _ (bytes : List ℕ) (filled : length bytes ≡ 0 → ⊥) where
   framed None = refl
   framed (Some frame) = inner (piece_of frame.0.0 frame.0.1)
     where
-      inner : (o : Option Piece) → (o >>= λ first. pieces_in frame.1 >>= λ others. Some (first ∷ others)) ≡ ((o >>= λ p. let q : Piece × List ℕ = (p, frame.1) in Some q) >>= λ p. with_pieces (p.0 ∷ []) (pieces_in p.1))
+      inner : (o : Option Piece)
+          → (o >>= λ first. pieces_in frame.1 >>= λ others. Some (first ∷ others)) ≡ ((o >>= λ p. let q : Piece × List ℕ = (p, frame.1) in Some q) >>= λ p. with_pieces (p.0 ∷ []) (pieces_in p.1))
       inner None = refl
       inner (Some p) = refl
 
@@ -77,7 +78,8 @@ module _ (bytes : List ℕ) (filled : length bytes ≡ 0 → ⊥) where
       ∙ (framed (frame_at bytes) ∙ ap (λ q. q >>= λ p. with_pieces (p.0 ∷ []) (pieces_in p.1)) e))
 
 pub no_pieces : (bytes : List ℕ) → length bytes ≡ 0 → pieces_in bytes ≡ Some []
-no_pieces bytes e = pieces_by_frames bytes ∙ ap (λ b. cond b (Some []) (frame_at bytes >>= λ frame. piece_of frame.0.0 frame.0.1 >>= λ first. pieces_in frame.1 >>= λ others. Some (first ∷ others))) (eq-eqb (length bytes) 0 e)
+no_pieces bytes e = pieces_by_frames bytes ∙ ap (λ b. cond b (Some []) (frame_at bytes >>= λ frame. piece_of frame.0.0 frame.0.1 >>= λ first. pieces_in frame.1 >>= λ others. Some (first ∷ others)))
+    (eq-eqb (length bytes) 0 e)
 
 further : (front : List Piece) (p : Piece) (found : Option (List Piece)) → with_pieces front (with_pieces (p ∷ []) found) ≡ with_pieces (front ++ p ∷ []) found
 further front p None = refl
@@ -112,6 +114,7 @@ module _ (bytes : List ℕ) where
   pub too_long : starts_with nat_eq bytes preamble ≡ true → 4294967295 < length bytes → levels_of bytes ≡ None
   too_long begins long = tested true false begins (false_from_ne_true (ltb (length bytes) (2 ^ 32)) (λ e. let short = ltb-true _ _ e in omega (arith, long, short)))
 
-  pub behind_preamble : (rest : List ℕ) (found : Option (List Piece)) → starts_with nat_eq bytes preamble ≡ true → length bytes ≤ 4294967295 → rest ≡ drop 8 bytes → pieces_in rest ≡ found → levels_of bytes ≡ found
+  pub behind_preamble : (rest : List ℕ) (found : Option (List Piece)) → starts_with nat_eq bytes preamble ≡ true → length bytes ≤ 4294967295 → rest ≡ drop 8 bytes → pieces_in rest ≡ found
+      → levels_of bytes ≡ found
   behind_preamble rest found begins short is e =
       tested true true begins (lt-ltb _ _ (omega (arith, short))) ∙ (ap pieces_in (sym is) ∙ e)

@@ -1,6 +1,6 @@
 -- What imports, exports and aliases of a component type show.
 use Rattle.std.proofs.Common.{◌≡◌, ◌⊎◌, inl, inr, refl, sym, ap, ◌∙◌, subst, ℕ, ◌+◌, ◌<◌, ◌≤◌, arith, Bool, true, false, cond, List, [], ◌∷◌, ◌++◌, map, length, Option, Some, None, IfSome, slice_get, unwrap_or, Result, Ok, Err, OnOk}
-use Rattle.std.specs.List.{AllByRecursion}
+use Rattle.std.specs.List.{AllByRecursion, flat_map}
 use Rattle.std.proofs.Math.ListN.{length-map}
 use Rattle.std.proofs.lemmas.Bool.{cases_lt}
 use Rattle.std.proofs.lemmas.List.{append-nil}
@@ -26,6 +26,7 @@ use Rattle.read_follow.specs.Following.{declared_in, AreTables, IsSlotIn, IsStat
 use Rattle.read_follow.specs.Found.{Refuses}
 use Rattle.read_follow.specs.Functions.{functions_in, IsFunctionIn}
 use Rattle.read_follow.specs.InstanceScopes.{name_meant, name_slot, named_by}
+use Rattle.read_follow.specs.Numbering.{parts_in, slot_parts, slot_trees, CountUp}
 use Rattle.read_follow.specs.Placed.{apart, DeclarationOver, MayMeet, SignatureOver, SlotOver}
 use Rattle.read_follow.specs.Places.{has_path}
 use Rattle.read_follow.specs.Scopes.{direction, meant_at, seen_in, waiting, world_signatures, world_trees, Goes, IsCountedAs, IsImportNamed, IsImportRepeated, IsKeyPlaced, IsLastName, IsPlacedWorld, IsShownAs, IsShownBy, by_instance, by_import, IsWorld, ShownOver, Stops, World}
@@ -33,12 +34,13 @@ use Rattle.read_follow.specs.Slots.{no_signature, slot_in, slots_in, AreInRange,
 use Rattle.plan_meaning.specs.Shapes.{Shape, first_label, named_shape, node_shape, shape_trees, Adds, IsTable}
 use Rattle.read_follow.proofs.DefiningLaws.{adds_cases, adds_grow, adds_name, adds_one, adds_placed, all_at, longer, same_list}
 use Rattle.read_follow.proofs.FollowingLaws.{declared_stays, functions_wider, names_of}
+use Rattle.read_follow.proofs.NumberingLaws.{slots_declare}
 use Rattle.read_follow.proofs.OverLaws.{named_over}
 use Rattle.read_follow.proofs.PlacedLaws.{stands_on, stood}
 use Rattle.read_follow.proofs.PlacedScopes.{both_pass, counts_below, extended_placed, import_passes, imported_many, none_past, one_counted, seen_passes}
 use Rattle.read_follow.proofs.Refusing.{refused}
 use Rattle.read_follow.proofs.ScopeLaws.{all_before, exported, extended, extended_world, goes_on, imported, none_behind, plus, plus_seen, plus_type, waiting_push, waits}
-use Rattle.read_follow.proofs.ShowLaws.{declared_range, name_in, name_stands, old_range, own_over}
+use Rattle.read_follow.proofs.ShowLaws.{declared_range, name_counted, name_in, name_stands, old_range, own_over}
 use Rattle.read_follow.proofs.SlotLaws.{at_slot}
 use Rattle.base_lemmas.proofs.Lists.{at_last, last_or}
 use Rattle.std.proofs.lemmas.Option.{slice_get_within as found_below}
@@ -91,11 +93,16 @@ seen_plus b f m ss is us s meant e =
 
 module _ (old : World) (st : IsWorld old) (b : Bool) (name : ExternName) (n : ℕ) where
   abbrev function_found : MeantScope → Option Signature → Option MeantScope
-  function_found m o = o >>= λ f. provided (is_simple (raw_name name)) (see (direction b) (record { key = name.text.now; shown = follow.Shown.function f; external_id = (raw_name name).external_id }) m)
+  function_found m o = o >>= λ f. provided (is_simple (raw_name name)) (see (direction b)
+      (record { key = name.text.now; shown = follow.Shown.function f; external_id = (raw_name name).external_id }) m)
 
   pub function_goes : (k : ℕ) → slice_get old.slots n ≡ Some (slots.Function k)
       → ((T : List Tree) (F : List Signature) → function_in (slice_get (slots_in T F old.slots) n) ≡ Some (unwrap_or (slice_get F k) no_signature)) → is_simple (raw_name name) ≡ true
-      → (new : World) → new ≡ record old { imports = added_imports b old.imports (record { shown = shown.Function name.text k; external_id = name.external_id }); exports = added_exports b old.exports (record { shown = shown.Function name.text k; external_id = name.external_id }) }
+      → (new : World) → new ≡ record old {
+        imports = added_imports b old.imports (record { shown = shown.Function name.text k; external_id = name.external_id });
+        exports =
+            added_exports b old.exports (record { shown = shown.Function name.text k; external_id = name.external_id });
+      }
       → Goes 1 (see_function (direction b) (raw_name name) n) old new
   function_goes k at found simple new e =
       let s : Seen = record { shown = shown.Function name.text k; external_id = name.external_id } in
@@ -115,21 +122,28 @@ module _ (old : World) (st : IsWorld old) (b : Bool) (name : ExternName) (n : �
         exports = exports_are b old.exports s i;
         used = sym (append-nil old.used) i;
       }))
-      (extended_world old st old.shapes old.signatures old.paths gs gf gp st.tables [] [] (imported b s) (exported b s) [] tt tt (all_imported (λ (x : Seen). IsShownAs old.shapes old.signatures old.paths (length (old.instances ++ [])) x.shown) b s inside) (all_exported (λ (x : Seen). IsShownAs old.shapes old.signatures old.paths (length (old.instances ++ [])) x.shown) b s inside))
+      (extended_world old st old.shapes old.signatures old.paths gs gf gp st.tables [] [] (imported b s) (exported b s) [] tt tt
+      (all_imported (λ (x : Seen). IsShownAs old.shapes old.signatures old.paths (length (old.instances ++ [])) x.shown) b s inside)
+      (all_exported (λ (x : Seen). IsShownAs old.shapes old.signatures old.paths (length (old.instances ++ [])) x.shown) b s inside))
       (λ base places p.
       let P = MayMeet (map has_path old.paths) old.home in
       let T = world_trees apart old in
       let F = world_signatures apart old in
-      let over : SignatureOver P (unwrap_or (slice_get F k) no_signature) = all_at (SlotOver P) (meant_at apart old).slots n (slot_in T F (slots.Function k)) p.slots (at_slot old.slots n T F (slots.Function k) at) in
+      let over : SignatureOver P (unwrap_or (slice_get F k) no_signature) =
+      all_at (SlotOver P) (meant_at apart old).slots n (slot_in T F (slots.Function k)) p.slots (at_slot old.slots n T F (slots.Function k) at) in
       let seen = seen_passes (λ (x : MeantSeen). ShownOver P x.shown) (seen_in apart T F (old.instances ++ [])) b s over in
       let c = length old.shapes in
-      extended_placed old st old.shapes old.signatures old.paths gs gf gp st.tables [] [] (imported b s) (exported b s) [] base places (length old.shapes) p (imported b c) (length old.shapes) (omega arith) tt (λ j x at past. absurd (none_past old.instances j x at past))
+      extended_placed old st old.shapes old.signatures old.paths gs gf gp st.tables [] [] (imported b s) (exported b s) [] base places (length old.shapes) p (imported b c) (length old.shapes)
+      (omega arith) tt (λ j x at past. absurd (none_past old.instances j x at past))
       seen.0 seen.1 (import_passes (λ (x : Seen). IsImportNamed old.shapes old.home x.shown) b s tt) (both_pass (λ (x : Seen). IsKeyPlaced (old.instances ++ []) x.shown) b s tt)
-      (λ j x at past. absurd (none_past old.instances j x at past)) (λ j q x low e. inl (found_below old.shapes j (named_shape q x) e)) (λ j form parts low e. inl (found_below old.shapes j (node_shape form parts) e)) (imported_many b c s)
-      (one_counted base places (length old.shapes) old p (extended old st old.shapes old.signatures old.paths gs gf gp st.tables [] [] (imported b s) (exported b s) []) b s c refl (omega arith) (omega arith)
+      (λ j x at past. absurd (none_past old.instances j x at past)) (λ j q x low e. inl (found_below old.shapes j (named_shape q x) e))
+      (λ j form parts low e. inl (found_below old.shapes j (node_shape form parts) e)) (imported_many b c s)
+      (one_counted base places (length old.shapes) old p (extended old st old.shapes old.signatures old.paths gs gf gp st.tables [] [] (imported b s) (exported b s) []) b s c refl (omega arith)
+      (omega arith)
       (λ g here. all_at (IsFunctionIn (length old.shapes)) old.signatures k g st.tables.signatures here)))
       (all_before old.paths (old.instances ++ [])) (none_behind (length old.paths) old.paths)
       (let same : waiting (old.used ++ []) 0 (old.slots ++ []) ≡ waiting old.used 0 old.slots = (λ i. waiting (append-nil old.used i) 0 (append-nil old.slots i)) in omega (arith, same))
+      [] (refl, (λ place of. refl))
       (λ place of.
       let T = world_trees place old in
       let F = world_signatures place old in
@@ -138,7 +152,8 @@ module _ (old : World) (st : IsWorld old) (b : Bool) (name : ExternName) (n : �
       ∙ (ap (λ v. provided v (see (direction b) meant (meant_at place old))) simple
       ∙ ap Some (plus_seen b (meant_at place old) meant ∙ seen_plus b (seen_in place T F (old.instances ++ [])) (meant_at place old) [] [] [] s meant refl)))
 
-  pub function_stops : (paths : List (Option Text)) (e : Refusal) → ((T : List Tree) (F : List Signature) → Refuses e (function_in (slice_get (slots_in T F old.slots) n))) → Stops (see_function (direction b) (raw_name name) n) old paths e
+  pub function_stops : (paths : List (Option Text)) (e : Refusal) → ((T : List Tree) (F : List Signature) → Refuses e (function_in (slice_get (slots_in T F old.slots) n)))
+      → Stops (see_function (direction b) (raw_name name) n) old paths e
   function_stops paths e r place of = refused e (function_in (slice_get (meant_at place old).slots n)) (see_function (direction b) (raw_name name) n (meant_at place old))
       (λ none. ap (function_found (meant_at place old)) none) (r (world_trees place old) (world_signatures place old))
 
@@ -153,9 +168,12 @@ base_state w st = subst (λ (n : ℕ). IsState n (base w)) (sym (length-map w.pa
 
 module _ (old : World) (st : IsWorld old) (name : ExternName) (kind : ComponentTypeRef) where
   abbrev type_found : MeantScope → Option (tree.Declaration × Meant) → Option MeantScope
-  type_found m o = o >>= λ found. provided (is_simple (raw_name name)) (see (direction true) (record { key = name.text.now; shown = follow.Shown.declares found.0; external_id = (raw_name name).external_id }) (in_scope found.1 m))
+  type_found m o = o >>= λ found. provided (is_simple (raw_name name)) (see (direction true)
+      (record { key = name.text.now; shown = follow.Shown.declares found.0; external_id = (raw_name name).external_id }) (in_scope found.1 m))
 
-  pub type_stops : (paths : List (Option Text)) (e : Refusal) → ((T : List Tree) (F : List Signature) (place : Place) (x : Text) → AreNames T old.slots → Refuses e (named_type (slots_in T F old.slots) place x kind)) → Stops (see_type (raw_name name) kind) old paths e
+  pub type_stops : (paths : List (Option Text)) (e : Refusal)
+      → ((T : List Tree) (F : List Signature) (place : Place) (x : Text) → AreNames T old.slots → Refuses e (named_type (slots_in T F old.slots) place x kind))
+      → Stops (see_type (raw_name name) kind) old paths e
   type_stops paths e r place of = refused e (named_type (meant_at place old).slots Place.here name.text.now kind) (see_type (raw_name name) kind (meant_at place old))
       (λ none. ap (type_found (meant_at place old)) none)
       (r (world_trees place old) (world_signatures place old) Place.here name.text.now (names_of place old.shapes old.signatures old.slots st.tables.table st.slots))
@@ -223,7 +241,8 @@ module _ (old : World) (st : IsWorld old) (name : ExternName) (kind : ComponentT
                 declared = declared_below d past range;
                 others = λ i b e less.
                     let was = p.many in
-                    let low = counts_below first places (length old.shapes) old p i b (stood p.counts (p.counts ++ length more ∷ []) (record { more = length more ∷ []; is = refl }) i b (omega (arith, less, was)) e) in
+                    let low = counts_below first places (length old.shapes) old p i b
+                    (stood p.counts (p.counts ++ length more ∷ []) (record { more = length more ∷ []; is = refl }) i b (omega (arith, less, was)) e) in
                     omega (arith, low, inside, past);
               }
 
@@ -232,7 +251,12 @@ module _ (old : World) (st : IsWorld old) (name : ExternName) (kind : ComponentT
       → is_simple (raw_name name) ≡ true
       → (more : List Shape) (number : ℕ) → slice_get more number ≡ Some (named_shape old.home name.text.now) → Adds old.shapes (named_shape old.home name.text.now) more → IsTable more
       → (s : Slot) → s ≡ name_slot made.is_resource (14 + number) → (new : World)
-      → new ≡ record old { shapes = more; slots = old.slots ++ s ∷ []; imports = old.imports ++ record { shown = shown.Type name.text (14 + number) made.declared; external_id = name.external_id } ∷ [] }
+      → new ≡ record old {
+        shapes = more;
+        slots = old.slots ++ s ∷ [];
+        imports =
+            old.imports ++ record { shown = shown.Type name.text (14 + number) made.declared; external_id = name.external_id } ∷ [];
+      }
       → Goes 1 (see_type (raw_name name) kind) old new
   type_goes made range found simple more number at adds table s is new e =
       let seen : Seen = record { shown = shown.Type name.text (14 + number) made.declared; external_id = name.external_id } in
@@ -250,7 +274,8 @@ module _ (old : World) (st : IsWorld old) (name : ExternName) (kind : ComponentT
       } in
       let inside : IsSlotIn more old.signatures s = subst (λ (x : Slot). IsSlotIn more old.signatures x) (sym is) (name_in marks (base old) bs name old.home kind made.is_resource more number at) in
       let number_below = found_below more number (named_shape old.home name.text.now) at in
-      let fits : IsShownAs more old.signatures old.paths (length (old.instances ++ [])) seen.shown = (omega (arith, number_below), declared_range marks (base old) bs name old.home kind made.declared more le range) in
+      let fits : IsShownAs more old.signatures old.paths (length (old.instances ++ [])) seen.shown =
+      (omega (arith, number_below), declared_range marks (base old) bs name old.home kind made.declared more le range) in
       goes_on old st more old.signatures old.paths gs gf gp tables (s ∷ []) [] (seen ∷ []) [] [] 1 (see_type (raw_name name) kind) new
       (e ∙ (λ i. record {
         home = old.home;
@@ -268,8 +293,10 @@ module _ (old : World) (st : IsWorld old) (name : ExternName) (kind : ComponentT
       let P = MayMeet (map has_path old.paths) old.home in
       let U = shape_trees apart more in
       let G = functions_in U old.signatures in
-      let stands : slot_in U G s ≡ name_meant made.is_resource (apart old.home) name.text.now = ap (slot_in U G) is ∙ name_stands marks (base old) bs name old.home kind apart made.is_resource more number table at in
-      let same = declared_stays (length old.paths) old.shapes more old.signatures old.signatures st.tables gs gf apart made.declared (old_range marks (base old) bs name old.home kind made.declared range) in
+      let stands : slot_in U G s ≡ name_meant made.is_resource (apart old.home) name.text.now =
+      ap (slot_in U G) is ∙ name_stands marks (base old) bs name old.home kind apart made.is_resource more number table at in
+      let same = declared_stays (length old.paths) old.shapes more old.signatures old.signatures st.tables gs gf apart made.declared
+      (old_range marks (base old) bs name old.home kind made.declared range) in
       let over : DeclarationOver P (declared_in U made.declared) = subst (λ d. DeclarationOver P d) (sym same)
       (named_over P (meant_at apart old).slots p.slots (apart old.home) name.text.now kind (named_by (world_trees apart old) (apart old.home) name.text.now made)
       (found (world_trees apart old) (world_signatures apart old) (apart old.home) name.text.now (names_of apart old.shapes old.signatures old.slots st.tables.table st.slots))) in
@@ -281,21 +308,31 @@ module _ (old : World) (st : IsWorld old) (name : ExternName) (kind : ComponentT
       (λ j x e past. absurd (none_past old.instances j x e past))
       (type_names first places p more number at new seen made.declared refl refl refl adds table) (λ n form parts low e. adds_name old.shapes more old.home name.text.now adds n form parts e) refl
       (one_counted first places (length old.shapes) old p new true seen c refl le (omega arith)
-      (type_counted first places p more number at new seen made.declared refl gs (adds_one old.shapes more (named_shape old.home name.text.now) adds) (old_range marks (base old) bs name old.home kind made.declared range))))
+      (type_counted first places p more number at new seen made.declared refl gs (adds_one old.shapes more (named_shape old.home name.text.now) adds)
+      (old_range marks (base old) bs name old.home kind made.declared range))))
       (all_before old.paths (old.instances ++ [])) (none_behind (length old.paths) old.paths)
       (let same = ap (λ us. waiting us 0 (old.slots ++ s ∷ [])) (append-nil old.used) in
       let push = waiting_push old.used 0 old.slots s in
       let light : waits s ≡ 0 = ap waits is ∙ no_wait made.is_resource (14 + number) in
       let one = adds_one old.shapes more (named_shape old.home name.text.now) adds in
       omega (arith, same, push, light, one))
+      (parts_in (s ∷ [])) (
+        subst (λ (ps : List ℕ). CountUp (length old.shapes) ps (length more)) (sym (append-nil (slot_parts s)))
+            (subst (λ (x : Slot). CountUp (length old.shapes) (slot_parts x) (length more)) (sym is) (name_counted marks (base old) bs name old.home kind made.is_resource more number at adds)),
+        (λ place of.
+            append-nil (flat_map slot_trees (slots_in (shape_trees place more) (functions_in (shape_trees place more) old.signatures) (s ∷ [])))
+            ∙ slots_declare (shape_trees place more) (functions_in (shape_trees place more) old.signatures) (s ∷ []) (names_of place more old.signatures (s ∷ []) table (inside, tt))),
+      )
       (λ place of.
       let T = world_trees place old in
       let F = world_signatures place old in
       let U = shape_trees place more in
       let G = functions_in U old.signatures in
       let here : place old.home ≡ Place.here = of old.home None st.own in
-      let stands : slot_in U G s ≡ name_meant made.is_resource Place.here name.text.now = ap (slot_in U G) is ∙ (name_stands marks (base old) bs name old.home kind place made.is_resource more number table at ∙ ap (λ p. name_meant made.is_resource p name.text.now) here) in
-      let declared = declared_stays (length old.paths) old.shapes more old.signatures old.signatures st.tables gs gf place made.declared (old_range marks (base old) bs name old.home kind made.declared range) in
+      let stands : slot_in U G s ≡ name_meant made.is_resource Place.here name.text.now =
+      ap (slot_in U G) is ∙ (name_stands marks (base old) bs name old.home kind place made.is_resource more number table at ∙ ap (λ p. name_meant made.is_resource p name.text.now) here) in
+      let declared = declared_stays (length old.paths) old.shapes more old.signatures old.signatures st.tables gs gf place made.declared
+      (old_range marks (base old) bs name old.home kind made.declared range) in
       let m = meant_at place old in
       ap (type_found m) (found T F Place.here name.text.now (names_of place old.shapes old.signatures old.slots st.tables.table st.slots))
       ∙ ((λ i. type_found m (Some (sym declared i, sym stands i)))

@@ -24,11 +24,13 @@ use Rattle.read_follow.specs.Following.{declared_in, scope_at, shown_function, s
 use Rattle.read_follow.specs.Found.{Refuses}
 use Rattle.read_follow.specs.Functions.{functions_in}
 use Rattle.read_follow.specs.InstanceScopes.{name_meant, name_slot, named_by}
+use Rattle.read_follow.specs.Numbering.{slot_parts, CountUp}
 use Rattle.read_follow.specs.Placed.{apart, slot_part, DeclarationOver, MayMeet, SlotOver, ViewOver}
 use Rattle.read_follow.specs.Slots.{no_signature, resource_slot, slot_in, slots_in, AreInRange, AreNames, IsName}
 use Rattle.plan_meaning.specs.Shapes.{Shape, named_shape, part_tree, shape_trees, Adds, IsTable}
 use Rattle.read_follow.proofs.DefiningLaws.{adds_grow, adds_one, adds_placed, all_at, longer, no_shapes, same_list}
 use Rattle.read_follow.proofs.FollowingLaws.{declared_stays, functions_wider, name_part, names_of, ranges_of, shown_scope, shown_state}
+use Rattle.read_follow.proofs.NumberingLaws.{adds_next, count_pushed}
 use Rattle.read_follow.proofs.OverLaws.{name_over, named_over}
 use Rattle.read_follow.proofs.PlacedLaws.{function_over_more, own_met, same_types, type_more, type_over_more}
 use Rattle.read_follow.proofs.Refusing.{refused}
@@ -47,7 +49,8 @@ named_by_resource place name (Tree.named q x) h = refl
 named_by_resource place name (Tree.node f ts) h = absurd h
 
 module _ (ss : List Slot) (n : ℕ) (T : List Tree) (F : List Signature) (place : Place) (name : Text) where
-  pub equal_to_value : (part : ℕ) → slice_get ss n ≡ Some (slots.Value part) → named_type (slots_in T F ss) place name (refs.TypeEq n) ≡ Some (tree.Declaration.type_ (part_tree T part), follow.value (Tree.named place name))
+  pub equal_to_value : (part : ℕ) → slice_get ss n ≡ Some (slots.Value part)
+      → named_type (slots_in T F ss) place name (refs.TypeEq n) ≡ Some (tree.Declaration.type_ (part_tree T part), follow.value (Tree.named place name))
   equal_to_value part e = ap (by_slot place name) (at_slot ss n T F (slots.Value part) e)
 
   pub equal_to_resource : (part : ℕ) → slice_get ss n ≡ Some (slots.Resource part) → AreNames T ss
@@ -76,18 +79,22 @@ module _ (marks : List Bool) (old : State) (st : IsState (length marks) old) (na
             tables = st.tables;
             slots = st.slots;
             types = st.types;
-            functions = subst (λ (xs : List ShownFunction). AllByRecursion (IsShownFunctionIn old.signatures) xs) (sym last) (all_end (IsShownFunctionIn old.signatures) old.functions f st.functions inside);
+            functions = subst (λ (xs : List ShownFunction). AllByRecursion (IsShownFunctionIn old.signatures) xs) (sym last)
+                (all_end (IsShownFunctionIn old.signatures) old.functions f st.functions inside);
           };
           shapes_grow = same_list old.shapes;
           signatures_grow = same_list old.signatures;
           count = omega arith;
+          counted = λ from before. before;
           placed = λ before p.
               let P = MayMeet marks here in
               let T = trees_at apart old in
               let F = signatures_at apart old in
               same_types marks before here old (record { shapes = old.shapes; signatures = old.signatures; slots = old.slots; types = old.types; functions = fs }) p (same_list old.shapes) p.slots
-              (subst (λ (gs : List (Text × FunctionMeaning)). ViewOver P (record { types = (scope_at apart old).shown.types; functions = gs })) (sym (ap (map (shown_function F)) last ∙ map-append (shown_function F) old.functions (f ∷ [])))
-              (function_over_more P (scope_at apart old).shown p.shown (shown_function F f) (all_at (SlotOver P) (slots_at apart old old.slots) n (slot_in T F (slots.Function k)) p.slots (at_slot old.slots n T F (slots.Function k) at))))
+              (subst (λ (gs : List (Text × FunctionMeaning)). ViewOver P (record { types = (scope_at apart old).shown.types; functions = gs }))
+              (sym (ap (map (shown_function F)) last ∙ map-append (shown_function F) old.functions (f ∷ [])))
+              (function_over_more P (scope_at apart old).shown p.shown (shown_function F f)
+              (all_at (SlotOver P) (slots_at apart old old.slots) n (slot_in T F (slots.Function k)) p.slots (at_slot old.slots n T F (slots.Function k) at))))
               refl (no_shapes old.shapes);
           follows = λ place marked.
               ap (λ o. o >>= λ g. Some (record {
@@ -106,7 +113,8 @@ module _ (marks : List Bool) (old : State) (st : IsState (length marks) old) (na
               }));
         }
 
-    pub function_absent : (e : Refusal) → ((T : List Tree) (F : List Signature) → Refuses e (function_in (slice_get (slots_in T F old.slots) n))) → Halts marks (λ place. show_function (raw_name name) n) old e
+    pub function_absent : (e : Refusal) → ((T : List Tree) (F : List Signature) → Refuses e (function_in (slice_get (slots_in T F old.slots) n)))
+        → Halts marks (λ place. show_function (raw_name name) n) old e
     function_absent e r place marked =
         refused e (function_in (slice_get (slots_at place old old.slots) n)) (show_function (raw_name name) n (scope_at place old))
         (λ none. ap (λ o. o >>= λ g. Some (record {
@@ -157,6 +165,12 @@ module _ (marks : List Bool) (old : State) (st : IsState (length marks) old) (na
     part_of_name true part = refl
     part_of_name false part = refl
 
+    -- a name that comes into a table is the next part
+    pub name_counted : (b : Bool) (more : List Shape) (number : ℕ) → slice_get more number ≡ Some (named_shape here name.text.now) → Adds old.shapes (named_shape here name.text.now) more
+        → CountUp (length old.shapes) (slot_parts (name_slot b (14 + number))) (length more)
+    name_counted true more number at adds = (length more, adds_next old.shapes more (named_shape here name.text.now) number adds at, refl)
+    name_counted false more number at adds = (length more, adds_next old.shapes more (named_shape here name.text.now) number adds at, refl)
+
     pub declared_range : (o : Option ℕ) (more : List Shape) → length old.shapes ≤ length more → IfSome o (λ k. (n : ℕ) → AreInRange n old.slots → k < 14 + n) → IfSome o (λ k. k < 14 + length more)
     declared_range None more le h = tt
     declared_range (Some k) more le h = let b = h (length old.shapes) (ranges_of old.shapes old.signatures old.slots st.slots) in omega (arith, b, le)
@@ -192,6 +206,8 @@ module _ (marks : List Bool) (old : State) (st : IsState (length marks) old) (na
           shapes_grow = gs;
           signatures_grow = gf;
           count = adds_one old.shapes more (named_shape here name.text.now) adds;
+          counted = count_pushed old.slots ss s (length old.shapes) (length more) next (subst (λ (x : Slot). CountUp (length old.shapes) (slot_parts x) (length more)) (sym is)
+              (name_counted made.is_resource more number at adds));
           placed = λ before p.
               let P = MayMeet marks here in
               let U = shape_trees apart more in
@@ -199,7 +215,8 @@ module _ (marks : List Bool) (old : State) (st : IsState (length marks) old) (na
               let new : State = record { shapes = more; signatures = old.signatures; slots = ss; types = ts; functions = old.functions } in
               let meant = shown_scope (length marks) old st more old.signatures gs gf tables s inside ss next t shown ts last apart in
               let stands : slot_in U G s ≡ name_meant made.is_resource (apart here) name.text.now = ap (slot_in U G) is ∙ name_stands apart made.is_resource more number table at in
-              let over : DeclarationOver P (declared_in U made.declared) = subst (λ d. DeclarationOver P d) (sym (declared_stays (length marks) old.shapes more old.signatures old.signatures st.tables gs gf apart made.declared (old_range made.declared range)))
+              let over : DeclarationOver P (declared_in U made.declared) = subst (λ d. DeclarationOver P d)
+              (sym (declared_stays (length marks) old.shapes more old.signatures old.signatures st.tables gs gf apart made.declared (old_range made.declared range)))
               (named_over P (slots_at apart old old.slots) p.slots (apart here) name.text.now kind (named_by (trees_at apart old) (apart here) name.text.now made)
               (found (trees_at apart old) (signatures_at apart old) (apart here) name.text.now (names_of apart old.shapes old.signatures old.slots st.tables.table st.slots))) in
               type_more marks before here old new p gs
@@ -212,7 +229,8 @@ module _ (marks : List Bool) (old : State) (st : IsState (length marks) old) (na
               let stands : slot_in U (functions_in U old.signatures) s ≡ name_meant made.is_resource (place here) name.text.now =
               ap (slot_in U (functions_in U old.signatures)) is ∙ name_stands place made.is_resource more number table at in
               let declared = declared_stays (length marks) old.shapes more old.signatures old.signatures st.tables gs gf place made.declared (old_range made.declared range) in
-              ap (with_named (scope_at place old)) (found (trees_at place old) (signatures_at place old) (place here) name.text.now (names_of place old.shapes old.signatures old.slots st.tables.table st.slots))
+              ap (with_named (scope_at place old)) (found (trees_at place old) (signatures_at place old) (place here) name.text.now
+              (names_of place old.shapes old.signatures old.slots st.tables.table st.slots))
               ∙ ((λ i. with_named (scope_at place old) (Some (sym declared i, sym stands i)))
               ∙ ap Some (sym (shown_scope (length marks) old st more old.signatures gs gf tables s inside ss next t shown ts last place)));
         }
@@ -220,7 +238,8 @@ module _ (marks : List Bool) (old : State) (st : IsState (length marks) old) (na
 -- ---- either of them
 
 -- an export that is no function shows a type
-shows_type : (kind : ComponentTypeRef) → ((n : ℕ) → kind ≡ refs.Func n → ⊥) → (place : Place) (name : RawName) (scope : MeantScope) → follow.show place name kind scope ≡ show_type place name kind scope
+shows_type : (kind : ComponentTypeRef) → ((n : ℕ) → kind ≡ refs.Func n → ⊥) → (place : Place) (name : RawName) (scope : MeantScope)
+    → follow.show place name kind scope ≡ show_type place name kind scope
 shows_type (refs.Func n) other place name scope = absurd (other n refl)
 shows_type (refs.TypeEq n) other place name scope = refl
 shows_type refs.SubResource other place name scope = refl

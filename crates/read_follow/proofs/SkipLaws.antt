@@ -217,6 +217,7 @@ module _ (bytes rest : List ℕ) (tag : ℕ) (front : bytes ≡ tag ∷ rest) wh
   unfolding type_by_first declared_type_at as_at
   value_declared e f =
       ap (λ text. behind (type_by_first text)) front
-      ∙ (ap (λ b. behind (cond b (as_at Declaration.function (function_type_at false) rest) (cond (tag == 0x43) (as_at Declaration.function (function_type_at true) rest) (as_at Declaration.defined (defined_type_at tag) rest)))) (unlike 0x40 e)
+      ∙ (ap (λ b. behind (cond b (as_at Declaration.function (function_type_at false) rest)
+      (cond (tag == 0x43) (as_at Declaration.function (function_type_at true) rest) (as_at Declaration.defined (defined_type_at tag) rest)))) (unlike 0x40 e)
       ∙ (ap (λ b. behind (cond b (as_at Declaration.function (function_type_at true) rest) (as_at Declaration.defined (defined_type_at tag) rest))) (unlike 0x43 f)
       ∙ behind_as Declaration.defined (defined_type_at tag rest)))

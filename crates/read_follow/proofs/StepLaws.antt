@@ -18,12 +18,14 @@ use Rattle.read_follow.specs.Following.{scope_at, signatures_at, slots_at, trees
 use Rattle.read_follow.specs.Found.{Refuses}
 use Rattle.read_follow.specs.Functions.{functions_in, FunctionShape}
 use Rattle.read_follow.specs.InstanceScopes.{foreign_slot, state_of, step_of, tables_of, taken_by, IsFollowed, IsViewOf, ShowsNothing}
+use Rattle.read_follow.specs.Numbering.{held_trees, parts_in}
 use Rattle.read_follow.specs.Placed.{apart, MayMeet, SlotOver}
 use Rattle.read_follow.specs.Slots.{slot_in, slots_in}
 use Rattle.plan_meaning.specs.Shapes.{Shape, named_shape, node_shape, shape_trees}
 use Rattle.read_follow.proofs.AliasLaws.{foreign_over, slot_foreign}
 use Rattle.read_follow.proofs.DefiningLaws.{all_at, no_shapes, same_list}
-use Rattle.read_follow.proofs.FollowingLaws.{pushed_placed, pushed_scope, pushed_state, slots_stay, wider_slots}
+use Rattle.read_follow.proofs.FollowingLaws.{names_of, pushed_placed, pushed_scope, pushed_state, slot_counted, slots_stay, wider_slots}
+use Rattle.read_follow.proofs.NumberingLaws.{count_pushed, slots_declare}
 use Rattle.read_follow.proofs.Refusing.{refused}
 use Rattle.read_follow.proofs.SlotLaws.{at_slot, no_slot}
 use Rattle.base_lemmas.proofs.Numbers.{less}
@@ -37,20 +39,23 @@ guarded false x g = refl
 
 module _ (marks : List Bool) (old : State) (st : IsState (length marks) old) (here : ℕ) (outer : List Slot) (inside : AreSlotsIn old.shapes old.signatures outer) where
   alias_meant : (place : ℕ → Place) → AreMarked marks place → (a : Alias) (scope : MeantScope)
-      → step_of here old.shapes old.signatures outer (Declaration.alias_of a) place scope ≡ (taken_by marks old.shapes outer a >>= λ s. Some (in_instance (slot_in (trees_at place old) (signatures_at place old) s) scope))
+      → step_of here old.shapes old.signatures outer (Declaration.alias_of a) place scope
+      ≡ (taken_by marks old.shapes outer a >>= λ s. Some (in_instance (slot_in (trees_at place old) (signatures_at place old) s) scope))
   alias_meant place marked (Alias.of_export m name) scope = refl
   alias_meant place marked (Alias.of_outer scopes n) scope = by (slice_get outer n) refl
     where
       T : List Tree
       T = shape_trees place old.shapes
 
-      by : (o : Option Slot) → slice_get outer n ≡ o → (slice_get (slots_in T (functions_in T old.signatures) outer) n >>= λ slot. provided (scopes == 1 && is_foreign_name slot) (in_instance slot scope))
+      by : (o : Option Slot) → slice_get outer n ≡ o
+          → (slice_get (slots_in T (functions_in T old.signatures) outer) n >>= λ slot. provided (scopes == 1 && is_foreign_name slot) (in_instance slot scope))
           ≡ ((o >>= λ s. provided (scopes == 1 && foreign_slot marks old.shapes s) s) >>= λ s. Some (in_instance (slot_in T (functions_in T old.signatures) s) scope))
       by None e = ap (λ p. p >>= λ slot. provided (scopes == 1 && is_foreign_name slot) (in_instance slot scope)) (no_slot outer n T (functions_in T old.signatures) e)
       by (Some s) e =
           ap (λ p. p >>= λ slot. provided (scopes == 1 && is_foreign_name slot) (in_instance slot scope)) (at_slot outer n T (functions_in T old.signatures) s e)
           ∙ (ap (λ b. provided (scopes == 1 && b) (in_instance (slot_in T (functions_in T old.signatures) s) scope))
-          (sym (slot_foreign marks place marked old.shapes st.tables.table st.tables.placed old.signatures (functions_in T old.signatures) s (all_at (IsSlotIn old.shapes old.signatures) outer n s inside e)))
+          (sym (slot_foreign marks place marked old.shapes st.tables.table st.tables.placed old.signatures (functions_in T old.signatures) s
+          (all_at (IsSlotIn old.shapes old.signatures) outer n s inside e)))
           ∙ guarded (scopes == 1 && foreign_slot marks old.shapes s) s (λ x. in_instance (slot_in T (functions_in T old.signatures) x) scope))
 
   taken_in : (a : Alias) (s : Slot) → taken_by marks old.shapes outer a ≡ Some s → AreSlotsIn old.shapes old.signatures (s ∷ [])
@@ -77,7 +82,8 @@ module _ (marks : List Bool) (old : State) (st : IsState (length marks) old) (he
       foreign true false x h = absurd cc
       foreign false c x h = absurd cc
 
-      by : (o : Option Slot) → slice_get outer n ≡ o → (o >>= λ x. provided (scopes == 1 && foreign_slot marks old.shapes x) x) ≡ Some s → SlotOver (MayMeet marks here) (slot_in (trees_at apart old) (signatures_at apart old) s)
+      by : (o : Option Slot) → slice_get outer n ≡ o → (o >>= λ x. provided (scopes == 1 && foreign_slot marks old.shapes x) x) ≡ Some s
+          → SlotOver (MayMeet marks here) (slot_in (trees_at apart old) (signatures_at apart old) s)
       by None at h = absurd cc
       by (Some x) at h =
           let f = foreign (scopes == 1) (foreign_slot marks old.shapes x) x h in
@@ -85,7 +91,8 @@ module _ (marks : List Bool) (old : State) (st : IsState (length marks) old) (he
           (foreign_over marks here old.shapes st.tables.table old.signatures (signatures_at apart old) x (all_at (IsSlotIn old.shapes old.signatures) outer n x inside at) f.1)
 
   pub alias_step : (a : Alias) (s : Slot) (ss : List Slot) → taken_by marks old.shapes outer a ≡ Some s → ss ≡ old.slots ++ s ∷ []
-      → Steps marks here 1 (step_of here old.shapes old.signatures outer (Declaration.alias_of a)) old (record { shapes = old.shapes; signatures = old.signatures; slots = ss; types = old.types; functions = old.functions })
+      → Steps marks here 1 (step_of here old.shapes old.signatures outer (Declaration.alias_of a)) old
+      (record { shapes = old.shapes; signatures = old.signatures; slots = ss; types = old.types; functions = old.functions })
   alias_step a s ss taken next =
       let is = (taken_in a s taken).0 in
       record {
@@ -93,6 +100,7 @@ module _ (marks : List Bool) (old : State) (st : IsState (length marks) old) (he
         shapes_grow = same_list old.shapes;
         signatures_grow = same_list old.signatures;
         count = omega arith;
+        counted = count_pushed old.slots ss s (length old.shapes) (length old.shapes) next (slot_counted old.shapes old.signatures s is);
         placed = λ before p.
             pushed_placed (length marks) old st old.shapes old.signatures (same_list old.shapes) (same_list old.signatures) st.tables s is ss next marks before here p (taken_over a s taken)
             (no_shapes old.shapes);
@@ -153,7 +161,8 @@ none_left reader n rest ds none e = ended reader rest ds (ap (λ k. sequence_at 
 -- ---- the declarations of a body
 
 -- a view of what was followed
-same_view : (marks : List Bool) (before : List Shape) (here : ℕ) (shapes : List Shape) (fs : List FunctionShape) (ss : List Slot) (ts us : List ShownType) → us ≡ ts → (gs hs : List ShownFunction) → hs ≡ gs
+same_view : (marks : List Bool) (before : List Shape) (here : ℕ) (shapes : List Shape) (fs : List FunctionShape) (ss : List Slot) (ts us : List ShownType) → us ≡ ts
+    → (gs hs : List ShownFunction) → hs ≡ gs
     → IsPlacedState marks before here (record { shapes = shapes; signatures = fs; slots = ss; types = ts; functions = gs })
     → IsPlacedState marks before here (record { shapes = shapes; signatures = fs; slots = []; types = us; functions = hs })
 same_view marks before here shapes fs ss ts us et gs hs ef p =
@@ -165,15 +174,28 @@ module _ (marks : List Bool) (here : ℕ) (start : State) (tables : AreTables (l
   pub followed_none : (ss : List Slot) (ts : List ShownType) (fs : List ShownFunction) → ss ≡ [] → ts ≡ [] → fs ≡ [] → IsBody held_declaration_at b
       → IsFollowed marks here start outer b 0 b.bytes.now (record { shapes = start.shapes; signatures = start.signatures; slots = ss; types = ts; functions = fs })
   followed_none ss ts fs es et ef whole =
-      subst (λ (xs : List ShownFunction). IsFollowed marks here start outer b 0 b.bytes.now (record { shapes = start.shapes; signatures = start.signatures; slots = ss; types = ts; functions = xs })) (sym ef)
-      (subst (λ (xs : List ShownType). IsFollowed marks here start outer b 0 b.bytes.now (record { shapes = start.shapes; signatures = start.signatures; slots = ss; types = xs; functions = [] })) (sym et)
+      subst (λ (xs : List ShownFunction). IsFollowed marks here start outer b 0 b.bytes.now
+      (record { shapes = start.shapes; signatures = start.signatures; slots = ss; types = ts; functions = xs })) (sym ef)
+      (subst (λ (xs : List ShownType). IsFollowed marks here start outer b 0 b.bytes.now
+      (record { shapes = start.shapes; signatures = start.signatures; slots = ss; types = xs; functions = [] })) (sym et)
       (subst (λ (xs : List Slot). IsFollowed marks here start outer b 0 b.bytes.now (record { shapes = start.shapes; signatures = start.signatures; slots = xs; types = []; functions = [] })) (sym es)
       (record {
         state = record { tables = tables; slots = tt; types = tt; functions = tt };
         shapes_grow = same_list start.shapes;
         signatures_grow = same_list start.signatures;
         count = omega arith;
-        placed = record { grows = same_list start.shapes; slots = tt; shown = record { types = tt; functions = tt }; named = tt; names = λ n q name e. inl (found_below start.shapes n (named_shape q name) e); rise = λ none j t e. absurd cc; formed = λ n form parts e. inl (found_below start.shapes n (node_shape form parts) e) };
+        counted = refl;
+        placed = record {
+          grows = same_list start.shapes;
+          slots = tt;
+          shown = record { types = tt; functions = tt };
+          named = tt;
+          names =
+              λ n q name e. inl (found_below start.shapes n (named_shape q name) e);
+          rise = λ none j t e. absurd cc;
+          formed =
+              λ n form parts e. inl (found_below start.shapes n (node_shape form parts) e);
+        };
         ds = items_in held_declaration_at b;
         left = ap (λ n. sequence_at held_declaration_at n b.bytes.now) (none_less b.count) ∙ whole;
         follows = λ place marked. refl;
@@ -199,7 +221,8 @@ module _ (marks : List Bool) (here : ℕ) (start : State) (tables : AreTables (l
 
       module _ (d : Declaration) (behind : List ℕ) (at : held_declaration_at rest ≡ Some (d, behind)) where
         steps_on : (place : ℕ → Place) → AreMarked marks place → (o : Option MeantScope) → step_of here now.shapes now.signatures outer d place (scope_at place now) ≡ o
-            → (ys : List Declaration) → f.ds ≡ d ∷ ys → instance_steps (place here) (slots_at place start outer) new_instance (items_in held_declaration_at b) ≡ (o >>= λ next. instance_steps (place here) (slots_at place start outer) next ys)
+            → (ys : List Declaration) → f.ds ≡ d ∷ ys → instance_steps (place here) (slots_at place start outer) new_instance (items_in held_declaration_at b)
+            ≡ (o >>= λ next. instance_steps (place here) (slots_at place start outer) next ys)
         steps_on place marked o e ys same =
             sym (f.follows place marked)
             ∙ (ap (instance_steps (place here) (slots_at place start outer) (scope_at place now)) same
@@ -216,6 +239,7 @@ module _ (marks : List Bool) (here : ℕ) (start : State) (tables : AreTables (l
               shapes_grow = grow_on start.shapes now.shapes next.shapes f.shapes_grow s.shapes_grow;
               signatures_grow = grow_on start.signatures now.signatures next.signatures f.signatures_grow s.signatures_grow;
               count = omega (arith, c, k);
+              counted = s.counted (length start.shapes) f.counted;
               placed = s.placed start.shapes f.placed;
               ds = p.0;
               left = p.1;
@@ -246,10 +270,13 @@ module _ (marks : List Bool) (here : ℕ) (start : State) (tables : AreTables (l
         shapes_grow = f.shapes_grow;
         signatures_grow = f.signatures_grow;
         count = f.count;
+        parts = parts_in scope.slots.items;
+        counted = f.counted;
+        trees = λ place marked.
+            ap held_trees (sym (f.follows place marked) ∙ ap (instance_steps (place here) (slots_at place start outer) (scope_at place now)) none.0)
+            ∙ slots_declare (trees_at place now) (signatures_at place now) scope.slots.items (names_of place shapes fs scope.slots.items f.state.tables.table f.state.slots);
         placed = same_view marks start.shapes here shapes fs scope.slots.items scope.types.items v.types.items et scope.functions.items v.functions.items ef f.placed;
         shows = λ place marked.
             ap (λ o. o >>= λ s. Some s.shown) (sym (f.follows place marked) ∙ ap (instance_steps (place here) (slots_at place start outer) (scope_at place now)) none.0)
             ∙ (λ i. Some (view_at place now (sym et i) (sym ef i)));
       }
-
--- where a refusal is seen changes nothing

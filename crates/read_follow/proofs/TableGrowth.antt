@@ -86,7 +86,8 @@ kept_more ss fs s f kept shape fresh one = record {
   hold = λ n g e. elim (last_or fs f n g e) [
     | inl h ↦
         let inside : 14 + n < 14 + length ss = omega (arith, h.0, kept.many) in
-        tells_along g (λ place. part_tree (shape_trees place ss) (14 + n)) (λ place. part_tree (shape_trees place (ss ++ s ∷ [])) (14 + n)) (λ place. sym (parts_stay place ss s (14 + n) inside)) (kept.hold n g h.1)
+        tells_along g (λ place. part_tree (shape_trees place ss) (14 + n)) (λ place. part_tree (shape_trees place (ss ++ s ∷ [])) (14 + n)) (λ place. sym (parts_stay place ss s (14 + n) inside))
+        (kept.hold n g h.1)
     | inr h ↦
         let at_end : n ≡ length ss = h.0 ∙ kept.many in
         subst (λ (x : Fact). Tells x (λ place. part_tree (shape_trees place (ss ++ s ∷ [])) (14 + n))) h.1

@@ -27,11 +27,12 @@ use Rattle.read_follow.specs.ExternNames.{raw_name}
 use Rattle.read_follow.specs.Following.{is_path, slots_at, AreMarked, AreSlotsIn, AreTables, IsSlotIn, State}
 use Rattle.read_follow.specs.Functions.{functions_in, FunctionShape}
 use Rattle.read_follow.specs.InstanceScopes.{tables_of, IsViewOf, ShowsNothing}
+use Rattle.read_follow.specs.Numbering.{held_trees, instance_trees, used_trees}
 use Rattle.read_follow.specs.Placed.{apart, ComeBefore, HasNoNames, IsTypeNamed, MayMeet}
 use Rattle.read_follow.specs.Places.{has_path, key_at, path_text, place_number, ArePlacesOf, IsFreshKey, IsKeyIn, IsKeyOf, IsOnlyNew}
 use Rattle.read_follow.specs.Scopes.{direction, instance_in, meant_at, path_of, seen_in, view_in, viewed, waiting, Goes, HasNoUsedView, IsFirstOf, IsImportNamed, IsInstanceIn, IsInstanceSeen, IsKeyPlaced, IsPlacedInstance, IsPlacedWorld, IsShownAs, IsShownBy, by_instance, by_import, IsUsedView, IsWorld, ShownOver, Stops, World}
-use Rattle.read_follow.specs.Slots.{resource_slot, slot_in}
-use Rattle.plan_meaning.specs.Shapes.{Shape, named_shape, shape_trees, IsTable}
+use Rattle.read_follow.specs.Slots.{resource_slot, slot_in, slots_in}
+use Rattle.plan_meaning.specs.Shapes.{Shape, named_shape, part_tree, shape_trees, IsTable}
 use Rattle.read_follow.proofs.DefiningLaws.{all_at, longer}
 use Rattle.read_follow.proofs.PlacedLaws.{stands_on, stood}
 use Rattle.read_follow.proofs.PlacedScopes.{added_seen, both_pass, extended_placed, import_passes, imported_many, one_counted, only_last, seen_passes}
@@ -39,7 +40,7 @@ use Rattle.read_follow.proofs.Refusing.{refused}
 use Rattle.read_follow.proofs.ScopeLaws.{exported, extended, extended_world, goes_on, imported, one_behind, plus, plus_instance, waiting_used}
 use Rattle.read_follow.proofs.SlotLaws.{at_slot, no_slot}
 use Rattle.read_follow.proofs.SeeLaws.{added_exports, added_imports, all_exported, all_imported, exports_are, imports_are, seen_plus}
-use Rattle.read_follow.proofs.FollowingLaws.{name_part}
+use Rattle.read_follow.proofs.FollowingLaws.{name_part, slots_stay}
 use Rattle.base_lemmas.proofs.Lists.{at_last}
 use Rattle.base_lemmas.proofs.Numbers.{nothing_more as none_before}
 use Rattle.std.proofs.lemmas.Option.{slice_get_within as found_below}
@@ -69,7 +70,8 @@ any_turned n [] = refl
 any_turned n (x ∷ xs) = λ i. turned n x i || any_turned n xs i
 
 module _ (marks : List Bool) (here : ℕ) (start : State) (ss : List Slot) (used : List ℕ) (n : ℕ) where
-  pub used_shown : (b : Body) (around : ℕ) (now : State) (r : Result View Refusal) (outer : List Slot) → outer ≡ take around ss → list_any (λ m. m == n) used ≡ false → slice_get ss n ≡ Some (slots.Instance b around)
+  pub used_shown : (b : Body) (around : ℕ) (now : State) (r : Result View Refusal) (outer : List Slot) → outer ≡ take around ss → list_any (λ m. m == n) used ≡ false
+      → slice_get ss n ≡ Some (slots.Instance b around)
       → IfOk r (λ v. IsViewOf marks here start outer b v now) → IfOk r (λ v. IsUsedView marks here start ss used n v now)
   used_shown b around now r outer is unused at h = if_ok (λ v. IsViewOf marks here start outer b v now) (λ v. IsUsedView marks here start ss used n v now) r
       (λ v view. record { unused = unused; body = b; around = around; slot = at; view = subst (λ (xs : List Slot). IsViewOf marks here start xs b v now) is view }) h
@@ -82,7 +84,8 @@ module _ (marks : List Bool) (here : ℕ) (start : State) (ss : List Slot) (used
     F = functions_in (shape_trees place start.shapes) start.signatures
 
     pub used_is : (b : Body) (around : ℕ) → slice_get ss n ≡ Some (slots.Instance b around)
-        → used_view (slots_at place start ss) (place here) (slice_get (slots_at place start ss) n) ≡ follow.instance_view (place here) (slots_at place start (take around ss)) (items_in held_declaration_at b)
+        → used_view (slots_at place start ss) (place here) (slice_get (slots_at place start ss) n) ≡ follow.instance_view (place here) (slots_at place start (take around ss))
+        (items_in held_declaration_at b)
     used_is b around at =
         ap (used_view (slots_at place start ss) (place here)) (at_slot ss n T F (slots.Instance b around) at)
         ∙ ap (λ xs. follow.instance_view (place here) xs (items_in held_declaration_at b)) (take-map (slot_in T F) around ss)
@@ -99,7 +102,8 @@ module _ (marks : List Bool) (here : ℕ) (start : State) (ss : List Slot) (used
     pub nothing : slice_get ss n ≡ None → unless_used (slice_get (slots_at place start ss) n) ≡ None
     nothing none = ap unless_used (no_slot ss n T F none) ∙ when_none (not (list_any (λ m. m == n) used))
 
-    pub no_resource : IsTable start.shapes → AreSlotsIn start.shapes start.signatures ss → (part : ℕ) (s : Slot) → slice_get ss n ≡ Some s → s ≡ slots.Resource part → unless_used (slice_get (slots_at place start ss) n) ≡ None
+    pub no_resource : IsTable start.shapes → AreSlotsIn start.shapes start.signatures ss → (part : ℕ) (s : Slot) → slice_get ss n ≡ Some s → s ≡ slots.Resource part
+        → unless_used (slice_get (slots_at place start ss) n) ≡ None
     no_resource table inside part s at is =
         let named = all_at (IsSlotIn start.shapes start.signatures) ss n (slots.Resource part) inside (at ∙ ap Some is) in
         ap unless_used (at_slot ss n T F s at)
@@ -111,7 +115,8 @@ module _ (marks : List Bool) (here : ℕ) (start : State) (ss : List Slot) (used
   none_shown b around r outer is at h = if_refused (λ e. ShowsNothing marks here start outer b e) (HasNoUsedView marks here start ss used n) r
       (λ e shows place marked.
       refused e (follow.instance_view (place here) (slots_at place start outer) (items_in held_declaration_at b)) (unless_used place (slice_get (slots_at place start ss) n))
-      (λ none. ap (when (not (list_any (λ m. m == n) used))) (used_is place b around at ∙ (ap (λ (xs : List Slot). follow.instance_view (place here) (slots_at place start xs) (items_in held_declaration_at b)) (sym is) ∙ none)) ∙ when_none (not (list_any (λ m. m == n) used)))
+      (λ none. ap (when (not (list_any (λ m. m == n) used))) (used_is place b around at
+      ∙ (ap (λ (xs : List Slot). follow.instance_view (place here) (slots_at place start xs) (items_in held_declaration_at b)) (sym is) ∙ none)) ∙ when_none (not (list_any (λ m. m == n) used)))
       (shows place marked)) h
 
 -- ---- an instance under its key
@@ -159,25 +164,52 @@ module _ (old : World) (st : IsWorld old) (b : Bool) (name : ExternName) (n : �
   view_asked m k = when (not (list_any (λ i. i == n) m.used)) (used_view m.slots (follow.place_of (interface_of k)) (slice_get m.slots n))
 
   keyed : (place : ℕ → Place) → ArePlacesOf paths place → see_instance (direction b) (raw_name name) n (meant_at place old) ≡ under_key (meant_at place old) (key_at place key)
-      (when (not (list_any (λ i. i == n) old.used)) (used_view (slots_at place (tables_of old.shapes old.signatures) old.slots) (place (place_number key)) (slice_get (slots_at place (tables_of old.shapes old.signatures) old.slots) n)))
+      (when (not (list_any (λ i. i == n) old.used)) (used_view (slots_at place (tables_of old.shapes old.signatures) old.slots) (place (place_number key))
+      (slice_get (slots_at place (tables_of old.shapes old.signatures) old.slots) n)))
   keyed place of =
       ap (λ (o : Option Key). o >>= λ k. under_key (meant_at place old) k (view_asked (meant_at place old) k)) (is_key.is place of)
       ∙ ap (λ q. under_key (meant_at place old) (key_at place key) (when (not (list_any (λ i. i == n) old.used)) (used_view (meant_at place old).slots q (slice_get (meant_at place old).slots n))))
       (place_is paths place of key is_key.stands)
 
-  pub instance_stops : (e : Refusal) → HasNoUsedView (map has_path paths) (place_number key) (tables_of old.shapes old.signatures) old.slots old.used n e → Stops (see_instance (direction b) (raw_name name) n) old paths e
+  pub instance_stops : (e : Refusal) → HasNoUsedView (map has_path paths) (place_number key) (tables_of old.shapes old.signatures) old.slots old.used n e
+      → Stops (see_instance (direction b) (raw_name name) n) old paths e
   instance_stops e r place of =
-      refused e (when (not (list_any (λ i. i == n) old.used)) (used_view (slots_at place (tables_of old.shapes old.signatures) old.slots) (place (place_number key)) (slice_get (slots_at place (tables_of old.shapes old.signatures) old.slots) n)))
+      refused e (when (not (list_any (λ i. i == n) old.used)) (used_view (slots_at place (tables_of old.shapes old.signatures) old.slots) (place (place_number key))
+      (slice_get (slots_at place (tables_of old.shapes old.signatures) old.slots) n)))
       (see_instance (direction b) (raw_name name) n (meant_at place old))
       (λ none. keyed place of ∙ ap (under_key (meant_at place old) (key_at place key)) none) (r place (marked_paths paths place of))
 
-  key_own : IsFreshKey old.paths key → ((path : Text) × (slice_get paths (place_number key) ≡ Some (Some path))) ⊎ ((slice_get paths (place_number key) ≡ Some None) × (length old.paths ≤ place_number key))
+  key_own : IsFreshKey old.paths key → ((path : Text) × (slice_get paths (place_number key) ≡ Some (Some path)))
+      ⊎ ((slice_get paths (place_number key) ≡ Some None) × (length old.paths ≤ place_number key))
   key_own fresh = by key is_key.stands fresh
     where
-      by : (k : InstanceKey) → IsKeyIn paths k → IsFreshKey old.paths k → ((path : Text) × (slice_get paths (place_number k) ≡ Some (Some path))) ⊎ ((slice_get paths (place_number k) ≡ Some None) × (length old.paths ≤ place_number k))
+      by : (k : InstanceKey) → IsKeyIn paths k → IsFreshKey old.paths k → ((path : Text) × (slice_get paths (place_number k) ≡ Some (Some path)))
+          ⊎ ((slice_get paths (place_number k) ≡ Some None) × (length old.paths ≤ place_number k))
       by (keys.Path q) h f = inl h
       by (keys.Label l q) h f = inr (h, f)
       by (keys.Implementing l q) h f = inl h
+
+  -- what the instance type declares comes into the table
+  held_numbered : (gp : Grows old.paths paths) (v : View) (more : List Shape) (more_fs : List FunctionShape)
+      → (u : IsUsedView (map has_path paths) (place_number key) (tables_of old.shapes old.signatures) old.slots old.used n v (tables_of more more_fs))
+      → (place : ℕ → Place) → ArePlacesOf paths place
+      → used_trees (slots_in (shape_trees place more) (functions_in (shape_trees place more) more_fs) (old.slots ++ []))
+      (instance_in place (shape_trees place more) (functions_in (shape_trees place more) more_fs) (record { place = place_number key; view = v }) ∷ []) (n ∷ [])
+      ≡ map (part_tree (shape_trees place more)) u.view.parts
+  held_numbered gp v more more_fs u place of =
+      let T = shape_trees place old.shapes in
+      let F = functions_in T old.signatures in
+      let U = shape_trees place more in
+      let G = functions_in U more_fs in
+      let here = place (place_number key) in
+      let back = place_back paths place of here in
+      let around = ap (slots_in U G) (append-nil old.slots) ∙ slots_stay (length old.paths) old.shapes more old.signatures more_fs st.tables u.view.shapes_grow u.view.signatures_grow place
+      old.slots st.slots in
+      append-nil (instance_trees (slots_in U G (old.slots ++ [])) (follow.place_of (path_of here)) (slice_get (slots_in U G (old.slots ++ [])) n))
+      ∙ ((λ i. instance_trees (around i) (back i) (slice_get (around i) n))
+      ∙ (ap (instance_trees (slots_in T F old.slots) here) (at_slot old.slots n T F (slots.Instance u.body u.around) u.slot)
+      ∙ (ap (λ xs. held_trees (follow.instance_steps here xs follow.new_instance (items_in held_declaration_at u.body))) (take-map (slot_in T F) u.around old.slots)
+      ∙ u.view.trees place (marked_paths paths place of))))
 
   -- a name that neither an instance nor an import shows
   not_shown : (q : ℕ) (label : Text) (part : ℕ) → ((i : ℕ) (y : Instance) → slice_get old.instances i ≡ Some y → y.place ≡ q → ⊥) → (q ≡ old.home → ⊥) → IsShownBy old q label part → ⊥
@@ -225,7 +257,8 @@ module _ (old : World) (st : IsWorld old) (b : Bool) (name : ExternName) (n : �
     ]
 
     -- and its names come behind all that there are
-    comes_later : HasNoNames here base → IsFirstOf (old.instances ++ x ∷ []) (length old.instances) x → (i : ℕ) (y : Instance) → slice_get (old.instances ++ x ∷ []) i ≡ Some y → i < length old.instances
+    comes_later : HasNoNames here base → IsFirstOf (old.instances ++ x ∷ []) (length old.instances) x → (i : ℕ) (y : Instance) → slice_get (old.instances ++ x ∷ []) i ≡ Some y
+        → i < length old.instances
         → ComeBefore y.view.types.items v.types.items
     comes_later none first i y at less j k t z t_at z_at =
         let before = (p.instances i y (stood old.instances (old.instances ++ x ∷ []) instances_front i y less at)).named in
@@ -292,9 +325,11 @@ module _ (old : World) (st : IsWorld old) (b : Bool) (name : ExternName) (n : �
       }))
       (extended_world old st more more_fs paths gs gf gp tables [] (x ∷ []) (imported b s) (exported b s) (n ∷ []) tt
       (record { place = key_below paths key is_key.stands; types = u.view.types; functions = u.view.functions }, tt)
-      (all_imported (λ (y : Seen). IsShownAs more more_fs paths (length (old.instances ++ x ∷ [])) y.shown) b s fits) (all_exported (λ (y : Seen). IsShownAs more more_fs paths (length (old.instances ++ x ∷ [])) y.shown) b s fits))
+      (all_imported (λ (y : Seen). IsShownAs more more_fs paths (length (old.instances ++ x ∷ [])) y.shown) b s fits)
+      (all_exported (λ (y : Seen). IsShownAs more more_fs paths (length (old.instances ++ x ∷ [])) y.shown) b s fits))
       (λ base places p.
-      let seen = seen_passes (λ (y : MeantSeen). ShownOver (MayMeet (map has_path paths) old.home) y.shown) (seen_in apart (shape_trees apart more) (functions_in (shape_trees apart more) more_fs) (old.instances ++ x ∷ [])) b s tt in
+      let seen = seen_passes (λ (y : MeantSeen). ShownOver (MayMeet (map has_path paths) old.home) y.shown)
+      (seen_in apart (shape_trees apart more) (functions_in (shape_trees apart more) more_fs) (old.instances ++ x ∷ [])) b s tt in
       let c = length more in
       let longer_table = longer old.shapes more gs in
       let world = extended old st more more_fs paths gs gf gp tables [] (x ∷ []) (imported b s) (exported b s) (n ∷ []) in
@@ -302,10 +337,12 @@ module _ (old : World) (st : IsWorld old) (b : Bool) (name : ExternName) (n : �
       (λ j y at past.
       let last = only_last old.instances x j y at past in
       subst (λ (z : Instance). IsPlacedInstance base places world j z) last.1
-      (subst (λ (m : ℕ). IsPlacedInstance base places world m x) (sym last.0) (instance_placed gp fresh v more more_fs u base places p (old.slots ++ []) (old.imports ++ imported b s) (old.exports ++ exported b s) (old.used ++ n ∷ []))))
+      (subst (λ (m : ℕ). IsPlacedInstance base places world m x) (sym last.0)
+      (instance_placed gp fresh v more more_fs u base places p (old.slots ++ []) (old.imports ++ imported b s) (old.exports ++ exported b s) (old.used ++ n ∷ []))))
       seen.0 seen.1 (import_passes (λ (y : Seen). IsImportNamed more old.home y.shown) b s tt)
       (both_pass (λ (y : Seen). IsKeyPlaced (old.instances ++ x ∷ []) y.shown) b s (x, at_last old.instances x, refl))
-      (λ j y at past. subst (λ (m : ℕ). IsInstanceSeen world m) (sym (only_last old.instances x j y at past).0) (added_seen world old.imports old.exports b s key (length old.instances) refl refl refl))
+      (λ j y at past. subst (λ (m : ℕ). IsInstanceSeen world m) (sym (only_last old.instances x j y at past).0)
+      (added_seen world old.imports old.exports b s key (length old.instances) refl refl refl))
       (λ j q label low at. elim (u.view.placed.names j q label at) [
         | inl below ↦ inl below
         | inr h ↦ inr (by_instance (length old.instances) x (at_last old.instances x) (sym h.0) h.1)
@@ -319,9 +356,11 @@ module _ (old : World) (st : IsWorld old) (b : Bool) (name : ExternName) (n : �
       ])
       (one_behind (length old.paths) paths x (λ q path at less. elim (only q path at) [ inl below ↦ below | inr same ↦ absurd (omega (arith, less, same)) ]))
       (let same = ap (λ zs. waiting (old.used ++ n ∷ []) 0 zs) (append-nil old.slots) in
-      let few = subst (λ k. waiting (old.used ++ k ∷ []) 0 old.slots + u.body.count ≤ waiting old.used 0 old.slots) (none_before n) (waiting_used old.used n 0 old.slots (slots.Instance u.body u.around) u.slot (ap (λ k. list_any (λ m. m == k) old.used) (none_before n) ∙ u.unused)) in
+      let few = subst (λ k. waiting (old.used ++ k ∷ []) 0 old.slots + u.body.count ≤ waiting old.used 0 old.slots) (none_before n)
+      (waiting_used old.used n 0 old.slots (slots.Instance u.body u.around) u.slot (ap (λ k. list_any (λ m. m == k) old.used) (none_before n) ∙ u.unused)) in
       let count = u.view.count in
       omega (arith, same, few, count))
+      u.view.parts (u.view.counted, (λ place of. held_numbered gp v more more_fs u place of))
       (λ place of.
       let U = shape_trees place more in
       let G = functions_in U more_fs in
@@ -329,8 +368,10 @@ module _ (old : World) (st : IsWorld old) (b : Bool) (name : ExternName) (n : �
       let k = key_at place key in
       let meant : MeantSeen = record { key = key_text k; shown = follow.Shown.instance k (view_in U G v); external_id = (raw_name name).external_id } in
       keyed place of
-      ∙ (ap (λ w. under_key m k (when (not w) (used_view (slots_at place (tables_of old.shapes old.signatures) old.slots) (place (place_number key)) (slice_get (slots_at place (tables_of old.shapes old.signatures) old.slots) n)))) u.unused
-      ∙ (ap (under_key m k) (used_is (map has_path paths) (place_number key) (tables_of old.shapes old.signatures) old.slots old.used n place u.body u.around u.slot ∙ u.view.shows place (marked_paths paths place of))
+      ∙ (ap (λ w. under_key m k (when (not w) (used_view (slots_at place (tables_of old.shapes old.signatures) old.slots) (place (place_number key))
+      (slice_get (slots_at place (tables_of old.shapes old.signatures) old.slots) n)))) u.unused
+      ∙ (ap (under_key m k) (used_is (map has_path paths) (place_number key) (tables_of old.shapes old.signatures) old.slots old.used n place u.body u.around u.slot ∙ u.view.shows place
+      (marked_paths paths place of))
       ∙ ap Some (plus_instance b m (record { interface = interface_of k; view = view_in U G v }) meant n
       ∙ ((λ i. plus m [] (record { interface = interface_is paths place of key is_key.stands i; view = view_in U G v } ∷ []) (imported b meant) (exported b meant) (n ∷ []))
       ∙ seen_plus b (seen_in place U G (old.instances ++ x ∷ [])) m [] (instance_in place U G x ∷ []) (n ∷ []) s meant

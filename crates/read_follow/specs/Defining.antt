@@ -11,6 +11,7 @@ use Rattle.read_follow.specs.declared.slots.Slot.{Slot}
 use Rattle.read_follow.specs.declared.slots.Slot.TheVariants as slots
 use Rattle.read_follow.specs.Found.{Refuses}
 use Rattle.read_follow.specs.Functions.{FunctionShape, IsFunctionIn, Joins, signature_in}
+use Rattle.read_follow.specs.Numbering.{IsNext}
 use Rattle.read_follow.specs.Slots.{slots_in, AreInRange, AreNames}
 use Rattle.plan_meaning.specs.PlanRules.{is_form}
 use Rattle.plan_meaning.specs.Shapes.{Shape, named_shape, node_shape, part_tree, shape_trees}
@@ -32,13 +33,15 @@ pub record AddsForms (shapes more : List Shape) : Type 0 where
   pub names : (n q : ℕ) (name : Text) → slice_get more n ≡ Some (named_shape q name) → n < length shapes
   pub formed : (n : ℕ) (form : Form) (parts : List ℕ) → slice_get more n ≡ Some (node_shape form parts) → (n < length shapes) ⊎ (is_form form parts ≡ true)
 
--- The next slot is a part, and it stands for what the definition stands for. No name comes into the table.
+-- The next slot is a part, and it stands for what the definition stands for. If the part isn't in the table already, it is the one that comes into it. No
+-- name comes into the table.
 pub record IsDefined (shapes : List Shape) (old : List Slot) (d : DefinedType) (more : List Shape) (new : List Slot) : Type 0 where
   pub part : ℕ
   pub next : new ≡ old ++ slots.Value part ∷ []
   pub range : part < 14 + length more
   pub grown : Grows shapes more
   pub count : length more ≤ length shapes + 1
+  pub counted : IsNext part (length shapes) (length more)
   pub placed : (m : ℕ) → ArePlacedBelow m shapes → ArePlacedBelow m more
   pub forms : AddsForms shapes more
   pub found : (place : ℕ → Place) (F : List Signature) → AreNames (shape_trees place shapes) old
@@ -46,7 +49,8 @@ pub record IsDefined (shapes : List Shape) (old : List Slot) (d : DefinedType) (
 
 -- the definition stands for nothing, unless memory ran out
 abbrev pub IsUndefined : List Shape → List Slot → DefinedType → Refusal → Type 0
-IsUndefined shapes old d e = (place : ℕ → Place) (F : List Signature) → AreNames (shape_trees place shapes) old → Refuses e (definition (slots_in (shape_trees place shapes) F old) d)
+IsUndefined shapes old d e = (place : ℕ → Place) (F : List Signature) → AreNames (shape_trees place shapes) old
+    → Refuses e (definition (slots_in (shape_trees place shapes) F old) d)
 
 -- The next slot is a function, and its number that of what the type of a function stands for.
 pub record IsDefinedFunction (fs : List FunctionShape) (old : List Slot) (f : FunctionType) (more : List FunctionShape) (new : List Slot) : Type 0 where

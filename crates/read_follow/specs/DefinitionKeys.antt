@@ -34,7 +34,8 @@ pub record IsNodeOf (s : Shape) (ss : List Slot) (d : DefinedType) : Type 0 wher
   pub shape : s ≡ node_shape form parts
   pub ranges : (n : ℕ) → AreInRange n ss → AllByRecursion (λ k. k < 14 + n) parts
   pub formed : is_form form parts ≡ true
-  pub found : (T : List Tree) (F : List Signature) → AreNames T ss → HasNoKeys T → definition (slots_in T F ss) d ≡ Some (Tree.node form (children (map (part_tree T) parts)))
+  pub found : (T : List Tree) (F : List Signature) → AreNames T ss → HasNoKeys T
+      → definition (slots_in T F ss) d ≡ Some (Tree.node form (children (map (part_tree T) parts)))
 
 -- The key is of what the definition stands for; or it stands for nothing, unless memory ran out.
 abbrev pub IsKeyOf : List Slot → DefinedType → Result Key Refusal → Type 0

@@ -106,7 +106,13 @@ name_fact p = record { levels = 0; names = names.In p; is_plain = true; has_plai
 -- the fact of a form of this number, over parts
 abbrev pub node_fact : Summary → ℕ → Bool → Fact
 node_fact s sort good =
-    record { levels = min cap (s.levels + 1); names = s.names; is_plain = s.is_plain && not (is_named_sort sort); has_plain_parts = s.is_plain; has_good_labels = good }
+    record {
+      levels = min cap (s.levels + 1);
+      names = s.names;
+      is_plain = s.is_plain && not (is_named_sort sort);
+      has_plain_parts = s.is_plain;
+      has_good_labels = good;
+    }
 
 -- what a table keeps: the shapes, and a fact for each
 pub record IsKept (shapes : List Shape) (facts : List Fact) : Type 0 where

@@ -17,6 +17,7 @@ use Rattle.read_follow.specs.Defining.{ArePlacedBelow, Grows}
 use Rattle.read_follow.specs.Found.{Refuses}
 use Rattle.read_follow.specs.Functions.{functions_in, AreFunctionsIn, FunctionShape}
 use Rattle.read_follow.specs.Placed.{apart, HasNoNames, IsShownAmong, IsTypeNamed, MayMeet, Rise, SlotOver, ViewOver}
+use Rattle.read_follow.specs.Numbering.{parts_in, CountUp}
 use Rattle.read_follow.specs.Slots.{slot_in, slots_in, no_signature}
 use Rattle.plan_meaning.specs.PlanRules.{is_form}
 use Rattle.plan_meaning.specs.Shapes.{Shape, named_shape, node_shape, part_tree, shape_trees, IsTable}
@@ -57,7 +58,11 @@ abbrev pub slots_at : (ℕ → Place) → State → List Slot → List Meant
 slots_at place s ss = slots_in (trees_at place s) (signatures_at place s) ss
 
 abbrev pub view_at : (ℕ → Place) → State → List ShownType → List ShownFunction → MeantView
-view_at place s ts fs = record { types = map (shown_type (trees_at place s) (signatures_at place s)) ts; functions = map (shown_function (signatures_at place s)) fs }
+view_at place s ts fs = record {
+  types = map (shown_type (trees_at place s) (signatures_at place s)) ts;
+  functions =
+      map (shown_function (signatures_at place s)) fs;
+}
 
 -- what the scope stands for
 abbrev pub scope_at : (ℕ → Place) → State → MeantScope
@@ -131,18 +136,21 @@ pub record IsPlacedState (marks : List Bool) (before : List Shape) (here : ℕ) 
   pub slots : AllByRecursion (SlotOver (MayMeet marks here)) (slots_at apart s s.slots)
   pub shown : ViewOver (MayMeet marks here) (view_at apart s s.types s.functions)
   pub named : AllByRecursion (IsTypeNamed s.shapes here) s.types
-  pub names : (n q : ℕ) (name : Text) → slice_get s.shapes n ≡ Some (named_shape q name) → (n < length before) ⊎ ((q ≡ here) × IsShownAmong s.types name (14 + n))
+  pub names : (n q : ℕ) (name : Text) → slice_get s.shapes n ≡ Some (named_shape q name) → (n < length before)
+      ⊎ ((q ≡ here) × IsShownAmong s.types name (14 + n))
   pub rise : HasNoNames here before → Rise s.types
   pub formed : (n : ℕ) (form : Form) (parts : List ℕ) → slice_get s.shapes n ≡ Some (node_shape form parts) → (n < length before) ⊎ (is_form form parts ≡ true)
 
 -- ---- steps
 
--- The tables grow by this many types at most, names stay in their places, and the scope becomes what the step of the definition makes of it.
+-- The tables grow by this many types at most, which are those of the scope's slots in their order, names stay in their places, and the scope becomes what
+-- the step of the definition makes of it.
 pub record Steps (marks : List Bool) (here few : ℕ) (step : (ℕ → Place) → MeantScope → Option MeantScope) (old new : State) : Type 0 where
   pub state : IsState (length marks) new
   pub shapes_grow : Grows old.shapes new.shapes
   pub signatures_grow : Grows old.signatures new.signatures
   pub count : length new.shapes ≤ length old.shapes + few
+  pub counted : (from : ℕ) → CountUp from (parts_in old.slots) (length old.shapes) → CountUp from (parts_in new.slots) (length new.shapes)
   pub placed : (before : List Shape) → IsPlacedState marks before here old → IsPlacedState marks before here new
   pub follows : (place : ℕ → Place) → AreMarked marks place → step place (scope_at place old) ≡ Some (scope_at place new)
 

@@ -71,4 +71,5 @@ IsFunctionKeyOf ss f (Err e) = (T : List Tree) (F : List Signature) → Refuses 
 abbrev pub OneFunctionNumber : Type 0
 OneFunctionNumber = (place : ℕ → Place) → ((p q : ℕ) → place p ≡ place q → p ≡ q) → (shapes : List Shape) → IsTable shapes
     → (fs : List FunctionShape) → AreFunctionsIn (length shapes) fs → AreApart fs
-    → (a b : ℕ) (f : Signature) → slice_get (functions_in (shape_trees place shapes) fs) a ≡ Some f → slice_get (functions_in (shape_trees place shapes) fs) b ≡ Some f → a ≡ b
+    → (a b : ℕ) (f : Signature) → slice_get (functions_in (shape_trees place shapes) fs) a ≡ Some f
+    → slice_get (functions_in (shape_trees place shapes) fs) b ≡ Some f → a ≡ b

@@ -1,5 +1,5 @@
 -- Scopes of instance types as they are kept, and what their exports declare.
-use Rattle.std.specs.Prelude.{◌≡◌, ◌<◌, ◌≤◌, ℕ, ◌+◌, ◌-◌, ◌==◌, ◌&&◌, nat_lt, if◌then◌else◌, Bool, true, false, List, [], length, IfErr, OnOk, Option, Some, None, Result, slice_get, unwrap_or}
+use Rattle.std.specs.Prelude.{◌≡◌, ◌<◌, ◌≤◌, ℕ, ◌+◌, ◌-◌, ◌==◌, ◌&&◌, nat_lt, if◌then◌else◌, Bool, true, false, List, [], length, map, IfErr, OnOk, Option, Some, None, Result, slice_get, unwrap_or}
 use Rattle.std.specs.List.{AllByRecursion}
 use Rattle.wit_model.specs.Text.{Text}
 use Rattle.wit_model.specs.Tree as tree
@@ -17,28 +17,35 @@ use Rattle.read_follow.specs.declared.views.InstanceScope.{InstanceScope}
 use Rattle.read_follow.specs.declared.views.View.{View}
 use Rattle.read_follow.specs.Bodies.{held_declaration_at, items_in}
 use Rattle.read_follow.specs.Defining.{Grows}
-use Rattle.read_follow.specs.Following.{declared_in, scope_at, slots_at, view_at, AreMarked, AreTables, Halts, IsPlacedState, IsShownFunctionIn, IsShownIn, IsState, State, Steps}
+use Rattle.read_follow.specs.Following.{declared_in, scope_at, slots_at, trees_at, view_at, AreMarked, AreTables, Halts, IsPlacedState, IsShownFunctionIn, IsShownIn, IsState, State, Steps}
 use Rattle.read_follow.specs.Found.{Refuses}
 use Rattle.read_follow.specs.Functions.{functions_in, FunctionShape}
+use Rattle.read_follow.specs.Numbering.{held_trees, parts_in, CountUp}
 use Rattle.read_follow.specs.Slots.{slots_in}
-use Rattle.plan_meaning.specs.Shapes.{Shape, shape_trees}
+use Rattle.plan_meaning.specs.Shapes.{Shape, part_tree, shape_trees}
 
 -- the scope over the tables
 abbrev pub state_of : List Shape → List FunctionShape → InstanceScope → State
 state_of shapes fs s = record { shapes = shapes; signatures = fs; slots = s.slots.items; types = s.types.items; functions = s.functions.items }
 
--- A scope that is kept goes on by this step in this place, whatever types of functions it is kept with. The table of types was the first list, and is the second.
-abbrev pub StepsBy : {A : Type 0} → List Bool → ℕ → ((ℕ → Place) → MeantScope → Option MeantScope) → List Shape → List Shape → InstanceScope → InstanceScope → Result A Refusal → Type 0
-StepsBy marks here step before after old new result = (fs : List FunctionShape) → IsState (length marks) (state_of before fs old) → OnOk result (Steps marks here 1 step (state_of before fs old) (state_of after fs new))
+-- A scope that is kept goes on by this step in this place, whatever types of functions it is kept with. The table of types was the first list, and is the
+-- second.
+abbrev pub StepsBy : {A : Type 0} → List Bool → ℕ → ((ℕ → Place) → MeantScope → Option MeantScope) → List Shape → List Shape → InstanceScope → InstanceScope
+    → Result A Refusal → Type 0
+StepsBy marks here step before after old new result = (fs : List FunctionShape) → IsState (length marks) (state_of before fs old)
+    → OnOk result (Steps marks here 1 step (state_of before fs old) (state_of after fs new))
 
 -- the same where the place is one of those that are marked
-abbrev pub StepsHereBy : {A : Type 0} → List Bool → ℕ → ((ℕ → Place) → MeantScope → Option MeantScope) → List Shape → List Shape → InstanceScope → InstanceScope → Result A Refusal → Type 0
+abbrev pub StepsHereBy : {A : Type 0} → List Bool → ℕ → ((ℕ → Place) → MeantScope → Option MeantScope) → List Shape → List Shape → InstanceScope → InstanceScope
+    → Result A Refusal → Type 0
 StepsHereBy marks here step before after old new result =
-    (fs : List FunctionShape) → IsState (length marks) (state_of before fs old) → here < length marks → OnOk result (Steps marks here 1 step (state_of before fs old) (state_of after fs new))
+    (fs : List FunctionShape) → IsState (length marks) (state_of before fs old) → here < length marks
+    → OnOk result (Steps marks here 1 step (state_of before fs old) (state_of after fs new))
 
 -- a refusal of it: the step makes nothing of the scope, unless memory ran out
 abbrev pub HaltsBy : {A : Type 0} → List Bool → ((ℕ → Place) → MeantScope → Option MeantScope) → List Shape → InstanceScope → Result A Refusal → Type 0
-HaltsBy marks step before old result = (fs : List FunctionShape) → IsState (length marks) (state_of before fs old) → IfErr result (Halts marks step (state_of before fs old))
+HaltsBy marks step before old result = (fs : List FunctionShape) → IsState (length marks) (state_of before fs old)
+    → IfErr result (Halts marks step (state_of before fs old))
 
 -- the name in its place, as a resource or as a type of a value
 abbrev pub name_meant : Bool → Place → Text → Meant
@@ -82,7 +89,8 @@ foreign_slot marks shapes (slots.Instance b n) = false
 
 -- what the definition does with a declaration, where these slots stand around
 abbrev pub step_of : ℕ → List Shape → List FunctionShape → List Slot → Declaration → (ℕ → Place) → MeantScope → Option MeantScope
-step_of here shapes fs outer d place meant = instance_step (place here) (slots_in (shape_trees place shapes) (functions_in (shape_trees place shapes) fs) outer) meant d
+step_of here shapes fs outer d place meant = instance_step (place here)
+    (slots_in (shape_trees place shapes) (functions_in (shape_trees place shapes) fs) outer) meant d
 
 -- the slot that an alias takes over, where these slots stand around
 abbrev pub taken_by : List Bool → List Shape → List Slot → Alias → Option Slot
@@ -97,11 +105,13 @@ pub record IsFollowed (marks : List Bool) (here : ℕ) (start : State) (outer : 
   pub shapes_grow : Grows start.shapes now.shapes
   pub signatures_grow : Grows start.signatures now.signatures
   pub count : length now.shapes ≤ length start.shapes + i
+  pub counted : CountUp (length start.shapes) (parts_in now.slots) (length now.shapes)
   pub placed : IsPlacedState marks start.shapes here now
   pub ds : List Declaration
   pub left : sequence_at held_declaration_at (b.count - i) rest ≡ Some (ds, [])
   pub follows : (place : ℕ → Place) → AreMarked marks place
-      → instance_steps (place here) (slots_at place start outer) (scope_at place now) ds ≡ instance_steps (place here) (slots_at place start outer) new_instance (items_in held_declaration_at b)
+      → instance_steps (place here) (slots_at place start outer) (scope_at place now) ds ≡ instance_steps (place here) (slots_at place start outer) new_instance
+      (items_in held_declaration_at b)
 
 -- what the tables hold, with nothing in scope
 abbrev pub tables_of : List Shape → List FunctionShape → State
@@ -111,7 +121,8 @@ tables_of shapes fs = record { shapes = shapes; signatures = fs; slots = []; typ
 abbrev pub viewed_over : List Shape → List FunctionShape → View → State
 viewed_over shapes fs v = record { shapes = shapes; signatures = fs; slots = []; types = v.types.items; functions = v.functions.items }
 
--- The tables grow by a type for each declaration at most, names stand in their places, and the view stands for what the body shows.
+-- The tables grow by a type for each declaration at most, and by just the types that the body declares, in their order. Names stand in their places, and the
+-- view stands for what the body shows.
 pub record IsViewOf (marks : List Bool) (here : ℕ) (start : State) (outer : List Slot) (b : Body) (v : View) (now : State) : Type 0 where
   pub tables : AreTables (length marks) now.shapes now.signatures
   pub types : AllByRecursion (IsShownIn now.shapes now.signatures) v.types.items
@@ -119,10 +130,16 @@ pub record IsViewOf (marks : List Bool) (here : ℕ) (start : State) (outer : Li
   pub shapes_grow : Grows start.shapes now.shapes
   pub signatures_grow : Grows start.signatures now.signatures
   pub count : length now.shapes ≤ length start.shapes + b.count
+  pub parts : List ℕ
+  pub counted : CountUp (length start.shapes) parts (length now.shapes)
+  pub trees : (place : ℕ → Place) → AreMarked marks place
+      → held_trees (instance_steps (place here) (slots_at place start outer) new_instance (items_in held_declaration_at b))
+      ≡ map (part_tree (trees_at place now)) parts
   pub placed : IsPlacedState marks start.shapes here (viewed_over now.shapes now.signatures v)
   pub shows : (place : ℕ → Place) → AreMarked marks place
       → instance_view (place here) (slots_at place start outer) (items_in held_declaration_at b) ≡ Some (view_at place now v.types.items v.functions.items)
 
 -- the body shows nothing, unless memory ran out
 abbrev pub ShowsNothing : List Bool → ℕ → State → List Slot → Body → Refusal → Type 0
-ShowsNothing marks here start outer b e = (place : ℕ → Place) → AreMarked marks place → Refuses e (instance_view (place here) (slots_at place start outer) (items_in held_declaration_at b))
+ShowsNothing marks here start outer b e = (place : ℕ → Place) → AreMarked marks place
+    → Refuses e (instance_view (place here) (slots_at place start outer) (items_in held_declaration_at b))

@@ -7,6 +7,7 @@ pub mod Pieces
 pub mod KeyShapes
 pub mod Facts
 pub mod Slots
+pub mod Numbering
 pub mod Placed
 pub mod DefinitionKeys
 pub mod Rows

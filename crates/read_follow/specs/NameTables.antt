@@ -23,7 +23,8 @@ IsTableOf names m ts = (slots : BTreeMap (Bor Text) Slot) → get nat_cmp names 
 
 -- no tables but these and one of the types, under this number
 abbrev pub AddsTable : BTreeMap ℕ (BTreeMap (Bor Text) Slot) → ℕ → List ShownType → BTreeMap ℕ (BTreeMap (Bor Text) Slot) → Type 0
-AddsTable old m ts new = (n : ℕ) (slots : BTreeMap (Bor Text) Slot) → get nat_cmp new n ≡ Some slots → (get nat_cmp old n ≡ Some slots) ⊎ ((n ≡ m) × AreSlotsOf slots ts)
+AddsTable old m ts new = (n : ℕ) (slots : BTreeMap (Bor Text) Slot) → get nat_cmp new n ≡ Some slots → (get nat_cmp old n ≡ Some slots)
+    ⊎ ((n ≡ m) × AreSlotsOf slots ts)
 
 -- the instance of this number shows the types of the table
 pub record IsTableIn (is : List Instance) (n : ℕ) (slots : BTreeMap (Bor Text) Slot) : Type 0 where

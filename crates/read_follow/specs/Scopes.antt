@@ -32,9 +32,10 @@ use Rattle.read_follow.specs.Found.{Refuses}
 use Rattle.read_follow.specs.Functions.{functions_in, FunctionShape, IsFunctionIn}
 use Rattle.read_follow.specs.Placed.{apart, ComeBefore, DeclarationOver, HasNoNames, IsNameAs, IsShownAmong, IsTypeNamed, MayMeet, Rise, SignatureOver, SlotOver, ViewOver}
 use Rattle.read_follow.specs.Places.{has_path, key_at, place_number, ArePlacesOf, IsKeyIn}
+use Rattle.read_follow.specs.Numbering.{trees_along, trees_since, CountUp}
 use Rattle.read_follow.specs.Slots.{no_signature, slots_in}
 use Rattle.plan_meaning.specs.PlanRules.{is_form}
-use Rattle.plan_meaning.specs.Shapes.{Shape, named_shape, node_shape, shape_trees}
+use Rattle.plan_meaning.specs.Shapes.{Shape, named_shape, node_shape, part_tree, shape_trees}
 
 -- ---- what was kept, as what it stands for
 
@@ -79,7 +80,17 @@ pub record World : Type 0 where
   pub used : List ℕ
 
 abbrev pub world_of : List Shape → List FunctionShape → List (Option Text) → Scope → World
-world_of shapes fs paths s = record { home = s.home; shapes = shapes; signatures = fs; paths = paths; slots = s.slots.items; instances = s.instances.items; imports = s.imports.items; exports = s.exports.items; used = s.used.keys }
+world_of shapes fs paths s = record {
+  home = s.home;
+  shapes = shapes;
+  signatures = fs;
+  paths = paths;
+  slots = s.slots.items;
+  instances = s.instances.items;
+  imports = s.imports.items;
+  exports = s.exports.items;
+  used = s.used.keys;
+}
 
 abbrev pub world_trees : (ℕ → Place) → World → List Tree
 world_trees place w = shape_trees place w.shapes
@@ -167,12 +178,14 @@ pub record IsPlaceMetBefore (is : List Instance) (j q : ℕ) : Type 0 where
 -- Behind so many places that were there before, each instance stands behind one of each place that has a path and a smaller number than its own.
 abbrev pub ArePathsInOrder : ℕ → List (Option Text) → List Instance → Type 0
 ArePathsInOrder before paths is =
-    (j : ℕ) (x : Instance) → slice_get is j ≡ Some x → (q : ℕ) (path : Text) → slice_get paths q ≡ Some (Some path) → q < x.place → (q < before) ⊎ IsPlaceMetBefore is j q
+    (j : ℕ) (x : Instance) → slice_get is j ≡ Some x → (q : ℕ) (path : Text) → slice_get paths q ≡ Some (Some path) → q < x.place → (q < before)
+    ⊎ IsPlaceMetBefore is j q
 
 -- The name of this place, which is this part, is shown: by an instance of the place, or as an import of the scope itself.
 pub data IsShownBy (w : World) (q : ℕ) (name : Text) (part : ℕ) : Type 0 where
   by_instance : (j : ℕ) (x : Instance) → slice_get w.instances j ≡ Some x → x.place ≡ q → IsShownAmong x.view.types.items name part → IsShownBy w q name part
-  by_import : (j : ℕ) (s : Seen) (label : Bor (List ℕ)) (d : Option ℕ) → slice_get w.imports j ≡ Some s → s.shown ≡ shown.Type label part d → label.now ≡ name → q ≡ w.home → IsShownBy w q name part
+  by_import : (j : ℕ) (s : Seen) (label : Bor (List ℕ)) (d : Option ℕ) → slice_get w.imports j ≡ Some s → s.shown ≡ shown.Type label part d → label.now ≡ name
+      → q ≡ w.home → IsShownBy w q name part
 
 -- no instance before it is of its place
 abbrev pub IsFirstOf : List Instance → ℕ → Instance → Type 0
@@ -192,7 +205,8 @@ pub record IsPlacedInstance (base : List Shape) (count : ℕ) (w : World) (j : �
   pub named : AllByRecursion (IsTypeNamed w.shapes x.place) x.view.types.items
   pub own : ((path : Text) × (slice_get w.paths x.place ≡ Some (Some path))) ⊎ IsInlinePlace count w j x
   pub rise : HasNoNames x.place base → IsFirstOf w.instances j x → Rise x.view.types.items
-  pub later : HasNoNames x.place base → IsFirstOf w.instances j x → (i : ℕ) (y : Instance) → slice_get w.instances i ≡ Some y → i < j → ComeBefore y.view.types.items x.view.types.items
+  pub later : HasNoNames x.place base → IsFirstOf w.instances j x → (i : ℕ) (y : Instance) → slice_get w.instances i ≡ Some y → i < j
+      → ComeBefore y.view.types.items x.view.types.items
 
 -- an earlier import of a type has the name
 pub record IsImportRepeated (imports : List Seen) (j : ℕ) (name : Text) : Type 0 where
@@ -241,7 +255,8 @@ pub record IsPlacedAmong (base : List Shape) (count till : ℕ) (w : World) : Ty
   pub instances : (j : ℕ) (x : Instance) → slice_get w.instances j ≡ Some x → IsPlacedInstance base count w j x
   pub seen : (j : ℕ) (x : Instance) → slice_get w.instances j ≡ Some x → IsInstanceSeen w j
   pub names : (n q : ℕ) (name : Text) → n < till → slice_get w.shapes n ≡ Some (named_shape q name) → (n < length base) ⊎ IsShownBy w q name (14 + n)
-  pub formed : (n : ℕ) (form : Form) (parts : List ℕ) → n < till → slice_get w.shapes n ≡ Some (node_shape form parts) → (n < length base) ⊎ (is_form form parts ≡ true)
+  pub formed : (n : ℕ) (form : Form) (parts : List ℕ) → n < till → slice_get w.shapes n ≡ Some (node_shape form parts) → (n < length base)
+      ⊎ (is_form form parts ≡ true)
   pub counts : List ℕ
   pub many : length counts ≡ length w.imports
   pub counted : (j : ℕ) (s : Seen) (c : ℕ) → slice_get w.imports j ≡ Some s → slice_get counts j ≡ Some c → IsCounted w counts j s c
@@ -269,6 +284,13 @@ weights (e ∷ es) = weight e + weights es
 
 -- ---- steps
 
+-- The types that come into the table are those that are declared, in their order.
+pub record Numbers (old new : World) : Type 0 where
+  pub parts : List ℕ
+  pub counted : CountUp (length old.shapes) parts (length new.shapes)
+  pub trees : (place : ℕ → Place) → ArePlacesOf new.paths place
+      → trees_since (meant_at place old) (meant_at place new) ≡ map (part_tree (world_trees place new)) parts
+
 -- The tables grow, by this many types at most if all that waits is counted, names stay in their places, new places with a path are met, in their order, and
 -- the scope becomes what the step of the definition makes of it.
 pub record Goes (few : ℕ) (step : MeantScope → Option MeantScope) (old new : World) : Type 0 where
@@ -279,7 +301,12 @@ pub record Goes (few : ℕ) (step : MeantScope → Option MeantScope) (old new :
   pub count : length new.shapes + waiting new.used 0 new.slots ≤ length old.shapes + waiting old.used 0 old.slots + few
   pub placed : (base : List Shape) (places : ℕ) → IsPlacedWorld base places old → IsPlacedWorld base places new
   pub met : (before : ℕ) → ArePathsMet before old.paths old.instances → ArePathsMet before new.paths new.instances
-  pub order : (before : ℕ) → ArePathsMet before old.paths old.instances → ArePathsInOrder before old.paths old.instances → ArePathsInOrder before new.paths new.instances
+  pub order : (before : ℕ) → ArePathsMet before old.paths old.instances → ArePathsInOrder before old.paths old.instances
+      → ArePathsInOrder before new.paths new.instances
+  pub numbers : Numbers old new
+  pub home : new.home ≡ old.home
+  pub instances_grow : Grows old.instances new.instances
+  pub imports_grow : Grows old.imports new.imports
   pub follows : (place : ℕ → Place) → ArePlacesOf new.paths place → step (meant_at place old) ≡ Some (meant_at place new)
 
 -- the step of the definition makes nothing of it, unless memory ran out
@@ -288,11 +315,13 @@ Stops step old paths e = (place : ℕ → Place) → ArePlacesOf paths place →
 
 -- A world that is kept goes on by this step, whatever types of functions and places it is kept with. The table of types was the first list, and is the second.
 abbrev pub GoesBy : {A : Type 0} → (MeantScope → Option MeantScope) → List Shape → List Shape → Scope → Scope → Result A Refusal → Type 0
-GoesBy step before after old new result = (fs : List FunctionShape) (paths : List (Option Text)) → IsWorld (world_of before fs paths old) → OnOk result (Goes 1 step (world_of before fs paths old) (world_of after fs paths new))
+GoesBy step before after old new result = (fs : List FunctionShape) (paths : List (Option Text)) → IsWorld (world_of before fs paths old)
+    → OnOk result (Goes 1 step (world_of before fs paths old) (world_of after fs paths new))
 
 -- a refusal of it: the step makes nothing of the world, unless memory ran out
 abbrev pub StopsBy : {A : Type 0} → (MeantScope → Option MeantScope) → List Shape → Scope → Result A Refusal → Type 0
-StopsBy step before old result = (fs : List FunctionShape) (paths : List (Option Text)) → IsWorld (world_of before fs paths old) → IfErr result (Stops step (world_of before fs paths old) paths)
+StopsBy step before old result = (fs : List FunctionShape) (paths : List (Option Text)) → IsWorld (world_of before fs paths old)
+    → IfErr result (Stops step (world_of before fs paths old) paths)
 
 -- ---- aliases
 
@@ -304,6 +333,28 @@ find_slot name (t ∷ ts) = if text_eq name t.name.now then Some t.slot else fin
 abbrev pub slot_of_instance : List (Option Text) → Text → Option Instance → Option Slot
 slot_of_instance paths name None = None
 slot_of_instance paths name (Some i) = find_slot name i.view.types.items >>= λ s. provided (has_path (unwrap_or (slice_get paths i.place) None)) s
+
+-- ---- stages
+
+-- How a scope stood behind these first entries, before the others were followed: over beginnings of the tables and of the places that there are now, with
+-- beginnings of its instances and of its imports. Names stood in their places, and the scope stood for what those entries show.
+pub record IsStage (base : List Shape) (count : ℕ) (es : List RawEntry) (now : World) (n : ℕ) (w : World) : Type 0 where
+  pub world : IsWorld w
+  pub home : now.home ≡ w.home
+  pub shapes_grow : Grows w.shapes now.shapes
+  pub paths_grow : Grows w.paths now.paths
+  pub instances_grow : Grows w.instances now.instances
+  pub imports_grow : Grows w.imports now.imports
+  pub placed : IsPlacedWorld base count w
+  pub front : List RawEntry
+  pub back : List RawEntry
+  pub split : es ≡ front ++ back
+  pub long : length front ≡ n
+  pub follows : (place : ℕ → Place) → ArePlacesOf w.paths place → steps entry_step new_scope front ≡ Some (meant_at place w)
+
+-- how it stood behind the first entries, for each number up to this
+abbrev pub HasStages : List Shape → ℕ → List RawEntry → ℕ → World → Type 0
+HasStages base count es many now = (n : ℕ) → n ≤ many → (w : World) × IsStage base count es now n w
 
 -- ---- all entries
 
@@ -320,6 +371,13 @@ pub record IsFollowedTo (start : World) (b : Body) (i : ℕ) (rest : List ℕ) (
   pub left : sequence_at entry_at (b.count - i) rest ≡ Some (es, [])
   pub count : length now.shapes + waiting now.used 0 now.slots + weights es ≤ length start.shapes + weights (items_in entry_at b)
   pub follows : (place : ℕ → Place) → ArePlacesOf now.paths place → steps entry_step (meant_at place now) es ≡ steps entry_step new_scope (items_in entry_at b)
+  pub stage : IsStage start.shapes start.home (items_in entry_at b) now i now
+  pub behind : items_in entry_at b ≡ stage.front ++ es
+  pub parts : List ℕ
+  pub counted : CountUp (length start.shapes) parts (length now.shapes)
+  pub trees : (place : ℕ → Place) → ArePlacesOf now.paths place
+      → map (part_tree (world_trees place now)) parts ++ trees_along (meant_at place now) es ≡ trees_along new_scope (items_in entry_at b)
+  pub stages : HasStages start.shapes start.home (items_in entry_at b) i now
 
 -- ---- instances that are used
 
@@ -346,8 +404,10 @@ pub record IsInstanceAdded (old new : Scope) (is_import : Bool) (key : InstanceK
   pub slots : new.slots ≡ old.slots
   pub instances : new.instances.items ≡ old.instances.items ++ record { place = place_number key; view = view } ∷ []
   pub used : new.used.keys ≡ old.used.keys ++ n ∷ []
-  pub imports : new.imports.items ≡ (if is_import then old.imports.items ++ record { shown = shown.Instance key (length old.instances.items); external_id = external_id } ∷ [] else old.imports.items)
-  pub exports : new.exports.items ≡ (if is_import then old.exports.items else old.exports.items ++ record { shown = shown.Instance key (length old.instances.items); external_id = external_id } ∷ [])
+  pub imports : new.imports.items ≡ (if is_import then old.imports.items ++ record
+      { shown = shown.Instance key (length old.instances.items); external_id = external_id } ∷ [] else old.imports.items)
+  pub exports : new.exports.items ≡ (if is_import then old.exports.items else old.exports.items ++ record
+      { shown = shown.Instance key (length old.instances.items); external_id = external_id } ∷ [])
 
 -- the slot that an alias takes over
 abbrev pub taken_from : List (Option Text) → List Instance → Alias → Option Slot
@@ -369,10 +429,22 @@ are_settled used n (s ∷ ss) = is_settled used n s && are_settled used (suc n) 
 
 -- what the tables hold, with nothing in scope
 abbrev pub start_of : ℕ → List Shape → List FunctionShape → List (Option Text) → World
-start_of home shapes fs paths = record { home = home; shapes = shapes; signatures = fs; paths = paths; slots = []; instances = []; imports = []; exports = []; used = [] }
+start_of home shapes fs paths = record {
+  home = home;
+  shapes = shapes;
+  signatures = fs;
+  paths = paths;
+  slots = [];
+  instances = [];
+  imports = [];
+  exports =
+      [];
+  used = [];
+}
 
 -- The tables grow, by no more types than the entries and the instance types among them declare, names stand in their places, new places with a path are
--- met, in their order, and the scope stands for what they show.
+-- met, in their order, and the scope stands for what they show. So it did behind each number of entries. The types that came into the table are those that
+-- the entries declare, in their order.
 pub record IsScopeOf (shapes : List Shape) (fs : List FunctionShape) (paths : List (Option Text)) (b : Body) (now : World) : Type 0 where
   pub world : IsWorld now
   pub shapes_grow : Grows shapes now.shapes
@@ -382,4 +454,8 @@ pub record IsScopeOf (shapes : List Shape) (fs : List FunctionShape) (paths : Li
   pub placed : IsPlacedWorld shapes (length paths) now
   pub met : ArePathsMet (length paths) now.paths now.instances
   pub order : ArePathsInOrder (length paths) now.paths now.instances
+  pub stages : HasStages shapes (length paths) (items_in entry_at b) (length (items_in entry_at b)) now
+  pub parts : List ℕ
+  pub counted : CountUp (length shapes) parts (length now.shapes)
+  pub trees : (place : ℕ → Place) → ArePlacesOf now.paths place → map (part_tree (world_trees place now)) parts ≡ trees_along new_scope (items_in entry_at b)
   pub shows : (place : ℕ → Place) → ArePlacesOf now.paths place → entry_scope (items_in entry_at b) ≡ Some (meant_at place now)

@@ -73,8 +73,10 @@ fn see<'a>(
     kind: ComponentTypeRef,
 ) -> Result<(), Refusal>
     requires { IsWorld (world_of table.old functions.old places.old scope.old) }
-    ensures seen { OnOk result (Goes 1 (see_described_lem (direction is_import) (raw_name name.entry) kind) (world_of table.old functions.old places.old scope.old) (world_of table.new functions.new places.new scope.new)) }
-    ensures absent { IfErr result (Stops (see_described_lem (direction is_import) (raw_name name.entry) kind) (world_of table.old functions.old places.old scope.old) places.new) }
+    ensures seen { OnOk result (Goes 1 (see_described_lem (direction is_import) (raw_name name.entry) kind)
+        (world_of table.old functions.old places.old scope.old) (world_of table.new functions.new places.new scope.new)) }
+    ensures absent { IfErr result (Stops (see_described_lem (direction is_import) (raw_name name.entry) kind)
+        (world_of table.old functions.old places.old scope.old) places.new) }
     ensures grows { Grows places.old places.new }
     ensures instances { OnOk result (Grows scope.old.instances.items scope.new.instances.items) }
 {
@@ -105,8 +107,10 @@ fn step<'a>(
 ) -> Result<(), Refusal>
     requires world { IsWorld (world_of table.old functions.old places.old scope.old) }
     requires names { AreNamesOf names.old scope.old.instances.items }
-    ensures followed { OnOk result (Goes 1 (λ m. component_step m (raw_declared declared.now)) (world_of table.old functions.old places.old scope.old) (world_of table.new functions.new places.new scope.new)) }
-    ensures absent { IfErr result (Stops (λ m. component_step m (raw_declared declared.now)) (world_of table.old functions.old places.old scope.old) places.new) }
+    ensures followed { OnOk result (Goes 1 (λ m. component_step m (raw_declared declared.now)) (world_of table.old functions.old places.old scope.old)
+        (world_of table.new functions.new places.new scope.new)) }
+    ensures absent { IfErr result (Stops (λ m. component_step m (raw_declared declared.now)) (world_of table.old functions.old places.old scope.old)
+        places.new) }
     ensures grows { Grows places.old places.new }
     ensures names { OnOk result (AreNamesOf names.new scope.new.instances.items) }
 {
@@ -165,7 +169,8 @@ fn enter<'a>(
     requires world { IsWorld (world_of table.old functions.old places.old scope.old) }
     requires names { AreNamesOf names.old scope.old.instances.items }
     requires whole { IsWhole entry.now }
-    ensures followed { OnOk result (Goes (weight (raw_entry entry.now)) (λ m. entry_step m (raw_entry entry.now)) (world_of table.old functions.old places.old scope.old) (world_of table.new functions.new places.new scope.new)) }
+    ensures followed { OnOk result (Goes (weight (raw_entry entry.now)) (λ m. entry_step m (raw_entry entry.now))
+        (world_of table.old functions.old places.old scope.old) (world_of table.new functions.new places.new scope.new)) }
     ensures absent { IfErr result (Stops (λ m. entry_step m (raw_entry entry.now)) (world_of table.old functions.old places.old scope.old) places.new) }
     ensures grows { Grows places.old places.new }
     ensures names { OnOk result (AreNamesOf names.new scope.new.instances.items) }
@@ -221,7 +226,8 @@ fn follow_entries<'a>(
     requires home { slice_get places.old home ≡ Some None }
     requires fresh { HasNoNames home table.old }
     requires body { IsBody entry_at body }
-    ensures followed { IfOk result (λ scope. IsFollowedTo (start_of home table.old functions.old places.old) body.entry body.entry.count [] (world_of table.new functions.new places.new scope)) }
+    ensures followed { IfOk result (λ scope. IsFollowedTo (start_of home table.old functions.old places.old) body.entry body.entry.count []
+        (world_of table.new functions.new places.new scope)) }
     ensures absent { IfErr result (λ e. Refuses e (entry_scope (items_in entry_at body.entry))) }
 {
     let mut scope = new_scope(alloc, home);

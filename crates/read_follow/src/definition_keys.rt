@@ -43,7 +43,13 @@ fn key_over<'a>(
     first: Option<usize>,
     second: Option<usize>,
 ) -> Result<Key<'a>, Refusal>
-    ensures shape { IfOk result (λ k. shape_of k ≡ record { sort = sort; number = number; labels = []; parts = option_to_list first ++ option_to_list second }) }
+    ensures shape { IfOk result (λ k. shape_of k ≡ record {
+      sort = sort;
+      number = number;
+      labels = [];
+      parts =
+          option_to_list first ++ option_to_list second;
+    }) }
     ensures memory { IsOkUnless result refusals.Memory }
     ensures small { number < 4294967296 }
 {
@@ -268,7 +274,8 @@ fn value_parts(
     values: &[ComponentValType],
 ) -> Result<Vec<usize>, Refusal>
     ensures range { IfOk result (λ ks. (n : ℕ) → AreInRange n slots.now → AllByRecursion (λ k. k < 14 + n) ks.items) }
-    ensures found { IfOk result (λ ks. (T : List Tree) (F : List Signature) → RowsOf (value_type (slots_in T F slots.now)) value_labels value_trees values.now [] (map (part_tree T) ks.items)) }
+    ensures found { IfOk result (λ ks. (T : List Tree) (F : List Signature)
+        → RowsOf (value_type (slots_in T F slots.now)) value_labels value_trees values.now [] (map (part_tree T) ks.items)) }
     ensures absent { IfErr result (λ e. (T : List Tree) (F : List Signature) → Refuses e (each (value_type (slots_in T F slots.now)) values.now)) }
 {
     let mut parts = Vec::new(alloc);
@@ -309,8 +316,11 @@ fn field_parts<'a>(
     fields: &[(&'a str, ComponentValType)],
 ) -> Result<(Vec<(&'a str, bool)>, Vec<usize>), Refusal>
     ensures range { IfOk result (λ x. (n : ℕ) → AreInRange n slots.now → AllByRecursion (λ k. k < 14 + n) x.1.items) }
-    ensures found { IfOk result (λ x. (T : List Tree) (F : List Signature) → RowsOf (field_type (slots_in T F slots.now)) field_labels field_trees (map labeled fields.now) (map label_of x.0.items) (map (part_tree T) x.1.items)) }
-    ensures absent { IfErr result (λ e. (T : List Tree) (F : List Signature) → Refuses e (each (field_type (slots_in T F slots.now)) (map labeled fields.now))) }
+    ensures found { IfOk result (λ x. (T : List Tree) (F : List Signature)
+        → RowsOf (field_type (slots_in T F slots.now)) field_labels field_trees (map labeled fields.now) (map label_of x.0.items)
+        (map (part_tree T) x.1.items)) }
+    ensures absent { IfErr result (λ e. (T : List Tree) (F : List Signature)
+        → Refuses e (each (field_type (slots_in T F slots.now)) (map labeled fields.now))) }
 {
     let mut labels = Vec::new(alloc);
     let mut parts = Vec::new(alloc);
@@ -354,7 +364,8 @@ fn case_parts<'a>(
     cases: &[(&'a str, Option<ComponentValType>)],
 ) -> Result<(Vec<(&'a str, bool)>, Vec<usize>), Refusal>
     ensures range { IfOk result (λ x. (n : ℕ) → AreInRange n slots.now → AllByRecursion (λ k. k < 14 + n) x.1.items) }
-    ensures found { IfOk result (λ x. (T : List Tree) (F : List Signature) → RowsOf (case_type (slots_in T F slots.now)) case_labels case_trees (map labeled cases.now) (map label_of x.0.items) (map (part_tree T) x.1.items)) }
+    ensures found { IfOk result (λ x. (T : List Tree) (F : List Signature)
+        → RowsOf (case_type (slots_in T F slots.now)) case_labels case_trees (map labeled cases.now) (map label_of x.0.items) (map (part_tree T) x.1.items)) }
     ensures absent { IfErr result (λ e. (T : List Tree) (F : List Signature) → Refuses e (each (case_type (slots_in T F slots.now)) (map labeled cases.now))) }
 {
     let mut labels = Vec::new(alloc);

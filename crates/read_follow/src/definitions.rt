@@ -143,7 +143,8 @@ fn fixed_list_of<'a>(bytes: &'a [u8]) -> Result<(ComponentDefinedType<'a>, &'a [
 /// A result, behind its first byte.
 #[tactic(auto, unfolding(comp_bytes::specs::Reading::as_at, comp_bytes::specs::Reading::pair_at))]
 fn result_of<'a>(bytes: &'a [u8]) -> Result<(ComponentDefinedType<'a>, &'a [u8]), Refusal>
-    ensures { Finds raw_defined result (as_at (λ p. DefinedType.result_of p.0 p.1) (pair_at (optional_at value_type_at) (optional_at value_type_at)) bytes.now) }
+    ensures { Finds raw_defined result (as_at (λ p. DefinedType.result_of p.0 p.1) (pair_at (optional_at value_type_at) (optional_at value_type_at))
+        bytes.now) }
 {
     let (first, rest) = optional_of(bytes)?;
     let (second, rest) = optional_of(rest)?;

@@ -98,7 +98,8 @@ pub(crate) fn fact_at(facts: &[Fact], part: usize) -> Fact
 
 /// What the parts are together.
 fn summary_of(facts: &[Fact], parts: &[usize]) -> Summary
-    ensures { (trees : (ℕ → Place) → List Tree) → FactsHold facts.now trees → AllByRecursion (λ k. k < 14 + length facts.now) parts.now → Sums result (λ place. map (part_tree (trees place)) parts.now) }
+    ensures { (trees : (ℕ → Place) → List Tree) → FactsHold facts.now trees → AllByRecursion (λ k. k < 14 + length facts.now) parts.now
+        → Sums result (λ place. map (part_tree (trees place)) parts.now) }
 {
     let mut summary = Summary {
         levels: 0,
@@ -148,7 +149,8 @@ fn node_fact(parts: Summary, sort: u8, has_good_labels: bool) -> Fact
 
 /// What is known of the type of a key, from what is known of its parts and its labels.
 fn labelled_fact(facts: &[Fact], key: &Key<'_>, has_good_labels: bool) -> Fact
-    ensures { (trees : (ℕ → Place) → List Tree) → FactsHold facts.now trees → IsShape (length facts.now) (shape_of key.now) → has_good_labels ≡ are_labels_lem (labels_of key.now) → Tells result (λ place. shape_tree place (trees place) (shape_of key.now)) }
+    ensures { (trees : (ℕ → Place) → List Tree) → FactsHold facts.now trees → IsShape (length facts.now) (shape_of key.now)
+        → has_good_labels ≡ are_labels_lem (labels_of key.now) → Tells result (λ place. shape_tree place (trees place) (shape_of key.now)) }
 {
     let sort = key.sort;
     if sort == 0 {
@@ -187,7 +189,8 @@ pub(crate) fn fact_of(
     facts: &[Fact],
     key: &Key<'_>,
 ) -> Result<Fact, AllocError>
-    ensures { IfOk result (λ f. (trees : (ℕ → Place) → List Tree) → FactsHold facts.now trees → IsShape (length facts.now) (shape_of key.now) → Tells f (λ place. shape_tree place (trees place) (shape_of key.now))) }
+    ensures { IfOk result (λ f. (trees : (ℕ → Place) → List Tree) → FactsHold facts.now trees → IsShape (length facts.now) (shape_of key.now)
+        → Tells f (λ place. shape_tree place (trees place) (shape_of key.now))) }
 {
     let has_good_labels = are_labels(alloc, hash, &key.labels)?;
     Ok(labelled_fact(facts, key, has_good_labels))

@@ -82,8 +82,10 @@ fn step<'a>(
     requires state { IsState (length marks.now) (state_of table.old functions.old scope.old) }
     requires outer { AreSlotsIn table.old functions.old outer.now }
     requires here { here < length marks.now }
-    ensures followed { OnOk result (Steps marks.now here 1 (step_of here table.old functions.old outer.now (raw_declared declared.now)) (state_of table.old functions.old scope.old) (state_of table.new functions.new scope.new)) }
-    ensures absent { IfErr result (Halts marks.now (step_of here table.old functions.old outer.now (raw_declared declared.now)) (state_of table.old functions.old scope.old)) }
+    ensures followed { OnOk result (Steps marks.now here 1 (step_of here table.old functions.old outer.now (raw_declared declared.now))
+        (state_of table.old functions.old scope.old) (state_of table.new functions.new scope.new)) }
+    ensures absent { IfErr result (Halts marks.now (step_of here table.old functions.old outer.now (raw_declared declared.now))
+        (state_of table.old functions.old scope.old)) }
 {
     match declared {
         Declared::Defined(definition) => define(alloc, table, &mut scope.slots, definition),
@@ -136,7 +138,8 @@ fn follow_body<'a>(
     requires outer { AreSlotsIn table.old functions.old outer.now }
     requires here { here < length marks.now }
     requires body { IsBody held_declaration_at body }
-    ensures followed { IfOk result (λ scope. IsFollowed marks.now here (tables_of table.old functions.old) outer.now body.entry body.entry.count [] (state_of table.new functions.new scope)) }
+    ensures followed { IfOk result (λ scope. IsFollowed marks.now here (tables_of table.old functions.old) outer.now body.entry body.entry.count []
+        (state_of table.new functions.new scope)) }
     ensures absent { IfErr result (λ e. ShowsNothing marks.now here (tables_of table.old functions.old) outer.now body.entry e) }
 {
     let mut scope = InstanceScope {

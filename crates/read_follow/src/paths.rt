@@ -68,7 +68,8 @@ fn is_named(
     version: Option<&str>,
 ) -> Result<bool, Refusal>
     ensures memory { IsOkUnless result refusals.Memory }
-    ensures is { IfOk result (λ b. b ≡ ((is_label_lem namespace.now && (is_label_lem name.now && is_optional_version (option_copied version.entry))) && is_label_lem interface.now)) }
+    ensures is { IfOk result (λ b. b ≡ ((is_label_lem namespace.now && (is_label_lem name.now && is_optional_version (option_copied version.entry)))
+        && is_label_lem interface.now)) }
 {
     let is_version = is_version_if_given(alloc, version)?;
     Ok(is_label(namespace) && is_label(name) && is_version && is_label(interface))

@@ -68,7 +68,8 @@ pub(crate) fn exported_slot<'a>(
     name: &'a str,
 ) -> Result<Slot<'a>, Refusal>
     requires { AreNamesOf names.old instances.now }
-    ensures found { (paths : List (Option Text)) → marks.now ≡ map has_path paths → Gives (λ s. s) result (slot_of_instance paths name.entry.now (slice_get instances.now m)) }
+    ensures found { (paths : List (Option Text)) → marks.now ≡ map has_path paths
+        → Gives (λ s. s) result (slot_of_instance paths name.entry.now (slice_get instances.now m)) }
     ensures names { AreNamesOf names.new instances.now }
 {
     match instance_at(instances, m) {
@@ -182,7 +183,8 @@ fn used_view<'a>(
     requires tables { AreTables (length marks.now) table.old functions.old }
     requires slots { AreSlotsIn table.old functions.old slots.now }
     requires here { here < length marks.now }
-    ensures shown { IfOk result (λ v. IsUsedView marks.now here (tables_of table.old functions.old) slots.now used.now.keys n v (tables_of table.new functions.new)) }
+    ensures shown { IfOk result (λ v. IsUsedView marks.now here (tables_of table.old functions.old) slots.now used.now.keys n v
+        (tables_of table.new functions.new)) }
     ensures absent { IfErr result (HasNoUsedView marks.now here (tables_of table.old functions.old) slots.now used.now.keys n) }
 {
     if used.contains(&(n as usize)) {
@@ -244,8 +246,10 @@ pub(crate) fn see_instance<'a>(
     n: u32,
 ) -> Result<(), Refusal>
     requires { IsWorld (world_of table.old functions.old places.old scope.old) }
-    ensures seen { OnOk result (Goes 0 (see_instance_lem (direction is_import) (raw_name name.entry) n) (world_of table.old functions.old places.old scope.old) (world_of table.new functions.new places.new scope.new)) }
-    ensures absent { IfErr result (Stops (see_instance_lem (direction is_import) (raw_name name.entry) n) (world_of table.old functions.old places.old scope.old) places.new) }
+    ensures seen { OnOk result (Goes 0 (see_instance_lem (direction is_import) (raw_name name.entry) n) (world_of table.old functions.old places.old scope.old)
+        (world_of table.new functions.new places.new scope.new)) }
+    ensures absent { IfErr result (Stops (see_instance_lem (direction is_import) (raw_name name.entry) n)
+        (world_of table.old functions.old places.old scope.old) places.new) }
     ensures grows { Grows places.old places.new }
     ensures instances { OnOk result (Grows scope.old.instances.items scope.new.instances.items) }
 {

@@ -33,7 +33,8 @@ pub(crate) struct NewName {
 /// What an import or an export of this kind declares, if it is one of a type.
 pub(crate) fn declared_by(slots: &[Slot<'_>], kind: ComponentTypeRef) -> Result<NewName, Refusal>
     ensures range { IfOk result (λ x. IfSome x.declared (λ k. (n : ℕ) → AreInRange n slots.now → k < 14 + n)) }
-    ensures found { (T : List Tree) (F : List Signature) (place : Place) (name : Text) → AreNames T slots.now → Gives (named_by T place name) result (named_type (slots_in T F slots.now) place name kind) }
+    ensures found { (T : List Tree) (F : List Signature) (place : Place) (name : Text) → AreNames T slots.now
+        → Gives (named_by T place name) result (named_type (slots_in T F slots.now) place name kind) }
 {
     match kind {
         ComponentTypeRef::TypeEq(n) => match slot_at(slots, n) {
@@ -104,7 +105,8 @@ fn show_type<'a>(
     name: ExternName<'a>,
     kind: ComponentTypeRef,
 ) -> Result<(), Refusal>
-    ensures shown { (marks : List Bool) → StepsHereBy marks here (λ place. show_type_lem (place here) (raw_name name.entry) kind) table.old table.new scope.old scope.new result }
+    ensures shown { (marks : List Bool)
+        → StepsHereBy marks here (λ place. show_type_lem (place here) (raw_name name.entry) kind) table.old table.new scope.old scope.new result }
     ensures absent { (marks : List Bool) → HaltsBy marks (λ place. show_type_lem (place here) (raw_name name.entry) kind) table.old scope.old result }
 {
     match declared_by(&scope.slots, kind) {
@@ -130,7 +132,8 @@ fn show_function<'a>(
     name: ExternName<'a>,
     n: u32,
 ) -> Result<(), Refusal>
-    ensures shown { (marks : List Bool) (here : ℕ) (shapes : List Shape) → StepsBy marks here (λ place. show_function_lem (raw_name name.entry) n) shapes shapes scope.old scope.new result }
+    ensures shown { (marks : List Bool) (here : ℕ) (shapes : List Shape)
+        → StepsBy marks here (λ place. show_function_lem (raw_name name.entry) n) shapes shapes scope.old scope.new result }
     ensures absent { (marks : List Bool) (shapes : List Shape) → HaltsBy marks (λ place. show_function_lem (raw_name name.entry) n) shapes scope.old result }
 {
     match function_in(&scope.slots, n) {
@@ -162,8 +165,12 @@ pub(crate) fn show<'a>(
     name: ExternName<'a>,
     kind: ComponentTypeRef,
 ) -> Result<(), Refusal>
-    ensures shown { (marks : List Bool) → StepsHereBy marks here (λ place meant. when (is_simple_lem (raw_name name.entry)) (show_lem (place here) (raw_name name.entry) kind meant)) table.old table.new scope.old scope.new result }
-    ensures absent { (marks : List Bool) → HaltsBy marks (λ place meant. when (is_simple_lem (raw_name name.entry)) (show_lem (place here) (raw_name name.entry) kind meant)) table.old scope.old result }
+    ensures shown { (marks : List Bool)
+        → StepsHereBy marks here (λ place meant. when (is_simple_lem (raw_name name.entry)) (show_lem (place here) (raw_name name.entry) kind meant)) table.old
+        table.new scope.old scope.new result }
+    ensures absent { (marks : List Bool)
+        → HaltsBy marks (λ place meant. when (is_simple_lem (raw_name name.entry)) (show_lem (place here) (raw_name name.entry) kind meant)) table.old
+        scope.old result }
 {
     if !is_simple(name) {
         return Err(Refusal::Absent(Cause::BadName, 0));

@@ -26,8 +26,10 @@ fn params_of<'a>(
     params: &[(&'a str, ComponentValType)],
 ) -> Result<Vec<(&'a str, usize)>, Refusal>
     ensures range { IfOk result (λ x. (n : ℕ) → AreInRange n slots.now → AllByRecursion (λ p. p.1 < 14 + n) (map param_of x.items)) }
-    ensures found { IfOk result (λ x. (T : List Tree) (F : List Signature) → each (field_type (slots_in T F slots.now)) (map labeled params.now) ≡ Some (map (param_tree T) (map param_of x.items))) }
-    ensures absent { IfErr result (λ e. (T : List Tree) (F : List Signature) → Refuses e (each (field_type (slots_in T F slots.now)) (map labeled params.now))) }
+    ensures found { IfOk result (λ x. (T : List Tree) (F : List Signature)
+        → each (field_type (slots_in T F slots.now)) (map labeled params.now) ≡ Some (map (param_tree T) (map param_of x.items))) }
+    ensures absent { IfErr result (λ e. (T : List Tree) (F : List Signature)
+        → Refuses e (each (field_type (slots_in T F slots.now)) (map labeled params.now))) }
 {
     let mut parts = Vec::with_capacity(alloc, params.len())?;
     for param in params {

@@ -34,13 +34,15 @@ reason_of old new packages path None reads takes =
 reason_of old new packages path (Some home) reads takes =
     joined_reason old new reads.0 (subst (λ (o : Option (PackageIdentity × Text)). Takes old (option_map (λ x. x.0) o) new) reads.2 takes) packages home reads.1
 
-pub home_reason : (old new : List PackageIdentity) → ArePackages new → (path : Text) (r : Result (Option (ℕ × Bor (List ℕ))) AllocError) → IfOk r (λ x. IsReadAs new path (given_home x)) → OnOk r (Takes old (package_read path) new) → IfOk r (λ x. IsReason old new (given_home x))
+pub home_reason : (old new : List PackageIdentity) → ArePackages new → (path : Text) (r : Result (Option (ℕ × Bor (List ℕ))) AllocError) → IfOk r (λ x. IsReadAs new path (given_home x))
+    → OnOk r (Takes old (package_read path) new) → IfOk r (λ x. IsReason old new (given_home x))
 home_reason old new packages path (Ok x) reads takes = reason_of old new packages path (given_home x) reads takes
 home_reason old new packages path (Err e) reads takes = tt
 
 -- ---- one place more
 
-reasons_more : (first old new : List PackageIdentity) (homes : List (Option (ℕ × Text))) (home : Option (ℕ × Text)) → HaveReasons first old homes → IsReason old new home → HaveReasons first new (homes ++ home ∷ [])
+reasons_more : (first old new : List PackageIdentity) (homes : List (Option (ℕ × Text))) (home : Option (ℕ × Text)) → HaveReasons first old homes → IsReason old new home
+    → HaveReasons first new (homes ++ home ∷ [])
 reasons_more first old new homes home have reason n below = elim (reason n below) [
   | inl before ↦ elim (have n before) [
     | inl earlier ↦ inl earlier
@@ -49,20 +51,27 @@ reasons_more first old new homes home have reason n below = elim (reason n below
   | inr own ↦ inr (record { place = length homes; name = own.0; home = last_there homes home ∙ ap Some own.1 })
 ]
 
-pub more_reasons : (first old new : List PackageIdentity) (homes : List (Option (ℕ × Bor (List ℕ)))) (home : Option (ℕ × Bor (List ℕ))) (after : List (Option (ℕ × Bor (List ℕ)))) → after ≡ homes ++ home ∷ []
+pub more_reasons : (first old new : List PackageIdentity) (homes : List (Option (ℕ × Bor (List ℕ)))) (home : Option (ℕ × Bor (List ℕ))) (after : List (Option (ℕ × Bor (List ℕ))))
+    → after ≡ homes ++ home ∷ []
     → HaveReasons first old (map given_home homes) → IsReason old new (given_home home) → HaveReasons first new (map given_home after)
 more_reasons first old new homes home after added have reason =
-    subst (λ (hs : List (Option (ℕ × Text))). HaveReasons first new hs) (sym (ap (map given_home) added ∙ map-append given_home homes (home ∷ []))) (reasons_more first old new (map given_home homes) (given_home home) have reason)
+    subst (λ (hs : List (Option (ℕ × Text))). HaveReasons first new hs) (sym (ap (map given_home) added ∙ map-append given_home homes (home ∷ [])))
+    (reasons_more first old new (map given_home homes) (given_home home) have reason)
 
 -- the package of a place is one of the packages
 home_below : (packages : List PackageIdentity) (path : Option Text) (n : ℕ) (name : Text) → IsHomeOf packages path (Some (n, name)) → n < length packages
 home_below packages None n name is = absurd cc
 home_below packages (Some path) n name is = found_below packages n is.0 is.1
 
-in_order_more : (first old new : List PackageIdentity) (path : Option Text) (homes : List (Option (ℕ × Text))) (home : Option (ℕ × Text)) → IsHomeOf new path home → HaveReasons first old homes → IsReason old new home → ComeInOrder first homes
+in_order_more : (first old new : List PackageIdentity) (path : Option Text) (homes : List (Option (ℕ × Text))) (home : Option (ℕ × Text)) → IsHomeOf new path home → HaveReasons first old homes
+    → IsReason old new home → ComeInOrder first homes
     → ComeInOrder first (homes ++ home ∷ [])
 in_order_more first old new path homes home is have reason order p n name at c less = elim (last_or homes home p (Some (n, name)) at) [
-  | inl h ↦ elim (order p n name h.1 c less) [ inl before ↦ inl before | inr b ↦ inr (record { number = b.number; earlier = b.earlier; name = b.name; home = front_more homes home b.number (Some (c, b.name)) b.home }) ]
+  | inl h ↦ elim (order p n name h.1 c less) [
+    | inl before ↦ inl before
+    | inr b ↦
+        inr (record { number = b.number; earlier = b.earlier; name = b.name; home = front_more homes home b.number (Some (c, b.name)) b.home })
+  ]
   | inr h ↦
       let below = home_below new path n name (subst (λ (o : Option (ℕ × Text)). IsHomeOf new path o) h.1 is) in
       let last = h.0 in
@@ -80,27 +89,34 @@ in_order_more first old new path homes home is have reason order p n name at c l
       ]
 ]
 
-pub more_in_order : (first old new : List PackageIdentity) (path : Option Text) (homes : List (Option (ℕ × Bor (List ℕ)))) (home : Option (ℕ × Bor (List ℕ))) (after : List (Option (ℕ × Bor (List ℕ)))) → after ≡ homes ++ home ∷ []
-    → IsHomeOf new path (given_home home) → HaveReasons first old (map given_home homes) → IsReason old new (given_home home) → ComeInOrder first (map given_home homes) → ComeInOrder first (map given_home after)
+pub more_in_order : (first old new : List PackageIdentity) (path : Option Text) (homes : List (Option (ℕ × Bor (List ℕ)))) (home : Option (ℕ × Bor (List ℕ))) (after : List (Option (ℕ × Bor (List ℕ))))
+    → after ≡ homes ++ home ∷ []
+    → IsHomeOf new path (given_home home) → HaveReasons first old (map given_home homes) → IsReason old new (given_home home) → ComeInOrder first (map given_home homes)
+    → ComeInOrder first (map given_home after)
 more_in_order first old new path homes home after added is have reason order =
     subst (λ (hs : List (Option (ℕ × Text))). ComeInOrder first hs) (sym (ap (map given_home) added ∙ map-append given_home homes (home ∷ [])))
     (in_order_more first old new path (map given_home homes) (given_home home) is have reason order)
 
-pub more_homes : (old new : List PackageIdentity) → Grows old new → (paths : List (Option (Bor (List ℕ)))) (i : ℕ) (d : Option (Bor (List ℕ))) → i < length paths → (homes : List (Option (ℕ × Bor (List ℕ)))) (home : Option (ℕ × Bor (List ℕ))) (after : List (Option (ℕ × Bor (List ℕ)))) → after ≡ homes ++ home ∷ []
-    → AllZip (IsHomeOf old) (map given_text (take i paths)) (map given_home homes) → IsHomeOf new (given_text (get_or paths i d)) (given_home home) → AllZip (IsHomeOf new) (map given_text (take (i + 1) paths)) (map given_home after)
+pub more_homes : (old new : List PackageIdentity) → Grows old new → (paths : List (Option (Bor (List ℕ)))) (i : ℕ) (d : Option (Bor (List ℕ))) → i < length paths
+    → (homes : List (Option (ℕ × Bor (List ℕ)))) (home : Option (ℕ × Bor (List ℕ))) (after : List (Option (ℕ × Bor (List ℕ)))) → after ≡ homes ++ home ∷ []
+    → AllZip (IsHomeOf old) (map given_text (take i paths)) (map given_home homes) → IsHomeOf new (given_text (get_or paths i d)) (given_home home)
+    → AllZip (IsHomeOf new) (map given_text (take (i + 1) paths)) (map given_home after)
 more_homes old new grows paths i d within homes home after added before is =
-    let ps : map given_text (take (i + 1) paths) ≡ map given_text (take i paths) ++ given_text (get_or paths i d) ∷ [] = ap (map given_text) (take_more paths i d within) ∙ map-append given_text (take i paths) (get_or paths i d ∷ []) in
+    let ps : map given_text (take (i + 1) paths) ≡ map given_text (take i paths) ++ given_text (get_or paths i d) ∷ [] =
+    ap (map given_text) (take_more paths i d within) ∙ map-append given_text (take i paths) (get_or paths i d ∷ []) in
     let hs : map given_home after ≡ map given_home homes ++ given_home home ∷ [] = ap (map given_home) added ∙ map-append given_home homes (home ∷ []) in
     subst (λ (xs : List (Option Text)). AllZip (IsHomeOf new) xs (map given_home after)) (sym ps)
     (subst (λ (ys : List (Option (ℕ × Text))). AllZip (IsHomeOf new) (map given_text (take i paths) ++ given_text (get_or paths i d) ∷ []) ys) (sym hs)
-    (zip-push (IsHomeOf new) (map given_text (take i paths)) (map given_home homes) (given_text (get_or paths i d)) (given_home home) (homes_on old new grows (map given_text (take i paths)) (map given_home homes) before) is))
+    (zip-push (IsHomeOf new) (map given_text (take i paths)) (map given_home homes) (given_text (get_or paths i d)) (given_home home)
+    (homes_on old new grows (map given_text (take i paths)) (map given_home homes) before) is))
 
 -- ---- all places
 
 abbrev StandsFor : List PackageIdentity → List (Option (ℕ × Text)) → ℕ → Text → Type 0
 StandsFor packages homes p path = (home : Option (ℕ × Text)) × (slice_get homes p ≡ Some home) × IsHomeOf packages (Some path) home
 
-at_place : (packages : List PackageIdentity) (paths : List (Option Text)) (homes : List (Option (ℕ × Text))) → AllZip (IsHomeOf packages) paths homes → (p : ℕ) (path : Text) → slice_get paths p ≡ Some (Some path) → StandsFor packages homes p path
+at_place : (packages : List PackageIdentity) (paths : List (Option Text)) (homes : List (Option (ℕ × Text))) → AllZip (IsHomeOf packages) paths homes → (p : ℕ) (path : Text)
+    → slice_get paths p ≡ Some (Some path) → StandsFor packages homes p path
 at_place packages [] homes all p path e = absurd cc
 at_place packages (x ∷ paths) [] all p path e = absurd all
 at_place packages (x ∷ paths) (home ∷ homes) all zero path e = let same : x ≡ Some path = cc in (home, refl, subst (λ (o : Option Text). IsHomeOf packages o home) same all.0)
@@ -121,11 +137,13 @@ module _ (t : Tables) (packages : List PackageIdentity) (are : ArePackages packa
     apart = are.apart;
   }
     where
-      by : (p : ℕ) (path : Text) (home : Option (ℕ × Text)) → slice_get homes p ≡ Some home → IsHomeOf packages (Some path) home → (x : PackageIdentity × Text) → read_path path ≡ Some x → members.IsHomeOf (record { packages = packages; homes = homes }) p path
+      by : (p : ℕ) (path : Text) (home : Option (ℕ × Text)) → slice_get homes p ≡ Some home → IsHomeOf packages (Some path) home → (x : PackageIdentity × Text) → read_path path ≡ Some x
+          → members.IsHomeOf (record { packages = packages; homes = homes }) p path
       by p path None there is x reads = let wrong : None ≡ Some x = sym is ∙ reads in absurd cc
       by p path (Some home) there is x reads = record { package_ = home.0; name = home.1; identity = is.0; home = ap (λ o. unwrap_or o None) there; stands = is.1; reads = is.2 }
 
-pub all_homes : (t : Tables) (packages : List PackageIdentity) → ArePackages packages → (paths : List (Option (Bor (List ℕ)))) (i : ℕ) → length paths ≤ i → (homes : List (Option (ℕ × Bor (List ℕ)))) → AllZip (IsHomeOf packages) (map given_text (take i paths)) (map given_home homes)
+pub all_homes : (t : Tables) (packages : List PackageIdentity) → ArePackages packages → (paths : List (Option (Bor (List ℕ)))) (i : ℕ) → length paths ≤ i → (homes : List (Option (ℕ × Bor (List ℕ))))
+    → AllZip (IsHomeOf packages) (map given_text (take i paths)) (map given_home homes)
     → t.paths ≡ map given_text paths → ArePaths t.paths → HomesStand t (record { packages = packages; homes = map given_home homes })
 all_homes t packages are paths i past homes all same are_paths =
     homes_stand t packages are (map given_home homes)

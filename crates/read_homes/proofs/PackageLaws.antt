@@ -41,7 +41,8 @@ versions_again (Some x) (Some y) e = let same : x.now ≡ y.now = cc in (bytes_e
 pub texts_same : (a b : PackageTexts) → same_texts a b ≡ true → identity_of a ≡ identity_of b
 texts_same a b e =
     let others = second_true (text_eq a.namespace.now b.namespace.now) (text_eq a.name.now b.name.now && option_eq (λ x y. text_eq x.now y.now) a.version b.version) e in
-    let namespace = same_text a.namespace.now b.namespace.now (first_true (text_eq a.namespace.now b.namespace.now) (text_eq a.name.now b.name.now && option_eq (λ x y. text_eq x.now y.now) a.version b.version) e) in
+    let namespace = same_text a.namespace.now b.namespace.now (first_true (text_eq a.namespace.now b.namespace.now)
+    (text_eq a.name.now b.name.now && option_eq (λ x y. text_eq x.now y.now) a.version b.version) e) in
     let name = same_text a.name.now b.name.now (first_true (text_eq a.name.now b.name.now) (option_eq (λ x y. text_eq x.now y.now) a.version b.version) others) in
     let version = versions_same a.version b.version (second_true (text_eq a.name.now b.name.now) (option_eq (λ x y. text_eq x.now y.now) a.version b.version) others) in
     λ i. record { namespace = namespace i; name = name i; version = version i }
@@ -61,9 +62,11 @@ seen (x ∷ ks) k zero e = let same : identity_of k ≡ identity_of x = cc in ap
 seen (x ∷ ks) k (suc n) e = either_true (same_texts k x) (list_any (same_texts k) ks) (seen ks k n e)
 
 -- what is put where it isn't equal to any
-pub joins : (ks new : List PackageTexts) (k : PackageTexts) (b : Bool) → list_any (same_texts k) ks ≡ b → new ≡ cond b ks (ks ++ k ∷ []) → Joins (map identity_of ks) (identity_of k) (map identity_of new)
+pub joins : (ks new : List PackageTexts) (k : PackageTexts) (b : Bool) → list_any (same_texts k) ks ≡ b → new ≡ cond b ks (ks ++ k ∷ [])
+    → Joins (map identity_of ks) (identity_of k) (map identity_of new)
 joins ks new k true is e = subst (λ xs. Joins (map identity_of ks) (identity_of k) xs) (sym (ap (map identity_of) e)) stays
-joins ks new k false is e = subst (λ xs. Joins (map identity_of ks) (identity_of k) xs) (sym (ap (map identity_of) e ∙ map-append identity_of ks (k ∷ []))) (comes (λ n found. absurd (differs n found)))
+joins ks new k false is e = subst (λ xs. Joins (map identity_of ks) (identity_of k) xs) (sym (ap (map identity_of) e ∙ map-append identity_of ks (k ∷ [])))
+    (comes (λ n found. absurd (differs n found)))
   where
     differs : (n : ℕ) → slice_get (map identity_of ks) n ≡ Some (identity_of k) → ⊥
     differs n found = let is_there = seen ks k n found in cc
@@ -132,6 +135,7 @@ module _ (old new : List PackageIdentity) (grows : Grows old new) where
   }
 
 -- what was put among the packages, or left them as they were
-pub put_grows : (r : Result ℕ AllocError) (old new : List PackageTexts) (x : PackageIdentity) → OnOk r (Joins (map identity_of old) x (map identity_of new)) → OnErr r (new ≡ old) → Grows (map identity_of old) (map identity_of new)
+pub put_grows : (r : Result ℕ AllocError) (old new : List PackageTexts) (x : PackageIdentity) → OnOk r (Joins (map identity_of old) x (map identity_of new)) → OnErr r (new ≡ old)
+    → Grows (map identity_of old) (map identity_of new)
 put_grows (Ok n) old new x joined kept = joined_grows (map identity_of old) (map identity_of new) x joined
 put_grows (Err e) old new x joined kept = subst (λ ks. Grows (map identity_of old) (map identity_of ks)) (sym kept) (same_grows (map identity_of old))

@@ -123,7 +123,8 @@ ComeInOrder old homes = (p n : ℕ) (name : Text) → slice_get homes p ≡ Some
 
 -- what stands as it is known of the packages of places stands where there are more packages
 abbrev pub KeepsHomes : List PackageIdentity → List PackageIdentity → Type 0
-KeepsHomes old new = (t : Tables) (homes : List (Option (ℕ × Text))) → HomesStand t (record { packages = old; homes = homes }) → HomesStand t (record { packages = new; homes = homes })
+KeepsHomes old new = (t : Tables) (homes : List (Option (ℕ × Text))) → HomesStand t (record { packages = old; homes = homes })
+    → HomesStand t (record { packages = new; homes = homes })
 
 -- The homes stand in each table of these paths, where each is one.
 abbrev pub StandInTables : List (Option Text) → List PackageIdentity → List (Option (ℕ × Text)) → Type 0

@@ -1,5 +1,5 @@
 -- What the pieces of an input mean as a package and as one world, by what was read of its members (Component Model WIT.md, "Package Format").
-use Rattle.std.specs.Prelude.{◌≡◌, ℕ, Bool, true, false, List, [], ◌∷◌, map, slice_get, Option, Some, None, is_some}
+use Rattle.std.specs.Prelude.{◌≡◌, ℕ, Bool, true, false, List, [], ◌∷◌, map, slice_get, Option, Some, None}
 use Rattle.std.specs.List.{AllByRecursion, AllZip}
 use Rattle.wit_model.specs.Names.{PackageIdentity}
 use Rattle.comp_bytes.specs.Levels.{Piece}
@@ -33,11 +33,6 @@ pub record IsPackageDecided (pieces : List Piece) (t : Tables) (h : Homes) (know
 abbrev pub ArePackageDecided : List Piece → Tables → Homes → (ℕ → Fact) → List NumberedMember → Type 0
 ArePackageDecided pieces t h known [] = package_of_pieces pieces ≡ None
 ArePackageDecided pieces t h known (m ∷ ms) = IsPackageDecided pieces t h known m ms
-
--- something is found, or nothing
-abbrev pub Decides : {A : Type 0} → Bool → Option A → Type 0
-Decides true found = is_some found ≡ true
-Decides false found = found ≡ None
 
 -- ---- laws
 

@@ -133,9 +133,6 @@ read_member m = (record { label = m.label.now; package_ = m.package_number; part
 abbrev pub AreReadMembers : KeptTables → Homes → List FollowedMember → List ReadMember → Type 0
 AreReadMembers t h xs ms = AreRead (numbered_tables t) (known_in t) h xs (map read_member ms)
 
-abbrev pub numbered_read : List ReadMember → List NumberedMember
-numbered_read ms = map (λ (m : ReadMember). (read_member m).0) ms
-
 abbrev pub parts_lent : Part → List (Option ℕ)
 parts_lent (parts.World w) = map part_seen w.imports.now
 parts_lent (parts.Interface p v imports) = []

@@ -55,8 +55,10 @@ fn read_world<'a>(
     path: &'a str,
     scope: Scope<'a>,
 ) -> Result<ReadMember<'a>, Refusal>
-    ensures read { IfOk result (λ m. IsWorldRead (numbered_tables tables.now) (known_in tables.now) packages.new label.entry.now path.entry.now scope.entry (read_member_lem m)) }
-    ensures absent { IfErr result (λ e. Because e (IsNoWorld (numbered_tables tables.now) (known_in tables.now) label.entry.now path.entry.now (numbered_scope scope.entry))) }
+    ensures read { IfOk result (λ m. IsWorldRead (numbered_tables tables.now) (known_in tables.now) packages.new label.entry.now path.entry.now scope.entry
+        (read_member_lem m)) }
+    ensures absent { IfErr result (λ e. Because e (IsNoWorld (numbered_tables tables.now) (known_in tables.now) label.entry.now path.entry.now
+        (numbered_scope scope.entry))) }
     ensures grows { Grows packages.old packages.new }
     ensures packages { ArePackages packages.new }
     ensures homes { KeepsHomes packages.old packages.new }
@@ -87,8 +89,10 @@ fn read_interface<'a>(
     label: &'a str,
     scope: Scope<'a>,
 ) -> Result<ReadMember<'a>, Refusal>
-    ensures read { IfOk result (λ m. IsInterfaceRead (numbered_tables tables.now) (homes_alone homes.now) label.entry.now (numbered_scope scope.entry) (read_member_lem m)) }
-    ensures absent { IfErr result (λ e. Because e (IsElsewhere (homes_alone homes.now) label.entry.now (shown_interface (numbered_tables tables.now) (numbered_scope scope.entry)))) }
+    ensures read { IfOk result (λ m. IsInterfaceRead (numbered_tables tables.now) (homes_alone homes.now) label.entry.now (numbered_scope scope.entry)
+        (read_member_lem m)) }
+    ensures absent { IfErr result (λ e. Because e (IsElsewhere (homes_alone homes.now) label.entry.now
+        (shown_interface (numbered_tables tables.now) (numbered_scope scope.entry)))) }
 {
     let Some((exported, imports)) = interface_of(alloc, tables, scope)? else {
         return Err(Refusal::Absent(Cause::NotWit, 0));
@@ -116,7 +120,8 @@ fn read_one<'a>(
     scope: &'a OwnedScope<'a>,
 ) -> Result<ReadMember<'a>, Refusal>
     requires { shown_owned scope.now ≡ shown_of_member (numbered_tables tables.now).paths member.now }
-    ensures read { IfOk result (λ m. IsMemberRead (numbered_tables tables.now) (known_in tables.now) (homes_in packages.new homes.now) member.entry.now (read_member_lem m)) }
+    ensures read { IfOk result (λ m. IsMemberRead (numbered_tables tables.now) (known_in tables.now) (homes_in packages.new homes.now) member.entry.now
+        (read_member_lem m)) }
     ensures absent { IfErr result (λ e. Because e (IsNoMember (numbered_tables tables.now) (known_in tables.now) (homes_alone homes.now) member.entry.now)) }
     ensures grows { Grows packages.old packages.new }
     ensures packages { ArePackages packages.new }

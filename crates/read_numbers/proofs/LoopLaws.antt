@@ -3,8 +3,6 @@ use Rattle.std.proofs.Common.{◌≡◌, sym, ap, ◌∙◌, ℕ, ◌+◌, List,
 use Rattle.std.proofs.lemmas.List.{map-append}
 use Rattle.base_lemmas.proofs.Lists.{take_found}
 
--- the first so many and one more
-
 -- each item by its number
 module _ {A X : Type 0} (f : A → X) (xs : List X) (n : ℕ) (out : List A) (kept : map f out ≡ take n xs) where
   pub made_more : (new : List A) (a : A) → slice_get xs n ≡ Some (f a) → new ≡ out ++ a ∷ [] → map f new ≡ take (n + 1) xs

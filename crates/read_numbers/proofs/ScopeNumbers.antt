@@ -35,7 +35,7 @@ use Rattle.base_lemmas.proofs.Lists.{mapped_get}
 
 -- ---- places
 
-path_back : (o : Option Text) → path_of (place_of o) ≡ o
+pub path_back : (o : Option Text) → path_of (place_of o) ≡ o
 path_back None = refl
 path_back (Some path) = refl
 

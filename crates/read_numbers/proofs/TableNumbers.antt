@@ -11,8 +11,6 @@ use Rattle.read_numbers.specs.NumberedParts.{numbered_function, tables_in}
 use Rattle.read_numbers.specs.NumberLaws.{PlacesInNumbers, TablesInNumbers}
 use Rattle.base_lemmas.proofs.Lists.{get_back as at_mapped}
 
--- what stands in a mapped list was made of what stands there
-
 -- a type of a function from its numbers
 abbrev function_back : views.FunctionShape → FunctionShape
 function_back f = record { is_async = f.is_async; params = f.params; outcome = f.result }

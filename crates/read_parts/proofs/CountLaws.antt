@@ -188,12 +188,14 @@ along_exports : (xs : List TopExport) (top next : Top) (many : ℕ) → IsAlong 
 along_exports [] top next many a e = subst (λ (t : Top). IsAlong t many) (some_same top next e) a
 along_exports (x ∷ xs) top next many a e = by (λ t b h. along_exports xs t next many b h) (top_export top x) refl e
   where
-    by : ((t : Top) → IsAlong t many → steps top_export t xs ≡ Some next → IsAlong next many) → (o : Option Top) → top_export top x ≡ o → (o >>= λ t. steps top_export t xs) ≡ Some next → IsAlong next many
+    by : ((t : Top) → IsAlong t many → steps top_export t xs ≡ Some next → IsAlong next many) → (o : Option Top) → top_export top x ≡ o → (o >>= λ t. steps top_export t xs) ≡ Some next
+        → IsAlong next many
     by rec None is h = absurd cc
     by rec (Some t) is h = rec t (along_export top t many x a is) h
 
 along_piece : (p : Piece) (top next : Top) (many : ℕ) → IsAlong top many → top_piece top p ≡ Some next → IsAlong next (many + pieces_weight (p ∷ []))
-along_piece (custom name contents) top next many a e = subst (λ (n : ℕ). IsAlong next n) (let none : many ≡ many + 0 = omega arith in none) (subst (λ (t : Top). IsAlong t many) (some_same top next e) a)
+along_piece (custom name contents) top next many a e = subst (λ (n : ℕ). IsAlong next n) (let none : many ≡ many + 0 = omega arith in none)
+    (subst (λ (t : Top). IsAlong t many) (some_same top next e) a)
 along_piece (exports xs) top next many a e = subst (λ (n : ℕ). IsAlong next n) (let none : many ≡ many + 0 = omega arith in none) (along_exports xs top next many a e)
 along_piece (types ps) top next many a e =
     subst (λ (n : ℕ). IsAlong next n) (let none : many + types_weight ps ≡ many + (types_weight ps + 0) = omega arith in none) (along_parts ps top next many a e)
@@ -202,7 +204,8 @@ along_pieces : (ps : List Piece) (top next : Top) (many : ℕ) → IsAlong top m
 along_pieces [] top next many a e = subst (λ (n : ℕ). IsAlong next n) (let none : many ≡ many + 0 = omega arith in none) (subst (λ (t : Top). IsAlong t many) (some_same top next e) a)
 along_pieces (p ∷ ps) top next many a e = by (λ t n b h. along_pieces ps t next n b h) (top_piece top p) refl e
   where
-    by : ((t : Top) (n : ℕ) → IsAlong t n → steps top_piece t ps ≡ Some next → IsAlong next (n + pieces_weight ps)) → (o : Option Top) → top_piece top p ≡ o → (o >>= λ t. steps top_piece t ps) ≡ Some next → IsAlong next (many + pieces_weight (p ∷ ps))
+    by : ((t : Top) (n : ℕ) → IsAlong t n → steps top_piece t ps ≡ Some next → IsAlong next (n + pieces_weight ps)) → (o : Option Top) → top_piece top p ≡ o
+        → (o >>= λ t. steps top_piece t ps) ≡ Some next → IsAlong next (many + pieces_weight (p ∷ ps))
     by rec None is h = absurd cc
     by rec (Some t) is h =
         let split = piece_first p ps in
@@ -276,7 +279,8 @@ spent ps used (x ∷ xs) parts f e = by (λ qs is. spent ps (used ++ x.1 ∷ [])
     by rec None at h = absurd cc
     by rec (Some p) at h = step rec p at (each (part_under ps) xs) refl h
 
-chosen : (top : Top) (parts : List (Text × PartType)) (b : Bool) → AreFresh [] top.exported → when b (each (part_under top.types) top.exported) ≡ Some parts → parts_weight parts ≤ types_weight top.types
+chosen : (top : Top) (parts : List (Text × PartType)) (b : Bool) → AreFresh [] top.exported → when b (each (part_under top.types) top.exported) ≡ Some parts
+    → parts_weight parts ≤ types_weight top.types
 chosen top parts true f e = let less = spent top.types [] top.exported parts f e in let all = all_left 0 top.types in omega (arith, less, all)
 chosen top parts false f e = absurd cc
 
@@ -284,7 +288,8 @@ pub parts_fit : PartsFit
 parts_fit bytes pieces parts read found = by (steps top_piece empty_top pieces) refl found
   where
     by : (o : Option Top) → steps top_piece empty_top pieces ≡ o
-        → (o >>= λ top. when (length top.exported == length top.types && distinct (map (λ x. x.0) top.exported)) (each (part_under top.types) top.exported)) ≡ Some parts → parts_weight parts ≤ length bytes
+        → (o >>= λ top. when (length top.exported == length top.types && distinct (map (λ x. x.0) top.exported)) (each (part_under top.types) top.exported)) ≡ Some parts
+        → parts_weight parts ≤ length bytes
     by None is h = absurd cc
     by (Some top) is h =
         let a = along_pieces pieces empty_top top 0 (record { all = refl; once = tt }) is in

@@ -1,13 +1,15 @@
 -- Parts at the top that are followed into tables that grow.
-use Rattle.std.proofs.Common.{◌≡◌, inl, inr, refl, sym, ap, ◌∙◌, subst, ℕ, ◌+◌, ◌<◌, ◌≤◌, arith, List, [], ◌∷◌, ◌++◌, map, drop, length, length-append, get_or, Option, Some, None, slice_get}
+use Rattle.std.proofs.Common.{◌≡◌, inl, inr, refl, sym, ap, ◌∙◌, subst, ℕ, zero, suc, ◌+◌, ◌<◌, ◌≤◌, arith, List, [], ◌∷◌, ◌++◌, map, drop, length, length-append, get_or, Option, Some, None, slice_get}
 use Rattle.std.proofs.lemmas.List.{append-nil, drop_more, map-append}
 use Rattle.wit_model.specs.Text.{Text, text_of}
 use Rattle.wit_model.specs.Tree.{Place}
-use Rattle.comp_bytes.specs.Levels.{PartType}
+use Rattle.comp_bytes.specs.Levels.{Entry, PartType}
 use Rattle.comp_bytes.specs.Reading.{◌>>=◌}
 use Rattle.comp_meaning.specs.Follow.{Scope as MeantScope, each}
 use Rattle.read_follow.specs.declared.refusal.Refusal.{Refusal}
 use Rattle.read_follow.specs.declared.scopes.Scope.{Scope}
+use Rattle.read_follow.specs.declared.scopes.Seen.{Seen}
+use Rattle.read_follow.specs.declared.scopes.Shown.{Shown}
 use Rattle.read_follow.specs.Defining.{Grows}
 use Rattle.read_follow.specs.Following.{AreTables}
 use Rattle.read_follow.specs.Found.{Refuses}
@@ -15,13 +17,14 @@ use Rattle.read_follow.specs.Functions.{FunctionShape}
 use Rattle.read_follow.specs.PartTypes.{raw_part_type}
 use Rattle.read_follow.specs.Placed.{IsTypeNamed}
 use Rattle.read_follow.specs.Places.{ArePlacesOf}
-use Rattle.read_follow.specs.Scopes.{meant_at, world_of, ArePathsInOrder, IsInstanceIn, IsPlacedAmong, IsShownBy, by_instance, by_import, IsWorld, World}
+use Rattle.read_follow.specs.Scopes.{meant_at, world_of, ArePathsInOrder, IsInstanceIn, IsPlacedAmong, IsShownAs, IsShownBy, by_instance, by_import, IsStage, IsWorld, World}
 use Rattle.plan_meaning.specs.Shapes.{Shape, named_shape, node_shape}
 use Rattle.read_follow.proofs.ComponentLaws.{place_in, places_are}
 use Rattle.read_follow.proofs.DefiningLaws.{all_at, longer}
 use Rattle.read_follow.proofs.PlacedLaws.{stands_on, stood}
 use Rattle.read_follow.proofs.PlacedScopes.{extended_placed, none_past}
 use Rattle.read_follow.proofs.Refusing.{refused}
+use Rattle.read_follow.proofs.StepLaws.{grow_on}
 use Rattle.read_follow.proofs.ScopeLaws.{extended, extended_meant, extended_world, plus}
 use Rattle.read_parts.specs.declared.exported.ExportedPart.{ExportedPart}
 use Rattle.read_parts.specs.declared.members.FollowedPart.{FollowedPart}
@@ -29,11 +32,11 @@ use Rattle.read_parts.specs.declared.members.FollowedPart.TheVariants as followe
 use Rattle.read_parts.specs.declared.members.Member.{Member}
 use Rattle.read_parts.specs.Exported.{raw_exported}
 use Rattle.read_parts.specs.Followed.{PartScope, world, interface, labelled_scope, part_scope}
-use Rattle.read_parts.specs.Members.{member_meant, part_meant, parts_weight, scope_of, with_front, AreFollowedTo, AreMembersPlaced, ArePlacesBelow, AreTypesBelow, ArePlacesInOrder, ArePlacesMet, IsMetBefore, in_earlier, in_same, IsMetBySome, IsPartFollowed, IsPlacedMember, IsShownBySome, MembersStand, StandsIn}
+use Rattle.read_parts.specs.Members.{entries_of, member_meant, part_meant, parts_weight, scope_of, with_front, AreFollowedTo, AreImportsBelow, AreMembersPlaced, AreMembersStaged, ArePlacesBelow, AreTypesBelow, ArePlacesInOrder, ArePlacesMet, IsMetBefore, in_earlier, in_same, IsMetBySome, IsPartFollowed, IsPlacedMember, IsShownBySome, IsStagedMember, MembersStand, StandsIn}
 use Rattle.read_parts.proofs.ExportLaws.{each_more, each_none}
 use Rattle.base_lemmas.proofs.Elements.{all_end}
-use Rattle.base_lemmas.proofs.Lists.{at_last, last_or, slice_front}
-use Rattle.std.proofs.lemmas.Option.{slice_get_within as found_below}
+use Rattle.base_lemmas.proofs.Lists.{at_last, heads_equal, last_or, length_of_map, mapped_get, slice_front}
+use Rattle.std.proofs.lemmas.Option.{same_Some as same-some, slice_get_within as found_below}
 
 abbrev Paths : Type 0
 Paths = List (Option Text)
@@ -71,8 +74,10 @@ module _ (shapes : List Shape) (fs : List FunctionShape) (paths : Paths) (more :
 
     pub placed_still : (base : List Shape) (count till : ℕ) → IsPlacedAmong base count till old → IsPlacedAmong base count till (world_of more more_fs more_paths scope)
     placed_still base count till p = subst (λ (w : World). IsPlacedAmong base count till w) same_world
-        (extended_placed old st more more_fs more_paths gs gf gp tables [] [] [] [] [] base count till p [] till (let inside = p.within in let long = longer shapes more gs in omega (arith, inside, long)) tt
-        (λ j x at past. absurd (none_past old.instances j x at past)) tt tt tt (tt, tt) (λ j x at past. absurd (none_past old.instances j x at past)) (λ n q name low at. inl low) (λ n form parts low at. inl low) refl (λ j s c at here past. absurd (none_past old.imports j s at past)))
+        (extended_placed old st more more_fs more_paths gs gf gp tables [] [] [] [] [] base count till p [] till
+        (let inside = p.within in let long = longer shapes more gs in omega (arith, inside, long)) tt
+        (λ j x at past. absurd (none_past old.instances j x at past)) tt tt tt (tt, tt) (λ j x at past. absurd (none_past old.instances j x at past)) (λ n q name low at. inl low)
+        (λ n form parts low at. inl low) refl (λ j s c at here past. absurd (none_past old.imports j s at past)))
 
     no_more : (m : MeantScope) → plus m [] [] [] [] [] ≡ m
     no_more m = λ i. record { slots = append-nil m.slots i; instances = append-nil m.instances i; imports = append-nil m.imports i; exports = append-nil m.exports i; used = append-nil m.used i }
@@ -108,6 +113,35 @@ module _ (shapes : List Shape) (fs : List FunctionShape) (paths : Paths) (more :
         types_below = h.types_below;
       }
 
+  stage_still : (base : List Shape) (count : ℕ) (es : List Entry) (scope : Scope) (n : ℕ) (w : World) → IsStage base count es (world_of shapes fs paths scope) n w
+      → IsStage base count es (world_of more more_fs more_paths scope) n w
+  stage_still base count es scope n w s = record {
+    world = s.world;
+    home = s.home;
+    shapes_grow = grow_on w.shapes shapes more s.shapes_grow gs;
+    paths_grow = grow_on w.paths paths more_paths s.paths_grow gp;
+    instances_grow = s.instances_grow;
+    imports_grow = s.imports_grow;
+    placed = s.placed;
+    front = s.front;
+    back = s.back;
+    split = s.split;
+    long = s.long;
+    follows = s.follows;
+  }
+
+  pub members_staged : (raws : List (Text × PartType)) (ms : List Member) → AreMembersStaged shapes fs paths raws ms → AreMembersStaged more more_fs more_paths raws ms
+  members_staged raws ms staged i m raw at raw_at =
+      let h = staged i m raw at raw_at in
+      record {
+        base = h.base;
+        count = h.count;
+        stages = λ n low. (let s = h.stages n low in (s.0, stage_still h.base h.count (entries_of raw.1) (scope_of m.part) n s.0 s.1));
+        names = λ n q name e. some_still ms i q name (14 + n) (h.names n q name e);
+        types_below = h.types_below;
+        imports_below = h.imports_below;
+      }
+
   pub members_stand : (ms : List Member) → MembersStand shapes fs paths ms → MembersStand more more_fs more_paths ms
   members_stand [] st = tt
   members_stand (m ∷ ms) st = (part_stands m.part st.0, members_stand ms st.1)
@@ -124,13 +158,19 @@ places_below shapes fs paths p st = record {
   instances = λ j x at. (all_at (IsInstanceIn shapes fs paths) (scope_of p).instances.items j x st.instances at).place;
 }
 
-types_below : (shapes : List Shape) (fs : List FunctionShape) (paths : Paths) (p : FollowedPart) (base : List Shape) (count till : ℕ) → IsPlacedAmong base count till (world_of shapes fs paths (scope_of p))
+types_below : (shapes : List Shape) (fs : List FunctionShape) (paths : Paths) (p : FollowedPart) (base : List Shape) (count till : ℕ)
+    → IsPlacedAmong base count till (world_of shapes fs paths (scope_of p))
     → AreTypesBelow (length shapes) p
 types_below shapes fs paths p base count till placed j x at n t t_at =
     let name = all_at (IsTypeNamed shapes x.place) x.view.types.items n t (placed.instances j x at).named t_at in
     let low = found_below shapes name.number (named_shape x.place t.name.now) name.at in
     let number = name.is in
     omega (arith, low, number)
+
+imports_below : (shapes : List Shape) (fs : List FunctionShape) (paths : Paths) (p : FollowedPart) → StandsIn shapes fs paths p → AreImportsBelow (length shapes) p
+imports_below shapes fs paths p st j s at label part d is =
+    let there = all_at (λ (x : Seen). IsShownAs shapes fs paths (length (scope_of p).instances.items) x.shown) (scope_of p).imports.items j s st.imports at in
+    (subst (λ (x : Shown). IsShownAs shapes fs paths (length (scope_of p).instances.items) x) is there).0
 
 module _ (shapes : List Shape) (fs : List FunctionShape) (paths : Paths) (ms : List Member) (m : Member) where
   abbrev more_members : List Member
@@ -141,7 +181,14 @@ module _ (shapes : List Shape) (fs : List FunctionShape) (paths : Paths) (ms : L
 
   -- shown among more
   some_more : (upto wide q : ℕ) (name : Text) (part : ℕ) → upto ≤ wide → IsShownBySome shapes fs paths ms upto q name part → IsShownBySome shapes fs paths more_members wide q name part
-  some_more upto wide q name part le h = record { number = h.number; below = (let low = h.below in omega (arith, low, le)); member = h.member; at = stands_on ms more_members front h.number h.member h.at; by = h.by }
+  some_more upto wide q name part le h = record {
+    number = h.number;
+    below = (let low = h.below in omega (arith, low, le));
+    member = h.member;
+    at =
+        stands_on ms more_members front h.number h.member h.at;
+    by = h.by;
+  }
 
   -- met by more
   met_more : (q : ℕ) → IsMetBySome ms q → IsMetBySome more_members q
@@ -152,7 +199,8 @@ module _ (shapes : List Shape) (fs : List FunctionShape) (paths : Paths) (ms : L
   met_before_more i j q (in_same x at met) = in_same x (stands_on ms more_members front i x at) met
 
   -- places in their order, and those that one part more shows
-  pub order_more : (wide : Paths) → Grows paths wide → MembersStand shapes fs paths ms → ArePlacesMet paths ms → ArePlacesInOrder paths ms → ArePathsInOrder (length paths) wide (scope_of m.part).instances.items → ArePlacesInOrder wide more_members
+  pub order_more : (wide : Paths) → Grows paths wide → MembersStand shapes fs paths ms → ArePlacesMet paths ms → ArePlacesInOrder paths ms
+      → ArePathsInOrder (length paths) wide (scope_of m.part).instances.items → ArePlacesInOrder wide more_members
   order_more wide grows stand met order here i y at j x there q path at_path less = elim (last_or ms m i y at) [
     | inl h ↦
         let low = (places_below shapes fs paths y.part (all_at (λ (z : Member). StandsIn shapes fs paths z.part) ms i y stand h.1)).instances j x there in
@@ -187,6 +235,41 @@ module _ (shapes : List Shape) (fs : List FunctionShape) (paths : Paths) (ms : L
     | inr h ↦ subst (λ (y : Member). IsPlacedMember shapes fs paths more_members i y) h.1 (subst (λ (n : ℕ). IsPlacedMember shapes fs paths more_members n m) (sym h.0) one)
   ]
 
+  -- so behind the entries of each
+  staged_before : (i : ℕ) (x : Member) (es : List Entry) → i < length ms → IsStagedMember shapes fs paths ms i x es → IsStagedMember shapes fs paths more_members i x es
+  staged_before i x es below h = record {
+    base = h.base;
+    count = h.count;
+    stages = h.stages;
+    names = λ n q name e. some_more i i q name (14 + n) (omega arith) (h.names n q name e);
+    types_below = λ k y e less. h.types_below k y (stood ms more_members front k y (omega (arith, less, below)) e) less;
+    imports_below = λ k y e less. h.imports_below k y (stood ms more_members front k y (omega (arith, less, below)) e) less;
+  }
+
+  pub staged_more : (raws : List (Text × PartType)) (raw : Text × PartType) → slice_get raws (length ms) ≡ Some raw → AreMembersStaged shapes fs paths raws ms
+      → IsStagedMember shapes fs paths more_members (length ms) m (entries_of raw.1) → AreMembersStaged shapes fs paths raws more_members
+  staged_more raws raw here staged one i x r at r_at = elim (last_or ms m i x at) [
+    | inl h ↦ staged_before i x (entries_of r.1) h.0 (staged i x r h.1 r_at)
+    | inr h ↦
+        let last : raw ≡ r = same-some raw r (sym here ∙ (ap (slice_get raws) (sym h.0) ∙ r_at)) in
+        subst (λ (y : Member). IsStagedMember shapes fs paths more_members i y (entries_of r.1)) h.1
+        (subst (λ (n : ℕ). IsStagedMember shapes fs paths more_members n m (entries_of r.1)) (sym h.0)
+        (subst (λ (y : Text × PartType). IsStagedMember shapes fs paths more_members (length ms) m (entries_of y.1)) last one))
+  ]
+
+-- what is left begins with the item of its number
+left_first : {A : Type 0} (xs : List A) (i : ℕ) (y : A) (ys : List A) → drop i xs ≡ y ∷ ys → slice_get xs i ≡ Some y
+left_first [] zero y ys e = absurd cc
+left_first [] (suc i) y ys e = absurd cc
+left_first (x ∷ xs) zero y ys e = ap Some (heads_equal x y xs ys e)
+left_first (x ∷ xs) (suc i) y ys e = left_first xs i y ys e
+
+left_long : {A : Type 0} (xs : List A) (i : ℕ) (y : A) (ys : List A) → drop i xs ≡ y ∷ ys → i + length (drop i xs) ≡ length xs
+left_long [] zero y ys e = absurd cc
+left_long [] (suc i) y ys e = absurd cc
+left_long (x ∷ xs) zero y ys e = omega arith
+left_long (x ∷ xs) (suc i) y ys e = let rest = left_long xs i y ys e in omega (arith, rest)
+
 -- ---- one part after the other
 
 module _ (before : ℕ) (xs : List ExportedPart) where
@@ -205,12 +288,18 @@ module _ (before : ℕ) (xs : List ExportedPart) where
           → IsPartFollowed shapes fs paths (raw_part_type one.part) shapes' fs' paths' m.part → AreFollowedTo before raws (left (i + 1)) shapes' fs' paths' new
       one_followed shapes' fs' paths' m new last label s =
           let tables = s.stands.tables in
-          let weight = ap parts_weight (ap (map raw_exported) (drop_more xs i d more)) in
+          let first : drop i xs ≡ one ∷ drop (i + 1) xs = drop_more xs i d more in
+          let weight = ap parts_weight (ap (map raw_exported) first) in
+          let number : length ms ≡ i = (let a = f.many in let b = length_of_map raw_exported (drop i xs) in let c = length_of_map raw_exported xs in
+          let e = left_long xs i one (drop (i + 1) xs) first in omega (arith, a, b, c, e)) in
+          let here : slice_get raws (length ms) ≡ Some (raw_exported one) =
+          ap (slice_get raws) number ∙ mapped_get raw_exported xs i one (left_first xs i one (drop (i + 1) xs) first) in
           let before_count = f.count in
           let step = s.count in
           subst (λ (ns : List Member). AreFollowedTo before raws (left (i + 1)) shapes' fs' paths' ns) (sym last) (record {
             tables = tables;
-            stand = all_end (λ (x : Member). StandsIn shapes' fs' paths' x.part) ms m (members_stand shapes fs paths shapes' fs' paths' s.shapes_grow s.signatures_grow s.paths_grow tables ms f.stand) s.stands;
+            stand = all_end (λ (x : Member). StandsIn shapes' fs' paths' x.part) ms m
+                (members_stand shapes fs paths shapes' fs' paths' s.shapes_grow s.signatures_grow s.paths_grow tables ms f.stand) s.stands;
             count = omega (arith, before_count, step, weight);
             placed = placed_more shapes' fs' paths' ms m (members_placed shapes fs paths shapes' fs' paths' s.shapes_grow s.signatures_grow s.paths_grow tables ms f.stand f.placed) (record {
               base = shapes;
@@ -220,7 +309,8 @@ module _ (before : ℕ) (xs : List ExportedPart) where
               names = λ n q name e.
                   some_more shapes' fs' paths' ms m (length ms) (length ms) q name (14 + n) (omega arith)
                   (some_still shapes fs paths shapes' fs' paths' s.shapes_grow s.signatures_grow s.paths_grow tables ms (length ms) q name (14 + n) (f.names n q name e));
-              earlier = λ k x e less. places_below shapes fs paths x.part (all_at (λ (y : Member). StandsIn shapes fs paths y.part) ms k x f.stand (stood ms (ms ++ m ∷ []) (record { more = m ∷ []; is = refl }) k x less e));
+              earlier = λ k x e less. places_below shapes fs paths x.part (all_at (λ (y : Member). StandsIn shapes fs paths y.part) ms k x f.stand
+                  (stood ms (ms ++ m ∷ []) (record { more = m ∷ []; is = refl }) k x less e));
               types_below = λ k x e less.
                   let h = f.placed k x (stood ms (ms ++ m ∷ []) (record { more = m ∷ []; is = refl }) k x less e) in
                   types_below shapes fs paths x.part h.base h.count h.till h.placed;
@@ -230,6 +320,21 @@ module _ (before : ℕ) (xs : List ExportedPart) where
               | inr met ↦ record { number = length ms; member = m; at = at_last ms m; met = met }
             ];
             order = order_more shapes fs paths ms m paths' s.paths_grow f.stand f.met f.order s.order;
+            many = (let a = length-append ms (m ∷ []) in let b = f.many in let c = ap (λ (zs : List (Text × PartType)). length zs) (ap (map raw_exported) first) in omega (arith, a, b, c));
+            staged = staged_more shapes' fs' paths' ms m raws (raw_exported one) here
+                (members_staged shapes fs paths shapes' fs' paths' s.shapes_grow s.signatures_grow s.paths_grow tables raws ms f.staged) (record {
+                  base = shapes;
+                  count = length paths;
+                  stages = s.stages;
+                  names = λ n q name e.
+                      some_more shapes' fs' paths' ms m (length ms) (length ms) q name (14 + n) (omega arith)
+                      (some_still shapes fs paths shapes' fs' paths' s.shapes_grow s.signatures_grow s.paths_grow tables ms (length ms) q name (14 + n) (f.names n q name e));
+                  types_below = λ k x e less.
+                      let h = f.placed k x (stood ms (ms ++ m ∷ []) (record { more = m ∷ []; is = refl }) k x less e) in
+                      types_below shapes fs paths x.part h.base h.count h.till h.placed;
+                  imports_below = λ k x e less. imports_below shapes fs paths x.part (all_at (λ (y : Member). StandsIn shapes fs paths y.part) ms k x f.stand
+                      (stood ms (ms ++ m ∷ []) (record { more = m ∷ []; is = refl }) k x less e));
+                });
             formed = λ n form parts at. elim (s.placed.formed n form parts (found_below shapes' n (node_shape form parts) at) at) [
               | inl below ↦ f.formed n form parts (stood shapes shapes' s.shapes_grow n (node_shape form parts) below at)
               | inr formed ↦ formed
@@ -247,10 +352,12 @@ module _ (before : ℕ) (xs : List ExportedPart) where
                 let kept = f.shows place (places_before paths paths' s.paths_grow place of) in
                 let same = members_same shapes fs paths shapes' fs' paths' s.shapes_grow s.signatures_grow s.paths_grow tables place ms f.stand in
                 let now : labelled_scope (raw_exported one) ≡ Some (member_meant shapes' fs' paths' place m) =
-                ap (λ o. o >>= λ p. let y : Text × PartScope = (one.label.now, p) in Some y) (s.shows place of) ∙ ap (λ t. let y : Text × PartScope = (t, part_meant shapes' fs' paths' place m.part) in Some y) (sym label) in
+                ap (λ o. o >>= λ p. let y : Text × PartScope = (one.label.now, p) in Some y) (s.shows place of) ∙ ap
+                (λ t. let y : Text × PartScope = (t, part_meant shapes' fs' paths' place m.part) in Some y) (sym label) in
                 let front = map (member_meant shapes' fs' paths' place) ms in
                 ap (λ ys. with_front ys (each labelled_scope (left (i + 1)))) (map-append (member_meant shapes' fs' paths' place) ms (m ∷ []))
-                ∙ each_more labelled_scope raw_exported xs i front (each labelled_scope raws) (ap (λ ys. with_front ys (each labelled_scope (left i))) same ∙ kept) d more (member_meant shapes' fs' paths' place m) now;
+                ∙ each_more labelled_scope raw_exported xs i front (each labelled_scope raws) (ap (λ ys. with_front ys (each labelled_scope (left i))) same ∙ kept) d more
+                (member_meant shapes' fs' paths' place m) now;
           })
 
       pub one_absent : (e : Refusal) → Refuses e (part_scope (raw_part_type one.part)) → Refuses e (each labelled_scope raws)
@@ -264,3 +371,28 @@ module _ (before : ℕ) (xs : List ExportedPart) where
 pub whole_meant : (before : ℕ) (rs : List (Text × PartType)) (shapes : List Shape) (fs : List FunctionShape) (paths : Paths) (ms : List Member) → AreFollowedTo before rs [] shapes fs paths ms
     → (place : ℕ → Place) → ArePlacesOf paths place → each labelled_scope rs ≡ Some (map (member_meant shapes fs paths place) ms)
 whole_meant before rs shapes fs paths ms f place of = sym (f.shows place of) ∙ ap Some (append-nil (map (member_meant shapes fs paths place) ms))
+
+-- nothing is in front
+nothing_in_front : (o : Option (List (Text × PartScope))) → with_front [] o ≡ o
+nothing_in_front None = refl
+nothing_in_front (Some ys) = refl
+
+-- nothing is followed yet
+pub none_followed : (rs : List (Text × PartType)) (shapes : List Shape) (fs : List FunctionShape) (paths : Paths) (ms : List Member) → shapes ≡ [] → paths ≡ [] → ms ≡ []
+    → AreTables (length paths) shapes fs → AreFollowedTo (length shapes) rs rs shapes fs paths ms
+none_followed rs [] fs [] [] no_shapes no_paths no_members tables = record {
+  tables = tables;
+  stand = tt;
+  count = omega arith;
+  placed = λ i m at. absurd cc;
+  names = λ n q name at. absurd cc;
+  met = λ q path at. absurd cc;
+  order = λ i m at j x there q path met less. absurd cc;
+  formed = λ n form parts at. absurd cc;
+  many = omega arith;
+  staged = λ i m raw at there. absurd cc;
+  shows = λ place of. nothing_in_front (each labelled_scope rs);
+}
+none_followed rs (s ∷ shapes) fs paths ms no_shapes no_paths no_members tables = absurd cc
+none_followed rs [] fs (p ∷ paths) ms no_shapes no_paths no_members tables = absurd cc
+none_followed rs [] fs [] (m ∷ ms) no_shapes no_paths no_members tables = absurd cc

@@ -49,7 +49,8 @@ part_law label (shows es) = by (entry_scope es)
 pub member_law : (x : Text × PartType) → member_by_levels x ≡ (labelled_scope x >>= member_of_scope)
 member_law x = ap (λ o. o >>= λ p. Some (record { label = x.0; package_ = p.0; part = p.1 })) (part_law x.0 x.1) ∙ by (part_scope x.1)
   where
-    by : (o : Option PartScope) → ((o >>= part_of_scope x.0) >>= λ p. Some (record { label = x.0; package_ = p.0; part = p.1 })) ≡ ((o >>= λ p. let y : Text × PartScope = (x.0, p) in Some y) >>= member_of_scope)
+    by : (o : Option PartScope)
+        → ((o >>= part_of_scope x.0) >>= λ p. Some (record { label = x.0; package_ = p.0; part = p.1 })) ≡ ((o >>= λ p. let y : Text × PartScope = (x.0, p) in Some y) >>= member_of_scope)
     by None = refl
     by (Some p) = refl
 

@@ -56,7 +56,8 @@ any_number n [] = refl
 any_number n (x ∷ xs) = ap (λ b. (x.number == n) || b) (any_number n xs)
 
 -- the number of an index, if it may be exported
-pub number_given : (old : Tops) (e : TopExport) (slots : List ℕ) (n : ℕ) (b : Bool) → slots ≡ old.slots.items → Some n ≡ slice_get slots e.index → may_export old e n ≡ b → number_found old e ≡ provided b n
+pub number_given : (old : Tops) (e : TopExport) (slots : List ℕ) (n : ℕ) (b : Bool) → slots ≡ old.slots.items → Some n ≡ slice_get slots e.index → may_export old e n ≡ b
+    → number_found old e ≡ provided b n
 number_given old e slots n b same at is =
     ap (λ o. o >>= λ k. provided (may_export old e k) k) (sym (at ∙ ap (λ ss. slice_get ss e.index) same)) ∙ ap (λ c. provided c n) is
 
@@ -76,15 +77,18 @@ module _ (old : Tops) (st : AreTops old) (e : TopExport) where
   guarded false x g = refl
 
   export_law : (o : Option ℕ) → slice_get old.slots.items e.index ≡ o → top_export (top_of old) (raw_export e) ≡ ((o >>= λ n. provided (may_export old e n) n) >>= λ n. Some (with_export n))
-  export_law o at = ap (λ p. p >>= λ n. provided (is_bare (raw_name e.name) && (is_label e.name.text.now && not (list_any (λ (x : Text × ℕ). x.1 == n) (map label_and_number old.exported.items)))) (with_export n)) at ∙ by o
+  export_law o at = ap (λ p. p >>= λ n. provided (is_bare (raw_name e.name) && (is_label e.name.text.now && not (list_any (λ (x : Text × ℕ). x.1 == n) (map label_and_number old.exported.items))))
+      (with_export n)) at ∙ by o
     where
-      by : (o : Option ℕ) → (o >>= λ n. provided (is_bare (raw_name e.name) && (is_label e.name.text.now && not (list_any (λ (x : Text × ℕ). x.1 == n) (map label_and_number old.exported.items)))) (with_export n))
+      by : (o : Option ℕ) → (o >>= λ n. provided (is_bare (raw_name e.name) && (is_label e.name.text.now && not (list_any (λ (x : Text × ℕ). x.1 == n) (map label_and_number old.exported.items))))
+          (with_export n))
           ≡ ((o >>= λ n. provided (may_export old e n) n) >>= λ n. Some (with_export n))
       by None = refl
       by (Some n) = ap (λ b. provided b (with_export n)) (same_test n) ∙ guarded (may_export old e n) n with_export
 
   pub export_absent : (r : Refusal) → Refuses r (number_found old e) → Refuses r (top_export (top_of old) (raw_export e))
-  export_absent r h = refused r (number_found old e) (top_export (top_of old) (raw_export e)) (λ none. export_law (slice_get old.slots.items e.index) refl ∙ ap (λ o. o >>= λ n. Some (with_export n)) none) h
+  export_absent r h = refused r (number_found old e) (top_export (top_of old) (raw_export e))
+      (λ none. export_law (slice_get old.slots.items e.index) refl ∙ ap (λ o. o >>= λ n. Some (with_export n)) none) h
 
   -- a type whose number is found is not exported yet
   pub not_exported : (n : ℕ) → number_found old e ≡ Some n → list_any (λ m. m == n) old.numbers.keys ≡ false
@@ -120,10 +124,12 @@ module _ (old : Tops) (st : AreTops old) (e : TopExport) where
 
 -- ---- all exports
 
-part_found : (types : List TopType) (label : Text) (n : ℕ) (x : TopType) → Some x ≡ slice_get types n → part_under (map raw_type types) (label, n) ≡ (let p : Text × PartType = (label, raw_type x) in Some p)
+part_found : (types : List TopType) (label : Text) (n : ℕ) (x : TopType) → Some x ≡ slice_get types n
+    → part_under (map raw_type types) (label, n) ≡ (let p : Text × PartType = (label, raw_type x) in Some p)
 part_found types label n x at = ap (λ o. o >>= λ p. let q : Text × PartType = (label, p) in Some q) (mapped_get raw_type types n x (sym at))
 
-pub part_here : (types given : List TopType) (label : Text) (n : ℕ) (x : TopType) → given ≡ types → Some x ≡ slice_get given n → part_under (map raw_type types) (label, n) ≡ (let p : Text × PartType = (label, raw_type x) in Some p)
+pub part_here : (types given : List TopType) (label : Text) (n : ℕ) (x : TopType) → given ≡ types → Some x ≡ slice_get given n
+    → part_under (map raw_type types) (label, n) ≡ (let p : Text × PartType = (label, raw_type x) in Some p)
 part_here types given label n x same at = part_found types label n x (at ∙ ap (λ ts. slice_get ts n) same)
 
 pub part_nowhere : (types given : List TopType) (label : Text) (n : ℕ) → given ≡ types → None ≡ slice_get given n → part_under (map raw_type types) (label, n) ≡ None

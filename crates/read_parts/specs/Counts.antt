@@ -17,4 +17,5 @@ pieces_weight (exports es ∷ ps) = pieces_weight ps
 
 -- The parts that are exported make no more types than the input has bytes.
 abbrev pub PartsFit : Type 0
-PartsFit = (bytes : List ℕ) (pieces : List Piece) (parts : List (Text × PartType)) → levels_of bytes ≡ Some pieces → exported_parts pieces ≡ Some parts → parts_weight parts ≤ length bytes
+PartsFit = (bytes : List ℕ) (pieces : List Piece) (parts : List (Text × PartType)) → levels_of bytes ≡ Some pieces → exported_parts pieces ≡ Some parts
+    → parts_weight parts ≤ length bytes

@@ -52,7 +52,9 @@ member_of_scope x = part_of_scope x.0 x.1 >>= λ p. Some (record { label = x.0; 
 
 -- What the sections mean as a package, and as one world, is what the rules make of what is followed.
 abbrev pub PackageByScopes : Type 0
-PackageByScopes = (pieces : List Piece) → package_of_pieces pieces ≡ (scopes_of pieces >>= λ scopes. each member_of_scope scopes >>= λ members. package_of_members members)
+PackageByScopes = (pieces : List Piece) → package_of_pieces pieces
+    ≡ (scopes_of pieces >>= λ scopes. each member_of_scope scopes >>= λ members. package_of_members members)
 
 abbrev pub WorldByScopes : Type 0
-WorldByScopes = (pieces : List Piece) → world_of_pieces pieces ≡ (scopes_of pieces >>= λ scopes. each member_of_scope scopes >>= λ members. world_of_members members)
+WorldByScopes = (pieces : List Piece) → world_of_pieces pieces
+    ≡ (scopes_of pieces >>= λ scopes. each member_of_scope scopes >>= λ members. world_of_members members)

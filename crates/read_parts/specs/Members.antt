@@ -1,22 +1,26 @@
 -- The parts at the top as they are followed, over the tables and the places of a whole input.
 use Rattle.std.specs.Prelude.{◌≡◌, ◌<◌, ◌≤◌, ℕ, ◌+◌, true, List, [], ◌∷◌, ◌++◌, length, map, slice_get, Option, Some}
-use Rattle.std.specs.List.{AllByRecursion}
+use Rattle.std.specs.Borrow.{Bor}
+use Rattle.std.specs.List.{AllByRecursion, flat_map}
 use Rattle.wit_model.specs.Text.{Text, text_of}
-use Rattle.wit_model.specs.Tree.{Form, Place}
-use Rattle.comp_bytes.specs.Levels.{PartType, wraps, shows}
+use Rattle.wit_model.specs.Tree.{Form, Place, Tree}
+use Rattle.comp_bytes.specs.Levels.{Entry, PartType, wraps, shows}
 use Rattle.comp_bytes.specs.Reading.{◌>>=◌}
-use Rattle.comp_meaning.specs.Follow.{each}
+use Rattle.comp_meaning.specs.Follow.{each, new_scope}
 use Rattle.read_follow.specs.declared.scopes.Instance.{Instance}
 use Rattle.read_follow.specs.declared.scopes.Scope.{Scope}
+use Rattle.read_follow.specs.declared.scopes.Seen.{Seen}
+use Rattle.read_follow.specs.declared.scopes.Shown.TheVariants as shown
 use Rattle.read_follow.specs.declared.views.ShownType.{ShownType}
 use Rattle.read_follow.specs.Defining.{Grows}
 use Rattle.read_follow.specs.Following.{AreTables}
 use Rattle.read_follow.specs.Functions.{FunctionShape}
+use Rattle.read_follow.specs.Numbering.{trees_along, CountUp}
 use Rattle.read_follow.specs.Placed.{slot_part}
 use Rattle.read_follow.specs.Places.{ArePlacesOf}
-use Rattle.read_follow.specs.Scopes.{meant_at, weights, world_of, ArePathsInOrder, ArePathsMet, IsPlacedAmong, IsPlacedWorld, IsPlaceMet, IsPlaceMetBefore, IsShownBy, IsWorld}
+use Rattle.read_follow.specs.Scopes.{meant_at, weights, world_of, ArePathsInOrder, ArePathsMet, HasStages, IsPlacedAmong, IsPlacedWorld, IsPlaceMet, IsPlaceMetBefore, IsShownBy, IsWorld}
 use Rattle.plan_meaning.specs.PlanRules.{is_form}
-use Rattle.plan_meaning.specs.Shapes.{Shape, named_shape, node_shape}
+use Rattle.plan_meaning.specs.Shapes.{Shape, named_shape, node_shape, part_tree, shape_trees}
 use Rattle.read_parts.specs.declared.members.FollowedPart.{FollowedPart}
 use Rattle.read_parts.specs.declared.members.FollowedPart.TheVariants as followed
 use Rattle.read_parts.specs.declared.members.Member.{Member}
@@ -34,7 +38,27 @@ pub record ArePlacesBelow (count : ℕ) (p : FollowedPart) : Type 0 where
 -- the names that its instances show are among the first so many types
 abbrev pub AreTypesBelow : ℕ → FollowedPart → Type 0
 AreTypesBelow many p =
-    (j : ℕ) (x : Instance) → slice_get (scope_of p).instances.items j ≡ Some x → (n : ℕ) (t : ShownType) → slice_get x.view.types.items n ≡ Some t → slot_part t.slot < 14 + many
+    (j : ℕ) (x : Instance) → slice_get (scope_of p).instances.items j ≡ Some x → (n : ℕ) (t : ShownType) → slice_get x.view.types.items n ≡ Some t
+    → slot_part t.slot < 14 + many
+
+-- the types that it imports are among the first so many
+abbrev pub AreImportsBelow : ℕ → FollowedPart → Type 0
+AreImportsBelow many p =
+    (j : ℕ) (s : Seen) → slice_get (scope_of p).imports.items j ≡ Some s → (label : Bor (List ℕ)) (part : ℕ) (d : Option ℕ) → s.shown ≡ shown.Type label part d
+    → part < 14 + many
+
+-- the entries of a part's component type
+abbrev pub entries_of : PartType → List Entry
+entries_of (wraps es name) = es
+entries_of (shows es) = es
+
+-- the types that the entries of a part declare, in the order in which they are declared
+abbrev pub part_trees : PartType → List Tree
+part_trees p = trees_along new_scope (entries_of p)
+
+-- those of these parts, one part after the other
+abbrev pub declared_trees : List (Text × PartType) → List Tree
+declared_trees parts = flat_map (λ x. part_trees x.1) parts
 
 -- an instance of one of the parts is of the place
 pub record IsMetBySome (ms : List Member) (q : ℕ) : Type 0 where
@@ -115,10 +139,24 @@ module _ (shapes : List Shape) (fs : List FunctionShape) (paths : List (Option T
   abbrev pub AreNamesShown : List Member → Type 0
   AreNamesShown ms = (n q : ℕ) (name : Text) → slice_get shapes n ≡ Some (named_shape q name) → IsShownBySome ms (length ms) q name (14 + n)
 
+  -- A member behind so many others, of these entries: how its scope stood behind each number of them. Names that stood in the table before it are shown by the
+  -- others, whose types are among the first of the table.
+  pub record IsStagedMember (ms : List Member) (i : ℕ) (m : Member) (es : List Entry) : Type 0 where
+    pub base : List Shape
+    pub count : ℕ
+    pub stages : HasStages base count es (length es) (world_of shapes fs paths (scope_of m.part))
+    pub names : (n q : ℕ) (name : Text) → slice_get base n ≡ Some (named_shape q name) → IsShownBySome ms i q name (14 + n)
+    pub types_below : (k : ℕ) (x : Member) → slice_get ms k ≡ Some x → k < i → AreTypesBelow (length base) x.part
+    pub imports_below : (k : ℕ) (x : Member) → slice_get ms k ≡ Some x → k < i → AreImportsBelow (length base) x.part
+
+  abbrev pub AreMembersStaged : List (Text × PartType) → List Member → Type 0
+  AreMembersStaged raws ms = (i : ℕ) (m : Member) (raw : Text × PartType) → slice_get ms i ≡ Some m → slice_get raws i ≡ Some raw
+      → IsStagedMember ms i m (entries_of raw.1)
+
 -- ---- one part
 
--- The tables and the places grow, by no more types than its entries make, names stand in their places, new places with a path are met, in their order, and
--- the part stands for what its type at the top does.
+-- The tables and the places grow, by no more types than its entries make and by just those that they declare, in their order. Names stand in their places,
+-- new places with a path are met, in their order, and the part stands for what its type at the top does.
 pub record IsPartFollowed (shapes : List Shape) (fs : List FunctionShape) (paths : List (Option Text)) (raw : PartType)
     (more : List Shape) (more_fs : List FunctionShape) (more_paths : List (Option Text)) (p : FollowedPart) : Type 0 where
   pub stands : StandsIn more more_fs more_paths p
@@ -126,9 +164,13 @@ pub record IsPartFollowed (shapes : List Shape) (fs : List FunctionShape) (paths
   pub signatures_grow : Grows fs more_fs
   pub paths_grow : Grows paths more_paths
   pub count : length more ≤ length shapes + part_weight raw
+  pub parts : List ℕ
+  pub counted : CountUp (length shapes) parts (length more)
+  pub trees : (place : ℕ → Place) → ArePlacesOf more_paths place → map (part_tree (shape_trees place more)) parts ≡ part_trees raw
   pub placed : IsPlacedWorld shapes (length paths) (world_of more more_fs more_paths (scope_of p))
   pub met : ArePathsMet (length paths) more_paths (scope_of p).instances.items
   pub order : ArePathsInOrder (length paths) more_paths (scope_of p).instances.items
+  pub stages : HasStages shapes (length paths) (entries_of raw) (length (entries_of raw)) (world_of more more_fs more_paths (scope_of p))
   pub shows : (place : ℕ → Place) → ArePlacesOf more_paths place → part_scope raw ≡ Some (part_meant more more_fs more_paths place p)
 
 -- ---- all parts
@@ -139,7 +181,8 @@ with_front front found = found >>= λ rest. Some (front ++ rest)
 
 -- Some parts have been followed, over so many types that were there before. Names stand in their places, and each is shown; each place with a path is
 -- met, in their order; forms are as definitions have them. Those that are left decide what all stand for.
-pub record AreFollowedTo (before : ℕ) (raws left : List (Text × PartType)) (shapes : List Shape) (fs : List FunctionShape) (paths : List (Option Text)) (ms : List Member) : Type 0 where
+pub record AreFollowedTo (before : ℕ) (raws left : List (Text × PartType)) (shapes : List Shape) (fs : List FunctionShape) (paths : List (Option Text))
+    (ms : List Member) : Type 0 where
   pub tables : AreTables (length paths) shapes fs
   pub stand : MembersStand shapes fs paths ms
   pub count : length shapes + parts_weight left ≤ before + parts_weight raws
@@ -148,7 +191,18 @@ pub record AreFollowedTo (before : ℕ) (raws left : List (Text × PartType)) (s
   pub met : ArePlacesMet paths ms
   pub order : ArePlacesInOrder paths ms
   pub formed : AreFormed shapes
-  pub shows : (place : ℕ → Place) → ArePlacesOf paths place → with_front (map (member_meant shapes fs paths place) ms) (each labelled_scope left) ≡ each labelled_scope raws
+  pub many : length ms + length left ≡ length raws
+  pub staged : AreMembersStaged shapes fs paths raws ms
+  pub shows : (place : ℕ → Place) → ArePlacesOf paths place
+      → with_front (map (member_meant shapes fs paths place) ms) (each labelled_scope left) ≡ each labelled_scope raws
+
+-- The types of the table are those that the parts declare which aren't left, in the order in which they are declared, and those that are left are still
+-- to come: each declares one that is there already, or the next one.
+pub record AreNumberedTo (raws left : List (Text × PartType)) (shapes : List Shape) (paths : List (Option Text)) : Type 0 where
+  pub parts : List ℕ
+  pub counted : CountUp 0 parts (length shapes)
+  pub trees : (place : ℕ → Place) → ArePlacesOf paths place
+      → map (part_tree (shape_trees place shapes)) parts ++ declared_trees left ≡ declared_trees raws
 
 -- All parts are followed.
 abbrev pub AreFollowed : ℕ → List (Text × PartType) → List Shape → List FunctionShape → List (Option Text) → List Member → Type 0

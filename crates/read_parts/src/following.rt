@@ -10,7 +10,7 @@ ghost use Rattle.read_follow.specs.Pieces.{raw_piece, IsWholePiece};
 ghost use Rattle.read_parts.specs.Exported.{raw_exported};
 ghost use Rattle.read_parts.specs.Followed.{labelled_scope, scopes_in, scopes_of};
 ghost use Rattle.read_parts.specs.Input.{ArePartsFollowed, IsFollowed};
-ghost use Rattle.read_parts.specs.Members.{AreFollowed};
+ghost use Rattle.read_parts.specs.Members.{AreFollowed, AreNumberedTo};
 
 use crate::exported::{ExportedPart, exported_parts};
 use crate::members::{Member, follow_part};
@@ -43,6 +43,7 @@ fn follow_each<'a>(
     requires nowhere { places.old ≡ [] }
     requires whole { AllByRecursion (λ x. IsWholePart x.part) parts.now }
     ensures followed { IfOk result (λ ms. AreFollowed (length table.old) (map raw_exported parts.now) table.new functions.new places.new ms.items) }
+    ensures numbered { IfOk result (λ ms. AreNumberedTo (map raw_exported parts.now) [] table.new places.new) }
     ensures absent { IfErr result (λ e. Refuses e (each labelled_scope (map raw_exported parts.now))) }
 {
     let mut members = Vec::new(alloc);

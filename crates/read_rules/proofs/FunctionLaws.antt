@@ -49,7 +49,8 @@ module _ (t : Tables) (p : ℕ) (rs : List Text) (name : Text) (f : FunctionShap
       any_none (λ r. (text_eq name (constructor_name r) && not f.is_async) && makes r) (λ r.
       ap (λ v. (v && not f.is_async) && makes r) (is_joined (codes "[constructor]") r name ∙ ap (λ o. option_map_or (λ x. text_eq x r) o false) (sym none))) rs
 
-  pub method_some : (resource : Text) → ((r : Text) → is_label_behind (method_name r []) name ≡ text_eq resource r) → is_method_of_one t p rs name f ≡ (list_any (text_eq resource) rs && takes resource)
+  pub method_some : (resource : Text) → ((r : Text) → is_label_behind (method_name r []) name ≡ text_eq resource r)
+      → is_method_of_one t p rs name f ≡ (list_any (text_eq resource) rs && takes resource)
   method_some resource named = ap (λ (g : Text → Bool). list_any g rs) (λ i r. named r i && takes r) ∙ any_same resource takes rs
 
   pub method_none : ((r : Text) → is_label_behind (method_name r []) name ≡ false) → is_method_of_one t p rs name f ≡ false

@@ -19,12 +19,14 @@ use Rattle.read_rules.specs.Views.{numbered_function, numbered_type}
 
 module _ (t : Tables) (p : ℕ) where
   pub stands_as : (rs : List Text) (name : Text) (signature : ℕ) (shape : FunctionType) → numbered_function_type shape ≡ function_at (numbered_tables t) signature
-      → {E : Type 0} (r : Result Bool E) → IfOk r (λ b. b ≡ is_function (numbered_tables t) (known_in t) p rs name (numbered_function_type shape)) → IfOk r (λ b. b ≡ is_function (numbered_tables t) (known_in t) p rs name (function_at (numbered_tables t) signature))
+      → {E : Type 0} (r : Result Bool E) → IfOk r (λ b. b ≡ is_function (numbered_tables t) (known_in t) p rs name (numbered_function_type shape))
+      → IfOk r (λ b. b ≡ is_function (numbered_tables t) (known_in t) p rs name (function_at (numbered_tables t) signature))
   stands_as rs name signature shape at (Ok b) h = h ∙ ap (is_function (numbered_tables t) (known_in t) p rs name) at
   stands_as rs name signature shape at (Err e) h = tt
 
   -- resources matter by which they are alone
-  pub same_function : (rs ss : List Text) → AreSame rs ss → (name : Text) (f : FunctionShape) → is_function (numbered_tables t) (known_in t) p rs name f ≡ is_function (numbered_tables t) (known_in t) p ss name f
+  pub same_function : (rs ss : List Text) → AreSame rs ss → (name : Text) (f : FunctionShape)
+      → is_function (numbered_tables t) (known_in t) p rs name f ≡ is_function (numbered_tables t) (known_in t) p ss name f
   same_function rs ss same name f =
       ap (λ b. is_signature (numbered_tables t) (known_in t) p f && (is_label name || b)) (same (is_function_of (numbered_tables t) (known_in t) p name f))
 
@@ -49,7 +51,8 @@ module _ (t : Tables) (p : ℕ) where
       pub functions_fail : are_functions t p rs v.functions ≡ false → false ≡ is_interface (numbered_tables t) (known_in t) p v
       functions_fail fails = sym (others ∙ ap (λ b. b && have_one_name_each v) fails)
 
-      pub names_decide : are_functions t p rs v.functions ≡ true → {E : Type 0} (r : Result Bool E) → IfOk r (λ b. b ≡ have_one_name_each v) → IfOk r (λ b. b ≡ is_interface (numbered_tables t) (known_in t) p v)
+      pub names_decide : are_functions t p rs v.functions ≡ true → {E : Type 0} (r : Result Bool E) → IfOk r (λ b. b ≡ have_one_name_each v)
+          → IfOk r (λ b. b ≡ is_interface (numbered_tables t) (known_in t) p v)
       names_decide passes (Ok b) h = h ∙ sym (others ∙ ap (λ x. x && have_one_name_each v) passes)
       names_decide passes (Err e) h = tt
 

@@ -18,8 +18,6 @@ use Rattle.wit_model.proofs.RulesLemmas.{after_both}
 
 -- ---- what stands after a prefix
 
--- a prefix of two parts is one after the other
-
 -- a text is a prefix and a rest where what follows the prefix is the rest
 
 one_byte : (fits labelled : Bool) (o : Option Text) → (fits && labelled) ≡ option_map_or is_label o false → (v : Bool) → ((v && fits) && labelled) ≡ option_map_or is_label (cond v o None) false
@@ -59,7 +57,8 @@ unique_last (x ∷ a) (y ∷ b) f g e lf lg =
     (ap (λ z. z ∷ a) head ∙ ap (λ t. y ∷ t) both.0, both.1)
 
 -- what follows a resource and a dot is a label where the last dot stands behind the resource, with a label behind it
-forward : (R rest : Text) (o : Option Text) → after_prefix (R ++ (46 ∷ [])) rest ≡ o → (s : Text × Text) → rest ≡ s.0 ++ (46 ∷ s.1) → Lacks s.1 → option_map_or is_label o false ≡ true → (text_eq s.0 R && is_label s.1) ≡ true
+forward : (R rest : Text) (o : Option Text) → after_prefix (R ++ (46 ∷ [])) rest ≡ o → (s : Text × Text) → rest ≡ s.0 ++ (46 ∷ s.1) → Lacks s.1 → option_map_or is_label o false ≡ true
+    → (text_eq s.0 R && is_label s.1) ≡ true
 forward R rest None e s cut lacks h = absurd (cc)
 forward R rest (Some f) e s cut lacks h =
     let joined : rest ≡ R ++ (46 ∷ f) = prefix_back (R ++ (46 ∷ [])) rest f e ∙ append_assoc R (46 ∷ []) f in

@@ -37,7 +37,8 @@ module _ (ns : List ℕ) (i d : ℕ) (more : i < length ns) (ks : List ℕ) (r :
       let x = get_or ns i d in
       sym (old_turn ◌==◌ itself itself ns i x ks x r more (same_default ns i d x more) refl tells old) ∙ (kept ∙ once_itself ns)
 
-  pub number_new : (new : List ℕ) → r ≡ true → new ≡ cond (list_any (λ o. get_or ns i d == o) ks) ks (ks ++ get_or ns i d ∷ []) → adds_new ◌==◌ (map itself new) (drop (i + 1) (map itself ns)) ≡ adds_new ◌==◌ [] (map itself ns)
+  pub number_new : (new : List ℕ) → r ≡ true → new ≡ cond (list_any (λ o. get_or ns i d == o) ks) ks (ks ++ get_or ns i d ∷ [])
+      → adds_new ◌==◌ (map itself new) (drop (i + 1) (map itself ns)) ≡ adds_new ◌==◌ [] (map itself ns)
   number_new new fresh added =
       let x = get_or ns i d in
       new_turn ◌==◌ itself itself ns i x ks x new r (adds_new ◌==◌ [] (map itself ns)) more (same_default ns i d x more) refl tells fresh added kept

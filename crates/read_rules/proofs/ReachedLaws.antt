@@ -25,7 +25,8 @@ or_turn false true false = refl
 or_turn false false true = refl
 or_turn false false false = refl
 
-pub type_added : {X E : Type 0} (old new : List ℕ) (ps : List ℕ) (p : Option ℕ) → option_to_list p ≡ ps → (r : Result X E) → IfOk r (λ _. (n : ℕ) → has new n ≡ has (old ++ option_to_list p) n) → IfOk r (λ _. (n : ℕ) → has new n ≡ has (old ++ ps) n)
+pub type_added : {X E : Type 0} (old new : List ℕ) (ps : List ℕ) (p : Option ℕ) → option_to_list p ≡ ps → (r : Result X E) → IfOk r (λ _. (n : ℕ) → has new n ≡ has (old ++ option_to_list p) n)
+    → IfOk r (λ _. (n : ℕ) → has new n ≡ has (old ++ ps) n)
 type_added old new ps p is (Ok x) h = λ n. h n ∙ ap (λ qs. has (old ++ qs) n) is
 type_added old new ps p is (Err e) h = tt
 

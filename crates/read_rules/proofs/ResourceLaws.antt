@@ -23,11 +23,13 @@ stands : (test : Text → Bool) (a : Text) (ks : List (Bor (List ℕ))) → list
 stands test a [] among passes = absurd (cc)
 stands test a (k ∷ ks) among passes = go (λ later. stands test a ks later passes) (text_eq a k.now) refl among
   where
-    go : (list_any (λ o. text_eq a o.now) ks ≡ true → list_any test (map now_of ks) ≡ true) → (v : Bool) → text_eq a k.now ≡ v → (v || list_any (λ o. text_eq a o.now) ks) ≡ true → (test k.now || list_any test (map now_of ks)) ≡ true
+    go : (list_any (λ o. text_eq a o.now) ks ≡ true → list_any test (map now_of ks) ≡ true) → (v : Bool) → text_eq a k.now ≡ v → (v || list_any (λ o. text_eq a o.now) ks) ≡ true
+        → (test k.now || list_any test (map now_of ks)) ≡ true
     go again true e h = ap (λ b. b || list_any test (map now_of ks)) (ap test (sym (same_text a k.now e)) ∙ passes)
     go again false e h = second_of (test k.now) (list_any test (map now_of ks)) (again h)
 
-pub nothing_added : (test : Text → Bool) (ks : List (Bor (List ℕ))) (name : Bor (List ℕ)) (r : Bool) → r ≡ false → list_any test (map now_of ks) ≡ (list_any test (map now_of ks) || (r && test name.now))
+pub nothing_added : (test : Text → Bool) (ks : List (Bor (List ℕ))) (name : Bor (List ℕ)) (r : Bool) → r ≡ false
+    → list_any test (map now_of ks) ≡ (list_any test (map now_of ks) || (r && test name.now))
 nothing_added test ks name r e = or_no (list_any test (map now_of ks)) (r && test name.now) (ap (λ b. b && test name.now) e)
 
 pub name_added : (test : Text → Bool) (ks new : List (Bor (List ℕ))) (name : Bor (List ℕ)) (r : Bool) → r ≡ true → new ≡ cond (list_any (λ o. text_eq name.now o.now) ks) ks (ks ++ name ∷ [])
@@ -47,14 +49,16 @@ pub one_or_none : (test : Text → Bool) (name : Text) (others : List Text) (v :
 one_or_none test name others true = refl
 one_or_none test name others false = refl
 
-first_resource : (test : Text → Bool) (x : ViewType) (xs : List ViewType) → list_any test (resources_of (numbered_type x ∷ map numbered_type xs)) ≡ ((is_no_part x.declared && test x.name.now) || list_any test (resources_of (map numbered_type xs)))
+first_resource : (test : Text → Bool) (x : ViewType) (xs : List ViewType)
+    → list_any test (resources_of (numbered_type x ∷ map numbered_type xs)) ≡ ((is_no_part x.declared && test x.name.now) || list_any test (resources_of (map numbered_type xs)))
 first_resource test x xs = one_or_none test x.name.now (resources_of (map numbered_type xs)) (is_no_part x.declared)
 
 module _ (test : Text → Bool) (xs : List ViewType) (i : ℕ) where
   abbrev left : ℕ → Bool
   left n = list_any test (resources_of (map numbered_type (drop n xs)))
 
-  pub resource_turn : (d : ViewType) → i < length xs → (old new : List Text) (r : Bool) → r ≡ is_no_part (get_or xs i d).declared → list_any test new ≡ (list_any test old || (r && test (get_or xs i d).name.now))
+  pub resource_turn : (d : ViewType) → i < length xs → (old new : List Text) (r : Bool) → r ≡ is_no_part (get_or xs i d).declared
+      → list_any test new ≡ (list_any test old || (r && test (get_or xs i d).name.now))
       → {v : Bool} → (list_any test old || left i) ≡ v → (list_any test new || left (i + 1)) ≡ v
   resource_turn d more old new r is added kept =
       let x = get_or xs i d in

@@ -20,7 +20,8 @@ pub any_same : (a : Text) (q : Text → Bool) (rs : List Text) → list_any (λ 
 any_same a q [] = refl
 any_same a q (r ∷ rs) = go (any_same a q rs) (text_eq a r) refl
   where
-    go : list_any (λ x. text_eq a x && q x) rs ≡ (list_any (text_eq a) rs && q a) → (v : Bool) → text_eq a r ≡ v → ((v && q r) || list_any (λ x. text_eq a x && q x) rs) ≡ ((v || list_any (text_eq a) rs) && q a)
+    go : list_any (λ x. text_eq a x && q x) rs ≡ (list_any (text_eq a) rs && q a) → (v : Bool) → text_eq a r ≡ v
+        → ((v && q r) || list_any (λ x. text_eq a x && q x) rs) ≡ ((v || list_any (text_eq a) rs) && q a)
     go again true e =
         ap (λ t. q t || list_any (λ x. text_eq a x && q x) rs) (sym (same_text a r e))
         ∙ one_or (list_any (text_eq a) rs) (q a) (list_any (λ x. text_eq a x && q x) rs) again

@@ -36,7 +36,8 @@ use Rattle.base_lemmas.proofs.Bools.{and-true as and_true, or_false, or_line}
 
 -- ---- resources that were seen
 
-seen_behind : (test : Text → Bool) (before : List NumberedSeen) (s : NumberedSeen) → list_any test (resources_seen (before ++ s ∷ [])) ≡ (list_any test (resources_seen before) || (is_resource_seen s.shown && test s.key))
+seen_behind : (test : Text → Bool) (before : List NumberedSeen) (s : NumberedSeen)
+    → list_any test (resources_seen (before ++ s ∷ [])) ≡ (list_any test (resources_seen before) || (is_resource_seen s.shown && test s.key))
 seen_behind test [] s = one_or_none test s.key [] (is_resource_seen s.shown) ∙ or_false (is_resource_seen s.shown && test s.key)
 seen_behind test (x ∷ xs) s =
     let first = is_resource_seen x.shown && test x.key in
@@ -48,7 +49,8 @@ seen_behind test (x ∷ xs) s =
 -- ---- imports
 
 module _ (t : Tables) (home : ℕ) where
-  pub same_item : (rs ss : List Text) → AreSame rs ss → (key : Text) (s : NumberedShown) → is_item (numbered_tables t) (known_in t) home rs key s ≡ is_item (numbered_tables t) (known_in t) home ss key s
+  pub same_item : (rs ss : List Text) → AreSame rs ss → (key : Text) (s : NumberedShown)
+      → is_item (numbered_tables t) (known_in t) home rs key s ≡ is_item (numbered_tables t) (known_in t) home ss key s
   same_item rs ss same key (instance k v) = refl
   same_item rs ss same key (function n) = same_function t home rs ss same key (function_at (numbered_tables t) n)
   same_item rs ss same key (declares d) = refl
@@ -70,7 +72,8 @@ module _ (t : Tables) (home : ℕ) where
       module _ {v : Bool} (kept : are_imports (numbered_tables t) (known_in t) home (before i) (later i) ≡ v) where
         here : (may_be_imported t home ks (numbered_seen one) && are_imports (numbered_tables t) (known_in t) home (before i ++ numbered_seen one ∷ []) (later (i + 1))) ≡ v
         here =
-            ap (λ b. b && are_imports (numbered_tables t) (known_in t) home (before i ++ numbered_seen one ∷ []) (later (i + 1))) (same_item ks (resources_seen (before i)) same one.key.now (numbered_shown one.shown))
+            ap (λ b. b && are_imports (numbered_tables t) (known_in t) home (before i ++ numbered_seen one ∷ []) (later (i + 1)))
+            (same_item ks (resources_seen (before i)) same one.key.now (numbered_shown one.shown))
             ∙ (sym (ap (λ ys. are_imports (numbered_tables t) (known_in t) home (before i) (map numbered_seen ys)) (drop_more xs i d more)) ∙ kept)
 
         pub import_fails : may_be_imported t home ks (numbered_seen one) ≡ false → false ≡ v
@@ -96,7 +99,8 @@ key_names : (xs : List Seen) → map now_of (map (λ s. s.key) xs) ≡ map (λ s
 key_names [] = refl
 key_names (x ∷ xs) = ap (λ ts. x.key.now ∷ ts) (key_names xs)
 
-pub keys_apart : {E : Type 0} (r : Result Bool E) (xs : List Seen) (keys : List (Bor (List ℕ))) → keys ≡ map (λ s. s.key) xs → IfOk r (λ b. b ≡ distinct (map now_of keys)) → IfOk r (λ b. b ≡ distinct (map (λ s. s.key) (map numbered_seen xs)))
+pub keys_apart : {E : Type 0} (r : Result Bool E) (xs : List Seen) (keys : List (Bor (List ℕ))) → keys ≡ map (λ s. s.key) xs → IfOk r (λ b. b ≡ distinct (map now_of keys))
+    → IfOk r (λ b. b ≡ distinct (map (λ s. s.key) (map numbered_seen xs)))
 keys_apart (Ok b) xs keys e h = h ∙ ap distinct (ap (map now_of) e ∙ key_names xs)
 keys_apart (Err x) xs keys e h = tt
 
@@ -114,11 +118,13 @@ others_append : (own : ℕ) (ps qs : List ℕ) → others_than own (ps ++ qs) �
 others_append own [] qs = refl
 others_append own (p ∷ ps) qs = go (others_append own ps qs) (p == own)
   where
-    go : others_than own (ps ++ qs) ≡ others_than own ps ++ others_than own qs → (v : Bool) → cond v (others_than own (ps ++ qs)) (p ∷ others_than own (ps ++ qs)) ≡ cond v (others_than own ps) (p ∷ others_than own ps) ++ others_than own qs
+    go : others_than own (ps ++ qs) ≡ others_than own ps ++ others_than own qs → (v : Bool)
+        → cond v (others_than own (ps ++ qs)) (p ∷ others_than own (ps ++ qs)) ≡ cond v (others_than own ps) (p ∷ others_than own ps) ++ others_than own qs
     go again true = again
     go again false = ap (λ rs. p ∷ rs) again
 
-pub uses_along : (t : views.Tables) (h : ℕ → Bool) (own : ℕ) (xs : List ViewType) → list_all h (others_than own (flat_map (λ x. used_by t x.declared) (map numbered_type xs))) ≡ list_all (λ x. list_all h (others_than own (used_by t x.declared))) xs
+pub uses_along : (t : views.Tables) (h : ℕ → Bool) (own : ℕ) (xs : List ViewType)
+    → list_all h (others_than own (flat_map (λ x. used_by t x.declared) (map numbered_type xs))) ≡ list_all (λ x. list_all h (others_than own (used_by t x.declared))) xs
 uses_along t h own [] = refl
 uses_along t h own (x ∷ xs) =
     ap (list_all h) (others_append own (used_by t x.declared) (flat_map (λ y. used_by t y.declared) (map numbered_type xs)))
@@ -150,17 +156,20 @@ module _ (t : views.Tables) (xs : List Seen) (i : ℕ) (ks : List ℕ) (rest : L
   pub uses_end : length xs ≤ i → v ≡ stand_earlier t ks rest
   uses_end past = sym kept ∙ ap (λ ys. stand_earlier t ks (map numbered_seen ys ++ rest)) (drop_of_length-le xs past)
 
-pub place_added : {X E : Type 0} (old new : List ℕ) (s : NumberedSeen) (p : Option ℕ) → option_to_list p ≡ path_seen s.shown → (r : Result X E) → IfOk r (λ _. (n : ℕ) → has new n ≡ has (old ++ option_to_list p) n) → IfOk r (λ _. IsPlaceAdded old s new)
+pub place_added : {X E : Type 0} (old new : List ℕ) (s : NumberedSeen) (p : Option ℕ) → option_to_list p ≡ path_seen s.shown → (r : Result X E)
+    → IfOk r (λ _. (n : ℕ) → has new n ≡ has (old ++ option_to_list p) n) → IfOk r (λ _. IsPlaceAdded old s new)
 place_added old new s p is (Ok x) h = λ n. h n ∙ ap (λ ps. has (old ++ ps) n) is
 place_added old new s p is (Err e) h = tt
 
 -- imports, and then exports
 module _ (t : views.Tables) (before between after : List ℕ) (none : before ≡ []) (imports exports : List NumberedSeen) where
-  pub imports_late : (b : Bool) → ((rest : List NumberedSeen) → stand_earlier t before (imports ++ rest) ≡ (b && stand_earlier t between rest)) → b ≡ false → false ≡ stand_earlier t [] (imports ++ exports)
+  pub imports_late : (b : Bool) → ((rest : List NumberedSeen) → stand_earlier t before (imports ++ rest) ≡ (b && stand_earlier t between rest)) → b ≡ false
+      → false ≡ stand_earlier t [] (imports ++ exports)
   imports_late b first late = sym (ap (λ ks. stand_earlier t ks (imports ++ exports)) (sym none) ∙ (first exports ∙ ap (λ c. c && stand_earlier t between exports) late))
 
   pub exports_decide : (b : Bool) → ((rest : List NumberedSeen) → stand_earlier t before (imports ++ rest) ≡ (b && stand_earlier t between rest)) → b ≡ true
-      → {E : Type 0} (r : Result Bool E) → IfOk r (λ c. (rest : List NumberedSeen) → stand_earlier t between (exports ++ rest) ≡ (c && stand_earlier t after rest)) → IfOk r (λ c. c ≡ stand_earlier t [] (imports ++ exports))
+      → {E : Type 0} (r : Result Bool E) → IfOk r (λ c. (rest : List NumberedSeen) → stand_earlier t between (exports ++ rest) ≡ (c && stand_earlier t after rest))
+      → IfOk r (λ c. c ≡ stand_earlier t [] (imports ++ exports))
   exports_decide b first stands (Ok c) second =
       sym (ap (λ ks. stand_earlier t ks (imports ++ exports)) (sym none)
       ∙ (first exports
@@ -170,7 +179,8 @@ module _ (t : views.Tables) (before between after : List ℕ) (none : before ≡
 
 -- ---- exports
 
-pub no_resources : (t : Tables) (home : ℕ) (ks : List (Bor (List ℕ))) → ks ≡ [] → (s : NumberedSeen) → {E : Type 0} (r : Result Bool E) → IfOk r (λ b. b ≡ may_be_imported t home (map now_of ks) s) → IfOk r (λ b. b ≡ may_be_exported t home s)
+pub no_resources : (t : Tables) (home : ℕ) (ks : List (Bor (List ℕ))) → ks ≡ [] → (s : NumberedSeen) → {E : Type 0} (r : Result Bool E) → IfOk r (λ b. b ≡ may_be_imported t home (map now_of ks) s)
+    → IfOk r (λ b. b ≡ may_be_exported t home s)
 no_resources t home ks none s (Ok b) h = h ∙ ap (λ (rs : List (Bor (List ℕ))). may_be_imported t home (map now_of rs) s) none
 no_resources t home ks none s (Err e) h = tt
 
@@ -192,6 +202,7 @@ module _ (t : Tables) (home : ℕ) (rs : List Text) (key : Text) (s : Shown) {E 
       h ∙ (ap (is_function (numbered_tables t) (known_in t) home rs key) at ∙ ap (λ x. is_item (numbered_tables t) (known_in t) home rs key (numbered_shown x)) (sym is))
   function_item n is shape at (Err e) h = tt
 
-pub declared_item : (t : Tables) (home : ℕ) (rs : List Text) (key : Text) (s : Shown) (part : ℕ) (d : Option ℕ) → s ≡ variants.Declares part d → (b : Bool) → b ≡ (is_label key && is_declared (numbered_tables t) (known_in t) home d)
+pub declared_item : (t : Tables) (home : ℕ) (rs : List Text) (key : Text) (s : Shown) (part : ℕ) (d : Option ℕ) → s ≡ variants.Declares part d → (b : Bool)
+    → b ≡ (is_label key && is_declared (numbered_tables t) (known_in t) home d)
     → b ≡ is_item (numbered_tables t) (known_in t) home rs key (numbered_shown s)
 declared_item t home rs key s part d is b h = h ∙ ap (λ x. is_item (numbered_tables t) (known_in t) home rs key (numbered_shown x)) (sym is)

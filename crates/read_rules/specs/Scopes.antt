@@ -30,4 +30,10 @@ numbered_instance i = record { place = i.place; view = numbered_view i.view }
 
 abbrev pub numbered_scope : Scope → NumberedScope
 numbered_scope w =
-    record { home = w.home; imports = map numbered_seen w.imports.now; exports = map numbered_seen w.exports.now; instances = map numbered_instance w.instances.now }
+    record {
+      home = w.home;
+      imports = map numbered_seen w.imports.now;
+      exports = map numbered_seen w.exports.now;
+      instances =
+          map numbered_instance w.instances.now;
+    }

@@ -34,7 +34,12 @@ abbrev pub given_text : Option (Bor (List ℕ)) → Option Text
 given_text o = option_map now_of o
 
 abbrev pub numbered_tables : Tables → views.Tables
-numbered_tables t = record { shapes = map numbered_shape t.shapes.now; functions = map numbered_function_type t.functions.now; paths = map given_text t.paths.now }
+numbered_tables t = record {
+  shapes = map numbered_shape t.shapes.now;
+  functions = map numbered_function_type t.functions.now;
+  paths =
+      map given_text t.paths.now;
+}
 
 -- the place and the text of a name
 abbrev pub name_of : ℕ × Bor (List ℕ) → ℕ × Text

@@ -222,7 +222,8 @@ fn belongs(
     name: &str,
     function: FunctionType<'_>,
 ) -> bool
-    ensures { result ≡ list_any (is_function_of (numbered_tables tables.now) (known_in tables.now) place name.now (numbered_function_type function.entry)) (map now_of resources.now.keys) }
+    ensures { result ≡ list_any (is_function_of (numbered_tables tables.now) (known_in tables.now) place name.now (numbered_function_type function.entry))
+        (map now_of resources.now.keys) }
 {
     is_member(tables, place, resources, name, function)
 }

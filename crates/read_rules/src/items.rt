@@ -37,7 +37,8 @@ fn is_item(
     key: &str,
     shown: Shown<'_>,
 ) -> Result<bool, AllocError>
-    ensures { IfOk result (λ b. b ≡ is_item_lem (numbered_tables tables.now) (known_in tables.now) home (map now_of resources.now.keys) key.now (numbered_shown shown.entry)) }
+    ensures { IfOk result (λ b. b ≡ is_item_lem (numbered_tables tables.now) (known_in tables.now) home (map now_of resources.now.keys) key.now
+        (numbered_shown shown.entry)) }
 {
     match shown {
         Shown::Instance(instance, view) => is_interface(alloc, tables, place_of(instance), view),

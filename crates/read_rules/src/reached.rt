@@ -27,7 +27,8 @@ fn add_type(
     tables: &Tables<'_>,
     ty: ViewType<'_>,
 ) -> Result<(), AllocError>
-    ensures { IfOk result (λ _. (n : ℕ) → has used.new.keys n ≡ has (used.old.keys ++ used_by_lem (numbered_tables tables.now) (numbered_type ty.entry).declared) n) }
+    ensures { IfOk result (λ _. (n : ℕ)
+        → has used.new.keys n ≡ has (used.old.keys ++ used_by_lem (numbered_tables tables.now) (numbered_type ty.entry).declared) n) }
 {
     add_given(used, used_by(tables, ty.declared))
 }
@@ -38,7 +39,8 @@ fn add_used(
     tables: &Tables<'_>,
     types: &[ViewType<'_>],
 ) -> Result<(), AllocError>
-    ensures { IfOk result (λ _. (n : ℕ) → has used.new.keys n ≡ (has used.old.keys n || has (used_by_types (numbered_tables tables.now) (map numbered_type types.now)) n)) }
+    ensures { IfOk result (λ _. (n : ℕ)
+        → has used.new.keys n ≡ (has used.old.keys n || has (used_by_types (numbered_tables tables.now) (map numbered_type types.now)) n)) }
 {
     for ty in types {
         add_type(used, tables, *ty)?;
@@ -58,7 +60,8 @@ fn add_import(
     tables: &Tables<'_>,
     import: ImportedView<'_>,
 ) -> Result<(), AllocError>
-    ensures { IfOk result (λ _. (n : ℕ) → has used.new.keys n ≡ (has used.old.keys n || has (used_by_types (numbered_tables tables.now) (numbered_import import.entry).1.types) n)) }
+    ensures { IfOk result (λ _. (n : ℕ)
+        → has used.new.keys n ≡ (has used.old.keys n || has (used_by_types (numbered_tables tables.now) (numbered_import import.entry).1.types) n)) }
 {
     add_used(used, tables, import.view.types)
 }

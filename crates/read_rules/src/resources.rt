@@ -22,7 +22,8 @@ pub(crate) fn add_resource<'a>(
     is_resource: bool,
     name: &'a str,
 ) -> Result<(), AllocError>
-    ensures { IfOk result (λ _. (test : Text → Bool) → list_any test (map now_of resources.new.keys) ≡ (list_any test (map now_of resources.old.keys) || (is_resource && test name.entry.now))) }
+    ensures { IfOk result (λ _. (test : Text → Bool)
+        → list_any test (map now_of resources.new.keys) ≡ (list_any test (map now_of resources.old.keys) || (is_resource && test name.entry.now))) }
 {
     if !is_resource {
         return Ok(());

@@ -52,7 +52,8 @@ fn add_instance<'a>(
     tables: &Tables<'_>,
     instance: Instance<'a>,
 ) -> Result<(), AllocError>
-    ensures { IfOk result (λ _. AreBehind sights.old.items (sights_of_instance (numbered_tables tables.now) (numbered_instance instance.entry)) sights.new.items) }
+    ensures { IfOk result (λ _. AreBehind sights.old.items (sights_of_instance (numbered_tables tables.now) (numbered_instance instance.entry))
+        sights.new.items) }
 {
     if has_path(tables, instance.place) {
         sights.push(Sight {

@@ -114,7 +114,9 @@ fn stand_behind(
     earlier: &mut IndexSet<u32>,
     items: &[Seen<'_>],
 ) -> Result<bool, AllocError>
-    ensures { IfOk result (λ b. (rest : List NumberedSeen) → stand_earlier_lem (numbered_tables tables.now) earlier.old.keys (map numbered_seen items.now ++ rest) ≡ (b && stand_earlier_lem (numbered_tables tables.now) earlier.new.keys rest)) }
+    ensures { IfOk result (λ b. (rest : List NumberedSeen)
+        → stand_earlier_lem (numbered_tables tables.now) earlier.old.keys (map numbered_seen items.now ++ rest)
+        ≡ (b && stand_earlier_lem (numbered_tables tables.now) earlier.new.keys rest)) }
 {
     for item in items {
         if !item_stands(tables, earlier, *item) {

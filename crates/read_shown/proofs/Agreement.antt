@@ -39,7 +39,8 @@ alike_at v w same n t at =
 -- a name stands at one number
 pub one_number : (v : View) → NamesDiffer v → (m n : ℕ) (t u : ShownType) → slice_get v.types m ≡ Some t → slice_get v.types n ≡ Some u → t.name ≡ u.name → m ≡ n
 one_number v apart m n t u at there same =
-    one_place (map (λ (x : ShownType). x.name) v.types) apart m n u.name (mapped_get (λ (x : ShownType). x.name) v.types m t at ∙ ap Some same) (mapped_get (λ (x : ShownType). x.name) v.types n u there)
+    one_place (map (λ (x : ShownType). x.name) v.types) apart m n u.name (mapped_get (λ (x : ShownType). x.name) v.types m t at ∙ ap Some same)
+    (mapped_get (λ (x : ShownType). x.name) v.types n u there)
 
 any_front : {A : Type 0} (test : A → Bool) (xs ys : List A) → list_any test (xs ++ ys) ≡ false → list_any test xs ≡ false
 any_front test [] ys e = refl
@@ -53,7 +54,8 @@ pub distinct_front : (xs ys : List Text) → distinct (xs ++ ys) ≡ true → di
 distinct_front [] ys e = refl
 distinct_front (x ∷ xs) ys e = by (list_any (text_eq x) (xs ++ ys)) refl e (distinct_front xs ys)
   where
-    by : (b : Bool) → list_any (text_eq x) (xs ++ ys) ≡ b → (not b && distinct (xs ++ ys)) ≡ true → (distinct (xs ++ ys) ≡ true → distinct xs ≡ true) → (not (list_any (text_eq x) xs) && distinct xs) ≡ true
+    by : (b : Bool) → list_any (text_eq x) (xs ++ ys) ≡ b → (not b && distinct (xs ++ ys)) ≡ true → (distinct (xs ++ ys) ≡ true → distinct xs ≡ true)
+        → (not (list_any (text_eq x) xs) && distinct xs) ≡ true
     by true is h rest = absurd cc
     by false is h rest = ap (λ c. not c && distinct xs) (any_front (text_eq x) xs ys is) ∙ rest h
 
@@ -115,7 +117,8 @@ of_scope xs n x path at is = record {
     by None e = absurd cc
     by (Some p) e = subst (λ (q : Text). Contains {X = Sight} (record { path = q; view = x.view; whole = true } ∷ []) s) (sym (some_is p path e)) (contains-one s)
 
-seen_in_part : (label : Text) (package_ : PackageIdentity) (p : Part) (n : ℕ) (x : Instance) (path : Text) → slice_get (instances_of (record { label = label; package_ = package_; part = p })) n ≡ Some x → x.interface ≡ Some path
+seen_in_part : (label : Text) (package_ : PackageIdentity) (p : Part) (n : ℕ) (x : Instance) (path : Text)
+    → slice_get (instances_of (record { label = label; package_ = package_; part = p })) n ≡ Some x → x.interface ≡ Some path
     → IsSeenIn (sights (record { label = label; package_ = package_; part = p })) path x.view
 seen_in_part label package_ (Part.world scope) n x path at is = of_scope scope.instances n x path at is
 seen_in_part label package_ (Part.interface exported imports) n x path at is = by (at_end (map named_instance imports) itself x n at)
@@ -129,7 +132,8 @@ seen_in_part label package_ (Part.interface exported imports) n x path at is = b
     last : Sight
     last = record { path = path_in package_ label; view = exported; whole = true }
 
-    by : (slice_get (map named_instance imports) n ≡ Some x) ⊎ ((n ≡ length (map named_instance imports)) × (itself ≡ x)) → IsSeenIn (sights (record { label = label; package_ = package_; part = Part.interface exported imports })) path x.view
+    by : (slice_get (map named_instance imports) n ≡ Some x) ⊎ ((n ≡ length (map named_instance imports)) × (itself ≡ x))
+        → IsSeenIn (sights (record { label = label; package_ = package_; part = Part.interface exported imports })) path x.view
     by (inl before) =
         let i = unmapped_get named_instance imports n x before in
         let s : Sight = record { path = i.0.0; view = i.0.1; whole = false } in

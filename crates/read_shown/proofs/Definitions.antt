@@ -135,7 +135,8 @@ module _ (Met : Place → Text → Bool → Type 0) where
         let b = bind_some (each (case_type slots) cases) (λ cs. provided (is_filled cases) (tree.variant_tree cs)) t e in
         let w = when_some (is_filled cases) (Some (tree.variant_tree b.0)) t b.2 in
         let some = each_filled (case_type slots) cases b.0 b.1 w.0 in
-        subst (TreeStands Met) (some_is (tree.variant_tree b.0) t w.1) (variant_stands b.0 (each_found (case_type slots) (λ (c : Text × Option Tree). IfSome c.1 (TreeStands Met)) case_stands cases b.0 b.1) some)
+        subst (TreeStands Met) (some_is (tree.variant_tree b.0) t w.1) (variant_stands b.0
+        (each_found (case_type slots) (λ (c : Text × Option Tree). IfSome c.1 (TreeStands Met)) case_stands cases b.0 b.1) some)
     definition_stands (DefinedType.list_of v) t e =
         let b = bind_some (value_type slots v) (λ u. Some (tree.list_tree u)) t e in
         subst (TreeStands Met) (some_is (tree.list_tree b.0) t b.2) (refl, (type_stands v b.0 b.1, tt))

@@ -127,7 +127,8 @@ module _ (parts : List (List Instance)) (stand : AllStand parts)
   pub view_kinds : (m : ℕ) (xs : List Instance) → slice_get parts m ≡ Some xs → (n : ℕ) (x : Instance) → slice_get xs n ≡ Some x → NamesDiffer x.view → ViewHasKinds kinds xs n x
   view_kinds m xs there n x at apart = record { own = own_kind x.view; shown = shown; met = met; types = types; functions = functions }
     where
-      inside_is : (o : Option Text) → x.interface ≡ o → (count : ℕ) (name : Text) (b : Bool) → ShowsName (place_of x.interface) x.view count name b → b ≡ kind_at kinds (own_kind x.view) (place_of o) name
+      inside_is : (o : Option Text) → x.interface ≡ o → (count : ℕ) (name : Text) (b : Bool) → ShowsName (place_of x.interface) x.view count name b
+          → b ≡ kind_at kinds (own_kind x.view) (place_of o) name
       inside_is None is count name b s = own_is (place_of x.interface) x.view apart count name b s
       inside_is (Some path) is count name b s = kinds_are path name b (record {
         instance_ = x;
@@ -147,7 +148,8 @@ module _ (parts : List (List Instance)) (stand : AllStand parts)
       met count place name b (outside s) = kinds_are s.path name b (before_somewhere parts m xs there n place name b s) ∙ ap (λ p. kind_at kinds (own_kind x.view) p name) (sym s.stands)
 
       -- a type that is shown has the kind of its name
-      kind_shown_at : (k : ℕ) (t : ShownType) (e : slice_get x.view.types k ≡ Some t) → ((stand m xs there n x at).types k t e).is_resource ≡ kind_at kinds (own_kind x.view) (place_of x.interface) t.name
+      kind_shown_at : (k : ℕ) (t : ShownType) (e : slice_get x.view.types k ≡ Some t)
+          → ((stand m xs there n x at).types k t e).is_resource ≡ kind_at kinds (own_kind x.view) (place_of x.interface) t.name
       kind_shown_at k t e = met (length x.view.types) (place_of x.interface) t.name ((stand m xs there n x at).types k t e).is_resource (inside refl (record {
         number = k;
         below = slice_get_within x.view.types k t e;

@@ -83,9 +83,11 @@ instance_seen direction name n scope next e h =
     let of_key : Key → Option View = λ key. when (not (list_any (λ m. m == n) scope.used)) (used_view scope.slots (place_of (interface_of key)) (slice_get scope.slots n)) in
     let k = bind_some (key_of name) (λ key. of_key key >>= λ view. Some (see direction (seen key view) (used key view))) next e in
     let v = bind_some (of_key k.0) (λ view. Some (see direction (seen k.0 view) (used k.0 view))) next k.2 in
-    subst InstancesAreSeen {x = see direction (seen k.0 v.0) (used k.0 v.0)} (some_is (see direction (seen k.0 v.0) (used k.0 v.0)) next v.2) (one_seen direction (seen k.0 v.0) (new k.0 v.0) (scope.used ++ n ∷ []) scope refl h)
+    subst InstancesAreSeen {x = see direction (seen k.0 v.0) (used k.0 v.0)} (some_is (see direction (seen k.0 v.0) (used k.0 v.0)) next v.2)
+    (one_seen direction (seen k.0 v.0) (new k.0 v.0) (scope.used ++ n ∷ []) scope refl h)
 
-described_seen : (direction : Direction) (name : ExternName) (described : ComponentTypeRef) (scope next : Scope) → see_described direction name described scope ≡ Some next → InstancesAreSeen scope → InstancesAreSeen next
+described_seen : (direction : Direction) (name : ExternName) (described : ComponentTypeRef) (scope next : Scope) → see_described direction name described scope ≡ Some next → InstancesAreSeen scope
+    → InstancesAreSeen next
 described_seen import_ name (refs.Instance n) scope next e h = instance_seen import_ name n scope next e h
 described_seen export_ name (refs.Instance n) scope next e h = instance_seen export_ name n scope next e h
 described_seen import_ name (refs.Func n) scope next e h = function_seen import_ name n scope next e h

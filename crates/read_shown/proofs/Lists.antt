@@ -12,8 +12,6 @@ use Rattle.base_lemmas.proofs.Lists.{front_at as at_front}
 use Rattle.base_lemmas.proofs.Options.{some_is}
 use Rattle.comp_meaning.proofs.RulesLemmas.{not_twice as twice}
 
--- an item of the front
-
 -- an item of the front, or the last
 pub at_end : {A : Type 0} (xs : List A) (x y : A) (n : ℕ) → slice_get (xs ++ x ∷ []) n ≡ Some y → (slice_get xs n ≡ Some y) ⊎ ((n ≡ length xs) × (x ≡ y))
 at_end [] x y zero e = inr (refl, some_is x y e)
@@ -87,10 +85,6 @@ last_of x (y ∷ xs) = let more = last_of y xs in (x ∷ more.0, more.1, ap (λ 
 
 -- ---- what stands in a list
 
--- an item of the mapped list is the image of one
-
--- no text stands twice
-
 -- where no text stands twice, it stands at one number
 pub one_place : (xs : List Text) → distinct xs ≡ true → (i j : ℕ) (x : Text) → slice_get xs i ≡ Some x → slice_get xs j ≡ Some x → i ≡ j
 one_place xs apart i j x e f = by (le_or_gt i j)
@@ -116,7 +110,8 @@ pub first_found : {A B : Type 0} (f : A → Option B) (xs : List A) (y : B) → 
 first_found f [] y e = absurd cc
 first_found {B = B} f (x ∷ xs) y e = by (f x) refl e (first_found f xs y)
   where
-    by : (o : Option B) → f x ≡ o → or_else o (first_some f xs) ≡ Some y → (first_some f xs ≡ Some y → (n : ℕ) × (w : _) × (slice_get xs n ≡ Some w) × (f w ≡ Some y)) → (n : ℕ) × (w : _) × (slice_get (x ∷ xs) n ≡ Some w) × (f w ≡ Some y)
+    by : (o : Option B) → f x ≡ o → or_else o (first_some f xs) ≡ Some y → (first_some f xs ≡ Some y → (n : ℕ) × (w : _) × (slice_get xs n ≡ Some w) × (f w ≡ Some y)) → (n : ℕ) × (w : _)
+        × (slice_get (x ∷ xs) n ≡ Some w) × (f w ≡ Some y)
     by None is h rest = let r = rest h in (suc r.0, r.1, r.2, r.3)
     by (Some z) is h rest = (zero, x, refl, is ∙ h)
 

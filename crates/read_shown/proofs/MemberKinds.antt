@@ -57,9 +57,11 @@ three_of true true false d e h = absurd cc
 three_of true false c d e h = absurd cc
 three_of false b c d e h = absurd cc
 
-world_parts : (scope : Scope) → is_world scope ≡ true → (are_imports [] scope.imports ≡ true) × (list_all (λ s. is_item [] s.key s.shown) scope.exports ≡ true) × (distinct (map (λ s. s.key) scope.imports) ≡ true)
+world_parts : (scope : Scope) → is_world scope ≡ true → (are_imports [] scope.imports ≡ true) × (list_all (λ s. is_item [] s.key s.shown) scope.exports ≡ true)
+    × (distinct (map (λ s. s.key) scope.imports) ≡ true)
 world_parts scope e =
-    three_of (are_imports [] scope.imports) (list_all (λ s. is_item [] s.key s.shown) scope.exports) (distinct (map (λ s. s.key) scope.imports)) (distinct (map (λ s. s.key) scope.exports)) (stand_earlier [] (scope.imports ++ scope.exports)) e
+    three_of (are_imports [] scope.imports) (list_all (λ s. is_item [] s.key s.shown) scope.exports) (distinct (map (λ s. s.key) scope.imports)) (distinct (map (λ s. s.key) scope.exports))
+    (stand_earlier [] (scope.imports ++ scope.exports)) e
 
 -- an instance goes one of two ways
 one_way : (seen : List (Direction × Instance)) (n : ℕ) (x : Instance) → slice_get (map (λ y. y.1) seen) n ≡ Some x → Contains (going import_ seen) x ⊎ Contains (going export_ seen) x
@@ -116,7 +118,8 @@ module _ (members : List Member) (stand : AllByRecursion MemberStands members) (
     differ n x at = by x.interface refl
       where
         -- an instance without a path is one of a world
-        inline : (label : Text) (package_ : PackageIdentity) (p : Part) → PartStands p → slice_get (instances_of (record { label = label; package_ = package_; part = p })) n ≡ Some x → x.interface ≡ None → NamesDiffer x.view
+        inline : (label : Text) (package_ : PackageIdentity) (p : Part) → PartStands p → slice_get (instances_of (record { label = label; package_ = package_; part = p })) n ≡ Some x
+            → x.interface ≡ None → NamesDiffer x.view
         inline label package_ (Part.world scope) w e none = names_differ (place_of x.interface) x.view (world_obeys scope w n x e)
         inline label package_ (Part.interface exported imports) w e none = elim (at_end (map named_instance imports) (named_instance (path_in package_ label, exported)) x n e) [
           | inl before ↦ (let i = unmapped_get named_instance imports n x before in let wrong : Some i.0.0 ≡ None = ap (λ (y : Instance). y.interface) i.2 ∙ none in absurd cc)
@@ -156,6 +159,7 @@ module _ (members : List Member) (stand : AllByRecursion MemberStands members) (
   pub have_kinds : NamesHaveKinds members
   have_kinds = record { kinds = kinds parts all_stand alike once; each = along members member_kinds }
     where
-      along : (ms : List Member) → ((k : ℕ) (m : Member) → slice_get ms k ≡ Some m → MemberHasKinds (kinds parts all_stand alike once) m) → AllByRecursion (MemberHasKinds (kinds parts all_stand alike once)) ms
+      along : (ms : List Member) → ((k : ℕ) (m : Member) → slice_get ms k ≡ Some m → MemberHasKinds (kinds parts all_stand alike once) m)
+          → AllByRecursion (MemberHasKinds (kinds parts all_stand alike once)) ms
       along [] each = tt
       along (m ∷ ms) each = (each zero m refl, along ms (λ k x e. each (suc k) x e))

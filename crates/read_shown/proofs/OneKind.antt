@@ -51,7 +51,8 @@ pub record IsShownSomewhere (parts : List (List Instance)) (path name : Text) (b
   pub there : IsOfPath parts path instance_
   pub shows : ShowsName (Place.of_interface path) instance_.view (length instance_.view.types) name b
 
-pub before_somewhere : (parts : List (List Instance)) (m : ℕ) (xs : List Instance) → slice_get parts m ≡ Some xs → (n : ℕ) (place : Place) (name : Text) (b : Bool) (s : IsShownBefore xs n place name b) → IsShownSomewhere parts s.path name b
+pub before_somewhere : (parts : List (List Instance)) (m : ℕ) (xs : List Instance) → slice_get parts m ≡ Some xs
+    → (n : ℕ) (place : Place) (name : Text) (b : Bool) (s : IsShownBefore xs n place name b) → IsShownSomewhere parts s.path name b
 before_somewhere parts m xs there n place name b s = record {
   instance_ = s.shown;
   there = record { part = m; instances = xs; part_at = there; number = s.number; at = s.at; of_path = s.of_path };
@@ -102,12 +103,14 @@ module _ (parts : List (List Instance)) (stand : AllStand parts)
         one_declaration =
             let o : IsOfPath parts path x = record { part = m; instances = xs; part_at = there; number = n; at = at; of_path = of_path } in
             let v = alike_at x.view w.instance_.view (alike path x w.instance_ o w.there) s.number s.shown s.at in
-            let number : s.number ≡ w.shows.number = one_number w.instance_.view (once path w.instance_ w.there) s.number w.shows.number v.0 w.shows.shown v.1 w.shows.at (v.2 ∙ (s.named ∙ sym w.shows.named)) in
+            let number : s.number ≡ w.shows.number = one_number w.instance_.view (once path w.instance_ w.there) s.number w.shows.number v.0 w.shows.shown v.1 w.shows.at
+            (v.2 ∙ (s.named ∙ sym w.shows.named)) in
             let is : v.0 ≡ w.shows.shown = some_is v.0 w.shows.shown (sym v.1 ∙ (ap (λ i. slice_get w.instance_.view.types i) number ∙ w.shows.at)) in
             ap (λ (z : ShownType). z.meaning.declaration) (sym is) ∙ ap (λ z. z.declaration) v.3
 
         other : (q more : Text) (e : Bool) → MetThere (Place.of_interface q) more e → IsShownSomewhere parts q more e
-        other q more e h = met_somewhere path w.instance_ w.there w.shows.number (let low = slice_get_within w.instance_.view.types w.shows.number w.shows.shown w.shows.at in omega (arith, low)) q more e h
+        other q more e h = met_somewhere path w.instance_ w.there w.shows.number
+            (let low = slice_get_within w.instance_.view.types w.shows.number w.shows.shown w.shows.at in omega (arith, low)) q more e h
 
         meet : (count : ℕ) → count ≤ k → (d e : Bool) (place : Place) (more : Text) → MetHere count place more d → MetThere place more e → d ≡ e
         meet count low d e place more (inside here v) h =

@@ -36,7 +36,8 @@ path_is label path package_ e =
     let w = when_some (text_eq p.0.1 label) (Some p.0.0) package_ p.2 in
     (read_path_is_spelled path p.0.0 p.0.1 p.1).spelled ∙ (λ i. path_in (some_is p.0.0 package_ w.1 i) (text_same p.0.1 label w.0 i))
 
-export_found : (key : Text) (shown : Shown) (id : Option Text) (exported : Text × View) → exported_view (record { key = key; shown = shown; external_id = id } ∷ []) ≡ Some exported → instance_of shown ≡ named_instance exported ∷ []
+export_found : (key : Text) (shown : Shown) (id : Option Text) (exported : Text × View) → exported_view (record { key = key; shown = shown; external_id = id } ∷ []) ≡ Some exported
+    → instance_of shown ≡ named_instance exported ∷ []
 export_found key (Shown.instance (Key.path path) view) id exported e =
     let w = when_some (is_none id) (Some (path, view)) exported e in
     ap (λ (x : Text × View). named_instance x ∷ []) (some_is (path, view) exported w.1)
@@ -50,7 +51,8 @@ exports_found [] exported e = absurd cc
 exports_found (s ∷ []) exported e = ap (λ xs. xs ++ []) (export_found s.key s.shown s.external_id exported e)
 exports_found (s ∷ t ∷ more) exported e = absurd cc
 
-import_found : (key : Text) (shown : Shown) (id : Option Text) (x : Text × View) → imported_view (record { key = key; shown = shown; external_id = id }) ≡ Some x → instance_of shown ≡ named_instance x ∷ []
+import_found : (key : Text) (shown : Shown) (id : Option Text) (x : Text × View) → imported_view (record { key = key; shown = shown; external_id = id }) ≡ Some x
+    → instance_of shown ≡ named_instance x ∷ []
 import_found key (Shown.instance (Key.path path) view) id x e =
     let w = when_some (is_none id && not (is_filled view.functions)) (Some (path, view)) x e in
     ap (λ (y : Text × View). named_instance y ∷ []) (some_is (path, view) x w.1)
@@ -74,7 +76,8 @@ none_exported ((import_, x) ∷ seen) e = ap (λ xs. x ∷ xs) (none_exported se
 none_exported ((export_, x) ∷ seen) e = absurd cc
 
 -- the imports before and behind the one export
-around_export : (seen : List (Direction × Instance)) (x : Instance) → going export_ seen ≡ x ∷ [] → (before : List Instance) × (behind : List Instance) × (map (λ y. y.1) seen ≡ before ++ x ∷ behind) × (going import_ seen ≡ before ++ behind)
+around_export : (seen : List (Direction × Instance)) (x : Instance) → going export_ seen ≡ x ∷ [] → (before : List Instance) × (behind : List Instance) × (map (λ y. y.1) seen ≡ before ++ x ∷ behind)
+    × (going import_ seen ≡ before ++ behind)
 around_export [] x e = absurd cc
 around_export ((import_, y) ∷ seen) x e =
     let more = around_export seen x e in
@@ -115,7 +118,8 @@ module _ (scope : Scope) (st : ScopeStands scope) (exported : Text × View) (imp
           ∙ (ap (λ (xs : List Instance). slice_get xs s.number) (sym all) ∙ s.at))) in
           let i = unmapped_get named_instance imports s.number s.shown there in
           let same : i.0.0 ≡ last.0 = some_is i.0.0 last.0 (ap (λ (x : Instance). x.interface) i.2 ∙ s.of_path) in
-          twice (map (λ i. i.0) imports) (second_true (not (list_any (text_eq exported.0) (map (λ i. i.0) imports))) (distinct (map (λ i. i.0) imports)) apart) s.number n last.0 (omega (arith, low, late))
+          twice (map (λ i. i.0) imports) (second_true (not (list_any (text_eq exported.0) (map (λ i. i.0) imports))) (distinct (map (λ i. i.0) imports)) apart) s.number n last.0
+          (omega (arith, low, late))
           (path_at s.number i.0 i.1 same) (path_at n last at refl)
 
   -- so no import stands behind the export
@@ -162,12 +166,14 @@ interface_instances scope st are exported out imports in_ apart reached =
 -- so they are its imports, and then the interface of its label in the package
 pub interface_shows : (label : Text) (scope : Scope) → ScopeStands scope → InstancesAreSeen scope → (exported : Text × View) → exported_view scope.exports ≡ Some exported
     → (imports : List (Text × View)) → each imported_view scope.imports ≡ Some imports → (package_ : PackageIdentity) → labelled_path label exported.0 ≡ Some package_
-    → distinct (exported.0 ∷ map (λ i. i.0) imports) ≡ true → are_reached imports exported.1 ≡ true → scope.instances ≡ map named_instance imports ++ named_instance (path_in package_ label, exported.1) ∷ []
+    → distinct (exported.0 ∷ map (λ i. i.0) imports) ≡ true → are_reached imports exported.1 ≡ true
+    → scope.instances ≡ map named_instance imports ++ named_instance (path_in package_ label, exported.1) ∷ []
 interface_shows label scope st seen exported out imports in_ package_ path apart reached =
     interface_instances scope st seen exported (exports_found scope.exports exported out) imports (imports_found scope.imports imports in_) apart reached
     ∙ ap (λ q. map named_instance imports ++ named_instance (q, exported.1) ∷ []) (path_is label exported.0 package_ path)
 
-interface_read : (label : Text) (ds : Declarations) (p : PackageIdentity × Part) (scope : Scope) → component_scope ds ≡ Some scope → (exported : Text × View) → exported_view scope.exports ≡ Some exported
+interface_read : (label : Text) (ds : Declarations) (p : PackageIdentity × Part) (scope : Scope) → component_scope ds ≡ Some scope → (exported : Text × View)
+    → exported_view scope.exports ≡ Some exported
     → (imports : List (Text × View)) → each imported_view scope.imports ≡ Some imports → (package_ : PackageIdentity) → labelled_path label exported.0 ≡ Some package_
     → provided (distinct (exported.0 ∷ map (λ i. i.0) imports) && are_reached imports exported.1) (package_, Part.interface exported.1 imports) ≡ Some p → MemberStands (member_of label p)
 interface_read label ds p scope follows exported out imports in_ package_ path e =
@@ -194,7 +200,8 @@ interface_stands label ds p e =
     provided (distinct (exported.0.0 ∷ map (λ i. i.0) imports.0) && are_reached imports.0 exported.0.1) (package_, Part.interface exported.0.1 imports.0)) p imports.2 in
     interface_read label ds p scope.0 scope.1 exported.0 exported.1 imports.0 imports.1 package_.0 package_.1 package_.2
 
-world_read : (label : Text) (ds : Declarations) (p : PackageIdentity × Part) (scope : Scope) → component_scope ds ≡ Some scope → (package_ : PackageIdentity) → provided (is_world scope) (package_, Part.world scope) ≡ Some p → MemberStands (member_of label p)
+world_read : (label : Text) (ds : Declarations) (p : PackageIdentity × Part) (scope : Scope) → component_scope ds ≡ Some scope → (package_ : PackageIdentity)
+    → provided (is_world scope) (package_, Part.world scope) ≡ Some p → MemberStands (member_of label p)
 world_read label ds p scope follows package_ e =
     let w = when_some (is_world scope) (Some (package_, Part.world scope)) p e in
     let st = scope_stands ds scope follows in

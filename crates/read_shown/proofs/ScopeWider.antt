@@ -11,7 +11,8 @@ use Rattle.read_shown.proofs.Views.{view_wider}
 use Rattle.read_shown.proofs.Wider.{declaration_wider, signature_wider, slot_wider}
 use Rattle.base_lemmas.proofs.Numbers.{same_number}
 
-pub shown_wider : (instances more : List Instance) → Front instances more → (k m : ℕ) → k ≤ m → (place : Place) (name : Text) (b : Bool) → IsShownBefore instances k place name b → IsShownBefore more m place name b
+pub shown_wider : (instances more : List Instance) → Front instances more → (k m : ℕ) → k ≤ m → (place : Place) (name : Text) (b : Bool) → IsShownBefore instances k place name b
+    → IsShownBefore more m place name b
 shown_wider instances more front k m le place name b s = record {
   number = s.number;
   below = (let below = s.below in omega (arith, below, le));
@@ -57,7 +58,8 @@ module _ (instances more_instances : List Instance) (imports more_imports : List
       → AllAt (λ n (s : Slot). SlotStands (IsMetInScope more_instances more_imports (length more_imports)) s) ss
   slots_wider ss all =
       all_weaker (λ n (s : Slot). SlotStands (IsMetInScope instances imports (length imports)) s) (λ n s. SlotStands (IsMetInScope more_instances more_imports (length more_imports)) s) ss
-      (λ n s within h. slot_wider (IsMetInScope instances imports (length imports)) (IsMetInScope more_instances more_imports (length more_imports)) (met_wider (length imports) (length more_imports) fm.long) s h) all
+      (λ n s within h. slot_wider (IsMetInScope instances imports (length imports)) (IsMetInScope more_instances more_imports (length more_imports))
+      (met_wider (length imports) (length more_imports) fm.long) s h) all
 
   pub instances_wider : (xs : List Instance) → AllAt (λ n (x : Instance). ViewStands (IsShownBefore instances n) (place_of x.interface) x.view) xs
       → AllAt (λ n (x : Instance). ViewStands (IsShownBefore more_instances n) (place_of x.interface) x.view) xs
@@ -67,7 +69,8 @@ module _ (instances more_instances : List Instance) (imports more_imports : List
 
   pub imports_wider : (xs : List Seen) → AllAt (λ n (s : Seen). ShownStands instances imports n s.shown) xs → AllAt (λ n (s : Seen). ShownStands more_instances more_imports n s.shown) xs
   imports_wider xs all =
-      all_weaker (λ n (s : Seen). ShownStands instances imports n s.shown) (λ n s. ShownStands more_instances more_imports n s.shown) xs (λ n s within h. shown_stands_wider n n (same_number n) s.shown h) all
+      all_weaker (λ n (s : Seen). ShownStands instances imports n s.shown) (λ n s. ShownStands more_instances more_imports n s.shown) xs
+      (λ n s within h. shown_stands_wider n n (same_number n) s.shown h) all
 
   pub exports_wider : (xs : List Seen) → AllAt (λ n (s : Seen). ShownStands instances imports (length imports) s.shown) xs
       → AllAt (λ n (s : Seen). ShownStands more_instances more_imports (length more_imports) s.shown) xs

@@ -67,7 +67,8 @@ import_stands seen scope st h =
       no_types = st.no_types;
     }
 
-pub seen_stands : (direction : Direction) (seen : Seen) (scope : Scope) → ScopeStands scope → ShownStands scope.instances scope.imports (length scope.imports) seen.shown → is_type seen.shown ≡ false → ScopeStands (see direction seen scope)
+pub seen_stands : (direction : Direction) (seen : Seen) (scope : Scope) → ScopeStands scope → ShownStands scope.instances scope.imports (length scope.imports) seen.shown → is_type seen.shown ≡ false
+    → ScopeStands (see direction seen scope)
 seen_stands import_ seen scope st h plain = import_stands seen scope st h
 seen_stands export_ seen scope st h plain = record {
   slots = st.slots;
@@ -121,7 +122,8 @@ type_seen name described scope next e st =
       shown = refl;
     } in
     let good : DeclarationStands (IsMetInScope more.instances more.imports (length scope.imports)) b.0.0 is.0 =
-    declaration_wider (Met scope) (IsMetInScope more.instances more.imports (length scope.imports)) (met_wider scope.instances scope.instances scope.imports more.imports fi fm (length scope.imports) (length scope.imports) (omega arith)) b.0.0 is.0 is.2 in
+    declaration_wider (Met scope) (IsMetInScope more.instances more.imports (length scope.imports))
+    (met_wider scope.instances scope.instances scope.imports more.imports fi fm (length scope.imports) (length scope.imports) (omega arith)) b.0.0 is.0 is.2 in
     let named : SlotStands (Met more) (named_slot Place.here name.text is.0) =
     named_stands (Met more) Place.here name.text is.0 (by_import refl (declared_last more.instances more.imports (length more.imports) name.text b.0.0 is.0 by good)) in
     subst ScopeStands (some_is (see import_ (seen b.0) (in_scope b.0.1 scope)) next w.1)
@@ -130,7 +132,8 @@ type_seen name described scope next e st =
 -- ---- an instance
 
 -- the names of interfaces among the slots are shown by instances
-around_stands : (scope : Scope) → ScopeStands scope → (k n : ℕ) (slot : Slot) → slice_get (take k scope.slots) n ≡ Some slot → is_foreign_name slot ≡ true → SlotStands (IsShownBefore scope.instances (length scope.instances)) slot
+around_stands : (scope : Scope) → ScopeStands scope → (k n : ℕ) (slot : Slot) → slice_get (take k scope.slots) n ≡ Some slot → is_foreign_name slot ≡ true
+    → SlotStands (IsShownBefore scope.instances (length scope.instances)) slot
 around_stands scope st k n slot at foreign = by slot (st.slots n slot (in_front scope.slots k n slot at)) foreign
   where
     of_interface : (path name : Text) (b : Bool) → Met scope (Place.of_interface path) name b → IsShownBefore scope.instances (length scope.instances) (Place.of_interface path) name b
@@ -147,7 +150,8 @@ around_stands scope st k n slot at foreign = by slot (st.slots n slot (in_front 
     by (Slot.function g) h f = absurd cc
     by (Slot.instance ds around) h f = absurd cc
 
-used_stands : (scope : Scope) → ScopeStands scope → (place : Place) (o : Option Slot) (view : View) → used_view scope.slots place o ≡ Some view → ViewStands (IsShownBefore scope.instances (length scope.instances)) place view
+used_stands : (scope : Scope) → ScopeStands scope → (place : Place) (o : Option Slot) (view : View) → used_view scope.slots place o ≡ Some view
+    → ViewStands (IsShownBefore scope.instances (length scope.instances)) place view
 used_stands scope st place None view e = absurd cc
 used_stands scope st place (Some (Slot.value t)) view e = absurd cc
 used_stands scope st place (Some (Slot.resource p name)) view e = absurd cc
@@ -186,7 +190,8 @@ instance_seen direction name n scope next e st =
 
 -- ---- each declaration
 
-described_seen : (direction : Direction) (name : ExternName) (described : ComponentTypeRef) (scope next : Scope) → see_described direction name described scope ≡ Some next → ScopeStands scope → ScopeStands next
+described_seen : (direction : Direction) (name : ExternName) (described : ComponentTypeRef) (scope next : Scope) → see_described direction name described scope ≡ Some next → ScopeStands scope
+    → ScopeStands next
 described_seen import_ name (refs.Instance n) scope next e st = instance_seen import_ name n scope next e st
 described_seen export_ name (refs.Instance n) scope next e st = instance_seen export_ name n scope next e st
 described_seen import_ name (refs.Func n) scope next e st = function_seen import_ name n scope next e st
@@ -199,11 +204,13 @@ described_seen export_ name refs.SubResource scope next e st = absurd cc
 described_seen export_ name (refs.Component n) scope next e st = absurd cc
 
 -- the type of this name that was found is one of those shown
-pub type_found : (name : Text) (ts : List ShownType) (slot : Slot) → find_type name ts ≡ Some slot → (n : ℕ) × (t : ShownType) × (slice_get ts n ≡ Some t) × (t.slot ≡ slot) × (text_eq name t.name ≡ true)
+pub type_found : (name : Text) (ts : List ShownType) (slot : Slot) → find_type name ts ≡ Some slot → (n : ℕ) × (t : ShownType) × (slice_get ts n ≡ Some t) × (t.slot ≡ slot)
+    × (text_eq name t.name ≡ true)
 type_found name [] slot e = absurd cc
 type_found name (t ∷ ts) slot e = by (text_eq name t.name) refl (type_found name ts slot) e
   where
-    by : (b : Bool) → text_eq name t.name ≡ b → (find_type name ts ≡ Some slot → (n : ℕ) × (u : ShownType) × (slice_get ts n ≡ Some u) × (u.slot ≡ slot) × (text_eq name u.name ≡ true)) → cond b (Some t.slot) (find_type name ts) ≡ Some slot
+    by : (b : Bool) → text_eq name t.name ≡ b → (find_type name ts ≡ Some slot → (n : ℕ) × (u : ShownType) × (slice_get ts n ≡ Some u) × (u.slot ≡ slot) × (text_eq name u.name ≡ true))
+        → cond b (Some t.slot) (find_type name ts) ≡ Some slot
         → (n : ℕ) × (u : ShownType) × (slice_get (t ∷ ts) n ≡ Some u) × (u.slot ≡ slot) × (text_eq name u.name ≡ true)
     by true same rest h = (zero, t, refl, some_is t.slot slot h, same)
     by false same rest h = let r = rest h in (suc r.0, r.1, r.2, r.3, r.4)
@@ -211,7 +218,8 @@ type_found name (t ∷ ts) slot e = by (text_eq name t.name) refl (type_found na
 exported_stands : (scope : Scope) → ScopeStands scope → (m : ℕ) (name : Text) (slot : Slot) → exported_slot name (slice_get scope.instances m) ≡ Some slot → SlotStands (Met scope) slot
 exported_stands scope st m name slot e = by (slice_get scope.instances m) refl e
   where
-    of_path : (x : Instance) → slice_get scope.instances m ≡ Some x → (n : ℕ) (t : ShownType) → slice_get x.view.types n ≡ Some t → t.slot ≡ slot → (o : Option Text) → x.interface ≡ o → is_some o ≡ true → SlotStands (Met scope) slot
+    of_path : (x : Instance) → slice_get scope.instances m ≡ Some x → (n : ℕ) (t : ShownType) → slice_get x.view.types n ≡ Some t → t.slot ≡ slot → (o : Option Text) → x.interface ≡ o
+        → is_some o ≡ true → SlotStands (Met scope) slot
     of_path x at n t there is None path some = absurd cc
     of_path x at n t there is (Some path) path_is some =
         let place : place_of x.interface ≡ Place.of_interface path = ap place_of path_is in
@@ -263,7 +271,8 @@ step_stands scope next (raw.Declaration.exported name described) e st = describe
 
 -- what each declaration keeps, and each instance type, stays to the end
 pub steps_keep : (P : Scope → Type 0) → ((scope next : Scope) (d : raw.Declaration) → component_step scope d ≡ Some next → P scope → P next)
-    → ((scope : Scope) (ds : List raw.Declaration) (n : ℕ) → P scope → P (in_scope (Slot.instance ds n) scope)) → (ds : Declarations) (scope next : Scope) → component_steps scope ds ≡ Some next → P scope → P next
+    → ((scope : Scope) (ds : List raw.Declaration) (n : ℕ) → P scope → P (in_scope (Slot.instance ds n) scope)) → (ds : Declarations) (scope next : Scope) → component_steps scope ds ≡ Some next
+    → P scope → P next
 steps_keep P step type_ Declarations.no_more scope next e h = subst P (some_is scope next e) h
 steps_keep P step type_ (Declarations.declares d rest) scope next e h =
     let b = bind_some (component_step scope d) (λ s. component_steps s rest) next e in
@@ -274,7 +283,8 @@ steps_keep P step type_ (Declarations.instance inner rest) scope next e h =
     steps_keep P step type_ rest (in_scope (Slot.instance b.0 (length scope.slots)) scope) next b.2 (type_ scope b.0 (length scope.slots) h)
 
 pub scope_keeps : (P : Scope → Type 0) → ((scope next : Scope) (d : raw.Declaration) → component_step scope d ≡ Some next → P scope → P next)
-    → ((scope : Scope) (ds : List raw.Declaration) (n : ℕ) → P scope → P (in_scope (Slot.instance ds n) scope)) → P new_scope → (ds : Declarations) (scope : Scope) → component_scope ds ≡ Some scope → P scope
+    → ((scope : Scope) (ds : List raw.Declaration) (n : ℕ) → P scope → P (in_scope (Slot.instance ds n) scope)) → P new_scope → (ds : Declarations) (scope : Scope)
+    → component_scope ds ≡ Some scope → P scope
 scope_keeps P step type_ new ds scope e =
     let b = bind_some (component_steps new_scope ds) (λ s. provided (length s.used == instance_types s.slots) s) scope e in
     let w = when_some (length b.0.used == instance_types b.0.slots) (Some b.0) scope b.2 in

@@ -43,7 +43,8 @@ use_stands_before instances count x st path c =
     let type_ = st.types t.0 t.1 t.2 in
     by t.0 name.0 type_.is_resource (subst (λ d. DeclarationStands (IsMetInView (IsShownBefore instances count) (place_of x.interface) x.view t.0) d type_.is_resource) name.1 type_.declared)
   where
-    by : (n : ℕ) (name : Text) (b : Bool) → IsMetInView (IsShownBefore instances count) (place_of x.interface) x.view n (Place.of_interface path) name b → (x.interface ≡ Some path) ⊎ IsInstanceBefore instances count path
+    by : (n : ℕ) (name : Text) (b : Bool) → IsMetInView (IsShownBefore instances count) (place_of x.interface) x.view n (Place.of_interface path) name b → (x.interface ≡ Some path)
+        ⊎ IsInstanceBefore instances count path
     by n name b (inside here s) = inl (path_there x.interface path (sym here))
     by n name b (outside s) =
         inr (record { number = s.number; below = s.below; shown = s.shown; at = s.at; of_path = s.of_path ∙ ap Some (path_once s.path path (sym s.stands)) })

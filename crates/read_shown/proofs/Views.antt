@@ -64,7 +64,8 @@ shows_wider place view more front k m le name b s = record {
 }
 
 module _ (Outside : Place → Text → Bool → Type 0) (own : Place) where
-  pub met_wider : (view more : View) → Front view.types more.types → (k m : ℕ) → k ≤ m → (place : Place) (name : Text) (b : Bool) → IsMetInView Outside own view k place name b → IsMetInView Outside own more m place name b
+  pub met_wider : (view more : View) → Front view.types more.types → (k m : ℕ) → k ≤ m → (place : Place) (name : Text) (b : Bool) → IsMetInView Outside own view k place name b
+      → IsMetInView Outside own more m place name b
   met_wider view more front k m le place name b (inside here s) = inside here (shows_wider own view more front k m le name b s)
   met_wider view more front k m le place name b (outside out) = outside out
 
@@ -83,10 +84,12 @@ module _ (Outside : Place → Text → Bool → Type 0) (own : Place) where
   types_wider : (view more : View) → Front view.types more.types → AllAt (TypeStands Outside own view) view.types → AllAt (TypeStands Outside own more) view.types
   types_wider view more front all = all_weaker (TypeStands Outside own view) (TypeStands Outside own more) view.types (λ k t within h. type_wider view more front k t h) all
 
-  functions_wider : (view more : View) → Front view.types more.types → (fs : List (Text × FunctionMeaning)) → AllAt (λ n (f : Text × FunctionMeaning). SignatureStands (IsMetInView Outside own view (length view.types)) f.1.signature) fs
+  functions_wider : (view more : View) → Front view.types more.types → (fs : List (Text × FunctionMeaning))
+      → AllAt (λ n (f : Text × FunctionMeaning). SignatureStands (IsMetInView Outside own view (length view.types)) f.1.signature) fs
       → AllAt (λ n (f : Text × FunctionMeaning). SignatureStands (IsMetInView Outside own more (length more.types)) f.1.signature) fs
   functions_wider view more front fs all =
-      all_weaker (λ n (f : Text × FunctionMeaning). SignatureStands (IsMetInView Outside own view (length view.types)) f.1.signature) (λ n f. SignatureStands (IsMetInView Outside own more (length more.types)) f.1.signature) fs
+      all_weaker (λ n (f : Text × FunctionMeaning). SignatureStands (IsMetInView Outside own view (length view.types)) f.1.signature)
+      (λ n f. SignatureStands (IsMetInView Outside own more (length more.types)) f.1.signature) fs
       (λ k f within h. signature_wider (IsMetInView Outside own view (length view.types)) (IsMetInView Outside own more (length more.types)) (whole_wider view more front) f.1.signature h) all
 
   slots_wider : (view more : View) → Front view.types more.types → (ss : List Slot) → AllAt (λ n (s : Slot). SlotStands (IsMetInView Outside own view (length view.types)) s) ss
@@ -124,7 +127,8 @@ module _ (Outside : Place → Text → Bool → Type 0) (own : Place) where
         };
       })
 
-  type_shown : (name : ExternName) (described : ComponentTypeRef) (scope next : InstanceScope) → show_type own name described scope ≡ Some next → InstanceScopeStands Outside own scope → InstanceScopeStands Outside own next
+  type_shown : (name : ExternName) (described : ComponentTypeRef) (scope next : InstanceScope) → show_type own name described scope ≡ Some next → InstanceScopeStands Outside own scope
+      → InstanceScopeStands Outside own next
   type_shown name described scope next e st =
       let type_of : tree.Declaration × Slot → ShownType = λ found. record { name = name.text; meaning = record { declaration = found.0; external_id = name.external_id }; slot = found.1 } in
       let after : tree.Declaration × Slot → InstanceScope = λ found. record {
@@ -151,13 +155,15 @@ module _ (Outside : Place → Text → Bool → Type 0) (own : Place) where
           types = all_more (TypeStands Outside own more) scope.shown.types (type_of b.0) (types_wider scope.shown more front st.shown.types) (record {
             is_resource = is.0;
             slot = is.1;
-            declared = declaration_wider (Met scope.shown) (IsMetInView Outside own more (length scope.shown.types)) (met_wider scope.shown more front (length scope.shown.types) (length scope.shown.types) (omega arith)) b.0.0 is.0 is.2;
+            declared = declaration_wider (Met scope.shown) (IsMetInView Outside own more (length scope.shown.types))
+                (met_wider scope.shown more front (length scope.shown.types) (length scope.shown.types) (omega arith)) b.0.0 is.0 is.2;
           });
           functions = functions_wider scope.shown more front scope.shown.functions st.shown.functions;
         };
       })
 
-  shown_stands : (name : ExternName) (described : ComponentTypeRef) (scope next : InstanceScope) → show own name described scope ≡ Some next → InstanceScopeStands Outside own scope → InstanceScopeStands Outside own next
+  shown_stands : (name : ExternName) (described : ComponentTypeRef) (scope next : InstanceScope) → show own name described scope ≡ Some next → InstanceScopeStands Outside own scope
+      → InstanceScopeStands Outside own next
   shown_stands name (refs.Func n) scope next e st = function_shown name n scope next e st
   shown_stands name (refs.TypeEq n) scope next e st = type_shown name (refs.TypeEq n) scope next e st
   shown_stands name refs.SubResource scope next e st = type_shown name refs.SubResource scope next e st
@@ -166,13 +172,16 @@ module _ (Outside : Place → Text → Bool → Type 0) (own : Place) where
 
   -- the names of interfaces that stand around are met outside
   module _ (outer : List Slot) (around : (n : ℕ) (slot : Slot) → slice_get outer n ≡ Some slot → is_foreign_name slot ≡ true → SlotStands Outside slot) where
-    pub instance_step_stands : (d : Declaration) (scope next : InstanceScope) → instance_step own outer scope d ≡ Some next → InstanceScopeStands Outside own scope → InstanceScopeStands Outside own next
+    pub instance_step_stands : (d : Declaration) (scope next : InstanceScope) → instance_step own outer scope d ≡ Some next → InstanceScopeStands Outside own scope
+        → InstanceScopeStands Outside own next
     instance_step_stands (Declaration.defined d) scope next e st =
         let b = bind_some (definition scope.slots d) (λ t. Some (in_instance (Slot.value t) scope)) next e in
-        subst (InstanceScopeStands Outside own) (some_is (in_instance (Slot.value b.0) scope) next b.2) (pushed scope (Slot.value b.0) st (definition_stands (Met scope.shown) scope.slots st.slots d b.0 b.1))
+        subst (InstanceScopeStands Outside own) (some_is (in_instance (Slot.value b.0) scope) next b.2)
+        (pushed scope (Slot.value b.0) st (definition_stands (Met scope.shown) scope.slots st.slots d b.0 b.1))
     instance_step_stands (Declaration.function f) scope next e st =
         let b = bind_some (function_signature scope.slots f) (λ s. Some (in_instance (Slot.function s) scope)) next e in
-        subst (InstanceScopeStands Outside own) (some_is (in_instance (Slot.function b.0) scope) next b.2) (pushed scope (Slot.function b.0) st (signature_stands (Met scope.shown) scope.slots st.slots f b.0 b.1))
+        subst (InstanceScopeStands Outside own) (some_is (in_instance (Slot.function b.0) scope) next b.2)
+        (pushed scope (Slot.function b.0) st (signature_stands (Met scope.shown) scope.slots st.slots f b.0 b.1))
     instance_step_stands (Declaration.alias_of (Alias.of_outer scopes n)) scope next e st =
         let b = bind_some (slice_get outer n) (λ slot. provided (scopes == 1 && is_foreign_name slot) (in_instance slot scope)) next e in
         let w = when_some (scopes == 1 && is_foreign_name b.0) (Some (in_instance b.0 scope)) next b.2 in
@@ -184,7 +193,8 @@ module _ (Outside : Place → Text → Bool → Type 0) (own : Place) where
         let w = when_some (is_simple name) (show own name described scope) next e in
         shown_stands name described scope next w.1 st
 
-    pub instance_steps_stand : (ds : List Declaration) (scope next : InstanceScope) → instance_steps own outer scope ds ≡ Some next → InstanceScopeStands Outside own scope → InstanceScopeStands Outside own next
+    pub instance_steps_stand : (ds : List Declaration) (scope next : InstanceScope) → instance_steps own outer scope ds ≡ Some next → InstanceScopeStands Outside own scope
+        → InstanceScopeStands Outside own next
     instance_steps_stand [] scope next e st = subst (InstanceScopeStands Outside own) (some_is scope next e) st
     instance_steps_stand (d ∷ ds) scope next e st =
         let b = bind_some (instance_step own outer scope d) (λ s. instance_steps own outer s ds) next e in
@@ -206,7 +216,8 @@ module _ (Outside : Place → Text → Bool → Type 0) (own : Place) where
         subst (ViewStands Outside own) (some_is b.0.shown view b.2) st.shown
 
 -- a view stays well-formed where more was shown outside
-pub view_wider : (Outside More : Place → Text → Bool → Type 0) → ((place : Place) (name : Text) (b : Bool) → Outside place name b → More place name b) → (own : Place) (view : View) → ViewStands Outside own view → ViewStands More own view
+pub view_wider : (Outside More : Place → Text → Bool → Type 0) → ((place : Place) (name : Text) (b : Bool) → Outside place name b → More place name b) → (own : Place) (view : View)
+    → ViewStands Outside own view → ViewStands More own view
 view_wider Outside More wider own view st =
     let met : (k : ℕ) (place : Place) (name : Text) (b : Bool) → IsMetInView Outside own view k place name b → IsMetInView More own view k place name b = met_more in
     record {
@@ -216,7 +227,8 @@ view_wider Outside More wider own view st =
             slot = h.slot;
             declared = declaration_wider (IsMetInView Outside own view k) (IsMetInView More own view k) (met k) t.meaning.declaration h.is_resource h.declared;
           }) st.types;
-      functions = all_weaker (λ n (f : Text × FunctionMeaning). SignatureStands (IsMetInView Outside own view (length view.types)) f.1.signature) (λ n f. SignatureStands (IsMetInView More own view (length view.types)) f.1.signature) view.functions
+      functions = all_weaker (λ n (f : Text × FunctionMeaning). SignatureStands (IsMetInView Outside own view (length view.types)) f.1.signature)
+          (λ n f. SignatureStands (IsMetInView More own view (length view.types)) f.1.signature) view.functions
           (λ k f within h. signature_wider (IsMetInView Outside own view (length view.types)) (IsMetInView More own view (length view.types)) (met (length view.types)) f.1.signature h) st.functions;
     }
   where

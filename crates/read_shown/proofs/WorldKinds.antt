@@ -40,27 +40,36 @@ module _ (instances : List Instance) (imports : List Seen) (apart : distinct (ma
   declared_once {m} {n} {x} {y} same (a_resource i) (a_resource j) = refl
   declared_once {m} {n} {x} {y} same (a_resource i) (a_value t plain j) = absurd (let h = imported_once m n x y Declaration.resource (Declaration.type_ t) same i j in cc)
   declared_once {m} {n} {x} {y} same (a_resource i) (own_name o j d) = absurd (let h = imported_once m n x y Declaration.resource (Declaration.type_ (Tree.named Place.here o)) same i j in cc)
-  declared_once {m} {n} {x} {y} same (a_resource i) (name_of_instance p o j s) = absurd (let h = imported_once m n x y Declaration.resource (Declaration.type_ (Tree.named (Place.of_interface p) o)) same i j in cc)
+  declared_once {m} {n} {x} {y} same (a_resource i) (name_of_instance p o j s) =
+      absurd (let h = imported_once m n x y Declaration.resource (Declaration.type_ (Tree.named (Place.of_interface p) o)) same i j in cc)
   declared_once {m} {n} {x} {y} same (a_value t plain i) (a_resource j) = absurd (let h = imported_once m n x y (Declaration.type_ t) Declaration.resource same i j in cc)
   declared_once {m} {n} {x} {y} same (a_value t plain i) (a_value u other j) = refl
   declared_once {m} {n} {x} {y} same (a_value t plain i) (own_name o j d) =
       absurd (let h : is_name t ≡ true = ap is_name (type_is t (Tree.named Place.here o) (imported_once m n x y (Declaration.type_ t) (Declaration.type_ (Tree.named Place.here o)) same i j)) in cc)
   declared_once {m} {n} {x} {y} same (a_value t plain i) (name_of_instance p o j s) =
-      absurd (let h : is_name t ≡ true = ap is_name (type_is t (Tree.named (Place.of_interface p) o) (imported_once m n x y (Declaration.type_ t) (Declaration.type_ (Tree.named (Place.of_interface p) o)) same i j)) in cc)
+      absurd (let h : is_name t ≡ true = ap is_name (type_is t (Tree.named (Place.of_interface p) o)
+      (imported_once m n x y (Declaration.type_ t) (Declaration.type_ (Tree.named (Place.of_interface p) o)) same i j)) in cc)
   declared_once {m} {n} {x} {y} same (own_name o i d) (a_resource j) = absurd (let h = imported_once m n x y (Declaration.type_ (Tree.named Place.here o)) Declaration.resource same i j in cc)
   declared_once {m} {n} {x} {y} same (own_name o i d) (a_value t plain j) =
-      absurd (let h : is_name t ≡ true = ap is_name (sym (type_is (Tree.named Place.here o) t (imported_once m n x y (Declaration.type_ (Tree.named Place.here o)) (Declaration.type_ t) same i j))) in cc)
+      absurd (let h : is_name t ≡ true = ap is_name (sym (type_is (Tree.named Place.here o) t
+      (imported_once m n x y (Declaration.type_ (Tree.named Place.here o)) (Declaration.type_ t) same i j))) in cc)
   declared_once {m} {n} {x} {y} same (own_name o i d) (own_name w j e) =
-      declared_once (name_is Place.here Place.here o w (type_is (Tree.named Place.here o) (Tree.named Place.here w) (imported_once m n x y (Declaration.type_ (Tree.named Place.here o)) (Declaration.type_ (Tree.named Place.here w)) same i j))) d e
+      declared_once (name_is Place.here Place.here o w (type_is (Tree.named Place.here o) (Tree.named Place.here w)
+      (imported_once m n x y (Declaration.type_ (Tree.named Place.here o)) (Declaration.type_ (Tree.named Place.here w)) same i j))) d e
   declared_once {m} {n} {x} {y} same (own_name o i d) (name_of_instance p w j s) =
-      absurd (let h = type_is (Tree.named Place.here o) (Tree.named (Place.of_interface p) w) (imported_once m n x y (Declaration.type_ (Tree.named Place.here o)) (Declaration.type_ (Tree.named (Place.of_interface p) w)) same i j) in cc)
-  declared_once {m} {n} {x} {y} same (name_of_instance p o i s) (a_resource j) = absurd (let h = imported_once m n x y (Declaration.type_ (Tree.named (Place.of_interface p) o)) Declaration.resource same i j in cc)
+      absurd (let h = type_is (Tree.named Place.here o) (Tree.named (Place.of_interface p) w)
+      (imported_once m n x y (Declaration.type_ (Tree.named Place.here o)) (Declaration.type_ (Tree.named (Place.of_interface p) w)) same i j) in cc)
+  declared_once {m} {n} {x} {y} same (name_of_instance p o i s) (a_resource j) =
+      absurd (let h = imported_once m n x y (Declaration.type_ (Tree.named (Place.of_interface p) o)) Declaration.resource same i j in cc)
   declared_once {m} {n} {x} {y} same (name_of_instance p o i s) (a_value t plain j) =
-      absurd (let h : is_name t ≡ true = ap is_name (sym (type_is (Tree.named (Place.of_interface p) o) t (imported_once m n x y (Declaration.type_ (Tree.named (Place.of_interface p) o)) (Declaration.type_ t) same i j))) in cc)
+      absurd (let h : is_name t ≡ true = ap is_name (sym (type_is (Tree.named (Place.of_interface p) o) t
+      (imported_once m n x y (Declaration.type_ (Tree.named (Place.of_interface p) o)) (Declaration.type_ t) same i j))) in cc)
   declared_once {m} {n} {x} {y} same (name_of_instance p o i s) (own_name w j d) =
-      absurd (let h = type_is (Tree.named (Place.of_interface p) o) (Tree.named Place.here w) (imported_once m n x y (Declaration.type_ (Tree.named (Place.of_interface p) o)) (Declaration.type_ (Tree.named Place.here w)) same i j) in cc)
+      absurd (let h = type_is (Tree.named (Place.of_interface p) o) (Tree.named Place.here w)
+      (imported_once m n x y (Declaration.type_ (Tree.named (Place.of_interface p) o)) (Declaration.type_ (Tree.named Place.here w)) same i j) in cc)
   declared_once {m} {n} {x} {y} {b} {c} same (name_of_instance p o i s) (name_of_instance q w j t) =
-      let one = type_is (Tree.named (Place.of_interface p) o) (Tree.named (Place.of_interface q) w) (imported_once m n x y (Declaration.type_ (Tree.named (Place.of_interface p) o)) (Declaration.type_ (Tree.named (Place.of_interface q) w)) same i j) in
+      let one = type_is (Tree.named (Place.of_interface p) o) (Tree.named (Place.of_interface q) w)
+      (imported_once m n x y (Declaration.type_ (Tree.named (Place.of_interface p) o)) (Declaration.type_ (Tree.named (Place.of_interface q) w)) same i j) in
       let path : p ≡ q = cc in
       let name : o ≡ w = cc in
       are p o b s ∙ ((λ k. kinds (path k) (name k)) ∙ sym (are q w c t))
@@ -72,7 +81,8 @@ module _ (instances : List Instance) (imports : List Seen) (apart : distinct (ma
   kind_shown n (Shown.function f) h = None
   kind_shown n (Shown.declares d) h = Some h.0
 
-  kind_shown_is : (n : ℕ) (s : Shown) (h : ShownStands instances imports n s) (d : Declaration) → s ≡ Shown.declares d → (b : Bool) × (kind_shown n s h ≡ Some b) × DeclarationStands (IsMetInScope instances imports n) d b
+  kind_shown_is : (n : ℕ) (s : Shown) (h : ShownStands instances imports n s) (d : Declaration) → s ≡ Shown.declares d → (b : Bool) × (kind_shown n s h ≡ Some b)
+      × DeclarationStands (IsMetInScope instances imports n) d b
   unfolding kind_shown
   kind_shown_is n (Shown.instance key view) h d e = absurd cc
   kind_shown_is n (Shown.function f) h d e = absurd cc

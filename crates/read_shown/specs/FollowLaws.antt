@@ -27,8 +27,10 @@ EachInstanceIsSeen = (ds : Declarations) (scope : Scope) → component_scope ds 
 
 -- A scope of an instance type is well-formed, where the names of interfaces that stand around are shown by as many instances.
 abbrev pub EachInstanceScopeStands : Type 0
-EachInstanceScopeStands = (instances : List Instance) (count : ℕ) (own : Place) (outer : List Slot) → AllAt (λ n (slot : Slot). is_foreign_name slot ≡ true → SlotStands (IsShownBefore instances count) slot) outer
-    → (ds : List Declaration) (scope : InstanceScope) → instance_steps own outer new_instance ds ≡ Some scope → InstanceScopeStands (IsShownBefore instances count) own scope
+EachInstanceScopeStands = (instances : List Instance) (count : ℕ) (own : Place) (outer : List Slot)
+    → AllAt (λ n (slot : Slot). is_foreign_name slot ≡ true → SlotStands (IsShownBefore instances count) slot) outer
+    → (ds : List Declaration) (scope : InstanceScope) → instance_steps own outer new_instance ds ≡ Some scope
+    → InstanceScopeStands (IsShownBefore instances count) own scope
 
 -- Each interface that a well-formed view uses is its own, or that of an instance before it.
 abbrev pub EachUseStandsBefore : Type 0
@@ -44,15 +46,18 @@ abbrev pub EachEntryScopeStands : Type 0
 EachEntryScopeStands = (es : List Entry) (scope : Scope) → entry_scope es ≡ Some scope → ScopeStands scope × InstancesAreSeen scope
 
 abbrev pub EachMemberByLevelsStands : Type 0
-EachMemberByLevelsStands = (parts : List (Text × PartType)) (members : List Member) → each member_by_levels parts ≡ Some members → AllByRecursion MemberStands members
+EachMemberByLevelsStands = (parts : List (Text × PartType)) (members : List Member) → each member_by_levels parts ≡ Some members
+    → AllByRecursion MemberStands members
 
 -- Where the views of each interface agree, and each may be one, a name is a resource wherever it is met, or nowhere.
 abbrev pub EachNameHasOneKind : Type 0
-EachNameHasOneKind = (members : List Member) → AllByRecursion MemberStands members → all_agree (flat_map sights members) ≡ true → are_interfaces (flat_map sights members) ≡ true → NamesHaveKinds members
+EachNameHasOneKind = (members : List Member) → AllByRecursion MemberStands members → all_agree (flat_map sights members) ≡ true
+    → are_interfaces (flat_map sights members) ≡ true → NamesHaveKinds members
 
 -- So it is where the parts are a package, and where they are one world.
 abbrev pub PackagesHaveKinds : Type 0
-PackagesHaveKinds = (members : List Member) (m : PackageMeaning) → AllByRecursion MemberStands members → package_of_members members ≡ Some m → NamesHaveKinds members
+PackagesHaveKinds = (members : List Member) (m : PackageMeaning) → AllByRecursion MemberStands members → package_of_members members ≡ Some m
+    → NamesHaveKinds members
 
 abbrev pub WorldsHaveKinds : Type 0
 WorldsHaveKinds = (members : List Member) (m : WorldPackage) → AllByRecursion MemberStands members → world_of_members members ≡ Some m → NamesHaveKinds members

@@ -29,7 +29,8 @@ pub record ViewHasKinds (kinds : Text → Text → Bool) (instances : List Insta
   pub own : Text → Bool
   pub shown : AllAt (λ n (t : ShownType). t.slot ≡ named_slot (place_of x.interface) t.name (kind_at kinds own (place_of x.interface) t.name)) x.view.types
   pub met : (n : ℕ) → AreOfKind (IsMetInView (IsShownBefore instances count) (place_of x.interface) x.view n) (kind_at kinds own)
-  pub types : AllAt (λ n (t : ShownType). DeclarationStands (OfKind (kind_at kinds own)) t.meaning.declaration (kind_at kinds own (place_of x.interface) t.name)) x.view.types
+  pub types : AllAt (λ n (t : ShownType). DeclarationStands (OfKind (kind_at kinds own)) t.meaning.declaration
+      (kind_at kinds own (place_of x.interface) t.name)) x.view.types
   pub functions : AllAt (λ n (f : Text × FunctionMeaning). SignatureStands (OfKind (kind_at kinds own)) f.1.signature) x.view.functions
 
 -- what an import or an export of this key is

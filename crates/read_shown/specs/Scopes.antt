@@ -42,10 +42,13 @@ is_name _ = false
 -- The name is declared by one of so many imports, as a resource or as a type of values: another name is of the kind of what it names.
 pub data IsDeclared (instances : List Instance) (imports : List Seen) : ℕ → Text → Bool → Type 0 where
   a_resource : {count : ℕ} {name : Text} → IsImported imports count name Declaration.resource → IsDeclared instances imports count name true
-  a_value : {count : ℕ} {name : Text} (t : Tree) → is_name t ≡ false → IsImported imports count name (Declaration.type_ t) → IsDeclared instances imports count name false
-  own_name : {count : ℕ} {name : Text} {is_resource : Bool} (other : Text) (by : IsImported imports count name (Declaration.type_ (Tree.named Place.here other)))
+  a_value : {count : ℕ} {name : Text} (t : Tree) → is_name t ≡ false → IsImported imports count name (Declaration.type_ t)
+      → IsDeclared instances imports count name false
+  own_name : {count : ℕ} {name : Text} {is_resource : Bool} (other : Text)
+      (by : IsImported imports count name (Declaration.type_ (Tree.named Place.here other)))
       → IsDeclared instances imports by.number other is_resource → IsDeclared instances imports count name is_resource
-  name_of_instance : {count : ℕ} {name : Text} {is_resource : Bool} (path other : Text) → IsImported imports count name (Declaration.type_ (Tree.named (Place.of_interface path) other))
+  name_of_instance : {count : ℕ} {name : Text} {is_resource : Bool} (path other : Text)
+      → IsImported imports count name (Declaration.type_ (Tree.named (Place.of_interface path) other))
       → IsShownBefore instances (length instances) (Place.of_interface path) other is_resource → IsDeclared instances imports count name is_resource
 
 -- A name that is met in a scope, behind as many of its imports: one of these declares it, or an instance shows it.
@@ -55,7 +58,8 @@ pub data IsMetInScope (instances : List Instance) (imports : List Seen) (count :
 
 -- what an import or an export is, behind as many imports
 abbrev pub ShownStands : List Instance → List Seen → ℕ → Shown → Type 0
-ShownStands instances imports count (Shown.instance key view) = (number : ℕ) × (slice_get instances number ≡ Some (record { interface = interface_of key; view = view }))
+ShownStands instances imports count (Shown.instance key view) = (number : ℕ)
+    × (slice_get instances number ≡ Some (record { interface = interface_of key; view = view }))
 ShownStands instances imports count (Shown.function f) = SignatureStands (IsMetInScope instances imports count) f
 ShownStands instances imports count (Shown.declares d) = (is_resource : Bool) × DeclarationStands (IsMetInScope instances imports count) d is_resource
 

@@ -22,7 +22,8 @@ pub record ShowsName (place : Place) (view : View) (count : ℕ) (name : Text) (
   pub slot : shown.slot ≡ named_slot place name is_resource
 
 -- A name that is met in a view, behind as many of its types: the view shows it, or it was shown outside.
-pub data IsMetInView (Outside : Place → Text → Bool → Type 0) (own : Place) (view : View) (count : ℕ) (place : Place) (name : Text) (is_resource : Bool) : Type 0 where
+pub data IsMetInView (Outside : Place → Text → Bool → Type 0) (own : Place) (view : View) (count : ℕ) (place : Place) (name : Text)
+    (is_resource : Bool) : Type 0 where
   inside : place ≡ own → ShowsName own view count name is_resource → IsMetInView Outside own view count place name is_resource
   outside : Outside place name is_resource → IsMetInView Outside own view count place name is_resource
 

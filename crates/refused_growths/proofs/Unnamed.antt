@@ -20,8 +20,6 @@ use Rattle.base_lemmas.proofs.Elements.{all_get as at-index, last_of as one-cont
 abbrev AreUnnamed : Resolve → Type 0
 AreUnnamed r = list_all (λ (def : TypeDef). is_none def.name) r.types.items ≡ true
 
--- what each of a list does, the one at an index does
-
 -- what has a name isn't without one
 no-name : {X : Type 0} (o : Option X) → is_none o ≡ true → is_some o ≡ true → ⊥
 no-name None e h = cc

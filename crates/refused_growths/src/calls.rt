@@ -95,6 +95,17 @@ pub fn module_decoded(alloc: Global, bytes: &[u8]) -> Result<Summary, Error> {
     Ok(all)
 }
 
+/// Which section of a module is refused.
+pub fn section_told(alloc: Global, bytes: &[u8]) -> Result<Summary, Error> {
+    match metadata::refused_section(alloc, bytes)? {
+        Some(number) => Ok(Summary {
+            count: number,
+            sum: 1,
+        }),
+        None => Ok(NOTHING),
+    }
+}
+
 pub fn compared(alloc: Global, resolve: Resolve) -> Result<Summary, Error>
     requires valid { IsValid resolve }
     requires in_range { 0 < length resolve.worlds.items }

@@ -9,7 +9,7 @@ use crate::no_memory::word_of_calls;
 use crate::packages::{module_of, unnamed, whole};
 use crate::words::{
     word_of_carried, word_of_carried_over, word_of_check, word_of_compare, word_of_decode,
-    word_of_encode, word_of_module, word_of_print, word_of_sense, word_of_world,
+    word_of_encode, word_of_module, word_of_print, word_of_section, word_of_sense, word_of_world,
 };
 use std::alloc::{AllocError, AllocFailed, Global};
 use std::io;
@@ -115,6 +115,7 @@ fn other_word(alloc: Global, resolve: &Resolve, call: &str) -> Result<&'static s
         "decode" => word_of_decode(alloc, &package_bytes(alloc, resolve)?),
         "decode_world" => word_of_world(alloc, &world_bytes(alloc, resolve)?),
         "metadata::decode" => word_of_module(alloc, &module_bytes(alloc, resolve)?),
+        "metadata::refused_section" => word_of_section(alloc, &module_bytes(alloc, resolve)?),
         "merge" => word_of_merge(alloc, false),
         "clash" => word_of_merge(alloc, true),
         "encode_valtype" => encoder_word(alloc),

@@ -4,8 +4,8 @@ ghost use Rattle.std.specs.Prelude.{◌<◌, length};
 ghost use Rattle.wit_model.specs.Valid.{IsValid};
 
 use crate::calls::{
-    carried, carried_over, checked, compared, decoded, encoded, module_decoded, printed, sensed,
-    world_decoded,
+    carried, carried_over, checked, compared, decoded, encoded, module_decoded, printed,
+    section_told, sensed, world_decoded,
 };
 use crate::lines::{Refusal, valid_whole};
 use crate::outcome::word_of;
@@ -109,6 +109,15 @@ pub fn word_of_module(alloc: Global, bytes: &[u8]) -> Result<&'static str, Refus
     let first = module_decoded(alloc, bytes);
     end(alloc)?;
     let again = module_decoded(alloc, bytes);
+    Ok(word_of(wanted, first, again))
+}
+
+pub fn word_of_section(alloc: Global, bytes: &[u8]) -> Result<&'static str, Refusal> {
+    let wanted = section_told(alloc, bytes);
+    begin(alloc)?;
+    let first = section_told(alloc, bytes);
+    end(alloc)?;
+    let again = section_told(alloc, bytes);
     Ok(word_of(wanted, first, again))
 }
 

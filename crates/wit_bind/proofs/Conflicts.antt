@@ -1,17 +1,16 @@
 -- The least key that has two encodings, found one entry after the other; and encodings added to others.
-use Rattle.std.proofs.Common.{◌≡◌, refl, sym, ap, subst, ◌∙◌, ◌⊎◌, inl, inr, Bool, true, false, not, List, [], ◌∷◌, cond, Option, Some, None, String, string_eq}
+use Rattle.std.proofs.Common.{◌≡◌, refl, sym, ap, subst, ◌∙◌, ◌⊎◌, inl, inr, Bool, true, false, not, List, [], ◌∷◌, cond, Option, Some, None}
 use mathlib.Core.Bool.{true≢false}
 use Rattle.std.specs.Prelude.{◌≢◌, ◌==◌}
 use Rattle.std.specs.List.{AllByRecursion, IsDistinct}
 use Rattle.std.specs.Map.{keys_of}
 use Rattle.std.specs.Option.{option_map_or}
-use Rattle.std.specs.declared.alloc.Global.{Global}
 use Rattle.std.proofs.lemmas.Slice.Eq.{bytes_eq-Decides}
 use Rattle.indexmap.specs.IndexMap.{insert_all, insert_entry}
 use Rattle.wit_model.specs.declared.model.StringEncoding.{StringEncoding}
 use Rattle.wit_model.specs.declared.model.StringEncoding.TheVariants as encodings
 use Rattle.wit_model.specs.contracts.model.StringEncodingPartialEq.TheImpl as encoding
-use Rattle.wit_model.specs.Text.{Text, text_eq, text_of}
+use Rattle.wit_model.specs.Text.{Text, text_eq}
 use Rattle.wit_model.proofs.VersionLaws.{same_text}
 use Rattle.bind_meaning.specs.Clash.{Differ, EncodingFault, itself}
 use Rattle.bind_clash.specs.Faults.{IsLeastFault, least_of}
@@ -25,30 +24,30 @@ use Rattle.wit_model.proofs.TextLemmas.{text_same as text-same}
 
 abbrev pub least_from : Encodings → Option Text → Entries → Option Text
 least_from m so_far [] = so_far
-least_from m so_far (e ∷ es) = least_from m (least_of so_far (conflict_at m (text_of e.0) e.1)) es
+least_from m so_far (e ∷ es) = least_from m (least_of so_far (conflict_at m e.0 e.1)) es
 
 -- the entry has the key, which has another encoding
-abbrev Here : Encodings → String Global × StringEncoding → Text → Type 0
-Here m e t = (t ≡ text_of e.0) × (has_another m t e.1 ≡ true)
+abbrev Here : Encodings → Text × StringEncoding → Text → Type 0
+Here m e t = (t ≡ e.0) × (has_another m t e.1 ≡ true)
 
 -- one of the entries does
 abbrev Among : Encodings → Entries → Text → Type 0
 Among m [] t = ⊥
 Among m (e ∷ es) t = Here m e t ⊎ Among m es t
 
-of_one : (m : Encodings) (e : String Global × StringEncoding) → IsLeastFault (Here m e) (conflict_at m (text_of e.0) e.1)
-of_one m e = by (has_another m (text_of e.0) e.1) refl
+of_one : (m : Encodings) (e : Text × StringEncoding) → IsLeastFault (Here m e) (conflict_at m e.0 e.1)
+of_one m e = by (has_another m e.0 e.1) refl
   where
-    by : (b : Bool) → has_another m (text_of e.0) e.1 ≡ b → IsLeastFault (Here m e) (cond b (Some (text_of e.0)) None)
-    by true h = one_fault (Here m e) (text_of e.0) (refl, h) (λ s x. x.0)
+    by : (b : Bool) → has_another m e.0 e.1 ≡ b → IsLeastFault (Here m e) (cond b (Some e.0) None)
+    by true h = one_fault (Here m e) e.0 (refl, h) (λ s x. x.0)
     by false h = λ t x. true≢false (sym (subst (λ (s : Text). has_another m s e.1 ≡ true) x.0 x.1) ∙ h)
 
 of_all : (m : Encodings) (P : Text → Type 0) (so_far : Option Text) (es : Entries) → IsLeastFault P so_far → IsLeastFault (λ t. P t ⊎ Among m es t) (least_from m so_far es)
 of_all m P so_far [] h = same_faults P (λ t. P t ⊎ ⊥) (λ t p. inl p) (λ t x. elim x [ inl p ↦ p | inr z ↦ absurd z ]) so_far h
 of_all m P so_far (e ∷ es) h =
     same_faults (λ t. (P t ⊎ Here m e t) ⊎ Among m es t) (λ t. P t ⊎ Among m (e ∷ es) t) forth back
-    (least_from m (least_of so_far (conflict_at m (text_of e.0) e.1)) es)
-    (of_all m (λ t. P t ⊎ Here m e t) (least_of so_far (conflict_at m (text_of e.0) e.1)) es (of_two P (Here m e) so_far (conflict_at m (text_of e.0) e.1) h (of_one m e)))
+    (least_from m (least_of so_far (conflict_at m e.0 e.1)) es)
+    (of_all m (λ t. P t ⊎ Here m e t) (least_of so_far (conflict_at m e.0 e.1)) es (of_two P (Here m e) so_far (conflict_at m e.0 e.1) h (of_one m e)))
   where
     forth : (t : Text) → (P t ⊎ Here m e t) ⊎ Among m es t → P t ⊎ Among m (e ∷ es) t
     forth t (inl (inl p)) = inl p
@@ -92,36 +91,36 @@ none_differs (Some f) h = h
 
 -- ---- entries, of which no two have one key
 
-abbrev Apart : String Global → Entries → Type 0
-Apart k es = AllByRecursion (λ y. string_eq k y ≡ false) (keys_of es)
+abbrev Apart : Text → Entries → Type 0
+Apart k es = AllByRecursion (λ y. text_eq k y ≡ false) (keys_of es)
 
-not_first : (m : Encodings) (k : String Global) (es : Entries) → Apart k es → (t : Text) → Among m es t → text_eq t (text_of k) ≡ false
+not_first : (m : Encodings) (k : Text) (es : Entries) → Apart k es → (t : Text) → Among m es t → text_eq t k ≡ false
 not_first m k [] apart t x = absurd x
 not_first m k (e ∷ es) apart t (inr x) = not_first m k es apart.1 t x
-not_first m k (e ∷ es) apart t (inl (same, h)) = by (text_eq t (text_of k)) refl
+not_first m k (e ∷ es) apart t (inl (same, h)) = by (text_eq t k) refl
   where
-    by : (b : Bool) → text_eq t (text_of k) ≡ b → b ≡ false
+    by : (b : Bool) → text_eq t k ≡ b → b ≡ false
     by false s = refl
-    by true s = absurd (true≢false (sym (same_text (text_of k) (text_of e.0) (sym (text-same t (text_of k) s) ∙ same)) ∙ apart.0))
+    by true s = absurd (true≢false (sym (same_text k e.0 (sym (text-same t k s) ∙ same)) ∙ apart.0))
 
-is_fault : (m : Encodings) (es : Entries) → IsDistinct string_eq (keys_of es) → (t : Text) → Among m es t → Differ itself (encoding_at m t) (under t es)
+is_fault : (m : Encodings) (es : Entries) → IsDistinct text_eq (keys_of es) → (t : Text) → Among m es t → Differ itself (encoding_at m t) (under t es)
 unfolding IsDistinct
 is_fault m [] d t x = absurd x
 is_fault m (e ∷ es) d t (inl (same, h)) =
-    subst (λ (b : Bool). Differ itself (encoding_at m t) (cond b (Some e.1) (under t es))) (sym (same_text t (text_of e.0) same)) (differs (encoding_at m t) e.1 h)
+    subst (λ (b : Bool). Differ itself (encoding_at m t) (cond b (Some e.1) (under t es))) (sym (same_text t e.0 same)) (differs (encoding_at m t) e.1 h)
 is_fault m (e ∷ es) d t (inr x) =
     subst (λ (b : Bool). Differ itself (encoding_at m t) (cond b (Some e.1) (under t es))) (sym (not_first m e.0 es d.0 t x)) (is_fault m es d.1 t x)
 
 is_among : (m : Encodings) (es : Entries) (t : Text) → Differ itself (encoding_at m t) (under t es) → Among m es t
 is_among m [] t h = none_differs (encoding_at m t) h
-is_among m (e ∷ es) t h = by (text_eq t (text_of e.0)) refl h (is_among m es t)
+is_among m (e ∷ es) t h = by (text_eq t e.0) refl h (is_among m es t)
   where
-    by : (b : Bool) → text_eq t (text_of e.0) ≡ b → Differ itself (encoding_at m t) (cond b (Some e.1) (under t es)) → (Differ itself (encoding_at m t) (under t es) → Among m es t) → Here m e t
+    by : (b : Bool) → text_eq t e.0 ≡ b → Differ itself (encoding_at m t) (cond b (Some e.1) (under t es)) → (Differ itself (encoding_at m t) (under t es) → Among m es t) → Here m e t
         ⊎ Among m es t
-    by true s x rest = inl (text-same t (text_of e.0) s, differing (encoding_at m t) e.1 x)
+    by true s x rest = inl (text-same t e.0 s, differing (encoding_at m t) e.1 x)
     by false s x rest = inr (rest x)
 
-pub least_is : (m : Encodings) (es : Entries) → IsDistinct string_eq (keys_of es) → IsLeastFault (EncodingFault m (kept_encodings es)) (least_from m None es)
+pub least_is : (m : Encodings) (es : Entries) → IsDistinct text_eq (keys_of es) → IsLeastFault (EncodingFault m (kept_encodings es)) (least_from m None es)
 least_is m es d =
     same_faults (λ t. ⊥ ⊎ Among m es t) (EncodingFault m (kept_encodings es))
     (λ t x. elim x [ inl z ↦ absurd z | inr y ↦ subst (Differ itself (encoding_at m t)) (sym (kept_at t es)) (is_fault m es d t y) ])
@@ -130,27 +129,27 @@ least_is m es d =
 
 -- ---- added
 
-none_under : (q : Text) (k : String Global) (es : Entries) → Apart k es → text_eq q (text_of k) ≡ true → under q es ≡ None
+none_under : (q : Text) (k : Text) (es : Entries) → Apart k es → text_eq q k ≡ true → under q es ≡ None
 none_under q k [] apart s = refl
-none_under q k (e ∷ es) apart s = by (text_eq q (text_of e.0)) refl (none_under q k es apart.1 s)
+none_under q k (e ∷ es) apart s = by (text_eq q e.0) refl (none_under q k es apart.1 s)
   where
-    by : (b : Bool) → text_eq q (text_of e.0) ≡ b → under q es ≡ None → cond b (Some e.1) (under q es) ≡ None
+    by : (b : Bool) → text_eq q e.0 ≡ b → under q es ≡ None → cond b (Some e.1) (under q es) ≡ None
     by false h rest = rest
-    by true h rest = absurd (true≢false (sym (same_text (text_of k) (text_of e.0) (sym (text-same q (text_of k) s) ∙ text-same q (text_of e.0) h)) ∙ apart.0))
+    by true h rest = absurd (true≢false (sym (same_text k e.0 (sym (text-same q k s) ∙ text-same q e.0 h)) ∙ apart.0))
 
-gained : (q : Text) (more es : Entries) → IsDistinct string_eq (keys_of more) → under q (insert_all string_eq es more) ≡ or_else (under q more) (under q es)
+gained : (q : Text) (more es : Entries) → IsDistinct text_eq (keys_of more) → under q (insert_all text_eq es more) ≡ or_else (under q more) (under q es)
 unfolding IsDistinct
 gained q [] es d = refl
 gained q (e ∷ more) es d =
-    gained q more (insert_entry string_eq es e.0 e.1) d.1
-    ∙ (ap (or_else (under q more)) (under_put q e.0 e.1 es) ∙ by (text_eq q (text_of e.0)) refl)
+    gained q more (insert_entry text_eq es e.0 e.1) d.1
+    ∙ (ap (or_else (under q more)) (under_put q e.0 e.1 es) ∙ by (text_eq q e.0) refl)
   where
-    by : (b : Bool) → text_eq q (text_of e.0) ≡ b → or_else (under q more) (cond b (Some e.1) (under q es)) ≡ or_else (cond b (Some e.1) (under q more)) (under q es)
+    by : (b : Bool) → text_eq q e.0 ≡ b → or_else (under q more) (cond b (Some e.1) (under q es)) ≡ or_else (cond b (Some e.1) (under q more)) (under q es)
     by false s = refl
     by true s = ap (λ o. or_else o (Some e.1)) (none_under q e.0 more d.0 s)
 
 -- entries that are put in order are gained
-pub gains : (more old new : Entries) → IsDistinct string_eq (keys_of more) → new ≡ insert_all string_eq old more → Gains (kept_encodings more) (kept_encodings old) (kept_encodings new)
+pub gains : (more old new : Entries) → IsDistinct text_eq (keys_of more) → new ≡ insert_all text_eq old more → Gains (kept_encodings more) (kept_encodings old) (kept_encodings new)
 gains more old new d h q =
     kept_at q new ∙ (ap (under q) h ∙ (gained q more old d ∙ (λ i. or_else (sym (kept_at q more) i) (sym (kept_at q old) i))))
 

@@ -1,6 +1,5 @@
--- What is kept under strings is a map by their texts.
-use Rattle.std.proofs.Common.{◌≡◌, refl, sym, ap, ◌∙◌, Bool, true, false, List, [], ◌∷◌, map, cond, Option, Some, None, String, string_eq}
-use Rattle.std.specs.declared.alloc.Global.{Global}
+-- What is kept under keys is a map by their texts.
+use Rattle.std.proofs.Common.{◌≡◌, refl, sym, ap, ◌∙◌, Bool, true, false, List, [], ◌∷◌, cond, Option, Some, None}
 use Rattle.std.specs.Map.{lookup}
 use Rattle.std.specs.Option.{option_map_or}
 use Rattle.std.specs.FinMap.{find, get-from_entries}
@@ -10,7 +9,7 @@ use Rattle.indexmap.specs.IndexMap.{insert_entry}
 use Rattle.wit_model.specs.declared.model.Resolve.{Resolve}
 use Rattle.wit_model.specs.declared.model.StringEncoding.{StringEncoding}
 use Rattle.wit_model.specs.declared.model.WorldKey.{WorldKey}
-use Rattle.wit_model.specs.Text.{Text, text_eq, text_cmp, text_of}
+use Rattle.wit_model.specs.Text.{Text, text_eq, text_cmp}
 use Rattle.wit_model.proofs.AnyOrder.{same-text}
 use Rattle.wit_bind.specs.Keys.{function_key}
 use Rattle.wit_bind.specs.Encodings.{encoding_at, encoding_under, kept_encodings}
@@ -19,18 +18,18 @@ use Rattle.wit_bind.specs.KeyLists.{Puts}
 use Rattle.wit_model.proofs.TextLemmas.{text_same as text-same}
 
 abbrev pub Entries : Type 0
-Entries = List (String Global × StringEncoding)
+Entries = List (Text × StringEncoding)
 
 abbrev pub under : Text → Entries → Option StringEncoding
-under q es = lookup (λ k. text_eq q (text_of k)) es
+under q es = lookup (λ k. text_eq q k) es
 
-find_is : (q : Text) (es : Entries) → find text_cmp q (map (λ e. (text_of e.0, e.1)) es) ≡ under q es
+find_is : (q : Text) (es : Entries) → find text_cmp q es ≡ under q es
 find_is q [] = refl
-find_is q (e ∷ es) = let rest = find_is q es in let key = same-text q (text_of e.0) in λ i. cond (key i) (Some e.1) (rest i)
+find_is q (e ∷ es) = let rest = find_is q es in let key = same-text q e.0 in λ i. cond (key i) (Some e.1) (rest i)
 
 -- a look-up in the map is one among the entries
 pub kept_at : (q : Text) (es : Entries) → encoding_at (kept_encodings es) q ≡ under q es
-kept_at q es = get-from_entries nat_list_cmp_total (map (λ e. (text_of e.0, e.1)) es) q ∙ find_is q es
+kept_at q es = get-from_entries nat_list_cmp_total es q ∙ find_is q es
 
 -- ---- looked for
 
@@ -40,30 +39,30 @@ nowhere (e ∷ es) = nowhere es
 
 module _ (r : Resolve) (scope : WorldKey) (function : Text) where
   abbrev pub among : Entries → Option StringEncoding
-  among es = lookup (λ k. is_key_of r scope function (text_of k)) es
+  among es = lookup (λ k. is_key_of r scope function k) es
 
   -- at first all entries are left
   pub kept_among : (es : Entries) → encoding_under (kept_encodings es) (function_key r scope function) ≡ among es
   kept_among es = by (function_key r scope function)
     where
-      by : (o : Option Text) → encoding_under (kept_encodings es) o ≡ lookup (λ k. option_map_or (λ q. text_eq q (text_of k)) o false) es
+      by : (o : Option Text) → encoding_under (kept_encodings es) o ≡ lookup (λ k. option_map_or (λ q. text_eq q k) o false) es
       by None = nowhere es
       by (Some q) = kept_at q es
 
-  pub first_is : (k : String Global) (e : StringEncoding) (es : Entries) → is_key_of r scope function (text_of k) ≡ true → among ((k, e) ∷ es) ≡ Some e
+  pub first_is : (k : Text) (e : StringEncoding) (es : Entries) → is_key_of r scope function k ≡ true → among ((k, e) ∷ es) ≡ Some e
   first_is k e es h = ap (λ b. cond b (Some e) (among es)) h
 
-  pub first_isnt : (k : String Global) (e : StringEncoding) (es : Entries) → is_key_of r scope function (text_of k) ≡ false → among ((k, e) ∷ es) ≡ among es
+  pub first_isnt : (k : Text) (e : StringEncoding) (es : Entries) → is_key_of r scope function k ≡ false → among ((k, e) ∷ es) ≡ among es
   first_isnt k e es h = ap (λ b. cond b (Some e) (among es)) h
 
 -- ---- put
 
-module _ (q : Text) (k : String Global) (v : StringEncoding) where
-  put_first : (e : String Global × StringEncoding) (found : Option StringEncoding) → string_eq k e.0 ≡ true
-      → cond (text_eq q (text_of e.0)) (Some v) found ≡ cond (text_eq q (text_of k)) (Some v) (cond (text_eq q (text_of e.0)) (Some e.1) found)
+module _ (q : Text) (k : Text) (v : StringEncoding) where
+  put_first : (e : Text × StringEncoding) (found : Option StringEncoding) → text_eq k e.0 ≡ true
+      → cond (text_eq q e.0) (Some v) found ≡ cond (text_eq q k) (Some v) (cond (text_eq q e.0) (Some e.1) found)
   put_first e found same =
-      let t : text_of k ≡ text_of e.0 = text-same (text_of k) (text_of e.0) same in
-      by (text_eq q (text_of e.0)) (text_eq q (text_of k)) (ap (text_eq q) t)
+      let t : k ≡ e.0 = text-same k e.0 same in
+      by (text_eq q e.0) (text_eq q k) (ap (text_eq q) t)
     where
       by : (b c : Bool) → c ≡ b → cond b (Some v) found ≡ cond c (Some v) (cond b (Some e.1) found)
       by true true h = refl
@@ -71,30 +70,30 @@ module _ (q : Text) (k : String Global) (v : StringEncoding) where
       by true false h = absurd (let z : ⊥ = cc in z)
       by false true h = absurd (let z : ⊥ = cc in z)
 
-  put_later : (e : String Global × StringEncoding) (found : Option StringEncoding) → string_eq k e.0 ≡ false
-      → cond (text_eq q (text_of e.0)) (Some e.1) (cond (text_eq q (text_of k)) (Some v) found) ≡ cond (text_eq q (text_of k)) (Some v) (cond (text_eq q (text_of e.0)) (Some e.1) found)
-  put_later e found other = by (text_eq q (text_of e.0)) refl (text_eq q (text_of k)) refl
+  put_later : (e : Text × StringEncoding) (found : Option StringEncoding) → text_eq k e.0 ≡ false
+      → cond (text_eq q e.0) (Some e.1) (cond (text_eq q k) (Some v) found) ≡ cond (text_eq q k) (Some v) (cond (text_eq q e.0) (Some e.1) found)
+  put_later e found other = by (text_eq q e.0) refl (text_eq q k) refl
     where
-      by : (b : Bool) → text_eq q (text_of e.0) ≡ b → (c : Bool) → text_eq q (text_of k) ≡ c → cond b (Some e.1) (cond c (Some v) found) ≡ cond c (Some v) (cond b (Some e.1) found)
+      by : (b : Bool) → text_eq q e.0 ≡ b → (c : Bool) → text_eq q k ≡ c → cond b (Some e.1) (cond c (Some v) found) ≡ cond c (Some v) (cond b (Some e.1) found)
       by true s true t =
-          let one : text_of k ≡ text_of e.0 = sym (text-same q (text_of k) t) ∙ text-same q (text_of e.0) s in
-          let same : string_eq k e.0 ≡ true = (bytes_eq-Decides (text_of k) (text_of e.0)).1 one in
+          let one : k ≡ e.0 = sym (text-same q k t) ∙ text-same q e.0 s in
+          let same : text_eq k e.0 ≡ true = (bytes_eq-Decides k e.0).1 one in
           absurd (let z : ⊥ = cc in z)
       by true s false t = refl
       by false s true t = refl
       by false s false t = refl
 
-  pub under_put : (es : Entries) → under q (insert_entry string_eq es k v) ≡ cond (text_eq q (text_of k)) (Some v) (under q es)
+  pub under_put : (es : Entries) → under q (insert_entry text_eq es k v) ≡ cond (text_eq q k) (Some v) (under q es)
   under_put [] = refl
-  under_put (e ∷ es) = by (string_eq k e.0) refl (under_put es)
+  under_put (e ∷ es) = by (text_eq k e.0) refl (under_put es)
     where
-      by : (b : Bool) → string_eq k e.0 ≡ b → under q (insert_entry string_eq es k v) ≡ cond (text_eq q (text_of k)) (Some v) (under q es)
-          → under q (cond b ((e.0, v) ∷ es) (e ∷ insert_entry string_eq es k v)) ≡ cond (text_eq q (text_of k)) (Some v) (under q (e ∷ es))
+      by : (b : Bool) → text_eq k e.0 ≡ b → under q (insert_entry text_eq es k v) ≡ cond (text_eq q k) (Some v) (under q es)
+          → under q (cond b ((e.0, v) ∷ es) (e ∷ insert_entry text_eq es k v)) ≡ cond (text_eq q k) (Some v) (under q (e ∷ es))
       by true same rest = put_first e (under q es) same
-      by false other rest = ap (cond (text_eq q (text_of e.0)) (Some e.1)) rest ∙ put_later e (under q es) other
+      by false other rest = ap (cond (text_eq q e.0) (Some e.1)) rest ∙ put_later e (under q es) other
 
 -- an entry put is an encoding put
-pub puts : (es fs : Entries) (k : String Global) (v : StringEncoding) → fs ≡ insert_entry string_eq es k v → Puts ((text_of k, v) ∷ []) (kept_encodings es) (kept_encodings fs)
+pub puts : (es fs : Entries) (k : Text) (v : StringEncoding) → fs ≡ insert_entry text_eq es k v → Puts ((k, v) ∷ []) (kept_encodings es) (kept_encodings fs)
 puts es fs k v h q =
     kept_at q fs ∙ ap (under q) h ∙ under_put q k v es
-    ∙ ap (cond (text_eq q (text_of k)) (Some v)) (sym (kept_at q es))
+    ∙ ap (cond (text_eq q k) (Some v)) (sym (kept_at q es))

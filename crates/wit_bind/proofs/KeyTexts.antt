@@ -4,10 +4,13 @@ use Rattle.std.specs.Option.{option_map_or}
 use Rattle.wit_model.specs.Text.{Text, text_eq}
 use Rattle.wit_model.specs.Rules.{after_prefix}
 use Rattle.wit_bind.specs.Keys.{text_under}
+use Rattle.wit_bind.specs.Cuts.{has_slash, IsCut}
+use Rattle.wit_bind.specs.CutLaws.{slash_within}
 use Rattle.wit_bind.specs.KeyTests.{after_slash}
+use Rattle.wit_model.proofs.TextLemmas.{text_same}
+use Rattle.std.proofs.lemmas.Cmp.{nat_list_eq_equiv}
+use mathlib.Core.Bool.{true≢false}
 use Rattle.wit_model.proofs.RulesLemmas.{after_both}
-
--- two texts, one after the other
 
 -- a text and what it ends with
 pub same_after : (p q t : Text) → text_eq (p ++ q) t ≡ option_map_or (text_eq q) (after_prefix p t) false
@@ -30,22 +33,66 @@ then_none p q t h = ap (option_and_then (after_prefix q)) h ∙ sym (after_both 
 pub then_some : (p q t first : Text) (rest : Option Text) → Some first ≡ after_prefix p t → rest ≡ after_prefix q first → rest ≡ after_prefix (p ++ q) t
 then_some p q t first rest found h = h ∙ ap (option_and_then (after_prefix q)) found ∙ sym (after_both p q t)
 
--- the parts of a path and a slash
+-- the parts of a path
 pub path_parts : (space name interface end : Text)
-    → ((space ++ (58 ∷ [])) ++ (name ++ (47 ∷ []))) ++ (interface ++ (end ++ (47 ∷ []))) ≡ (space ++ (58 ∷ (name ++ (47 ∷ (interface ++ end))))) ++ (47 ∷ [])
+    → ((space ++ (58 ∷ [])) ++ (name ++ (47 ∷ []))) ++ (interface ++ end) ≡ space ++ (58 ∷ (name ++ (47 ∷ (interface ++ end))))
 path_parts space name interface end =
-    append_assoc (space ++ (58 ∷ [])) (name ++ (47 ∷ [])) _
-    ∙ append_assoc space (58 ∷ []) _
-    ∙ ap (λ t. space ++ (58 ∷ t)) (append_assoc name (47 ∷ []) _ ∙ ap (λ t. name ++ (47 ∷ t)) (sym (append_assoc interface end (47 ∷ []))))
-    ∙ ap (λ t. space ++ (58 ∷ t)) (sym (append_assoc name (47 ∷ (interface ++ end)) (47 ∷ [])))
-    ∙ sym (append_assoc space (58 ∷ (name ++ (47 ∷ (interface ++ end)))) (47 ∷ []))
+    append_assoc (space ++ (58 ∷ [])) (name ++ (47 ∷ [])) (interface ++ end)
+    ∙ append_assoc space (58 ∷ []) ((name ++ (47 ∷ [])) ++ (interface ++ end))
+    ∙ ap (λ t. space ++ (58 ∷ t)) (append_assoc name (47 ∷ []) (interface ++ end))
 
 -- a key is its scope and a slash, and the function's name
 pub key_after : (scope function t : Text) → text_eq (text_under scope function) t ≡ option_map_or (text_eq function) (after_slash scope t) false
 key_after scope function t = ap (λ k. text_eq k t) (sym (append_assoc scope (47 ∷ []) function)) ∙ same_after (scope ++ (47 ∷ [])) function t
 
+-- the same the other way round
+pub under_is : (front name t : Text) → text_eq t (text_under front name) ≡ option_map_or (text_eq name) (after_slash front t) false
+under_is front name t = nat_list_eq_equiv.symm t (text_under front name) ∙ key_after front name t
+
+-- ---- a key that is cut
+
+-- a text with a slash is none without
+no_slash_in : (front function name : Text) → has_slash name ≡ false → text_eq (text_under front function) name ≡ false
+no_slash_in front function name bare = by (text_eq (text_under front function) name) refl
+  where
+    by : (b : Bool) → text_eq (text_under front function) name ≡ b → b ≡ false
+    by true same =
+        absurd (true≢false (sym (slash_within front function) ∙ ap has_slash (text_same (text_under front function) name same) ∙ bare))
+    by false other = refl
+
+-- what is left of the front of a key, behind the scope, is compared with the function
+behind_scope : (scope function front name : Text) → has_slash name ≡ false
+    → text_eq (text_under scope function) (text_under front name) ≡ option_map_or (λ rest. text_eq (47 ∷ function) (text_under rest name)) (after_prefix scope front) false
+behind_scope [] function front name bare = refl
+behind_scope (b ∷ scope) function [] name bare = by (b == 47) (no_slash_in scope function name bare)
+  where
+    by : (v : Bool) → text_eq (text_under scope function) name ≡ false → (v && text_eq (text_under scope function) name) ≡ false
+    by true h = h
+    by false h = refl
+behind_scope (b ∷ scope) function (c ∷ front) name bare = by (b == c) (behind_scope scope function front name bare)
+  where
+    by : (v : Bool) → text_eq (text_under scope function) (text_under front name) ≡ option_map_or (λ rest. text_eq (47 ∷ function) (text_under rest name)) (after_prefix scope front) false
+        → (v && text_eq (text_under scope function) (text_under front name))
+        ≡ option_map_or (λ rest. text_eq (47 ∷ function) (text_under rest name)) (cond v (after_prefix scope front) None) false
+    by true h = h
+    by false h = refl
+
 -- the same where there may be no scope
-pub is_after : (scope : Option Text) (function t : Text)
-    → option_map_or (λ k. text_eq k t) (option_map (λ s. text_under s function) scope) false ≡ option_map_or (text_eq function) (option_and_then (λ s. after_slash s t) scope) false
-is_after None function t = refl
-is_after (Some s) function t = key_after s function t
+pub is_behind : (scope : Option Text) (function key front name : Text) → IsCut key front name
+    → option_map_or (λ k. text_eq k key) (option_map (λ s. text_under s function) scope) false
+    ≡ option_map_or (λ rest. text_eq (47 ∷ function) (text_under rest name)) (option_and_then (λ s. after_prefix s front) scope) false
+is_behind None function key front name cut = refl
+is_behind (Some s) function key front name cut = ap (text_eq (text_under s function)) cut.is ∙ behind_scope s function front name cut.bare
+
+-- what is left is nothing, or begins with a slash
+pub nothing_left : (rest function name : Text) → rest ≡ [] → text_eq function name ≡ text_eq (47 ∷ function) (text_under rest name)
+nothing_left rest function name none = ap (λ r. text_eq (47 ∷ function) (text_under r name)) (sym none)
+
+pub more_left : (rest function name : Text) → (rest ≡ [] → ⊥)
+    → text_eq (47 ∷ function) (text_under rest name) ≡ option_map_or (λ front. text_eq function (text_under front name)) (after_prefix (47 ∷ []) rest) false
+more_left [] function name some = absurd (some refl)
+more_left (b ∷ rest) function name some = by (47 == b)
+  where
+    by : (v : Bool) → (v && text_eq function (text_under rest name)) ≡ option_map_or (λ front. text_eq function (text_under front name)) (cond v (Some rest) None) false
+    by true = refl
+    by false = refl

@@ -33,8 +33,6 @@ use Rattle.std.proofs.lemmas.Bool.{and_from as both}
 use Rattle.std.proofs.lemmas.Map.Keys.{any_passes_from_place as any_at}
 use Rattle.std.proofs.lemmas.Option.{same_Some as same-some}
 
--- what is the same of each two at one place is the same of the lists
-
 -- ---- functions
 
 pub function_noted : (numbers : List ℕ) (old new : Function) → IsFunctionUnder numbers old new → function_notes new ≡ function_notes old

@@ -28,8 +28,6 @@ use Rattle.wit_bind.proofs.MatchedPaths.{agreed}
 use Rattle.base_lemmas.proofs.Elements.{contains-map}
 use Rattle.bind_clash.proofs.FaultsMeant.{both-stand as known}
 
--- both are known
-
 -- an entry is found under its key
 entry-found : (r : Resolve) (es : List (WorldKey × WorldItem)) (x : WorldKey × WorldItem) → are_distinct (map (λ (e : Text × Entry InterfaceMeaning). e.0) (entries_meaning r es)) ≡ true
     → Contains es x

@@ -1,12 +1,17 @@
 -- Encodings put under one key after the other.
-use Rattle.std.proofs.Common.{◌≡◌, refl, sym, ap, ◌∙◌, ◌⊎◌, inl, inr, arith, zero, suc, Bool, true, false, List, [], ◌∷◌, ◌++◌, cond, Option, Some, None, option_to_list}
+use Rattle.std.proofs.Common.{◌≡◌, refl, sym, ap, ◌∙◌, ◌⊎◌, inl, inr, arith, zero, suc, Bool, true, false, List, [], ◌∷◌, ◌++◌, cond, Option, Some, None, option_and_then, option_map, option_to_list, String, subst}
 use Rattle.std.specs.List.{Contains, cons_option}
+use Rattle.std.specs.declared.alloc.Global.{Global}
+use Rattle.wit_model.specs.declared.model.Function.{Function}
+use Rattle.wit_model.specs.declared.model.Resolve.{Resolve}
 use Rattle.wit_model.specs.declared.model.StringEncoding.{StringEncoding}
-use Rattle.wit_model.specs.Text.{Text, text_eq}
+use Rattle.wit_model.specs.declared.model.WorldKey.{WorldKey}
+use Rattle.wit_model.specs.Text.{Text, text_eq, text_of}
 use Rattle.wit_model.proofs.Elements.{none-in}
 use Rattle.wit_model.proofs.VersionLaws.{same_text}
 use Rattle.wit_bind.specs.Encodings.{Encodings, encoding_at}
-use Rattle.wit_bind.specs.KeyLists.{Entry, Puts, put_all}
+use Rattle.wit_bind.specs.Keys.{scope_of, text_under}
+use Rattle.wit_bind.specs.KeyLists.{Choice, Entry, entry_of, member_entries, Puts, put_all}
 use Rattle.std.proofs.lemmas.Option.{same_Some as same-some}
 use Rattle.wit_model.proofs.TextLemmas.{text_same as text-same}
 
@@ -78,3 +83,34 @@ comes (x ∷ xs) g k e h = either (comes xs (put_one x g) k e h)
     either : Contains xs (k, e) ⊎ (put_one x g k ≡ Some e) → Contains (x ∷ xs) (k, e) ⊎ (g k ≡ Some e)
     either (inl (i, l, same)) = inl (suc i, omega (arith, l), same)
     either (inr found) = by (text_eq k x.0) refl found
+
+-- ---- the key of one function
+
+-- the entry of a function whose scope is known
+pub entry_is : (r : Resolve) (w : Choice) (scope : WorldKey) (name front : Text) (o : Option StringEncoding) → scope_of r scope ≡ Some front → o ≡ w scope name
+    → option_map (λ e. (text_under front name, e)) o ≡ entry_of r w scope name
+entry_is r w scope name front o at is =
+    ap (option_map (λ e. (text_under front name, e))) is
+    ∙ ap (λ s. option_and_then (λ k. option_map (λ e. (k, e)) (w scope name)) (option_map (λ t. text_under t name) s)) (sym at)
+
+-- what is put under it
+pub puts_entry : (r : Resolve) (w : Choice) (scope : WorldKey) (name front key : Text) (e : StringEncoding) (old new : Encodings) → scope_of r scope ≡ Some front
+    → Some e ≡ w scope name → key ≡ text_under front name → Puts ((key, e) ∷ []) old new → Puts (option_to_list (entry_of r w scope name)) old new
+puts_entry r w scope name front key e old new at is made puts =
+    subst (λ (es : List Entry). Puts es old new) ((λ i. (made i, e) ∷ []) ∙ ap option_to_list (entry_is r w scope name front (Some e) at is)) puts
+
+-- nothing is put for a function that is to have none
+pub puts_none : (r : Resolve) (w : Choice) (scope : WorldKey) (name front : Text) (m : Encodings) → scope_of r scope ≡ Some front → None ≡ w scope name
+    → Puts (option_to_list (entry_of r w scope name)) m m
+puts_none r w scope name front m at is = subst (λ (es : List Entry). Puts es m m) (ap option_to_list (entry_is r w scope name front None at is)) (λ k. refl)
+
+-- functions without a scope have no entries
+no_members : (r : Resolve) (w : Choice) (scope : WorldKey) (fs : List (String Global × Function)) → None ≡ scope_of r scope → [] ≡ member_entries r w scope fs
+no_members r w scope [] none = refl
+no_members r w scope (f ∷ fs) none =
+    no_members r w scope fs none
+    ∙ ap (λ s. cons_option (option_and_then (λ k. option_map (λ e. (k, e)) (w scope (text_of f.0))) (option_map (λ t. text_under t (text_of f.0)) s)) (member_entries r w scope fs)) none
+
+pub puts_no_members : (r : Resolve) (w : Choice) (scope : WorldKey) (fs : List (String Global × Function)) (m : Encodings) → None ≡ scope_of r scope
+    → Puts (member_entries r w scope fs) m m
+puts_no_members r w scope fs m none = subst (λ (es : List Entry). Puts es m m) (no_members r w scope fs none) (λ k. refl)

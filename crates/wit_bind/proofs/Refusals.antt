@@ -19,8 +19,6 @@ use Rattle.wit_bind.specs.Bindings.{binding_of, IsBindgen}
 use Rattle.wit_bind.specs.Merges.{IsEncodingRefusal, IsMergeRefusal}
 use Rattle.base_lemmas.proofs.Lists.{within_there as element_at}
 
--- an element by its number
-
 -- ---- encodings
 
 -- a fault of imported encodings is the refusal

@@ -14,17 +14,17 @@ use Rattle.wit_bind.specs.Keys.{scope_of, function_key}
 abbrev pub after_slash : Text → Text → Option Text
 after_slash front text = after_prefix (front ++ (47 ∷ [])) text
 
--- what follows the scope of a key and a slash
+-- what follows the scope of a key
 abbrev pub after_scope : Resolve → WorldKey → Text → Option Text
-after_scope r scope text = option_and_then (λ front. after_slash front text) (scope_of r scope)
+after_scope r scope text = option_and_then (λ front. after_prefix front text) (scope_of r scope)
 
 -- what follows a package's namespace and name, and a slash
 abbrev pub after_names : PackageName → Text → Option Text
 after_names own text = after_prefix ((text_of own.namespace ++ (58 ∷ [])) ++ (text_of own.name ++ (47 ∷ []))) text
 
--- what follows the name of an interface, its canonical version and a slash
+-- what follows the name of an interface and its canonical version
 abbrev pub after_interface : PackageName → Text → Text → Option Text
-after_interface own name text = after_prefix (name ++ (at_version (canonical_identity_of own).version ++ (47 ∷ []))) text
+after_interface own name text = after_prefix (name ++ at_version (canonical_identity_of own).version) text
 
 -- whether a text is the key of a function
 abbrev pub is_key_of : Resolve → WorldKey → Text → Text → Bool

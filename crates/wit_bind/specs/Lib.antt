@@ -8,6 +8,8 @@ pub mod Roots
 pub mod Versions
 pub mod OldKeys
 pub mod Choices
+pub mod Cuts
+pub mod CutLaws
 pub mod Bindings
 pub mod Extends
 pub mod Brings

@@ -180,7 +180,8 @@ impl Bindgen {
         ensures nothing { OnOk result (BringsNothing (binding_of self.old) (binding_of other) → AddsNothing self.old.resolve self.new.resolve) }
         ensures order { OnOk result (listed_names self.new.resolve ≡ merged_names (listed_names self.old.resolve) (listed_names other.resolve)) }
         ensures added { IfOk result (λ added. ExportsGrowBy self.old self.new added.keys) }
-        ensures answer { IfOk result (λ added. map (key_text self.new.resolve) added.keys ≡ map (key_text other.resolve) (export_keys other.resolve other.world.0)) }
+        ensures answer { IfOk result (λ added. map (key_text self.new.resolve) added.keys
+            ≡ map (key_text other.resolve) (export_keys other.resolve other.world.0)) }
 
         ensures refusal { IfErr result (IsMergeRefusal self.old other) }
         ensures kept { OnErr result (IsKept self.old self.new) }

@@ -1,20 +1,22 @@
 //! String encodings by the keys of functions.
 
-ghost use Rattle.std.specs.Prelude.{◌≡◌, ◌<◌, [], ◌∷◌, length, IfErr, IfOk, OnErr, OnOk};
+ghost use Rattle.std.specs.Prelude.{◌≡◌, ◌<◌, [], ◌∷◌, false, length, IfErr, IfOk, OnErr, OnOk};
 ghost use Rattle.std.specs.FinMap.{empty};
 ghost use Rattle.indexmap.specs.IndexMap.{get_by_text};
-ghost use Rattle.wit_model.specs.Text.{optional_text, text_of};
+ghost use Rattle.wit_model.specs.Text.{optional_text};
 ghost use Rattle.wit_model.specs.Valid.{IsValid};
 ghost use Rattle.wit_model.specs.Refusals.{IsMemory};
 ghost use Rattle.wit_bind.specs.Keys.{function_key};
-ghost use Rattle.wit_bind.specs.Encodings.{encoding_under};
+ghost use Rattle.wit_bind.specs.Cuts.{has_slash as has_slash_lem, text_under};
+ghost use Rattle.wit_bind.specs.Encodings.{encoding_at, encoding_under};
 ghost use Rattle.wit_bind.specs.KeyLists.{Puts};
 ghost use Rattle.bind_clash.specs.Faults.{IsLeastFault};
 ghost use Rattle.bind_meaning.specs.Clash.{EncodingFault};
 ghost use Rattle.wit_bind.specs.Unions.{conflict_at, Gains};
 ghost use Rattle.wit_bind.specs.OldKeys.{items_of as items_of_lem, items_on, CarriesEach, CarriesOver};
 
-use crate::keys::{is_function_key, short_key};
+use crate::keys::{is_function_key, short_scope};
+use crate::table::{Key, Parts, has_slash};
 use crate::wanted::{Wanted, wanted_encodings};
 use bind_add::append_entries;
 use bind_clash::lesser;
@@ -28,7 +30,7 @@ use wit_model::{Error, Map, Resolve, StringEncoding, World, WorldId, WorldItem, 
 /// of `a:b/c@0.1.2`. So compatible versions of an interface share an entry, and others have one each.
 #[derive(Drop)]
 pub struct EncodingMap {
-    encodings: IndexMap<String, StringEncoding>,
+    encodings: IndexMap<Key, StringEncoding>,
 }
 
 /// What a world imports, or what it exports.
@@ -100,21 +102,31 @@ impl EncodingMap {
         None
     }
 
+    fn at_parts(&self, front: &str, name: &str) -> Option<StringEncoding>
+        requires bare { has_slash_lem name.now ≡ false }
+        ensures { result ≡ encoding_at self.now (text_under front.now name.now) }
+    {
+        self.encodings.get(Parts { front, name }).copied()
+    }
+
     /// The encoding of a function, by the key under which it, or its interface, is imported or exported and by its name. None where the map has
     /// none, or the key is of an interface without a path. Takes no memory, and one pass over the texts, expected, or over all keys of the map where
-    /// the function has no key, or one of more than 256 bytes.
+    /// the function has no key, where its name has a slash, or where the label or the path before it has more than 256 bytes.
     pub fn get(&self, resolve: &Resolve, key: &WorldKey, func: &str) -> Option<StringEncoding>
         ensures { result ≡ encoding_under self.now (function_key resolve.now key.now func.now) }
     {
-        match short_key(resolve, key, func) {
-            Some(text) => self.encodings.get(text.as_str()).copied(),
+        if has_slash(func) {
+            return self.search(resolve, key, func);
+        }
+        match short_scope(resolve, key) {
+            Some(front) => self.at_parts(front.as_str(), func),
             None => self.search(resolve, key, func),
         }
     }
 
     /// Puts an encoding under a key. A refusal, `Memory` alone, leaves the map as it was.
-    pub(crate) fn put(&mut self, key: String, encoding: StringEncoding) -> Result<(), Error>
-        ensures ok { OnOk result (Puts ((text_of key, encoding) ∷ []) self.old self.new) }
+    pub(crate) fn put(&mut self, key: Key, encoding: StringEncoding) -> Result<(), Error>
+        ensures ok { OnOk result (Puts ((key, encoding) ∷ []) self.old self.new) }
         ensures err { OnErr result (self.new ≡ self.old) }
         ensures refuses { IfErr result IsMemory }
     {
@@ -126,7 +138,7 @@ impl EncodingMap {
     fn conflict_under(
         &self,
         alloc: Global,
-        key: &str,
+        key: &Key,
         encoding: StringEncoding,
     ) -> Result<Option<String>, Error>
         ensures ok { IfOk result (λ p. optional_text p ≡ conflict_at self.now key.now encoding) }
@@ -137,7 +149,7 @@ impl EncodingMap {
                 if *found == encoding {
                     Ok(None)
                 } else {
-                    Ok(Some(String::from_str(alloc, key)?))
+                    Ok(Some(key.text(alloc)?))
                 }
             }
             None => Ok(None),
@@ -156,7 +168,7 @@ impl EncodingMap {
     {
         let mut least = None;
         for (key, encoding) in &other.encodings {
-            let found = self.conflict_under(alloc, key.as_str(), *encoding)?;
+            let found = self.conflict_under(alloc, key, *encoding)?;
             least = lesser(least, found);
         }
         Ok(least)

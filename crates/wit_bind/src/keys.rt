@@ -1,17 +1,20 @@
 //! The texts under which the encodings of functions are kept.
 
-ghost use Rattle.std.specs.Prelude.{◌≡◌, ◌++◌, option_map, IfOk, IfErr, IfSome, Some};
+ghost use Rattle.std.specs.Prelude.{◌≡◌, ◌++◌, ◌∷◌, option_map, IfOk, IfErr, IfSome, Some};
+ghost use Rattle.std.specs.Arc.{arc_str_bytes};
 ghost use Rattle.std.specs.Option.{option_copied};
 ghost use Rattle.wit_model.specs.Lookup.{canonical_identity_of};
-ghost use Rattle.wit_model.specs.Text.{optional_text, text_of};
+ghost use Rattle.wit_model.specs.Text.{optional_text, text_eq, text_of};
 ghost use Rattle.wit_model.specs.Names.{path_in};
 ghost use Rattle.wit_model.specs.Rules.{after_prefix as after_prefix_lem};
 ghost use Rattle.wit_model.specs.Refusals.{IsMemory};
-ghost use Rattle.wit_bind.specs.Keys.{function_key as function_key_lem, scope_of, text_under, unversioned, unversioned_key as unversioned_key_lem};
-ghost use Rattle.wit_bind.specs.KeyTests.{after_interface as after_interface_lem, after_names as after_names_lem, after_scope as after_scope_lem, after_slash, is_key_of};
+ghost use Rattle.wit_bind.specs.Keys.{scope_of, text_under, unversioned, unversioned_key as unversioned_key_lem};
+ghost use Rattle.wit_bind.specs.KeyTests.{after_interface as after_interface_lem, after_names as after_names_lem, after_scope as after_scope_lem, is_key_of};
 
+use crate::table::{Key, Parts};
 use crate::versions::{ShortText, after_at_version, push, push_at_version};
 use std::alloc::Global;
+use std::sync::ArcStr;
 use wit_model::lookup::full_name;
 use wit_model::{Error, PackageName, Resolve, WorldKey, after_prefix};
 
@@ -24,21 +27,20 @@ fn key_under(alloc: Global, scope: &str, function: &str) -> Result<String, Error
     Ok(format!(in alloc; "{scope}/{function}")?)
 }
 
-/// The key of a function: `label/function`, or the canonical path of its interface, a slash and the function. None where the key of the world is of an
-/// interface without a path. Takes one pass over the texts. Refuses `Memory` alone.
-pub(crate) fn function_key(
+/// What stands in front of the functions of a key of the world: a label, or the canonical path of its interface. None where it has no path. Takes one pass
+/// over the texts. Refuses `Memory` alone.
+pub(crate) fn shared_scope(
     alloc: Global,
     resolve: &Resolve,
     key: &WorldKey,
-    function: &str,
-) -> Result<Option<String>, Error>
-    ensures ok { IfOk result (λ text. optional_text text ≡ function_key_lem resolve.now key.now function.now) }
+) -> Result<Option<ArcStr>, Error>
+    ensures ok { IfOk result (λ text. option_map arc_str_bytes text ≡ scope_of resolve.now key.now) }
     ensures refuses { IfErr result IsMemory }
 {
     match key {
-        WorldKey::Name(label) => Ok(Some(key_under(alloc, label, function)?)),
+        WorldKey::Name(label) => Ok(Some(ArcStr::from_str(alloc, label)?)),
         WorldKey::Interface(id) => match resolve.canonicalized_id_of(alloc, *id)? {
-            Some(path) => Ok(Some(key_under(alloc, &path, function)?)),
+            Some(path) => Ok(Some(ArcStr::from_string(path)?)),
             None => Ok(None),
         },
     }
@@ -102,7 +104,8 @@ fn short_label(label: &str) -> Option<ShortText>
     Some(text)
 }
 
-fn short_scope(resolve: &Resolve, key: &WorldKey) -> Option<ShortText>
+/// The same, where it is short: none where it is longer, or there is none. Takes one pass over the texts, and no memory.
+pub(crate) fn short_scope(resolve: &Resolve, key: &WorldKey) -> Option<ShortText>
     ensures { IfSome result (λ text. scope_of resolve.now key.now ≡ Some text.bytes) }
 {
     match key {
@@ -112,16 +115,6 @@ fn short_scope(resolve: &Resolve, key: &WorldKey) -> Option<ShortText>
             short_path(own, name)
         }
     }
-}
-
-/// The key of a function, where it is short: none where it is longer, or there is none. Takes one pass over the texts, and no memory.
-pub(crate) fn short_key(resolve: &Resolve, key: &WorldKey, function: &str) -> Option<ShortText>
-    ensures { IfSome result (λ text. function_key_lem resolve.now key.now function.now ≡ Some text.bytes) }
-{
-    let mut text = short_scope(resolve, key)?;
-    push(&mut text, "/")?;
-    push(&mut text, function)?;
-    Some(text)
 }
 
 // ---- compared
@@ -142,29 +135,28 @@ fn after_names<'a>(own: &PackageName, text: &'a str) -> Option<&'a str>
     after_marked(&own.name, "/", rest)
 }
 
-// What follows the name of an interface, the canonical part of its version and a slash.
+// What follows the name of an interface and the canonical part of its version.
 fn after_interface<'a>(own: &PackageName, name: &str, text: &'a str) -> Option<&'a str>
     ensures { option_copied result ≡ after_interface_lem own.now name.now text.entry.now }
 {
     let rest = after_prefix(name, text)?;
-    let rest = after_at_version(&own.version, rest)?;
-    after_prefix("/", rest)
+    after_at_version(&own.version, rest)
 }
 
-// What follows the canonical path of an interface and a slash.
+// What follows the canonical path of an interface.
 fn after_path<'a>(own: &PackageName, name: &str, text: &'a str) -> Option<&'a str>
-    ensures { option_copied result ≡ after_slash (path_in (canonical_identity_of own.now) name.now) text.entry.now }
+    ensures { option_copied result ≡ after_prefix_lem (path_in (canonical_identity_of own.now) name.now) text.entry.now }
 {
     let rest = after_names(own, text)?;
     after_interface(own, name, rest)
 }
 
-// What follows the scope of a key and a slash.
+// What follows the scope of a key.
 fn after_scope<'a>(resolve: &Resolve, key: &WorldKey, text: &'a str) -> Option<&'a str>
     ensures { option_copied result ≡ after_scope_lem resolve.now key.now text.entry.now }
 {
     match key {
-        WorldKey::Name(label) => after_marked(label, "/", text),
+        WorldKey::Name(label) => after_prefix(label, text),
         WorldKey::Interface(id) => {
             let (own, name) = full_name(resolve, id.0 as usize)?;
             after_path(own, name, text)
@@ -172,12 +164,36 @@ fn after_scope<'a>(resolve: &Resolve, key: &WorldKey, text: &'a str) -> Option<&
     }
 }
 
-/// Whether a text is the key of a function. Takes one pass over the text at most, and no memory.
-pub(crate) fn is_function_key(resolve: &Resolve, key: &WorldKey, function: &str, text: &str) -> bool
+// Whether a text is another, a slash and a name.
+fn is_under(front: &str, name: &str, text: &str) -> bool
+    ensures { result ≡ text_eq text.now (text_under front.now name.now) }
+{
+    match after_marked(front, "/", text) {
+        Some(rest) => name == rest,
+        None => false,
+    }
+}
+
+// Whether a slash and a function are what is left of a key's front, a slash and a name.
+fn is_left(rest: &str, name: &str, function: &str) -> bool
+    ensures { result ≡ text_eq (47 ∷ function.now) (text_under rest.now name.now) }
+{
+    if rest.is_empty() {
+        return function == name;
+    }
+    match after_prefix("/", rest) {
+        Some(front) => is_under(front, name, function),
+        None => false,
+    }
+}
+
+/// Whether this is the key of a function. Takes one pass over its text at most, and no memory.
+pub(crate) fn is_function_key(resolve: &Resolve, key: &WorldKey, function: &str, text: &Key) -> bool
     ensures { result ≡ is_key_of resolve.now key.now function.now text.now }
 {
-    match after_scope(resolve, key, text) {
-        Some(rest) => function == rest,
+    let Parts { front, name } = text.parts();
+    match after_scope(resolve, key, front) {
+        Some(rest) => is_left(rest, name, function),
         None => false,
     }
 }

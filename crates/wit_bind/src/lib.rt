@@ -6,6 +6,7 @@ mod encodings;
 mod keys;
 pub mod laws;
 mod metadata;
+mod table;
 mod versions;
 mod wanted;
 

@@ -1,15 +1,19 @@
 //! The encoding that each function of a world is to have, put under its key.
 
-ghost use Rattle.std.specs.Prelude.{◌≡◌, option_to_list, IfErr, IfOk, OnOk};
+ghost use Rattle.std.specs.Prelude.{◌≡◌, option_to_list, IfErr, IfOk, OnOk, Some};
+ghost use Rattle.std.specs.Arc.{arc_str_bytes};
 ghost use Rattle.std.specs.FinMap.{empty};
+ghost use Rattle.wit_bind.specs.Keys.{scope_of};
 ghost use Rattle.wit_bind.specs.Choices.{choice_of};
 ghost use Rattle.wit_bind.specs.KeyLists.{entries_of_item, entries_of_items, entry_of, member_entries, own_entries, Puts};
 ghost use Rattle.wit_model.specs.Refusals.{IsMemory};
 
 use crate::encodings::EncodingMap;
-use crate::keys::{function_key, unversioned_key};
+use crate::keys::{shared_scope, unversioned_key};
+use crate::table::Key;
 use indexmap::IndexMap;
 use std::alloc::Global;
+use std::sync::ArcStr;
 use wit_model::lookup::interface_at;
 use wit_model::{Error, Function, Map, Resolve, StringEncoding, WorldItem, WorldKey};
 
@@ -42,28 +46,47 @@ fn wanted_for(
     }
 }
 
-// Puts the encoding that a function is to have under its key, if it has one.
+// Puts the encoding that a function is to have under its key, if it has one. The text before its name is shared.
 fn put_function(
     alloc: Global,
     resolve: &Resolve,
     scope: &WorldKey,
+    front: &ArcStr,
     name: &str,
     wanted: &Wanted<'_>,
     map: &mut EncodingMap,
 ) -> Result<(), Error>
+    requires front { scope_of resolve.now scope.now ≡ Some (arc_str_bytes front.now) }
     ensures ok { OnOk result (Puts (option_to_list (entry_of resolve.now (choice_of resolve.now wanted.now) scope.now name.now)) map.old map.new) }
     ensures refuses { IfErr result IsMemory }
 {
-    let Some(encoding) = wanted_for(alloc, resolve, scope, name, wanted)? else {
-        return Ok(());
-    };
-    match function_key(alloc, resolve, scope, name)? {
-        Some(key) => map.put(key, encoding),
+    match wanted_for(alloc, resolve, scope, name, wanted)? {
+        Some(encoding) => map.put(Key::under(alloc, front, name)?, encoding),
         None => Ok(()),
     }
 }
 
-// The same for functions that stand under one key of the world.
+// The same for functions that stand behind one text.
+fn put_behind(
+    alloc: Global,
+    resolve: &Resolve,
+    scope: &WorldKey,
+    front: &ArcStr,
+    functions: &Map<String, Function>,
+    wanted: &Wanted<'_>,
+    map: &mut EncodingMap,
+) -> Result<(), Error>
+    requires front { scope_of resolve.now scope.now ≡ Some (arc_str_bytes front.now) }
+    ensures ok { OnOk result (Puts (member_entries resolve.now (choice_of resolve.now wanted.now) scope.now functions.now.entries) map.old map.new) }
+    ensures refuses { IfErr result IsMemory }
+{
+    for (name, _function) in functions {
+        put_function(alloc, resolve, scope, front, name, wanted, map)?;
+    }
+    Ok(())
+}
+
+// The same for functions that stand under one key of the world. What stands in front of them is made once.
 fn put_members(
     alloc: Global,
     resolve: &Resolve,
@@ -75,10 +98,10 @@ fn put_members(
     ensures ok { OnOk result (Puts (member_entries resolve.now (choice_of resolve.now wanted.now) scope.now functions.now.entries) map.old map.new) }
     ensures refuses { IfErr result IsMemory }
 {
-    for (name, _function) in functions {
-        put_function(alloc, resolve, scope, name, wanted, map)?;
+    match shared_scope(alloc, resolve, scope)? {
+        Some(front) => put_behind(alloc, resolve, scope, &front, functions, wanted, map),
+        None => Ok(()),
     }
-    Ok(())
 }
 
 // The same for a function that is an item itself.
@@ -92,9 +115,12 @@ fn put_itself(
     ensures ok { OnOk result (Puts (own_entries resolve.now (choice_of resolve.now wanted.now) scope.now) map.old map.new) }
     ensures refuses { IfErr result IsMemory }
 {
-    match scope {
-        WorldKey::Name(name) => put_function(alloc, resolve, scope, name, wanted, map),
-        WorldKey::Interface(_) => Ok(()),
+    let WorldKey::Name(name) = scope else {
+        return Ok(());
+    };
+    match wanted_for(alloc, resolve, scope, name, wanted)? {
+        Some(encoding) => map.put(Key::twice(alloc, name)?, encoding),
+        None => Ok(()),
     }
 }
 

@@ -1,1 +1,2 @@
+-- What an answer of `check` says. Serves ResolveCheck::check.
 pub mod Answers

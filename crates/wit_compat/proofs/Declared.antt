@@ -16,7 +16,7 @@ use Rattle.wit_model.specs.Lookup.{type_at}
 use Rattle.wit_model.specs.Meaning.{TypeMeaning}
 use Rattle.wit_model.specs.Meant.{no_type, type_meaning, type_meaning_at}
 use Rattle.wit_model.specs.Parts.{kind_numbers}
-use Rattle.wit_model.specs.Rules.{is_named_number, passes}
+use Rattle.wit_model.specs.Rules.{is_named_number, passes, is_resource_itself}
 use Rattle.wit_model.specs.Text.{optional_text}
 use Rattle.wit_model.specs.Tree.{Tree, Form, Declaration, type_, resource, primitive, named, node, children, child_list}
 use Rattle.wit_model.specs.Types.{number_of, type_tree, tree_of, trees_of, no_tree, declared_by, tree_of_declaration}
@@ -28,7 +28,7 @@ use Rattle.wit_compat.specs.declared.look.Look.{Look}
 use Rattle.wit_compat.specs.declared.look.Look.TheVariants as look
 use Rattle.wit_compat.specs.Opened.{form_of, places_of}
 use Rattle.wit_compat.specs.Table.{AllInRange, InRange}
-use Rattle.wit_compat.specs.TwoSides.{aliased, is_resource_itself, IsKindOf, SameDeclared, TellsDeclared}
+use Rattle.wit_compat.specs.TwoSides.{aliased, IsKindOf, SameDeclared, TellsDeclared}
 use Rattle.wit_compat.proofs.Alike.{below_number, is_below, node_children, node_form}
 use Rattle.wit_compat.proofs.OpenedTable.{opened_built}
 use Rattle.wit_compat.proofs.Sided.{named_is, never, number_case, places_in_range}

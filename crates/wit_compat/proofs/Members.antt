@@ -14,8 +14,6 @@ use Rattle.wit_model.proofs.MeantLemmas.{meaning_there as interface_there}
 pub among_contains : {X : Type 0} (xs : List X) (x : X) → IsAmong xs x → Contains xs x
 among_contains xs x (i, h) = (i, h.0, sym h.1)
 
--- what an answer says, said otherwise
-
 -- ---- what is found under a name
 
 module _ {X Y : Type 0} (g : Y → X) (x : X) where

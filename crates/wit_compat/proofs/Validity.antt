@@ -36,8 +36,6 @@ use Rattle.base_lemmas.proofs.Elements.{all-contained as all_contained, contains
 use Rattle.base_lemmas.proofs.Numbers.{false_true}
 use Rattle.std.proofs.lemmas.Bool.{ltb-true as is_below}
 
--- ---- lists
-
 -- ---- ranges
 
 not_past : {X : Type 0} (xs : List X) (n : ℕ) → ((x : X) → slice_get xs n ≡ Some x → ⊥) → length xs ≤ n

@@ -15,7 +15,8 @@ pub record Comparison : Type 0 where
 -- a comparison is stored as the tuple of its fields, by how a `Resolve` is
 abbrev pub comparison_code : Coded Resolve → Coded Comparison
 comparison_code of_resolve =
-    code_by (Resolve × (Resolve × List Pair)) (coded× of_resolve (coded× of_resolve (coded_list (coded× coded_ℕ coded_ℕ)))) (λ c. (c.first, (c.second, c.pairs)))
+    code_by (Resolve × (Resolve × List Pair)) (coded× of_resolve (coded× of_resolve (coded_list (coded× coded_ℕ coded_ℕ))))
+    (λ c. (c.first, (c.second, c.pairs)))
     (λ p. record { first = p.0; second = p.1.0; pairs = p.1.1 }) (λ _. refl)
 
 -- Both are valid, and each pair is of types that stand for the same.

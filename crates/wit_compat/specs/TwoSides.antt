@@ -1,5 +1,5 @@
 -- Two `Resolve`s side by side: which of their types stand for the same.
-use Rattle.std.specs.Prelude.{◌≡◌, ◌↔◌, ◌⊎◌, ℕ, ◌+◌, ◌<◌, Bool, true, false, List, [], ◌∷◌, ◌++◌, length, map, Option, Some, None, String, IsSome, IsTrue}
+use Rattle.std.specs.Prelude.{◌≡◌, ◌↔◌, ◌⊎◌, ℕ, ◌+◌, ◌<◌, true, List, [], ◌∷◌, ◌++◌, length, map, Option, Some, None, String, IsSome, IsTrue}
 use Rattle.std.specs.Borrow.{Bor}
 use Rattle.std.specs.declared.alloc.Global.{Global}
 use Rattle.std.specs.FinMap.{from_entries}
@@ -89,10 +89,6 @@ Says a b t u (look.Parts ts us) = IsParted a b t u ts.items us.items
 abbrev pub aliased : TypeDefKind → Option ValueType
 aliased (kind.Type_ t) = Some t
 aliased _ = None
-
-abbrev pub is_resource_itself : TypeDefKind → Bool
-is_resource_itself kind.Resource = true
-is_resource_itself _ = false
 
 -- the kind of a type of the `Resolve`
 abbrev pub IsKindOf : Resolve → TypeDefKind → Type 0

@@ -36,9 +36,6 @@ head_of heads def = head_of_kind heads def.kind
 unfoldable pub heads_of : Resolve → List ValueType
 heads_of r = grow head_of [] r.types.items
 
-abbrev pub followed : Resolve → ValueType → ValueType
-followed r t = in_heads (heads_of r) t
-
 -- ---- pairs
 
 -- the numbers of two types that are compared

@@ -41,7 +41,8 @@ fn items<'a>(
 ) -> Result<Items<'a>, AllocError>
     requires side { IsSide side.now }
     requires list { entries_in_range side.now.resolve.now list.now.entries ≡ true }
-    ensures sense { IfOk result (λ m. indexed_sense side.now.resolve.now m.entries ≡ entries_sense (entries_meaning side.now.resolve.now list.entry.now.entries)) }
+    ensures sense { IfOk result (λ m. indexed_sense side.now.resolve.now m.entries
+        ≡ entries_sense (entries_meaning side.now.resolve.now list.entry.now.entries)) }
     ensures in_range { IfOk result (λ m. AllItemsInRange side.now.resolve.now m.entries) }
 {
     let mut items = IndexMap::with_hasher(alloc, hash_of_keys(side.resolve, list));
@@ -67,7 +68,9 @@ fn same_item_under(
     requires item { item_in_range left.now.resolve.now item.now ≡ true }
     requires others { AllItemsInRange right.now.resolve.now others.now.entries }
     requires pairs { AllSame left.now.resolve.now right.now.resolve.now pairs.old.keys }
-    ensures exact { IfOk result (λ y. IsTrue y ↔ (option_map (λ other. sense_of_item right.now.resolve.now other.now) (get_by_text others.now (text_of key.now)) ≡ Some (sense_of_item left.now.resolve.now item.now))) }
+    ensures exact { IfOk result (λ y. IsTrue y
+        ↔ (option_map (λ other. sense_of_item right.now.resolve.now other.now) (get_by_text others.now (text_of key.now))
+        ≡ Some (sense_of_item left.now.resolve.now item.now))) }
     ensures kept { AllSame left.now.resolve.now right.now.resolve.now pairs.new.keys }
 {
     match others.get(key.as_str()) {
@@ -90,7 +93,8 @@ fn same_indexed(
     requires items { AllItemsInRange left.now.resolve.now items.now.entries }
     requires others { AllItemsInRange right.now.resolve.now others.now.entries }
     requires pairs { AllSame left.now.resolve.now right.now.resolve.now pairs.old.keys }
-    ensures exact { IfOk result (λ y. IsTrue y ↔ (indexed_sense left.now.resolve.now items.now.entries ≡ indexed_sense right.now.resolve.now others.now.entries)) }
+    ensures exact { IfOk result (λ y. IsTrue y
+        ↔ (indexed_sense left.now.resolve.now items.now.entries ≡ indexed_sense right.now.resolve.now others.now.entries)) }
     ensures kept { AllSame left.now.resolve.now right.now.resolve.now pairs.new.keys }
 {
     if items.len() != others.len() {
@@ -118,7 +122,8 @@ fn same_lists(
     requires list { entries_in_range left.now.resolve.now list.now.entries ≡ true }
     requires others { entries_in_range right.now.resolve.now others.now.entries ≡ true }
     requires pairs { AllSame left.now.resolve.now right.now.resolve.now pairs.old.keys }
-    ensures exact { IfOk result (λ y. IsTrue y ↔ (entries_sense (entries_meaning left.now.resolve.now list.now.entries) ≡ entries_sense (entries_meaning right.now.resolve.now others.now.entries))) }
+    ensures exact { IfOk result (λ y. IsTrue y
+        ↔ (entries_sense (entries_meaning left.now.resolve.now list.now.entries) ≡ entries_sense (entries_meaning right.now.resolve.now others.now.entries))) }
     ensures kept { AllSame left.now.resolve.now right.now.resolve.now pairs.new.keys }
 {
     let found = items(alloc, left, list)?;
@@ -141,7 +146,8 @@ pub(crate) fn same_worlds(
     requires a { HasItemsInRange left.now.resolve.now a.now }
     requires b { HasItemsInRange right.now.resolve.now b.now }
     requires pairs { AllSame left.now.resolve.now right.now.resolve.now pairs.old.keys }
-    ensures exact { IfOk result (λ y. IsTrue y ↔ (world_sense (world_meaning left.now.resolve.now a.now) ≡ world_sense (world_meaning right.now.resolve.now b.now))) }
+    ensures exact { IfOk result (λ y. IsTrue y
+        ↔ (world_sense (world_meaning left.now.resolve.now a.now) ≡ world_sense (world_meaning right.now.resolve.now b.now))) }
     ensures kept { AllSame left.now.resolve.now right.now.resolve.now pairs.new.keys }
 {
     if !same_lists(alloc, left, right, &a.imports, &b.imports, pairs)? {

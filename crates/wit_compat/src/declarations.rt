@@ -2,7 +2,8 @@
 
 ghost use Rattle.std.specs.Prelude.{◌≡◌, ◌<◌, ◌↔◌, ◌∷◌, [], None, Some, length, IfOk, IsTrue};
 ghost use Rattle.wit_model.specs.Meant.{type_meaning_at};
-ghost use Rattle.wit_compat.specs.TwoSides.{aliased, is_resource_itself, AllSame, IsKindOf, IsSide, SameDeclared, TellsDeclared};
+ghost use Rattle.wit_model.specs.Rules.{is_resource_itself};
+ghost use Rattle.wit_compat.specs.TwoSides.{aliased, AllSame, IsKindOf, IsSide, SameDeclared, TellsDeclared};
 
 use crate::look::{Look, look_into};
 use crate::pairs::Pairs;

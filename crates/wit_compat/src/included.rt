@@ -101,12 +101,15 @@ fn check_entry(
     requires large { FoundInRange resolve.now (indexed large.now.entries) }
     requires told { IsToldFrom entry.now large.now.entries }
     requires settled { IsSettled resolve.now pairs.old.keys steps.old.count }
-    ensures stands { OnOk result (find_named (named_thing entry.now).0 (all_shown resolve.now (indexed large.now.entries)) ≡ Some (shown resolve.now (thing_of entry.now.part))) }
-    ensures refuses { IfErr result (λ e. IsEntryFault (all_shown resolve.now (indexed large.now.entries)) ((named_thing entry.now).0, shown resolve.now (thing_of entry.now.part)) e) }
+    ensures stands { OnOk result (find_named (named_thing entry.now).0 (all_shown resolve.now (indexed large.now.entries))
+        ≡ Some (shown resolve.now (thing_of entry.now.part))) }
+    ensures refuses { IfErr result (λ e. IsEntryFault (all_shown resolve.now (indexed large.now.entries))
+        ((named_thing entry.now).0, shown resolve.now (thing_of entry.now.part)) e) }
     ensures settled { OnOk result (IsSettled resolve.now pairs.new.keys steps.new.count) }
     ensures holds { OnOk result (AreAmong (pairs_of_entry resolve.now back (indexed large.now.entries) (named_thing entry.now)) pairs.new.keys) }
     ensures kept { AreAmong pairs.old.keys pairs.new.keys }
-    ensures reached { AreReached resolve.now (pairs.old.keys ++ pairs_of_entry resolve.now back (indexed large.now.entries) (named_thing entry.now)) pairs.new.keys }
+    ensures reached { AreReached resolve.now (pairs.old.keys ++ pairs_of_entry resolve.now back (indexed large.now.entries) (named_thing entry.now))
+        pairs.new.keys }
     ensures counted { steps.new.count ≤ length pairs.new.keys }
 {
     match find(large, entry) {
@@ -148,7 +151,8 @@ pub(crate) fn included(
     ensures settled { OnOk result (IsSettled resolve.now pairs.new.keys steps.new.count) }
     ensures holds { OnOk result (AreAmong (pairs_shared resolve.now back (map named_thing small.now) (indexed large.now.entries)) pairs.new.keys) }
     ensures kept { AreAmong pairs.old.keys pairs.new.keys }
-    ensures reached { AreReached resolve.now (pairs.old.keys ++ pairs_shared resolve.now back (map named_thing small.now) (indexed large.now.entries)) pairs.new.keys }
+    ensures reached { AreReached resolve.now (pairs.old.keys ++ pairs_shared resolve.now back (map named_thing small.now) (indexed large.now.entries))
+        pairs.new.keys }
     ensures counted { steps.new.count ≤ length pairs.new.keys }
 {
     for entry in small {

@@ -35,7 +35,9 @@ fn same_type_under(
     requires id { id.0 < length left.now.resolve.now.types.items }
     requires others { (other : TypeNumber) → Contains (values others.now) other → other.0 < length right.now.resolve.now.types.items }
     requires pairs { AllSame left.now.resolve.now right.now.resolve.now pairs.old.keys }
-    ensures exact { IfOk result (λ y. IsTrue y ↔ (option_map (λ other. type_meaning_at right.now.resolve.now other.0) (get_by_text others.now (text_of name.now)) ≡ Some (type_meaning_at left.now.resolve.now id.0))) }
+    ensures exact { IfOk result (λ y. IsTrue y
+        ↔ (option_map (λ other. type_meaning_at right.now.resolve.now other.0) (get_by_text others.now (text_of name.now))
+        ≡ Some (type_meaning_at left.now.resolve.now id.0))) }
     ensures kept { AllSame left.now.resolve.now right.now.resolve.now pairs.new.keys }
 {
     match others.get(name.as_str()) {
@@ -87,7 +89,9 @@ fn same_function_under(
     requires function { AllInRange left.now.resolve.now (function_types function.now) }
     requires others { (other : FunctionModel) → Contains (values others.now) other → AllInRange right.now.resolve.now (function_types other) }
     requires pairs { AllSame left.now.resolve.now right.now.resolve.now pairs.old.keys }
-    ensures exact { IfOk result (λ y. IsTrue y ↔ (option_map (function_meaning right.now.resolve.now) (get_by_text others.now (text_of name.now)) ≡ Some (function_meaning left.now.resolve.now function.now))) }
+    ensures exact { IfOk result (λ y. IsTrue y
+        ↔ (option_map (function_meaning right.now.resolve.now) (get_by_text others.now (text_of name.now))
+        ≡ Some (function_meaning left.now.resolve.now function.now))) }
     ensures kept { AllSame left.now.resolve.now right.now.resolve.now pairs.new.keys }
 {
     match others.get(name.as_str()) {
@@ -110,7 +114,8 @@ fn same_functions(
     requires functions { (f : FunctionModel) → Contains (values functions.now) f → AllInRange left.now.resolve.now (function_types f) }
     requires others { (f : FunctionModel) → Contains (values others.now) f → AllInRange right.now.resolve.now (function_types f) }
     requires pairs { AllSame left.now.resolve.now right.now.resolve.now pairs.old.keys }
-    ensures exact { IfOk result (λ y. IsTrue y ↔ (functions_sense left.now.resolve.now functions.now.entries ≡ functions_sense right.now.resolve.now others.now.entries)) }
+    ensures exact { IfOk result (λ y. IsTrue y
+        ↔ (functions_sense left.now.resolve.now functions.now.entries ≡ functions_sense right.now.resolve.now others.now.entries)) }
     ensures kept { AllSame left.now.resolve.now right.now.resolve.now pairs.new.keys }
 {
     if functions.len() != others.len() {
@@ -138,7 +143,8 @@ fn same_members(
     requires a { HasTypesInRange left.now.resolve.now a.now }
     requires b { HasTypesInRange right.now.resolve.now b.now }
     requires pairs { AllSame left.now.resolve.now right.now.resolve.now pairs.old.keys }
-    ensures exact { IfOk result (λ y. IsTrue y ↔ (interface_sense (interface_meaning left.now.resolve.now a.now) ≡ interface_sense (interface_meaning right.now.resolve.now b.now))) }
+    ensures exact { IfOk result (λ y. IsTrue y
+        ↔ (interface_sense (interface_meaning left.now.resolve.now a.now) ≡ interface_sense (interface_meaning right.now.resolve.now b.now))) }
     ensures kept { AllSame left.now.resolve.now right.now.resolve.now pairs.new.keys }
 {
     if !same_named_types(alloc, left, right, &a.types, &b.types, pairs)? {
@@ -161,7 +167,8 @@ pub(crate) fn same_interfaces(
     requires a { a.0 < length left.now.resolve.now.interfaces.items }
     requires b { b.0 < length right.now.resolve.now.interfaces.items }
     requires pairs { AllSame left.now.resolve.now right.now.resolve.now pairs.old.keys }
-    ensures exact { IfOk result (λ y. IsTrue y ↔ (interface_sense (interface_meaning_at left.now.resolve.now a.0) ≡ interface_sense (interface_meaning_at right.now.resolve.now b.0))) }
+    ensures exact { IfOk result (λ y. IsTrue y
+        ↔ (interface_sense (interface_meaning_at left.now.resolve.now a.0) ≡ interface_sense (interface_meaning_at right.now.resolve.now b.0))) }
     ensures kept { AllSame left.now.resolve.now right.now.resolve.now pairs.new.keys }
 {
     let interface = &left.resolve.interfaces[a.0 as usize];

@@ -29,7 +29,8 @@ fn same_interface_items(
     requires a { a.0 < length left.now.resolve.now.interfaces.items }
     requires b { b.0 < length right.now.resolve.now.interfaces.items }
     requires pairs { AllSame left.now.resolve.now right.now.resolve.now pairs.old.keys }
-    ensures exact { IfOk result (λ y. IsTrue y ↔ (item_sense (interface_item left.now.resolve.now a.0) ≡ item_sense (interface_item right.now.resolve.now b.0))) }
+    ensures exact { IfOk result (λ y. IsTrue y
+        ↔ (item_sense (interface_item left.now.resolve.now a.0) ≡ item_sense (interface_item right.now.resolve.now b.0))) }
     ensures kept { AllSame left.now.resolve.now right.now.resolve.now pairs.new.keys }
 {
     match path_at(left, a) {

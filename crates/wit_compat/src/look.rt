@@ -38,8 +38,10 @@ fn same_names(left: &Side, right: &Side, a: &TypeDef, b: &TypeDef) -> bool
 
 /// The same of two kinds that have forms, beside what they are named.
 pub(crate) fn look_into(alloc: Global, a: &TypeDefKind, b: &TypeDefKind) -> Result<Look, AllocError>
-    ensures known { IfOk result (λ l. (y : Bool) → l ≡ Known y → (y ≡ false) × (form_of a.now ≡ form_of b.now → length (places_of a.now) ≡ length (places_of b.now) → ⊥)) }
-    ensures parts { IfOk result (λ l. (ts us : Vec ValueType Global) → l ≡ Parts ts us → (form_of a.now ≡ form_of b.now) × (ts.items ≡ places_of a.now) × (us.items ≡ places_of b.now) × (length ts.items ≡ length us.items)) }
+    ensures known { IfOk result (λ l. (y : Bool) → l ≡ Known y → (y ≡ false)
+        × (form_of a.now ≡ form_of b.now → length (places_of a.now) ≡ length (places_of b.now) → ⊥)) }
+    ensures parts { IfOk result (λ l. (ts us : Vec ValueType Global) → l ≡ Parts ts us → (form_of a.now ≡ form_of b.now) × (ts.items ≡ places_of a.now)
+        × (us.items ≡ places_of b.now) × (length ts.items ≡ length us.items)) }
 {
     if !same_forms(alloc, a, b)? {
         return Ok(Look::Known(false));

@@ -34,7 +34,8 @@ fn same_worlds_at(
     requires a { a.0 < length left.now.resolve.now.worlds.items }
     requires b { b.0 < length right.now.resolve.now.worlds.items }
     requires pairs { AllSame left.now.resolve.now right.now.resolve.now pairs.old.keys }
-    ensures exact { IfOk result (λ y. IsTrue y ↔ (world_sense (world_meaning_at left.now.resolve.now a.0) ≡ world_sense (world_meaning_at right.now.resolve.now b.0))) }
+    ensures exact { IfOk result (λ y. IsTrue y
+        ↔ (world_sense (world_meaning_at left.now.resolve.now a.0) ≡ world_sense (world_meaning_at right.now.resolve.now b.0))) }
     ensures kept { AllSame left.now.resolve.now right.now.resolve.now pairs.new.keys }
 {
     let world = &left.resolve.worlds[a.0 as usize];

@@ -68,9 +68,11 @@ pub(crate) fn compare_sides(
     ensures includes { OnOk result (IsIncluded (flat resolve.now small.now.entries) (flat resolve.now large.now.entries)) }
     ensures refuses { IfErr result (λ e. IsFaultOf (flat resolve.now small.now.entries) (flat resolve.now large.now.entries) e) }
     ensures settled { OnOk result (IsSettled resolve.now pairs.new.keys steps.new.count) }
-    ensures holds { OnOk result (AreAmong (pairs_shared resolve.now back (things_of resolve.now small.now.entries) (things_of resolve.now large.now.entries)) pairs.new.keys) }
+    ensures holds { OnOk result (AreAmong (pairs_shared resolve.now back (things_of resolve.now small.now.entries) (things_of resolve.now large.now.entries))
+        pairs.new.keys) }
     ensures kept { AreAmong pairs.old.keys pairs.new.keys }
-    ensures reached { AreReached resolve.now (pairs.old.keys ++ pairs_shared resolve.now back (things_of resolve.now small.now.entries) (things_of resolve.now large.now.entries)) pairs.new.keys }
+    ensures reached { AreReached resolve.now (pairs.old.keys
+        ++ pairs_shared resolve.now back (things_of resolve.now small.now.entries) (things_of resolve.now large.now.entries)) pairs.new.keys }
     ensures counted { steps.new.count ≤ length pairs.new.keys }
 {
     match gathered(alloc, names, resolve, small, large) {

@@ -22,7 +22,8 @@ fn push_types<'a>(
     key: Key<'a>,
     types: &'a Map<String, TypeId>,
 ) -> Result<(), AllocError>
-    ensures { OnOk result (map numbered_thing entries.new.items ≡ map numbered_thing entries.old.items ++ map (with_number key.entry.number) (map (type_member key.entry.text.now) types.entry.now.entries)) }
+    ensures { OnOk result (map numbered_thing entries.new.items ≡ map numbered_thing entries.old.items
+        ++ map (with_number key.entry.number) (map (type_member key.entry.text.now) types.entry.now.entries)) }
 {
     for (name, id) in types {
         let entry = Entry {
@@ -40,7 +41,8 @@ fn push_functions<'a>(
     key: Key<'a>,
     functions: &'a Map<String, Function>,
 ) -> Result<(), AllocError>
-    ensures { OnOk result (map numbered_thing entries.new.items ≡ map numbered_thing entries.old.items ++ map (with_number key.entry.number) (map (function_member key.entry.text.now) functions.entry.now.entries)) }
+    ensures { OnOk result (map numbered_thing entries.new.items ≡ map numbered_thing entries.old.items
+        ++ map (with_number key.entry.number) (map (function_member key.entry.text.now) functions.entry.now.entries)) }
 {
     for (name, function) in functions {
         let entry = Entry {
@@ -58,7 +60,8 @@ fn push_members<'a>(
     key: Key<'a>,
     interface: &'a Interface,
 ) -> Result<(), AllocError>
-    ensures { OnOk result (map numbered_thing entries.new.items ≡ map numbered_thing entries.old.items ++ map (with_number key.entry.number) (members key.entry.text.now interface.entry.now)) }
+    ensures { OnOk result (map numbered_thing entries.new.items ≡ map numbered_thing entries.old.items
+        ++ map (with_number key.entry.number) (members key.entry.text.now interface.entry.now)) }
 {
     push_types(entries, key, &interface.types)?;
     push_functions(entries, key, &interface.functions)?;
@@ -77,7 +80,8 @@ fn push_interface<'a>(
     key: Key<'a>,
     id: InterfaceId,
 ) -> Result<(), AllocError>
-    ensures { OnOk result (map numbered_thing entries.new.items ≡ map numbered_thing entries.old.items ++ map (with_number key.entry.number) (option_map_or (members key.entry.text.now) (interface_at_lem resolve.entry.now id.0) [])) }
+    ensures { OnOk result (map numbered_thing entries.new.items ≡ map numbered_thing entries.old.items
+        ++ map (with_number key.entry.number) (option_map_or (members key.entry.text.now) (interface_at_lem resolve.entry.now id.0) [])) }
 {
     match interface_at(resolve, id) {
         Some(interface) => {
@@ -93,7 +97,8 @@ fn push_itself<'a>(
     key: Key<'a>,
     part: Part<'a>,
 ) -> Result<(), AllocError>
-    ensures { OnOk result (map numbered_thing entries.new.items ≡ map numbered_thing entries.old.items ++ with_number key.entry.number ((key.entry.text.now, []), thing_of part.entry) ∷ []) }
+    ensures { OnOk result (map numbered_thing entries.new.items ≡ map numbered_thing entries.old.items
+        ++ with_number key.entry.number ((key.entry.text.now, []), thing_of part.entry) ∷ []) }
 {
     entries.push(Entry {
         key,
@@ -109,7 +114,8 @@ fn push_item<'a>(
     key: Key<'a>,
     item: &'a WorldItem,
 ) -> Result<(), AllocError>
-    ensures { OnOk result (map numbered_thing entries.new.items ≡ map numbered_thing entries.old.items ++ map (with_number key.entry.number) (item_things resolve.entry.now key.entry.text.now item.entry.now)) }
+    ensures { OnOk result (map numbered_thing entries.new.items ≡ map numbered_thing entries.old.items
+        ++ map (with_number key.entry.number) (item_things resolve.entry.now key.entry.text.now item.entry.now)) }
 {
     match item {
         WorldItem::Interface { id, .. } => {

@@ -1,5 +1,5 @@
 -- What a package is refused for where it is encoded without canonical names and decoded.
-use Rattle.std.proofs.Common.{◌≡◌, ◌<◌, ◌||◌, refl, sym, ap, subst, ◌∙◌, ℕ, Bool, true, false, List, [], ◌∷◌, length, Some, Result, Ok, Err, IfErr}
+use Rattle.std.proofs.Common.{◌≡◌, ◌<◌, ◌||◌, refl, sym, ap, subst, ◌∙◌, ℕ, Bool, true, false, List, [], ◌∷◌, length, Some, Result, Ok, Err, IfErr, IfOk}
 use Rattle.std.specs.Prelude.{IsErrAnd}
 use Rattle.std.specs.List.{Contains}
 use Rattle.std.proofs.lemmas.Bool.{true≢false}
@@ -7,6 +7,7 @@ use Rattle.std.proofs.lemmas.List.Elements.{Contains-append_left, Contains-appen
 use Rattle.wit_model.specs.declared.error.Error.{Error}
 use Rattle.wit_model.specs.declared.error.Error.TheVariants as errors
 use Rattle.wit_model.specs.declared.model.Package.{Package}
+use Rattle.wit_model.specs.declared.model.PackageId.{PackageId}
 use Rattle.wit_model.specs.declared.model.Resolve.{Resolve}
 use Rattle.wit_model.specs.declared.model.World.{World}
 use Rattle.wit_model.specs.Lookup.{package_at}
@@ -17,12 +18,13 @@ use Rattle.comp_bytes.specs.Spelling.{preamble}
 use Rattle.comp_meaning.specs.Follow.{is_filled}
 use Rattle.comp_meaning.specs.Reads.{Reads}
 use Rattle.comp_read.specs.Decoded.{IsDecoded, RefusesBytes}
+use Rattle.comp_read.specs.Order.{FollowsBytes}
 use Rattle.encode_names.specs.Clashes.{RefusesNames, RefusesPaths}
-use Rattle.wit_encode.specs.Packages.{HasMembers, HasNoMembers, MeansPackage, RefusesPackage, RefusesWorldAt}
+use Rattle.wit_encode.specs.Packages.{HasMembers, HasNoMembers, MeansPackage, RefusesPackage, RefusesWorldAt, SpellsPackageAt}
 use Rattle.wit_encode.specs.Scopes.{RefusesInterface}
 use Rattle.wit_encode.specs.WholeWorlds.{RefusesWorld}
 use Rattle.wit_encode.proofs.WholePackages.{are-worlds}
-use Rattle.wit_component.specs.ReadBack.{IsReadBack, RefusesReadBack}
+use Rattle.wit_component.specs.ReadBack.{IsReadBack, IsReadOf, RefusesReadBack}
 use Rattle.wit_component.proofs.Nothing.{preamble_means_nothing}
 use Rattle.wit_component.proofs.ReadBackLaws.{gives_that_meaning, has_meaning}
 use Rattle.base_lemmas.proofs.Elements.{contains-one}
@@ -119,3 +121,11 @@ same_error d e same = cc
 pub never_too_large : {X Q : Type 0} (bytes : List ℕ) (given : Result X Error) → IfErr given (RefusesBytes bytes) → given ≡ Err errors.Size → Q
 never_too_large bytes (Ok x) h refused = absurd (let z : ⊥ = cc in z)
 never_too_large bytes (Err e) h refused = absurd (subst (RefusesBytes bytes) (same_error e errors.Size refused) h)
+
+-- what is decoded of the bytes of a package
+pub read_of : (r : Resolve) (n : ℕ) (bytes : List ℕ) (x : Result (Resolve × PackageId) Error) → SpellsPackageAt r false n bytes
+    → IfOk x (λ y. IsDecoded bytes y.0 y.1.0)
+    → IfOk x (λ y. FollowsBytes bytes y.0)
+    → IfOk x (λ y. IsReadOf r n y.0 y.1.0)
+read_of r n bytes (Ok y) spelled decoded order = record { bytes = bytes; spelled = spelled; decoded = decoded; order = order }
+read_of r n bytes (Err e) spelled decoded order = tt

@@ -1,5 +1,5 @@
 -- What is decoded of the bytes of a package (Component Model WIT.md, "Package Format").
-use Rattle.std.specs.Prelude.{◌≡◌, ◌↔◌, ℕ, List, Some}
+use Rattle.std.specs.Prelude.{◌≡◌, ◌↔◌, ℕ, false, List, Some}
 use Rattle.wit_model.specs.declared.error.Error.{Error}
 use Rattle.wit_model.specs.declared.error.Error.TheVariants as errors
 use Rattle.wit_model.specs.declared.model.Package.{Package}
@@ -12,7 +12,8 @@ use Rattle.comp_meaning.specs.Reads.{Reads}
 use Rattle.plan_meaning.specs.Built.{IsBare}
 use Rattle.plan_meaning.specs.NothingElse.{HoldsPackageAlone}
 use Rattle.comp_read.specs.Decoded.{IsDecoded, RefusesBytes}
-use Rattle.wit_encode.specs.Packages.{HasMembers, HasNoMembers, MeansPackage}
+use Rattle.comp_read.specs.Order.{FollowsBytes}
+use Rattle.wit_encode.specs.Packages.{HasMembers, HasNoMembers, MeansPackage, SpellsPackageAt}
 
 -- Package n of r has a meaning, and package k of s has the same and no other.
 pub record MeansTheSame (r : Resolve) (n : ℕ) (s : Resolve) (k : ℕ) : Type 0 where
@@ -29,6 +30,13 @@ pub record IsReadBack (r : Resolve) (n : ℕ) (s : Resolve) (k : ℕ) : Type 0 w
   pub stands : package_at s k ≡ Some package_
   pub alone : HoldsPackageAlone s k package_
   pub means : MeansTheSame r n s k
+
+-- The second `Resolve` is what is decoded of the bytes of package n as it is encoded, in the order in which they show it; k is its package.
+pub record IsReadOf (r : Resolve) (n : ℕ) (s : Resolve) (k : ℕ) : Type 0 where
+  pub bytes : List ℕ
+  pub spelled : SpellsPackageAt r false n bytes
+  pub decoded : IsDecoded bytes s k
+  pub order : FollowsBytes bytes s
 
 -- What is decoded of bytes that mean exactly what a package does is that package, read back.
 abbrev pub DecodingGivesThatMeaning : Type 0

@@ -5,8 +5,8 @@ ghost use Rattle.wit_component.specs.SectionBindings.{CarriedWorldsAreBound};
 
 pub use bind_meaning::laws::{both_orders, clashes};
 pub use bind_sections::laws::{
-    any_order, bound_are_bindings, bound_once, modules_are_read_in_order, one_section_binds,
-    sections_bind_their_worlds,
+    any_order, bound_are_bindings, bound_once, modules_are_read_in_order, one_refused_section,
+    one_section_binds, sections_bind_their_worlds,
 };
 pub use comp_read::laws::one_meaning;
 pub use print_grammar::laws::one_reading;
@@ -18,7 +18,7 @@ pub use wit_encode::laws::{
 };
 pub use wit_interfaces::laws::{definitions_leave_interfaces, interface_scope_is_of_owner};
 pub use wit_model::laws::canonical_paths_join;
-pub use wit_print::laws::{interfaces_can_be_given, packages_read};
+pub use wit_print::laws::{interfaces_can_be_given, packages_read, worlds_can_be_given};
 
 /// Of bytes that mean exactly what a package of a `Resolve` does, as those that `encode` answers of a valid package with an interface or a
 /// world: what `decode` answers of them is valid, without documentation, and means that and nothing else; and it refuses them for want of

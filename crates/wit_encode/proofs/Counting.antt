@@ -12,7 +12,7 @@ use Rattle.std.proofs.lemmas.List.Elements.{filter_passes, All-contains}
 use Rattle.std.proofs.lemmas.List.Folds.{list_any-append}
 use Rattle.std.proofs.lemmas.List.Kept.{AllPairs-filter}
 use Rattle.std.proofs.lemmas.List.Sums.{length-filter, sum_by-append}
-use Rattle.std.proofs.lemmas.List.Sorted.{list_any-IsPermutation, IsPermutation-map, sum_by-IsPermutation}
+use Rattle.std.proofs.lemmas.List.Sorted.{list_any-IsPermutation, IsPermutation-map, length_permutation, sum_by-IsPermutation}
 use Rattle.std.proofs.lemmas.Map.Keys.{IsDistinct-from_apart}
 use Rattle.std.proofs.lemmas.Map.Made.{length-from_keys}
 use Rattle.wit_model.specs.Text.{Text, text_of}
@@ -42,13 +42,16 @@ use Rattle.wit_encode.specs.declared.interface.Foreign.{Foreign}
 use Rattle.encode_types.specs.Key.{IsKeyOf}
 use Rattle.encode_types.specs.Kinds.{has_definition}
 use Rattle.encode_types.specs.Plan.{foreign_owner}
-use Rattle.encode_types.specs.Codes.{IsTable, names_of, lists_of}
-use Rattle.encode_types.specs.Maps.{IsOnce, IsKnown, MapsAgree}
+use Rattle.encode_types.specs.Codes.{IsTable, ListKey, names_of, lists_of}
+use Rattle.encode_types.specs.Maps.{IsOnce, IsKnown, LearnsOnly, MapsAgree}
+use Rattle.encode_types.specs.Room.{HoldsFor}
+use Rattle.encode_types.proofs.Lists.{none-in}
+use Rattle.std.specs.Borrow.{Bor}
 use Rattle.encode_types.specs.Scope.{Scope}
-use Rattle.encode_types.specs.MetKinds.{referred}
+use Rattle.encode_types.specs.MetKinds.{referred, ReachedFrom}
 use Rattle.encode_types.specs.Counts.{Definitions, names_defined, is_defined_by_name, is_defined_under_name, own_name, name_of_own, Shows, slots_of, named_slots, key_slots, AddsSlots, AddsKey, AddsTypes, AddsFunction}
 use Rattle.encode_types.specs.Distinct.{Key, key_of, key_view, are_same, KnowsKey, defined_under_names, AddsFunctions, DefinesKeys, DefinesTypes, value_slots, function_slots, is_function_type}
-use Rattle.wit_encode.specs.Instance.{own_of, contents_of, inner_contents, outer_slots, standing_at, SlotsStand, stands_inside, encoder_scope, definitions_with, opened, ShowsFunction}
+use Rattle.wit_encode.specs.Instance.{own_of, contents_of, inner_contents, outer_slots, standing_at, SlotsStand, stands_inside, encoder_scope, definitions_with, held_in, opened, DeclaresFew, ShowsFunction}
 use Rattle.encode_types.proofs.Pairs.{pairs-map}
 use Rattle.encode_types.proofs.Tables.{kept-in, new-in, one-more-in}
 use Rattle.wit_encode.proofs.HeldKeys.{same_equiv, HasList, alike, grown, shrunk, knows-same, knows-along, knows-none, keyed, stand-for-keys, slots-many}
@@ -237,8 +240,24 @@ defines-keys r S scope m m' d d' fs ds b z n a agree =
           (λ h. k.all q (a.learnt q h));
     }
 
-pub record Counted (r : Resolve) (i : InterfaceId) (S : Pairs) (fs : List Function) (ts : List TypeId) (ds : List Declaration) : Type 0 where
+-- as many keys of functions are known as types of functions have been defined
+keys-known : (r : Resolve) (scope : Scope) (m m' : TypeEncodingMaps) (d d' : Definitions) (fs : List Function) (ds : List Declaration) → Began m
+    → d.functions ≡ [] → d'.functions ≡ function_slots (from_list ds) → AddsFunctions r scope m m' d d' fs → length m'.func_type_map.entries ≡ count_by is_function_type ds
+keys-known r scope m m' d d' fs ds b z n a =
+    let counted : length (function_slots (from_list ds)) ≡ count_by is_function_type ds = slots-counted is_function_type 0 ds in
+    let slots : length (function_slots (from_list ds)) ≡ length (d.functions ++ a.types_added) = ap length (sym n ∙ a.functions_) in
+    let none : length d.functions ≡ 0 = ap length z in
+    let both : length (d.functions ++ a.types_added) ≡ length d.functions + length a.types_added = length-append d.functions a.types_added in
+    let none_known : length m.func_type_map.entries ≡ 0 = ap length b.keys in
+    let known : length (key_slots m) ≡ length m.func_type_map.entries = length-map m.func_type_map.entries (λ (e : ListKey × ℕ). e.1) in
+    let after : length (key_slots m') ≡ length m'.func_type_map.entries = length-map m'.func_type_map.entries (λ (e : ListKey × ℕ). e.1) in
+    let sum : length (key_slots m ++ a.types_added) ≡ length (key_slots m) + length a.types_added = length-append (key_slots m) a.types_added in
+    let same : length (key_slots m') ≡ length (key_slots m ++ a.types_added) = length_permutation (key_slots m ++ a.types_added) (key_slots m') a.keys_ in
+    omega (arith, counted, slots, none, both, none_known, known, after, sum, same)
+
+pub record Counted (r : Resolve) (i : InterfaceId) (S : Pairs) (m' : TypeEncodingMaps) (fs : List Function) (ts : List TypeId) (ds : List Declaration) : Type 0 where
   pub keys : DefinesKeys r S fs ds
+  pub known : length m'.func_type_map.entries ≡ count_by is_function_type ds
   pub types : DefinesTypes r (Some i) S ts fs (from_list ds)
 
 -- what slots stand for is one thing each
@@ -258,15 +277,40 @@ pub closed-counts : (r : Resolve) → IsValid r → (outer outer' : Declarations
     → AddsFunctions r (encoder_scope r outer (opened i known)) m m' (definitions_with (contents_of r outer (opened i known))) (definitions_with (contents_of r outer' inner')) fs
     → MapsAgree r m' (stands_inside r i outer' current.declared) → (inner_contents (place_of r (owner.Interface i)) outer' current.declared).is_followed ≡ true
     → names_defined r (encoder_scope r outer (opened i known)) m' ≡ distinct_count nat_eq (defined_under_names r (Some i) ts)
-    → Counted r i (stands_inside r i outer' current.declared) fs ts current.declared
+    → Counted r i (stands_inside r i outer' current.declared) m' fs ts current.declared
 unfolding inner_contents
 closed-counts r v outer outer' i known inner' current m m' fs ts is b held a agree followed defined = record {
   keys = defines-keys r (stands_inside r i outer' current.declared) (encoder_scope r outer (opened i known)) m m' (definitions_with (contents_of r outer (opened i known)))
       (definitions_with (contents_of r outer' inner')) fs current.declared b refl (ap (λ (o : Option OpenInterface). (contents_of r outer' o).functions) is) a agree;
+  known = keys-known r (encoder_scope r outer (opened i known)) m m' (definitions_with (contents_of r outer (opened i known))) (definitions_with (contents_of r outer' inner')) fs current.declared b
+      refl (ap (λ (o : Option OpenInterface). (contents_of r outer' o).functions) is) a;
   types = defines-types r v (Some i) (encoder_scope r outer (opened i known)) (stands_inside r i outer' current.declared) m m' (definitions_with (contents_of r outer (opened i known)))
       (definitions_with (contents_of r outer' inner')) ts fs (from_list current.declared) a.slots agree (slots-once _) (values-plain (place_of r (owner.Interface i)) outer' current.declared followed)
       (sym (ap (λ (o : Option OpenInterface). (contents_of r outer' o).types) is) ∙ a.slots.types) (sym (ap (λ (o : Option OpenInterface). (contents_of r outer' o).exported) is) ∙ a.slots.exported)
       b.numbers b.kinds held defined;
+}
+
+-- it has no more declarations than it was asked to have
+pub declares-few : (r : Resolve) (i : InterfaceId) (ts : List TypeId) (fs : List (ℕ × Bor (String Global) × Bor Function)) (m m' : TypeEncodingMaps) (outer' : Declarations)
+    (inner' : Option OpenInterface) (ds : List Declaration) (current : OpenInterface)
+    → Began m → ds ≡ [] → inner' ≡ Some current → LearnsOnly (ReachedFrom r (Some i) (referred ts (map (λ f. f.2.now) fs))) m m'
+    → HoldsFor r (Some i) m m' (length ds) (held_in outer' inner') (length fs) → length m'.func_type_map.entries ≡ count_by is_function_type current.declared
+    → DeclaresFew r (Some i) ts (map (λ f. f.2.now) fs) current.declared
+declares-few r i ts fs m m' outer' inner' ds current b none is only h keys = record {
+  numbers = h.numbers;
+  apart = h.new.apart;
+  met = λ n c. let k = h.known n c in elim (only.each n k.0 k.1) [
+    | inl old ↦ none-in (n, k.0) (subst (λ (es : List (ℕ × ℕ)). Contains es (n, k.0)) b.numbers old)
+    | inr reached ↦ reached
+  ];
+  few =
+      let held = h.held in
+      let at : held_in outer' inner' ≡ length current.declared = ap (held_in outer') is in
+      let nothing : length ds ≡ 0 = ap length none in
+      let no_keys : length m.func_type_map.entries ≡ 0 = ap length b.keys in
+      let plain : length (map (λ (f : ℕ × Bor (String Global) × Bor Function). f.2.now) fs) ≡ length fs =
+      length-map fs (λ (f : ℕ × Bor (String Global) × Bor Function). f.2.now) in
+      omega (arith, held, at, nothing, no_keys, plain, keys);
 }
 
 -- the keys of functions in another order

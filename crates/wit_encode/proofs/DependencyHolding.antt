@@ -77,6 +77,7 @@ module _ (r : Resolve) (canonical : Bool) (a a' : Around) (i : InterfaceId) (num
         function_types = t.encodes.function_types;
         value_types =
             t.encodes.part.value_types;
+        few = t.encodes.part.few;
       }
 
 -- nothing is defined, and nothing is held, where nothing is declared
@@ -117,6 +118,7 @@ module _ (r : Resolve) (canonical : Bool) (a a' : Around) (i : InterfaceId) (def
       function_types = encodes.part.function_types;
       value_types =
           encodes.part.value_types;
+      few = encodes.part.few;
     };
     aliases = export-aliased r canonical a a' ns i def k outer there encodes is order imported aliased;
   }

@@ -32,8 +32,6 @@ use Rattle.base_lemmas.proofs.Bools.{left_of as first_true, right_of as second_t
 use Rattle.base_lemmas.proofs.Elements.{any-at, any-contains as any-found}
 use Rattle.encode_types.proofs.EqualLists.{async-same as async-alike}
 
--- ---- lists and members
-
 -- ---- keys and their lists
 
 pub same_equiv : IsEquivalence are_same

@@ -14,10 +14,6 @@ use Rattle.base_lemmas.proofs.Lists.{nothing-mapped}
 use Rattle.base_lemmas.proofs.Numbers.{equal, same-number}
 use Rattle.std.proofs.lemmas.Option.{same_Some as same-some}
 
--- ---- elements
-
--- ---- numbers by a test
-
 -- ---- what stands once
 
 -- how often one number is another

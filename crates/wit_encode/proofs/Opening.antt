@@ -232,5 +232,3 @@ closed-stay (Ok k) r a outer outer' foreign foreign' es g e ok err j h =
     (instances-then r foreign outer es j (outer_scope outer) refl (are_right r foreign.known.entries (outer_slots outer)) refl (grown-stay r a (around_at outer foreign) g j h))
 closed-stay (Err x) r a outer outer' foreign foreign' es g e ok err j h =
     subst (λ (z : Around). Contains (standing_instances r z) j) (λ i. around_at (sym err i) (sym e i)) (grown-stay r a (around_at outer foreign) g j h)
-
--- what holds anyway

@@ -14,9 +14,9 @@ use Rattle.wit_model.specs.Text.{text_of}
 use Rattle.wit_model.specs.Types.{number_of}
 use Rattle.wit_model.specs.Lookup.{type_at, interface_at, world_at, place_of, resource_of, is_async}
 use Rattle.wit_model.specs.Meant.{type_meaning}
-use Rattle.wit_model.specs.Uses.{alias_target, owner_interface, items_of}
-use Rattle.wit_model.specs.Parts.{met_by, met_of, same_owner, has_owner, function_types, function_numbers, is_resource_type}
-use Rattle.wit_model.specs.Rules.{in_list, is_use, passes, package_number, function_in_range, function_stays, item_in_range, key_in_range, entries_in_range}
+use Rattle.wit_model.specs.Uses.{alias_target, owner_interface, used_interface, items_of}
+use Rattle.wit_model.specs.Parts.{met_by, met_of, same_owner, has_owner, function_types, function_numbers, kind_numbers, is_resource_type}
+use Rattle.wit_model.specs.Rules.{in_list, is_use, owner_in_range, passes, package_number, function_in_range, function_stays, item_in_range, key_in_range, entries_in_range}
 use Rattle.wit_model.specs.Valid.{IsValid, numbers_in_range, owners, handles, is_place, functions_of_interface, functions_of_world, item_function}
 use Rattle.wit_model.specs.declared.model.Resolve.{Resolve}
 use Rattle.wit_model.specs.declared.model.Interface.{Interface}
@@ -43,7 +43,7 @@ use Rattle.encode_types.specs.Resources.{is_named_interface, is_met_owner}
 use Rattle.encode_types.specs.Fits.{FitsScope, CanEncode}
 use Rattle.encode_types.specs.Scope.{Scope, IsDeclared, IsImportable}
 use Rattle.encode_types.specs.Table.{interface_of_owner, has_named_owner}
-use Rattle.wit_encode.specs.OwnerScope.{IsScopeOf, IsMet, IsOfInstance, NamesStand, InstancesStand, IsUsedBy, UsesStand, IsTypeOf, functions_of, NamesEncode, TypesEncode, FunctionsEncode, TypesUse, FunctionsUse, TableScope}
+use Rattle.wit_encode.specs.OwnerScope.{IsScopeOf, IsMet, IsOfInstance, NamesStand, InstancesStand, IsUsedBy, UsesStand, IsTypeOf, functions_of, NamesEncode, TypesEncode, FunctionsEncode, TypesUse, FunctionsUse, TableScope, TableUsesStand}
 use Rattle.wit_encode.proofs.Forming.{Agree}
 use Rattle.wit_encode.proofs.Owned.{stays, part-met, own-interface, alias-part}
 use Rattle.wit_encode.proofs.Naming.{one-home, named-owner, names-agree}
@@ -57,7 +57,8 @@ use Rattle.base_lemmas.proofs.Numbers.{equal as equal-numbers}
 use Rattle.base_lemmas.proofs.Options.{there as some-of}
 use Rattle.wit_model.proofs.OnePath.{interface-passes as interface_passes}
 use Rattle.wit_model.proofs.PartsLemmas.{owner_itself as owner-itself, owner_same as same-owner}
-use Rattle.wit_model.proofs.ValidLemmas.{world_passes}
+use Rattle.wit_model.proofs.ValidLemmas.{type_passes, world_passes}
+use Rattle.wit_encode.proofs.ImportsStand.{below-there}
 
 -- ---- owners
 
@@ -422,3 +423,28 @@ table_is_scope r o v = record {
   names = names-agree r v (is_met_owner r o) (one-home r v o);
   sound = refl;
 }
+
+owner-inside : (r : Resolve) → IsValid r → (t : ℕ) (def : TypeDef) → type_at r t ≡ Some def → owner_in_range r def.owner ≡ true
+unfolding numbers_in_range
+owner-inside r v t def at =
+    second_true (list_all (in_list r.types.items) (kind_numbers def.kind)) _ (second_true (is_place t) _ (type_passes numbers_in_range r v.rules.numbers_in_range t def at))
+
+-- the interface that an alias names is in the list
+used-inside : (r : Resolve) → IsValid r → (def : TypeDef) (j : ℕ) → used_interface r def ≡ Some j → j < length r.interfaces.items
+used-inside r v def j used = at-target (alias_target def.kind) used
+  where
+    by-owner : (o : TypeOwner) → owner_interface o ≡ Some j → owner_in_range r o ≡ true → j < length r.interfaces.items
+    by-owner (owner.Interface i) e h = subst (λ (n : ℕ). n < length r.interfaces.items) (some-same i.0 j e) (ltb-true i.0 (length r.interfaces.items) h)
+    by-owner (owner.World w) e h = let wrong : ⊥ = cc in absurd wrong
+    by-owner owner.None e h = let wrong : ⊥ = cc in absurd wrong
+
+    at-type : (t : ℕ) (o : Option TypeDef) → type_at r t ≡ o → option_and_then (λ (target : TypeDef). owner_interface target.owner) o ≡ Some j → j < length r.interfaces.items
+    at-type t None at e = let wrong : ⊥ = cc in absurd wrong
+    at-type t (Some target) at e = by-owner target.owner e (owner-inside r v t target at)
+
+    at-target : (o : Option ℕ) → option_and_then (λ t. option_and_then (λ (target : TypeDef). owner_interface target.owner) (type_at r t)) o ≡ Some j → j < length r.interfaces.items
+    at-target None e = let wrong : ⊥ = cc in absurd wrong
+    at-target (Some t) e = at-type t (type_at r t) refl e
+
+pub table_uses_stand : TableUsesStand
+table_uses_stand r o v j u = below-there (length r.interfaces.items) j (used-inside r v u.def j u.interface)

@@ -11,7 +11,7 @@ use Rattle.std.specs.Set.{is_member}
 use Rattle.std.proofs.lemmas.Grind.{flat_map-append}
 use Rattle.std.proofs.lemmas.List.{take_more, take_all, map-append}
 use Rattle.std.proofs.lemmas.List.Elements.{Contains-append_left, Contains-append_right, Contains-append_cases}
-use Rattle.std.proofs.lemmas.List.Sorted.{IsPermutation-sym}
+use Rattle.std.proofs.lemmas.List.Sorted.{IsPermutation-sym, length_permutation}
 use mathlib.Core.Bool.{beq}
 use Rattle.wit_model.specs.Parts.{function_types}
 use Rattle.wit_model.specs.Valid.{IsValid}
@@ -22,7 +22,8 @@ use Rattle.wit_model.specs.declared.model.TypeId.{TypeId}
 use Rattle.wit_model.specs.declared.model.InterfaceId.{InterfaceId}
 use Rattle.wit_model.specs.declared.model.«Type».{«Type» as ValueType}
 use Rattle.wit_model.specs.declared.model.«Type».TheVariants as ty
-use Rattle.comp_bytes.specs.Raw.{Declarations}
+use Rattle.comp_bytes.specs.Raw.{Declaration, Declarations}
+use Rattle.wit_encode.specs.Instance.{DeclaresFew}
 use Rattle.encode_types.specs.Slots.{Pairs}
 use Rattle.encode_types.specs.declared.key.FunctionKey.{FunctionKey}
 use Rattle.encode_types.specs.declared.maps.TypeEncodingMaps.{TypeEncodingMaps}
@@ -185,6 +186,15 @@ module _ (r : Resolve) (own : Option InterfaceId) (types : List TypeId) (fs gs :
 pub permuted-aliases : (r : Resolve) (own : Option InterfaceId) (types : List TypeId) (fs gs : List Function) → IsPermutation fs gs → {a a' : Around} → AliasesMet r own (referred types gs) a a'
     → AliasesMet r own (referred types fs) a a'
 permuted-aliases r own types fs gs p m = met-more (λ n x. (x.0, refers-too r own types fs gs p gs fs (forth r own types fs gs p) x.0 x.1, x.2)) m
+
+pub permuted-few : (r : Resolve) (own : Option InterfaceId) (types : List TypeId) (fs gs : List Function) (ds : List Declaration) → IsPermutation fs gs → DeclaresFew r own types gs ds
+    → DeclaresFew r own types fs ds
+permuted-few r own types fs gs ds p d = record {
+  numbers = d.numbers;
+  apart = d.apart;
+  met = λ n c. let x = d.met n c in (x.0, refers-too r own types fs gs p gs fs (forth r own types fs gs p) x.0 x.1, x.2);
+  few = (let x = d.few in let y = length_permutation fs gs p in omega (arith, x, y));
+}
 
 pub permuted-types : (r : Resolve) (own : Option InterfaceId) (S : Pairs) (types : List TypeId) (fs gs : List Function) (ds : Declarations) → IsPermutation fs gs → DefinesTypes r own S types gs ds
     → DefinesTypes r own S types fs ds

@@ -90,8 +90,6 @@ valid-unnamed r v n def is none =
 
 -- ---- what is well formed
 
--- an entry passes the tests of a rule that is kept
-
 -- a type is a resource where its kind is one, or an alias of one
 pub valid-resource : (r : Resolve) → IsValid r → (n : ℕ) (def : TypeDef) → type_at r n ≡ Some def → is_resource r n ≡ is_resource_kind (is_resource r) def.kind
 valid-resource r v n def at = resource_step r (valid-references r v) n def at

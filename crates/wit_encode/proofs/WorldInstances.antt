@@ -148,6 +148,7 @@ module _ (r : Resolve) (e e' e'' : WorldEncoder) (x : Entry) (i : InterfaceId) (
         function_types = encodes.part.function_types;
         value_types =
             encodes.part.value_types;
+        few = encodes.part.few;
       }
 
   pub interface-few : (es : List Entry) → HoldsFew r e es → HoldsFew r e'' (es ++ x ∷ [])

@@ -10,12 +10,12 @@ use Rattle.comp_bytes.specs.Raw.{Declaration, Declarations, from_list}
 use Rattle.encode_reach.specs.Reach.{reached_in_order}
 use Rattle.encode_types.specs.Distinct.{is_value_type, is_function_type, DefinesTypes}
 use Rattle.wit_encode.specs.DependencyAliases.{HasAliases, IsAskedFor}
-use Rattle.wit_encode.specs.Instance.{IsInstance, count_declared, stands_inside}
+use Rattle.wit_encode.specs.Instance.{DeclaresFew, IsInstance, count_declared, stands_inside}
 use Rattle.wit_encode.specs.Worlds.{instances_declared}
 use Rattle.wit_encode.specs.WorldCounts.{DefinesInterface}
 
 -- An instance type shows the types of its interface in order, and no function. It defines what these types ask for, each once, and no type of a
--- function.
+-- function. It has no more declarations than these types take: so no more outer aliases than types of other interfaces that are met.
 pub record DefinesTypesOf (r : Resolve) (i : ℕ) (declared : Declarations × Declarations) : Type 0 where
   pub def : Interface
   pub there : interface_at r i ≡ Some def
@@ -25,6 +25,7 @@ pub record DefinesTypesOf (r : Resolve) (i : ℕ) (declared : Declarations × De
   pub function_types : count_by is_function_type declarations ≡ 0
   pub value_types : DefinesTypes r (Some (record { 0 = i })) (stands_inside r (record { 0 = i }) declared.0 declarations) (values def.types) []
       (from_list declarations)
+  pub few : DeclaresFew r (Some (record { 0 = i })) (values def.types) [] declarations
 
 -- no type is defined beside the instance types
 pub record DefinesNothing (outer : Declarations) : Type 0 where

@@ -1,6 +1,6 @@
 -- What an encoder of interfaces holds: the component type around, and in it the instance type of the interface that it is encoding.
 -- What has been declared is followed, so each slot stands for what the bytes say.
-use Rattle.std.specs.Prelude.{length, ℕ, ◌≡◌, ◌⊎◌, ◌+◌, ◌++◌, Bool, false, ◌&&◌, List, [], ◌∷◌, map, count_by, Option, Some, None, is_some}
+use Rattle.std.specs.Prelude.{length, ℕ, ◌≡◌, ◌≤◌, ◌⊎◌, ◌+◌, ◌++◌, Bool, false, ◌&&◌, List, [], ◌∷◌, map, count_by, Option, Some, None, is_some}
 use Rattle.std.specs.Option.{option_map_or}
 use Rattle.std.specs.List.{list_all}
 use Rattle.std.specs.Set.{distinct_count}
@@ -31,7 +31,7 @@ use Rattle.wit_model.specs.declared.model.«Type».{«Type» as ValueType}
 use Rattle.wit_model.specs.declared.model.«Type».TheVariants as ty
 use Rattle.comp_bytes.specs.Held.{type_slots_of, fits_added}
 use Rattle.encode_types.specs.Slots.{Pairs}
-use Rattle.encode_types.specs.Room.{Refusals, value_type, function_type, export_name, import_of, LacksRoomBehind}
+use Rattle.encode_types.specs.Room.{Refusals, value_type, function_type, export_name, import_of, LacksRoomBehind, AreApart, numbers_count}
 use Rattle.encode_types.specs.Resources.{Names, is_met_owner, is_named_interface, resource_names}
 pub use Rattle.encode_types.specs.Standing.{standing_at, SlotsStand, is_slot_of}
 use Rattle.encode_types.specs.Known.{Around, GrowsAround, no_around}
@@ -49,7 +49,7 @@ pub use Rattle.encode_types.specs.Distinct.{is_value_type, is_function_type}
 use Rattle.encode_types.specs.Distinct.{key_of, are_same, value_slots, function_slots, targets_of, DefinesKeys, DefinesTypes}
 use Rattle.encode_types.specs.Counts.{Definitions}
 use Rattle.encode_types.specs.Aliases.{AliasesMet}
-use Rattle.encode_types.specs.MetKinds.{referred}
+use Rattle.encode_types.specs.MetKinds.{referred, ReachedFrom}
 
 -- ---- what has been declared in a scope
 
@@ -205,12 +205,9 @@ LacksAlias outer (import_of n) = fits_added outer 1 ≡ false
 abbrev pub lacks_room_in : Resolve → Declarations → Option OpenInterface → Refusals
 lacks_room_in r outer inner request = LacksRoomBehind r (held_in outer inner) request ⊎ LacksAlias outer request
 
--- the types that have been exported, in order, and the functions
+-- the types that have been exported, in order
 abbrev pub exports_in : Resolve → Declarations → Option OpenInterface → List (Text × TypeMeaning)
 exports_in r outer inner = (defined_in r outer inner).exports
-
-abbrev pub shown_functions : Resolve → Declarations → Option OpenInterface → List (Text × FunctionMeaning)
-shown_functions r outer inner = (contents_of r outer inner).shown.functions
 
 -- what is held after a function has been exported: the slots are the same
 pub record ShowsFunction (c c' : Contents) (f : Text × FunctionMeaning) : Type 0 where
@@ -300,10 +297,19 @@ pub record CanEncodeInterface (r : Resolve) (outer : Declarations) (i : Interfac
 abbrev pub stands_inside : Resolve → InterfaceId → Declarations → List Declaration → Pairs
 stands_inside r i outer ds = SlotsStand (inner_contents (place_of r (owner.Interface i)) outer ds).slots
 
+-- There are no more declarations than these types and functions take. That is two for each named type that is met and has a definition of its own:
+-- the definition and its export. It is one for each kind of unnamed types that are met, and one for each other type: an alias of a type of
+-- another interface, or an export. For the functions it is an export each, and the types of functions that are defined.
+pub record DeclaresFew (r : Resolve) (own : Option InterfaceId) (types : List TypeId) (functions : List Function) (declared : List Declaration) : Type 0 where
+  pub numbers : List ℕ
+  pub apart : AreApart r own numbers
+  pub met : (n : ℕ) → Contains numbers n → ReachedFrom r own (referred types functions) n
+  pub few : length declared ≤ numbers_count r own numbers + (count_by is_function_type declared + length functions)
+
 -- Slot k of the component type is new: an instance type that can be followed, and that shows the types of the interface, in order, and these
 -- functions, in order, with what they mean. Before it, nothing has been declared but aliases of types that had none and that the interface's
 -- types and these functions meet. Types of functions and value types are defined as the interface's types and these functions, in any order, ask for, each
--- once, and no others.
+-- once, and no others. There are no more declarations than these take.
 pub record EncodesPart (r : Resolve) (around around' : Around) (i : InterfaceId) (def : Interface) (written : List (Text × Function))
     (functions : List Function) (k : ℕ) : Type 0 where
   pub before : Around
@@ -314,6 +320,7 @@ pub record EncodesPart (r : Resolve) (around around' : Around) (i : InterfaceId)
   pub is_instance : IsInstance r before.declared i declared (map (meaning_of r) written)
   pub function_types : DefinesKeys r (stands_inside r i before.declared declared) functions declared
   pub value_types : DefinesTypes r (Some i) (stands_inside r i before.declared declared) (values def.types) functions (from_list declared)
+  pub few : DeclaresFew r (Some i) (values def.types) functions declared
 
 -- What `EncodesPart` says, of the types of the interface and all its functions: what is shown is the interface.
 pub record EncodesInterface (r : Resolve) (around around' : Around) (i : InterfaceId) (def : Interface) (k : ℕ) : Type 0 where

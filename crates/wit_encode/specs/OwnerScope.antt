@@ -133,3 +133,7 @@ InterfaceUses = (r : Resolve) (i : InterfaceId) (j : ℕ) → IsValid r → i.0 
 -- The scope of a table is that of its owner.
 abbrev pub TableScope : Type 0
 TableScope = (r : Resolve) (o : TypeOwner) → IsValid r → IsScopeOf r o (table_scope r o)
+
+-- In it an instance stands of each interface that the types of the owner use.
+abbrev pub TableUsesStand : Type 0
+TableUsesStand = (r : Resolve) (o : TypeOwner) → IsValid r → UsesStand r o (table_scope r o)

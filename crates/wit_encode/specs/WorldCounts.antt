@@ -22,7 +22,7 @@ use Rattle.encode_names.specs.WorldSteps.{Entry, interfaces_among}
 use Rattle.wit_encode.specs.declared.world.Placed.{Placed}
 use Rattle.wit_encode.specs.DependencyAliases.{IsMetByWhole}
 use Rattle.wit_encode.specs.WorldAliases.{HasAliasesBehind, KeepsAliases}
-use Rattle.wit_encode.specs.Instance.{IsInstance, count_declared, meaning_of, stands_inside, SlotsStand, outer_slots}
+use Rattle.wit_encode.specs.Instance.{DeclaresFew, IsInstance, count_declared, meaning_of, stands_inside, SlotsStand, outer_slots}
 use Rattle.wit_encode.specs.Order.{functions_in_order}
 use Rattle.wit_encode.specs.WorldItems.{entry_of}
 use Rattle.wit_encode.specs.WorldRoom.{functions_among, referred_among, type_ids_among}
@@ -31,7 +31,8 @@ use Rattle.wit_encode.specs.Worlds.{WorldEncoder, world_around, world_definition
 -- ---- what is defined
 
 -- An instance type shows the types of its interface in order, and its functions: those of resources by the order of their resource, then the
--- others. It defines what these types and functions ask for, each once, and nothing else.
+-- others. It defines what these types and functions ask for, each once, and nothing else. It has no more declarations than these take: so no
+-- more outer aliases than types of other interfaces that are met.
 pub record DefinesInterface (r : Resolve) (i : ℕ) (declared : Declarations × Declarations) : Type 0 where
   pub def : Interface
   pub there : interface_at r i ≡ Some def
@@ -41,6 +42,7 @@ pub record DefinesInterface (r : Resolve) (i : ℕ) (declared : Declarations × 
   pub function_types : DefinesKeys r (stands_inside r (record { 0 = i }) declared.0 declarations) (functions_of_interface def) declarations
   pub value_types : DefinesTypes r (Some (record { 0 = i })) (stands_inside r (record { 0 = i }) declared.0 declarations) (values def.types)
       (functions_of_interface def) (from_list declarations)
+  pub few : DeclaresFew r (Some (record { 0 = i })) (values def.types) (functions_of_interface def) declarations
 
 -- what a world asks for that has these imports and exports: what its types and functions meet of interfaces, and what each interface among them does
 abbrev pub IsAskedByWorld : Resolve → List Entry → ℕ → Type 0

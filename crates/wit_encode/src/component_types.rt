@@ -42,7 +42,8 @@ fn import_dependency<'a>(
     ensures closed { encoder.new.inner ≡ None }
     ensures resolve { encoder.new.resolve.now ≡ encoder.old.resolve.now }
     ensures imports { OnOk result (ImportsTypes encoder.old.resolve.now canonical_names (outside encoder.old) (outside encoder.new) interface number) }
-    ensures written { OnOk result (AddsBytes (instance_extent (name_of_interface encoder.old.resolve.now canonical_names interface.0) (types_instance_weight encoder.old.resolve.now interface.0)) encoder.old.outer encoder.new.outer) }
+    ensures written { OnOk result (AddsBytes (instance_extent (name_of_interface encoder.old.resolve.now canonical_names interface.0)
+        (types_instance_weight encoder.old.resolve.now interface.0)) encoder.old.outer encoder.new.outer) }
     ensures size { result ≡ Err Size → LacksImport encoder.old.resolve.now canonical_names (outside encoder.old) interface }
     ensures refuses { IfErr result IsMemoryOrSize }
 {
@@ -70,12 +71,18 @@ fn import_dependencies<'a>(
     ensures closed { encoder.new.inner ≡ None }
     ensures resolve { encoder.new.resolve.now ≡ encoder.old.resolve.now }
     ensures imported { OnOk result (HasImported encoder.old.resolve.now (outside encoder.new) (map (λ id. id.0) interfaces.now)) }
-    ensures held { HoldsImports encoder.old.resolve.now (outside encoder.old) [] → OnOk result (HoldsImports encoder.old.resolve.now (outside encoder.new) (map (λ id. id.0) interfaces.now)) }
-    ensures once { DefinesImports encoder.old.resolve.now encoder.old.outer [] → OnOk result (DefinesImports encoder.old.resolve.now encoder.new.outer (map (λ id. id.0) interfaces.now)) }
-    ensures aliases { HasImportAliases encoder.old.resolve.now (outside encoder.old) [] → OnOk result (HasImportAliases encoder.old.resolve.now (outside encoder.new) (map (λ id. id.0) interfaces.now)) }
-    ensures written { OnOk result (AddsBytes (imports_extent encoder.old.resolve.now canonical_names (map (λ id. id.0) interfaces.now)) encoder.old.outer encoder.new.outer) }
-    ensures named { OnOk result (NamesInterfaces encoder.old.resolve.now canonical_names (map (λ id. id.0) interfaces.now) encoder.old.outer encoder.new.outer) }
-    ensures size { result ≡ Err Size → HoldsImports encoder.old.resolve.now (outside encoder.old) [] → ImportsLackRoom encoder.old.resolve.now (map (λ id. id.0) interfaces.now) }
+    ensures held { HoldsImports encoder.old.resolve.now (outside encoder.old) []
+        → OnOk result (HoldsImports encoder.old.resolve.now (outside encoder.new) (map (λ id. id.0) interfaces.now)) }
+    ensures once { DefinesImports encoder.old.resolve.now encoder.old.outer []
+        → OnOk result (DefinesImports encoder.old.resolve.now encoder.new.outer (map (λ id. id.0) interfaces.now)) }
+    ensures aliases { HasImportAliases encoder.old.resolve.now (outside encoder.old) []
+        → OnOk result (HasImportAliases encoder.old.resolve.now (outside encoder.new) (map (λ id. id.0) interfaces.now)) }
+    ensures written { OnOk result (AddsBytes (imports_extent encoder.old.resolve.now canonical_names (map (λ id. id.0) interfaces.now)) encoder.old.outer
+        encoder.new.outer) }
+    ensures named { OnOk result (NamesInterfaces encoder.old.resolve.now canonical_names (map (λ id. id.0) interfaces.now) encoder.old.outer
+        encoder.new.outer) }
+    ensures size { result ≡ Err Size → HoldsImports encoder.old.resolve.now (outside encoder.old) []
+        → ImportsLackRoom encoder.old.resolve.now (map (λ id. id.0) interfaces.now) }
     ensures refuses { IfErr result IsMemoryOrSize }
 {
     for (number, interface) in interfaces.iter().enumerate() {

@@ -347,7 +347,7 @@ impl<'a> InstanceEncoderOf<'a, TypeEncodingMaps<'a>> {
     ghost use Rattle.std.specs.List.{flat_map};
     ghost use Rattle.wit_encode.specs.Exports.{AreTypesOf, AllKnown, KnowsUsed, UsesListed};
     ghost use Rattle.wit_model.specs.declared.model.«Type».TheVariants as ValueType;
-    ghost use Rattle.wit_encode.specs.Instance.{ShowsFunction, CanEncodeFunction, IsInstance, placed_function, meaning_of, own_of, declarations_in, stands_inside};
+    ghost use Rattle.wit_encode.specs.Instance.{ShowsFunction, CanEncodeFunction, DeclaresFew, IsInstance, placed_function, meaning_of, own_of, declarations_in, stands_inside};
     ghost use Rattle.wit_encode.specs.Encoders.{encoder_view, view_of, contents_in, shown_as, scope_within, outside, GoesOn, ReachesMet, ReachesWhole, ReachesTypes, InstancesStay, UsedAround, EncodesAs, EncodesPlaced, EncodesTypesAs, LacksDependency, LacksInstance, LacksWithin, plain, meanings_of, ShowsAs, ShowsMore, HoldsInside, LacksInside, TypesStay, NamesStay, LearnsInside, WritesInside, DefinesNames, IsEncoding, Begins};
     ghost use Rattle.encode_types.specs.Room.{export_name};
     ghost use Rattle.encode_types.specs.Maps.{MapsGrow};
@@ -445,7 +445,8 @@ impl<'a> InstanceEncoderOf<'a, TypeEncodingMaps<'a>> {
         ensures names_stay { OnOk result (NamesStay resolve.now self.old self.new) }
         ensures held { OnOk result (HoldsInside resolve.now (length functions.now) self.old self.new) }
         ensures written { OnOk result (WritesInside resolve.now (sum_by (function_extent resolve.now) (map placed_function functions.now)) self.old self.new) }
-        ensures size { result ≡ Err Size → LacksInside resolve.now self.old self.new (flat_map function_types (plain functions.now)) (map placed_function functions.now) }
+        ensures size { result ≡ Err Size
+            → LacksInside resolve.now self.old self.new (flat_map function_types (plain functions.now)) (map placed_function functions.now) }
         ensures refuses { IfErr result IsMemoryOrSize }
     {
         for entry in functions {
@@ -503,8 +504,10 @@ impl<'a> InstanceEncoderOf<'a, TypeEncodingMaps<'a>> {
         ensures learns { OnOk result (LearnsInside resolve.now self.old self.new (referred types.now (plain functions.now))) }
         ensures exported { OnOk result ((view_of resolve.now self.new).definitions.exports ≡ declarations_in resolve.now (own_of self.old.inner)) }
         ensures defined { OnOk result (DefinesNames resolve.now (view_of resolve.now self.old) self.old self.new types.now) }
+        ensures held { OnOk result (HoldsInside resolve.now (length functions.now) self.old self.new) }
         ensures written { OnOk result (WritesInside resolve.now (sum_by (function_extent resolve.now) (map placed_function functions.now)) self.old self.new) }
-        ensures size { result ≡ Err Size → LacksInside resolve.now self.old self.new (referred types.now (plain functions.now)) (map placed_function functions.now) }
+        ensures size { result ≡ Err Size
+            → LacksInside resolve.now self.old self.new (referred types.now (plain functions.now)) (map placed_function functions.now) }
         ensures refuses { IfErr result IsMemoryOrSize }
     {
         self.encode_types(alloc, resolve, types)?;
@@ -529,8 +532,11 @@ impl<'a> InstanceEncoderOf<'a, TypeEncodingMaps<'a>> {
         ensures reaches { ReachesMet self.old self.new interface (referred types.now (plain functions.now)) }
         ensures maps { self.new.maps ≡ self.old.maps }
         ensures ok { IfOk result (λ ds. IsInstance self.old.resolve.now self.new.outer interface ds (meanings_of self.old.resolve.now functions.now)) }
-        ensures function_types { IfOk result (λ ds. DefinesKeys self.old.resolve.now (stands_inside self.old.resolve.now interface self.new.outer ds) (plain functions.now) ds) }
-        ensures value_types { IfOk result (λ ds. DefinesTypes self.old.resolve.now (Some interface) (stands_inside self.old.resolve.now interface self.new.outer ds) types.now (plain functions.now) (from_list ds)) }
+        ensures function_types { IfOk result (λ ds. DefinesKeys self.old.resolve.now (stands_inside self.old.resolve.now interface self.new.outer ds)
+            (plain functions.now) ds) }
+        ensures value_types { IfOk result (λ ds. DefinesTypes self.old.resolve.now (Some interface)
+            (stands_inside self.old.resolve.now interface self.new.outer ds) types.now (plain functions.now) (from_list ds)) }
+        ensures few { IfOk result (DeclaresFew self.old.resolve.now (Some interface) types.now (plain functions.now)) }
         ensures written { IfOk result (TakesInside self.old self.new interface types.now functions.now) }
         ensures size { result ≡ Err Size → LacksWithin self.old interface types.now functions.now }
         ensures refuses { IfErr result IsMemoryOrSize }

@@ -4,7 +4,7 @@ ghost use Rattle.encode_types.specs.MetKinds.{MetKindsAreHeld};
 ghost use Rattle.wit_encode.specs.RoomLaws.{LackingInterfacesAreHeavy};
 ghost use Rattle.wit_encode.specs.Dependencies.{AliasesLeaveImports, ExportsEnd, ImportsGrow, ImportsStand, NothingIsImported};
 ghost use Rattle.wit_encode.specs.Extents.{BytesAreFew, ComponentsAreLight, DependenciesAreLight, FunctionsAreLight, InstancesAreLight, TypesAreLight, WorldsAreLight};
-ghost use Rattle.wit_encode.specs.OwnerScope.{FunctionsEncode, FunctionsUse, InterfaceUses, NamesEncode, TableScope, TypesEncode, TypesUse};
+ghost use Rattle.wit_encode.specs.OwnerScope.{FunctionsEncode, FunctionsUse, InterfaceUses, NamesEncode, TableScope, TableUsesStand, TypesEncode, TypesUse};
 ghost use Rattle.wit_encode.specs.WorldRoom.{LackingWorldsAreHeavy};
 ghost use Rattle.wit_encode.specs.WorldUses.{ItemsMeetStanding};
 
@@ -33,9 +33,11 @@ pub fn interface_uses_dependencies()
     ensures { InterfaceUses }
 {}
 
-/// The scope of a table is that of its owner.
+/// The scope of a table is that of its owner, and of each interface that the types of the owner use an instance stands in it. So the types and
+/// the functions of the owner can be encoded over a table.
 pub fn table_scope_is_of_owner()
-    ensures { TableScope }
+    ensures scope { TableScope }
+    ensures uses { TableUsesStand }
 {}
 
 /// Maps that were empty, and have learnt what is met from some types and nothing else, hold the kinds of the unnamed types that are met,

@@ -215,7 +215,8 @@ impl<'a> WorldEncoderOf<'a, TypeEncodingMaps<'a>> {
         ensures ok { OnOk result (Encodes resolve.now self.old self.new placed.entry) }
         ensures once { OnOk result (Defines resolve.now self.old self.new placed.entry) }
         ensures few { OnOk result (HoldsOn resolve.now self.old self.new placed.entry) }
-        ensures written { OnOk result (AddsLearnt resolve.now (items_extent resolve.now placed.entry.canonical_names (entry_of placed.entry ∷ [])) self.old.maps self.new.maps self.old.outer self.new.outer) }
+        ensures written { OnOk result (AddsLearnt resolve.now (items_extent resolve.now placed.entry.canonical_names (entry_of placed.entry ∷ [])) self.old.maps
+            self.new.maps self.old.outer self.new.outer) }
         ensures size { result ≡ Err Size → LacksWorldRoom resolve.now self.old placed.entry }
         ensures names { OnOk result (NamesMore resolve.now placed.entry.canonical_names (entry_of placed.entry ∷ []) self.old.outer self.new.outer) }
         ensures refuses { IfErr result IsMemoryOrSize }
@@ -246,7 +247,8 @@ impl<'a> WorldEncoderOf<'a, TypeEncodingMaps<'a>> {
         ensures ok { OnOk result (Encodes resolve.now self.old self.new placed.entry) }
         ensures once { OnOk result (Defines resolve.now self.old self.new placed.entry) }
         ensures few { OnOk result (HoldsOn resolve.now self.old self.new placed.entry) }
-        ensures written { OnOk result (AddsLearnt resolve.now (items_extent resolve.now placed.entry.canonical_names (entry_of placed.entry ∷ [])) self.old.maps self.new.maps self.old.outer self.new.outer) }
+        ensures written { OnOk result (AddsLearnt resolve.now (items_extent resolve.now placed.entry.canonical_names (entry_of placed.entry ∷ [])) self.old.maps
+            self.new.maps self.old.outer self.new.outer) }
         ensures size { result ≡ Err Size → LacksWorldRoom resolve.now self.old placed.entry }
         ensures names { OnOk result (NamesMore resolve.now placed.entry.canonical_names (entry_of placed.entry ∷ []) self.old.outer self.new.outer) }
         ensures refuses { IfErr result IsMemoryOrSize }
@@ -334,7 +336,8 @@ impl<'a> WorldEncoderOf<'a, TypeEncodingMaps<'a>> {
         ensures ok { OnOk result (Encodes resolve.now self.old self.new placed.entry) }
         ensures once { OnOk result (Defines resolve.now self.old self.new placed.entry) }
         ensures few { OnOk result (HoldsOn resolve.now self.old self.new placed.entry) }
-        ensures written { OnOk result (AddsLearnt resolve.now (items_extent resolve.now placed.entry.canonical_names (entry_of placed.entry ∷ [])) self.old.maps self.new.maps self.old.outer self.new.outer) }
+        ensures written { OnOk result (AddsLearnt resolve.now (items_extent resolve.now placed.entry.canonical_names (entry_of placed.entry ∷ [])) self.old.maps
+            self.new.maps self.old.outer self.new.outer) }
         ensures size { result ≡ Err Size → LacksWorldRoom resolve.now self.old placed.entry }
         ensures names { OnOk result (NamesMore resolve.now placed.entry.canonical_names (entry_of placed.entry ∷ []) self.old.outer self.new.outer) }
         ensures refuses { IfErr result IsMemoryOrSize }
@@ -364,7 +367,8 @@ impl<'a> WorldEncoderOf<'a, TypeEncodingMaps<'a>> {
         ensures ok { OnOk result (Encodes resolve.now self.old self.new placed.entry) }
         ensures once { OnOk result (Defines resolve.now self.old self.new placed.entry) }
         ensures few { OnOk result (HoldsOn resolve.now self.old self.new placed.entry) }
-        ensures written { OnOk result (AddsLearnt resolve.now (items_extent resolve.now placed.entry.canonical_names (entry_of placed.entry ∷ [])) self.old.maps self.new.maps self.old.outer self.new.outer) }
+        ensures written { OnOk result (AddsLearnt resolve.now (items_extent resolve.now placed.entry.canonical_names (entry_of placed.entry ∷ [])) self.old.maps
+            self.new.maps self.old.outer self.new.outer) }
         ensures size { result ≡ Err Size → LacksWorldRoom resolve.now self.old placed.entry }
         ensures names { OnOk result (NamesMore resolve.now placed.entry.canonical_names (entry_of placed.entry ∷ []) self.old.outer self.new.outer) }
         ensures refuses { IfErr result IsMemoryOrSize }
@@ -390,7 +394,8 @@ impl<'a> WorldEncoderOf<'a, TypeEncodingMaps<'a>> {
         ensures ok { OnOk result (EncodesAll resolve.now self.old self.new (towards direction)) }
         ensures once { OnOk result (DefinesAll resolve.now self.old self.new items.now.entries) }
         ensures few { OnOk result (HoldsAll resolve.now self.old self.new items.now.entries) }
-        ensures written { OnOk result (AddsLearnt resolve.now (items_extent resolve.now canonical_names items.now.entries) self.old.maps self.new.maps self.old.outer self.new.outer) }
+        ensures written { OnOk result (AddsLearnt resolve.now (items_extent resolve.now canonical_names items.now.entries) self.old.maps self.new.maps
+            self.old.outer self.new.outer) }
         ensures size { result ≡ Err Size → LacksRoomTowards resolve.now self.old (towards direction) }
         ensures names { OnOk result (NamesMore resolve.now canonical_names items.now.entries self.old.outer self.new.outer) }
         ensures refuses { IfErr result IsMemoryOrSize }

@@ -12,10 +12,10 @@ pub record Tells {X V : Type 0} (D : X → Type 0) (f g : X → List Token) (v w
 pub record TellsToken {X V : Type 0} (D : X → Type 0) (f g : X → Token) (v w : X → V) : Type 0 where
   pub same : (x y : X) → D x → D y → f x ≡ g y → v x ≡ w y
 
-pair_same : {V W : Type 0} {a b : V} {c d : W} → a ≡ b → c ≡ d → ◌≡◌ {A = V × W} (a, c) (b, d)
+pub pair_same : {V W : Type 0} {a b : V} {c d : W} → a ≡ b → c ≡ d → ◌≡◌ {A = V × W} (a, c) (b, d)
 pair_same p q = cc
 
-cons_same : {A : Type 0} {a c : A} {xs ys : List A} → a ≡ c → xs ≡ ys → a ∷ xs ≡ c ∷ ys
+pub cons_same : {A : Type 0} {a c : A} {xs ys : List A} → a ≡ c → xs ≡ ys → a ∷ xs ≡ c ∷ ys
 cons_same p q = cc
 
 pub tells_token : {X V : Type 0} {D : X → Type 0} {f g : X → Token} {v w : X → V} → TellsToken D f g v w → Tells D (λ x. f x ∷ []) (λ x. g x ∷ []) v w

@@ -1,6 +1,6 @@
 -- What a `Resolve` says without documentation and stability: four lists, each entry with its names, its numbers and its parts in order.
 -- An entry that belongs to another stands there by its number, and an import or an export under its label or its path. The keys of other maps are left
--- out: in a valid `Resolve` the key of an entry is its name.
+-- out: in a valid `Resolve` the key of an entry is its name (`Keys`).
 use Rattle.std.specs.Prelude.{ℕ, List, [], ◌∷◌, map, codes, Option, Some, None}
 use Rattle.indexmap.specs.IndexMap.{values}
 use Rattle.wit_model.specs.declared.model.Resolve.{Resolve}

@@ -13,7 +13,7 @@ use wit_samples::drafts::{
 };
 use wit_samples::kinds::{id, own_of};
 
-const A_WORLD: &str = "{\"format\":1,\
+pub(super) const A_WORLD: &str = "{\"format\":1,\
     \"packages\":[{\"namespace\":\"a\",\"name\":\"b\",\"version\":\"1.2.3\",\"interfaces\":[0],\"worlds\":[0]},\
     {\"namespace\":\"c\",\"name\":\"d\",\"version\":null,\"interfaces\":[],\"worlds\":[]}],\
     \"worlds\":[{\"name\":\"w\",\"package\":0,\"imports\":[\
@@ -68,16 +68,21 @@ fn add_items(alloc: Global, resolve: &mut Resolve) -> Result<(), AllocError> {
     export(alloc, resolve, "g", WorldItem::Function(g))
 }
 
-// Paths have their versions, and texts are escaped.
-#[test]
-fn a_world_with_items(rt: HostRuntime) -> Result<(), Fail> {
-    let alloc = rt.alloc();
+pub(super) fn a_world(alloc: Global) -> Result<Resolve, AllocError> {
     let mut resolve = draft(alloc)?;
     set_version(&mut resolve, 0, 1, 2, 3);
     add_package(alloc, &mut resolve, "c", "d")?;
     add_types(alloc, &mut resolve)?;
     add_members(alloc, &mut resolve)?;
     add_items(alloc, &mut resolve)?;
+    Ok(resolve)
+}
+
+// Paths have their versions, and texts are escaped.
+#[test]
+fn a_world_with_items(rt: HostRuntime) -> Result<(), Fail> {
+    let alloc = rt.alloc();
+    let resolve = a_world(alloc)?;
     let text = world_listing(alloc, &resolve, WorldId(0))?;
     assert_eq!(rt; text.as_str(), A_WORLD);
     Ok(())

@@ -46,8 +46,6 @@ module _ (r : Resolve) (v : IsValid r) (n : ℕ) (w : World) (there : world_at r
   pub world-carried : bytes ≡ component_bytes (sections_of_parts (encoding_part e ∷ one_exported 0 (text_of w.name, ds))) → CarriesWorld r canonical n e bytes
   world-carried are = record { world = w; there = there; home = home; declared = ds; wraps = wraps; are = are; spelled = spelled }
 
--- two facts of one result
-
 -- ---- what is built
 
 -- the wrapper of a world, for the package that the world has

@@ -66,7 +66,8 @@ user_stands r n m h = by (interface_at r n) refl
   where
     by : (o : Option Interface) → interface_at r n ≡ o → (i : Interface) × (interface_at r n ≡ Some i)
     by (Some i) is = (i, is)
-    by None none = absurd (let nothing : has (filter (λ k. not (k == n)) (once [])) m ≡ true = sym (ap (λ o. has (filter (λ k. not (k == n)) (once (option_map_or (interfaces_used_by r) o []))) m) none) ∙ h in cc)
+    by None none = absurd (let nothing : has (filter (λ k. not (k == n)) (once [])) m ≡ true =
+        sym (ap (λ o. has (filter (λ k. not (k == n)) (once (option_map_or (interfaces_used_by r) o []))) m) none) ∙ h in cc)
 
 pub uses_fall : UsesFall
 uses_fall r v n m h =

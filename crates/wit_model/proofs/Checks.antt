@@ -81,7 +81,8 @@ get_before (y ∷ ys) x zero h = refl
 get_before (y ∷ ys) x (suc n) h = get_before ys x n (omega (arith, h))
 
 -- One more entry of a table that holds what f says of each number. The default d stands past the end.
-pub table_more : {X : Type 0} (d : X) (f : ℕ → X) (xs : List X) (x : X) (k : ℕ) → length xs ≡ k → ((n : ℕ) → n < k → unwrap_or (slice_get xs n) d ≡ f n) → x ≡ f k → (n : ℕ) → n < k + 1 → unwrap_or (slice_get (xs ++ x ∷ []) n) d ≡ f n
+pub table_more : {X : Type 0} (d : X) (f : ℕ → X) (xs : List X) (x : X) (k : ℕ) → length xs ≡ k → ((n : ℕ) → n < k → unwrap_or (slice_get xs n) d ≡ f n) → x ≡ f k → (n : ℕ) → n < k + 1
+    → unwrap_or (slice_get (xs ++ x ∷ []) n) d ≡ f n
 table_more d f xs x k len all last n h =
     below_or_past (λ m. m < k + 1 → unwrap_or (slice_get (xs ++ x ∷ []) m) d ≡ f m) k
     (λ m low within. ap (λ o. unwrap_or o d) (get_before xs x m (omega (arith, len, low))) ∙ all m low)

@@ -31,7 +31,8 @@ cut_found : (c : ℕ) (xs : Text) → position_or_len (λ y. eqb y c) xs < lengt
 cut_found c [] h = absurd (omega (arith, h))
 cut_found c (x ∷ xs) h = by (x == c) refl (cut_found c xs)
   where
-    by : (b : Bool) → (x == c) ≡ b → (position_or_len (λ y. eqb y c) xs < length xs → cut c xs ≡ Some (before_first (λ y. eqb y c) xs, after_first (λ y. eqb y c) xs)) → cut c (x ∷ xs) ≡ Some (before_first (λ y. eqb y c) (x ∷ xs), after_first (λ y. eqb y c) (x ∷ xs))
+    by : (b : Bool) → (x == c) ≡ b → (position_or_len (λ y. eqb y c) xs < length xs → cut c xs ≡ Some (before_first (λ y. eqb y c) xs, after_first (λ y. eqb y c) xs))
+        → cut c (x ∷ xs) ≡ Some (before_first (λ y. eqb y c) (x ∷ xs), after_first (λ y. eqb y c) (x ∷ xs))
     by true e rest = cut_more c x xs true e ∙ (λ i. Some (sym (before_more c x xs true e) i, sym (after_more c x xs true e) i))
     by false e rest =
         let place = place_more c x xs false e in
@@ -51,7 +52,8 @@ cut_nowhere c (x ∷ xs) h = by (x == c) refl (cut_nowhere c xs)
 
 -- what splits a text at the first place of a character cuts it
 pub split_cuts : (c : ℕ) (text : Text) (r : Option (Bor (List ℕ) × Bor (List ℕ)))
-    → MatchOption r (position_or_len (λ b. eqb b c) text ≡ length text) (λ x. (position_or_len (λ b. eqb b c) text < length text) × (x.0.now ≡ before_first (λ b. eqb b c) text) × (x.1.now ≡ after_first (λ b. eqb b c) text))
+    → MatchOption r (position_or_len (λ b. eqb b c) text ≡ length text) (λ x. (position_or_len (λ b. eqb b c) text < length text) × (x.0.now ≡ before_first (λ b. eqb b c) text)
+    × (x.1.now ≡ after_first (λ b. eqb b c) text))
     → option_map (λ x. (x.0.now, x.1.now)) r ≡ cut c text
 split_cuts c text None h = sym (cut_nowhere c text h)
 split_cuts c text (Some x) h =

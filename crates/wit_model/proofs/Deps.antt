@@ -10,7 +10,8 @@ filter_twice : (p q : ℕ → Bool) (ns : List ℕ) → filter p (filter q ns) �
 filter_twice p q [] = refl
 filter_twice p q (n ∷ ns) = go (filter_twice p q ns) (q n)
   where
-    go : filter p (filter q ns) ≡ filter (λ m. q m && p m) ns → (b : Bool) → filter p (cond b (n ∷ filter q ns) (filter q ns)) ≡ cond (b && p n) (n ∷ filter (λ m. q m && p m) ns) (filter (λ m. q m && p m) ns)
+    go : filter p (filter q ns) ≡ filter (λ m. q m && p m) ns → (b : Bool)
+        → filter p (cond b (n ∷ filter q ns) (filter q ns)) ≡ cond (b && p n) (n ∷ filter (λ m. q m && p m) ns) (filter (λ m. q m && p m) ns)
     go rest true = ap (λ xs. cond (p n) (n ∷ xs) xs) rest
     go rest false = rest
 

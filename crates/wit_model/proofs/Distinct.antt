@@ -52,7 +52,8 @@ module _ {K : Type 0} (same : K → K → Bool) where
     turn : i < length xs → x ≡ get_or xs i x → now k ≡ f x → adds_new (map now ks) (drop i (map f xs)) ≡ (not is_among && adds_new (map now ks ++ now k ∷ []) (drop (i + 1) (map f xs)))
     turn h is e =
         let here : drop i (map f xs) ≡ now k ∷ drop (i + 1) (map f xs) =
-        drop-map f i xs ∙ (ap (map f) (drop_more xs i x h) ∙ (ap (λ z. f z ∷ map f (drop (i + 1) xs)) (sym is) ∙ (ap (λ t. t ∷ map f (drop (i + 1) xs)) (sym e) ∙ ap (λ ts. now k ∷ ts) (sym (drop-map f (i + 1) xs))))) in
+        drop-map f i xs ∙ (ap (map f) (drop_more xs i x h) ∙ (ap (λ z. f z ∷ map f (drop (i + 1) xs)) (sym is)
+        ∙ (ap (λ t. t ∷ map f (drop (i + 1) xs)) (sym e) ∙ ap (λ ts. now k ∷ ts) (sym (drop-map f (i + 1) xs))))) in
         ap (adds_new (map now ks)) here
         ∙ ap (λ b. not b && adds_new (map now ks ++ now k ∷ []) (drop (i + 1) (map f xs))) (list_any_mapped (same (now k)) now ks)
 
@@ -60,14 +61,17 @@ module _ {K : Type 0} (same : K → K → Bool) where
     one_key new fresh added = ap (map now) (added ∙ ap (λ b. cond b ks (ks ++ k ∷ [])) fresh) ∙ map-append now ks (k ∷ [])
 
     -- the keys that were seen, with one that is new
-    pub seen_turn : (new : List B) (r : Bool) → i < length xs → x ≡ get_or xs i x → now k ≡ f x → r ≡ not is_among → r ≡ true → new ≡ cond is_among ks (ks ++ k ∷ []) → map now ks ≡ take i (map f xs) → map now new ≡ take (i + 1) (map f xs)
+    pub seen_turn : (new : List B) (r : Bool) → i < length xs → x ≡ get_or xs i x → now k ≡ f x → r ≡ not is_among → r ≡ true → new ≡ cond is_among ks (ks ++ k ∷ []) → map now ks ≡ take i (map f xs)
+        → map now new ≡ take (i + 1) (map f xs)
     seen_turn new r h is e tells new_one added before =
         let more : take (i + 1) (map f xs) ≡ take i (map f xs) ++ now k ∷ [] =
-        take-map f (i + 1) xs ∙ (ap (map f) (take_more xs i x h) ∙ (map-append f (take i xs) (get_or xs i x ∷ []) ∙ (ap (λ z. map f (take i xs) ++ f z ∷ []) (sym is) ∙ (ap (λ t. map f (take i xs) ++ t ∷ []) (sym e) ∙ ap (λ ts. ts ++ now k ∷ []) (sym (take-map f i xs)))))) in
+        take-map f (i + 1) xs ∙ (ap (map f) (take_more xs i x h) ∙ (map-append f (take i xs) (get_or xs i x ∷ [])
+        ∙ (ap (λ z. map f (take i xs) ++ f z ∷ []) (sym is) ∙ (ap (λ t. map f (take i xs) ++ t ∷ []) (sym e) ∙ ap (λ ts. ts ++ now k ∷ []) (sym (take-map f i xs)))))) in
         one_key new (not_is is_among true (sym tells ∙ new_one)) added ∙ (ap (λ ts. ts ++ now k ∷ []) before ∙ sym more)
 
     -- a key that is new
-    pub new_turn : (new : List B) (r v : Bool) → i < length xs → x ≡ get_or xs i x → now k ≡ f x → r ≡ not is_among → r ≡ true → new ≡ cond is_among ks (ks ++ k ∷ []) → adds_new (map now ks) (drop i (map f xs)) ≡ v → adds_new (map now new) (drop (i + 1) (map f xs)) ≡ v
+    pub new_turn : (new : List B) (r v : Bool) → i < length xs → x ≡ get_or xs i x → now k ≡ f x → r ≡ not is_among → r ≡ true → new ≡ cond is_among ks (ks ++ k ∷ [])
+        → adds_new (map now ks) (drop i (map f xs)) ≡ v → adds_new (map now new) (drop (i + 1) (map f xs)) ≡ v
     new_turn new r v h is e tells new_one added before =
         let fresh : is_among ≡ false = not_is is_among true (sym tells ∙ new_one) in
         ap (λ ts. adds_new ts (drop (i + 1) (map f xs))) (one_key new fresh added)

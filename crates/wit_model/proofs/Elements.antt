@@ -14,7 +14,8 @@ use Rattle.base_lemmas.proofs.Numbers.{equal, same-number}
 pub filter_map_one : {X Y : Type 0} (h : X → Option Y) (x : X) → filter_map h (x ∷ []) ≡ option_to_list (h x)
 filter_map_one h x = elim (h x) as (λ o. filter_map (λ y. o) (x ∷ []) ≡ option_to_list o) [ None ↦ refl | Some y ↦ refl ]
 
-pub filter_map_more : {X Y : Type 0} (h : X → Option Y) (xs : List X) (i : ℕ) (x : X) → i < length xs → x ≡ get_or xs i x → filter_map h (take (i + 1) xs) ≡ filter_map h (take i xs) ++ option_to_list (h x)
+pub filter_map_more : {X Y : Type 0} (h : X → Option Y) (xs : List X) (i : ℕ) (x : X) → i < length xs → x ≡ get_or xs i x
+    → filter_map h (take (i + 1) xs) ≡ filter_map h (take i xs) ++ option_to_list (h x)
 filter_map_more h xs i x l e =
     ap (filter_map h) (take_more xs i x l) ∙ filter_map-append h (take i xs) (get_or xs i x ∷ [])
     ∙ ap (λ ys. filter_map h (take i xs) ++ ys) (filter_map_one h (get_or xs i x) ∙ ap (λ y. option_to_list (h y)) (sym e))
@@ -44,7 +45,8 @@ zip-push R (a ∷ xs) [] x y h r = absurd h
 zip-push R (a ∷ xs) (b ∷ ys) x y h r = (h.0, zip-push R xs ys x y h.1 r)
 
 -- the loop over the second list
-pub zip-more : {A B : Type 0} (R : A → B → Type 0) (xs : List A) (ys : List B) (i : ℕ) (x : A) (y : B) → i < length ys → y ≡ get_or ys i y → AllZip R xs (take i ys) → R x y → AllZip R (xs ++ x ∷ []) (take (i + 1) ys)
+pub zip-more : {A B : Type 0} (R : A → B → Type 0) (xs : List A) (ys : List B) (i : ℕ) (x : A) (y : B) → i < length ys → y ≡ get_or ys i y → AllZip R xs (take i ys) → R x y
+    → AllZip R (xs ++ x ∷ []) (take (i + 1) ys)
 zip-more R xs ys i x y l e h r =
     subst (λ (zs : List _). AllZip R (xs ++ x ∷ []) zs) (ap (λ z. take i ys ++ z ∷ []) e ∙ sym (take_more ys i y l)) (zip-push R xs (take i ys) x y h r)
 
@@ -62,8 +64,6 @@ item-at xs ys i x d s l e = ap (λ zs. get_or zs i d) (sym s) ∙ get_or_default
 pub some-from : {X : Type 0} (P : X → Type 0) (o : Option X) → is_some o ≡ true → IfSome o P → (x : X) × P x
 some-from P None e h = absurd (let z : ⊥ = cc in z)
 some-from P (Some x) e h = (x, h)
-
--- ---- places
 
 -- ---- elements
 

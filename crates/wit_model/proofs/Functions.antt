@@ -13,7 +13,8 @@ use Rattle.wit_model.specs.Valid.{item_function}
 use Rattle.wit_model.proofs.Lists.{list_all_filter_map}
 use Rattle.std.proofs.lemmas.List.Concat.{flat_map-append as flat_append}
 
-pub of_items : (f : Function → List ℕ) (xs ys : List WorldItem) → flat_map f (filter_map item_function (xs ++ ys)) ≡ flat_map f (filter_map item_function xs) ++ flat_map f (filter_map item_function ys)
+pub of_items : (f : Function → List ℕ) (xs ys : List WorldItem)
+    → flat_map f (filter_map item_function (xs ++ ys)) ≡ flat_map f (filter_map item_function xs) ++ flat_map f (filter_map item_function ys)
 of_items f xs ys = ap (flat_map f) (filter_map-append item_function xs ys) ∙ flat_append f (filter_map item_function xs) (filter_map item_function ys)
 
 -- a test of all that is given is a test of each

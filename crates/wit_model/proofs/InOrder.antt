@@ -85,7 +85,8 @@ module _ {K V : Type 0} (test : K → Bool) (num : V → Option ℕ) (m : ℕ) w
       either true e h = has_given m (num x.1) (filter_map num (values_of xs)) e
       either false e h = has_other m (num x.1) (filter_map num (values_of xs)) e ∙ h
 
-      go : (found xs ≡ true → has (filter_map num (values_of xs)) m ≡ true) → (b : Bool) → test x.0 ≡ b → is_id m (option_and_then num (cond b (Some x.1) (lookup test xs))) ≡ true → has (cons_option (num x.1) (filter_map num (values_of xs))) m ≡ true
+      go : (found xs ≡ true → has (filter_map num (values_of xs)) m ≡ true) → (b : Bool) → test x.0 ≡ b → is_id m (option_and_then num (cond b (Some x.1) (lookup test xs))) ≡ true
+          → has (cons_option (num x.1) (filter_map num (values_of xs))) m ≡ true
       go rest true t g = has_given m (num x.1) (filter_map num (values_of xs)) g
       go rest false t g = either (is_id m (num x.1)) refl (rest g)
 
@@ -94,7 +95,8 @@ module _ {K V : Type 0} (test : K → Bool) (num : V → Option ℕ) (m : ℕ) w
   found_place [] f = let wrong : ⊥ = cc in absurd wrong
   found_place (x ∷ xs) f = go (found_place xs) (test x.0) refl f
     where
-      go : (found xs ≡ true → place xs < length (keys_of xs)) → (b : Bool) → test x.0 ≡ b → is_id m (option_and_then num (cond b (Some x.1) (lookup test xs))) ≡ true → place (x ∷ xs) < length (keys_of (x ∷ xs))
+      go : (found xs ≡ true → place xs < length (keys_of xs)) → (b : Bool) → test x.0 ≡ b → is_id m (option_and_then num (cond b (Some x.1) (lookup test xs))) ≡ true
+          → place (x ∷ xs) < length (keys_of (x ∷ xs))
       go rest true t g = let here : place (x ∷ xs) ≡ 0 = ap (λ b. cond (not b) (1 + place xs) 0) t in omega (arith, here)
       go rest false t g = let next : place (x ∷ xs) ≡ 1 + place xs = ap (λ b. cond (not b) (1 + place xs) 0) t in omega (arith, next, rest g)
 

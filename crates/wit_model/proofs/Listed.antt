@@ -102,7 +102,8 @@ module _ {K V : Type 0} (test : K → Bool) (num : V → Option ℕ) (n : ℕ) w
     fit_once [] apart fit found = let wrong : ⊥ = cc in absurd wrong
     fit_once (x ∷ xs) apart fit found = go (fit_once xs apart.1 (second_true _ _ fit)) (test x.0) refl found (first_true _ _ fit)
       where
-        go : (is_found xs ≡ true → times xs ≡ 1) → (b : Bool) → test x.0 ≡ b → is_id n (option_and_then num (cond b (Some x.1) (lookup test xs))) ≡ true → (not (is_id n (num x.1)) || b) ≡ true → times (x ∷ xs) ≡ 1
+        go : (is_found xs ≡ true → times xs ≡ 1) → (b : Bool) → test x.0 ≡ b → is_id n (option_and_then num (cond b (Some x.1) (lookup test xs))) ≡ true → (not (is_id n (num x.1)) || b) ≡ true
+            → times (x ∷ xs) ≡ 1
         go rest true t f h = omega (arith, times_more x xs, given_yes n (num x.1) f, none_left x.0 t xs apart.0 (second_true _ _ fit))
         go rest false t f h = omega (arith, times_more x xs, given_no n (num x.1) (unfit (is_id n (num x.1)) h), rest f)
           where
@@ -114,7 +115,8 @@ pub place_of_found : {X : Type 0} (p : X → Bool) (xs : List X) (x : X) → fin
 place_of_found p [] x e = no_some x e
 place_of_found p (y ∷ ys) x e = go (place_of_found p ys x) (p y) refl e
   where
-    go : (find p ys ≡ Some x → (q : ℕ) × (slice_get ys q ≡ Some x) × (p x ≡ true)) → (b : Bool) → p y ≡ b → cond b (Some y) (find p ys) ≡ Some x → (q : ℕ) × (slice_get (y ∷ ys) q ≡ Some x) × (p x ≡ true)
+    go : (find p ys ≡ Some x → (q : ℕ) × (slice_get ys q ≡ Some x) × (p x ≡ true)) → (b : Bool) → p y ≡ b → cond b (Some y) (find p ys) ≡ Some x → (q : ℕ) × (slice_get (y ∷ ys) q ≡ Some x)
+        × (p x ≡ true)
     go rest true h f = (0, f, subst (λ z. p z ≡ true) (some_same y x f) h)
     go rest false h f = let more = rest f in (suc more.0, more.1, more.2)
 

@@ -75,19 +75,23 @@ module _ (r : Resolve) (n : ℕ) (def : TypeDef) (name : String Global) (is : ty
   once_more false m h = refl
   once_more true m h = sym (ap (λ k. k == 1) (h refl))
 
-  listed_in_interface : (i : Interface) → IsUnique string_eq i.types → list_all (λ e. has_name r (λ x. text_eq x (text_of e.0)) e.1.0) i.types.entries ≡ true → is_id n (option_map (λ id. id.0) (get_by_text i.types (text_of name))) ≡ is_listed_in_interface n (text_of name) i
+  listed_in_interface : (i : Interface) → IsUnique string_eq i.types → list_all (λ e. has_name r (λ x. text_eq x (text_of e.0)) e.1.0) i.types.entries ≡ true
+      → is_id n (option_map (λ id. id.0) (get_by_text i.types (text_of name))) ≡ is_listed_in_interface n (text_of name) i
   listed_in_interface i unique fits =
       once_more (is_id n (option_map (λ id. id.0) (get_by_text i.types (text_of name)))) (count_by (λ m. m == n) (interface_type_numbers i)) (λ found.
       ap (count_by (λ m. m == n)) (sym (given_all (values_of i.types.entries)))
       ∙ fit_once (λ k. bytes_eq (text_of name) (string_bytes k)) (λ id. Some id.0) n string_eq text_joins i.types.entries unique
-      (all_imply (λ e. has_name r (λ x. text_eq x (text_of e.0)) e.1.0) (λ e. not (is_id n (Some e.1.0)) || bytes_eq (text_of name) (string_bytes e.0)) (λ e. entry_fits (λ x. text_eq x (text_of e.0)) e.1.0) i.types.entries fits)
+      (all_imply (λ e. has_name r (λ x. text_eq x (text_of e.0)) e.1.0) (λ e. not (is_id n (Some e.1.0)) || bytes_eq (text_of name) (string_bytes e.0))
+      (λ e. entry_fits (λ x. text_eq x (text_of e.0)) e.1.0) i.types.entries fits)
       (ap (is_id n) (given_found (get_by_text i.types (text_of name))) ∙ found))
 
-  listed_in_world : (w : World) → IsUnique key_eq w.imports → list_all (λ e. passes (has_name r (key_fits e.0)) (item_type e.1)) w.imports.entries ≡ true → is_id n (option_and_then item_type (get_by (is_name_key (text_of name)) w.imports)) ≡ is_listed_in_world n (text_of name) w
+  listed_in_world : (w : World) → IsUnique key_eq w.imports → list_all (λ e. passes (has_name r (key_fits e.0)) (item_type e.1)) w.imports.entries ≡ true
+      → is_id n (option_and_then item_type (get_by (is_name_key (text_of name)) w.imports)) ≡ is_listed_in_world n (text_of name) w
   listed_in_world w unique fits =
       once_more (is_id n (option_and_then item_type (get_by (is_name_key (text_of name)) w.imports))) (count_by (λ m. m == n) (world_type_numbers w))
       (fit_once (is_name_key (text_of name)) item_type n key_eq key_joins w.imports.entries unique
-      (all_imply (λ e. passes (has_name r (key_fits e.0)) (item_type e.1)) (λ e. not (is_id n (item_type e.1)) || is_name_key (text_of name) e.0) (λ e. item_entry_fits (key_fits e.0) (item_type e.1)) w.imports.entries fits))
+      (all_imply (λ e. passes (has_name r (key_fits e.0)) (item_type e.1)) (λ e. not (is_id n (item_type e.1)) || is_name_key (text_of name) e.0) (λ e. item_entry_fits (key_fits e.0) (item_type e.1))
+      w.imports.entries fits))
 
   -- one that its owner's list finds stands there once
   pub listed_found : HasDistinctKeys r → Keeps names_fit r → (o : TypeOwner) → is_found r n (text_of name) o ≡ is_listed r n (text_of name) o
@@ -95,12 +99,14 @@ module _ (r : Resolve) (n : ℕ) (def : TypeDef) (name : String Global) (is : ty
   listed_found distinct fit owner.None = refl
   listed_found distinct fit (owner.Interface id) = go (interface_at r id.0) refl
     where
-      go : (o : Option Interface) → interface_at r id.0 ≡ o → passes (λ i. is_id n (option_map (λ id. id.0) (get_by_text i.types (text_of name)))) o ≡ passes (is_listed_in_interface n (text_of name)) o
+      go : (o : Option Interface) → interface_at r id.0 ≡ o
+          → passes (λ i. is_id n (option_map (λ id. id.0) (get_by_text i.types (text_of name)))) o ≡ passes (is_listed_in_interface n (text_of name)) o
       go None e = refl
       go (Some i) e = listed_in_interface i (distinct.interfaces id.0 i e).0 (each_from_at (names_fit.interface_ r) 0 r.interfaces.items id.0 i (lists_pass names_fit r fit).1 e)
   listed_found distinct fit (owner.World id) = go (world_at r id.0) refl
     where
-      go : (o : Option World) → world_at r id.0 ≡ o → passes (λ w. is_id n (option_and_then item_type (get_by (is_name_key (text_of name)) w.imports))) o ≡ passes (is_listed_in_world n (text_of name)) o
+      go : (o : Option World) → world_at r id.0 ≡ o
+          → passes (λ w. is_id n (option_and_then item_type (get_by (is_name_key (text_of name)) w.imports))) o ≡ passes (is_listed_in_world n (text_of name)) o
       go None e = refl
       go (Some w) e = listed_in_world w (distinct.worlds id.0 w e).0 (each_from_at (names_fit.world_ r) 0 r.worlds.items id.0 w (lists_pass names_fit r fit).2 e)
 
@@ -132,17 +138,20 @@ type_breaks r n e = (lit≤ tt, go (type_at r n) e)
 
 -- ---- the walks over names
 
-pub interface_fits : (r : Resolve) (i : Interface) → option_map (λ e. e.1.0) (find (λ e. not (has_name r (λ name. text_eq name (text_of e.0)) e.1.0)) i.types.entries) ≡ None → list_all (λ e. has_name r (λ name. text_eq name (text_of e.0)) e.1.0) i.types.entries ≡ true
+pub interface_fits : (r : Resolve) (i : Interface) → option_map (λ e. e.1.0) (find (λ e. not (has_name r (λ name. text_eq name (text_of e.0)) e.1.0)) i.types.entries) ≡ None
+    → list_all (λ e. has_name r (λ name. text_eq name (text_of e.0)) e.1.0) i.types.entries ≡ true
 interface_fits r i h = go (find fails i.types.entries) refl h
   where
     fails : String Global × TypeId → Bool
     fails e = not (has_name r (λ name. text_eq name (text_of e.0)) e.1.0)
 
-    go : (o : Option (String Global × TypeId)) → find fails i.types.entries ≡ o → option_map (λ e. e.1.0) o ≡ None → list_all (λ e. has_name r (λ name. text_eq name (text_of e.0)) e.1.0) i.types.entries ≡ true
+    go : (o : Option (String Global × TypeId)) → find fails i.types.entries ≡ o → option_map (λ e. e.1.0) o ≡ None
+        → list_all (λ e. has_name r (λ name. text_eq name (text_of e.0)) e.1.0) i.types.entries ≡ true
     go None e h = none_found fails (λ e. has_name r (λ name. text_eq name (text_of e.0)) e.1.0) (λ x. refl) i.types.entries e
     go (Some x) e h = let wrong : ⊥ = cc in absurd wrong
 
-pub world_fits : (r : Resolve) (w : World) → option_and_then (λ e. item_type e.1) (find (λ e. not (passes (has_name r (key_fits e.0)) (item_type e.1))) w.imports.entries) ≡ None → list_all (λ e. passes (has_name r (key_fits e.0)) (item_type e.1)) w.imports.entries ≡ true
+pub world_fits : (r : Resolve) (w : World) → option_and_then (λ e. item_type e.1) (find (λ e. not (passes (has_name r (key_fits e.0)) (item_type e.1))) w.imports.entries) ≡ None
+    → list_all (λ e. passes (has_name r (key_fits e.0)) (item_type e.1)) w.imports.entries ≡ true
 world_fits r w h = go (find fails w.imports.entries) refl h
   where
     fails : WorldKey × WorldItem → Bool
@@ -151,13 +160,15 @@ world_fits r w h = go (find fails w.imports.entries) refl h
     typed : (x : WorldKey × WorldItem) → fails x ≡ true → item_type x.1 ≡ None → ⊥
     typed x t e = let untyped : false ≡ true = sym (ap (λ o. not (passes (has_name r (key_fits x.0)) o)) e) ∙ t in cc
 
-    go : (o : Option (WorldKey × WorldItem)) → find fails w.imports.entries ≡ o → option_and_then (λ e. item_type e.1) o ≡ None → list_all (λ e. passes (has_name r (key_fits e.0)) (item_type e.1)) w.imports.entries ≡ true
+    go : (o : Option (WorldKey × WorldItem)) → find fails w.imports.entries ≡ o → option_and_then (λ e. item_type e.1) o ≡ None
+        → list_all (λ e. passes (has_name r (key_fits e.0)) (item_type e.1)) w.imports.entries ≡ true
     go None e h = none_found fails (λ e. passes (has_name r (key_fits e.0)) (item_type e.1)) (λ x. refl) w.imports.entries e
     go (Some x) e h = absurd (typed x (place_of_found fails w.imports.entries x e).2 h)
 
 module _ (r : Resolve) (n : ℕ) (i : Interface) (at : interface_at r n ≡ Some i) where
   not_in_interface : (m : ℕ) (t : Text) (o : TypeOwner) → same_owner o (as_interface n) ≡ true → is_listed_in_interface m t i ≡ false → is_listed r m t o ≡ false
-  not_in_interface m t (owner.Interface id) e h = ap (λ k. passes (is_listed_in_interface m t) (interface_at r k)) (eqb→eq id.0 n (subst T (sym e) tt)) ∙ (ap (passes (is_listed_in_interface m t)) at ∙ h)
+  not_in_interface m t (owner.Interface id) e h = ap (λ k. passes (is_listed_in_interface m t) (interface_at r k)) (eqb→eq id.0 n (subst T (sym e) tt))
+      ∙ (ap (passes (is_listed_in_interface m t)) at ∙ h)
   not_in_interface m t (owner.World id) e h = let wrong : ⊥ = cc in absurd wrong
   not_in_interface m t owner.None e h = let wrong : ⊥ = cc in absurd wrong
 
@@ -170,19 +181,23 @@ module _ (r : Resolve) (n : ℕ) (i : Interface) (at : interface_at r n ≡ Some
   unfolding listings
   entry_belongs own q x place =
       let here : 0 + n ≡ n = omega arith in
-      let all : list_all (is_named_of r (as_interface n)) (interface_type_numbers i) ≡ true = subst (λ m. list_all (is_named_of r (as_interface m)) (interface_type_numbers i) ≡ true) here (each_from_at (listings.interface_ r) 0 r.interfaces.items n i own at) in
+      let all : list_all (is_named_of r (as_interface n)) (interface_type_numbers i) ≡ true =
+      subst (λ m. list_all (is_named_of r (as_interface m)) (interface_type_numbers i) ≡ true) here (each_from_at (listings.interface_ r) 0 r.interfaces.items n i own at) in
       all_at (λ e. is_named_of r (as_interface n) e.1.0) i.types.entries q x
       (sym (list_all-map (is_named_of r (as_interface n)) (λ id. id.0) (values_of i.types.entries) ∙ list_all-map (λ id. is_named_of r (as_interface n) id.0) (λ e. e.1) i.types.entries) ∙ all) place
 
-  misnamed_entry : KeepsIn listings r lists.Interfaces → (q : ℕ) (x : String Global × TypeId) → slice_get i.types.entries q ≡ Some x → has_name r (λ name. text_eq name (text_of x.0)) x.1.0 ≡ false → Breaks r 5 lists.Types x.1.0
+  misnamed_entry : KeepsIn listings r lists.Interfaces → (q : ℕ) (x : String Global × TypeId) → slice_get i.types.entries q ≡ Some x → has_name r (λ name. text_eq name (text_of x.0)) x.1.0 ≡ false
+      → Breaks r 5 lists.Types x.1.0
   unfolding order_of_types
   misnamed_entry own q x place misnamed = (lit≤ tt, go (type_at r x.1.0) misnamed (entry_belongs own q x place))
     where
-      named : (def : TypeDef) → same_owner def.owner (as_interface n) ≡ true → (o : Option (String Global)) → option_map_or (λ name. text_eq (text_of name) (text_of x.0)) o false ≡ false → is_some o ≡ true → option_map_or (λ name. is_listed r x.1.0 (text_of name) def.owner) o (same_owner def.owner owner.None) ≡ false
+      named : (def : TypeDef) → same_owner def.owner (as_interface n) ≡ true → (o : Option (String Global)) → option_map_or (λ name. text_eq (text_of name) (text_of x.0)) o false ≡ false
+          → is_some o ≡ true → option_map_or (λ name. is_listed r x.1.0 (text_of name) def.owner) o (same_owner def.owner owner.None) ≡ false
       named def own None h s = let wrong : ⊥ = cc in absurd wrong
       named def own (Some name) h s = not_in_interface x.1.0 (text_of name) def.owner own (interface_entry q x place (text_of name) h)
 
-      go : (o : Option TypeDef) → passes (λ def. option_map_or (λ name. text_eq (text_of name) (text_of x.0)) def.name false) o ≡ false → passes (λ def. is_some def.name && same_owner def.owner (as_interface n)) o ≡ true → option_map (order_of_types.type_ r x.1.0) o ≡ Some false
+      go : (o : Option TypeDef) → passes (λ def. option_map_or (λ name. text_eq (text_of name) (text_of x.0)) def.name false) o ≡ false
+          → passes (λ def. is_some def.name && same_owner def.owner (as_interface n)) o ≡ true → option_map (order_of_types.type_ r x.1.0) o ≡ Some false
       go None h b = let wrong : true ≡ false = h in cc
       go (Some def) h b = ap Some (second_false _ _ (named def (second_true _ _ b) def.name h (first_true _ _ b)))
 
@@ -197,28 +212,33 @@ module _ (r : Resolve) (n : ℕ) (w : World) (at : world_at r n ≡ Some w) wher
   item_belongs own m q x place typed =
       let here : 0 + n ≡ n = omega arith in
       let p : ℕ → Bool = is_named_of r (as_world n) in
-      let all : list_all p (world_type_numbers w) ≡ true = subst (λ k. list_all (is_named_of r (as_world k)) (world_type_numbers w) ≡ true) here (each_from_at (listings.world_ r) 0 r.worlds.items n w own at) in
+      let all : list_all p (world_type_numbers w) ≡ true = subst (λ k. list_all (is_named_of r (as_world k)) (world_type_numbers w) ≡ true) here
+      (each_from_at (listings.world_ r) 0 r.worlds.items n w own at) in
       let one = all_at (λ e. list_all p (option_to_list (item_type e.1))) w.imports.entries q x
       (sym (list_all_filter_map p item_type (values_of w.imports.entries) ∙ list_all-map (λ i. list_all p (option_to_list (item_type i))) (λ e. e.1) w.imports.entries) ∙ all) place
       in
       first_true _ _ (sym (ap (λ o. list_all p (option_to_list o)) typed) ∙ one)
 
-  misnamed_item : KeepsIn listings r lists.Worlds → (m q : ℕ) (x : WorldKey × WorldItem) → slice_get w.imports.entries q ≡ Some x → item_type x.1 ≡ Some m → has_name r (key_fits x.0) m ≡ false → Breaks r 5 lists.Types m
+  misnamed_item : KeepsIn listings r lists.Worlds → (m q : ℕ) (x : WorldKey × WorldItem) → slice_get w.imports.entries q ≡ Some x → item_type x.1 ≡ Some m → has_name r (key_fits x.0) m ≡ false
+      → Breaks r 5 lists.Types m
   unfolding order_of_types
   misnamed_item own m q x place typed misnamed = (lit≤ tt, go (type_at r m) misnamed (item_belongs own m q x place typed))
     where
       shown : is_id m (item_type x.1) ≡ true
       shown = ap (is_id m) typed ∙ eq-eqb m m refl
 
-      named : (def : TypeDef) → same_owner def.owner (as_world n) ≡ true → (o : Option (String Global)) → option_map_or (λ name. key_fits x.0 (text_of name)) o false ≡ false → is_some o ≡ true → option_map_or (λ name. is_listed r m (text_of name) def.owner) o (same_owner def.owner owner.None) ≡ false
+      named : (def : TypeDef) → same_owner def.owner (as_world n) ≡ true → (o : Option (String Global)) → option_map_or (λ name. key_fits x.0 (text_of name)) o false ≡ false → is_some o ≡ true
+          → option_map_or (λ name. is_listed r m (text_of name) def.owner) o (same_owner def.owner owner.None) ≡ false
       named def own None h s = let wrong : ⊥ = cc in absurd wrong
       named def own (Some name) h s = not_in_world m (text_of name) def.owner own (misfit (is_name_key (text_of name)) item_type m w.imports.entries q x place shown h)
 
-      go : (o : Option TypeDef) → passes (λ def. option_map_or (λ name. key_fits x.0 (text_of name)) def.name false) o ≡ false → passes (λ def. is_some def.name && same_owner def.owner (as_world n)) o ≡ true → option_map (order_of_types.type_ r m) o ≡ Some false
+      go : (o : Option TypeDef) → passes (λ def. option_map_or (λ name. key_fits x.0 (text_of name)) def.name false) o ≡ false
+          → passes (λ def. is_some def.name && same_owner def.owner (as_world n)) o ≡ true → option_map (order_of_types.type_ r m) o ≡ Some false
       go None h b = let wrong : true ≡ false = h in cc
       go (Some def) h b = ap Some (second_false _ _ (named def (second_true _ _ b) def.name h (first_true _ _ b)))
 
-pub misnamed_in_interface_breaks : (r : Resolve) (n : ℕ) (i : Interface) → interface_at r n ≡ Some i → KeepsIn listings r lists.Interfaces → (m : ℕ) → Some m ≡ option_map (λ e. e.1.0) (find (λ e. not (has_name r (λ name. text_eq name (text_of e.0)) e.1.0)) i.types.entries) → Breaks r 5 lists.Types m
+pub misnamed_in_interface_breaks : (r : Resolve) (n : ℕ) (i : Interface) → interface_at r n ≡ Some i → KeepsIn listings r lists.Interfaces → (m : ℕ)
+    → Some m ≡ option_map (λ e. e.1.0) (find (λ e. not (has_name r (λ name. text_eq name (text_of e.0)) e.1.0)) i.types.entries) → Breaks r 5 lists.Types m
 misnamed_in_interface_breaks r n i at own m h = go (find fails i.types.entries) refl h
   where
     fails : String Global × TypeId → Bool
@@ -230,7 +250,8 @@ misnamed_in_interface_breaks r n i at own m h = go (find fails i.types.entries) 
         let place = place_of_found fails i.types.entries x e in
         subst (λ k. Breaks r 5 lists.Types k) (sym (some_same m x.1.0 h)) (misnamed_entry r n i at own place.0 x place.1 (not_true _ place.2))
 
-pub misnamed_in_world_breaks : (r : Resolve) (n : ℕ) (w : World) → world_at r n ≡ Some w → KeepsIn listings r lists.Worlds → (m : ℕ) → Some m ≡ option_and_then (λ e. item_type e.1) (find (λ e. not (passes (has_name r (key_fits e.0)) (item_type e.1))) w.imports.entries) → Breaks r 5 lists.Types m
+pub misnamed_in_world_breaks : (r : Resolve) (n : ℕ) (w : World) → world_at r n ≡ Some w → KeepsIn listings r lists.Worlds → (m : ℕ)
+    → Some m ≡ option_and_then (λ e. item_type e.1) (find (λ e. not (passes (has_name r (key_fits e.0)) (item_type e.1))) w.imports.entries) → Breaks r 5 lists.Types m
 misnamed_in_world_breaks r n w at own m h = go (find fails w.imports.entries) refl h
   where
     fails : WorldKey × WorldItem → Bool

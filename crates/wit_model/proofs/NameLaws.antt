@@ -76,14 +76,16 @@ unfolding cut
 cut_joins c [] a b h = cc
 cut_joins c (x ∷ xs) a b h = go (λ p e. cut_joins c xs p.0 p.1 e) (x == c) refl h
   where
-    more : ((p : Text × Text) → cut c xs ≡ Some p → xs ≡ p.0 ++ (c ∷ p.1)) → (o : Option (Text × Text)) → cut c xs ≡ o → option_map {T = Text × Text} {U = Text × Text} (λ p. (x ∷ p.0, p.1)) o ≡ Some (a, b) → (x ∷ xs) ≡ a ++ (c ∷ b)
+    more : ((p : Text × Text) → cut c xs ≡ Some p → xs ≡ p.0 ++ (c ∷ p.1)) → (o : Option (Text × Text)) → cut c xs ≡ o
+        → option_map {T = Text × Text} {U = Text × Text} (λ p. (x ∷ p.0, p.1)) o ≡ Some (a, b) → (x ∷ xs) ≡ a ++ (c ∷ b)
     more again None is e = cc
     more again (Some p) is e =
         let joined = again p is in
         let parts = some_pair_parts (x ∷ p.0) a p.1 b e in
         ap (λ t. x ∷ t) joined ∙ (ap (λ t. t ++ (c ∷ p.1)) parts.0 ∙ ap (λ t. a ++ (c ∷ t)) parts.1)
 
-    go : ((p : Text × Text) → cut c xs ≡ Some p → xs ≡ p.0 ++ (c ∷ p.1)) → (v : Bool) → (x == c) ≡ v → cond v (Some ([], xs)) (option_map {T = Text × Text} {U = Text × Text} (λ p. (x ∷ p.0, p.1)) (cut c xs)) ≡ Some (a, b) → (x ∷ xs) ≡ a ++ (c ∷ b)
+    go : ((p : Text × Text) → cut c xs ≡ Some p → xs ≡ p.0 ++ (c ∷ p.1)) → (v : Bool) → (x == c) ≡ v
+        → cond v (Some ([], xs)) (option_map {T = Text × Text} {U = Text × Text} (λ p. (x ∷ p.0, p.1)) (cut c xs)) ≡ Some (a, b) → (x ∷ xs) ≡ a ++ (c ∷ b)
     go again true is e =
         let same : x ≡ c = eqb→eq x c (subst T (sym is) tt) in
         let parts = some_pair_parts [] a xs b e in
@@ -131,12 +133,14 @@ found namespace name rest = known_path (record { namespace = namespace; name = n
 known_spelled : (q p : PackageIdentity) (m name : Text) → known_path q m ≡ Some (p, name) → (q ≡ p) × (m ≡ name) × (is_identity q ≡ true) × (is_label m ≡ true)
 known_spelled q p m name h = go (is_identity q) refl (is_label m) refl h
   where
-    go : (v : Bool) → is_identity q ≡ v → (w : Bool) → is_label m ≡ w → cond {A = Option (PackageIdentity × Text)} (v && w) (Some (q, m)) None ≡ Some (p, name) → (q ≡ p) × (m ≡ name) × (is_identity q ≡ true) × (is_label m ≡ true)
+    go : (v : Bool) → is_identity q ≡ v → (w : Bool) → is_label m ≡ w → cond {A = Option (PackageIdentity × Text)} (v && w) (Some (q, m)) None ≡ Some (p, name) → (q ≡ p) × (m ≡ name)
+        × (is_identity q ≡ true) × (is_label m ≡ true)
     go true e true f h = let parts = some_pair_parts q p m name h in (parts.0, parts.1, e, f)
     go true e false f h = let wrong : ⊥ = cc in absurd wrong
     go false e w f h = let wrong : ⊥ = cc in absurd wrong
 
-found_spelled : (text a b namespace name rest label : Text) (p : PackageIdentity) → text ≡ namespace ++ (58 ∷ a) → a ≡ name ++ (47 ∷ rest) → found namespace name rest ≡ Some (p, label) → IsSpelled text p label
+found_spelled : (text a b namespace name rest label : Text) (p : PackageIdentity) → text ≡ namespace ++ (58 ∷ a) → a ≡ name ++ (47 ∷ rest) → found namespace name rest ≡ Some (p, label)
+    → IsSpelled text p label
 found_spelled text a b namespace name rest label p first second h =
     let parts = known_spelled (record { namespace = namespace; name = name; version = (versioned rest).1 }) p (versioned rest).0 label h in
     let whole : text ≡ path_in (record { namespace = namespace; name = name; version = (versioned rest).1 }) (versioned rest).0 =
@@ -150,7 +154,8 @@ found_spelled text a b namespace name rest label p first second h =
 pub read_path_is_spelled : ReadPathIsSpelled
 read_path_is_spelled text p label h = colon (cut 58 text) refl h
   where
-    slash : (namespace a : Text) → text ≡ namespace ++ (58 ∷ a) → (o : Option (Text × Text)) → cut 47 a ≡ o → option_and_then (λ b. found namespace b.0 b.1) o ≡ Some (p, label) → IsSpelled text p label
+    slash : (namespace a : Text) → text ≡ namespace ++ (58 ∷ a) → (o : Option (Text × Text)) → cut 47 a ≡ o → option_and_then (λ b. found namespace b.0 b.1) o ≡ Some (p, label)
+        → IsSpelled text p label
     slash namespace a first None is e = let wrong : ⊥ = cc in absurd wrong
     slash namespace a first (Some b) is e = found_spelled text a b.1 namespace b.0 b.1 label p first (cut_joins 47 a b.0 b.1 is) e
 

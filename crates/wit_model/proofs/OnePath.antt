@@ -26,10 +26,12 @@ use Rattle.base_lemmas.proofs.Options.{there as some-of}
 use Rattle.std.proofs.lemmas.Option.{same_Some as some-same}
 
 pub package-passes : (rule : Rule) (r : Resolve) → Keeps rule r → (n : ℕ) (p : Package) → package_at r n ≡ Some p → rule.package_ r n p ≡ true
-package-passes rule r k n p at = let here : 0 + n ≡ n = omega arith in subst (λ (m : ℕ). rule.package_ r m p ≡ true) here (each_from_at (rule.package_ r) 0 r.packages.items n p (lists_pass rule r k).0 at)
+package-passes rule r k n p at = let here : 0 + n ≡ n = omega arith in
+    subst (λ (m : ℕ). rule.package_ r m p ≡ true) here (each_from_at (rule.package_ r) 0 r.packages.items n p (lists_pass rule r k).0 at)
 
 pub interface-passes : (rule : Rule) (r : Resolve) → Keeps rule r → (n : ℕ) (i : Interface) → interface_at r n ≡ Some i → rule.interface_ r n i ≡ true
-interface-passes rule r k n i at = let here : 0 + n ≡ n = omega arith in subst (λ (m : ℕ). rule.interface_ r m i ≡ true) here (each_from_at (rule.interface_ r) 0 r.interfaces.items n i (lists_pass rule r k).1 at)
+interface-passes rule r k n i at = let here : 0 + n ≡ n = omega arith in
+    subst (λ (m : ℕ). rule.interface_ r m i ≡ true) here (each_from_at (rule.interface_ r) 0 r.interfaces.items n i (lists_pass rule r k).1 at)
 
 version-is : (v : Option Version) → passes is_version v ≡ true → is_optional_version (optional_version_text v) ≡ true
 version-is None h = refl
@@ -43,7 +45,8 @@ pub record IsPackageName (p : Package) : Type 0 where
 pub package-name : (r : Resolve) → IsValid r → (n : ℕ) (p : Package) → package_at r n ≡ Some p → IsPackageName p
 unfolding package_names
 package-name r v n p at =
-    let names = first_true (is_label (text_of p.name.namespace) && (is_label (text_of p.name.name) && passes is_version p.name.version)) _ (package-passes package_names r v.rules.package_names n p at) in
+    let names = first_true (is_label (text_of p.name.namespace) && (is_label (text_of p.name.name) && passes is_version p.name.version)) _
+    (package-passes package_names r v.rules.package_names n p at) in
     let rest = second_true (is_label (text_of p.name.namespace)) (is_label (text_of p.name.name) && passes is_version p.name.version) names in
     let version = second_true (is_label (text_of p.name.name)) (passes is_version p.name.version) rest in
     record {
@@ -61,7 +64,8 @@ same-or-not false false h e = e
 pub package-once : (r : Resolve) → IsValid r → (m n : ℕ) (p q : Package) → package_at r m ≡ Some p → package_at r n ≡ Some q → same_package_name p.name q.name ≡ true → n ≡ m
 unfolding package_names
 package-once r v m n p q at at' same =
-    let others : each_from (λ k other. (k == m) || not (same_package_name p.name other.name)) 0 r.packages.items ≡ true = second_true (is_label (text_of p.name.namespace) && (is_label (text_of p.name.name) && passes is_version p.name.version)) _ (package-passes package_names r v.rules.package_names m p at) in
+    let others : each_from (λ k other. (k == m) || not (same_package_name p.name other.name)) 0 r.packages.items ≡ true =
+    second_true (is_label (text_of p.name.namespace) && (is_label (text_of p.name.name) && passes is_version p.name.version)) _ (package-passes package_names r v.rules.package_names m p at) in
     let here : 0 + n ≡ n = omega arith in
     let test = each_from_at (λ k other. (k == m) || not (same_package_name p.name other.name)) 0 r.packages.items n q others at' in
     equal-numbers n m (subst (λ (k : ℕ). (k == m) ≡ true) here (same-or-not ((0 + n) == m) (same_package_name p.name q.name) test same))
@@ -81,7 +85,8 @@ pub record HasPath (r : Resolve) (n : ℕ) (path : Text) : Type 0 where
   pub spelled : path ≡ path_in (identity_of package_.name) (text_of name)
 
 module _ (r : Resolve) (n : ℕ) (path : Text) (def : Interface) (there : interface_at r n ≡ Some def) where
-  at-package : (name : String Global) → def.name ≡ Some name → (home : PackageId) → def.package ≡ Some home → (o : Option Package) → package_at r home.0 ≡ o → option_map (λ p. path_in (identity_of p.name) (text_of name)) o ≡ Some path → HasPath r n path
+  at-package : (name : String Global) → def.name ≡ Some name → (home : PackageId) → def.package ≡ Some home → (o : Option Package) → package_at r home.0 ≡ o
+      → option_map (λ p. path_in (identity_of p.name) (text_of name)) o ≡ Some path → HasPath r n path
   at-package name named home h None q e = let wrong : ⊥ = cc in absurd wrong
   at-package name named home h (Some p) q e = record {
     def = def;
@@ -121,7 +126,8 @@ module _ (r : Resolve) (v : IsValid r) where
   pub path-label : (n : ℕ) (path : Text) (h : HasPath r n path) → is_label (text_of h.name) ≡ true
   unfolding labels
   path-label n path h =
-      let passed : passes (λ name. is_label (text_of name)) h.def.name ≡ true = first_true (passes (λ name. is_label (text_of name)) h.def.name) _ (interface-passes labels r v.rules.labels n h.def h.there) in
+      let passed : passes (λ name. is_label (text_of name)) h.def.name ≡ true =
+      first_true (passes (λ name. is_label (text_of name)) h.def.name) _ (interface-passes labels r v.rules.labels n h.def h.there) in
       ap (passes (λ name. is_label (text_of name))) (sym h.named_) ∙ passed
 
   -- it stands in its package under its name
@@ -132,7 +138,8 @@ module _ (r : Resolve) (v : IsValid r) where
       let home : option_and_then (package_at r) (package_number h.def.package) ≡ Some h.package_ = ap (λ p. option_and_then (package_at r) (package_number p)) h.in_package ∙ h.stands in
       first_true (interface_is_listed n (text_of h.name) h.package_) _
       (given-test (λ p. interface_is_listed n (text_of h.name) p && not (is_world_name p (text_of h.name))) (option_and_then (package_at r) (package_number h.def.package)) true h.package_ home
-      (given-test (λ name. option_map_or (λ p. interface_is_listed n (text_of name) p && not (is_world_name p (text_of name))) (option_and_then (package_at r) (package_number h.def.package)) true) h.def.name _ h.name h.named_ rule))
+      (given-test (λ name. option_map_or (λ p. interface_is_listed n (text_of name) p && not (is_world_name p (text_of name))) (option_and_then (package_at r) (package_number h.def.package)) true)
+      h.def.name _ h.name h.named_ rule))
 
   -- interfaces of the same path are one
   pub path-once : (m n : ℕ) (path : Text) → interface_path r m ≡ Some path → interface_path r n ≡ Some path → m ≡ n
@@ -141,7 +148,8 @@ module _ (r : Resolve) (v : IsValid r) where
       let b = has-path r n path f in
       let p = package-name r v a.home.0 a.package_ a.stands in
       let q = package-name r v b.home.0 b.package_ b.stands in
-      let parts = one_path (identity_of a.package_.name) (identity_of b.package_.name) (text_of a.name) (text_of b.name) p.identity (path-label m path a) q.identity (path-label n path b) (sym a.spelled ∙ b.spelled) in
+      let parts = one_path (identity_of a.package_.name) (identity_of b.package_.name) (text_of a.name) (text_of b.name) p.identity (path-label m path a) q.identity (path-label n path b)
+      (sym a.spelled ∙ b.spelled) in
       let homes : b.home.0 ≡ a.home.0 = package-once r v a.home.0 b.home.0 a.package_ b.package_ a.stands b.stands ((same_name a.package_.name b.package_.name p.version q.version).1 parts.0) in
       let one : b.package_ ≡ a.package_ = some-same b.package_ a.package_ (sym b.stands ∙ ap (package_at r) homes ∙ a.stands) in
       one-number m n (option_map (λ id. id.0) (get_by_text a.package_.interfaces (text_of a.name))) (path-listed m path a)
@@ -164,7 +172,8 @@ named-path r v n h = go (interface_at r n) refl h
     at def there named =
         let name = some-of def.name named in
         let home = some-of def.package (first_true (is_some def.package) _ (interface-passes places r v.rules.places n def there)) in
-        let inside = first_true (passes (in_list r.packages.items) (package_number def.package)) _ (second_true (is_place n) _ (interface-passes numbers_in_range r v.rules.numbers_in_range n def there)) in
+        let inside = first_true (passes (in_list r.packages.items) (package_number def.package)) _
+        (second_true (is_place n) _ (interface-passes numbers_in_range r v.rules.numbers_in_range n def there)) in
         let package_ = found-in r.packages.items home.0.0 (ap (λ p. passes (in_list r.packages.items) (package_number p)) (sym home.1) ∙ inside) in
         ap (λ o. is_some (option_and_then (path_of_interface r) o)) there
         ∙ ap (λ o. is_some (option_and_then (λ name. option_and_then (λ p. path_in_package r p.0 (text_of name)) def.package) o)) name.1

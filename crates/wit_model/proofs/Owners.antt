@@ -54,7 +54,8 @@ pub met_step : (r : Resolve) → Keeps references r → (n : ℕ) (def : TypeDef
 unfolding met_of
 met_step r below n def is =
     ap (λ o. unwrap_or o []) (grow_at met_at (numbered_from 0 r.types.items) n (n, def) here)
-    ∙ ap (λ xs. option_map_or (λ name. n ∷ []) def.name xs) (flat_same (met_by (take n (met_of r))) (met_by (met_of r)) n (kind_numbers def.kind) (λ m low. ap (λ o. unwrap_or o []) (get_take (met_of r) n m low)) (below_at r below n def is))
+    ∙ ap (λ xs. option_map_or (λ name. n ∷ []) def.name xs) (flat_same (met_by (take n (met_of r))) (met_by (met_of r)) n (kind_numbers def.kind)
+    (λ m low. ap (λ o. unwrap_or o []) (get_take (met_of r) n m low)) (below_at r below n def is))
   where
     here : slice_get (numbered_from 0 r.types.items) n ≡ Some (n, def)
     here = let zero_n : 0 + n ≡ n = omega arith in subst (λ m. slice_get (numbered_from 0 r.types.items) n ≡ Some (m, def)) zero_n (numbered_at 0 r.types.items n def is)
@@ -90,7 +91,8 @@ all_same_below p q n (m ∷ ns) same h = λ i. same m (ltb→lt m n (subst T (sy
 -- ---- a function's own resource
 
 -- a resource that a function belongs to has the function's owner, and a name
-member_met : (r : Resolve) → Keeps references r → (o : TypeOwner) (f : Function) → is_member r o f ≡ true → list_all (has_owner r o) (flat_map (met_by (met_of r)) (option_to_list (resource_of f.kind))) ≡ true
+member_met : (r : Resolve) → Keeps references r → (o : TypeOwner) (f : Function) → is_member r o f ≡ true
+    → list_all (has_owner r o) (flat_map (met_by (met_of r)) (option_to_list (resource_of f.kind))) ≡ true
 member_met r below o f h = go (resource_of f.kind) h
   where
     named : (n : ℕ) (def : TypeDef) → type_at r n ≡ Some def → (x : Option (String Global)) → def.name ≡ x → (b c : Bool) → same_owner def.owner o ≡ c
@@ -113,7 +115,8 @@ member_met r below o f h = go (resource_of f.kind) h
     given test None h = let wrong : ⊥ = cc in absurd wrong
     given test (Some x) h = refl
 
-    go : (x : Option ℕ) → passes (λ n. option_map_or (λ name. is_member_of r n name f f.kind) (resource_name r o n) false) x ≡ true → list_all (has_owner r o) (flat_map (met_by (met_of r)) (option_to_list x)) ≡ true
+    go : (x : Option ℕ) → passes (λ n. option_map_or (λ name. is_member_of r n name f f.kind) (resource_name r o n) false) x ≡ true
+        → list_all (has_owner r o) (flat_map (met_by (met_of r)) (option_to_list x)) ≡ true
     go None h = refl
     go (Some n) h = at n (type_at r n) refl (given (λ name. is_member_of r n name f f.kind) (resource_name r o n) h)
 
@@ -126,7 +129,8 @@ function_home r below o f stays belongs =
 
 -- what the rule says of a type that has an owner
 pub owned_stays : (r : Resolve) (def : TypeDef) → type_stays r def ≡ true → same_owner def.owner owner.None ≡ false → (list_all (has_owner r def.owner) (used_by_type r def) || is_use r def) ≡ true
-owned_stays r def h owned = go (list_all (has_owner r def.owner) (used_by_type r def)) (is_some def.name) (is_use r def) (sym (ap (λ b. b || (list_all (has_owner r def.owner) (used_by_type r def) || (is_some def.name && is_use r def))) owned) ∙ h)
+owned_stays r def h owned = go (list_all (has_owner r def.owner) (used_by_type r def)) (is_some def.name) (is_use r def)
+    (sym (ap (λ b. b || (list_all (has_owner r def.owner) (used_by_type r def) || (is_some def.name && is_use r def))) owned) ∙ h)
   where
     go : (a b c : Bool) → (a || (b && c)) ≡ true → (a || c) ≡ true
     go true b c e = refl

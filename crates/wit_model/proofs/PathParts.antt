@@ -35,7 +35,8 @@ module _ (r : Resolve) where
       by_package s None = refl
       by_package s (Some q) = refl
 
-      by_number : (s : String Global) (x : Option PackageId) → option_and_then (λ p. path_in_package r p.0 (text_of s)) x ≡ option_map path_of (option_map (λ p. (p.name, s)) (option_and_then (λ p. package_at r p.0) x))
+      by_number : (s : String Global) (x : Option PackageId)
+          → option_and_then (λ p. path_in_package r p.0 (text_of s)) x ≡ option_map path_of (option_map (λ p. (p.name, s)) (option_and_then (λ p. package_at r p.0) x))
       by_number s None = refl
       by_number s (Some id) = by_package s (package_at r id.0)
 
@@ -69,7 +70,8 @@ module _ (r : Resolve) where
   pub suffix_made : (n : ℕ) → canonical_suffix r n ≡ option_and_then suffix_of (full_name r n)
   suffix_made n = by_interface (interface_at r n) (package_of_interface r n)
     where
-      by_package : (s : String Global) (q : Option Package) → option_and_then (λ p. option_and_then (λ version. version_suffix (parts_of version)) p.name.version) q ≡ option_and_then suffix_of (option_map (λ p. (p.name, s)) q)
+      by_package : (s : String Global) (q : Option Package)
+          → option_and_then (λ p. option_and_then (λ version. version_suffix (parts_of version)) p.name.version) q ≡ option_and_then suffix_of (option_map (λ p. (p.name, s)) q)
       by_package s None = refl
       by_package s (Some q) = refl
 
@@ -78,7 +80,8 @@ module _ (r : Resolve) where
       by_name q None = refl
       by_name q (Some s) = by_package s q
 
-      by_interface : (o : Option Interface) (q : Option Package) → option_and_then (λ i. option_and_then (λ name. option_and_then (λ p. option_and_then (λ version. version_suffix (parts_of version)) p.name.version) q) i.name) o
+      by_interface : (o : Option Interface) (q : Option Package)
+          → option_and_then (λ i. option_and_then (λ name. option_and_then (λ p. option_and_then (λ version. version_suffix (parts_of version)) p.name.version) q) i.name) o
           ≡ option_and_then suffix_of (option_and_then (λ i. option_and_then (λ name. option_map (λ p. (p.name, name)) q) i.name) o)
       by_interface None q = refl
       by_interface (Some i) q = by_name q i.name
@@ -131,7 +134,8 @@ joined p s = go p.version
     before t = text_of p.namespace ++ (58 ∷ (text_of p.name ++ (47 ∷ (text_of s ++ t))))
 
     go : (v : Option Version) → path_in (record { namespace = text_of p.namespace; name = text_of p.name; version = option_map (λ x. parts_text (parts_of x)) v }) (text_of s)
-        ≡ path_in (record { namespace = text_of p.namespace; name = text_of p.name; version = option_map (λ x. canonical_version (parts_of x)) v }) (text_of s) ++ unwrap_or (option_and_then (λ x. version_suffix (parts_of x)) v) []
+        ≡ path_in (record { namespace = text_of p.namespace; name = text_of p.name; version = option_map (λ x. canonical_version (parts_of x)) v }) (text_of s) ++ unwrap_or
+        (option_and_then (λ x. version_suffix (parts_of x)) v) []
     go None = sym (append-nil (before []))
     go (Some v) =
         sym (path_longer (text_of p.namespace) (text_of p.name) (text_of s) (canonical_version (parts_of v)) (unwrap_or (version_suffix (parts_of v)) [])

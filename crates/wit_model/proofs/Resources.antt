@@ -59,7 +59,8 @@ module _ (r : Resolve) (below : Keeps references r) where
   stable zero n h = absurd (omega (arith, h))
   stable (suc s) n h = go (λ m low. stable s m (omega (arith, low, h))) (type_at r n) refl
     where
-      go : ((m : ℕ) → m < n → ends_in_resource r s m ≡ ends_in_resource r (suc s) m) → (o : Option TypeDef) → type_at r n ≡ o → option_map_or (λ def. is_resource_kind (ends_in_resource r s) def.kind) o false ≡ option_map_or (λ def. is_resource_kind (ends_in_resource r (suc s)) def.kind) o false
+      go : ((m : ℕ) → m < n → ends_in_resource r s m ≡ ends_in_resource r (suc s) m) → (o : Option TypeDef) → type_at r n ≡ o
+          → option_map_or (λ def. is_resource_kind (ends_in_resource r s) def.kind) o false ≡ option_map_or (λ def. is_resource_kind (ends_in_resource r (suc s)) def.kind) o false
       go same None e = refl
       go same (Some def) e = kind_same (ends_in_resource r s) (ends_in_resource r (suc s)) n def.kind same (below_at r below n def e)
 

@@ -17,7 +17,8 @@ after_both [] qs bs = refl
 after_both (p ∷ ps) qs [] = refl
 after_both (p ∷ ps) qs (b ∷ bs) = go (after_both ps qs bs) (p == b)
   where
-    go : after_prefix (ps ++ qs) bs ≡ option_and_then (after_prefix qs) (after_prefix ps bs) → (v : Bool) → cond v (after_prefix (ps ++ qs) bs) None ≡ option_and_then (after_prefix qs) (cond v (after_prefix ps bs) None)
+    go : after_prefix (ps ++ qs) bs ≡ option_and_then (after_prefix qs) (after_prefix ps bs) → (v : Bool)
+        → cond v (after_prefix (ps ++ qs) bs) None ≡ option_and_then (after_prefix qs) (cond v (after_prefix ps bs) None)
     go again true = again
     go again false = refl
 
@@ -45,7 +46,8 @@ pub version_flip : (a b : Option Version) → option_eq same_version a b ≡ opt
 version_flip None None = refl
 version_flip None (Some b) = refl
 version_flip (Some a) None = refl
-version_flip (Some a) (Some b) = λ i. number_flip a.major b.major i && (number_flip a.minor b.minor i && (number_flip a.patch b.patch i && (text_eq_flip (parts_of a).3 (parts_of b).3 i && text_eq_flip (parts_of a).4 (parts_of b).4 i)))
+version_flip (Some a) (Some b) = λ i. number_flip a.major b.major i && (number_flip a.minor b.minor i
+    && (number_flip a.patch b.patch i && (text_eq_flip (parts_of a).3 (parts_of b).3 i && text_eq_flip (parts_of a).4 (parts_of b).4 i)))
 
 pub name_flip : (a b : PackageName) → same_package_name a b ≡ same_package_name b a
 name_flip a b = λ i. text_eq_flip (text_of a.namespace) (text_of b.namespace) i && (text_eq_flip (text_of a.name) (text_of b.name) i && version_flip a.version b.version i)

@@ -70,7 +70,8 @@ after_more i items old new same n =
     ap (λ b. list_any (λ x. is_id n (item_interface x)) items || b) (same n)
     ∙ or_turn (list_any (λ x. is_id n (item_interface x)) items) (is_id n (item_interface i)) (old n)
 
-pub ready_more : (r : Resolve) (i : WorldItem) (items : List WorldItem) (old new : ℕ → Bool) → ((n : ℕ) → new n ≡ shown_with i old n) → list_all old (used_interfaces r i) ≡ true → uses_are_shown r new items ≡ uses_are_shown r old (i ∷ items)
+pub ready_more : (r : Resolve) (i : WorldItem) (items : List WorldItem) (old new : ℕ → Bool) → ((n : ℕ) → new n ≡ shown_with i old n) → list_all old (used_interfaces r i) ≡ true
+    → uses_are_shown r new items ≡ uses_are_shown r old (i ∷ items)
 ready_more r i items old new same ready =
     ap (λ shown. uses_are_shown r shown items) (λ j n. same n j)
     ∙ ap (λ b. b && uses_are_shown r (shown_with i old) items) (sym ready)

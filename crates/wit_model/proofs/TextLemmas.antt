@@ -32,7 +32,8 @@ is_joined [] qs bs = refl
 is_joined (p ∷ ps) qs [] = refl
 is_joined (p ∷ ps) qs (b ∷ bs) = ap (λ v. v && text_eq bs (ps ++ qs)) (turned b p) ∙ go (is_joined ps qs bs) (p == b)
   where
-    go : text_eq bs (ps ++ qs) ≡ option_map_or (λ rest. text_eq rest qs) (after_prefix ps bs) false → (v : Bool) → (v && text_eq bs (ps ++ qs)) ≡ option_map_or (λ rest. text_eq rest qs) (cond v (after_prefix ps bs) None) false
+    go : text_eq bs (ps ++ qs) ≡ option_map_or (λ rest. text_eq rest qs) (after_prefix ps bs) false → (v : Bool)
+        → (v && text_eq bs (ps ++ qs)) ≡ option_map_or (λ rest. text_eq rest qs) (cond v (after_prefix ps bs) None) false
     go again true = again
     go again false = refl
 
@@ -40,7 +41,8 @@ pub none_of_texts : (t : Text) (ts : List Text) → list_any (text_eq t) ts ≡ 
 none_of_texts t [] h = tt
 none_of_texts t (x ∷ xs) h = go (none_of_texts t xs) (text_eq t x) refl h
   where
-    go : (list_any (text_eq t) xs ≡ false → AllByRecursion (λ y. text_eq t y ≡ false) xs) → (b : Bool) → text_eq t x ≡ b → (b || list_any (text_eq t) xs) ≡ false → AllByRecursion (λ y. text_eq t y ≡ false) (x ∷ xs)
+    go : (list_any (text_eq t) xs ≡ false → AllByRecursion (λ y. text_eq t y ≡ false) xs) → (b : Bool) → text_eq t x ≡ b → (b || list_any (text_eq t) xs) ≡ false
+        → AllByRecursion (λ y. text_eq t y ≡ false) (x ∷ xs)
     go more true e h = let wrong : ⊥ = cc in absurd wrong
     go more false e h = (e, more h)
 

@@ -41,7 +41,8 @@ alias_numbers (kind.Future x) t e = let wrong : ⊥ = cc in absurd wrong
 alias_numbers (kind.Stream x) t e = let wrong : ⊥ = cc in absurd wrong
 
 pub interface_in_range : (r : Resolve) (i : WorldItem) (n : ℕ) → item_interface i ≡ Some n → item_in_range r i ≡ true → (def : Interface) × (interface_at r n ≡ Some def)
-interface_in_range r (item.Interface id stability docs external_id) n e h = subst (λ (m : ℕ). (def : Interface) × (interface_at r m ≡ Some def)) (some-same id.0 n e) (found-in r.interfaces.items id.0 h)
+interface_in_range r (item.Interface id stability docs external_id) n e h =
+    subst (λ (m : ℕ). (def : Interface) × (interface_at r m ≡ Some def)) (some-same id.0 n e) (found-in r.interfaces.items id.0 h)
 interface_in_range r (item.Function f) n e h = absurd (let z : ⊥ = cc in z)
 interface_in_range r (item.Type_ id) n e h = absurd (let z : ⊥ = cc in z)
 

@@ -117,7 +117,8 @@ list_orders = record {
 
 -- the place of a name in an owner's list, counted from 1; 0 where it isn't there
 abbrev pub rank_in : Resolve → Text → TypeOwner → ℕ
-rank_in r name (owner.Interface id) = option_map_or (λ i. option_map_or (λ k. k + 1) (position (λ k. bytes_eq name (string_bytes k)) (keys i.types)) 0) (interface_at r id.0) 0
+rank_in r name (owner.Interface id) = option_map_or (λ i. option_map_or (λ k. k + 1) (position (λ k. bytes_eq name (string_bytes k)) (keys i.types)) 0)
+    (interface_at r id.0) 0
 rank_in r name (owner.World id) = option_map_or (λ w. option_map_or (λ k. k + 1) (position (is_name_key name) (keys w.imports)) 0) (world_at r id.0) 0
 rank_in r name owner.None = 0
 

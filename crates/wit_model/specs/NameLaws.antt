@@ -27,7 +27,8 @@ PathGrammar = (text : Text) → IsPath text ↔ (is_some (read_path text) ≡ tr
 
 -- A path is that of one name in one package.
 abbrev pub OnePath : Type 0
-OnePath = (p q : PackageIdentity) (a b : Text) → is_identity p ≡ true → is_label a ≡ true → is_identity q ≡ true → is_label b ≡ true → path_in p a ≡ path_in q b → (p ≡ q) × (a ≡ b)
+OnePath = (p q : PackageIdentity) (a b : Text) → is_identity p ≡ true → is_label a ≡ true → is_identity q ≡ true → is_label b ≡ true → path_in p a ≡ path_in q b
+    → (p ≡ q) × (a ≡ b)
 
 -- Versions with the same text have the same parts.
 abbrev pub OneVersion : Type 0
@@ -35,8 +36,10 @@ OneVersion = (v w : Version) → is_version v ≡ true → is_version w ≡ true
 
 -- A path without its version is the path of the same name in the package without its version.
 abbrev pub PathWithoutVersion : Type 0
-PathWithoutVersion = (p : PackageIdentity) (name : Text) → is_identity p ≡ true → is_label name ≡ true → without_version (path_in p name) ≡ path_in (record p { version = None }) name
+PathWithoutVersion = (p : PackageIdentity) (name : Text) → is_identity p ≡ true → is_label name ≡ true
+    → without_version (path_in p name) ≡ path_in (record p { version = None }) name
 
 -- Two packages have the same name exactly where they are named alike in paths.
 abbrev pub SameName : Type 0
-SameName = (a b : PackageName) → passes is_version a.version ≡ true → passes is_version b.version ≡ true → (same_package_name a b ≡ true) ↔ (identity_of a ≡ identity_of b)
+SameName = (a b : PackageName) → passes is_version a.version ≡ true → passes is_version b.version ≡ true → (same_package_name a b ≡ true)
+    ↔ (identity_of a ≡ identity_of b)

@@ -10,7 +10,8 @@ use Rattle.wit_model.specs.Rules.{after_prefix}
 
 -- the name of an interface's package and its own, where it has both
 abbrev pub full_name : Resolve → ℕ → Option (PackageName × String Global)
-full_name r n = option_and_then (λ i. option_and_then (λ name. option_map (λ package_. (package_.name, name)) (package_of_interface r n)) i.name) (interface_at r n)
+full_name r n = option_and_then (λ i. option_and_then (λ name. option_map (λ package_. (package_.name, name)) (package_of_interface r n)) i.name)
+    (interface_at r n)
 
 -- what follows the canonical part in a version's text, and none where nothing does
 abbrev pub suffix_after : Text → Text → Option Text

@@ -28,7 +28,9 @@ fn add_dep(
     own: InterfaceId,
     used: Option<InterfaceId>,
 ) -> Result<(), AllocError>
-    ensures { OnOk result ((rest : List ℕ) → listed_with deps.new.items own.0 (holds listed.new) rest ≡ listed_with deps.old.items own.0 (holds listed.old) (cons_option (option_map number_of_interface used) rest)) }
+    ensures { OnOk result ((rest : List ℕ)
+        → listed_with deps.new.items own.0 (holds listed.new) rest
+        ≡ listed_with deps.old.items own.0 (holds listed.old) (cons_option (option_map number_of_interface used) rest)) }
 {
     let Some(used) = used else {
         return Ok(());

@@ -39,11 +39,12 @@ use Rattle.print_grammar.specs.Tree.WorldMember.{WorldUse, WorldType, WorldImpor
 use Rattle.print_grammar.specs.Tree.ItemTree.{InterfaceItem, WorldItem}
 use Rattle.print_grammar.specs.AsRead.{bare_prefix, bare_signature, bare_declared, bare_member, bare_extern, bare_world_member, bare_item, bare_package, bare_file}
 use Rattle.print_grammar.specs.Calls.{file_calls}
-use Rattle.print_items.specs.Shown.{present_name, shown_docs, shown_prefix, shown_gates, full_path, path_from, shown_path, own_name, used_of, grouped, Listed, shown_uses, DeclaredWith, shown_declared, declared_with, shown_declarations, path_from_owner, listed_types, listed_functions, shown_function, shown_interface, shown_extern, extern_prefix, Entry, shown_import, shown_export, is_interface_item, is_freestanding_item, function_of_item, type_of_entry, listed_imports, imported_functions, shown_world_in, shown_world, shown_interface_item, shown_world_item, shown_package_of, no_package, shown_package, shown_file}
+use Rattle.print_items.specs.Shown.{present_name, shown_docs, shown_prefix, shown_gates, full_path, path_from, shown_path, own_name, used_of, grouped, Listed, shown_uses, DeclaredWith, shown_declared, declared_with, shown_declarations, path_from_owner, listed_types, listed_functions, shown_function, shown_interface, shown_extern, extern_prefix, Entry, shown_import, shown_export, is_interface_item, is_freestanding_item, type_of_entry, listed_imports, imported_functions, shown_world_in, shown_world, shown_interface_item, shown_world_item, shown_package_of, no_package, shown_package, shown_file}
 use Rattle.wit_print.proofs.AlikeTypes.{same, Both, at_both, or_alike, then_alike, map_alike, bare_map_alike, filter_alike, name_alike, external_id_alike, gates_alike, types_at, signature_alike, function_prefix_alike, declared_alike}
 use Rattle.wit_print.proofs.UndocumentedCalls.{undocumented_calls}
 use Rattle.base_lemmas.proofs.Lists.{append_of_map as map_joined}
 use Rattle.wit_model.proofs.TextLemmas.{some_alike}
+use Rattle.wit_model.specs.Valid.{item_function}
 
 -- ---- lists
 
@@ -102,14 +103,14 @@ listed_alike k l x y (labels q) (interface_items g e) = refl
 listed_alike k l x y (labels q) (function_items h) = refl
 listed_alike k l x y (labels q) (type_items {id = id}) = λ i. Some (record { name = q i; id = id })
 
-imported_alike : (es fs : List Entry) → AllZip AlikeWorldEntries es fs → AllZip AlikeFunctions (filter_map (λ e. function_of_item e.1) es) (filter_map (λ e. function_of_item e.1) fs)
+imported_alike : (es fs : List Entry) → AllZip AlikeWorldEntries es fs → AllZip AlikeFunctions (filter_map (λ e. item_function e.1) es) (filter_map (λ e. item_function e.1) fs)
 imported_alike [] [] h = tt
 imported_alike [] (f ∷ fs) h = absurd h
 imported_alike (e ∷ es) [] h = absurd h
 imported_alike (e ∷ es) (f ∷ fs) h = go e.1 f.1 h.0.1 (imported_alike es fs h.1)
   where
-    go : (x y : Item) → AlikeItems x y → AllZip AlikeFunctions (filter_map (λ d. function_of_item d.1) es) (filter_map (λ d. function_of_item d.1) fs)
-        → AllZip AlikeFunctions (cons_option (function_of_item x) (filter_map (λ d. function_of_item d.1) es)) (cons_option (function_of_item y) (filter_map (λ d. function_of_item d.1) fs))
+    go : (x y : Item) → AlikeItems x y → AllZip AlikeFunctions (filter_map (λ d. item_function d.1) es) (filter_map (λ d. item_function d.1) fs)
+        → AllZip AlikeFunctions (cons_option (item_function x) (filter_map (λ d. item_function d.1) es)) (cons_option (item_function y) (filter_map (λ d. item_function d.1) fs))
     go x y (interface_items g k) rest = rest
     go x y (function_items k) rest = (k, rest)
     go x y type_items rest = rest

@@ -1,9 +1,9 @@
--- What an interface of valid packages has can be handed in to be printed: its types under their names, and its functions by resource.
+-- What an interface or a world of valid packages has can be handed in to be printed: its types under their names, and its functions by resource.
 use Rattle.std.specs.Prelude.{◌≡◌, true, List, Some, Vec}
 use Rattle.std.specs.Borrow.{Bor}
 use Rattle.std.specs.List.{Contains, list_all}
 use Rattle.std.specs.declared.alloc.Global.{Global}
-use Rattle.wit_model.specs.Lookup.{interface_at}
+use Rattle.wit_model.specs.Lookup.{interface_at, world_at}
 use Rattle.wit_model.specs.Valid.{IsValid}
 use Rattle.wit_model.specs.declared.model.Function.{Function}
 use Rattle.wit_model.specs.declared.model.Interface.{Interface}
@@ -11,7 +11,9 @@ use Rattle.wit_model.specs.declared.model.InterfaceId.{InterfaceId}
 use Rattle.wit_model.specs.declared.model.Resolve.{Resolve}
 use Rattle.wit_model.specs.declared.model.TypeId.{TypeId}
 use Rattle.wit_model.specs.declared.model.TypeOwner.TheVariants as owner
-use Rattle.print_items.specs.Shown.{Listed, listed_functions, listed_types}
+use Rattle.wit_model.specs.declared.model.World.{World}
+use Rattle.wit_model.specs.declared.model.WorldId.{WorldId}
+use Rattle.print_items.specs.Shown.{Listed, imported_functions, listed_functions, listed_imports, listed_types}
 use Rattle.print_packages.specs.GivenTypes.{Functions, are_functions_of, behind}
 use Rattle.print_uses.specs.UseGroups.{is_listed_type}
 
@@ -34,3 +36,25 @@ abbrev pub FunctionsCanBeGiven : Type 0
 FunctionsCanBeGiven = (r : Resolve) (id : InterfaceId) (i : Interface) → IsValid r → interface_at r id.0 ≡ Some i → (entries : Functions)
     → AreItsFunctions i entries
     → are_functions_of r (owner.Interface id) entries ≡ true
+
+-- ---- worlds
+
+-- each of these is a type that the world imports, under its name
+abbrev pub AreTypesOfWorld : World → List Listed → Type 0
+AreTypesOfWorld w given = (t : Listed) → Contains given t → Contains (listed_imports w) t
+
+-- each of these is a function that the world imports, whatever it stands under
+abbrev pub AreFunctionsOfWorld : World → Functions → Type 0
+AreFunctionsOfWorld w entries = (under : TypeId × Vec (Bor Function) Global) → Contains entries under → (f : Function) → Contains (behind under.1) f
+    → Contains (imported_functions w) f
+
+-- types of a world are listed types of it
+abbrev pub WorldTypesCanBeGiven : Type 0
+WorldTypesCanBeGiven = (r : Resolve) (id : WorldId) (w : World) → IsValid r → world_at r id.0 ≡ Some w → (given : List Listed) → AreTypesOfWorld w given
+    → list_all (is_listed_type r (owner.World id)) given ≡ true
+
+-- functions that a world imports are such functions of it
+abbrev pub WorldFunctionsCanBeGiven : Type 0
+WorldFunctionsCanBeGiven = (r : Resolve) (id : WorldId) (w : World) → IsValid r → world_at r id.0 ≡ Some w → (entries : Functions)
+    → AreFunctionsOfWorld w entries
+    → are_functions_of r (owner.World id) entries ≡ true

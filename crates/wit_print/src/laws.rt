@@ -4,7 +4,7 @@ ghost use Rattle.std.specs.Prelude.{Bool};
 ghost use Rattle.wit_model.specs.declared.model.Resolve.{Resolve};
 ghost use Rattle.wit_print.specs.Documentation.{DifferInDocumentation};
 ghost use Rattle.wit_print.specs.Files.{FileReads, KeptTextReads, OfPrintableFiles, PrintAlike};
-ghost use Rattle.wit_print.specs.Given.{FunctionsCanBeGiven, TypesCanBeGiven};
+ghost use Rattle.wit_print.specs.Given.{FunctionsCanBeGiven, TypesCanBeGiven, WorldFunctionsCanBeGiven, WorldTypesCanBeGiven};
 
 pub use print_grammar::laws::{one_reading, well_named_file_reads};
 pub use print_output::laws::{
@@ -31,4 +31,11 @@ pub fn undocumented_prints_alike()
 pub fn interfaces_can_be_given()
     ensures types { TypesCanBeGiven }
     ensures functions { FunctionsCanBeGiven }
+{}
+
+/// So are types that a world of valid packages imports, under their names, and functions that it imports, in lists by resource, where the world is
+/// the owner.
+pub fn worlds_can_be_given()
+    ensures types { WorldTypesCanBeGiven }
+    ensures functions { WorldFunctionsCanBeGiven }
 {}

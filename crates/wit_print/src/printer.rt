@@ -106,7 +106,8 @@ impl<O: Output> WitPrinter<O> {
         requires valid { IsValid resolve.now }
         requires in_range { id.0 < length resolve.now.packages.items }
         ensures ok { OnOk result (Prints O.keeps O.view self.old (package_calls (emits_docs self.old) is_main (shown_package resolve.now id)) self.new) }
-        ensures err { OnErr result (PrintsInPart O.keeps O.view self.old (package_calls (emits_docs self.old) is_main (shown_package resolve.now id)) self.new) }
+        ensures err { OnErr result (PrintsInPart O.keeps O.view self.old
+            (package_calls (emits_docs self.old) is_main (shown_package resolve.now id)) self.new) }
         ensures memory { IsOkUnless result Memory }
         ensures docs { emits_docs self.new ≡ emits_docs self.old }
         ensures mark { block_has_printed self.new ≡ block_has_printed self.old }
@@ -216,7 +217,8 @@ impl<O: Output> WitPrinter<O> {
         requires known { AreTypesOf resolve.now owner (Drains I.next_gives types) }
         requires functions { are_functions_of resolve.now owner functions.now.entries ≡ true }
         ensures ok { OnOk result (PrintsTypes O.keeps O.view self.old (Drains I.next_gives types) (given_with resolve.now owner functions.now) self.new) }
-        ensures err { OnErr result (PrintsTypesInPart O.keeps O.view self.old (Drains I.next_gives types) (given_with resolve.now owner functions.now) self.new) }
+        ensures err { OnErr result (PrintsTypesInPart O.keeps O.view self.old (Drains I.next_gives types)
+            (given_with resolve.now owner functions.now) self.new) }
         ensures memory { IsOkUnless result Memory }
         ensures docs { emits_docs self.new ≡ emits_docs self.old }
     {

@@ -65,7 +65,8 @@ fn is_listed(resolve: &Resolve, interface: InterfaceId, name: &str, id: TypeId) 
 }
 
 fn are_listed(resolve: &Resolve, interface: InterfaceId, types: &[(&str, TypeId)]) -> bool
-    ensures { result ≡ list_all (λ listed. is_listed_type resolve.now (TypeOwner.Interface interface) (record { name = listed.0.now; id = listed.1 })) types.now }
+    ensures { result ≡ list_all (λ listed. is_listed_type resolve.now (TypeOwner.Interface interface)
+        (record { name = listed.0.now; id = listed.1 })) types.now }
 {
     types
         .iter()
@@ -81,7 +82,8 @@ fn print_listed<O: Output>(
     types: &[(&str, TypeId)],
 ) -> Result<(), Error>
     requires valid { IsValid resolve.now }
-    requires listed { list_all (λ listed. is_listed_type resolve.now (TypeOwner.Interface interface) (record { name = listed.0.now; id = listed.1 })) types.now ≡ true }
+    requires listed { list_all (λ listed. is_listed_type resolve.now (TypeOwner.Interface interface) (record { name = listed.0.now; id = listed.1 }))
+        types.now ≡ true }
 {
     let functions = HashMap::new(alloc);
     let given = Given {

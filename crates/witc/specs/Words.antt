@@ -1,5 +1,5 @@
 -- What the words behind the program's name ask for.
-use Rattle.std.specs.Prelude.{ℕ, Bool, ◌&&◌, nat_eq, List, [], ◌∷◌, codes, Vec, Option, Some, None, is_some, if◌then◌else◌}
+use Rattle.std.specs.Prelude.{ℕ, Bool, ◌&&◌, nat_eq, List, [], ◌∷◌, codes, Vec, Option, Some, None, if◌then◌else◌}
 use Rattle.std.specs.declared.alloc.Global.{Global}
 use Rattle.std.specs.Cmp.Lexicographic.{pointwise}
 use Rattle.std.specs.Str.{is_utf8}
@@ -35,7 +35,3 @@ asked_of (first ∷ second ∷ []) = if is_word first (codes "demo") then demo_o
 asked_of (first ∷ prev ∷ new ∷ []) = if is_word first (codes "compat") && (is_utf8 prev.items && is_utf8 new.items) then Some
     (compat prev.items new.items) else None
 asked_of _ = None
-
--- whether the words are a command
-abbrev pub is_command : List (Vec ℕ Global) → Bool
-is_command words = is_some (asked_of words)

@@ -7,9 +7,7 @@ use wit_component::*;
 /// The text of the package that the bytes of a component mean.
 fn text_of(alloc: Global, bytes: &[u8]) -> Result<String, Error> {
     let (resolve, id) = decode(alloc, bytes)?;
-    let mut printer = WitPrinter::new(OutputToString::new(alloc));
-    printer.print(alloc, &resolve, id, &[])?;
-    Ok(String::from(printer.output))
+    print_to_string(alloc, &resolve, id, &[])
 }
 
 /// The function `go`.

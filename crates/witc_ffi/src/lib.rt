@@ -8,6 +8,7 @@ ghost use Rattle.wit_component.specs.Decoded.{RefusesBytes};
 ghost use Rattle.wit_component.specs.DecodedWorlds.{RefusesWorldBytes};
 ghost use Rattle.witc_alike.specs.Carried.{RefusesWalk};
 ghost use Rattle.witc_ffi.specs.Answers.{Answers, AnswersAlike, AnswersAttached, AnswersCompared, AnswersEmbedded, IsSection, KindsAnswers, LacksSection, NeverBad, RefusesBound, is_asked};
+ghost use Rattle.witc_listed.specs.Listings.{ListsModule, ListsPackage, ListsWorld};
 ghost use Rattle.witc_texts.specs.Bindings.{PrintsModule};
 ghost use Rattle.witc_texts.specs.Printed.{PrintsBytes};
 ghost use Rattle.witc_texts.specs.Stripped.{StripsBytes};
@@ -24,6 +25,7 @@ use answer::Answer;
 use calls::{attached, compared, embedded, known_kinds, likened, section, stripped};
 use outcome::{hand_out, of_bytes};
 use std::alloc::Global;
+use witc_listed::{module_json, package_json, world_json};
 use witc_refusals::Why;
 use witc_texts::{module_text, print};
 use witc_written::{module_package, package_bytes, world_package, world_text};
@@ -60,6 +62,24 @@ pub extern "C" fn witc_package_bytes_slice(
     )
 }
 
+/// The package that the bytes mean, as JSON.
+#[unsafe(no_mangle)]
+pub extern "C" fn witc_package_json_slice(
+    alloc: Global,
+    bytes: &[u8],
+    answer: &mut Answer,
+    why: &mut Why,
+) -> u8
+    ensures { Answers (ListsPackage bytes.now) (RefusesBytes bytes.now) NeverBad result answer.new.text why.new }
+{
+    hand_out(
+        alloc,
+        of_bytes(alloc, package_json(alloc, bytes)),
+        answer,
+        why,
+    )
+}
+
 /// The text of the one world that the bytes mean.
 #[unsafe(no_mangle)]
 pub extern "C" fn witc_world_text_slice(
@@ -73,6 +93,24 @@ pub extern "C" fn witc_world_text_slice(
     hand_out(
         alloc,
         of_bytes(alloc, world_text(alloc, bytes)),
+        answer,
+        why,
+    )
+}
+
+/// The one world that the bytes mean, as JSON.
+#[unsafe(no_mangle)]
+pub extern "C" fn witc_world_json_slice(
+    alloc: Global,
+    bytes: &[u8],
+    answer: &mut Answer,
+    why: &mut Why,
+) -> u8
+    ensures { Answers (ListsWorld bytes.now) (RefusesWorldBytes bytes.now) NeverBad result answer.new.text why.new }
+{
+    hand_out(
+        alloc,
+        of_bytes(alloc, world_json(alloc, bytes)),
         answer,
         why,
     )
@@ -109,6 +147,24 @@ pub extern "C" fn witc_module_text_slice(
     hand_out(
         alloc,
         of_bytes(alloc, module_text(alloc, bytes)),
+        answer,
+        why,
+    )
+}
+
+/// What the core module binds that the bytes are, as JSON.
+#[unsafe(no_mangle)]
+pub extern "C" fn witc_module_json_slice(
+    alloc: Global,
+    bytes: &[u8],
+    answer: &mut Answer,
+    why: &mut Why,
+) -> u8
+    ensures { Answers (ListsModule bytes.now) (RefusesBound bytes.now) NeverBad result answer.new.text why.new }
+{
+    hand_out(
+        alloc,
+        of_bytes(alloc, module_json(alloc, bytes)),
         answer,
         why,
     )

@@ -7,6 +7,7 @@ use Rattle.print_grammar.specs.Calls.{file_calls}
 use Rattle.print_grammar.specs.Reading.{IsOnlyReading}
 use Rattle.print_output.specs.Render.{render}
 use Rattle.wit_component.specs.Decoded.{IsDecoded}
+use Rattle.wit_component.specs.Order.{FollowsBytes}
 use Rattle.wit_print.specs.Shown.{shown_file}
 
 -- The text is what the package's calls render to, with documentation and these others nested, and its one reading is what is shown of them.
@@ -14,9 +15,10 @@ pub record IsTextOf (r : Resolve) (id : PackageId) (nested : List PackageId) (te
   pub rendered : text ≡ render (file_calls true (shown_file r id nested))
   pub reads : IsOnlyReading text (file_as_read (shown_file r id nested))
 
--- The bytes mean a package, and the text is of it, with no others nested.
+-- The bytes mean a package, and the text is of it, in the order in which they show it, with no others nested.
 pub record PrintsBytes (bytes text : List ℕ) : Type 0 where
   pub resolve : Resolve
   pub id : PackageId
   pub decoded : IsDecoded bytes resolve id.0
+  pub order : FollowsBytes bytes resolve
   pub is_text : IsTextOf resolve id [] text

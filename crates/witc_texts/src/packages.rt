@@ -9,7 +9,7 @@ ghost use Rattle.wit_component.specs.Decoded.{RefusesBytes};
 ghost use Rattle.witc_texts.specs.Printed.{IsTextOf, PrintsBytes};
 
 use std::alloc::Global;
-use wit_component::{Error, OutputToString, PackageId, Resolve, WitPrinter, decode};
+use wit_component::{Error, PackageId, Resolve, decode, print_to_string};
 
 /// The text of a package, with others nested in it.
 pub fn text_of_package(
@@ -24,9 +24,7 @@ pub fn text_of_package(
     ensures text { IfOk result (λ text. IsTextOf resolve.now id nested.now text.items) }
     ensures memory { IsOkUnless result Memory }
 {
-    let mut printer = WitPrinter::new(OutputToString::new(alloc));
-    printer.print(alloc, resolve, id, nested)?;
-    Ok(String::from(printer.output).into_bytes())
+    Ok(print_to_string(alloc, resolve, id, nested)?.into_bytes())
 }
 
 /// The text of the package that the bytes mean, with no others nested in it. Bytes that mean none are refused as `decode` refuses them.

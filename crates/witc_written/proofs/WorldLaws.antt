@@ -9,14 +9,17 @@ use Rattle.wit_model.specs.declared.model.Resolve.{Resolve}
 use Rattle.wit_model.specs.declared.model.World.{World}
 use Rattle.wit_model.specs.Lookup.{world_at}
 use Rattle.wit_component.specs.DecodedWorlds.{IsDecodedWorld, RefusesWorldBytes}
+use Rattle.wit_component.specs.Order.{FollowsBytes}
 use Rattle.wit_component.specs.Packages.{MeansPackageAt, RefusesPackageAt, SpellsPackageAt}
 use Rattle.wit_component.specs.Weight.{package_weight}
 use Rattle.witc_written.specs.Worlds.{EncodesWorld, HasWorld, RefusesEncodedWorld, unwritten}
 
 -- The world that bytes mean, and its package.
-pub has-world : (bytes : List ℕ) (r : Resolve) (n : ℕ) (home : PackageId) → IsDecodedWorld bytes r n → ((w : World) → world_at r n ≡ Some w → w.package ≡ Some home) → HasWorld bytes r home
-has-world bytes r n home d is = record {
+pub has-world : (bytes : List ℕ) (r : Resolve) (n : ℕ) (home : PackageId) → IsDecodedWorld bytes r n → FollowsBytes bytes r → ((w : World) → world_at r n ≡ Some w → w.package ≡ Some home)
+    → HasWorld bytes r home
+has-world bytes r n home d order is = record {
   decoded = subst (λ (k : ℕ). IsDecodedWorld bytes r k) d.first d;
+  order = order;
   world = d.world;
   stands = subst (λ (k : ℕ). world_at r k ≡ Some d.world) d.first d.stands;
   home_is = is d.world d.stands;

@@ -6,6 +6,7 @@ use Rattle.wit_model.specs.declared.model.PackageId.{PackageId}
 use Rattle.wit_model.specs.declared.model.Resolve.{Resolve}
 use Rattle.wit_model.specs.declared.model.World.{World}
 use Rattle.wit_component.specs.DecodedWorlds.{IsDecodedWorld, RefusesWorldBytes}
+use Rattle.wit_component.specs.Order.{FollowsBytes}
 use Rattle.wit_model.specs.Lookup.{world_at}
 use Rattle.wit_component.specs.Packages.{MeansPackageAt, SpellsPackageAt}
 use Rattle.witc_texts.specs.Printed.{IsTextOf}
@@ -15,9 +16,10 @@ use Rattle.witc_written.specs.Written.{RefusesWritten}
 abbrev pub other_packages_than : Resolve → ℕ → List PackageId
 other_packages_than r home = filter (λ id. not (nat_eq id.0 home)) (map (λ n. record { 0 = n }) (range_with_len 0 (length r.packages.items)))
 
--- The bytes mean one world, which is decoded so, and this is the number of its package. It is not always the first.
+-- The bytes mean one world, which is decoded so, in the order in which they show it, and this is the number of its package. It is not always the first.
 pub record HasWorld (bytes : List ℕ) (r : Resolve) (home : PackageId) : Type 0 where
   pub decoded : IsDecodedWorld bytes r 0
+  pub order : FollowsBytes bytes r
   pub world : World
   pub stands : world_at r 0 ≡ Some world
   pub home_is : world.package ≡ Some home

@@ -11,7 +11,8 @@ returns-in_err-reserve_named-clause-others c =
     let i = c.loop-gained.gained-index in
     let names = c.args.names.now in
     let n = c.gained-item.result in
-    others_more i names c.args.packages.now c.loop-gained.packages c.reserve_named.new.packages n (slice_get_read names _ i n refl c.loop-gained-test.true c.gained-item.is) c.loop-gained.invariant.2 c.reserve_named.ensures.others
+    others_more i names c.args.packages.now c.loop-gained.packages c.reserve_named.new.packages n (slice_get_read names _ i n refl c.loop-gained-test.true c.gained-item.is) c.loop-gained.invariant.2
+    c.reserve_named.ensures.others
 
 pub loop-gained-preserved : goal.loop-gained-preserved
 loop-gained-preserved c =

@@ -14,43 +14,54 @@ use Rattle.base_lemmas.proofs.Lists.{within_there}
 use Rattle.base_lemmas.proofs.Options.{ok_holds as on_ok}
 
 pub copied_inline-requires-clause-imports : goal.copied_inline-requires-clause-imports
-copied_inline-requires-clause-imports c v at = imports_shown c.args.bound.own.now c.args.bound.other.now c.args.bound.world.0 c.args.bound.other_world.0 c.args.first.carried.now c.args.first.fates.now c.args.first.types.now c.requires v at (length c.deref.result.now) (ap length c.deref.ensures.value ∙ c.requires.interface_count)
+copied_inline-requires-clause-imports c v at = imports_shown c.args.bound.own.now c.args.bound.other.now c.args.bound.world.0 c.args.bound.other_world.0 c.args.first.carried.now c.args.first.fates.now
+    c.args.first.types.now c.requires v at (length c.deref.result.now) (ap length c.deref.ensures.value ∙ c.requires.interface_count)
 
 pub copied_inline-requires-clause-exports : goal.copied_inline-requires-clause-exports
-copied_inline-requires-clause-exports c v at = exports_shown c.args.bound.own.now c.args.bound.other.now c.args.bound.world.0 c.args.bound.other_world.0 c.args.first.carried.now c.args.first.fates.now c.args.first.types.now c.requires v at (length c.deref.result.now) (ap length c.deref.ensures.value ∙ c.requires.interface_count)
+copied_inline-requires-clause-exports c v at = exports_shown c.args.bound.own.now c.args.bound.other.now c.args.bound.world.0 c.args.bound.other_world.0 c.args.first.carried.now c.args.first.fates.now
+    c.args.first.types.now c.requires v at (length c.deref.result.now) (ap length c.deref.ensures.value ∙ c.requires.interface_count)
 
 pub bind_types-requires-clause-keys : goal.bind_types-requires-clause-keys
 bind_types-requires-clause-keys c v at =
-    let many = numbers_many (length c.args.bound.own.now.interfaces.items + c.len-before.result) c.deref-2.result.now c.deref-3.result.now c.in_ok-interfaces.interfaces.items (length c.args.bound.other.now.interfaces.items) c.in_ok-interfaces.ensures.numbers
+    let many = numbers_many (length c.args.bound.own.now.interfaces.items + c.len-before.result) c.deref-2.result.now c.deref-3.result.now c.in_ok-interfaces.interfaces.items
+    (length c.args.bound.other.now.interfaces.items) c.in_ok-interfaces.ensures.numbers
     (ap length c.deref-2.ensures.value ∙ c.in_ok-copied.ensures.count) (ap length c.deref-3.ensures.value ∙ c.requires.interface_count) in
     world_keys_below c.args.bound.other.now c.requires.in_range c.args.bound.other_world.0 v at (length c.deref-5.result.now) (ap length c.deref-5.ensures.value ∙ many)
 
 pub bind_types-requires-clause-same : goal.bind_types-requires-clause-same
 bind_types-requires-clause-same c =
-    let many = numbers_many (length c.args.bound.own.now.interfaces.items + c.len-before.result) c.deref-2.result.now c.deref-3.result.now c.in_ok-interfaces.interfaces.items (length c.args.bound.other.now.interfaces.items) c.in_ok-interfaces.ensures.numbers
+    let many = numbers_many (length c.args.bound.own.now.interfaces.items + c.len-before.result) c.deref-2.result.now c.deref-3.result.now c.in_ok-interfaces.interfaces.items
+    (length c.args.bound.other.now.interfaces.items) c.in_ok-interfaces.ensures.numbers
     (ap length c.deref-2.ensures.value ∙ c.in_ok-copied.ensures.count) (ap length c.deref-3.ensures.value ∙ c.requires.interface_count) in
     (ap length c.deref-5.ensures.value ∙ many) ∙ sym (ap length c.deref-4.ensures.value ∙ c.in_ok-copied.ensures.count)
 
 pub bind_types-requires-clause-imports : goal.bind_types-requires-clause-imports
-bind_types-requires-clause-imports c v at = types_shown c.args.bound.own.now c.args.bound.other.now c.args.bound.world.0 c.args.bound.other_world.0 c.args.first.carried.now c.args.first.fates.now c.args.first.types.now c.requires v at
+bind_types-requires-clause-imports c v at = types_shown c.args.bound.own.now c.args.bound.other.now c.args.bound.world.0 c.args.bound.other_world.0 c.args.first.carried.now c.args.first.fates.now
+    c.args.first.types.now c.requires v at
 
 pub copy_inline-requires-clause-names : goal.copy_inline-requires-clause-names
-copy_inline-requires-clause-names c n i at = names_in c.args.bound.own.now c.args.bound.other.now c.args.bound.world.0 c.args.bound.other_world.0 c.args.first.carried.now c.args.first.fates.now c.args.first.types.now c.requires (length c.deref-7.result.now) (ap length c.deref-7.ensures.value ∙ c.in_ok-types.ensures.count) n i at
+copy_inline-requires-clause-names c n i at = names_in c.args.bound.own.now c.args.bound.other.now c.args.bound.world.0 c.args.bound.other_world.0 c.args.first.carried.now c.args.first.fates.now
+    c.args.first.types.now c.requires (length c.deref-7.result.now) (ap length c.deref-7.ensures.value ∙ c.in_ok-types.ensures.count) n i at
 
 pub copy_inline-requires-clause-functions : goal.copy_inline-requires-clause-functions
-copy_inline-requires-clause-functions c n i at = functions_in c.args.bound.own.now c.args.bound.other.now c.args.bound.world.0 c.args.bound.other_world.0 c.args.first.carried.now c.args.first.fates.now c.args.first.types.now c.requires (length c.deref-7.result.now) (ap length c.deref-7.ensures.value ∙ c.in_ok-types.ensures.count) n i at
+copy_inline-requires-clause-functions c n i at = functions_in c.args.bound.own.now c.args.bound.other.now c.args.bound.world.0 c.args.bound.other_world.0 c.args.first.carried.now
+    c.args.first.fates.now c.args.first.types.now c.requires (length c.deref-7.result.now) (ap length c.deref-7.ensures.value ∙ c.in_ok-types.ensures.count) n i at
 
 pub bind_entries-requires-clause-imports : goal.bind_entries-requires-clause-imports
 bind_entries-requires-clause-imports c v at =
-    let many = numbers_many (length c.args.bound.own.now.interfaces.items + c.len-before.result) c.deref-2.result.now c.deref-3.result.now c.in_ok-interfaces.interfaces.items (length c.args.bound.other.now.interfaces.items) c.in_ok-interfaces.ensures.numbers
+    let many = numbers_many (length c.args.bound.own.now.interfaces.items + c.len-before.result) c.deref-2.result.now c.deref-3.result.now c.in_ok-interfaces.interfaces.items
+    (length c.args.bound.other.now.interfaces.items) c.in_ok-interfaces.ensures.numbers
     (ap length c.deref-2.ensures.value ∙ c.in_ok-copied.ensures.count) (ap length c.deref-3.ensures.value ∙ c.requires.interface_count) in
-    imports_below c.args.bound.own.now c.args.bound.other.now c.args.bound.world.0 c.args.bound.other_world.0 c.args.first.carried.now c.args.first.fates.now c.args.first.types.now c.requires v at (length c.deref-8.result.now) (length c.deref-9.result.now) (ap length c.deref-8.ensures.value ∙ many) (ap length c.deref-9.ensures.value ∙ c.in_ok-types.ensures.count)
+    imports_below c.args.bound.own.now c.args.bound.other.now c.args.bound.world.0 c.args.bound.other_world.0 c.args.first.carried.now c.args.first.fates.now c.args.first.types.now c.requires v at
+    (length c.deref-8.result.now) (length c.deref-9.result.now) (ap length c.deref-8.ensures.value ∙ many) (ap length c.deref-9.ensures.value ∙ c.in_ok-types.ensures.count)
 
 pub bind_entries-requires-clause-exports : goal.bind_entries-requires-clause-exports
 bind_entries-requires-clause-exports c v at =
-    let many = numbers_many (length c.args.bound.own.now.interfaces.items + c.len-before.result) c.deref-2.result.now c.deref-3.result.now c.in_ok-interfaces.interfaces.items (length c.args.bound.other.now.interfaces.items) c.in_ok-interfaces.ensures.numbers
+    let many = numbers_many (length c.args.bound.own.now.interfaces.items + c.len-before.result) c.deref-2.result.now c.deref-3.result.now c.in_ok-interfaces.interfaces.items
+    (length c.args.bound.other.now.interfaces.items) c.in_ok-interfaces.ensures.numbers
     (ap length c.deref-2.ensures.value ∙ c.in_ok-copied.ensures.count) (ap length c.deref-3.ensures.value ∙ c.requires.interface_count) in
-    exports_below c.args.bound.own.now c.args.bound.other.now c.args.bound.world.0 c.args.bound.other_world.0 c.args.first.carried.now c.args.first.fates.now c.args.first.types.now c.requires v at (length c.deref-8.result.now) (length c.deref-9.result.now) (ap length c.deref-8.ensures.value ∙ many) (ap length c.deref-9.ensures.value ∙ c.in_ok-types.ensures.count)
+    exports_below c.args.bound.own.now c.args.bound.other.now c.args.bound.world.0 c.args.bound.other_world.0 c.args.first.carried.now c.args.first.fates.now c.args.first.types.now c.requires v at
+    (length c.deref-8.result.now) (length c.deref-9.result.now) (ap length c.deref-8.ensures.value ∙ many) (ap length c.deref-9.ensures.value ∙ c.in_ok-types.ensures.count)
 
 pub returns-clause-gained : goal.returns-clause-gained
 returns-clause-gained c =
@@ -79,9 +90,12 @@ returns-clause-gained c =
       names = lists.names;
       worlds = lists.worlds;
       types_copied =
-          subst (λ (l : List TypeDef). AreCopied (length own.types.items) types other.types.items (bound_fates other world other_world w v copied interfaces fates first_types) old.types.items l) (sym lists.type_defs)
-          (subst (λ (l : List ℕ). AreCopied (length own.types.items) types other.types.items (bound_fates other world other_world w v copied l fates first_types) old.types.items c.bind_types.new.added.items) c.deref-5.ensures.value
-          (subst (λ l. AreCopied (length own.types.items) types other.types.items (bound_fates other world other_world w v l c.deref-5.result.now fates first_types) old.types.items c.bind_types.new.added.items) c.deref-4.ensures.value
+          subst (λ (l : List TypeDef). AreCopied (length own.types.items) types other.types.items (bound_fates other world other_world w v copied interfaces fates first_types) old.types.items l)
+          (sym lists.type_defs)
+          (subst (λ (l : List ℕ). AreCopied (length own.types.items) types other.types.items (bound_fates other world other_world w v copied l fates first_types) old.types.items
+          c.bind_types.new.added.items) c.deref-5.ensures.value
+          (subst (λ l. AreCopied (length own.types.items) types other.types.items (bound_fates other world other_world w v l c.deref-5.result.now fates first_types) old.types.items
+          c.bind_types.new.added.items) c.deref-4.ensures.value
           (c.in_ok-types.ensures.copied w v at_w at_v)));
       inline_copied =
           subst (λ (l : List Interface). AreInlineCopied types w.«package» copied other.interfaces.items old.interfaces.items l) (sym lists.interfaces)

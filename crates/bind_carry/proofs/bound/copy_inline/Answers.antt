@@ -14,5 +14,6 @@ returns-clause-copied c w at_w =
     record {
       more = copies;
       behind = search rules;
-      copies = subst (λ (x : World). AllZip (IsInterfaceUnder c.args.types.now x.«package») (kept c.args.copied.now c.args.bound.other.now.interfaces.items) copies) own_is c.in_ok-copies.ensures.copies;
+      copies = subst (λ (x : World). AllZip (IsInterfaceUnder c.args.types.now x.«package») (kept c.args.copied.now c.args.bound.other.now.interfaces.items) copies) own_is
+          c.in_ok-copies.ensures.copies;
     }

@@ -16,8 +16,11 @@ loop-key-preserved c =
     let e : WorldKey × WorldItem = (c.in-Some.key.now, c.in-Some.field-0-1.now) in
     let step : c.loop-key.key-iterator ≡ e ∷ rest = rest_more deref_pair c.loop-key.key-iterator rest c.next.result (c.in-Some.key, c.in-Some.field-0-1) c.in-Some.is c.next.ensures.steps in
     let below : are_keys_below (length interfaces) rest ≡ true = search rules in
-    let added = c.in_ok-insert.ensures.keys ∙ ap (λ q. insert_key q c.loop-key.keys.keys c.in_ok-copy_key.field-0) test_is in
-    (below, key_more interfaces c.args.items.now.entries c.loop-key.key-iterator rest c.loop-key.keys.keys c.insert.new.self.keys e c.in_ok-copy_key.field-0 step c.in_ok-copy_key.ensures.key added c.loop-key.invariant.1)
+    let added = c.in_ok-insert.ensures.keys ∙ ap (λ q. insert_key q c.loop-key.keys.keys c.in_ok-copy_key.field-0) test_is in (
+      below,
+      key_more interfaces c.args.items.now.entries c.loop-key.key-iterator rest c.loop-key.keys.keys c.insert.new.self.keys e c.in_ok-copy_key.field-0 step c.in_ok-copy_key.ensures.key added
+          c.loop-key.invariant.1,
+    )
 
 pub returns-clause-keys : goal.returns-clause-keys
 returns-clause-keys c =

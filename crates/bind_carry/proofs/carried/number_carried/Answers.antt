@@ -23,20 +23,25 @@ returns-clause-numbered c =
     let known_worlds : c.deref-7.result.now ≡ map world_number matches.worlds.items = c.deref-7.ensures.value ∙ (c.in_ok-known-2.ensures ∙ ap (map world_number) c.deref-5.ensures.value) in
     let worlds : c.in_ok-worlds.worlds.items ≡ numbers_of (length c.args.own.now.worlds.items) world_flags (map world_number matches.worlds.items) =
     c.in_ok-worlds.ensures.numbers ∙ (λ j. numbers_of (count_worlds j) (c.deref-6.ensures.value j) (known_worlds j)) in
-    let known_interfaces : c.deref-11.result.now ≡ map interface_number matches.interfaces.items = c.deref-11.ensures.value ∙ (c.in_ok-known-3.ensures ∙ ap (map interface_number) c.deref-9.ensures.value) in
+    let known_interfaces : c.deref-11.result.now ≡ map interface_number matches.interfaces.items =
+    c.deref-11.ensures.value ∙ (c.in_ok-known-3.ensures ∙ ap (map interface_number) c.deref-9.ensures.value) in
     let interfaces : c.in_ok-interfaces.interfaces.items ≡ numbers_of (length c.args.own.now.interfaces.items) interface_flags (map interface_number matches.interfaces.items) =
     c.in_ok-interfaces.ensures.numbers ∙ (λ j. numbers_of (count_interfaces j) (c.deref-10.ensures.value j) (known_interfaces j)) in
     record {
       whole = record {
-        packages = numbers_long first flags (map package_number matches.packages.items) (ap length new_packages ∙ (length-map matches.packages.items is_none ∙ sym (length-map matches.packages.items package_number))) ∙ ap length (sym packages);
-        interfaces = numbers_long (length c.args.own.now.interfaces.items) interface_flags (map interface_number matches.interfaces.items) (c.in_ok-copied_interfaces.ensures.count ∙ (sym c.requires.interfaces ∙ sym (length-map matches.interfaces.items interface_number))) ∙ ap length (sym interfaces);
-        worlds = numbers_long (length c.args.own.now.worlds.items) world_flags (map world_number matches.worlds.items) (c.in_ok-copied_worlds.ensures.count ∙ (sym c.requires.worlds ∙ sym (length-map matches.worlds.items world_number))) ∙ ap length (sym worlds);
+        packages = numbers_long first flags (map package_number matches.packages.items)
+            (ap length new_packages ∙ (length-map matches.packages.items is_none ∙ sym (length-map matches.packages.items package_number))) ∙ ap length (sym packages);
+        interfaces = numbers_long (length c.args.own.now.interfaces.items) interface_flags (map interface_number matches.interfaces.items)
+            (c.in_ok-copied_interfaces.ensures.count ∙ (sym c.requires.interfaces ∙ sym (length-map matches.interfaces.items interface_number))) ∙ ap length (sym interfaces);
+        worlds = numbers_long (length c.args.own.now.worlds.items) world_flags (map world_number matches.worlds.items)
+            (c.in_ok-copied_worlds.ensures.count ∙ (sym c.requires.worlds ∙ sym (length-map matches.worlds.items world_number))) ∙ ap length (sym worlds);
       };
       new_packages = new_packages;
       packages = packages;
       copied_worlds = c.in_ok-copied_worlds.ensures.flags;
       worlds = worlds;
-      copied_interfaces = c.in_ok-copied_interfaces.ensures.chosen ∙ ap (λ flags. mark_worlds c.args.other.now (new_interfaces matches.interfaces.items c.args.other.now.interfaces.items) flags c.args.other.now.worlds.items) c.deref-8.ensures.value;
+      copied_interfaces = c.in_ok-copied_interfaces.ensures.chosen ∙ ap (λ flags. mark_worlds c.args.other.now (new_interfaces matches.interfaces.items c.args.other.now.interfaces.items) flags
+          c.args.other.now.worlds.items) c.deref-8.ensures.value;
       interfaces = interfaces;
       interface_count = c.in_ok-copied_interfaces.ensures.count;
       world_count = c.in_ok-copied_worlds.ensures.count;

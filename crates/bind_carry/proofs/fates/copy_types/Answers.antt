@@ -30,12 +30,14 @@ loop-number-preserved c =
     let met : MeetsFate own so_far def f c.loop-number.added.items c.carried_type.new.added.items c.in_ok-image.image =
     subst (λ l. MeetsFate own l def f c.loop-number.added.items c.carried_type.new.added.items c.in_ok-image.image) c.deref.ensures.value told in
     let more : AreCopiedSoFar own types fates old (so_far ++ c.in_ok-image.image ∷ []) (drop (n + 1) types) (drop (n + 1) fates) c.carried_type.new.added.items =
-    one_more own types fates old so_far (drop n types) (drop n fates) def (drop (n + 1) types) f (drop (n + 1) fates) c.loop-number.added.items c.carried_type.new.added.items c.in_ok-image.image at_type at_fate small met c.loop-number.invariant.met
+    one_more own types fates old so_far (drop n types) (drop n fates) def (drop (n + 1) types) f (drop (n + 1) fates) c.loop-number.added.items c.carried_type.new.added.items c.in_ok-image.image
+    at_type at_fate small met c.loop-number.invariant.met
     in
     record {
       count = search rules;
       met = subst (λ l. AreCopiedSoFar own types fates old l (drop (n + 1) types) (drop (n + 1) fates) c.carried_type.new.added.items) (sym c.in_ok-push.ensures.items) more;
-      counted = counted_more own c.deref.result.now def f c.loop-number.added.items c.carried_type.new.added.items c.in_ok-image.image (drop (n + 1) fates) (drop n fates) (length old + copies_of fates) at_fate told c.loop-number.invariant.counted;
+      counted = counted_more own c.deref.result.now def f c.loop-number.added.items c.carried_type.new.added.items c.in_ok-image.image (drop (n + 1) fates) (drop n fates)
+          (length old + copies_of fates) at_fate told c.loop-number.invariant.counted;
     }
 
 pub returns-clause-copied : goal.returns-clause-copied
@@ -45,4 +47,5 @@ returns-clause-copied c =
     let n = c.loop-number.number in
     let past : length types ≤ n = search rules in
     let past_fates : length fates ≤ n = search rules in
-    all_met c.args.own types fates c.args.added.now.items c.loop-number.numbers.items (drop n types) (drop n fates) c.loop-number.added.items (drop_all n types past) (drop_all n fates past_fates) c.loop-number.invariant.met
+    all_met c.args.own types fates c.args.added.now.items c.loop-number.numbers.items (drop n types) (drop n fates) c.loop-number.added.items (drop_all n types past) (drop_all n fates past_fates)
+    c.loop-number.invariant.met

@@ -17,8 +17,10 @@ loop-number-preserved c =
     let k = c.index-own.result.now in
     let at_flag : drop n flags ≡ b ∷ drop (n + 1) flags = drop_more flags n b within_flags ∙ ap (λ t. t ∷ drop (n + 1) flags) (sym c.index-is_new.ensures) in
     let at_number : drop n numbers ≡ k ∷ drop (n + 1) numbers = drop_more numbers n k within_numbers ∙ ap (λ t. t ∷ drop (n + 1) numbers) (sym c.index-own.ensures) in
-    let at_package : drop n xs ≡ p ∷ drop (n + 1) xs = drop_more xs n p within ∙ ap (λ t. t ∷ drop (n + 1) xs) (ap (λ l. get_or l n p) (sym c.deref-package-items.ensures.value) ∙ sym c.package-item.is) in
-    one_passed c.args.carried.now xs (drop n flags) (drop (n + 1) flags) (drop n numbers) (drop (n + 1) numbers) (drop n xs) (drop (n + 1) xs) b k p c.loop-number.gained.items c.gain.new.gained.items at_flag at_number at_package
+    let at_package : drop n xs ≡ p ∷ drop (n + 1) xs = drop_more xs n p within ∙ ap (λ t. t ∷ drop (n + 1) xs)
+    (ap (λ l. get_or l n p) (sym c.deref-package-items.ensures.value) ∙ sym c.package-item.is) in
+    one_passed c.args.carried.now xs (drop n flags) (drop (n + 1) flags) (drop n numbers) (drop (n + 1) numbers) (drop n xs) (drop (n + 1) xs) b k p c.loop-number.gained.items c.gain.new.gained.items
+    at_flag at_number at_package
     c.in_ok-gain.ensures.new c.in_ok-gain.ensures.grown c.loop-number.invariant
 
 pub returns-clause-names : goal.returns-clause-names

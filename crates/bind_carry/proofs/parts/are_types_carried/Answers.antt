@@ -6,4 +6,5 @@ use Rattle.bind_carry.specs.Fates.{are_carried}
 use Rattle.bind_carry.proofs.parts.are_types_carried.Goals as goal
 
 pub returns : goal.returns
-returns c = all_from_yields_List (λ f. are_carried c.args.fates.now (type_numbers f)) _ _ c.all.result c.all.ensures.ran (YieldsList-from_slice c.args.types.now c.iter.ensures.rest) (λ x b q k. search (rules, tests))
+returns c = all_from_yields_List (λ f. are_carried c.args.fates.now (type_numbers f)) _ _ c.all.result c.all.ensures.ran (YieldsList-from_slice c.args.types.now c.iter.ensures.rest)
+    (λ x b q k. search (rules, tests))

@@ -28,13 +28,16 @@ pub number_carried-requires-clause-few_worlds : goal.number_carried-requires-cla
 number_carried-requires-clause-few_worlds c = (is_in_range c.args.other.now c.requires.other).few_worlds
 
 pub number_carried-requires-clause-imports : goal.number_carried-requires-clause-imports
-number_carried-requires-clause-imports c n w at = let other = c.args.other.now in shown_below (length other.interfaces.items) (length other.types.items) w.imports.entries ((is_in_range other c.requires.other).imports n w at)
+number_carried-requires-clause-imports c n w at = let other = c.args.other.now in
+    shown_below (length other.interfaces.items) (length other.types.items) w.imports.entries ((is_in_range other c.requires.other).imports n w at)
 
 pub number_carried-requires-clause-exports : goal.number_carried-requires-clause-exports
-number_carried-requires-clause-exports c n w at = let other = c.args.other.now in shown_below (length other.interfaces.items) (length other.types.items) w.exports.entries ((is_in_range other c.requires.other).exports n w at)
+number_carried-requires-clause-exports c n w at = let other = c.args.other.now in
+    shown_below (length other.interfaces.items) (length other.types.items) w.exports.entries ((is_in_range other c.requires.other).exports n w at)
 
 pub settled_types-requires-clause-owners : goal.settled_types-requires-clause-owners
-settled_types-requires-clause-owners c = owners_below c.args.own.now c.args.other.now c.args.matches.now c.in_ok-carried.carried (is_in_range c.args.other.now c.requires.other) c.requires.matches c.in_ok-carried.ensures.numbered
+settled_types-requires-clause-owners c = owners_below c.args.own.now c.args.other.now c.args.matches.now c.in_ok-carried.carried (is_in_range c.args.other.now c.requires.other) c.requires.matches
+    c.in_ok-carried.ensures.numbered
 
 pub copy_types-requires-clause-falls : goal.copy_types-requires-clause-falls
 copy_types-requires-clause-falls c n def at = (is_in_range c.args.other.now c.requires.other).falls n def (ap (λ l. slice_get l n) (sym c.deref.ensures.value) ∙ at)
@@ -49,7 +52,8 @@ bind_items-requires c = record {
   own_range = c.requires.world;
   other_range = c.requires.other_world;
   in_range = is_in_range c.args.other.now c.requires.other;
-  interface_count = interface_count c.args.own.now c.args.other.now c.args.matches.now c.in_ok-carried.carried (is_in_range c.args.other.now c.requires.other) c.requires.matches c.in_ok-carried.ensures.numbered;
+  interface_count = interface_count c.args.own.now c.args.other.now c.args.matches.now c.in_ok-carried.carried (is_in_range c.args.other.now c.requires.other) c.requires.matches
+      c.in_ok-carried.ensures.numbered;
   fate_count = ap length c.deref-4.ensures.value ∙ c.in_ok-fates.ensures.count;
   type_count = ap length c.deref-5.ensures.value ∙ (c.in_ok-types.ensures.count ∙ ap length c.deref.ensures.value);
 }
@@ -87,7 +91,8 @@ returns-clause-union c w v at_w at_v =
       first = subst (λ (l : List ℕ). IsCarriedOver other carried l defs before) c.deref-3.ensures.value c.in_ok-added.ensures.added;
       second =
           subst (λ (l : List ℕ). IsBoundOver own other world other_world w v carried (first_fates own other c.args.matches.now.interfaces.items carried) l before new) c.deref-5.ensures.value
-          (subst (λ l. IsBoundOver own other world other_world w v carried l c.deref-5.result.now before new) (c.deref-4.ensures.value ∙ c.in_ok-fates.ensures.fates) (c.in_ok-bind_items.ensures.gained w v at_w at_v));
+          (subst (λ l. IsBoundOver own other world other_world w v carried l c.deref-5.result.now before new) (c.deref-4.ensures.value ∙ c.in_ok-fates.ensures.fates)
+          (c.in_ok-bind_items.ensures.gained w v at_w at_v));
       keys_are = subst (λ (l : List ℕ). AreKeysUnder l v.exports.entries c.in_ok-keys.keys.keys) c.deref-6.ensures.value (c.in_ok-keys.ensures.keys v at_v);
     }
 
@@ -150,6 +155,7 @@ returns-in_err-bind_items-clause-size c =
       c.in_ok-carried.ensures.numbered,
       inr (gained_by_count own other m carried c.in_ok-carried.ensures.numbered types defs copied before first world other_world w v
           (subst (λ (l : List ℕ). AreTooManyGained own other world other_world w v carried fates l (length before.interfaces.items) (length before.types.items)) c.deref-5.ensures.value
-          (subst (λ l. AreTooManyGained own other world other_world w v carried l c.deref-5.result.now (length before.interfaces.items) (length before.types.items)) (c.deref-4.ensures.value ∙ c.in_ok-fates.ensures.fates)
+          (subst (λ l. AreTooManyGained own other world other_world w v carried l c.deref-5.result.now (length before.interfaces.items) (length before.types.items))
+          (c.deref-4.ensures.value ∙ c.in_ok-fates.ensures.fates)
           (c.in_err-bind_items.ensures.size is w v at_w at_v)))),
     ))

@@ -17,6 +17,7 @@ returns-clause-gains c =
           let copy = w.in_ok-copy.copy in
           let none : found_by old name ≡ None = absent c.contains_key.result (found_by old name) (search rules) c.contains_key.ensures in
           let none_of_copy : found_by old copy ≡ None = lacking name copy old w.in_ok-copy.ensures.name none in
-          ap (λ t. found_by t x) w.named-is ∙ gained x name copy c.args.id old w.insert.new.self (copy_behind x name copy w.in_ok-copy.ensures.name) (w.in_ok-insert.ensures.entries ∙ insert_entry-new _ old copy c.args.id none_of_copy)
+          ap (λ t. found_by t x) w.named-is ∙ gained x name copy c.args.id old w.insert.new.self (copy_behind x name copy w.in_ok-copy.ensures.name)
+          (w.in_ok-insert.ensures.entries ∙ insert_entry-new _ old copy c.args.id none_of_copy)
       | else-not-contains_key w ↦ λ x. ap (λ t. found_by t x) w.named-is ∙ stayed x c.args.name.now c.args.id c.args.named.now (w.if-not-contains_key.ensures)
     ]

@@ -12,4 +12,5 @@ loop-number-preserved c =
     let new = c.add_package.new.named in
     let lt : n < length c.args.packages.now = search rules in
     let is = c.index-packages-number.is in
-    one_more c.args.packages.now n c.index-packages-number.result old new lt is c.loop-number.invariant (subst (λ (p : Package). GainsName old p.name (number n) new) (sym is) c.in_ok-add_package.ensures.gains)
+    one_more c.args.packages.now n c.index-packages-number.result old new lt is c.loop-number.invariant
+    (subst (λ (p : Package). GainsName old p.name (number n) new) (sym is) c.in_ok-add_package.ensures.gains)

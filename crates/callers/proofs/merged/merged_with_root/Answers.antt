@@ -8,6 +8,11 @@ use Rattle.callers.proofs.Flows.{root-left}
 use Rattle.callers.proofs.merged.merged_with_root.Goals as goal
 use Rattle.base_lemmas.proofs.Options.{passed}
 
+pub returns-in_err-other-clause-refused : goal.returns-in_err-other-clause-refused
+returns-in_err-other-clause-refused c =
+    passed (RefusesWithRoot c.args.bytes.now c.args.encoding) _ _ c.from_residual-in_err-other.ensures.1
+    (RefusesWithRoot.no_world c.in_err-other.ensures.refused)
+
 pub returns-in_err-merge-clause-refused : goal.returns-in_err-merge-clause-refused
 returns-in_err-merge-clause-refused c =
     passed (RefusesWithRoot c.args.bytes.now c.args.encoding) _ _ c.from_residual-in_err-merge.ensures.1

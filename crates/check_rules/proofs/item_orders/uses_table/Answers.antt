@@ -12,7 +12,8 @@ loop-number-preserved c =
     let pushed : c.push.new.self.items ≡ table ++ c.in_ok-uses.uses ∷ [] = search rules in
     record {
       made = search rules;
-      right = subst (λ xs. (n : ℕ) → n < k + 1 → (q : ℕ) → entry_holds xs n q ≡ has (direct_deps r n) q) (sym pushed) (uses_more r table c.in_ok-uses.uses k c.loop-number.invariant.made c.loop-number.invariant.right c.in_ok-uses.ensures);
+      right = subst (λ xs. (n : ℕ) → n < k + 1 → (q : ℕ) → entry_holds xs n q ≡ has (direct_deps r n) q) (sym pushed)
+          (uses_more r table c.in_ok-uses.uses k c.loop-number.invariant.made c.loop-number.invariant.right c.in_ok-uses.ensures);
     }
 
 pub returns : goal.returns

@@ -13,7 +13,8 @@ loop-number-preserved c =
     let pushed : c.push.new.self.items ≡ table ++ c.in_ok-reach.reach ∷ [] = search rules in
     record {
       made = search rules;
-      right = subst (λ xs. (n : ℕ) → n < k + 1 → entry_of xs n ≡ reach_of r n) (sym pushed) (entries_more (reach_of r) table c.in_ok-reach.reach k c.loop-number.invariant.made c.loop-number.invariant.right fresh);
+      right = subst (λ xs. (n : ℕ) → n < k + 1 → entry_of xs n ≡ reach_of r n) (sym pushed)
+          (entries_more (reach_of r) table c.in_ok-reach.reach k c.loop-number.invariant.made c.loop-number.invariant.right fresh);
     }
 
 pub returns : goal.returns

@@ -13,7 +13,8 @@ returns-then-not-branch g c =
 
 pub loop-member-preserved : goal.loop-member-preserved
 loop-member-preserved g c =
-    new_turn text_eq g.T.Named.name_of (λ k. k.now) c.args.members.now c.loop-member.member-index c.member-item.result c.loop-member.seen.keys c.name.result c.insert.new.self.keys c.in_ok-insert.field-0 _
+    new_turn text_eq g.T.Named.name_of (λ k. k.now) c.args.members.now c.loop-member.member-index c.member-item.result c.loop-member.seen.keys c.name.result c.insert.new.self.keys
+    c.in_ok-insert.field-0 _
     c.loop-member-test.true c.member-item.is c.name.ensures c.in_ok-insert.ensures.added c.if-not-branch.false c.in_ok-insert.ensures.keys c.loop-member.invariant
 
 pub returns : goal.returns

@@ -15,7 +15,8 @@ returns-then-not-branch-clause-broken c =
     let below : c.loop-number.number < length packages = search rules in
     let at = slice_get_read packages _ c.loop-number.number x refl below c.index.ensures in
     let among = not_is (list_any (λ k. same_package_name x.name k.now) ks) _ (sym c.in_ok-insert.ensures.added ∙ c.if-not-branch.true) in
-    repeated_breaks c.args.resolve.now c.loop-number.number x at (ap (list_any (same_package_name x.name)) (sym c.loop-number.invariant.seen) ∙ (list_any_mapped (same_package_name x.name) (λ k. k.now) ks ∙ among))
+    repeated_breaks c.args.resolve.now c.loop-number.number x at (ap (list_any (same_package_name x.name)) (sym c.loop-number.invariant.seen)
+    ∙ (list_any_mapped (same_package_name x.name) (λ k. k.now) ks ∙ among))
 
 pub loop-number-preserved : goal.loop-number-preserved
 loop-number-preserved c =
@@ -27,8 +28,10 @@ loop-number-preserved c =
     let at = slice_get_read packages _ number x refl below c.index.ensures in
     let is = sym (get_or_from_slice_get packages number x x at) in
     record {
-      seen = seen_turn same_package_name (λ p. p.name) (λ k. k.now) packages number x ks _ c.insert.new.self.keys c.in_ok-insert.field-0 below is refl c.in_ok-insert.ensures.added c.if-not-branch.false c.in_ok-insert.ensures.keys c.loop-number.invariant.seen;
-      same = new_turn same_package_name (λ p. p.name) (λ k. k.now) packages number x ks _ c.insert.new.self.keys c.in_ok-insert.field-0 _ below is refl c.in_ok-insert.ensures.added c.if-not-branch.false c.in_ok-insert.ensures.keys c.loop-number.invariant.same;
+      seen = seen_turn same_package_name (λ p. p.name) (λ k. k.now) packages number x ks _ c.insert.new.self.keys c.in_ok-insert.field-0 below is refl c.in_ok-insert.ensures.added
+          c.if-not-branch.false c.in_ok-insert.ensures.keys c.loop-number.invariant.seen;
+      same = new_turn same_package_name (λ p. p.name) (λ k. k.now) packages number x ks _ c.insert.new.self.keys c.in_ok-insert.field-0 _ below is refl c.in_ok-insert.ensures.added
+          c.if-not-branch.false c.in_ok-insert.ensures.keys c.loop-number.invariant.same;
     }
 
 pub returns-clause-kept : goal.returns-clause-kept

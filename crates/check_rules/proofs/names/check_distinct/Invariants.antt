@@ -7,5 +7,6 @@ use Rattle.check_rules.proofs.names.check_distinct.Given as goal
 abbrev pub invariant-loop-number : goal.invariant-loop-number
 invariant-loop-number l = record {
   seen : map (λ k. k.now) l.seen.keys ≡ take l.number (map (λ p. p.name) l.resolve.packages.items);
-  same : adds_new same_package_name (map (λ k. k.now) l.seen.keys) (drop l.number (map (λ p. p.name) l.resolve.packages.items)) ≡ adds_new same_package_name [] (map (λ p. p.name) l.resolve.packages.items);
+  same : adds_new same_package_name (map (λ k. k.now) l.seen.keys) (drop l.number (map (λ p. p.name) l.resolve.packages.items)) ≡ adds_new same_package_name []
+      (map (λ p. p.name) l.resolve.packages.items);
 }

@@ -9,5 +9,6 @@ use Rattle.check_rules.proofs.numbers.cases_are_below.Goals as goal
 pub returns : goal.returns
 returns c =
     let below : ℕ → Bool = λ m. nat_lt m c.args.limit in
-    let each = all_from_yields_List (λ x. list_all below (filter_map number_of (option_to_list x.ty))) _ _ c.all.result c.all.ensures.ran (YieldsList-from_slice c.args.cases.now c.iter.ensures.rest) (λ x b q k. search (rules, tests)) in
+    let each = all_from_yields_List (λ x. list_all below (filter_map number_of (option_to_list x.ty))) _ _ c.all.result c.all.ensures.ran (YieldsList-from_slice c.args.cases.now c.iter.ensures.rest)
+    (λ x b q k. search (rules, tests)) in
     each ∙ sym (given_cases below c.args.cases.now)

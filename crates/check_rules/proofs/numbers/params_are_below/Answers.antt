@@ -9,5 +9,6 @@ use Rattle.check_rules.proofs.numbers.params_are_below.Goals as goal
 pub returns : goal.returns
 returns c =
     let below : ℕ → Bool = λ m. nat_lt m c.args.limit in
-    let each = all_from_yields_List (λ p. list_all below (option_to_list (number_of p.ty))) _ _ c.all.result c.all.ensures.ran (YieldsList-from_slice c.args.params.now c.iter.ensures.rest) (λ x b q k. search (rules, tests)) in
+    let each = all_from_yields_List (λ p. list_all below (option_to_list (number_of p.ty))) _ _ c.all.result c.all.ensures.ran (YieldsList-from_slice c.args.params.now c.iter.ensures.rest)
+    (λ x b q k. search (rules, tests)) in
     each ∙ sym (list_all_mapped below number_of (λ p. p.ty) c.args.params.now)

@@ -18,7 +18,8 @@ returns c =
     let i = c.index-interface.result.now in
     let o = as_interface c.args.number in
     let at = slice_get_read r.interfaces.items _ c.args.number i refl c.requires.in_range c.index-interface.ensures in
-    let kept : c.interface_stays.result ≡ (list_all (λ n. stays (met_entry table n) o) (all_values (functions_of_interface i)) && list_all (λ id. list_all (λ m. nat_le m c.args.number) (option_to_list (interface_used_by r id.0))) (values i.types)) = cc (c.in_ok-numbers.ensures) in
+    let kept : c.interface_stays.result ≡ (list_all (λ n. stays (met_entry table n) o) (all_values (functions_of_interface i)) && list_all
+    (λ id. list_all (λ m. nat_le m c.args.number) (option_to_list (interface_used_by r id.0))) (values i.types)) = cc (c.in_ok-numbers.ensures) in
     let stay = functions_stay r table c.requires.table o (functions_of_interface i) in
     let used = used_within r c.args.number i at in
     ap (option_map (owners.interface_ r c.args.number)) at ∙ ap Some (sym (kept ∙ (λ j. stay j && used j)))

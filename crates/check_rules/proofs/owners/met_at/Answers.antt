@@ -26,5 +26,6 @@ returns c =
     λ o.
     c.met_by_all.ensures o
     ∙ (ap (list_all (λ n. stays (met_entry table n) o)) lent
-    ∙ (all_same_below (λ n. stays (met_entry table n) o) (λ n. list_all (has_owner r o) (met_by (met_of r) n)) c.args.number (kind_numbers def.kind) (λ m low. c.requires.earlier m low o) (below_at r c.requires.below c.args.number def at)
+    ∙ (all_same_below (λ n. stays (met_entry table n) o) (λ n. list_all (has_owner r o) (met_by (met_of r) n)) c.args.number (kind_numbers def.kind) (λ m low. c.requires.earlier m low o)
+    (below_at r c.requires.below c.args.number def at)
     ∙ unnamed_met r c.requires.below c.args.number def at o unnamed))

@@ -16,4 +16,5 @@ returns c =
     let at = slice_get_read r.interfaces.items _ n i refl c.requires.in_range c.index.ensures in
     let stands = c.requires.table n c.requires.in_range i.package in
     ap (option_map (places.interface_ r n)) at
-    ∙ ap Some (sym (c.interface_is_placed.ensures ∙ ap (λ b. is_some i.package && option_map_or (λ name. option_map_or (λ p. interface_is_listed n (text_of name) p && not (is_world_name p (text_of name))) (option_and_then (package_at r) (package_number i.package)) true) i.name b) stands))
+    ∙ ap Some (sym (c.interface_is_placed.ensures ∙ ap (λ b. is_some i.package && option_map_or
+    (λ name. option_map_or (λ p. interface_is_listed n (text_of name) p && not (is_world_name p (text_of name))) (option_and_then (package_at r) (package_number i.package)) true) i.name b) stands))

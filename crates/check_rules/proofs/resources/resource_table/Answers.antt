@@ -21,7 +21,8 @@ loop-def-preserved c =
     let pushed : c.push.new.self.items ≡ c.loop-def.table.items ++ c.is_resource_kind-is_resource.result ∷ [] = search rules in
     record {
       made = search rules;
-      right = subst (λ xs. (n : ℕ) → n < k + 1 → flags xs n ≡ is_resource r n) (sym pushed) (flags_more (is_resource r) c.loop-def.table.items c.is_resource_kind-is_resource.result k c.loop-def.invariant.made c.loop-def.invariant.right fresh);
+      right = subst (λ xs. (n : ℕ) → n < k + 1 → flags xs n ≡ is_resource r n) (sym pushed)
+          (flags_more (is_resource r) c.loop-def.table.items c.is_resource_kind-is_resource.result k c.loop-def.invariant.made c.loop-def.invariant.right fresh);
     }
 
 pub returns : goal.returns

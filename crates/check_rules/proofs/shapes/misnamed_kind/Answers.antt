@@ -9,4 +9,5 @@ pub returns-clause-kept : goal.returns-clause-kept
 unfolding named_kinds
 returns-clause-kept c =
     let past : length c.args.resolve.now.types.items ≤ c.loop-number.number = search rules in
-    types_keep (λ r n def. (not (is_named_kind def.kind) || is_some def.name) && passes (is_named_number r) (alias_target def.kind)) c.args.resolve.now (each_to_end _ c.args.resolve.now.types.items c.loop-number.number past c.loop-number.invariant)
+    types_keep (λ r n def. (not (is_named_kind def.kind) || is_some def.name) && passes (is_named_number r) (alias_target def.kind)) c.args.resolve.now
+    (each_to_end _ c.args.resolve.now.types.items c.loop-number.number past c.loop-number.invariant)

@@ -11,4 +11,5 @@ returns-in_ok-push-in-Record c =
 
 pub returns-in_ok-push-in-Variant : goal.returns-in_ok-push-in-Variant
 returns-in_ok-push-in-Variant c =
-    rw c.in-Variant.is (tagged 0x71 (Vector Case (map labeled c.in-Variant.cases.items)) _ _ _ _ _ _ c.in_ok-push-in-Variant.ensures.items (rw c.deref-in-Variant.ensures.value at c.append_cases.ensures))
+    rw c.in-Variant.is (tagged 0x71 (Vector Case (map labeled c.in-Variant.cases.items)) _ _ _ _ _ _ c.in_ok-push-in-Variant.ensures.items
+    (rw c.deref-in-Variant.ensures.value at c.append_cases.ensures))

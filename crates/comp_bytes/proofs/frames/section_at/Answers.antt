@@ -12,4 +12,7 @@ returns-in-Ok c =
     record { within = omega (arith, f.fits); spelled = f.spelled; ends = f.starts; part = f.part }
 
 pub returns-in-Err : goal.returns-in-Err
-returns-in-Err c = (some_left c.args.bytes.now c.split_at.result.1.now c.args.at c.split_at.ensures.back c.if-is_empty.ensures, read_err frame_law c.args.bytes.now c.args.at (ap frame_at (sym c.split_at.ensures.back) ∙ c.in-Err.ensures.found))
+returns-in-Err c = (
+  some_left c.args.bytes.now c.split_at.result.1.now c.args.at c.split_at.ensures.back c.if-is_empty.ensures,
+  read_err frame_law c.args.bytes.now c.args.at (ap frame_at (sym c.split_at.ensures.back) ∙ c.in-Err.ensures.found),
+)

@@ -42,5 +42,6 @@ pub returns-clause-ok : goal.returns-clause-ok
 returns-clause-ok c =
     let xs = c.args.interfaces.now in
     let past : length xs ≤ c.loop-interface.interface-index = search rules in
-    subst AreDifferent (sym (paths-end c.args.resolve.now xs c.loop-interface.interface-index (canonical_paths_of c.args.resolve.now (map (λ (id : InterfaceId). id.0) xs)) (map text_of c.loop-interface.seen.keys) past c.loop-interface.invariant.split))
+    subst AreDifferent (sym (paths-end c.args.resolve.now xs c.loop-interface.interface-index (canonical_paths_of c.args.resolve.now (map (λ (id : InterfaceId). id.0) xs))
+    (map text_of c.loop-interface.seen.keys) past c.loop-interface.invariant.split))
     c.loop-interface.invariant.once

@@ -1,6 +1,6 @@
 use Rattle.std.proofs.Common.{◌≡◌, rules}
 use Rattle.encode_types.specs.View.{SameRest}
-use Rattle.encode_types.proofs.Agree.{changes-number, leaves-changed}
+use Rattle.encode_types.proofs.Agree.{changes-number, units-number, leaves-changed}
 use Rattle.encode_types.proofs.lend.remember_id.Goals as goal
 
 pub returns-clause-leaves : goal.returns-clause-leaves
@@ -11,3 +11,4 @@ returns-clause-leaves g c =
     leaves-changed _ _ _ rest
     (changes-number c.remember_id.result c.args.resolve.now c.type_encoding_maps.result.now _ c.remember_id.new.self _ _ _ c.args.index before after rest.kept c.requires.agree c.args.id
     c.requires.fresh c.remember_id.ensures.ok c.remember_id.ensures.err c.requires.stands)
+    (units-number c.remember_id.result c.type_encoding_maps.result.now _ c.remember_id.new.self _ before after c.args.id c.args.index c.remember_id.ensures.ok c.remember_id.ensures.err)

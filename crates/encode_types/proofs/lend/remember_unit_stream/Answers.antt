@@ -2,7 +2,7 @@ use Rattle.std.proofs.Common.{◌≡◌, ◌∙◌, rules, Some, ap}
 use Rattle.encode_types.specs.declared.maps.TypeEncodingMaps.{TypeEncodingMaps}
 use Rattle.encode_types.specs.Maps.{by_unit_stream}
 use Rattle.encode_types.specs.View.{SameRest}
-use Rattle.encode_types.proofs.Agree.{learns-unit_stream, changes-unit, leaves-changed}
+use Rattle.encode_types.proofs.Agree.{learns-unit_stream, changes-unit, leaves-filled}
 use Rattle.encode_types.proofs.lend.remember_unit_stream.Goals as goal
 
 pub returns-clause-leaves : goal.returns-clause-leaves
@@ -11,5 +11,5 @@ returns-clause-leaves g c =
     let after : (g.E.ValtypeEncoder.view (g.E.LendsMaps.with_maps c.args.enc.now c.remember_unit_stream.new.self)).maps ≡ c.remember_unit_stream.new.self = search rules in
     let rest : SameRest (g.E.ValtypeEncoder.view c.args.enc.now) (g.E.ValtypeEncoder.view (g.E.LendsMaps.with_maps c.args.enc.now c.remember_unit_stream.new.self)) = search rules in
     let is = after ∙ c.remember_unit_stream.ensures ∙ ap (λ (z : TypeEncodingMaps). record z { unit_stream = Some c.args.index }) before in
-    leaves-changed _ _ _ rest
+    leaves-filled _ _ _ rest
     (changes-unit _ _ _ _ _ by_unit_stream c.args.index rest.kept (learns-unit_stream _ _ _ c.args.index c.requires.fresh is) c.requires.agree c.requires.stands)

@@ -13,9 +13,12 @@ loop-entry-preserved c =
     let i = c.loop-entry.entry-index in
     let x = c.entry-item.result in
     record {
-      built = one_more_if stated_package xs i x c.loop-entry-test.true c.entry-item.is planned_package c.loop-entry.built.items c.push.new.self.items c.in_ok-value.value c.in_ok-push.ensures.items package_differs c.loop-entry.invariant.built c.in_ok-value.ensures.built;
-      versions = all_more (λ p. passes is_version p.name.version) c.loop-entry.built.items c.push.new.self.items c.in_ok-value.value c.loop-entry.invariant.versions c.in_ok-value.ensures.version c.in_ok-push.ensures.items;
-      bare = all_more (λ p. is_undocumented p.docs) c.loop-entry.built.items c.push.new.self.items c.in_ok-value.value c.loop-entry.invariant.bare c.in_ok-value.ensures.bare c.in_ok-push.ensures.items;
+      built = one_more_if stated_package xs i x c.loop-entry-test.true c.entry-item.is planned_package c.loop-entry.built.items c.push.new.self.items c.in_ok-value.value c.in_ok-push.ensures.items
+          package_differs c.loop-entry.invariant.built c.in_ok-value.ensures.built;
+      versions = all_more (λ p. passes is_version p.name.version) c.loop-entry.built.items c.push.new.self.items c.in_ok-value.value c.loop-entry.invariant.versions c.in_ok-value.ensures.version
+          c.in_ok-push.ensures.items;
+      bare = all_more (λ p. is_undocumented p.docs) c.loop-entry.built.items c.push.new.self.items c.in_ok-value.value c.loop-entry.invariant.bare c.in_ok-value.ensures.bare
+          c.in_ok-push.ensures.items;
     }
 
 pub returns-in_err-value-clause-memory : goal.returns-in_err-value-clause-memory

@@ -18,6 +18,9 @@ unreachable-requires c =
 
 pub returns : goal.returns
 returns c =
-    place_planned (numbered_tables c.args.tables.now) c.args.kept.now c.args.main (home_at (homes_alone c.args.homes.now)) (map numbered_sight c.args.sights.now) c.args.place c.interface_of.result (given_home c.home_of.result) (numbered_view c.in-Some.first.view)
-    (map numbered_function c.view_in-whole.result.functions.now) (numbered_sight c.in-Some.first) c.home_of.ensures (c.requires.firsts c.args.place c.requires.place ∙ (sym c.first_at.ensures ∙ ap (option_map numbered_sight) c.in-Some.is)) refl
-    (c.view_in-whole.ensures ∙ ap (λ o. option_map_or (λ (s : NumberedSight). s.view.functions) o []) (c.first_at-2.ensures ∙ sym (c.requires.wholes c.args.place c.requires.place_too))) c.interface_of.ensures
+    place_planned (numbered_tables c.args.tables.now) c.args.kept.now c.args.main (home_at (homes_alone c.args.homes.now)) (map numbered_sight c.args.sights.now) c.args.place c.interface_of.result
+    (given_home c.home_of.result) (numbered_view c.in-Some.first.view)
+    (map numbered_function c.view_in-whole.result.functions.now) (numbered_sight c.in-Some.first) c.home_of.ensures
+    (c.requires.firsts c.args.place c.requires.place ∙ (sym c.first_at.ensures ∙ ap (option_map numbered_sight) c.in-Some.is)) refl
+    (c.view_in-whole.ensures ∙ ap (λ o. option_map_or (λ (s : NumberedSight). s.view.functions) o []) (c.first_at-2.ensures ∙ sym (c.requires.wholes c.args.place c.requires.place_too)))
+    c.interface_of.ensures

@@ -9,4 +9,5 @@ by_number-requires c = subst (AllByRecursion (IsPlaced c.args.places.now.keys)) 
 
 pub returns : goal.returns
 returns c =
-    subst (λ (xs : List (Text × ℕ)). IfOk c.by_number.result (λ all. AllZip (ListsPlace c.args.places.now.keys) xs (map numbered_interface all.items))) (ap (map labelled_place) c.deref.ensures.value ∙ c.in_ok-interfaces.ensures) c.by_number.ensures
+    subst (λ (xs : List (Text × ℕ)). IfOk c.by_number.result (λ all. AllZip (ListsPlace c.args.places.now.keys) xs (map numbered_interface all.items)))
+    (ap (map labelled_place) c.deref.ensures.value ∙ c.in_ok-interfaces.ensures) c.by_number.ensures

@@ -14,7 +14,8 @@ loop-number-init c = record {
 pub loop-number-preserved : goal.loop-number-preserved
 loop-number-preserved c = record {
   many = c.in_ok-list_interface.ensures.many ∙ c.loop-number.invariant.many;
-  listed = one_listed (home_at (homes_alone c.args.homes.now)) c.args.places.now c.loop-number.number c.loop-number.table c.loop-number.invariant.listed _ c.loop-number-test.true c.list_interface.new.table _ c.home_of.ensures c.in_ok-list_interface.ensures;
+  listed = one_listed (home_at (homes_alone c.args.homes.now)) c.args.places.now c.loop-number.number c.loop-number.table c.loop-number.invariant.listed _ c.loop-number-test.true
+      c.list_interface.new.table _ c.home_of.ensures c.in_ok-list_interface.ensures;
 }
 
 pub returns-clause-listed : goal.returns-clause-listed

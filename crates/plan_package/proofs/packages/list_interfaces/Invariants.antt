@@ -8,5 +8,6 @@ use Rattle.plan_package.proofs.packages.list_interfaces.Given as goal
 abbrev pub invariant-loop-number : goal.invariant-loop-number
 invariant-loop-number l = record {
   many : length l.table ≡ length l.initial.table;
-  listed : (q : ℕ) → q < length l.table → listed_at l.table q ++ entries_from (home_at (homes_alone l.homes)) q l.number (drop l.number l.places) ≡ entries_from (home_at (homes_alone l.homes)) q 0 l.places;
+  listed : (q : ℕ) → q < length l.table
+      → listed_at l.table q ++ entries_from (home_at (homes_alone l.homes)) q l.number (drop l.number l.places) ≡ entries_from (home_at (homes_alone l.homes)) q 0 l.places;
 }

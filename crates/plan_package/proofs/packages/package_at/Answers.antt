@@ -10,7 +10,8 @@ unreachable-requires c = in_list identity_of c.texts.result c.args.packages.now 
 
 pub returns-then-number-main : goal.returns-then-number-main
 returns-then-number-main c =
-    main_planned c.args.packages.now c.args.main c.args.places.now.keys c.args.members.now (map numbered_interface c.args.interfaces.items) c.args.number c.main_package.result (identity_of c.in-Some.texts) c.if-number-main.true
+    main_planned c.args.packages.now c.args.main c.args.places.now.keys c.args.members.now (map numbered_interface c.args.interfaces.items) c.args.number c.main_package.result
+    (identity_of c.in-Some.texts) c.if-number-main.true
     (sym c.texts.ensures ∙ ap (option_map identity_of) c.in-Some.is) c.main_package.ensures
 
 pub returns : goal.returns

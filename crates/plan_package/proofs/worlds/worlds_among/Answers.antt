@@ -8,7 +8,8 @@ loop-member-init c = ap (λ l. map labelled l ++ worlds_in c.args.members.now) c
 
 pub loop-member-preserved : goal.loop-member-preserved
 loop-member-preserved c =
-    one_added (λ m. world_in_part m.label.now m.part) c.args.members.now c.loop-member.member-index (map labelled c.loop-member.worlds.items) c.loop-member.invariant _ c.loop-member-test.true (map labelled c.add_world.new.worlds.items)
+    one_added (λ m. world_in_part m.label.now m.part) c.args.members.now c.loop-member.member-index (map labelled c.loop-member.worlds.items) c.loop-member.invariant _ c.loop-member-test.true
+    (map labelled c.add_world.new.worlds.items)
     c.in_ok-add_world.ensures
 
 pub returns : goal.returns

@@ -12,4 +12,5 @@ returns-then-same_in_order c =
 pub returns : goal.returns
 returns c =
     c.are_told.ensures
-    ∙ same_told_functions (map told_function c.in_ok-all.all.keys) (map numbered_function c.args.first.now) (map numbered_function c.args.functions.now) c.in_ok-all.ensures (as_many numbered_function c.args.first.now c.args.functions.now c.if-first-functions.false)
+    ∙ same_told_functions (map told_function c.in_ok-all.all.keys) (map numbered_function c.args.first.now) (map numbered_function c.args.functions.now) c.in_ok-all.ensures
+    (as_many numbered_function c.args.first.now c.args.functions.now c.if-first-functions.false)

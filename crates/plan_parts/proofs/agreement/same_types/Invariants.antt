@@ -6,4 +6,5 @@ use Rattle.plan_parts.proofs.agreement.same_types.Given as goal
 
 -- the pairs that are left decide
 abbrev pub invariant-loop-number : goal.invariant-loop-number
-invariant-loop-number l = pointwise same_shown (map numbered_type (drop l.number l.first)) (map numbered_type (drop l.number l.types)) ≡ pointwise same_shown (map numbered_type l.first) (map numbered_type l.types)
+invariant-loop-number l = pointwise same_shown (map numbered_type (drop l.number l.first)) (map numbered_type (drop l.number l.types)) ≡ pointwise same_shown (map numbered_type l.first)
+    (map numbered_type l.types)

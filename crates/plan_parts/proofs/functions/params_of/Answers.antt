@@ -7,4 +7,5 @@ part-requires c = param_at (IsKeptPart c.args.kept.now) c.args.params.now c.loop
 
 pub loop-param-preserved : goal.loop-param-preserved
 loop-param-preserved c =
-    params_more c.args.kept.now c.args.params.now c.loop-param.param-index _ c.part.result c.loop-param.planned.items c.push.new.self.items c.loop-param-test.true c.in_ok-push.ensures.items c.part.ensures c.loop-param.invariant
+    params_more c.args.kept.now c.args.params.now c.loop-param.param-index _ c.part.result c.loop-param.planned.items c.push.new.self.items c.loop-param-test.true c.in_ok-push.ensures.items
+    c.part.ensures c.loop-param.invariant

@@ -19,5 +19,7 @@ loop-function-preserved c =
     let is = c.in_ok-made.ensures in
     let t = numbered_tables c.args.tables.now in
     let find = found_under c.args.resources.now.entries in
-    zip_next (IsPlannedFunction t c.args.kept.now find) numbered_function named_function c.args.functions.now c.loop-function.function-index _ c.loop-function.planned.items c.push.new.self.items _ c.loop-function-test.true c.in_ok-push.ensures.items
-    (is_planned t c.args.kept.now find _ (stated_function c.in_ok-made.made) (numbered_function_type c.function_at-shape.result) c.function_at-shape.ensures is.named is.kind is.parts is.id) c.loop-function.invariant
+    zip_next (IsPlannedFunction t c.args.kept.now find) numbered_function named_function c.args.functions.now c.loop-function.function-index _ c.loop-function.planned.items c.push.new.self.items _
+    c.loop-function-test.true c.in_ok-push.ensures.items
+    (is_planned t c.args.kept.now find _ (stated_function c.in_ok-made.made) (numbered_function_type c.function_at-shape.result) c.function_at-shape.ensures is.named is.kind is.parts is.id)
+    c.loop-function.invariant

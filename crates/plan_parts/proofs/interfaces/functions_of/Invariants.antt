@@ -9,4 +9,5 @@ use Rattle.plan_parts.proofs.interfaces.functions_of.Given as goal
 
 -- so many functions are made
 abbrev pub invariant-loop-function : goal.invariant-loop-function
-invariant-loop-function l = AllZip (IsPlannedFunction (numbered_tables l.tables) l.kept (found_under l.resources.entries)) (map numbered_function (take l.function-index l.functions)) (map named_function l.planned.items)
+invariant-loop-function l = AllZip (IsPlannedFunction (numbered_tables l.tables) l.kept (found_under l.resources.entries)) (map numbered_function (take l.function-index l.functions))
+    (map named_function l.planned.items)

@@ -12,8 +12,11 @@ loop-shape-preserved c =
     let within : i < length marks = c.loop-shape-test.true in
     record {
       shapes = elim c.if-is_kept.branch [
-        | then-is_kept+in_ok-push-2 w ↦ let added : c.if-is_kept.shapes.items ≡ old ++ i ∷ [] = search rules in next_shapes marks i false true old c.if-is_kept.shapes.items within w.if-is_kept.true c.loop-shape.invariant.shapes added
-        | else-is_kept w ↦ let stays : c.if-is_kept.shapes.items ≡ old = search rules in next_shapes marks i false false old c.if-is_kept.shapes.items within w.if-is_kept.false c.loop-shape.invariant.shapes stays
+        | then-is_kept+in_ok-push-2 w ↦ let added : c.if-is_kept.shapes.items ≡ old ++ i ∷ [] = search rules in
+            next_shapes marks i false true old c.if-is_kept.shapes.items within w.if-is_kept.true c.loop-shape.invariant.shapes added
+        | else-is_kept w ↦ let stays : c.if-is_kept.shapes.items ≡ old = search rules in
+            next_shapes marks i false false old c.if-is_kept.shapes.items within w.if-is_kept.false c.loop-shape.invariant.shapes stays
       ];
-      numbers = next_numbers marks i false old c.loop-shape.numbers.items c.push.new.self.items c.in-Ok.number within c.loop-shape.invariant.shapes many c.loop-shape.invariant.numbers c.in_ok-push.ensures.items;
+      numbers = next_numbers marks i false old c.loop-shape.numbers.items c.push.new.self.items c.in-Ok.number within c.loop-shape.invariant.shapes many c.loop-shape.invariant.numbers
+          c.in_ok-push.ensures.items;
     }

@@ -28,12 +28,14 @@ part_at-requires-then-shape-eq3-clause-there c =
 pub returns-then-shape-eq1 : goal.returns-then-shape-eq1
 returns-then-shape-eq1 c =
     let s = numbered_shape c.args.shape in
-    single c.args.kept.now s c.requires.form (Form.result_of true false) (result_form s c.requires.sort ∙ first_alone c.args.shape.number c.if-shape-eq1.true) (λ n. refl) (part_of c.part_at.result) c.part_at.ensures
+    single c.args.kept.now s c.requires.form (Form.result_of true false) (result_form s c.requires.sort ∙ first_alone c.args.shape.number c.if-shape-eq1.true) (λ n. refl) (part_of c.part_at.result)
+    c.part_at.ensures
 
 pub returns-then-shape-eq2 : goal.returns-then-shape-eq2
 returns-then-shape-eq2 c =
     let s = numbered_shape c.args.shape in
-    single c.args.kept.now s c.requires.form (Form.result_of false true) (result_form s c.requires.sort ∙ second_alone c.args.shape.number c.if-shape-eq2.true) (λ n. refl) (part_of c.part_at-then-shape-eq2.result) c.part_at-then-shape-eq2.ensures
+    single c.args.kept.now s c.requires.form (Form.result_of false true) (result_form s c.requires.sort ∙ second_alone c.args.shape.number c.if-shape-eq2.true) (λ n. refl)
+    (part_of c.part_at-then-shape-eq2.result) c.part_at-then-shape-eq2.ensures
 
 pub returns-then-shape-eq3 : goal.returns-then-shape-eq3
 returns-then-shape-eq3 c =
@@ -46,4 +48,5 @@ pub returns-else-shape-eq3 : goal.returns-else-shape-eq3
 returns-else-shape-eq3 c =
     let s = numbered_shape c.args.shape in
     let is = result_form s c.requires.sort ∙ neither c.args.shape.number c.if-shape-eq1.false c.if-shape-eq2.false c.if-shape-eq3.false in
-    formed_over c.args.kept.now s c.requires.form (Form.result_of false false) [] is (no_parts c.args.kept.now s.parts (empty_part c.args.kept.now s c.requires.form (Form.result_of false false) is (λ n. refl)))
+    formed_over c.args.kept.now s c.requires.form (Form.result_of false false) [] is
+    (no_parts c.args.kept.now s.parts (empty_part c.args.kept.now s c.requires.form (Form.result_of false false) is (λ n. refl)))

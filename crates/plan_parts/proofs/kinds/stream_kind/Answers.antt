@@ -9,7 +9,8 @@ use Rattle.plan_parts.proofs.kinds.stream_kind.Goals as goal
 pub given_of-requires-clause-many : goal.given_of-requires-clause-many
 given_of-requires-clause-many c =
     let s = numbered_shape c.args.shape in
-    eqb-true (length c.args.shape.parts.now) (one_mark (c.args.shape.number == 1)) (counted c.args.kept.now s c.requires.form (Form.stream_of (c.args.shape.number == 1)) (stream_form s c.requires.sort))
+    eqb-true (length c.args.shape.parts.now) (one_mark (c.args.shape.number == 1))
+    (counted c.args.kept.now s c.requires.form (Form.stream_of (c.args.shape.number == 1)) (stream_form s c.requires.sort))
 
 pub returns : goal.returns
 returns c =

@@ -19,7 +19,8 @@ loop-passed-preserved c =
     let passed = c.loop-passed.passed in
     elim c.if-marks-number.branch [
       | then-marks-number w ↦ subst (λ (ms : List Bool). AreClosed (parts_of ps) roots ms (length ps - (passed + 1))) (sym w.marks-is)
-          (marked_turn ps roots c.loop-passed.marks passed c.loop-passed-test.true c.loop-passed.invariant c.requires.fall (record { ref_ptr = (0, 0); now = [] }) w.if-marks-number.true w.mark_parts.new.marks w.mark_parts.ensures)
+          (marked_turn ps roots c.loop-passed.marks passed c.loop-passed-test.true c.loop-passed.invariant c.requires.fall (record { ref_ptr = (0, 0); now = [] }) w.if-marks-number.true
+          w.mark_parts.new.marks w.mark_parts.ensures)
       | else-marks-number w ↦ subst (λ (ms : List Bool). AreClosed (parts_of ps) roots ms (length ps - (passed + 1))) (sym w.marks-is)
           (unmarked_turn ps roots c.loop-passed.marks passed c.loop-passed-test.true c.loop-passed.invariant w.if-marks-number.false)
     ]
@@ -27,5 +28,6 @@ loop-passed-preserved c =
 pub returns : goal.returns
 returns c n = (
   λ e. c.loop-passed.invariant.sound n e,
-  λ used. used_marked (parts_of c.args.parts.now) c.args.marks.now c.loop-passed.marks (all_looked_at c.args.parts.now c.args.marks.now c.loop-passed.marks c.loop-passed.passed c.loop-passed-test.false c.loop-passed.invariant) n used,
+  λ used. used_marked (parts_of c.args.parts.now) c.args.marks.now c.loop-passed.marks
+      (all_looked_at c.args.parts.now c.args.marks.now c.loop-passed.marks c.loop-passed.passed c.loop-passed-test.false c.loop-passed.invariant) n used,
 )

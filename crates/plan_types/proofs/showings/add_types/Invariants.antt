@@ -5,4 +5,5 @@ use Rattle.plan_types.proofs.showings.add_types.Given as goal
 
 -- those that were added, and those that are left, are all
 abbrev pub invariant-loop-ty : goal.invariant-loop-ty
-invariant-loop-ty l = map numbered_showing l.all.items ++ map showing_of (drop l.ty-index (map numbered_type l.types)) ≡ map numbered_showing l.initial.all.items ++ map showing_of (map numbered_type l.types)
+invariant-loop-ty l = map numbered_showing l.all.items ++ map showing_of (drop l.ty-index (map numbered_type l.types)) ≡ map numbered_showing l.initial.all.items ++ map showing_of
+    (map numbered_type l.types)

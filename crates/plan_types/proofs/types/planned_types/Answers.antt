@@ -14,5 +14,6 @@ planned_type-requires c =
 
 pub loop-number-preserved : goal.loop-number-preserved
 loop-number-preserved c =
-    type_next (numbered_tables c.args.tables.now) c.args.kept.now (showing_at c.args.first.now) (owner_in c.args.places.now.keys c.args.homes.now.keys) c.shapes-number-items.result.now c.shapes-number-items.ensures c.loop-number.number-index _ c.loop-number-test.true
+    type_next (numbered_tables c.args.tables.now) c.args.kept.now (showing_at c.args.first.now) (owner_in c.args.places.now.keys c.args.homes.now.keys) c.shapes-number-items.result.now
+    c.shapes-number-items.ensures c.loop-number.number-index _ c.loop-number-test.true
     c.loop-number.types.items c.push.new.self.items _ c.in_ok-push.ensures.items c.in_ok-planned_type.ensures c.loop-number.invariant

@@ -7,7 +7,9 @@ pub loop-part-init : goal.loop-part-init
 loop-part-init c = marks_none c.args.marks.now
 
 pub loop-part-preserved : goal.loop-part-preserved
-loop-part-preserved c = part_next (λ x. x) c.args.parts.now c.loop-part.part-index _ c.args.marks.now c.loop-part.marks c.mark_part.new.marks c.loop-part-test.true c.loop-part.invariant c.mark_part.ensures
+loop-part-preserved c = part_next (λ x. x) c.args.parts.now c.loop-part.part-index _ c.args.marks.now c.loop-part.marks c.mark_part.new.marks c.loop-part-test.true c.loop-part.invariant
+    c.mark_part.ensures
 
 pub returns : goal.returns
-returns c = subst (λ ps. Marks ps c.args.marks.now c.loop-part.marks) (itself_mapped c.args.parts.now) (part_all (λ x. x) c.args.parts.now c.loop-part.part-index c.args.marks.now c.loop-part.marks c.loop-part-test.false c.loop-part.invariant)
+returns c = subst (λ ps. Marks ps c.args.marks.now c.loop-part.marks) (itself_mapped c.args.parts.now)
+    (part_all (λ x. x) c.args.parts.now c.loop-part.part-index c.args.marks.now c.loop-part.marks c.loop-part-test.false c.loop-part.invariant)

@@ -10,7 +10,10 @@ pub loop-showing-init : goal.loop-showing-init
 loop-showing-init c = marks_none c.args.marks.now
 
 pub loop-showing-preserved : goal.loop-showing-preserved
-loop-showing-preserved c = marks_next (λ s. showing_parts (numbered_tables c.args.tables.now) (numbered_showing s)) c.args.showings.now c.loop-showing.showing-index _ c.args.marks.now c.loop-showing.marks c.mark_showing.new.marks c.loop-showing-test.true c.loop-showing.invariant c.mark_showing.ensures
+loop-showing-preserved c = marks_next (λ s. showing_parts (numbered_tables c.args.tables.now) (numbered_showing s)) c.args.showings.now c.loop-showing.showing-index _ c.args.marks.now
+    c.loop-showing.marks c.mark_showing.new.marks c.loop-showing-test.true c.loop-showing.invariant c.mark_showing.ensures
 
 pub returns : goal.returns
-returns c = subst (λ ps. Marks ps c.args.marks.now c.loop-showing.marks) (flat_mapped (showing_parts (numbered_tables c.args.tables.now)) numbered_showing c.args.showings.now) (marks_all (λ s. showing_parts (numbered_tables c.args.tables.now) (numbered_showing s)) c.args.showings.now c.loop-showing.showing-index c.args.marks.now c.loop-showing.marks c.loop-showing-test.false c.loop-showing.invariant)
+returns c = subst (λ ps. Marks ps c.args.marks.now c.loop-showing.marks) (flat_mapped (showing_parts (numbered_tables c.args.tables.now)) numbered_showing c.args.showings.now)
+    (marks_all (λ s. showing_parts (numbered_tables c.args.tables.now) (numbered_showing s)) c.args.showings.now c.loop-showing.showing-index c.args.marks.now c.loop-showing.marks
+    c.loop-showing-test.false c.loop-showing.invariant)

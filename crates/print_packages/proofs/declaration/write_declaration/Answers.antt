@@ -1,7 +1,6 @@
 use Rattle.std.proofs.Common.{◌≡◌, ◌++◌, ◌∙◌, ap, map, sym, subst, append_assoc, true}
 use Rattle.print_items.specs.Shown.{declared_of, present_name, shown_prefix, shown_resource_member}
-use Rattle.print_grammar.specs.Calls.{declared_calls, prefix_calls}
-use Rattle.print_uses.specs.Printable.{line_between}
+use Rattle.print_grammar.specs.Calls.{declared_calls, prefix_calls, line_after_calls}
 use Rattle.print_grammar.specs.WellNamed.{is_well_declared}
 use Rattle.print_uses.proofs.Declarations.{declaration_alone}
 use Rattle.print_items.proofs.Driven.{driven, driven_on}
@@ -18,7 +17,7 @@ returns g c =
     let def = c.args.def.now in
     let members = map (λ f. shown_resource_member r f.now) c.args.functions.now in
     let prefix = shown_prefix def.docs def.stability def.external_id in
-    let line = line_between c.args.has_printed in
+    let line = line_after_calls c.args.has_printed in
     let front = prefix_calls c.args.emits_docs prefix in
     record {
       calls = driven_on (driven c.write_line_before.ensures.calls c.write_prefix.ensures.calls) c.write_declared.ensures.calls

@@ -2,9 +2,8 @@ use Rattle.std.proofs.Common.{◌≡◌, ◌++◌, ◌∙◌, ap, sym, subst, ap
 use Rattle.wit_model.specs.Names.{is_label}
 use Rattle.wit_model.specs.Text.{text_of}
 use Rattle.print_items.specs.Shown.{function_prefix, shown_signature}
-use Rattle.print_grammar.specs.Calls.{prefix_calls}
+use Rattle.print_grammar.specs.Calls.{prefix_calls, line_after_calls}
 use Rattle.print_items.specs.ItemCalls.{named_calls}
-use Rattle.print_uses.specs.Printable.{line_between}
 use Rattle.print_grammar.specs.WellNamed.{is_well_prefix}
 use Rattle.print_output.specs.declared.type_kind.TypeKind.TheVariants.{FunctionFreestanding}
 use Rattle.print_packages.proofs.Functions.{function_alone}
@@ -31,7 +30,7 @@ pub returns : goal.returns
 returns g c =
     let r = c.args.resolve.now in
     let f = c.args.function.now in
-    let line = line_between c.args.has_printed in
+    let line = line_after_calls c.args.has_printed in
     let front = prefix_calls c.args.emits_docs (function_prefix f) in
     record {
       calls = driven_on (driven c.write_line_before.ensures.calls c.write_prefix.ensures.calls) c.write_named.ensures.calls

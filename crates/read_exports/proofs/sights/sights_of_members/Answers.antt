@@ -15,9 +15,11 @@ loop-member-init c =
 
 pub loop-member-preserved : goal.loop-member-preserved
 loop-member-preserved c =
-    one_added (λ m. sights_of_part (numbered_tables c.args.tables.now) (numbered_part m.part)) c.args.members.now c.loop-member.member-index (map numbered_sight c.loop-member.sights.items) c.loop-member.invariant _ c.loop-member-test.true
+    one_added (λ m. sights_of_part (numbered_tables c.args.tables.now) (numbered_part m.part)) c.args.members.now c.loop-member.member-index (map numbered_sight c.loop-member.sights.items)
+    c.loop-member.invariant _ c.loop-member-test.true
     (map numbered_sight c.add_part.new.sights.items) c.in_ok-add_part.ensures
 
 pub returns : goal.returns
 returns c =
-    all_added (λ m. sights_of_part (numbered_tables c.args.tables.now) (numbered_part m.part)) c.args.members.now c.loop-member.member-index (map numbered_sight c.loop-member.sights.items) c.loop-member.invariant c.loop-member-test.false
+    all_added (λ m. sights_of_part (numbered_tables c.args.tables.now) (numbered_part m.part)) c.args.members.now c.loop-member.member-index (map numbered_sight c.loop-member.sights.items)
+    c.loop-member.invariant c.loop-member-test.false

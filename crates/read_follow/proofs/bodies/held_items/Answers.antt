@@ -15,4 +15,5 @@ pub returns-in-Ok-clause-found : goal.returns-in-Ok-clause-found
 returns-in-Ok-clause-found c = body_found held_declaration_law c.args.count c.args.bytes.now c.in-Ok.rest.now c.in-Ok.ensures c.cut.result c.cut.ensures.count c.cut.ensures.bytes
 
 pub returns-in-Err-clause-found : goal.returns-in-Err-clause-found
-returns-in-Err-clause-found c = refused c.in-Err.refusal (behind (sequence_at held_declaration_at c.args.count c.args.bytes.now)) (sequence_at held_declaration_at c.args.count c.args.bytes.now) (none_found (sequence_at held_declaration_at c.args.count c.args.bytes.now)) c.in-Err.ensures
+returns-in-Err-clause-found c = refused c.in-Err.refusal (behind (sequence_at held_declaration_at c.args.count c.args.bytes.now)) (sequence_at held_declaration_at c.args.count c.args.bytes.now)
+    (none_found (sequence_at held_declaration_at c.args.count c.args.bytes.now)) c.in-Err.ensures

@@ -9,7 +9,8 @@ use Rattle.read_follow.proofs.bodies.skip_entry.Goals as goal
 pub returns-then-starts_with : goal.returns-then-starts_with
 returns-then-starts_with c =
     let found = held_at c.split_at.result.1.now in
-    rw (ap behind (held_front c.args.bytes.now c.split_at.result.1.now found (sym c.starts_with.ensures.value ∙ c.if-starts_with.true) c.split_at.ensures.back refl) ∙ behind_as holds found) c.skip_instance.ensures
+    rw (ap behind (held_front c.args.bytes.now c.split_at.result.1.now found (sym c.starts_with.ensures.value ∙ c.if-starts_with.true) c.split_at.ensures.back refl) ∙ behind_as holds found)
+    c.skip_instance.ensures
 
 pub returns-else-starts_with : goal.returns-else-starts_with
 returns-else-starts_with c =

@@ -13,4 +13,5 @@ returns-in-Instance-clause-absent c =
     let one = see_instance (direction c.args.is_import) (raw_name c.args.name) c.in-Instance.n in
     let any = see_described (direction c.args.is_import) (raw_name c.args.name) c.args.kind in
     if_err (Stops one old c.see_instance.new.places) (Stops any old c.see_instance.new.places) c.see_instance.result
-    (λ e. stops_as one any old c.see_instance.new.places e (λ m. ap (λ (k : ComponentTypeRef). see_described (direction c.args.is_import) (raw_name c.args.name) k m) c.in-Instance.is)) c.see_instance.ensures.absent
+    (λ e. stops_as one any old c.see_instance.new.places e (λ m. ap (λ (k : ComponentTypeRef). see_described (direction c.args.is_import) (raw_name c.args.name) k m) c.in-Instance.is))
+    c.see_instance.ensures.absent

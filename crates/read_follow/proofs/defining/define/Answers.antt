@@ -26,7 +26,8 @@ returns-in_ok-push-in-Ok-Keyed-clause-defined c =
     let h = subst (λ (x : Definition). IsDefinitionOf c.deref.result.now (raw_defined c.args.definition.now) (Ok x)) c.in-Ok-Keyed.field-0-is c.in-Ok-Keyed.ensures in
     let node = subst (λ (ss : List Slot). IsDefinitionOf ss (raw_defined c.args.definition.now) (Ok (definitions.Keyed c.in-Ok-Keyed.key))) c.deref.ensures.value h in
     let n = c.in_ok-number-in-Ok-Keyed.ensures in
-    key_defined c.args.table.now c.number_of.new.self c.args.slots.now.items c.push-in-Ok-Keyed.new.self.items (raw_defined c.args.definition.now) (shape_of c.in-Ok-Keyed.key) c.in_ok-number-in-Ok-Keyed.number
+    key_defined c.args.table.now c.number_of.new.self c.args.slots.now.items c.push-in-Ok-Keyed.new.self.items (raw_defined c.args.definition.now) (shape_of c.in-Ok-Keyed.key)
+    c.in_ok-number-in-Ok-Keyed.number
     n.table.0 n.table.1 c.requires node n.found n.adds c.in_ok-push-in-Ok-Keyed.ensures.items
 
 pub returns-in-Err-clause-refused : goal.returns-in-Err-clause-refused

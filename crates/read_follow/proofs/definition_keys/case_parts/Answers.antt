@@ -6,7 +6,8 @@ use Rattle.read_follow.proofs.definition_keys.case_parts.Goals as goal
 
 pub returns-in-Err-clause-absent : goal.returns-in-Err-clause-absent
 returns-in-Err-clause-absent c =
-    case_refused c.args.slots.now c.args.cases.now c.loop-case.case-index (map label_of c.loop-case.labels.items) c.loop-case.parts.items c.loop-case.invariant.so_far _ c.loop-case-test.true c.in-Err.refusal c.in-Err.ensures.found
+    case_refused c.args.slots.now c.args.cases.now c.loop-case.case-index (map label_of c.loop-case.labels.items) c.loop-case.parts.items c.loop-case.invariant.so_far _ c.loop-case-test.true
+    c.in-Err.refusal c.in-Err.ensures.found
 
 pub loop-case-preserved : goal.loop-case-preserved
 loop-case-preserved c = record {
@@ -17,4 +18,5 @@ loop-case-preserved c = record {
 }
 
 pub returns-clause-found : goal.returns-clause-found
-returns-clause-found c = case_rows c.args.slots.now c.args.cases.now c.loop-case.case-index (map label_of c.loop-case.labels.items) c.loop-case.parts.items c.loop-case.invariant.so_far c.loop-case-test.false
+returns-clause-found c = case_rows c.args.slots.now c.args.cases.now c.loop-case.case-index (map label_of c.loop-case.labels.items) c.loop-case.parts.items c.loop-case.invariant.so_far
+    c.loop-case-test.false

@@ -13,5 +13,6 @@ use Rattle.read_follow.proofs.definition_keys.case_parts.Given as goal
 abbrev pub invariant-loop-case : goal.invariant-loop-case
 invariant-loop-case l = record {
   ranges : (n : ℕ) → AreInRange n l.slots → AllByRecursion (λ k. k < 14 + n) l.parts.items;
-  so_far : (T : List Tree) (F : List Signature) → RowsSoFar (case_type (slots_in T F l.slots)) case_labels case_trees (map labeled l.cases) l.case-index (map label_of l.labels.items) (map (part_tree T) l.parts.items);
+  so_far : (T : List Tree) (F : List Signature)
+      → RowsSoFar (case_type (slots_in T F l.slots)) case_labels case_trees (map labeled l.cases) l.case-index (map label_of l.labels.items) (map (part_tree T) l.parts.items);
 }

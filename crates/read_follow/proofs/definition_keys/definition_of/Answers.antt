@@ -12,7 +12,8 @@ pub returns-in-Primitive : goal.returns-in-Primitive
 returns-in-Primitive c =
     let small : primitive_index c.in-Primitive.primitive < 14 + 0 = primitive_small c.in-Primitive.primitive 0 in (
       omega (arith, small, c.primitive_index.ensures),
-      λ T F. ap (λ (d : ComponentDefinedType). definition (slots_in T F c.args.slots.now) (raw_defined d)) c.in-Primitive.is ∙ ap Some (primitive_part T c.in-Primitive.primitive ∙ ap (part_tree T) (sym c.primitive_index.ensures)),
+      λ T F. ap (λ (d : ComponentDefinedType). definition (slots_in T F c.args.slots.now) (raw_defined d)) c.in-Primitive.is ∙ ap Some
+          (primitive_part T c.in-Primitive.primitive ∙ ap (part_tree T) (sym c.primitive_index.ensures)),
     )
 
 pub returns-in-Err : goal.returns-in-Err

@@ -40,7 +40,8 @@ returns-in-Record c = λ form. subst (λ (d : ComponentDefinedType). IsKeyOf c.a
 
 pub returns-in-Variant : goal.returns-in-Variant
 returns-in-Variant c = λ form. subst (λ (d : ComponentDefinedType). IsKeyOf c.args.slots.now (raw_defined d) c.variant_key.result) (sym c.in-Variant.is)
-    (subst (λ (xs : List (Bor (List ℕ) × Option ComponentValType)). IsKeyOf c.args.slots.now (DefinedType.variant_of (map labeled xs)) c.variant_key.result) c.deref-in-Variant.ensures.value c.variant_key.ensures)
+    (subst (λ (xs : List (Bor (List ℕ) × Option ComponentValType)). IsKeyOf c.args.slots.now (DefinedType.variant_of (map labeled xs)) c.variant_key.result) c.deref-in-Variant.ensures.value
+    c.variant_key.ensures)
 
 pub returns-in-Tuple : goal.returns-in-Tuple
 returns-in-Tuple c = λ form. subst (λ (d : ComponentDefinedType). IsKeyOf c.args.slots.now (raw_defined d) c.tuple_key.result) (sym c.in-Tuple.is)

@@ -7,7 +7,9 @@ use Rattle.read_follow.proofs.DefinitionKeyLaws.{one_key, one_refused}
 use Rattle.read_follow.proofs.definition_keys.option_key.Goals as goal
 
 pub returns-in-Ok : goal.returns-in-Ok
-returns-in-Ok c = one_key c.args.slots.now (DefinedType.option_of c.args.v) Form.option_of (λ T F. value_type (slots_in T F c.args.slots.now) c.args.v) (λ T F. refl) c.in-Ok.part c.key_over.result c.key_over.ensures.shape c.key_over.ensures.memory c.in-Ok.ensures.range refl (λ T F named. c.in-Ok.ensures.found T F)
+returns-in-Ok c = one_key c.args.slots.now (DefinedType.option_of c.args.v) Form.option_of (λ T F. value_type (slots_in T F c.args.slots.now) c.args.v) (λ T F. refl) c.in-Ok.part c.key_over.result
+    c.key_over.ensures.shape c.key_over.ensures.memory c.in-Ok.ensures.range refl (λ T F named. c.in-Ok.ensures.found T F)
 
 pub returns-in-Err : goal.returns-in-Err
-returns-in-Err c = one_refused c.args.slots.now (DefinedType.option_of c.args.v) Form.option_of (λ T F. value_type (slots_in T F c.args.slots.now) c.args.v) (λ T F. refl) c.in-Err.refusal (λ T F named. c.in-Err.ensures.found T F)
+returns-in-Err c = one_refused c.args.slots.now (DefinedType.option_of c.args.v) Form.option_of (λ T F. value_type (slots_in T F c.args.slots.now) c.args.v) (λ T F. refl) c.in-Err.refusal
+    (λ T F named. c.in-Err.ensures.found T F)

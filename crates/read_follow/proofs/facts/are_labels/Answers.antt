@@ -6,7 +6,8 @@ use Rattle.distinct_names.proofs.NameLaws.{labels_good}
 use Rattle.read_follow.proofs.facts.are_labels.Goals as goal
 
 pub returns : goal.returns
-returns c = labels_good c.are_distinct_by.result (map (λ l. l.0.now) c.args.labels.now) (list_all-map is_label (λ l. l.0.now) c.args.labels.now ∙ sym c.if-not-are_all_labels.ensures) c.are_distinct_by.ensures
+returns c = labels_good c.are_distinct_by.result (map (λ l. l.0.now) c.args.labels.now) (list_all-map is_label (λ l. l.0.now) c.args.labels.now ∙ sym c.if-not-are_all_labels.ensures)
+    c.are_distinct_by.ensures
 
 pub returns-then-not-are_all_labels : goal.returns-then-not-are_all_labels
 returns-then-not-are_all_labels c =

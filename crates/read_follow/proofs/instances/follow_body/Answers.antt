@@ -19,9 +19,11 @@ step-requires-clause-outer c =
 
 pub returns-in-Err-step-clause-absent : goal.returns-in-Err-step-clause-absent
 returns-in-Err-step-clause-absent c = λ place marked.
-    alike c.in-Err-step.refusal c.seen_at.result (instance_view (place c.args.here) (slots_at place (tables_of c.args.table.now c.args.functions.now) c.args.outer.now) (items_in held_declaration_at c.args.body)) c.seen_at.ensures
+    alike c.in-Err-step.refusal c.seen_at.result (instance_view (place c.args.here) (slots_at place (tables_of c.args.table.now c.args.functions.now) c.args.outer.now)
+    (items_in held_declaration_at c.args.body)) c.seen_at.ensures
     (nothing_shown c.args.marks.now c.args.here (tables_of c.args.table.now c.args.functions.now) c.requires.tables c.args.outer.now c.requires.outer c.args.body
-    c.loop.counter c.loop.rest.now (state_of c.loop.table c.loop.functions c.loop.scope) c.loop.invariant c.loop-test.true (raw_declared c.in-Ok.declared) c.in-Ok.behind.now c.in-Ok.ensures c.in-Err-step.refusal c.in-Err-step.ensures.absent place marked)
+    c.loop.counter c.loop.rest.now (state_of c.loop.table c.loop.functions c.loop.scope) c.loop.invariant c.loop-test.true (raw_declared c.in-Ok.declared) c.in-Ok.behind.now c.in-Ok.ensures
+    c.in-Err-step.refusal c.in-Err-step.ensures.absent place marked)
 
 pub returns-in-Err-clause-absent : goal.returns-in-Err-clause-absent
 returns-in-Err-clause-absent c =

@@ -30,9 +30,11 @@ returns-in-Defined-clause-followed c =
     let new = state_of c.define.new.table c.args.functions.now (record { slots = c.define.new.slots; types = c.args.scope.now.types; functions = c.args.scope.now.functions }) in
     let d = Declaration.defined (raw_defined c.in-Defined.definition) in
     let step = step_of c.args.here c.args.table.now c.args.functions.now c.args.outer.now in
-    on_ok (IsDefined c.args.table.now c.args.scope.now.slots.items (raw_defined c.in-Defined.definition) c.define.new.table c.define.new.slots.items) (Steps c.args.marks.now c.args.here 1 (step (raw_declared c.args.declared.now)) old new) c.define.result
+    on_ok (IsDefined c.args.table.now c.args.scope.now.slots.items (raw_defined c.in-Defined.definition) c.define.new.table c.define.new.slots.items)
+    (Steps c.args.marks.now c.args.here 1 (step (raw_declared c.args.declared.now)) old new) c.define.result
     (λ is. steps_as c.args.marks.now c.args.here 1 (step d) (step (raw_declared c.args.declared.now)) old new (λ place meant. ap (λ (x : Declared). step (raw_declared x) place meant) c.in-Defined.is)
-    (defined_step c.args.marks.now old c.requires.state c.args.here (around c.args.table.now c.args.functions.now c.args.outer.now) (raw_defined c.in-Defined.definition) c.define.new.table c.define.new.slots.items c.define.ensures.table.1 is))
+    (defined_step c.args.marks.now old c.requires.state c.args.here (around c.args.table.now c.args.functions.now c.args.outer.now) (raw_defined c.in-Defined.definition) c.define.new.table
+    c.define.new.slots.items c.define.ensures.table.1 is))
     c.define.ensures.defined
 
 pub returns-in-Defined-clause-absent : goal.returns-in-Defined-clause-absent
@@ -51,9 +53,11 @@ returns-in-Function-clause-followed c =
     let new = state_of c.args.table.now c.define_function.new.functions (record { slots = c.define_function.new.slots; types = c.args.scope.now.types; functions = c.args.scope.now.functions }) in
     let d = Declaration.function (raw_function c.in-Function.function) in
     let step = step_of c.args.here c.args.table.now c.args.functions.now c.args.outer.now in
-    on_ok (IsDefinedFunction c.args.functions.now c.args.scope.now.slots.items (raw_function c.in-Function.function) c.define_function.new.functions c.define_function.new.slots.items) (Steps c.args.marks.now c.args.here 1 (step (raw_declared c.args.declared.now)) old new) c.define_function.result
+    on_ok (IsDefinedFunction c.args.functions.now c.args.scope.now.slots.items (raw_function c.in-Function.function) c.define_function.new.functions c.define_function.new.slots.items)
+    (Steps c.args.marks.now c.args.here 1 (step (raw_declared c.args.declared.now)) old new) c.define_function.result
     (λ is. steps_as c.args.marks.now c.args.here 1 (step d) (step (raw_declared c.args.declared.now)) old new (λ place meant. ap (λ (x : Declared). step (raw_declared x) place meant) c.in-Function.is)
-    (function_step c.args.marks.now old c.requires.state c.args.here (around c.args.table.now c.args.functions.now c.args.outer.now) (raw_function c.in-Function.function) c.define_function.new.functions c.define_function.new.slots.items is))
+    (function_step c.args.marks.now old c.requires.state c.args.here (around c.args.table.now c.args.functions.now c.args.outer.now) (raw_function c.in-Function.function)
+    c.define_function.new.functions c.define_function.new.slots.items is))
     c.define_function.ensures.defined
 
 pub returns-in-Function-clause-absent : goal.returns-in-Function-clause-absent
@@ -72,14 +76,17 @@ returns-in_ok-push-in-Ok-clause-followed c =
     let old = state_of c.args.table.now c.args.functions.now c.args.scope.now in
     let new = state_of c.args.table.now c.args.functions.now (record { slots = c.push.new.self; types = c.args.scope.now.types; functions = c.args.scope.now.functions }) in
     let step = step_of c.args.here c.args.table.now c.args.functions.now c.args.outer.now in
-    steps_as c.args.marks.now c.args.here 1 (step (Declaration.alias_of (raw_alias c.in-Alias.alias))) (step (raw_declared c.args.declared.now)) old new (λ place meant. ap (λ (x : Declared). step (raw_declared x) place meant) c.in-Alias.is)
-    (alias_step c.args.marks.now old c.requires.state c.args.here c.args.outer.now c.requires.outer (raw_alias c.in-Alias.alias) c.in-Ok.slot c.push.new.self.items c.in-Ok.ensures c.in_ok-push-in-Ok.ensures.items)
+    steps_as c.args.marks.now c.args.here 1 (step (Declaration.alias_of (raw_alias c.in-Alias.alias))) (step (raw_declared c.args.declared.now)) old new
+    (λ place meant. ap (λ (x : Declared). step (raw_declared x) place meant) c.in-Alias.is)
+    (alias_step c.args.marks.now old c.requires.state c.args.here c.args.outer.now c.requires.outer (raw_alias c.in-Alias.alias) c.in-Ok.slot c.push.new.self.items c.in-Ok.ensures
+    c.in_ok-push-in-Ok.ensures.items)
 
 pub returns-in-Err-clause-absent : goal.returns-in-Err-clause-absent
 returns-in-Err-clause-absent c =
     let old = state_of c.args.table.now c.args.functions.now c.args.scope.now in
     let step = step_of c.args.here c.args.table.now c.args.functions.now c.args.outer.now in
-    halts_as c.args.marks.now (step (Declaration.alias_of (raw_alias c.in-Alias.alias))) (step (raw_declared c.args.declared.now)) old c.in-Err.refusal (λ place meant. ap (λ (x : Declared). step (raw_declared x) place meant) c.in-Alias.is)
+    halts_as c.args.marks.now (step (Declaration.alias_of (raw_alias c.in-Alias.alias))) (step (raw_declared c.args.declared.now)) old c.in-Err.refusal
+    (λ place meant. ap (λ (x : Declared). step (raw_declared x) place meant) c.in-Alias.is)
     (alias_halts c.args.marks.now old c.requires.state c.args.here c.args.outer.now c.requires.outer (raw_alias c.in-Alias.alias) c.in-Err.refusal c.in-Err.ensures)
 
 pub returns-in-Export-clause-followed : goal.returns-in-Export-clause-followed

@@ -32,7 +32,9 @@ returns-clause-places c =
     let long = length-map ks place_shape in
     let number = c.requires.number in
     let few : (place_shape c.args.key).1 ≤ length (map place_shape ks) + 1 = omega (arith, long, number) in
-    subst (λ (ss : List (Text × ℕ)). ArePlaces ss c.push_reserved.new.self.items) (sym (grown place_shape same_place place_again ks c.insert_full.new.self.keys c.args.key absent c.in_ok-number.ensures.keys))
+    subst (λ (ss : List (Text × ℕ)). ArePlaces ss c.push_reserved.new.self.items)
+    (sym (grown place_shape same_place place_again ks c.insert_full.new.self.keys c.args.key absent c.in_ok-number.ensures.keys))
     (subst (λ (ms : List Bool). ArePlaces (map place_shape ks ++ place_shape c.args.key ∷ []) ms)
-    (sym (c.push_reserved.ensures.items ∙ (ap (λ (ms : List Bool). ms ++ (c.args.key.number == 0) ∷ []) c.reserve.ensures.items ∙ ap (λ (b : Bool). c.args.marks.now.items ++ b ∷ []) (mark_is (place_shape c.args.key) (c.args.key.number == 0) refl))))
+    (sym (c.push_reserved.ensures.items ∙ (ap (λ (ms : List Bool). ms ++ (c.args.key.number == 0) ∷ []) c.reserve.ensures.items ∙ ap (λ (b : Bool). c.args.marks.now.items ++ b ∷ [])
+    (mark_is (place_shape c.args.key) (c.args.key.number == 0) refl))))
     (kept_more (map place_shape ks) c.args.marks.now.items (place_shape c.args.key) c.requires.places few c.requires.read (fresh place_shape same_place place_again ks c.args.key absent)))

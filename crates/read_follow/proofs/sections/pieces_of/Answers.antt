@@ -16,7 +16,8 @@ loop-rest-preserved c = (
 
 pub returns-in-Err-clause-found : goal.returns-in-Err-clause-found
 returns-in-Err-clause-found c = refused c.in-Err.refusal (piece_at c.loop-rest.rest.now) (pieces_in c.args.bytes.now)
-    (piece_absent (map raw_piece c.loop-rest.pieces.items) c.args.bytes.now c.loop-rest.rest.now (some_left c.loop-rest.rest.now c.loop-rest-test.ensures) c.loop-rest.invariant.1) c.in-Err.ensures.found
+    (piece_absent (map raw_piece c.loop-rest.pieces.items) c.args.bytes.now c.loop-rest.rest.now (some_left c.loop-rest.rest.now c.loop-rest-test.ensures) c.loop-rest.invariant.1)
+    c.in-Err.ensures.found
 
 pub returns-clause-found : goal.returns-clause-found
 returns-clause-found c = pieces_ended (map raw_piece c.loop-rest.pieces.items) c.args.bytes.now c.loop-rest.rest.now (none_left c.loop-rest.rest.now c.loop-rest-test.ensures) c.loop-rest.invariant.1

@@ -17,10 +17,12 @@ returns-in-Ok-used_view-clause-seen c =
     let now = tables_of c.used_view.new.table c.used_view.new.functions in
     let shown : IsUsedView (map has_path c.key_of.new.places) (place_number c.in-Ok.key) start c.args.scope.now.slots.items c.args.scope.now.used.keys c.args.n c.in-Ok-used_view.view now =
     subst (λ (ms : List Bool). IsUsedView ms (place_number c.in-Ok.key) start c.args.scope.now.slots.items c.args.scope.now.used.keys c.args.n c.in-Ok-used_view.view now) c.marks.ensures
-    (subst (λ (p : ℕ). IsUsedView c.marks.result.now p start c.args.scope.now.slots.items c.args.scope.now.used.keys c.args.n c.in-Ok-used_view.view now) c.place_of-here.ensures (rw c.deref.ensures.value at c.in-Ok-used_view.ensures.shown)) in
+    (subst (λ (p : ℕ). IsUsedView c.marks.result.now p start c.args.scope.now.slots.items c.args.scope.now.used.keys c.args.n c.in-Ok-used_view.view now) c.place_of-here.ensures
+    (rw c.deref.ensures.value at c.in-Ok-used_view.ensures.shown)) in
     on_ok (IsInstanceAdded c.args.scope.now c.push_instance.new.scope c.args.is_import c.in-Ok.key c.args.name.external_id c.args.n c.in-Ok-used_view.view)
     (Goes 0 (see_instance (direction c.args.is_import) (raw_name c.args.name) c.args.n) old new) c.push_instance.result
-    (λ a. instance_goes old c.requires c.args.is_import c.args.name c.args.n c.key_of.new.places c.in-Ok.key c.in-Ok.ensures.key c.in-Ok.ensures.grows c.in-Ok.ensures.fresh c.in-Ok.ensures.only c.in-Ok-used_view.view c.used_view.new.table c.used_view.new.functions shown new
+    (λ a. instance_goes old c.requires c.args.is_import c.args.name c.args.n c.key_of.new.places c.in-Ok.key c.in-Ok.ensures.key c.in-Ok.ensures.grows c.in-Ok.ensures.fresh c.in-Ok.ensures.only
+    c.in-Ok-used_view.view c.used_view.new.table c.used_view.new.functions shown new
     (λ i. record {
       home = a.home i;
       shapes = c.used_view.new.table;
@@ -39,7 +41,8 @@ returns-in-Err-used_view-clause-absent c =
     let start = tables_of c.args.table.now c.args.functions.now in
     let none : HasNoUsedView (map has_path c.key_of.new.places) (place_number c.in-Ok.key) start c.args.scope.now.slots.items c.args.scope.now.used.keys c.args.n c.in-Err-used_view.refusal =
     subst (λ (ms : List Bool). HasNoUsedView ms (place_number c.in-Ok.key) start c.args.scope.now.slots.items c.args.scope.now.used.keys c.args.n c.in-Err-used_view.refusal) c.marks.ensures
-    (subst (λ (p : ℕ). HasNoUsedView c.marks.result.now p start c.args.scope.now.slots.items c.args.scope.now.used.keys c.args.n c.in-Err-used_view.refusal) c.place_of-here.ensures (rw c.deref.ensures.value at c.in-Err-used_view.ensures.absent)) in
+    (subst (λ (p : ℕ). HasNoUsedView c.marks.result.now p start c.args.scope.now.slots.items c.args.scope.now.used.keys c.args.n c.in-Err-used_view.refusal) c.place_of-here.ensures
+    (rw c.deref.ensures.value at c.in-Err-used_view.ensures.absent)) in
     instance_stops old c.requires c.args.is_import c.args.name c.args.n c.key_of.new.places c.in-Ok.key c.in-Ok.ensures.key c.in-Err-used_view.refusal none
 
 pub returns-in-Ok-used_view-clause-instances : goal.returns-in-Ok-used_view-clause-instances

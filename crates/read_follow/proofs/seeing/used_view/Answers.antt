@@ -6,7 +6,8 @@ use Rattle.read_follow.proofs.seeing.used_view.Goals as goal
 pub returns-in-Some-Instance-clause-shown : goal.returns-in-Some-Instance-clause-shown
 returns-in-Some-Instance-clause-shown c =
     used_shown c.args.marks.now c.args.here (tables_of c.args.table.now c.args.functions.now) c.args.slots.now c.args.used.now.keys c.args.n c.in-Some-Instance.body c.in-Some-Instance.around
-    (tables_of c.follow_instance.new.table c.follow_instance.new.functions) c.follow_instance.result _ c.first_of-outer.ensures (sym (any_turned c.args.n c.args.used.now.keys) ∙ (sym c.contains.ensures ∙ c.if-contains.false))
+    (tables_of c.follow_instance.new.table c.follow_instance.new.functions) c.follow_instance.result _ c.first_of-outer.ensures
+    (sym (any_turned c.args.n c.args.used.now.keys) ∙ (sym c.contains.ensures ∙ c.if-contains.false))
     (sym c.slot_at.ensures ∙ (c.in-Some-Instance.is ∙ ap Some c.in-Some-Instance.field-0-is)) c.follow_instance.ensures.shown
 
 pub returns-in-Some-Instance-clause-absent : goal.returns-in-Some-Instance-clause-absent
@@ -21,7 +22,8 @@ returns-in-Some-Value-clause-absent c = λ place marked.
 
 pub returns-in-Some-Function-clause-absent : goal.returns-in-Some-Function-clause-absent
 returns-in-Some-Function-clause-absent c = λ place marked.
-    no_function c.args.marks.now c.args.here (tables_of c.args.table.now c.args.functions.now) c.args.slots.now c.args.used.now.keys c.args.n place c.in-Some-Function.field-0-0 c.in-Some-Function.field-0
+    no_function c.args.marks.now c.args.here (tables_of c.args.table.now c.args.functions.now) c.args.slots.now c.args.used.now.keys c.args.n place c.in-Some-Function.field-0-0
+    c.in-Some-Function.field-0
     (sym c.slot_at.ensures ∙ c.in-Some-Function.is) c.in-Some-Function.field-0-is
 
 pub returns-in-Some-Resource-clause-absent : goal.returns-in-Some-Resource-clause-absent

@@ -7,7 +7,8 @@ returns-in_ok-push-in-Ok-2-clause-shown c = λ marks fs st below.
     let e = c.deref.ensures.value in
     let n = c.in_ok-number-in-Ok.ensures in
     type_shown marks (state_of c.args.table.now fs c.args.scope.now) st c.args.name c.args.here c.args.kind below c.in-Ok.made (rw e at c.in-Ok.ensures.range) (rw e at c.in-Ok.ensures.found)
-    c.name_number.new.table c.in_ok-number-in-Ok.number n.found n.adds n.table.1 c.name_slot-slot.result c.name_slot-slot.ensures c.push.new.self.items c.in_ok-push-in-Ok.ensures.items c.push-in-Ok.new.self.items c.in_ok-push-in-Ok-2.ensures.items
+    c.name_number.new.table c.in_ok-number-in-Ok.number n.found n.adds n.table.1 c.name_slot-slot.result c.name_slot-slot.ensures c.push.new.self.items c.in_ok-push-in-Ok.ensures.items
+    c.push-in-Ok.new.self.items c.in_ok-push-in-Ok-2.ensures.items
 
 pub returns-in-Err-clause-absent : goal.returns-in-Err-clause-absent
 returns-in-Err-clause-absent c = λ marks fs st.

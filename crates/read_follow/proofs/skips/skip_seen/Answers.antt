@@ -9,7 +9,9 @@ pub returns-in-Ok-description_of : goal.returns-in-Ok-description_of
 returns-in-Ok-description_of c = seen_passed c.args.bytes.now (Some c.in-Ok.rest.now) c.in-Ok.ensures ∙ ap behind c.in-Ok-description_of.ensures
 
 pub returns-in-Err-description_of : goal.returns-in-Err-description_of
-returns-in-Err-description_of c = refused c.in-Err-description_of.refusal (description_at c.in-Ok.rest.now) (behind (pair_at extern_name_at description_at c.args.bytes.now)) (λ e. seen_passed c.args.bytes.now (Some c.in-Ok.rest.now) c.in-Ok.ensures ∙ ap behind e) c.in-Err-description_of.ensures
+returns-in-Err-description_of c = refused c.in-Err-description_of.refusal (description_at c.in-Ok.rest.now) (behind (pair_at extern_name_at description_at c.args.bytes.now))
+    (λ e. seen_passed c.args.bytes.now (Some c.in-Ok.rest.now) c.in-Ok.ensures ∙ ap behind e) c.in-Err-description_of.ensures
 
 pub returns-in-Err : goal.returns-in-Err
-returns-in-Err c = refused c.in-Err.refusal (behind (extern_name_at c.args.bytes.now)) (behind (pair_at extern_name_at description_at c.args.bytes.now)) (seen_passed c.args.bytes.now None) c.in-Err.ensures
+returns-in-Err c = refused c.in-Err.refusal (behind (extern_name_at c.args.bytes.now)) (behind (pair_at extern_name_at description_at c.args.bytes.now)) (seen_passed c.args.bytes.now None)
+    c.in-Err.ensures

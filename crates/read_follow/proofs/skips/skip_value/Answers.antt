@@ -9,10 +9,13 @@ pub returns-in_default : goal.returns-in_default
 returns-in_default c = ap behind (no_value c.args.bytes.now c.in_default.ensures.cases)
 
 pub returns-in-Some-primitive_of : goal.returns-in-Some-primitive_of
-returns-in-Some-primitive_of c = ap behind (ap value_type_at c.in-Some.ensures.cases.0 ∙ value_primitive c.in-Some.first.now c.in-Some.rest.now c.in-Some-primitive_of._primitive (sym c.primitive_of.ensures ∙ c.in-Some-primitive_of.is))
+returns-in-Some-primitive_of c = ap behind (ap value_type_at c.in-Some.ensures.cases.0 ∙ value_primitive c.in-Some.first.now c.in-Some.rest.now c.in-Some-primitive_of._primitive
+    (sym c.primitive_of.ensures ∙ c.in-Some-primitive_of.is))
 
 pub returns-in-Ok : goal.returns-in-Ok
-returns-in-Ok c = ap behind (value_index c.args.bytes.now c.in-Some.first.now c.in-Some.rest.now (Some (c.in-Ok._index, c.in-Ok.rest.now)) c.in-Some.ensures.cases.0 (sym c.primitive_of.ensures ∙ c.in-None.is) c.in-Ok.ensures)
+returns-in-Ok c = ap behind (value_index c.args.bytes.now c.in-Some.first.now c.in-Some.rest.now (Some (c.in-Ok._index, c.in-Ok.rest.now)) c.in-Some.ensures.cases.0
+    (sym c.primitive_of.ensures ∙ c.in-None.is) c.in-Ok.ensures)
 
 pub returns-in-Err : goal.returns-in-Err
-returns-in-Err c = refused c.in-Err.refusal (type_index_at c.args.bytes.now) (behind (value_type_at c.args.bytes.now)) (λ e. ap behind (value_index c.args.bytes.now c.in-Some.first.now c.in-Some.rest.now None c.in-Some.ensures.cases.0 (sym c.primitive_of.ensures ∙ c.in-None.is) e)) c.in-Err.ensures
+returns-in-Err c = refused c.in-Err.refusal (type_index_at c.args.bytes.now) (behind (value_type_at c.args.bytes.now))
+    (λ e. ap behind (value_index c.args.bytes.now c.in-Some.first.now c.in-Some.rest.now None c.in-Some.ensures.cases.0 (sym c.primitive_of.ensures ∙ c.in-None.is) e)) c.in-Err.ensures

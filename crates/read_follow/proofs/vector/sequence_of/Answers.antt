@@ -12,7 +12,8 @@ returns-in-Err-clause-found g c = refused c.in-Err.refusal (g.T.Form.reader c.lo
 pub loop-preserved : goal.loop-preserved
 loop-preserved g c = (
   rw c.in_ok-push-in-Ok.ensures.items (all_end g.T.Form.whole c.loop.items.items c.in-Ok.item c.loop.invariant.0 c.in-Ok.ensures.whole),
-  one_more g.T.Form.reader g.T.Form.raw c.loop.items.items c.args.count c.loop.counter c.args.bytes.now c.loop.rest.now c.loop.invariant.1 c.loop-test.true c.in-Ok.item c.in-Ok.behind.now c.push.new.self.items c.in-Ok.ensures.found c.in_ok-push-in-Ok.ensures.items,
+  one_more g.T.Form.reader g.T.Form.raw c.loop.items.items c.args.count c.loop.counter c.args.bytes.now c.loop.rest.now c.loop.invariant.1 c.loop-test.true c.in-Ok.item c.in-Ok.behind.now
+      c.push.new.self.items c.in-Ok.ensures.found c.in_ok-push-in-Ok.ensures.items,
 )
 
 pub returns-clause-found : goal.returns-clause-found

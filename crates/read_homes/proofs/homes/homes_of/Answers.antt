@@ -10,7 +10,8 @@ loop-path-preserved c =
     let before = c.loop-path.invariant in
     let is = c.in_ok-home.ensures in
     record {
-      homes = more_homes old new is.grows c.args.paths.now c.loop-path.path-index _ c.loop-path-test.true c.loop-path.homes.items c.in_ok-home.home c.push.new.self.items c.in_ok-push.ensures.items before.homes is.home;
+      homes = more_homes old new is.grows c.args.paths.now c.loop-path.path-index _ c.loop-path-test.true c.loop-path.homes.items c.in_ok-home.home c.push.new.self.items c.in_ok-push.ensures.items
+          before.homes is.home;
       grows = grows_on first old new before.grows is.grows;
       packages = is.packages;
       reasons = more_reasons first old new c.loop-path.homes.items c.in_ok-home.home c.push.new.self.items c.in_ok-push.ensures.items before.reasons is.reason;
@@ -19,4 +20,5 @@ loop-path-preserved c =
     }
 
 pub returns-clause-stand : goal.returns-clause-stand
-returns-clause-stand c = λ t same are. all_homes t c.loop-path.packages c.loop-path.invariant.packages c.args.paths.now c.loop-path.path-index c.loop-path-test.false c.loop-path.homes.items c.loop-path.invariant.homes same are
+returns-clause-stand c = λ t same are. all_homes t c.loop-path.packages c.loop-path.invariant.packages c.args.paths.now c.loop-path.path-index c.loop-path-test.false c.loop-path.homes.items
+    c.loop-path.invariant.homes same are

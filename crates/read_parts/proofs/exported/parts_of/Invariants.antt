@@ -10,5 +10,6 @@ use Rattle.read_parts.proofs.exported.parts_of.Given as goal
 abbrev pub invariant-loop-export : goal.invariant-loop-export
 invariant-loop-export l = record {
   whole : AllByRecursion (λ x. IsWholePart x.part) l.parts.items;
-  kept : with_front (map raw_exported l.parts.items) (each (part_under (top_of l.tops).types) (map label_and_number (drop l.export-index l.exported))) ≡ each (part_under (top_of l.tops).types) (map label_and_number l.exported);
+  kept : with_front (map raw_exported l.parts.items) (each (part_under (top_of l.tops).types) (map label_and_number (drop l.export-index l.exported))) ≡ each (part_under (top_of l.tops).types)
+      (map label_and_number l.exported);
 }

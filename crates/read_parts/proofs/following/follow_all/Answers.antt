@@ -18,10 +18,13 @@ returns-in-Ok-clause-followed c =
       paths_read = c.are_read.ensures;
       stand = f.stand;
       count = omega (arith, none, count);
+      numbers = c.in-Ok.ensures.numbered;
       placed = f.placed;
       names = f.names;
       met = f.met;
       order = f.order;
       formed = f.formed;
-      shows = λ place of. some_there c.args.parts.now (sym c.if-is_empty.ensures) ∙ whole_meant (length c.new-table.result) raws c.follow_each.new.table c.follow_each.new.functions c.follow_each.new.places c.in-Ok.members.items f place of;
+      staged = f.staged;
+      shows = λ place of. some_there c.args.parts.now (sym c.if-is_empty.ensures) ∙ whole_meant (length c.new-table.result) raws c.follow_each.new.table c.follow_each.new.functions
+          c.follow_each.new.places c.in-Ok.members.items f place of;
     }

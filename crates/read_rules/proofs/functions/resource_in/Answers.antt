@@ -6,12 +6,14 @@ use Rattle.std.proofs.lemmas.Bool.{and_right as and_false}
 
 pub returns-then-is_label : goal.returns-then-is_label
 returns-then-is_label c = λ r.
-    last_dot c.args.mark.now c.args.name.now r c.in-Some.rest.now c.in-Some.ensures (c.in-Some-at_last_dot.resource.now, c.in-Some-at_last_dot.member.now) c.in-Some-at_last_dot.ensures.0 c.in-Some-at_last_dot.ensures.1
+    last_dot c.args.mark.now c.args.name.now r c.in-Some.rest.now c.in-Some.ensures (c.in-Some-at_last_dot.resource.now, c.in-Some-at_last_dot.member.now) c.in-Some-at_last_dot.ensures.0
+    c.in-Some-at_last_dot.ensures.1
     ∙ and_true (text_eq c.in-Some-at_last_dot.resource.now r) _ (sym c.if-is_label.ensures)
 
 pub returns-else-is_label : goal.returns-else-is_label
 returns-else-is_label c = λ r.
-    last_dot c.args.mark.now c.args.name.now r c.in-Some.rest.now c.in-Some.ensures (c.in-Some-at_last_dot.resource.now, c.in-Some-at_last_dot.member.now) c.in-Some-at_last_dot.ensures.0 c.in-Some-at_last_dot.ensures.1
+    last_dot c.args.mark.now c.args.name.now r c.in-Some.rest.now c.in-Some.ensures (c.in-Some-at_last_dot.resource.now, c.in-Some-at_last_dot.member.now) c.in-Some-at_last_dot.ensures.0
+    c.in-Some-at_last_dot.ensures.1
     ∙ and_false (text_eq c.in-Some-at_last_dot.resource.now r) _ (sym c.if-is_label.ensures)
 
 pub returns-in-None : goal.returns-in-None

@@ -12,9 +12,11 @@ loop-instance-init c = ap (λ l. map numbered_sight c.args.sights.now.items ++ l
 
 pub loop-instance-preserved : goal.loop-instance-preserved
 loop-instance-preserved c =
-    one_added (λ i. sights_of_instance (numbered_tables c.args.tables.now) (numbered_instance i)) c.args.instances.now c.loop-instance.instance-index (map numbered_sight c.loop-instance.sights.items) c.loop-instance.invariant _ c.loop-instance-test.true
+    one_added (λ i. sights_of_instance (numbered_tables c.args.tables.now) (numbered_instance i)) c.args.instances.now c.loop-instance.instance-index (map numbered_sight c.loop-instance.sights.items)
+    c.loop-instance.invariant _ c.loop-instance-test.true
     (map numbered_sight c.add_instance.new.sights.items) c.in_ok-add_instance.ensures
 
 pub returns : goal.returns
 returns c =
-    all_added (λ i. sights_of_instance (numbered_tables c.args.tables.now) (numbered_instance i)) c.args.instances.now c.loop-instance.instance-index (map numbered_sight c.loop-instance.sights.items) c.loop-instance.invariant c.loop-instance-test.false
+    all_added (λ i. sights_of_instance (numbered_tables c.args.tables.now) (numbered_instance i)) c.args.instances.now c.loop-instance.instance-index (map numbered_sight c.loop-instance.sights.items)
+    c.loop-instance.invariant c.loop-instance-test.false

@@ -17,4 +17,5 @@ returns-in-Instance c =
 pub returns-in-Declares : goal.returns-in-Declares
 returns-in-Declares c =
     c.stands.ensures
-    ∙ (ap (list_all (has c.args.earlier.now.keys)) c.used_by.ensures ∙ ap (λ s. list_all (has c.args.earlier.now.keys) (uses_of (numbered_tables c.args.tables.now) (numbered_shown s))) (sym c.in-Declares.is))
+    ∙ (ap (list_all (has c.args.earlier.now.keys)) c.used_by.ensures ∙ ap (λ s. list_all (has c.args.earlier.now.keys) (uses_of (numbered_tables c.args.tables.now) (numbered_shown s)))
+    (sym c.in-Declares.is))

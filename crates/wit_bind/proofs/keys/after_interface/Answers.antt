@@ -1,4 +1,4 @@
-use Rattle.std.proofs.Common.{rules, ◌≡◌, ◌∙◌, None, ◌∷◌, [], ◌++◌}
+use Rattle.std.proofs.Common.{rules, ◌≡◌, ◌∙◌, None}
 use Rattle.std.specs.Option.{option_copied}
 use Rattle.wit_model.specs.Lookup.{canonical_identity_of}
 use Rattle.wit_model.specs.Names.{at_version}
@@ -10,16 +10,9 @@ pub returns-in_err-rest : goal.returns-in_err-rest
 returns-in_err-rest c =
     let end : Text = at_version (canonical_identity_of c.args.own.now).version in
     let given : option_copied c.from_residual.result ≡ None = search rules in
-    given ∙ then_none c.args.name.now (end ++ (47 ∷ [])) c.args.text.now (search rules)
-
-pub returns-in_err-rest-2 : goal.returns-in_err-rest-2
-returns-in_err-rest-2 c =
-    let end : Text = at_version (canonical_identity_of c.args.own.now).version in
-    let given : option_copied c.from_residual-in_err-rest-2.result ≡ None = search rules in
-    given ∙ then_some c.args.name.now (end ++ (47 ∷ [])) c.args.text.now c.in_ok-rest.rest.now None (search rules) (then_none end (47 ∷ []) c.in_ok-rest.rest.now (search rules))
+    given ∙ then_none c.args.name.now end c.args.text.now (search rules)
 
 pub returns : goal.returns
 returns c =
     let end : Text = at_version (canonical_identity_of c.args.own.now).version in
-    then_some c.args.name.now (end ++ (47 ∷ [])) c.args.text.now c.in_ok-rest.rest.now (option_copied c.after_prefix-2.result) (search rules)
-    (then_some end (47 ∷ []) c.in_ok-rest.rest.now c.in_ok-rest-2.rest.now (option_copied c.after_prefix-2.result) (search rules) (search rules))
+    then_some c.args.name.now end c.args.text.now c.in_ok-rest.rest.now (option_copied c.after_at_version.result) (search rules) (search rules)

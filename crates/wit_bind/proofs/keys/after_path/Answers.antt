@@ -12,13 +12,13 @@ returns-in_err-rest c =
     let own = c.args.own.now in
     let end : Text = at_version (canonical_identity_of own).version in
     let given : option_copied c.from_residual.result ≡ None = search rules in
-    given ∙ then_none ((text_of own.namespace ++ (58 ∷ [])) ++ (text_of own.name ++ (47 ∷ []))) (c.args.name.now ++ (end ++ (47 ∷ []))) c.args.text.now (search rules)
+    given ∙ then_none ((text_of own.namespace ++ (58 ∷ [])) ++ (text_of own.name ++ (47 ∷ []))) (c.args.name.now ++ end) c.args.text.now (search rules)
     ∙ ap (λ p. after_prefix p c.args.text.now) (path_parts (text_of own.namespace) (text_of own.name) c.args.name.now end)
 
 pub returns : goal.returns
 returns c =
     let own = c.args.own.now in
     let end : Text = at_version (canonical_identity_of own).version in
-    then_some ((text_of own.namespace ++ (58 ∷ [])) ++ (text_of own.name ++ (47 ∷ []))) (c.args.name.now ++ (end ++ (47 ∷ []))) c.args.text.now c.in_ok-rest.rest.now
+    then_some ((text_of own.namespace ++ (58 ∷ [])) ++ (text_of own.name ++ (47 ∷ []))) (c.args.name.now ++ end) c.args.text.now c.in_ok-rest.rest.now
     (option_copied c.after_interface.result) (search rules) (search rules)
     ∙ ap (λ p. after_prefix p c.args.text.now) (path_parts (text_of own.namespace) (text_of own.name) c.args.name.now end)

@@ -1,9 +1,9 @@
-use Rattle.std.proofs.Common.{sym, subst, ◌∙◌, ℕ, List}
+use Rattle.std.proofs.Common.{sym, subst, ◌∙◌, ℕ, false, List}
 use Rattle.std.proofs.lemmas.Result.{IfErr-weaker, IfOk-weaker}
 use Rattle.comp_read.specs.Decoded.{IsDecoded, RefusesBytes}
-use Rattle.wit_encode.specs.Packages.{MeansPackage}
+use Rattle.wit_encode.specs.Packages.{MeansPackage, SpellsPackageAt}
 use Rattle.wit_component.specs.ReadBack.{IsReadBack, RefusesReadBack}
-use Rattle.wit_component.proofs.Refusing.{handed_on, memory_or_size, never_too_large, read_back, refused_decoding, refused_encoding}
+use Rattle.wit_component.proofs.Refusing.{handed_on, memory_or_size, never_too_large, read_back, read_of, refused_decoding, refused_encoding}
 use Rattle.wit_component.proofs.normal.normalized.Goals as goal
 use Rattle.base_lemmas.proofs.Lists.{within_there as stands}
 use Rattle.encode_names.proofs.Paths.{passed as passed_on}
@@ -32,6 +32,14 @@ returns-clause-read_back c =
     (λ none. c.deref.ensures.value ∙ c.in_ok-bytes.ensures.empty own.0 own.1 none)
     x.0 x.1.0 decoded)
     c.decode.ensures.decoded
+
+pub returns-clause-read_of : goal.returns-clause-read_of
+returns-clause-read_of c =
+    let r = c.args.resolve.now in
+    let n = c.args.package.0 in
+    read_of r n c.deref.result.now c.decode.result
+    (subst (λ (bs : List ℕ). SpellsPackageAt r false n bs) (sym c.deref.ensures.value) c.in_ok-bytes.ensures.holds)
+    c.decode.ensures.decoded c.decode.ensures.order
 
 pub returns-clause-size : goal.returns-clause-size
 returns-clause-size c = never_too_large c.deref.result.now c.decode.result c.decode.ensures.refuses

@@ -16,10 +16,10 @@ home_of-requires-clause-in_range c =
 
 pub returns-clause-encoded : goal.returns-clause-encoded
 returns-clause-encoded c =
-    let has = has-world c.args.bytes.now c.in_ok-resolve.resolve c.in_ok-resolve.world.0 c.home_of.result c.in_ok-resolve.ensures.decoded c.home_of.ensures.home in
+    let has = has-world c.args.bytes.now c.in_ok-resolve.resolve c.in_ok-resolve.world.0 c.home_of.result c.in_ok-resolve.ensures.decoded c.in_ok-resolve.ensures.order c.home_of.ensures.home in
     world-encodes c.args.bytes.now c.in_ok-resolve.resolve c.home_of.result has c.encode.result c.encode.ensures.means c.encode.ensures.holds
 
 pub returns-clause-refused : goal.returns-clause-refused
 returns-clause-refused c =
-    let has = has-world c.args.bytes.now c.in_ok-resolve.resolve c.in_ok-resolve.world.0 c.home_of.result c.in_ok-resolve.ensures.decoded c.home_of.ensures.home in
+    let has = has-world c.args.bytes.now c.in_ok-resolve.resolve c.in_ok-resolve.world.0 c.home_of.result c.in_ok-resolve.ensures.decoded c.in_ok-resolve.ensures.order c.home_of.ensures.home in
     world-refuses c.args.bytes.now c.in_ok-resolve.resolve c.home_of.result has c.encode.result c.encode.ensures.refuses c.encode.ensures.size

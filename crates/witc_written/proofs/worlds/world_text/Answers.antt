@@ -33,7 +33,7 @@ returns-clause-printed c =
     (λ text is. record {
       resolve = r;
       home = home;
-      has = has-world c.args.bytes.now r c.in_ok-resolve.world.0 home c.in_ok-resolve.ensures.decoded c.home_of-home.ensures.home;
+      has = has-world c.args.bytes.now r c.in_ok-resolve.world.0 home c.in_ok-resolve.ensures.decoded c.in_ok-resolve.ensures.order c.home_of-home.ensures.home;
       is_text = subst (λ ids. IsTextOf r home ids text.items) (c.deref.ensures.value ∙ c.in_ok-others.ensures) is;
     }) c.text_of_package.result c.text_of_package.ensures.text
 

@@ -14,7 +14,8 @@ returns-in_err-put_custom-clause-size c is =
 
 grown : (c : goal.After-self-2-1)
     → Grown c.self.inside.done.items c.self.inside.items.items c.self.inside.count c.self.inside.exports (Part.custom c.args.name.now c.args.contents.now)
-    ((begun c.self.inside.done.items ++ closed_bytes (section_id c.self.inside.exports) c.self.inside.count c.self.inside.items.items) ++ framed 0 (name_bytes c.args.name.now ++ c.args.contents.now)) [] 0 false c.self.inside.types
+    ((begun c.self.inside.done.items ++ closed_bytes (section_id c.self.inside.exports) c.self.inside.count c.self.inside.items.items) ++ framed 0 (name_bytes c.args.name.now ++ c.args.contents.now))
+    [] 0 false c.self.inside.types
 grown c =
     let few : c.self.inside.count < 2 ^ 32 = omega arith in
     add_custom c.self.inside.done.items c.self.inside.items.items c.self.inside.count c.self.inside.exports c.self.inside.types c.self.invariant few

@@ -13,11 +13,13 @@ pub returns-in-Ok-clause-spelled : goal.returns-in-Ok-clause-spelled
 returns-in-Ok-clause-spelled c =
     let short : length c.close.new.out.items < 2 ^ 32 = omega arith in
     rw (← c.self.view_is)
-    (component_spelled c.self.inside.done.items c.self.inside.items.items c.self.inside.count c.self.inside.exports c.self.inside.types c.self.invariant c.close.new.out.items (rw c.deref.ensures.value at c.in_ok-close.ensures.ok)
+    (component_spelled c.self.inside.done.items c.self.inside.items.items c.self.inside.count c.self.inside.exports c.self.inside.types c.self.invariant c.close.new.out.items
+    (rw c.deref.ensures.value at c.in_ok-close.ensures.ok)
     c.in_ok-close.ensures.few (rw c.deref.ensures.value at c.in_ok-close.ensures.small) short)
 
 pub returns-clause-size : goal.returns-clause-size
 returns-clause-size c is =
     let long : 2 ^ 32 ≤ length c.close.new.out.items = omega arith in
     rw (← c.self.view_is)
-    (length_refused c.self.inside.done.items c.self.inside.items.items c.self.inside.count c.self.inside.exports c.self.inside.types c.self.invariant c.close.new.out.items (rw c.deref.ensures.value at c.in_ok-close.ensures.ok) long)
+    (length_refused c.self.inside.done.items c.self.inside.items.items c.self.inside.count c.self.inside.exports c.self.inside.types c.self.invariant c.close.new.out.items
+    (rw c.deref.ensures.value at c.in_ok-close.ensures.ok) long)

@@ -11,9 +11,11 @@ returns-in_err-count-clause-size c _ =
 pub invariant_of-self-2 : goal.invariant_of-self-2
 invariant_of-self-2 c =
     rw (c.in_ok-count.ensures.ok.0, c.in_ok-count.ensures.ok.1, c.in_ok-declare_function.ensures.ok)
-    (add_declaration c.self.inside.count c.self.inside.bytes.items c.self.inside.types (Declaration.function (raw_function c.args.function.now)) c.self.invariant c.in_ok-declare_function.ensures.spelled).holds
+    (add_declaration c.self.inside.count c.self.inside.bytes.items c.self.inside.types (Declaration.function (raw_function c.args.function.now)) c.self.invariant
+    c.in_ok-declare_function.ensures.spelled).holds
 
 pub returns-clause-ok : goal.returns-clause-ok
 returns-clause-ok c =
     rw (c.in_ok-count.ensures.ok.0, c.in_ok-declare_function.ensures.ok, ← c.self.view_is)
-    (add_declaration c.self.inside.count c.self.inside.bytes.items c.self.inside.types (Declaration.function (raw_function c.args.function.now)) c.self.invariant c.in_ok-declare_function.ensures.spelled).shows
+    (add_declaration c.self.inside.count c.self.inside.bytes.items c.self.inside.types (Declaration.function (raw_function c.args.function.now)) c.self.invariant
+    c.in_ok-declare_function.ensures.spelled).shows

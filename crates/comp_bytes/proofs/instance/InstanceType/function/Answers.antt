@@ -12,9 +12,11 @@ returns-in_err-count-clause-size c _ =
 pub invariant_of-self-2 : goal.invariant_of-self-2
 invariant_of-self-2 c =
     rw (c.in_ok-count.ensures.ok.0, c.in_ok-count.ensures.ok.1, c.in_ok-declare_function.ensures.ok)
-    (push c.self.inside.count c.self.inside.bytes.items c.self.inside.types (Declaration.function (raw_function c.args.function.now)) c.self.invariant c.in_ok-declare_function.ensures.spelled refl).holds
+    (push c.self.inside.count c.self.inside.bytes.items c.self.inside.types (Declaration.function (raw_function c.args.function.now)) c.self.invariant
+    c.in_ok-declare_function.ensures.spelled refl).holds
 
 pub returns-clause-ok : goal.returns-clause-ok
 returns-clause-ok c =
     rw (c.in_ok-count.ensures.ok.0, c.in_ok-declare_function.ensures.ok, ← c.self.view_is)
-    (push c.self.inside.count c.self.inside.bytes.items c.self.inside.types (Declaration.function (raw_function c.args.function.now)) c.self.invariant c.in_ok-declare_function.ensures.spelled refl).shows
+    (push c.self.inside.count c.self.inside.bytes.items c.self.inside.types (Declaration.function (raw_function c.args.function.now)) c.self.invariant
+    c.in_ok-declare_function.ensures.spelled refl).shows

@@ -18,7 +18,8 @@ returns-clause-only c =
     let new = map path_in (map place_shape c.put.new.keys.keys) in
     counted_as c.counted.result c.in_ok-number.number (λ n. IsOnlyNew c.args.self.now n new) c.counted.ensures.same
     (subst (λ (ps : List (Option Text)). IsOnlyNew ps c.in_ok-number.number new) c.self.view_is
-    (only_joined (map place_shape c.self.inside.keys.keys) (map place_shape c.put.new.keys.keys) (text_of c.args.path, 0) c.in_ok-number.number c.in_ok-number.ensures.joins c.in_ok-number.ensures.found))
+    (only_joined (map place_shape c.self.inside.keys.keys) (map place_shape c.put.new.keys.keys) (text_of c.args.path, 0) c.in_ok-number.number c.in_ok-number.ensures.joins
+    c.in_ok-number.ensures.found))
 
 pub returns-clause-apart : goal.returns-clause-apart
 returns-clause-apart c = paths_apart (map place_shape c.put.new.keys.keys) c.put.new.marks.items c.put.ensures.places

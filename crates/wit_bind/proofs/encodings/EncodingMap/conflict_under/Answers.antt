@@ -9,10 +9,10 @@ returns-then-eq-clause-ok c =
     sym (conflict_is c.args.self.now c.self.inside.encodings.entries c.args.key.now c.args.encoding (Some c.in-Some.found.now) c.self.view_is c.in-Some.ensures.value
     ∙ same_there c.args.key.now c.in-Some.found.now c.args.encoding same)
 
-pub returns-in_ok-from_str-in-Some-clause-ok : goal.returns-in_ok-from_str-in-Some-clause-ok
-returns-in_ok-from_str-in-Some-clause-ok c =
+pub returns-in_ok-text-in-Some-clause-ok : goal.returns-in_ok-text-in-Some-clause-ok
+returns-in_ok-text-in-Some-clause-ok c =
     let other : encoding.ghosts.eq c.in-Some.found.now c.args.encoding ≡ false = search rules in
-    ap Some c.in_ok-from_str-in-Some.ensures.ok
+    ap Some c.in_ok-text-in-Some.ensures.ok
     ∙ sym (conflict_is c.args.self.now c.self.inside.encodings.entries c.args.key.now c.args.encoding (Some c.in-Some.found.now) c.self.view_is c.in-Some.ensures.value
     ∙ another_there c.args.key.now c.in-Some.found.now c.args.encoding other)
 

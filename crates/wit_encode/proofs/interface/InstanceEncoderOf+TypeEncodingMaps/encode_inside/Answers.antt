@@ -11,7 +11,7 @@ use Rattle.wit_encode.proofs.Referring.{interface-kinds}
 use Rattle.wit_encode.proofs.Opening.{closed, closed-instance, listed-there, opened-exports, opened-with}
 use Rattle.encode_types.specs.Aliases.{AliasesMet}
 use Rattle.encode_types.specs.MetKinds.{referred}
-use Rattle.wit_encode.proofs.Counting.{Began, Counted, closed-counts}
+use Rattle.wit_encode.proofs.Counting.{Began, Counted, closed-counts, declares-few}
 use Rattle.wit_encode.proofs.Refusing.{no-room}
 use Rattle.wit_encode.proofs.interface.InstanceEncoderOf+TypeEncodingMaps.encode_inside.Goals as goal
 use Rattle.wit_encode.proofs.interface.InstanceEncoderOf+TypeEncodingMaps.encode_inside.Goals.{After-new-2, In-Some, In_ok-outcome-in-Some}
@@ -82,7 +82,7 @@ counted : (c : In_ok-outcome-in-Some) → Began c.replace-saved.new.dest
     → Continues c.args.self.now.resolve.now c.args.self.now.resolve.now c.args.self.now.outer c.encode_parts-outcome.new.self.outer (opened c.args.interface c.args.self.now.foreign)
     c.encode_parts-outcome.new.self.inner c.replace-saved.new.dest c.encode_parts-outcome.new.self.maps
     → Counted c.args.self.now.resolve.now c.args.interface (stands_inside c.args.self.now.resolve.now c.args.interface c.encode_parts-outcome.new.self.outer c.in-Some.current.declared)
-    (map (λ f. f.2.now) c.args.functions.now) c.args.types.now c.in-Some.current.declared
+    c.encode_parts-outcome.new.self.maps (map (λ f. f.2.now) c.args.functions.now) c.args.types.now c.in-Some.current.declared
 counted c new continues =
     let r = c.args.self.now.resolve.now in
     let after = c.encode_parts-outcome.new.self in
@@ -106,6 +106,14 @@ returns-clause-function_types c = (counted c (began (goal.at.returns-clause-func
 
 pub returns-clause-value_types : goal.returns-clause-value_types
 returns-clause-value_types c = (counted c (began (goal.at.returns-clause-value_types c).In-Some) (continued (goal.at.returns-clause-value_types c).In-Some)).types
+
+pub returns-clause-few : goal.returns-clause-few
+returns-clause-few c =
+    let after = c.encode_parts-outcome.new.self in
+    let new = began (goal.at.returns-clause-few c).In-Some in
+    declares-few c.args.self.now.resolve.now c.args.interface c.args.types.now c.args.functions.now c.replace-saved.new.dest after.maps after.outer after.inner c.new-2.result c.in-Some.current new
+    c.new-2.ensures (sym c.replace-inner.ensures.value ∙ c.in-Some.is) c.in_ok-outcome-in-Some.ensures.learns.only c.in_ok-outcome-in-Some.ensures.held
+    (counted c new (continued (goal.at.returns-clause-few c).In-Some)).known
 
 pub encode_parts-outcome-requires-clause-begins : goal.encode_parts-outcome-requires-clause-begins
 encode_parts-outcome-requires-clause-begins c = record {

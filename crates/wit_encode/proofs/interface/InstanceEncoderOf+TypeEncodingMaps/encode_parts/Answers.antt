@@ -2,7 +2,7 @@ use Rattle.std.proofs.Common.{refl, sym, subst, map, arith, rules}
 use Rattle.std.specs.List.{flat_map}
 use Rattle.wit_model.specs.Parts.{function_types}
 use Rattle.wit_model.specs.declared.model.«Type».TheVariants as ty
-use Rattle.encode_types.proofs.Rooms.{only-more, reached-left, reached-right}
+use Rattle.encode_types.proofs.Rooms.{holds-most, holds-then, only-more, reached-left, reached-right}
 use Rattle.wit_encode.proofs.HeldKeys.{knows-along}
 use Rattle.wit_encode.proofs.FunctionRoom.{lacks-types, lacks-behind}
 use Rattle.encode_types.specs.Scope.{Scope}
@@ -17,6 +17,7 @@ use Rattle.wit_encode.proofs.interface.InstanceEncoderOf+TypeEncodingMaps.encode
 use Rattle.wit_encode.proofs.interface.InstanceEncoderOf+TypeEncodingMaps.encode_parts.Goals.{After-encode_types}
 use Rattle.encode_types.proofs.Writing.{writes-most, writes-then}
 use Rattle.encode_types.proofs.Aliasing.{met-more, makes-then}
+use Rattle.base_lemmas.proofs.Options.{on-both}
 
 pub encode_functions-requires-clause-encodable : goal.encode_functions-requires-clause-encodable
 encode_functions-requires-clause-encodable c = λ f h. subst (λ (s : Scope). CanEncodeFunction c.args.resolve.now s f.2.now)
@@ -91,6 +92,12 @@ returns-clause-size c = λ h.
     lacks-behind (ap (λ (s : Scope). s.own_interface) c.encode_types.ensures.leaves.scope_stays) c.encode_types.ensures.leaves.maps_grow
     (only-more (reached-left types others) c.in_ok-encode_types.ensures.learns.only) (reached-right types others) (map placed_function c.args.functions.now) c.in_ok-encode_types.ensures.held
     (knows-along c.encode_types.new.self.maps c.args.self.now.maps (sym same.lists) (sym same.names_)) (c.encode_functions.ensures.size h)
+
+pub returns-clause-held : goal.returns-clause-held
+returns-clause-held c = on-both c.encode_functions.result _ _ _
+    (λ l h. holds-most (omega arith)
+    (holds-then (ap (λ (s : Scope). s.own_interface) c.encode_types.ensures.leaves.scope_stays) c.encode_types.ensures.leaves.maps_grow l.learns.grow c.in_ok-encode_types.ensures.held h))
+    c.encode_functions.ensures.learns c.encode_functions.ensures.held
 
 pub returns-clause-written : goal.returns-clause-written
 returns-clause-written c = on_ok c.encode_functions.result _ _ (λ w. writes-most (omega arith) (writes-then c.encode_types.ensures.leaves.scope_stays c.in_ok-encode_types.ensures.written w))

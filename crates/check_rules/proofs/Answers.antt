@@ -1,1 +1,0 @@
--- What holds of an answer that a function hands on.

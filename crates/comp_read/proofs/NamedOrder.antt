@@ -1,0 +1,221 @@
+-- The types that are named by then have smaller numbers than those that are named later.
+use Rattle.std.proofs.Common.{◌≡◌, sym, ap, subst, ◌∙◌, ℕ, ◌+◌, ◌<◌, ◌≤◌, ◌⊎◌, arith, Bool, true, List, [], ◌++◌, length, map, take, Option, Some, slice_get}
+use Rattle.std.specs.List.{AllByRecursion, AllZip, Contains, filter, flat_map}
+use Rattle.indexmap.specs.IndexMap.{values}
+use Rattle.wit_model.specs.declared.model.Resolve.{Resolve}
+use Rattle.wit_model.specs.declared.model.TypeId.{TypeId}
+use Rattle.wit_model.specs.declared.model.World.{World}
+use Rattle.wit_model.specs.declared.model.WorldItem.TheVariants as item
+use Rattle.wit_model.specs.Lookup.{world_at as model_world}
+use Rattle.wit_model.specs.Text.{Text}
+use Rattle.wit_model.specs.Uses.{once}
+use Rattle.comp_bytes.specs.Levels.{Entry, PartType, Piece}
+use Rattle.comp_bytes.proofs.Readers.{bind_some}
+use Rattle.comp_meaning.specs.ByLevels.{entry_step}
+use Rattle.comp_meaning.specs.Follow as follow
+use Rattle.comp_meaning.specs.Follow.{each, new_scope}
+use Rattle.comp_meaning.specs.Reads as reads
+use Rattle.comp_meaning.specs.Reads.{steps}
+use Rattle.comp_meaning.specs.Rules.{distinct}
+use Rattle.plan_meaning.specs.Built.{IsBuilt, planned_interface, planned_item, planned_key, planned_world}
+use Rattle.plan_meaning.specs.NumberedMembers.{Homes, IsMember, NumberedMember}
+use Rattle.plan_meaning.specs.NumberedRules.{Fact}
+use Rattle.plan_meaning.specs.NumberedViews.{NumberedSight, Tables, first_at, path_at}
+use Rattle.plan_meaning.specs.NumberedWorlds.{NumberedScope, NumberedSeen, are_once}
+use Rattle.plan_meaning.specs.Plan as plan
+use Rattle.plan_meaning.specs.Plan.{Plan}
+use Rattle.plan_meaning.proofs.TypeOrder.{type_numbers_are}
+use Rattle.plan_parts.specs.Kept.{AreMarked}
+use Rattle.plan_types.specs.Orders.{joined_all}
+use Rattle.plan_type_laws.specs.ShownMarks.{has_no_path}
+use Rattle.plan_package.specs.Views.{views_of_members}
+use Rattle.plan_package.specs.WholeInterfaces.{Home, PlansPlace}
+use Rattle.plan_package.specs.WholeWorlds.{PlansWorld, worlds_in}
+use Rattle.plan_laws.specs.ShownNames.{PartDeclaresNames}
+use Rattle.read_exports.specs.Members.{numbered_member, numbered_members}
+use Rattle.read_exports.specs.declared.members.Member.{Member}
+use Rattle.read_exports.specs.declared.members.Part.{Part}
+use Rattle.read_members.specs.PartMembers.{IsMemberOf}
+use Rattle.read_numbers.specs.NumberedInput.{MemberShown, tables_of}
+use Rattle.read_numbers.specs.NumberedParts.{numbered_scope as followed_scope}
+use Rattle.read_numbers.specs.PlacedNumbers.{scopes_in}
+use Rattle.read_numbers.proofs.InputNumbers.{input_in_numbers}
+use Rattle.read_parts.specs.declared.following.Followed.{Followed}
+use Rattle.read_parts.specs.declared.members.Member.{Member as FollowedMember}
+use Rattle.read_parts.specs.Followed.{labelled_scope, member_of_scope, scopes_of}
+use Rattle.read_parts.specs.Members.{entries_of, scope_of}
+use Rattle.read_rules.specs.Scopes.{numbered_scope}
+use Rattle.read_rules.specs.declared.scopes.Scope.{Scope}
+use Rattle.comp_read.specs.Order.{HowMuch, IsNamedBefore, IsNamedBehind, once_by_path, shown_under, shown_until}
+use Rattle.comp_read.specs.Order as named
+use Rattle.comp_read.specs.ReadInput.{IsReadInput, ViewsObey}
+use Rattle.comp_read.proofs.ByScopes.{scopes_found}
+use Rattle.comp_read.proofs.CutOrder.{IsHigh, IsLow, interface_high, interface_low}
+use Rattle.comp_read.proofs.CutPlaces.{split_flat}
+use Rattle.comp_read.proofs.CutScopes.{IsCutOf, cut_of}
+use Rattle.comp_read.proofs.CutShown.{chained, counts_of, many_places, many_worlds, mapped_zip, zip_of_map, zip_take}
+use Rattle.comp_read.proofs.CutWorlds.{Counts, IsImported, IsWorldOf, before_there, behind_there, imported, world_of, worlds_before}
+use Rattle.comp_read.proofs.Inputs.{keys_differ}
+use Rattle.comp_read.proofs.InterfaceViews.{each_beside}
+use Rattle.comp_read.proofs.Members.{both_at, placed, tables, world_read}
+use Rattle.comp_read.proofs.Places.{world_at}
+use Rattle.comp_read.proofs.PlanOrder.{built_at, world_built_at}
+use Rattle.comp_read.proofs.ShownScopes.{one_paths, one_stands, part_named, scope_in, scope_places}
+use Rattle.comp_read.proofs.TypeNumbers.{kept_less}
+use Rattle.base_lemmas.proofs.Elements.{all_at_too, get-contains, zip_at, zip_at_right, zip_each}
+use Rattle.base_lemmas.proofs.Lists.{append_of_map, get_back, mapped_get, one_item}
+use Rattle.base_lemmas.proofs.Options.{some_is}
+
+module _ (pieces : List Piece) (x : Followed) (h : Homes) (ms : List Member) (members : List reads.Member) (input : IsReadInput pieces x h ms members) (known : ℕ
+    → Fact) (obey : ViewsObey (tables_of x) known ms)
+    (alone : are_once (filter (has_no_path (tables_of x)) (flat_map scope_places (scopes_in x))) ≡ true) (declared : AllByRecursion (λ (m : Member). PartDeclaresNames (tables_of x) m.part) ms) where
+  abbrev t : Tables
+  t = tables_of x
+
+  abbrev ws : List NumberedScope
+  ws = scopes_in x
+
+  -- each scope stands under the paths of its part
+  scope_under : (n : ℕ) (f : FollowedMember) (y : reads.Member) → slice_get x.members.items n ≡ Some f → slice_get members n ≡ Some y → map (path_at t) (scope_places (scope_in t f)) ≡ shown_under y
+  scope_under n f y f_at y_at =
+      let found = input.followed.exported in
+      let scopes = bind_some (scopes_of pieces) (each member_of_scope) members input.reads in
+      let numbers = input_in_numbers pieces x input.followed in
+      let same : numbers.scopes ≡ scopes.0 = some_is numbers.scopes scopes.0 (sym numbers.found ∙ scopes.1) in
+      let s = zip_at (MemberShown t) x.members.items numbers.scopes numbers.shown n f f_at in
+      let s_at = ap (λ ys. slice_get ys n) (sym same) ∙ s.1 in
+      let z = zip_at (λ s m. member_of_scope s ≡ Some m) scopes.0 members (each_beside member_of_scope scopes.0 members scopes.2) n s.0 s_at in
+      let parts_beside = each_beside labelled_scope input.followed.parts scopes.0 (scopes_found pieces input.followed.parts found scopes.0 scopes.1) in
+      let p = zip_at_right (λ u v. labelled_scope u ≡ Some v) input.followed.parts scopes.0 parts_beside n s.0 s_at in
+      part_named t f.part s.0.1 s.2.1 ∙ (one_paths s.0 z.0 (one_stands p.0 s.0 p.2) z.2 ∙ ap shown_under (one_item members n z.0 y z.1 y_at))
+
+  -- the member, as it was followed and as it is kept
+  pub record IsRead (m : ℕ) (y : reads.Member) : Type 0 where
+    pub kept : Member
+    pub kept_at : slice_get ms m ≡ Some kept
+    pub is : IsMember t h (numbered_member kept) y
+    pub one : FollowedMember
+    pub there : slice_get x.members.items m ≡ Some one
+
+  pub read_at : (m : ℕ) (y : reads.Member) → slice_get members m ≡ Some y → IsRead m y
+  read_at m y at =
+      let k = zip_at_right (IsMember t h) (numbered_members ms) members input.shown m y at in
+      let kept = get_back numbered_member ms m k.0 k.1 in
+      let one = zip_at_right (IsMemberOf t) x.members.items ms input.are m kept.0 kept.1 in
+      record { kept = kept.0; kept_at = kept.1; is = subst (λ (z : NumberedMember). IsMember t h z y) (sym kept.2) k.2; one = one.0; there = one.1 }
+
+  module _ (m : ℕ) (raw : Text × PartType) (raw_at : slice_get input.followed.parts m ≡ Some raw) (y : reads.Member) (y_at : slice_get members m ≡ Some y) (front back : List Entry)
+      (split : entries_of raw.1 ≡ front ++ back) (scope : follow.Scope) (read : steps entry_step new_scope front ≡ Some scope) where
+    abbrev one : FollowedMember
+    one = (read_at m y y_at).one
+
+    abbrev w : NumberedScope
+    w = followed_scope x.places (scope_of one.part)
+
+    w_at : slice_get ws m ≡ Some w
+    w_at = mapped_get (λ (f : FollowedMember). followed_scope x.places (scope_of f.part)) x.members.items m one (read_at m y y_at).there
+
+    pub cut : IsCutOf t ws m w scope
+    cut = cut_of pieces x input.followed (placed pieces x h ms members input) m raw raw_at one (read_at m y y_at).there front back split scope read
+
+    abbrev front_places : List ℕ
+    front_places = flat_map scope_places (take m ws) ++ take cut.instances (scope_places w)
+
+    -- as many interfaces as the parts and the declarations show
+    interfaces_are : length (once front_places) ≡ (shown_until members m y.part scope).interfaces
+    interfaces_are =
+        let rest = split_flat scope_places ws m w w_at cut.instances in
+        let whole = subst (λ (ps : List ℕ). are_once (filter (has_no_path t) ps) ≡ true) rest.1 alone in
+        many_places t (tables pieces x h ms members input) front_places rest.0 whole ∙ ap (λ (os : List (Option Text)). length (once_by_path os)) paths
+      where
+        beside : AllZip (λ (v : NumberedScope) (z : reads.Member). map (path_at t) (scope_places v) ≡ shown_under z) ws members
+        beside =
+            zip_of_map (λ (v : NumberedScope) (z : reads.Member). map (path_at t) (scope_places v) ≡ shown_under z) (scope_in t) x.members.items members
+            (zip_each (λ (f : FollowedMember) (z : reads.Member). Unit {0}) (λ (f : FollowedMember) (z : reads.Member). map (path_at t)
+            (scope_places (scope_in t f)) ≡ shown_under z) x.members.items members
+            (chained (IsMemberOf t) (IsMember t h) numbered_member x.members.items ms members input.are input.shown) scope_under)
+
+        earlier : map (path_at t) (flat_map scope_places (take m ws)) ≡ flat_map shown_under (take m members)
+        earlier =
+            mapped_zip (path_at t) scope_places shown_under (take m ws) (take m members)
+            (zip_take (λ (v : NumberedScope) (z : reads.Member). map (path_at t) (scope_places v) ≡ shown_under z) m ws members beside)
+
+        paths : map (path_at t) front_places ≡ flat_map shown_under (take m members) ++ map (λ i. i.interface) scope.instances
+        paths = append_of_map (path_at t) (flat_map scope_places (take m ws)) (take cut.instances (scope_places w)) ∙ (λ i. earlier i ++ sym cut.paths_are i)
+
+    worlds_are : worlds_before ms m ≡ (shown_until members m y.part scope).worlds
+    worlds_are = many_worlds t h ms members input.shown m
+
+    -- ---- the plan
+
+    module _ (marks : List Bool) (kept : List ℕ) (marked : AreMarked marks kept) (n : ℕ) (homes : ℕ → Option Home) (seen : List NumberedSight)
+        (within : (s : NumberedSight) → Contains seen s → Contains (views_of_members (numbered_members ms)) s)
+        (ps : List ℕ) (met : ps ≡ joined_all [] (flat_map scope_places ws)) (p : Plan) (planned : AllZip (PlansPlace t kept n homes seen) ps p.interfaces)
+        (firsts : (k q : ℕ) → slice_get ps k ≡ Some q → (s : NumberedSight) × (first_at q seen ≡ Some s)) (places : List ℕ)
+        (worlds : AllZip (PlansWorld t kept places n) (worlds_in ms) p.worlds) (r : Resolve) (built : IsBuilt p r) where
+      less : (a b : ℕ) → IsLow pieces x h ms members input known obey m w w_at cut.instances cut.imports cut.many cut.cut kept a
+          → IsHigh pieces x h ms members input known obey m w w_at cut.instances cut.imports cut.many cut.cut kept b → a < b
+      less a b low high = let under = low.low in let over = high.high in kept_less marks kept marked low.part high.part a b low.is high.is (omega (arith, under, over))
+
+      -- an import of a world that is built
+      record IsOfWorld (k j a : ℕ) : Type 0 where
+        v : Text × Scope
+        at : slice_get (worlds_in ms) k ≡ Some v
+        owner : IsWorldOf ms k v
+        import_ : IsImported t kept v.1.home (numbered_scope v.1).imports j a
+        scope_at : slice_get ws owner.number ≡ Some (numbered_scope v.1)
+        differ : distinct (map (λ (s : NumberedSeen). s.key) (numbered_scope v.1).imports) ≡ true
+
+      of_world : (k j : ℕ) (v : World) (id : TypeId) → model_world r k ≡ Some v → slice_get (values v.imports) j ≡ Some (item.Type_ id) → (a : ℕ) → id.0 ≡ a → IsOfWorld k j a
+      of_world k j v id v_at import_at a same =
+          let u = zip_at_right (PlansWorld t kept places n) (worlds_in ms) p.worlds worlds k (planned_world v) (world_built_at p r built k v v_at) in
+          let o = world_of ms k u.0 u.1 in
+          let e = get_back (λ e. e.1) v.imports.entries j (item.Type_ id) import_at in
+          let names = subst (λ (a : Part). PartDeclaresNames t a) o.is (all_at_too (λ (z : Member). PartDeclaresNames t z.part) ms declared o.number o.member o.at) in
+          let b = both_at pieces x h ms members input o.number o.member o.at in
+          record {
+            v = u.0;
+            at = u.1;
+            owner = o;
+            import_ = imported t kept places n u.0 (planned_world v) u.2 names j a (planned_key e.0.0, planned_item e.0.1)
+                (mapped_get (λ e. (planned_key e.0, planned_item e.1)) v.imports.entries j e.0 e.1) (ap planned_item e.2 ∙ ap plan.declares same);
+            scope_at = world_at pieces x h ms members input o.number o.member b u.0.1 o.is;
+            differ = keys_differ pieces x h ms members input u.0.1 (world_read pieces x h ms members input o.member (get-contains ms o.number o.member o.at) u.0.1 o.is);
+          }
+
+      abbrev much : HowMuch
+      much = shown_until members m y.part scope
+
+      abbrev kept_member : IsRead m y
+      kept_member = read_at m y y_at
+
+      counts : Counts ms m kept_member.kept kept_member.kept_at cut.imports much.imports
+      counts = counts_of t h ms m kept_member.kept kept_member.kept_at y kept_member.is scope cut.imports cut.imports_are
+
+      low_of : (a : ℕ) → IsNamedBefore r much a → IsLow pieces x h ms members input known obey m w w_at cut.instances cut.imports cut.many cut.cut kept a
+      low_of a (named.IsNamedBefore.in_interface k i i_at under c) =
+          interface_low pieces x h ms members input known obey m w w_at cut.instances cut.imports cut.many cut.cut marks kept marked n homes seen within ps met p.interfaces planned firsts k
+          (planned_interface i)
+          (built_at p r built k i i_at) (subst (λ (c : ℕ). k < c) (sym interfaces_are) under) a (subst (λ (ns : List ℕ). Contains ns a) (sym (type_numbers_are i)) c)
+      low_of a (named.IsNamedBefore.in_world k j v id v_at import_at same side) =
+          let o = of_world k j v id v_at import_at a same in
+          let before = before_there ms m kept_member.kept kept_member.kept_at cut.imports much.imports counts k j o.v o.owner
+          (subst (λ (c : ℕ). (k < c) ⊎ ((k ≡ c) × (j < much.imports))) (sym worlds_are) side) in
+          let number = cut.cut.types_before o.owner.number j (numbered_scope o.v.1) o.import_.seen o.import_.declared o.scope_at o.import_.at o.import_.is before o.import_.number o.import_.row in
+          record { part = 14 + o.import_.number; is = o.import_.kept_; low = omega (arith, number) }
+
+      high_of : (b : ℕ) → IsNamedBehind r much b → IsHigh pieces x h ms members input known obey m w w_at cut.instances cut.imports cut.many cut.cut kept b
+      high_of b (named.IsNamedBehind.in_interface k i i_at over c) =
+          interface_high pieces x h ms members input known obey m w w_at cut.instances cut.imports cut.many cut.cut marks kept marked n homes seen within ps met p.interfaces planned firsts k
+          (planned_interface i)
+          (built_at p r built k i i_at) (subst (λ (c : ℕ). c ≤ k) (sym interfaces_are) over) b (subst (λ (ns : List ℕ). Contains ns b) (sym (type_numbers_are i)) c)
+      high_of b (named.IsNamedBehind.in_world k j v id v_at import_at same side) =
+          let o = of_world k j v id v_at import_at b same in
+          let behind = behind_there ms m kept_member.kept kept_member.kept_at cut.imports much.imports counts k j o.v o.owner
+          (subst (λ (c : ℕ). (c < k) ⊎ ((k ≡ c) × (much.imports ≤ j))) (sym worlds_are) side) in
+          let number = cut.cut.types_behind o.owner.number j
+          (numbered_scope o.v.1) o.import_.seen o.import_.declared o.scope_at o.import_.at o.import_.is o.differ behind o.import_.number o.import_.row in
+          record { part = 14 + o.import_.number; is = o.import_.kept_; high = omega (arith, number) }
+
+      pub named_less : (a b : ℕ) → IsNamedBefore r much a → IsNamedBehind r much b → a < b
+      named_less a b before behind = less a b (low_of a before) (high_of b behind)

@@ -1,0 +1,258 @@
+-- Types are numbered in the order in which they are declared.
+use Rattle.std.proofs.Common.{◌≡◌, refl, sym, ap, subst, ◌∙◌, ℕ, zero, suc, ◌+◌, ◌<◌, ◌≤◌, ◌-◌, ◌⊎◌, inl, inr, arith, Bool, true, false, cond, ◌&&◌, List, [], ◌∷◌, ◌++◌, length, map, Option, Some, None, option_and_then, option_to_list, slice_get, unwrap_or}
+use Rattle.std.specs.List.{AllZip, Contains, flat_map}
+use Rattle.std.proofs.lemmas.Bool.{cases_lt, le-ltb, lt-ltb}
+use Rattle.std.proofs.lemmas.List.Elements.{Contains-append_left, Contains-append_right}
+use Rattle.std.proofs.lemmas.Option.{same_Some as same-some, slice_get_within as found_below}
+use Rattle.wit_model.specs.declared.model.Resolve.{Resolve}
+use Rattle.wit_model.specs.Text.{Text}
+use Rattle.wit_model.specs.Tree.{Form, Place, Tree, Trees, children}
+use Rattle.wit_model.specs.Types.{no_tree, number_tree, trees_of}
+use Rattle.wit_model.specs.Uses.{once}
+use Rattle.wit_model.proofs.Elements.{contains-flat, contains-get, none-in}
+use Rattle.comp_meaning.specs.Follow.{place_of}
+use Rattle.plan_meaning.specs.Built.{IsBuilt, planned_type}
+use Rattle.plan_meaning.specs.KeptTypes.{IsKeptType, unnamed, declared, TypesAreKept}
+use Rattle.plan_meaning.specs.NumberedViews.{AreTables, HasNameIn, itself, inside, IsOutside, Tables, path_at, place_at, tree_at}
+use Rattle.plan_meaning.specs.Plan.{Plan, PlannedType, part_number, trees_in}
+use Rattle.plan_meaning.specs.Renumbering.{a_shape}
+use Rattle.plan_meaning.specs.Shapes.{Shape, named_shape, node_shape, part_tree, shape_tree, shape_trees}
+use Rattle.plan_meaning.proofs.KeptTypes.{kept_types_pass}
+use Rattle.plan_meaning.proofs.Renumbering.{trees_are_kept}
+use Rattle.plan_meaning.proofs.ShapeLaws.{name_tree, node_tree, one_number_apart, part_behind, split_part, tree_at_number}
+use Rattle.plan_meaning.proofs.Words.{trees_are}
+use Rattle.plan_laws.proofs.Inside.{flat_cases}
+use Rattle.plan_laws.proofs.PlaceNumbers.{number_given}
+use Rattle.plan_package.proofs.ReadPackageLaws.{number_at as number_there}
+use Rattle.plan_types.specs.PlannedTypes.{number_in}
+use Rattle.read_follow.specs.Numbering.{CountUp, IsNext}
+use Rattle.read_follow.proofs.NumberingLaws.{count_below}
+use Rattle.comp_read.specs.TypeOrder.{are_pathed, is_pathed, numbers_below, HasNumber, NumbersFollow}
+use Rattle.comp_read.proofs.CountedUp.{Any, IsOfSmaller, StandBehind, behind_mapped, below, counted_up}
+use Rattle.comp_read.proofs.PlanOrder.{is_plan}
+use Rattle.base_lemmas.proofs.Bools.{left_of as first_true, right_of as second_true}
+use Rattle.base_lemmas.proofs.Elements.{all_at, contains-later, contains-map, contains-one, first-contained, get-contains, last_of}
+use Rattle.base_lemmas.proofs.Lists.{flat_mapped, get_back, length_of_map, mapped_get, within_there}
+
+-- ---- parts that count up
+
+-- a part that is no primitive
+abbrev IsBehind : ℕ → Type 0
+IsBehind part = 14 ≤ part
+
+-- each stands behind all smaller ones
+counted_behind : (from : ℕ) (ps : List ℕ) (to : ℕ) → CountUp from ps to → (front : List ℕ) → ((c : ℕ) → 14 ≤ c → c < 14 + from → Contains front c) → StandBehind IsBehind front ps
+counted_behind from [] to same front all = tt
+counted_behind from (p ∷ ps) to u front all = ((λ c less low. all c low (before u.1 c less)), counted_behind u.0 ps to u.2 (front ++ p ∷ []) (wider u.1))
+  where
+    before : IsNext p from u.0 → (c : ℕ) → c < p → c < 14 + from
+    before (inl (low, same)) c less = omega (arith, low, less)
+    before (inr (part, more)) c less = omega (arith, part, less)
+
+    wider : IsNext p from u.0 → (c : ℕ) → 14 ≤ c → c < 14 + u.0 → Contains (front ++ p ∷ []) c
+    wider (inl (low, same)) c behind less = Contains-append_left front (p ∷ []) c (all c behind (omega (arith, less, same)))
+    wider (inr (part, more)) c behind less = elim (cases_lt c (14 + from)) [
+      | inl small ↦ Contains-append_left front (p ∷ []) c (all c behind small)
+      | inr past ↦
+          let one : p ≡ c = omega (arith, past, less, part, more) in
+          subst (Contains (front ++ p ∷ [])) one (Contains-append_right front (p ∷ []) p (contains-one p))
+    ]
+
+-- and all that come into the table are there
+counted_has : (from : ℕ) (ps : List ℕ) (to : ℕ) → CountUp from ps to → (c : ℕ) → 14 + from ≤ c → c < 14 + to → Contains ps c
+counted_has from [] to same c low high = absurd (omega (arith, same, low, high))
+counted_has from (p ∷ ps) to u c low high = elim (cases_lt c (14 + u.0)) [
+  | inl less ↦ here u.1 less
+  | inr past ↦ contains-later p ps c (counted_has u.0 ps to u.2 c past high)
+]
+  where
+    here : IsNext p from u.0 → c < 14 + u.0 → Contains (p ∷ ps) c
+    here (inl (known, same)) less = absurd (omega (arith, same, low, less))
+    here (inr (part, more)) less = let one : p ≡ c = omega (arith, part, more, low, less) in subst (Contains (p ∷ ps)) one (first-contained p ps)
+
+-- ---- lists
+
+zip_maps : {A B C : Type 0} (R : B → C → Type 0) (f : A → B) (g : A → C) → ((x : A) → R (f x) (g x)) → (xs : List A) → AllZip R (map f xs) (map g xs)
+zip_maps R f g all [] = tt
+zip_maps R f g all (x ∷ xs) = (all x, zip_maps R f g all xs)
+
+same_below : (n : ℕ) → below n ≡ numbers_below n
+same_below zero = refl
+same_below (suc n) = ap (λ (ns : List ℕ). ns ++ n ∷ []) (same_below n)
+
+-- ---- types over names of interfaces with a path
+
+path_there : (o : Option Text) (name : Text) → is_pathed (Tree.named (place_of o) name) ≡ true → (path : Text) × (o ≡ Some path)
+path_there None name e = absurd cc
+path_there (Some path) name e = (path, refl)
+
+pathed_child : (ts : List Tree) (t : Tree) → are_pathed (children ts) ≡ true → Contains ts t → is_pathed t ≡ true
+pathed_child [] t e c = none-in t c
+pathed_child (u ∷ ts) t e (zero, low, same) = ap is_pathed (sym same) ∙ first_true (is_pathed u) (are_pathed (children ts)) e
+pathed_child (u ∷ ts) t e (suc i, low, same) = pathed_child ts t (second_true (is_pathed u) (are_pathed (children ts)) e) (i, omega (arith, low), same)
+
+module _ (t : Tables) (tables : AreTables t) where
+  -- the tree of a number of the table
+  tree_there : (n : ℕ) (s : Shape) → slice_get t.shapes n ≡ Some s → tree_at t (14 + n) ≡ shape_tree (place_at t) (shape_trees (place_at t) t.shapes) s
+  tree_there n s e =
+      part_behind (shape_trees (place_at t) t.shapes) n
+      ∙ ap (λ o. unwrap_or o no_tree) (tree_at_number (place_at t) t.shapes tables.shapes n s e)
+
+  pathed_outside : (k : ℕ) → is_pathed (tree_at t k) ≡ true → IsOutside t k
+  pathed_outside k pathed p (itself _ n _ name is at) =
+      path_there (path_at t p) name
+      (sym (ap is_pathed (ap (tree_at t) is ∙ (tree_there n (named_shape p name) at ∙ name_tree (place_at t) (shape_trees (place_at t) t.shapes) p name))) ∙ pathed)
+  pathed_outside k pathed p (inside _ n m _ form parts is at among deeper) =
+      let trees = shape_trees (place_at t) t.shapes in
+      let whole : tree_at t k ≡ Tree.node form (children (map (part_tree trees) parts)) =
+      ap (tree_at t) is ∙ (tree_there n (node_shape form parts) at ∙ node_tree (place_at t) trees form parts) in
+      pathed_outside m (pathed_child (map (part_tree trees) parts) (tree_at t m) (sym (ap is_pathed whole) ∙ pathed) (contains-map (part_tree trees) parts m among)) p deeper
+
+  same_place : (o u : Option Text) (x y : Text) → o ≡ Some x → u ≡ Some y → place_of o ≡ place_of u → o ≡ u
+  same_place o u x y eo eu h =
+      let places : Place.of_interface x ≡ Place.of_interface y = sym (ap place_of eo) ∙ (h ∙ ap place_of eu) in
+      let texts : x ≡ y = cc in
+      eo ∙ (ap Some texts ∙ sym eu)
+
+  -- such a type stands once
+  pathed_once : (a b : ℕ) → a < 14 + length t.shapes → b < 14 + length t.shapes → tree_at t a ≡ tree_at t b → is_pathed (tree_at t b) ≡ true → a ≡ b
+  pathed_once a b low high same pathed =
+      one_number_apart (place_at t) t.shapes tables.shapes a b low high
+      (λ p q p_in q_in e.
+      let x = pathed_outside a (ap is_pathed same ∙ pathed) p p_in in
+      let y = pathed_outside b pathed q q_in in
+      tables.paths p q y.0 (same_place (path_at t p) (path_at t q) x.0 y.0 x.1 y.1 e ∙ y.1) y.1) same
+
+  -- ---- the numbers of parts that are kept
+
+  module _ (kept : List ℕ) (p : Plan) (are : TypesAreKept t kept p) (long : length kept ≡ length p.types) where
+    abbrev number_for : ℕ → Option ℕ
+    number_for part = option_and_then (number_in kept) (part_number part)
+
+    number_there_is : (m j : ℕ) → slice_get kept j ≡ Some m → number_for (14 + m) ≡ Some j
+    number_there_is m j e =
+        let given = number_given kept m (get-contains kept j m e) in
+        let there = number_there kept m given.0 given.1 in
+        let part : part_number (14 + m) ≡ Some m = ap (λ b. cond b None (Some (14 + m - 14))) (le-ltb (14 + m) 14 (omega arith)) ∙ ap Some (omega arith) in
+        ap (option_and_then (number_in kept)) part ∙ (given.1 ∙ ap Some (are.once given.0 j m there e))
+
+    number_back : (part d : ℕ) → number_for part ≡ Some d → (m : ℕ) × (part ≡ 14 + m) × (slice_get kept d ≡ Some m)
+    number_back part d e = elim (split_part part) [
+      | inl small ↦
+          let none : part_number part ≡ None = ap (λ b. cond b None (Some (part - 14))) (lt-ltb part 14 small) in
+          let wrong : None ≡ Some d = sym (ap (option_and_then (number_in kept)) none) ∙ e in absurd cc
+      | inr m ↦
+          let is : part_number part ≡ Some m.0 =
+          ap (λ b. cond b None (Some (part - 14))) (le-ltb part 14 (let same = m.1 in omega (arith, same))) ∙ ap Some (let same = m.1 in omega (arith, same)) in
+          (m.0, m.1, number_there kept m.0 d (sym (ap (option_and_then (number_in kept)) is) ∙ e))
+    ]
+
+    kept_low : (j m : ℕ) → slice_get kept j ≡ Some m → m < length t.shapes
+    kept_low j m e =
+        let low = found_below kept j m e in
+        let x = within_there p.types j (omega (arith, low, long)) in
+        let from = are.each j x.0 x.1 in
+        let same : from.0 ≡ m = same-some from.0 m (sym from.1 ∙ e) in
+        subst (λ (n : ℕ). n < length t.shapes) same (by from.0 x.0 from.2)
+      where
+        by : (n : ℕ) (x : PlannedType) → IsKeptType t kept p n x → n < length t.shapes
+        by n x (unnamed place form olds news at zip none own made part few) = found_below t.shapes n (node_shape form olds) at
+        by n x (declared q name d at named own made behind label obeys) = found_below t.shapes n (named_shape q name) at
+
+    abbrev numbers_of : ℕ → List ℕ
+    numbers_of part = option_to_list (number_for part)
+
+    of_option : (o : Option ℕ) (d : ℕ) → Contains (option_to_list o) d → o ≡ Some d
+    of_option None d c = none-in d c
+    of_option (Some e) d c = ap Some (last_of e d c)
+
+    to_option : (o : Option ℕ) (d : ℕ) → o ≡ Some d → Contains (option_to_list o) d
+    to_option o d e = subst (λ (u : Option ℕ). Contains (option_to_list u) d) (sym e) (contains-one d)
+
+    smaller : (part d : ℕ) → Contains (numbers_of part) d → (c : ℕ) → c < d → IsOfSmaller IsBehind numbers_of part c
+    smaller part d d_in c less =
+        let m = number_back part d (of_option (number_for part) d d_in) in
+        let low = found_below kept d m.0 m.2 in
+        let n = within_there kept c (omega (arith, low, less)) in
+        let below : n.0 < m.0 = elim (cases_lt n.0 m.0) [
+          | inl is ↦ is
+          | inr past ↦ elim (cases_lt m.0 n.0) [
+            | inl more ↦ (let wrong = are.rise d c m.0 n.0 m.2 n.1 more in absurd (omega (arith, wrong, less)))
+            | inr le ↦
+                let same : n.0 ≡ m.0 = omega (arith, past, le) in
+                let one = are.once c d m.0 (n.1 ∙ ap Some same) m.2 in
+                absurd (omega (arith, one, less))
+          ]
+        ] in
+        let is = m.1 in
+        record {
+          one = 14 + n.0;
+          less = omega (arith, is, below);
+          kind = omega arith;
+          there = to_option (number_for (14 + n.0)) c (number_there_is n.0 c n.1);
+        }
+
+    module _ (r : Resolve) (built : IsBuilt p r) (parts : List ℕ) (counted : CountUp 0 parts (length t.shapes)) (declares : List Tree) (trees : map (tree_at t) parts ≡ declares) where
+      many_types : length kept ≡ length r.types.items
+      many_types = long ∙ (ap (λ (xs : List PlannedType). length xs) (sym built.types) ∙ length_of_map planned_type r.types.items)
+
+      -- the tree of a number is that of the part that is kept for it
+      tree_is : (m j : ℕ) → slice_get kept j ≡ Some m → number_tree r j ≡ tree_at t (14 + m)
+      tree_is m j e =
+          let pass = kept_types_pass t tables kept p are in
+          let low = found_below kept j m e in
+          sym (part_behind (trees_of r) j)
+          ∙ (ap (λ ts. part_tree ts (14 + j)) (sym (trees_are r p.main))
+          ∙ (ap (λ (q : Plan). part_tree (trees_in q) (14 + j)) (sym (is_plan p r built))
+          ∙ trees_are_kept (place_at t) t.shapes kept p tables.shapes pass.0.types pass.0.fall (14 + m) (14 + j) (a_shape m j refl e refl) (omega (arith, low, long))))
+
+      has_number : (part : ℕ) → HasNumber r (tree_at t part) (number_for part)
+      has_number part = by (number_for part) refl
+        where
+          by : (o : Option ℕ) → number_for part ≡ o → HasNumber r (tree_at t part) o
+          by None e = tt
+          by (Some d) e =
+              let m = number_back part d e in
+              let low = found_below kept d m.0 m.2 in
+              let many = many_types in
+              (omega (arith, low, many), tree_is m.0 d m.2 ∙ ap (tree_at t) (sym m.1))
+
+      abbrev found : List (Option ℕ)
+      found = map number_for parts
+
+      counts_up : once (flat_map option_to_list found) ≡ numbers_below (length r.types.items)
+      counts_up =
+          ap once (sym (flat_mapped option_to_list number_for parts))
+          ∙ (counted_up (length kept) (flat_map numbers_of parts)
+          (behind_mapped IsBehind numbers_of smaller [] parts (counted_behind 0 parts (length t.shapes) counted [] (λ c low less. absurd (omega (arith, low, less)))))
+          (λ d d_in.
+          let from = flat_cases numbers_of parts d d_in in
+          let m = number_back from.0 d (of_option (number_for from.0) d from.2) in
+          found_below kept d m.0 m.2)
+          (λ c less.
+          let n = within_there kept c less in
+          let inside = kept_low c n.0 n.1 in
+          contains-flat numbers_of parts (14 + n.0) c (counted_has 0 parts (length t.shapes) counted (14 + n.0) (omega arith) (omega (arith, inside)))
+          (to_option (number_for (14 + n.0)) c (number_there_is n.0 c n.1)))
+          ∙ (ap below many_types ∙ same_below (length r.types.items)))
+
+      part_low : (i a : ℕ) → slice_get parts i ≡ Some a → a < 14 + length t.shapes
+      part_low i a e = all_at (λ (q : ℕ). q < 14 + length t.shapes) parts (count_below 0 parts (length t.shapes) counted) a (get-contains parts i a e)
+
+      same_number : (i j : ℕ) (u : Tree) (a b : Option ℕ) → is_pathed u ≡ true → slice_get declares i ≡ Some u → slice_get declares j ≡ Some u
+          → slice_get found i ≡ Some a → slice_get found j ≡ Some b → a ≡ b
+      same_number i j u a b pathed i_at j_at a_at b_at =
+          let x = get_back (tree_at t) parts i u (ap (λ ts. slice_get ts i) trees ∙ i_at) in
+          let y = get_back (tree_at t) parts j u (ap (λ ts. slice_get ts j) trees ∙ j_at) in
+          let one : x.0 ≡ y.0 = pathed_once x.0 y.0 (part_low i x.0 x.1) (part_low j y.0 y.1) (x.2 ∙ sym y.2) (ap is_pathed y.2 ∙ pathed) in
+          let left = same-some a (number_for x.0) (sym a_at ∙ mapped_get number_for parts i x.0 x.1) in
+          let right = same-some b (number_for y.0) (sym b_at ∙ mapped_get number_for parts j y.0 y.1) in
+          left ∙ (ap number_for one ∙ sym right)
+
+      pub numbers_follow : NumbersFollow declares r
+      numbers_follow = record {
+        numbers = found;
+        are = subst (λ (ts : List Tree). AllZip (HasNumber r) ts found) trees (zip_maps (HasNumber r) (tree_at t) number_for has_number parts);
+        order = counts_up;
+        same = same_number;
+      }

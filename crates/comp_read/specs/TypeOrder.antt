@@ -1,0 +1,39 @@
+-- The order in which types are numbered that are decoded of bytes: that in which the bytes declare them (Component Model Binary.md, "Index Spaces").
+use Rattle.std.specs.Prelude.{◌≡◌, ◌<◌, ◌&&◌, ℕ, zero, suc, Bool, true, false, List, [], ◌∷◌, ◌++◌, length, Option, Some, None, option_to_list, slice_get}
+use Rattle.std.specs.List.{AllZip, flat_map}
+use Rattle.wit_model.specs.declared.model.Resolve.{Resolve}
+use Rattle.wit_model.specs.Tree.{Place, Tree, Trees, primitive, named, node, no_children, child}
+use Rattle.wit_model.specs.Types.{number_tree}
+use Rattle.wit_model.specs.Uses.{once}
+
+abbrev mutual
+  -- whether each name in a type is of an interface with a path: such a type is the same wherever it is declared
+  pub is_pathed : Tree → Bool
+  is_pathed (primitive p) = true
+  is_pathed (named (Place.of_interface path) name) = true
+  is_pathed (named Place.here name) = false
+  is_pathed (node form ts) = are_pathed ts
+
+  -- whether it is so in each of these types
+  pub are_pathed : Trees → Bool
+  are_pathed no_children = true
+  are_pathed (child t ts) = is_pathed t && are_pathed ts
+
+-- The number under which the `Resolve` has a type that is declared, if it has it.
+abbrev pub HasNumber : Resolve → Tree → Option ℕ → Type 0
+HasNumber r t None = Unit {0}
+HasNumber r t (Some n) = (n < length r.types.items) × (number_tree r n ≡ t)
+
+-- the numbers below this one, in their order
+abbrev pub numbers_below : ℕ → List ℕ
+numbers_below zero = []
+numbers_below (suc n) = numbers_below n ++ n ∷ []
+
+-- The types of the `Resolve` are numbered in the order in which these are declared: their numbers, each where its type is declared first, count up, and
+-- there are no others. A type over names of interfaces with a path has one number, or none, wherever it is declared.
+pub record NumbersFollow (declared : List Tree) (r : Resolve) : Type 0 where
+  pub numbers : List (Option ℕ)
+  pub are : AllZip (HasNumber r) declared numbers
+  pub order : once (flat_map option_to_list numbers) ≡ numbers_below (length r.types.items)
+  pub same : (i j : ℕ) (t : Tree) (a b : Option ℕ) → is_pathed t ≡ true → slice_get declared i ≡ Some t → slice_get declared j ≡ Some t
+      → slice_get numbers i ≡ Some a → slice_get numbers j ≡ Some b → a ≡ b

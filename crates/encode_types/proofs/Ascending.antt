@@ -1,0 +1,81 @@
+-- What a search finds in an ascending list.
+use Rattle.std.proofs.Common.{◌≡◌, sym, subst, ap, ◌∙◌, ℕ, ◌<◌, ◌≤◌, ◌-◌, ◌++◌, length, List, [], ◌∷◌, get_or, Ok, Err, Some, Option, arith, inl, inr, append_assoc}
+use Rattle.std.specs.Prelude.{IsPermutation, IfSome, IfNone}
+use Rattle.std.specs.List.{Contains, slice_get}
+use Rattle.std.proofs.lemmas.Option.{get_or_from_slice_get}
+use Rattle.std.specs.List.Sorted.{IsBinarySearchResult, IsNonDecreasingBy}
+use Rattle.std.specs.Ordering.{nat_cmp, ordering_index, is_eq}
+use Rattle.std.proofs.lemmas.Cmp.{ranked}
+use Rattle.std.proofs.lemmas.List.Elements.{Contains-append_cases, Contains-append_right, Contains-get_or}
+use Rattle.std.proofs.lemmas.List.{get_or_default}
+use Rattle.std.proofs.lemmas.Cmp.{nat_cmp_total}
+use Rattle.std.specs.Map.{lookup}
+use Rattle.std.specs.BTreeMap.{is_at}
+use Rattle.encode_types.proofs.Tables.{absent, some-when, none-when, at-some, equal-self, number-found}
+use Rattle.std.proofs.lemmas.List.Quantifiers.{all_pairs_push}
+use Rattle.std.proofs.lemmas.List.Sorted.{IsPermutation-append_comm, IsPermutation-append_right}
+use Rattle.std.proofs.lemmas.Bool.Decides.{nat_tests}
+use Rattle.encode_types.specs.NumberMaps.{AreAscending, AreBelow}
+
+module _ (run : List (ℕ × ℕ)) (ascend : AreAscending run) (n : ℕ) where
+  rise : IsNonDecreasingBy (λ e. ordering_index (nat_cmp e.0 n)) run
+  rise i j d le within =
+      let rises : (get_or run i d).0 ≤ (get_or run j d).0 = grind (arith, ascend i j d, λ (same : i ≡ j). ap (λ k. (get_or run k d).0) same) in
+      grind (arith, nat_tests)
+
+  -- what the search ends at has the number
+  pub search-found : (at : ℕ) (d : ℕ × ℕ) → IsBinarySearchResult (λ e. nat_cmp e.0 n) run (Ok at) → (get_or run at d).0 ≡ n
+  search-found at d equal = ranked _ n _ (sym (equal d))
+
+  -- where it ends at none, no entry has it
+  pub search-lacks : (at : ℕ) → at ≤ length run → IsBinarySearchResult (λ e. nat_cmp e.0 n) run (Err at) → (i : ℕ) → Contains run (n, i) → ⊥
+  search-lacks at within parted i c =
+      let same : (get_or run c.0 (n, i)).0 ≡ n = ap (λ (z : ℕ × ℕ). z.0) c.2 in
+      let before : c.0 < at → (get_or run c.0 (n, i)).0 < n = λ lt. ranked _ n _ (sym ((parted rise).0 c.0 (n, i) (omega arith) lt)) in
+      let after : at ≤ c.0 → n < (get_or run c.0 (n, i)).0 = λ le. ranked _ n _ (sym ((parted rise).1 c.0 (n, i) le c.1)) in
+      grind (arith, before, after, same)
+
+  -- what is above the last is above all
+  pub above-last : (last : ℕ × ℕ) → slice_get run (length run - 1) ≡ Some last → last.0 < n → AreBelow run n
+  above-last last is lt e c =
+      let top : (get_or run (length run - 1) e).0 ≡ last.0 = ap (λ (z : ℕ × ℕ). z.0) (get_or_from_slice_get run (length run - 1) last e is) in
+      let own : (get_or run c.0 e).0 ≡ e.0 = ap (λ (z : ℕ × ℕ). z.0) c.2 in
+      let within : c.0 < length run = c.1 in
+      let rises : (get_or run c.0 e).0 ≤ (get_or run (length run - 1) e).0 =
+      grind (arith, within, ascend c.0 (length run - 1) e, λ (same : c.0 ≡ length run - 1). ap (λ j. (get_or run j e).0) same) in
+      omega (arith, top, own, rises, lt)
+
+-- one more entry behind those of an ascending list
+pub ascending-push : (run : List (ℕ × ℕ)) (e : ℕ × ℕ) → AreAscending run → AreBelow run e.0 → AreAscending (run ++ e ∷ [])
+ascending-push run e ascend below = all_pairs_push (λ x y. x.0 < y.0) run e ascend (λ k d lt. below _ (Contains-get_or run k d lt))
+
+-- in two lists
+pub in-either : (xs ys : List (ℕ × ℕ)) (n : ℕ) → ((i : ℕ) → Contains xs (n, i) → ⊥) → ((i : ℕ) → Contains ys (n, i) → ⊥) → (i : ℕ) → Contains (xs ++ ys) (n, i) → ⊥
+in-either xs ys n f g i c = elim (Contains-append_cases xs ys (n, i) c) [
+  | inl l ↦ f i l
+  | inr r ↦ g i r
+]
+
+-- what is pushed to the first of two lists, or to the second, is one more in both
+pub pushed-first : (xs ys : List (ℕ × ℕ)) (e : ℕ × ℕ) → IsPermutation ((xs ++ ys) ++ e ∷ []) ((xs ++ e ∷ []) ++ ys)
+pushed-first xs ys e = subst (λ l. IsPermutation l ((xs ++ e ∷ []) ++ ys)) (sym (append_assoc xs ys (e ∷ [])))
+    (subst (IsPermutation (xs ++ (ys ++ e ∷ []))) (sym (append_assoc xs (e ∷ []) ys)) (IsPermutation-append_right xs (ys ++ e ∷ []) (e ∷ ys) (IsPermutation-append_comm ys (e ∷ []))))
+
+pub pushed-second : (xs ys zs : List (ℕ × ℕ)) (e : ℕ × ℕ) → IsPermutation (ys ++ e ∷ []) zs → IsPermutation ((xs ++ ys) ++ e ∷ []) (xs ++ zs)
+pushed-second xs ys zs e p = subst (λ l. IsPermutation l (xs ++ zs)) (sym (append_assoc xs ys (e ∷ []))) (IsPermutation-append_right xs (ys ++ e ∷ []) zs p)
+
+-- ---- what is found
+
+-- what stands at a place
+pub found-at : (run : List (ℕ × ℕ)) (n at : ℕ) → at < length run → (get_or run at (0, 0)).0 ≡ n → Contains run (n, (get_or run at (0, 0)).1)
+found-at run n at l is = (at, l, get_or_default run at (n, (get_or run at (0, 0)).1) (0, 0) l ∙ ap (λ m. (m, (get_or run at (0, 0)).1)) is)
+
+-- what a look-up finds in the second of two lists is in both
+pub number-behind : (xs es : List (ℕ × ℕ)) (n : ℕ) (o : Option ℕ) → o ≡ lookup (is_at (nat_cmp n)) es → IfSome o (λ i. Contains (xs ++ es) (n, i))
+number-behind xs es n o q = some-when o _ (λ v e. Contains-append_right xs es (n, v) (at-some o (λ i. Contains es (n, i)) v e (number-found es n o q)))
+
+-- where it finds nothing, and the first has no such number, neither do both
+pub number-nowhere : (xs es : List (ℕ × ℕ)) (n : ℕ) (o : Option ℕ) → o ≡ lookup (is_at (nat_cmp n)) es → ((i : ℕ) → Contains xs (n, i) → ⊥)
+    → IfNone o ((i : ℕ) → Contains (xs ++ es) (n, i) → ⊥)
+number-nowhere xs es n o q none = none-when o _
+    (λ e. in-either xs es n none (λ i c. absent (is_at (nat_cmp n)) es (sym q ∙ e) n i c (ap is_eq (equal-self nat_cmp_total n))))

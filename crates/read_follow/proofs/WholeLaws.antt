@@ -1,1 +1,0 @@
--- One more item that keeps what the others keep.
