@@ -1,7 +1,7 @@
 //! Packages as text, and the types of an interface by themselves.
 
-ghost use Rattle.std.specs.Prelude.{◌≡◌, ◌<◌, length, Some, false, true, IfOk, IsOkUnless, OnOk};
-ghost use Rattle.wit_model.specs.declared.error.Error.TheVariants.{Memory};
+ghost use Rattle.std.specs.Prelude.{◌≡◌, ◌<◌, length, Some, false, true, IfOk, OnOk, IfErr};
+ghost use Rattle.wit_model.specs.Refusals.{IsMemory};
 ghost use Rattle.wit_component.specs.Lookup.{interface_at};
 ghost use Rattle.wit_component.specs.Printer.{Prints, block_has_printed, emits_docs};
 ghost use Rattle.wit_component.specs.Render.{writes};
@@ -23,7 +23,7 @@ pub fn text_of(alloc: Global, resolve: &Resolve, id: PackageId) -> Result<Vec<u8
     requires valid { IsValid resolve.now }
     requires in_range { id.0 < length resolve.now.packages.items }
     ensures text { IfOk result (λ text. IsTextOf resolve.now id text.items) }
-    ensures memory { IsOkUnless result Memory }
+    ensures memory { IfErr result IsMemory }
 {
     Ok(print_to_string(alloc, resolve, id, &[])?.into_bytes())
 }
@@ -55,7 +55,7 @@ fn print_types_of(
     requires docs { emits_docs printer.old ≡ true }
     requires first { block_has_printed printer.old ≡ false }
     ensures ok { OnOk result (Prints writes (λ it. it) printer.old (calls_of_types resolve.now id interface.now) printer.new) }
-    ensures memory { IsOkUnless result Memory }
+    ensures memory { IfErr result IsMemory }
 {
     interfaces_can_be_given();
     let given = given_types(alloc, interface)?;
@@ -74,7 +74,7 @@ pub fn text_of_types(alloc: Global, resolve: &Resolve, id: InterfaceId) -> Resul
     requires valid { IsValid resolve.now }
     requires in_range { id.0 < length resolve.now.interfaces.items }
     ensures text { IfOk result (λ text. IsTextOfTypes resolve.now id text.items) }
-    ensures memory { IsOkUnless result Memory }
+    ensures memory { IfErr result IsMemory }
 {
     let mut printer = WitPrinter::new(OutputToString::new(alloc));
     let interface = &resolve.interfaces[id.0 as usize];

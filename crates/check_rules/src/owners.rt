@@ -9,7 +9,7 @@ ghost use Rattle.wit_model.specs.Lookup.{interface_at};
 ghost use Rattle.check_rules.specs.Owners.{IsMetTable, met_entry, stays as stays_lem};
 ghost use Rattle.wit_model.specs.Parts.{has_owner, met_by as met_by_lem, met_of, same_owner as same_owner_lem};
 ghost use Rattle.wit_model.specs.Rules.{is_use as is_use_lem};
-ghost use Rattle.wit_model.specs.Uses.{interface_used_by as interface_used_by_lem, owner_interface as owner_interface_lem};
+ghost use Rattle.wit_model.specs.Uses.{interface_used_by as used_by, owner_interface as owner_interface_lem};
 ghost use Rattle.wit_model.specs.Valid.{Keeps, as_interface, as_world, entry_keeps, owners, IsFaultOf};
 ghost use Rattle.wit_model.specs.declared.error.EntryList.TheVariants as lists;
 ghost use Rattle.wit_model.specs.declared.model.TypeOwner.{TypeOwner};
@@ -191,7 +191,7 @@ pub(crate) fn is_use(resolve: &Resolve, def: &TypeDef) -> bool
 }
 
 fn uses_within(resolve: &Resolve, number: usize, limit: usize) -> bool
-    ensures { result ≡ list_all (λ m. nat_le m limit) (option_to_list (interface_used_by_lem resolve.now number)) }
+    ensures { result ≡ list_all (λ m. nat_le m limit) (option_to_list (used_by resolve.now number)) }
 {
     match interface_used_by(resolve, number) {
         Some(used) => used.0 as usize <= limit,
@@ -201,7 +201,7 @@ fn uses_within(resolve: &Resolve, number: usize, limit: usize) -> bool
 
 // Whether an interface of this number uses none of a greater number.
 fn uses_earlier(resolve: &Resolve, interface: &Interface, number: usize) -> bool
-    ensures { result ≡ list_all (λ id. list_all (λ m. nat_le m number) (option_to_list (interface_used_by_lem resolve.now id.0))) (values interface.now.types) }
+    ensures { result ≡ list_all (λ id. list_all (λ m. nat_le m number) (option_to_list (used_by resolve.now id.0))) (values interface.now.types) }
 {
     interface
         .types
@@ -258,7 +258,7 @@ fn interface_stays(
     number: usize,
 ) -> bool
     ensures { result ≡ (list_all (λ n. stays_lem (met_entry table.now n) (as_interface number)) numbers.now
-        && list_all (λ id. list_all (λ m. nat_le m number) (option_to_list (interface_used_by_lem resolve.now id.0))) (values interface.now.types)) }
+        && list_all (λ id. list_all (λ m. nat_le m number) (option_to_list (used_by resolve.now id.0))) (values interface.now.types)) }
 {
     stays_in_interface(met_by_all(table, numbers), number)
         && uses_earlier(resolve, interface, number)

@@ -2,7 +2,11 @@
 use Rattle.std.specs.Prelude.{◌≡◌, ◌++◌, Bool, false, List, ℕ, Result, OnOk, IfErr}
 use Rattle.wit_model.specs.declared.error.Error.{Error}
 use Rattle.wit_model.specs.declared.error.Error.TheVariants as errors
+use Rattle.comp_bytes.specs.Raw.{Declaration}
 use Rattle.comp_bytes.specs.Form.{Spellings}
+use Rattle.comp_bytes.specs.Spelling.{IsDeclaration}
+use Rattle.comp_bytes.specs.Writing.{declaration_bytes}
+use Rattle.comp_bytes.specs.Fits.{fits_declaration}
 use Rattle.comp_bytes.specs.Held.{Begins}
 use Rattle.comp_bytes.specs.Refusal.{IsMemoryOrSize}
 
@@ -21,3 +25,7 @@ pub record Stopped (fits : Bool) (old new : List ℕ) (e : Error) : Type 0 where
 pub record Appends {X : Type 0} (form : Spellings) (text : List ℕ) (fits : Bool) (old new : List ℕ) (r : Result X Error) : Type 0 where
   pub ok : OnOk r (Appended form text old new)
   pub err : IfErr r (Stopped fits old new)
+
+-- appends the shortest bytes of a declaration, or refuses
+abbrev pub AppendsDeclaration : {X : Type 0} → Declaration → List ℕ → List ℕ → Result X Error → Type 0
+AppendsDeclaration d old new r = Appends (IsDeclaration d) (declaration_bytes d) (fits_declaration d) old new r

@@ -9,7 +9,7 @@ ghost use Rattle.comp_bytes.specs.Writing.{extern_name_bytes, description_bytes,
 ghost use Rattle.comp_bytes.specs.RawOf.{raw_defined, raw_function, raw_alias, raw_name};
 ghost use Rattle.comp_bytes.specs.Fits.{fits_name, fits_declaration};
 ghost use Rattle.comp_bytes.specs.Refusal.{IsMemoryOrSize};
-ghost use Rattle.comp_bytes.specs.Appending.{Appends};
+ghost use Rattle.comp_bytes.specs.Appending.{Appends, AppendsDeclaration};
 
 use crate::append::{
     append_alias, append_defined_type, append_description, append_extern_name, append_function_type,
@@ -20,10 +20,7 @@ use crate::forms::{
 use wit_model::Error;
 
 fn append_defined(out: &mut Vec<u8>, def: &ComponentDefinedType) -> Result<(), Error>
-    ensures { Appends (IsDeclaration (Declaration.defined (raw_defined def.now)))
-        (declaration_bytes (Declaration.defined (raw_defined def.now)))
-        (fits_declaration (Declaration.defined (raw_defined def.now))) out.old.items out.new.items
-        result }
+    ensures { AppendsDeclaration (Declaration.defined (raw_defined def.now)) out.old.items out.new.items result }
 {
     out.push(0x01)?;
     append_defined_type(out, def)
@@ -47,10 +44,7 @@ pub(crate) fn declare_defined(out: &mut Vec<u8>, def: &ComponentDefinedType) -> 
 }
 
 fn append_function(out: &mut Vec<u8>, function: &ComponentFuncType) -> Result<(), Error>
-    ensures { Appends (IsDeclaration (Declaration.function (raw_function function.now)))
-        (declaration_bytes (Declaration.function (raw_function function.now)))
-        (fits_declaration (Declaration.function (raw_function function.now))) out.old.items
-        out.new.items result }
+    ensures { AppendsDeclaration (Declaration.function (raw_function function.now)) out.old.items out.new.items result }
 {
     out.push(0x01)?;
     append_function_type(out, function)
@@ -75,10 +69,7 @@ pub(crate) fn declare_function(out: &mut Vec<u8>, function: &ComponentFuncType) 
 }
 
 fn append_alias_of(out: &mut Vec<u8>, alias: &Alias) -> Result<(), Error>
-    ensures { Appends (IsDeclaration (Declaration.alias_of (raw_alias alias.now)))
-        (declaration_bytes (Declaration.alias_of (raw_alias alias.now)))
-        (fits_declaration (Declaration.alias_of (raw_alias alias.now))) out.old.items
-        out.new.items result }
+    ensures { AppendsDeclaration (Declaration.alias_of (raw_alias alias.now)) out.old.items out.new.items result }
 {
     out.push(0x02)?;
     append_alias(out, alias)
@@ -121,10 +112,7 @@ fn append_import(
     name: &ComponentExternName,
     ty: ComponentTypeRef,
 ) -> Result<(), Error>
-    ensures { Appends (IsDeclaration (Declaration.imported (raw_name name.now) ty))
-        (declaration_bytes (Declaration.imported (raw_name name.now) ty))
-        (fits_declaration (Declaration.imported (raw_name name.now) ty)) out.old.items
-        out.new.items result }
+    ensures { AppendsDeclaration (Declaration.imported (raw_name name.now) ty) out.old.items out.new.items result }
 {
     out.push(0x03)?;
     append_named(out, name, ty)
@@ -135,10 +123,7 @@ fn append_export(
     name: &ComponentExternName,
     ty: ComponentTypeRef,
 ) -> Result<(), Error>
-    ensures { Appends (IsDeclaration (Declaration.exported (raw_name name.now) ty))
-        (declaration_bytes (Declaration.exported (raw_name name.now) ty))
-        (fits_declaration (Declaration.exported (raw_name name.now) ty)) out.old.items
-        out.new.items result }
+    ensures { AppendsDeclaration (Declaration.exported (raw_name name.now) ty) out.old.items out.new.items result }
 {
     out.push(0x04)?;
     append_named(out, name, ty)

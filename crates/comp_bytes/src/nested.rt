@@ -1,7 +1,7 @@
 //! Component types and instance types that stand in others, behind what is there, and the counts of what a type declares.
 
-ghost use Rattle.std.specs.Prelude.{◌≡◌, ◌+◌, ◌^◌, ◌∷◌, ◌++◌, false, nat_lt, IfOk, OnOk, OnErr, IfErr, IsOkUnless};
-ghost use Rattle.wit_model.specs.declared.error.Error.TheVariants.{Memory};
+ghost use Rattle.std.specs.Prelude.{◌≡◌, ◌+◌, ◌^◌, ◌∷◌, ◌++◌, false, nat_lt, IfOk, OnOk, OnErr, IfErr};
+ghost use Rattle.wit_model.specs.Refusals.{IsMemory};
 ghost use Rattle.comp_bytes.specs.Writing.{body_bytes};
 ghost use Rattle.comp_bytes.specs.Held.{described_slots as slots_of, fits_counts, Begins};
 ghost use Rattle.comp_bytes.specs.Refusal.{IsMemoryOrSize};
@@ -20,7 +20,7 @@ pub(crate) fn append_body(
 ) -> Result<(), Error>
     ensures ok { OnOk result (out.new.items ≡ out.old.items ++ body_bytes sort count declarations.now) }
     ensures err { OnErr result (Begins out.old.items out.new.items) }
-    ensures memory { IsOkUnless result Memory }
+    ensures memory { IfErr result IsMemory }
 {
     out.push(sort)?;
     write_u32(out, count)?;
@@ -31,7 +31,7 @@ pub(crate) fn append_body(
 fn append_nested(out: &mut Vec<u8>, sort: u8, count: u32, declarations: &[u8]) -> Result<(), Error>
     ensures ok { OnOk result (out.new.items ≡ out.old.items ++ 1 ∷ body_bytes sort count declarations.now) }
     ensures err { OnErr result (Begins out.old.items out.new.items) }
-    ensures memory { IsOkUnless result Memory }
+    ensures memory { IfErr result IsMemory }
 {
     out.push(0x01)?;
     append_body(out, sort, count, declarations)
@@ -46,7 +46,7 @@ pub(crate) fn declare_nested(
 ) -> Result<(), Error>
     ensures ok { OnOk result (out.new.items ≡ out.old.items ++ 1 ∷ body_bytes sort count declarations.now) }
     ensures err { OnErr result (out.new.items ≡ out.old.items) }
-    ensures memory { IsOkUnless result Memory }
+    ensures memory { IfErr result IsMemory }
 {
     let start = out.len();
     match append_nested(out, sort, count, declarations) {

@@ -1,7 +1,7 @@
 //! Numbers in LEB128.
 
-ghost use Rattle.std.specs.Prelude.{◌≡◌, ◌≤◌, ◌+◌, ◌%◌, ◌++◌, length, OnOk, OnErr, IsOkUnless};
-ghost use Rattle.wit_model.specs.declared.error.Error.TheVariants.{Memory};
+ghost use Rattle.std.specs.Prelude.{◌≡◌, ◌≤◌, ◌+◌, ◌%◌, ◌++◌, length, OnOk, OnErr, IfErr};
+ghost use Rattle.wit_model.specs.Refusals.{IsMemory};
 ghost use Rattle.comp_bytes.specs.Writing.{u32_bytes, type_index_bytes};
 ghost use Rattle.comp_bytes.specs.Answer.{Gives, IsReadAt};
 ghost use Rattle.comp_bytes.specs.Number.{IsU32, IsTypeIndex};
@@ -103,7 +103,7 @@ pub fn write_u32(out: &mut Vec<u8>, n: u32) -> Result<(), Error>
     ensures ok { OnOk result (out.new.items ≡ out.old.items ++ u32_bytes n) }
     ensures spelled { OnOk result (IsU32 n (u32_bytes n)) }
     ensures err { OnErr result (out.new.items ≡ out.old.items) }
-    ensures memory { IsOkUnless result Memory }
+    ensures memory { IfErr result IsMemory }
 {
     if n < 0x80 {
         Ok(out.extend_from_slice(&[n as u8])?)
@@ -135,7 +135,7 @@ pub fn write_index(out: &mut Vec<u8>, n: u32) -> Result<(), Error>
     ensures ok { OnOk result (out.new.items ≡ out.old.items ++ type_index_bytes n) }
     ensures spelled { OnOk result (IsTypeIndex n (type_index_bytes n)) }
     ensures err { OnErr result (out.new.items ≡ out.old.items) }
-    ensures memory { IsOkUnless result Memory }
+    ensures memory { IfErr result IsMemory }
 {
     if n < 0x40 {
         Ok(out.extend_from_slice(&[n as u8])?)

@@ -1,7 +1,8 @@
 //! Sections and what stands in them, behind what is there.
 
-ghost use Rattle.std.specs.Prelude.{◌≡◌, ◌≤◌, ◌<◌, ◌+◌, ◌^◌, [], ◌∷◌, ◌++◌, false, Err, length, OnOk, OnErr, IfErr, IsOkUnless};
-ghost use Rattle.wit_model.specs.declared.error.Error.TheVariants.{Memory, Size};
+ghost use Rattle.std.specs.Prelude.{◌≡◌, ◌≤◌, ◌<◌, ◌+◌, ◌^◌, [], ◌∷◌, ◌++◌, false, Err, length, OnOk, OnErr, IfErr};
+ghost use Rattle.wit_model.specs.declared.error.Error.TheVariants.{Size};
+ghost use Rattle.wit_model.specs.Refusals.{IsMemory};
 ghost use Rattle.comp_bytes.specs.Raw.{TopType};
 ghost use Rattle.comp_bytes.specs.Form.{Name};
 ghost use Rattle.comp_bytes.specs.Spelling.{IsTopType, IsTopExport};
@@ -29,7 +30,7 @@ fn append_component(out: &mut Vec<u8>, component: &ComponentType) -> Result<(), 
     ensures ok { OnOk result (out.new.items ≡ out.old.items ++ top_type_bytes (TopType.component component.now)) }
     ensures spelled { OnOk result (IsTopType (TopType.component component.now) (top_type_bytes (TopType.component component.now))) }
     ensures err { OnErr result (Begins out.old.items out.new.items) }
-    ensures memory { IsOkUnless result Memory }
+    ensures memory { IfErr result IsMemory }
 {
     append_body(out, 0x41, component.count, &component.bytes)
 }
@@ -39,7 +40,7 @@ pub(crate) fn put_component(out: &mut Vec<u8>, component: &ComponentType) -> Res
     ensures ok { OnOk result (out.new.items ≡ out.old.items ++ top_type_bytes (TopType.component component.now)) }
     ensures spelled { OnOk result (IsTopType (TopType.component component.now) (top_type_bytes (TopType.component component.now))) }
     ensures err { OnErr result (out.new.items ≡ out.old.items) }
-    ensures memory { IsOkUnless result Memory }
+    ensures memory { IfErr result IsMemory }
 {
     let start = out.len();
     match append_component(out, component) {
@@ -87,7 +88,7 @@ pub(crate) fn put_export(out: &mut Vec<u8>, name: &str, index: u32) -> Result<()
 fn append_preamble(out: &mut Vec<u8>) -> Result<(), Error>
     ensures ok { OnOk result (out.new.items ≡ begun out.old.items) }
     ensures err { OnErr result (out.new.items ≡ out.old.items) }
-    ensures memory { IsOkUnless result Memory }
+    ensures memory { IfErr result IsMemory }
 {
     if out.is_empty() {
         Ok(out.extend_from_slice(&[0x00, 0x61, 0x73, 0x6d, 0x0d, 0x00, 0x01, 0x00])?)

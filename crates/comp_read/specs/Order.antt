@@ -1,6 +1,6 @@
 -- The order in which what is decoded stands in a `Resolve` (Component Model WIT.md, "Package Format").
-use Rattle.std.specs.Prelude.{◌≡◌, ◌⊎◌, ◌<◌, ◌≤◌, ℕ, Bool, true, not, ◌&&◌, false, nat_lt, List, [], ◌∷◌, ◌++◌, filter, flat_map, length, map, take, Option, Some, None, option_to_list, slice_get}
-use Rattle.std.specs.List.{Contains, list_all}
+use Rattle.std.specs.Prelude.{◌≡◌, ◌⊎◌, ◌<◌, ◌≤◌, ℕ, Bool, true, not, false, List, [], ◌∷◌, ◌++◌, filter, flat_map, length, map, take, Option, Some, None, option_to_list, slice_get}
+use Rattle.std.specs.List.{Contains}
 use Rattle.std.specs.Option.{option_map_or}
 use Rattle.indexmap.specs.IndexMap.{values}
 use Rattle.wit_model.specs.declared.model.Interface.{Interface}
@@ -24,11 +24,7 @@ use Rattle.comp_meaning.specs.Reads.{Member, Part, exported_types, functions_of,
 use Rattle.plan_meaning.specs.Plan.{Plan, PlannedPackage, numbers_of}
 use Rattle.read_parts.specs.Members.{declared_trees, entries_of}
 use Rattle.comp_read.specs.TypeOrder.{NumbersFollow}
-
--- whether each number is smaller than those behind it
-abbrev pub rise : List ℕ → Bool
-rise [] = true
-rise (n ∷ ns) = list_all (nat_lt n) ns && rise ns
+pub use Rattle.plan_meaning.specs.PlanRules.{are_rising as rise}
 
 -- the numbers of the interfaces of a package, in its order
 abbrev pub numbers_in : Package → List ℕ

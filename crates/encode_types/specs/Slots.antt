@@ -3,15 +3,14 @@ use Rattle.std.specs.Prelude.{ℕ, ◌+◌, ◌≤◌, ◌≡◌, ◌⊎◌, Lis
 use Rattle.std.specs.List.{AllZip}
 use Rattle.std.specs.Borrow.{Bor}
 use Rattle.wit_model.specs.Text.{Text}
-use Rattle.wit_model.specs.Tree.{Tree, Primitive, primitive, record_tree, variant_tree, flags_tree, enum_tree, tuple_tree, list_tree, fixed_list_tree, map_tree, option_tree, result_tree, own_tree, borrow_tree, future_tree, stream_tree}
+use Rattle.wit_model.specs.Tree.{Tree, primitive, record_tree, variant_tree, flags_tree, enum_tree, tuple_tree, list_tree, fixed_list_tree, map_tree, option_tree, result_tree, own_tree, borrow_tree, future_tree, stream_tree}
 use Rattle.wit_model.specs.Meaning.{Signature}
-use Rattle.comp_bytes.specs.declared.forms.PrimitiveValType.{PrimitiveValType}
-use Rattle.comp_bytes.specs.declared.forms.PrimitiveValType.TheVariants as p
 use Rattle.comp_bytes.specs.declared.forms.ComponentValType.{ComponentValType}
 use Rattle.comp_bytes.specs.declared.forms.ComponentValType.TheVariants as v
 use Rattle.comp_bytes.specs.declared.forms.ComponentDefinedType.{ComponentDefinedType}
 use Rattle.comp_bytes.specs.declared.forms.ComponentDefinedType.TheVariants as form
 use Rattle.comp_bytes.specs.declared.forms.ComponentFuncType.{ComponentFuncType}
+pub use Rattle.comp_meaning.specs.Follow.{primitive_of_type as primitive_of}
 
 -- what a slot stands for
 pub data Standing : Type 0 where
@@ -44,23 +43,6 @@ pub record SlotAdded (S S' : Pairs) (n n' i : ℕ) (P : Standing → Type 0) : T
   pub adds : Adds S S' i P
 
 -- ---- definitions, with each index followed
-
--- the primitive that a primvaltype is
-abbrev pub primitive_of : PrimitiveValType → Primitive
-primitive_of p.Bool = Primitive.bool
-primitive_of p.U8 = Primitive.u8
-primitive_of p.U16 = Primitive.u16
-primitive_of p.U32 = Primitive.u32
-primitive_of p.U64 = Primitive.u64
-primitive_of p.S8 = Primitive.s8
-primitive_of p.S16 = Primitive.s16
-primitive_of p.S32 = Primitive.s32
-primitive_of p.S64 = Primitive.s64
-primitive_of p.F32 = Primitive.f32
-primitive_of p.F64 = Primitive.f64
-primitive_of p.Char = Primitive.char
-primitive_of p.String = Primitive.string
-primitive_of p.ErrorContext = Primitive.error_context
 
 -- a part that is written in place or by index stands for a tree
 abbrev pub StandsFor : Pairs → ComponentValType → Tree → Type 0

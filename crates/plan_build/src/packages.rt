@@ -1,12 +1,13 @@
 //! The packages of a plan.
 
 ghost use Rattle.std.specs.List.{list_all};
-ghost use Rattle.std.specs.Prelude.{◌≡◌, map, true, IfOk, IsOkUnless};
+ghost use Rattle.std.specs.Prelude.{◌≡◌, map, true, IfOk, IfErr};
 ghost use Rattle.plan_meaning.specs.Built.{is_undocumented, planned_package};
 ghost use Rattle.wit_model.specs.Lookup.{identity_of, optional_version_text};
 ghost use Rattle.wit_model.specs.Names.{is_optional_version, is_version, is_version_text};
 ghost use Rattle.wit_model.specs.Rules.{passes};
 ghost use Rattle.wit_model.specs.declared.error.Error.TheVariants as errors;
+ghost use Rattle.wit_model.specs.Refusals.{IsMemory};
 ghost use Rattle.semver.specs.Parse.{memory_error};
 ghost use Rattle.semver.specs.Identifiers.{version_text};
 ghost use Rattle.plan_build.specs.Buildable.{has_version, package_differs};
@@ -34,7 +35,7 @@ fn refusal_of(error: semver::Error) -> Error
 fn version_of(alloc: Global, text: &str) -> Result<Version, Error>
     ensures version { IfOk result (λ v. is_version v ≡ true) }
     ensures text { IfOk result (λ v. version_text v ≡ text.now) }
-    ensures memory { is_version_text text.now ≡ true → IsOkUnless result errors.Memory }
+    ensures memory { is_version_text text.now ≡ true → IfErr result IsMemory }
 {
     match Version::parse(alloc, text) {
         Ok(version) => Ok(version),
@@ -45,7 +46,7 @@ fn version_of(alloc: Global, text: &str) -> Result<Version, Error>
 fn version_if_given(alloc: Global, text: Option<&str>) -> Result<Option<Version>, Error>
     ensures version { IfOk result (λ v. passes is_version v ≡ true) }
     ensures text { IfOk result (λ v. optional_version_text v ≡ stated_text text.entry) }
-    ensures memory { is_optional_version (stated_text text.entry) ≡ true → IsOkUnless result errors.Memory }
+    ensures memory { is_optional_version (stated_text text.entry) ≡ true → IfErr result IsMemory }
 {
     match text {
         Some(text) => Ok(Some(version_of(alloc, text)?)),
@@ -55,7 +56,7 @@ fn version_if_given(alloc: Global, text: Option<&str>) -> Result<Option<Version>
 
 fn name_of(alloc: Global, entry: &PlannedPackage<'_>) -> Result<PackageName, Error>
     ensures version { IfOk result (λ n. passes is_version n.version ≡ true) }
-    ensures memory { has_version (stated_package entry.now) ≡ true → IsOkUnless result errors.Memory }
+    ensures memory { has_version (stated_package entry.now) ≡ true → IfErr result IsMemory }
     ensures name { IfOk result (λ n. identity_of n ≡ stated_identity entry.now) }
 {
     let namespace = copied(alloc, entry.namespace)?;
@@ -71,7 +72,7 @@ fn name_of(alloc: Global, entry: &PlannedPackage<'_>) -> Result<PackageName, Err
 fn package_of(alloc: Global, entry: &PlannedPackage<'_>) -> Result<Package, Error>
     ensures built { IfOk result (λ p. package_differs (stated_package entry.now) ≡ true → planned_package p ≡ stated_package entry.now) }
     ensures version { IfOk result (λ p. passes is_version p.name.version ≡ true) }
-    ensures memory { has_version (stated_package entry.now) ≡ true → IsOkUnless result errors.Memory }
+    ensures memory { has_version (stated_package entry.now) ≡ true → IfErr result IsMemory }
     ensures bare { IfOk result (λ p. is_undocumented p.docs ≡ true) }
 {
     let name = name_of(alloc, entry)?;
@@ -92,7 +93,7 @@ pub(crate) fn packages_of(
 ) -> Result<Vec<Package>, Error>
     ensures built { IfOk result (λ xs. list_all package_differs (map stated_package packages.now) ≡ true
         → map planned_package xs.items ≡ map stated_package packages.now) }
-    ensures memory { list_all has_version (map stated_package packages.now) ≡ true → IsOkUnless result errors.Memory }
+    ensures memory { list_all has_version (map stated_package packages.now) ≡ true → IfErr result IsMemory }
     ensures versions { IfOk result (λ xs. list_all (λ p. passes is_version p.name.version) xs.items ≡ true) }
     ensures bare { IfOk result (λ xs. list_all (λ p. is_undocumented p.docs) xs.items ≡ true) }
 {

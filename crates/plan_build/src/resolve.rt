@@ -1,11 +1,11 @@
 //! The `Resolve` of a plan.
 
 ghost use Rattle.std.specs.List.{list_all};
-ghost use Rattle.std.specs.Prelude.{◌≡◌, true, IfOk, IsOkUnless};
+ghost use Rattle.std.specs.Prelude.{◌≡◌, true, IfOk, IfErr};
 ghost use Rattle.plan_meaning.specs.Built.{IsBuilt};
 ghost use Rattle.plan_meaning.specs.PlanRules.{IsPlan};
-ghost use Rattle.wit_model.specs.declared.error.Error.TheVariants as errors;
 ghost use Rattle.wit_model.specs.Valid.{IsValid};
+ghost use Rattle.wit_model.specs.Refusals.{IsMemory};
 ghost use Rattle.plan_build.specs.Buildable.{has_version, IsBuildable};
 ghost use Rattle.plan_build.specs.MeansPlan.{MeansPlan};
 ghost use Rattle.plan_build.specs.PlanOf.{stated_plan};
@@ -29,7 +29,7 @@ pub fn build(alloc: Global, plan: &Plan<'_>) -> Result<Resolve, Error>
     ensures built { IfOk result (λ r. IsBuildable (stated_plan plan.now) → IsBuilt (stated_plan plan.now) r) }
     ensures valid { IfOk result (λ r. IsPlan (stated_plan plan.now) → IsValid r) }
     ensures meant { IfOk result (MeansPlan (stated_plan plan.now)) }
-    ensures memory { list_all has_version (stated_plan plan.now).packages ≡ true → IsOkUnless result errors.Memory }
+    ensures memory { list_all has_version (stated_plan plan.now).packages ≡ true → IfErr result IsMemory }
 {
     let packages = packages_of(alloc, &plan.packages)?;
     let interfaces = interfaces_of(alloc, &plan.interfaces)?;

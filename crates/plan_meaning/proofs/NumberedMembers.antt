@@ -26,6 +26,7 @@ use Rattle.base_lemmas.proofs.Bools.{both_ways as either_way, left_of as first_t
 use Rattle.base_lemmas.proofs.Lists.{append_of_map, map_of_map}
 use Rattle.std.proofs.lemmas.Option.{same_Some as same-some}
 use Rattle.wit_model.proofs.TextLemmas.{text_same}
+use Rattle.wit_model.proofs.RulesLemmas.{items_of_map as filled_same}
 
 pub only_sights : (t : Tables) (known : ℕ → Fact) (seen : List NumberedSight) → AllByRecursion (IsKnownSight t known) seen → AllByRecursion (IsSight t) seen
 only_sights t known [] all = tt
@@ -188,10 +189,6 @@ module _ (t : Tables) (tables : AreTables t) (h : Homes) (stand : HomesStand t h
       named_same name reads (s ∷ seen) all = λ i. named_in n identity there name reads s.place (all.0.0.path, all.0.0.home) i || named_same name reads seen all.1 i
 
 -- ---- the component type of an interface
-
-pub filled_same : {A B : Type 0} (f : A → B) (xs : List A) → is_filled (map f xs) ≡ is_filled xs
-filled_same f [] = refl
-filled_same f (x ∷ xs) = refl
 
 provided_map : {A B : Type 0} (f : A → B) (b : Bool) (x : A) → provided b (f x) ≡ option_map f (provided b x)
 provided_map f true x = refl

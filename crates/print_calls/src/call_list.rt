@@ -1,8 +1,8 @@
 //! The list of calls.
 
-ghost use Rattle.std.specs.Prelude.{◌≡◌, ◌++◌, ◌∷◌, [], OnOk, OnErr, IfOk, IfErr, IsOkUnless};
+ghost use Rattle.std.specs.Prelude.{◌≡◌, ◌++◌, ◌∷◌, [], OnOk, OnErr, IfOk, IfErr};
 ghost use Rattle.std.specs.String.{string_bytes};
-ghost use Rattle.wit_model.specs.declared.error.Error.TheVariants.{Memory};
+ghost use Rattle.wit_model.specs.Refusals.{IsMemory};
 ghost use Rattle.print_output.specs.OutputCall.{after, line_begun_after};
 ghost use Rattle.print_output.specs.OutputCall.OutputCall.{Case, Doc, GenericArgsEnd, GenericArgsStart, IndentAndPrint, Keyword, Param, Semicolon, Str, Ty};
 ghost use Rattle.print_output.specs.Expansion.{appends};
@@ -37,7 +37,7 @@ impl CallList {
     fn push(&mut self, call: Call, line_begun: bool) -> Result<(), Error>
         ensures ok { OnOk result (listed self.new ≡ record { line_begun = line_begun; kept = appends (listed self.old) (call_of call) }) }
         ensures err { OnErr result (listed self.new ≡ listed self.old) }
-        ensures memory { IsOkUnless result Memory }
+        ensures memory { IfErr result IsMemory }
     {
         self.calls.push(call)?;
         self.line_begun = line_begun;
@@ -57,7 +57,7 @@ impl CallList {
     /// Takes time and memory linear in the text. Refuses for want of memory alone.
     pub fn render(&self) -> Result<String, Error>
         ensures text { IfOk result (λ text. string_bytes text ≡ render (calls_of self.now.calls.items)) }
-        ensures memory { IsOkUnless result Memory }
+        ensures memory { IfErr result IsMemory }
     {
         let mut rendering = Rendering {
             text: String::new(*self.calls.allocator()),
@@ -107,7 +107,7 @@ impl Output for CallList {
     fn indent_and_print(&mut self, src: &str) -> Result<(), Error>
         ensures ok { OnOk result (listed self.new ≡ after appends (listed self.old) (IndentAndPrint src.now)) }
         ensures err { OnErr result (listed self.new ≡ listed self.old) }
-        ensures memory { IsOkUnless result Memory }
+        ensures memory { IfErr result IsMemory }
     {
         let text = self.text(src)?;
         self.push(Call::IndentAndPrint(text), false)
@@ -116,7 +116,7 @@ impl Output for CallList {
     fn keyword(&mut self, src: &str) -> Result<(), Error>
         ensures ok { OnOk result (listed self.new ≡ after appends (listed self.old) (Keyword src.now)) }
         ensures err { OnErr result (listed self.new ≡ listed self.old) }
-        ensures memory { IsOkUnless result Memory }
+        ensures memory { IfErr result IsMemory }
     {
         let text = self.text(src)?;
         self.push(Call::Keyword(text), false)
@@ -125,7 +125,7 @@ impl Output for CallList {
     fn param(&mut self, src: &str) -> Result<(), Error>
         ensures ok { OnOk result (listed self.new ≡ after appends (listed self.old) (Param src.now)) }
         ensures err { OnErr result (listed self.new ≡ listed self.old) }
-        ensures memory { IsOkUnless result Memory }
+        ensures memory { IfErr result IsMemory }
     {
         let text = self.text(src)?;
         self.push(Call::Param(text), false)
@@ -134,7 +134,7 @@ impl Output for CallList {
     fn case(&mut self, src: &str) -> Result<(), Error>
         ensures ok { OnOk result (listed self.new ≡ after appends (listed self.old) (Case src.now)) }
         ensures err { OnErr result (listed self.new ≡ listed self.old) }
-        ensures memory { IsOkUnless result Memory }
+        ensures memory { IfErr result IsMemory }
     {
         let text = self.text(src)?;
         self.push(Call::Case(text), false)
@@ -143,7 +143,7 @@ impl Output for CallList {
     fn str(&mut self, src: &str) -> Result<(), Error>
         ensures ok { OnOk result (listed self.new ≡ after appends (listed self.old) (Str src.now)) }
         ensures err { OnErr result (listed self.new ≡ listed self.old) }
-        ensures memory { IsOkUnless result Memory }
+        ensures memory { IfErr result IsMemory }
     {
         let text = self.text(src)?;
         self.push(Call::Str(text), false)
@@ -152,7 +152,7 @@ impl Output for CallList {
     fn ty(&mut self, src: &str, kind: TypeKind) -> Result<(), Error>
         ensures ok { OnOk result (listed self.new ≡ after appends (listed self.old) (Ty src.now kind)) }
         ensures err { OnErr result (listed self.new ≡ listed self.old) }
-        ensures memory { IsOkUnless result Memory }
+        ensures memory { IfErr result IsMemory }
     {
         let text = self.text(src)?;
         self.push(Call::Ty(text, kind), false)
@@ -161,7 +161,7 @@ impl Output for CallList {
     fn generic_args_start(&mut self) -> Result<(), Error>
         ensures ok { OnOk result (listed self.new ≡ after appends (listed self.old) GenericArgsStart) }
         ensures err { OnErr result (listed self.new ≡ listed self.old) }
-        ensures memory { IsOkUnless result Memory }
+        ensures memory { IfErr result IsMemory }
     {
         self.push(Call::GenericArgsStart, false)
     }
@@ -169,7 +169,7 @@ impl Output for CallList {
     fn generic_args_end(&mut self) -> Result<(), Error>
         ensures ok { OnOk result (listed self.new ≡ after appends (listed self.old) GenericArgsEnd) }
         ensures err { OnErr result (listed self.new ≡ listed self.old) }
-        ensures memory { IsOkUnless result Memory }
+        ensures memory { IfErr result IsMemory }
     {
         self.push(Call::GenericArgsEnd, false)
     }
@@ -177,7 +177,7 @@ impl Output for CallList {
     fn doc(&mut self, doc: &str) -> Result<(), Error>
         ensures ok { OnOk result (listed self.new ≡ after appends (listed self.old) (Doc doc.now)) }
         ensures err { OnErr result (listed self.new ≡ listed self.old) }
-        ensures memory { IsOkUnless result Memory }
+        ensures memory { IfErr result IsMemory }
     {
         let text = self.text(doc)?;
         self.push(Call::Doc(text), true)
@@ -186,7 +186,7 @@ impl Output for CallList {
     fn semicolon(&mut self) -> Result<(), Error>
         ensures ok { OnOk result (listed self.new ≡ after appends (listed self.old) Semicolon) }
         ensures err { OnErr result (listed self.new ≡ listed self.old) }
-        ensures memory { IsOkUnless result Memory }
+        ensures memory { IfErr result IsMemory }
     {
         self.push(Call::Semicolon, true)
     }

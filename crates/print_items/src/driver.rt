@@ -1,10 +1,10 @@
 //! An output, driven call by call.
 
-ghost use Rattle.std.specs.Prelude.{◌≡◌, ◌∷◌, ◌++◌, [], true, false, codes, IsTrue, OnOk, OnErr, IsOkUnless};
+ghost use Rattle.std.specs.Prelude.{◌≡◌, ◌∷◌, ◌++◌, [], true, false, codes, IsTrue, OnOk, OnErr, IfErr};
 ghost use Rattle.std.specs.Fmt.{decimal};
 ghost use Rattle.semver.specs.Identifiers.{version_text};
-ghost use Rattle.wit_model.specs.declared.error.Error.TheVariants.{Memory};
 ghost use Rattle.wit_model.specs.Names.{is_label, is_version_text};
+ghost use Rattle.wit_model.specs.Refusals.{IsMemory};
 ghost use Rattle.print_output.specs.OutputCall.{OutputCall, is_one_line, has_no_space_first};
 ghost use Rattle.print_grammar.specs.Calls.{character_call, space};
 ghost use Rattle.print_items.specs.Drives.{Drives, LineIs, MayBegin};
@@ -42,7 +42,7 @@ impl<'a, O: Output> Driver<'a, O> {
     pub fn finish(&self) -> Result<(), Error>
         ensures ok { OnOk result (self.now.refused ≡ false) }
         ensures err { OnErr result (self.now.refused ≡ true) }
-        ensures memory { IsOkUnless result Memory }
+        ensures memory { IfErr result IsMemory }
     {
         if self.refused {
             return Err(Error::Memory);

@@ -1,10 +1,10 @@
 //! Calls of text that has to be spelled.
 
-ghost use Rattle.std.specs.Prelude.{◌≡◌, [], ◌∷◌, ◌++◌, codes, IsTrue, IfOk, OnOk, OnErr, IsOkUnless};
+ghost use Rattle.std.specs.Prelude.{◌≡◌, [], ◌∷◌, ◌++◌, codes, IsTrue, IfOk, OnOk, OnErr, IfErr};
 ghost use Rattle.std.specs.Fmt.{decimal};
 ghost use Rattle.std.specs.String.{string_bytes};
+ghost use Rattle.wit_model.specs.Refusals.{IsMemory};
 ghost use Rattle.semver.specs.Identifiers.{version_text};
-ghost use Rattle.wit_model.specs.declared.error.Error.TheVariants.{Memory};
 ghost use Rattle.print_output.specs.OutputCall.{OutputCall, Moves, Begins, may_stand, line_begun_after};
 ghost use Rattle.print_grammar.specs.Calls.{character_call};
 ghost use Rattle.print_grammar.specs.Keyword.{escaped};
@@ -27,7 +27,7 @@ pub(crate) fn print_name<O: Output>(
     ensures ok { OnOk result (Moves O.keeps (O.view output.old) (OutputCall.Ty (escaped label.now) kind ∷ []) (O.view output.new)) }
     ensures line { OnOk result ((O.view output.new).line_begun ≡ line_begun_after (OutputCall.Ty (escaped label.now) kind) (O.view output.old).line_begun) }
     ensures err { OnErr result (Begins O.keeps (O.view output.old) (OutputCall.Ty (escaped label.now) kind ∷ []) (O.view output.new)) }
-    ensures memory { IsOkUnless result Memory }
+    ensures memory { IfErr result IsMemory }
 {
     if is_keyword(label) {
         let text = escape(alloc, label)?;
@@ -47,7 +47,7 @@ pub(crate) fn print_param<O: Output>(
     ensures ok { OnOk result (Moves O.keeps (O.view output.old) (OutputCall.Param (escaped label.now) ∷ []) (O.view output.new)) }
     ensures line { OnOk result ((O.view output.new).line_begun ≡ line_begun_after (OutputCall.Param (escaped label.now)) (O.view output.old).line_begun) }
     ensures err { OnErr result (Begins O.keeps (O.view output.old) (OutputCall.Param (escaped label.now) ∷ []) (O.view output.new)) }
-    ensures memory { IsOkUnless result Memory }
+    ensures memory { IfErr result IsMemory }
 {
     if is_keyword(label) {
         let text = escape(alloc, label)?;
@@ -63,7 +63,7 @@ pub(crate) fn print_case<O: Output>(output: &mut O, alloc: Global, label: &str) 
     ensures ok { OnOk result (Moves O.keeps (O.view output.old) (OutputCall.Case (escaped label.now) ∷ []) (O.view output.new)) }
     ensures line { OnOk result ((O.view output.new).line_begun ≡ line_begun_after (OutputCall.Case (escaped label.now)) (O.view output.old).line_begun) }
     ensures err { OnErr result (Begins O.keeps (O.view output.old) (OutputCall.Case (escaped label.now) ∷ []) (O.view output.new)) }
-    ensures memory { IsOkUnless result Memory }
+    ensures memory { IfErr result IsMemory }
 {
     if is_keyword(label) {
         let text = escape(alloc, label)?;
@@ -83,7 +83,7 @@ pub(crate) fn print_feature<O: Output>(
     ensures ok { OnOk result (Moves O.keeps (O.view output.old) (OutputCall.Str (escaped label.now) ∷ []) (O.view output.new)) }
     ensures line { OnOk result ((O.view output.new).line_begun ≡ line_begun_after (OutputCall.Str (escaped label.now)) (O.view output.old).line_begun) }
     ensures err { OnErr result (Begins O.keeps (O.view output.old) (OutputCall.Str (escaped label.now) ∷ []) (O.view output.new)) }
-    ensures memory { IsOkUnless result Memory }
+    ensures memory { IfErr result IsMemory }
 {
     if is_keyword(label) {
         let text = escape(alloc, label)?;
@@ -111,7 +111,7 @@ pub(crate) fn print_length<O: Output>(
     ensures line { OnOk result ((O.view output.new).line_begun
         ≡ line_begun_after (OutputCall.Str (codes ", " ++ decimal length)) (O.view output.old).line_begun) }
     ensures err { OnErr result (Begins O.keeps (O.view output.old) (OutputCall.Str (codes ", " ++ decimal length) ∷ []) (O.view output.new)) }
-    ensures memory { IsOkUnless result Memory }
+    ensures memory { IfErr result IsMemory }
 {
     let text = length_text(alloc, length)?;
     output.str(text.as_str())
@@ -129,7 +129,7 @@ pub(crate) fn push_length<O: Output>(
     ensures line { OnOk result ((O.view output.new).line_begun
         ≡ line_begun_after (OutputCall.PushStr (codes ", " ++ decimal length)) (O.view output.old).line_begun) }
     ensures err { OnErr result (Begins O.keeps (O.view output.old) (OutputCall.PushStr (codes ", " ++ decimal length) ∷ []) (O.view output.new)) }
-    ensures memory { IsOkUnless result Memory }
+    ensures memory { IfErr result IsMemory }
 {
     let text = length_text(alloc, length)?;
     output.push_str(text.as_str())
@@ -146,7 +146,7 @@ pub(crate) fn print_character<O: Output>(
     ensures ok { OnOk result (Moves O.keeps (O.view output.old) (character_call c ∷ []) (O.view output.new)) }
     ensures line { OnOk result ((O.view output.new).line_begun ≡ line_begun_after (character_call c) (O.view output.old).line_begun) }
     ensures err { OnErr result (Begins O.keeps (O.view output.old) (character_call c ∷ []) (O.view output.new)) }
-    ensures memory { IsOkUnless result Memory }
+    ensures memory { IfErr result IsMemory }
 {
     let text = escape_character(alloc, c)?;
     output.push_str(text.as_str())
@@ -165,7 +165,7 @@ pub(crate) fn print_marked_version<O: Output>(
     ensures line { OnOk result ((O.view output.new).line_begun
         ≡ line_begun_after (OutputCall.Ty (64 ∷ version_text version.now) kind) (O.view output.old).line_begun) }
     ensures err { OnErr result (Begins O.keeps (O.view output.old) (OutputCall.Ty (64 ∷ version_text version.now) kind ∷ []) (O.view output.new)) }
-    ensures memory { IsOkUnless result Memory }
+    ensures memory { IfErr result IsMemory }
 {
     let text = format!(in alloc; "@{version}")?;
     output.ty(text.as_str(), kind)
@@ -185,7 +185,7 @@ pub(crate) fn print_plain_version<O: Output>(
         ≡ line_begun_after (OutputCall.Ty (version_text version.now) TypeKind.VersionAnnotation) (O.view output.old).line_begun) }
     ensures err { OnErr result (Begins O.keeps (O.view output.old) (OutputCall.Ty (version_text version.now) TypeKind.VersionAnnotation ∷ [])
         (O.view output.new)) }
-    ensures memory { IsOkUnless result Memory }
+    ensures memory { IfErr result IsMemory }
 {
     let text = format!(in alloc; "{version}")?;
     output.ty(text.as_str(), TypeKind::VersionAnnotation)

@@ -1,7 +1,7 @@
 //! What the printer drives.
 
-ghost use Rattle.std.specs.Prelude.{◌≡◌, IsTrue, false, OnOk, OnErr, IfOk, IsOkUnless};
-ghost use Rattle.wit_model.specs.declared.error.Error.TheVariants.{Memory};
+ghost use Rattle.std.specs.Prelude.{◌≡◌, IsTrue, false, OnOk, OnErr, IfOk, IfErr};
+ghost use Rattle.wit_model.specs.Refusals.{IsMemory};
 ghost use Rattle.print_output.specs.OutputCall.{OutputCall, View, after, Counts, Reaches, body_calls, is_one_line, may_begin};
 ghost use Rattle.print_output.specs.OutputCall.OutputCall.{PushStr, IndentIfNeeded, IndentStart, IndentEnd, Newline, IndentAndPrint, Keyword, Ty, Param, Case, GenericArgsStart, GenericArgsEnd, Doc, Semicolon, Str};
 
@@ -23,13 +23,13 @@ pub trait Output {
     fn push_str(&mut self, src: &str) -> Result<(), Error>
         ensures ok { OnOk result (view self.new ≡ after keeps (view self.old) (PushStr src.now)) }
         ensures err { OnErr result (view self.new ≡ view self.old) }
-        ensures memory { IsOkUnless result Memory };
+        ensures memory { IfErr result IsMemory };
 
     /// Indents where a line has just begun, and answers whether one had.
     fn indent_if_needed(&mut self) -> Result<bool, Error>
         ensures ok { OnOk result (view self.new ≡ after keeps (view self.old) IndentIfNeeded) }
         ensures err { OnErr result (view self.new ≡ view self.old) }
-        ensures memory { IsOkUnless result Memory }
+        ensures memory { IfErr result IsMemory }
         ensures answer { IfOk result (λ begun. begun ≡ (view self.old).line_begun) };
 
     /// The start of an indented block: ` {` and the end of the line.
@@ -37,19 +37,19 @@ pub trait Output {
         requires { (view self.old).line_begun ≡ false }
         ensures ok { OnOk result (view self.new ≡ after keeps (view self.old) IndentStart) }
         ensures err { OnErr result (view self.new ≡ view self.old) }
-        ensures memory { IsOkUnless result Memory };
+        ensures memory { IfErr result IsMemory };
 
     /// The end of an indented block: `}` and the end of the line.
     fn indent_end(&mut self) -> Result<(), Error>
         ensures ok { OnOk result (view self.new ≡ after keeps (view self.old) IndentEnd) }
         ensures err { OnErr result (view self.new ≡ view self.old) }
-        ensures memory { IsOkUnless result Memory };
+        ensures memory { IfErr result IsMemory };
 
     /// The end of a line.
     fn newline(&mut self) -> Result<(), Error>
         ensures ok { OnOk result (view self.new ≡ after keeps (view self.old) Newline) }
         ensures err { OnErr result (view self.new ≡ view self.old) }
-        ensures memory { IsOkUnless result Memory };
+        ensures memory { IfErr result IsMemory };
 
     /// Text with the indentation in front of it where a line has just begun.
     fn indent_and_print(&mut self, src: &str) -> Result<(), Error>
@@ -57,7 +57,7 @@ pub trait Output {
         requires front { IsTrue (may_begin (view self.old).line_begun src.now) }
         ensures ok { OnOk result (Counts keeps (view self.old) (IndentAndPrint src.now) (view self.new)) }
         ensures err { OnErr result (Reaches keeps (view self.old) (body_calls (IndentAndPrint src.now)) (view self.new)) }
-        ensures memory { IsOkUnless result Memory }
+        ensures memory { IfErr result IsMemory }
     {
         self.indent_if_needed()?;
         self.push_str(src)
@@ -69,7 +69,7 @@ pub trait Output {
         requires front { IsTrue (may_begin (view self.old).line_begun src.now) }
         ensures ok { OnOk result (Counts keeps (view self.old) (Keyword src.now) (view self.new)) }
         ensures err { OnErr result (Reaches keeps (view self.old) (body_calls (Keyword src.now)) (view self.new)) }
-        ensures memory { IsOkUnless result Memory }
+        ensures memory { IfErr result IsMemory }
     {
         self.indent_if_needed()?;
         self.push_str(src)
@@ -81,7 +81,7 @@ pub trait Output {
         requires front { IsTrue (may_begin (view self.old).line_begun src.now) }
         ensures ok { OnOk result (Counts keeps (view self.old) (Ty src.now kind) (view self.new)) }
         ensures err { OnErr result (Reaches keeps (view self.old) (body_calls (Ty src.now kind)) (view self.new)) }
-        ensures memory { IsOkUnless result Memory }
+        ensures memory { IfErr result IsMemory }
     {
         self.indent_if_needed()?;
         self.push_str(src)
@@ -93,7 +93,7 @@ pub trait Output {
         requires front { IsTrue (may_begin (view self.old).line_begun src.now) }
         ensures ok { OnOk result (Counts keeps (view self.old) (Param src.now) (view self.new)) }
         ensures err { OnErr result (Reaches keeps (view self.old) (body_calls (Param src.now)) (view self.new)) }
-        ensures memory { IsOkUnless result Memory }
+        ensures memory { IfErr result IsMemory }
     {
         self.indent_if_needed()?;
         self.push_str(src)
@@ -105,7 +105,7 @@ pub trait Output {
         requires front { IsTrue (may_begin (view self.old).line_begun src.now) }
         ensures ok { OnOk result (Counts keeps (view self.old) (Case src.now) (view self.new)) }
         ensures err { OnErr result (Reaches keeps (view self.old) (body_calls (Case src.now)) (view self.new)) }
-        ensures memory { IsOkUnless result Memory }
+        ensures memory { IfErr result IsMemory }
     {
         self.indent_if_needed()?;
         self.push_str(src)
@@ -116,7 +116,7 @@ pub trait Output {
         requires { (view self.old).line_begun ≡ false }
         ensures ok { OnOk result (Counts keeps (view self.old) GenericArgsStart (view self.new)) }
         ensures err { OnErr result (Reaches keeps (view self.old) (body_calls GenericArgsStart) (view self.new)) }
-        ensures memory { IsOkUnless result Memory }
+        ensures memory { IfErr result IsMemory }
     {
         self.indent_if_needed()?;
         self.push_str("<")
@@ -127,7 +127,7 @@ pub trait Output {
         requires { (view self.old).line_begun ≡ false }
         ensures ok { OnOk result (Counts keeps (view self.old) GenericArgsEnd (view self.new)) }
         ensures err { OnErr result (Reaches keeps (view self.old) (body_calls GenericArgsEnd) (view self.new)) }
-        ensures memory { IsOkUnless result Memory }
+        ensures memory { IfErr result IsMemory }
     {
         self.indent_if_needed()?;
         self.push_str(">")
@@ -138,7 +138,7 @@ pub trait Output {
         requires { IsTrue (is_one_line doc.now) }
         ensures ok { OnOk result (Counts keeps (view self.old) (Doc doc.now) (view self.new)) }
         ensures err { OnErr result (Reaches keeps (view self.old) (body_calls (Doc doc.now)) (view self.new)) }
-        ensures memory { IsOkUnless result Memory }
+        ensures memory { IfErr result IsMemory }
     {
         self.indent_if_needed()?;
         self.push_str("///")?;
@@ -154,7 +154,7 @@ pub trait Output {
         requires { (view self.old).line_begun ≡ false }
         ensures ok { OnOk result (Counts keeps (view self.old) Semicolon (view self.new)) }
         ensures err { OnErr result (Reaches keeps (view self.old) (body_calls Semicolon) (view self.new)) }
-        ensures memory { IsOkUnless result Memory }
+        ensures memory { IfErr result IsMemory }
     {
         self.indent_if_needed()?;
         self.push_str(";")?;
@@ -167,7 +167,7 @@ pub trait Output {
         requires front { IsTrue (may_begin (view self.old).line_begun src.now) }
         ensures ok { OnOk result (Counts keeps (view self.old) (Str src.now) (view self.new)) }
         ensures err { OnErr result (Reaches keeps (view self.old) (body_calls (Str src.now)) (view self.new)) }
-        ensures memory { IsOkUnless result Memory }
+        ensures memory { IfErr result IsMemory }
     {
         self.indent_if_needed()?;
         self.push_str(src)

@@ -1,8 +1,8 @@
 //! An output that keeps the text.
 
-ghost use Rattle.std.specs.Prelude.{◌≡◌, ◌+◌, ◌*◌, ◌≤◌, ◌++◌, length, true, false, OnOk, OnErr, IsOkUnless};
+ghost use Rattle.std.specs.Prelude.{◌≡◌, ◌+◌, ◌*◌, ◌≤◌, ◌++◌, length, true, false, OnOk, OnErr, IfErr};
 ghost use Rattle.std.specs.String.{string_bytes, string_len, string_capacity};
-ghost use Rattle.wit_model.specs.declared.error.Error.TheVariants.{Memory};
+ghost use Rattle.wit_model.specs.Refusals.{IsMemory};
 ghost use Rattle.print_output.specs.OutputCall.{after};
 ghost use Rattle.print_output.specs.OutputCall.OutputCall.{IndentAndPrint, Keyword, Ty, Param, Case, GenericArgsStart, GenericArgsEnd, Doc, Semicolon, Str};
 ghost use Rattle.print_output.specs.Render.{indentation, printed, writes, blank};
@@ -114,7 +114,7 @@ impl OutputToString {
         requires third { length third.now ≤ 4 }
         ensures ok { OnOk result (self.new ≡ record { line_begun = ends_line; kept = printed self.old ((first.now ++ second.now) ++ third.now) }) }
         ensures err { OnErr result (self.new ≡ self.old) }
-        ensures memory { IsOkUnless result Memory }
+        ensures memory { IfErr result IsMemory }
     {
         let level = if self.needs_indent { self.indent } else { 0 };
         push_all(&mut self.output, level, first, second, third)?;
@@ -206,7 +206,7 @@ impl Output for OutputToString {
     fn indent_and_print(&mut self, src: &str) -> Result<(), Error>
         ensures ok { OnOk result (self.new ≡ after writes self.old (IndentAndPrint src.now)) }
         ensures err { OnErr result (self.new ≡ self.old) }
-        ensures memory { IsOkUnless result Memory }
+        ensures memory { IfErr result IsMemory }
     {
         self.print_text(src, false)?;
         Ok(())
@@ -215,7 +215,7 @@ impl Output for OutputToString {
     fn keyword(&mut self, src: &str) -> Result<(), Error>
         ensures ok { OnOk result (self.new ≡ after writes self.old (Keyword src.now)) }
         ensures err { OnErr result (self.new ≡ self.old) }
-        ensures memory { IsOkUnless result Memory }
+        ensures memory { IfErr result IsMemory }
     {
         self.print_text(src, false)?;
         Ok(())
@@ -224,7 +224,7 @@ impl Output for OutputToString {
     fn param(&mut self, src: &str) -> Result<(), Error>
         ensures ok { OnOk result (self.new ≡ after writes self.old (Param src.now)) }
         ensures err { OnErr result (self.new ≡ self.old) }
-        ensures memory { IsOkUnless result Memory }
+        ensures memory { IfErr result IsMemory }
     {
         self.print_text(src, false)?;
         Ok(())
@@ -233,7 +233,7 @@ impl Output for OutputToString {
     fn case(&mut self, src: &str) -> Result<(), Error>
         ensures ok { OnOk result (self.new ≡ after writes self.old (Case src.now)) }
         ensures err { OnErr result (self.new ≡ self.old) }
-        ensures memory { IsOkUnless result Memory }
+        ensures memory { IfErr result IsMemory }
     {
         self.print_text(src, false)?;
         Ok(())
@@ -242,7 +242,7 @@ impl Output for OutputToString {
     fn str(&mut self, src: &str) -> Result<(), Error>
         ensures ok { OnOk result (self.new ≡ after writes self.old (Str src.now)) }
         ensures err { OnErr result (self.new ≡ self.old) }
-        ensures memory { IsOkUnless result Memory }
+        ensures memory { IfErr result IsMemory }
     {
         self.print_text(src, false)?;
         Ok(())
@@ -251,7 +251,7 @@ impl Output for OutputToString {
     fn ty(&mut self, src: &str, kind: TypeKind) -> Result<(), Error>
         ensures ok { OnOk result (self.new ≡ after writes self.old (Ty src.now kind)) }
         ensures err { OnErr result (self.new ≡ self.old) }
-        ensures memory { IsOkUnless result Memory }
+        ensures memory { IfErr result IsMemory }
     {
         self.print_text(src, false)?;
         Ok(())
@@ -260,7 +260,7 @@ impl Output for OutputToString {
     fn generic_args_start(&mut self) -> Result<(), Error>
         ensures ok { OnOk result (self.new ≡ after writes self.old GenericArgsStart) }
         ensures err { OnErr result (self.new ≡ self.old) }
-        ensures memory { IsOkUnless result Memory }
+        ensures memory { IfErr result IsMemory }
     {
         self.print_text("<", false)?;
         Ok(())
@@ -269,7 +269,7 @@ impl Output for OutputToString {
     fn generic_args_end(&mut self) -> Result<(), Error>
         ensures ok { OnOk result (self.new ≡ after writes self.old GenericArgsEnd) }
         ensures err { OnErr result (self.new ≡ self.old) }
-        ensures memory { IsOkUnless result Memory }
+        ensures memory { IfErr result IsMemory }
     {
         self.print_text(">", false)?;
         Ok(())
@@ -278,7 +278,7 @@ impl Output for OutputToString {
     fn doc(&mut self, doc: &str) -> Result<(), Error>
         ensures ok { OnOk result (self.new ≡ after writes self.old (Doc doc.now)) }
         ensures err { OnErr result (self.new ≡ self.old) }
-        ensures memory { IsOkUnless result Memory }
+        ensures memory { IfErr result IsMemory }
     {
         let front = if doc.is_empty() { "///" } else { "/// " };
         self.print_all(front, doc, "\n", true)
@@ -287,7 +287,7 @@ impl Output for OutputToString {
     fn semicolon(&mut self) -> Result<(), Error>
         ensures ok { OnOk result (self.new ≡ after writes self.old Semicolon) }
         ensures err { OnErr result (self.new ≡ self.old) }
-        ensures memory { IsOkUnless result Memory }
+        ensures memory { IfErr result IsMemory }
     {
         self.print_text(";\n", true)?;
         Ok(())

@@ -1,17 +1,17 @@
 //! Declared types, printed.
 #![tactic(auto, using(print_items::proofs::Driven::driving))]
 
-ghost use Rattle.std.specs.Prelude.{◌≡◌, ◌∷◌, [], true, filter, map, Some, IfOk, IsOkUnless, OnErr, OnOk};
+ghost use Rattle.std.specs.Prelude.{◌≡◌, ◌∷◌, [], true, filter, map, Some, IfOk, OnErr, OnOk, IfErr};
 ghost use Rattle.std.specs.List.{list_all};
-ghost use Rattle.wit_model.specs.declared.error.Error.TheVariants.{Memory};
 ghost use Rattle.wit_model.specs.Lookup.{type_at};
 ghost use Rattle.wit_model.specs.Valid.{IsValid};
+ghost use Rattle.wit_model.specs.Refusals.{IsMemory};
 ghost use Rattle.print_items.specs.Drives.{Drives};
 ghost use Rattle.print_output.specs.OutputCall.{Moves, Begins};
 ghost use Rattle.print_items.specs.Shown.{belongs_to as belongs_to_lem, present_name};
 ghost use Rattle.print_grammar.specs.Calls.{declared_calls, members_calls, printed_after};
 ghost use Rattle.print_uses.specs.Printable.{declaration_of, is_printable_type};
-ghost use Rattle.print_packages.specs.GivenTypes.{functions_under, given_declarations};
+ghost use Rattle.print_packages.specs.GivenTypes.{functions_under as under, given_declarations};
 ghost use Rattle.print_packages.specs.Members.{declared_under, type_member, type_prefix};
 ghost use Rattle.print_uses.specs.UseGroups.{as_listed, is_listed_function, is_listed_type, listed_declaration, listed_of};
 ghost use Rattle.print_grammar.specs.WellNamed.{is_well_declared, is_well_prefix};
@@ -115,7 +115,7 @@ fn print_declaration<'a, O: Output>(
         (O.view output.new)) }
     ensures err { OnErr result (Begins O.keeps (O.view output.old) (members_calls emits_docs has_printed (type_member resolve.now functions.now def.now ∷ []))
         (O.view output.new)) }
-    ensures memory { IsOkUnless result Memory }
+    ensures memory { IfErr result IsMemory }
 {
     let mut driver = Driver::new(output, alloc);
     write_declaration(
@@ -174,7 +174,7 @@ fn print_owned<'a, O: Output>(
         (members_calls emits_docs has_printed (declaration_of resolve.now (map (λ f. f.now) functions.now) id)) (O.view output.new)) }
     ensures err { OnErr result (Begins O.keeps (O.view output.old)
         (members_calls emits_docs has_printed (declaration_of resolve.now (map (λ f. f.now) functions.now) id)) (O.view output.new)) }
-    ensures memory { IsOkUnless result Memory }
+    ensures memory { IfErr result IsMemory }
 {
     let def = &resolve.types[id.0 as usize];
     let members = functions_of(alloc, id, functions)?;
@@ -212,7 +212,7 @@ fn print_listed_type<'a, O: Output>(
         (O.view output.new)) }
     ensures printed { IfOk result (λ b. b ≡ printed_after has_printed
         (listed_declaration resolve.now owner (map (λ f. f.now) functions.now) (as_listed listed.entry))) }
-    ensures memory { IsOkUnless result Memory }
+    ensures memory { IfErr result IsMemory }
 {
     let def = &resolve.types[listed.1.0 as usize];
     if use_of(resolve, owner, listed.0, def).is_some() {
@@ -244,16 +244,16 @@ fn print_type_with_functions<'a, O: Output>(
 ) -> Result<bool, Error>
     requires valid { IsValid resolve.now }
     requires known { is_listed_type resolve.now owner (as_listed listed) ≡ true }
-    requires functions { list_all (is_listed_function resolve.now owner) (functions_under functions.now.entries listed.1) ≡ true }
+    requires functions { list_all (is_listed_function resolve.now owner) (under functions.now.entries listed.1) ≡ true }
     ensures ok { OnOk result (Moves O.keeps (O.view output.old)
-        (members_calls emits_docs has_printed (listed_declaration resolve.now owner (functions_under functions.now.entries listed.entry.1)
+        (members_calls emits_docs has_printed (listed_declaration resolve.now owner (under functions.now.entries listed.entry.1)
         (as_listed listed.entry))) (O.view output.new)) }
     ensures err { OnErr result (Begins O.keeps (O.view output.old)
-        (members_calls emits_docs has_printed (listed_declaration resolve.now owner (functions_under functions.now.entries listed.entry.1)
+        (members_calls emits_docs has_printed (listed_declaration resolve.now owner (under functions.now.entries listed.entry.1)
         (as_listed listed.entry))) (O.view output.new)) }
     ensures printed { IfOk result (λ b. b ≡ printed_after has_printed
-        (listed_declaration resolve.now owner (functions_under functions.now.entries listed.entry.1) (as_listed listed.entry))) }
-    ensures memory { IsOkUnless result Memory }
+        (listed_declaration resolve.now owner (under functions.now.entries listed.entry.1) (as_listed listed.entry))) }
+    ensures memory { IfErr result IsMemory }
 {
     let found = match functions.get(&listed.1) {
         Some(found) => found,
@@ -296,13 +296,13 @@ pub(crate) fn print_declarations<'a, O: Output>(
 ) -> Result<bool, Error>
     requires valid { IsValid resolve.now }
     requires known { list_all (is_listed_type resolve.now owner) (listed_of types.now) ≡ true }
-    requires functions { (id : TypeId) → list_all (is_listed_function resolve.now owner) (functions_under functions.now.entries id) ≡ true }
+    requires functions { (id : TypeId) → list_all (is_listed_function resolve.now owner) (under functions.now.entries id) ≡ true }
     ensures ok { OnOk result (Moves O.keeps (O.view output.old)
         (members_calls emits_docs has_printed (given_declarations resolve.now owner functions.now.entries (listed_of types.now))) (O.view output.new)) }
     ensures err { OnErr result (Begins O.keeps (O.view output.old)
         (members_calls emits_docs has_printed (given_declarations resolve.now owner functions.now.entries (listed_of types.now))) (O.view output.new)) }
     ensures printed { IfOk result (λ b. b ≡ printed_after has_printed (given_declarations resolve.now owner functions.now.entries (listed_of types.now))) }
-    ensures memory { IsOkUnless result Memory }
+    ensures memory { IfErr result IsMemory }
 {
     let mut has_printed = has_printed;
     for listed in types {

@@ -1,11 +1,11 @@
 //! Interfaces that a world imports or exports, printed.
 
-ghost use Rattle.std.specs.Prelude.{◌≡◌, ◌++◌, ◌∷◌, [], true, Some, IsTrue, OnOk, OnErr, IsOkUnless};
-ghost use Rattle.wit_model.specs.declared.error.Error.TheVariants.{Memory};
+ghost use Rattle.std.specs.Prelude.{◌≡◌, ◌++◌, ◌∷◌, [], true, Some, IsTrue, OnOk, OnErr, IfErr};
 ghost use Rattle.wit_model.specs.Lookup.{interface_at};
 ghost use Rattle.wit_model.specs.Names.{is_label};
 ghost use Rattle.wit_model.specs.Rules.{in_list};
 ghost use Rattle.wit_model.specs.Valid.{IsValid};
+ghost use Rattle.wit_model.specs.Refusals.{IsMemory};
 ghost use Rattle.print_output.specs.OutputCall.{OutputCall, Moves, Begins, is_one_line, has_no_space_first};
 ghost use Rattle.print_grammar.specs.Calls.{world_extern_calls};
 ghost use Rattle.print_items.specs.ItemCalls.{front_calls, inline_start_calls, labelled_tree};
@@ -69,7 +69,7 @@ pub(crate) fn print_keyed<'a, O: Output>(
     ensures err { OnErr result (Begins O.keeps (O.view output.old)
         (world_extern_calls emits_docs (shown_prefix docs.now stability.now external_id.now) word.now (Path (shown_path resolve.now here id)))
         (O.view output.new)) }
-    ensures memory { IsOkUnless result Memory }
+    ensures memory { IfErr result IsMemory }
 {
     let mut driver = Driver::new(output, alloc);
     write_keyed(
@@ -114,7 +114,7 @@ fn print_labelled_path<'a, O: Output>(
     ensures err { OnErr result (Begins O.keeps (O.view output.old)
         (world_extern_calls emits_docs (shown_prefix docs.now stability.now external_id.now) word.now (NamedPath label.now (shown_path resolve.now here id)))
         (O.view output.new)) }
-    ensures memory { IsOkUnless result Memory }
+    ensures memory { IfErr result IsMemory }
 {
     let mut driver = Driver::new(output, alloc);
     write_labelled(
@@ -151,7 +151,7 @@ fn print_inline_start<'a, O: Output>(
         (front_calls emits_docs (shown_prefix docs.now stability.now external_id.now) word.now ++ inline_start_calls label.now) (O.view output.new)) }
     ensures err { OnErr result (Begins O.keeps (O.view output.old)
         (front_calls emits_docs (shown_prefix docs.now stability.now external_id.now) word.now ++ inline_start_calls label.now) (O.view output.new)) }
-    ensures memory { IsOkUnless result Memory }
+    ensures memory { IfErr result IsMemory }
 {
     let mut driver = Driver::new(output, alloc);
     write_inline(
@@ -171,7 +171,7 @@ fn print_inline_start<'a, O: Output>(
 pub(crate) fn print_block_end<O: Output>(output: &mut O) -> Result<(), Error>
     ensures ok { OnOk result (Moves O.keeps (O.view output.old) (OutputCall.IndentEnd ∷ []) (O.view output.new)) }
     ensures err { OnErr result (Begins O.keeps (O.view output.old) (OutputCall.IndentEnd ∷ []) (O.view output.new)) }
-    ensures memory { IsOkUnless result Memory }
+    ensures memory { IfErr result IsMemory }
 {
     output.indent_end()?;
     Ok(())
@@ -203,7 +203,7 @@ fn print_inline<'a, O: Output>(
     ensures err { OnErr result (Begins O.keeps (O.view output.old)
         (world_extern_calls emits_docs (shown_prefix docs.now stability.now external_id.now) word.now (inline_interface resolve.now label.now id interface.now))
         (O.view output.new)) }
-    ensures memory { IsOkUnless result Memory }
+    ensures memory { IfErr result IsMemory }
 {
     print_inline_start(
         output,
@@ -245,7 +245,7 @@ pub(crate) fn print_labelled<'a, O: Output>(
     ensures err { OnErr result (Begins O.keeps (O.view output.old)
         (world_extern_calls emits_docs (shown_prefix docs.now stability.now external_id.now) word.now (labelled_tree resolve.now here label.now id))
         (O.view output.new)) }
-    ensures memory { IsOkUnless result Memory }
+    ensures memory { IfErr result IsMemory }
 {
     let interface = &resolve.interfaces[id.0 as usize];
     if interface.name.is_some() {

@@ -1,10 +1,10 @@
 //! The packages of a file, printed one after the other.
 
-ghost use Rattle.std.specs.Prelude.{◌≡◌, ◌<◌, ◌∷◌, [], true, length, map, OnOk, OnErr, IsOkUnless};
+ghost use Rattle.std.specs.Prelude.{◌≡◌, ◌<◌, ◌∷◌, [], true, length, map, OnOk, OnErr, IfErr};
 ghost use Rattle.std.specs.List.{flat_map, list_all};
-ghost use Rattle.wit_model.specs.declared.error.Error.TheVariants.{Memory};
 ghost use Rattle.wit_model.specs.Rules.{in_list};
 ghost use Rattle.wit_model.specs.Valid.{IsValid};
+ghost use Rattle.wit_model.specs.Refusals.{IsMemory};
 ghost use Rattle.print_output.specs.OutputCall.{OutputCall, Moves, Begins};
 ghost use Rattle.print_grammar.specs.Calls.{file_calls, nested_calls};
 ghost use Rattle.print_uses.specs.Printable.{next_package_calls};
@@ -20,7 +20,7 @@ use wit_model::{Error, PackageId, Resolve};
 fn print_line_end<O: Output>(output: &mut O) -> Result<(), Error>
     ensures ok { OnOk result (Moves O.keeps (O.view output.old) (OutputCall.Newline ∷ []) (O.view output.new)) }
     ensures err { OnErr result (Begins O.keeps (O.view output.old) (OutputCall.Newline ∷ []) (O.view output.new)) }
-    ensures memory { IsOkUnless result Memory }
+    ensures memory { IfErr result IsMemory }
 {
     output.newline()?;
     Ok(())
@@ -29,7 +29,7 @@ fn print_line_end<O: Output>(output: &mut O) -> Result<(), Error>
 fn print_two_line_ends<O: Output>(output: &mut O) -> Result<(), Error>
     ensures ok { OnOk result (Moves O.keeps (O.view output.old) (OutputCall.Newline ∷ OutputCall.Newline ∷ []) (O.view output.new)) }
     ensures err { OnErr result (Begins O.keeps (O.view output.old) (OutputCall.Newline ∷ OutputCall.Newline ∷ []) (O.view output.new)) }
-    ensures memory { IsOkUnless result Memory }
+    ensures memory { IfErr result IsMemory }
 {
     print_line_end(output)?;
     print_line_end(output)
@@ -47,7 +47,7 @@ fn print_next_package<'a, O: Output>(
     requires in_range { id.0 < length resolve.now.packages.items }
     ensures ok { OnOk result (Moves O.keeps (O.view output.old) (next_package_calls emits_docs resolve.now id) (O.view output.new)) }
     ensures err { OnErr result (Begins O.keeps (O.view output.old) (next_package_calls emits_docs resolve.now id) (O.view output.new)) }
-    ensures memory { IsOkUnless result Memory }
+    ensures memory { IfErr result IsMemory }
 {
     print_two_line_ends(output)?;
     print_whole_package(output, alloc, emits_docs, resolve, id, false)
@@ -65,7 +65,7 @@ fn print_more_packages<'a, O: Output>(
     requires in_range { list_all (λ id. in_list resolve.now.packages.items id.0) ids.now ≡ true }
     ensures ok { OnOk result (Moves O.keeps (O.view output.old) (flat_map (next_package_calls emits_docs resolve.now) ids.now) (O.view output.new)) }
     ensures err { OnErr result (Begins O.keeps (O.view output.old) (flat_map (next_package_calls emits_docs resolve.now) ids.now) (O.view output.new)) }
-    ensures memory { IsOkUnless result Memory }
+    ensures memory { IfErr result IsMemory }
 {
     for id in ids {
         print_next_package(output, alloc, emits_docs, resolve, *id)?;
@@ -85,7 +85,7 @@ fn print_nested_packages<'a, O: Output>(
     requires in_range { list_all (λ id. in_list resolve.now.packages.items id.0) ids.now ≡ true }
     ensures ok { OnOk result (Moves O.keeps (O.view output.old) (nested_calls emits_docs (map (shown_package resolve.now) ids.now)) (O.view output.new)) }
     ensures err { OnErr result (Begins O.keeps (O.view output.old) (nested_calls emits_docs (map (shown_package resolve.now) ids.now)) (O.view output.new)) }
-    ensures memory { IsOkUnless result Memory }
+    ensures memory { IfErr result IsMemory }
 {
     if let Some((first, rest)) = ids.split_first() {
         print_whole_package(output, alloc, emits_docs, resolve, *first, false)?;
@@ -108,7 +108,7 @@ pub fn print_file<'a, O: Output>(
     requires nested { list_all (λ other. in_list resolve.now.packages.items other.0) nested.now ≡ true }
     ensures ok { OnOk result (Moves O.keeps (O.view output.old) (file_calls emits_docs (shown_file resolve.now id nested.now)) (O.view output.new)) }
     ensures err { OnErr result (Begins O.keeps (O.view output.old) (file_calls emits_docs (shown_file resolve.now id nested.now)) (O.view output.new)) }
-    ensures memory { IsOkUnless result Memory }
+    ensures memory { IfErr result IsMemory }
 {
     print_whole_package(output, alloc, emits_docs, resolve, id, true)?;
     print_nested_packages(output, alloc, emits_docs, resolve, nested)

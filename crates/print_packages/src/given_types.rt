@@ -1,11 +1,11 @@
 //! Types that are handed in, with functions by the resources that they stand under, printed.
 
-ghost use Rattle.std.specs.Prelude.{◌≡◌, true, false, IfOk, IsOkUnless, OnErr, OnOk};
+ghost use Rattle.std.specs.Prelude.{◌≡◌, true, false, IfOk, OnErr, OnOk, IfErr};
 ghost use Rattle.std.specs.Iterator.{Drains, IsFinite};
 ghost use Rattle.std.specs.List.{list_all};
-ghost use Rattle.wit_model.specs.declared.error.Error.TheVariants.{Memory};
 ghost use Rattle.wit_model.specs.Parts.{same_owner};
 ghost use Rattle.wit_model.specs.Valid.{IsValid};
+ghost use Rattle.wit_model.specs.Refusals.{IsMemory};
 ghost use Rattle.print_items.specs.Drives.{Makes, MakesInPart};
 ghost use Rattle.print_grammar.specs.Calls.{printed_after};
 ghost use Rattle.print_packages.specs.GivenTypes.{are_functions_of, given_calls, given_with, package_of_owner};
@@ -64,7 +64,7 @@ pub fn print_given_types<'a, O: Output>(
     ensures err { OnErr result (MakesInPart O.view O.keeps output.old (given_calls emits_docs has_printed resolve.now owner functions.now types.now)
         output.new) }
     ensures printed { IfOk result (λ b. b ≡ printed_after has_printed (given_with resolve.now owner functions.now (listed_of types.now))) }
-    ensures memory { IsOkUnless result Memory }
+    ensures memory { IfErr result IsMemory }
 {
     let here = here_of(resolve, owner);
     let has_used = print_uses(

@@ -1,13 +1,13 @@
 //! Interfaces, printed item by item.
 #![tactic(auto, using(print_items::proofs::Driven::driving))]
 
-ghost use Rattle.std.specs.Prelude.{◌≡◌, ◌∷◌, [], true, false, Some, OnOk, OnErr, IsOkUnless};
+ghost use Rattle.std.specs.Prelude.{◌≡◌, ◌∷◌, [], true, false, Some, OnOk, OnErr, IfErr};
 ghost use Rattle.std.specs.List.{list_all};
-ghost use Rattle.wit_model.specs.declared.error.Error.TheVariants.{Memory};
 ghost use Rattle.wit_model.specs.Lookup.{interface_at};
 ghost use Rattle.wit_model.specs.Names.{is_label};
 ghost use Rattle.wit_model.specs.Rules.{is_freestanding as is_freestanding_lem};
 ghost use Rattle.wit_model.specs.Valid.{IsValid};
+ghost use Rattle.wit_model.specs.Refusals.{IsMemory};
 ghost use Rattle.print_items.specs.Drives.{Drives, LineIs};
 ghost use Rattle.print_output.specs.OutputCall.{Moves, Begins};
 ghost use Rattle.print_grammar.specs.Calls.{members_calls, line_after_calls};
@@ -53,7 +53,7 @@ pub fn print_head<'a, O: Output>(
     requires name { is_label name.now ≡ true }
     ensures ok { OnOk result (Moves O.keeps (O.view output.old) (head_calls emits_docs interface.now name.now) (O.view output.new)) }
     ensures err { OnErr result (Begins O.keeps (O.view output.old) (head_calls emits_docs interface.now name.now) (O.view output.new)) }
-    ensures memory { IsOkUnless result Memory }
+    ensures memory { IfErr result IsMemory }
 {
     let mut driver = Driver::new(output, alloc);
     write_head(&mut driver, emits_docs, interface, name);
@@ -113,7 +113,7 @@ fn print_function<'a, O: Output>(
         (O.view output.new)) }
     ensures err { OnErr result (Begins O.keeps (O.view output.old) (members_calls emits_docs has_printed (shown_function resolve.now function.now ∷ []))
         (O.view output.new)) }
-    ensures memory { IsOkUnless result Memory }
+    ensures memory { IfErr result IsMemory }
 {
     let mut driver = Driver::new(output, alloc);
     write_function(&mut driver, emits_docs, has_printed, resolve, function);
@@ -142,7 +142,7 @@ fn print_functions<'a, O: Output>(
         (O.view output.new)) }
     ensures err { OnErr result (Begins O.keeps (O.view output.old) (members_calls emits_docs has_printed (shown_functions resolve.now functions.now.entries))
         (O.view output.new)) }
-    ensures memory { IsOkUnless result Memory }
+    ensures memory { IfErr result IsMemory }
 {
     let mut has_printed = has_printed;
     for (key, function) in functions {
@@ -168,7 +168,7 @@ pub fn print_interface_body<'a, O: Output>(
     requires at { interface_at resolve.now id.0 ≡ Some interface.now }
     ensures ok { OnOk result (Moves O.keeps (O.view output.old) (interface_block_calls emits_docs resolve.now id interface.now) (O.view output.new)) }
     ensures err { OnErr result (Begins O.keeps (O.view output.old) (interface_block_calls emits_docs resolve.now id interface.now) (O.view output.new)) }
-    ensures memory { IsOkUnless result Memory }
+    ensures memory { IfErr result IsMemory }
 {
     let here = match interface.package {
         Some(here) => here,

@@ -1,10 +1,10 @@
 //! The imports and exports of a world, printed.
 
-ghost use Rattle.std.specs.Prelude.{◌≡◌, ◌&&◌, true, codes, IsTrue, IfOk, OnOk, OnErr, IsOkUnless};
+ghost use Rattle.std.specs.Prelude.{◌≡◌, ◌&&◌, true, codes, IsTrue, IfOk, OnOk, OnErr, IfErr};
 ghost use Rattle.std.specs.List.{flat_map, list_all};
-ghost use Rattle.wit_model.specs.declared.error.Error.TheVariants.{Memory};
 ghost use Rattle.wit_model.specs.Rules.{has_items as has_items_lem};
 ghost use Rattle.wit_model.specs.Valid.{IsValid};
+ghost use Rattle.wit_model.specs.Refusals.{IsMemory};
 ghost use Rattle.print_output.specs.OutputCall.{Moves, Begins, is_one_line, has_no_space_first};
 ghost use Rattle.print_grammar.specs.Calls.{world_extern_calls, line_after_calls};
 ghost use Rattle.print_uses.specs.Printable.{entry_calls, function_entry_calls, imports_calls, imports_functions, imports_interfaces, interface_entry_calls, is_printable_entry, is_printable_import, IsPrintableWorld, printed_imports, world_body_calls};
@@ -39,7 +39,7 @@ fn print_world_function<'a, O: Output>(
         (world_extern_calls emits_docs (function_prefix function.now) word.now (named_function resolve.now function.now)) (O.view output.new)) }
     ensures err { OnErr result (Begins O.keeps (O.view output.old)
         (world_extern_calls emits_docs (function_prefix function.now) word.now (named_function resolve.now function.now)) (O.view output.new)) }
-    ensures memory { IsOkUnless result Memory }
+    ensures memory { IfErr result IsMemory }
 {
     let mut driver = Driver::new(output, alloc);
     write_world_function(&mut driver, emits_docs, resolve, word, function);
@@ -63,7 +63,7 @@ fn print_item<'a, O: Output>(
     requires printable { is_printable_entry resolve.now here (key.now, item.now) ≡ true }
     ensures ok { OnOk result (Moves O.keeps (O.view output.old) (entry_calls emits_docs resolve.now here word.now (key.now, item.now)) (O.view output.new)) }
     ensures err { OnErr result (Begins O.keeps (O.view output.old) (entry_calls emits_docs resolve.now here word.now (key.now, item.now)) (O.view output.new)) }
-    ensures memory { IsOkUnless result Memory }
+    ensures memory { IfErr result IsMemory }
 {
     match item {
         WorldItem::Interface {
@@ -144,7 +144,7 @@ fn print_imported_interface<'a, O: Output>(
     ensures ok { OnOk result (Moves O.keeps (O.view output.old) (interface_entry_calls emits_docs resolve.now here (key.now, item.now)) (O.view output.new)) }
     ensures err { OnErr result (Begins O.keeps (O.view output.old) (interface_entry_calls emits_docs resolve.now here (key.now, item.now))
         (O.view output.new)) }
-    ensures memory { IsOkUnless result Memory }
+    ensures memory { IfErr result IsMemory }
 {
     if !is_interface(item) {
         return Ok(());
@@ -168,7 +168,7 @@ fn print_imported_function<'a, O: Output>(
     requires printable { is_printable_import resolve.now here (key.now, item.now) ≡ true }
     ensures ok { OnOk result (Moves O.keeps (O.view output.old) (function_entry_calls emits_docs resolve.now here (key.now, item.now)) (O.view output.new)) }
     ensures err { OnErr result (Begins O.keeps (O.view output.old) (function_entry_calls emits_docs resolve.now here (key.now, item.now)) (O.view output.new)) }
-    ensures memory { IsOkUnless result Memory }
+    ensures memory { IfErr result IsMemory }
 {
     if !is_freestanding(item) {
         return Ok(());
@@ -193,7 +193,7 @@ fn print_imported_interfaces<'a, O: Output>(
         (O.view output.new)) }
     ensures err { OnErr result (Begins O.keeps (O.view output.old) (flat_map (interface_entry_calls emits_docs resolve.now here) items.now.entries)
         (O.view output.new)) }
-    ensures memory { IsOkUnless result Memory }
+    ensures memory { IfErr result IsMemory }
 {
     for (key, item) in items {
         print_imported_interface(output, alloc, emits_docs, resolve, here, key, item)?;
@@ -216,7 +216,7 @@ fn print_imported_functions<'a, O: Output>(
         (O.view output.new)) }
     ensures err { OnErr result (Begins O.keeps (O.view output.old) (flat_map (function_entry_calls emits_docs resolve.now here) items.now.entries)
         (O.view output.new)) }
-    ensures memory { IsOkUnless result Memory }
+    ensures memory { IfErr result IsMemory }
 {
     for (key, item) in items {
         print_imported_function(output, alloc, emits_docs, resolve, here, key, item)?;
@@ -239,7 +239,7 @@ fn print_exports<'a, O: Output>(
         (O.view output.new)) }
     ensures err { OnErr result (Begins O.keeps (O.view output.old) (flat_map (entry_calls emits_docs resolve.now here (codes "export")) items.now.entries)
         (O.view output.new)) }
-    ensures memory { IsOkUnless result Memory }
+    ensures memory { IfErr result IsMemory }
 {
     for (key, item) in items {
         print_item(
@@ -290,7 +290,7 @@ fn print_imports<'a, O: Output>(
     ensures ok { OnOk result (Moves O.keeps (O.view output.old) (imports_calls emits_docs resolve.now here id world.now) (O.view output.new)) }
     ensures err { OnErr result (Begins O.keeps (O.view output.old) (imports_calls emits_docs resolve.now here id world.now) (O.view output.new)) }
     ensures printed { IfOk result (λ b. b ≡ printed_imports resolve.now here id world.now) }
-    ensures memory { IsOkUnless result Memory }
+    ensures memory { IfErr result IsMemory }
 {
     print_imported_interfaces(output, alloc, emits_docs, resolve, here, &world.imports)?;
     let is_begun = has_interfaces(&world.imports);
@@ -319,7 +319,7 @@ fn both(a: bool, b: bool) -> bool
 fn print_line_between<O: Output>(output: &mut O, is_between: bool) -> Result<(), Error>
     ensures ok { OnOk result (Moves O.keeps (O.view output.old) (line_after_calls is_between) (O.view output.new)) }
     ensures err { OnErr result (Begins O.keeps (O.view output.old) (line_after_calls is_between) (O.view output.new)) }
-    ensures memory { IsOkUnless result Memory }
+    ensures memory { IfErr result IsMemory }
 {
     if is_between {
         output.newline()?;
@@ -341,7 +341,7 @@ pub(crate) fn print_world_body<'a, O: Output>(
     requires world { IsPrintableWorld resolve.now here id world.now }
     ensures ok { OnOk result (Moves O.keeps (O.view output.old) (world_body_calls emits_docs resolve.now here id world.now) (O.view output.new)) }
     ensures err { OnErr result (Begins O.keeps (O.view output.old) (world_body_calls emits_docs resolve.now here id world.now) (O.view output.new)) }
-    ensures memory { IsOkUnless result Memory }
+    ensures memory { IfErr result IsMemory }
 {
     let has_imports = print_imports(output, alloc, emits_docs, resolve, here, id, world)?;
     let is_between = both(has_imports, has_items(&world.exports));

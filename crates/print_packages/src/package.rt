@@ -1,14 +1,14 @@
 //! Packages, printed item by item.
 #![tactic(auto, using(print_items::proofs::Driven::driving))]
 
-ghost use Rattle.std.specs.Prelude.{◌≡◌, ◌<◌, ◌++◌, ◌∷◌, [], true, false, length, Some, OnOk, OnErr, IsOkUnless};
+ghost use Rattle.std.specs.Prelude.{◌≡◌, ◌<◌, ◌++◌, ◌∷◌, [], true, false, length, Some, OnOk, OnErr, IfErr};
 ghost use Rattle.std.specs.List.{flat_map, list_all};
-ghost use Rattle.wit_model.specs.declared.error.Error.TheVariants.{Memory};
 ghost use Rattle.wit_model.specs.Text.{text_of};
 ghost use Rattle.wit_model.specs.Names.{is_label, is_version_text};
 ghost use Rattle.wit_model.specs.Lookup.{interface_at, optional_version_text};
 ghost use Rattle.wit_model.specs.Valid.{IsValid};
 ghost use Rattle.wit_model.specs.Rules.{passes};
+ghost use Rattle.wit_model.specs.Refusals.{IsMemory};
 ghost use Rattle.print_items.specs.Drives.{Drives, LineIs};
 ghost use Rattle.print_output.specs.OutputCall.{OutputCall, Moves, Begins};
 ghost use Rattle.print_uses.specs.Printable.{IsPrintableWorld, is_printable_interface, is_printable_listed, listed_calls, listed_interface_calls, listed_package_calls, world_start_calls, world_calls};
@@ -52,7 +52,7 @@ fn print_world_start<'a, O: Output>(
     requires name { is_label name.now ≡ true }
     ensures ok { OnOk result (Moves O.keeps (O.view output.old) (world_start_calls emits_docs name.now world.now) (O.view output.new)) }
     ensures err { OnErr result (Begins O.keeps (O.view output.old) (world_start_calls emits_docs name.now world.now) (O.view output.new)) }
-    ensures memory { IsOkUnless result Memory }
+    ensures memory { IfErr result IsMemory }
 {
     let mut driver = Driver::new(output, alloc);
     write_world_start(&mut driver, emits_docs, name, world);
@@ -75,7 +75,7 @@ fn print_world<'a, O: Output>(
     requires world { IsPrintableWorld resolve.now here id world.now }
     ensures ok { OnOk result (Moves O.keeps (O.view output.old) (world_calls emits_docs resolve.now here name.now id world.now) (O.view output.new)) }
     ensures err { OnErr result (Begins O.keeps (O.view output.old) (world_calls emits_docs resolve.now here name.now id world.now) (O.view output.new)) }
-    ensures memory { IsOkUnless result Memory }
+    ensures memory { IfErr result IsMemory }
 {
     print_world_start(output, alloc, emits_docs, name, world)?;
     print_world_body(output, alloc, emits_docs, resolve, here, id, world)?;
@@ -96,7 +96,7 @@ fn print_listed<'a, O: Output>(
     requires printable { is_printable_listed resolve.now here (name.now, id.now) ≡ true }
     ensures ok { OnOk result (Moves O.keeps (O.view output.old) (listed_calls emits_docs resolve.now (name.now, id.now)) (O.view output.new)) }
     ensures err { OnErr result (Begins O.keeps (O.view output.old) (listed_calls emits_docs resolve.now (name.now, id.now)) (O.view output.new)) }
-    ensures memory { IsOkUnless result Memory }
+    ensures memory { IfErr result IsMemory }
 {
     let world = &resolve.worlds[id.0 as usize];
     print_world(output, alloc, emits_docs, resolve, here, name, *id, world)
@@ -115,7 +115,7 @@ fn print_worlds<'a, O: Output>(
     requires printable { list_all (is_printable_listed resolve.now here) worlds.now.entries ≡ true }
     ensures ok { OnOk result (Moves O.keeps (O.view output.old) (flat_map (listed_calls emits_docs resolve.now) worlds.now.entries) (O.view output.new)) }
     ensures err { OnErr result (Begins O.keeps (O.view output.old) (flat_map (listed_calls emits_docs resolve.now) worlds.now.entries) (O.view output.new)) }
-    ensures memory { IsOkUnless result Memory }
+    ensures memory { IfErr result IsMemory }
 {
     for (name, id) in worlds {
         print_listed(output, alloc, emits_docs, resolve, here, name, id)?;
@@ -152,7 +152,7 @@ fn print_interface_start<'a, O: Output>(
         (O.view output.new)) }
     ensures err { OnErr result (Begins O.keeps (O.view output.old) (head_calls emits_docs interface.now name.now ++ OutputCall.IndentStart ∷ [])
         (O.view output.new)) }
-    ensures memory { IsOkUnless result Memory }
+    ensures memory { IfErr result IsMemory }
 {
     let mut driver = Driver::new(output, alloc);
     write_interface_start(&mut driver, emits_docs, name, interface);
@@ -164,7 +164,7 @@ fn print_interface_start<'a, O: Output>(
 fn print_line_after<O: Output>(output: &mut O, is_main: bool) -> Result<(), Error>
     ensures ok { OnOk result (Moves O.keeps (O.view output.old) (line_after_calls is_main) (O.view output.new)) }
     ensures err { OnErr result (Begins O.keeps (O.view output.old) (line_after_calls is_main) (O.view output.new)) }
-    ensures memory { IsOkUnless result Memory }
+    ensures memory { IfErr result IsMemory }
 {
     if is_main {
         output.newline()?;
@@ -176,7 +176,7 @@ fn print_line_after<O: Output>(output: &mut O, is_main: bool) -> Result<(), Erro
 fn print_interface_end<O: Output>(output: &mut O, is_main: bool) -> Result<(), Error>
     ensures ok { OnOk result (Moves O.keeps (O.view output.old) (OutputCall.IndentEnd ∷ line_after_calls is_main) (O.view output.new)) }
     ensures err { OnErr result (Begins O.keeps (O.view output.old) (OutputCall.IndentEnd ∷ line_after_calls is_main) (O.view output.new)) }
-    ensures memory { IsOkUnless result Memory }
+    ensures memory { IfErr result IsMemory }
 {
     print_block_end(output)?;
     print_line_after(output, is_main)
@@ -201,7 +201,7 @@ fn print_interface<'a, O: Output>(
         (O.view output.new)) }
     ensures err { OnErr result (Begins O.keeps (O.view output.old)
         (package_item_calls emits_docs is_main (interface_item resolve.now name.now id interface.now)) (O.view output.new)) }
-    ensures memory { IsOkUnless result Memory }
+    ensures memory { IfErr result IsMemory }
 {
     print_interface_start(output, alloc, emits_docs, name, interface)?;
     print_interface_body(output, alloc, emits_docs, resolve, id, interface)?;
@@ -224,7 +224,7 @@ fn print_listed_interface<'a, O: Output>(
         (O.view output.new)) }
     ensures err { OnErr result (Begins O.keeps (O.view output.old) (listed_interface_calls emits_docs is_main resolve.now (name.now, id.now))
         (O.view output.new)) }
-    ensures memory { IsOkUnless result Memory }
+    ensures memory { IfErr result IsMemory }
 {
     let interface = &resolve.interfaces[id.0 as usize];
     print_interface(
@@ -247,7 +247,7 @@ fn print_interfaces<'a, O: Output>(
         (O.view output.new)) }
     ensures err { OnErr result (Begins O.keeps (O.view output.old) (flat_map (listed_interface_calls emits_docs is_main resolve.now) interfaces.now.entries)
         (O.view output.new)) }
-    ensures memory { IsOkUnless result Memory }
+    ensures memory { IfErr result IsMemory }
 {
     for (name, id) in interfaces {
         print_listed_interface(output, alloc, emits_docs, is_main, resolve, name, id)?;
@@ -299,7 +299,7 @@ fn print_package_start<'a, O: Output>(
         (O.view output.new)) }
     ensures err { OnErr result (Begins O.keeps (O.view output.old) (package_outer_calls emits_docs (shown_head «package».now) ++ package_start_calls is_main)
         (O.view output.new)) }
-    ensures memory { IsOkUnless result Memory }
+    ensures memory { IfErr result IsMemory }
 {
     let mut driver = Driver::new(output, alloc);
     write_package_start(&mut driver, emits_docs, package, is_main);
@@ -311,7 +311,7 @@ fn print_package_start<'a, O: Output>(
 fn print_package_end<O: Output>(output: &mut O, is_main: bool) -> Result<(), Error>
     ensures ok { OnOk result (Moves O.keeps (O.view output.old) (package_end_calls is_main) (O.view output.new)) }
     ensures err { OnErr result (Begins O.keeps (O.view output.old) (package_end_calls is_main) (O.view output.new)) }
-    ensures memory { IsOkUnless result Memory }
+    ensures memory { IfErr result IsMemory }
 {
     if !is_main {
         output.indent_end()?;
@@ -337,7 +337,7 @@ fn print_listed_package<'a, O: Output>(
     requires worlds { list_all (is_printable_listed resolve.now here) «package».now.worlds.entries ≡ true }
     ensures ok { OnOk result (Moves O.keeps (O.view output.old) (listed_package_calls emits_docs is_main resolve.now «package».now) (O.view output.new)) }
     ensures err { OnErr result (Begins O.keeps (O.view output.old) (listed_package_calls emits_docs is_main resolve.now «package».now) (O.view output.new)) }
-    ensures memory { IsOkUnless result Memory }
+    ensures memory { IfErr result IsMemory }
 {
     print_package_start(output, alloc, emits_docs, package, is_main)?;
     print_interfaces(
@@ -365,7 +365,7 @@ pub fn print_whole_package<'a, O: Output>(
     requires in_range { here.0 < length resolve.now.packages.items }
     ensures ok { OnOk result (Moves O.keeps (O.view output.old) (package_calls emits_docs is_main (shown_package resolve.now here)) (O.view output.new)) }
     ensures err { OnErr result (Begins O.keeps (O.view output.old) (package_calls emits_docs is_main (shown_package resolve.now here)) (O.view output.new)) }
-    ensures memory { IsOkUnless result Memory }
+    ensures memory { IfErr result IsMemory }
 {
     let package = &resolve.packages[here.0 as usize];
     print_listed_package(output, alloc, emits_docs, resolve, here, package, is_main)

@@ -1,12 +1,12 @@
 //! The types of an owner, printed: uses in groups, and then declared types.
 
-ghost use Rattle.std.specs.Prelude.{◌≡◌, true, false, map, option_map, Some, IfOk, IsOkUnless, OnErr, OnOk};
+ghost use Rattle.std.specs.Prelude.{◌≡◌, true, false, map, option_map, Some, IfOk, OnErr, OnOk, IfErr};
 ghost use Rattle.std.specs.List.{filter_map, list_all};
-ghost use Rattle.wit_model.specs.declared.error.Error.TheVariants.{Memory};
 ghost use Rattle.wit_model.specs.Lookup.{interface_at};
 ghost use Rattle.wit_model.specs.Parts.{same_owner};
 ghost use Rattle.wit_model.specs.Text.{text_of};
 ghost use Rattle.wit_model.specs.Valid.{IsValid, item_function};
+ghost use Rattle.wit_model.specs.Refusals.{IsMemory};
 ghost use Rattle.print_output.specs.OutputCall.{Moves, Begins};
 ghost use Rattle.print_grammar.specs.Calls.{members_calls, printed_after};
 ghost use Rattle.print_items.specs.Shown.{imported_functions as imported_functions_lem, listed_imports, type_of_entry as type_of_entry_lem};
@@ -49,7 +49,7 @@ pub(crate) fn print_owned_types<'a, O: Output>(
         (O.view output.new)) }
     ensures printed { IfOk result (λ b. b ≡ printed_after has_printed
         (type_members resolve.now here owner (map (λ f. f.now) functions.now) (listed_of types.now))) }
-    ensures memory { IsOkUnless result Memory }
+    ensures memory { IfErr result IsMemory }
 {
     let grouped = by_resource(alloc, functions)?;
     let has_used = print_uses(
@@ -115,7 +115,7 @@ pub(crate) fn print_interface_types<'a, O: Output>(
     ensures err { OnErr result (Begins O.keeps (O.view output.old) (members_calls emits_docs false (interface_type_members resolve.now here id interface.now))
         (O.view output.new)) }
     ensures printed { IfOk result (λ b. b ≡ printed_after false (interface_type_members resolve.now here id interface.now)) }
-    ensures memory { IsOkUnless result Memory }
+    ensures memory { IfErr result IsMemory }
 {
     let types = listed_types(alloc, &interface.types)?;
     let functions = listed_functions(alloc, &interface.functions)?;
@@ -211,7 +211,7 @@ pub(crate) fn print_world_types<'a, O: Output>(
     ensures err { OnErr result (Begins O.keeps (O.view output.old) (members_calls emits_docs has_printed (world_type_members resolve.now here id world.now))
         (O.view output.new)) }
     ensures printed { IfOk result (λ b. b ≡ printed_after has_printed (world_type_members resolve.now here id world.now)) }
-    ensures memory { IsOkUnless result Memory }
+    ensures memory { IfErr result IsMemory }
 {
     let types = imported_types(alloc, &world.imports)?;
     let functions = imported_functions(alloc, &world.imports)?;

@@ -1,12 +1,11 @@
 //! Types that are used from other interfaces, in groups.
 #![tactic(auto, using(print_items::proofs::Driven::driving))]
 
-ghost use Rattle.std.specs.Prelude.{◌≡◌, ◌++◌, ◌∷◌, ◌&&◌, ◌||◌, [], codes, true, false, option_map, IfOk, IfSome, IsOkUnless, OnErr, OnOk};
+ghost use Rattle.std.specs.Prelude.{◌≡◌, ◌++◌, ◌∷◌, ◌&&◌, ◌||◌, [], codes, true, false, option_map, IfOk, IfSome, OnErr, OnOk, IfErr};
 ghost use Rattle.std.specs.List.{list_all};
 ghost use Rattle.std.specs.Option.{option_eq};
 ghost use Rattle.std.specs.Str.{chars};
 ghost use Rattle.semver.specs.Identifiers.{build_text, pre_text, version_text};
-ghost use Rattle.wit_model.specs.declared.error.Error.TheVariants.{Memory};
 ghost use Rattle.wit_model.specs.Lookup.{optional_version_text};
 ghost use Rattle.wit_model.specs.Names.{is_label, is_version};
 ghost use Rattle.wit_model.specs.Parts.{same_owner as same_owner_lem};
@@ -15,6 +14,7 @@ ghost use Rattle.wit_model.specs.Text.{text_eq, text_of};
 ghost use Rattle.wit_model.specs.Types.{number_of as number_of_lem};
 ghost use Rattle.wit_model.specs.Uses.{alias_target};
 ghost use Rattle.wit_model.specs.Valid.{IsValid};
+ghost use Rattle.wit_model.specs.Refusals.{IsMemory};
 ghost use Rattle.print_items.specs.Drives.{Drives, LineIs, Makes, MakesInPart};
 ghost use Rattle.print_output.specs.OutputCall.{OutputCall, Moves, Begins};
 ghost use Rattle.print_grammar.specs.Keyword.{escaped};
@@ -417,7 +417,7 @@ fn print_use<'a, O: Output>(
         (use_run_calls (shown_path resolve.now here) (option_map shown_use before.entry) (shown_use used.entry)) (O.view output.new)) }
     ensures err { OnErr result (Begins O.keeps (O.view output.old)
         (use_run_calls (shown_path resolve.now here) (option_map shown_use before.entry) (shown_use used.entry)) (O.view output.new)) }
-    ensures memory { IsOkUnless result Memory }
+    ensures memory { IfErr result IsMemory }
 {
     let mut driver = Driver::new(output, alloc);
     write_use(&mut driver, resolve, here, before, used);
@@ -428,7 +428,7 @@ fn print_use<'a, O: Output>(
 fn print_group_end<O: Output>(output: &mut O, alloc: Global) -> Result<(), Error>
     ensures ok { OnOk result (Moves O.keeps (O.view output.old) group_end_calls (O.view output.new)) }
     ensures err { OnErr result (Begins O.keeps (O.view output.old) group_end_calls (O.view output.new)) }
-    ensures memory { IsOkUnless result Memory }
+    ensures memory { IfErr result IsMemory }
 {
     let mut driver = Driver::new(output, alloc);
     write_group_end(&mut driver);
@@ -443,7 +443,7 @@ fn print_open_end<'a, O: Output>(
 ) -> Result<(), Error>
     ensures ok { OnOk result (Moves O.keeps (O.view output.old) (open_end_calls (option_map shown_use before.entry)) (O.view output.new)) }
     ensures err { OnErr result (Begins O.keeps (O.view output.old) (open_end_calls (option_map shown_use before.entry)) (O.view output.new)) }
-    ensures memory { IsOkUnless result Memory }
+    ensures memory { IfErr result IsMemory }
 {
     match before {
         Some(_) => print_group_end(output, alloc),
@@ -474,7 +474,7 @@ fn print_listed_use<'a, O: Output>(
     ensures after { IfOk result (λ last. option_map shown_use last
         ≡ use_after (option_map shown_use before.entry) (listed_use resolve.now owner (as_listed listed.entry))) }
     ensures printable { IfOk result (λ last. passes (is_printable_use resolve.now here) last ≡ true) }
-    ensures memory { IsOkUnless result Memory }
+    ensures memory { IfErr result IsMemory }
 {
     let def = &resolve.types[listed.1.0 as usize];
     let used = match use_of(resolve, owner, listed.0, def) {
@@ -509,7 +509,7 @@ pub fn print_uses<'a, O: Output>(
     ensures err { OnErr result (MakesInPart O.view O.keeps output.old (members_calls emits_docs has_printed (uses_of resolve.now here owner types.now))
         output.new) }
     ensures printed { IfOk result (λ b. b ≡ printed_after has_printed (uses_of resolve.now here owner types.now)) }
-    ensures memory { IsOkUnless result Memory }
+    ensures memory { IfErr result IsMemory }
 {
     let _emits_docs = emits_docs;
     let mut last = None;

@@ -149,8 +149,8 @@ fn node_fact(parts: Summary, sort: u8, has_good_labels: bool) -> Fact
 
 /// What is known of the type of a key, from what is known of its parts and its labels.
 fn labelled_fact(facts: &[Fact], key: &Key<'_>, has_good_labels: bool) -> Fact
-    ensures { (trees : (ℕ → Place) → List Tree) → FactsHold facts.now trees → IsShape (length facts.now) (shape_of key.now)
-        → has_good_labels ≡ are_labels_lem (labels_of key.now) → Tells result (λ place. shape_tree place (trees place) (shape_of key.now)) }
+    ensures { (ts : (ℕ → Place) → List Tree) → FactsHold facts.now ts → IsShape (length facts.now) (shape_of key.now)
+        → has_good_labels ≡ are_labels_lem (labels_of key.now) → Tells result (λ p. shape_tree p (ts p) (shape_of key.now)) }
 {
     let sort = key.sort;
     if sort == 0 {

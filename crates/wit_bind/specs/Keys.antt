@@ -1,15 +1,13 @@
 -- The keys under which the encodings of functions are kept (documentation of wit-component's `EncodingMap`; WIT.md, "Package declaration"; Semantic
 -- Versioning 2.0.0).
-use Rattle.std.specs.Prelude.{ℕ, Option, Some, None, option_map}
+use Rattle.std.specs.Prelude.{Option, Some, option_map}
 use Rattle.wit_model.specs.declared.model.Resolve.{Resolve}
-use Rattle.wit_model.specs.declared.model.PackageName.{PackageName}
 use Rattle.wit_model.specs.declared.model.WorldKey.{WorldKey}
 use Rattle.wit_model.specs.declared.model.WorldKey.TheVariants as key
 use Rattle.wit_model.specs.Lookup.{canonical_path}
 use Rattle.wit_model.specs.Text.{Text, text_of}
-use Rattle.wit_model.specs.Names.{PackageIdentity, path_in}
-use Rattle.wit_model.specs.Paths.{full_name}
 pub use Rattle.bind_meaning.specs.Keys.{text_under}
+pub use Rattle.wit_compat.specs.Opened.{bare_identity as unversioned, bare_path as unversioned_path}
 
 -- what stands in front of a function: the label under which its interface, or itself, is imported or exported, or the canonical path of its interface
 abbrev pub scope_of : Resolve → WorldKey → Option Text
@@ -21,14 +19,6 @@ abbrev pub function_key : Resolve → WorldKey → Text → Option Text
 function_key r scope function = option_map (λ text. text_under text function) (scope_of r scope)
 
 -- ---- keys without version, as maps of earlier tools have them
-
--- a package without its version
-abbrev pub unversioned : PackageName → PackageIdentity
-unversioned name = record { namespace = text_of name.namespace; name = text_of name.name; version = None }
-
--- the path of an interface without its version, `namespace:name/interface`, and none where it is inline
-abbrev pub unversioned_path : Resolve → ℕ → Option Text
-unversioned_path r n = option_map (λ e. path_in (unversioned e.0) (text_of e.1)) (full_name r n)
 
 -- what the functions of a key stand under, without version: a label, or an interface's path
 abbrev pub unversioned_scope_of : Resolve → WorldKey → Option Text

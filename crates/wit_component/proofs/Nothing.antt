@@ -13,7 +13,7 @@ use Rattle.comp_meaning.specs.Reads.{exported_types, interface, interfaces_of, m
 use Rattle.wit_component.specs.ReadBack.{DecodedHaveMembers}
 use Rattle.base_lemmas.proofs.Bools.{or_true as either_true}
 use Rattle.base_lemmas.proofs.Options.{some_is}
-use Rattle.plan_meaning.proofs.NumberedMembers.{filled_same as mapped}
+use Rattle.wit_model.proofs.RulesLemmas.{items_of_map as mapped}
 
 -- ---- the preamble alone
 

@@ -21,12 +21,9 @@ use Rattle.encode_types.specs.Formed.{are_values, is_formed}
 use Rattle.base_lemmas.proofs.Bools.{left_of as first_true, right_of as second_true}
 use Rattle.std.proofs.lemmas.Bool.{and_from as both}
 use Rattle.wit_model.proofs.TreeLemmas.{child_list_of_children as children-list}
+use Rattle.wit_model.proofs.RulesLemmas.{items_of_map as filled-map}
 
 -- ---- children
-
-filled-map : {A B : Type 0} (f : A → B) (xs : List A) → is_filled (map f xs) ≡ has_items xs
-filled-map f [] = refl
-filled-map f (x ∷ xs) = refl
 
 filled-twice : {A B C : Type 0} (g : B → C) (f : A → B) (xs : List A) → has_items xs ≡ true → is_filled (map g (map f xs)) ≡ true
 filled-twice g f [] e = e

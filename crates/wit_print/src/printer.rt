@@ -1,15 +1,15 @@
 //! The printer.
 
-ghost use Rattle.std.specs.Prelude.{◌≡◌, ◌<◌, true, false, length, OnOk, OnErr, IsOkUnless};
+ghost use Rattle.std.specs.Prelude.{◌≡◌, ◌<◌, true, false, length, OnOk, OnErr, IfErr};
 ghost use Rattle.std.specs.Iterator.{Drains, IsFinite};
 ghost use Rattle.std.specs.List.{list_all};
-ghost use Rattle.wit_model.specs.declared.error.Error.TheVariants.{Memory};
 ghost use Rattle.wit_model.specs.Text.{text_of};
 ghost use Rattle.wit_model.specs.Names.{is_label, is_version};
 ghost use Rattle.wit_model.specs.Parts.{same_owner};
 ghost use Rattle.wit_model.specs.Rules.{in_list, passes};
 ghost use Rattle.wit_model.specs.Types.{number_of};
 ghost use Rattle.wit_model.specs.Valid.{IsValid};
+ghost use Rattle.wit_model.specs.Refusals.{IsMemory};
 ghost use Rattle.print_items.specs.Shown.{shown_file, shown_head, shown_package, shown_type};
 ghost use Rattle.print_grammar.specs.Calls.{file_calls, package_calls, package_outer_calls, type_calls};
 ghost use Rattle.print_packages.specs.GivenTypes.{are_functions_of, given_with};
@@ -85,7 +85,7 @@ impl<O: Output> WitPrinter<O> {
         ensures ok { OnOk result (Prints O.keeps O.view self.old (file_calls (emits_docs self.old) (shown_file resolve.now id nested.now)) self.new) }
         ensures err { OnErr result (PrintsInPart O.keeps O.view self.old (file_calls (emits_docs self.old) (shown_file resolve.now id nested.now)) self.new) }
         ensures reads { FileReads (emits_docs self.old) (shown_file resolve.now id nested.now) }
-        ensures memory { IsOkUnless result Memory }
+        ensures memory { IfErr result IsMemory }
         ensures docs { emits_docs self.new ≡ emits_docs self.old }
         ensures mark { block_has_printed self.new ≡ block_has_printed self.old }
     {
@@ -108,7 +108,7 @@ impl<O: Output> WitPrinter<O> {
         ensures ok { OnOk result (Prints O.keeps O.view self.old (package_calls (emits_docs self.old) is_main (shown_package resolve.now id)) self.new) }
         ensures err { OnErr result (PrintsInPart O.keeps O.view self.old
             (package_calls (emits_docs self.old) is_main (shown_package resolve.now id)) self.new) }
-        ensures memory { IsOkUnless result Memory }
+        ensures memory { IfErr result IsMemory }
         ensures docs { emits_docs self.new ≡ emits_docs self.old }
         ensures mark { block_has_printed self.new ≡ block_has_printed self.old }
     {
@@ -132,7 +132,7 @@ impl<O: Output> WitPrinter<O> {
         requires version { passes is_version «package».now.name.version ≡ true }
         ensures ok { OnOk result (Prints O.keeps O.view self.old (package_outer_calls (emits_docs self.old) (shown_head «package».now)) self.new) }
         ensures err { OnErr result (PrintsInPart O.keeps O.view self.old (package_outer_calls (emits_docs self.old) (shown_head «package».now)) self.new) }
-        ensures memory { IsOkUnless result Memory }
+        ensures memory { IfErr result IsMemory }
         ensures docs { emits_docs self.new ≡ emits_docs self.old }
         ensures mark { block_has_printed self.new ≡ block_has_printed self.old }
     {
@@ -157,7 +157,7 @@ impl<O: Output> WitPrinter<O> {
         requires name { is_label name.now ≡ true }
         ensures ok { OnOk result (Prints O.keeps O.view self.old (interface_head_calls (emits_docs self.old) resolve.now id name.now) self.new) }
         ensures err { OnErr result (PrintsInPart O.keeps O.view self.old (interface_head_calls (emits_docs self.old) resolve.now id name.now) self.new) }
-        ensures memory { IsOkUnless result Memory }
+        ensures memory { IfErr result IsMemory }
         ensures docs { emits_docs self.new ≡ emits_docs self.old }
         ensures mark { block_has_printed self.new ≡ block_has_printed self.old }
     {
@@ -179,7 +179,7 @@ impl<O: Output> WitPrinter<O> {
         requires in_range { id.0 < length resolve.now.interfaces.items }
         ensures ok { OnOk result (Prints O.keeps O.view self.old (interface_body_calls (emits_docs self.old) resolve.now id) self.new) }
         ensures err { OnErr result (PrintsInPart O.keeps O.view self.old (interface_body_calls (emits_docs self.old) resolve.now id) self.new) }
-        ensures memory { IsOkUnless result Memory }
+        ensures memory { IfErr result IsMemory }
         ensures docs { emits_docs self.new ≡ emits_docs self.old }
         ensures mark { block_has_printed self.new ≡ block_has_printed self.old }
     {
@@ -219,7 +219,7 @@ impl<O: Output> WitPrinter<O> {
         ensures ok { OnOk result (PrintsTypes O.keeps O.view self.old (Drains I.next_gives types) (given_with resolve.now owner functions.now) self.new) }
         ensures err { OnErr result (PrintsTypesInPart O.keeps O.view self.old (Drains I.next_gives types)
             (given_with resolve.now owner functions.now) self.new) }
-        ensures memory { IsOkUnless result Memory }
+        ensures memory { IfErr result IsMemory }
         ensures docs { emits_docs self.new ≡ emits_docs self.old }
     {
         let types = collect_types(alloc, types)?;
@@ -253,7 +253,7 @@ impl<O: Output> WitPrinter<O> {
         requires in_range { passes (in_list resolve.now.types.items) (number_of ty.now) ≡ true }
         ensures ok { OnOk result (Prints O.keeps O.view self.old (type_calls (shown_type resolve.now ty.now)) self.new) }
         ensures err { OnErr result (PrintsInPart O.keeps O.view self.old (type_calls (shown_type resolve.now ty.now)) self.new) }
-        ensures memory { IsOkUnless result Memory }
+        ensures memory { IfErr result IsMemory }
         ensures docs { emits_docs self.new ≡ emits_docs self.old }
         ensures mark { block_has_printed self.new ≡ block_has_printed self.old }
     {

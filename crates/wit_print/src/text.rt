@@ -1,11 +1,11 @@
 //! Packages as text.
 
-ghost use Rattle.std.specs.Prelude.{◌≡◌, ◌<◌, true, length, IfOk, IsOkUnless};
+ghost use Rattle.std.specs.Prelude.{◌≡◌, ◌<◌, true, length, IfOk, IfErr};
 ghost use Rattle.std.specs.List.{list_all};
 ghost use Rattle.std.specs.String.{string_bytes};
-ghost use Rattle.wit_model.specs.declared.error.Error.TheVariants.{Memory};
 ghost use Rattle.wit_model.specs.Rules.{in_list};
 ghost use Rattle.wit_model.specs.Valid.{IsValid};
+ghost use Rattle.wit_model.specs.Refusals.{IsMemory};
 ghost use Rattle.print_grammar.specs.AsRead.{file_as_read};
 ghost use Rattle.print_grammar.specs.Calls.{file_calls};
 ghost use Rattle.print_grammar.specs.Reading.{IsOnlyReading};
@@ -32,7 +32,7 @@ pub fn print_to_string(
     requires nested { list_all (λ other. in_list resolve.now.packages.items other.0) nested.now ≡ true }
     ensures reads { IfOk result (λ text. IsOnlyReading (string_bytes text) (file_as_read (shown_file resolve.now id nested.now))) }
     ensures rendered { IfOk result (λ text. string_bytes text ≡ render (file_calls true (shown_file resolve.now id nested.now))) }
-    ensures memory { IsOkUnless result Memory }
+    ensures memory { IfErr result IsMemory }
 {
     let mut printer = WitPrinter::new(OutputToString::new(alloc));
     printer.print(alloc, resolve, id, nested)?;

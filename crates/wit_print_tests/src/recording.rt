@@ -1,7 +1,7 @@
 //! Outputs that take so many calls, and refuse the next.
 
-ghost use Rattle.std.specs.Prelude.{◌≡◌, OnOk, OnErr, IsOkUnless};
-ghost use Rattle.wit_model.specs.declared.error.Error.TheVariants.{Memory};
+ghost use Rattle.std.specs.Prelude.{◌≡◌, OnOk, OnErr, IfErr};
+ghost use Rattle.wit_model.specs.Refusals.{IsMemory};
 
 use std::alloc::Global;
 use wit_model::Error;
@@ -28,7 +28,7 @@ impl Recording {
     fn record_call(&mut self, call: &'static str, line_begun: bool) -> Result<(), Error>
         ensures ok { OnOk result (self.new.line_begun ≡ line_begun) }
         ensures err { OnErr result (self.new.line_begun ≡ self.old.line_begun) }
-        ensures memory { IsOkUnless result Memory }
+        ensures memory { IfErr result IsMemory }
     {
         if self.calls.len() >= self.room {
             return Err(Error::Memory);
@@ -130,7 +130,7 @@ impl Counting {
     fn count_call(&mut self, line_begun: bool) -> Result<(), Error>
         ensures ok { OnOk result (self.new.line_begun ≡ line_begun) }
         ensures err { OnErr result (self.new.line_begun ≡ self.old.line_begun) }
-        ensures memory { IsOkUnless result Memory }
+        ensures memory { IfErr result IsMemory }
     {
         if self.count >= self.room {
             return Err(Error::Memory);

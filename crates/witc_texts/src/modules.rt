@@ -1,8 +1,9 @@
 //! What core modules bind, as text, and modules without the sections that carry worlds.
 
-ghost use Rattle.std.specs.Prelude.{◌≡◌, ◌<◌, length, IfErr, IfOk, IsOkUnless};
-ghost use Rattle.wit_model.specs.declared.error.Error.TheVariants.{Memory, Size};
+ghost use Rattle.std.specs.Prelude.{◌≡◌, ◌<◌, length, IfErr, IfOk};
+ghost use Rattle.wit_model.specs.declared.error.Error.TheVariants.{Size};
 ghost use Rattle.wit_model.specs.Valid.{IsValid};
+ghost use Rattle.wit_model.specs.Refusals.{IsMemory};
 ghost use Rattle.wit_component.specs.Bound.{RefusesBindings};
 ghost use Rattle.wit_component.specs.Reached.{OutgrowsLists};
 ghost use Rattle.witc_texts.specs.Bindings.{IsWholeText, PrintsModule, other_packages_of};
@@ -31,7 +32,7 @@ fn whole_text(alloc: Global, resolve: &Resolve) -> Result<Vec<u8>, Error>
     requires valid { IsValid resolve.now }
     requires some { 0 < length resolve.now.packages.items }
     ensures text { IfOk result (λ text. IsWholeText resolve.now text.items) }
-    ensures memory { IsOkUnless result Memory }
+    ensures memory { IfErr result IsMemory }
 {
     let others = other_packages(alloc, resolve)?;
     text_of_package(alloc, resolve, PackageId(0), &others)

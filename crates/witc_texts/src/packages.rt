@@ -1,10 +1,10 @@
 //! Packages as text.
 
-ghost use Rattle.std.specs.Prelude.{◌≡◌, ◌<◌, true, length, IfErr, IfOk, IsOkUnless};
+ghost use Rattle.std.specs.Prelude.{◌≡◌, ◌<◌, true, length, IfErr, IfOk};
 ghost use Rattle.std.specs.List.{list_all};
-ghost use Rattle.wit_model.specs.declared.error.Error.TheVariants.{Memory};
 ghost use Rattle.wit_model.specs.Rules.{in_list};
 ghost use Rattle.wit_model.specs.Valid.{IsValid};
+ghost use Rattle.wit_model.specs.Refusals.{IsMemory};
 ghost use Rattle.wit_component.specs.Decoded.{RefusesBytes};
 ghost use Rattle.witc_texts.specs.Printed.{IsTextOf, PrintsBytes};
 
@@ -22,7 +22,7 @@ pub fn text_of_package(
     requires in_range { id.0 < length resolve.now.packages.items }
     requires nested { list_all (λ other. in_list resolve.now.packages.items other.0) nested.now ≡ true }
     ensures text { IfOk result (λ text. IsTextOf resolve.now id nested.now text.items) }
-    ensures memory { IsOkUnless result Memory }
+    ensures memory { IfErr result IsMemory }
 {
     Ok(print_to_string(alloc, resolve, id, nested)?.into_bytes())
 }
