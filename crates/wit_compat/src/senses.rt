@@ -97,12 +97,15 @@ pub struct Senses<'a> {
 impl<'a> Model for Senses<'a> {
     ghost use Rattle.wit_model.specs.contracts.model.Resolve.{the_row};
     ghost use Rattle.wit_compat.specs.Comparison.{Comparison, comparison_code};
+    ghost use Rattle.wit_compat.specs.TwoSides.{AllSame};
 
     ghost Value = { Comparison };
 
     ghost coded = { comparison_code the_row.coded };
 
-    ghost view = { λ s. record { first = s.left.resolve.now; second = s.right.resolve.now; pairs = s.pairs.keys } };
+    ghost view = { λ s. record { first = s.left.resolve.now; second = s.right.resolve.now } };
+
+    ghost invariant = { λ s. AllSame s.left.resolve.now s.right.resolve.now s.pairs.keys };
 }
 
 impl<'a> Senses<'a> {
