@@ -11,7 +11,7 @@ pub use bind_sections::laws::{
 pub use comp_read::laws::one_meaning;
 pub use print_grammar::laws::one_reading;
 pub use wit_bind::laws::roots_are_roots;
-pub use wit_compat::laws::{semver_check_counted, transitive};
+pub use wit_compat::laws::{reflexive, semver_check_counted, transitive};
 pub use wit_encode::laws::{
     equal_lists, exports_end, functions_encode, imports_grow, imports_stand,
     interface_uses_dependencies, names_encode, table_scope_is_of_owner, types_encode,
