@@ -1,8 +1,8 @@
 -- The parts of a component that exports component types, each under its label (Component Model WIT.md, "Package Format").
-use Rattle.std.specs.Prelude.{◌≡◌, ℕ, zero, suc, List, [], ◌∷◌, ◌++◌}
+use Rattle.std.specs.Prelude.{◌≡◌, ◌&&◌, ℕ, zero, suc, Bool, List, [], ◌∷◌, ◌++◌}
 use Rattle.wit_model.specs.Text.{Text}
 use Rattle.comp_bytes.specs.Raw.{Declarations, TopType}
-use Rattle.comp_bytes.specs.Parts.{Part, plain_export, top_slots}
+use Rattle.comp_bytes.specs.Parts.{Part, fits_component, plain_export, top_slots}
 
 -- a component type that takes this type index, and its export
 abbrev pub one_exported : ℕ → Text × Declarations → List Part
@@ -26,6 +26,10 @@ with_type parts ds = parts ++ Part.top_type (TopType.component ds) ∷ []
 -- the parts, with a component type and its export behind them
 abbrev pub with_exported : List Part → Text × Declarations → List Part
 with_exported parts x = parts ++ one_exported (top_slots parts) x
+
+-- whether a component still fits in 32 bits with a component type behind its parts, and with the export of it too
+abbrev pub fits_with_export : List Part → Text × Declarations → Bool
+fits_with_export parts x = fits_component (with_type parts x.1) && fits_component (with_exported parts x)
 
 -- Where a component exported component types, it now exports the same and this one behind them.
 abbrev pub ExportsOneMore : List Part → Text × Declarations → List Part → Type 0

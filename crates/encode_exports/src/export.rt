@@ -1,9 +1,8 @@
 //! Component types and their exports, in components under construction.
 
-ghost use Rattle.std.specs.Prelude.{◌≡◌, ◌⊎◌, ◌&&◌, false, Err, IfErr, OnErr, OnOk};
-ghost use Rattle.comp_bytes.specs.Parts.{fits_component};
+ghost use Rattle.std.specs.Prelude.{◌≡◌, ◌⊎◌, false, Err, IfErr, OnErr, OnOk};
 ghost use Rattle.comp_bytes.specs.Refusal.{IsMemoryOrSize};
-ghost use Rattle.encode_exports.specs.ExportedParts.{with_exported, with_type, ExportsOneMore};
+ghost use Rattle.encode_exports.specs.ExportedParts.{fits_with_export, with_exported, with_type, ExportsOneMore};
 ghost use Rattle.wit_model.specs.declared.error.Error.TheVariants.{Size};
 
 use comp_bytes::{ComponentBuilder, ComponentType};
@@ -21,8 +20,7 @@ pub fn export_component_type(
     ensures ok { OnOk result (builder.new ≡ with_exported builder.old (label.now, component.now)) }
     ensures more { OnOk result (ExportsOneMore builder.old (label.now, component.now) builder.new) }
     ensures err { OnErr result ((builder.new ≡ builder.old) ⊎ (builder.new ≡ with_type builder.old component.now)) }
-    ensures size { result ≡ Err Size
-        → (fits_component (with_type builder.old component.now) && fits_component (with_exported builder.old (label.now, component.now))) ≡ false }
+    ensures size { result ≡ Err Size → fits_with_export builder.old (label.now, component.now) ≡ false }
     ensures refuses { IfErr result IsMemoryOrSize }
 {
     let index = builder.type_component(component)?;
