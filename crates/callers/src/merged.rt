@@ -1,8 +1,8 @@
 //! Worlds and modules bound together, and printed.
 
-ghost use Rattle.std.specs.Prelude.{IfErr, IfOk};
-ghost use Rattle.wit_component.specs.Bindings.{IsBindgen};
+ghost use Rattle.std.specs.Prelude.{◌<◌, length, IfErr, IfOk};
 ghost use Rattle.wit_component.specs.DecodedWorlds.{RefusesWorldBytes};
+ghost use Rattle.wit_component.specs.Valid.{IsValid};
 ghost use Rattle.callers.specs.Merged.{BindsWorld, IsHome, MergesModules, MergesWithRoot, MergesWorlds, PrintsModules, PrintsWithRoot, PrintsWorlds, RefusesModules, RefusesWithRoot, RefusesWorlds};
 
 use crate::texts::text_of;
@@ -44,7 +44,8 @@ pub fn merged_worlds(
 
 /// The package of the world that is bound.
 fn home_of(bound: &Bindgen) -> PackageId
-    requires { IsBindgen bound.now }
+    requires valid { IsValid bound.now.resolve }
+    requires in_range { bound.now.world.0 < length bound.now.resolve.worlds.items }
     ensures { IsHome bound.now result }
 {
     match bound.resolve.worlds[bound.world.0 as usize].package {
@@ -63,8 +64,7 @@ pub fn merged_worlds_text(
     ensures { IfOk result (λ text. PrintsWorlds first.now second.now encoding text.items) }
 {
     let bound = merged_worlds(alloc, first, second, encoding)?;
-    let home = home_of(&bound);
-    text_of(alloc, &bound.resolve, home)
+    text_of(alloc, &bound.resolve, home_of(&bound))
 }
 
 /// What a module binds that carries no world, the empty world `root`, bound together with the world that bytes mean, with one encoding for all its functions.

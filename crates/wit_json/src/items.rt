@@ -2,10 +2,11 @@
 #![tactic(auto, using(crate::proofs::Adding::adding, crate::proofs::Adding::listing))]
 
 ghost use Rattle.std.specs.Prelude.{◌≡◌, ◌∷◌, ◌++◌, [], codes, OnOk};
-ghost use Rattle.json.specs.Token.{key as key_token, string};
+ghost use Rattle.json.specs.Token.{begin_object, key as key_token, string};
 ghost use Rattle.wit_model.specs.Lookup.{key_text};
+ghost use Rattle.wit_model.specs.Text.{text_of};
 ghost use Rattle.wit_json.specs.Adds.{Adds};
-ghost use Rattle.wit_json.specs.Listed.{entry_tokens, item_tokens, listed, member, world_tokens};
+ghost use Rattle.wit_json.specs.Listed.{entry_tokens, home_member, item_tokens, listed, member, world_tokens};
 
 use crate::functions::put_function;
 use crate::values::{begin_list_under, put_external_id, put_home, put_number, put_text};
@@ -81,6 +82,15 @@ fn put_entries(
     w.end_array()
 }
 
+// The beginning of a world: its name and its package.
+fn begin_world(w: &mut Writer<Global>, world: &World) -> Result<(), AllocError>
+    ensures { OnOk result (Adds w.old w.new (begin_object ∷ (member (codes "name") (string (text_of world.now.name)) ++ home_member world.now.«package»))) }
+{
+    w.begin_object()?;
+    put_text(w, "name", &world.name)?;
+    put_home(w, world.package)
+}
+
 /// A world, with its imports and its exports in order.
 #[tactic(auto, using(crate::proofs::Adding::adding), unfolding(crate::specs::Listed::world_tokens))]
 pub(crate) fn put_world(
@@ -91,9 +101,7 @@ pub(crate) fn put_world(
 ) -> Result<(), AllocError>
     ensures { OnOk result (Adds w.old w.new (world_tokens resolve.now world.now)) }
 {
-    w.begin_object()?;
-    put_text(w, "name", &world.name)?;
-    put_home(w, world.package)?;
+    begin_world(w, world)?;
     put_entries(alloc, w, resolve, "imports", &world.imports)?;
     put_entries(alloc, w, resolve, "exports", &world.exports)?;
     w.end_object()

@@ -5,8 +5,11 @@ use Rattle.callers.specs.Printed.{IsTextOf}
 use Rattle.callers.proofs.merged.merged_worlds_text.Goals as goal
 use Rattle.base_lemmas.proofs.Options.{if_ok as if-ok}
 
-pub home_of-requires : goal.home_of-requires
-home_of-requires c = c.in_ok-bound.ensures.merged.bindgen
+pub home_of-requires-clause-valid : goal.home_of-requires-clause-valid
+home_of-requires-clause-valid c = c.in_ok-bound.ensures.merged.bindgen.valid
+
+pub home_of-requires-clause-in_range : goal.home_of-requires-clause-in_range
+home_of-requires-clause-in_range c = c.in_ok-bound.ensures.merged.bindgen.in_range
 
 pub text_of-requires-clause-valid : goal.text_of-requires-clause-valid
 text_of-requires-clause-valid c = c.in_ok-bound.ensures.merged.bindgen.valid
