@@ -43,7 +43,7 @@ extern "C" {
 /* The version of this interface. The name of the shared library ends with it. witc_abi() returns that of the library. */
 #define WITC_ABI 2
 
-/* The statuses. */
+/* The statuses. Names, and the number of an encoding, are looked at before any bytes. */
 #define WITC_DONE 0         /* The call succeeded. The answer is the result. */
 #define WITC_REFUSED 1      /* The bytes, the worlds, or what would come of them, are refused. `why.code` says why, and the answer is a message. */
 #define WITC_BAD_ARGUMENT 2 /* A world, a section or an encoding doesn't exist, or a name isn't UTF-8: `why.code` is 17 to 20. The answer is a message. */

@@ -336,7 +336,7 @@ pub fn kinds(bytes: &[u8]) -> Kinds {
     }
 }
 
-/// Whether the library that is linked is the one this wrapper was written for. Tested by `tests/vectors.rs`; of a static library it is fixed at the link.
+/// Whether the library that is linked is the one this wrapper was written for. Tested by `tests/samples.rs`; of a static library it is fixed at the link.
 pub fn is_abi_met() -> bool {
     // SAFETY: the function takes nothing.
     unsafe { sys::witc_abi() == sys::ABI }

@@ -17,6 +17,11 @@ fn sample(name: &str) -> Vec<u8> {
 }
 
 #[test]
+fn library_has_this_interface() {
+    assert!(witc::is_abi_met());
+}
+
+#[test]
 fn packages_to_text() {
     for name in ["clock", "files", "services"] {
         let package = sample(&format!("packages/{name}.wasm"));

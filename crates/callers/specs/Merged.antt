@@ -1,8 +1,10 @@
 -- Worlds and modules bound together, and their text.
-use Rattle.std.specs.Prelude.{◌≡◌, ◌<◌, ℕ, List, length}
+use Rattle.std.specs.Prelude.{◌≡◌, ◌<◌, ℕ, List, Some, length}
 use Rattle.wit_model.specs.declared.error.Error.{Error}
-use Rattle.wit_model.specs.declared.error.Error.TheVariants.{Memory}
+use Rattle.wit_model.specs.declared.error.Error.TheVariants.{Memory, Size}
+use Rattle.wit_model.specs.declared.model.PackageId.{PackageId}
 use Rattle.wit_model.specs.declared.model.StringEncoding.{StringEncoding}
+use Rattle.wit_model.specs.declared.model.World.{World}
 use Rattle.wit_bind.specs.declared.bindgen.Bindgen.{Bindgen}
 use Rattle.wit_component.specs.Binding.{Binding}
 use Rattle.wit_component.specs.Bindings.{IsBindgen, binding_of}
@@ -10,7 +12,9 @@ use Rattle.wit_component.specs.Bound.{IsBound, RefusesBindings}
 use Rattle.wit_component.specs.Clash.{CanUnite}
 use Rattle.wit_component.specs.DecodedWorlds.{IsDecodedWorld, RefusesWorldBytes}
 use Rattle.wit_component.specs.Functions.{MapsFunctions, exports_of, imports_of}
+use Rattle.wit_component.specs.Lookup.{world_at}
 use Rattle.wit_component.specs.Merges.{IsMergeRefusal}
+use Rattle.wit_component.specs.Reached.{OutgrowsLists}
 use Rattle.wit_component.specs.RootBinding.{root_binding}
 use Rattle.wit_component.specs.Roots.{IsRoot}
 use Rattle.wit_component.specs.Union.{union}
@@ -64,12 +68,27 @@ pub record MergesModules (first second : List ℕ) (b : Bindgen) : Type 0 where
   pub is_union : binding_of b ≡ union own other
   pub some : 0 < length b.resolve.packages.items
 
--- One of the modules is refused, or the two don't merge.
+-- One of the modules is refused, for size only where a list would get too long; or the two don't merge.
 pub data RefusesModules (first second : List ℕ) (error : Error) : Type 0 where
-  no_first : RefusesBindings first error → RefusesModules first second error
-  no_second : RefusesBindings second error → RefusesModules first second error
+  no_first : RefusesBindings first error → (error ≡ Size → OutgrowsLists first) → RefusesModules first second error
+  no_second : RefusesBindings second error → (error ≡ Size → OutgrowsLists second) → RefusesModules first second error
   apart : (own other : Bindgen) → IsBound first (binding_of own) → IsBound second (binding_of other) → IsMergeRefusal own other error
       → RefusesModules first second error
+
+-- The package is the one of the world that is bound.
+pub record IsHome (b : Bindgen) (home : PackageId) : Type 0 where
+  pub world : World
+  pub stands : world_at b.resolve b.world.0 ≡ Some world
+  pub is : world.package ≡ Some home
+  pub in_range : home.0 < length b.resolve.packages.items
+
+-- The text is of the package of the world of the union.
+pub record PrintsWorlds (first second : List ℕ) (e : StringEncoding) (text : List ℕ) : Type 0 where
+  pub bound : Bindgen
+  pub merges : MergesWorlds first second e bound
+  pub home : PackageId
+  pub is_home : IsHome bound home
+  pub is_text : IsTextOf bound.resolve home text
 
 -- The text is of the first package of the union.
 pub record PrintsModules (first second text : List ℕ) : Type 0 where

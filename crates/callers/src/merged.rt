@@ -1,8 +1,9 @@
 //! Worlds and modules bound together, and printed.
 
-ghost use Rattle.std.specs.Prelude.{IfErr, IfOk};
+ghost use Rattle.std.specs.Prelude.{◌<◌, length, IfErr, IfOk};
 ghost use Rattle.wit_component.specs.DecodedWorlds.{RefusesWorldBytes};
-ghost use Rattle.callers.specs.Merged.{BindsWorld, MergesModules, MergesWithRoot, MergesWorlds, PrintsModules, PrintsWithRoot, RefusesModules, RefusesWithRoot, RefusesWorlds};
+ghost use Rattle.wit_component.specs.Valid.{IsValid};
+ghost use Rattle.callers.specs.Merged.{BindsWorld, IsHome, MergesModules, MergesWithRoot, MergesWorlds, PrintsModules, PrintsWithRoot, PrintsWorlds, RefusesModules, RefusesWithRoot, RefusesWorlds};
 
 use crate::texts::text_of;
 use std::alloc::Global;
@@ -39,6 +40,31 @@ pub fn merged_worlds(
     let other = bindings(alloc, second, encoding)?;
     bound.merge(alloc, other)?;
     Ok(bound)
+}
+
+/// The package of the world that is bound.
+fn home_of(bound: &Bindgen) -> PackageId
+    requires valid { IsValid bound.now.resolve }
+    requires in_range { bound.now.world.0 < length bound.now.resolve.worlds.items }
+    ensures { IsHome bound.now result }
+{
+    match bound.resolve.worlds[bound.world.0 as usize].package {
+        Some(home) => home,
+        None => unreachable!(),
+    }
+}
+
+/// The text of the package of the world that two worlds have become.
+pub fn merged_worlds_text(
+    alloc: Global,
+    first: &[u8],
+    second: &[u8],
+    encoding: StringEncoding,
+) -> Result<Vec<u8>, Error>
+    ensures { IfOk result (λ text. PrintsWorlds first.now second.now encoding text.items) }
+{
+    let bound = merged_worlds(alloc, first, second, encoding)?;
+    text_of(alloc, &bound.resolve, home_of(&bound))
 }
 
 /// What a module binds that carries no world, the empty world `root`, bound together with the world that bytes mean, with one encoding for all its functions.

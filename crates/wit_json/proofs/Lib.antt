@@ -1,7 +1,9 @@
--- Tokens added one after another. Serves functions, functions::put_function, functions::put_function_kind, functions::put_functions and 33 more; crates above.
+-- Tokens added one after another. Serves functions, functions::put_function, functions::put_function_kind, functions::put_functions and 32 more; crates above.
 pub mod Adding
 -- Tokens from whose front it can be told what they say. Serves KeysTold, Told.
 pub mod Codes
+-- Parts, and a last token behind them. Serves items::put_world.
+mod Ending
 -- The numbers of a valid `Resolve` are of 32 bits. Serves laws::nothing_else_is_lost.
 pub mod Held
 -- What types are, told from their tokens. Serves Told.

@@ -9,7 +9,8 @@ ghost use Rattle.wit_json.specs.Listed.{function_kind_tokens, function_tokens, i
 
 use crate::kinds::put_typed;
 use crate::values::{
-    put_external_id, put_home, put_only_number, put_optional_text, put_text, put_type_or_null,
+    begin_list_under, put_external_id, put_home, put_only_number, put_optional_text, put_text,
+    put_type_under,
 };
 use json::Writer;
 use std::alloc::{AllocError, Global};
@@ -40,8 +41,7 @@ fn put_kind_under(w: &mut Writer<Global>, kind: FunctionKind) -> Result<(), Allo
 fn put_params(w: &mut Writer<Global>, params: &[Param]) -> Result<(), AllocError>
     ensures { OnOk result (Adds w.old w.new (key (codes "params") ∷ listed param_tokens params.now)) }
 {
-    w.key("params")?;
-    w.begin_array()?;
+    begin_list_under(w, "params")?;
     for param in params.iter() {
         put_typed(w, &param.name, Some(param.ty))?;
     }
@@ -51,8 +51,7 @@ fn put_params(w: &mut Writer<Global>, params: &[Param]) -> Result<(), AllocError
 fn put_result_type(w: &mut Writer<Global>, ty: Option<Type>) -> Result<(), AllocError>
     ensures { OnOk result (Adds w.old w.new (member (codes "result") (type_or_null ty))) }
 {
-    w.key("result")?;
-    put_type_or_null(w, ty)
+    put_type_under(w, "result", ty)
 }
 
 /// A function, with its parameters in order.
@@ -72,8 +71,7 @@ pub(crate) fn put_function(w: &mut Writer<Global>, function: &Function) -> Resul
 fn put_type_numbers(w: &mut Writer<Global>, types: &Map<String, TypeId>) -> Result<(), AllocError>
     ensures { OnOk result (Adds w.old w.new (key (codes "types") ∷ listed (λ id. number_entry id.0) (values types.now))) }
 {
-    w.key("types")?;
-    w.begin_array()?;
+    begin_list_under(w, "types")?;
     for id in types.values() {
         w.u64(id.0 as u64)?;
     }
@@ -86,8 +84,7 @@ fn put_functions(
 ) -> Result<(), AllocError>
     ensures { OnOk result (Adds w.old w.new (key (codes "functions") ∷ listed function_tokens (values functions.now))) }
 {
-    w.key("functions")?;
-    w.begin_array()?;
+    begin_list_under(w, "functions")?;
     for function in functions.values() {
         put_function(w, function)?;
     }

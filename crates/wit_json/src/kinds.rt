@@ -2,11 +2,14 @@
 #![tactic(auto, using(crate::proofs::Adding::adding, crate::proofs::Adding::listing))]
 
 ghost use Rattle.std.specs.Prelude.{◌≡◌, ◌∷◌, [], codes, OnOk, Some};
+ghost use Rattle.json.specs.Token.{begin_array, begin_object, end_array, end_object, key};
 ghost use Rattle.wit_model.specs.Text.{text_of};
 ghost use Rattle.wit_json.specs.Adds.{Adds};
 ghost use Rattle.wit_json.specs.Listed.{handle_object, kind_tokens, list_begun, list_ended, list_within, name_object, number_token, pair_object, sides_object, type_token, typed_object, within};
 
-use crate::values::{put_only_number, put_only_type, put_text, put_type, put_type_or_null};
+use crate::values::{
+    begin_list_under, put_only_number, put_only_type, put_text, put_type, put_type_under,
+};
 use json::Writer;
 use std::alloc::{AllocError, Global};
 use wit_model::{Case, EnumCase, Field, Flag, Handle, Result_, Type, TypeDefKind};
@@ -29,8 +32,7 @@ pub(crate) fn put_typed(
 {
     w.begin_object()?;
     put_text(w, "name", name)?;
-    w.key("type")?;
-    put_type_or_null(w, ty)?;
+    put_type_under(w, "type", ty)?;
     w.end_object()
 }
 
@@ -41,8 +43,7 @@ fn begin_list(w: &mut Writer<Global>, outer: &str, inner: &str) -> Result<(), Al
     w.begin_object()?;
     w.key(outer)?;
     w.begin_object()?;
-    w.key(inner)?;
-    w.begin_array()
+    begin_list_under(w, inner)
 }
 
 fn end_list(w: &mut Writer<Global>) -> Result<(), AllocError>
@@ -125,10 +126,8 @@ fn put_sides(w: &mut Writer<Global>, result_: &Result_) -> Result<(), AllocError
     ensures { OnOk result (Adds w.old w.new (sides_object result_.now)) }
 {
     w.begin_object()?;
-    w.key("ok")?;
-    put_type_or_null(w, result_.ok)?;
-    w.key("err")?;
-    put_type_or_null(w, result_.err)?;
+    put_type_under(w, "ok", result_.ok)?;
+    put_type_under(w, "err", result_.err)?;
     w.end_object()
 }
 
@@ -141,28 +140,37 @@ fn put_result(w: &mut Writer<Global>, result_: &Result_) -> Result<(), AllocErro
     w.end_object()
 }
 
+// An object of one member, which is a list.
+fn begin_pair(w: &mut Writer<Global>, name: &str) -> Result<(), AllocError>
+    ensures { OnOk result (Adds w.old w.new (begin_object ∷ key name.now ∷ begin_array ∷ [])) }
+{
+    w.begin_object()?;
+    begin_list_under(w, name)
+}
+
+fn end_pair(w: &mut Writer<Global>) -> Result<(), AllocError>
+    ensures { OnOk result (Adds w.old w.new (end_array ∷ end_object ∷ [])) }
+{
+    w.end_array()?;
+    w.end_object()
+}
+
 fn put_map(w: &mut Writer<Global>, from: Type, to: Type) -> Result<(), AllocError>
     ensures { OnOk result (Adds w.old w.new (pair_object (codes "map") (type_token from) (type_token to))) }
 {
-    w.begin_object()?;
-    w.key("map")?;
-    w.begin_array()?;
+    begin_pair(w, "map")?;
     put_type(w, from)?;
     put_type(w, to)?;
-    w.end_array()?;
-    w.end_object()
+    end_pair(w)
 }
 
 fn put_fixed_length_list(w: &mut Writer<Global>, ty: Type, length: u32) -> Result<(), AllocError>
     ensures { OnOk result (Adds w.old w.new (pair_object (codes "fixed-length-list") (type_token ty) (number_token length))) }
 {
-    w.begin_object()?;
-    w.key("fixed-length-list")?;
-    w.begin_array()?;
+    begin_pair(w, "fixed-length-list")?;
     put_type(w, ty)?;
     w.u64(length as u64)?;
-    w.end_array()?;
-    w.end_object()
+    end_pair(w)
 }
 
 /// What a type is.

@@ -8,11 +8,19 @@ ghost use Rattle.wit_json.specs.Adds.{Adds};
 ghost use Rattle.wit_json.specs.Listed.{listing_begun, member, number_token, package_listing_tokens, whole_listing, world_listing_tokens};
 ghost use Rattle.wit_json.specs.Spelled.{Spells};
 
-use crate::lists::put_lists;
+use crate::lists::put_each_list;
 use crate::values::put_number;
 use json::Writer;
-use std::alloc::Global;
+use std::alloc::{AllocError, Global};
 use wit_model::{Error, PackageId, Resolve, WorldId};
+
+fn begin(alloc: Global, w: &mut Writer<Global>, resolve: &Resolve) -> Result<(), AllocError>
+    ensures { OnOk result (Adds w.old w.new (listing_begun resolve.now)) }
+{
+    w.begin_object()?;
+    put_number(w, "format", 1)?;
+    put_each_list(alloc, w, resolve)
+}
 
 /// Begins a listing: the number of its format, and the four lists. What it is a listing of follows, and the end of its object. The `Resolve` need not be
 /// valid.
@@ -22,9 +30,7 @@ pub fn begin_listing(alloc: Global, w: &mut Writer<Global>, resolve: &Resolve) -
     ensures ok { OnOk result (Adds w.old w.new (listing_begun resolve.now)) }
     ensures refuses { IfErr result IsMemory }
 {
-    w.begin_object()?;
-    put_number(w, "format", 1)?;
-    put_lists(alloc, w, resolve)
+    Ok(begin(alloc, w, resolve)?)
 }
 
 /// The text of what was written by a writer that began with nothing. Takes one pass over the text, and no memory.
@@ -38,14 +44,26 @@ pub fn text_of_tokens(w: Writer<Global>) -> String
     }
 }
 
+fn put_whole(
+    alloc: Global,
+    w: &mut Writer<Global>,
+    resolve: &Resolve,
+    subject: &str,
+    number: u32,
+) -> Result<(), AllocError>
+    ensures { OnOk result (Adds w.old w.new (whole_listing resolve.now (member subject.now (number_token number)))) }
+{
+    begin(alloc, w, resolve)?;
+    put_number(w, subject, number)?;
+    w.end_object()
+}
+
 fn listing_of(alloc: Global, resolve: &Resolve, subject: &str, number: u32) -> Result<String, Error>
     ensures ok { IfOk result (λ text. Spells (text_of text) (whole_listing resolve.now (member subject.now (number_token number)))) }
     ensures refuses { IfErr result IsMemory }
 {
     let mut w = Writer::new(Vec::new(alloc));
-    begin_listing(alloc, &mut w, resolve)?;
-    put_number(&mut w, subject, number)?;
-    w.end_object()?;
+    put_whole(alloc, &mut w, resolve, subject, number)?;
     Ok(text_of_tokens(w))
 }
 

@@ -8,7 +8,7 @@ ghost use Rattle.wit_model.specs.Lookup.{optional_version_text};
 ghost use Rattle.wit_json.specs.Adds.{Adds};
 ghost use Rattle.wit_json.specs.Listed.{listed, member, number_entry, package_name_tokens, package_tokens, text_or_null};
 
-use crate::values::put_text;
+use crate::values::{begin_list_under, put_text};
 use json::Writer;
 use semver::Version;
 use std::alloc::{AllocError, Global};
@@ -50,8 +50,7 @@ fn put_interface_numbers(
 ) -> Result<(), AllocError>
     ensures { OnOk result (Adds w.old w.new (key (codes "interfaces") ∷ listed (λ id. number_entry id.0) (values interfaces.now))) }
 {
-    w.key("interfaces")?;
-    w.begin_array()?;
+    begin_list_under(w, "interfaces")?;
     for id in interfaces.values() {
         w.u64(id.0 as u64)?;
     }
@@ -64,8 +63,7 @@ fn put_world_numbers(
 ) -> Result<(), AllocError>
     ensures { OnOk result (Adds w.old w.new (key (codes "worlds") ∷ listed (λ id. number_entry id.0) (values worlds.now))) }
 {
-    w.key("worlds")?;
-    w.begin_array()?;
+    begin_list_under(w, "worlds")?;
     for id in worlds.values() {
         w.u64(id.0 as u64)?;
     }

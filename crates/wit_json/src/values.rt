@@ -2,7 +2,7 @@
 #![tactic(auto, using(crate::proofs::Adding::adding))]
 
 ghost use Rattle.std.specs.Prelude.{◌≡◌, ◌∷◌, [], OnOk};
-ghost use Rattle.json.specs.Token.{string};
+ghost use Rattle.json.specs.Token.{begin_array, key as key_token, string};
 ghost use Rattle.wit_model.specs.Text.{optional_text};
 ghost use Rattle.wit_json.specs.Adds.{Adds};
 ghost use Rattle.wit_json.specs.Listed.{external_member, home_member, member, number_token, only, text_or_null, type_or_null, type_token};
@@ -58,6 +58,14 @@ pub fn put_number(w: &mut Writer<Global>, key: &str, n: u32) -> Result<(), Alloc
     w.u64(n as u64)
 }
 
+/// The name of a member whose value is a list, and the beginning of that list.
+pub(crate) fn begin_list_under(w: &mut Writer<Global>, name: &str) -> Result<(), AllocError>
+    ensures { OnOk result (Adds w.old w.new (key_token name.now ∷ begin_array ∷ [])) }
+{
+    w.key(name)?;
+    w.begin_array()
+}
+
 /// The number of the package that something is in, or null.
 pub(crate) fn put_home(w: &mut Writer<Global>, home: Option<PackageId>) -> Result<(), AllocError>
     ensures { OnOk result (Adds w.old w.new (home_member home)) }
@@ -103,6 +111,18 @@ pub(crate) fn put_type_or_null(w: &mut Writer<Global>, ty: Option<Type>) -> Resu
     }
 }
 
+/// A member whose value is a type, or null.
+pub(crate) fn put_type_under(
+    w: &mut Writer<Global>,
+    name: &str,
+    ty: Option<Type>,
+) -> Result<(), AllocError>
+    ensures { OnOk result (Adds w.old w.new (member name.now (type_or_null ty))) }
+{
+    w.key(name)?;
+    put_type_or_null(w, ty)
+}
+
 /// An object whose one member is a number.
 pub(crate) fn put_only_number(w: &mut Writer<Global>, key: &str, n: u32) -> Result<(), AllocError>
     ensures { OnOk result (Adds w.old w.new (only key.now (number_token n))) }
@@ -121,7 +141,6 @@ pub(crate) fn put_only_type(
     ensures { OnOk result (Adds w.old w.new (only key.now (type_or_null ty))) }
 {
     w.begin_object()?;
-    w.key(key)?;
-    put_type_or_null(w, ty)?;
+    put_type_under(w, key, ty)?;
     w.end_object()
 }

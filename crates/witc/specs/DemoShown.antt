@@ -1,8 +1,9 @@
 -- The demo's package as text and as digits.
-use Rattle.std.specs.Prelude.{◌≡◌, ℕ, List, []}
+use Rattle.std.specs.Prelude.{◌≡◌, ℕ, false, List, []}
 use Rattle.wit_model.specs.declared.model.Resolve.{Resolve}
 use Rattle.wit_model.specs.Meant.{Meant}
 use Rattle.comp_meaning.specs.Reads.{Reads}
+use Rattle.wit_component.specs.Packages.{SpellsPackageAt}
 use Rattle.witc.specs.Demo.{demo}
 use Rattle.witc.specs.Hex.{hex_text}
 use Rattle.witc_texts.specs.Printed.{IsTextOf}
@@ -13,8 +14,11 @@ pub record IsDemoText (text : List ℕ) : Type 0 where
   pub means : Meant resolve 0 demo
   pub is_text : IsTextOf resolve (record { 0 = 0 }) [] text
 
--- The digits are of bytes that mean the demo's package.
+-- The digits are of bytes that mean the demo's package, as the first package of such a `Resolve` is encoded: under whole names, each number spelled shortest.
 pub record IsDemoDigits (text : List ℕ) : Type 0 where
+  pub resolve : Resolve
+  pub means : Meant resolve 0 demo
   pub bytes : List ℕ
-  pub means : Reads bytes demo
+  pub reads : Reads bytes demo
+  pub spelled : SpellsPackageAt resolve false 0 bytes
   pub is_text : text ≡ hex_text bytes

@@ -27,7 +27,7 @@ pub fn liken(
     other_name: &str,
 ) -> Result<Alike, Error>
     ensures compared { IfOk result (ComparesTwo bytes.now name.now other.now other_name.now) }
-    ensures refused { IfErr result (RefusesTwo bytes.now other.now) }
+    ensures refused { IfErr result (RefusesTwo bytes.now name.now other.now) }
 {
     let (resolve, id) = decode(alloc, bytes)?;
     let Some(world) = world_of(&resolve, id, name) else {

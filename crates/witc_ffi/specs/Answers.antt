@@ -115,14 +115,23 @@ pub record IsAttached (module_ bytes name : List ℕ) (encoding : ℕ) (canonica
   pub is : encoding_of encoding ≡ Some said
   pub attaches : AttachesWorld module_ bytes name said canonical text
 
+-- The name is UTF-8, the number is of a string encoding, and the bytes, or the package's world of this name, are refused.
+pub record RefusesEmbeddedIn (bytes name : List ℕ) (encoding : ℕ) (canonical : Bool) (e : Error) : Type 0 where
+  pub is_text : is_utf8 name ≡ true
+  pub said : StringEncoding
+  pub is : encoding_of encoding ≡ Some said
+  pub refuses : RefusesEmbedded bytes name canonical e
+
+-- The same; or what would come of the module is refused.
 pub record RefusesAttachedTo (module_ bytes name : List ℕ) (encoding : ℕ) (canonical : Bool) (e : Error) : Type 0 where
+  pub is_text : is_utf8 name ≡ true
   pub said : StringEncoding
   pub is : encoding_of encoding ≡ Some said
   pub refuses : RefusesAttached module_ bytes name said canonical e
 
 -- what an outcome tells of a package, a name and the number of an encoding
 abbrev pub TellsEmbedded : List ℕ → List ℕ → ℕ → Bool → Outcome → Type 0
-TellsEmbedded bytes name encoding canonical = Tells (IsEmbedded bytes name encoding canonical) (RefusesEmbedded bytes name canonical)
+TellsEmbedded bytes name encoding canonical = Tells (IsEmbedded bytes name encoding canonical) (RefusesEmbeddedIn bytes name encoding canonical)
     (LacksPart bytes name encoding)
 
 -- and of a module beside them
@@ -133,7 +142,7 @@ TellsAttached module_ bytes name encoding canonical =
 -- what is answered of a world that is embedded
 abbrev pub AnswersEmbedded : List ℕ → List ℕ → ℕ → ℕ → ℕ → List ℕ → Why → Type 0
 AnswersEmbedded bytes name encoding canonical =
-    Answers (IsEmbedded bytes name encoding (is_asked canonical)) (RefusesEmbedded bytes name (is_asked canonical)) (LacksPart bytes name encoding)
+    Answers (IsEmbedded bytes name encoding (is_asked canonical)) (RefusesEmbeddedIn bytes name encoding (is_asked canonical)) (LacksPart bytes name encoding)
 
 -- what is answered of a module to which a world is attached
 abbrev pub AnswersAttached : List ℕ → List ℕ → List ℕ → ℕ → ℕ → ℕ → List ℕ → Why → Type 0
@@ -166,7 +175,7 @@ pub record AreAlike (bytes name other other_name text : List ℕ) : Type 0 where
 
 -- The names are UTF-8, and the bytes are refused; or the worlds differ in sense, and the first one's name is told.
 pub data RefusesAlike (bytes name other other_name : List ℕ) : Error → Type 0 where
-  refused_alike : (e : Error) → AreTexts name other_name → RefusesTwo bytes other e → RefusesAlike bytes name other other_name e
+  refused_alike : (e : Error) → AreTexts name other_name → RefusesTwo bytes name other e → RefusesAlike bytes name other other_name e
   differ : (told : String Global) → told.bytes.items ≡ name → AreTexts name other_name → ComparesTwo bytes name other other_name alike.Other
       → RefusesAlike bytes name other other_name (errors.Differs told)
 

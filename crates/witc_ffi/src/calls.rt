@@ -111,10 +111,10 @@ pub fn embedded(
 ) -> Result<Outcome, AllocError>
     ensures { IfOk result (TellsEmbedded bytes.now name.now encoding (is_asked canonical)) }
 {
-    match text_of(name) {
-        Some(name) => embedded_name(alloc, bytes, name, encoding, canonical > 0),
-        None => bad(alloc, NOT_UTF8, "the name of a world isn't UTF-8"),
-    }
+    let Some(world) = text_of(name) else {
+        return bad(alloc, NOT_UTF8, "the name of a world isn't UTF-8");
+    };
+    embedded_name(alloc, bytes, world, encoding, canonical > 0)
 }
 
 fn embedded_name(

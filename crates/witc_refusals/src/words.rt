@@ -1,6 +1,7 @@
 //! The messages of refusals.
 
-ghost use Rattle.std.specs.Prelude.{◌≡◌, IfOk};
+ghost use Rattle.std.specs.Fmt.{decimal};
+ghost use Rattle.std.specs.Prelude.{◌≡◌, ◌++◌, IfOk};
 ghost use Rattle.witc_refusals.specs.Messages.{clash_of, message_of, no_reading_of, words_of_cause, words_of_clash};
 
 use std::alloc::{AllocError, Global};
@@ -50,8 +51,10 @@ pub fn message(alloc: Global, error: &Error) -> Result<String, AllocError>
             alloc,
             "an index, a count or a length doesn't fit in 32 bits, so make the input smaller",
         ),
-        Error::CanonicalClash(name) => format!(in alloc;
-            "two imports or two exports have one canonical name, so rename one of them, or encode without canonical names: {name}"
+        Error::CanonicalClash(name) => about(
+            alloc,
+            "two imports or two exports have one canonical name, so rename one of them, or encode without canonical names: ",
+            name,
         ),
         Error::NoReading(cause, offset) => no_reading(alloc, cause_words(*cause), *offset),
         Error::EncodingMissing => String::from_str(
@@ -62,11 +65,17 @@ pub fn message(alloc: Global, error: &Error) -> Result<String, AllocError>
             alloc,
             "the section `wit-component-encoding` is empty, so make the bindings anew by a current tool",
         ),
-        Error::EncodingVersion(byte) => format!(in alloc;
-            "the section `wit-component-encoding` has format {byte}, and format 4 is read"
+        Error::EncodingVersion(byte) => numbered(
+            alloc,
+            "the section `wit-component-encoding` has format ",
+            *byte as usize,
+            ", and format 4 is read",
         ),
-        Error::BadStringEncoding(byte) => format!(in alloc;
-            "no string encoding has the number {byte}: they are 0 for UTF-8, 1 for UTF-16 and 2 for Latin-1 with UTF-16"
+        Error::BadStringEncoding(byte) => numbered(
+            alloc,
+            "no string encoding has the number ",
+            *byte as usize,
+            ": they are 0 for UTF-8, 1 for UTF-16 and 2 for Latin-1 with UTF-16",
         ),
         Error::Historical => String::from_str(
             alloc,
@@ -76,20 +85,39 @@ pub fn message(alloc: Global, error: &Error) -> Result<String, AllocError>
             alloc,
             "the bytes don't begin as a core module does, as those of a component don't",
         ),
-        Error::BadModule(offset) => format!(in alloc;
-            "no section of a core module begins at byte {offset}, so look whether the file is whole"
+        Error::BadModule(offset) => numbered(
+            alloc,
+            "no section of a core module begins at byte ",
+            *offset,
+            ", so look whether the file is whole",
         ),
         Error::Clash(kind, name) => clash(alloc, clash_words(*kind), name),
         Error::OtherPackage => String::from_str(
             alloc,
             "the worlds are of packages with other names, so compare worlds of one package",
         ),
-        Error::TwiceWithoutVersion(name) => format!(in alloc;
-            "a world has two versions of one interface, so it can't be compared: {name}"
+        Error::TwiceWithoutVersion(name) => about(
+            alloc,
+            "a world has two versions of one interface, so it can't be compared: ",
+            name,
         ),
-        Error::Missing(name) => format!(in alloc; "a world lacks {name}"),
-        Error::Differs(name) => format!(in alloc; "two worlds differ in {name}"),
+        Error::Missing(name) => about(alloc, "a world lacks ", name),
+        Error::Differs(name) => about(alloc, "two worlds differ in ", name),
     }
+}
+
+// Words, and the name that they are about.
+fn about(alloc: Global, words: &str, name: &str) -> Result<String, AllocError>
+    ensures { IfOk result (λ m. m.bytes.items ≡ words.now ++ name.now) }
+{
+    format!(in alloc; "{words}{name}")
+}
+
+// A number between words.
+fn numbered(alloc: Global, front: &str, number: usize, behind: &str) -> Result<String, AllocError>
+    ensures { IfOk result (λ m. m.bytes.items ≡ front.now ++ (decimal number ++ behind.now)) }
+{
+    format!(in alloc; "{front}{number}{behind}")
 }
 
 fn no_reading(alloc: Global, cause: &str, offset: usize) -> Result<String, AllocError>

@@ -6,6 +6,7 @@ use Rattle.wit_model.specs.declared.model.Resolve.{Resolve}
 use Rattle.wit_model.specs.declared.model.World.{World}
 use Rattle.wit_component.specs.Compatible.{Accepts, IsRefused}
 use Rattle.wit_component.specs.Decoded.{IsDecoded, RefusesBytes}
+use Rattle.wit_component.specs.Order.{FollowsBytes}
 use Rattle.witc_texts.specs.Named.{world_named}
 use Rattle.witc_texts.specs.declared.comparison.Compared.{Compared}
 use Rattle.witc_texts.specs.declared.comparison.Compared.TheVariants as compared
@@ -28,7 +29,7 @@ pub record ComparesBytes (bytes prev new : List ℕ) (c : Compared) : Type 0 whe
   pub decoded : IsDecoded bytes resolve number
   pub compares : ComparesTo resolve number prev new c
 
--- The bytes are refused, or they mean a package whose worlds of these names are.
+-- The bytes are refused, or they mean a package, in the order in which they show it, whose worlds of these names are.
 pub data RefusesCompared (bytes prev new : List ℕ) : Error → Type 0 where
   undecoded : (e : Error) → RefusesBytes bytes e → RefusesCompared bytes prev new e
-  names : (r : Resolve) (n : ℕ) (e : Error) → IsDecoded bytes r n → RefusesNames r n prev new e → RefusesCompared bytes prev new e
+  names : (r : Resolve) (n : ℕ) (e : Error) → IsDecoded bytes r n → FollowsBytes bytes r → RefusesNames r n prev new e → RefusesCompared bytes prev new e

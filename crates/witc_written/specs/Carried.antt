@@ -1,29 +1,31 @@
 -- Worlds of packages, as sections of modules carry them (wit-component README, "Custom Section Format").
-use Rattle.std.specs.Prelude.{◌≡◌, ◌<◌, ◌++◌, ℕ, Bool, true, List, Option, Some, None, Vec, codes}
+use Rattle.std.specs.Prelude.{◌≡◌, ◌<◌, ◌++◌, ℕ, Bool, true, List, Option, Some, None, Vec, codes, length}
 use Rattle.std.specs.declared.alloc.Global.{Global}
 use Rattle.wit_model.specs.declared.error.Error.{Error}
+use Rattle.wit_model.specs.declared.error.Error.TheVariants as errors
 use Rattle.wit_model.specs.declared.error.Error.TheVariants.{Size}
 use Rattle.wit_model.specs.declared.model.Resolve.{Resolve}
 use Rattle.wit_model.specs.declared.model.StringEncoding.{StringEncoding}
 use Rattle.wit_model.specs.declared.model.WorldId.{WorldId}
-use Rattle.comp_bytes.specs.Refusal.{IsMemoryOrSize}
 use Rattle.comp_bytes.specs.Writing.{framed, name_bytes}
 use Rattle.bind_meaning.specs.Binding.{Binding}
 use Rattle.wit_component.specs.Bound.{IsBound, RefusesBindings}
 use Rattle.wit_component.specs.Carried.{CarriesEncoding, CarriesWorld, MeansWorld}
 use Rattle.wit_component.specs.Decoded.{IsDecoded, RefusesBytes}
+use Rattle.wit_component.specs.Order.{FollowsBytes}
 use Rattle.wit_component.specs.Reached.{OutgrowsLists}
 use Rattle.wit_component.specs.Weight.{world_package_weight}
 use Rattle.wit_component.specs.Packages.{HasNoClashAt, RefusesWorldAt}
 use Rattle.witc_texts.specs.Named.{NamesWorld}
 
--- The bytes mean a package with a world of this name, and the data mean that world by itself, say this encoding, and carry the two as they are encoded, with
--- canonical names or without. Where names are canonical, no two of one component type are equal.
+-- The bytes mean a package with a world of this name, and the data mean that world by itself, say this encoding, and carry the two as they are encoded, in the
+-- order in which the bytes show them, with canonical names or without. Where names are canonical, no two of one component type are equal.
 pub record EmbedsWorld (bytes name : List ℕ) (e : StringEncoding) (canonical : Bool) (data_ : List ℕ) : Type 0 where
   pub resolve : Resolve
   pub number : ℕ
   pub world : WorldId
   pub decoded : IsDecoded bytes resolve number
+  pub order : FollowsBytes bytes resolve
   pub named : NamesWorld resolve number name (Some world)
   pub means : MeansWorld resolve world.0 data_
   pub says : CarriesEncoding e data_
@@ -44,13 +46,27 @@ EmbedsIfThere bytes name e canonical (Some data_) = EmbedsWorld bytes name e can
 -- The bytes mean no package, or one whose world of this name is refused where it is encoded, for size only where it weighs too much.
 pub data RefusesEmbedded (bytes name : List ℕ) (canonical : Bool) : Error → Type 0 where
   unread : (e : Error) → RefusesBytes bytes e → RefusesEmbedded bytes name canonical e
-  unwritten : (r : Resolve) (n : ℕ) (world : WorldId) (e : Error) → IsDecoded bytes r n → NamesWorld r n name (Some world)
+  unwritten : (r : Resolve) (n : ℕ) (world : WorldId) (e : Error) → IsDecoded bytes r n → FollowsBytes bytes r → NamesWorld r n name (Some world)
       → RefusesWorldAt r world.0 canonical e
       → (e ≡ Size → 4294967295 < world_package_weight r world.0) → RefusesEmbedded bytes name canonical e
 
+-- the name of a section that carries a world of this name
+abbrev pub section_name : List ℕ → List ℕ
+section_name name = codes "component-type:" ++ name
+
+-- what is in a custom section: its name, and its data behind it
+abbrev pub section_contents : List ℕ → List ℕ → List ℕ
+section_contents name data_ = name_bytes name ++ data_
+
 -- a module with one more section behind it, of this data, which is called after the world
 abbrev pub with_section : List ℕ → List ℕ → List ℕ → List ℕ
-with_section module_ name data_ = module_ ++ framed 0 (name_bytes (codes "component-type:" ++ name) ++ data_)
+with_section module_ name data_ = module_ ++ framed 0 (section_contents (section_name name) data_)
+
+-- why such a section isn't written: for want of memory, or where the length of what is in it doesn't fit in 32 bits
+abbrev pub RefusesSection : List ℕ → List ℕ → Error → Type 0
+RefusesSection name data_ errors.Memory = Unit {0}
+RefusesSection name data_ errors.Size = 4294967295 < length (section_contents name data_)
+RefusesSection name data_ _ = ⊥
 
 -- The bytes are the module with one more section, which carries the package's world of this name; and they are a module that binds something.
 pub record AttachesWorld (module_ bytes name : List ℕ) (e : StringEncoding) (canonical : Bool) (out : List ℕ) : Type 0 where
@@ -64,10 +80,10 @@ abbrev pub AttachesIfThere : List ℕ → List ℕ → List ℕ → StringEncodi
 AttachesIfThere module_ bytes name e canonical None = HasNoWorld bytes name
 AttachesIfThere module_ bytes name e canonical (Some out) = AttachesWorld module_ bytes name e canonical out.items
 
--- The world is refused; or memory was wanting, or the section would be too long; or what comes of the module is refused, for size only where a list would get
--- too long.
+-- The world is refused; or the section with its data isn't written; or what comes of the module is refused, for size only where a list would get too long.
 pub data RefusesAttached (module_ bytes name : List ℕ) (e : StringEncoding) (canonical : Bool) : Error → Type 0 where
   unembedded : (error : Error) → RefusesEmbedded bytes name canonical error → RefusesAttached module_ bytes name e canonical error
-  unjoined : (error : Error) → IsMemoryOrSize error → RefusesAttached module_ bytes name e canonical error
+  unjoined : (data_ : List ℕ) (error : Error) → EmbedsWorld bytes name e canonical data_ → RefusesSection (section_name name) data_ error
+      → RefusesAttached module_ bytes name e canonical error
   unbound : (data_ : List ℕ) (error : Error) → EmbedsWorld bytes name e canonical data_ → RefusesBindings (with_section module_ name data_) error
       → (error ≡ Size → OutgrowsLists (with_section module_ name data_)) → RefusesAttached module_ bytes name e canonical error

@@ -1,8 +1,7 @@
 //! Worlds of packages, as sections of modules carry them.
 
 ghost use Rattle.std.specs.Prelude.{◌≡◌, IfErr, IfOk};
-ghost use Rattle.comp_bytes.specs.Refusal.{IsMemoryOrSize};
-ghost use Rattle.witc_written.specs.Carried.{AttachesIfThere, EmbedsIfThere, RefusesAttached, RefusesEmbedded, with_section};
+ghost use Rattle.witc_written.specs.Carried.{AttachesIfThere, EmbedsIfThere, RefusesAttached, RefusesEmbedded, RefusesSection, section_name, with_section};
 
 use crate::sections::put_section;
 use std::alloc::Global;
@@ -52,7 +51,7 @@ pub fn attach(
 /// The module with one more section, of this data.
 fn joined(alloc: Global, module: &[u8], name: &str, data: &[u8]) -> Result<Vec<u8>, Error>
     ensures joined { IfOk result (λ out. out.items ≡ with_section «module».now name.now «data».now) }
-    ensures refused { IfErr result IsMemoryOrSize }
+    ensures refused { IfErr result (RefusesSection (section_name name.now) «data».now) }
 {
     let section = format!(in alloc; "component-type:{name}")?;
     let mut out = Vec::from_slice(alloc, module)?;

@@ -1,16 +1,16 @@
 //! Custom sections of core modules.
 
 ghost use Rattle.std.specs.Prelude.{◌≡◌, ◌++◌, IfErr, OnOk};
-ghost use Rattle.comp_bytes.specs.Refusal.{IsMemoryOrSize};
-ghost use Rattle.comp_bytes.specs.Writing.{framed, name_bytes};
+ghost use Rattle.comp_bytes.specs.Writing.{framed};
+ghost use Rattle.witc_written.specs.Carried.{RefusesSection, section_contents};
 
 use std::alloc::Global;
 use wit_component::{Error, write_name, write_u32};
 
 /// Appends a custom section of this name.
 pub fn put_section(out: &mut Vec<u8>, alloc: Global, name: &str, data: &[u8]) -> Result<(), Error>
-    ensures put { OnOk result (out.new.items ≡ out.old.items ++ framed 0 (name_bytes name.now ++ «data».now)) }
-    ensures refused { IfErr result IsMemoryOrSize }
+    ensures put { OnOk result (out.new.items ≡ out.old.items ++ framed 0 (section_contents name.now «data».now)) }
+    ensures refused { IfErr result (RefusesSection name.now «data».now) }
 {
     let mut contents = Vec::new(alloc);
     write_name(&mut contents, name)?;

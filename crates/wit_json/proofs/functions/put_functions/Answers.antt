@@ -3,7 +3,7 @@ use Rattle.std.specs.Map.Iter.{deref}
 use Rattle.std.proofs.lemmas.Map.Iter.{rest_all, rest_more}
 use Rattle.indexmap.specs.IndexMap.{values}
 use Rattle.wit_json.specs.Listed.{function_tokens}
-use Rattle.wit_json.proofs.Adding.{added, adds3, lists_all, lists_more, then_token}
+use Rattle.wit_json.proofs.Adding.{adds2, lists_all, lists_more, then_token}
 use Rattle.wit_json.proofs.functions.put_functions.Goals as goal
 
 pub loop-function-preserved : goal.loop-function-preserved
@@ -16,4 +16,4 @@ pub returns : goal.returns
 returns c =
     let ended = rest_all deref c.loop-function.function-iterator c.next.new.self c.next.result c.in-None.is c.next.ensures.steps in
     let all = lists_all function_tokens (values c.args.functions.now) c.loop-function.function-iterator c.loop-function.invariant ended in
-    then_token _ (adds3 (added c.in_ok-key.ensures) (added c.in_ok-begin_array.ensures) all refl) c.end_array.ensures refl
+    then_token _ (adds2 c.in_ok-begin_list_under.ensures all refl) c.end_array.ensures refl

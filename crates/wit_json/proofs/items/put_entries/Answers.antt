@@ -8,4 +8,4 @@ pub loop-key-preserved : goal.loop-key-preserved
 loop-key-preserved c =
     lists_more (entry_tokens c.args.resolve.now) _ c.loop-key.key-iterator c.next.new.self (c.in-Some.key.now, c.in-Some.item.now) c.loop-key.invariant
     (rest_more deref_pair c.loop-key.key-iterator c.next.new.self c.next.result (c.in-Some.key, c.in-Some.item) c.in-Some.is c.next.ensures.steps)
-    c.in_ok-put_entry.ensures.ok
+    c.in_ok-put_entry.ensures

@@ -10,7 +10,10 @@ returns c =
     let holds = c.in_ok-resolve.ensures.holds in
     let some = holds-world r holds.package_ holds.stands holds.means in
     record {
+      resolve = r;
+      means = holds.means;
       bytes = c.in_ok-bytes.bytes.items;
-      means = (c.in_ok-bytes.ensures.means holds.package_ holds.stands some demo).0 holds.means;
+      spelled = c.in_ok-bytes.ensures.holds;
+      reads = (c.in_ok-bytes.ensures.means holds.package_ holds.stands some demo).0 holds.means;
       is_text = c.in_ok-hex_lines.ensures ∙ ap hex_text c.deref.ensures.value;
     }

@@ -10,7 +10,7 @@ use Rattle.base_lemmas.proofs.Options.{passed}
 pub returns-in_err-resolve-clause-refused : goal.returns-in_err-resolve-clause-refused
 returns-in_err-resolve-clause-refused c =
     let e = c.in_err-resolve.field-0.0 in
-    passed (RefusesTwo c.args.bytes.now c.args.other.now) c.from_residual.result e c.from_residual.ensures.1 (first e c.in_err-resolve.ensures.refuses)
+    passed (RefusesTwo c.args.bytes.now c.args.name.now c.args.other.now) c.from_residual.result e c.from_residual.ensures.1 (first e c.in_err-resolve.ensures.refuses)
 
 pub returns-in_default-clause-compared : goal.returns-in_default-clause-compared
 returns-in_default-clause-compared c =
@@ -19,7 +19,9 @@ returns-in_default-clause-compared c =
 pub returns-in_err-second-clause-refused : goal.returns-in_err-second-clause-refused
 returns-in_err-second-clause-refused c =
     let e = c.in_err-second.field-0.0 in
-    passed (RefusesTwo c.args.bytes.now c.args.other.now) c.from_residual-in_err-second.result e c.from_residual-in_err-second.ensures.1 (second e c.in_err-second.ensures.refuses)
+    passed (RefusesTwo c.args.bytes.now c.args.name.now c.args.other.now) c.from_residual-in_err-second.result e c.from_residual-in_err-second.ensures.1
+    (second c.in_ok-resolve.resolve c.in-Some.world e (record { number = c.in_ok-resolve.id.0; decoded = c.in_ok-resolve.ensures.decoded; named = c.in-Some.ensures })
+    c.in_err-second.ensures.refuses)
 
 pub world_of-requires-2-clause-in_range : goal.world_of-requires-2-clause-in_range
 world_of-requires-2-clause-in_range c =
@@ -35,7 +37,7 @@ returns-in_default-world_of-clause-compared c =
 pub returns-in_err-same_sense-clause-refused : goal.returns-in_err-same_sense-clause-refused
 returns-in_err-same_sense-clause-refused c =
     let e = c.in_err-same_sense.field-0.0 in
-    passed (RefusesTwo c.args.bytes.now c.args.other.now) c.from_residual-in_err-same_sense.result e c.from_residual-in_err-same_sense.ensures.1
+    passed (RefusesTwo c.args.bytes.now c.args.name.now c.args.other.now) c.from_residual-in_err-same_sense.result e c.from_residual-in_err-same_sense.ensures.1
     (first e (memory-refused c.args.bytes.now e c.in_err-same_sense.ensures.refuses))
 
 pub returns-then-branch-clause-compared : goal.returns-then-branch-clause-compared

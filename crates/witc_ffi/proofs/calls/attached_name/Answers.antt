@@ -17,7 +17,7 @@ returns-in-Some c =
     (AttachesIfThere module_ bytes name e canonical) c.attach.result c.of_world.result (λ text is. record { is_text = c.requires; said = e; is = sym c.in-Some.ensures; attaches = is })
     (λ is. no_world c.requires e (sym c.in-Some.ensures) is) c.attach.ensures.attached
     (if-err (RefusesAttached module_ bytes name e canonical) (RefusesAttachedTo module_ bytes name c.args.encoding canonical)
-    (λ error is. record { said = e; is = sym c.in-Some.ensures; refuses = is })
+    (λ error is. record { is_text = c.requires; said = e; is = sym c.in-Some.ensures; refuses = is })
     c.attach.result c.attach.ensures.refused) c.of_world.ensures
 
 pub returns-in-None : goal.returns-in-None

@@ -1,13 +1,12 @@
 use Rattle.witc_refusals.specs.Numbers.{plain_why}
-use Rattle.witc_written.specs.Carried.{RefusesEmbedded}
-use Rattle.witc_ffi.specs.Answers.{IsEmbedded, LacksPart, is_asked, no_name, not_utf8}
+use Rattle.witc_ffi.specs.Answers.{IsEmbedded, LacksPart, RefusesEmbeddedIn, is_asked, no_name, not_utf8}
 use Rattle.witc_ffi.proofs.OutcomeLaws.{of-bad}
 use Rattle.witc_ffi.proofs.calls.embedded.Goals as goal
 
-pub returns-in-None : goal.returns-in-None
-returns-in-None c =
+pub returns-in_default : goal.returns-in_default
+returns-in_default c =
     let bytes = c.args.bytes.now in
     let name = c.args.name.now in
     let canonical = is_asked c.args.canonical in
-    of-bad (IsEmbedded bytes name c.args.encoding canonical) (RefusesEmbedded bytes name canonical) (LacksPart bytes name c.args.encoding) not_utf8 (plain_why 18) c.bad.result
-    (no_name c.in-None.ensures) c.bad.ensures
+    of-bad (IsEmbedded bytes name c.args.encoding canonical) (RefusesEmbeddedIn bytes name c.args.encoding canonical) (LacksPart bytes name c.args.encoding) not_utf8 (plain_why 18) c.bad.result
+    (no_name c.in_default.ensures) c.bad.ensures

@@ -25,4 +25,4 @@ returns-clause-refused c =
     let r = c.in_ok-resolve.resolve in
     let n = c.in_ok-resolve.id.0 in
     if-err (RefusesNames r n c.args.prev.now c.args.new.now) (RefusesCompared c.args.bytes.now c.args.prev.now c.args.new.now)
-    (λ e is. names r n e c.in_ok-resolve.ensures.decoded is) c.compare.result c.compare.ensures.refused
+    (λ e is. names r n e c.in_ok-resolve.ensures.decoded c.in_ok-resolve.ensures.order is) c.compare.result c.compare.ensures.refused

@@ -4,7 +4,7 @@ use Rattle.wit_model.specs.declared.error.Error.TheVariants.{Size}
 use Rattle.wit_component.specs.Bindings.{binding_of}
 use Rattle.wit_component.specs.Bound.{IsBound, RefusesBindings}
 use Rattle.wit_component.specs.Reached.{OutgrowsLists}
-use Rattle.witc_written.specs.Carried.{EmbedsIfThere, RefusesAttached, unbound, unembedded, unjoined, with_section}
+use Rattle.witc_written.specs.Carried.{EmbedsIfThere, RefusesAttached, RefusesSection, section_name, unbound, unembedded, unjoined, with_section}
 use Rattle.witc_written.proofs.carried.attach.Goals as goal
 
 pub returns-in_err-data-clause-refused : goal.returns-in_err-data-clause-refused
@@ -17,7 +17,8 @@ pub returns-in_err-out-clause-refused : goal.returns-in_err-out-clause-refused
 returns-in_err-out-clause-refused c =
     let e = c.in_err-out.field-0.0 in
     passed (RefusesAttached c.args.«module».now c.args.«package».now c.args.name.now c.args.encoding c.args.canonical_names) c.from_residual-in_err-out.result e c.from_residual-in_err-out.ensures.1
-    (unjoined e c.in_err-out.ensures.refused)
+    (unjoined c.in-Some.data.items e (subst (EmbedsIfThere c.args.«package».now c.args.name.now c.args.encoding c.args.canonical_names) c.in-Some.is c.in_ok-data.ensures.embedded)
+    (subst (λ (d : List ℕ). RefusesSection (section_name c.args.name.now) d e) c.deref.ensures.value c.in_err-out.ensures.refused))
 
 pub returns-in_err-_stripped-clause-refused : goal.returns-in_err-_stripped-clause-refused
 returns-in_err-_stripped-clause-refused c =

@@ -24,7 +24,7 @@ pub returns-in_err-data-clause-refused : goal.returns-in_err-data-clause-refused
 returns-in_err-data-clause-refused c =
     let e = c.in_err-data.field-0.0 in
     passed (RefusesEmbedded c.args.bytes.now c.args.name.now c.args.canonical_names) c.from_residual-in_err-data.result e c.from_residual-in_err-data.ensures.1
-    (unwritten c.in_ok-resolve.resolve c.in_ok-resolve.id.0 c.in-Some.world e c.in_ok-resolve.ensures.decoded c.in-Some.ensures c.in_err-data.ensures.refuses
+    (unwritten c.in_ok-resolve.resolve c.in_ok-resolve.id.0 c.in-Some.world e c.in_ok-resolve.ensures.decoded c.in_ok-resolve.ensures.order c.in-Some.ensures c.in_err-data.ensures.refuses
     (λ is. c.in_err-data.ensures.size (ap Err is)))
 
 pub returns-clause-embedded : goal.returns-clause-embedded
@@ -33,6 +33,7 @@ returns-clause-embedded c = record {
   number = c.in_ok-resolve.id.0;
   world = c.in-Some.world;
   decoded = c.in_ok-resolve.ensures.decoded;
+  order = c.in_ok-resolve.ensures.order;
   named = c.in-Some.ensures;
   means = c.in_ok-data.ensures.means;
   says = c.in_ok-data.ensures.encoding;
