@@ -1,6 +1,7 @@
 //! Names, written and read.
 
 use comp_bytes::{read_name, write_name};
+use std::process::Abort;
 use std::test::Fail;
 use wit_model::{Cause, Error};
 
@@ -19,6 +20,11 @@ fn reads_a_name(rt: HostRuntime) {
     assert_eq!(rt; read_name(&BYTES, 1), Ok(("ab", 5)));
 }
 
+fn assert_refused(rt: &impl Abort, bytes: &[u8], cause: Cause, number: usize) {
+    let refused = Err(Error::NoReading(cause, 0));
+    assert_eq!(rt; read_name(bytes, 0), refused, "case {number}");
+}
+
 #[test]
 fn refuses_a_name(rt: HostRuntime) {
     static CASES: [(&[u8], Cause); 5] = [
@@ -29,10 +35,6 @@ fn refuses_a_name(rt: HostRuntime) {
         (&[0x80, 0x80, 0x80, 0x80, 0x10], Cause::BadNumber),
     ];
     for (number, (bytes, cause)) in CASES.iter().enumerate() {
-        assert_eq!(rt;
-            read_name(*bytes, 0),
-            Err(Error::NoReading(*cause, 0)),
-            "case {number}"
-        );
+        assert_refused(&rt, *bytes, *cause, number);
     }
 }

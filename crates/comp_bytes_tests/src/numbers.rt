@@ -64,6 +64,10 @@ fn answer(expected: Expected) -> Result<(u32, usize), Error> {
     }
 }
 
+fn assert_number_read(rt: &impl Abort, bytes: &[u8], expected: Expected, number: usize) {
+    assert_eq!(rt; read_u32(bytes, 0), answer(expected), "case {number}");
+}
+
 #[test]
 fn reads_a_number(rt: HostRuntime) {
     static CASES: [(&[u8], Expected); 7] = [
@@ -85,8 +89,12 @@ fn reads_a_number(rt: HostRuntime) {
         (&[0x81, 0x80], Expected::Refused(Cause::Truncated)),
     ];
     for (number, (bytes, expected)) in CASES.iter().enumerate() {
-        assert_eq!(rt; read_u32(*bytes, 0), answer(*expected), "case {number}");
+        assert_number_read(&rt, *bytes, *expected, number);
     }
+}
+
+fn assert_index_read(rt: &impl Abort, bytes: &[u8], expected: Expected, number: usize) {
+    assert_eq!(rt; read_index(bytes, 0), answer(expected), "case {number}");
 }
 
 #[test]
@@ -102,6 +110,6 @@ fn reads_an_index(rt: HostRuntime) {
         (&[0xc0], Expected::Refused(Cause::Truncated)),
     ];
     for (number, (bytes, expected)) in CASES.iter().enumerate() {
-        assert_eq!(rt; read_index(*bytes, 0), answer(*expected), "case {number}");
+        assert_index_read(&rt, *bytes, *expected, number);
     }
 }

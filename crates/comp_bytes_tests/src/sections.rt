@@ -20,28 +20,46 @@ fn frame_of(section: Option<Section<'static>>) -> Option<Frame> {
     Some((section.id, section.contents, section.start))
 }
 
+// What comes behind the last section.
+fn last_of(refusal: Option<(Cause, usize)>) -> Result<Option<Frame>, Error> {
+    match refusal {
+        Some((cause, offset)) => Err(Error::NoReading(cause, offset)),
+        None => Ok(None),
+    }
+}
+
+fn assert_next(
+    rt: &impl Abort,
+    sections: &mut Sections<'static>,
+    expected: &Result<Option<Frame>, Error>,
+    number: usize,
+) {
+    assert_eq!(rt; &sections.next().map(frame_of), expected, "case {number}");
+}
+
+fn assert_frame(rt: &impl Abort, sections: &mut Sections<'static>, frame: Frame, number: usize) {
+    assert_next(rt, sections, &Ok(Some(frame)), number);
+}
+
+fn assert_last(
+    rt: &impl Abort,
+    sections: &mut Sections<'static>,
+    refusal: Option<(Cause, usize)>,
+    number: usize,
+) {
+    assert_next(rt, sections, &last_of(refusal), number);
+}
+
 // After the last section it answers the same as often as it is asked.
 fn assert_sections(rt: &impl Abort, case: &Case, number: usize) {
     let (bytes, at) = (case.bytes, case.at);
     assert!(rt; at <= bytes.len());
     let mut sections = Sections::new(bytes, at);
     for frame in case.frames {
-        assert_eq!(rt;
-            sections.next().map(frame_of),
-            Ok(Some(*frame)),
-            "case {number}"
-        );
+        assert_frame(rt, &mut sections, *frame, number);
     }
-    let last = match case.refusal {
-        Some((cause, offset)) => Err(Error::NoReading(cause, offset)),
-        None => Ok(None),
-    };
-    assert_eq!(rt; sections.next().map(frame_of), last, "case {number}");
-    assert_eq!(rt;
-        sections.next().map(frame_of),
-        last,
-        "case {number}, once more"
-    );
+    assert_last(rt, &mut sections, case.refusal, number);
+    assert_last(rt, &mut sections, case.refusal, number);
 }
 
 #[test]
@@ -110,6 +128,10 @@ fn sections_in_order(rt: HostRuntime) {
     }
 }
 
+fn assert_name(rt: &impl Abort, contents: &[u8], name: &str, rest: &[u8], number: usize) {
+    assert_eq!(rt; custom_name(contents), Ok((name, rest)), "case {number}");
+}
+
 #[test]
 fn custom_names(rt: HostRuntime) {
     static CASES: [(&[u8], &str, &[u8]); 4] = [
@@ -119,8 +141,13 @@ fn custom_names(rt: HostRuntime) {
         (&[0x81, 0x00, 0x61], "a", &[]),
     ];
     for (number, (contents, name, rest)) in CASES.iter().enumerate() {
-        assert_eq!(rt; custom_name(*contents), Ok((*name, *rest)), "case {number}");
+        assert_name(&rt, *contents, *name, *rest, number);
     }
+}
+
+fn assert_refused(rt: &impl Abort, contents: &[u8], cause: Cause, number: usize) {
+    let refused = Err(Error::NoReading(cause, 0));
+    assert_eq!(rt; custom_name(contents), refused, "case {number}");
 }
 
 #[test]
@@ -132,7 +159,6 @@ fn refused_custom_names(rt: HostRuntime) {
         (&[0x80, 0x80, 0x80, 0x80, 0x10], Cause::BadNumber),
     ];
     for (number, (contents, cause)) in CASES.iter().enumerate() {
-        let refused = Err(Error::NoReading(*cause, 0));
-        assert_eq!(rt; custom_name(*contents), refused, "case {number}");
+        assert_refused(&rt, *contents, *cause, number);
     }
 }
