@@ -12,7 +12,7 @@ use wit_model::Error;
 
 fn assert_bytes(rt: &impl Abort, builder: ComponentBuilder, expected: &[u8]) -> Result<(), Fail> {
     let bytes = builder.finish()?;
-    assert_eq!(rt; bytes.as_slice(), expected);
+    assert!(rt; bytes.as_slice() == expected);
     Ok(())
 }
 
@@ -23,7 +23,7 @@ fn put_type(
     ty: &ComponentType,
     index: u32,
 ) -> Result<(), Fail> {
-    assert_eq!(rt; builder.type_component(ty)?, index);
+    assert!(rt; builder.type_component(ty)? == index);
     Ok(())
 }
 
@@ -34,7 +34,7 @@ fn put_export(
     ty: u32,
     index: u32,
 ) -> Result<(), Fail> {
-    assert_eq!(rt; builder.export(name, ty)?, index);
+    assert!(rt; builder.export(name, ty)? == index);
     Ok(())
 }
 
@@ -180,10 +180,6 @@ fn declared(alloc: Global) -> Result<ComponentType, Error> {
     Ok(component)
 }
 
-fn assert_count(rt: &impl Abort, count: u32, expected: u32) {
-    assert_eq!(rt; count, expected);
-}
-
 // Types, aliases, and imports and exports of types take type indexes.
 #[test]
 fn declarations(rt: HostRuntime) -> Result<(), Fail> {
@@ -196,9 +192,9 @@ fn declarations(rt: HostRuntime) -> Result<(), Fail> {
         0x3a, 0x70, 0x2f, 0x69, 0x40, 0x31, 0x01, 0x02, 0x2e, 0x32, 0x02, 0x01, 0x78, 0x05, 0x00,
     ];
     let alloc = rt.alloc();
-    assert_count(&rt, instance(alloc)?.type_count(), 4);
+    assert!(rt; instance(alloc)?.type_count() == 4);
     let component = declared(alloc)?;
-    assert_count(&rt, component.type_count(), 4);
+    assert!(rt; component.type_count() == 4);
     let mut builder = ComponentBuilder::new(alloc);
     put_type(&rt, &mut builder, &component, 0)?;
     assert_bytes(&rt, builder, &BYTES)

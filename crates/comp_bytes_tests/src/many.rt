@@ -26,6 +26,6 @@ fn byte_count(alloc: Global, component: &ComponentType) -> Result<usize, Error> 
 fn many_declarations(rt: HostRuntime) -> Result<(), Fail> {
     let component = lists(rt.alloc(), 100_000)?;
     let counts = (component.type_count(), byte_count(rt.alloc(), &component)?);
-    assert_eq!(rt; counts, (100_000, 8 + 1 + 3 + 1 + 1 + 3 + 300_000));
+    assert!(rt; counts == (100_000, 8 + 1 + 3 + 1 + 1 + 3 + 300_000));
     Ok(())
 }

@@ -1,5 +1,6 @@
 //! Sections of an input, one after the other, and names of custom sections.
 
+use crate::parts::{assert_case, is_refused};
 use comp_bytes::{Section, Sections, custom_name};
 use std::process::Abort;
 use wit_model::{Cause, Error};
@@ -15,39 +16,22 @@ struct Case {
     refusal: Option<(Cause, usize)>,
 }
 
-fn frame_of(section: Option<Section<'static>>) -> Option<Frame> {
-    let section = section?;
-    Some((section.id, section.contents, section.start))
-}
+/// What the next section is, or why there is none.
+type Next = Result<Option<Section<'static>>, Error>;
 
-// What comes behind the last section.
-fn last_of(refusal: Option<(Cause, usize)>) -> Result<Option<Frame>, Error> {
-    match refusal {
-        Some((cause, offset)) => Err(Error::NoReading(cause, offset)),
-        None => Ok(None),
+fn is_frame(next: Next, frame: Frame) -> bool {
+    match next {
+        Ok(Some(section)) => (section.id, section.contents, section.start) == frame,
+        _ => false,
     }
 }
 
-fn assert_next(
-    rt: &impl Abort,
-    sections: &mut Sections<'static>,
-    expected: &Result<Option<Frame>, Error>,
-    number: usize,
-) {
-    assert_eq!(rt; &sections.next().map(frame_of), expected, "case {number}");
-}
-
-fn assert_frame(rt: &impl Abort, sections: &mut Sections<'static>, frame: Frame, number: usize) {
-    assert_next(rt, sections, &Ok(Some(frame)), number);
-}
-
-fn assert_last(
-    rt: &impl Abort,
-    sections: &mut Sections<'static>,
-    refusal: Option<(Cause, usize)>,
-    number: usize,
-) {
-    assert_next(rt, sections, &last_of(refusal), number);
+fn is_last(next: Next, refusal: Option<(Cause, usize)>) -> bool {
+    match next {
+        Ok(section) => section.is_none() && refusal.is_none(),
+        Err(Error::NoReading(cause, offset)) => refusal == Some((cause, offset)),
+        Err(_) => false,
+    }
 }
 
 // After the last section it answers the same as often as it is asked.
@@ -56,10 +40,10 @@ fn assert_sections(rt: &impl Abort, case: &Case, number: usize) {
     assert!(rt; at <= bytes.len());
     let mut sections = Sections::new(bytes, at);
     for frame in case.frames {
-        assert_frame(rt, &mut sections, *frame, number);
+        assert_case(rt, is_frame(sections.next(), *frame), number);
     }
-    assert_last(rt, &mut sections, case.refusal, number);
-    assert_last(rt, &mut sections, case.refusal, number);
+    assert_case(rt, is_last(sections.next(), case.refusal), number);
+    assert_case(rt, is_last(sections.next(), case.refusal), number);
 }
 
 #[test]
@@ -128,8 +112,11 @@ fn sections_in_order(rt: HostRuntime) {
     }
 }
 
-fn assert_name(rt: &impl Abort, contents: &[u8], name: &str, rest: &[u8], number: usize) {
-    assert_eq!(rt; custom_name(contents), Ok((name, rest)), "case {number}");
+fn is_named(contents: &[u8], name: &str, rest: &[u8]) -> bool {
+    match custom_name(contents) {
+        Ok((found, left)) => found == name && left == rest,
+        Err(_) => false,
+    }
 }
 
 #[test]
@@ -141,13 +128,8 @@ fn custom_names(rt: HostRuntime) {
         (&[0x81, 0x00, 0x61], "a", &[]),
     ];
     for (number, (contents, name, rest)) in CASES.iter().enumerate() {
-        assert_name(&rt, *contents, *name, *rest, number);
+        assert_case(&rt, is_named(*contents, *name, *rest), number);
     }
-}
-
-fn assert_refused(rt: &impl Abort, contents: &[u8], cause: Cause, number: usize) {
-    let refused = Err(Error::NoReading(cause, 0));
-    assert_eq!(rt; custom_name(contents), refused, "case {number}");
 }
 
 #[test]
@@ -159,6 +141,6 @@ fn refused_custom_names(rt: HostRuntime) {
         (&[0x80, 0x80, 0x80, 0x80, 0x10], Cause::BadNumber),
     ];
     for (number, (contents, cause)) in CASES.iter().enumerate() {
-        assert_refused(&rt, *contents, *cause, number);
+        assert_case(&rt, is_refused(custom_name(*contents), *cause), number);
     }
 }
