@@ -165,12 +165,12 @@ struct Outcome {
     state: State,
 }
 
-fn outcome_of(alloc: Global, mut own: Bindgen) -> Result<Outcome, Refusal>
-    requires { IsBindgen own }
+fn outcome_of(alloc: Global, own: &mut Bindgen) -> Result<Outcome, Refusal>
+    requires { IsBindgen own.old }
 {
     let other = other_bindings(alloc)?;
-    let answer = merged(alloc, &mut own, other);
-    let state = state_of(alloc, &own)?;
+    let answer = merged(alloc, own, other);
+    let state = state_of(alloc, own)?;
     Ok(Outcome { answer, state })
 }
 
@@ -213,11 +213,12 @@ fn tried_with(alloc: Global, own: &mut Bindgen, other: Bindgen) -> Result<Outcom
 // Where the answer isn't the one that is wanted, and the merge is made again.
 fn word_of_again(
     alloc: Global,
-    own: Bindgen,
+    own: &mut Bindgen,
     wanted: &Outcome,
     answer: &Result<Summary, Error>,
 ) -> Result<&'static str, Refusal> {
-    let again = outcome_of(alloc, checked(alloc, own)?)?;
+    check_bindings(alloc, own)?;
+    let again = outcome_of(alloc, own)?;
     if !are_same(&again.state, &wanted.state) {
         return Ok("refused, and then another state");
     }
@@ -227,7 +228,7 @@ fn word_of_again(
 
 fn word_of_tried(
     alloc: Global,
-    own: Bindgen,
+    own: &mut Bindgen,
     wanted: &Outcome,
     tried: &Tried,
 ) -> Result<&'static str, Refusal> {
@@ -242,17 +243,28 @@ fn word_of_tried(
     word_of_again(alloc, own, wanted, &found.answer)
 }
 
-fn word_of_wanted(alloc: Global, clashes: bool, wanted: &Outcome) -> Result<&'static str, Refusal> {
-    let mut own = own_bindings(alloc, clashes)?;
-    let tried = tried(alloc, &mut own)?;
+fn word_of_own(alloc: Global, own: &mut Bindgen, wanted: &Outcome) -> Result<&'static str, Refusal>
+    requires { IsBindgen own.old }
+{
+    let tried = tried(alloc, own)?;
     word_of_tried(alloc, own, wanted, &tried)
+}
+
+fn word_of_wanted(alloc: Global, clashes: bool, wanted: &Outcome) -> Result<&'static str, Refusal> {
+    if !is_meant(&wanted.answer, clashes) {
+        return Ok("another answer, where nothing is refused");
+    }
+    let mut own = own_bindings(alloc, clashes)?;
+    word_of_own(alloc, &mut own, wanted)
+}
+
+fn wanted_outcome(alloc: Global, clashes: bool) -> Result<Outcome, Refusal> {
+    let mut own = own_bindings(alloc, clashes)?;
+    outcome_of(alloc, &mut own)
 }
 
 /// The merge that is united, or the one that clashes.
 pub fn word_of_merge(alloc: Global, clashes: bool) -> Result<&'static str, Refusal> {
-    let wanted = outcome_of(alloc, own_bindings(alloc, clashes)?)?;
-    if !is_meant(&wanted.answer, clashes) {
-        return Ok("another answer, where nothing is refused");
-    }
+    let wanted = wanted_outcome(alloc, clashes)?;
     word_of_wanted(alloc, clashes, &wanted)
 }
