@@ -29,7 +29,7 @@ fn sum_of(bytes: &[u8]) -> u64 {
 }
 
 // The offset of what has no reading, and no other answer.
-fn offset_of<T: Copy>(answer: Result<T, Error>) -> Result<u64, Error> {
+fn offset_of<T: Drop>(answer: Result<T, Error>) -> Result<u64, Error> {
     match answer {
         Err(Error::NoReading(_, offset)) => Ok(offset as u64),
         Err(error) => Err(error),
