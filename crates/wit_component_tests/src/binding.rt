@@ -128,15 +128,24 @@ fn metadata_of(alloc: Global, resolve: &Resolve) -> Result<ModuleMetadata, Fail>
     Ok(metadata)
 }
 
+fn assert_all_answers(
+    rt: &impl Abort,
+    alloc: Global,
+    resolve: &Resolve,
+    metadata: &ModuleMetadata,
+) -> Result<(), Fail> {
+    for question in &QUESTIONS {
+        assert_answers(rt, alloc, resolve, metadata, *question)?;
+    }
+    Ok(())
+}
+
 // Paths stand with the compatible version.
 #[test]
 fn keys_as_texts(rt: HostRuntime) -> Result<(), Fail> {
     let resolve = with_world(rt.alloc())?;
     let metadata = metadata_of(rt.alloc(), &resolve)?;
-    for question in &QUESTIONS {
-        assert_answers(&rt, rt.alloc(), &resolve, &metadata, *question)?;
-    }
-    Ok(())
+    assert_all_answers(&rt, rt.alloc(), &resolve, &metadata)
 }
 
 fn assert_empty(rt: &impl Abort, alloc: Global, resolve: &Resolve) -> Result<(), Fail> {
@@ -200,6 +209,19 @@ fn imported_of(
     EncodingMap::from_unversioned(alloc, resolve, WorldId(0), Side::Imports, unversioned)
 }
 
+fn assert_cases(
+    rt: &impl Abort,
+    alloc: Global,
+    map: &EncodingMap,
+    resolve: &Resolve,
+    cases: &[(&'static str, &'static str, bool)],
+) -> Result<(), Fail> {
+    for case in cases {
+        assert_has(rt, alloc, map, resolve, *case)?;
+    }
+    Ok(())
+}
+
 // What a map under keys without version has for a function of the imports is carried over, and no other entry is.
 #[test]
 fn keys_without_version(rt: HostRuntime) -> Result<(), Fail> {
@@ -214,10 +236,7 @@ fn keys_without_version(rt: HostRuntime) -> Result<(), Fail> {
     ];
     let resolve = with_world(rt.alloc())?;
     let map = carried_over(rt.alloc(), &resolve, &ENTRIES)?;
-    for case in &CASES {
-        assert_has(&rt, rt.alloc(), &map, &resolve, *case)?;
-    }
-    Ok(())
+    assert_cases(&rt, rt.alloc(), &map, &resolve, &CASES)
 }
 
 // ---- two versions of an interface
@@ -287,15 +306,21 @@ fn two_versions(alloc: Global) -> Result<Resolve, AllocError> {
     Ok(resolve)
 }
 
-fn assert_none(
+fn checked_versions(alloc: Global) -> Result<Resolve, Fail> {
+    let resolve = two_versions(alloc)?;
+    resolve.check(alloc)?;
+    Ok(resolve)
+}
+
+fn assert_versions(
     rt: &impl Abort,
     alloc: Global,
     map: &EncodingMap,
     resolve: &Resolve,
-    label: &str,
-    name: &str,
+    cases: &[(&'static str, &'static str, bool)],
 ) -> Result<(), Fail> {
-    assert!(rt; answer(alloc, map, resolve, label, name)?.is_none());
+    assert_cases(rt, alloc, map, resolve, cases)?;
+    assert!(rt; answer(alloc, map, resolve, "x", "y")?.is_none());
     Ok(())
 }
 
@@ -311,13 +336,9 @@ fn keys_of_two_versions(rt: HostRuntime) -> Result<(), Fail> {
         ("a:b/c@0.2", "f", true),
         ("a:b/c", "f", false),
     ];
-    let resolve = two_versions(rt.alloc())?;
-    resolve.check(rt.alloc())?;
+    let resolve = checked_versions(rt.alloc())?;
     let map = carried_over(rt.alloc(), &resolve, &ENTRIES)?;
-    for case in &CASES {
-        assert_has(&rt, rt.alloc(), &map, &resolve, *case)?;
-    }
-    assert_none(&rt, rt.alloc(), &map, &resolve, "x", "y")
+    assert_versions(&rt, rt.alloc(), &map, &resolve, &CASES)
 }
 
 // ---- a module that carries no world
@@ -335,13 +356,16 @@ fn is_empty_root(world: &World) -> bool {
     world.name.as_str() == "root" && world.imports.is_empty() && world.exports.is_empty()
 }
 
-#[test]
-fn the_empty_root_world(rt: HostRuntime) -> Result<(), Fail> {
-    let bindings = Bindgen::default(rt.alloc())?;
-    let resolve = &bindings.resolve;
-    let path = path_of_root(rt.alloc(), resolve)?;
+fn assert_root(rt: &impl Abort, alloc: Global, resolve: &Resolve) -> Result<(), Fail> {
+    let path = path_of_root(alloc, resolve)?;
     assert!(rt; path.as_str() == "root:root/root");
     assert!(rt; resolve.packages.len() == 1 && resolve.worlds.len() == 1);
     assert!(rt; resolve.worlds.iter().all(is_empty_root));
     Ok(())
+}
+
+#[test]
+fn the_empty_root_world(rt: HostRuntime) -> Result<(), Fail> {
+    let bindings = Bindgen::default(rt.alloc())?;
+    assert_root(&rt, rt.alloc(), &bindings.resolve)
 }

@@ -2,6 +2,7 @@
 
 use std::alloc::{AllocError, Global};
 use std::hash::{DefaultHasher, Hash, Hasher};
+use std::process::Abort;
 use std::test::Fail;
 use wit_component::{Function, FunctionKind, Param, ParamSignatures, Type, TypeId};
 use wit_encode::key_of;
@@ -36,10 +37,18 @@ fn compared_keys(left: &Function, right: &Function) -> (bool, bool) {
     (one == two, hash_of(&one) == hash_of(&two))
 }
 
+fn compared_with(
+    alloc: Global,
+    left: &Function,
+    right: Signature,
+) -> Result<(bool, bool), AllocError> {
+    let right = function_of(alloc, right)?;
+    Ok(compared_keys(left, &right))
+}
+
 fn compared(alloc: Global, left: Signature, right: Signature) -> Result<(bool, bool), AllocError> {
     let left = function_of(alloc, left)?;
-    let right = function_of(alloc, right)?;
-    Ok(compared_keys(&left, &right))
+    compared_with(alloc, &left, right)
 }
 
 const FREE: FunctionKind = FunctionKind::Freestanding;
@@ -94,10 +103,14 @@ fn are_params_copied(function: &Function) -> Result<bool, AllocError> {
     Ok(params == copy && hash_of(&params) == hash_of(&copy))
 }
 
+fn assert_copied(rt: &impl Abort, function: &Function) -> Result<(), Fail> {
+    assert!(rt; is_key_copied(function)?);
+    assert!(rt; are_params_copied(function)?);
+    Ok(())
+}
+
 #[test]
 fn copies(rt: HostRuntime) -> Result<(), Fail> {
     let function = function_of(rt.alloc(), OF_BYTE)?;
-    assert!(rt; is_key_copied(&function)?);
-    assert!(rt; are_params_copied(&function)?);
-    Ok(())
+    assert_copied(&rt, &function)
 }

@@ -2,12 +2,16 @@
 
 use std::alloc::Global;
 use std::test::Fail;
-use wit_component::{ComponentExternName, Error, extern_name};
+use wit_component::{ComponentExternName, Error, PackageName, extern_name};
 use wit_samples::drafts::package;
 
 fn path_of_c(alloc: Global) -> Result<String, Error> {
     let found = package(alloc, "a", "b")?;
-    Ok(found.name.interface_id(alloc, "c")?)
+    path_in(alloc, &found.name)
+}
+
+fn path_in(alloc: Global, name: &PackageName) -> Result<String, Error> {
+    Ok(name.interface_id(alloc, "c")?)
 }
 
 // The path of an interface in a package that stands by itself.
