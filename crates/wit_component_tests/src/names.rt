@@ -11,7 +11,7 @@ fn path_of_c(alloc: Global) -> Result<String, Error> {
 }
 
 fn path_in(alloc: Global, name: &PackageName) -> Result<String, Error> {
-    Ok(name.interface_id(alloc, "c")?)
+    name.interface_id(alloc, "c")
 }
 
 // The path of an interface in a package that stands by itself.

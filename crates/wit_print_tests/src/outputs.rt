@@ -74,24 +74,33 @@ fn documentation_and_name(rt: HostRuntime) -> Result<(), Fail> {
 }
 
 // `indent_if_needed` answers that the line had just begun.
-fn make_calls(output: &mut OutputToString) -> Result<bool, Error> {
+fn begin_calls(output: &mut OutputToString) -> Result<bool, Error> {
     output.keyword("a")?;
     output.indent_start()?;
     output.push_str("b")?;
     let begun = output.indent_if_needed()?;
+    Ok(begun)
+}
+
+fn make_calls(output: &mut OutputToString) -> Result<bool, Error> {
+    let begun = begin_calls(output)?;
     output.ty("c", TypeKind::Other)?;
     output.generic_args_start()?;
     output.param("d")?;
     output.generic_args_end()?;
     output.semicolon()?;
+    end_calls(output)?;
+    Ok(begun)
+}
+
+fn end_calls(output: &mut OutputToString) -> Result<(), Error> {
     output.doc("e")?;
     output.doc("")?;
     output.case("f")?;
     output.newline()?;
     output.indent_and_print("g")?;
     output.str("h")?;
-    output.indent_end()?;
-    Ok(begun)
+    output.indent_end()
 }
 
 #[test]

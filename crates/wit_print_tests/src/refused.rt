@@ -69,13 +69,31 @@ fn counted(alloc: Global, resolve: &Resolve, room: usize) -> (Result<(), Error>,
     (answer, printer.output.count)
 }
 
+// Whether it is refused, and so many calls were counted.
+fn stops_after(alloc: Global, resolve: &Resolve, room: usize) -> bool
+    requires valid { IsValid resolve.now }
+    requires in_range { 0 < length resolve.now.packages.items }
+{
+    let (answer, count) = counted(alloc, resolve, room);
+    answer == Err(Error::Memory) && count == room
+}
+
+// Whether 57 calls print all.
+fn counts_all(alloc: Global, resolve: &Resolve) -> bool
+    requires valid { IsValid resolve.now }
+    requires in_range { 0 < length resolve.now.packages.items }
+{
+    let (answer, count) = counted(alloc, resolve, 57);
+    answer == Ok(()) && count == 57
+}
+
 fn assert_each_count(rt: &impl Abort, alloc: Global, resolve: &Resolve) -> Result<(), Fail> {
     resolve.check(alloc)?;
     assert!(rt; resolve.packages.len() > 0);
     for room in 0..57usize {
-        assert!(rt; counted(alloc, resolve, room) == (Err(Error::Memory), room));
+        assert!(rt; stops_after(alloc, resolve, room));
     }
-    assert!(rt; counted(alloc, resolve, 57) == (Ok(()), 57));
+    assert!(rt; counts_all(alloc, resolve));
     Ok(())
 }
 
