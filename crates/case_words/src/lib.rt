@@ -6,4 +6,4 @@ mod read_packages;
 mod read_types;
 mod words;
 
-pub use words::{Bad, FromWords, Words};
+pub use words::{Bad, FromWords, Words, meaning_of};

@@ -25,6 +25,15 @@ fn is_hidden(value: char) -> bool {
     matches!(value, '\0'..='\u{1f}' | '\u{7f}'..='\u{9f}' | '\u{2028}' | '\u{2029}')
 }
 
+// A character that no letter stands for behind a backslash.
+fn put_plain(alloc: Global, value: char, line: &mut String) -> Result<(), AllocError> {
+    if !is_hidden(value) {
+        return line.push(value);
+    }
+    let code = u32::from(value);
+    line.push_str(&format!(in alloc; "\\u{{{code:x}}}")?)
+}
+
 fn put_char(alloc: Global, value: char, line: &mut String) -> Result<(), AllocError> {
     match value {
         '"' => line.push_str("\\\""),
@@ -32,14 +41,7 @@ fn put_char(alloc: Global, value: char, line: &mut String) -> Result<(), AllocEr
         '\n' => line.push_str("\\n"),
         '\r' => line.push_str("\\r"),
         '\t' => line.push_str("\\t"),
-        _ => {
-            if is_hidden(value) {
-                let code = u32::from(value);
-                line.push_str(&format!(in alloc; "\\u{{{code:x}}}")?)
-            } else {
-                line.push(value)
-            }
-        }
+        _ => put_plain(alloc, value, line),
     }
 }
 

@@ -1,6 +1,6 @@
 //! Types and functions, and what belongs to them, from words.
 
-use crate::words::{Bad, FromWords, Words};
+use crate::words::{Bad, FromWords, Words, meaning_of};
 use semver::Version;
 use wit_model::{
     Case, Docs, Enum, EnumCase, Field, Flag, Flags, Function, FunctionKind, Handle, InterfaceId,
@@ -76,24 +76,28 @@ impl FromWords for Stability {
     }
 }
 
+static PRIMITIVES: [(&[u8], Type); 14] = [
+    (b"bool", Type::Bool),
+    (b"u8", Type::U8),
+    (b"u16", Type::U16),
+    (b"u32", Type::U32),
+    (b"u64", Type::U64),
+    (b"s8", Type::S8),
+    (b"s16", Type::S16),
+    (b"s32", Type::S32),
+    (b"s64", Type::S64),
+    (b"f32", Type::F32),
+    (b"f64", Type::F64),
+    (b"char", Type::Char),
+    (b"string", Type::String),
+    (b"error-context", Type::ErrorContext),
+];
+
 // A primitive's word, or a type's number.
 fn type_of(words: &mut Words<'_>, word: &[u8]) -> Type {
-    match word {
-        b"bool" => Type::Bool,
-        b"u8" => Type::U8,
-        b"u16" => Type::U16,
-        b"u32" => Type::U32,
-        b"u64" => Type::U64,
-        b"s8" => Type::S8,
-        b"s16" => Type::S16,
-        b"s32" => Type::S32,
-        b"s64" => Type::S64,
-        b"f32" => Type::F32,
-        b"f64" => Type::F64,
-        b"char" => Type::Char,
-        b"string" => Type::String,
-        b"error-context" => Type::ErrorContext,
-        _ => Type::Id(TypeId(words.number_of(word))),
+    match meaning_of(&PRIMITIVES, word) {
+        Some(ty) => ty,
+        None => Type::Id(TypeId(words.number_of(word))),
     }
 }
 
@@ -158,30 +162,45 @@ impl FromWords for EnumCase {
     }
 }
 
-// The kinds that are lists.
-fn members(words: &mut Words<'_>, word: &[u8]) -> TypeDefKind {
-    match word {
-        b"record" => TypeDefKind::Record(Record {
-            fields: words.list(),
-        }),
-        b"flags" => TypeDefKind::Flags(Flags {
-            flags: words.list(),
-        }),
-        b"variant" => TypeDefKind::Variant(Variant {
-            cases: words.list(),
-        }),
-        b"enum" => TypeDefKind::Enum(Enum {
-            cases: words.list(),
-        }),
-        b"tuple" => TypeDefKind::Tuple(Tuple {
-            types: words.list(),
-        }),
-        _ => {
-            words.fail(Bad::Form);
-            TypeDefKind::Resource
-        }
-    }
+/// What a word says of a kind.
+#[derive(Clone, Copy)]
+enum Kind {
+    Resource,
+    Own,
+    Borrow,
+    Option,
+    List,
+    Alias,
+    Future,
+    Stream,
+    Result,
+    Map,
+    Fixed,
+    Record,
+    Flags,
+    Variant,
+    Enum,
+    Tuple,
 }
+
+static KINDS: [(&[u8], Kind); 16] = [
+    (b"resource", Kind::Resource),
+    (b"own", Kind::Own),
+    (b"borrow", Kind::Borrow),
+    (b"option", Kind::Option),
+    (b"list", Kind::List),
+    (b"alias", Kind::Alias),
+    (b"future", Kind::Future),
+    (b"stream", Kind::Stream),
+    (b"result", Kind::Result),
+    (b"map", Kind::Map),
+    (b"fixed", Kind::Fixed),
+    (b"record", Kind::Record),
+    (b"flags", Kind::Flags),
+    (b"variant", Kind::Variant),
+    (b"enum", Kind::Enum),
+    (b"tuple", Kind::Tuple),
+];
 
 fn result(words: &mut Words<'_>) -> TypeDefKind {
     TypeDefKind::Result(Result_ {
@@ -190,22 +209,46 @@ fn result(words: &mut Words<'_>) -> TypeDefKind {
     })
 }
 
+fn kind_of(words: &mut Words<'_>, kind: Kind) -> TypeDefKind {
+    match kind {
+        Kind::Resource => TypeDefKind::Resource,
+        Kind::Own => TypeDefKind::Handle(Handle::Own(words.read())),
+        Kind::Borrow => TypeDefKind::Handle(Handle::Borrow(words.read())),
+        Kind::Option => TypeDefKind::Option(words.read()),
+        Kind::List => TypeDefKind::List(words.read()),
+        Kind::Alias => TypeDefKind::Type_(words.read()),
+        Kind::Future => TypeDefKind::Future(optional_type(words)),
+        Kind::Stream => TypeDefKind::Stream(optional_type(words)),
+        Kind::Result => result(words),
+        Kind::Map => TypeDefKind::Map(words.read(), words.read()),
+        Kind::Fixed => TypeDefKind::FixedLengthList(words.read(), words.number()),
+        Kind::Record => TypeDefKind::Record(Record {
+            fields: words.list(),
+        }),
+        Kind::Flags => TypeDefKind::Flags(Flags {
+            flags: words.list(),
+        }),
+        Kind::Variant => TypeDefKind::Variant(Variant {
+            cases: words.list(),
+        }),
+        Kind::Enum => TypeDefKind::Enum(Enum {
+            cases: words.list(),
+        }),
+        Kind::Tuple => TypeDefKind::Tuple(Tuple {
+            types: words.list(),
+        }),
+    }
+}
+
 /// A word and what belongs to it.
 impl FromWords for TypeDefKind {
     fn from_words(words: &mut Words<'_>) -> TypeDefKind {
-        match words.word() {
-            b"resource" => TypeDefKind::Resource,
-            b"own" => TypeDefKind::Handle(Handle::Own(words.read())),
-            b"borrow" => TypeDefKind::Handle(Handle::Borrow(words.read())),
-            b"option" => TypeDefKind::Option(words.read()),
-            b"list" => TypeDefKind::List(words.read()),
-            b"alias" => TypeDefKind::Type_(words.read()),
-            b"future" => TypeDefKind::Future(optional_type(words)),
-            b"stream" => TypeDefKind::Stream(optional_type(words)),
-            b"result" => result(words),
-            b"map" => TypeDefKind::Map(words.read(), words.read()),
-            b"fixed" => TypeDefKind::FixedLengthList(words.read(), words.number()),
-            word => members(words, word),
+        match meaning_of(&KINDS, words.word()) {
+            Some(kind) => kind_of(words, kind),
+            None => {
+                words.fail(Bad::Form);
+                TypeDefKind::Resource
+            }
         }
     }
 }
@@ -251,15 +294,23 @@ impl FromWords for FunctionKind {
         match words.word() {
             b"f" => FunctionKind::Freestanding,
             b"fa" => FunctionKind::AsyncFreestanding,
-            b"m" => FunctionKind::Method(words.read()),
-            b"ma" => FunctionKind::AsyncMethod(words.read()),
-            b"s" => FunctionKind::Static(words.read()),
-            b"sa" => FunctionKind::AsyncStatic(words.read()),
-            b"c" => FunctionKind::Constructor(words.read()),
-            _ => {
-                words.fail(Bad::Form);
-                FunctionKind::Freestanding
-            }
+            word => member_kind(words, word),
+        }
+    }
+}
+
+// The kind of a function of a resource.
+fn member_kind(words: &mut Words<'_>, word: &[u8]) -> FunctionKind {
+    let id = words.read();
+    match word {
+        b"m" => FunctionKind::Method(id),
+        b"ma" => FunctionKind::AsyncMethod(id),
+        b"s" => FunctionKind::Static(id),
+        b"sa" => FunctionKind::AsyncStatic(id),
+        b"c" => FunctionKind::Constructor(id),
+        _ => {
+            words.fail(Bad::Form);
+            FunctionKind::Freestanding
         }
     }
 }

@@ -157,17 +157,20 @@ impl<'a> Words<'a> {
 
     // ---- bytes and texts
 
-    fn bytes_of(&mut self, word: &[u8]) -> Vec<u8> {
-        let mut bytes = Vec::new(self.alloc);
-        let Some((b'.', digits)) = word.split_first() else {
-            self.fail(Bad::Form);
-            return bytes;
-        };
+    fn put_digits(&mut self, digits: &[u8], bytes: &mut Vec<u8>) {
         for pair in digits.chunks(2) {
             match byte_of(pair) {
-                Some(byte) => self.put(&mut bytes, byte),
+                Some(byte) => self.put(bytes, byte),
                 None => self.fail(Bad::Form),
             }
+        }
+    }
+
+    fn bytes_of(&mut self, word: &[u8]) -> Vec<u8> {
+        let mut bytes = Vec::new(self.alloc);
+        match word.split_first() {
+            Some((b'.', digits)) => self.put_digits(digits, &mut bytes),
+            _ => self.fail(Bad::Form),
         }
         bytes
     }
@@ -273,13 +276,17 @@ impl<'a> Words<'a> {
         T::from_words(self)
     }
 
+    fn put_entry<T: FromWords + Drop>(&mut self, list: &mut Vec<T>) {
+        if list.push(T::from_words(self)).is_err() {
+            self.fail(Bad::Memory);
+        }
+    }
+
     /// A count, and so many entries.
     pub fn list<T: FromWords + Drop>(&mut self) -> Vec<T> {
         let mut list = Vec::new(self.alloc);
         for _ in 0..self.number() {
-            if list.push(T::from_words(self)).is_err() {
-                self.fail(Bad::Memory);
-            }
+            self.put_entry(&mut list);
             if self.bad.is_some() {
                 break;
             }
@@ -287,21 +294,37 @@ impl<'a> Words<'a> {
         list
     }
 
+    fn put_pair<K: FromWords + Eq + Hash + Drop, V: FromWords + Drop>(
+        &mut self,
+        map: &mut Map<K, V>,
+    ) {
+        let key = K::from_words(self);
+        if map.insert(key, V::from_words(self)).is_err() {
+            self.fail(Bad::Memory);
+        }
+    }
+
     /// A count, and so many keys with their values.
     pub fn map<K: FromWords + Eq + Hash + Drop, V: FromWords + Drop>(&mut self) -> Map<K, V> {
         let mut map = Map::new(self.alloc);
         for _ in 0..self.number() {
-            let key = K::from_words(self);
-            let value = V::from_words(self);
-            if map.insert(key, value).is_err() {
-                self.fail(Bad::Memory);
-            }
+            self.put_pair(&mut map);
             if self.bad.is_some() {
                 break;
             }
         }
         map
     }
+}
+
+/// What a word stands for, by a table.
+pub fn meaning_of<T: Copy>(table: &[(&[u8], T)], word: &[u8]) -> Option<T> {
+    for (name, meaning) in table {
+        if *name == word {
+            return Some(*meaning);
+        }
+    }
+    None
 }
 
 fn put_char(alloc: Global, value: char, bytes: &mut Vec<u8>) -> Result<(), AllocError> {

@@ -12,7 +12,29 @@ use wit_model::Error;
 
 fn assert_bytes(rt: &impl Abort, builder: ComponentBuilder, expected: &[u8]) -> Result<(), Fail> {
     let bytes = builder.finish()?;
-    assert_eq!(rt; bytes.as_slice(), expected);
+    assert!(rt; bytes.as_slice() == expected);
+    Ok(())
+}
+
+// Each type and each export takes the next index.
+fn put_type(
+    rt: &impl Abort,
+    builder: &mut ComponentBuilder,
+    ty: &ComponentType,
+    index: u32,
+) -> Result<(), Fail> {
+    assert!(rt; builder.type_component(ty)? == index);
+    Ok(())
+}
+
+fn put_export(
+    rt: &impl Abort,
+    builder: &mut ComponentBuilder,
+    name: &'static str,
+    ty: u32,
+    index: u32,
+) -> Result<(), Fail> {
+    assert!(rt; builder.export(name, ty)? == index);
     Ok(())
 }
 
@@ -57,10 +79,13 @@ fn world(alloc: Global) -> Result<ComponentType, Error> {
     Ok(world)
 }
 
+fn put_world(alloc: Global, wrapper: &mut ComponentType) -> Result<(), Error> {
+    wrapper.component(&world(alloc)?)
+}
+
 fn wrapper(alloc: Global) -> Result<ComponentType, Error> {
     let mut wrapper = ComponentType::new(alloc);
-    let world = world(alloc)?;
-    wrapper.component(&world)?;
+    put_world(alloc, &mut wrapper)?;
     export(&mut wrapper, "a:b/foo", ComponentTypeRef::Component(0))?;
     Ok(wrapper)
 }
@@ -75,14 +100,26 @@ fn a_world(rt: HostRuntime) -> Result<(), Fail> {
         0x62, 0x2f, 0x66, 0x6f, 0x6f, 0x04, 0x00, 0x0b, 0x09, 0x01, 0x00, 0x03, 0x66, 0x6f, 0x6f,
         0x03, 0x00, 0x00,
     ];
-    let wrapper = wrapper(rt.alloc())?;
     let mut builder = ComponentBuilder::new(rt.alloc());
-    assert_eq!(rt; builder.type_component(&wrapper)?, 0);
-    assert_eq!(rt; builder.export("foo", 0)?, 1);
+    put_type(&rt, &mut builder, &wrapper(rt.alloc())?, 0)?;
+    put_export(&rt, &mut builder, "foo", 0, 1)?;
     assert_bytes(&rt, builder, &BYTES)
 }
 
 // ---- sections
+
+fn put_neighbours(
+    rt: &impl Abort,
+    alloc: Global,
+    builder: &mut ComponentBuilder,
+) -> Result<(), Fail> {
+    put_type(rt, builder, &ComponentType::new(alloc), 0)?;
+    put_type(rt, builder, &ComponentType::new(alloc), 1)?;
+    put_export(rt, builder, "a", 0, 2)?;
+    put_export(rt, builder, "b", 1, 3)?;
+    builder.custom_section("n", &[0x04, 0x00])?;
+    put_export(rt, builder, "c", 1, 4)
+}
 
 // Two types share a section, and so do two exports. A custom section ends the section before it.
 #[test]
@@ -92,14 +129,8 @@ fn neighbours(rt: HostRuntime) -> Result<(), Fail> {
         0x0b, 0x0d, 0x02, 0x00, 0x01, 0x61, 0x03, 0x00, 0x00, 0x00, 0x01, 0x62, 0x03, 0x01, 0x00,
         0x00, 0x04, 0x01, 0x6e, 0x04, 0x00, 0x0b, 0x07, 0x01, 0x00, 0x01, 0x63, 0x03, 0x01, 0x00,
     ];
-    let nothing = ComponentType::new(rt.alloc());
     let mut builder = ComponentBuilder::new(rt.alloc());
-    assert_eq!(rt; builder.type_component(&nothing)?, 0);
-    assert_eq!(rt; builder.type_component(&nothing)?, 1);
-    assert_eq!(rt; builder.export("a", 0)?, 2);
-    assert_eq!(rt; builder.export("b", 1)?, 3);
-    builder.custom_section("n", &[0x04, 0x00])?;
-    assert_eq!(rt; builder.export("c", 1)?, 4);
+    put_neighbours(&rt, rt.alloc(), &mut builder)?;
     assert_bytes(&rt, builder, &BYTES)
 }
 
@@ -161,10 +192,10 @@ fn declarations(rt: HostRuntime) -> Result<(), Fail> {
         0x3a, 0x70, 0x2f, 0x69, 0x40, 0x31, 0x01, 0x02, 0x2e, 0x32, 0x02, 0x01, 0x78, 0x05, 0x00,
     ];
     let alloc = rt.alloc();
-    assert_eq!(rt; instance(alloc)?.type_count(), 4);
+    assert!(rt; instance(alloc)?.type_count() == 4);
     let component = declared(alloc)?;
-    assert_eq!(rt; component.type_count(), 4);
+    assert!(rt; component.type_count() == 4);
     let mut builder = ComponentBuilder::new(alloc);
-    builder.type_component(&component)?;
+    put_type(&rt, &mut builder, &component, 0)?;
     assert_bytes(&rt, builder, &BYTES)
 }

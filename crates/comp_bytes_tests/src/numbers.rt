@@ -1,8 +1,8 @@
 //! Numbers and indexes, written and read.
 
+use crate::parts::{assert_case, is_refused};
 use comp_bytes::{read_index, read_u32, write_index, write_u32};
 use std::alloc::Global;
-use std::process::Abort;
 use std::test::Fail;
 use wit_model::{Cause, Error};
 
@@ -18,14 +18,10 @@ fn index(alloc: Global, index: u32) -> Result<Vec<u8>, Error> {
     Ok(out)
 }
 
-fn assert_number(rt: &impl Abort, alloc: Global, n: u32, bytes: &[u8]) -> Result<(), Fail> {
-    assert_eq!(rt; number(alloc, n)?.as_slice(), bytes, "the number {n}");
-    Ok(())
-}
-
-fn assert_index(rt: &impl Abort, alloc: Global, n: u32, bytes: &[u8]) -> Result<(), Fail> {
-    assert_eq!(rt; index(alloc, n)?.as_slice(), bytes, "the index {n}");
-    Ok(())
+fn is_written(alloc: Global, n: u32, bytes: &[u8], index_bytes: &[u8]) -> Result<bool, Error> {
+    let number = number(alloc, n)?;
+    let index = index(alloc, n)?;
+    Ok(number.as_slice() == bytes && index.as_slice() == index_bytes)
 }
 
 // Each number, its bytes, and those of the index.
@@ -43,9 +39,8 @@ fn writes_the_shortest(rt: HostRuntime) -> Result<(), Fail> {
             &[0xff, 0xff, 0xff, 0xff, 0x0f],
         ),
     ];
-    for (n, number, index) in &CASES {
-        assert_number(&rt, rt.alloc(), *n, *number)?;
-        assert_index(&rt, rt.alloc(), *n, *index)?;
+    for (case, (n, number, index)) in CASES.iter().enumerate() {
+        assert_case(&rt, is_written(rt.alloc(), *n, *number, *index)?, case);
     }
     Ok(())
 }
@@ -57,11 +52,15 @@ enum Expected {
     Refused(Cause),
 }
 
-fn answer(expected: Expected) -> Result<(u32, usize), Error> {
+fn is_expected(found: Result<(u32, usize), Error>, expected: Expected) -> bool {
     match expected {
-        Expected::Number(number, end) => Ok((number, end)),
-        Expected::Refused(cause) => Err(Error::NoReading(cause, 0)),
+        Expected::Number(number, end) => is_number(found, number, end),
+        Expected::Refused(cause) => is_refused(found, cause),
     }
+}
+
+fn is_number(found: Result<(u32, usize), Error>, number: u32, end: usize) -> bool {
+    matches!(found, Ok((found, at)) if found == number && at == end)
 }
 
 #[test]
@@ -85,7 +84,7 @@ fn reads_a_number(rt: HostRuntime) {
         (&[0x81, 0x80], Expected::Refused(Cause::Truncated)),
     ];
     for (number, (bytes, expected)) in CASES.iter().enumerate() {
-        assert_eq!(rt; read_u32(*bytes, 0), answer(*expected), "case {number}");
+        assert_case(&rt, is_expected(read_u32(*bytes, 0), *expected), number);
     }
 }
 
@@ -102,6 +101,6 @@ fn reads_an_index(rt: HostRuntime) {
         (&[0xc0], Expected::Refused(Cause::Truncated)),
     ];
     for (number, (bytes, expected)) in CASES.iter().enumerate() {
-        assert_eq!(rt; read_index(*bytes, 0), answer(*expected), "case {number}");
+        assert_case(&rt, is_expected(read_index(*bytes, 0), *expected), number);
     }
 }

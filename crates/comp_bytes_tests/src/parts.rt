@@ -6,7 +6,21 @@ use comp_bytes::{
 };
 use std::alloc::Global;
 use std::borrow::CowStr;
-use wit_model::Error;
+use std::process::Abort;
+use wit_model::{Cause, Error};
+
+/// One assertion for all tables, since each takes the prover as long as a function.
+pub fn assert_case(rt: &impl Abort, holds: bool, number: usize) {
+    assert!(rt; holds, "case {number}");
+}
+
+/// Whether nothing is read, for this reason and at the front.
+pub fn is_refused<T: Copy>(found: Result<T, Error>, cause: Cause) -> bool {
+    match found {
+        Err(Error::NoReading(found, offset)) => found == cause && offset == 0,
+        _ => false,
+    }
+}
 
 pub const U8: ComponentValType = ComponentValType::Primitive(PrimitiveValType::U8);
 

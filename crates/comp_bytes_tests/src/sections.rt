@@ -1,5 +1,6 @@
 //! Sections of an input, one after the other, and names of custom sections.
 
+use crate::parts::{assert_case, is_refused};
 use comp_bytes::{Section, Sections, custom_name};
 use std::process::Abort;
 use wit_model::{Cause, Error};
@@ -15,9 +16,22 @@ struct Case {
     refusal: Option<(Cause, usize)>,
 }
 
-fn frame_of(section: Option<Section<'static>>) -> Option<Frame> {
-    let section = section?;
-    Some((section.id, section.contents, section.start))
+/// What the next section is, or why there is none.
+type Next = Result<Option<Section<'static>>, Error>;
+
+fn is_frame(next: Next, frame: Frame) -> bool {
+    match next {
+        Ok(Some(section)) => (section.id, section.contents, section.start) == frame,
+        _ => false,
+    }
+}
+
+fn is_last(next: Next, refusal: Option<(Cause, usize)>) -> bool {
+    match next {
+        Ok(section) => section.is_none() && refusal.is_none(),
+        Err(Error::NoReading(cause, offset)) => refusal == Some((cause, offset)),
+        Err(_) => false,
+    }
 }
 
 // After the last section it answers the same as often as it is asked.
@@ -26,22 +40,10 @@ fn assert_sections(rt: &impl Abort, case: &Case, number: usize) {
     assert!(rt; at <= bytes.len());
     let mut sections = Sections::new(bytes, at);
     for frame in case.frames {
-        assert_eq!(rt;
-            sections.next().map(frame_of),
-            Ok(Some(*frame)),
-            "case {number}"
-        );
+        assert_case(rt, is_frame(sections.next(), *frame), number);
     }
-    let last = match case.refusal {
-        Some((cause, offset)) => Err(Error::NoReading(cause, offset)),
-        None => Ok(None),
-    };
-    assert_eq!(rt; sections.next().map(frame_of), last, "case {number}");
-    assert_eq!(rt;
-        sections.next().map(frame_of),
-        last,
-        "case {number}, once more"
-    );
+    assert_case(rt, is_last(sections.next(), case.refusal), number);
+    assert_case(rt, is_last(sections.next(), case.refusal), number);
 }
 
 #[test]
@@ -110,6 +112,13 @@ fn sections_in_order(rt: HostRuntime) {
     }
 }
 
+fn is_named(contents: &[u8], name: &str, rest: &[u8]) -> bool {
+    match custom_name(contents) {
+        Ok((found, left)) => found == name && left == rest,
+        Err(_) => false,
+    }
+}
+
 #[test]
 fn custom_names(rt: HostRuntime) {
     static CASES: [(&[u8], &str, &[u8]); 4] = [
@@ -119,7 +128,7 @@ fn custom_names(rt: HostRuntime) {
         (&[0x81, 0x00, 0x61], "a", &[]),
     ];
     for (number, (contents, name, rest)) in CASES.iter().enumerate() {
-        assert_eq!(rt; custom_name(*contents), Ok((*name, *rest)), "case {number}");
+        assert_case(&rt, is_named(*contents, *name, *rest), number);
     }
 }
 
@@ -132,7 +141,6 @@ fn refused_custom_names(rt: HostRuntime) {
         (&[0x80, 0x80, 0x80, 0x80, 0x10], Cause::BadNumber),
     ];
     for (number, (contents, cause)) in CASES.iter().enumerate() {
-        let refused = Err(Error::NoReading(*cause, 0));
-        assert_eq!(rt; custom_name(*contents), refused, "case {number}");
+        assert_case(&rt, is_refused(custom_name(*contents), *cause), number);
     }
 }

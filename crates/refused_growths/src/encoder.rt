@@ -54,10 +54,22 @@ pub fn word_of_encoder(
     Ok(word_of(first, again, third))
 }
 
-fn slot_of(answer: &Result<ComponentValType, Error>) -> Option<u32> {
+/// What is kept of what the encoder answers.
+#[derive(Clone, Copy, PartialEq, Eq)]
+enum Answer {
+    Slot(u32),
+    /// A value without a slot.
+    Other,
+    Memory,
+    Refused,
+}
+
+fn kept(answer: Result<ComponentValType, Error>) -> Answer {
     match answer {
-        Ok(ComponentValType::Type_(slot)) => Some(*slot),
-        _ => None,
+        Ok(ComponentValType::Type_(slot)) => Answer::Slot(slot),
+        Ok(_) => Answer::Other,
+        Err(Error::Memory) => Answer::Memory,
+        Err(_) => Answer::Refused,
     }
 }
 
@@ -66,19 +78,20 @@ fn word_of(
     again: Result<ComponentValType, Error>,
     third: Result<ComponentValType, Error>,
 ) -> &'static str {
-    if slot_of(&first).is_some() {
-        return "done";
-    }
+    word_of_kept(kept(first), kept(again), kept(third))
+}
+
+fn word_of_kept(first: Answer, again: Answer, third: Answer) -> &'static str {
     match first {
-        Ok(_) => "another value",
-        Err(Error::Memory) => {
-            let slot = slot_of(&again);
-            if slot.is_some() && slot == slot_of(&third) {
+        Answer::Slot(_) => "done",
+        Answer::Other => "another value",
+        Answer::Memory => {
+            if matches!(again, Answer::Slot(_)) && again == third {
                 "memory"
             } else {
                 "memory, and then something else"
             }
         }
-        Err(_) => "another refusal",
+        Answer::Refused => "another refusal",
     }
 }

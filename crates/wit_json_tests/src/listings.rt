@@ -53,25 +53,30 @@ const OTHER_KINDS: &str = "{\"format\":1,\
     {\"name\":null,\"kind\":{\"stream\":\"u8\"},\"owner\":null,\"external-id\":null}],\
     \"package\":0}";
 
+static TYPES: [Type; 8] = [
+    Type::S8,
+    Type::S16,
+    Type::S32,
+    Type::S64,
+    Type::U8,
+    Type::U16,
+    Type::U64,
+    Type::F64,
+];
+
+fn add_others(alloc: Global, resolve: &mut Resolve) -> Result<(), AllocError> {
+    add_unnamed(resolve, TypeDefKind::Map(Type::String, Type::Char))?;
+    add_unnamed(resolve, TypeDefKind::FixedLengthList(Type::F32, 7))?;
+    add_unnamed(resolve, result_of(None, Some(Type::ErrorContext)))?;
+    add_unnamed(resolve, tuple_of(alloc, &TYPES)?)?;
+    add_unnamed(resolve, variant_of(alloc, &["none"], None)?)?;
+    add_unnamed(resolve, TypeDefKind::Stream(Some(Type::U8)))
+}
+
 // Types 0 to 5, which `each_kind` lacks.
 fn other_kinds(alloc: Global) -> Result<Resolve, AllocError> {
     let mut resolve = draft(alloc)?;
-    add_unnamed(&mut resolve, TypeDefKind::Map(Type::String, Type::Char))?;
-    add_unnamed(&mut resolve, TypeDefKind::FixedLengthList(Type::F32, 7))?;
-    add_unnamed(&mut resolve, result_of(None, Some(Type::ErrorContext)))?;
-    let types = [
-        Type::S8,
-        Type::S16,
-        Type::S32,
-        Type::S64,
-        Type::U8,
-        Type::U16,
-        Type::U64,
-        Type::F64,
-    ];
-    add_unnamed(&mut resolve, tuple_of(alloc, &types)?)?;
-    add_unnamed(&mut resolve, variant_of(alloc, &["none"], None)?)?;
-    add_unnamed(&mut resolve, TypeDefKind::Stream(Some(Type::U8)))?;
+    add_others(alloc, &mut resolve)?;
     Ok(resolve)
 }
 

@@ -4,8 +4,8 @@ use std::alloc::{AllocError, Global};
 use std::test::Fail;
 use wit_json::world_listing;
 use wit_model::{
-    FunctionKind, InterfaceId, Resolve, Stability, Type, TypeDef, TypeDefKind, TypeId, TypeOwner,
-    WorldId, WorldItem, WorldKey,
+    Function, FunctionKind, InterfaceId, Resolve, Stability, Type, TypeDef, TypeDefKind, TypeId,
+    TypeOwner, WorldId, WorldItem, WorldKey,
 };
 use wit_samples::drafts::{
     NO_DOCS, add_package, add_type, add_unnamed, draft, export, function, import, import_under,
@@ -56,13 +56,18 @@ fn add_members(alloc: Global, resolve: &mut Resolve) -> Result<(), AllocError> {
     put_function(alloc, resolve, 0, "[constructor]r", constructor)
 }
 
+fn f(alloc: Global) -> Result<Function, AllocError> {
+    let id = String::from_str(alloc, "\"\\\n")?;
+    let kind = FunctionKind::AsyncFreestanding;
+    let mut f = function(alloc, "f", kind, Type::String, None)?;
+    f.external_id = Some(id);
+    Ok(f)
+}
+
 fn add_items(alloc: Global, resolve: &mut Resolve) -> Result<(), AllocError> {
     import_under(resolve, WorldKey::Interface(InterfaceId(0)), shown(0))?;
     import(alloc, resolve, "k", shown(0))?;
-    let kind = FunctionKind::AsyncFreestanding;
-    let mut f = function(alloc, "f", kind, Type::String, None)?;
-    f.external_id = Some(String::from_str(alloc, "\"\\\n")?);
-    import(alloc, resolve, "f", WorldItem::Function(f))?;
+    import(alloc, resolve, "f", WorldItem::Function(f(alloc)?))?;
     import(alloc, resolve, "t", WorldItem::Type_ { id: TypeId(1) })?;
     let g = nullary(alloc, "g", FunctionKind::Freestanding, Some(Type::U8))?;
     export(alloc, resolve, "g", WorldItem::Function(g))
@@ -71,11 +76,15 @@ fn add_items(alloc: Global, resolve: &mut Resolve) -> Result<(), AllocError> {
 pub(super) fn a_world(alloc: Global) -> Result<Resolve, AllocError> {
     let mut resolve = draft(alloc)?;
     set_version(&mut resolve, 0, 1, 2, 3);
-    add_package(alloc, &mut resolve, "c", "d")?;
-    add_types(alloc, &mut resolve)?;
-    add_members(alloc, &mut resolve)?;
-    add_items(alloc, &mut resolve)?;
+    add_all(alloc, &mut resolve)?;
     Ok(resolve)
+}
+
+fn add_all(alloc: Global, resolve: &mut Resolve) -> Result<(), AllocError> {
+    add_package(alloc, resolve, "c", "d")?;
+    add_types(alloc, resolve)?;
+    add_members(alloc, resolve)?;
+    add_items(alloc, resolve)
 }
 
 // Paths have their versions, and texts are escaped.

@@ -6,7 +6,7 @@ use std::alloc::Global;
 use std::process::Abort;
 use std::test::Fail;
 use wit_check::Check;
-use wit_model::{Error, PackageId};
+use wit_model::{Error, PackageId, Resolve};
 use wit_print::WitPrinter;
 use wit_samples::samples::host_and_guest;
 
@@ -25,23 +25,27 @@ fn is_end(call: Option<&Call>) -> bool {
     matches!(call, Some(Call::IndentEnd))
 }
 
-fn listed(rt: &impl Abort, alloc: Global) -> Result<CallList, Fail> {
-    let resolve = host_and_guest(alloc)?;
+fn listed(rt: &impl Abort, alloc: Global, resolve: &Resolve) -> Result<CallList, Fail> {
     resolve.check(alloc)?;
     assert!(rt; resolve.packages.len() == 1);
     let mut printer = WitPrinter::new(CallList::new(alloc));
-    printer.print(alloc, &resolve, PackageId(0), &[])?;
+    printer.print(alloc, resolve, PackageId(0), &[])?;
     Ok(printer.output)
+}
+
+fn assert_rendered(rt: &impl Abort, list: &CallList, expected: &str) -> Result<(), Fail> {
+    let text = list.render()?;
+    assert_eq!(rt; text.as_str(), expected);
+    Ok(())
 }
 
 #[test]
 fn listed_and_rendered(rt: HostRuntime) -> Result<(), Fail> {
-    let list = listed(&rt, rt.alloc())?;
-    assert_eq!(rt; list.calls.len(), 29);
-    assert!(rt; is_word(list.calls.first(), "package"));
-    assert!(rt; is_end(list.calls.last()));
-    assert_eq!(rt; list.render()?.as_str(), TEXT);
-    Ok(())
+    let resolve = host_and_guest(rt.alloc())?;
+    let list = listed(&rt, rt.alloc(), &resolve)?;
+    assert!(rt; list.calls.len() == 29);
+    assert!(rt; is_word(list.calls.first(), "package") && is_end(list.calls.last()));
+    assert_rendered(&rt, &list, TEXT)
 }
 
 fn some_calls(list: &mut CallList) -> Result<bool, Error> {
@@ -58,7 +62,6 @@ fn some_calls(list: &mut CallList) -> Result<bool, Error> {
 fn calls_by_hand(rt: HostRuntime) -> Result<(), Fail> {
     let mut list = CallList::new(rt.alloc());
     assert!(rt; some_calls(&mut list)?);
-    assert_eq!(rt; list.calls.len(), 5);
-    assert_eq!(rt; list.render()?.as_str(), "a {\nb  c");
-    Ok(())
+    assert!(rt; list.calls.len() == 5);
+    assert_rendered(&rt, &list, "a {\nb  c")
 }

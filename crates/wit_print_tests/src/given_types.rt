@@ -113,27 +113,43 @@ fn print_given<O: Output>(
     Ok(())
 }
 
+fn add_types(alloc: Global, resolve: &mut Resolve) -> Result<(), AllocError> {
+    add_interface(alloc, resolve, "k")?;
+    add_type(alloc, resolve, "t", TypeDefKind::Type_(Type::U8))?;
+    add_type_of(alloc, resolve, 1, "t", alias_of(0))?;
+    add_type_of(alloc, resolve, 1, "x", alias_of(1))?;
+    add_type_of(alloc, resolve, 1, "r", TypeDefKind::Resource)
+}
+
 // Interface `k` uses a type of `i`, and has a name for it and a resource.
 fn two_interfaces(alloc: Global) -> Result<Resolve, AllocError> {
     let mut resolve = draft(alloc)?;
-    add_interface(alloc, &mut resolve, "k")?;
-    add_type(alloc, &mut resolve, "t", TypeDefKind::Type_(Type::U8))?;
-    add_type_of(alloc, &mut resolve, 1, "t", alias_of(0))?;
-    add_type_of(alloc, &mut resolve, 1, "x", alias_of(1))?;
-    add_type_of(alloc, &mut resolve, 1, "r", TypeDefKind::Resource)?;
+    add_types(alloc, &mut resolve)?;
     Ok(resolve)
+}
+
+fn print_twice<O: Output>(
+    rt: &impl Abort,
+    alloc: Global,
+    printer: &mut WitPrinter<O>,
+    resolve: &Resolve,
+) -> Result<(), Fail> {
+    print_given(
+        rt,
+        alloc,
+        printer,
+        resolve,
+        &[("x", TypeId(2)), ("t", TypeId(1))],
+    )?;
+    print_given(rt, alloc, printer, resolve, &[("r", TypeId(3))])
 }
 
 // The second call goes on in the block of the first.
 #[test]
 fn two_calls_of_one_printer(rt: HostRuntime) -> Result<(), Fail> {
-    let alloc = rt.alloc();
-    let resolve = two_interfaces(alloc)?;
-    let mut printer = WitPrinter::new(OutputToString::new(alloc));
-    let first = [("x", TypeId(2)), ("t", TypeId(1))];
-    print_given(&rt, alloc, &mut printer, &resolve, &first)?;
-    let second = [("r", TypeId(3))];
-    print_given(&rt, alloc, &mut printer, &resolve, &second)?;
+    let resolve = two_interfaces(rt.alloc())?;
+    let mut printer = WitPrinter::new(OutputToString::new(rt.alloc()));
+    print_twice(&rt, rt.alloc(), &mut printer, &resolve)?;
     let text = String::from(printer.output);
     assert_eq!(rt; text.as_str(), "use i.{t};\n\ntype x = t;\n\nresource r;\n");
     Ok(())

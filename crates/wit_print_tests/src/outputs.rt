@@ -23,12 +23,12 @@ fn has_version(version: &Option<Version>) -> bool
 
 // Package `a:b@1.0.0-rc.1` with documentation.
 fn documented(alloc: Global) -> Result<Package, Fail> {
+    let contents = Some(String::from_str(alloc, "one\n\nthree")?);
     let name = PackageName {
         namespace: String::from_str(alloc, "a")?,
         name: String::from_str(alloc, "b")?,
         version: Some(Version::parse(alloc, "1.0.0-rc.1")?),
     };
-    let contents = Some(String::from_str(alloc, "one\n\nthree")?);
     Ok(Package {
         name,
         docs: Docs { contents },
@@ -37,59 +37,78 @@ fn documented(alloc: Global) -> Result<Package, Fail> {
     })
 }
 
-fn outer_text(rt: &impl Abort, alloc: Global, emits_docs: bool) -> Result<String, Fail> {
-    let package = documented(alloc)?;
+fn outer_text(
+    rt: &impl Abort,
+    alloc: Global,
+    package: &Package,
+    emits_docs: bool,
+) -> Result<String, Fail> {
     assert!(rt; is_label(&package.name.namespace));
     assert!(rt; is_label(&package.name.name));
     assert!(rt; has_version(&package.name.version));
     let mut printer = WitPrinter::new(OutputToString::new(alloc));
     printer.emit_docs(emits_docs);
-    printer.print_package_outer(alloc, &package)?;
+    printer.print_package_outer(alloc, package)?;
     Ok(String::from(printer.output))
+}
+
+fn assert_text(rt: &impl Abort, text: String, expected: &str) {
+    assert_eq!(rt; text.as_str(), expected);
+}
+
+fn assert_outer(rt: &impl Abort, alloc: Global, package: &Package) -> Result<(), Fail> {
+    static CASES: [(bool, &str); 2] = [
+        (true, "/// one\n///\n/// three\npackage a:b@1.0.0-rc.1"),
+        (false, "package a:b@1.0.0-rc.1"),
+    ];
+    for (emits_docs, expected) in &CASES {
+        assert_text(rt, outer_text(rt, alloc, package, *emits_docs)?, *expected);
+    }
+    Ok(())
 }
 
 #[test]
 fn documentation_and_name(rt: HostRuntime) -> Result<(), Fail> {
-    let with_docs = outer_text(&rt, rt.alloc(), true)?;
-    assert_eq!(rt;
-        with_docs.as_str(),
-        "/// one\n///\n/// three\npackage a:b@1.0.0-rc.1"
-    );
-    let without_docs = outer_text(&rt, rt.alloc(), false)?;
-    assert_eq!(rt; without_docs.as_str(), "package a:b@1.0.0-rc.1");
-    Ok(())
+    let package = documented(rt.alloc())?;
+    assert_outer(&rt, rt.alloc(), &package)
 }
 
 // `indent_if_needed` answers that the line had just begun.
-fn make_calls(output: &mut OutputToString) -> Result<bool, Error> {
+fn begin_calls(output: &mut OutputToString) -> Result<bool, Error> {
     output.keyword("a")?;
     output.indent_start()?;
     output.push_str("b")?;
     let begun = output.indent_if_needed()?;
+    Ok(begun)
+}
+
+fn make_calls(output: &mut OutputToString) -> Result<bool, Error> {
+    let begun = begin_calls(output)?;
     output.ty("c", TypeKind::Other)?;
     output.generic_args_start()?;
     output.param("d")?;
     output.generic_args_end()?;
     output.semicolon()?;
+    end_calls(output)?;
+    Ok(begun)
+}
+
+fn end_calls(output: &mut OutputToString) -> Result<(), Error> {
     output.doc("e")?;
     output.doc("")?;
     output.case("f")?;
     output.newline()?;
     output.indent_and_print("g")?;
     output.str("h")?;
-    output.indent_end()?;
-    Ok(begun)
+    output.indent_end()
 }
 
 #[test]
 fn an_output_to_a_string(rt: HostRuntime) -> Result<(), Fail> {
-    let alloc = rt.alloc();
-    let mut output = OutputToString::new(alloc);
-    assert!(rt; make_calls(&mut output)?);
     let expected = "a {\nb  c<d>;\n  /// e\n  ///\n  f\n  gh}\n";
-    let shown = format!(in alloc; "{output}")?;
-    assert_eq!(rt; shown.as_str(), expected);
-    let text = String::from(output);
-    assert_eq!(rt; text.as_str(), expected);
+    let mut output = OutputToString::new(rt.alloc());
+    assert!(rt; make_calls(&mut output)?);
+    assert_text(&rt, format!(in rt.alloc(); "{output}")?, expected);
+    assert_text(&rt, String::from(output), expected);
     Ok(())
 }

@@ -1,7 +1,7 @@
 //! The packages that are printed.
 
 use std::alloc::{AllocError, Global};
-use wit_model::{Docs, Resolve, Stability, Type, TypeDefKind};
+use wit_model::{Docs, Interface, Resolve, Stability, Type, TypeDefKind};
 use wit_samples::drafts::{add_function, add_type, add_unnamed, draft};
 use wit_samples::kinds::{id, own_of, tuple_of};
 
@@ -9,25 +9,36 @@ use wit_samples::kinds::{id, own_of, tuple_of};
 /// resource, and type 3 is a future of a byte.
 pub fn interface(alloc: Global) -> Result<Resolve, AllocError> {
     let mut resolve = draft(alloc)?;
-    add_type(alloc, &mut resolve, "r", TypeDefKind::Resource)?;
-    add_type(alloc, &mut resolve, "list", TypeDefKind::Type_(Type::U8))?;
-    add_unnamed(&mut resolve, own_of(0))?;
-    add_unnamed(&mut resolve, TypeDefKind::Future(Some(Type::U8)))?;
-    add_function(alloc, &mut resolve, id(1))?;
-    describe(alloc, &mut resolve)?;
+    fill(alloc, &mut resolve)?;
     Ok(resolve)
 }
 
-fn describe(alloc: Global, resolve: &mut Resolve) -> Result<(), AllocError> {
-    let contents = Some(String::from_str(alloc, "one\n\nthree")?);
-    let feature = String::from_str(alloc, "async")?;
-    if let Some(interface) = resolve.interfaces.get_mut(0) {
-        interface.docs = Docs { contents };
-        interface.stability = Stability::Unstable {
-            feature,
-            deprecated: None,
-        };
+fn fill(alloc: Global, resolve: &mut Resolve) -> Result<(), AllocError> {
+    add_type(alloc, resolve, "r", TypeDefKind::Resource)?;
+    add_type(alloc, resolve, "list", TypeDefKind::Type_(Type::U8))?;
+    add_unnamed(resolve, own_of(0))?;
+    add_unnamed(resolve, TypeDefKind::Future(Some(Type::U8)))?;
+    add_function(alloc, resolve, id(1))?;
+    match resolve.interfaces.get_mut(0) {
+        Some(interface) => describe(alloc, interface),
+        None => Ok(()),
     }
+}
+
+// Of any type, since what stood there is then given up as one value.
+fn put<T: Drop>(place: &mut T, value: T) {
+    *place = value;
+}
+
+fn describe(alloc: Global, interface: &mut Interface) -> Result<(), AllocError> {
+    let contents = Some(String::from_str(alloc, "one\n\nthree")?);
+    interface.docs = Docs { contents };
+    let feature = String::from_str(alloc, "async")?;
+    let unstable = Stability::Unstable {
+        feature,
+        deprecated: None,
+    };
+    put(&mut interface.stability, unstable);
     Ok(())
 }
 

@@ -6,6 +6,7 @@ ghost use Rattle.wit_model.specs.Valid.{IsValid};
 use crate::packages::tower;
 use crate::recording::{Counting, Recording};
 use std::alloc::Global;
+use std::process::Abort;
 use std::test::Fail;
 use wit_check::Check;
 use wit_model::{Error, PackageId, Resolve, Type, TypeId};
@@ -22,22 +23,40 @@ fn recorded(alloc: Global, resolve: &Resolve, room: usize) -> (Result<(), Error>
     (answer, printer.output.calls)
 }
 
+// Whether it is refused, and so many calls were made before.
+fn stops_at(alloc: Global, resolve: &Resolve, room: usize) -> bool
+    requires valid { IsValid resolve.now }
+    requires in_range { 0 < length resolve.now.packages.items }
+{
+    let (answer, calls) = recorded(alloc, resolve, room);
+    answer == Err(Error::Memory) && calls.len() == room
+}
+
+// Whether 29 calls print all.
+fn is_whole(alloc: Global, resolve: &Resolve) -> bool
+    requires valid { IsValid resolve.now }
+    requires in_range { 0 < length resolve.now.packages.items }
+{
+    let (answer, calls) = recorded(alloc, resolve, 29);
+    let is_whole = answer == Ok(()) && calls.len() == 29;
+    is_whole && calls.first() == Some(&"keyword") && calls.last() == Some(&"indent_end")
+}
+
+fn assert_each_call(rt: &impl Abort, alloc: Global, resolve: &Resolve) -> Result<(), Fail> {
+    resolve.check(alloc)?;
+    assert!(rt; resolve.packages.len() > 0);
+    for room in 0..29usize {
+        assert!(rt; stops_at(alloc, resolve, room));
+    }
+    assert!(rt; is_whole(alloc, resolve));
+    Ok(())
+}
+
 // A world with an import and an export is printed by 29 calls.
 #[test]
 fn each_call(rt: HostRuntime) -> Result<(), Fail> {
     let resolve = host_and_guest(rt.alloc())?;
-    resolve.check(rt.alloc())?;
-    assert!(rt; resolve.packages.len() > 0);
-    for room in 0..29usize {
-        let (answer, calls) = recorded(rt.alloc(), &resolve, room);
-        assert!(rt; answer == Err(Error::Memory));
-        assert_eq!(rt; calls.len(), room);
-    }
-    let (answer, calls) = recorded(rt.alloc(), &resolve, 29);
-    assert!(rt; answer == Ok(()));
-    assert_eq!(rt; calls.len(), 29);
-    assert!(rt; calls.first() == Some(&"keyword") && calls.last() == Some(&"indent_end"));
-    Ok(())
+    assert_each_call(&rt, rt.alloc(), &resolve)
 }
 
 // The same for an output of the five functions without a body, and how many calls it has counted.
@@ -50,16 +69,47 @@ fn counted(alloc: Global, resolve: &Resolve, room: usize) -> (Result<(), Error>,
     (answer, printer.output.count)
 }
 
+// Whether it is refused, and so many calls were counted.
+fn stops_after(alloc: Global, resolve: &Resolve, room: usize) -> bool
+    requires valid { IsValid resolve.now }
+    requires in_range { 0 < length resolve.now.packages.items }
+{
+    let (answer, count) = counted(alloc, resolve, room);
+    answer == Err(Error::Memory) && count == room
+}
+
+// Whether 57 calls print all.
+fn counts_all(alloc: Global, resolve: &Resolve) -> bool
+    requires valid { IsValid resolve.now }
+    requires in_range { 0 < length resolve.now.packages.items }
+{
+    let (answer, count) = counted(alloc, resolve, 57);
+    answer == Ok(()) && count == 57
+}
+
+fn assert_each_count(rt: &impl Abort, alloc: Global, resolve: &Resolve) -> Result<(), Fail> {
+    resolve.check(alloc)?;
+    assert!(rt; resolve.packages.len() > 0);
+    for room in 0..57usize {
+        assert!(rt; stops_after(alloc, resolve, room));
+    }
+    assert!(rt; counts_all(alloc, resolve));
+    Ok(())
+}
+
 // The same world takes 57 calls of the five.
 #[test]
 fn each_call_of_the_five(rt: HostRuntime) -> Result<(), Fail> {
     let resolve = host_and_guest(rt.alloc())?;
-    resolve.check(rt.alloc())?;
+    assert_each_count(&rt, rt.alloc(), &resolve)
+}
+
+fn assert_stops(rt: &impl Abort, alloc: Global, resolve: &Resolve) -> Result<(), Fail> {
+    resolve.check(alloc)?;
     assert!(rt; resolve.packages.len() > 0);
-    for room in 0..57usize {
-        assert!(rt; counted(rt.alloc(), &resolve, room) == (Err(Error::Memory), room));
+    for room in &[0usize, 1, 9, 150, 300] {
+        assert!(rt; stops_at(alloc, resolve, *room));
     }
-    assert!(rt; counted(rt.alloc(), &resolve, 57) == (Ok(()), 57));
     Ok(())
 }
 
@@ -67,14 +117,7 @@ fn each_call_of_the_five(rt: HostRuntime) -> Result<(), Fail> {
 #[test]
 fn a_tower_in_a_package(rt: HostRuntime) -> Result<(), Fail> {
     let resolve = tower(rt.alloc())?;
-    resolve.check(rt.alloc())?;
-    assert!(rt; resolve.packages.len() > 0);
-    for room in &[0usize, 1, 9, 150, 300] {
-        let (answer, calls) = recorded(rt.alloc(), &resolve, *room);
-        assert!(rt; answer == Err(Error::Memory));
-        assert_eq!(rt; calls.len(), *room);
-    }
-    Ok(())
+    assert_stops(&rt, rt.alloc(), &resolve)
 }
 
 // The same for the tower's last type where it is used.
@@ -121,16 +164,27 @@ fn are_of_tower(calls: &[&'static str]) -> bool {
         .all(|(index, call)| *call == tower_call(index))
 }
 
+// Whether it is refused, and the calls that were made before are so many and the first ones.
+fn stops_in_tower(alloc: Global, resolve: &Resolve, room: usize) -> bool
+    requires valid { IsValid resolve.now }
+    requires in_range { 99 < length resolve.now.types.items }
+{
+    let (answer, calls) = recorded_type(alloc, resolve, room);
+    answer == Err(Error::Memory) && calls.len() == room && are_of_tower(&calls)
+}
+
+fn assert_type_stops(rt: &impl Abort, alloc: Global, resolve: &Resolve) -> Result<(), Fail> {
+    resolve.check(alloc)?;
+    assert!(rt; resolve.types.len() > 99);
+    for room in &[0usize, 1, 2, 117, 200, 201, 204, 209] {
+        assert!(rt; stops_in_tower(alloc, resolve, *room));
+    }
+    Ok(())
+}
+
 // The calls that are made are the first ones, up to the one that is refused.
 #[test]
 fn a_tower_where_it_is_used(rt: HostRuntime) -> Result<(), Fail> {
     let resolve = tower(rt.alloc())?;
-    resolve.check(rt.alloc())?;
-    assert!(rt; resolve.types.len() > 99);
-    for room in &[0usize, 1, 2, 117, 200, 201, 204, 209] {
-        let (answer, calls) = recorded_type(rt.alloc(), &resolve, *room);
-        assert!(rt; answer == Err(Error::Memory) && calls.len() == *room);
-        assert!(rt; are_of_tower(&calls));
-    }
-    Ok(())
+    assert_type_stops(&rt, rt.alloc(), &resolve)
 }

@@ -3,6 +3,7 @@
 
 use semver::Version;
 use std::alloc::{AllocError, Global};
+use std::hash::Hash;
 use wit_model::{
     Docs, Function, FunctionKind, Interface, InterfaceId, Map, Package, PackageId, PackageName,
     Param, Resolve, Stability, Type, TypeDef, TypeDefKind, TypeId, TypeOwner, World, WorldId,
@@ -15,6 +16,39 @@ pub const NO_DOCS: Docs = Docs { contents: None };
 // The number of an entry behind so many.
 fn next(count: usize) -> u32 {
     u32::try_from(count).unwrap_or(u32::MAX)
+}
+
+// ---- entries of maps: of any types, since what is given up where an entry is refused is then one value
+
+fn insert<K: Eq + Hash + Drop, V: Drop>(
+    map: Option<&mut Map<K, V>>,
+    key: K,
+    value: V,
+) -> Result<(), AllocError> {
+    if let Some(map) = map {
+        map.insert(key, value)?;
+    }
+    Ok(())
+}
+
+fn insert_under<V: Drop>(
+    alloc: Global,
+    map: Option<&mut Map<String, V>>,
+    name: &str,
+    value: V,
+) -> Result<(), AllocError> {
+    let key = String::from_str(alloc, name)?;
+    insert(map, key, value)
+}
+
+fn insert_named<V: Drop>(
+    alloc: Global,
+    map: Option<&mut Map<WorldKey, V>>,
+    name: &str,
+    value: V,
+) -> Result<(), AllocError> {
+    let key = WorldKey::Name(String::from_str(alloc, name)?);
+    insert(map, key, value)
 }
 
 // ---- packages, interfaces and worlds
@@ -106,12 +140,10 @@ fn list_interface(
     name: &str,
     id: InterfaceId,
 ) -> Result<(), AllocError> {
-    if let Some(package) = resolve.packages.first_mut() {
-        package
-            .interfaces
-            .insert(String::from_str(alloc, name)?, id)?;
+    match resolve.packages.first_mut() {
+        Some(package) => insert_under(alloc, Some(&mut package.interfaces), name, id),
+        None => Ok(()),
     }
-    Ok(())
 }
 
 // Puts a world number into the map of package 0.
@@ -121,10 +153,10 @@ fn list_world(
     name: &str,
     id: WorldId,
 ) -> Result<(), AllocError> {
-    if let Some(package) = resolve.packages.first_mut() {
-        package.worlds.insert(String::from_str(alloc, name)?, id)?;
+    match resolve.packages.first_mut() {
+        Some(package) => insert_under(alloc, Some(&mut package.worlds), name, id),
+        None => Ok(()),
     }
-    Ok(())
 }
 
 /// An empty interface of the next number in package 0.
@@ -189,10 +221,10 @@ fn list_type(
     name: &str,
     id: TypeId,
 ) -> Result<(), AllocError> {
-    if let Some(interface) = resolve.interfaces.get_mut(number) {
-        interface.types.insert(String::from_str(alloc, name)?, id)?;
+    match resolve.interfaces.get_mut(number) {
+        Some(interface) => insert_under(alloc, Some(&mut interface.types), name, id),
+        None => Ok(()),
     }
-    Ok(())
 }
 
 /// A named type of the next number, of the interface of this number.
@@ -221,17 +253,18 @@ pub fn add_type(
 
 // ---- functions
 
-/// A function without parameters.
-pub fn nullary(
+/// A function of these parameters.
+pub fn with_params(
     alloc: Global,
     name: &str,
     kind: FunctionKind,
+    params: Vec<Param>,
     answer: Option<Type>,
 ) -> Result<Function, AllocError> {
     Ok(Function {
         name: String::from_str(alloc, name)?,
         kind,
-        params: Vec::new(alloc),
+        params,
         result: answer,
         docs: NO_DOCS,
         stability: Stability::Unknown,
@@ -239,10 +272,27 @@ pub fn nullary(
     })
 }
 
+/// A function without parameters.
+pub fn nullary(
+    alloc: Global,
+    name: &str,
+    kind: FunctionKind,
+    answer: Option<Type>,
+) -> Result<Function, AllocError> {
+    with_params(alloc, name, kind, Vec::new(alloc), answer)
+}
+
 /// A parameter.
 pub fn param(alloc: Global, name: &str, ty: Type) -> Result<Param, AllocError> {
     let name = String::from_str(alloc, name)?;
     Ok(Param { name, ty })
+}
+
+/// One parameter.
+pub fn one_param(alloc: Global, name: &str, ty: Type) -> Result<Vec<Param>, AllocError> {
+    let mut params = Vec::new(alloc);
+    params.push(param(alloc, name, ty)?)?;
+    Ok(params)
 }
 
 /// A function of one parameter `x`.
@@ -253,9 +303,14 @@ pub fn function(
     ty: Type,
     answer: Option<Type>,
 ) -> Result<Function, AllocError> {
-    let mut function = nullary(alloc, name, kind, answer)?;
-    function.params.push(param(alloc, "x", ty)?)?;
-    Ok(function)
+    let params = one_param(alloc, "x", ty)?;
+    with_params(alloc, name, kind, params, answer)
+}
+
+// The functions of an interface.
+fn functions(resolve: &mut Resolve, number: usize) -> Option<&mut Map<String, Function>> {
+    let interface = resolve.interfaces.get_mut(number)?;
+    Some(&mut interface.functions)
 }
 
 /// Puts a function into the map of an interface.
@@ -266,12 +321,7 @@ pub fn put_function(
     key: &str,
     item: Function,
 ) -> Result<(), AllocError> {
-    if let Some(interface) = resolve.interfaces.get_mut(number) {
-        interface
-            .functions
-            .insert(String::from_str(alloc, key)?, item)?;
-    }
-    Ok(())
+    insert_under(alloc, functions(resolve, number), key, item)
 }
 
 /// `f: func(x: PARAM)` of interface 0.
@@ -292,14 +342,16 @@ pub fn shown(number: u32) -> WorldItem {
     }
 }
 
-// Puts an item into a list of a world.
-fn insert(
-    items: &mut Map<WorldKey, WorldItem>,
-    key: WorldKey,
-    item: WorldItem,
-) -> Result<(), AllocError> {
-    items.insert(key, item)?;
-    Ok(())
+// The imports of world 0.
+fn imports(resolve: &mut Resolve) -> Option<&mut Map<WorldKey, WorldItem>> {
+    let world = resolve.worlds.first_mut()?;
+    Some(&mut world.imports)
+}
+
+// The exports of world 0.
+fn exports(resolve: &mut Resolve) -> Option<&mut Map<WorldKey, WorldItem>> {
+    let world = resolve.worlds.first_mut()?;
+    Some(&mut world.exports)
 }
 
 /// An import of world 0, the last of its list.
@@ -308,10 +360,7 @@ pub fn import_under(
     key: WorldKey,
     item: WorldItem,
 ) -> Result<(), AllocError> {
-    match resolve.worlds.first_mut() {
-        Some(world) => insert(&mut world.imports, key, item),
-        None => Ok(()),
-    }
+    insert(imports(resolve), key, item)
 }
 
 /// An import of world 0 under a name.
@@ -321,8 +370,16 @@ pub fn import(
     name: &str,
     item: WorldItem,
 ) -> Result<(), AllocError> {
-    let key = WorldKey::Name(String::from_str(alloc, name)?);
-    import_under(resolve, key, item)
+    insert_named(alloc, imports(resolve), name, item)
+}
+
+/// An export of world 0, the last of its list.
+pub fn export_under(
+    resolve: &mut Resolve,
+    key: WorldKey,
+    item: WorldItem,
+) -> Result<(), AllocError> {
+    insert(exports(resolve), key, item)
 }
 
 /// An export of world 0 under a name.
@@ -332,9 +389,5 @@ pub fn export(
     name: &str,
     item: WorldItem,
 ) -> Result<(), AllocError> {
-    let key = WorldKey::Name(String::from_str(alloc, name)?);
-    match resolve.worlds.first_mut() {
-        Some(world) => insert(&mut world.exports, key, item),
-        None => Ok(()),
-    }
+    insert_named(alloc, exports(resolve), name, item)
 }

@@ -2,24 +2,28 @@
 
 use crate::drafts::{
     add_interface, add_package, add_type, add_type_of, add_unnamed, add_world, draft, empty,
-    export, function, import, nullary, param, put_function,
+    export, function, import, nullary, one_param, param, put_function, with_params,
 };
 use crate::kinds::{
     alias_of, borrow_of, enum_of, flags_of, id, own_of, record_of, result_of, tuple_of, variant_of,
 };
 use std::alloc::{AllocError, Global};
-use wit_model::{FunctionKind, Resolve, Type, TypeDefKind, WorldItem};
+use wit_model::{Function, FunctionKind, Resolve, Type, TypeDefKind, WorldItem};
 
 /// `package a:b; world foo { import host: func(); export guest: func(); }`
 pub fn host_and_guest(alloc: Global) -> Result<Resolve, AllocError> {
     let mut resolve = empty(alloc);
-    add_package(alloc, &mut resolve, "a", "b")?;
-    add_world(alloc, &mut resolve, "foo")?;
-    let host = nullary(alloc, "host", FunctionKind::Freestanding, None)?;
-    import(alloc, &mut resolve, "host", WorldItem::Function(host))?;
-    let guest = nullary(alloc, "guest", FunctionKind::Freestanding, None)?;
-    export(alloc, &mut resolve, "guest", WorldItem::Function(guest))?;
+    add_foo(alloc, &mut resolve)?;
     Ok(resolve)
+}
+
+fn add_foo(alloc: Global, resolve: &mut Resolve) -> Result<(), AllocError> {
+    add_package(alloc, resolve, "a", "b")?;
+    add_world(alloc, resolve, "foo")?;
+    let host = nullary(alloc, "host", FunctionKind::Freestanding, None)?;
+    import(alloc, resolve, "host", WorldItem::Function(host))?;
+    let guest = nullary(alloc, "guest", FunctionKind::Freestanding, None)?;
+    export(alloc, resolve, "guest", WorldItem::Function(guest))
 }
 
 // Types 1 to 4 of interface 1: a resource, which an unnamed type owns, a list, and a record of two such lists.
@@ -32,13 +36,17 @@ fn add_first(alloc: Global, resolve: &mut Resolve) -> Result<(), AllocError> {
     Ok(())
 }
 
-// Types 5 to 14, of other kinds. Type 12 is an alias of the type of interface 0.
-fn add_others(alloc: Global, resolve: &mut Resolve) -> Result<(), AllocError> {
+// Types 5 to 8: a tuple, flags, an enum and a variant.
+fn add_second(alloc: Global, resolve: &mut Resolve) -> Result<(), AllocError> {
     add_unnamed(resolve, tuple_of(alloc, &[id(2), id(3)])?)?;
     add_type_of(alloc, resolve, 1, "g", flags_of(alloc, &["a"])?)?;
     add_type_of(alloc, resolve, 1, "e", enum_of(alloc, &["a"])?)?;
     let variant = variant_of(alloc, &["a"], Some(id(3)))?;
-    add_type_of(alloc, resolve, 1, "v", variant)?;
+    add_type_of(alloc, resolve, 1, "v", variant)
+}
+
+// Types 9 to 14, of other kinds. Type 12 is an alias of the type of interface 0.
+fn add_others(alloc: Global, resolve: &mut Resolve) -> Result<(), AllocError> {
     add_unnamed(resolve, TypeDefKind::Option(id(3)))?;
     add_unnamed(resolve, result_of(Some(id(3)), None))?;
     add_unnamed(resolve, borrow_of(1))?;
@@ -52,14 +60,22 @@ fn add_others(alloc: Global, resolve: &mut Resolve) -> Result<(), AllocError> {
 pub fn each_kind(alloc: Global) -> Result<Resolve, AllocError> {
     let mut resolve = draft(alloc)?;
     add_interface(alloc, &mut resolve, "j")?;
-    add_type(alloc, &mut resolve, "t", TypeDefKind::Type_(Type::U32))?;
-    add_first(alloc, &mut resolve)?;
-    add_others(alloc, &mut resolve)?;
-    let mut h = nullary(alloc, "h", FunctionKind::Freestanding, Some(id(2)))?;
-    h.params.push(param(alloc, "b", Type::Bool)?)?;
-    h.params.push(param(alloc, "x", id(3))?)?;
-    put_function(alloc, &mut resolve, 1, "h", h)?;
+    add_kinds(alloc, &mut resolve)?;
     Ok(resolve)
+}
+
+fn add_kinds(alloc: Global, resolve: &mut Resolve) -> Result<(), AllocError> {
+    add_type(alloc, resolve, "t", TypeDefKind::Type_(Type::U32))?;
+    add_first(alloc, resolve)?;
+    add_second(alloc, resolve)?;
+    add_others(alloc, resolve)?;
+    put_function(alloc, resolve, 1, "h", h(alloc)?)
+}
+
+fn h(alloc: Global) -> Result<Function, AllocError> {
+    let mut params = one_param(alloc, "b", Type::Bool)?;
+    params.push(param(alloc, "x", id(3))?)?;
+    with_params(alloc, "h", FunctionKind::Freestanding, params, Some(id(2)))
 }
 
 // The type of the last number.
