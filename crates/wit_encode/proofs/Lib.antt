@@ -17,7 +17,7 @@ pub mod Calls
 pub mod Naming
 -- Instances of the interfaces that have been imported stand. Serves component_types::interface_type, laws::imports_stand; crates above.
 pub mod ImportsStand
--- Lists of numbers: what stands before a place, what stands once, and what is given by one element alone. Serves Exporting, ListedTypes, WorldTypes, WorldUses.
+-- Lists of numbers: what stands before a place, what stands once, and what is given by one element alone. Serves AliasesKept, Exporting, ListedTypes, WorldTypes and 1 more.
 pub mod Numbers
 -- What is met from a type of an owner is of that owner, but for what its aliases of types of other interfaces name. Serves ListedTypes, OwnerScope, Reached, UsedPaths and 2 more.
 pub mod Owned

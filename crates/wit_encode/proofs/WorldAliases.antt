@@ -16,7 +16,7 @@ use Rattle.encode_names.specs.WorldSteps.{Entry, Entries}
 use Rattle.wit_encode.specs.declared.interface.Foreign.{Foreign}
 use Rattle.wit_encode.specs.Instance.{around_at}
 use Rattle.wit_encode.specs.Worlds.{WorldEncoder, is_sound_outside, world_around, world_definitions, world_scope, world_view_of}
-use Rattle.wit_encode.specs.WorldAliases.{KeepsAliases}
+use Rattle.wit_encode.specs.WorldAliases.{KeepsListed, aliases_in, interfaces_in}
 use Rattle.wit_encode.specs.WrittenNames.{instance_declarations}
 use Rattle.wit_encode.proofs.AliasesKept.{keeps-aliases}
 use Rattle.wit_encode.specs.WorldItems.{HasShown, types_among}
@@ -81,7 +81,8 @@ aliases-shown r w e done h outer foreign g =
       more = leaves.more;
       around_ = around-same (λ j. record { declared = leaves.instances j; instances = []; known = [] });
       own_ =
-          λ ns k. subst (λ (z : Around). KeepsAliases q e.instances z ns) (sym g.is) (keeps-aliases q e.instances ns (world_around e) g.made g.are k);
+          λ ns k. subst (λ (z : Around). KeepsListed q e.instances z ns) (sym g.is)
+          (keeps-aliases q e.instances (interfaces_in ns) (aliases_in ns) (world_around e) g.made g.are k);
     } in
     let left : HasShown r w (with_outer e outer foreign) (done.0 ++ [], done.1) = types-shown r w e (with_outer e outer foreign) done h leaves.scope_stays grows []
     (ap (λ d. d.exports) leaves.counted ∙ sym (append-nil (world_definitions e.outer).exports)) [] tt refl

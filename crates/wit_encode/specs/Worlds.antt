@@ -25,7 +25,7 @@ use Rattle.encode_types.specs.Table.{table_scope}
 use Rattle.encode_types.specs.View.{View}
 use Rattle.encode_names.specs.Rebuilt.{others_seen}
 use Rattle.wit_encode.specs.Instance.{around_at, declared_extent}
-use Rattle.wit_encode.specs.WorldAliases.{KeepsAliases}
+use Rattle.wit_encode.specs.WorldAliases.{KeepsListed}
 use Rattle.wit_encode.specs.WrittenNames.{instances_around}
 use Rattle.wit_encode.specs.declared.world.WorldEncoderOf.{WorldEncoderOf}
 
@@ -145,7 +145,7 @@ world_view r w count component maps = record {
   held = held_beside r component;
   extent = declared_extent component.declared;
   lacks_room = LacksRoomBehind r (declaration_count component.declared);
-  own = λ ns. KeepsAliases r count component ns;
+  own = λ ns. KeepsListed r count component ns;
 }
 
 -- the component type, and what is listed of it
