@@ -1,11 +1,12 @@
 -- The aliases in the component type of a world, behind each declaration but that of an instance, and in the end.
-use Rattle.std.proofs.Common.{◌≡◌, refl, sym, subst, ap, ◌∙◌, ℕ, ◌+◌, ◌≤◌, ◌⊎◌, inl, inr, nat_cmp, nat_eq, Bool, true, false, List, [], ◌∷◌, ◌++◌, append_assoc, append-nil, length, length-append, map, Option, Some, None, is_some, arith}
+use Rattle.std.proofs.Common.{◌≡◌, refl, sym, subst, ap, ◌∙◌, ℕ, ◌+◌, ◌≤◌, ◌⊎◌, inl, inr, nat_cmp, nat_eq, Bool, true, false, List, [], ◌∷◌, ◌++◌, append_assoc, append-nil, length, length-append, map, flat_map, Option, Some, None, is_some, arith}
 use Rattle.std.specs.BTreeMap.{is_at}
 use Rattle.std.specs.List.{Contains, IsDistinct}
 use Rattle.std.proofs.lemmas.Cmp.{nat_eq_equiv}
 use Rattle.std.proofs.lemmas.List.{map-append}
-use Rattle.std.proofs.lemmas.List.Elements.{Contains-append_cases}
+use Rattle.std.proofs.lemmas.List.Elements.{Contains-append_cases, Contains-append_left, Contains-append_right}
 use Rattle.std.proofs.lemmas.Map.Keys.{IsDistinct-push}
+use Rattle.std.proofs.Math.Seq.{drop-append_seam, take-append_seam}
 use Rattle.wit_model.specs.declared.model.Resolve.{Resolve}
 use Rattle.wit_model.specs.declared.model.TypeId.{TypeId}
 use Rattle.comp_bytes.specs.Raw.{Alias, Declaration, Declarations, append}
@@ -15,13 +16,15 @@ use Rattle.encode_types.proofs.Lists.{none-in}
 use Rattle.encode_types.proofs.Planning.{lacks-member}
 use Rattle.wit_encode.specs.DependencyAliases.{alias_in, export_alias}
 use Rattle.wit_encode.specs.Encoders.{declared_after}
-use Rattle.wit_encode.specs.WorldAliases.{HasAliasesBehind, HasSlot, IsAliasBehind, KeepsAliases, PlacedAlias, placed_alias, placed_aliases}
+use Rattle.wit_encode.specs.WorldAliases.{HasAliasesBehind, HasSlot, IsAliasBehind, KeepsAliases, KeepsBehind, KeepsListed, PlacedAlias, aliases_in, in_one_list, interfaces_in, pairs_in, place_and_number, placed_alias, placed_aliases}
 use Rattle.wit_encode.specs.WrittenNames.{instance_name, instance_names}
 use Rattle.wit_encode.proofs.DependencyAliases.{known-kept}
 use Rattle.wit_encode.proofs.Imported.{at-same, other-slot}
 use Rattle.wit_encode.proofs.Importing.{new-slot}
+use Rattle.wit_encode.proofs.Numbers.{apart-behind}
 use Rattle.wit_encode.proofs.WrittenNames.{names-behind, names-more}
-use Rattle.base_lemmas.proofs.Elements.{contains-later, last_of as one-contained, map_from as from-map}
+use Rattle.base_lemmas.proofs.Elements.{contains-later, contains-map, contains-one, last_of as one-contained, map_from as from-map}
+use Rattle.base_lemmas.proofs.Lists.{map_of_map}
 use Rattle.base_lemmas.proofs.Numbers.{none-twice}
 
 -- ---- one declaration more
@@ -53,53 +56,125 @@ pub placed-plain : (ds : Declarations) (d : Declaration) → alias_in d ≡ [] �
 placed-plain ds d none = placed-behind 0 ds d ∙ ap (λ (xs : List Alias). placed_aliases 0 ds ++ map {B = ℕ × Alias} (λ a. (0 + length (instance_names ds), a)) xs) none ∙ append-nil
     (placed_aliases 0 ds)
 
+-- ---- which type numbers have one
+
+pub slot-there : (o : Option ℕ) → (o ≡ None → ⊥) → is_some o ≡ true
+slot-there None s = absurd (s refl)
+slot-there (Some k) s = refl
+
+pub there-slot : (o : Option ℕ) → is_some o ≡ true → o ≡ None → ⊥
+there-slot None s e = let z : ⊥ = cc in z
+there-slot (Some k) s e = let z : ⊥ = cc in z
+
+known-one : (a : Around) (x : Aliased) → known_slot a.known x.number.0 ≡ None → (n : ℕ) → is_some (known_slot (with_alias a x).known n) ≡ true → (is_some (known_slot a.known n) ≡ true)
+    ⊎ (x.number.0 ≡ n)
+known-one a x first n h = by (is_at (nat_cmp n) x.number.0) refl
+  where
+    by : (b : Bool) → is_at (nat_cmp n) x.number.0 ≡ b → (is_some (known_slot a.known n) ≡ true) ⊎ (x.number.0 ≡ n)
+    by true e = inr (sym (at-same n x.number.0 e))
+    by false e = inl (ap is_some (sym (other-slot x.number.0 (type_slots_of a.declared) n a.known e first)) ∙ h)
+
+-- those that had one, and the new ones
+pub known-among : (a : Around) (made : List Aliased) (r : Resolve) → AreAliases r a made → (n : ℕ) → is_some (known_slot (with_aliases a made).known n) ≡ true → (is_some (known_slot a.known n) ≡ true)
+    ⊎ ((x : Aliased) × Contains made x × (x.number.0 ≡ n))
+known-among a [] r are n h = inl h
+known-among a (x ∷ made) r are n h = elim (known-among (with_alias a x) made r are.1 n h) [
+  | inl old ↦ elim (known-one a x are.0.first n old) [ inl older ↦ inl older | inr e ↦ inr (x, (0, omega arith, refl), e) ]
+  | inr new ↦ inr (new.0, contains-later x made new.0 new.1, new.2)
+]
+
+pub known-reached : {r : Resolve} {id : TypeId} (a a' : Around) → ReachesAround r id a a' → (n : ℕ) → is_some (known_slot a'.known n) ≡ true → (is_some (known_slot a.known n) ≡ true) ⊎ (n ≡ id.0)
+known-reached a a' (as_before e) n h = inl (ap (λ (z : Around). is_some (known_slot z.known n)) (sym e) ∙ h)
+known-reached {r} {id} a a' (aliased x is of_id e) n h = elim (known-among a (x ∷ []) r (is, tt) n (ap (λ (z : Around). is_some (known_slot z.known n)) (sym e) ∙ h)) [
+  | inl old ↦ inl old
+  | inr new ↦ inr (sym new.2 ∙ sym (ap (λ (y : Aliased). y.number.0) (one-contained x new.0 new.1)) ∙ ap (λ (t : TypeId). t.0) of_id)
+]
+
 -- ---- what an encoder keeps
 
 -- behind instances of these interfaces
 abbrev newest : List ℕ → Aliased → PlacedAlias
 newest ns x = (length ns, x)
 
-module _ (r : Resolve) (count : ℕ) (ns : List ℕ) where
-  has-moved : (P Q : ℕ → Type 0) (ds es : Declarations) → ((n : ℕ) → P n → Q n) → placed_aliases 0 es ≡ placed_aliases 0 ds → HasAliasesBehind r ns P ds → HasAliasesBehind r ns Q es
-  has-moved P Q ds es f e h = record { made = h.made; are = e ∙ h.are; once = h.once; each = h.each; asked = λ x c. f x.1.number.0 (h.asked x c) }
+-- the number of its type
+abbrev number_of : PlacedAlias → ℕ
+number_of x = x.1.number.0
+
+module _ (r : Resolve) (count : ℕ) (ns : List ℕ) (before : List (ℕ × ℕ)) where
+  -- where the names of instances and the aliases stay
+  keeps-others : (a : Around) (outer : Declarations) → length (instance_names outer) ≡ length (instance_names a.declared) → placed_aliases 0 outer ≡ placed_aliases 0 a.declared
+      → KeepsBehind r count a ns before (length ns) → KeepsBehind r count (record a { declared = outer }) ns before (length ns)
+  keeps-others a outer names aliases h = record {
+    keeps = record {
+      counted = h.keeps.counted;
+      named = names ∙ h.keeps.named;
+      listed = h.keeps.listed;
+      has = record { made = h.keeps.has.made; are = aliases ∙ h.keeps.has.are; once = h.keeps.has.once; each = h.keeps.has.each; asked = h.keeps.has.asked };
+      all = h.keeps.all;
+    };
+    more = h.more;
+    are = h.are;
+    placed = h.placed;
+  }
 
   -- behind a declaration of no alias and no instance
-  pub keeps-plain : (a : Around) (outer : Declarations) (d : Declaration) → outer ≡ declared_after a.declared d → alias_in d ≡ [] → instance_name d ≡ [] → KeepsAliases r count a ns
-      → KeepsAliases r count (record a { declared = outer }) ns
-  keeps-plain a outer d is none plain h = record {
-    counted = h.counted;
-    named = ap (λ (z : Declarations). length (instance_names z)) is ∙ ap length
-        (names-more a.declared d ∙ ap (λ xs. instance_names a.declared ++ xs) plain ∙ append-nil (instance_names a.declared)) ∙ h.named;
-    listed = h.listed;
-    has = has-moved (HasSlot a) (HasSlot a) a.declared outer (λ n s. s) (ap (placed_aliases 0) is ∙ placed-plain a.declared d none) h.has;
-  }
+  pub keeps-plain : (a : Around) (outer : Declarations) (d : Declaration) → outer ≡ declared_after a.declared d → alias_in d ≡ [] → instance_name d ≡ []
+      → KeepsBehind r count a ns before (length ns)
+      → KeepsBehind r count (record a { declared = outer }) ns before (length ns)
+  keeps-plain a outer d is none plain h = keeps-others a outer
+      (ap (λ (z : Declarations). length (instance_names z)) is ∙ ap length
+      (names-more a.declared d ∙ ap (λ xs. instance_names a.declared ++ xs) plain ∙ append-nil (instance_names a.declared)))
+      (ap (placed_aliases 0) is ∙ placed-plain a.declared d none) h
+
+  -- behind an instance type
+  pub keeps-inner : (a : Around) (inner : Declarations) → KeepsBehind r count a ns before (length ns)
+      → KeepsBehind r count (record a { declared = append a.declared (Declarations.instance inner Declarations.no_more) }) ns before (length ns)
+  keeps-inner a inner h = keeps-others a (append a.declared (Declarations.instance inner Declarations.no_more)) (ap length (names-behind a.declared inner)) (placed-around 0 a.declared inner) h
 
   -- behind one alias
-  pub keeps-alias : (a : Around) (x : Aliased) → IsAlias r a x → KeepsAliases r count a ns → KeepsAliases r count (with_alias a x) ns
+  pub keeps-alias : (a : Around) (x : Aliased) → IsAlias r a x → KeepsBehind r count a ns before (length ns) → KeepsBehind r count (with_alias a x) ns before (length ns)
   keeps-alias a x is h = record {
-    counted = h.counted;
-    named = ap length (names-more a.declared (alias_declared x) ∙ append-nil (instance_names a.declared)) ∙ h.named;
-    listed = h.listed;
-    has = record {
-      made = h.has.made ++ newest ns x ∷ [];
-      are = placed-behind 0 a.declared (alias_declared x) ∙ (λ j. h.has.are j ++ (same j, export_alias x) ∷ []) ∙ sym (map-append placed_alias h.has.made (newest ns x ∷ []));
-      once = subst (IsDistinct nat_eq) (sym (map-append (λ (y : PlacedAlias). y.1.number.0) h.has.made (newest ns x ∷ [])))
-          (IsDistinct-push nat_eq_equiv (map (λ (y : PlacedAlias). y.1.number.0) h.has.made) x.number.0 h.has.once
-          (lacks-member (map (λ (y : PlacedAlias). y.1.number.0) h.has.made) x.number.0 fresh));
-      each = λ y c. elim (Contains-append_cases h.has.made (newest ns x ∷ []) y c) [ inl k ↦ h.has.each y k | inr k ↦ subst (IsAliasBehind r ns) (one-contained (newest ns x) y k) latest ];
-      asked = λ y c. elim (Contains-append_cases h.has.made (newest ns x ∷ []) y c) [
-        | inl k ↦ known-kept x.number.0 (type_slots_of a.declared) y.1.number.0 a.known is.first (h.has.asked y k)
-        | inr k ↦ subst (λ (z : PlacedAlias). HasSlot (with_alias a x) z.1.number.0) (one-contained (newest ns x) y k)
-            (λ none. let there = new-slot x.number.0 (type_slots_of a.declared) a.known is.first in let z : ⊥ = cc in z)
-      ];
+    keeps = record {
+      counted = h.keeps.counted;
+      named = ap length (names-more a.declared (alias_declared x) ∙ append-nil (instance_names a.declared)) ∙ h.keeps.named;
+      listed = h.keeps.listed;
+      has = record {
+        made = h.keeps.has.made ++ newest ns x ∷ [];
+        are = placed-behind 0 a.declared (alias_declared x) ∙ (λ j. h.keeps.has.are j ++ (same j, export_alias x) ∷ []) ∙ sym (map-append placed_alias h.keeps.has.made (newest ns x ∷ []));
+        once = subst (IsDistinct nat_eq) (sym numbers_)
+            (IsDistinct-push nat_eq_equiv (map number_of h.keeps.has.made) x.number.0 h.keeps.has.once (lacks-member (map number_of h.keeps.has.made) x.number.0 fresh));
+        each = λ y c. elim (Contains-append_cases h.keeps.has.made (newest ns x ∷ []) y c) [
+          | inl k ↦ h.keeps.has.each y k
+          | inr k ↦ subst (IsAliasBehind r ns) (one-contained (newest ns x) y k) latest
+        ];
+        asked = λ y c. elim (Contains-append_cases h.keeps.has.made (newest ns x ∷ []) y c) [
+          | inl k ↦ known-kept x.number.0 (type_slots_of a.declared) y.1.number.0 a.known is.first (h.keeps.has.asked y k)
+          | inr k ↦ subst (λ (z : PlacedAlias). HasSlot (with_alias a x) z.1.number.0) (one-contained (newest ns x) y k)
+              (λ none. let there = new-slot x.number.0 (type_slots_of a.declared) a.known is.first in let z : ⊥ = cc in z)
+        ];
+      };
+      all = λ t s. subst (λ (ms : List ℕ). Contains ms t) (sym numbers_) (elim (known-one a x is.first t (slot-there (known_slot (with_alias a x).known t) s)) [
+        | inl k ↦ Contains-append_left (map number_of h.keeps.has.made) (x.number.0 ∷ []) t (h.keeps.all t (there-slot (known_slot a.known t) k))
+        | inr e ↦ Contains-append_right (map number_of h.keeps.has.made) (x.number.0 ∷ []) t (subst (Contains (x.number.0 ∷ [])) e (contains-one x.number.0))
+      ]);
     };
+    more = h.more ++ (length ns, x.number.0) ∷ [];
+    are = map-append place_and_number h.keeps.has.made (newest ns x ∷ []) ∙ ap (λ (xs : List (ℕ × ℕ)). xs ++ (length ns, x.number.0) ∷ []) h.are
+        ∙ append_assoc before h.more ((length ns, x.number.0) ∷ []);
+    placed = λ y c. elim (Contains-append_cases h.more ((length ns, x.number.0) ∷ []) y c) [
+      | inl k ↦ h.placed y k
+      | inr k ↦ sym (ap (λ (z : ℕ × ℕ). z.0) (one-contained (length ns, x.number.0) y k))
+    ];
   }
     where
-      same : 0 + length (instance_names a.declared) ≡ length ns
-      same = let e = h.named in omega (arith, e)
+      numbers_ : map number_of (h.keeps.has.made ++ newest ns x ∷ []) ≡ map number_of h.keeps.has.made ++ x.number.0 ∷ []
+      numbers_ = map-append number_of h.keeps.has.made (newest ns x ∷ [])
 
-      fresh : Contains (map (λ (y : PlacedAlias). y.1.number.0) h.has.made) x.number.0 → ⊥
-      fresh c = let y = from-map (λ (y : PlacedAlias). y.1.number.0) h.has.made x.number.0 c in h.has.asked y.0 y.1 (ap (known_slot a.known) y.2 ∙ is.first)
+      same : 0 + length (instance_names a.declared) ≡ length ns
+      same = let e = h.keeps.named in omega (arith, e)
+
+      fresh : Contains (map number_of h.keeps.has.made) x.number.0 → ⊥
+      fresh c = let y = from-map number_of h.keeps.has.made x.number.0 c in h.keeps.has.asked y.0 y.1 (ap (known_slot a.known) y.2 ∙ is.first)
 
       latest : IsAliasBehind r ns (newest ns x)
       latest = record {
@@ -112,66 +187,66 @@ module _ (r : Resolve) (count : ℕ) (ns : List ℕ) where
         text = is.text;
         behind = omega arith;
         instance =
-            h.listed is.interface.0 x.instance is.instance;
+            h.keeps.listed is.interface.0 x.instance is.instance;
       }
 
-  pub keeps-aliases : (a : Around) (made : List Aliased) → AreAliases r a made → KeepsAliases r count a ns → KeepsAliases r count (with_aliases a made) ns
+  pub keeps-aliases : (a : Around) (made : List Aliased) → AreAliases r a made → KeepsBehind r count a ns before (length ns) → KeepsBehind r count (with_aliases a made) ns before (length ns)
   keeps-aliases a [] are h = h
   keeps-aliases a (x ∷ made) are h = keeps-aliases (with_alias a x) made are.1 (keeps-alias a x are.0 h)
 
-  -- behind an instance type
-  pub keeps-inner : (a : Around) (inner : Declarations) → KeepsAliases r count a ns
-      → KeepsAliases r count (record a { declared = append a.declared (Declarations.instance inner Declarations.no_more) }) ns
-  keeps-inner a inner h = record {
-    counted = h.counted;
-    named = ap length (names-behind a.declared inner) ∙ h.named;
-    listed = h.listed;
-    has = has-moved (HasSlot a) (HasSlot a) a.declared (append a.declared (Declarations.instance inner Declarations.no_more)) (λ n s. s) (placed-around 0 a.declared inner) h.has;
-  }
-
--- ---- nothing
+-- ---- from one item to the next
 
 -- nothing has been declared
-pub keeps-nothing : (r : Resolve) (count : ℕ) (a : Around) → a.declared ≡ Declarations.no_more → a.instances ≡ [] → count ≡ 0 → KeepsAliases r count a []
-keeps-nothing r count a none unlisted zero_ = record {
+pub keeps-nothing : (r : Resolve) (count : ℕ) (a : Around) → a.declared ≡ Declarations.no_more → a.instances ≡ [] → a.known ≡ [] → count ≡ 0 → KeepsAliases r count a []
+keeps-nothing r count a none unlisted unknown zero_ = record {
   counted = zero_;
   named = ap (λ (z : Declarations). length (instance_names z)) none;
   listed = λ i k e. let wrong : ◌≡◌ {A = Option ℕ} None (Some k) = ap (λ es. known_instance es i) (sym unlisted) ∙ e in let z : ⊥ = cc in absurd z;
   has = record { made = []; are = ap (placed_aliases 0) none; once = none-twice; each = λ x c. none-in x c; asked = λ x c. none-in x c };
+  all = λ t s. absurd (s (ap (λ es. known_slot es t) unknown));
 }
 
--- ---- which type numbers have one
+-- the aliases so far are those of before
+pub none-since : {r : Resolve} {count : ℕ} {a : Around} {ns : List ℕ} (k : KeepsAliases r count a ns) → KeepsBehind r count a ns (map place_and_number k.has.made) (length ns)
+none-since k = record { keeps = k; more = []; are = sym (append-nil (map place_and_number k.has.made)); placed = λ x c. none-in x c }
 
--- those that had one, and the new ones
-pub known-among : (a : Around) (made : List Aliased) (r : Resolve) → AreAliases r a made → (n : ℕ) → is_some (known_slot (with_aliases a made).known n) ≡ true → (is_some (known_slot a.known n) ≡ true)
-    ⊎ ((x : Aliased) × Contains made x × (x.number.0 ≡ n))
-known-among a [] r are n h = inl h
-known-among a (x ∷ made) r are n h = elim (known-among (with_alias a x) made r are.1 n h) [
-  | inl old ↦ elim (known-one a x are.0.first n old) [ inl older ↦ inl older | inr e ↦ inr (x, (0, omega arith, refl), e) ]
-  | inr new ↦ inr (new.0, contains-later x made new.0 new.1, new.2)
-]
+pairs-told : (xs : List (ℕ × ℕ)) → pairs_in (flat_map (λ x. x.0 ∷ x.1 ∷ []) xs) ≡ xs
+pairs-told [] = refl
+pairs-told (x ∷ xs) = ap (λ (ys : List (ℕ × ℕ)). x ∷ ys) (pairs-told xs)
+
+interfaces-told : (ns : List ℕ) (xs : List (ℕ × ℕ)) → interfaces_in (in_one_list ns xs) ≡ ns
+interfaces-told ns xs = take-append_seam ns (flat_map (λ x. x.0 ∷ x.1 ∷ []) xs)
+
+aliases-told : (ns : List ℕ) (xs : List (ℕ × ℕ)) → aliases_in (in_one_list ns xs) ≡ xs
+aliases-told ns xs = ap pairs_in (drop-append_seam ns (flat_map (λ x. x.0 ∷ x.1 ∷ []) xs)) ∙ pairs-told xs
+
+-- what calls keep of a list of numbers they keep of interfaces and aliases
+pub keeps-told : {r : Resolve} {count count' : ℕ} {a a' : Around} → ((xs : List ℕ) → KeepsListed r count a xs → KeepsListed r count' a' xs) → (ns : List ℕ) (before : List (ℕ × ℕ))
+    → KeepsBehind r count a ns before (length ns) → KeepsBehind r count' a' ns before (length ns)
+keeps-told {r} {count} {count'} {a} {a'} h ns before k =
+    subst (λ (ms : List ℕ). KeepsBehind r count' a' ms before (length ms)) (interfaces-told ns before)
+    (subst (λ (xs : List (ℕ × ℕ)). KeepsBehind r count' a' (interfaces_in (in_one_list ns before)) xs (length (interfaces_in (in_one_list ns before)))) (aliases-told ns before)
+    (h (in_one_list ns before)
+    (subst (λ (xs : List (ℕ × ℕ)). KeepsBehind r count a (interfaces_in (in_one_list ns before)) xs (length (interfaces_in (in_one_list ns before)))) (sym (aliases-told ns before))
+    (subst (λ (ms : List ℕ). KeepsBehind r count a ms before (length ms)) (sym (interfaces-told ns before)) k))))
+
+-- a new alias is of no type that had one before
+pub alias-new : {r : Resolve} {count count' n : ℕ} {a a' : Around} {ns ms : List ℕ} (k : KeepsAliases r count a ns) (b : KeepsBehind r count' a' ms (map place_and_number k.has.made) n)
+    → (x : ℕ × ℕ) → Contains b.more x → HasSlot a x.1 → ⊥
+alias-new {a = a} k b x c s =
+    let there = from-map (λ (y : PlacedAlias). y.1.number.0) k.has.made x.1 (k.all x.1 s) in
+    let old : Contains (map (λ (z : ℕ × ℕ). z.1) (map place_and_number k.has.made)) x.1 =
+    subst (Contains (map (λ (z : ℕ × ℕ). z.1) (map place_and_number k.has.made))) there.2
+    (contains-map (λ (z : ℕ × ℕ). z.1) (map place_and_number k.has.made) (place_and_number there.0) (contains-map place_and_number k.has.made there.0 there.1)) in
+    let new : Contains (map (λ (z : ℕ × ℕ). z.1) b.more) x.1 = contains-map (λ (z : ℕ × ℕ). z.1) b.more x c in
+    apart-behind (map (λ (z : ℕ × ℕ). z.1) (map place_and_number k.has.made)) (map (λ (z : ℕ × ℕ). z.1) b.more) x.1 (subst (IsDistinct nat_eq) numbers_ b.keeps.has.once) old new
   where
-    known-one : (a : Around) (x : Aliased) → known_slot a.known x.number.0 ≡ None → (n : ℕ) → is_some (known_slot (with_alias a x).known n) ≡ true → (is_some (known_slot a.known n) ≡ true)
-        ⊎ (x.number.0 ≡ n)
-    known-one a x first n h = by (is_at (nat_cmp n) x.number.0) refl
-      where
-        by : (b : Bool) → is_at (nat_cmp n) x.number.0 ≡ b → (is_some (known_slot a.known n) ≡ true) ⊎ (x.number.0 ≡ n)
-        by true e = inr (sym (at-same n x.number.0 e))
-        by false e = inl (ap is_some (sym (other-slot x.number.0 (type_slots_of a.declared) n a.known e first)) ∙ h)
-
-pub known-reached : {r : Resolve} {id : TypeId} (a a' : Around) → ReachesAround r id a a' → (n : ℕ) → is_some (known_slot a'.known n) ≡ true → (is_some (known_slot a.known n) ≡ true) ⊎ (n ≡ id.0)
-known-reached a a' (as_before e) n h = inl (ap (λ (z : Around). is_some (known_slot z.known n)) (sym e) ∙ h)
-known-reached {r} {id} a a' (aliased x is of_id e) n h = elim (known-among a (x ∷ []) r (is, tt) n (ap (λ (z : Around). is_some (known_slot z.known n)) (sym e) ∙ h)) [
-  | inl old ↦ inl old
-  | inr new ↦ inr (sym new.2 ∙ sym (ap (λ (y : Aliased). y.number.0) (one-contained x new.0 new.1)) ∙ ap (λ (t : TypeId). t.0) of_id)
-]
+    numbers_ : map (λ (y : PlacedAlias). y.1.number.0) b.keeps.has.made ≡ map (λ (z : ℕ × ℕ). z.1) (map place_and_number k.has.made) ++ map (λ (z : ℕ × ℕ). z.1) b.more
+    numbers_ = sym (map_of_map (λ (z : ℕ × ℕ). z.1) place_and_number b.keeps.has.made) ∙ ap (map (λ (z : ℕ × ℕ). z.1)) b.are
+        ∙ map-append (λ (z : ℕ × ℕ). z.1) (map place_and_number k.has.made) b.more
 
 -- ---- in the end
 
-pub aliases-in-end : (r : Resolve) (count : ℕ) (a : Around) (ns : List ℕ) (P : ℕ → Type 0) → KeepsAliases r count a ns → ((n : ℕ) → is_some (known_slot a.known n) ≡ true → P n)
-    → HasAliasesBehind r ns P a.declared
-aliases-in-end r count a ns P h f = has-moved r count ns (HasSlot a) P a.declared a.declared (λ n s. f n (there (known_slot a.known n) s)) refl h.has
-  where
-    there : (o : Option ℕ) → (o ≡ None → ⊥) → is_some o ≡ true
-    there None s = absurd (s refl)
-    there (Some k) s = refl
+pub aliases-in-end : (r : Resolve) (count : ℕ) (a : Around) (ns : List ℕ) (P : ℕ → ℕ → Type 0) (k : KeepsAliases r count a ns)
+    → ((x : PlacedAlias) → Contains k.has.made x → P x.0 x.1.number.0) → HasAliasesBehind r ns P a.declared
+aliases-in-end r count a ns P k f = record { made = k.has.made; are = k.has.are; once = k.has.once; each = k.has.each; asked = f }

@@ -10,7 +10,7 @@ use Rattle.encode_types.specs.Known.{Around, known_instance, known_slot}
 use Rattle.encode_types.proofs.Tables.{equal-self}
 use Rattle.wit_encode.specs.DependencyAliases.{alias_in}
 use Rattle.wit_encode.specs.Encoders.{declared_after}
-use Rattle.wit_encode.specs.WorldAliases.{IsLatest, KeepsAliases, placed_aliases}
+use Rattle.wit_encode.specs.WorldAliases.{IsLatest, KeepsBehind, placed_aliases}
 use Rattle.wit_encode.specs.WrittenNames.{instance_name, instance_names}
 use Rattle.wit_encode.proofs.AliasesKept.{keeps-inner, placed-plain}
 use Rattle.wit_encode.proofs.Imported.{at-same, behind-cases}
@@ -54,53 +54,60 @@ latest-new ns i = record {
   ];
 }
 
-module _ (r : Resolve) (count : ℕ) (ns : List ℕ) (i : ℕ) where
+module _ (r : Resolve) (count : ℕ) (ns : List ℕ) (i : ℕ) (old : List (ℕ × ℕ)) where
   -- behind the import or the export of an instance, listed as that of its interface
   pub keeps-instance : (a b : Around) (inner : Declarations) (d : Declaration) → b.declared ≡ declared_after (append a.declared (Declarations.instance inner Declarations.no_more)) d → alias_in d ≡ []
       → length (instance_name d) ≡ 1
-      → b.instances ≡ insert_entry nat_cmp a.instances i count → b.known ≡ a.known → KeepsAliases r count a ns → KeepsAliases r (count + 1) b (ns ++ i ∷ [])
+      → b.instances ≡ insert_entry nat_cmp a.instances i count → b.known ≡ a.known → KeepsBehind r count a ns old (length ns)
+      → KeepsBehind r (count + 1) b (ns ++ i ∷ []) old (length ns)
   keeps-instance a b inner d is none one listed known before = record {
-    counted = (let c = before.counted in let m = length-append ns (i ∷ []) in omega (arith, c, m));
-    named =
-        (let e : length (instance_names b.declared) ≡ length (instance_names behind.declared ++ instance_name d) =
-        ap (λ (z : Declarations). length (instance_names z)) is ∙ ap length (names-more behind.declared d) in
-        let m = length-append (instance_names behind.declared) (instance_name d) in
-        let n = length-append ns (i ∷ []) in
-        let h = inside.named in
-        omega (arith, e, m, n, h, one));
-    listed = λ j k e. by j k (ap (λ es. known_instance es j) (sym listed) ∙ e) (is_at (nat_cmp j) i) refl;
-    has = record {
-      made = inside.has.made;
-      are = ap (placed_aliases 0) is ∙ placed-plain behind.declared d none ∙ inside.has.are;
-      once = inside.has.once;
-      each = λ x c. (let y = inside.has.each x c in record {
-        def = y.def;
-        name = y.name;
-        interface = y.interface;
-        there = y.there;
-        named_ = y.named_;
-        owned = y.owned;
-        text = y.text;
-        behind =
-            (let m = length-append ns (i ∷ []) in let b = y.behind in omega (arith, m, b));
-        instance = latest-before ns i x.0 y.interface.0 x.1.instance y.behind y.instance;
-      });
-      asked = λ x c n. inside.has.asked x c (ap (λ es. known_slot es x.1.number.0) (sym known) ∙ n);
+    keeps = record {
+      counted = (let c = before.keeps.counted in let m = length-append ns (i ∷ []) in omega (arith, c, m));
+      named =
+          (let e : length (instance_names b.declared) ≡ length (instance_names behind.declared ++ instance_name d) =
+          ap (λ (z : Declarations). length (instance_names z)) is ∙ ap length (names-more behind.declared d) in
+          let m = length-append (instance_names behind.declared) (instance_name d) in
+          let n = length-append ns (i ∷ []) in
+          let h = inside.keeps.named in
+          omega (arith, e, m, n, h, one));
+      listed = λ j k e. by j k (ap (λ es. known_instance es j) (sym listed) ∙ e) (is_at (nat_cmp j) i) refl;
+      has = record {
+        made = inside.keeps.has.made;
+        are = ap (placed_aliases 0) is ∙ placed-plain behind.declared d none ∙ inside.keeps.has.are;
+        once = inside.keeps.has.once;
+        each = λ x c. (let y = inside.keeps.has.each x c in record {
+          def = y.def;
+          name = y.name;
+          interface = y.interface;
+          there = y.there;
+          named_ = y.named_;
+          owned = y.owned;
+          text = y.text;
+          behind =
+              (let m = length-append ns (i ∷ []) in let b = y.behind in omega (arith, m, b));
+          instance = latest-before ns i x.0 y.interface.0 x.1.instance y.behind y.instance;
+        });
+        asked = λ x c n. inside.keeps.has.asked x c (ap (λ es. known_slot es x.1.number.0) (sym known) ∙ n);
+      };
+      all = λ t s. inside.keeps.all t (λ n. s (ap (λ es. known_slot es t) known ∙ n));
     };
+    more = inside.more;
+    are = inside.are;
+    placed = inside.placed;
   }
     where
       behind : Around
       behind = record a { declared = append a.declared (Declarations.instance inner Declarations.no_more) }
 
-      inside : KeepsAliases r count behind ns
-      inside = keeps-inner r count ns a inner before
+      inside : KeepsBehind r count behind ns old (length ns)
+      inside = keeps-inner r count ns old a inner before
 
       by : (j k : ℕ) → known_instance (insert_entry nat_cmp a.instances i count) j ≡ Some k → (b : Bool) → is_at (nat_cmp j) i ≡ b → IsLatest (ns ++ i ∷ []) (length (ns ++ i ∷ [])) j k
       by j k e true s =
           let same : j ≡ i = at-same j i s in
           let found : known_instance (insert_entry nat_cmp a.instances i count) j ≡ Some count = ap (known_instance (insert_entry nat_cmp a.instances i count)) same ∙ found-new i count a.instances in
-          let number : length ns ≡ k = sym before.counted ∙ one-some count k (sym found ∙ e) in
+          let number : length ns ≡ k = sym before.keeps.counted ∙ one-some count k (sym found ∙ e) in
           subst (λ (m : ℕ). IsLatest (ns ++ i ∷ []) (length (ns ++ i ∷ [])) j m) number
           (subst (λ (m : ℕ). IsLatest (ns ++ i ∷ []) (length (ns ++ i ∷ [])) m (length ns)) (sym same) (latest-new ns i))
       by j k e false s = latest-other ns i j k (λ same. let own : is_at (nat_cmp j) i ≡ true = ap (is_at (nat_cmp j)) (sym same) ∙ ap is_eq (equal-self nat_cmp_total j) in let z : ⊥ = cc in z)
-          (before.listed j k (sym (found-other i count j a.instances s) ∙ e))
+          (before.keeps.listed j k (sym (found-other i count j a.instances s) ∙ e))

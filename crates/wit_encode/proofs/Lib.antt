@@ -1,4 +1,4 @@
--- The declarations of an instance type, followed one by one. Serves Calls, Components, ShowFunctions, ShownSlots and 2 more.
+-- The declarations of an instance type, followed one by one. Serves Calls, Components, Directions, ShowFunctions and 3 more.
 pub mod Steps
 -- The declarations of a component type, followed one by one. Serves Imported, Opening, Outside, PlacedInstances and 7 more; crates above.
 pub mod Components
@@ -17,7 +17,10 @@ pub mod Calls
 pub mod Naming
 -- Instances of the interfaces that have been imported stand. Serves component_types::interface_type, laws::imports_stand; crates above.
 pub mod ImportsStand
--- Lists of numbers: what stands before a place, what stands once, and what is given by one element alone. Serves Exporting, ListedTypes, WorldTypes, WorldUses.
+-- Imports and exports of a component type, in order: what declarations add to them, and that no import stands behind an export. Serves WorldAliases, WorldCalls, WorldFunctions, WorldInterfaces and 1
+-- more.
+pub mod Directions
+-- Lists of numbers: what stands before a place, what stands once, and what is given by one element alone. Serves AliasesKept, Exporting, ListedTypes, WorldTypes and 1 more.
 pub mod Numbers
 -- What is met from a type of an owner is of that owner, but for what its aliases of types of other interfaces name. Serves ListedTypes, OwnerScope, Reached, UsedPaths and 2 more.
 pub mod Owned

@@ -1,7 +1,8 @@
 -- Lists of numbers: what stands before a place, what stands once, and what is given by one element alone.
-use Rattle.std.proofs.Common.{◌≡◌, refl, sym, subst, ap, ◌∙◌, ℕ, zero, suc, ◌+◌, ◌≤◌, Bool, true, false, cond, ◌||◌, ◌==◌, nat_eq, List, [], ◌∷◌, ◌++◌, append_assoc, append-nil, take, map, filter_map, count_by, slice_get, Option, Some, None, arith}
+use Rattle.std.proofs.Common.{◌≡◌, refl, sym, subst, ap, ◌∙◌, ℕ, zero, suc, ◌+◌, ◌≤◌, Bool, true, false, cond, ◌||◌, ◌==◌, ◌⊎◌, inl, inr, nat_eq, List, [], ◌∷◌, ◌++◌, append_assoc, append-nil, take, map, filter_map, count_by, slice_get, Option, Some, None, arith}
 use Rattle.std.specs.Prelude.{AllPairs}
-use Rattle.std.specs.List.{Contains, cons_option}
+use Rattle.std.specs.List.{Contains, IsDistinct, cons_option}
+use Rattle.std.proofs.lemmas.List.Elements.{Contains-append_cases, Contains-append_right}
 use Rattle.std.proofs.lemmas.List.Sums.{sum_by-cons}
 use Rattle.wit_model.specs.Uses.{has}
 use Rattle.wit_model.specs.Rules.{each_after}
@@ -9,7 +10,7 @@ use Rattle.encode_types.proofs.Pairs.{pairs-head, pairs-tail}
 use Rattle.encode_types.proofs.Lists.{none-in}
 use Rattle.wit_model.proofs.Elements.{contains-has}
 use Rattle.base_lemmas.proofs.Bools.{left_of as first_true, right_of as second_true}
-use Rattle.base_lemmas.proofs.Elements.{contains-later}
+use Rattle.base_lemmas.proofs.Elements.{all_at, contains-later, last_of}
 use Rattle.base_lemmas.proofs.Lists.{nothing-mapped}
 use Rattle.base_lemmas.proofs.Numbers.{equal, same-number}
 use Rattle.std.proofs.lemmas.Option.{same_Some as same-some}
@@ -49,6 +50,19 @@ once-before ns k n e one c =
     let two = counted-twice ns k n e (contains-has (take k ns) n c) in
     let same : count_by (λ m. m == n) ns ≡ 1 = equal (count_by (λ m. m == n) ns) 1 one in
     omega (arith, two, same)
+
+-- of numbers that stand once each, one of the first is none of those behind
+pub apart-behind : (xs ys : List ℕ) (n : ℕ) → IsDistinct nat_eq (xs ++ ys) → Contains xs n → Contains ys n → ⊥
+unfolding IsDistinct
+apart-behind [] ys n d front back = none-in n front
+apart-behind (x ∷ xs) ys n d front back = go (apart-behind xs ys n d.1) (Contains-append_cases (x ∷ []) xs n front)
+  where
+    go : (Contains xs n → Contains ys n → ⊥) → Contains (x ∷ []) n ⊎ Contains xs n → ⊥
+    go later (inl c) =
+        let wrong : true ≡ false = sym (subst (λ (k : ℕ). nat_eq x k ≡ true) (last_of x n c) (same-number x))
+        ∙ all_at (λ y. nat_eq x y ≡ false) (xs ++ ys) d.0 n (Contains-append_right xs ys n back) in
+        cc
+    go later (inr c) = later c back
 
 -- ---- each element, with those before it
 

@@ -27,6 +27,7 @@ world-shown r v w e h =
       shows = whole.1;
       obeys = world-obeys r v e.world.0 w h.world_ h.scope whole.1;
       means = world-means r v e.world.0 w h.world_ h.scope whole.1;
+      order = h.order;
       alone = λ p home. world-package-means r v e.world.0 w h.world_ h.scope whole.1 p home;
     }
 

@@ -16,9 +16,11 @@ use Rattle.encode_names.specs.WorldSteps.{Entry, Entries}
 use Rattle.wit_encode.specs.declared.interface.Foreign.{Foreign}
 use Rattle.wit_encode.specs.Instance.{around_at}
 use Rattle.wit_encode.specs.Worlds.{WorldEncoder, is_sound_outside, world_around, world_definitions, world_scope, world_view_of}
-use Rattle.wit_encode.specs.WorldAliases.{KeepsAliases}
+use Rattle.wit_encode.specs.WorldAliases.{KeepsListed, aliases_in, interfaces_in}
+use Rattle.wit_encode.specs.WholeWorlds.{directions_of}
 use Rattle.wit_encode.specs.WrittenNames.{instance_declarations}
 use Rattle.wit_encode.proofs.AliasesKept.{keeps-aliases}
+use Rattle.wit_encode.proofs.Directions.{directions-more, keeps-both}
 use Rattle.wit_encode.specs.WorldItems.{HasShown, types_among}
 use Rattle.wit_encode.proofs.WrittenNames.{instances-left}
 use Rattle.wit_encode.proofs.WorldCalls.{world-imports}
@@ -62,6 +64,11 @@ module _ (r : Resolve) (w : WorldId) (count : ℕ) (maps : TypeEncodingMaps) whe
             rest.instances ∙ one.instances;
       }
 
+-- aliases are no imports or exports
+directions-aliases : (a : Around) (made : List Aliased) → directions_of (with_aliases a made).declared ≡ directions_of a.declared ++ []
+directions-aliases a [] = sym (append-nil (directions_of a.declared))
+directions-aliases a (x ∷ made) = directions-aliases (with_alias a x) made ∙ append-nil (directions_of (with_alias a x).declared) ∙ directions-more a.declared (alias_declared x)
+
 -- an encoder that holds another component type
 abbrev pub with_outer : WorldEncoder → Declarations → Foreign → WorldEncoder
 with_outer e outer foreign = record e { outer = outer; foreign = foreign }
@@ -81,10 +88,13 @@ aliases-shown r w e done h outer foreign g =
       more = leaves.more;
       around_ = around-same (λ j. record { declared = leaves.instances j; instances = []; known = [] });
       own_ =
-          λ ns k. subst (λ (z : Around). KeepsAliases q e.instances z ns) (sym g.is) (keeps-aliases q e.instances ns (world_around e) g.made g.are k);
+          keeps-both []
+          (λ ns k. subst (λ (z : Around). KeepsListed q e.instances z ns) (sym g.is)
+          (keeps-aliases q e.instances (interfaces_in ns) (aliases_in ns) (world_around e) g.made g.are k))
+          (ap (λ (z : Around). directions_of z.declared) g.is ∙ directions-aliases (world_around e) g.made);
     } in
     let left : HasShown r w (with_outer e outer foreign) (done.0 ++ [], done.1) = types-shown r w e (with_outer e outer foreign) done h leaves.scope_stays grows []
-    (ap (λ d. d.exports) leaves.counted ∙ sym (append-nil (world_definitions e.outer).exports)) [] tt refl
+    (ap (λ d. d.exports) leaves.counted ∙ sym (append-nil (world_definitions e.outer).exports)) [] tt refl (inr refl)
     (record { says = λ k i holds. leaves.kept i _ (h.agree.says k i holds); once = h.agree.once })
     (λ m c. h.known m (subst (λ (es : List Entry). Contains (types_among (es ++ done.1)) m) same c))
     (λ m known. elim (h.alone m known) [ inl none ↦ inl none | inr c ↦ inr (subst (λ (es : List Entry). Contains (types_among (es ++ done.1)) m) (sym same) c) ]) in

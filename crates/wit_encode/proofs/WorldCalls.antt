@@ -34,6 +34,7 @@ use Rattle.encode_types.specs.Counts.{one_type_more, one_function_more, ExportsO
 use Rattle.encode_types.specs.Distinct.{is_value_type, is_function_type, described_slot, target_of}
 use Rattle.wit_encode.specs.DependencyAliases.{alias_in}
 use Rattle.wit_encode.proofs.AliasesKept.{keeps-alias, keeps-plain}
+use Rattle.wit_encode.proofs.Directions.{directions-more, keeps-both}
 use Rattle.wit_encode.proofs.ValueSlots.{slots-next, targets-push, instances-kept}
 use Rattle.encode_types.specs.Known.{Around, Aliased, IsAlias, IsSource, ReachesAround, as_before, aliased, alias_declared, are_right, is_slot_for, known_slot, outer_scope, outer_slots, standing_instances, with_alias}
 use Rattle.encode_types.specs.Standing.{SlotsStand, is_slot_of, standing_at}
@@ -42,6 +43,8 @@ use Rattle.encode_types.proofs.Around.{around-same}
 use Rattle.encode_names.specs.WorldSteps.{seen_type}
 use Rattle.encode_names.proofs.WorldSteps.{named-slot as named-plain, type-step}
 use Rattle.wit_encode.specs.Encoders.{declared_after}
+use Rattle.wit_encode.specs.WholeWorlds.{direction_of, directions_of}
+use Rattle.wit_encode.specs.WorldAliases.{aliases_in, interfaces_in}
 use Rattle.wit_encode.specs.WrittenNames.{described_name, instance_declarations, instance_name}
 use Rattle.wit_encode.specs.Worlds.{declared_type, is_sound_outside, world_definitions, world_resources, world_scope, world_view, instances_declared}
 use Rattle.wit_encode.proofs.Calls.{defines-of, formed-value, function-of}
@@ -137,8 +140,13 @@ module _ {E : Type 0} (res : Result ℕ E) (r : Resolve) (w : WorldId) (count : 
         → Leads P counts
     declares d x types after P counts step extends plain none kept is q ok err =
         world-calls res r w count a next maps P counts x types is_sound is (each-ok res (λ k h.
-        let m = declared-widens r w a sound outer d x types after step extends plain kept h.1 in
-        (h.0 ∙ index-next r w a sound, m, (λ ns. keeps-plain r count ns a outer d h.1 none plain), q m h.1)) ok) (same-around err)
+        let m = declared-widens r w a sound outer d x types after step extends plain kept h.1 in (
+          h.0 ∙ index-next r w a sound,
+          m,
+          keeps-both (direction_of d) (λ ns. keeps-plain r count (interfaces_in ns) (aliases_in ns) a outer d h.1 none plain)
+              (ap directions_of h.1 ∙ directions-more a.declared d),
+          q m h.1,
+        )) ok) (same-around err)
       where
         each-ok : {E : Type 0} {P Q : ℕ → Type 0} (res : Result ℕ E) → ((k : ℕ) → P k → Q k) → IfOk res P → IfOk res Q
         each-ok (Ok k) f h = f k h
@@ -361,7 +369,7 @@ module _ (r : Resolve) (w : WorldId) (count : ℕ) (a : Around) (maps : TypeEnco
           more = (let l : length (outer_slots (with_alias a al).declared) ≡ length (outer_slots a.declared ++ x ∷ []) = ap length more in let n = longer (outer_slots a.declared) x in
               omega (arith, l, n));
           around_ = around-same (λ i. record { declared = wide.instances i; instances = []; known = [] });
-          own_ = λ ns. keeps-alias r count ns a al is;
+          own_ = keeps-both [] (λ ns. keeps-alias r count (interfaces_in ns) (aliases_in ns) a al is) (directions-more a.declared (alias_declared al));
         };
         scope_stays = scope-stays r w a (with_alias a al) x [] wide s count;
         around_stays = λ i. record { declared = wide.instances i; instances = []; known = [] };

@@ -1,5 +1,5 @@
 -- How much the component type of a world defines after each item.
-use Rattle.std.proofs.Common.{◌≡◌, refl, sym, subst, ap, ◌∙◌, ℕ, ◌+◌, inl, inr, Bool, true, false, List, [], ◌∷◌, ◌++◌, map, flat_map, append-nil, None, is_some, slice_get, arith}
+use Rattle.std.proofs.Common.{◌≡◌, refl, sym, subst, ap, ◌∙◌, ℕ, ◌+◌, inl, inr, Bool, true, false, ◌⊎◌, List, [], ◌∷◌, ◌++◌, map, flat_map, append-nil, append_assoc, length, None, is_some, slice_get, arith}
 use Rattle.std.specs.Prelude.{nat_eq, cond}
 use Rattle.std.specs.List.{AllZip, Contains}
 use Rattle.std.specs.Set.{is_member, distinct_count}
@@ -27,7 +27,7 @@ use Rattle.encode_types.specs.Slots.{tree}
 use Rattle.encode_types.specs.declared.key.FunctionKey.{FunctionKey}
 use Rattle.encode_types.specs.declared.maps.TypeEncodingMaps.{TypeEncodingMaps}
 use Rattle.encode_types.specs.Aliases.{NumbersMet}
-use Rattle.encode_types.specs.Known.{known_slot}
+use Rattle.encode_types.specs.Known.{Around, known_slot}
 use Rattle.encode_types.specs.Counts.{AddsTypes, AddsFunction, names_defined}
 use Rattle.encode_types.specs.Distinct.{key_of, are_same, is_value_type, is_function_type, described_slot, target_of, targets_of, value_slots, function_slots, StandForKeys, defined_under_names, AddsFunctions}
 use Rattle.encode_types.specs.Key.{IsKeyOf}
@@ -40,11 +40,11 @@ use Rattle.wit_encode.specs.Encoders.{declared_after}
 use Rattle.wit_encode.specs.Instance.{count_declared, SlotsStand, outer_slots, standing_at}
 use Rattle.wit_encode.specs.WorldItems.{HasShown, all_done, types_among}
 use Rattle.wit_encode.specs.DependencyAliases.{alias_in}
-use Rattle.wit_encode.specs.WorldAliases.{KeepsAliases}
-use Rattle.wit_encode.specs.WorldCounts.{DefinesInterface, DefinesOnce, HasDefined, IsAskedByWorld, no_interface, nothing_defined}
+use Rattle.wit_encode.specs.WorldAliases.{KeepsAliases, KeepsBehind, KeepsListed, PlacedAlias, place_and_number}
+use Rattle.wit_encode.specs.WorldCounts.{DefinesInterface, DefinesOnce, HasDefined, IsAskedBehind, IsAskedBy, no_interface, nothing_defined}
 use Rattle.wit_encode.specs.WorldRoom.{functions_among, referred_among, type_ids_among}
 use Rattle.wit_encode.specs.Worlds.{WorldEncoder, instances_declared, world_around, world_definitions, world_view_of}
-use Rattle.wit_encode.proofs.AliasesKept.{aliases-in-end, keeps-nothing, keeps-plain}
+use Rattle.wit_encode.proofs.AliasesKept.{alias-new, aliases-in-end, keeps-nothing, keeps-plain, keeps-told, none-since, slot-there, there-slot}
 use Rattle.wit_encode.proofs.WrittenNames.{no-function-name}
 use Rattle.wit_encode.proofs.Components.{count-more}
 use Rattle.wit_encode.proofs.ValueSlots.{IsPlain, slots-kept, slots-declared, targets-kept, instances-kept, outer-values}
@@ -94,10 +94,33 @@ function-referred k f t c = Contains-append_left (function_types f) [] t c
 pub type-referred : (k : WorldKey) (id : TypeId) (t : ValueType) → Contains (ty.Id id ∷ []) t → Contains (referred_among ((k, item.Type_ id) ∷ [])) t
 type-referred k id t c = c
 
--- what some of them ask for
-pub asked-front : (r : Resolve) (es fs : List Entry) (n : ℕ) → IsAskedByWorld r es n → IsAskedByWorld r (es ++ fs) n
-asked-front r es fs n (inl m) = inl (record { met = (m.met.0, referred-front es fs m.met.0 m.met.1, m.met.2); def = m.def; there = m.there; interface = m.interface; foreign = m.foreign })
-asked-front r es fs n (inr m) = inr (m.0, subst (λ (is : List ℕ). Contains is m.0) (sym (interfaces-more es fs)) (Contains-append_left (interfaces_among es) (interfaces_among fs) m.0 m.1), m.2)
+-- what some of them ask for, where they do
+asked-front : (r : Resolve) (es fs : List Entry) (n t : ℕ) → IsAskedBehind r es n t → IsAskedBehind r (es ++ fs) n t
+asked-front r es fs n t a = record {
+  before = a.before;
+  entry = a.entry;
+  behind = a.behind ++ fs;
+  are = ap (λ (xs : List Entry). xs ++ fs) a.are ∙ append_assoc a.before (a.entry ∷ a.behind) fs;
+  place = a.place;
+  asked = a.asked;
+}
+
+-- the aliases behind one entry more: the new ones are of types that it asks for
+asked-more : {r : Resolve} {count count' : ℕ} {a a' : Around} {ms : List ℕ} (es : List Entry) (x : Entry) (k : KeepsAliases r count a (interfaces_among es))
+    (b : KeepsBehind r count' a' ms (map place_and_number k.has.made) (length (interfaces_among es)))
+    → ((y : PlacedAlias) → Contains k.has.made y → IsAskedBehind r es y.0 y.1.number.0)
+    → ((t : ℕ) → is_some (known_slot a'.known t) ≡ true → (is_some (known_slot a.known t) ≡ true) ⊎ IsAskedBy r x t)
+    → (y : PlacedAlias) → Contains b.keeps.has.made y → IsAskedBehind r (es ++ x ∷ []) y.0 y.1.number.0
+asked-more {r} {a = a} {a' = a'} es x k b old new y c =
+    elim (Contains-append_cases (map place_and_number k.has.made) b.more (place_and_number y)
+    (subst (λ (zs : List (ℕ × ℕ)). Contains zs (place_and_number y)) b.are (contains-map place_and_number b.keeps.has.made y c))) [
+      | inl front ↦ (let z = from-map place_and_number k.has.made (place_and_number y) front in
+          subst (λ (p : ℕ × ℕ). IsAskedBehind r (es ++ x ∷ []) p.0 p.1) z.2 (asked-front r es (x ∷ []) z.0.0 z.0.1.number.0 (old z.0 z.1)))
+      | inr back ↦ elim (new y.1.number.0 (slot-there (known_slot a'.known y.1.number.0) (b.keeps.has.asked y c))) [
+        | inl known ↦ absurd (alias-new k b (place_and_number y) back (there-slot (known_slot a.known y.1.number.0) known))
+        | inr asked ↦ record { before = es; entry = x; behind = []; are = refl; place = sym (b.placed (place_and_number y) back); asked = asked }
+      ]
+    ]
 
 from-wider : {r : Resolve} {ts us : List ValueType} {m m' : TypeEncodingMaps} → ((t : ValueType) → Contains ts t → Contains us t) → LearnsFrom r None ts m m' → LearnsFrom r None us m m'
 from-wider h l = record { only = only-more (λ n x. (x.0, h x.0 x.1, x.2)) l.only; learns = l.learns }
@@ -112,9 +135,10 @@ module _ (r : Resolve) (e e' : WorldEncoder) (es : List Entry) (h : HasDefined r
 
   -- an item, with the instance type of its interface, if it is one
   pub defines-behind : AddsFunctions r (no_interface r) e.maps e'.maps (world_definitions e.outer) (world_definitions e'.outer) fs → LearnsFrom r None ts e.maps e'.maps
-      → AllZip (DefinesInterface r) (interfaces_among (es ++ x ∷ [])) (instances_declared e'.outer) → KeepsAliases r e'.instances (world_around e') (interfaces_among (es ++ x ∷ []))
-      → ((n : ℕ) → is_some (known_slot e'.foreign.known.entries n) ≡ true → IsAskedByWorld r (es ++ x ∷ []) n) → HasDefined r e' (es ++ x ∷ [])
-  defines-behind a l inside keeps asked = record {
+      → AllZip (DefinesInterface r) (interfaces_among (es ++ x ∷ [])) (instances_declared e'.outer)
+      → KeepsBehind r e'.instances (world_around e') (interfaces_among (es ++ x ∷ [])) (map place_and_number h.keeps.has.made) (length (interfaces_among es))
+      → ((t : ℕ) → is_some (known_slot e'.foreign.known.entries t) ≡ true → (is_some (known_slot e.foreign.known.entries t) ≡ true) ⊎ IsAskedBy r x t) → HasDefined r e' (es ++ x ∷ [])
+  defines-behind a l inside keeps new = record {
     began = h.began;
     no_numbers = h.no_numbers;
     no_kinds = h.no_kinds;
@@ -123,34 +147,35 @@ module _ (r : Resolve) (e e' : WorldEncoder) (es : List Entry) (h : HasDefined r
         (adds-trans (functions_among es) fs refl h.adds a);
     learns = learns-more l;
     inside = inside;
-    keeps = keeps;
-    asked = asked;
+    keeps = keeps.keeps;
+    asked = asked-more es x h.keeps keeps h.asked new;
   }
 
   -- the aliases of an item without an interface
-  asks-more : NumbersMet r None ts (λ n. is_some (known_slot e.foreign.known.entries n)) (λ n. is_some (known_slot e'.foreign.known.entries n)) → (n : ℕ)
-      → is_some (known_slot e'.foreign.known.entries n) ≡ true → IsAskedByWorld r (es ++ x ∷ []) n
-  asks-more m n known = elim (m.each n known) [
-    | inl old ↦ asked-front r es (x ∷ []) n (h.asked n old)
-    | inr new ↦ inl (record {
-      met = (new.met.0, referred-behind es (x ∷ []) new.met.0 (refers new.met.0 new.met.1), new.met.2);
+  asks-more : NumbersMet r None ts (λ n. is_some (known_slot e.foreign.known.entries n)) (λ n. is_some (known_slot e'.foreign.known.entries n)) → (t : ℕ)
+      → is_some (known_slot e'.foreign.known.entries t) ≡ true → (is_some (known_slot e.foreign.known.entries t) ≡ true) ⊎ IsAskedBy r x t
+  asks-more m t known = elim (m.each t known) [
+    | inl old ↦ inl old
+    | inr new ↦ inr (inl (record {
+      met = (new.met.0, refers new.met.0 new.met.1, new.met.2);
       def = new.def;
       there = new.there;
       interface = new.interface;
       foreign =
           new.foreign;
-    })
+    }))
   ]
 
   -- an item without an interface
   pub defines-more : AddsFunctions r (no_interface r) e.maps e'.maps (world_definitions e.outer) (world_definitions e'.outer) fs → LearnsFrom r None ts e.maps e'.maps
-      → interfaces_among (x ∷ []) ≡ [] → instances_declared e'.outer ≡ instances_declared e.outer → KeepsAliases r e'.instances (world_around e') (interfaces_among es)
+      → interfaces_among (x ∷ []) ≡ [] → instances_declared e'.outer ≡ instances_declared e.outer
+      → KeepsBehind r e'.instances (world_around e') (interfaces_among es) (map place_and_number h.keeps.has.made) (length (interfaces_among es))
       → NumbersMet r None ts (λ n. is_some (known_slot e.foreign.known.entries n)) (λ n. is_some (known_slot e'.foreign.known.entries n)) → HasDefined r e' (es ++ x ∷ [])
   defines-more a l none stays keeps met =
       let same : interfaces_among (es ++ x ∷ []) ≡ interfaces_among es = interfaces-more es (x ∷ []) ∙ (ap (λ is. interfaces_among es ++ is) none ∙ append-nil (interfaces_among es)) in
       defines-behind a l
       (subst (λ (is : List ℕ). AllZip (DefinesInterface r) is (instances_declared e'.outer)) (sym same) (subst (AllZip (DefinesInterface r) (interfaces_among es)) (sym stays) h.inside))
-      (subst (λ (is : List ℕ). KeepsAliases r e'.instances (world_around e') is) (sym same) keeps) (asks-more met)
+      (subst (λ (is : List ℕ). KeepsBehind r e'.instances (world_around e') is (map place_and_number h.keeps.has.made) (length (interfaces_among es))) (sym same) keeps) (asks-more met)
 
 -- an import or an export of an item is no definition
 pub towards-value : (direction : Direction) (name : ExternName) (described : ComponentTypeRef) → is_value_type (declared_towards direction name described) ≡ false
@@ -182,13 +207,16 @@ towards-alias export_ name described = refl
 pub record GoesOnMet (r : Resolve) (e e' : WorldEncoder) (ts : List ValueType) : Type 0 where
   pub packages_ : e.resolve.now ≡ r
   pub packages_stay : e'.resolve.now ≡ e.resolve.now
-  pub keeps : (ns : List ℕ) → KeepsAliases e.resolve.now e.instances (world_around e) ns → KeepsAliases e'.resolve.now e'.instances (world_around e') ns
+  pub keeps : (ns : List ℕ) → KeepsListed e.resolve.now e.instances (world_around e) ns → KeepsListed e'.resolve.now e'.instances (world_around e') ns
   pub imports : NumbersMet r None ts (λ n. is_some (known_slot e.foreign.known.entries n)) (λ n. is_some (known_slot e'.foreign.known.entries n))
 
-keeps-on : (r : Resolve) (e e' : WorldEncoder) (ts : List ValueType) → GoesOnMet r e e' ts → (ns : List ℕ) → KeepsAliases r e.instances (world_around e) ns
-    → KeepsAliases r e'.instances (world_around e') ns
-keeps-on r e e' ts g ns k = subst (λ (q : Resolve). KeepsAliases q e'.instances (world_around e') ns) (g.packages_stay ∙ g.packages_)
-    (g.keeps ns (subst (λ (q : Resolve). KeepsAliases q e.instances (world_around e) ns) (sym g.packages_) k))
+keeps-on : (r : Resolve) (e e' : WorldEncoder) (ts : List ValueType) → GoesOnMet r e e' ts → (ns : List ℕ) (k : KeepsAliases r e.instances (world_around e) ns)
+    → KeepsBehind r e'.instances (world_around e') ns (map place_and_number k.has.made) (length ns)
+keeps-on r e e' ts g ns k = keeps-told listed ns (map place_and_number k.has.made) (none-since k)
+  where
+    listed : (xs : List ℕ) → KeepsListed r e.instances (world_around e) xs → KeepsListed r e'.instances (world_around e') xs
+    listed xs l = subst (λ (q : Resolve). KeepsListed q e'.instances (world_around e') xs) (g.packages_stay ∙ g.packages_)
+        (g.keeps xs (subst (λ (q : Resolve). KeepsListed q e.instances (world_around e) xs) (sym g.packages_) l))
 
 -- a function: its type, and then its import or export
 pub function-defined : (r : Resolve) (e e' : WorldEncoder) (es : List Entry) (scope : Scope) → scope.own_interface ≡ None → (k : WorldKey) (i : WorldItem) (f : Function) → i ≡ item.Function f
@@ -208,7 +236,8 @@ function-defined r e e' es scope own k i f is key n direction name outer h once 
     (defines-more r e next es h x (f ∷ []) (function_types f) refl (function-referred k f)
     (adds-alike (sym own) refl refl refl refl values_ targets_ functions_ (adds-function key n f is_key once a))
     (from-met r None (function_types f) e.maps e'.maps learns) refl (ap instances_declared made ∙ (instances-kept e'.outer d ∙ stays))
-    (keeps-plain r e'.instances (interfaces_among es) (world_around e') outer d made (towards-alias direction name (refs.Func n)) (no-function-name direction name n)
+    (keeps-plain r e'.instances (interfaces_among es) (map place_and_number h.keeps.has.made) (world_around e') outer d made (towards-alias direction name (refs.Func n))
+    (no-function-name direction name n)
     (keeps-on r e e' (function_types f) goes (interfaces_among es) h.keeps)) goes.imports)
 
 -- a type
@@ -226,17 +255,19 @@ type-defined r e e' es scope own k i id is h a learns stays goes =
 -- nothing has been defined by a new encoder
 pub none-defined : (r : Resolve) (e : WorldEncoder) → e.outer ≡ Declarations.no_more → e.maps.id_to_index.entries ≡ [] → e.maps.def_to_index.entries ≡ [] → e.maps.func_type_map.entries ≡ []
     → e.instances ≡ 0 → e.foreign.instances.entries ≡ [] → e.foreign.known.entries ≡ [] → HasDefined r e []
-none-defined r e o a b c count unlisted unknown = record {
-  began = e.maps;
-  no_numbers = a;
-  no_kinds = b;
-  no_keys = c;
-  adds = adds-alike refl refl refl refl refl (ap value_slots o) (ap targets_of o) (ap function_slots o) (adds-nothing r (no_interface r) e.maps nothing_defined);
-  learns = from-none r None [] e.maps;
-  inside = subst (λ (z : Declarations). AllZip (DefinesInterface r) [] (instances_declared z)) (sym o) tt;
-  keeps = keeps-nothing r e.instances (world_around e) o unlisted count;
-  asked = λ n known. let wrong : false ≡ true = ap (λ ks. is_some (known_slot ks n)) (sym unknown) ∙ known in let z : ⊥ = cc in absurd z;
-}
+none-defined r e o a b c count unlisted unknown =
+    let k : KeepsAliases r e.instances (world_around e) [] = keeps-nothing r e.instances (world_around e) o unlisted unknown count in
+    record {
+      began = e.maps;
+      no_numbers = a;
+      no_kinds = b;
+      no_keys = c;
+      adds = adds-alike refl refl refl refl refl (ap value_slots o) (ap targets_of o) (ap function_slots o) (adds-nothing r (no_interface r) e.maps nothing_defined);
+      learns = from-none r None [] e.maps;
+      inside = subst (λ (z : Declarations). AllZip (DefinesInterface r) [] (instances_declared z)) (sym o) tt;
+      keeps = k;
+      asked = λ x there. absurd (k.has.asked x there (ap (λ ks. known_slot ks x.1.number.0) unknown));
+    }
 
 -- ---- what has been defined in the end
 
@@ -255,7 +286,7 @@ defines-once r v w e done s h = record {
   value_types = defines-types r v None (no_interface r) (SlotsStand (outer_slots e.outer)) h.began e.maps nothing_defined (world_definitions e.outer) (type_ids_among es) (functions_among es) e.outer
       h.adds.slots s.agree (slots-once (outer_slots e.outer)) plain h.adds.slots.types h.adds.slots.exported h.no_numbers h.no_kinds held names;
   inside = h.inside;
-  aliases = aliases-in-end r e.instances (world_around e) (interfaces_among es) (IsAskedByWorld r es) h.keeps h.asked;
+  aliases = aliases-in-end r e.instances (world_around e) (interfaces_among es) (IsAskedBehind r es) h.keeps h.asked;
 }
   where
     es : List Entry

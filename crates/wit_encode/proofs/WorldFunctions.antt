@@ -41,10 +41,12 @@ use Rattle.encode_types.specs.View.{Agrees}
 use Rattle.wit_encode.specs.Encoders.{declared_after}
 use Rattle.wit_encode.specs.Instance.{CanEncodeFunction}
 use Rattle.wit_encode.specs.OwnerScope.{IsScopeOf}
+use Rattle.wit_encode.specs.WholeWorlds.{directions_of}
 use Rattle.wit_encode.specs.WorldItems.{HasShown, IsNext, all_done, types_among}
 use Rattle.wit_encode.specs.WorldUses.{StandBefore}
 use Rattle.wit_encode.specs.Worlds.{WorldEncoder, is_sound_outside, world_around, world_definitions, world_encoder_view, world_view_of}
 use Rattle.wit_encode.proofs.Components.{steps-more}
+use Rattle.wit_encode.proofs.Directions.{order-next}
 use Rattle.wit_encode.proofs.Exporting.{shows-nothing}
 use Rattle.wit_encode.proofs.Meeting.{meets-unnamed}
 use Rattle.wit_encode.proofs.OwnerScope.{functions_encode, table_is_scope}
@@ -65,6 +67,7 @@ starts r w e there packages outer instances known count ids agree = record {
   scope = new_scope;
   followed = ap outer_scope outer;
   shows = nothing_is_shown r;
+  order = ap directions_of outer;
   agree = agree;
   sound = λ i. is_sound_outside r e.world (record { declared = outer i; instances = instances i; known = known i });
   stand = λ i c p. none-in i c;
@@ -234,6 +237,7 @@ function-behind r v w e done h direction canonical k f n outer next stands is =
       scope = after;
       followed = followed;
       shows = steps.shows;
+      order = order-next r w direction done x next e.outer outer (name_of_item r canonical x) (refs.Func n) (ap directions_of is) h.order;
       agree = subst (λ (xs : List Slot). MapsAgree r e.maps (SlotsStand xs)) (sym slots) h.agree;
       sound = sound-left r e.world a a' slots instances refl refl after followed h.sound;
       stand = λ i c p. subst (λ (xs : List ℕ). Contains xs i) (sym (standing-left r e.world a a' slots instances refl refl)) (h.stand i (subst (λ (xs : List ℕ). Contains xs i) interfaces c) p);
@@ -256,7 +260,7 @@ function-encoded r v w e e' done h direction canonical k f n outer next leaves o
     let exported = shows-nothing r (world_encoder_view e).scope e.maps e'.maps (world_definitions e.outer) (world_definitions e'.outer) (MetFrom r None e.maps (function_types f)) leaves.agree.once
     only none shows ∙ sym (append-nil (world_definitions e.outer).exports) in
     let same : done.0 ++ [] ≡ done.0 = append-nil done.0 in
-    let left : HasShown r w e' (done.0 ++ [], done.1) = types-shown r w e e' done h leaves.scope_stays leaves.grows [] exported [] tt refl leaves.agree
+    let left : HasShown r w e' (done.0 ++ [], done.1) = types-shown r w e e' done h leaves.scope_stays leaves.grows [] exported [] tt refl (inr refl) leaves.agree
     (λ m c. let old = h.known m (subst (λ (es : List Entry). Contains (types_among (es ++ done.1)) m) same c) in (old.0, leaves.maps_grow.keeps (by_number m) old.0 old.1))
     (λ m q. elim (only.each m q.0 q.1) [
       | inl old ↦ elim (h.alone m (q.0, old)) [ inl nothing ↦ inl nothing | inr c ↦ inr (subst (λ (es : List Entry). Contains (types_among (es ++ done.1)) m) (sym same) c) ]

@@ -1,5 +1,5 @@
 -- An interface of a world, imported or exported: what its instance type defines, how much is held behind it, and why there is no room for it.
-use Rattle.std.proofs.Common.{◌≡◌, refl, sym, subst, ap, ◌∙◌, ℕ, ◌+◌, ◌≤◌, ◌⊎◌, inl, inr, nat_cmp, Bool, true, false, ◌&&◌, List, [], ◌∷◌, ◌++◌, length, Some, None, is_some, arith}
+use Rattle.std.proofs.Common.{◌≡◌, refl, sym, subst, ap, ◌∙◌, ℕ, ◌+◌, ◌≤◌, ◌⊎◌, inl, inr, nat_cmp, Bool, true, false, ◌&&◌, List, [], ◌∷◌, ◌++◌, length, map, Some, None, is_some, arith}
 use Rattle.std.specs.BTreeMap.{insert_entry}
 use Rattle.std.specs.List.{AllZip, Contains}
 use Rattle.std.proofs.lemmas.List.{length-map}
@@ -29,8 +29,8 @@ use Rattle.encode_names.specs.WorldSteps.{Entry, Entries, declared_towards, inte
 use Rattle.wit_encode.specs.Encoders.{InterfaceLacksRoom, declared_after}
 use Rattle.encode_types.specs.Distinct.{is_value_type, is_function_type}
 use Rattle.wit_encode.specs.Instance.{EncodesInterface, LacksInstanceRoom, whole_interface}
-use Rattle.wit_encode.specs.WorldAliases.{KeepsAliases}
-use Rattle.wit_encode.specs.WorldCounts.{DefinesInterface, HasDefined, IsAskedByWorld, no_interface}
+use Rattle.wit_encode.specs.WorldAliases.{KeepsBehind, place_and_number}
+use Rattle.wit_encode.specs.WorldCounts.{DefinesInterface, HasDefined, IsAskedBy, no_interface}
 use Rattle.wit_encode.specs.WorldHolds.{HoldsFew, LacksDeclaration}
 use Rattle.wit_encode.specs.WorldItems.{IsNext, ListsInstance, all_done}
 use Rattle.wit_encode.specs.WorldRoom.{functions_among, count_among, entries_in, WorldLacksRoom, an_interface, a_name}
@@ -39,10 +39,10 @@ use Rattle.wit_encode.proofs.Counting.{adds-alike, adds-nothing}
 use Rattle.wit_encode.proofs.PlacedInstances.{grown-few, grown-listed, listed-cases, one-behind, placed-few, placed-instances, placed-targets, placed-slots}
 use Rattle.wit_encode.proofs.Referring.{from-none}
 use Rattle.wit_encode.proofs.Refusing.{counts-refused, outer-slots-few}
-use Rattle.wit_encode.proofs.AliasesKept.{keeps-aliases, known-among}
+use Rattle.wit_encode.proofs.AliasesKept.{keeps-aliases, known-among, none-since}
 use Rattle.wit_encode.proofs.AliasesPlaced.{keeps-instance}
 use Rattle.wit_encode.proofs.WrittenNames.{interface-name}
-use Rattle.wit_encode.proofs.WorldCounting.{asked-front, defines-behind, interfaces-more, towards-alias, towards-function, towards-target, towards-value}
+use Rattle.wit_encode.proofs.WorldCounting.{defines-behind, interfaces-more, towards-alias, towards-function, towards-target, towards-value}
 use Rattle.wit_encode.proofs.WorldHolding.{count-both, full, known-number, known-numbers, known-once, met-before, next-among}
 use Rattle.wit_encode.proofs.WorldInterfaces.{among-one}
 use Rattle.base_lemmas.proofs.Elements.{contains-one, zip-append}
@@ -108,7 +108,7 @@ module _ (r : Resolve) (e e' e'' : WorldEncoder) (x : Entry) (i : InterfaceId) (
       (subst (λ (ns : List ℕ). AllZip (DefinesInterface r) ns (instances_declared e''.outer)) (sym (interfaces-more es (x ∷ []) ∙ ap (λ (ns : List ℕ). interfaces_among es ++ ns) (among-one x i.0 is)))
       (subst (AllZip (DefinesInterface r) (interfaces_among es ++ i.0 ∷ [])) (sym instances-then)
       (zip-append (DefinesInterface r) (interfaces_among es) (instances_declared e.outer) (i.0 ∷ []) ((before.declared, inner) ∷ []) h.inside (one, tt))))
-      (subst (λ (ns : List ℕ). KeepsAliases r e''.instances (world_around e'') ns) (sym among-then) keeps-then) asked-then
+      (subst (λ (ns : List ℕ). KeepsBehind r e''.instances (world_around e'') ns (map place_and_number h.keeps.has.made) (length (interfaces_among es))) (sym among-then) keeps-then) asked-then
     where
       among-then : interfaces_among (es ++ x ∷ []) ≡ interfaces_among es ++ i.0 ∷ []
       among-then = interfaces-more es (x ∷ []) ∙ ap (λ (ns : List ℕ). interfaces_among es ++ ns) (among-one x i.0 is)
@@ -116,26 +116,30 @@ module _ (r : Resolve) (e e' e'' : WorldEncoder) (x : Entry) (i : InterfaceId) (
       counted : e'.instances ≡ e.instances
       counted = ap (λ (z : WorldEncoder). z.instances) rest
 
-      keeps-before : KeepsAliases r e.instances before (interfaces_among es)
-      keeps-before = subst (λ (z : Around). KeepsAliases r e.instances z (interfaces_among es)) (sym encodes.part.aliases.grown.is)
-          (keeps-aliases r e.instances (interfaces_among es) (world_around e) encodes.part.aliases.grown.made encodes.part.aliases.grown.are h.keeps)
+      keeps-before : KeepsBehind r e.instances before (interfaces_among es) (map place_and_number h.keeps.has.made) (length (interfaces_among es))
+      keeps-before = subst (λ (z : Around). KeepsBehind r e.instances z (interfaces_among es) (map place_and_number h.keeps.has.made) (length (interfaces_among es)))
+          (sym encodes.part.aliases.grown.is)
+          (keeps-aliases r e.instances (interfaces_among es) (map place_and_number h.keeps.has.made) (world_around e)
+          encodes.part.aliases.grown.made encodes.part.aliases.grown.are (none-since h.keeps))
 
-      keeps-then : KeepsAliases r e''.instances (world_around e'') (interfaces_among es ++ i.0 ∷ [])
-      keeps-then = subst (λ (n : ℕ). KeepsAliases r n (world_around e'') (interfaces_among es ++ i.0 ∷ [])) (sym (ap (λ (z : WorldEncoder). z.instances) lists.rest ∙ ap (λ n. n + 1) counted))
-          (keeps-instance r e.instances (interfaces_among es) i.0 before (world_around e'') inner described outer-then (towards-alias direction name (refs.Instance k))
+      keeps-then : KeepsBehind r e''.instances (world_around e'') (interfaces_among es ++ i.0 ∷ []) (map place_and_number h.keeps.has.made) (length (interfaces_among es))
+      keeps-then = subst (λ (n : ℕ). KeepsBehind r n (world_around e'') (interfaces_among es ++ i.0 ∷ []) (map place_and_number h.keeps.has.made) (length (interfaces_among es)))
+          (sym (ap (λ (z : WorldEncoder). z.instances) lists.rest ∙ ap (λ n. n + 1) counted))
+          (keeps-instance r e.instances (interfaces_among es) i.0 (map place_and_number h.keeps.has.made) before (world_around e'')
+          inner described outer-then (towards-alias direction name (refs.Instance k))
           (ap length (interface-name direction name k))
           (listed-then ∙ (λ j. insert_entry nat_cmp (sym (grown-listed r (world_around e) before encodes.part.aliases.grown) j) i.0 (counted j))) known-then keeps-before)
 
-      asked-then : (n : ℕ) → is_some (known_slot e''.foreign.known.entries n) ≡ true → IsAskedByWorld r (es ++ x ∷ []) n
-      asked-then n known =
-          elim (known-among (world_around e) encodes.part.aliases.grown.made r encodes.part.aliases.grown.are n
-          (ap (λ (z : Around). is_some (known_slot z.known n)) (sym encodes.part.aliases.grown.is) ∙ ap (λ ks. is_some (known_slot ks n)) (sym known-then) ∙ known)) [
-            | inl old ↦ asked-front r es (x ∷ []) n (h.asked n old)
-            | inr new ↦ inr (
+      asked-then : (t : ℕ) → is_some (known_slot e''.foreign.known.entries t) ≡ true → (is_some (known_slot e.foreign.known.entries t) ≡ true) ⊎ IsAskedBy r x t
+      asked-then t known =
+          elim (known-among (world_around e) encodes.part.aliases.grown.made r encodes.part.aliases.grown.are t
+          (ap (λ (z : Around). is_some (known_slot z.known t)) (sym encodes.part.aliases.grown.is) ∙ ap (λ ks. is_some (known_slot ks t)) (sym known-then) ∙ known)) [
+            | inl known ↦ inl known
+            | inr new ↦ inr (inr (
               i.0,
-              subst (λ (ns : List ℕ). Contains ns i.0) (sym among-then) (Contains-append_right (interfaces_among es) (i.0 ∷ []) i.0 (contains-one i.0)),
+              is,
               record { def = def; there = there; met = subst (λ (m : ℕ). IsMetElsewhere r (Some i) (whole_interface def) m) new.2 (encodes.part.aliases.met new.0 new.1) },
-            )
+            ))
           ]
 
       one : DefinesInterface r i.0 (before.declared, inner)

@@ -38,9 +38,11 @@ use Rattle.wit_encode.specs.declared.interface.Foreign.{Foreign}
 use Rattle.wit_encode.specs.Encoders.{declared_after}
 use Rattle.wit_encode.specs.Instance.{EncodesInterface, around_at}
 use Rattle.wit_encode.specs.Worlds.{WorldEncoder, is_sound_outside, world_around, world_resources}
+use Rattle.wit_encode.specs.WholeWorlds.{directions_of}
 use Rattle.wit_encode.specs.WorldItems.{DefinesInstance, HasShown, IsNext, ListsInstance, all_done, types_among}
 use Rattle.wit_encode.proofs.Components.{steps-count, steps-instance, steps-more}
 use Rattle.wit_encode.proofs.Contents.{slots-kept}
+use Rattle.wit_encode.proofs.Directions.{directions-around, order-next}
 use Rattle.wit_encode.proofs.Importing.{importable-stands, right-more}
 use Rattle.wit_encode.proofs.ImportLoop.{path-in-range}
 use Rattle.wit_encode.proofs.ImportsStand.{instance-stands}
@@ -288,6 +290,8 @@ module _ (r : Resolve) (v : IsValid r) (w : World) (e : WorldEncoder) (done : En
         scope = after;
         followed = next;
         shows = steps.shows;
+        order = order-next r w direction done x n (append e.outer (Declarations.instance (from_list ds) Declarations.no_more)) outer (name_of_item r canonical x) (refs.Instance k)
+            (ap directions_of declared) (directions-around e.outer (from_list ds) ∙ h.order);
         agree = record {
           says = λ q m holds. subst (λ (zs : List Slot). SlotsStand zs m (standing_of r q)) (sym slots-more)
               (slots-kept slot (outer_slots e.outer) m (standing_of r q) (h.agree.says q m holds));

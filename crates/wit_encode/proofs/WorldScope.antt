@@ -19,8 +19,7 @@ use Rattle.encode_names.proofs.Rebuilt.{others-before}
 use Rattle.encode_names.proofs.WorldSteps.{types-appended}
 use Rattle.wit_encode.specs.Instance.{Contents, no_view}
 use Rattle.wit_encode.specs.WrittenNames.{instance_declarations, instances_around}
-use Rattle.wit_encode.specs.WorldAliases.{KeepsAliases}
-use Rattle.wit_encode.specs.Worlds.{declared_type, is_sound_outside, others_of, seen_imports, world_resources, world_scope, world_view, instances_declared}
+use Rattle.wit_encode.specs.Worlds.{KeepsTold, declared_type, is_sound_outside, others_of, seen_imports, world_resources, world_scope, world_view, instances_declared}
 use Rattle.wit_encode.proofs.Contents.{IsOf, Grew, grew-adds, grew-grows}
 use Rattle.base_lemmas.proofs.Bools.{left_of as first_true, right_of as second_true}
 use Rattle.base_lemmas.proofs.Options.{there as some-of}
@@ -169,7 +168,7 @@ pub record WorldCalls {E : Type 0} (res : Result ℕ E) (v v' : View) (P : Stand
 pub world-calls : {E : Type 0} (res : Result ℕ E) (r : Resolve) (w : WorldId) (count : ℕ) (a a' : Around) (m : TypeEncodingMaps) (P : Standing → Type 0) (counts : Type 0) (x : Slot)
     (types : List Seen)
     → is_sound_outside r w a ≡ true → IsOf x P → IfOk res (λ k. (k ≡ length (outer_slots a.declared)) × Widens r w a a' x types
-    × ((ns : List ℕ) → KeepsAliases r count a ns → KeepsAliases r count a' ns) × counts) → OnErr res (a' ≡ a)
+    × ((ns : List ℕ) → KeepsTold r count a ns → KeepsTold r count a' ns) × counts) → OnErr res (a' ≡ a)
     → WorldCalls res (world_view r w count a m) (world_view r w count a' m) P counts
 world-calls (Ok k) r w count a a' m P counts x types sound is h e =
     let s = sound-outside r w a sound in

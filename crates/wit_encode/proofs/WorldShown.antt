@@ -1,5 +1,5 @@
 -- What an encoder of a world shows after a call that defines, imports and reaches types.
-use Rattle.std.proofs.Common.{◌≡◌, refl, sym, subst, ap, ◌∙◌, append-nil, ℕ, ◌⊎◌, true, if◌then◌else◌, List, [], ◌∷◌, ◌++◌, map, filter_map, None, length, arith}
+use Rattle.std.proofs.Common.{◌≡◌, refl, sym, subst, ap, ◌∙◌, append-nil, ℕ, zero, suc, ◌⊎◌, true, if◌then◌else◌, List, [], ◌∷◌, ◌++◌, map, filter_map, None, length, arith}
 use Rattle.std.specs.List.{AllZip, Contains}
 use Rattle.std.specs.Option.{option_map_or}
 use Rattle.std.proofs.lemmas.List.{map-append}
@@ -9,7 +9,7 @@ use Rattle.wit_model.specs.Meaning.{TypeMeaning}
 use Rattle.wit_model.specs.Lookup.{world_at}
 use Rattle.wit_model.specs.declared.model.Resolve.{Resolve}
 use Rattle.wit_model.specs.declared.model.World.{World}
-use Rattle.comp_meaning.specs.Follow.{Seen, Shown, instance_types}
+use Rattle.comp_meaning.specs.Follow.{Seen, Shown, instance_types, new_scope}
 use Rattle.encode_shown.specs.Views.{ShowsItem}
 use Rattle.encode_types.specs.Counts.{own_name}
 use Rattle.encode_types.specs.Known.{outer_slots, standing_instances}
@@ -17,11 +17,13 @@ use Rattle.encode_types.specs.Maps.{IsKnown}
 use Rattle.encode_types.specs.Scope.{Others, Scope}
 use Rattle.encode_types.specs.View.{Agrees, Grows}
 use Rattle.encode_names.specs.Rebuilt.{others_seen, types_seen}
-use Rattle.encode_names.specs.WorldSteps.{AddsTypes, Entry, Entries, interfaces_among}
+use Rattle.encode_names.specs.WorldSteps.{AddsTypes, Entry, Entries, ShowsEntries, interfaces_among}
 use Rattle.encode_names.proofs.EntriesRebuilt.{entries_are_rebuilt}
 use Rattle.wit_encode.specs.Worlds.{WorldEncoder, declared_type, is_sound_outside, seen_imports, world_around, world_definitions, world_view_of}
 use Rattle.wit_encode.specs.WorldItems.{HasShown, all_done, types_among}
+use Rattle.wit_encode.proofs.Directions.{begins-here, numbers_of, order-then}
 use Rattle.wit_encode.proofs.WorldScope.{SoundOutside, sound-outside}
+use Rattle.base_lemmas.proofs.Elements.{zip_long}
 use Rattle.base_lemmas.proofs.Options.{some_same as one-some}
 
 -- ---- the types that have been imported are known from what has been exported
@@ -101,15 +103,21 @@ module _ (r : Resolve) (w : World) (e e' : WorldEncoder) (done : Entries) (h : H
           ∙ ap (λ xs. xs ++ interfaces_among done.1) (flat_map-append _ done.0 more ∙ ap (λ xs. interfaces_among done.0 ++ xs) no_interface ∙ append-nil (interfaces_among done.0))
           ∙ sym (flat_map-append _ done.0 done.1)
 
+      shows-then : ShowsEntries r (done.0 ++ more, done.1) sound-there.scope
+      shows-then = entries_are_rebuilt r done h.scope sound-there.scope more (map type_seen types) h.shows adds shown
+
       -- these imports more are shown
-      pub types-shown : Agrees r (world_view_of e'.resolve.now e') → ((n : ℕ) → Contains (types_among (all_done (done.0 ++ more, done.1))) n → IsKnown e'.maps n)
+      pub types-shown : (done.1 ≡ []) ⊎ (more ≡ []) → Agrees r (world_view_of e'.resolve.now e') → ((n : ℕ) → Contains (types_among (all_done (done.0 ++ more, done.1))) n → IsKnown e'.maps n)
           → ((n : ℕ) → IsKnown e'.maps n → (own_name r (world_view_of r e).scope n ≡ None) ⊎ Contains (types_among (all_done (done.0 ++ more, done.1))) n) → HasShown r w e' (done.0 ++ more, done.1)
-      types-shown agree known alone = record {
+      types-shown last agree known alone = record {
         packages_ = packages-stay;
         world_ = ap (world_at r) world-same ∙ h.world_;
         scope = sound-there.scope;
         followed = sound-there.followed;
-        shows = entries_are_rebuilt r done h.scope sound-there.scope more (map type_seen types) h.shows adds shown;
+        shows = shows-then;
+        order = order-then new_scope sound-there.scope e'.outer done.0 done.1 more sound-there.followed refl refl
+            (grows.own_ (suc zero ∷ numbers_of done.0 done.1) (begins-here done.0 done.1 e.outer h.order))
+            (zip_long (ShowsItem r) (done.0 ++ more) sound-there.scope.imports shows-then.imports) (zip_long (ShowsItem r) done.1 sound-there.scope.exports shows-then.exports) last;
         agree = subst (λ (z : Resolve). Agrees r (world_view_of z e')) packages-stay agree;
         sound = sound-after;
         stand = λ i c p. subst (λ (xs : List ℕ). Contains xs i) (sym standing-same) (h.stand i (subst (λ (xs : List ℕ). Contains xs i) same-interfaces c) p);

@@ -217,7 +217,7 @@ module _ (r : Resolve) (v : IsValid r) (w : World) (e : WorldEncoder) (done : En
     pub type-imported : HasShown r w e' (done.0 ++ entry ∷ [], done.1)
     type-imported = types-shown r w e e' done h leaves.scope_stays leaves.grows ((text_of name, type_meaning r own.def) ∷ [])
         (shows.exports ∙ ap (λ ys. (world_definitions e.outer).exports ++ ys) one-shown)
-        (entry ∷ []) (record { view = nothing_viewed; is_view = tt; is = seen-right }, tt) refl leaves.agree
+        (entry ∷ []) (record { view = nothing_viewed; is_view = tt; is = seen-right }, tt) refl (inl n.begun) leaves.agree
         (λ m c. elim (Contains-append_cases (types_among (all_done done)) (id.0 ∷ []) m (subst (λ (ns : List ℕ). Contains ns m) types-then c)) [
           | inl q ↦ (let old = h.known m q in (old.0, leaves.maps_grow.keeps (by_number m) old.0 old.1))
           | inr q ↦ subst (λ (x : ℕ). IsKnown e'.maps x) (one-contained id.0 m q) (ready id refl)

@@ -1,6 +1,6 @@
--- Which aliases stand in the component type of a world: of types that are met, once for each, by the latest instance of their interface that
--- stands before (Component Model Explainer.md, "Alias Definitions").
-use Rattle.std.specs.Prelude.{ℕ, ◌≡◌, ◌≤◌, ◌<◌, ◌+◌, ◌⊎◌, nat_eq, List, [], ◌∷◌, ◌++◌, map, length, Some, None, String, slice_get}
+-- Which aliases stand in the component type of a world, and where: of types that are met, once for each, by the latest instance of their interface
+-- that stands before (Component Model Explainer.md, "Alias Definitions").
+use Rattle.std.specs.Prelude.{ℕ, ◌≡◌, ◌≤◌, ◌<◌, ◌+◌, ◌⊎◌, nat_eq, List, [], ◌∷◌, ◌++◌, map, flat_map, length, take, drop, Some, None, String, slice_get}
 use Rattle.std.specs.List.{Contains, IsDistinct}
 use Rattle.std.specs.declared.alloc.Global.{Global}
 use Rattle.wit_model.specs.Text.{text_of}
@@ -51,13 +51,14 @@ pub record IsAliasBehind (r : Resolve) (interfaces : List ℕ) (x : PlacedAlias)
   pub behind : x.0 ≤ length interfaces
   pub instance : IsLatest interfaces x.0 interface.0 x.1.instance
 
--- The aliases are those of some types, no type twice, each by the latest instance of its interface by then, and P holds of each type number.
-pub record HasAliasesBehind (r : Resolve) (interfaces : List ℕ) (P : ℕ → Type 0) (outer : Declarations) : Type 0 where
+-- The aliases are those of some types, no type twice, each by the latest instance of its interface by then, and P holds of each place and type
+-- number, where the place is how many instances stand before the alias.
+pub record HasAliasesBehind (r : Resolve) (interfaces : List ℕ) (P : ℕ → ℕ → Type 0) (outer : Declarations) : Type 0 where
   pub made : List PlacedAlias
   pub are : placed_aliases 0 outer ≡ map placed_alias made
   pub once : IsDistinct nat_eq (map (λ x. x.1.number.0) made)
   pub each : (x : PlacedAlias) → Contains made x → IsAliasBehind r interfaces x
-  pub asked : (x : PlacedAlias) → Contains made x → P x.1.number.0
+  pub asked : (x : PlacedAlias) → Contains made x → P x.0 x.1.number.0
 
 -- ---- between two declarations
 
@@ -65,10 +66,48 @@ pub record HasAliasesBehind (r : Resolve) (interfaces : List ℕ) (P : ℕ → T
 abbrev pub HasSlot : Around → ℕ → Type 0
 HasSlot around n = known_slot around.known n ≡ None → ⊥
 
--- So many instances stand, of these interfaces in order; each interface that is listed has its latest one there. The aliases are of types that
--- are listed with a slot.
+-- So many instances stand, of these interfaces in order; each interface that is listed has its latest one there. The aliases are those of the types
+-- that are listed with a slot.
 pub record KeepsAliases (r : Resolve) (count : ℕ) (around : Around) (interfaces : List ℕ) : Type 0 where
   pub counted : count ≡ length interfaces
   pub named : length (instance_names around.declared) ≡ length interfaces
   pub listed : (i k : ℕ) → known_instance around.instances i ≡ Some k → IsLatest interfaces (length interfaces) i k
-  pub has : HasAliasesBehind r interfaces (HasSlot around) around.declared
+  pub has : HasAliasesBehind r interfaces (λ n t. HasSlot around t) around.declared
+  pub all : (t : ℕ) → HasSlot around t → Contains (map (λ x. x.1.number.0) has.made) t
+
+-- where an alias stands, and the number of its type
+abbrev pub place_and_number : PlacedAlias → ℕ × ℕ
+place_and_number x = (x.0, x.1.number.0)
+
+-- Aliases have been made behind these of before, and each of them stands behind n instances.
+pub record KeepsBehind (r : Resolve) (count : ℕ) (around : Around) (interfaces : List ℕ) (before : List (ℕ × ℕ)) (n : ℕ) : Type 0 where
+  pub keeps : KeepsAliases r count around interfaces
+  pub more : List (ℕ × ℕ)
+  pub are : map place_and_number keeps.has.made ≡ before ++ more
+  pub placed : (x : ℕ × ℕ) → Contains more x → x.0 ≡ n
+
+-- ---- interfaces and aliases in one list
+
+-- numbers, two by two
+abbrev pub pairs_in : List ℕ → List (ℕ × ℕ)
+pairs_in [] = []
+pairs_in (n ∷ []) = []
+pairs_in (n ∷ t ∷ rest) = (n, t) ∷ pairs_in rest
+
+-- how many interfaces there are, these, and then the aliases of before, place and number of each
+abbrev pub in_one_list : List ℕ → List (ℕ × ℕ) → List ℕ
+in_one_list interfaces before = length interfaces ∷ interfaces ++ flat_map (λ x. x.0 ∷ x.1 ∷ []) before
+
+-- the interfaces in such a list
+abbrev pub interfaces_in : List ℕ → List ℕ
+interfaces_in [] = []
+interfaces_in (count ∷ rest) = take count rest
+
+-- the aliases in such a list
+abbrev pub aliases_in : List ℕ → List (ℕ × ℕ)
+aliases_in [] = []
+aliases_in (count ∷ rest) = pairs_in (drop count rest)
+
+-- the interfaces whose instances stand and the aliases of before are those of the list, and no instance has been named since
+abbrev pub KeepsListed : Resolve → ℕ → Around → List ℕ → Type 0
+KeepsListed r count around ns = KeepsBehind r count around (interfaces_in ns) (aliases_in ns) (length (interfaces_in ns))

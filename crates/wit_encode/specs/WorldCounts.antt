@@ -1,10 +1,11 @@
 -- What the component type of a world defines: each key of a function and each unnamed kind once, and the same in each instance type, which shows
 -- its interface in order.
-use Rattle.std.specs.Prelude.{ℕ, ◌≡◌, ◌⊎◌, true, List, [], ◌∷◌, ◌++◌, map, length, is_some, Some, None}
+use Rattle.std.specs.Prelude.{ℕ, ◌≡◌, ◌⊎◌, List, [], ◌∷◌, ◌++◌, map, length, Some, None}
 use Rattle.std.specs.List.{AllZip, Contains, IsDistinct}
 use Rattle.std.specs.Set.{is_member}
 use Rattle.indexmap.specs.IndexMap.{values}
 use Rattle.wit_model.specs.Lookup.{interface_at}
+use Rattle.wit_model.specs.Uses.{item_interface}
 use Rattle.wit_model.specs.Valid.{functions_of_interface}
 use Rattle.wit_model.specs.declared.model.Resolve.{Resolve}
 use Rattle.wit_model.specs.declared.model.Interface.{Interface}
@@ -14,14 +15,13 @@ use Rattle.encode_types.specs.declared.maps.TypeEncodingMaps.{TypeEncodingMaps}
 use Rattle.encode_types.specs.Aliases.{IsMetElsewhere}
 use Rattle.encode_types.specs.Counts.{Definitions}
 use Rattle.encode_types.specs.Distinct.{Key, key_of, are_same, is_function_type, AddsFunctions, DefinesKeys, StandForKeys, DefinesTypes}
-use Rattle.encode_types.specs.Known.{known_slot}
 use Rattle.encode_types.specs.MetKinds.{LearnsFrom}
 use Rattle.encode_types.specs.Scope.{Scope}
 use Rattle.encode_types.specs.Table.{table_scope}
 use Rattle.encode_names.specs.WorldSteps.{Entry, interfaces_among}
 use Rattle.wit_encode.specs.declared.world.Placed.{Placed}
 use Rattle.wit_encode.specs.DependencyAliases.{IsMetByWhole}
-use Rattle.wit_encode.specs.WorldAliases.{HasAliasesBehind, KeepsAliases}
+use Rattle.wit_encode.specs.WorldAliases.{HasAliasesBehind, KeepsAliases, PlacedAlias}
 use Rattle.wit_encode.specs.Instance.{DeclaresFew, IsInstance, count_declared, meaning_of, stands_inside, SlotsStand, outer_slots}
 use Rattle.wit_encode.specs.Order.{functions_in_order}
 use Rattle.wit_encode.specs.WorldItems.{entry_of}
@@ -44,15 +44,25 @@ pub record DefinesInterface (r : Resolve) (i : ℕ) (declared : Declarations × 
       (functions_of_interface def) (from_list declarations)
   pub few : DeclaresFew r (Some (record { 0 = i })) (values def.types) (functions_of_interface def) declarations
 
--- what a world asks for that has these imports and exports: what its types and functions meet of interfaces, and what each interface among them does
-abbrev pub IsAskedByWorld : Resolve → List Entry → ℕ → Type 0
-IsAskedByWorld r es n = IsMetElsewhere r None (referred_among es) n ⊎ ((i : ℕ) × Contains (interfaces_among es) i × IsMetByWhole r i n)
+-- what an import or an export of a world asks for: what its types meet of interfaces, and what its interface does
+abbrev pub IsAskedBy : Resolve → Entry → ℕ → Type 0
+IsAskedBy r e t = IsMetElsewhere r None (referred_among (e ∷ [])) t ⊎ ((i : ℕ) × (item_interface e.1 ≡ Some i) × IsMetByWhole r i t)
+
+-- One of these imports and exports asks for it, and n interfaces stand before that one.
+pub record IsAskedBehind (r : Resolve) (es : List Entry) (n t : ℕ) : Type 0 where
+  pub before : List Entry
+  pub entry : Entry
+  pub behind : List Entry
+  pub are : es ≡ before ++ entry ∷ behind
+  pub place : length (interfaces_among before) ≡ n
+  pub asked : IsAskedBy r entry t
 
 -- The component type defines one function type for each key of these functions, in a slot of its own that stands for the key's signature, and
 -- one value type for each unnamed kind that these types and functions meet and for each of the types that has a definition of its own, in slots
 -- of their own, and no others. It has an instance type
 -- for each interface, in order, which does the same for it. Aliases stand there of types that these types, functions and interfaces meet, no type
--- twice, each by the latest instance of its interface that stands before.
+-- twice, each by the latest instance of its interface that stands before, and behind as many instances as stand before one of the imports and
+-- exports that ask for it.
 pub record DefinesOnce (r : Resolve) (outer : Declarations) (es : List Entry) : Type 0 where
   pub keys : List Key
   pub function_types : count_declared is_function_type outer ≡ length keys
@@ -61,7 +71,7 @@ pub record DefinesOnce (r : Resolve) (outer : Declarations) (es : List Entry) : 
   pub slots : StandForKeys r (SlotsStand (outer_slots outer)) keys outer
   pub value_types : DefinesTypes r None (SlotsStand (outer_slots outer)) (type_ids_among es) (functions_among es) outer
   pub inside : AllZip (DefinesInterface r) (interfaces_among es) (instances_declared outer)
-  pub aliases : HasAliasesBehind r (interfaces_among es) (IsAskedByWorld r es) outer
+  pub aliases : HasAliasesBehind r (interfaces_among es) (IsAskedBehind r es) outer
 
 -- ---- between two items
 
@@ -73,7 +83,7 @@ abbrev pub no_interface : Resolve → Scope
 no_interface r = table_scope r owner.None
 
 -- What has been defined is what the maps have learnt since they were empty: what these imports and exports meet, and nothing else, and the keys
--- of their functions. Each interface has its instance type. Aliases are of types that these imports and exports ask for.
+-- of their functions. Each interface has its instance type. Aliases are of types that these imports and exports ask for, where they do.
 pub record HasDefined (r : Resolve) (e : WorldEncoder) (es : List Entry) : Type 0 where
   pub began : TypeEncodingMaps
   pub no_numbers : began.id_to_index.entries ≡ []
@@ -83,7 +93,7 @@ pub record HasDefined (r : Resolve) (e : WorldEncoder) (es : List Entry) : Type 
   pub learns : LearnsFrom r None (referred_among es) began e.maps
   pub inside : AllZip (DefinesInterface r) (interfaces_among es) (instances_declared e.outer)
   pub keeps : KeepsAliases r e.instances (world_around e) (interfaces_among es)
-  pub asked : (n : ℕ) → is_some (known_slot e.foreign.known.entries n) ≡ true → IsAskedByWorld r es n
+  pub asked : (x : PlacedAlias) → Contains keeps.has.made x → IsAskedBehind r es x.0 x.1.number.0
 
 -- Behind whatever had been defined, so is what these entries ask for, or one.
 abbrev pub DefinesAll : Resolve → WorldEncoder → WorldEncoder → List Entry → Type 0

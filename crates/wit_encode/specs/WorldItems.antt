@@ -20,6 +20,7 @@ use Rattle.wit_encode.specs.declared.world.Direction.{Direction as RustDirection
 use Rattle.wit_encode.specs.declared.world.Direction.TheVariants as directions
 use Rattle.wit_encode.specs.declared.world.Placed.{Placed}
 use Rattle.wit_encode.specs.Instance.{EncodesDependency, EncodesInterface}
+use Rattle.wit_encode.specs.WholeWorlds.{directions_of, imports_first}
 use Rattle.wit_encode.specs.Worlds.{WorldEncoder, is_sound_outside, world_around, world_view_of}
 
 -- the numbers of the types among entries, in order
@@ -31,13 +32,14 @@ all_done done = done.0 ++ done.1
 
 -- What holds between two items: these imports and exports of the world are shown. Instances of the interfaces among them stand, each named
 -- one for its number, and no other has been counted; there are no more of them than types. The types of the world that are known are those
--- that have been imported.
+-- that have been imported. No import stands behind an export.
 pub record HasShown (r : Resolve) (w : World) (e : WorldEncoder) (done : Entries) : Type 0 where
   pub packages_ : e.resolve.now ≡ r
   pub world_ : world_at r e.world.0 ≡ Some w
   pub scope : follow.Scope
   pub followed : outer_scope e.outer ≡ Some scope
   pub shows : ShowsEntries r done scope
+  pub order : directions_of e.outer ≡ imports_first done.0 done.1
   pub agree : Agrees r (world_view_of r e)
   pub sound : is_sound_outside r e.world (world_around e) ≡ true
   pub stand : (i : ℕ) → Contains (interfaces_among (all_done done)) i → is_some (interface_path r i) ≡ true → Contains (standing_instances r (world_around e)) i

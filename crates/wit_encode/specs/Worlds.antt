@@ -1,5 +1,6 @@
 -- What an encoder of a world holds: a component type, in whose scope the types of the world are imported (Component Model WIT.md, "Package Format").
-use Rattle.std.specs.Prelude.{ℕ, ◌-◌, Bool, false, ◌&&◌, if◌then◌else◌, List, [], ◌∷◌, Option, Some, None, length, filter_map, is_some}
+use Rattle.std.specs.Prelude.{ℕ, ◌≡◌, ◌-◌, ◌++◌, Bool, false, ◌&&◌, if◌then◌else◌, List, [], ◌∷◌, Option, Some, None, length, map, filter_map, is_some}
+use Prim.Native.Nat.{zero, suc}
 use Rattle.std.specs.Option.{option_map_or}
 use Rattle.std.specs.List.{filter, list_all}
 use Rattle.wit_model.specs.Text.{Text}
@@ -12,7 +13,7 @@ use Rattle.wit_model.specs.declared.model.TypeDef.{TypeDef}
 use Rattle.wit_model.specs.declared.model.WorldId.{WorldId}
 use Rattle.wit_model.specs.declared.model.TypeOwner.TheVariants as owner
 use Rattle.comp_bytes.specs.Raw.{Declarations, append, declaration_count}
-use Rattle.comp_meaning.specs.Follow.{Seen, Shown, instance_types}
+use Rattle.comp_meaning.specs.Follow.{Direction, import_, export_, Seen, Shown, instance_types}
 use Rattle.encode_types.specs.declared.maps.TypeEncodingMaps.{TypeEncodingMaps}
 use Rattle.encode_types.specs.Counts.{Definitions}
 use Rattle.encode_types.specs.Distinct.{value_slots, function_slots, targets_of}
@@ -25,7 +26,8 @@ use Rattle.encode_types.specs.Table.{table_scope}
 use Rattle.encode_types.specs.View.{View}
 use Rattle.encode_names.specs.Rebuilt.{others_seen}
 use Rattle.wit_encode.specs.Instance.{around_at, declared_extent}
-use Rattle.wit_encode.specs.WorldAliases.{KeepsAliases}
+use Rattle.wit_encode.specs.WholeWorlds.{directions_of}
+use Rattle.wit_encode.specs.WorldAliases.{KeepsListed}
 use Rattle.wit_encode.specs.WrittenNames.{instances_around}
 use Rattle.wit_encode.specs.declared.world.WorldEncoderOf.{WorldEncoderOf}
 
@@ -131,6 +133,22 @@ brought_numbers r component = filter (is_brought r component) (below (length r.t
 abbrev pub held_beside : Resolve → Around → ℕ
 held_beside r component = declaration_count component.declared - length (brought_numbers r component)
 
+-- an import, or by any greater number an export
+abbrev pub direction_at : ℕ → Direction
+direction_at zero = import_
+direction_at (suc n) = export_
+
+-- The first imports and exports are these.
+pub record BeginsWith (ns : List ℕ) (outer : Declarations) : Type 0 where
+  pub more : List Direction
+  pub are : directions_of outer ≡ map direction_at ns ++ more
+
+-- what is kept of a list: behind zero it tells of aliases, and behind any other number of imports and exports
+abbrev pub KeepsTold : Resolve → ℕ → Around → List ℕ → Type 0
+KeepsTold r count around [] = Unit {0}
+KeepsTold r count around (zero ∷ ns) = KeepsListed r count around ns
+KeepsTold r count around (suc n ∷ ns) = BeginsWith ns around.declared
+
 -- a component type with so many instances, and the maps of its scope; around, its instance types and what it imports and exports of instances; of
 -- types of other interfaces stands what has an alias, each by the latest instance of its interface
 abbrev pub world_view : Resolve → WorldId → ℕ → Around → TypeEncodingMaps → View
@@ -145,7 +163,7 @@ world_view r w count component maps = record {
   held = held_beside r component;
   extent = declared_extent component.declared;
   lacks_room = LacksRoomBehind r (declaration_count component.declared);
-  own = λ ns. KeepsAliases r count component ns;
+  own = λ ns. KeepsTold r count component ns;
 }
 
 -- the component type, and what is listed of it

@@ -1,4 +1,4 @@
-use Rattle.std.proofs.Common.{◌≡◌, ◌∙◌, ap, sym, subst, refl, ℕ, Result, Err, rules}
+use Rattle.std.proofs.Common.{◌≡◌, ◌∙◌, ap, sym, subst, refl, ℕ, zero, ◌∷◌, Result, Err, rules}
 use Rattle.wit_model.specs.declared.error.Error.{Error}
 use Rattle.wit_model.specs.declared.error.Error.TheVariants as errors
 use Rattle.encode_types.specs.Scope.{Scope}
@@ -51,7 +51,7 @@ returns-clause-once c = on-each c.declare.result (λ made es h. function-defined
       packages_ = c.requires.next.shown.packages_;
       packages_stay = ap (λ (s : Scope). s.packages) c.encode_func_type.ensures.leaves.scope_stays;
       keeps =
-          c.encode_func_type.ensures.leaves.grows.own_;
+          λ ns. c.encode_func_type.ensures.leaves.grows.own_ (zero ∷ ns);
       imports = c.encode_func_type.ensures.imports;
     })) c.declare.ensures.ok
 

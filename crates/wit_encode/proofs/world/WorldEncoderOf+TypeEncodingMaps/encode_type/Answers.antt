@@ -1,4 +1,4 @@
-use Rattle.std.proofs.Common.{◌≡◌, ◌∙◌, ap, refl, Result, Err, rules}
+use Rattle.std.proofs.Common.{◌≡◌, ◌∙◌, ap, refl, zero, ◌∷◌, Result, Err, rules}
 use Rattle.wit_model.specs.declared.error.Error.{Error}
 use Rattle.wit_model.specs.declared.error.Error.TheVariants as errors
 use Rattle.comp_bytes.specs.declared.forms.ComponentValType.{ComponentValType}
@@ -34,7 +34,7 @@ returns-clause-once c = λ es h. type-defined c.args.resolve.now c.args.self.now
       packages_ = c.requires.next.shown.packages_;
       packages_stay = ap (λ (s : Scope). s.packages) c.encode_valtype.ensures.leaves.scope_stays;
       keeps =
-          c.encode_valtype.ensures.leaves.grows.own_;
+          λ ns. c.encode_valtype.ensures.leaves.grows.own_ (zero ∷ ns);
       imports = c.encode_valtype.ensures.imports;
     })
 

@@ -1,0 +1,255 @@
+-- Imports and exports of a component type, in order: what declarations add to them, and that no import stands behind an export.
+use Rattle.std.proofs.Common.{◌≡◌, refl, sym, subst, ap, ◌∙◌, append-nil, append_assoc, ℕ, zero, suc, ◌+◌, ◌⊎◌, inl, inr, List, [], ◌∷◌, ◌++◌, map, Option, Some, None, slice_get, length, length-append, arith}
+use Rattle.std.specs.Prelude.{not, ◌==◌}
+use Rattle.std.specs.List.{list_any}
+use Rattle.std.proofs.lemmas.List.{map-append}
+use Rattle.std.proofs.lemmas.Option.{same_Some as some-same}
+use Rattle.wit_model.specs.Tree.{Place}
+use Rattle.wit_model.specs.declared.model.Resolve.{Resolve}
+use Rattle.wit_model.specs.declared.model.World.{World}
+use Rattle.comp_bytes.specs.declared.forms.ComponentTypeRef.{ComponentTypeRef}
+use Rattle.comp_bytes.specs.declared.forms.ComponentTypeRef.TheVariants as refs
+use Rattle.comp_bytes.specs.Raw.{Alias, Declaration, Declarations, ExternName, append}
+use Rattle.comp_bytes.specs.Reading.{◌>>=◌}
+use Rattle.comp_meaning.specs.Follow.{Direction, import_, export_, Key, Scope, Seen, Shown, Slot, View, component_step, component_steps, definition, exported_slot, flat, function_in, function_signature, in_scope, interface_of, key_of, key_text, named_type, place_of, see, see_function, see_instance, see_type, used_view, when}
+use Rattle.comp_meaning.proofs.FollowLemmas.{provided_is as unprovided}
+use Rattle.encode_types.specs.Known.{Around}
+use Rattle.encode_names.specs.WorldSteps.{Entry, Entries, declared_towards, with_entry}
+use Rattle.wit_encode.specs.Encoders.{declared_after}
+use Rattle.wit_encode.specs.WholeWorlds.{direction_of, directions_of, imports_first}
+use Rattle.wit_encode.specs.WorldAliases.{KeepsListed}
+use Rattle.wit_encode.specs.WorldItems.{IsNext}
+use Rattle.wit_encode.specs.Worlds.{BeginsWith, KeepsTold, direction_at}
+use Rattle.wit_encode.proofs.Steps.{unbind}
+use Rattle.base_lemmas.proofs.Lists.{map_of_map}
+
+-- ---- one declaration more
+
+pub directions-more : (ds : Declarations) (d : Declaration) → directions_of (declared_after ds d) ≡ directions_of ds ++ direction_of d
+directions-more Declarations.no_more d = append-nil (direction_of d)
+directions-more (Declarations.declares e rest) d = ap (λ (xs : List Direction). direction_of e ++ xs) (directions-more rest d)
+    ∙ sym (append_assoc (direction_of e) (directions_of rest) (direction_of d))
+directions-more (Declarations.component inner rest) d = directions-more rest d
+directions-more (Declarations.instance inner rest) d = directions-more rest d
+
+pub directions-around : (ds inner : Declarations) → directions_of (append ds (Declarations.instance inner Declarations.no_more)) ≡ directions_of ds
+directions-around Declarations.no_more inner = refl
+directions-around (Declarations.declares e rest) inner = ap (λ (xs : List Direction). direction_of e ++ xs) (directions-around rest inner)
+directions-around (Declarations.component i rest) inner = directions-around rest inner
+directions-around (Declarations.instance i rest) inner = directions-around rest inner
+
+towards-direction : (direction : Direction) (name : ExternName) (described : ComponentTypeRef) → direction_of (declared_towards direction name described) ≡ direction ∷ []
+towards-direction import_ name described = refl
+towards-direction export_ name described = refl
+
+-- the next import or export
+pub order-next : (r : Resolve) (w : World) (direction : Direction) (done : Entries) (x : Entry) → IsNext r w direction done x → (outer outer' : Declarations) (name : ExternName)
+    (described : ComponentTypeRef) → directions_of outer' ≡ directions_of (declared_after outer (declared_towards direction name described)) → directions_of outer ≡ imports_first done.0 done.1
+    → directions_of outer' ≡ imports_first (with_entry direction done x).0 (with_entry direction done x).1
+order-next r w direction done x n outer outer' name described is before =
+    is ∙ directions-more outer (declared_towards direction name described) ∙ (λ j. before j ++ towards-direction direction name described j) ∙ by direction n
+  where
+    by : (direction : Direction) → IsNext r w direction done x → imports_first done.0 done.1 ++ direction ∷ [] ≡ imports_first (with_entry direction done x).0 (with_entry direction done x).1
+    by import_ n =
+        ap (λ (es : List Entry). imports_first done.0 es ++ import_ ∷ []) n.begun ∙ ap (λ (xs : List Direction). xs ++ import_ ∷ []) (append-nil (map (λ (e : Entry). import_) done.0))
+        ∙ sym (map-append (λ (e : Entry). import_) done.0 (x ∷ [])) ∙ sym (append-nil (map (λ (e : Entry). import_) (done.0 ++ x ∷ [])))
+        ∙ ap (λ (es : List Entry). imports_first (done.0 ++ x ∷ []) es) (sym n.begun)
+    by export_ n =
+        append_assoc (map (λ (e : Entry). import_) done.0) (map (λ (e : Entry). export_) done.1) (export_ ∷ [])
+        ∙ ap (λ (xs : List Direction). map (λ (e : Entry). import_) done.0 ++ xs) (sym (map-append (λ (e : Entry). export_) done.1 (x ∷ [])))
+
+-- ---- what an encoder of a world keeps
+
+begins-more : (ns : List ℕ) (outer outer' : Declarations) (more : List Direction) → directions_of outer' ≡ directions_of outer ++ more → BeginsWith ns outer → BeginsWith ns outer'
+begins-more ns outer outer' more is b = record { more = b.more ++ more; are = is ∙ ap (λ (xs : List Direction). xs ++ more) b.are ∙ append_assoc (map direction_at ns) b.more more }
+
+pub keeps-both : {r : Resolve} {count count' : ℕ} {a a' : Around} (more : List Direction) → ((ns : List ℕ) → KeepsListed r count a ns → KeepsListed r count' a' ns)
+    → directions_of a'.declared ≡ directions_of a.declared ++ more → (ns : List ℕ) → KeepsTold r count a ns → KeepsTold r count' a' ns
+keeps-both more keeps is [] k = tt
+keeps-both more keeps is (zero ∷ ns) k = keeps ns k
+keeps-both {a = a} {a' = a'} more keeps is (suc n ∷ ns) k = begins-more ns a.declared a'.declared more is k
+
+-- these imports and exports, by numbers
+abbrev pub numbers_of : List Entry → List Entry → List ℕ
+numbers_of imports exports = map (λ e. zero) imports ++ map (λ e. suc zero) exports
+
+numbers-told : (imports exports : List Entry) → map direction_at (numbers_of imports exports) ≡ imports_first imports exports
+numbers-told imports exports = map-append direction_at (map (λ (e : Entry). zero) imports) (map (λ (e : Entry). suc zero) exports)
+    ∙ (λ j. map_of_map direction_at (λ (e : Entry). zero) imports j ++ map_of_map direction_at (λ (e : Entry). suc zero) exports j)
+
+-- what stands there now is what begins it
+pub begins-here : (imports exports : List Entry) (outer : Declarations) → directions_of outer ≡ imports_first imports exports → BeginsWith (numbers_of imports exports) outer
+begins-here imports exports outer is = record { more = []; are = is ∙ sym (numbers-told imports exports) ∙ sym (append-nil (map direction_at (numbers_of imports exports))) }
+
+-- ---- how many imports and exports are seen
+
+imports_in : List Direction → ℕ
+imports_in [] = 0
+imports_in (import_ ∷ ds) = suc (imports_in ds)
+imports_in (export_ ∷ ds) = imports_in ds
+
+exports_in : List Direction → ℕ
+exports_in [] = 0
+exports_in (import_ ∷ ds) = exports_in ds
+exports_in (export_ ∷ ds) = suc (exports_in ds)
+
+imports-both : (xs ys : List Direction) → imports_in (xs ++ ys) ≡ imports_in xs + imports_in ys
+unfolding imports_in
+imports-both [] ys = omega arith
+imports-both (import_ ∷ xs) ys = let more = imports-both xs ys in omega (arith, more)
+imports-both (export_ ∷ xs) ys = imports-both xs ys
+
+exports-both : (xs ys : List Direction) → exports_in (xs ++ ys) ≡ exports_in xs + exports_in ys
+unfolding exports_in
+exports-both [] ys = omega arith
+exports-both (import_ ∷ xs) ys = exports-both xs ys
+exports-both (export_ ∷ xs) ys = let more = exports-both xs ys in omega (arith, more)
+
+-- from one scope to another so many imports and exports have been seen
+abbrev Sees : Scope → Scope → List Direction → Type 0
+Sees s s' ds = (length s'.imports ≡ length s.imports + imports_in ds) × (length s'.exports ≡ length s.exports + exports_in ds)
+
+sees : (direction : Direction) (seen : Seen) (s : Scope) → Sees s (see direction seen s) (direction ∷ [])
+unfolding imports_in exports_in
+sees import_ seen s = (length-append s.imports (seen ∷ []), (let y : length s.exports ≡ length s.exports + 0 = omega arith in y))
+sees export_ seen s = ((let y : length s.imports ≡ length s.imports + 0 = omega arith in y), length-append s.exports (seen ∷ []))
+
+sees-none : (s s' : Scope) → s.imports ≡ s'.imports → s.exports ≡ s'.exports → Sees s s' []
+unfolding imports_in exports_in
+sees-none s s' i e =
+    let a : length s.imports ≡ length s'.imports = ap length i in
+    let b : length s.exports ≡ length s'.exports = ap length e in
+    ((let y : length s'.imports ≡ length s.imports + 0 = omega (arith, a) in y), (let y : length s'.exports ≡ length s.exports + 0 = omega (arith, b) in y))
+
+sees-left : (s s' : Scope) → s ≡ s' → Sees s s' []
+sees-left s s' e = sees-none s s' (ap (λ (z : Scope). z.imports) e) (ap (λ (z : Scope). z.exports) e)
+
+view-seen : (direction : Direction) (name : ExternName) (n : ℕ) (s s' : Scope) (key : Key) (o : Option View)
+    → (o >>= λ view. Some (see direction (record { key = key_text key; shown = Shown.instance key view; external_id = name.external_id })
+    (record s { instances = s.instances ++ record { interface = interface_of key; view = view } ∷ []; used = s.used ++ n ∷ [] }))) ≡ Some s'
+    → Sees s s' (direction ∷ [])
+view-seen direction name n s s' key None e = absurd (let z : ⊥ = cc in z)
+view-seen direction name n s s' key (Some view) e =
+    let t : Scope = record s { instances = s.instances ++ record { interface = interface_of key; view = view } ∷ []; used = s.used ++ n ∷ [] } in
+    let seen : Seen = record { key = key_text key; shown = Shown.instance key view; external_id = name.external_id } in
+    subst (λ (z : Scope). Sees s z (direction ∷ [])) (some-same (see direction seen t) s' e) (sees direction seen t)
+
+instance-seen : (direction : Direction) (name : ExternName) (n : ℕ) (s s' : Scope) → see_instance direction name n s ≡ Some s' → Sees s s' (direction ∷ [])
+instance-seen direction name n s s' e =
+    let a = unbind (key_of name) _ s' e in
+    view-seen direction name n s s' a.item (when (not (list_any (λ m. m == n) s.used)) (used_view s.slots (place_of (interface_of a.item)) (slice_get s.slots n))) a.then
+
+function-seen : (direction : Direction) (name : ExternName) (n : ℕ) (s s' : Scope) → see_function direction name n s ≡ Some s' → Sees s s' (direction ∷ [])
+function-seen direction name n s s' e =
+    let a = unbind (function_in (slice_get s.slots n)) _ s' e in
+    subst (λ (z : Scope). Sees s z (direction ∷ [])) (unprovided _ _ s' a.then) (sees direction _ s)
+
+type-seen : (name : ExternName) (described : ComponentTypeRef) (s s' : Scope) → see_type name described s ≡ Some s' → Sees s s' (import_ ∷ [])
+type-seen name described s s' e =
+    let a = unbind (named_type s.slots Place.here name.text described) _ s' e in
+    subst (λ (z : Scope). Sees s z (import_ ∷ [])) (unprovided _ _ s' a.then) (sees import_ _ (in_scope a.item.1 s))
+
+step-seen : (s s' : Scope) (d : Declaration) → component_step s d ≡ Some s' → Sees s s' (direction_of d)
+step-seen s s' (Declaration.defined q) e =
+    let b = unbind (definition s.slots q) _ s' e in
+    let same = some-same _ s' b.then in
+    sees-none s s' (ap (λ (z : Scope). z.imports) same) (ap (λ (z : Scope). z.exports) same)
+step-seen s s' (Declaration.function q) e =
+    let b = unbind (function_signature s.slots q) _ s' e in
+    let same = some-same _ s' b.then in
+    sees-none s s' (ap (λ (z : Scope). z.imports) same) (ap (λ (z : Scope). z.exports) same)
+step-seen s s' (Declaration.alias_of (Alias.of_export m name)) e =
+    let b = unbind (exported_slot name (slice_get s.instances m)) _ s' e in
+    let same = some-same _ s' b.then in
+    sees-none s s' (ap (λ (z : Scope). z.imports) same) (ap (λ (z : Scope). z.exports) same)
+step-seen s s' (Declaration.alias_of (Alias.of_outer scopes n)) e = absurd (let z : ⊥ = cc in z)
+step-seen s s' (Declaration.imported name (refs.Instance n)) e = instance-seen import_ name n s s' e
+step-seen s s' (Declaration.imported name (refs.Func n)) e = function-seen import_ name n s s' e
+step-seen s s' (Declaration.imported name (refs.TypeEq n)) e = type-seen name (refs.TypeEq n) s s' e
+step-seen s s' (Declaration.imported name refs.SubResource) e = type-seen name refs.SubResource s s' e
+step-seen s s' (Declaration.imported name (refs.Component n)) e = absurd (let z : ⊥ = cc in z)
+step-seen s s' (Declaration.exported name (refs.Instance n)) e = instance-seen export_ name n s s' e
+step-seen s s' (Declaration.exported name (refs.Func n)) e = function-seen export_ name n s s' e
+step-seen s s' (Declaration.exported name (refs.TypeEq n)) e = absurd (let z : ⊥ = cc in z)
+step-seen s s' (Declaration.exported name refs.SubResource) e = absurd (let z : ⊥ = cc in z)
+step-seen s s' (Declaration.exported name (refs.Component n)) e = absurd (let z : ⊥ = cc in z)
+
+-- one after the other
+steps-seen : (s s' : Scope) (ds : Declarations) → component_steps s ds ≡ Some s' → Sees s s' (directions_of ds)
+steps-seen s s' Declarations.no_more e = sees-left s s' (some-same s s' e)
+steps-seen s s' (Declarations.declares d rest) e =
+    let b = unbind (component_step s d) _ s' e in
+    let one = step-seen s b.item d b.is in
+    let more = steps-seen b.item s' rest b.then in
+    let one_imports = one.0 in
+    let one_exports = one.1 in
+    let more_imports = more.0 in
+    let more_exports = more.1 in
+    let imports = imports-both (direction_of d) (directions_of rest) in
+    let exports = exports-both (direction_of d) (directions_of rest) in
+    (omega (arith, one_imports, more_imports, imports), omega (arith, one_exports, more_exports, exports))
+steps-seen s s' (Declarations.component inner rest) e = absurd (let z : ⊥ = cc in z)
+steps-seen s s' (Declarations.instance inner rest) e =
+    let b = unbind (flat inner) _ s' e in
+    steps-seen (in_scope (Slot.instance b.item (length s.slots)) s) s' rest b.then
+
+-- ---- no import behind an export
+
+all-imports : (ds : List Direction) (more : List Entry) → imports_in ds ≡ length more → exports_in ds ≡ 0 → ds ≡ map (λ (e : Entry). import_) more
+unfolding imports_in exports_in
+all-imports [] [] i e = refl
+all-imports [] (x ∷ more) i e = absurd (let z : ⊥ = omega (arith, i) in z)
+all-imports (import_ ∷ ds) [] i e = absurd (let z : ⊥ = omega (arith, i) in z)
+all-imports (import_ ∷ ds) (x ∷ more) i e = ap (λ (xs : List Direction). import_ ∷ xs) (all-imports ds more (let y : imports_in ds ≡ length more = omega (arith, i) in y) e)
+all-imports (export_ ∷ ds) more i e = absurd (let z : ⊥ = omega (arith, e) in z)
+
+first-imports : (imports : List Entry) → (imports_in (map (λ (e : Entry). import_) imports) ≡ length imports) × (exports_in (map (λ (e : Entry). import_) imports) ≡ 0)
+unfolding imports_in exports_in
+first-imports [] = (refl, refl)
+first-imports (x ∷ imports) = let more = first-imports imports in (ap suc more.0, more.1)
+
+then-exports : (exports : List Entry) → (imports_in (map (λ (e : Entry). export_) exports) ≡ 0) × (exports_in (map (λ (e : Entry). export_) exports) ≡ length exports)
+unfolding imports_in exports_in
+then-exports [] = (refl, refl)
+then-exports (x ∷ exports) = let more = then-exports exports in (more.0, ap suc more.1)
+
+-- Behind imports and then exports, with so many imports more: these come last, where there was no export or there are none.
+pub order-then : (s s' : Scope) (outer : Declarations) (imports exports more : List Entry) → component_steps s outer ≡ Some s' → s.imports ≡ [] → s.exports ≡ []
+    → BeginsWith (numbers_of imports exports) outer → length (imports ++ more) ≡ length s'.imports → length exports ≡ length s'.exports → (exports ≡ []) ⊎ (more ≡ [])
+    → directions_of outer ≡ imports_first (imports ++ more) exports
+order-then s s' outer imports exports more followed no_imports no_exports begins i e last = is ∙ ap (λ (xs : List Direction). imports_first imports exports ++ xs) others ∙ by last
+  where
+    is : directions_of outer ≡ imports_first imports exports ++ begins.more
+    is = begins.are ∙ ap (λ (xs : List Direction). xs ++ begins.more) (numbers-told imports exports)
+
+    others : begins.more ≡ map (λ (e : Entry). import_) more
+    others =
+        let seen = steps-seen s s' outer followed in
+        let seen_imports = seen.0 in
+        let seen_exports = seen.1 in
+        let none_imports : length s.imports ≡ 0 = ap length no_imports in
+        let none_exports : length s.exports ≡ 0 = ap length no_exports in
+        let first = first-imports imports in
+        let first_imports = first.0 in
+        let first_exports = first.1 in
+        let later = then-exports exports in
+        let later_imports = later.0 in
+        let later_exports = later.1 in
+        let both_imports = imports-both (map (λ (e : Entry). import_) imports) (map (λ (e : Entry). export_) exports) in
+        let both_exports = exports-both (map (λ (e : Entry). import_) imports) (map (λ (e : Entry). export_) exports) in
+        let all_imports = ap imports_in is ∙ imports-both (imports_first imports exports) begins.more in
+        let all_exports = ap exports_in is ∙ exports-both (imports_first imports exports) begins.more in
+        let long = length-append imports more in
+        all-imports begins.more more
+        (let y : imports_in begins.more ≡ length more = omega (arith, seen_imports, none_imports, first_imports, later_imports, both_imports, all_imports, long, i) in y)
+        (let y : exports_in begins.more ≡ 0 = omega (arith, seen_exports, none_exports, first_exports, later_exports, both_exports, all_exports, e) in y)
+
+    by : (exports ≡ []) ⊎ (more ≡ []) → imports_first imports exports ++ map (λ (e : Entry). import_) more ≡ imports_first (imports ++ more) exports
+    by (inl none) =
+        ap (λ (es : List Entry). imports_first imports es ++ map (λ (e : Entry). import_) more) none
+        ∙ ap (λ (xs : List Direction). xs ++ map (λ (e : Entry). import_) more) (append-nil (map (λ (e : Entry). import_) imports))
+        ∙ sym (map-append (λ (e : Entry). import_) imports more) ∙ sym (append-nil (map (λ (e : Entry). import_) (imports ++ more)))
+        ∙ ap (λ (es : List Entry). imports_first (imports ++ more) es) (sym none)
+    by (inr none) =
+        ap (λ (es : List Entry). imports_first imports exports ++ map (λ (e : Entry). import_) es) none ∙ append-nil (imports_first imports exports)
+        ∙ ap (λ (es : List Entry). imports_first es exports) (sym (append-nil imports) ∙ ap (λ (es : List Entry). imports ++ es) (sym none))
