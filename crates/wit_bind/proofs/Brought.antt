@@ -21,8 +21,10 @@ use Rattle.wit_model.specs.declared.model.WorldKey.{WorldKey}
 use Rattle.wit_model.specs.declared.model.WorldKey.TheVariants as key
 use Rattle.wit_model.specs.Lookup.{identity_of, interface_at, interface_path, key_text, package_at, path_in_package, path_of_interface, path_of_world, type_at, world_at}
 use Rattle.wit_model.specs.Names.{path_in}
+use Rattle.wit_model.specs.Checks.{references}
 use Rattle.wit_model.specs.Text.{Text, optional_text, text_eq, text_of}
-use Rattle.wit_model.specs.Valid.{IsValid}
+use Rattle.wit_model.specs.Types.{declaration_of, number_tree}
+use Rattle.wit_model.specs.Valid.{IsValid, Keeps}
 use Rattle.wit_model.proofs.Elements.{contains-get}
 use Rattle.wit_model.proofs.OnePath.{named-path}
 use Rattle.wit_model.proofs.VersionLaws.{same_text}
@@ -32,7 +34,8 @@ use Rattle.bind_match.specs.declared.matches.Matches.{Matches}
 use Rattle.bind_union.specs.Carried.{Renumbering}
 use Rattle.bind_union.specs.Joined.{IsJoined, Joined}
 use Rattle.bind_union.specs.Merged.{AreCopies}
-use Rattle.bind_union.proofs.Carrying.{same_identity}
+use Rattle.bind_union.proofs.Carrying.{carried_types, references_of, refers_below, same_identity, tree_same}
+use Rattle.bind_union.proofs.Images.{same_declarations}
 use Rattle.bind_union.proofs.Lists.{no_true}
 use Rattle.bind_carry.specs.BoundGains.{bound_fates}
 use Rattle.bind_carry.specs.First.{first_fates, flag_under}
@@ -54,7 +57,7 @@ use Rattle.bind_carry.proofs.SecondInterfaces.{carried_number, inline_at, inline
 use Rattle.bind_carry.proofs.SecondJoined as second_joined
 use Rattle.bind_carry.proofs.UnionKeys.{carried_path}
 use Rattle.bind_carry.proofs.WorldEntries.{export_keyed, import_keyed}
-use Rattle.wit_bind.specs.Brings.{entry_notes, interface_notes, key_texts, type_notes, type_notes_at, world_notes, BringsEntries}
+use Rattle.wit_bind.specs.Brings.{entry_notes, interface_notes, key_texts, type_notes, type_notes_at, world_notes, BringsEntries, IsTypeOf}
 use Rattle.wit_bind.specs.Comes.{is_one_of}
 use Rattle.wit_bind.proofs.Notes.{entries_noted, interface_noted, met_or_noted, IsMetOrNoted}
 use Rattle.base_lemmas.proofs.Elements.{get-contains}
@@ -107,23 +110,38 @@ module _ (own other merged : Resolve) (valid_own : IsValid own) (valid_other : I
       ∙ (ap Some (type_noted types home.0 t.def place.image place.under)
       ∙ sym (ap (option_map type_notes) t.found)))
 
-  -- each type behind own ones has the notes of one of the other's
-  pub type_source : (n : ℕ) (y : TypeDef) → length own.types.items ≤ n → type_at merged n ≡ Some y → (k : ℕ) × (def : TypeDef) × (type_at other k ≡ Some def) × (type_notes y ≡ type_notes def)
-  type_source n y high at = elim (type_from own other merged valid_own valid_other world other_world w v m c first_numbers p copied interfaces types s n high
-      (slice_get_within merged.types.items n y at)) [
-        | inl x ↦ let t = first_copies.carried.types x.0 (first_copies.carried.copied_types x.0 x.1) in source x.0 (first.types x.0) x.2 t.def t.found (first_type x.0 x.1)
-        | inr x ↦ let t = second_copies.carried.types x.0 (second_copies.carried.copied_types x.0 x.1) in source x.0 (second.types x.0) x.2 t.def t.found (second_type x.0 x.1)
-      ]
-    where
-      source : (k j : ℕ) → j ≡ n → (def : TypeDef) → type_at other k ≡ Some def → type_notes_at merged j ≡ type_notes_at other k → (k : ℕ) × (def : TypeDef) × (type_at other k ≡ Some def)
-          × (type_notes y ≡ type_notes def)
-      source k j number def found same = (
-        k,
-        def,
-        found,
-        same-some (type_notes y) (type_notes def)
-            (sym (ap (type_notes_at merged) number ∙ ap (option_map type_notes) at) ∙ (same ∙ ap (option_map type_notes) found)),
-      )
+  module _ (valid : IsValid merged) where
+    below : Keeps references merged
+    below = references_of merged valid.rules
+
+    -- what is copied is a type of the other's
+    copy_brought : (f : Renumbering) (is : AreCopies own other merged f) → ((n : ℕ) → f.copies_type n ≡ true → type_notes_at merged (f.types n) ≡ type_notes_at other n)
+        → (k : ℕ) → f.copies_type k ≡ true → (n : ℕ) → f.types k ≡ n → (y : TypeDef) → type_at merged n ≡ Some y → IsTypeOf other merged n y
+    copy_brought f is noted k copy n number y at =
+        let carried = is.carried.copied_types k copy in
+        let t = is.carried.types k carried in
+        let image : t.image ≡ y = same-some t.image y (sym t.at_image ∙ (ap (type_at merged) number ∙ at)) in
+        let all = carried_types other merged f valid_other.rules is.carried below in
+        record {
+          source = k;
+          def = t.def;
+          found = t.found;
+          tree = ap (number_tree merged) (sym number) ∙ tree_same other merged f valid_other.rules is.carried below k carried;
+          declares = ap (declaration_of merged) (sym image)
+              ∙ same_declarations other merged f.types f.carries_type (refers_below other (references_of other valid_other.rules)) (refers_below merged below) all t.def t.image
+              (t.copied copy).kind;
+          notes = ap type_notes (sym image)
+              ∙ same-some (type_notes t.image) (type_notes t.def)
+              (sym (ap (option_map type_notes) t.at_image) ∙ (noted k copy ∙ ap (option_map type_notes) t.found));
+        }
+
+    -- so is each type behind own ones
+    pub type_brought : (n : ℕ) (y : TypeDef) → length own.types.items ≤ n → type_at merged n ≡ Some y → IsTypeOf other merged n y
+    type_brought n y high at = elim (type_from own other merged valid_own valid_other world other_world w v m c first_numbers p copied interfaces types s n high
+        (slice_get_within merged.types.items n y at)) [
+          | inl x ↦ copy_brought first first_copies first_type x.0 x.1 n x.2 y at
+          | inr x ↦ copy_brought second second_copies second_type x.0 x.1 n x.2 y at
+        ]
 
   -- ---- interfaces
 

@@ -1,5 +1,5 @@
 -- What comes of two bindings that don't clash, once all that the one brings is added to the other.
-use Rattle.std.proofs.Common.{◌≡◌, sym, ap, subst, ◌∙◌, ℕ, false, List, [], ◌++◌, map, Some, option_and_then, option_map, slice_get, String}
+use Rattle.std.proofs.Common.{◌≡◌, sym, ap, subst, ◌∙◌, ℕ, ◌≤◌, false, List, [], ◌++◌, length, map, Some, option_and_then, option_map, slice_get, String}
 use Rattle.std.specs.Map.{keys_of}
 use Rattle.std.specs.declared.alloc.Global.{Global}
 use Rattle.std.specs.Option.{option_map_or}
@@ -7,10 +7,11 @@ use Rattle.wit_model.specs.declared.model.Package.{Package}
 use Rattle.wit_model.specs.declared.model.PackageId.{PackageId}
 use Rattle.wit_model.specs.declared.model.PackageName.{PackageName}
 use Rattle.wit_model.specs.declared.model.Resolve.{Resolve}
+use Rattle.wit_model.specs.declared.model.TypeDef.{TypeDef}
 use Rattle.wit_model.specs.declared.model.World.{World}
 use Rattle.wit_model.specs.declared.model.WorldId.{WorldId}
 use Rattle.wit_model.specs.declared.model.WorldKey.{WorldKey}
-use Rattle.wit_model.specs.Lookup.{identity_of, interface_path, key_text, path_in_package, path_of_interface, world_at}
+use Rattle.wit_model.specs.Lookup.{identity_of, interface_path, key_text, path_in_package, path_of_interface, type_at, world_at}
 use Rattle.wit_model.specs.Names.{path_in}
 use Rattle.wit_model.specs.Text.{Text, text_of}
 use Rattle.wit_model.proofs.Elements.{contains-get}
@@ -41,13 +42,13 @@ use Rattle.bind_union.proofs.BoundMeanings.{bound_means}
 use Rattle.bind_union.proofs.Valid.{merged_is_valid}
 use Rattle.wit_bind.specs.declared.bindgen.Bindgen.{Bindgen}
 use Rattle.wit_bind.specs.Bindings.{binding_of, IsBindgen}
-use Rattle.wit_bind.specs.Brings.{key_texts, BringsEntries, BringsItsOwn}
+use Rattle.wit_bind.specs.Brings.{key_texts, BringsEntries, BringsItsOwn, IsTypeOf}
 use Rattle.wit_bind.specs.Extends.{Extends, listed_names, merged_names}
 use Rattle.wit_bind.specs.MergedLaws.{AgreeByNumbers, IsUnited}
 use Rattle.wit_bind.specs.Merges.{export_keys, IsGrownBy, IsPlanOf}
 use Rattle.wit_bind.proofs.Bare.{merged_is_bare}
 use Rattle.wit_bind.proofs.Bringing.{new_interface_copied, new_package_copied, new_world_copied}
-use Rattle.wit_bind.proofs.Brought.{bound_brought, interface_brought, package_brought, type_source, world_brought}
+use Rattle.wit_bind.proofs.Brought.{bound_brought, interface_brought, package_brought, type_brought, world_brought}
 use Rattle.wit_bind.proofs.Extending.{grown_extend}
 use Rattle.wit_bind.proofs.MatchedPaths.{matches_have_paths}
 use Rattle.wit_bind.proofs.NumbersAgree.{united_agree_by_numbers}
@@ -164,6 +165,12 @@ module _ (own other new : Bindgen) (o : IsBindgen own) (t : IsBindgen other) (ca
   Gained a b x = BringsEntries (key_texts r a.imports.entries) s b.imports.entries new.resolve x.imports.entries
       × BringsEntries (key_texts r a.exports.entries) s b.exports.entries new.resolve x.exports.entries
 
+  -- each type that comes is one of the other's
+  type_comes : (n : ℕ) (y : TypeDef) → length r.types.items ≤ n → type_at new.resolve n ≡ Some y → IsTypeOf s new.resolve n y
+  type_comes =
+      type_brought r s new.resolve o.valid t.valid own.world.0 other.world.0 w v p.matches planned.carried planned.types passes.0 planned.second.copied planned.second.interfaces
+      planned.second.types passes.1 merged_are_the_union.0.valid
+
   pub merged_brings : BringsItsOwn own other new
   merged_brings = record {
     packages = λ q held fresh.
@@ -189,11 +196,11 @@ module _ (own other new : Bindgen) (o : IsBindgen own) (t : IsBindgen other) (ca
         (bound_brought r s new.resolve o.valid t.valid own.world.0 other.world.0 w v p.matches planned.carried planned.types passes.0 planned.second.copied planned.second.interfaces
         planned.second.types passes.1 own-paths x
         (sym (ap (world_at new.resolve) number) ∙ at_x)));
+    types = type_comes;
   }
 
   -- where neither side has documentation or a known stability, there is none
   pub merged_bare : IsBare r → IsBare s → IsBare new.resolve
   merged_bare =
       merged_is_bare r s new.resolve o.valid t.valid own.world.0 other.world.0 p.matches w v added keys planned g.all_added bound.1 other-bound.1 paths.0 paths.1 paths.2 merged_extend
-      (type_source r s new.resolve o.valid t.valid own.world.0 other.world.0 w v p.matches planned.carried planned.types passes.0 planned.second.copied planned.second.interfaces
-      planned.second.types passes.1)
+      (λ n y high at. let is = type_comes n y high at in (is.source, is.def, is.found, is.notes))

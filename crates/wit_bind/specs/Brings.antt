@@ -1,5 +1,5 @@
 -- What a merge brings stands here as it stood there: with its documentation, its stability and its external ids, and with functions and types in their order.
-use Rattle.std.specs.Prelude.{◌≡◌, ℕ, true, false, is_none, if◌then◌else◌, List, [], map, Option, Some, None, option_and_then, option_map}
+use Rattle.std.specs.Prelude.{◌≡◌, ◌≤◌, ℕ, true, false, is_none, if◌then◌else◌, List, [], length, map, Option, Some, None, option_and_then, option_map}
 use Rattle.std.specs.List.{Contains}
 use Rattle.wit_model.specs.declared.model.Function.{Function}
 use Rattle.wit_model.specs.declared.model.Interface.{Interface}
@@ -12,6 +12,7 @@ use Rattle.wit_model.specs.declared.model.WorldItem.TheVariants as item
 use Rattle.wit_model.specs.declared.model.WorldKey.{WorldKey}
 use Rattle.wit_model.specs.Lookup.{identity_of, interface_at, key_text, path_of_interface, path_of_world, type_at, world_at}
 use Rattle.wit_model.specs.Text.{Text, optional_text, text_of}
+use Rattle.wit_model.specs.Types.{declaration_of, number_tree}
 use Rattle.bind_copy.specs.Copies.{member_docs}
 use Rattle.bind_union.specs.Carried.{stability_view, StabilityView}
 use Rattle.wit_bind.specs.declared.bindgen.Bindgen.{Bindgen}
@@ -115,8 +116,17 @@ BringsEntries here other olds new news =
     (e : WorldKey × WorldItem) → Contains olds e → is_one_of here (key_text other e.0) ≡ false → (x : WorldKey × WorldItem) × Contains news x
     × (entry_notes new x ≡ entry_notes other e)
 
+-- The type of this number is one of the other's, with or without a name: it stands for the same tree, declares the same, and the same is said of it.
+pub record IsTypeOf (other new : Resolve) (number : ℕ) (t : TypeDef) : Type 0 where
+  pub source : ℕ
+  pub def : TypeDef
+  pub found : type_at other source ≡ Some def
+  pub tree : number_tree new number ≡ number_tree other source
+  pub declares : declaration_of new t ≡ declaration_of other def
+  pub notes : type_notes t ≡ type_notes def
+
 -- Packages, interfaces and worlds of the other binding whose names or paths weren't here have theirs in the end, and so have imports and exports that the bound
--- world hadn't.
+-- world hadn't. Each type that comes is one of the other's.
 pub record BringsItsOwn (own other new : Bindgen) : Type 0 where
   pub packages : (p : Package) → Contains other.resolve.packages.items p → is_new_package own.resolve p ≡ true
       → (q : Package) × Contains new.resolve.packages.items q × (identity_of q.name ≡ identity_of p.name)
@@ -133,3 +143,4 @@ pub record BringsItsOwn (own other new : Bindgen) : Type 0 where
       → world_at new.resolve new.world.0 ≡ Some x
       → BringsEntries (key_texts own.resolve w.imports.entries) other.resolve v.imports.entries new.resolve x.imports.entries
       × BringsEntries (key_texts own.resolve w.exports.entries) other.resolve v.exports.entries new.resolve x.exports.entries
+  pub types : (n : ℕ) (t : TypeDef) → length own.resolve.types.items ≤ n → type_at new.resolve n ≡ Some t → IsTypeOf other.resolve new.resolve n t
