@@ -5,7 +5,7 @@ pub mod PartsCarried
 -- What becomes of types in the end, place by place: a type without a name is copied exactly where all its parts are carried, if anything is added. Serves FirstCarried, FirstTypes, PassedTypes, Ready
 -- and 5 more.
 pub mod SettledParts
--- What becomes of types by path: each one that is carried has its image under its new number. Serves FirstCarried, FirstMatched, FirstWorlds, KeysGained and 4 more.
+-- What becomes of types by path: each one that is carried has its image under its new number. Serves FirstCarried, FirstMatched, FirstWorlds, KeysGained and 4 more; crates above.
 pub mod FirstTypes
 -- What own interfaces of equal path and sense give: types of the same names, and what stands for what by path. Serves Addable, FirstCarried, FirstCopies, FirstPackages and 12 more; crates above.
 pub mod FirstMatched
@@ -77,9 +77,10 @@ pub mod ManyCarried
 -- The pass over what the bound world gains begins as it should: what it copies is of the bound world, or of an inline interface that is gained. Serves SecondAgreed, SecondJoined, SecondKnown,
 -- SecondStands.
 pub mod SecondInitial
--- What the second pass begins with is known: from validity, from the first pass, and since the two worlds don't clash. Serves MergedWhole, NothingElse, SecondAgreed, SecondCarried and 7 more.
+-- What the second pass begins with is known: from validity, from the first pass, and since the two worlds don't clash. Serves MergedWhole, NothingElse, SecondAgreed, SecondCarried and 7 more; crates
+-- above.
 pub mod SecondKnown
--- Types that stand in what the bound world gains: those by path for what they stand for by path. Serves SecondAgreed, SecondCarried, SecondInline, SecondInterfaces and 3 more.
+-- Types that stand in what the bound world gains: those by path for what they stand for by path. Serves SecondAgreed, SecondCarried, SecondInline, SecondInterfaces and 3 more; crates above.
 pub mod SecondStands
 -- Inline interfaces of the other's bound world that stand for own ones: each has the number of the own interface under its label. Serves SecondAgreed.
 pub mod SecondInline

@@ -1,7 +1,7 @@
 -- What both passes copy has its own documentation, stability and external ids in what is merged.
 use Rattle.std.proofs.Common.{◌≡◌, refl, sym, ap, subst, ◌∙◌, inl, inr, ℕ, ◌+◌, ◌≤◌, Bool, true, false, List, [], ◌++◌, length, map, append-nil, Option, Some, is_none, is_some, option_map, slice_get, Contains}
 use Rattle.std.specs.Prelude.{option_and_then, unwrap_or}
-use Rattle.std.specs.List.{filter, AllZip, IsDistinct}
+use Rattle.std.specs.List.{filter, list_all, AllZip, IsDistinct}
 use Rattle.std.specs.Map.{keys_of}
 use Rattle.std.specs.Option.{option_map_or}
 use Rattle.std.proofs.lemmas.List.{length-map}
@@ -19,9 +19,10 @@ use Rattle.wit_model.specs.declared.model.World.{World}
 use Rattle.wit_model.specs.declared.model.WorldItem.{WorldItem}
 use Rattle.wit_model.specs.declared.model.WorldKey.{WorldKey}
 use Rattle.wit_model.specs.declared.model.WorldKey.TheVariants as key
+use Rattle.wit_model.specs.Checks.{references}
 use Rattle.wit_model.specs.Lookup.{identity_of, interface_at, interface_path, key_text, package_at, path_in_package, path_of_interface, path_of_world, type_at, world_at}
 use Rattle.wit_model.specs.Names.{path_in}
-use Rattle.wit_model.specs.Checks.{references}
+use Rattle.wit_model.specs.Parts.{kind_numbers}
 use Rattle.wit_model.specs.Text.{Text, optional_text, text_eq, text_of}
 use Rattle.wit_model.specs.Types.{declaration_of, number_tree}
 use Rattle.wit_model.specs.Valid.{IsValid, Keeps}
@@ -34,12 +35,15 @@ use Rattle.bind_match.specs.declared.matches.Matches.{Matches}
 use Rattle.bind_union.specs.Carried.{Renumbering}
 use Rattle.bind_union.specs.Joined.{IsJoined, Joined}
 use Rattle.bind_union.specs.Merged.{AreCopies}
-use Rattle.bind_union.proofs.Carrying.{carried_types, references_of, refers_below, same_identity, tree_same}
+use Rattle.bind_union.proofs.Carrying.{carried_types, kind_carried, references_of, refers_below, same_identity, tree_same}
 use Rattle.bind_union.proofs.Images.{same_declarations}
 use Rattle.bind_union.proofs.Lists.{no_true}
+use Rattle.bind_union.proofs.ViewTests.{numbers_same}
 use Rattle.bind_carry.specs.BoundGains.{bound_fates}
+use Rattle.bind_carry.specs.Fates.{is_carried}
 use Rattle.bind_carry.specs.First.{first_fates, flag_under}
 use Rattle.bind_carry.specs.FirstPass.{IsFirstPass}
+use Rattle.bind_carry.specs.Marked.{AreChosen}
 use Rattle.bind_carry.specs.Numbers.{interface_number, numbers_of, package_number, world_number}
 use Rattle.bind_carry.specs.Packaged.{IsPackageCarried}
 use Rattle.bind_carry.specs.Renumbered.{first_of, is_copied}
@@ -48,6 +52,8 @@ use Rattle.bind_carry.specs.TooLong.{CarriedThings, TypeFates}
 use Rattle.bind_carry.specs.Whole.{home_under, IsInterfaceCarried, IsWorldCarried}
 use Rattle.bind_carry.proofs.CopiesPlaced.{copied_home, copy_placed}
 use Rattle.bind_carry.proofs.FirstCopies.{first_is_copied}
+use Rattle.bind_carry.proofs.FirstMatched.{names}
+use Rattle.bind_carry.proofs.FirstTypes.{stood_how as first_stood}
 use Rattle.bind_carry.proofs.FirstWorldsCopied.{first_worlds_are_copied}
 use Rattle.bind_carry.proofs.InsertedBehind.{all_behind, filter_passes}
 use Rattle.bind_carry.proofs.KeptPlaced.{kept_placed, IsKeptAt}
@@ -55,13 +61,15 @@ use Rattle.bind_carry.proofs.NothingElse.{type_from}
 use Rattle.bind_carry.proofs.SecondCarried.{second_is_copied}
 use Rattle.bind_carry.proofs.SecondInterfaces.{carried_number, inline_at, inline_place}
 use Rattle.bind_carry.proofs.SecondJoined as second_joined
+use Rattle.bind_carry.proofs.SecondKnown.{chosen, long}
+use Rattle.bind_carry.proofs.SecondStands.{known as second_known, stood_how as second_stood}
 use Rattle.bind_carry.proofs.UnionKeys.{carried_path}
 use Rattle.bind_carry.proofs.WorldEntries.{export_keyed, import_keyed}
-use Rattle.wit_bind.specs.Brings.{entry_notes, interface_notes, key_texts, type_notes, type_notes_at, world_notes, BringsEntries, IsTypeOf}
+use Rattle.wit_bind.specs.Brings.{entry_notes, interface_notes, key_texts, type_notes, type_notes_at, unnamed_notes, world_notes, BringsEntries, IsTypeOf}
 use Rattle.wit_bind.specs.Comes.{is_one_of}
-use Rattle.wit_bind.proofs.Notes.{entries_noted, interface_noted, met_or_noted, IsMetOrNoted}
+use Rattle.wit_bind.proofs.Notes.{entries_noted, interface_noted, met_or_noted, parts_noted, IsMetOrNoted}
 use Rattle.base_lemmas.proofs.Elements.{get-contains}
-use Rattle.base_lemmas.proofs.Options.{there as some-of}
+use Rattle.base_lemmas.proofs.Options.{nameless as named_none, there as some-of}
 use Rattle.std.proofs.lemmas.Map.Keys.{any_passes_from_place as any_at}
 
 type_noted : (numbers : List ℕ) (home : TypeOwner) (old new : TypeDef) → IsTypeUnder numbers home old new → type_notes new ≡ type_notes old
@@ -69,7 +77,7 @@ type_noted numbers home old new is = λ i. record { docs = is.docs i; stability 
 
 module _ (own other merged : Resolve) (valid_own : IsValid own) (valid_other : IsValid other) (world other_world : ℕ) (w v : World) (m : Matches) (c : CarriedThings) (first_numbers : List ℕ)
     (p : IsFirstPass own other merged m c first_numbers) (copied : List Bool) (interfaces types : List ℕ)
-    (s : IsSecondPass own other merged world other_world w v m c first_numbers p copied interfaces types) where
+    (s : IsSecondPass own other merged world other_world w v m c first_numbers p copied interfaces types) (valid : IsValid merged) where
   abbrev fates : TypeFates
   fates = first_fates own other m.interfaces.items c
 
@@ -110,38 +118,28 @@ module _ (own other merged : Resolve) (valid_own : IsValid own) (valid_other : I
       ∙ (ap Some (type_noted types home.0 t.def place.image place.under)
       ∙ sym (ap (option_map type_notes) t.found)))
 
-  module _ (valid : IsValid merged) where
-    below : Keeps references merged
-    below = references_of merged valid.rules
+  below : Keeps references merged
+  below = references_of merged valid.rules
 
-    -- what is copied is a type of the other's
-    copy_brought : (f : Renumbering) (is : AreCopies own other merged f) → ((n : ℕ) → f.copies_type n ≡ true → type_notes_at merged (f.types n) ≡ type_notes_at other n)
-        → (k : ℕ) → f.copies_type k ≡ true → (n : ℕ) → f.types k ≡ n → (y : TypeDef) → type_at merged n ≡ Some y → IsTypeOf other merged n y
-    copy_brought f is noted k copy n number y at =
-        let carried = is.carried.copied_types k copy in
-        let t = is.carried.types k carried in
-        let image : t.image ≡ y = same-some t.image y (sym t.at_image ∙ (ap (type_at merged) number ∙ at)) in
-        let all = carried_types other merged f valid_other.rules is.carried below in
-        record {
-          source = k;
-          def = t.def;
-          found = t.found;
-          tree = ap (number_tree merged) (sym number) ∙ tree_same other merged f valid_other.rules is.carried below k carried;
-          declares = ap (declaration_of merged) (sym image)
-              ∙ same_declarations other merged f.types f.carries_type (refers_below other (references_of other valid_other.rules)) (refers_below merged below) all t.def t.image
-              (t.copied copy).kind;
-          notes = ap type_notes (sym image)
-              ∙ same-some (type_notes t.image) (type_notes t.def)
-              (sym (ap (option_map type_notes) t.at_image) ∙ (noted k copy ∙ ap (option_map type_notes) t.found));
-        }
+  -- what is carried without a copy has a name
+  first_named : (n : ℕ) (t : TypeDef) → type_at other n ≡ Some t → is_carried fates n ≡ true → is_copied fates n ≡ false → is_none t.name ≡ false
+  first_named n t at h bare =
+      named_none t.name (first_stood own other valid_other m.interfaces.items c first_numbers all_chosen
+      (names own other valid_own valid_other m.interfaces.items c first_numbers all_chosen p.same p.none long_flags p.numbered.interfaces (length own.types.items + length {A = TypeDef} [])
+      p.types.numbers_are) n t at h bare).named
+    where
+      all_chosen : AreChosen other m.interfaces.items c.copied_worlds.items c.copied_interfaces.items
+      all_chosen = chosen own other merged valid_own valid_other world other_world w v m c first_numbers p copied interfaces types s
 
-    -- so is each type behind own ones
-    pub type_brought : (n : ℕ) (y : TypeDef) → length own.types.items ≤ n → type_at merged n ≡ Some y → IsTypeOf other merged n y
-    type_brought n y high at = elim (type_from own other merged valid_own valid_other world other_world w v m c first_numbers p copied interfaces types s n high
-        (slice_get_within merged.types.items n y at)) [
-          | inl x ↦ copy_brought first first_copies first_type x.0 x.1 n x.2 y at
-          | inr x ↦ copy_brought second second_copies second_type x.0 x.1 n x.2 y at
-        ]
+      long_flags : length c.copied_interfaces.items ≡ length m.interfaces.items
+      long_flags = long own other merged valid_own valid_other world other_world w v m c first_numbers p copied interfaces types s
+
+  second_named : (n : ℕ) (t : TypeDef) → type_at other n ≡ Some t → is_carried later_fates n ≡ true → is_copied later_fates n ≡ false → is_none t.name ≡ false
+  second_named n t at h bare =
+      named_none t.name (elim (second_stood own other merged valid_own valid_other world other_world w v m c first_numbers p copied interfaces types s n t at h bare) [
+        | inl x ↦ x.named
+        | inr u ↦ ((second_known own other merged valid_own valid_other world other_world w v m c first_numbers p copied interfaces types s).imports n t at u).0
+      ])
 
   -- ---- interfaces
 
@@ -171,12 +169,57 @@ module _ (own other merged : Resolve) (valid_own : IsValid own) (valid_other : I
   handed_on : (n : ℕ) → second.carries_interface n ≡ true → number_under interfaces n ≡ second.interfaces n
   handed_on n h = sym (carried_number own other merged valid_own valid_other world other_world w v m c first_numbers p copied interfaces types s n h)
 
+  -- ---- types that come
+
+  first_parts : (ns : List ℕ) → list_all first.carries_type ns ≡ true → map (unnamed_notes merged) (map first.types ns) ≡ map (unnamed_notes other) ns
+  first_parts =
+      parts_noted other merged first c.interfaces.items first_numbers valid_other first_copies.carried (λ k h. refl) refl first_type first_named first_interface first_copies.inline_copied
+
+  second_parts : (ns : List ℕ) → list_all second.carries_type ns ≡ true → map (unnamed_notes merged) (map second.types ns) ≡ map (unnamed_notes other) ns
+  second_parts =
+      parts_noted other merged second interfaces types valid_other second_copies.carried handed_on refl second_type second_named second_interface second_copies.inline_copied
+
+  -- what is copied is a type of the other's
+  copy_brought : (f : Renumbering) (is : AreCopies own other merged f) → ((n : ℕ) → f.copies_type n ≡ true → type_notes_at merged (f.types n) ≡ type_notes_at other n)
+      → ((ns : List ℕ) → list_all f.carries_type ns ≡ true → map (unnamed_notes merged) (map f.types ns) ≡ map (unnamed_notes other) ns)
+      → (k : ℕ) → f.copies_type k ≡ true → (n : ℕ) → f.types k ≡ n → (y : TypeDef) → type_at merged n ≡ Some y → IsTypeOf other merged n y
+  copy_brought f is noted made k copy n number y at =
+      let carried = is.carried.copied_types k copy in
+      let t = is.carried.types k carried in
+      let image : t.image ≡ y = same-some t.image y (sym t.at_image ∙ (ap (type_at merged) number ∙ at)) in
+      let all = carried_types other merged f valid_other.rules is.carried below in
+      record {
+        source = k;
+        def = t.def;
+        found = t.found;
+        tree = ap (number_tree merged) (sym number) ∙ tree_same other merged f valid_other.rules is.carried below k carried;
+        declares = ap (declaration_of merged) (sym image)
+            ∙ same_declarations other merged f.types f.carries_type (refers_below other (references_of other valid_other.rules)) (refers_below merged below) all t.def t.image
+            (t.copied copy).kind;
+        notes = ap type_notes (sym image)
+            ∙ same-some (type_notes t.image) (type_notes t.def)
+            (sym (ap (option_map type_notes) t.at_image) ∙ (noted k copy ∙ ap (option_map type_notes) t.found));
+        parts = ap (λ (d : TypeDef). map (unnamed_notes merged) (kind_numbers d.kind)) (sym image)
+            ∙ (ap (map (unnamed_notes merged)) (numbers_same f.types t.def.kind t.image.kind (t.copied copy).kind.kinds)
+            ∙ made (kind_numbers t.def.kind) (kind_carried other merged f valid_other.rules is.carried below t.def t.image (t.copied copy).kind));
+      }
+
+  -- so is each type behind own ones
+  pub type_brought : (n : ℕ) (y : TypeDef) → length own.types.items ≤ n → type_at merged n ≡ Some y → IsTypeOf other merged n y
+  type_brought n y high at = elim (type_from own other merged valid_own valid_other world other_world w v m c first_numbers p copied interfaces types s n high
+      (slice_get_within merged.types.items n y at)) [
+        | inl x ↦ copy_brought first first_copies first_type first_parts x.0 x.1 n x.2 y at
+        | inr x ↦ copy_brought second second_copies second_type second_parts x.0 x.1 n x.2 y at
+      ]
+
+  -- ---- interfaces that come
+
   -- an interface that is carried by path, with its notes
   pub interface_brought : (n : ℕ) (i : Interface) (path : Text) → interface_at other n ≡ Some i → flag_under c.copied_interfaces.items n ≡ true → path_of_interface other i ≡ Some path
       → (j : Interface) × Contains merged.interfaces.items j × (path_of_interface merged j ≡ Some path) × (interface_notes merged j ≡ interface_notes other i)
   interface_brought n i path at set is =
-      let x = interface_noted other merged first c.interfaces.items first_numbers valid_other first_copies.carried (λ k h. refl) refl first_type first_interface first_copies.inline_copied n
-      i at set in (
+      let x = interface_noted other merged first c.interfaces.items first_numbers valid_other first_copies.carried (λ k h. refl) refl first_type first_named first_interface
+      first_copies.inline_copied n i at set in (
         x.0,
         get-contains merged.interfaces.items (number_under c.interfaces.items n) x.0 x.1,
         sym (ap (option_and_then (path_of_interface merged)) x.1)
@@ -248,7 +291,9 @@ module _ (own other merged : Resolve) (valid_own : IsValid own) (valid_other : I
     noted : (olds news : Entries) → Joined first [] olds news
         → AllZip (IsEntryUnder c.interfaces.items first_numbers) (filter (λ (e : WorldKey × WorldItem). is_new_under c.interfaces.items [] e.0) olds) news
         → map (entry_notes merged) news ≡ map (entry_notes other) olds
-    noted = entries_noted other merged first c.interfaces.items first_numbers valid_other first_copies.carried (λ k h. refl) refl first_type first_interface first_copies.inline_copied
+    noted =
+        entries_noted other merged first c.interfaces.items first_numbers valid_other first_copies.carried (λ k h. refl) refl first_type first_named first_interface
+        first_copies.inline_copied
 
     -- a world that is copied, with its notes
     pub world_brought : (y : World) × Contains merged.worlds.items y × (path_of_world merged y ≡ Some path) × (world_notes merged y ≡ world_notes other x)
@@ -307,11 +352,11 @@ module _ (own other merged : Resolve) (valid_own : IsValid own) (valid_other : I
         (join : Joined second here olds news) (zip : AllZip (IsEntryUnder interfaces types) (filter (λ (e : WorldKey × WorldItem). is_new_under interfaces here e.0) olds) news) where
       entries_brought : BringsEntries (key_texts own here) other olds merged whole
       entries_brought e held fresh =
-          go (met_or_noted other merged second interfaces types valid_other second_copies.carried handed_on refl second_type second_interface second_copies.inline_copied here olds news
-          join zip e held)
+          go (met_or_noted other merged second interfaces types valid_other second_copies.carried handed_on refl second_type second_named second_interface second_copies.inline_copied here
+          olds news join zip e held)
         where
-          go : IsMetOrNoted other merged second interfaces types valid_other second_copies.carried handed_on refl second_type second_interface second_copies.inline_copied here news e
-              → (x : WorldKey × WorldItem) × Contains whole x × (entry_notes merged x ≡ entry_notes other e)
+          go : IsMetOrNoted other merged second interfaces types valid_other second_copies.carried handed_on refl second_type second_named second_interface second_copies.inline_copied here
+              news e → (x : WorldKey × WorldItem) × Contains whole x × (entry_notes merged x ≡ entry_notes other e)
           go (inl (there, h, same)) = no_true (sym fresh ∙ known here (key_text other e.0) there h (sym (own_text there.0 (keyed there h)) ∙ same))
           go (inr (x, h, same)) = (x, subst (λ (l : List (WorldKey × WorldItem)). Contains l x) (sym behind) (Contains-append_right here news x h), same)
 

@@ -176,17 +176,17 @@ module _ (own other new : Bindgen) (o : IsBindgen own) (t : IsBindgen other) (ca
     packages = λ q held fresh.
         let k = contains-get s.packages.items q held in
         package_brought r s new.resolve o.valid t.valid own.world.0 other.world.0 w v p.matches planned.carried planned.types passes.0 planned.second.copied planned.second.interfaces
-        planned.second.types passes.1 k.0 q k.1
+        planned.second.types passes.1 merged_are_the_union.0.valid k.0 q k.1
         (new_package_copied r s o.valid t.valid p.matches p.matched paths.0 planned.carried planned.numbered paths.1 k.0 q k.1 fresh);
     interfaces = λ i path held is fresh.
         let k = contains-get s.interfaces.items i held in
         interface_brought r s new.resolve o.valid t.valid own.world.0 other.world.0 w v p.matches planned.carried planned.types passes.0 planned.second.copied planned.second.interfaces
-        planned.second.types passes.1 k.0 i path k.1
+        planned.second.types passes.1 merged_are_the_union.0.valid k.0 i path k.1
         (new_interface_copied r s o.valid t.valid p.matches p.matched paths.0 planned.carried planned.numbered paths.1 k.0 i path k.1 is fresh) is;
     worlds = λ x path held is fresh.
         let k = contains-get s.worlds.items x held in
         world_brought r s new.resolve o.valid t.valid own.world.0 other.world.0 w v p.matches planned.carried planned.types passes.0 planned.second.copied planned.second.interfaces
-        planned.second.types passes.1 k.0 x path k.1
+        planned.second.types passes.1 merged_are_the_union.0.valid k.0 x path k.1
         (new_world_copied r s o.valid t.valid p.matches p.matched paths.0 planned.carried planned.numbered paths.1 k.0 x path k.1 is fresh) is
         (by_path_apart r s o.valid t.valid own.world.0 other.world.0 p.matches w v added keys planned other-bound.1 paths.0 paths.1 paths.2 k.0 x k.1);
     bound = λ a b x at_a at_b at_x.
@@ -194,7 +194,7 @@ module _ (own other new : Bindgen) (o : IsBindgen own) (t : IsBindgen other) (ca
         let theirs : v ≡ b = same-some v b (sym other-bound.1 ∙ at_b) in
         subst (λ (y : World). Gained y b x) ours (subst (λ (y : World). Gained w y x) theirs
         (bound_brought r s new.resolve o.valid t.valid own.world.0 other.world.0 w v p.matches planned.carried planned.types passes.0 planned.second.copied planned.second.interfaces
-        planned.second.types passes.1 own-paths x
+        planned.second.types passes.1 merged_are_the_union.0.valid own-paths x
         (sym (ap (world_at new.resolve) number) ∙ at_x)));
     types = type_comes;
   }

@@ -1,31 +1,39 @@
 -- What is copied keeps its documentation, its stability and its external ids, in its order.
-use Rattle.std.proofs.Common.{◌≡◌, refl, sym, ap, subst, ◌∙◌, ◌⊎◌, inl, inr, arith, ℕ, zero, suc, Bool, true, false, not, cond, List, [], ◌∷◌, map, Option, Some, None, is_none, String, Contains}
+use Rattle.std.proofs.Common.{◌≡◌, refl, sym, ap, subst, ◌∙◌, ◌⊎◌, inl, inr, arith, ℕ, zero, suc, Bool, true, false, not, cond, List, [], ◌∷◌, ◌++◌, map, Option, Some, None, is_none, option_map, option_to_list, String, Contains}
 use Rattle.std.specs.Prelude.{if◌then◌else◌, unwrap_or, option_and_then}
-use Rattle.std.specs.List.{filter, list_all, AllZip}
+use Rattle.std.specs.List.{filter, filter_map, list_all, AllZip}
 use Rattle.std.specs.declared.alloc.Global.{Global}
+use Rattle.std.proofs.lemmas.List.{map-append}
+use Rattle.std.proofs.lemmas.List.Folds.{list_all-append}
 use Rattle.std.proofs.lemmas.Simd.{map-map}
 use Rattle.wit_model.specs.declared.model.Function.{Function}
 use Rattle.wit_model.specs.declared.model.Interface.{Interface}
 use Rattle.wit_model.specs.declared.model.PackageId.{PackageId}
 use Rattle.wit_model.specs.declared.model.Resolve.{Resolve}
+use Rattle.wit_model.specs.declared.model.TypeDef.{TypeDef}
 use Rattle.wit_model.specs.declared.model.TypeId.{TypeId}
+use Rattle.wit_model.specs.declared.model.«Type».{«Type» as ValueType}
 use Rattle.wit_model.specs.declared.model.WorldItem.{WorldItem}
 use Rattle.wit_model.specs.declared.model.WorldItem.TheVariants as item
 use Rattle.wit_model.specs.declared.model.WorldKey.{WorldKey}
 use Rattle.wit_model.specs.declared.model.WorldKey.TheVariants as key
-use Rattle.wit_model.specs.Lookup.{interface_at, interface_path, key_text}
+use Rattle.wit_model.specs.Lookup.{interface_at, interface_path, key_text, resource_of, type_at}
+use Rattle.wit_model.specs.Parts.{function_types}
 use Rattle.wit_model.specs.Text.{Text, optional_text, text_of}
+use Rattle.wit_model.specs.Types.{number_of}
 use Rattle.wit_model.specs.Valid.{IsValid}
 use Rattle.wit_model.proofs.Elements.{contains-get}
 use Rattle.wit_model.proofs.VersionLaws.{same_text}
 use Rattle.bind_copy.specs.Copies.{is_new_under, number_under, IsEntryUnder, IsFunctionUnder, IsInterfaceUnder, IsItemUnder}
 use Rattle.bind_copy.specs.Copies.{IsFunctionEntry as IsFunctionEntryUnder}
-use Rattle.bind_union.specs.Carried.{EntryBecomes, IsCarried, IsInterface, IsInterfaceCopy, ItemBecomes, KeyBecomes, Renumbering}
+use Rattle.bind_union.specs.Carried.{EntryBecomes, IsCarried, IsFunctionCopy, IsFunctionEntry, IsInterface, IsInterfaceCopy, IsType, ItemBecomes, KeyBecomes, Renumbering}
+use Rattle.bind_union.specs.Views.{renamed_type}
 use Rattle.bind_union.specs.Joined.{same_key, none, met, added, Joined}
 use Rattle.bind_carry.specs.ReadyItems.{IsKeyReady}
 use Rattle.bind_carry.proofs.JoinedItems.{new_same}
 use Rattle.bind_carry.proofs.UnionKeys.{carried_path}
-use Rattle.wit_bind.specs.Brings.{entry_notes, function_notes, inline_notes, interface_notes, item_notes, type_notes_at, InterfaceNotes, Notes}
+use Rattle.bind_union.proofs.ViewTests.{numbers_under, one_given}
+use Rattle.wit_bind.specs.Brings.{entry_notes, function_notes, function_type_notes, inline_notes, interface_notes, item_notes, type_notes, type_notes_at, unnamed_notes, InterfaceNotes, Notes}
 use Rattle.base_lemmas.proofs.Bools.{left_of as first_true, right_of as second_true}
 use Rattle.base_lemmas.proofs.Elements.{contains-later, zip_map}
 use Rattle.base_lemmas.proofs.Numbers.{same-number}
@@ -57,9 +65,64 @@ inline_same (Some x) None e = let wrong : ⊥ = cc in absurd wrong
 module _ (r s : Resolve) (f : Renumbering) (interfaces numbers : List ℕ) (valid : IsValid r) (carried : IsCarried r s f)
     (by_interface : (n : ℕ) → f.carries_interface n ≡ true → number_under interfaces n ≡ f.interfaces n) (by_type : number_under numbers ≡ f.types)
     (types_noted : (n : ℕ) → f.copies_type n ≡ true → type_notes_at s (f.types n) ≡ type_notes_at r n)
+    (unnamed_copied : (n : ℕ) (t : TypeDef) → type_at r n ≡ Some t → f.carries_type n ≡ true → f.copies_type n ≡ false → is_none t.name ≡ false)
     (under : (n : ℕ) (i : Interface) → interface_at r n ≡ Some i → f.copies_interface n ≡ true → (home : Option PackageId) × (j : Interface) × (interface_at s (f.interfaces n) ≡ Some j)
     × IsInterfaceUnder numbers home i j)
     (inline_copied : (m : ℕ) (i : Interface) → f.carries_interface m ≡ true → interface_at r m ≡ Some i → i.name ≡ None → f.copies_interface m ≡ true) where
+  -- ---- types without a name
+
+  abbrev if_unnamed : TypeDef → Option Notes
+  if_unnamed t = if is_none t.name then Some (type_notes t) else None
+
+  -- what is carried has them where it has no name, since it is a copy then
+  unnamed_noted : (n : ℕ) → f.carries_type n ≡ true → unnamed_notes s (f.types n) ≡ unnamed_notes r n
+  unnamed_noted n c = ap (option_and_then if_unnamed) t.at_image ∙ (go (f.copies_type n) refl ∙ sym (ap (option_and_then if_unnamed) t.found))
+    where
+      t : IsType r s f n
+      t = carried.types n c
+
+      same : is_none t.image.name ≡ is_none t.def.name
+      same = inline_same t.def.name t.image.name t.name
+
+      go : (b : Bool) → f.copies_type n ≡ b → if_unnamed t.image ≡ if_unnamed t.def
+      go true e =
+          let notes : type_notes t.image ≡ type_notes t.def =
+          same-some (type_notes t.image) (type_notes t.def) (sym (ap (option_map type_notes) t.at_image) ∙ (types_noted n e ∙ ap (option_map type_notes) t.found)) in
+          λ i. if same i then Some (notes i) else None
+      go false e =
+          let named = unnamed_copied n t.def t.found c e in
+          ap (λ (b : Bool). if b then Some (type_notes t.image) else None) (same ∙ named)
+          ∙ sym (ap (λ (b : Bool). if b then Some (type_notes t.def) else None) named)
+
+  -- so have all of these numbers
+  pub parts_noted : (ns : List ℕ) → list_all f.carries_type ns ≡ true → map (unnamed_notes s) (map f.types ns) ≡ map (unnamed_notes r) ns
+  parts_noted [] h = refl
+  parts_noted (n ∷ ns) h = λ i. unnamed_noted n (first_true _ _ h) i ∷ parts_noted ns (second_true (f.carries_type n) _ h) i
+
+  -- and those of parameters and results
+  function_types_noted : (old new : Function) → IsFunctionCopy f old new → function_type_notes s new ≡ function_type_notes r old
+  function_types_noted old new c =
+      ap (λ ts. map (unnamed_notes s) (filter_map number_of ts)) all
+      ∙ (ap (map (unnamed_notes s)) (numbers_under f.types (function_types old))
+      ∙ parts_noted (filter_map number_of (function_types old))
+      (first_true _ _ (sym (list_all-append f.carries_type (filter_map number_of (function_types old)) (option_to_list (resource_of old.kind))) ∙ c.parts)))
+    where
+      params : map (λ p. p.ty) new.params.items ≡ map (renamed_type f.types) (map (λ p. p.ty) old.params.items)
+      params =
+          sym (map-map (λ (x : Text × ValueType). x.1) (λ p. (text_of p.name, p.ty)) new.params.items)
+          ∙ (ap (map (λ (x : Text × ValueType). x.1)) c.params
+          ∙ (map-map (λ (x : Text × ValueType). x.1) (λ p. (text_of p.name, renamed_type f.types p.ty)) old.params.items
+          ∙ sym (map-map (renamed_type f.types) (λ p. p.ty) old.params.items)))
+
+      all : function_types new ≡ map (renamed_type f.types) (function_types old)
+      all =
+          (λ i. params i ++ (ap option_to_list c.result ∙ one_given (renamed_type f.types) old.result) i)
+          ∙ sym (map-append (renamed_type f.types) (map (λ p. p.ty) old.params.items) (option_to_list old.result))
+
+  each_function : (olds news : List (String Global × Function)) → AllZip (IsFunctionEntry f) olds news
+      → map (λ e. function_type_notes s e.1) news ≡ map (λ e. function_type_notes r e.1) olds
+  each_function olds news zip = zip_map (IsFunctionEntry f) (λ e. function_type_notes r e.1) (λ e. function_type_notes s e.1) (λ a b z. function_types_noted a.1 b.1 z.1) olds news zip
+
   -- ---- interfaces
 
   each_type : (es : List (Text × ℕ)) → list_all (λ (e : Text × ℕ). f.copies_type e.1) es ≡ true
@@ -93,6 +156,7 @@ module _ (r s : Resolve) (f : Renumbering) (interfaces numbers : List ℕ) (vali
       let old : k.old ≡ i = same-some k.old i (sym k.found ∙ at) in
       let image : k.image ≡ j = same-some k.image j (sym k.at_image ∙ x.2) in
       let types = types_of k.old k.image (k.copied copy) in
+      let uses = each_function k.old.functions.entries k.image.functions.entries (k.copied copy).functions in
       let functions = functions_noted numbers i.functions.entries j.functions.entries (is.functions (valid.distinct_keys.interfaces n i at).1) in (
         j,
         x.2,
@@ -100,6 +164,8 @@ module _ (r s : Resolve) (f : Renumbering) (interfaces numbers : List ℕ) (vali
           docs = is.docs z;
           stability = is.stability z;
           functions = functions z;
+          function_types = (ap (λ (y : Interface). map (λ e. function_type_notes s e.1) y.functions.entries) (sym image)
+              ∙ (uses ∙ ap (λ (y : Interface). map (λ e. function_type_notes r e.1) y.functions.entries) old)) z;
           types = (ap (λ (y : Interface). map {B = Text × Option Notes} (λ e. (text_of e.0, type_notes_at s e.1.0)) y.types.entries) (sym image)
               ∙ (types ∙ ap (λ (y : Interface). map {B = Text × Option Notes} (λ e. (text_of e.0, type_notes_at r e.1.0)) y.types.entries) old)) z;
         },
@@ -143,9 +209,11 @@ module _ (r s : Resolve) (f : Renumbering) (interfaces numbers : List ℕ) (vali
   item_noted : (i j : WorldItem) → IsItemUnder interfaces numbers i j → ItemBecomes f i j → item_notes s j ≡ item_notes r i
   item_noted (item.Interface a d e x) (item.Interface b g h y) u z =
       let same : inline_notes s b.0 ≡ inline_notes r a.0 = ap (inline_notes s) z.0 ∙ inline_noted a.0 z.1 in
-      λ i. record { itself = Some (record { docs = u.2 i; stability = u.1 i; external_id = u.3 i; of_members = [] }); inline = same i }
-  item_noted (item.Function g) (item.Function h) u z = λ i. record { itself = Some (function_noted numbers g h u i); inline = None }
-  item_noted (item.Type_ a) (item.Type_ b) u z = let same : type_notes_at s b.0 ≡ type_notes_at r a.0 = ap (type_notes_at s) z.0 ∙ types_noted a.0 z.1 in λ i. record { itself = same i; inline = None }
+      λ i. record { itself = Some (record { docs = u.2 i; stability = u.1 i; external_id = u.3 i; of_members = [] }); function_types = []; inline = same i }
+  item_noted (item.Function g) (item.Function h) u z = λ i. record { itself = Some (function_noted numbers g h u i); function_types = function_types_noted g h z i; inline = None }
+  item_noted (item.Type_ a) (item.Type_ b) u z =
+      let same : type_notes_at s b.0 ≡ type_notes_at r a.0 = ap (type_notes_at s) z.0 ∙ types_noted a.0 z.1 in
+      λ i. record { itself = same i; function_types = []; inline = None }
   item_noted (item.Interface a d e x) (item.Function g) u z = absurd z
   item_noted (item.Interface a d e x) (item.Type_ g) u z = absurd z
   item_noted (item.Function g) (item.Interface b d e x) u z = absurd z

@@ -1,5 +1,5 @@
 -- What a merge brings stands here as it stood there: with its documentation, its stability and its external ids, and with functions and types in their order.
-use Rattle.std.specs.Prelude.{◌≡◌, ◌≤◌, ℕ, true, false, is_none, if◌then◌else◌, List, [], length, map, Option, Some, None, option_and_then, option_map}
+use Rattle.std.specs.Prelude.{◌≡◌, ◌≤◌, ℕ, true, false, is_none, if◌then◌else◌, List, [], length, map, filter_map, Option, Some, None, option_and_then, option_map}
 use Rattle.std.specs.List.{Contains}
 use Rattle.wit_model.specs.declared.model.Function.{Function}
 use Rattle.wit_model.specs.declared.model.Interface.{Interface}
@@ -11,8 +11,9 @@ use Rattle.wit_model.specs.declared.model.WorldItem.{WorldItem}
 use Rattle.wit_model.specs.declared.model.WorldItem.TheVariants as item
 use Rattle.wit_model.specs.declared.model.WorldKey.{WorldKey}
 use Rattle.wit_model.specs.Lookup.{identity_of, interface_at, key_text, path_of_interface, path_of_world, type_at, world_at}
+use Rattle.wit_model.specs.Parts.{function_types, kind_numbers}
 use Rattle.wit_model.specs.Text.{Text, optional_text, text_of}
-use Rattle.wit_model.specs.Types.{declaration_of, number_tree}
+use Rattle.wit_model.specs.Types.{declaration_of, number_of, number_tree}
 use Rattle.bind_copy.specs.Copies.{member_docs}
 use Rattle.bind_union.specs.Carried.{stability_view, StabilityView}
 use Rattle.wit_bind.specs.declared.bindgen.Bindgen.{Bindgen}
@@ -50,11 +51,21 @@ type_notes t = record {
 abbrev pub type_notes_at : Resolve → ℕ → Option Notes
 type_notes_at r n = option_map type_notes (type_at r n)
 
--- What is said of an interface, of its functions by their names and of its types by theirs, both in their order.
+-- what is said of the type of this number, where it has no name
+abbrev pub unnamed_notes : Resolve → ℕ → Option Notes
+unnamed_notes r n = option_and_then (λ t. if is_none t.name then Some (type_notes t) else None) (type_at r n)
+
+-- what is said of the types without a name among a function's parameters and its result, in their order
+abbrev pub function_type_notes : Resolve → Function → List (Option Notes)
+function_type_notes r f = map (unnamed_notes r) (filter_map number_of (function_types f))
+
+-- What is said of an interface, of its functions by their names and of its types by theirs, both in their order, and of the types without a name among each
+-- function's parameters and result.
 pub record InterfaceNotes : Type 0 where
   pub docs : Option Text
   pub stability : StabilityView
   pub functions : List (Text × Notes)
+  pub function_types : List (List (Option Notes))
   pub types : List (Text × Option Notes)
 
 -- what is said of an interface, its functions and its types
@@ -63,6 +74,7 @@ interface_notes r i = record {
   docs = optional_text i.docs.contents;
   stability = stability_view i.stability;
   functions = map (λ e. (text_of e.0, function_notes e.1)) i.functions.entries;
+  function_types = map (λ e. function_type_notes r e.1) i.functions.entries;
   types = map (λ e. (text_of e.0, type_notes_at r e.1.0)) i.types.entries;
 }
 
@@ -70,19 +82,21 @@ interface_notes r i = record {
 abbrev pub inline_notes : Resolve → ℕ → Option InterfaceNotes
 inline_notes r n = option_and_then (λ i. if is_none i.name then Some (interface_notes r i) else None) (interface_at r n)
 
--- What is said of an item of a world, and of the inline interface that it shows.
+-- What is said of an item of a world, of the types without a name among its function's parameters and result, and of the inline interface that it shows.
 pub record ItemNotes : Type 0 where
   pub itself : Option Notes
+  pub function_types : List (Option Notes)
   pub inline : Option InterfaceNotes
 
 -- what is said of an item
 abbrev pub item_notes : Resolve → WorldItem → ItemNotes
 item_notes r (item.Interface id stability docs external_id) = record {
   itself = Some (record { docs = optional_text docs.contents; stability = stability_view stability; external_id = optional_text external_id; of_members = [] });
+  function_types = [];
   inline = inline_notes r id.0;
 }
-item_notes r (item.Function f) = record { itself = Some (function_notes f); inline = None }
-item_notes r (item.Type_ id) = record { itself = type_notes_at r id.0; inline = None }
+item_notes r (item.Function f) = record { itself = Some (function_notes f); function_types = function_type_notes r f; inline = None }
+item_notes r (item.Type_ id) = record { itself = type_notes_at r id.0; function_types = []; inline = None }
 
 -- what is said of an import or an export, under the label or the path of its key
 abbrev pub entry_notes : Resolve → WorldKey × WorldItem → Text × ItemNotes
@@ -116,7 +130,8 @@ BringsEntries here other olds new news =
     (e : WorldKey × WorldItem) → Contains olds e → is_one_of here (key_text other e.0) ≡ false → (x : WorldKey × WorldItem) × Contains news x
     × (entry_notes new x ≡ entry_notes other e)
 
--- The type of this number is one of the other's, with or without a name: it stands for the same tree, declares the same, and the same is said of it.
+-- The type of this number is one of the other's, with or without a name: it stands for the same tree, declares the same, and the same is said of it, and of the
+-- types without a name that it is made of.
 pub record IsTypeOf (other new : Resolve) (number : ℕ) (t : TypeDef) : Type 0 where
   pub source : ℕ
   pub def : TypeDef
@@ -124,6 +139,7 @@ pub record IsTypeOf (other new : Resolve) (number : ℕ) (t : TypeDef) : Type 0 
   pub tree : number_tree new number ≡ number_tree other source
   pub declares : declaration_of new t ≡ declaration_of other def
   pub notes : type_notes t ≡ type_notes def
+  pub parts : map (unnamed_notes new) (kind_numbers t.kind) ≡ map (unnamed_notes other) (kind_numbers def.kind)
 
 -- Packages, interfaces and worlds of the other binding whose names or paths weren't here have theirs in the end, and so have imports and exports that the bound
 -- world hadn't. Each type that comes is one of the other's.
