@@ -54,7 +54,7 @@ pub mod WorldItems
 pub mod TypeOrder
 -- What an item of a world uses stands before it. Serves Reaching, Valid.
 pub mod ItemOrder
--- What holds names of one place stays with the owner of that place. Serves laws::kept_owners_stand.
+-- What holds names of one place stays with the owner of that place. Serves laws::kept_owners_stand; crates above.
 pub mod KeptOwners
 -- The numbers of a plan that are resources are those of the parts that are marked. Serves laws::kept_resources_stand.
 pub mod KeptResources
