@@ -64,6 +64,8 @@ pub mod KeyLabels
 pub mod FollowedWorlds
 -- What is exported at the top has labels, none twice. Serves laws::read_labels_stand.
 pub mod Labels
+-- The named types that a type of the plan meets are names in the part that is kept for it. Serves NumberedOrder.
+pub mod MetNames
 -- Each inline interface is met once. Serves ReadOrder.
 pub mod MetPlaces
 -- The types that are named by then have smaller numbers than those that are named later. Serves ReadOrder.

@@ -5,6 +5,7 @@ use Rattle.std.proofs.lemmas.Bool.{cases_lt, le-ltb, lt-ltb}
 use Rattle.std.proofs.lemmas.List.Elements.{Contains-append_left, Contains-append_right}
 use Rattle.std.proofs.lemmas.Option.{same_Some as same-some, slice_get_within as found_below}
 use Rattle.wit_model.specs.declared.model.Resolve.{Resolve}
+use Rattle.wit_model.specs.Parts.{met_by, met_of}
 use Rattle.wit_model.specs.Text.{Text}
 use Rattle.wit_model.specs.Tree.{Form, Place, Tree, Trees, children}
 use Rattle.wit_model.specs.Types.{no_tree, number_tree, trees_of}
@@ -13,26 +14,30 @@ use Rattle.wit_model.proofs.Elements.{contains-flat, contains-get, none-in}
 use Rattle.comp_meaning.specs.Follow.{place_of}
 use Rattle.plan_meaning.specs.Built.{IsBuilt, planned_type}
 use Rattle.plan_meaning.specs.KeptTypes.{IsKeptType, unnamed, declared, TypesAreKept}
-use Rattle.plan_meaning.specs.NumberedViews.{AreTables, HasNameIn, itself, inside, IsOutside, Tables, path_at, place_at, tree_at}
-use Rattle.plan_meaning.specs.Plan.{Plan, PlannedType, part_number, trees_in}
+use Rattle.plan_meaning.specs.NumberedViews.{AreApart, AreTables, HasNameIn, itself, inside, IsOutside, Tables, path_at, place_at, tree_at}
+use Rattle.plan_meaning.specs.Plan.{Plan, PlannedType, met_in, part_number, trees_in}
 use Rattle.plan_meaning.specs.Renumbering.{a_shape}
 use Rattle.plan_meaning.specs.Shapes.{Shape, named_shape, node_shape, part_tree, shape_tree, shape_trees}
 use Rattle.plan_meaning.proofs.KeptTypes.{kept_types_pass}
 use Rattle.plan_meaning.proofs.Renumbering.{trees_are_kept}
 use Rattle.plan_meaning.proofs.ShapeLaws.{name_tree, node_tree, one_number_apart, part_behind, split_part, tree_at_number}
-use Rattle.plan_meaning.proofs.Words.{trees_are}
+use Rattle.plan_meaning.proofs.Words.{met_are, trees_are}
 use Rattle.plan_laws.proofs.Inside.{flat_cases}
 use Rattle.plan_laws.proofs.PlaceNumbers.{number_given}
 use Rattle.plan_package.proofs.ReadPackageLaws.{number_at as number_there}
 use Rattle.plan_types.specs.PlannedTypes.{number_in}
-use Rattle.read_follow.specs.Numbering.{CountUp, IsNext}
+use Rattle.read_follow.specs.Numbering.{bare_parts, scoped_trees, CountUp, IsNext}
 use Rattle.read_follow.proofs.NumberingLaws.{count_below}
+use Rattle.read_numbers.specs.PlacedNumbers.{IsMetPart}
+use Rattle.read_numbers.proofs.MetNumbers.{met_parts_are_seen}
+use Rattle.read_parts.specs.Members.{DeclaringScope}
 use Rattle.comp_read.specs.TypeOrder.{are_pathed, is_pathed, numbers_below, HasNumber, NumbersFollow}
 use Rattle.comp_read.proofs.CountedUp.{Any, IsOfSmaller, StandBehind, behind_mapped, below, counted_up}
+use Rattle.comp_read.proofs.MetNames.{names_are_inside, IsNameInside}
 use Rattle.comp_read.proofs.PlanOrder.{is_plan}
 use Rattle.base_lemmas.proofs.Bools.{left_of as first_true, right_of as second_true}
 use Rattle.base_lemmas.proofs.Elements.{all_at, contains-later, contains-map, contains-one, first-contained, get-contains, last_of}
-use Rattle.base_lemmas.proofs.Lists.{flat_mapped, get_back, length_of_map, mapped_get, within_there}
+use Rattle.base_lemmas.proofs.Lists.{flat_mapped, get_back, length_of_map, map_of_map, mapped_get, within_there}
 
 -- ---- parts that count up
 
@@ -123,6 +128,16 @@ module _ (t : Tables) (tables : AreTables t) where
       let y = pathed_outside b pathed q q_in in
       tables.paths p q y.0 (same_place (path_at t p) (path_at t q) x.0 y.0 x.1 y.1 e ∙ y.1) y.1) same
 
+  -- two types of one scope stand apart
+  pub met_apart : (h a b : ℕ) → IsMetPart t h a → IsMetPart t h b → AreApart (place_at t) t.shapes a b
+  met_apart h a b over_a over_b p q p_in q_in e = elim (over_a.1 p p_in) [
+    | inl own_p ↦ own_p ∙ sym ((met_parts_are_seen t tables h b over_b).0 q q_in (sym e ∙ ap (place_at t) own_p))
+    | inr p_path ↦ elim (over_b.1 q q_in) [
+      | inl own_q ↦ (met_parts_are_seen t tables h a over_a).0 p p_in (e ∙ ap (place_at t) own_q) ∙ sym own_q
+      | inr q_path ↦ tables.paths p q q_path.0 (same_place (path_at t p) (path_at t q) p_path.0 q_path.0 p_path.1 q_path.1 e ∙ q_path.1) q_path.1
+    ]
+  ]
+
   -- ---- the numbers of parts that are kept
 
   module _ (kept : List ℕ) (p : Plan) (are : TypesAreKept t kept p) (long : length kept ≡ length p.types) where
@@ -192,7 +207,12 @@ module _ (t : Tables) (tables : AreTables t) where
           there = to_option (number_for (14 + n.0)) c (number_there_is n.0 c n.1);
         }
 
-    module _ (r : Resolve) (built : IsBuilt p r) (parts : List ℕ) (counted : CountUp 0 parts (length t.shapes)) (declares : List Tree) (trees : map (tree_at t) parts ≡ declares) where
+    module _ (r : Resolve) (built : IsBuilt p r) (scoped : List (DeclaringScope × ℕ)) (counted : CountUp 0 (bare_parts scoped) (length t.shapes)) (declares : List (DeclaringScope × Tree))
+        (trees : scoped_trees (shape_trees (place_at t) t.shapes) scoped ≡ declares)
+        (near : (c : DeclaringScope) (a b : ℕ) → Contains scoped (c, a) → Contains scoped (c, b) → AreApart (place_at t) t.shapes a b) where
+      abbrev parts : List ℕ
+      parts = bare_parts scoped
+
       many_types : length kept ≡ length r.types.items
       many_types = long ∙ (ap (λ (xs : List PlannedType). length xs) (sym built.types) ∙ length_of_map planned_type r.types.items)
 
@@ -239,20 +259,76 @@ module _ (t : Tables) (tables : AreTables t) where
       part_low : (i a : ℕ) → slice_get parts i ≡ Some a → a < 14 + length t.shapes
       part_low i a e = all_at (λ (q : ℕ). q < 14 + length t.shapes) parts (count_below 0 parts (length t.shapes) counted) a (get-contains parts i a e)
 
-      same_number : (i j : ℕ) (u : Tree) (a b : Option ℕ) → is_pathed u ≡ true → slice_get declares i ≡ Some u → slice_get declares j ≡ Some u
-          → slice_get found i ≡ Some a → slice_get found j ≡ Some b → a ≡ b
-      same_number i j u a b pathed i_at j_at a_at b_at =
-          let x = get_back (tree_at t) parts i u (ap (λ ts. slice_get ts i) trees ∙ i_at) in
-          let y = get_back (tree_at t) parts j u (ap (λ ts. slice_get ts j) trees ∙ j_at) in
-          let one : x.0 ≡ y.0 = pathed_once x.0 y.0 (part_low i x.0 x.1) (part_low j y.0 y.1) (x.2 ∙ sym y.2) (ap is_pathed y.2 ∙ pathed) in
-          let left = same-some a (number_for x.0) (sym a_at ∙ mapped_get number_for parts i x.0 x.1) in
-          let right = same-some b (number_for y.0) (sym b_at ∙ mapped_get number_for parts j y.0 y.1) in
+      -- the part that is declared there
+      part_there : (i : ℕ) (c : DeclaringScope) (u : Tree) → slice_get declares i ≡ Some (c, u)
+          → (k : ℕ) × Contains scoped (c, k) × (slice_get parts i ≡ Some k) × (k < 14 + length t.shapes) × (tree_at t k ≡ u)
+      part_there i c u at =
+          let x = get_back (λ (s : DeclaringScope × ℕ). (s.0, tree_at t s.1)) scoped i (c, u) (ap (λ ds. slice_get ds i) trees ∙ at) in
+          let here = mapped_get (λ (s : DeclaringScope × ℕ). s.1) scoped i x.0 x.1 in
+          let one : x.0 ≡ (c, x.0.1) = λ k. ((x.2 k).0, x.0.1) in
+          (x.0.1, get-contains scoped i (c, x.0.1) (x.1 ∙ ap Some one), here, part_low i x.0.1 here, (λ k. (x.2 k).1))
+
+      one_part : (c d : DeclaringScope) (u : Tree) (a b : ℕ) → (c ≡ d) ⊎ (is_pathed u ≡ true) → Contains scoped (c, a) → Contains scoped (d, b) → a < 14 + length t.shapes
+          → b < 14 + length t.shapes → tree_at t a ≡ u → tree_at t b ≡ u → a ≡ b
+      one_part c d u a b (inl scope) a_in b_in a_low b_low ea eb =
+          one_number_apart (place_at t) t.shapes tables.shapes a b a_low b_low (near c a b a_in (subst (λ (s : DeclaringScope). Contains scoped (s, b)) (sym scope) b_in)) (ea ∙ sym eb)
+      one_part c d u a b (inr pathed) a_in b_in a_low b_low ea eb = pathed_once a b a_low b_low (ea ∙ sym eb) (ap is_pathed eb ∙ pathed)
+
+      same_number : (i j : ℕ) (c d : DeclaringScope) (u : Tree) (a b : Option ℕ) → (c ≡ d) ⊎ (is_pathed u ≡ true) → slice_get declares i ≡ Some (c, u)
+          → slice_get declares j ≡ Some (d, u) → slice_get found i ≡ Some a → slice_get found j ≡ Some b → a ≡ b
+      same_number i j c d u a b tied i_at j_at a_at b_at =
+          let x = part_there i c u i_at in
+          let y = part_there j d u j_at in
+          let one : x.0 ≡ y.0 = one_part c d u x.0 y.0 tied x.1 y.1 x.3 y.3 x.4 y.4 in
+          let left = same-some a (number_for x.0) (sym a_at ∙ mapped_get number_for parts i x.0 x.2) in
+          let right = same-some b (number_for y.0) (sym b_at ∙ mapped_get number_for parts j y.0 y.2) in
           left ∙ (ap number_for one ∙ sym right)
+
+      -- the name that is met at a number, as it stands in the part of the declaration
+      met_in_part : (k a m : ℕ) → number_for k ≡ Some a → Contains (met_by (met_of r) a) m → IsNameInside t tables kept p are k m
+      met_in_part k a m is c =
+          let from = number_back k a is in
+          let low = found_below kept a from.0 from.2 in
+          let x = within_there p.types a (omega (arith, low, long)) in
+          let same : met_of r ≡ met_in p = sym (met_are r p.main) ∙ ap met_in (sym (is_plan p r built)) in
+          subst (λ (q : ℕ). IsNameInside t tables kept p are q m) (sym from.1)
+          (names_are_inside t tables kept p are a from.0 x.0 x.1 from.2 m (subst (λ (table : List (List ℕ)). Contains (met_by table a) m) same c))
+
+      one_name : (c : DeclaringScope) (a b m n : ℕ) → Contains scoped (c, a) → Contains scoped (c, b) → IsNameInside t tables kept p are a m → IsNameInside t tables kept p are b n
+          → number_tree r m ≡ number_tree r n → m ≡ n
+      one_name c a b m n a_in b_in x y e =
+          let trees = shape_trees (place_at t) t.shapes in
+          let left = tree_is x.number m x.kept_there ∙ (tree_there x.number (named_shape x.place x.name) x.at ∙ name_tree (place_at t) trees x.place x.name) in
+          let right = tree_is y.number n y.kept_there ∙ (tree_there y.number (named_shape y.place y.name) y.at ∙ name_tree (place_at t) trees y.place y.name) in
+          let names : Tree.named (place_at t x.place) x.name ≡ Tree.named (place_at t y.place) y.name = sym left ∙ (e ∙ right) in
+          let places : place_at t x.place ≡ place_at t y.place = cc in
+          let labels : x.name ≡ y.name = cc in
+          let place : x.place ≡ y.place = near c a b a_in b_in x.place y.place x.has y.has places in
+          let shape : named_shape y.place y.name ≡ named_shape x.place x.name = λ k. named_shape (sym place k) (sym labels k) in
+          let number : x.number ≡ y.number = tables.shapes.apart x.number y.number (named_shape x.place x.name) x.at (y.at ∙ ap Some shape) in
+          are.once m n y.number (x.kept_there ∙ ap Some number) y.kept_there
+
+      same_names : (i j : ℕ) (c : DeclaringScope) (u v : Tree) (a b m n : ℕ) → slice_get declares i ≡ Some (c, u) → slice_get declares j ≡ Some (c, v) → slice_get found i ≡ Some (Some a)
+          → slice_get found j ≡ Some (Some b) → Contains (met_by (met_of r) a) m → Contains (met_by (met_of r) b) n → number_tree r m ≡ number_tree r n → m ≡ n
+      same_names i j c u v a b m n i_at j_at a_at b_at m_in n_in e =
+          let x = part_there i c u i_at in
+          let y = part_there j c v j_at in
+          let left = same-some (number_for x.0) (Some a) (sym (mapped_get number_for parts i x.0 x.2) ∙ a_at) in
+          let right = same-some (number_for y.0) (Some b) (sym (mapped_get number_for parts j y.0 y.2) ∙ b_at) in
+          one_name c x.0 y.0 m n x.1 y.1 (met_in_part x.0 a m left m_in) (met_in_part y.0 b n right n_in) e
+
+      abbrev HasItsNumber : DeclaringScope × Tree → Option ℕ → Type 0
+      HasItsNumber d o = HasNumber r d.1 o
 
       pub numbers_follow : NumbersFollow declares r
       numbers_follow = record {
         numbers = found;
-        are = subst (λ (ts : List Tree). AllZip (HasNumber r) ts found) trees (zip_maps (HasNumber r) (tree_at t) number_for has_number parts);
+        are =
+            subst (λ (ds : List (DeclaringScope × Tree)). AllZip HasItsNumber ds found) trees
+            (subst (λ (ns : List (Option ℕ)). AllZip HasItsNumber (scoped_trees (shape_trees (place_at t) t.shapes) scoped) ns)
+            (sym (map_of_map number_for (λ (s : DeclaringScope × ℕ). s.1) scoped))
+            (zip_maps HasItsNumber (λ (s : DeclaringScope × ℕ). (s.0, tree_at t s.1)) (λ (s : DeclaringScope × ℕ). number_for s.1) (λ (s : DeclaringScope × ℕ). has_number s.1) scoped));
         order = counts_up;
         same = same_number;
+        names = same_names;
       }

@@ -1,6 +1,6 @@
 -- What is decoded stands in the order in which the bytes show it.
-use Rattle.std.proofs.Common.{◌≡◌, refl, sym, ap, subst, ◌∙◌, ℕ, true, List, [], ◌∷◌, ◌++◌, append-nil, length, map, IfOk, Option, Some, None, Result, Ok, Err, slice_get}
-use Rattle.std.specs.List.{AllZip, filter, flat_map}
+use Rattle.std.proofs.Common.{◌≡◌, refl, sym, ap, subst, ◌∙◌, ℕ, ◌+◌, ◌<◌, true, List, [], ◌∷◌, ◌++◌, append-nil, length, map, IfOk, Option, Some, None, Result, Ok, Err, slice_get}
+use Rattle.std.specs.List.{AllZip, Contains, filter, flat_map}
 use Rattle.wit_model.specs.declared.model.Resolve.{Resolve}
 use Rattle.wit_model.specs.Meaning.{PackageMeaning, WorldPackage}
 use Rattle.wit_model.specs.Text.{Text}
@@ -16,10 +16,11 @@ use Rattle.comp_meaning.proofs.Levelled.{levelled}
 use Rattle.plan_meaning.specs.Built.{IsBuilt}
 use Rattle.plan_meaning.specs.NumberedMembers.{Homes, HomesStand, IsMember, are_package, home_at}
 use Rattle.plan_meaning.specs.KeptTypes.{TypesAreKept}
-use Rattle.plan_meaning.specs.NumberedViews.{NumberedSight, Tables, first_at, place_at, tree_at}
+use Rattle.plan_meaning.specs.NumberedViews.{NumberedSight, Tables, first_at, place_at}
 use Rattle.plan_meaning.specs.NumberedWorlds.{are_once}
 use Rattle.plan_meaning.specs.Plan.{Plan, PlannedInterface, numbers_of}
 use Rattle.plan_meaning.specs.PlanRules.{are_rising, IsPlan}
+use Rattle.plan_meaning.specs.Shapes.{shape_trees, IsTable}
 use Rattle.plan_build.proofs.BuildableLaws.{plans_are_buildable}
 use Rattle.plan_types.specs.Orders.{joined_all}
 use Rattle.plan_package.specs.PlanWhole.{PlansWhole, places_in}
@@ -33,8 +34,14 @@ use Rattle.plan_laws.specs.Whole.{IsPackageInput}
 use Rattle.plan_laws.proofs.Planned.{first_there}
 use Rattle.plan_laws.proofs.WholePlacesTop.{one_package}
 use Rattle.plan_laws.proofs.WholeTypes.{packages_are_ruled, planned_types_are_whole}
-use Rattle.base_lemmas.proofs.Elements.{last_of, zip_long}
+use Rattle.base_lemmas.proofs.Elements.{all_at, contains-map, last_of, zip_long}
+use Rattle.base_lemmas.proofs.Lists.{one_item}
+use Rattle.read_follow.specs.declared.scopes.Instance.{Instance}
+use Rattle.read_follow.specs.declared.scopes.Scope.{Scope as FollowedScope}
+use Rattle.read_follow.specs.Numbering.{bare_parts, scoped_trees}
+use Rattle.read_follow.specs.Scopes.{world_of, IsPartOver, IsScopedIn, World}
 use Rattle.read_follow.proofs.ComponentLaws.{places_are as places_stand}
+use Rattle.read_follow.proofs.NumberingLaws.{count_below}
 use Rattle.read_exports.specs.Members.{numbered_members, numbered_part}
 use Rattle.read_exports.specs.declared.members.Member.{Member}
 use Rattle.read_exports.specs.declared.members.Part.{Part}
@@ -42,10 +49,12 @@ use Rattle.read_exports.specs.declared.members.Part.TheVariants as parts
 use Rattle.read_members.specs.ReadMembers.{AreRead, lent_member}
 use Rattle.read_numbers.specs.FactLaws.{known_by}
 use Rattle.read_numbers.specs.NumberedInput.{tables_of}
-use Rattle.read_numbers.specs.PlacedNumbers.{scopes_in}
+use Rattle.read_numbers.specs.PlacedNumbers.{scopes_in, IsMetFrom}
+use Rattle.read_numbers.proofs.MetNumbers.{met_from}
 use Rattle.read_parts.specs.declared.following.Followed.{Followed}
 use Rattle.read_parts.specs.Input.{IsFollowed}
-use Rattle.read_parts.specs.Members.{declared_trees}
+use Rattle.read_parts.specs.declared.members.Member.{Member as FollowedMember}
+use Rattle.read_parts.specs.Members.{declared_trees, scope_of, DeclaringScope, IsScopedBy}
 use Rattle.read_rules.specs.Scopes.{numbered_scope}
 use Rattle.read_rules.specs.declared.scopes.Scope.{Scope}
 use Rattle.read_rules.specs.declared.tables.Fact.{Fact as KeptFact}
@@ -61,7 +70,7 @@ use Rattle.comp_read.proofs.ByScopes.{members_by_scopes}
 use Rattle.comp_read.proofs.Members.{tables}
 use Rattle.comp_read.proofs.MetPlaces.{HavePaths, all_have, stand_alone}
 use Rattle.comp_read.proofs.NamedOrder.{named_less}
-use Rattle.comp_read.proofs.NumberedOrder.{numbers_follow}
+use Rattle.comp_read.proofs.NumberedOrder.{met_apart, numbers_follow}
 use Rattle.comp_read.proofs.PlanOrder.{StandAlone, package_follows, types_built, world_follows}
 use Rattle.comp_read.proofs.ShownScopes.{scope_places}
 use Rattle.comp_read.proofs.TypeNumbers.{all_rise, places_alike, world_places, world_views}
@@ -79,6 +88,32 @@ exported : (pieces : List Piece) (x : Followed) (h : Homes) (ms : List Member) (
 exported pieces x h ms members input =
     ap (λ o. o >>= each member_by_levels) input.followed.exported ∙ members_by_scopes pieces input.followed.parts input.followed.exported members input.reads
 
+-- ---- the scopes of types
+
+-- two parts of one scope are over one place of their own
+module _ (x : Followed) (table : IsTable x.table) where
+  abbrev AreBothOver : ℕ → ℕ → Type 0
+  AreBothOver a b = (h : ℕ) × IsMetFrom (tables_of x) h a × IsMetFrom (tables_of x) h b
+
+  abbrev world_over : FollowedScope → World
+  world_over scope = world_of x.table x.functions x.places scope
+
+  both_in : (scope : FollowedScope) (c : Option ℕ) (a b : ℕ) → IsScopedIn (world_over scope) c a → IsScopedIn (world_over scope) c b → AreBothOver a b
+  both_in scope None a b over_a over_b =
+      (scope.home, met_from x.table x.functions x.places table scope.home a over_a, met_from x.table x.functions x.places table scope.home b over_b)
+  both_in scope (Some j) a b over_a over_b =
+      let one = one_item scope.instances.items j over_b.0 over_a.0 over_b.1 over_a.1 in
+      let here = over_a.0.place in (
+        here,
+        met_from x.table x.functions x.places table here a over_a.2,
+        met_from x.table x.functions x.places table here b (subst (λ (i : Instance). IsPartOver (world_over scope) i.place b) one over_b.2),
+      )
+
+  both_over : (ms : List FollowedMember) (c : DeclaringScope) (a b : ℕ) → IsScopedBy x.table x.functions x.places ms (c, a) → IsScopedBy x.table x.functions x.places ms (c, b) → AreBothOver a b
+  both_over ms c a b over_a over_b =
+      let one = one_item ms c.0 over_b.0 over_a.0 over_b.1 over_a.1 in
+      both_in (scope_of over_a.0.part) c.1 a b over_a.2 (subst (λ (m : FollowedMember). IsScopedIn (world_over (scope_of m.part)) c.1 b) one over_b.2)
+
 -- ---- the numbers of types
 
 module _ (pieces : List Piece) (x : Followed) (h : Homes) (ms : List Member) (members : List reads.Member) (input : IsReadInput pieces x h ms members) where
@@ -87,8 +122,16 @@ module _ (pieces : List Piece) (x : Followed) (h : Homes) (ms : List Member) (me
   all_numbered kept p are long r built =
       let n = input.followed.followed.numbers in
       let t = tables_of x in
-      numbers_follow t (tables pieces x h ms members input) kept p are long r built n.parts n.counted (declared_trees input.followed.parts)
-      (sym (append-nil (map (tree_at t) n.parts)) ∙ n.trees (place_at t) (places_stand x.places))
+      let good = tables pieces x h ms members input in
+      let low = count_below 0 (bare_parts n.parts) (length t.shapes) n.counted in
+      let inside : (c : DeclaringScope) (a : ℕ) → Contains n.parts (c, a) → a < 14 + length t.shapes =
+      λ c a a_in. all_at (λ (q : ℕ). q < 14 + length t.shapes) (bare_parts n.parts) low a (contains-map (λ (s : DeclaringScope × ℕ). s.1) n.parts (c, a) a_in) in
+      let over = all_at (IsScopedBy x.table x.functions x.places x.members.items) n.parts n.scoped in
+      numbers_follow t good kept p are long r built n.parts n.counted (declared_trees input.followed.parts)
+      (sym (append-nil (scoped_trees (shape_trees (place_at t) t.shapes) n.parts)) ∙ n.trees (place_at t) (places_stand x.places))
+      (λ c a b a_in b_in.
+      let both = both_over x good.shapes x.members.items c a b (over (c, a) a_in) (over (c, b) b_in) in
+      met_apart t good both.0 a b (inside c a a_in, both.1) (inside c b b_in, both.2))
 
 -- ---- a package
 

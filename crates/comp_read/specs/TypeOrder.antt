@@ -1,10 +1,12 @@
 -- The order in which types are numbered that are decoded of bytes: that in which the bytes declare them (Component Model Binary.md, "Index Spaces").
-use Rattle.std.specs.Prelude.{◌≡◌, ◌<◌, ◌&&◌, ℕ, zero, suc, Bool, true, false, List, [], ◌∷◌, ◌++◌, length, Option, Some, None, option_to_list, slice_get}
-use Rattle.std.specs.List.{AllZip, flat_map}
+use Rattle.std.specs.Prelude.{◌≡◌, ◌⊎◌, ◌<◌, ◌&&◌, ℕ, zero, suc, Bool, true, false, List, [], ◌∷◌, ◌++◌, length, Option, Some, None, option_to_list, slice_get}
+use Rattle.std.specs.List.{AllZip, Contains, flat_map}
 use Rattle.wit_model.specs.declared.model.Resolve.{Resolve}
+use Rattle.wit_model.specs.Parts.{met_by, met_of}
 use Rattle.wit_model.specs.Tree.{Place, Tree, Trees, primitive, named, node, no_children, child}
 use Rattle.wit_model.specs.Types.{number_tree}
 use Rattle.wit_model.specs.Uses.{once}
+use Rattle.read_parts.specs.Members.{DeclaringScope}
 
 abbrev mutual
   -- whether each name in a type is of an interface with a path: such a type is the same wherever it is declared
@@ -30,10 +32,14 @@ numbers_below zero = []
 numbers_below (suc n) = numbers_below n ++ n ∷ []
 
 -- The types of the `Resolve` are numbered in the order in which these are declared: their numbers, each where its type is declared first, count up, and
--- there are no others. A type over names of interfaces with a path has one number, or none, wherever it is declared.
-pub record NumbersFollow (declared : List Tree) (r : Resolve) : Type 0 where
+-- there are no others. A type has one number, or none, wherever it is declared in one scope, and if it is over names of interfaces with a path, in any scope.
+-- Types that are declared in one scope are over one named type for each spelling.
+pub record NumbersFollow (declared : List (DeclaringScope × Tree)) (r : Resolve) : Type 0 where
   pub numbers : List (Option ℕ)
-  pub are : AllZip (HasNumber r) declared numbers
+  pub are : AllZip (λ (d : DeclaringScope × Tree). HasNumber r d.1) declared numbers
   pub order : once (flat_map option_to_list numbers) ≡ numbers_below (length r.types.items)
-  pub same : (i j : ℕ) (t : Tree) (a b : Option ℕ) → is_pathed t ≡ true → slice_get declared i ≡ Some t → slice_get declared j ≡ Some t
-      → slice_get numbers i ≡ Some a → slice_get numbers j ≡ Some b → a ≡ b
+  pub same : (i j : ℕ) (c d : DeclaringScope) (t : Tree) (a b : Option ℕ) → (c ≡ d) ⊎ (is_pathed t ≡ true) → slice_get declared i ≡ Some (c, t)
+      → slice_get declared j ≡ Some (d, t) → slice_get numbers i ≡ Some a → slice_get numbers j ≡ Some b → a ≡ b
+  pub names : (i j : ℕ) (c : DeclaringScope) (t u : Tree) (a b m n : ℕ) → slice_get declared i ≡ Some (c, t) → slice_get declared j ≡ Some (c, u)
+      → slice_get numbers i ≡ Some (Some a) → slice_get numbers j ≡ Some (Some b)
+      → Contains (met_by (met_of r) a) m → Contains (met_by (met_of r) b) n → number_tree r m ≡ number_tree r n → m ≡ n

@@ -1,10 +1,10 @@
 -- One entry of a component type after the other.
 use Rattle.std.proofs.Common.{◌≡◌, inl, inr, refl, sym, ap, ◌∙◌, subst, ℕ, zero, suc, ◌+◌, ◌-◌, ◌<◌, ◌≤◌, ◌==◌, ◌&&◌, arith, Bool, true, false, cond, List, [], ◌∷◌, ◌++◌, map, append_assoc, length, length-append, Option, Some, None, slice_get, unwrap_or}
-use Rattle.std.specs.List.{AllByRecursion, flat_map, list_any}
+use Rattle.std.specs.List.{AllByRecursion, list_any}
 use Rattle.std.specs.Option.{option_map_or}
 use Rattle.std.proofs.Math.ListN.{length-map}
 use Rattle.std.proofs.lemmas.Bool.{cases_lt}
-use Rattle.std.proofs.lemmas.List.{append-nil, map-append}
+use Rattle.std.proofs.lemmas.List.{append-nil}
 use Rattle.wit_model.specs.Meaning.{Signature}
 use Rattle.wit_model.specs.Text.{Text, text_eq}
 use Rattle.wit_model.specs.Tree.{Place, Tree}
@@ -26,24 +26,26 @@ use Rattle.read_follow.specs.Defining.{AddsForms, Grows, IsDefined, IsDefinedFun
 use Rattle.read_follow.specs.Following.{shown_type, AreTables, IsShownIn, IsSlotIn, IsTypeSlot}
 use Rattle.read_follow.specs.Found.{Refuses}
 use Rattle.read_follow.specs.Functions.{functions_in, signature_in, FunctionShape, IsFunctionIn}
-use Rattle.read_follow.specs.Numbering.{parts_in, slot_parts, slot_trees, trees_along, trees_since, CountUp}
+use Rattle.read_follow.specs.Numbering.{all_in, bare_parts, parts_in, scoped_trees, slot_parts, trees_along, trees_since, CountUp}
 use Rattle.read_follow.specs.Placed.{apart, HasNoNames, MayMeet, SignatureOver, SlotOver}
 use Rattle.read_follow.specs.Places.{has_path, ArePlacesOf}
-use Rattle.read_follow.specs.Scopes.{are_settled, find_slot, instance_in, meant_at, path_of, slot_of_instance, start_of, taken_from, waiting, weight, weights, world_signatures, world_trees, Goes, HasStages, IsFollowedTo, IsInstanceIn, IsPlacedWorld, IsScopeOf, IsStage, IsWorld, Stops, World}
+use Rattle.read_follow.specs.Scopes.{are_settled, find_slot, instance_in, meant_at, path_of, slot_of_instance, start_of, taken_from, waiting, weight, weights, world_signatures, world_trees, Goes, HasStages, IsFollowedTo, IsInstanceIn, IsPlacedWorld, IsScopedIn, IsScopeOf, IsStage, IsWorld, Stops, World}
 use Rattle.read_follow.specs.Slots.{no_signature, resource_slot, slot_in, slots_in, AreNames, IsName}
 use Rattle.plan_meaning.specs.Shapes.{Shape, named_shape, node_shape, part_tree, shape_trees, IsTable}
-use Rattle.read_follow.proofs.DefiningLaws.{all_at, longer, no_shapes, parts_grown, same_list}
+use Rattle.read_follow.proofs.DefiningLaws.{all_at, longer, no_shapes, same_list, scoped_grown}
 use Rattle.read_follow.proofs.FollowingLaws.{functions_wider, joins_all, joins_grow, names_of, ranges_of, slot_counted}
-use Rattle.read_follow.proofs.NumberingLaws.{count_below, count_both, slots_declare}
+use Rattle.read_follow.proofs.NumberingLaws.{count_below, count_scoped}
 use Rattle.read_follow.proofs.OverLaws.{definition_over, signature_over}
 use Rattle.read_follow.proofs.PlaceLaws.{below_pathless}
 use Rattle.read_follow.proofs.PlacedLaws.{stood}
 use Rattle.read_follow.proofs.PlacedScopes.{extended_placed, found_over, none_past, path_marked, path_met}
 use Rattle.read_follow.proofs.Refusing.{refused}
 use Rattle.read_follow.proofs.ScopeLaws.{all_before, extended_world, goes_on, none_behind, plus_slot, waiting_push, waits}
+use Rattle.read_follow.proofs.ScopedLaws.{all_still_scoped, slot_numbered}
 use Rattle.read_follow.proofs.SlotLaws.{mapped_none}
 use Rattle.read_follow.proofs.StepLaws.{after_first, grow_on, guarded, headed, none_left, none_less, peeled, sequence_more, unread}
-use Rattle.base_lemmas.proofs.Lists.{mapped_get, slice_front}
+use Rattle.base_lemmas.proofs.Elements.{all_both}
+use Rattle.base_lemmas.proofs.Lists.{append_of_map, mapped_get, slice_front}
 use Rattle.base_lemmas.proofs.Numbers.{less}
 use Rattle.std.proofs.lemmas.Option.{same_Some as some_same, slice_get_within as found_below}
 
@@ -126,12 +128,7 @@ module _ (old : World) (st : IsWorld old) where
       (let same = ap (λ us. waiting us 0 (old.slots ++ s ∷ [])) (append-nil old.used) in
       let push = waiting_push old.used 0 old.slots s in
       omega (arith, same, push, count))
-      (parts_in (s ∷ [])) (
-        subst (λ (ps : List ℕ). CountUp (length old.shapes) ps (length more)) (sym (append-nil (slot_parts s))) counted,
-        (λ place of.
-            append-nil (flat_map slot_trees (slots_in (shape_trees place more) (functions_in (shape_trees place more) more_fs) (s ∷ [])))
-            ∙ slots_declare (shape_trees place more) (functions_in (shape_trees place more) more_fs) (s ∷ []) (names_of place more more_fs (s ∷ []) tables.table (is, tt))),
-      )
+      (all_in None (parts_in (s ∷ []))) (slot_numbered old st more more_fs old.paths gs gf (same_list old.paths) tables s [] [] is counted)
       (λ place of. follows place of ∙ ap Some (plus_slot (meant_at place old) (slot_in (shape_trees place more) (functions_in (shape_trees place more) more_fs) s)))
 
   names_at : (place : ℕ → Place) → AreNames (world_trees place old) old.slots
@@ -431,20 +428,24 @@ module _ (start : World) (b : Body) where
             stage = reached next g p.0 p.2;
             behind = (reached next g p.0 p.2).split;
             parts = f.parts ++ g.numbers.parts;
-            counted = count_both (length start.shapes) f.parts (length now.shapes) g.numbers.parts (length next.shapes) f.counted g.numbers.counted;
+            counted = count_scoped (length start.shapes) f.parts (length now.shapes) g.numbers.parts (length next.shapes) f.counted g.numbers.counted;
             trees = λ place of.
                 let before = places_before now.paths next.paths g.paths_grow place of in
                 let T = world_trees place now in
                 let U = world_trees place next in
                 let along = trees_along (meant_at place next) p.0 in
-                let kept = parts_grown place now.shapes next.shapes g.shapes_grow f.parts (count_below (length start.shapes) f.parts (length now.shapes) f.counted) in
-                let one : trees_along (meant_at place now) f.es ≡ map (part_tree U) g.numbers.parts ++ along =
+                let kept = scoped_grown place now.shapes next.shapes g.shapes_grow f.parts (count_below (length start.shapes) (bare_parts f.parts) (length now.shapes) f.counted) in
+                let one : trees_along (meant_at place now) f.es ≡ scoped_trees U g.numbers.parts ++ along =
                 ap (trees_along (meant_at place now)) p.2
                 ∙ (ap (λ o. option_map_or (λ last. trees_since (meant_at place now) last ++ trees_along last p.0) o []) (g.follows place of)
                 ∙ ap (λ ts. ts ++ along) (g.numbers.trees place of)) in
-                ap (λ ts. ts ++ along) (map-append (part_tree U) f.parts g.numbers.parts ∙ ap (λ ts. ts ++ map (part_tree U) g.numbers.parts) kept)
-                ∙ (append_assoc (map (part_tree T) f.parts) (map (part_tree U) g.numbers.parts) along
-                ∙ (ap (λ ts. map (part_tree T) f.parts ++ ts) (sym one) ∙ f.trees place before));
+                ap (λ ts. ts ++ along) (append_of_map (λ p. (p.0, part_tree U p.1)) f.parts g.numbers.parts ∙ ap (λ ts. ts ++ scoped_trees U g.numbers.parts) kept)
+                ∙ (append_assoc (scoped_trees T f.parts) (scoped_trees U g.numbers.parts) along
+                ∙ (ap (λ ts. scoped_trees T f.parts ++ ts) (sym one) ∙ f.trees place before));
+            scoped =
+                all_both (λ (p : Option ℕ × ℕ). IsScopedIn next p.0 p.1) f.parts g.numbers.parts
+                (all_still_scoped now next g.shapes_grow g.paths_grow g.home g.instances_grow f.parts (count_below (length start.shapes) (bare_parts f.parts) (length now.shapes) f.counted) f.scoped)
+                (g.numbers.scoped start.shapes start.home (g.placed start.shapes start.home f.placed));
             stages = stages_on start.shapes start.home all now next (weight x) (λ m. entry_step m x) g i f.stages (reached next g p.0 p.2);
           }
 
@@ -482,6 +483,7 @@ followed_none home shapes fs paths b tables own fresh whole new e = subst (λ (w
   parts = [];
   counted = refl;
   trees = λ place of. refl;
+  scoped = tt;
   stages = λ n low. (start_of home shapes fs paths, begun n (omega (arith, low)));
 })
   where
@@ -577,8 +579,9 @@ module _ (home : ℕ) (shapes : List Shape) (fs : List FunctionShape) (before pa
     counted = f.counted;
     trees = λ place of.
         let none = none_left entry_at (b.count - b.count) [] f.es (omega arith) f.left in
-        sym (append-nil (map (part_tree (world_trees place now)) f.parts))
-        ∙ (ap (λ es. map (part_tree (world_trees place now)) f.parts ++ trees_along (meant_at place now) es) (sym none.0) ∙ f.trees place of);
+        sym (append-nil (scoped_trees (world_trees place now) f.parts))
+        ∙ (ap (λ es. scoped_trees (world_trees place now) f.parts ++ trees_along (meant_at place now) es) (sym none.0) ∙ f.trees place of);
+    scoped = f.scoped;
     shows = λ place of. scope_is place of true e;
   }
 

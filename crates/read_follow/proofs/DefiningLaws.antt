@@ -16,6 +16,7 @@ use Rattle.read_follow.specs.Defining.{AddsForms, ArePlacedBelow, Grows, IsDefin
 use Rattle.read_follow.specs.DefinitionKeys.{HasNoKeys, IsNodeOf}
 use Rattle.read_follow.specs.Found.{Refuses}
 use Rattle.read_follow.specs.Functions.{functions_in, param_tree, signature_in, AreApart, AreFunctionsIn, FunctionShape, IsFunctionIn}
+use Rattle.read_follow.specs.Numbering.{bare_parts, scoped_trees}
 use Rattle.read_follow.specs.Slots.{slots_in, AreInRange, AreNames}
 use Rattle.plan_meaning.specs.PlanRules.{is_form}
 use Rattle.plan_meaning.specs.Shapes.{Shape, code, form_of, named_shape, node_shape, part_tree, shape_tree, shape_trees, Adds, stays, comes, IsShape, a_name, a_node, IsTable}
@@ -115,6 +116,12 @@ module _ (place : ℕ → Place) (ss new : List Shape) (grown : Grows ss new) wh
   pub parts_grown : (ks : List ℕ) → AllByRecursion (λ k. k < 14 + length ss) ks → map (part_tree (shape_trees place new)) ks ≡ map (part_tree (shape_trees place ss)) ks
   parts_grown [] h = refl
   parts_grown (k ∷ ks) h = λ i. part_grown k h.0 i ∷ parts_grown ks h.1 i
+
+  -- so it is with their scopes
+  pub scoped_grown : {S : Type 0} (ps : List (S × ℕ)) → AllByRecursion (λ k. k < 14 + length ss) (bare_parts ps)
+      → scoped_trees (shape_trees place new) ps ≡ scoped_trees (shape_trees place ss) ps
+  scoped_grown [] h = refl
+  scoped_grown (p ∷ ps) h = λ i. (p.0, part_grown p.1 h.0 i) ∷ scoped_grown ps h.1 i
 
   params_grown : (ps : List (Text × ℕ)) → AllByRecursion (λ p. p.1 < 14 + length ss) ps → map (param_tree (shape_trees place new)) ps ≡ map (param_tree (shape_trees place ss)) ps
   params_grown [] h = refl

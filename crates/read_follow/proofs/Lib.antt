@@ -1,6 +1,6 @@
 -- A key that is put into a table is put there once. Serves table::put.
 pub mod AddLaws
--- Parts that are declared one after the other, each there already or the next one. Serves ComponentLaws, DefiningLaws, FollowingLaws, ScopeLaws and 3 more; crates above.
+-- Parts that are declared one after the other, each there already or the next one. Serves ComponentLaws, DefiningLaws, FollowingLaws, ScopeLaws and 4 more; crates above.
 pub mod NumberingLaws
 -- Facts about types, by those about their parts. Serves facts::labelled_fact, facts::summary_of, table::fact; crates above.
 pub mod FactLaws
@@ -8,9 +8,9 @@ pub mod FactLaws
 pub mod TableGrowth
 -- Types of values and of functions in tables that grow. Serves components::follow_component, defining::define, laws::one_function_number; crates above.
 pub mod DefiningLaws
--- What a definition stands for is over the places that the slots are over. Serves AliasLaws, ComponentLaws, FollowingLaws, PlacedScopes and 2 more.
+-- What a definition stands for is over the places that the slots are over. Serves AliasLaws, ComponentLaws, FollowingLaws, PlacedScopes and 3 more.
 pub mod OverLaws
--- Names stay in their places as a scope goes on. Serves ComponentLaws, FollowingLaws, PlacedScopes, ScopeLaws and 3 more; crates above.
+-- Names stay in their places as a scope goes on. Serves ComponentLaws, FollowingLaws, PlacedScopes, ScopeLaws and 4 more; crates above.
 pub mod PlacedLaws
 -- A refusal is passed on. Serves bodies::entry_items, bodies::entry_of, bodies::held_items, bodies::held_of and 16 more; crates above.
 pub mod Refusing
@@ -26,10 +26,12 @@ pub mod JoinLaws
 pub mod SlotLaws
 -- Places that are put into a table, each once. Serves instance_keys::path_number, places::are_apart, places::new_place, places::number_of and 2 more.
 pub mod PlaceLaws
--- A scope of a component type in tables that grow, with something more in it. Serves ComponentLaws, PlacedScopes, SeeLaws, UsedLaws; crates above.
+-- A scope of a component type in tables that grow, with something more in it. Serves ComponentLaws, PlacedScopes, ScopedLaws, SeeLaws and 1 more; crates above.
 pub mod ScopeLaws
 -- Names stay in their places as a scope of a component type goes on. Serves ComponentLaws, SeeLaws, UsedLaws; crates above.
 pub mod PlacedScopes
+-- The scopes of types: a type is over names of its scope's place and of places with a path. Serves ComponentLaws, SeeLaws, StepLaws, UsedLaws; crates above.
+pub mod ScopedLaws
 -- One declaration of an instance type after the other. Serves instances::follow_body, instances::follow_instance, instances::step; crates above.
 pub mod StepLaws
 -- One entry of a component type after the other. Serves components::enter, components::follow_component, components::follow_entries, components::see and 1 more; crates above.

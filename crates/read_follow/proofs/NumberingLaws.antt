@@ -1,5 +1,5 @@
 -- Parts that are declared one after the other, each there already or the next one.
-use Rattle.std.proofs.Common.{◌≡◌, refl, sym, ap, ◌∙◌, subst, ℕ, ◌+◌, ◌<◌, ◌≤◌, arith, inl, inr, List, [], ◌∷◌, ◌++◌, map, length, length-append, drop, append_assoc, Some, slice_get}
+use Rattle.std.proofs.Common.{◌≡◌, refl, sym, ap, ◌∙◌, subst, ℕ, ◌+◌, ◌<◌, ◌≤◌, arith, inl, inr, List, [], ◌∷◌, ◌++◌, map, length, length-append, drop, append_assoc, Some, None, slice_get}
 use Rattle.std.specs.List.{AllByRecursion, flat_map}
 use Rattle.std.proofs.lemmas.Grind.{flat_map-append}
 use Rattle.std.proofs.lemmas.List.{append-nil}
@@ -9,10 +9,10 @@ use Rattle.wit_model.specs.Tree.{Tree}
 use Rattle.comp_meaning.specs.Follow.{Instance as MeantInstance, Scope as MeantScope, Seen as MeantSeen, Slot as Meant}
 use Rattle.read_follow.specs.declared.slots.Slot.{Slot}
 use Rattle.read_follow.specs.declared.slots.Slot.TheVariants as slots
-use Rattle.read_follow.specs.Numbering.{parts_in, slot_parts, slot_trees, trees_since, used_trees, CountUp, IsNext}
+use Rattle.read_follow.specs.Numbering.{all_in, bare_parts, parts_in, scoped_trees, slot_parts, slot_trees, trees_since, used_trees, CountUp, IsNext}
 use Rattle.read_follow.specs.Slots.{resource_slot, slot_in, slots_in, AreNames, IsName}
 use Rattle.plan_meaning.specs.Shapes.{Shape, part_tree, Adds, stays, comes}
-use Rattle.base_lemmas.proofs.Lists.{last_or}
+use Rattle.base_lemmas.proofs.Lists.{append_of_map, last_or}
 
 -- ---- counting up
 
@@ -37,6 +37,21 @@ count_below from (p ∷ ps) to c =
     let one = (next_rises p from c.0 c.1).1 in
     let rest = count_rises c.0 ps to c.2 in
     (omega (arith, one, rest), count_below c.0 ps to c.2)
+
+-- ---- parts with their scopes
+
+pub bare_all : {S : Type 0} (scope : S) (ps : List ℕ) → bare_parts (all_in scope ps) ≡ ps
+bare_all scope [] = refl
+bare_all scope (p ∷ ps) = ap (λ qs. p ∷ qs) (bare_all scope ps)
+
+pub scoped_all : {S : Type 0} (T : List Tree) (scope : S) (ps : List ℕ) → all_in scope (map (part_tree T) ps) ≡ scoped_trees T (all_in scope ps)
+scoped_all T scope [] = refl
+scoped_all T scope (p ∷ ps) = ap (λ ts. (scope, part_tree T p) ∷ ts) (scoped_all T scope ps)
+
+pub count_scoped : {S : Type 0} (from : ℕ) (ps : List (S × ℕ)) (mid : ℕ) (qs : List (S × ℕ)) (to : ℕ) → CountUp from (bare_parts ps) mid → CountUp mid (bare_parts qs) to
+    → CountUp from (bare_parts (ps ++ qs)) to
+count_scoped from ps mid qs to first rest =
+    subst (λ (ks : List ℕ). CountUp from ks to) (sym (append_of_map (λ p. p.1) ps qs)) (count_both from (bare_parts ps) mid (bare_parts qs) to first rest)
 
 -- ---- a part that comes into a table
 
@@ -81,5 +96,6 @@ dropped (x ∷ xs) ys = dropped xs ys
 -- what is declared in a scope with these more
 pub since_plus : (m : MeantScope) (ss : List Meant) (is : List MeantInstance) (im ex : List MeantSeen) (us : List ℕ)
     → trees_since m (record { slots = m.slots ++ ss; instances = m.instances ++ is; imports = m.imports ++ im; exports = m.exports ++ ex; used = m.used ++ us })
-    ≡ flat_map slot_trees ss ++ used_trees (m.slots ++ ss) is us
-since_plus m ss is im ex us = λ i. flat_map slot_trees (dropped m.slots ss i) ++ used_trees (m.slots ++ ss) (dropped m.instances is i) (dropped m.used us i)
+    ≡ all_in None (flat_map slot_trees ss) ++ used_trees (m.slots ++ ss) (length m.instances) is us
+since_plus m ss is im ex us =
+    λ i. all_in None (flat_map slot_trees (dropped m.slots ss i)) ++ used_trees (m.slots ++ ss) (length m.instances) (dropped m.instances is i) (dropped m.used us i)

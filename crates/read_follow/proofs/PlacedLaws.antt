@@ -1,6 +1,7 @@
 -- Names stay in their places as a scope goes on.
-use Rattle.std.proofs.Common.{◌≡◌, ◌⊎◌, inl, inr, refl, sym, ap, ◌∙◌, subst, ℕ, zero, suc, ◌+◌, ◌<◌, ◌≤◌, arith, Bool, true, List, [], ◌∷◌, ◌++◌, length, Option, Some, None, IfSome, slice_get, append_assoc}
+use Rattle.std.proofs.Common.{◌≡◌, ◌⊎◌, inl, inr, refl, sym, ap, ◌∙◌, subst, ℕ, zero, suc, ◌+◌, ◌<◌, ◌≤◌, arith, Bool, true, List, [], ◌∷◌, ◌++◌, map, length, Option, Some, None, IfSome, slice_get, append_assoc}
 use Rattle.std.proofs.lemmas.Bool.{cases_lt}
+use Rattle.std.proofs.lemmas.List.{map-append}
 use Rattle.wit_model.specs.Tree.{Form, Place}
 use Rattle.std.specs.List.{AllByRecursion}
 use Rattle.wit_model.specs.Text.{Text}
@@ -10,6 +11,7 @@ use Rattle.read_follow.specs.declared.views.ShownType.{ShownType}
 use Rattle.read_follow.specs.Defining.{AddsForms, Grows}
 use Rattle.read_follow.specs.Following.{slots_at, view_at, IsPlacedState, State}
 use Rattle.read_follow.specs.Placed.{apart, slot_part, ComesBehind, FunctionOver, HasNoNames, IsNameAs, IsRepeated, IsShownAmong, IsTypeNamed, MayMeet, Rise, SlotOver, TypeOver, ViewOver}
+use Rattle.read_follow.specs.Places.{has_path}
 use Rattle.plan_meaning.specs.PlanRules.{is_form}
 use Rattle.plan_meaning.specs.Shapes.{Shape, first_label, named_shape, node_shape, Adds, IsTable}
 use Rattle.read_follow.proofs.DefiningLaws.{adds_cases, adds_name, same_list}
@@ -25,6 +27,12 @@ module _ {X : Type 0} (old new : List X) (g : Grows old new) where
 
   pub stood : (n : ℕ) (x : X) → n < length old → slice_get new n ≡ Some x → slice_get old n ≡ Some x
   stood n x below e = sym (slice_front old g.more n below) ∙ (sym (ap (λ xs. slice_get xs n) g.is) ∙ e)
+
+-- a place that may be met stays so
+pub met_wider : (paths more : List (Option Text)) → Grows paths more → (p : ℕ) (x : Place) → MayMeet (map has_path paths) p x → MayMeet (map has_path more) p x
+met_wider paths more g p x h q same =
+    let marks : Grows (map has_path paths) (map has_path more) = record { more = map has_path g.more; is = ap (map has_path) g.is ∙ map-append has_path paths g.more } in
+    elim (h q same) [ inl own ↦ inl own | inr marked ↦ inr (stands_on (map has_path paths) (map has_path more) marks q true marked) ]
 
 -- ---- names in tables that grow
 

@@ -29,7 +29,7 @@ use Rattle.plan_meaning.specs.Shapes.{Shape, named_shape, node_shape, shape_tree
 use Rattle.read_follow.proofs.DefiningLaws.{all_at, longer}
 use Rattle.read_follow.proofs.FollowingLaws.{name_part}
 use Rattle.read_follow.proofs.OverLaws.{name_over}
-use Rattle.read_follow.proofs.PlacedLaws.{name_wider, stands_on, stood, types_named_wider}
+use Rattle.read_follow.proofs.PlacedLaws.{met_wider, name_wider, stands_on, stood, types_named_wider}
 use Rattle.read_follow.proofs.ScopeLaws.{exported, extended, extended_meant, imported, view_stays, F, G, T, U}
 use Rattle.base_lemmas.proofs.Elements.{all_both}
 use Rattle.base_lemmas.proofs.Lists.{at_last, last_or, within_there as slice_there}
@@ -97,11 +97,8 @@ module _ (old : World) (st : IsWorld old) (more : List Shape) (more_fs : List Fu
   abbrev New : ℕ → Place → Type 0
   New p = MayMeet (map has_path more_paths) p
 
-  more_marks : Grows (map has_path old.paths) (map has_path more_paths)
-  more_marks = record { more = map has_path gp.more; is = ap (map has_path) gp.is ∙ map-append has_path old.paths gp.more }
-
   met_still : (p : ℕ) (x : Place) → Old p x → New p x
-  met_still p x h q same = elim (h q same) [ inl own ↦ inl own | inr marked ↦ inr (stands_on (map has_path old.paths) (map has_path more_paths) more_marks q true marked) ]
+  met_still p = met_wider old.paths more_paths gp p
 
   instances_grow : Grows old.instances (old.instances ++ xs)
   instances_grow = record { more = xs; is = refl }

@@ -19,17 +19,17 @@ use Rattle.read_follow.specs.declared.views.View.{View}
 use Rattle.read_follow.specs.Defining.{Grows}
 use Rattle.read_follow.specs.Following.{AreSlotsIn, AreTables, IsShownFunctionIn, IsShownIn, IsSlotIn}
 use Rattle.read_follow.specs.Functions.{functions_in, FunctionShape}
-use Rattle.read_follow.specs.Numbering.{slot_trees, trees_since, used_trees, CountUp}
+use Rattle.read_follow.specs.Numbering.{all_in, bare_parts, scoped_trees, slot_trees, trees_since, used_trees, CountUp}
 use Rattle.read_follow.specs.Places.{key_at, ArePlacesOf, IsKeyIn}
-use Rattle.read_follow.specs.Scopes.{direction, instance_in, meant_at, seen_in, shown_in, view_in, viewed, waiting, ArePathsInOrder, ArePathsMet, AreSeenIn, Goes, IsInstanceIn, IsPlaceMet, IsPlaceMetBefore, IsPlacedWorld, IsShownAs, IsWorld, Numbers, World}
+use Rattle.read_follow.specs.Scopes.{direction, instance_in, meant_at, seen_in, shown_in, view_in, viewed, waiting, ArePathsInOrder, ArePathsMet, AreScopedIn, AreSeenIn, Goes, IsInstanceIn, IsPlaceMet, IsPlaceMetBefore, IsPlacedWorld, IsShownAs, IsWorld, Numbers, World}
 use Rattle.read_follow.specs.Slots.{no_signature, slot_in, slots_in}
-use Rattle.plan_meaning.specs.Shapes.{Shape, part_tree, shape_trees}
+use Rattle.plan_meaning.specs.Shapes.{Shape, shape_trees}
 use Rattle.read_follow.proofs.DefiningLaws.{all_at, longer}
 use Rattle.read_follow.proofs.FollowingLaws.{declared_stays, functions_stay, signature_stays, slots_stay, types_stay, wider_declared, wider_functions, wider_number, wider_part, wider_slots, wider_types}
 use Rattle.read_follow.proofs.NumberingLaws.{since_plus}
 use Rattle.read_follow.proofs.PlacedLaws.{stands_on, stood}
 use Rattle.base_lemmas.proofs.Elements.{all_both}
-use Rattle.base_lemmas.proofs.Lists.{slice_front, split_at}
+use Rattle.base_lemmas.proofs.Lists.{length_of_map, slice_front, split_at}
 use Rattle.std.proofs.lemmas.Option.{slice_get_within as found_below}
 
 -- ---- what is well-formed stays so
@@ -291,14 +291,16 @@ module _ (old : World) (st : IsWorld old) (more : List Shape) (more_fs : List Fu
       used = old.used ++ us;
     }
 
-  -- what they declare comes into the table
-  abbrev pub IsNumbered : List ℕ → Type 0
-  IsNumbered parts = CountUp (length old.shapes) parts (length more)
+  -- what they declare comes into the table, over the names of its scopes
+  abbrev pub IsNumbered : List (Option ℕ × ℕ) → Type 0
+  IsNumbered parts = CountUp (length old.shapes) (bare_parts parts) (length more)
       × ((place : ℕ → Place) → ArePlacesOf more_paths place
-      → flat_map slot_trees (slots_in (U place) (G place) ss) ++ used_trees (slots_in (U place) (G place) (old.slots ++ ss)) (map (instance_in place (U place) (G place)) xs) us
-      ≡ map (part_tree (U place)) parts)
+      → all_in None (flat_map slot_trees (slots_in (U place) (G place) ss))
+      ++ used_trees (slots_in (U place) (G place) (old.slots ++ ss)) (length old.instances) (map (instance_in place (U place) (G place)) xs) us
+      ≡ scoped_trees (U place) parts)
+      × ((base : List Shape) (places : ℕ) → IsPlacedWorld base places extended → AreScopedIn extended parts)
 
-  numbers_on : (parts : List ℕ) → IsNumbered parts → Numbers old extended
+  numbers_on : (parts : List (Option ℕ × ℕ)) → IsNumbered parts → Numbers old extended
   numbers_on parts is = record {
     parts = parts;
     counted = is.0;
@@ -307,7 +309,9 @@ module _ (old : World) (st : IsWorld old) (more : List Shape) (more_fs : List Fu
         let X = map (instance_in place (U place) (G place)) xs in
         ap (trees_since (meant_at place old)) (extended_meant place)
         ∙ (since_plus (meant_at place old) S X (map (seen_in place (U place) (G place) (old.instances ++ xs)) im) (map (seen_in place (U place) (G place) (old.instances ++ xs)) ex) us
-        ∙ (ap (λ zs. flat_map slot_trees S ++ used_trees zs X us) (sym (slots_plus place)) ∙ is.1 place of));
+        ∙ ((λ i. all_in None (flat_map slot_trees S) ++ used_trees (sym (slots_plus place) i) (length_of_map (instance_in place (T place) (F place)) old.instances i) X us)
+        ∙ is.1 place of));
+    scoped = is.2;
   }
 
   -- the step of the definition makes the scope that stands for it
@@ -316,7 +320,7 @@ module _ (old : World) (st : IsWorld old) (more : List Shape) (more_fs : List Fu
       → ((q : ℕ) (path : List ℕ) → slice_get more_paths q ≡ Some (Some path) → (q < length old.paths) ⊎ IsPlaceMet (old.instances ++ xs) q)
       → StandBehind (length old.paths) more_paths xs
       → length more + waiting (old.used ++ us) 0 (old.slots ++ ss) ≤ length old.shapes + waiting old.used 0 old.slots + few
-      → (parts : List ℕ) → IsNumbered parts
+      → (parts : List (Option ℕ × ℕ)) → IsNumbered parts
       → ((place : ℕ → Place) → ArePlacesOf more_paths place
       → step (meant_at place old) ≡ Some (plus (meant_at place old) (slots_in (U place) (G place) ss) (map (instance_in place (U place) (G place)) xs)
       (map (seen_in place (U place) (G place) (old.instances ++ xs)) im) (map (seen_in place (U place) (G place) (old.instances ++ xs)) ex) us))

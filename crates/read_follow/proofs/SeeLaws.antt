@@ -1,6 +1,6 @@
 -- What imports, exports and aliases of a component type show.
 use Rattle.std.proofs.Common.{◌≡◌, ◌⊎◌, inl, inr, refl, sym, ap, ◌∙◌, subst, ℕ, ◌+◌, ◌<◌, ◌≤◌, arith, Bool, true, false, cond, List, [], ◌∷◌, ◌++◌, map, length, Option, Some, None, IfSome, slice_get, unwrap_or, Result, Ok, Err, OnOk}
-use Rattle.std.specs.List.{AllByRecursion, flat_map}
+use Rattle.std.specs.List.{AllByRecursion}
 use Rattle.std.proofs.Math.ListN.{length-map}
 use Rattle.std.proofs.lemmas.Bool.{cases_lt}
 use Rattle.std.proofs.lemmas.List.{append-nil}
@@ -26,7 +26,7 @@ use Rattle.read_follow.specs.Following.{declared_in, AreTables, IsSlotIn, IsStat
 use Rattle.read_follow.specs.Found.{Refuses}
 use Rattle.read_follow.specs.Functions.{functions_in, IsFunctionIn}
 use Rattle.read_follow.specs.InstanceScopes.{name_meant, name_slot, named_by}
-use Rattle.read_follow.specs.Numbering.{parts_in, slot_parts, slot_trees, CountUp}
+use Rattle.read_follow.specs.Numbering.{all_in, parts_in, slot_parts, CountUp}
 use Rattle.read_follow.specs.Placed.{apart, DeclarationOver, MayMeet, SignatureOver, SlotOver}
 use Rattle.read_follow.specs.Places.{has_path}
 use Rattle.read_follow.specs.Scopes.{direction, meant_at, seen_in, waiting, world_signatures, world_trees, Goes, IsCountedAs, IsImportNamed, IsImportRepeated, IsKeyPlaced, IsLastName, IsPlacedWorld, IsShownAs, IsShownBy, by_instance, by_import, IsWorld, ShownOver, Stops, World}
@@ -34,12 +34,12 @@ use Rattle.read_follow.specs.Slots.{no_signature, slot_in, slots_in, AreInRange,
 use Rattle.plan_meaning.specs.Shapes.{Shape, first_label, named_shape, node_shape, shape_trees, Adds, IsTable}
 use Rattle.read_follow.proofs.DefiningLaws.{adds_cases, adds_grow, adds_name, adds_one, adds_placed, all_at, longer, same_list}
 use Rattle.read_follow.proofs.FollowingLaws.{declared_stays, functions_wider, names_of}
-use Rattle.read_follow.proofs.NumberingLaws.{slots_declare}
 use Rattle.read_follow.proofs.OverLaws.{named_over}
 use Rattle.read_follow.proofs.PlacedLaws.{stands_on, stood}
 use Rattle.read_follow.proofs.PlacedScopes.{both_pass, counts_below, extended_placed, import_passes, imported_many, none_past, one_counted, seen_passes}
 use Rattle.read_follow.proofs.Refusing.{refused}
 use Rattle.read_follow.proofs.ScopeLaws.{all_before, exported, extended, extended_world, goes_on, imported, none_behind, plus, plus_seen, plus_type, waiting_push, waits}
+use Rattle.read_follow.proofs.ScopedLaws.{slot_numbered}
 use Rattle.read_follow.proofs.ShowLaws.{declared_range, name_counted, name_in, name_stands, old_range, own_over}
 use Rattle.read_follow.proofs.SlotLaws.{at_slot}
 use Rattle.base_lemmas.proofs.Lists.{at_last, last_or}
@@ -143,7 +143,7 @@ module _ (old : World) (st : IsWorld old) (b : Bool) (name : ExternName) (n : �
       (λ g here. all_at (IsFunctionIn (length old.shapes)) old.signatures k g st.tables.signatures here)))
       (all_before old.paths (old.instances ++ [])) (none_behind (length old.paths) old.paths)
       (let same : waiting (old.used ++ []) 0 (old.slots ++ []) ≡ waiting old.used 0 old.slots = (λ i. waiting (append-nil old.used i) 0 (append-nil old.slots i)) in omega (arith, same))
-      [] (refl, (λ place of. refl))
+      [] (refl, (λ place of. refl), (λ base places p. tt))
       (λ place of.
       let T = world_trees place old in
       let F = world_signatures place old in
@@ -316,13 +316,8 @@ module _ (old : World) (st : IsWorld old) (name : ExternName) (kind : ComponentT
       let light : waits s ≡ 0 = ap waits is ∙ no_wait made.is_resource (14 + number) in
       let one = adds_one old.shapes more (named_shape old.home name.text.now) adds in
       omega (arith, same, push, light, one))
-      (parts_in (s ∷ [])) (
-        subst (λ (ps : List ℕ). CountUp (length old.shapes) ps (length more)) (sym (append-nil (slot_parts s)))
-            (subst (λ (x : Slot). CountUp (length old.shapes) (slot_parts x) (length more)) (sym is) (name_counted marks (base old) bs name old.home kind made.is_resource more number at adds)),
-        (λ place of.
-            append-nil (flat_map slot_trees (slots_in (shape_trees place more) (functions_in (shape_trees place more) old.signatures) (s ∷ [])))
-            ∙ slots_declare (shape_trees place more) (functions_in (shape_trees place more) old.signatures) (s ∷ []) (names_of place more old.signatures (s ∷ []) table (inside, tt))),
-      )
+      (all_in None (parts_in (s ∷ []))) (slot_numbered old st more old.signatures old.paths gs gf gp tables s (seen ∷ []) [] inside
+      (subst (λ (x : Slot). CountUp (length old.shapes) (slot_parts x) (length more)) (sym is) (name_counted marks (base old) bs name old.home kind made.is_resource more number at adds)))
       (λ place of.
       let T = world_trees place old in
       let F = world_signatures place old in

@@ -27,6 +27,7 @@ use Rattle.read_follow.proofs.DefiningLaws.{all_at, no_shapes, same_list}
 use Rattle.read_follow.proofs.FollowingLaws.{names_of, pushed_placed, pushed_scope, pushed_state, slot_counted, slots_stay, wider_slots}
 use Rattle.read_follow.proofs.NumberingLaws.{count_pushed, slots_declare}
 use Rattle.read_follow.proofs.Refusing.{refused}
+use Rattle.read_follow.proofs.ScopedLaws.{parts_over}
 use Rattle.read_follow.proofs.SlotLaws.{at_slot, no_slot}
 use Rattle.base_lemmas.proofs.Numbers.{less}
 use Rattle.std.proofs.lemmas.Option.{none-some as not_some, same_Some as some_same, slice_get_within as found_below}
@@ -275,6 +276,8 @@ module _ (marks : List Bool) (here : ℕ) (start : State) (tables : AreTables (l
         trees = λ place marked.
             ap held_trees (sym (f.follows place marked) ∙ ap (instance_steps (place here) (slots_at place start outer) (scope_at place now)) none.0)
             ∙ slots_declare (trees_at place now) (signatures_at place now) scope.slots.items (names_of place shapes fs scope.slots.items f.state.tables.table f.state.slots);
+        over = parts_over (MayMeet marks here) (trees_at apart now) (signatures_at apart now) scope.slots.items (names_of apart shapes fs scope.slots.items f.state.tables.table f.state.slots)
+            f.placed.slots;
         placed = same_view marks start.shapes here shapes fs scope.slots.items scope.types.items v.types.items et scope.functions.items v.functions.items ef f.placed;
         shows = λ place marked.
             ap (λ o. o >>= λ s. Some s.shown) (sym (f.follows place marked) ∙ ap (instance_steps (place here) (slots_at place start outer) (scope_at place now)) none.0)

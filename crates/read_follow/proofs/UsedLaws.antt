@@ -27,17 +27,19 @@ use Rattle.read_follow.specs.ExternNames.{raw_name}
 use Rattle.read_follow.specs.Following.{is_path, slots_at, AreMarked, AreSlotsIn, AreTables, IsSlotIn, State}
 use Rattle.read_follow.specs.Functions.{functions_in, FunctionShape}
 use Rattle.read_follow.specs.InstanceScopes.{tables_of, IsViewOf, ShowsNothing}
-use Rattle.read_follow.specs.Numbering.{held_trees, instance_trees, used_trees}
+use Rattle.read_follow.specs.Numbering.{all_in, held_trees, instance_trees, scoped_trees, used_trees, CountUp}
 use Rattle.read_follow.specs.Placed.{apart, ComeBefore, HasNoNames, IsTypeNamed, MayMeet}
 use Rattle.read_follow.specs.Places.{has_path, key_at, path_text, place_number, ArePlacesOf, IsFreshKey, IsKeyIn, IsKeyOf, IsOnlyNew}
 use Rattle.read_follow.specs.Scopes.{direction, instance_in, meant_at, path_of, seen_in, view_in, viewed, waiting, Goes, HasNoUsedView, IsFirstOf, IsImportNamed, IsInstanceIn, IsInstanceSeen, IsKeyPlaced, IsPlacedInstance, IsPlacedWorld, IsShownAs, IsShownBy, by_instance, by_import, IsUsedView, IsWorld, ShownOver, Stops, World}
 use Rattle.read_follow.specs.Slots.{resource_slot, slot_in, slots_in}
-use Rattle.plan_meaning.specs.Shapes.{Shape, named_shape, part_tree, shape_trees, IsTable}
+use Rattle.plan_meaning.specs.Shapes.{Shape, named_shape, shape_trees, IsTable}
 use Rattle.read_follow.proofs.DefiningLaws.{all_at, longer}
+use Rattle.read_follow.proofs.NumberingLaws.{bare_all, scoped_all}
 use Rattle.read_follow.proofs.PlacedLaws.{stands_on, stood}
 use Rattle.read_follow.proofs.PlacedScopes.{added_seen, both_pass, extended_placed, import_passes, imported_many, one_counted, only_last, seen_passes}
 use Rattle.read_follow.proofs.Refusing.{refused}
 use Rattle.read_follow.proofs.ScopeLaws.{exported, extended, extended_world, goes_on, imported, one_behind, plus, plus_instance, waiting_used}
+use Rattle.read_follow.proofs.ScopedLaws.{instance_scoped}
 use Rattle.read_follow.proofs.SlotLaws.{at_slot, no_slot}
 use Rattle.read_follow.proofs.SeeLaws.{added_exports, added_imports, all_exported, all_imported, exports_are, imports_are, seen_plus}
 use Rattle.read_follow.proofs.FollowingLaws.{name_part, slots_stay}
@@ -193,9 +195,9 @@ module _ (old : World) (st : IsWorld old) (b : Bool) (name : ExternName) (n : �
   held_numbered : (gp : Grows old.paths paths) (v : View) (more : List Shape) (more_fs : List FunctionShape)
       → (u : IsUsedView (map has_path paths) (place_number key) (tables_of old.shapes old.signatures) old.slots old.used n v (tables_of more more_fs))
       → (place : ℕ → Place) → ArePlacesOf paths place
-      → used_trees (slots_in (shape_trees place more) (functions_in (shape_trees place more) more_fs) (old.slots ++ []))
+      → used_trees (slots_in (shape_trees place more) (functions_in (shape_trees place more) more_fs) (old.slots ++ [])) (length old.instances)
       (instance_in place (shape_trees place more) (functions_in (shape_trees place more) more_fs) (record { place = place_number key; view = v }) ∷ []) (n ∷ [])
-      ≡ map (part_tree (shape_trees place more)) u.view.parts
+      ≡ scoped_trees (shape_trees place more) (all_in (Some (length old.instances)) u.view.parts)
   held_numbered gp v more more_fs u place of =
       let T = shape_trees place old.shapes in
       let F = functions_in T old.signatures in
@@ -205,11 +207,14 @@ module _ (old : World) (st : IsWorld old) (b : Bool) (name : ExternName) (n : �
       let back = place_back paths place of here in
       let around = ap (slots_in U G) (append-nil old.slots) ∙ slots_stay (length old.paths) old.shapes more old.signatures more_fs st.tables u.view.shapes_grow u.view.signatures_grow place
       old.slots st.slots in
-      append-nil (instance_trees (slots_in U G (old.slots ++ [])) (follow.place_of (path_of here)) (slice_get (slots_in U G (old.slots ++ [])) n))
-      ∙ ((λ i. instance_trees (around i) (back i) (slice_get (around i) n))
+      let scope = Some (length old.instances) in
+      append-nil (all_in scope (instance_trees (slots_in U G (old.slots ++ [])) (follow.place_of (path_of here)) (slice_get (slots_in U G (old.slots ++ [])) n)))
+      ∙ (ap (all_in scope)
+      ((λ i. instance_trees (around i) (back i) (slice_get (around i) n))
       ∙ (ap (instance_trees (slots_in T F old.slots) here) (at_slot old.slots n T F (slots.Instance u.body u.around) u.slot)
       ∙ (ap (λ xs. held_trees (follow.instance_steps here xs follow.new_instance (items_in held_declaration_at u.body))) (take-map (slot_in T F) u.around old.slots)
       ∙ u.view.trees place (marked_paths paths place of))))
+      ∙ scoped_all U scope u.view.parts)
 
   -- a name that neither an instance nor an import shows
   not_shown : (q : ℕ) (label : Text) (part : ℕ) → ((i : ℕ) (y : Instance) → slice_get old.instances i ≡ Some y → y.place ≡ q → ⊥) → (q ≡ old.home → ⊥) → IsShownBy old q label part → ⊥
@@ -360,7 +365,13 @@ module _ (old : World) (st : IsWorld old) (b : Bool) (name : ExternName) (n : �
       (waiting_used old.used n 0 old.slots (slots.Instance u.body u.around) u.slot (ap (λ k. list_any (λ m. m == k) old.used) (none_before n) ∙ u.unused)) in
       let count = u.view.count in
       omega (arith, same, few, count))
-      u.view.parts (u.view.counted, (λ place of. held_numbered gp v more more_fs u place of))
+      (all_in (Some (length old.instances)) u.view.parts) (
+        subst (λ (ps : List ℕ). CountUp (length old.shapes) ps (length more)) (sym (bare_all (Some (length old.instances)) u.view.parts)) u.view.counted,
+        (λ place of. held_numbered gp v more more_fs u place of),
+        (λ base places p.
+            instance_scoped (extended old st more more_fs paths gs gf gp tables [] (x ∷ []) (imported b s) (exported b s) (n ∷ [])) (length old.instances) x (at_last old.instances x) u.view.parts
+            u.view.over),
+      )
       (λ place of.
       let U = shape_trees place more in
       let G = functions_in U more_fs in

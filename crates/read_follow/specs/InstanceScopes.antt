@@ -21,6 +21,7 @@ use Rattle.read_follow.specs.Following.{declared_in, scope_at, slots_at, trees_a
 use Rattle.read_follow.specs.Found.{Refuses}
 use Rattle.read_follow.specs.Functions.{functions_in, FunctionShape}
 use Rattle.read_follow.specs.Numbering.{held_trees, parts_in, CountUp}
+use Rattle.read_follow.specs.Placed.{apart, MayMeet, TreeOver}
 use Rattle.read_follow.specs.Slots.{slots_in}
 use Rattle.plan_meaning.specs.Shapes.{Shape, part_tree, shape_trees}
 
@@ -121,8 +122,8 @@ tables_of shapes fs = record { shapes = shapes; signatures = fs; slots = []; typ
 abbrev pub viewed_over : List Shape → List FunctionShape → View → State
 viewed_over shapes fs v = record { shapes = shapes; signatures = fs; slots = []; types = v.types.items; functions = v.functions.items }
 
--- The tables grow by a type for each declaration at most, and by just the types that the body declares, in their order. Names stand in their places, and the
--- view stands for what the body shows.
+-- The tables grow by a type for each declaration at most, and by just the types that the body declares, in their order, over names of the own place and of
+-- those that are marked. Names stand in their places, and the view stands for what the body shows.
 pub record IsViewOf (marks : List Bool) (here : ℕ) (start : State) (outer : List Slot) (b : Body) (v : View) (now : State) : Type 0 where
   pub tables : AreTables (length marks) now.shapes now.signatures
   pub types : AllByRecursion (IsShownIn now.shapes now.signatures) v.types.items
@@ -135,6 +136,7 @@ pub record IsViewOf (marks : List Bool) (here : ℕ) (start : State) (outer : Li
   pub trees : (place : ℕ → Place) → AreMarked marks place
       → held_trees (instance_steps (place here) (slots_at place start outer) new_instance (items_in held_declaration_at b))
       ≡ map (part_tree (trees_at place now)) parts
+  pub over : AllByRecursion (λ part. TreeOver (MayMeet marks here) (part_tree (trees_at apart now) part)) parts
   pub placed : IsPlacedState marks start.shapes here (viewed_over now.shapes now.signatures v)
   pub shows : (place : ℕ → Place) → AreMarked marks place
       → instance_view (place here) (slots_at place start outer) (items_in held_declaration_at b) ≡ Some (view_at place now v.types.items v.functions.items)

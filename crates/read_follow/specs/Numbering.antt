@@ -1,5 +1,5 @@
 -- The types that declarations declare one after the other, and how they are numbered (Component Model Binary.md, "Index Spaces").
-use Rattle.std.specs.Prelude.{◌≡◌, ◌⊎◌, ◌<◌, ◌+◌, ℕ, List, [], ◌∷◌, ◌++◌, drop, length, take, Option, Some, None, slice_get}
+use Rattle.std.specs.Prelude.{◌≡◌, ◌⊎◌, ◌<◌, ◌+◌, ℕ, suc, List, [], ◌∷◌, ◌++◌, drop, length, map, take, Option, Some, None, slice_get}
 use Rattle.std.specs.List.{flat_map}
 use Rattle.std.specs.Option.{option_map_or}
 use Rattle.wit_model.specs.Tree.{Place, Tree}
@@ -8,6 +8,7 @@ use Rattle.comp_meaning.specs.ByLevels.{entry_step}
 use Rattle.comp_meaning.specs.Follow.{Instance as MeantInstance, InstanceScope as MeantInstanceScope, Scope as MeantScope, Slot as Meant, value, resource, function, instance, instance_steps, new_instance, place_of}
 use Rattle.read_follow.specs.declared.slots.Slot.{Slot}
 use Rattle.read_follow.specs.declared.slots.Slot.TheVariants as slots
+use Rattle.plan_meaning.specs.Shapes.{part_tree}
 
 -- ---- what is declared
 
@@ -28,20 +29,28 @@ abbrev pub instance_trees : List Meant → Place → Option Meant → List Tree
 instance_trees around place (Some (instance ds n)) = held_trees (instance_steps place (take n around) new_instance ds)
 instance_trees around place _ = []
 
--- those of these instances, which use the instance types of these indexes
-abbrev pub used_trees : List Meant → List MeantInstance → List ℕ → List Tree
-used_trees around [] ns = []
-used_trees around (i ∷ is) [] = []
-used_trees around (i ∷ is) (n ∷ ns) = instance_trees around (place_of i.interface) (slice_get around n) ++ used_trees around is ns
+-- each of these in this scope
+abbrev pub all_in : {S A : Type 0} → S → List A → List (S × A)
+all_in scope xs = map (λ x. (scope, x)) xs
 
--- the types that a component type has declared in the second of these scopes and hadn't in the first, and those that its new instances declare
-abbrev pub trees_since : MeantScope → MeantScope → List Tree
+-- The types that instances declare, from the instance of this number on, which use the instance types of these indexes. Each has its scope, the number of the
+-- instance.
+abbrev pub used_trees : List Meant → ℕ → List MeantInstance → List ℕ → List (Option ℕ × Tree)
+used_trees around j [] ns = []
+used_trees around j (i ∷ is) [] = []
+used_trees around j (i ∷ is) (n ∷ ns) =
+    all_in (Some j) (instance_trees around (place_of i.interface) (slice_get around n)) ++ used_trees around (suc j) is ns
+
+-- The types that a component type has declared in the second of these scopes and hadn't in the first, and those that its new instances declare. Each has its
+-- scope: none of the instances, or the number of the instance.
+abbrev pub trees_since : MeantScope → MeantScope → List (Option ℕ × Tree)
 trees_since old new =
-    flat_map slot_trees (drop (length old.slots) new.slots)
-    ++ used_trees new.slots (drop (length old.instances) new.instances) (drop (length old.used) new.used)
+    all_in None (flat_map slot_trees (drop (length old.slots) new.slots))
+    ++ used_trees new.slots (length old.instances) (drop (length old.instances) new.instances) (drop (length old.used) new.used)
 
--- the types that entries declare one after the other, in the order in which they are declared; an instance type is followed where it is used
-abbrev pub trees_along : MeantScope → List Entry → List Tree
+-- The types that entries declare one after the other, in the order in which they are declared, each with its scope. An instance type is followed where it is
+-- used.
+abbrev pub trees_along : MeantScope → List Entry → List (Option ℕ × Tree)
 trees_along scope [] = []
 trees_along scope (e ∷ es) = option_map_or (λ next. trees_since scope next ++ trees_along next es) (entry_step scope e) []
 
@@ -55,6 +64,14 @@ IsNext part n m = ((part < 14 + n) × (m ≡ n)) ⊎ ((part ≡ 14 + n) × (m �
 abbrev pub CountUp : ℕ → List ℕ → ℕ → Type 0
 CountUp from [] to = from ≡ to
 CountUp from (part ∷ parts) to = (mid : ℕ) × IsNext part from mid × CountUp mid parts to
+
+-- parts without their scopes
+abbrev pub bare_parts : {S : Type 0} → List (S × ℕ) → List ℕ
+bare_parts ps = map (λ p. p.1) ps
+
+-- the trees of parts, each with its scope
+abbrev pub scoped_trees : {S : Type 0} → List Tree → List (S × ℕ) → List (S × Tree)
+scoped_trees trees ps = map (λ p. (p.0, part_tree trees p.1)) ps
 
 -- the part of a slot that stands for a type of a value or a resource
 abbrev pub slot_parts : Slot → List ℕ

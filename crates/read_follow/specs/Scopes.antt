@@ -30,9 +30,9 @@ use Rattle.read_follow.specs.Following.{declared_in, shown_function, shown_type,
 use Rattle.read_follow.specs.InstanceScopes.{IsViewOf}
 use Rattle.read_follow.specs.Found.{Refuses}
 use Rattle.read_follow.specs.Functions.{functions_in, FunctionShape, IsFunctionIn}
-use Rattle.read_follow.specs.Placed.{apart, ComeBefore, DeclarationOver, HasNoNames, IsNameAs, IsShownAmong, IsTypeNamed, MayMeet, Rise, SignatureOver, SlotOver, ViewOver}
+use Rattle.read_follow.specs.Placed.{apart, ComeBefore, DeclarationOver, HasNoNames, IsNameAs, IsShownAmong, IsTypeNamed, MayMeet, Rise, SignatureOver, SlotOver, TreeOver, ViewOver}
 use Rattle.read_follow.specs.Places.{has_path, key_at, place_number, ArePlacesOf, IsKeyIn}
-use Rattle.read_follow.specs.Numbering.{trees_along, trees_since, CountUp}
+use Rattle.read_follow.specs.Numbering.{bare_parts, scoped_trees, trees_along, trees_since, CountUp}
 use Rattle.read_follow.specs.Slots.{no_signature, slots_in}
 use Rattle.plan_meaning.specs.PlanRules.{is_form}
 use Rattle.plan_meaning.specs.Shapes.{Shape, named_shape, node_shape, part_tree, shape_trees}
@@ -282,14 +282,29 @@ abbrev pub weights : List RawEntry → ℕ
 weights [] = 0
 weights (e ∷ es) = weight e + weights es
 
+-- ---- the scopes of types
+
+-- the part is over names of this place and of those with a path
+abbrev pub IsPartOver : World → ℕ → ℕ → Type 0
+IsPartOver w place part = TreeOver (MayMeet (map has_path w.paths) place) (part_tree (world_trees apart w) part)
+
+-- A part that is declared in this scope is over names of its place and of those with a path: of the component type's own, or of that of the instance.
+abbrev pub IsScopedIn : World → Option ℕ → ℕ → Type 0
+IsScopedIn w None part = IsPartOver w w.home part
+IsScopedIn w (Some j) part = (x : Instance) × (slice_get w.instances j ≡ Some x) × IsPartOver w x.place part
+
+abbrev pub AreScopedIn : World → List (Option ℕ × ℕ) → Type 0
+AreScopedIn w parts = AllByRecursion (λ (p : Option ℕ × ℕ). IsScopedIn w p.0 p.1) parts
+
 -- ---- steps
 
--- The types that come into the table are those that are declared, in their order.
+-- The types that come into the table are those that are declared, in their order, each over the names of its scope.
 pub record Numbers (old new : World) : Type 0 where
-  pub parts : List ℕ
-  pub counted : CountUp (length old.shapes) parts (length new.shapes)
+  pub parts : List (Option ℕ × ℕ)
+  pub counted : CountUp (length old.shapes) (bare_parts parts) (length new.shapes)
   pub trees : (place : ℕ → Place) → ArePlacesOf new.paths place
-      → trees_since (meant_at place old) (meant_at place new) ≡ map (part_tree (world_trees place new)) parts
+      → trees_since (meant_at place old) (meant_at place new) ≡ scoped_trees (world_trees place new) parts
+  pub scoped : (base : List Shape) (places : ℕ) → IsPlacedWorld base places new → AreScopedIn new parts
 
 -- The tables grow, by this many types at most if all that waits is counted, names stay in their places, new places with a path are met, in their order, and
 -- the scope becomes what the step of the definition makes of it.
@@ -373,10 +388,11 @@ pub record IsFollowedTo (start : World) (b : Body) (i : ℕ) (rest : List ℕ) (
   pub follows : (place : ℕ → Place) → ArePlacesOf now.paths place → steps entry_step (meant_at place now) es ≡ steps entry_step new_scope (items_in entry_at b)
   pub stage : IsStage start.shapes start.home (items_in entry_at b) now i now
   pub behind : items_in entry_at b ≡ stage.front ++ es
-  pub parts : List ℕ
-  pub counted : CountUp (length start.shapes) parts (length now.shapes)
+  pub parts : List (Option ℕ × ℕ)
+  pub counted : CountUp (length start.shapes) (bare_parts parts) (length now.shapes)
   pub trees : (place : ℕ → Place) → ArePlacesOf now.paths place
-      → map (part_tree (world_trees place now)) parts ++ trees_along (meant_at place now) es ≡ trees_along new_scope (items_in entry_at b)
+      → scoped_trees (world_trees place now) parts ++ trees_along (meant_at place now) es ≡ trees_along new_scope (items_in entry_at b)
+  pub scoped : AreScopedIn now parts
   pub stages : HasStages start.shapes start.home (items_in entry_at b) i now
 
 -- ---- instances that are used
@@ -444,7 +460,7 @@ start_of home shapes fs paths = record {
 
 -- The tables grow, by no more types than the entries and the instance types among them declare, names stand in their places, new places with a path are
 -- met, in their order, and the scope stands for what they show. So it did behind each number of entries. The types that came into the table are those that
--- the entries declare, in their order.
+-- the entries declare, in their order, each over the names of its scope.
 pub record IsScopeOf (shapes : List Shape) (fs : List FunctionShape) (paths : List (Option Text)) (b : Body) (now : World) : Type 0 where
   pub world : IsWorld now
   pub shapes_grow : Grows shapes now.shapes
@@ -455,7 +471,8 @@ pub record IsScopeOf (shapes : List Shape) (fs : List FunctionShape) (paths : Li
   pub met : ArePathsMet (length paths) now.paths now.instances
   pub order : ArePathsInOrder (length paths) now.paths now.instances
   pub stages : HasStages shapes (length paths) (items_in entry_at b) (length (items_in entry_at b)) now
-  pub parts : List ℕ
-  pub counted : CountUp (length shapes) parts (length now.shapes)
-  pub trees : (place : ℕ → Place) → ArePlacesOf now.paths place → map (part_tree (world_trees place now)) parts ≡ trees_along new_scope (items_in entry_at b)
+  pub parts : List (Option ℕ × ℕ)
+  pub counted : CountUp (length shapes) (bare_parts parts) (length now.shapes)
+  pub trees : (place : ℕ → Place) → ArePlacesOf now.paths place → scoped_trees (world_trees place now) parts ≡ trees_along new_scope (items_in entry_at b)
+  pub scoped : AreScopedIn now parts
   pub shows : (place : ℕ → Place) → ArePlacesOf now.paths place → entry_scope (items_in entry_at b) ≡ Some (meant_at place now)

@@ -14,7 +14,7 @@ pub mod InputNumbers
 pub mod NameNumbers
 -- What is known of a part, as it is seen from a place. Serves laws::facts_in_numbers.
 pub mod KnownNumbers
--- The places that a part is over, by the names that stand in its tree. Serves laws::met_parts_are_seen.
+-- The places that a part is over, by the names that stand in its tree. Serves laws::met_parts_are_seen; crates above.
 pub mod MetNumbers
 -- Views in numbers: the places that they are over, the numbers of their names, and the order of these. Serves PlacedMembers; crates above.
 pub mod PlacedViews

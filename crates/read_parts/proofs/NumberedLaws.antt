@@ -1,25 +1,52 @@
 -- The types of the table are those that the parts declare, part by part.
-use Rattle.std.proofs.Common.{◌≡◌, refl, sym, ap, ◌∙◌, subst, ℕ, ◌+◌, ◌<◌, ◌≤◌, List, [], ◌∷◌, ◌++◌, map, drop, length, append_assoc, get_or, Option}
+use Rattle.std.proofs.Common.{◌≡◌, refl, sym, ap, ◌∙◌, subst, ℕ, suc, ◌+◌, ◌<◌, ◌≤◌, arith, List, [], ◌∷◌, ◌++◌, map, drop, length, length-append, append_assoc, get_or, Option}
+use Rattle.std.specs.List.{AllByRecursion}
 use Rattle.std.proofs.Math.ListN.{drop_of_length-le}
-use Rattle.std.proofs.lemmas.List.{drop_more, map-append}
+use Rattle.std.proofs.lemmas.List.{drop_more}
 use Rattle.wit_model.specs.Text.{Text}
-use Rattle.wit_model.specs.Tree.{Place}
+use Rattle.wit_model.specs.Tree.{Tree}
 use Rattle.comp_bytes.specs.Levels.{PartType}
 use Rattle.read_follow.specs.Functions.{FunctionShape}
+use Rattle.read_follow.specs.Numbering.{bare_parts, scoped_trees, CountUp}
 use Rattle.read_follow.specs.PartTypes.{raw_part_type}
-use Rattle.read_follow.specs.Places.{ArePlacesOf}
+use Rattle.read_follow.specs.Scopes.{world_of, AreScopedIn}
 use Rattle.plan_meaning.specs.Shapes.{Shape, part_tree, shape_trees}
 use Rattle.read_follow.proofs.ComponentLaws.{places_before}
-use Rattle.read_follow.proofs.DefiningLaws.{parts_grown}
-use Rattle.read_follow.proofs.NumberingLaws.{count_below, count_both}
+use Rattle.read_follow.proofs.DefiningLaws.{same_list, scoped_grown}
+use Rattle.read_follow.proofs.NumberingLaws.{count_below, count_scoped}
+use Rattle.read_follow.proofs.ScopedLaws.{still_scoped}
 use Rattle.read_parts.specs.declared.exported.ExportedPart.{ExportedPart}
-use Rattle.read_parts.specs.declared.members.FollowedPart.{FollowedPart}
+use Rattle.read_parts.specs.declared.members.Member.{Member}
 use Rattle.read_parts.specs.Exported.{raw_exported}
-use Rattle.read_parts.specs.Members.{declared_trees, part_trees, AreNumberedTo, IsPartFollowed}
+use Rattle.read_parts.specs.Members.{in_part, scope_of, trees_from, AreNumberedTo, DeclaringScope, IsPartFollowed, IsScopedBy}
+use Rattle.base_lemmas.proofs.Elements.{all_both}
+use Rattle.base_lemmas.proofs.Lists.{append_of_map, at_last, front_more}
 
 -- nothing is followed
-pub none_numbered : (raws : List (Text × PartType)) (shapes : List Shape) (paths : List (Option Text)) → shapes ≡ [] → AreNumberedTo raws raws shapes paths
-none_numbered raws shapes paths none = record { parts = []; counted = ap (λ (ss : List Shape). length ss) (sym none); trees = λ place of. refl }
+pub none_numbered : (raws : List (Text × PartType)) (shapes : List Shape) (fs : List FunctionShape) (paths : List (Option Text)) (ms : List Member) → shapes ≡ [] → ms ≡ []
+    → AreNumberedTo raws raws shapes fs paths ms
+none_numbered raws shapes fs paths ms none no_members = record {
+  parts = [];
+  counted = ap (λ (ss : List Shape). length ss) (sym none);
+  trees = λ place of. ap (λ (ns : List Member). trees_from (length ns) raws) no_members;
+  scoped = tt;
+}
+
+-- ---- the parts of one part at the top
+
+bare_in : (k : ℕ) (ps : List (Option ℕ × ℕ)) → bare_parts (in_part k ps) ≡ bare_parts ps
+bare_in k [] = refl
+bare_in k (p ∷ ps) = ap (λ qs. p.1 ∷ qs) (bare_in k ps)
+
+scoped_in : (T : List Tree) (k : ℕ) (ps : List (Option ℕ × ℕ)) → scoped_trees T (in_part k ps) ≡ in_part k (scoped_trees T ps)
+scoped_in T k [] = refl
+scoped_in T k (p ∷ ps) = ap (λ ts. ((k, p.0), part_tree T p.1) ∷ ts) (scoped_in T k ps)
+
+-- they are those of this member
+new_scoped : (shapes : List Shape) (fs : List FunctionShape) (paths : List (Option Text)) (ms : List Member) (m : Member) (ps : List (Option ℕ × ℕ))
+    → AreScopedIn (world_of shapes fs paths (scope_of m.part)) ps → AllByRecursion (IsScopedBy shapes fs paths (ms ++ m ∷ [])) (in_part (length ms) ps)
+new_scoped shapes fs paths ms m [] h = tt
+new_scoped shapes fs paths ms m (p ∷ ps) h = ((m, at_last ms m, h.0), new_scoped shapes fs paths ms m ps h.1)
 
 module _ (xs : List ExportedPart) where
   abbrev raws : List (Text × PartType)
@@ -33,23 +60,44 @@ module _ (xs : List ExportedPart) where
   none_left i past = ap (map raw_exported) (drop_of_length-le xs past)
 
   -- one part more
-  pub one_numbered : (i : ℕ) (shapes : List Shape) (fs : List FunctionShape) (paths : List (Option Text)) → AreNumberedTo raws (left i) shapes paths → (d : ExportedPart) → i < length xs
-      → (shapes' : List Shape) (fs' : List FunctionShape) (paths' : List (Option Text)) (p : FollowedPart)
-      → IsPartFollowed shapes fs paths (raw_part_type (get_or xs i d).part) shapes' fs' paths' p → AreNumberedTo raws (left (i + 1)) shapes' paths'
-  one_numbered i shapes fs paths n d more shapes' fs' paths' p s =
+  pub one_numbered : (i : ℕ) (shapes : List Shape) (fs : List FunctionShape) (paths : List (Option Text)) (ms : List Member) → AreNumberedTo raws (left i) shapes fs paths ms
+      → (d : ExportedPart) → i < length xs → (shapes' : List Shape) (fs' : List FunctionShape) (paths' : List (Option Text)) (m : Member) (new : List Member) → new ≡ ms ++ m ∷ []
+      → IsPartFollowed shapes fs paths (raw_part_type (get_or xs i d).part) shapes' fs' paths' m.part → AreNumberedTo raws (left (i + 1)) shapes' fs' paths' new
+  one_numbered i shapes fs paths ms n d more shapes' fs' paths' m new last s =
       let one : ExportedPart = get_or xs i d in
       let first : drop i xs ≡ one ∷ drop (i + 1) xs = drop_more xs i d more in
-      record {
-        parts = n.parts ++ s.parts;
-        counted = count_both 0 n.parts (length shapes) s.parts (length shapes') n.counted s.counted;
+      let k = length ms in
+      let low = count_below 0 (bare_parts n.parts) (length shapes) n.counted in
+      subst (λ (ns : List Member). AreNumberedTo raws (left (i + 1)) shapes' fs' paths' ns) (sym last) (record {
+        parts = n.parts ++ in_part k s.parts;
+        counted =
+            count_scoped 0 n.parts (length shapes) (in_part k s.parts) (length shapes') n.counted
+            (subst (λ (ks : List ℕ). CountUp (length shapes) ks (length shapes')) (sym (bare_in k s.parts)) s.counted);
         trees = λ place of.
             let T = shape_trees place shapes in
             let U = shape_trees place shapes' in
-            let behind = declared_trees (left (i + 1)) in
-            let kept = parts_grown place shapes shapes' s.shapes_grow n.parts (count_below 0 n.parts (length shapes) n.counted) in
-            let here : declared_trees (left i) ≡ map (part_tree U) s.parts ++ behind =
-            ap (λ ys. declared_trees (map raw_exported ys)) first ∙ ap (λ ts. ts ++ behind) (sym (s.trees place of)) in
-            ap (λ ts. ts ++ behind) (map-append (part_tree U) n.parts s.parts ∙ ap (λ ts. ts ++ map (part_tree U) s.parts) kept)
-            ∙ (append_assoc (map (part_tree T) n.parts) (map (part_tree U) s.parts) behind
-            ∙ (ap (λ ts. map (part_tree T) n.parts ++ ts) (sym here) ∙ n.trees place (places_before paths paths' s.paths_grow place of)));
-      }
+            let behind = trees_from (suc k) (left (i + 1)) in
+            let kept = scoped_grown place shapes shapes' s.shapes_grow n.parts low in
+            let next : length (ms ++ m ∷ []) ≡ suc k = (let long = length-append ms (m ∷ []) in omega (arith, long)) in
+            let here : trees_from k (left i) ≡ scoped_trees U (in_part k s.parts) ++ behind =
+            ap (λ ys. trees_from k (map raw_exported ys)) first
+            ∙ ap (λ ts. ts ++ behind) (ap (in_part k) (sym (s.trees place of)) ∙ sym (scoped_in U k s.parts)) in
+            ap (λ j. scoped_trees U (n.parts ++ in_part k s.parts) ++ trees_from j (left (i + 1))) next
+            ∙ (ap (λ ts. ts ++ behind) (append_of_map (λ p. (p.0, part_tree U p.1)) n.parts (in_part k s.parts) ∙ ap (λ ts. ts ++ scoped_trees U (in_part k s.parts)) kept)
+            ∙ (append_assoc (scoped_trees T n.parts) (scoped_trees U (in_part k s.parts)) behind
+            ∙ (ap (λ ts. scoped_trees T n.parts ++ ts) (sym here) ∙ n.trees place (places_before paths paths' s.paths_grow place of))));
+        scoped = all_both (IsScopedBy shapes' fs' paths' (ms ++ m ∷ [])) n.parts (in_part k s.parts) (all_still n.parts low n.scoped) (new_scoped shapes' fs' paths' ms m s.parts s.scoped);
+      })
+    where
+      still : (p : DeclaringScope × ℕ) → p.1 < 14 + length shapes → IsScopedBy shapes fs paths ms p → IsScopedBy shapes' fs' paths' (ms ++ m ∷ []) p
+      still p low h = (
+        h.0,
+        front_more ms m p.0.0 h.0 h.1,
+        still_scoped (world_of shapes fs paths (scope_of h.0.part)) (world_of shapes' fs' paths' (scope_of h.0.part)) s.shapes_grow s.paths_grow refl
+            (same_list (scope_of h.0.part).instances.items) p.0.1 p.1 low h.2,
+      )
+
+      all_still : (ps : List (DeclaringScope × ℕ)) → AllByRecursion (λ c. c < 14 + length shapes) (bare_parts ps) → AllByRecursion (IsScopedBy shapes fs paths ms) ps
+          → AllByRecursion (IsScopedBy shapes' fs' paths' (ms ++ m ∷ [])) ps
+      all_still [] low h = tt
+      all_still (p ∷ ps) low h = (still p low.0 h.0, all_still ps low.1 h.1)

@@ -13,7 +13,7 @@ use Rattle.read_parts.specs.Members.{member_meant, parts_weight, AreFormed, AreM
 
 -- The tables are well-formed, with forms as definitions have them, each path is read, names stand in their places and each is shown, each place with a
 -- path is met, in their order, and the members stand in the tables for what the parts do, over no more types than the parts' entries make. So each did behind
--- each number of its entries. The types of the table are those that the parts declare, in their order.
+-- each number of its entries. The types of the table are those that the parts declare, in their order, each over the names of its scope.
 pub record ArePartsFollowed (parts : List (Text × PartType)) (x : Followed) : Type 0 where
   pub tables : AreTables (length x.places) x.table x.functions
   pub functions_apart : AreApart x.functions
@@ -21,7 +21,7 @@ pub record ArePartsFollowed (parts : List (Text × PartType)) (x : Followed) : T
   pub paths_read : ArePathsRead x.places
   pub stand : MembersStand x.table x.functions x.places x.members.items
   pub count : length x.table ≤ parts_weight parts
-  pub numbers : AreNumberedTo parts [] x.table x.places
+  pub numbers : AreNumberedTo parts [] x.table x.functions x.places x.members.items
   pub placed : AreMembersPlaced x.table x.functions x.places x.members.items
   pub names : AreNamesShown x.table x.functions x.places x.members.items
   pub met : ArePlacesMet x.places x.members.items

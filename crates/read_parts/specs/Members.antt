@@ -1,7 +1,7 @@
 -- The parts at the top as they are followed, over the tables and the places of a whole input.
-use Rattle.std.specs.Prelude.{◌≡◌, ◌<◌, ◌≤◌, ℕ, ◌+◌, true, List, [], ◌∷◌, ◌++◌, length, map, slice_get, Option, Some}
+use Rattle.std.specs.Prelude.{◌≡◌, ◌<◌, ◌≤◌, ℕ, suc, ◌+◌, true, List, [], ◌∷◌, ◌++◌, length, map, slice_get, Option, Some}
 use Rattle.std.specs.Borrow.{Bor}
-use Rattle.std.specs.List.{AllByRecursion, flat_map}
+use Rattle.std.specs.List.{AllByRecursion}
 use Rattle.wit_model.specs.Text.{Text, text_of}
 use Rattle.wit_model.specs.Tree.{Form, Place, Tree}
 use Rattle.comp_bytes.specs.Levels.{Entry, PartType, wraps, shows}
@@ -15,12 +15,12 @@ use Rattle.read_follow.specs.declared.views.ShownType.{ShownType}
 use Rattle.read_follow.specs.Defining.{Grows}
 use Rattle.read_follow.specs.Following.{AreTables}
 use Rattle.read_follow.specs.Functions.{FunctionShape}
-use Rattle.read_follow.specs.Numbering.{trees_along, CountUp}
+use Rattle.read_follow.specs.Numbering.{bare_parts, scoped_trees, trees_along, CountUp}
 use Rattle.read_follow.specs.Placed.{slot_part}
 use Rattle.read_follow.specs.Places.{ArePlacesOf}
-use Rattle.read_follow.specs.Scopes.{meant_at, weights, world_of, ArePathsInOrder, ArePathsMet, HasStages, IsPlacedAmong, IsPlacedWorld, IsPlaceMet, IsPlaceMetBefore, IsShownBy, IsWorld}
+use Rattle.read_follow.specs.Scopes.{meant_at, weights, world_of, ArePathsInOrder, ArePathsMet, AreScopedIn, HasStages, IsPlacedAmong, IsPlacedWorld, IsPlaceMet, IsPlaceMetBefore, IsScopedIn, IsShownBy, IsWorld}
 use Rattle.plan_meaning.specs.PlanRules.{is_form}
-use Rattle.plan_meaning.specs.Shapes.{Shape, named_shape, node_shape, part_tree, shape_trees}
+use Rattle.plan_meaning.specs.Shapes.{Shape, named_shape, node_shape, shape_trees}
 use Rattle.read_parts.specs.declared.members.FollowedPart.{FollowedPart}
 use Rattle.read_parts.specs.declared.members.FollowedPart.TheVariants as followed
 use Rattle.read_parts.specs.declared.members.Member.{Member}
@@ -52,13 +52,26 @@ abbrev pub entries_of : PartType → List Entry
 entries_of (wraps es name) = es
 entries_of (shows es) = es
 
--- the types that the entries of a part declare, in the order in which they are declared
-abbrev pub part_trees : PartType → List Tree
+-- the types that the entries of a part declare, in the order in which they are declared, each with its scope in the part
+abbrev pub part_trees : PartType → List (Option ℕ × Tree)
 part_trees p = trees_along new_scope (entries_of p)
 
--- those of these parts, one part after the other
-abbrev pub declared_trees : List (Text × PartType) → List Tree
-declared_trees parts = flat_map (λ x. part_trees x.1) parts
+-- A scope in which types are declared: the component type of the part of this number, or in it the instance of this number.
+abbrev pub DeclaringScope : Type 0
+DeclaringScope = ℕ × Option ℕ
+
+-- these, in the part of this number
+abbrev pub in_part : {A : Type 0} → ℕ → List (Option ℕ × A) → List (DeclaringScope × A)
+in_part k xs = map (λ x. ((k, x.0), x.1)) xs
+
+-- the types that parts declare, from the part of this number on
+abbrev pub trees_from : ℕ → List (Text × PartType) → List (DeclaringScope × Tree)
+trees_from k [] = []
+trees_from k (x ∷ xs) = in_part k (part_trees x.1) ++ trees_from (suc k) xs
+
+-- the types that these parts declare, one part after the other, each with its scope
+abbrev pub declared_trees : List (Text × PartType) → List (DeclaringScope × Tree)
+declared_trees parts = trees_from 0 parts
 
 -- an instance of one of the parts is of the place
 pub record IsMetBySome (ms : List Member) (q : ℕ) : Type 0 where
@@ -155,8 +168,8 @@ module _ (shapes : List Shape) (fs : List FunctionShape) (paths : List (Option T
 
 -- ---- one part
 
--- The tables and the places grow, by no more types than its entries make and by just those that they declare, in their order. Names stand in their places,
--- new places with a path are met, in their order, and the part stands for what its type at the top does.
+-- The tables and the places grow, by no more types than its entries make and by just those that they declare, in their order, each over the names of its scope.
+-- Names stand in their places, new places with a path are met, in their order, and the part stands for what its type at the top does.
 pub record IsPartFollowed (shapes : List Shape) (fs : List FunctionShape) (paths : List (Option Text)) (raw : PartType)
     (more : List Shape) (more_fs : List FunctionShape) (more_paths : List (Option Text)) (p : FollowedPart) : Type 0 where
   pub stands : StandsIn more more_fs more_paths p
@@ -164,9 +177,10 @@ pub record IsPartFollowed (shapes : List Shape) (fs : List FunctionShape) (paths
   pub signatures_grow : Grows fs more_fs
   pub paths_grow : Grows paths more_paths
   pub count : length more ≤ length shapes + part_weight raw
-  pub parts : List ℕ
-  pub counted : CountUp (length shapes) parts (length more)
-  pub trees : (place : ℕ → Place) → ArePlacesOf more_paths place → map (part_tree (shape_trees place more)) parts ≡ part_trees raw
+  pub parts : List (Option ℕ × ℕ)
+  pub counted : CountUp (length shapes) (bare_parts parts) (length more)
+  pub trees : (place : ℕ → Place) → ArePlacesOf more_paths place → scoped_trees (shape_trees place more) parts ≡ part_trees raw
+  pub scoped : AreScopedIn (world_of more more_fs more_paths (scope_of p)) parts
   pub placed : IsPlacedWorld shapes (length paths) (world_of more more_fs more_paths (scope_of p))
   pub met : ArePathsMet (length paths) more_paths (scope_of p).instances.items
   pub order : ArePathsInOrder (length paths) more_paths (scope_of p).instances.items
@@ -196,13 +210,20 @@ pub record AreFollowedTo (before : ℕ) (raws left : List (Text × PartType)) (s
   pub shows : (place : ℕ → Place) → ArePlacesOf paths place
       → with_front (map (member_meant shapes fs paths place) ms) (each labelled_scope left) ≡ each labelled_scope raws
 
+-- the part is over the names of its scope, which is one of these members or of its instances
+abbrev pub IsScopedBy : List Shape → List FunctionShape → List (Option Text) → List Member → DeclaringScope × ℕ → Type 0
+IsScopedBy shapes fs paths ms p =
+    (m : Member) × (slice_get ms p.0.0 ≡ Some m) × IsScopedIn (world_of shapes fs paths (scope_of m.part)) p.0.1 p.1
+
 -- The types of the table are those that the parts declare which aren't left, in the order in which they are declared, and those that are left are still
--- to come: each declares one that is there already, or the next one.
-pub record AreNumberedTo (raws left : List (Text × PartType)) (shapes : List Shape) (paths : List (Option Text)) : Type 0 where
-  pub parts : List ℕ
-  pub counted : CountUp 0 parts (length shapes)
+-- to come: each declares one that is there already, or the next one. Each is over the names of its scope.
+pub record AreNumberedTo (raws left : List (Text × PartType)) (shapes : List Shape) (fs : List FunctionShape) (paths : List (Option Text))
+    (ms : List Member) : Type 0 where
+  pub parts : List (DeclaringScope × ℕ)
+  pub counted : CountUp 0 (bare_parts parts) (length shapes)
   pub trees : (place : ℕ → Place) → ArePlacesOf paths place
-      → map (part_tree (shape_trees place shapes)) parts ++ declared_trees left ≡ declared_trees raws
+      → scoped_trees (shape_trees place shapes) parts ++ trees_from (length ms) left ≡ declared_trees raws
+  pub scoped : AllByRecursion (IsScopedBy shapes fs paths ms) parts
 
 -- All parts are followed.
 abbrev pub AreFollowed : ℕ → List (Text × PartType) → List Shape → List FunctionShape → List (Option Text) → List Member → Type 0

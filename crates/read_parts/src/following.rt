@@ -43,7 +43,7 @@ fn follow_each<'a>(
     requires nowhere { places.old ≡ [] }
     requires whole { AllByRecursion (λ x. IsWholePart x.part) parts.now }
     ensures followed { IfOk result (λ ms. AreFollowed (length table.old) (map raw_exported parts.now) table.new functions.new places.new ms.items) }
-    ensures numbered { IfOk result (λ ms. AreNumberedTo (map raw_exported parts.now) [] table.new places.new) }
+    ensures numbered { IfOk result (λ ms. AreNumberedTo (map raw_exported parts.now) [] table.new functions.new places.new ms.items) }
     ensures absent { IfErr result (λ e. Refuses e (each labelled_scope (map raw_exported parts.now))) }
 {
     let mut members = Vec::new(alloc);

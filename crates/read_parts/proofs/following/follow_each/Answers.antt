@@ -14,7 +14,7 @@ pub loop-exported-init : goal.loop-exported-init
 loop-exported-init c = (
   none_followed (map raw_exported c.args.parts.now) c.args.table.now c.args.functions.now c.args.places.now c.new-members.result.items c.requires.empty c.requires.nowhere (search)
       c.requires.tables,
-  none_numbered (map raw_exported c.args.parts.now) c.args.table.now c.args.places.now c.requires.empty,
+  none_numbered (map raw_exported c.args.parts.now) c.args.table.now c.args.functions.now c.args.places.now c.new-members.result.items c.requires.empty (search),
 )
 
 pub returns-in-Err-clause-absent : goal.returns-in-Err-clause-absent
@@ -29,8 +29,9 @@ loop-exported-preserved c = (
   one_followed (length c.args.table.now) c.args.parts.now c.loop-exported.exported-index c.loop-exported.table c.loop-exported.functions c.loop-exported.places c.loop-exported.members.items
       c.loop-exported.invariant.0
       _ c.loop-exported-test.true c.follow_part.new.table c.follow_part.new.functions c.follow_part.new.places _ c.push.new.self.items c.in_ok-push-in-Ok.ensures.items refl c.in-Ok.ensures.followed,
-  one_numbered c.args.parts.now c.loop-exported.exported-index c.loop-exported.table c.loop-exported.functions c.loop-exported.places c.loop-exported.invariant.1
-      _ c.loop-exported-test.true c.follow_part.new.table c.follow_part.new.functions c.follow_part.new.places _ c.in-Ok.ensures.followed,
+  one_numbered c.args.parts.now c.loop-exported.exported-index c.loop-exported.table c.loop-exported.functions c.loop-exported.places c.loop-exported.members.items
+      c.loop-exported.invariant.1
+      _ c.loop-exported-test.true c.follow_part.new.table c.follow_part.new.functions c.follow_part.new.places _ c.push.new.self.items c.in_ok-push-in-Ok.ensures.items c.in-Ok.ensures.followed,
 )
 
 pub returns-clause-followed : goal.returns-clause-followed
@@ -40,5 +41,6 @@ returns-clause-followed c =
 
 pub returns-clause-numbered : goal.returns-clause-numbered
 returns-clause-numbered c =
-    subst (λ (ys : List (Text × PartType)). AreNumberedTo (map raw_exported c.args.parts.now) ys c.loop-exported.table c.loop-exported.places)
+    subst (λ (ys : List (Text × PartType)). AreNumberedTo (map raw_exported c.args.parts.now) ys c.loop-exported.table c.loop-exported.functions c.loop-exported.places
+    c.loop-exported.members.items)
     (none_left c.args.parts.now c.loop-exported.exported-index c.loop-exported-test.false) c.loop-exported.invariant.1

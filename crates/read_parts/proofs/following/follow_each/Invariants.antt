@@ -5,4 +5,4 @@ use Rattle.read_parts.proofs.following.follow_each.Given as goal
 
 abbrev pub invariant-loop-exported : goal.invariant-loop-exported
 invariant-loop-exported l = AreFollowedTo (length l.fn.table) (map raw_exported l.parts) (map raw_exported (drop l.exported-index l.parts)) l.table l.functions l.places l.members.items
-    × AreNumberedTo (map raw_exported l.parts) (map raw_exported (drop l.exported-index l.parts)) l.table l.places
+    × AreNumberedTo (map raw_exported l.parts) (map raw_exported (drop l.exported-index l.parts)) l.table l.functions l.places l.members.items
