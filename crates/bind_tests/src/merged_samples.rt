@@ -3,19 +3,16 @@
 use semver::Version;
 use std::alloc::{AllocError, Global};
 use wit_component::{
-    Docs, Function, FunctionKind, Interface, InterfaceId, PackageId, Resolve, Stability, Type,
-    TypeDef, TypeDefKind, TypeId, TypeOwner, World, WorldId, WorldItem, WorldKey,
+    Docs, Function, FunctionKind, InterfaceId, PackageId, Resolve, Stability, Type, TypeDef,
+    TypeDefKind, TypeId, TypeOwner, WorldId, WorldItem, WorldKey,
 };
 use wit_samples::drafts::{
     NO_DOCS, add_inline, add_interface, add_package, add_type, add_unnamed, add_world, empty,
-    export, export_under, function, import, import_under, nullary, one_param, put_function,
-    set_version, shown, with_params,
+    export, function, import, import_under, nullary, package, param, put_function, set_version,
+    shown,
 };
 use wit_samples::kinds::{borrow_of, enum_of, id, tuple_of};
 use wit_samples::samples::host_and_guest;
-
-/// The path of interface 0.
-const PATH: WorldKey = WorldKey::Interface(InterfaceId(0));
 
 #[derive(Clone, Copy)]
 pub(super) enum Sample {
@@ -103,19 +100,15 @@ fn other_host(alloc: Global, taken: Option<Type>) -> Result<Resolve, AllocError>
 fn import_c(alloc: Global, resolve: &mut Resolve, taken: Option<Type>) -> Result<(), AllocError> {
     add_interface(alloc, resolve, "c")?;
     put_function(alloc, resolve, 0, "f", taking(alloc, "f", taken)?)?;
-    import_under(resolve, PATH, shown(0))
+    import_under(resolve, WorldKey::Interface(InterfaceId(0)), shown(0))
 }
 
-fn shows(alloc: Global) -> Result<Resolve, AllocError> {
+fn shows(alloc: Global, docs: Option<&str>) -> Result<Resolve, AllocError> {
     let mut resolve = package_and_world(alloc, "a", "b", "w")?;
     import_c(alloc, &mut resolve, None)?;
-    Ok(resolve)
-}
-
-fn shows_with_docs(alloc: Global, text: &str) -> Result<Resolve, AllocError> {
-    let mut resolve = shows(alloc)?;
-    if let Some(interface) = resolve.interfaces.first_mut() {
-        note(alloc, &mut interface.docs, text)?;
+    if let (Some(text), Some(interface)) = (docs, resolve.interfaces.first_mut()) {
+        let contents = Some(String::from_str(alloc, text)?);
+        interface.docs = Docs { contents };
     }
     Ok(resolve)
 }
@@ -141,102 +134,47 @@ fn unstable(alloc: Global, feature: &str) -> Result<Stability, AllocError> {
     })
 }
 
-fn note(alloc: Global, place: &mut Docs, text: &str) -> Result<(), AllocError> {
-    *place = docs(alloc, text)?;
-    Ok(())
-}
-
-// Of any type, since what stood there is then given up as one value.
-fn put<T: Drop>(place: &mut T, value: T) {
-    *place = value;
-}
-
-fn make_unstable(alloc: Global, place: &mut Stability, feature: &str) -> Result<(), AllocError> {
-    put(place, unstable(alloc, feature)?);
-    Ok(())
-}
-
-fn note_cases(alloc: Global, kind: &mut TypeDefKind) -> Result<(), AllocError> {
-    if let TypeDefKind::Enum(of) = kind {
-        if let Some(case) = of.cases.first_mut() {
-            note(alloc, &mut case.docs, "of a")?;
-        }
-    }
-    Ok(())
-}
-
-fn note_type(alloc: Global, def: &mut TypeDef) -> Result<(), AllocError> {
-    note(alloc, &mut def.docs, "of t")?;
-    make_unstable(alloc, &mut def.stability, "z")?;
-    note_cases(alloc, &mut def.kind)
-}
-
-fn note_function(alloc: Global, f: &mut Function) -> Result<(), AllocError> {
-    note(alloc, &mut f.docs, "of f")?;
-    make_unstable(alloc, &mut f.stability, "y")
-}
-
-fn note_functions(alloc: Global, interface: &mut Interface) -> Result<(), AllocError> {
-    for f in interface.functions.values_mut() {
-        note_function(alloc, f)?;
-    }
-    Ok(())
-}
-
-fn note_c(alloc: Global, interface: &mut Interface) -> Result<(), AllocError> {
-    note_functions(alloc, interface)?;
-    put(&mut interface.stability, since(true));
-    note(alloc, &mut interface.docs, "of c")
-}
-
 // The interface `c`, stable and deprecated, with an enumeration and a function that are unstable.
 fn note_interface(alloc: Global, resolve: &mut Resolve) -> Result<(), AllocError> {
     add_type(alloc, resolve, "t", enum_of(alloc, &["a"])?)?;
     if let Some(def) = resolve.types.first_mut() {
-        note_type(alloc, def)?;
+        def.docs = docs(alloc, "of t")?;
+        def.stability = unstable(alloc, "z")?;
+        if let TypeDefKind::Enum(of) = &mut def.kind {
+            if let Some(case) = of.cases.first_mut() {
+                case.docs = docs(alloc, "of a")?;
+            }
+        }
     }
-    put_function(alloc, resolve, 0, "f", taking(alloc, "f", None)?)?;
-    match resolve.interfaces.first_mut() {
-        Some(interface) => note_c(alloc, interface),
-        None => Ok(()),
+    let mut f = taking(alloc, "f", None)?;
+    f.docs = docs(alloc, "of f")?;
+    f.stability = unstable(alloc, "y")?;
+    put_function(alloc, resolve, 0, "f", f)?;
+    if let Some(interface) = resolve.interfaces.first_mut() {
+        interface.docs = docs(alloc, "of c")?;
+        interface.stability = since(true);
     }
-}
-
-fn noted_import(alloc: Global) -> Result<WorldItem, AllocError> {
-    let docs = docs(alloc, "of the import")?;
-    Ok(WorldItem::Interface {
-        id: InterfaceId(0),
-        stability: since(false),
-        docs,
-        external_id: None,
-    })
-}
-
-fn note_world(alloc: Global, world: &mut World) -> Result<(), AllocError> {
-    note(alloc, &mut world.docs, "of w")?;
-    make_unstable(alloc, &mut world.stability, "x")
-}
-
-fn note_package(alloc: Global, resolve: &mut Resolve) -> Result<(), AllocError> {
-    if let Some(world) = resolve.worlds.first_mut() {
-        note_world(alloc, world)?;
-    }
-    match resolve.packages.first_mut() {
-        Some(package) => note(alloc, &mut package.docs, "of a:b"),
-        None => Ok(()),
-    }
-}
-
-fn add_notes(alloc: Global, resolve: &mut Resolve) -> Result<(), AllocError> {
-    add_interface(alloc, resolve, "c")?;
-    note_interface(alloc, resolve)?;
-    import_under(resolve, PATH, noted_import(alloc)?)?;
-    note_package(alloc, resolve)
+    Ok(())
 }
 
 fn shows_with_notes(alloc: Global) -> Result<Resolve, AllocError> {
     let mut resolve = package_and_world(alloc, "a", "b", "w")?;
-    add_notes(alloc, &mut resolve)?;
+    add_interface(alloc, &mut resolve, "c")?;
+    note_interface(alloc, &mut resolve)?;
+    let item = WorldItem::Interface {
+        id: InterfaceId(0),
+        stability: since(false),
+        docs: docs(alloc, "of the import")?,
+        external_id: None,
+    };
+    import_under(&mut resolve, WorldKey::Interface(InterfaceId(0)), item)?;
+    if let Some(world) = resolve.worlds.first_mut() {
+        world.docs = docs(alloc, "of w")?;
+        world.stability = unstable(alloc, "x")?;
+    }
+    if let Some(package) = resolve.packages.first_mut() {
+        package.docs = docs(alloc, "of a:b")?;
+    }
     Ok(resolve)
 }
 
@@ -248,7 +186,7 @@ fn shows_taken(alloc: Global) -> Result<Resolve, AllocError> {
 }
 
 fn shows_of(alloc: Global, major: u64, minor: u64) -> Result<Resolve, AllocError> {
-    let mut resolve = shows(alloc)?;
+    let mut resolve = shows(alloc, None)?;
     set_version(&mut resolve, 0, major, minor, 0);
     Ok(resolve)
 }
@@ -266,28 +204,23 @@ pub(super) fn tower(alloc: Global) -> Result<Resolve, AllocError> {
     Ok(resolve)
 }
 
-fn add_test(alloc: Global, resolve: &mut Resolve) -> Result<(), AllocError> {
-    add_interface(alloc, resolve, "test")?;
-    put_function(alloc, resolve, 0, "f", taking(alloc, "f", None)?)?;
-    import_under(resolve, PATH, shown(0))?;
-    export_under(resolve, PATH, shown(0))
-}
-
 fn bar(alloc: Global) -> Result<Resolve, AllocError> {
     let mut resolve = package_and_world(alloc, "test", "test", "bar")?;
-    add_test(alloc, &mut resolve)?;
+    add_interface(alloc, &mut resolve, "test")?;
+    put_function(alloc, &mut resolve, 0, "f", taking(alloc, "f", None)?)?;
+    import_under(&mut resolve, WorldKey::Interface(InterfaceId(0)), shown(0))?;
+    if let Some(world) = resolve.worlds.first_mut() {
+        let key = WorldKey::Interface(InterfaceId(0));
+        world.exports.insert(key, shown(0))?;
+    }
     Ok(resolve)
-}
-
-fn add_x(alloc: Global, resolve: &mut Resolve) -> Result<(), AllocError> {
-    add_inline(alloc, resolve)?;
-    put_function(alloc, resolve, 0, "g", taking(alloc, "g", None)?)?;
-    import(alloc, resolve, "x", shown(0))
 }
 
 fn inline(alloc: Global) -> Result<Resolve, AllocError> {
     let mut resolve = package_and_world(alloc, "a", "b", "foo")?;
-    add_x(alloc, &mut resolve)?;
+    add_inline(alloc, &mut resolve)?;
+    put_function(alloc, &mut resolve, 0, "g", taking(alloc, "g", None)?)?;
+    import(alloc, &mut resolve, "x", shown(0))?;
     Ok(resolve)
 }
 
@@ -312,27 +245,13 @@ fn resource(alloc: Global) -> Result<Resolve, AllocError> {
     Ok(resolve)
 }
 
-fn m(alloc: Global) -> Result<Function, AllocError> {
-    let params = one_param(alloc, "self", id(1))?;
-    with_params(
-        alloc,
-        "[method]r.m",
-        FunctionKind::Method(TypeId(0)),
-        params,
-        None,
-    )
-}
-
-fn import_method(alloc: Global, resolve: &mut Resolve) -> Result<(), AllocError> {
-    import_r(alloc, resolve)?;
-    add_unnamed(resolve, borrow_of(0))?;
-    let m = m(alloc)?;
-    import(alloc, resolve, "[method]r.m", WorldItem::Function(m))
-}
-
 fn method(alloc: Global) -> Result<Resolve, AllocError> {
     let mut resolve = package_and_world(alloc, "c", "d", "foo")?;
-    import_method(alloc, &mut resolve)?;
+    import_r(alloc, &mut resolve)?;
+    add_unnamed(&mut resolve, borrow_of(0))?;
+    let mut m = nullary(alloc, "[method]r.m", FunctionKind::Method(TypeId(0)), None)?;
+    m.params.push(param(alloc, "self", id(1))?)?;
+    import(alloc, &mut resolve, "[method]r.m", WorldItem::Function(m))?;
     Ok(resolve)
 }
 
@@ -347,53 +266,31 @@ fn root(alloc: Global) -> Result<Resolve, AllocError> {
 // World 1 is `root:root/root`.
 fn host_and_root(alloc: Global) -> Result<Resolve, AllocError> {
     let mut resolve = host_and_guest(alloc)?;
-    add_package(alloc, &mut resolve, "root", "root")?;
-    add_root_world(alloc, &mut resolve)?;
-    Ok(resolve)
-}
-
-fn add_root_world(alloc: Global, resolve: &mut Resolve) -> Result<(), AllocError> {
-    if let Some(home) = resolve.packages.last_mut() {
-        let name = String::from_str(alloc, "root")?;
-        home.worlds.insert(name, WorldId(1))?;
-    }
+    let mut home = package(alloc, "root", "root")?;
+    home.worlds
+        .insert(String::from_str(alloc, "root")?, WorldId(1))?;
+    resolve.packages.push(home)?;
     let mut other = root(alloc)?;
-    match other.worlds.pop() {
-        Some(world) => push_world(resolve, world),
-        None => Ok(()),
+    if let Some(mut world) = other.worlds.pop() {
+        world.package = Some(PackageId(1));
+        resolve.worlds.push(world)?;
     }
-}
-
-fn push_world(resolve: &mut Resolve, mut world: World) -> Result<(), AllocError> {
-    world.package = Some(PackageId(1));
-    resolve.worlds.push(world)?;
-    Ok(())
+    Ok(resolve)
 }
 
 // Interface 0 is `root:root/root`.
 fn host_and_root_interface(alloc: Global) -> Result<Resolve, AllocError> {
     let mut resolve = host_and_guest(alloc)?;
-    add_package(alloc, &mut resolve, "root", "root")?;
-    add_root_interface(alloc, &mut resolve)?;
+    let mut home = package(alloc, "root", "root")?;
+    home.interfaces
+        .insert(String::from_str(alloc, "root")?, InterfaceId(0))?;
+    resolve.packages.push(home)?;
+    add_inline(alloc, &mut resolve)?;
+    if let Some(interface) = resolve.interfaces.first_mut() {
+        interface.name = Some(String::from_str(alloc, "root")?);
+        interface.package = Some(PackageId(1));
+    }
     Ok(resolve)
-}
-
-fn add_root_interface(alloc: Global, resolve: &mut Resolve) -> Result<(), AllocError> {
-    if let Some(home) = resolve.packages.last_mut() {
-        let name = String::from_str(alloc, "root")?;
-        home.interfaces.insert(name, InterfaceId(0))?;
-    }
-    add_inline(alloc, resolve)?;
-    match resolve.interfaces.first_mut() {
-        Some(interface) => name_root(alloc, interface),
-        None => Ok(()),
-    }
-}
-
-fn name_root(alloc: Global, interface: &mut Interface) -> Result<(), AllocError> {
-    interface.name = Some(String::from_str(alloc, "root")?);
-    interface.package = Some(PackageId(1));
-    Ok(())
 }
 
 pub(super) fn sample_of(alloc: Global, sample: Sample) -> Result<Resolve, AllocError> {
@@ -402,8 +299,8 @@ pub(super) fn sample_of(alloc: Global, sample: Sample) -> Result<Resolve, AllocE
         Sample::HostTakes => host_takes(alloc),
         Sample::OtherHost => other_host(alloc, None),
         Sample::OtherHostTakes => other_host(alloc, Some(Type::U32)),
-        Sample::Shows => shows(alloc),
-        Sample::ShowsWithDocs => shows_with_docs(alloc, "c"),
+        Sample::Shows => shows(alloc, None),
+        Sample::ShowsWithDocs => shows(alloc, Some("c")),
         Sample::ShowsWithNotes => shows_with_notes(alloc),
         Sample::ShowsTaken => shows_taken(alloc),
         Sample::ShowsOf(major, minor) => shows_of(alloc, major, minor),

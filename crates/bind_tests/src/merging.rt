@@ -1,6 +1,6 @@
 //! Bindings merged with others: what is bound then, or the first clash, and nothing changed.
 
-ghost use Rattle.std.specs.Prelude.{◌<◌, length, IfOk, OnOk};
+ghost use Rattle.std.specs.Prelude.{◌<◌, length, IfOk};
 ghost use Rattle.wit_component.specs.Bindings.{IsBindgen};
 ghost use Rattle.wit_component.specs.Valid.{IsValid};
 
@@ -16,41 +16,25 @@ use wit_component::{
 
 // ---- bindings
 
-fn check_bindings(alloc: Global, bindings: &Bindgen) -> Result<(), Fail>
-    ensures { OnOk result (IsBindgen bindings.now) }
+// Bindings that were checked.
+fn checked(alloc: Global, bindings: Bindgen) -> Result<Bindgen, Fail>
+    ensures { IfOk result IsBindgen }
 {
     bindings.resolve.check(alloc)?;
     if bindings.world.0 as usize >= bindings.resolve.worlds.len() {
         return Err(Fail::from(Error::Size));
     }
-    Ok(())
-}
-
-// Bindings that were checked.
-fn checked(alloc: Global, bindings: Bindgen) -> Result<Bindgen, Fail>
-    ensures { IfOk result IsBindgen }
-{
-    check_bindings(alloc, &bindings)?;
     Ok(bindings)
-}
-
-// The encodings of the functions of world 0.
-fn metadata_of(
-    alloc: Global,
-    resolve: &Resolve,
-    encoding: StringEncoding,
-) -> Result<ModuleMetadata, Error> {
-    if resolve.worlds.is_empty() {
-        return Err(Error::Size);
-    }
-    ModuleMetadata::new(alloc, resolve, WorldId(0), encoding)
 }
 
 // The binding of world 0, each function of which has this encoding.
 fn binding(alloc: Global, resolve: Resolve, encoding: StringEncoding) -> Result<Bindgen, Fail>
     ensures { IfOk result IsBindgen }
 {
-    let metadata = metadata_of(alloc, &resolve, encoding)?;
+    if resolve.worlds.is_empty() {
+        return Err(Fail::from(Error::Size));
+    }
+    let metadata = ModuleMetadata::new(alloc, &resolve, WorldId(0), encoding)?;
     let world = WorldId(0);
     checked(
         alloc,
@@ -62,23 +46,7 @@ fn binding(alloc: Global, resolve: Resolve, encoding: StringEncoding) -> Result<
     )
 }
 
-fn binding_of(alloc: Global, sample: Sample, encoding: StringEncoding) -> Result<Bindgen, Fail>
-    ensures { IfOk result IsBindgen }
-{
-    let resolve = sample_of(alloc, sample)?;
-    binding(alloc, resolve, encoding)
-}
-
 // ---- what there is of them
-
-fn package_as_text(alloc: Global, resolve: &Resolve, id: PackageId) -> Result<String, Error>
-    requires valid { IsValid resolve.now }
-    requires in_range { id.0 < length resolve.now.packages.items }
-{
-    let mut printer = WitPrinter::new(OutputToString::new(alloc));
-    printer.print(alloc, resolve, id, &[])?;
-    Ok(String::from(printer.output))
-}
 
 fn add_package_text(
     alloc: Global,
@@ -95,8 +63,9 @@ fn add_package_text(
     if id.0 as usize >= resolve.packages.len() {
         return Ok(());
     }
-    let package = package_as_text(alloc, resolve, id)?;
-    text.push_str(&package)?;
+    let mut printer = WitPrinter::new(OutputToString::new(alloc));
+    printer.print(alloc, resolve, id, &[])?;
+    text.push_str(String::from(printer.output).as_str())?;
     Ok(())
 }
 
@@ -141,18 +110,6 @@ fn encodings_of(alloc: Global, bindings: &Bindgen) -> Result<[Option<StringEncod
     ])
 }
 
-fn add_key(
-    alloc: Global,
-    resolve: &Resolve,
-    key: &WorldKey,
-    text: &mut String,
-) -> Result<(), Error> {
-    let name = resolve.name_world_key(alloc, key)?;
-    text.push_str(&name)?;
-    text.push_str(",")?;
-    Ok(())
-}
-
 // The keys as texts, with a comma behind each.
 fn keys_as_text(
     alloc: Global,
@@ -161,7 +118,8 @@ fn keys_as_text(
 ) -> Result<String, Error> {
     let mut text = String::new(alloc);
     for key in keys {
-        add_key(alloc, resolve, key, &mut text)?;
+        text.push_str(resolve.name_world_key(alloc, key)?.as_str())?;
+        text.push_str(",")?;
     }
     Ok(text)
 }
@@ -177,19 +135,6 @@ fn outcome(alloc: Global, own: &mut Bindgen, other: Bindgen) -> Result<String, E
         Ok(keys) => keys_as_text(alloc, &own.resolve, &keys),
         Err(error) => Ok(format!(in alloc; "{error}")?),
     }
-}
-
-// What comes of the merge of a sample.
-fn merged(
-    alloc: Global,
-    own: &mut Bindgen,
-    sample: Sample,
-    encoding: StringEncoding,
-) -> Result<String, Fail>
-    requires { IsBindgen own.old }
-{
-    let other = binding_of(alloc, sample, encoding)?;
-    Ok(outcome(alloc, own, other)?)
 }
 
 /// What is merged onto the empty root world, and then what is merged onto that, in which encoding; and what comes of it: the keys that are
@@ -464,38 +409,16 @@ static ROWS: [Row; 20] = [
     },
 ];
 
-// The empty root world.
-fn root(alloc: Global) -> Result<Bindgen, Fail>
-    ensures { IfOk result IsBindgen }
-{
-    let own = Bindgen::default(alloc)?;
-    checked(alloc, own)
-}
-
-fn merge_first(alloc: Global, own: &mut Bindgen, first: Sample) -> Result<(), Fail>
-    requires { IsBindgen own.old }
-{
-    let other = binding_of(alloc, first, StringEncoding::UTF8)?;
-    own.merge(alloc, other)?;
-    Ok(())
-}
-
-fn start_with(alloc: Global, first: Sample) -> Result<Bindgen, Fail>
-    ensures { IfOk result IsBindgen }
-{
-    let mut own = root(alloc)?;
-    merge_first(alloc, &mut own, first)?;
-    checked(alloc, own)
-}
-
 // The empty root world, with what is merged onto it first.
 fn start(alloc: Global, first: Option<Sample>) -> Result<Bindgen, Fail>
     ensures { IfOk result IsBindgen }
 {
-    match first {
-        Some(first) => start_with(alloc, first),
-        None => root(alloc),
+    let mut own = checked(alloc, Bindgen::default(alloc)?)?;
+    if let Some(first) = first {
+        let other = binding(alloc, sample_of(alloc, first)?, StringEncoding::UTF8)?;
+        own.merge(alloc, other)?;
     }
+    checked(alloc, own)
 }
 
 fn joined(alloc: Global, texts: [&str; 3]) -> Result<String, Error> {
@@ -506,36 +429,20 @@ fn joined(alloc: Global, texts: [&str; 3]) -> Result<String, Error> {
     Ok(all)
 }
 
-fn assert_outcome(rt: &impl Abort, found: String, expected: &str) {
-    assert_eq!(rt; found.as_str(), expected);
-}
-
-fn are_packages(alloc: Global, resolve: &Resolve, texts: [&str; 3]) -> Result<bool, Error>
-    requires { IsValid resolve.now }
-{
-    let expected = joined(alloc, texts)?;
-    Ok(packages_as_text(alloc, resolve)? == expected)
-}
-
-fn assert_bound(rt: &impl Abort, alloc: Global, own: &Bindgen, row: &Row) -> Result<(), Fail> {
-    own.resolve.check(alloc)?;
-    assert!(rt; are_packages(alloc, &own.resolve, row.packages)?);
-    assert!(rt; counts_of(&own.resolve) == row.counts);
-    assert!(rt; encodings_of(alloc, own)? == row.encodings);
-    Ok(())
-}
-
-fn assert_second(rt: &impl Abort, alloc: Global, own: &mut Bindgen, row: &Row) -> Result<(), Fail>
-    requires { IsBindgen own.old }
-{
-    let found = merged(alloc, own, row.second, row.encoding)?;
-    assert_outcome(rt, found, row.outcome);
-    assert_bound(rt, alloc, own, row)
-}
-
 fn assert_row(rt: &impl Abort, alloc: Global, row: &Row) -> Result<(), Fail> {
     let mut own = start(alloc, row.first)?;
-    assert_second(rt, alloc, &mut own, row)
+    let other = binding(alloc, sample_of(alloc, row.second)?, row.encoding)?;
+    let found = outcome(alloc, &mut own, other)?;
+    assert_eq!(rt; found.as_str(), row.outcome);
+    own.resolve.check(alloc)?;
+    let packages = joined(alloc, row.packages)?;
+    assert_eq!(rt;
+        packages_as_text(alloc, &own.resolve)?.as_str(),
+        packages.as_str()
+    );
+    assert!(rt; counts_of(&own.resolve) == row.counts);
+    assert!(rt; encodings_of(alloc, &own)? == row.encodings);
+    Ok(())
 }
 
 #[test]
@@ -546,52 +453,32 @@ fn merges(rt: HostRuntime) -> Result<(), Fail> {
     Ok(())
 }
 
-// How many interfaces and worlds and types there are when the tower was merged, too.
-fn counts_with_tower(
-    rt: &impl Abort,
-    alloc: Global,
-    own: &mut Bindgen,
-) -> Result<[usize; 3], Fail> {
-    check_bindings(alloc, own)?;
-    let other = binding(alloc, tower(alloc)?, UTF8)?;
-    let found = outcome(alloc, own, other)?;
-    assert_outcome(rt, found, "");
-    Ok(counts_of(&own.resolve))
-}
-
-fn assert_towers(rt: &impl Abort, alloc: Global, own: &mut Bindgen) -> Result<(), Fail> {
-    let before = counts_with_tower(rt, alloc, own)?;
-    let behind = counts_with_tower(rt, alloc, own)?;
-    assert!(rt; behind == before && before[0] == 1 && before[1] == 2);
-    Ok(())
-}
-
 // A parameter of 100 levels on both sides is compared in few steps, and nothing is added.
 #[test]
 fn towers(rt: HostRuntime) -> Result<(), Fail> {
-    let mut own = root(rt.alloc())?;
-    assert_towers(&rt, rt.alloc(), &mut own)
-}
-
-// The encoding of the function `f` of an interface that is imported.
-fn encoding_of_f(own: &Bindgen, number: u32) -> Option<StringEncoding> {
-    let key = WorldKey::Interface(InterfaceId(number));
-    own.metadata.import_encodings.get(&own.resolve, &key, "f")
-}
-
-fn assert_versions(rt: &impl Abort, alloc: Global, own: &mut Bindgen) -> Result<(), Fail>
-    requires { IsBindgen own.old }
-{
-    let found = merged(alloc, own, Sample::ShowsOf(0, 2), UTF16)?;
-    assert_outcome(rt, found, "");
-    assert!(rt; encoding_of_f(own, 0) == Some(UTF8));
-    assert!(rt; encoding_of_f(own, 1) == Some(UTF16));
+    let alloc = rt.alloc();
+    let mut own = start(alloc, None)?;
+    let other = binding(alloc, tower(alloc)?, UTF8)?;
+    assert_eq!(rt; outcome(alloc, &mut own, other)?.as_str(), "");
+    let mut own = checked(alloc, own)?;
+    let before = counts_of(&own.resolve);
+    let other = binding(alloc, tower(alloc)?, UTF8)?;
+    assert_eq!(rt; outcome(alloc, &mut own, other)?.as_str(), "");
+    assert!(rt; counts_of(&own.resolve) == before && before[0] == 1 && before[1] == 2);
     Ok(())
 }
 
 // Two versions of an interface keep the encodings that they came with.
 #[test]
 fn versions_with_their_encodings(rt: HostRuntime) -> Result<(), Fail> {
-    let mut own = start_with(rt.alloc(), Sample::ShowsOf(0, 1))?;
-    assert_versions(&rt, rt.alloc(), &mut own)
+    let alloc = rt.alloc();
+    let mut own = start(alloc, Some(Sample::ShowsOf(0, 1)))?;
+    let other = binding(alloc, sample_of(alloc, Sample::ShowsOf(0, 2))?, UTF16)?;
+    assert_eq!(rt; outcome(alloc, &mut own, other)?.as_str(), "");
+    let map = &own.metadata.import_encodings;
+    let first = map.get(&own.resolve, &WorldKey::Interface(InterfaceId(0)), "f");
+    let second = map.get(&own.resolve, &WorldKey::Interface(InterfaceId(1)), "f");
+    assert!(rt; first == Some(UTF8));
+    assert!(rt; second == Some(UTF16));
+    Ok(())
 }

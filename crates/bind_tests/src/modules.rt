@@ -94,110 +94,69 @@ pub(super) fn module_of(
     Ok(bytes)
 }
 
-/// What comes of a module: what is left of it, if that is something else, and the text of what is bound, or of the refusal.
-#[derive(Drop)]
-struct Outcome {
-    left: Option<Vec<u8>>,
-    said: String,
-}
-
-fn bound_outcome(alloc: Global, left: Option<Vec<u8>>, bound: Bindgen) -> Result<Outcome, Fail> {
-    let said = text_of(alloc, &bound)?;
-    Ok(Outcome { left, said })
-}
-
-fn refused_outcome(alloc: Global, error: Error) -> Result<Outcome, Fail> {
-    let said = format!(in alloc; "{error}")?;
-    Ok(Outcome { left: None, said })
-}
-
-fn outcome(alloc: Global, bytes: &[u8]) -> Result<Outcome, Fail> {
+// The text of what is bound, or of the refusal, and what is left of the module.
+fn outcome(alloc: Global, bytes: &[u8]) -> Result<(Option<Vec<u8>>, String), Fail> {
     match decode(alloc, bytes) {
-        Ok((left, bound)) => bound_outcome(alloc, left, bound),
-        Err(error) => refused_outcome(alloc, error),
+        Ok((module, bound)) => Ok((module, text_of(alloc, &bound)?)),
+        Err(error) => Ok((None, format!(in alloc; "{error}")?)),
     }
 }
 
-fn assert_said(rt: &impl Abort, said: &str, text: &str) {
-    assert_eq!(rt; said, text);
-}
-
-// Nothing is left of a module that comes to this.
-fn assert_outcome(rt: &impl Abort, alloc: Global, bytes: &[u8], text: &str) -> Result<(), Fail> {
-    let found = outcome(alloc, bytes)?;
-    assert!(rt; found.left.is_none());
-    assert_said(rt, &found.said, text);
-    Ok(())
-}
-
-// A module of the world, in a section of this name and behind a section in front, whose length is spelt in two bytes.
-fn module_named(alloc: Global, name: &str) -> Result<Vec<u8>, Error> {
-    module_of(alloc, &[0x01, 0x81, 0x00, 0x00], name, &[CARRIED], &[])
-}
-
-// The section in front comes back with the shortest length.
-#[test]
-fn stripped_of_a_world(rt: HostRuntime) -> Result<(), Fail> {
-    static LEFT: [u8; 11] = [
-        0x00, 0x61, 0x73, 0x6d, 0x01, 0x00, 0x00, 0x00, 0x01, 0x01, 0x00,
-    ];
-    let module = module_named(rt.alloc(), "component-type")?;
-    assert!(rt; module.len() == 119);
-    let found = outcome(rt.alloc(), &module)?;
-    assert!(rt;
-        found
-            .left
-            .is_some_and(|left| left.as_slice() == LEFT.as_slice())
-    );
-    Ok(())
-}
-
-// What comes of so many bytes of that module.
-fn assert_cut(rt: &impl Abort, length: usize, said: &str) {
-    if length < 8 {
-        assert_said(rt, said, "not a core module");
-    } else if length == 8 || length == 12 {
-        assert_said(rt, said, NOTHING);
-    } else {
-        assert!(rt; said.starts_with("bad module at "));
-    }
-}
-
-fn assert_cut_at(rt: &impl Abort, alloc: Global, module: &[u8], length: usize) -> Result<(), Fail> {
-    assert!(rt; length <= module.len());
-    let found = outcome(alloc, module.split_at(length).0)?;
-    assert!(rt; found.left.is_none());
-    assert_cut(rt, length, &found.said);
-    Ok(())
-}
-
-#[test]
-fn cut_at_each_byte(rt: HostRuntime) -> Result<(), Fail> {
-    let module = module_named(rt.alloc(), "component-type")?;
-    for length in 0..module.len() {
-        assert_cut_at(&rt, rt.alloc(), &module, length)?;
-    }
-    Ok(())
-}
-
-#[test]
-fn a_section_of_another_name(rt: HostRuntime) -> Result<(), Fail> {
-    let other = module_named(rt.alloc(), "xcomponent-type")?;
-    assert!(rt; other.len() == 120);
-    assert_outcome(&rt, rt.alloc(), &other, NOTHING)
-}
-
-fn assert_bound(
+fn assert_outcome(
     rt: &impl Abort,
     alloc: Global,
-    sections: Sections,
-    end: &[u8],
+    bytes: &[u8],
+    module: Option<&[u8]>,
     text: &str,
 ) -> Result<(), Fail> {
-    let module = module_of(alloc, &[], "component-type", sections, end)?;
-    let found = outcome(alloc, &module)?;
-    assert_said(rt, &found.said, text);
+    let (found, said) = outcome(alloc, bytes)?;
+    assert_eq!(rt; said.as_str(), text);
+    match module {
+        Some(expected) => assert!(rt;
+            matches!(&found, Some(bytes) if bytes.as_slice() == expected)
+        ),
+        None => assert!(rt; found.is_none()),
+    }
     Ok(())
+}
+
+// A section in front, whose length is spelt in two bytes, comes back with the shortest.
+#[test]
+fn stripped_of_a_world(rt: HostRuntime) -> Result<(), Fail> {
+    let alloc = rt.alloc();
+    let module = module_of(
+        alloc,
+        &[0x01, 0x81, 0x00, 0x00],
+        "component-type",
+        &[CARRIED],
+        &[],
+    )?;
+    assert_eq!(rt; module.len(), 119);
+    let left = [
+        0x00, 0x61, 0x73, 0x6d, 0x01, 0x00, 0x00, 0x00, 0x01, 0x01, 0x00,
+    ];
+    let (found, _text) = outcome(alloc, &module)?;
+    assert!(rt; matches!(&found, Some(bytes) if bytes.as_slice() == left.as_slice()));
+    for length in 0..module.len() {
+        let (found, text) = outcome(alloc, module.split_at(length).0)?;
+        assert!(rt; found.is_none());
+        if length < 8 {
+            assert_eq!(rt; text.as_str(), "not a core module");
+        } else if length == 8 || length == 12 {
+            assert_eq!(rt; text.as_str(), NOTHING);
+        } else {
+            assert!(rt; text.starts_with("bad module at "));
+        }
+    }
+    let other = module_of(
+        alloc,
+        &[0x01, 0x81, 0x00, 0x00],
+        "xcomponent-type",
+        &[CARRIED],
+        &[],
+    )?;
+    assert_eq!(rt; other.len(), 120);
+    assert_outcome(&rt, alloc, &other, None, NOTHING)
 }
 
 // The first fault is answered, be it of a section's data, of its merge, or of the frames.
@@ -223,15 +182,13 @@ fn bound_or_refused(rt: HostRuntime) -> Result<(), Fail> {
         (&[CARRIED], &[], FOO_TEXT),
         (&[], &[], NOTHING),
     ];
+    let alloc = rt.alloc();
     for (sections, end, text) in &CASES {
-        assert_bound(&rt, rt.alloc(), *sections, *end, *text)?;
+        let module = module_of(alloc, &[], "component-type", sections, end)?;
+        let (_found, said) = outcome(alloc, &module)?;
+        assert_eq!(rt; said.as_str(), *text);
     }
     Ok(())
-}
-
-fn refused_of(alloc: Global, sections: Sections, end: &[u8]) -> Result<Option<usize>, Error> {
-    let module = module_of(alloc, &[1, 0], "component-type", sections, end)?;
-    refused_section(alloc, &module)
 }
 
 // The number of the section that is refused, and none where it isn't a section that is.
@@ -249,31 +206,24 @@ fn the_refused_section(rt: HostRuntime) -> Result<(), Fail> {
         (&[TEST_FOO, TEST_BAR], &[], None),
         (&[], &[], None),
     ];
+    let alloc = rt.alloc();
     for (sections, end, number) in &CASES {
-        assert!(rt; refused_of(rt.alloc(), *sections, *end)? == *number);
+        let module = module_of(alloc, &[1, 0], "component-type", sections, end)?;
+        assert!(rt; refused_section(alloc, &module)? == *number);
     }
-    assert!(rt; refused_section(rt.alloc(), HOST_AND_GUEST)?.is_none());
+    assert!(rt; refused_section(alloc, HOST_AND_GUEST)?.is_none());
     Ok(())
 }
 
-fn has_no_reading(alloc: Global, module: &[u8]) -> bool {
-    matches!(decode(alloc, module), Err(Error::NoReading(_, _)))
-}
-
-// A package that is no world by itself.
+// A package that is no world by itself, and what begins as no core module.
 #[test]
-fn no_world(rt: HostRuntime) -> Result<(), Fail> {
-    let worlds: Sections = &[INTERFACE_AND_WORLD];
-    let module = module_of(rt.alloc(), &[], "component-type:x", worlds, &[])?;
-    assert!(rt; has_no_reading(rt.alloc(), &module));
-    Ok(())
-}
-
-// What begins as no core module.
-#[test]
-fn no_module(rt: HostRuntime) -> Result<(), Fail> {
-    assert_outcome(&rt, rt.alloc(), HOST_AND_GUEST, "not a core module")?;
-    assert_outcome(&rt, rt.alloc(), &[], "not a core module")
+fn no_world_and_no_module(rt: HostRuntime) -> Result<(), Fail> {
+    let alloc = rt.alloc();
+    let module = module_of(alloc, &[], "component-type:x", &[INTERFACE_AND_WORLD], &[])?;
+    let found = decode(alloc, &module);
+    assert!(rt; matches!(&found, Err(Error::NoReading(_, _))));
+    assert_outcome(&rt, alloc, HOST_AND_GUEST, None, "not a core module")?;
+    assert_outcome(&rt, alloc, &[], None, "not a core module")
 }
 
 /// The world `foo` with these contents in sections `wit-component-encoding`, one after the other.
@@ -291,11 +241,6 @@ fn module_with(alloc: Global, data: &[u8]) -> Result<Vec<u8>, Error> {
     let mut bytes = PREAMBLE.to_vec(alloc)?;
     push_custom(alloc, &mut bytes, "component-type", data)?;
     Ok(bytes)
-}
-
-fn module_saying(alloc: Global, all: &[&'static [u8]]) -> Result<Vec<u8>, Error> {
-    let data = saying(alloc, all)?;
-    module_with(alloc, &data)
 }
 
 #[test]
@@ -319,30 +264,12 @@ fn encodings_that_none_says(rt: HostRuntime) -> Result<(), Fail> {
             "custom section `wit-component-encoding` uses format 5 but only 4 is supported",
         ),
     ];
+    let alloc = rt.alloc();
     for (data, text) in &CASES {
-        let bytes = module_saying(rt.alloc(), &[*data])?;
-        assert_outcome(&rt, rt.alloc(), &bytes, *text)?;
+        let bytes = module_with(alloc, &saying(alloc, &[*data])?)?;
+        assert_outcome(&rt, alloc, &bytes, None, text)?;
     }
     Ok(())
-}
-
-fn encoding_of_host(alloc: Global, bound: &Bindgen) -> Result<Option<StringEncoding>, Error> {
-    let host = WorldKey::Name(String::from_str(alloc, "host")?);
-    let map = &bound.metadata.import_encodings;
-    Ok(map.get(&bound.resolve, &host, "host"))
-}
-
-fn bound_of(alloc: Global, module: &[u8]) -> Result<Bindgen, Error>
-    ensures { IfOk result IsBindgen }
-{
-    let (_left, bound) = decode(alloc, module)?;
-    Ok(bound)
-}
-
-fn encoding_said(alloc: Global, all: &[&'static [u8]]) -> Result<Option<StringEncoding>, Error> {
-    let module = module_saying(alloc, all)?;
-    let bound = bound_of(alloc, &module)?;
-    encoding_of_host(alloc, &bound)
 }
 
 // The last section of that name says the encoding.
@@ -355,8 +282,15 @@ fn encodings_that_are_said(rt: HostRuntime) -> Result<(), Fail> {
         (&[&[4, 0], &[4, 1]], StringEncoding::UTF16),
         (&[&[], &[4, 0]], StringEncoding::UTF8),
     ];
+    let alloc = rt.alloc();
+    let host = WorldKey::Name(String::from_str(alloc, "host")?);
     for (all, encoding) in &CASES {
-        assert!(rt; encoding_said(rt.alloc(), *all)? == Some(*encoding));
+        let (_module, bound) = decode(alloc, &module_with(alloc, &saying(alloc, all)?)?)?;
+        let found = bound
+            .metadata
+            .import_encodings
+            .get(&bound.resolve, &host, "host");
+        assert!(rt; found == Some(*encoding));
     }
     Ok(())
 }
@@ -366,5 +300,6 @@ pub(super) fn bound_by(alloc: Global, sections: &[&'static [u8]]) -> Result<Bind
     ensures { IfOk result IsBindgen }
 {
     let module = module_of(alloc, &[], "component-type", sections, &[])?;
-    bound_of(alloc, &module)
+    let (_module, bound) = decode(alloc, &module)?;
+    Ok(bound)
 }

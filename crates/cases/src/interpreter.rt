@@ -5,7 +5,7 @@ ghost use Rattle.wit_model.specs.Valid.{IsValid};
 use crate::answer::{Answer, Reply};
 use crate::calls;
 use crate::names::names;
-use case_words::{Bad, Words, meaning_of};
+use case_words::{Bad, Words};
 use std::alloc::Global;
 use std::io;
 use std::rt::Clock;
@@ -23,90 +23,6 @@ pub struct Interpreter {
     kept: Option<Vec<u8>>,
     is_brief: bool,
 }
-
-// ---- first words of lines
-
-/// A call on a valid `Resolve`.
-#[derive(Clone, Copy)]
-enum OnValid {
-    Encode,
-    World,
-    Metadata,
-    Print,
-    Normal,
-    Names,
-}
-
-/// A call on bytes.
-#[derive(Clone, Copy)]
-enum OnBytes {
-    Text,
-    WorldText,
-    Decode,
-    DecodeAt,
-    Strip,
-    Bound,
-    Stripped,
-    Said,
-}
-
-/// What is said of a `Resolve` that needn't be valid.
-#[derive(Clone, Copy)]
-enum Validity {
-    Check,
-    Rule,
-    Valid,
-}
-
-/// What a line asks for.
-#[derive(Clone, Copy)]
-enum Call {
-    OnValid(OnValid),
-    Sense,
-    Semver,
-    Steps,
-    Resolve,
-    Other,
-    Bytes,
-    Brief,
-    Full,
-    Validity(Validity),
-    Label,
-    Module,
-    Get,
-    OnBytes(OnBytes),
-}
-
-static CALLS: [(&[u8], Call); 28] = [
-    (b"encode", Call::OnValid(OnValid::Encode)),
-    (b"world", Call::OnValid(OnValid::World)),
-    (b"metadata", Call::OnValid(OnValid::Metadata)),
-    (b"print", Call::OnValid(OnValid::Print)),
-    (b"normal", Call::OnValid(OnValid::Normal)),
-    (b"names", Call::OnValid(OnValid::Names)),
-    (b"sense", Call::Sense),
-    (b"semver", Call::Semver),
-    (b"steps", Call::Steps),
-    (b"resolve", Call::Resolve),
-    (b"other", Call::Other),
-    (b"bytes", Call::Bytes),
-    (b"brief", Call::Brief),
-    (b"full", Call::Full),
-    (b"check", Call::Validity(Validity::Check)),
-    (b"rule", Call::Validity(Validity::Rule)),
-    (b"valid", Call::Validity(Validity::Valid)),
-    (b"label", Call::Label),
-    (b"module", Call::Module),
-    (b"get", Call::Get),
-    (b"text", Call::OnBytes(OnBytes::Text)),
-    (b"world-text", Call::OnBytes(OnBytes::WorldText)),
-    (b"decode", Call::OnBytes(OnBytes::Decode)),
-    (b"decode-at", Call::OnBytes(OnBytes::DecodeAt)),
-    (b"strip", Call::OnBytes(OnBytes::Strip)),
-    (b"bound", Call::OnBytes(OnBytes::Bound)),
-    (b"stripped", Call::OnBytes(OnBytes::Stripped)),
-    (b"said", Call::OnBytes(OnBytes::Said)),
-];
 
 // ---- parts of lines
 
@@ -206,18 +122,19 @@ fn normal(alloc: Global, resolve: &Resolve, words: &mut Words<'_>) -> Result<Ans
 fn on_valid(
     alloc: Global,
     resolve: &Resolve,
-    call: OnValid,
+    word: &[u8],
     words: &mut Words<'_>,
 ) -> Result<Answer, Answer>
     requires { IsValid resolve.now }
 {
-    match call {
-        OnValid::Encode => encode(alloc, resolve, words),
-        OnValid::World => world_type(alloc, resolve, words),
-        OnValid::Metadata => metadata(alloc, resolve, words),
-        OnValid::Print => print(alloc, resolve, words),
-        OnValid::Normal => normal(alloc, resolve, words),
-        OnValid::Names => names(alloc, resolve),
+    match word {
+        b"encode" => encode(alloc, resolve, words),
+        b"world" => world_type(alloc, resolve, words),
+        b"metadata" => metadata(alloc, resolve, words),
+        b"print" => print(alloc, resolve, words),
+        b"normal" => normal(alloc, resolve, words),
+        b"names" => names(alloc, resolve),
+        _ => Err(Answer::Bad),
     }
 }
 
@@ -225,13 +142,13 @@ fn timed_on_valid<R: Clock>(
     clock: &R,
     alloc: Global,
     resolve: &Resolve,
-    call: OnValid,
+    word: &[u8],
     words: &mut Words<'_>,
 ) -> io::Result<Reply>
     requires { IsValid resolve.now }
 {
     let start = Instant::now(clock)?;
-    let answer = either(on_valid(alloc, resolve, call, words));
+    let answer = either(on_valid(alloc, resolve, word, words));
     let spent = start.elapsed(clock)?;
     Ok(Reply { answer, spent })
 }
@@ -286,23 +203,18 @@ fn label(words: &mut Words<'_>) -> Result<Answer, Answer> {
     Ok(calls::label(&text))
 }
 
-fn on_bytes(alloc: Global, call: OnBytes, bytes: &[u8]) -> Result<Answer, Answer> {
-    match call {
-        OnBytes::Text => calls::decoded_text(alloc, bytes),
-        OnBytes::WorldText => calls::decoded_world_text(alloc, bytes),
-        OnBytes::Decode => Ok(calls::decode_package(alloc, bytes, false)),
-        OnBytes::DecodeAt => Ok(calls::decode_package(alloc, bytes, true)),
-        OnBytes::Strip => calls::strip(alloc, bytes),
-        OnBytes::Bound => calls::bound_text(alloc, bytes),
-        OnBytes::Stripped => calls::left_of_module(alloc, bytes),
-        OnBytes::Said => calls::said(bytes),
+fn on_bytes(alloc: Global, word: &[u8], bytes: &[u8]) -> Result<Answer, Answer> {
+    match word {
+        b"text" => calls::decoded_text(alloc, bytes),
+        b"world-text" => calls::decoded_world_text(alloc, bytes),
+        b"decode" => Ok(calls::decode_package(alloc, bytes, false)),
+        b"decode-at" => Ok(calls::decode_package(alloc, bytes, true)),
+        b"strip" => calls::strip(alloc, bytes),
+        b"bound" => calls::bound_text(alloc, bytes),
+        b"stripped" => calls::left_of_module(alloc, bytes),
+        b"said" => calls::said(bytes),
+        _ => Err(Answer::Bad),
     }
-}
-
-fn on_bytes_read(alloc: Global, call: OnBytes, words: &mut Words<'_>) -> Result<Answer, Answer> {
-    let bytes = words.bytes();
-    words.end()?;
-    on_bytes(alloc, call, &bytes)
 }
 
 impl Interpreter {
@@ -371,14 +283,14 @@ impl Interpreter {
         }
     }
 
-    fn validity(&self, alloc: Global, asked: Validity) -> Answer {
+    fn validity(&self, alloc: Global, word: &[u8]) -> Answer {
         let Some(resolve) = &self.current else {
             return Answer::Unmet("resolve");
         };
-        match asked {
-            Validity::Check => calls::check(alloc, resolve),
-            Validity::Rule => calls::rule(alloc, resolve),
-            Validity::Valid => calls::valid(alloc, resolve),
+        match word {
+            b"check" => calls::check(alloc, resolve),
+            b"rule" => calls::rule(alloc, resolve),
+            _ => calls::valid(alloc, resolve),
         }
     }
 
@@ -386,14 +298,16 @@ impl Interpreter {
     fn with_bytes(
         &self,
         alloc: Global,
-        call: OnBytes,
+        word: &[u8],
         words: &mut Words<'_>,
     ) -> Result<Answer, Answer> {
         if !words.is_at_end() {
-            return on_bytes_read(alloc, call, words);
+            let bytes = words.bytes();
+            words.end()?;
+            return on_bytes(alloc, word, &bytes);
         }
         match &self.kept {
-            Some(kept) => on_bytes(alloc, call, kept),
+            Some(kept) => on_bytes(alloc, word, kept),
             None => Err(Answer::Unmet("bytes")),
         }
     }
@@ -401,20 +315,27 @@ impl Interpreter {
     fn without_check(
         &mut self,
         alloc: Global,
-        call: Call,
+        word: &[u8],
         words: &mut Words<'_>,
     ) -> Result<Answer, Answer> {
-        match call {
-            Call::Resolve => self.read(words),
-            Call::Other => self.read_other(words),
-            Call::Bytes => self.keep(words),
-            Call::Brief => Ok(self.set_brief(true)),
-            Call::Full => Ok(self.set_brief(false)),
-            Call::Validity(asked) => Ok(self.validity(alloc, asked)),
-            Call::Label => label(words),
-            Call::Module => self.module(alloc, words),
-            Call::Get => self.get(alloc, words),
-            Call::OnBytes(call) => self.with_bytes(alloc, call, words),
+        match word {
+            b"resolve" => self.read(words),
+            b"other" => self.read_other(words),
+            b"bytes" => self.keep(words),
+            b"brief" => Ok(self.set_brief(true)),
+            b"full" => Ok(self.set_brief(false)),
+            b"check" | b"rule" | b"valid" => Ok(self.validity(alloc, word)),
+            b"label" => label(words),
+            b"module" => self.module(alloc, words),
+            b"get" => self.get(alloc, words),
+            b"text"
+            | b"world-text"
+            | b"decode"
+            | b"decode-at"
+            | b"strip"
+            | b"said"
+            | b"bound"
+            | b"stripped" => self.with_bytes(alloc, word, words),
             _ => Err(Answer::Bad),
         }
     }
@@ -425,14 +346,14 @@ impl Interpreter {
         &self,
         clock: &R,
         alloc: Global,
-        call: OnValid,
+        word: &[u8],
         words: &mut Words<'_>,
     ) -> io::Result<Reply> {
         let Some(resolve) = &self.current else {
             return Ok(Reply::at_once(Answer::Unmet("resolve")));
         };
         match calls::test_valid(alloc, resolve) {
-            Ok(()) => timed_on_valid(clock, alloc, resolve, call, words),
+            Ok(()) => timed_on_valid(clock, alloc, resolve, word, words),
             Err(answer) => Ok(Reply::at_once(answer)),
         }
     }
@@ -477,11 +398,11 @@ impl Interpreter {
         &mut self,
         clock: &R,
         alloc: Global,
-        call: Call,
+        word: &[u8],
         words: &mut Words<'_>,
     ) -> io::Result<Reply> {
         let start = Instant::now(clock)?;
-        let answer = either(self.without_check(alloc, call, words));
+        let answer = either(self.without_check(alloc, word, words));
         let spent = start.elapsed(clock)?;
         Ok(Reply { answer, spent })
     }
@@ -492,15 +413,15 @@ impl Interpreter {
         alloc: Global,
         words: &mut Words<'_>,
     ) -> io::Result<Reply> {
-        let Some(call) = meaning_of(&CALLS, words.word()) else {
-            return Ok(Reply::at_once(Answer::Bad));
-        };
-        match call {
-            Call::OnValid(call) => self.on_current(clock, alloc, call, words),
-            Call::Sense => Ok(Reply::at_once(either(self.sense(alloc, words)))),
-            Call::Semver => self.semver(clock, alloc, false, words),
-            Call::Steps => self.semver(clock, alloc, true, words),
-            _ => self.other_call(clock, alloc, call, words),
+        let word = words.word();
+        match word {
+            b"encode" | b"world" | b"metadata" | b"print" | b"normal" | b"names" => {
+                self.on_current(clock, alloc, word, words)
+            }
+            b"sense" => Ok(Reply::at_once(either(self.sense(alloc, words)))),
+            b"semver" => self.semver(clock, alloc, false, words),
+            b"steps" => self.semver(clock, alloc, true, words),
+            _ => self.other_call(clock, alloc, word, words),
         }
     }
 

@@ -4,11 +4,11 @@ ghost use Rattle.std.specs.Prelude.{◌<◌, length};
 ghost use Rattle.wit_model.specs.Valid.{IsValid};
 
 use crate::encodings::{sum_of_items, sum_of_world};
-use crate::outcome::{Kept, NOTHING, Summary, joined, kept, summary_of};
+use crate::outcome::{NOTHING, Summary, joined, summary_of};
 use indexmap::IndexMap;
 use std::alloc::Global;
 use wit_component::{
-    Bindgen, Check, EncodingMap, Error, Fault, OutputToString, PackageId, Place, Resolve, Side,
+    Check, EncodingMap, Error, Fault, OutputToString, PackageId, Place, Resolve, Side,
     StringEncoding, TypeDef, WitPrinter, WorldId, decode, decode_world, encode, metadata,
     same_sense, semver_check,
 };
@@ -37,21 +37,14 @@ pub fn carried(alloc: Global, resolve: &Resolve) -> Result<Summary, Error>
     Ok(summary_of(&bytes))
 }
 
-fn kept_of_print(answer: Result<(), Error>) -> Kept {
-    match answer {
-        Ok(()) => Kept::Value(NOTHING),
-        Err(error) => kept(Err(error)),
-    }
-}
-
-/// What a print leaves in its output, and what is kept of its answer.
-pub fn printed(alloc: Global, resolve: &Resolve) -> (String, Kept)
+/// What a print leaves in its output, and what it answers.
+pub fn printed(alloc: Global, resolve: &Resolve) -> (String, Result<(), Error>)
     requires valid { IsValid resolve.now }
     requires in_range { 0 < length resolve.now.packages.items }
 {
     let mut printer = WitPrinter::new(OutputToString::new(alloc));
-    let answer = kept_of_print(printer.print(alloc, resolve, PackageId(0), &[]));
-    (String::from(printer.output), answer)
+    let result = printer.print(alloc, resolve, PackageId(0), &[]);
+    (String::from(printer.output), result)
 }
 
 fn summary_of_name(def: &TypeDef) -> Summary {
@@ -91,23 +84,15 @@ pub fn world_decoded(alloc: Global, bytes: &[u8]) -> Result<Summary, Error> {
 /// What the bindings of a module and the module without its section have.
 pub fn module_decoded(alloc: Global, bytes: &[u8]) -> Result<Summary, Error> {
     let (module, bound) = metadata::decode(alloc, bytes)?;
-    Ok(joined(bound_summary(&bound), left_summary(&module)))
-}
-
-fn left_summary(module: &Option<Vec<u8>>) -> Summary {
-    match module {
-        Some(module) => summary_of(module),
-        None => NOTHING,
-    }
-}
-
-fn bound_summary(bound: &Bindgen) -> Summary {
     let mut all = entries_of(&bound.resolve);
+    if let Some(module) = &module {
+        all = joined(all, summary_of(module));
+    }
     if let Some(world) = bound.resolve.worlds.first() {
         let sum = sum_of_world(&bound.metadata, &bound.resolve, world);
         all = joined(all, Summary { count: 0, sum });
     }
-    all
+    Ok(all)
 }
 
 /// Which section of a module is refused.

@@ -54,22 +54,10 @@ pub fn word_of_encoder(
     Ok(word_of(first, again, third))
 }
 
-/// What is kept of what the encoder answers.
-#[derive(Clone, Copy, PartialEq, Eq)]
-enum Answer {
-    Slot(u32),
-    /// A value without a slot.
-    Other,
-    Memory,
-    Refused,
-}
-
-fn kept(answer: Result<ComponentValType, Error>) -> Answer {
+fn slot_of(answer: &Result<ComponentValType, Error>) -> Option<u32> {
     match answer {
-        Ok(ComponentValType::Type_(slot)) => Answer::Slot(slot),
-        Ok(_) => Answer::Other,
-        Err(Error::Memory) => Answer::Memory,
-        Err(_) => Answer::Refused,
+        Ok(ComponentValType::Type_(slot)) => Some(*slot),
+        _ => None,
     }
 }
 
@@ -78,20 +66,19 @@ fn word_of(
     again: Result<ComponentValType, Error>,
     third: Result<ComponentValType, Error>,
 ) -> &'static str {
-    word_of_kept(kept(first), kept(again), kept(third))
-}
-
-fn word_of_kept(first: Answer, again: Answer, third: Answer) -> &'static str {
+    if slot_of(&first).is_some() {
+        return "done";
+    }
     match first {
-        Answer::Slot(_) => "done",
-        Answer::Other => "another value",
-        Answer::Memory => {
-            if matches!(again, Answer::Slot(_)) && again == third {
+        Ok(_) => "another value",
+        Err(Error::Memory) => {
+            let slot = slot_of(&again);
+            if slot.is_some() && slot == slot_of(&third) {
                 "memory"
             } else {
                 "memory, and then something else"
             }
         }
-        Answer::Refused => "another refusal",
+        Err(_) => "another refusal",
     }
 }

@@ -105,98 +105,38 @@ fn module_bytes(alloc: Global, resolve: &Resolve) -> Result<Vec<u8>, Error>
     module_of(alloc, &data)
 }
 
-/// A call, by its name in a line.
-#[derive(Clone, Copy)]
-enum Call {
-    Check,
-    Encode,
-    Canonical,
-    Print,
-    Carried,
-    Compare,
-    Sense,
-    CarriedOver,
-    NoMemory,
-    Decode,
-    DecodeWorld,
-    DecodeModule,
-    RefusedSection,
-    Merge,
-    Clash,
-    Encoder,
-}
-
-static CALLS: [(&str, Call); 16] = [
-    ("check", Call::Check),
-    ("encode", Call::Encode),
-    ("canonical", Call::Canonical),
-    ("print", Call::Print),
-    ("metadata::encode", Call::Carried),
-    ("semver_check", Call::Compare),
-    ("same_sense", Call::Sense),
-    ("from_unversioned", Call::CarriedOver),
-    ("none", Call::NoMemory),
-    ("decode", Call::Decode),
-    ("decode_world", Call::DecodeWorld),
-    ("metadata::decode", Call::DecodeModule),
-    ("metadata::refused_section", Call::RefusedSection),
-    ("merge", Call::Merge),
-    ("clash", Call::Clash),
-    ("encode_valtype", Call::Encoder),
-];
-
-fn call_of(line: &str) -> Option<Call> {
-    for (name, call) in &CALLS {
-        if *name == line {
-            return Some(*call);
-        }
-    }
-    None
-}
-
 // The calls that bytes or bindings are made for.
-fn other_word(alloc: Global, resolve: &Resolve, call: Call) -> Result<&'static str, Refusal>
+fn other_word(alloc: Global, resolve: &Resolve, call: &str) -> Result<&'static str, Refusal>
     requires valid { IsValid resolve.now }
     requires packages { 0 < length resolve.now.packages.items }
     requires worlds { 0 < length resolve.now.worlds.items }
 {
     match call {
-        Call::Decode => word_of_decode(alloc, &package_bytes(alloc, resolve)?),
-        Call::DecodeWorld => word_of_world(alloc, &world_bytes(alloc, resolve)?),
-        Call::DecodeModule => word_of_module(alloc, &module_bytes(alloc, resolve)?),
-        Call::RefusedSection => word_of_section(alloc, &module_bytes(alloc, resolve)?),
-        Call::Merge => word_of_merge(alloc, false),
-        Call::Clash => word_of_merge(alloc, true),
-        Call::Encoder => encoder_word(alloc),
+        "decode" => word_of_decode(alloc, &package_bytes(alloc, resolve)?),
+        "decode_world" => word_of_world(alloc, &world_bytes(alloc, resolve)?),
+        "metadata::decode" => word_of_module(alloc, &module_bytes(alloc, resolve)?),
+        "metadata::refused_section" => word_of_section(alloc, &module_bytes(alloc, resolve)?),
+        "merge" => word_of_merge(alloc, false),
+        "clash" => word_of_merge(alloc, true),
+        "encode_valtype" => encoder_word(alloc),
         _ => Err(Refusal::Line),
     }
 }
 
-fn word_with(alloc: Global, resolve: &Resolve, call: Call) -> Result<&'static str, Refusal>
-    requires valid { IsValid resolve.now }
-    requires packages { 0 < length resolve.now.packages.items }
-    requires worlds { 0 < length resolve.now.worlds.items }
-{
-    match call {
-        Call::Check => word_of_check(alloc, resolve),
-        Call::Encode => word_of_encode(alloc, resolve, false),
-        Call::Canonical => word_of_encode(alloc, resolve, true),
-        Call::Print => word_of_print(alloc, resolve),
-        Call::Carried => word_of_carried(alloc, resolve),
-        Call::Compare => word_of_compare(alloc),
-        Call::Sense => word_of_sense(alloc, resolve),
-        Call::CarriedOver => word_of_carried_over(alloc, resolve),
-        Call::NoMemory => word_of_calls(alloc, resolve),
-        _ => other_word(alloc, resolve, call),
-    }
-}
-
-fn word(alloc: Global, line: &str) -> Result<&'static str, Refusal> {
-    let Some(call) = call_of(line) else {
-        return Err(Refusal::Line);
-    };
+fn word(alloc: Global, call: &str) -> Result<&'static str, Refusal> {
     let resolve = valid_whole(alloc)?;
-    word_with(alloc, &resolve, call)
+    match call {
+        "check" => word_of_check(alloc, &resolve),
+        "encode" => word_of_encode(alloc, &resolve, false),
+        "canonical" => word_of_encode(alloc, &resolve, true),
+        "print" => word_of_print(alloc, &resolve),
+        "metadata::encode" => word_of_carried(alloc, &resolve),
+        "semver_check" => word_of_compare(alloc),
+        "same_sense" => word_of_sense(alloc, &resolve),
+        "from_unversioned" => word_of_carried_over(alloc, &resolve),
+        "none" => word_of_calls(alloc, &resolve),
+        _ => other_word(alloc, &resolve, call),
+    }
 }
 
 /// The word for a line, which is the name of a call.

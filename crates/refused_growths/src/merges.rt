@@ -1,12 +1,12 @@
 //! Bindings that others are merged into, where a growth may be refused: united, or refused for a clash. Where the merge is refused, nothing has changed.
 
-ghost use Rattle.std.specs.Prelude.{◌<◌, length, IfOk, OnOk};
+ghost use Rattle.std.specs.Prelude.{IfOk};
 ghost use Rattle.wit_component.specs.Bindings.{IsBindgen};
 ghost use Rattle.wit_component.specs.Valid.{IsValid};
 
 use crate::encodings::sum_of_world;
 use crate::lines::Refusal;
-use crate::outcome::{Summary, kept_of, word_of_answers};
+use crate::outcome::{Summary, word_of_answers};
 use crate::packages::whole;
 use crate::probe::{begin, end};
 use std::alloc::Global;
@@ -18,38 +18,25 @@ use wit_samples::samples::host_and_guest;
 
 // ---- bindings
 
-fn check_bindings(alloc: Global, bindings: &Bindgen) -> Result<(), Refusal>
-    ensures { OnOk result (IsBindgen bindings.now) }
+// Bindings that were checked.
+fn checked(alloc: Global, bindings: Bindgen) -> Result<Bindgen, Refusal>
+    ensures { IfOk result IsBindgen }
 {
     bindings.resolve.check(alloc)?;
     if bindings.world.0 as usize >= bindings.resolve.worlds.len() {
         return Err(Refusal::Line);
     }
-    Ok(())
-}
-
-// Bindings that were checked.
-fn checked(alloc: Global, bindings: Bindgen) -> Result<Bindgen, Refusal>
-    ensures { IfOk result IsBindgen }
-{
-    check_bindings(alloc, &bindings)?;
     Ok(bindings)
 }
 
-// The encodings of the functions of world 0, each of which has its strings in UTF-8.
-fn metadata_of(alloc: Global, resolve: &Resolve) -> Result<ModuleMetadata, Refusal> {
-    if resolve.worlds.is_empty() {
-        return Err(Refusal::Line);
-    }
-    let metadata = ModuleMetadata::new(alloc, resolve, WorldId(0), StringEncoding::UTF8)?;
-    Ok(metadata)
-}
-
-// The binding of world 0.
+// The binding of world 0, each function of which has its strings in UTF-8.
 fn binding(alloc: Global, resolve: Resolve) -> Result<Bindgen, Refusal>
     ensures { IfOk result IsBindgen }
 {
-    let metadata = metadata_of(alloc, &resolve)?;
+    if resolve.worlds.is_empty() {
+        return Err(Refusal::Line);
+    }
+    let metadata = ModuleMetadata::new(alloc, &resolve, WorldId(0), StringEncoding::UTF8)?;
     let world = WorldId(0);
     checked(
         alloc,
@@ -82,15 +69,6 @@ fn own_bindings(alloc: Global, clashes: bool) -> Result<Bindgen, Refusal>
 
 // ---- what there is of them
 
-fn package_text(alloc: Global, resolve: &Resolve, id: PackageId) -> Result<String, Error>
-    requires valid { IsValid resolve.now }
-    requires in_range { id.0 < length resolve.now.packages.items }
-{
-    let mut printer = WitPrinter::new(OutputToString::new(alloc));
-    printer.print(alloc, resolve, id, &[])?;
-    Ok(String::from(printer.output))
-}
-
 fn add_package_text(
     alloc: Global,
     resolve: &Resolve,
@@ -103,8 +81,9 @@ fn add_package_text(
     if id.0 as usize >= resolve.packages.len() {
         return Ok(());
     }
-    let package = package_text(alloc, resolve, id)?;
-    text.push_str(&package)?;
+    let mut printer = WitPrinter::new(OutputToString::new(alloc));
+    printer.print(alloc, resolve, id, &[])?;
+    text.push_str(String::from(printer.output).as_str())?;
     Ok(())
 }
 
@@ -126,17 +105,14 @@ struct State {
     encodings: u64,
 }
 
-fn encodings_of(bindings: &Bindgen) -> u64 {
-    match bindings.resolve.worlds.get(bindings.world.0 as usize) {
-        Some(world) => sum_of_world(&bindings.metadata, &bindings.resolve, world),
-        None => 0,
-    }
-}
-
 fn state_of(alloc: Global, bindings: &Bindgen) -> Result<State, Refusal> {
-    bindings.resolve.check(alloc)?;
-    let text = text_of(alloc, &bindings.resolve)?;
-    let encodings = encodings_of(bindings);
+    let resolve = &bindings.resolve;
+    resolve.check(alloc)?;
+    let text = text_of(alloc, resolve)?;
+    let encodings = match resolve.worlds.get(bindings.world.0 as usize) {
+        Some(world) => sum_of_world(&bindings.metadata, resolve, world),
+        None => 0,
+    };
     Ok(State { text, encodings })
 }
 
@@ -165,12 +141,12 @@ struct Outcome {
     state: State,
 }
 
-fn outcome_of(alloc: Global, own: &mut Bindgen) -> Result<Outcome, Refusal>
-    requires { IsBindgen own.old }
+fn outcome_of(alloc: Global, mut own: Bindgen) -> Result<Outcome, Refusal>
+    requires { IsBindgen own }
 {
     let other = other_bindings(alloc)?;
-    let answer = merged(alloc, own, other);
-    let state = state_of(alloc, own)?;
+    let answer = merged(alloc, &mut own, other);
+    let state = state_of(alloc, &own)?;
     Ok(Outcome { answer, state })
 }
 
@@ -183,88 +159,31 @@ fn is_meant(answer: &Result<Summary, Error>, clashes: bool) -> bool {
     }
 }
 
-/// A merge that is made where a growth may be refused: what there is of the bindings before, what it answers, and what there is then.
-#[derive(Drop)]
-struct Tried {
-    before: State,
-    outcome: Outcome,
-}
-
-fn tried(alloc: Global, own: &mut Bindgen) -> Result<Tried, Refusal>
-    requires { IsBindgen own.old }
-{
-    let other = other_bindings(alloc)?;
-    let before = state_of(alloc, own)?;
-    let outcome = tried_with(alloc, own, other)?;
-    Ok(Tried { before, outcome })
-}
-
-fn tried_with(alloc: Global, own: &mut Bindgen, other: Bindgen) -> Result<Outcome, Refusal>
-    requires own { IsBindgen own.old }
-    requires others { IsBindgen other }
-{
-    begin(alloc)?;
-    let answer = merged(alloc, own, other);
-    end(alloc)?;
-    let state = state_of(alloc, own)?;
-    Ok(Outcome { answer, state })
-}
-
-// Where the answer isn't the one that is wanted, and the merge is made again.
-fn word_of_again(
-    alloc: Global,
-    own: &mut Bindgen,
-    wanted: &Outcome,
-    answer: &Result<Summary, Error>,
-) -> Result<&'static str, Refusal> {
-    check_bindings(alloc, own)?;
-    let again = outcome_of(alloc, own)?;
-    if !are_same(&again.state, &wanted.state) {
-        return Ok("refused, and then another state");
-    }
-    let is_wanted_again = again.answer == wanted.answer;
-    Ok(word_of_answers(false, kept_of(answer), is_wanted_again))
-}
-
-fn word_of_tried(
-    alloc: Global,
-    own: &mut Bindgen,
-    wanted: &Outcome,
-    tried: &Tried,
-) -> Result<&'static str, Refusal> {
-    let (found, before) = (&tried.outcome, &tried.before);
-    if found.answer == wanted.answer {
-        let is_same = are_same(&found.state, &wanted.state);
-        return Ok(if is_same { "done" } else { "another state" });
-    }
-    if !are_same(&found.state, before) {
-        return Ok("refused, and changed");
-    }
-    word_of_again(alloc, own, wanted, &found.answer)
-}
-
-fn word_of_own(alloc: Global, own: &mut Bindgen, wanted: &Outcome) -> Result<&'static str, Refusal>
-    requires { IsBindgen own.old }
-{
-    let tried = tried(alloc, own)?;
-    word_of_tried(alloc, own, wanted, &tried)
-}
-
-fn word_of_wanted(alloc: Global, clashes: bool, wanted: &Outcome) -> Result<&'static str, Refusal> {
+/// The merge that is united, or the one that clashes.
+pub fn word_of_merge(alloc: Global, clashes: bool) -> Result<&'static str, Refusal> {
+    let wanted = outcome_of(alloc, own_bindings(alloc, clashes)?)?;
     if !is_meant(&wanted.answer, clashes) {
         return Ok("another answer, where nothing is refused");
     }
     let mut own = own_bindings(alloc, clashes)?;
-    word_of_own(alloc, &mut own, wanted)
-}
-
-fn wanted_outcome(alloc: Global, clashes: bool) -> Result<Outcome, Refusal> {
-    let mut own = own_bindings(alloc, clashes)?;
-    outcome_of(alloc, &mut own)
-}
-
-/// The merge that is united, or the one that clashes.
-pub fn word_of_merge(alloc: Global, clashes: bool) -> Result<&'static str, Refusal> {
-    let wanted = wanted_outcome(alloc, clashes)?;
-    word_of_wanted(alloc, clashes, &wanted)
+    let other = other_bindings(alloc)?;
+    let before = state_of(alloc, &own)?;
+    begin(alloc)?;
+    let first = merged(alloc, &mut own, other);
+    end(alloc)?;
+    let after = state_of(alloc, &own)?;
+    if first == wanted.answer {
+        if are_same(&after, &wanted.state) {
+            return Ok("done");
+        }
+        return Ok("another state");
+    }
+    if !are_same(&after, &before) {
+        return Ok("refused, and changed");
+    }
+    let again = outcome_of(alloc, checked(alloc, own)?)?;
+    if !are_same(&again.state, &wanted.state) {
+        return Ok("refused, and then another state");
+    }
+    Ok(word_of_answers(wanted.answer, first, again.answer))
 }

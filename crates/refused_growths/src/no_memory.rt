@@ -4,14 +4,14 @@ ghost use Rattle.std.specs.Prelude.{◌<◌, length};
 
 use crate::encodings::sum_of_world;
 use crate::lines::Refusal;
-use crate::outcome::{Kept, Summary, kept, summary_of};
+use crate::outcome::summary_of;
 use crate::probe::{begin, end};
 use std::alloc::Global;
 use wit_component::{
     ComponentType, Error, FlatEncoder, Function, InstanceType, InterfaceEncoder, LendsMaps,
-    ModuleMetadata, OutputToString, Resolve, Section, Sections, Stability, Steps, StringEncoding,
-    TypeOwner, ValtypeEncoder, WitPrinter, WorldId, WorldItem, WorldKey, custom_name, extern_name,
-    read_index, read_name, read_u32,
+    ModuleMetadata, OutputToString, Resolve, Sections, Stability, Steps, StringEncoding, TypeOwner,
+    ValtypeEncoder, WitPrinter, WorldId, WorldItem, WorldKey, custom_name, extern_name, read_index,
+    read_name, read_u32,
 };
 
 const NUMBER: &[u8] = &[0x81, 0x80, 0x80, 0x80, 0x00];
@@ -20,54 +20,35 @@ const NAME: &[u8] = &[0x02, 0x61, 0x62, 0x07];
 
 const SECTIONS: &[u8] = &[0x00, 0x03, 0x01, 0x61, 0x09, 0x05, 0x02, 0x08];
 
-fn next(sum: u64, value: u64) -> u64 {
-    sum.wrapping_mul(31).wrapping_add(value)
-}
-
-fn sum_of(bytes: &[u8]) -> u64 {
-    summary_of(bytes).sum
-}
-
-// The offset of what has no reading, and no other answer.
-fn offset_of<T: Drop>(answer: Result<T, Error>) -> Result<u64, Error> {
-    match answer {
-        Err(Error::NoReading(_, offset)) => Ok(offset as u64),
+// The call of each, folded to a number: none of them is refused but for the last section, which is cut.
+fn read_all() -> Result<u64, Error> {
+    let (number, end) = read_u32(NUMBER, 0)?;
+    let (index, _) = read_index(NUMBER, 0)?;
+    let (name, _) = read_name(NAME, 0)?;
+    let mut sections = Sections::new(SECTIONS, 0);
+    let mut sum = u64::from(number)
+        .wrapping_add(u64::from(index))
+        .wrapping_add(end as u64);
+    sum = sum
+        .wrapping_mul(31)
+        .wrapping_add(summary_of(name.as_bytes()).sum);
+    if let Some(section) = sections.next()? {
+        let (name, rest) = custom_name(section.contents)?;
+        sum = sum
+            .wrapping_mul(31)
+            .wrapping_add(summary_of(name.as_bytes()).sum);
+        sum = sum.wrapping_mul(31).wrapping_add(summary_of(rest).sum);
+    }
+    match sections.next() {
+        Err(Error::NoReading(_, offset)) => sum = sum.wrapping_mul(31).wrapping_add(offset as u64),
+        Err(error) => return Err(error),
+        Ok(_) => return Err(Error::Size),
+    }
+    match read_u32(NUMBER, 5) {
+        Err(Error::NoReading(_, offset)) => Ok(sum.wrapping_mul(31).wrapping_add(offset as u64)),
         Err(error) => Err(error),
         Ok(_) => Err(Error::Size),
     }
-}
-
-fn read_numbers() -> Result<u64, Error> {
-    let (number, end) = read_u32(NUMBER, 0)?;
-    let (index, _) = read_index(NUMBER, 0)?;
-    let sum = u64::from(number).wrapping_add(u64::from(index));
-    Ok(sum.wrapping_add(end as u64))
-}
-
-fn read_texts(sum: u64) -> Result<u64, Error> {
-    let (name, _) = read_name(NAME, 0)?;
-    Ok(next(sum, sum_of(name.as_bytes())))
-}
-
-fn read_section(section: Section<'static>, sum: u64) -> Result<u64, Error> {
-    let (name, rest) = custom_name(section.contents)?;
-    Ok(next(next(sum, sum_of(name.as_bytes())), sum_of(rest)))
-}
-
-// The last section is cut.
-fn read_sections(mut sum: u64) -> Result<u64, Error> {
-    let mut sections = Sections::new(SECTIONS, 0);
-    if let Some(section) = sections.next()? {
-        sum = read_section(section, sum)?;
-    }
-    Ok(next(sum, offset_of(sections.next())?))
-}
-
-// The call of each, folded to a number: none of them is refused but for the last section and the last number.
-fn read_all() -> Result<u64, Error> {
-    let sum = read_texts(read_numbers()?)?;
-    let sum = read_sections(sum)?;
-    Ok(next(sum, offset_of(read_u32(NUMBER, 5))?))
 }
 
 fn of_function(resolve: &Resolve, function: &Function) -> u64 {
@@ -165,44 +146,23 @@ fn all(alloc: Global, metadata: &ModuleMetadata, resolve: &Resolve) -> Result<u6
     )
 }
 
-fn all_kept(alloc: Global, metadata: &ModuleMetadata, resolve: &Resolve) -> Kept {
-    match all(alloc, metadata, resolve) {
-        Ok(sum) => Kept::Value(Summary { count: 0, sum }),
-        Err(error) => kept(Err(error)),
-    }
-}
-
-fn word_with(
-    alloc: Global,
-    metadata: &ModuleMetadata,
-    resolve: &Resolve,
-) -> Result<&'static str, Refusal> {
-    let wanted = all_kept(alloc, metadata, resolve);
-    begin(alloc)?;
-    let found = all_kept(alloc, metadata, resolve);
-    end(alloc)?;
-    Ok(word_of_found(wanted, found))
-}
-
-fn word_of_found(wanted: Kept, found: Kept) -> &'static str {
-    match wanted {
-        Kept::Value(_) => {
-            if found == wanted {
-                return "done";
-            }
-            match found {
-                Kept::Memory => "memory",
-                _ => "another answer",
-            }
-        }
-        _ => "refused, where nothing is",
-    }
-}
-
 /// All of them. The word is `memory` only where one made a request that was refused.
 pub fn word_of_calls(alloc: Global, resolve: &Resolve) -> Result<&'static str, Refusal>
     requires in_range { 0 < length resolve.now.worlds.items }
 {
     let metadata = ModuleMetadata::new(alloc, resolve, WorldId(0), StringEncoding::UTF8)?;
-    word_with(alloc, &metadata, resolve)
+    let wanted = all(alloc, &metadata, resolve);
+    begin(alloc)?;
+    let found = all(alloc, &metadata, resolve);
+    end(alloc)?;
+    if wanted.is_err() {
+        return Ok("refused, where nothing is");
+    }
+    if found == wanted {
+        return Ok("done");
+    }
+    match found {
+        Err(Error::Memory) => Ok("memory"),
+        _ => Ok("another answer"),
+    }
 }

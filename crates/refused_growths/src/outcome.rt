@@ -32,49 +32,36 @@ pub fn summary_of(bytes: &[u8]) -> Summary {
     }
 }
 
-/// What is kept of an answer: of a refusal, whether it is for want of memory.
-#[derive(Clone, Copy, PartialEq, Eq)]
-pub enum Kept {
-    Value(Summary),
-    Memory,
-    Refused,
-}
-
-pub fn kept_of(answer: &Result<Summary, Error>) -> Kept {
-    match answer {
-        Ok(summary) => Kept::Value(*summary),
-        Err(Error::Memory) => Kept::Memory,
-        Err(_) => Kept::Refused,
-    }
-}
-
-pub fn kept(answer: Result<Summary, Error>) -> Kept {
-    kept_of(&answer)
-}
-
 /// The word for a call that is made first where nothing is refused, and then answers, then where a growth may be, and then again.
-pub fn word_of(wanted: Kept, first: Kept, again: Kept) -> &'static str {
-    match wanted {
-        Kept::Value(_) => word_of_answers(first == wanted, first, again == wanted),
-        _ => "refused, where nothing is",
+pub fn word_of(
+    wanted: Result<Summary, Error>,
+    first: Result<Summary, Error>,
+    again: Result<Summary, Error>,
+) -> &'static str {
+    if wanted.is_err() {
+        return "refused, where nothing is";
     }
+    word_of_answers(wanted, first, again)
 }
 
-/// The same for a call that may also be refused for what it is called with: whether it answers what is wanted, its answer, and whether it answers
-/// what is wanted when it is made again.
-pub fn word_of_answers(is_wanted: bool, first: Kept, is_wanted_again: bool) -> &'static str {
-    if is_wanted {
+/// The same for a call that may also be refused for what it is called with.
+pub fn word_of_answers(
+    wanted: Result<Summary, Error>,
+    first: Result<Summary, Error>,
+    again: Result<Summary, Error>,
+) -> &'static str {
+    if first == wanted {
         return "done";
     }
     match first {
-        Kept::Value(_) => "another value",
-        Kept::Memory => {
-            if is_wanted_again {
+        Ok(_) => "another value",
+        Err(Error::Memory) => {
+            if again == wanted {
                 "memory"
             } else {
                 "memory, and then something else"
             }
         }
-        Kept::Refused => "another refusal",
+        Err(_) => "another refusal",
     }
 }

@@ -5,7 +5,7 @@ use std::alloc::{AllocError, Global};
 use wit_component::{
     Error, InterfaceId, Resolve, StringEncoding, Type, TypeDefKind, WorldKey, write_name, write_u32,
 };
-use wit_samples::drafts::{add_unnamed, draft, export_under, import_under, shown};
+use wit_samples::drafts::{add_unnamed, draft, import_under, shown};
 use wit_samples::kinds::{id, result_of, tuple_of};
 use wit_samples::samples::each_kind;
 
@@ -13,36 +13,35 @@ fn key_of(number: u32) -> WorldKey {
     WorldKey::Interface(InterfaceId(number))
 }
 
+fn export_under(resolve: &mut Resolve, number: u32) -> Result<(), AllocError> {
+    if let Some(world) = resolve.worlds.first_mut() {
+        world.exports.insert(key_of(number), shown(number))?;
+    }
+    Ok(())
+}
+
 /// A type of each kind, in interfaces that the world `w` imports and exports.
 pub fn whole(alloc: Global) -> Result<Resolve, AllocError> {
     let mut resolve = each_kind(alloc)?;
-    show_both(&mut resolve)?;
+    import_under(&mut resolve, key_of(0), shown(0))?;
+    import_under(&mut resolve, key_of(1), shown(1))?;
+    export_under(&mut resolve, 0)?;
+    export_under(&mut resolve, 1)?;
     Ok(resolve)
-}
-
-fn show_both(resolve: &mut Resolve) -> Result<(), AllocError> {
-    import_under(resolve, key_of(0), shown(0))?;
-    import_under(resolve, key_of(1), shown(1))?;
-    export_under(resolve, key_of(0), shown(0))?;
-    export_under(resolve, key_of(1), shown(1))
 }
 
 /// Types without a name: the last is met from the others.
 pub fn unnamed(alloc: Global) -> Result<Resolve, AllocError> {
     let mut resolve = draft(alloc)?;
-    add_eight(alloc, &mut resolve)?;
+    add_unnamed(&mut resolve, TypeDefKind::List(Type::U8))?;
+    add_unnamed(&mut resolve, TypeDefKind::Option(id(0)))?;
+    add_unnamed(&mut resolve, TypeDefKind::Map(Type::String, id(1)))?;
+    add_unnamed(&mut resolve, TypeDefKind::FixedLengthList(id(2), 4))?;
+    add_unnamed(&mut resolve, TypeDefKind::Future(Some(id(3))))?;
+    add_unnamed(&mut resolve, TypeDefKind::Stream(None))?;
+    add_unnamed(&mut resolve, result_of(Some(id(4)), Some(id(5))))?;
+    add_unnamed(&mut resolve, tuple_of(alloc, &[id(6), id(0), Type::Char])?)?;
     Ok(resolve)
-}
-
-fn add_eight(alloc: Global, resolve: &mut Resolve) -> Result<(), AllocError> {
-    add_unnamed(resolve, TypeDefKind::List(Type::U8))?;
-    add_unnamed(resolve, TypeDefKind::Option(id(0)))?;
-    add_unnamed(resolve, TypeDefKind::Map(Type::String, id(1)))?;
-    add_unnamed(resolve, TypeDefKind::FixedLengthList(id(2), 4))?;
-    add_unnamed(resolve, TypeDefKind::Future(Some(id(3))))?;
-    add_unnamed(resolve, TypeDefKind::Stream(None))?;
-    add_unnamed(resolve, result_of(Some(id(4)), Some(id(5))))?;
-    add_unnamed(resolve, tuple_of(alloc, &[id(6), id(0), Type::Char])?)
 }
 
 const MAGIC: &[u8] = &[0x00, 0x61, 0x73, 0x6d, 0x01, 0x00, 0x00, 0x00];

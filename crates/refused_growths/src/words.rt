@@ -8,18 +8,18 @@ use crate::calls::{
     section_told, sensed, world_decoded,
 };
 use crate::lines::{Refusal, valid_whole};
-use crate::outcome::{Kept, kept, word_of};
+use crate::outcome::word_of;
 use crate::packages::unversioned;
 use crate::probe::{begin, end};
 use std::alloc::Global;
-use wit_component::Resolve;
+use wit_component::{Error, Resolve};
 
 pub fn word_of_check(alloc: Global, resolve: &Resolve) -> Result<&'static str, Refusal> {
-    let wanted = kept(checked(alloc, resolve));
+    let wanted = checked(alloc, resolve);
     begin(alloc)?;
-    let first = kept(checked(alloc, resolve));
+    let first = checked(alloc, resolve);
     end(alloc)?;
-    let again = kept(checked(alloc, resolve));
+    let again = checked(alloc, resolve);
     Ok(word_of(wanted, first, again))
 }
 
@@ -31,11 +31,11 @@ pub fn word_of_encode(
     requires valid { IsValid resolve.now }
     requires in_range { 0 < length resolve.now.packages.items }
 {
-    let wanted = kept(encoded(alloc, resolve, canonical_names));
+    let wanted = encoded(alloc, resolve, canonical_names);
     begin(alloc)?;
-    let first = kept(encoded(alloc, resolve, canonical_names));
+    let first = encoded(alloc, resolve, canonical_names);
     end(alloc)?;
-    let again = kept(encoded(alloc, resolve, canonical_names));
+    let again = encoded(alloc, resolve, canonical_names);
     Ok(word_of(wanted, first, again))
 }
 
@@ -43,48 +43,12 @@ pub fn word_of_carried(alloc: Global, resolve: &Resolve) -> Result<&'static str,
     requires valid { IsValid resolve.now }
     requires in_range { 0 < length resolve.now.worlds.items }
 {
-    let wanted = kept(carried(alloc, resolve));
+    let wanted = carried(alloc, resolve);
     begin(alloc)?;
-    let first = kept(carried(alloc, resolve));
+    let first = carried(alloc, resolve);
     end(alloc)?;
-    let again = kept(carried(alloc, resolve));
+    let again = carried(alloc, resolve);
     Ok(word_of(wanted, first, again))
-}
-
-// The text of a print where nothing is refused comes first, and then the two others.
-fn word_of_texts(wanted: &str, text: &str, answer: Kept, again: &str) -> &'static str {
-    if !wanted.starts_with(text) {
-        return "another beginning";
-    }
-    match answer {
-        Kept::Value(_) => {
-            if text == wanted {
-                "done"
-            } else {
-                "another text"
-            }
-        }
-        Kept::Memory => {
-            if again == wanted {
-                "memory"
-            } else {
-                "memory, and then something else"
-            }
-        }
-        Kept::Refused => "another refusal",
-    }
-}
-
-// The same, where this text and no refusal is wanted.
-fn word_of_wanted(alloc: Global, resolve: &Resolve, wanted: &str) -> Result<&'static str, Refusal>
-    requires valid { IsValid resolve.now }
-    requires in_range { 0 < length resolve.now.packages.items }
-{
-    begin(alloc)?;
-    let (text, answer) = printed(alloc, resolve);
-    end(alloc)?;
-    let (again, _) = printed(alloc, resolve);
-    Ok(word_of_texts(wanted, &text, answer, &again))
 }
 
 pub fn word_of_print(alloc: Global, resolve: &Resolve) -> Result<&'static str, Refusal>
@@ -92,60 +56,79 @@ pub fn word_of_print(alloc: Global, resolve: &Resolve) -> Result<&'static str, R
     requires in_range { 0 < length resolve.now.packages.items }
 {
     let (wanted, answer) = printed(alloc, resolve);
-    match answer {
-        Kept::Value(_) => word_of_wanted(alloc, resolve, &wanted),
-        _ => Ok("refused, where nothing is"),
+    begin(alloc)?;
+    let (text, result) = printed(alloc, resolve);
+    end(alloc)?;
+    let (again, _) = printed(alloc, resolve);
+    if answer.is_err() {
+        return Ok("refused, where nothing is");
+    }
+    if !wanted.starts_with(text.as_str()) {
+        return Ok("another beginning");
+    }
+    match result {
+        Ok(()) => {
+            if text == wanted {
+                Ok("done")
+            } else {
+                Ok("another text")
+            }
+        }
+        Err(Error::Memory) => {
+            if again == wanted {
+                Ok("memory")
+            } else {
+                Ok("memory, and then something else")
+            }
+        }
+        Err(_) => Ok("another refusal"),
     }
 }
 
 pub fn word_of_decode(alloc: Global, bytes: &[u8]) -> Result<&'static str, Refusal> {
-    let wanted = kept(decoded(alloc, bytes));
+    let wanted = decoded(alloc, bytes);
     begin(alloc)?;
-    let first = kept(decoded(alloc, bytes));
+    let first = decoded(alloc, bytes);
     end(alloc)?;
-    let again = kept(decoded(alloc, bytes));
+    let again = decoded(alloc, bytes);
     Ok(word_of(wanted, first, again))
 }
 
 pub fn word_of_world(alloc: Global, bytes: &[u8]) -> Result<&'static str, Refusal> {
-    let wanted = kept(world_decoded(alloc, bytes));
+    let wanted = world_decoded(alloc, bytes);
     begin(alloc)?;
-    let first = kept(world_decoded(alloc, bytes));
+    let first = world_decoded(alloc, bytes);
     end(alloc)?;
-    let again = kept(world_decoded(alloc, bytes));
+    let again = world_decoded(alloc, bytes);
     Ok(word_of(wanted, first, again))
 }
 
 pub fn word_of_module(alloc: Global, bytes: &[u8]) -> Result<&'static str, Refusal> {
-    let wanted = kept(module_decoded(alloc, bytes));
+    let wanted = module_decoded(alloc, bytes);
     begin(alloc)?;
-    let first = kept(module_decoded(alloc, bytes));
+    let first = module_decoded(alloc, bytes);
     end(alloc)?;
-    let again = kept(module_decoded(alloc, bytes));
+    let again = module_decoded(alloc, bytes);
     Ok(word_of(wanted, first, again))
 }
 
 pub fn word_of_section(alloc: Global, bytes: &[u8]) -> Result<&'static str, Refusal> {
-    let wanted = kept(section_told(alloc, bytes));
+    let wanted = section_told(alloc, bytes);
     begin(alloc)?;
-    let first = kept(section_told(alloc, bytes));
+    let first = section_told(alloc, bytes);
     end(alloc)?;
-    let again = kept(section_told(alloc, bytes));
+    let again = section_told(alloc, bytes);
     Ok(word_of(wanted, first, again))
 }
 
-fn compared_anew(alloc: Global) -> Result<Kept, Refusal> {
-    let resolve = valid_whole(alloc)?;
-    Ok(kept(compared(alloc, resolve)))
-}
-
 pub fn word_of_compare(alloc: Global) -> Result<&'static str, Refusal> {
-    let wanted = compared_anew(alloc)?;
-    let resolve = valid_whole(alloc)?;
+    let wanted = compared(alloc, valid_whole(alloc)?);
+    let one = valid_whole(alloc)?;
+    let other = valid_whole(alloc)?;
     begin(alloc)?;
-    let first = kept(compared(alloc, resolve));
+    let first = compared(alloc, one);
     end(alloc)?;
-    let again = compared_anew(alloc)?;
+    let again = compared(alloc, other);
     Ok(word_of(wanted, first, again))
 }
 
@@ -153,11 +136,11 @@ pub fn word_of_sense(alloc: Global, resolve: &Resolve) -> Result<&'static str, R
     requires valid { IsValid resolve.now }
 {
     let other = valid_whole(alloc)?;
-    let wanted = kept(sensed(alloc, resolve, &other));
+    let wanted = sensed(alloc, resolve, &other);
     begin(alloc)?;
-    let first = kept(sensed(alloc, resolve, &other));
+    let first = sensed(alloc, resolve, &other);
     end(alloc)?;
-    let again = kept(sensed(alloc, resolve, &other));
+    let again = sensed(alloc, resolve, &other);
     Ok(word_of(wanted, first, again))
 }
 
@@ -165,10 +148,10 @@ pub fn word_of_carried_over(alloc: Global, resolve: &Resolve) -> Result<&'static
     requires in_range { 0 < length resolve.now.worlds.items }
 {
     let map = unversioned(alloc)?;
-    let wanted = kept(carried_over(alloc, resolve, &map));
+    let wanted = carried_over(alloc, resolve, &map);
     begin(alloc)?;
-    let first = kept(carried_over(alloc, resolve, &map));
+    let first = carried_over(alloc, resolve, &map);
     end(alloc)?;
-    let again = kept(carried_over(alloc, resolve, &map));
+    let again = carried_over(alloc, resolve, &map);
     Ok(word_of(wanted, first, again))
 }

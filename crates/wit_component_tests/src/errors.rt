@@ -51,15 +51,11 @@ static TEXTS: [&str; 17] = [
     "differs: a:b/c@1",
 ];
 
-fn text_of(alloc: Global, number: usize) -> Result<String, AllocError> {
-    let error = error_of(alloc, number)?;
-    format!(in alloc; "{error}")
-}
-
 #[test]
 fn each_text(rt: HostRuntime) -> Result<(), Fail> {
     for (number, expected) in TEXTS.iter().enumerate() {
-        let text = text_of(rt.alloc(), number)?;
+        let error = error_of(rt.alloc(), number)?;
+        let text = format!(in rt.alloc(); "{error}")?;
         assert_eq!(rt; text.as_str(), *expected);
     }
     Ok(())

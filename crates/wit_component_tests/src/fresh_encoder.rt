@@ -3,7 +3,6 @@
 ghost use Rattle.wit_model.specs.Valid.{IsValid};
 
 use std::alloc::Global;
-use std::process::Abort;
 use std::test::Fail;
 use wit_component::{
     Check, ComponentValType, Error, InterfaceEncoder, PrimitiveValType, Resolve, Type,
@@ -25,16 +24,12 @@ fn number(alloc: Global, resolve: &Resolve) -> Result<ComponentValType, Error>
     encode_valtype(alloc, &mut encoder, resolve, &Type::U32)
 }
 
-fn assert_first(rt: &impl Abort, alloc: Global, resolve: &Resolve) -> Result<(), Fail> {
-    resolve.check(alloc)?;
-    assert!(rt; future_slot(alloc, resolve)? == 0);
-    let expected = ComponentValType::Primitive(PrimitiveValType::U32);
-    assert!(rt; number(alloc, resolve)? == expected);
-    Ok(())
-}
-
 #[test]
 fn its_first_call(rt: HostRuntime) -> Result<(), Fail> {
     let resolve = draft(rt.alloc())?;
-    assert_first(&rt, rt.alloc(), &resolve)
+    resolve.check(rt.alloc())?;
+    assert_eq!(rt; future_slot(rt.alloc(), &resolve)?, 0);
+    let expected = ComponentValType::Primitive(PrimitiveValType::U32);
+    assert!(rt; number(rt.alloc(), &resolve)? == expected);
+    Ok(())
 }

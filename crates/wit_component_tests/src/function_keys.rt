@@ -1,28 +1,22 @@
 //! Equality, hashes and copies of what makes the type of a function.
 
-use std::alloc::{AllocError, Global};
+use std::alloc::Global;
 use std::hash::{DefaultHasher, Hash, Hasher};
-use std::process::Abort;
 use std::test::Fail;
-use wit_component::{Function, FunctionKind, Param, ParamSignatures, Type, TypeId};
+use wit_component::{Error, Function, FunctionKind, ParamSignatures, Type, TypeId};
 use wit_encode::key_of;
-use wit_samples::drafts::{param, with_params};
+use wit_samples::drafts::{nullary, param};
 
 /// What makes the type of a function: its kind, its parameters and its result.
 type Signature = (FunctionKind, &'static [(&'static str, Type)], Option<Type>);
 
-fn params_of(alloc: Global, params: &[(&'static str, Type)]) -> Result<Vec<Param>, AllocError> {
-    let mut list = Vec::new(alloc);
-    for (name, ty) in params {
-        list.push(param(alloc, *name, *ty)?)?;
-    }
-    Ok(list)
-}
-
-fn function_of(alloc: Global, signature: Signature) -> Result<Function, AllocError> {
+fn function_of(alloc: Global, signature: Signature) -> Result<Function, Error> {
     let (kind, params, answer) = signature;
-    let params = params_of(alloc, params)?;
-    with_params(alloc, "f", kind, params, answer)
+    let mut function = nullary(alloc, "f", kind, answer)?;
+    for (name, ty) in params {
+        function.params.push(param(alloc, *name, *ty)?)?;
+    }
+    Ok(function)
 }
 
 fn hash_of<T: Hash>(value: &T) -> u64 {
@@ -32,23 +26,10 @@ fn hash_of<T: Hash>(value: &T) -> u64 {
 }
 
 // Whether two functions have one key, and whether the hashes of their keys are one.
-fn compared_keys(left: &Function, right: &Function) -> (bool, bool) {
-    let (one, two) = (key_of(left), key_of(right));
-    (one == two, hash_of(&one) == hash_of(&two))
-}
-
-fn compared_with(
-    alloc: Global,
-    left: &Function,
-    right: Signature,
-) -> Result<(bool, bool), AllocError> {
-    let right = function_of(alloc, right)?;
-    Ok(compared_keys(left, &right))
-}
-
-fn compared(alloc: Global, left: Signature, right: Signature) -> Result<(bool, bool), AllocError> {
-    let left = function_of(alloc, left)?;
-    compared_with(alloc, &left, right)
+fn compared(alloc: Global, left: Signature, right: Signature) -> Result<(bool, bool), Error> {
+    let (left, right) = (function_of(alloc, left)?, function_of(alloc, right)?);
+    let (one, two) = (key_of(&left), key_of(&right));
+    Ok((one == two, hash_of(&one) == hash_of(&two)))
 }
 
 const FREE: FunctionKind = FunctionKind::Freestanding;
@@ -91,26 +72,14 @@ fn keys(rt: HostRuntime) -> Result<(), Fail> {
     Ok(())
 }
 
-fn is_key_copied(function: &Function) -> Result<bool, AllocError> {
-    let key = key_of(function);
-    let copy = key.clone()?;
-    Ok(key == copy && hash_of(&key) == hash_of(&copy))
-}
-
-fn are_params_copied(function: &Function) -> Result<bool, AllocError> {
-    let params = ParamSignatures(&function.params);
-    let copy = params.clone()?;
-    Ok(params == copy && hash_of(&params) == hash_of(&copy))
-}
-
-fn assert_copied(rt: &impl Abort, function: &Function) -> Result<(), Fail> {
-    assert!(rt; is_key_copied(function)?);
-    assert!(rt; are_params_copied(function)?);
-    Ok(())
-}
-
 #[test]
 fn copies(rt: HostRuntime) -> Result<(), Fail> {
     let function = function_of(rt.alloc(), OF_BYTE)?;
-    assert_copied(&rt, &function)
+    let key = key_of(&function);
+    let copy = key.clone()?;
+    assert!(rt; key == copy && hash_of(&key) == hash_of(&copy));
+    let params = ParamSignatures(&function.params);
+    let copy = params.clone()?;
+    assert!(rt; params == copy && hash_of(&params) == hash_of(&copy));
+    Ok(())
 }

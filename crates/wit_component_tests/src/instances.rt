@@ -5,7 +5,7 @@ ghost use Rattle.wit_component.specs.Lookup.{interface_path};
 ghost use Rattle.wit_component.specs.Valid.{IsValid};
 ghost use Rattle.wit_component.specs.InterfaceEncoders.{CanEncodeInterfaces, interface_encoder_view};
 
-use std::alloc::{AllocError, Global};
+use std::alloc::Global;
 use std::process::Abort;
 use std::test::Fail;
 use wit_component::{
@@ -41,24 +41,21 @@ fn assert_written(
 // ---- instance types
 
 // `f: func(x: TY) -> TY` of interface 0, under another name.
-fn add_over(alloc: Global, resolve: &mut Resolve, name: &str, ty: Type) -> Result<(), AllocError> {
+fn add_over(alloc: Global, resolve: &mut Resolve, name: &str, ty: Type) -> Result<(), Error> {
     let over = function(alloc, name, FunctionKind::Freestanding, ty, Some(ty))?;
-    put_function(alloc, resolve, 0, name, over)
-}
-
-fn fill_two(alloc: Global, resolve: &mut Resolve) -> Result<(), AllocError> {
-    add_unnamed(resolve, TypeDefKind::List(Type::U8))?;
-    add_unnamed(resolve, TypeDefKind::List(Type::U8))?;
-    add_over(alloc, resolve, "f", id(0))?;
-    add_over(alloc, resolve, "g", id(1))?;
-    add_interface(alloc, resolve, "j")?;
-    add_type_of(alloc, resolve, 1, "t", TypeDefKind::Type_(Type::U32))
+    put_function(alloc, resolve, 0, name, over)?;
+    Ok(())
 }
 
 // Interface 0 has two functions over equal unnamed lists of their own, interface 1 has `type t = u32`.
-fn two_interfaces(alloc: Global) -> Result<Resolve, AllocError> {
+fn two_interfaces(alloc: Global) -> Result<Resolve, Error> {
     let mut resolve = draft(alloc)?;
-    fill_two(alloc, &mut resolve)?;
+    add_unnamed(&mut resolve, TypeDefKind::List(Type::U8))?;
+    add_unnamed(&mut resolve, TypeDefKind::List(Type::U8))?;
+    add_over(alloc, &mut resolve, "f", id(0))?;
+    add_over(alloc, &mut resolve, "g", id(1))?;
+    add_interface(alloc, &mut resolve, "j")?;
+    add_type_of(alloc, &mut resolve, 1, "t", TypeDefKind::Type_(Type::U32))?;
     Ok(resolve)
 }
 
@@ -73,16 +70,6 @@ fn slot_of<'a>(encoder: &mut InterfaceEncoder<'a>, id: InterfaceId) -> Result<u3
     encoder.encode_instance(id)
 }
 
-// Both interfaces, of which the first takes slot 0 and the second slot 1.
-fn both(rt: &impl Abort, alloc: Global, resolve: &Resolve) -> Result<ComponentType, Fail> {
-    resolve.check(alloc)?;
-    let mut encoder = InterfaceEncoder::new(alloc, resolve);
-    assert!(rt; resolve.interfaces.len() > 1);
-    assert!(rt; slot_of(&mut encoder, InterfaceId(0))? == 0);
-    assert!(rt; slot_of(&mut encoder, InterfaceId(1))? == 1);
-    Ok(encoder.finish())
-}
-
 // Two equal lists are one definition, but types are told apart by number, so there are two types of functions. Each instance type takes a slot.
 #[test]
 fn one_after_the_other(rt: HostRuntime) -> Result<(), Fail> {
@@ -92,9 +79,15 @@ fn one_after_the_other(rt: HostRuntime) -> Result<(), Fail> {
         0x66, 0x01, 0x01, 0x01, 0x40, 0x01, 0x01, 0x78, 0x00, 0x00, 0x00, 0x04, 0x00, 0x01, 0x67,
         0x01, 0x02, 0x01, 0x42, 0x02, 0x01, 0x79, 0x04, 0x00, 0x01, 0x74, 0x03, 0x00, 0x00,
     ];
-    let resolve = two_interfaces(rt.alloc())?;
-    let outer = both(&rt, rt.alloc(), &resolve)?;
-    assert_written(&rt, rt.alloc(), &outer, &BYTES)
+    let alloc = rt.alloc();
+    let resolve = two_interfaces(alloc)?;
+    resolve.check(alloc)?;
+    let mut encoder = InterfaceEncoder::new(alloc, &resolve);
+    assert!(rt; resolve.interfaces.len() > 1);
+    assert!(rt; slot_of(&mut encoder, InterfaceId(0))? == 0);
+    assert!(rt; slot_of(&mut encoder, InterfaceId(1))? == 1);
+    let outer = encoder.finish();
+    assert_written(&rt, alloc, &outer, &BYTES)
 }
 
 // ---- component types
@@ -108,16 +101,6 @@ fn used(alloc: Global) -> Result<Resolve, Error> {
     Ok(resolve)
 }
 
-// The interface that uses another takes slot 2.
-fn behind_used(rt: &impl Abort, alloc: Global, resolve: &Resolve) -> Result<ComponentType, Fail> {
-    resolve.check(alloc)?;
-    assert!(rt; resolve.interfaces.len() > 1);
-    let mut encoder = InterfaceEncoder::new(alloc, resolve);
-    encoder.import_used(InterfaceId(1))?;
-    assert!(rt; slot_of(&mut encoder, InterfaceId(1))? == 2);
-    Ok(encoder.finish())
-}
-
 // The types of the interface that is used are imported once, and the second call finds them.
 #[test]
 fn behind_what_it_uses(rt: HostRuntime) -> Result<(), Fail> {
@@ -127,9 +110,15 @@ fn behind_what_it_uses(rt: HostRuntime) -> Result<(), Fail> {
         0x62, 0x2f, 0x69, 0x05, 0x00, 0x02, 0x03, 0x00, 0x00, 0x01, 0x74, 0x01, 0x42, 0x02, 0x02,
         0x03, 0x02, 0x01, 0x01, 0x04, 0x00, 0x01, 0x74, 0x03, 0x00, 0x00,
     ];
-    let resolve = used(rt.alloc())?;
-    let outer = behind_used(&rt, rt.alloc(), &resolve)?;
-    assert_written(&rt, rt.alloc(), &outer, &BYTES)
+    let alloc = rt.alloc();
+    let resolve = used(alloc)?;
+    resolve.check(alloc)?;
+    assert!(rt; resolve.interfaces.len() > 1);
+    let mut encoder = InterfaceEncoder::new(alloc, &resolve);
+    encoder.import_used(InterfaceId(1))?;
+    assert!(rt; slot_of(&mut encoder, InterfaceId(1))? == 2);
+    let outer = encoder.finish();
+    assert_written(&rt, alloc, &outer, &BYTES)
 }
 
 // Imports an interface behind those that it uses.

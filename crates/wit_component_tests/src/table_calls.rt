@@ -11,7 +11,7 @@ ghost use Rattle.encode_types.specs.Plan.{InRange, AllInRange, foreign_owner};
 ghost use Rattle.encode_types.specs.Table.{has_named_owner, is_met_by, table_scope, IsDefined, AllDefined, IsTableOf};
 ghost use Rattle.encode_flat.specs.Flat.{flat_view};
 
-use std::alloc::{AllocError, Global};
+use std::alloc::Global;
 use std::test::Fail;
 use wit_component::{
     Check, ComponentValType, Error, Fault, FlatEncoder, Function, FunctionKind, InterfaceId, Param,
@@ -460,24 +460,17 @@ fn one_after_the_other(rt: HostRuntime) -> Result<(), Fail> {
     Ok(())
 }
 
-fn add_record(alloc: Global, resolve: &mut Resolve, name: &str) -> Result<(), AllocError> {
-    let record = record_of(alloc, &["x", "y"], id(0))?;
-    add_type_of(alloc, resolve, 1, name, record)
-}
-
-fn add_records(alloc: Global, resolve: &mut Resolve) -> Result<(), AllocError> {
-    add_interface(alloc, resolve, "j")?;
-    add_type_of(alloc, resolve, 1, "t", TypeDefKind::Type_(Type::U32))?;
-    add_record(alloc, resolve, "p")?;
-    add_record(alloc, resolve, "q")?;
-    let f = nullary(alloc, "f", FunctionKind::Freestanding, None)?;
-    put_function(alloc, resolve, 1, "f", f)
-}
-
 // Interface 1 with `type t = u32`, equal records `p` and `q` of two fields of `t`, and a function.
-fn two_equal_records(alloc: Global) -> Result<Resolve, AllocError> {
+fn two_equal_records(alloc: Global) -> Result<Resolve, Error> {
     let mut resolve = draft(alloc)?;
-    add_records(alloc, &mut resolve)?;
+    add_interface(alloc, &mut resolve, "j")?;
+    add_type_of(alloc, &mut resolve, 1, "t", TypeDefKind::Type_(Type::U32))?;
+    let p = record_of(alloc, &["x", "y"], id(0))?;
+    add_type_of(alloc, &mut resolve, 1, "p", p)?;
+    let q = record_of(alloc, &["x", "y"], id(0))?;
+    add_type_of(alloc, &mut resolve, 1, "q", q)?;
+    let f = nullary(alloc, "f", FunctionKind::Freestanding, None)?;
+    put_function(alloc, &mut resolve, 1, "f", f)?;
     Ok(resolve)
 }
 

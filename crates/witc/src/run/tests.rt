@@ -231,7 +231,10 @@ fn assert_outcome(rt: &impl Abort, alloc: Global, expected: &Outcome) -> Result<
     let (words, bytes, length, status, text, reads) = *expected;
     assert!(rt; length <= bytes.len());
     let outcome = run_over(alloc, words, bytes.split_at(length).0, Ports::OPEN)?;
-    assert!(rt; outcome.is(status, text.as_bytes(), reads) && outcome.is_flushed);
+    assert_eq!(rt; outcome.status, status);
+    assert_eq!(rt; outcome.output.as_slice(), text.as_bytes());
+    assert_eq!(rt; outcome.reads, reads);
+    assert!(rt; outcome.is_flushed);
     Ok(())
 }
 

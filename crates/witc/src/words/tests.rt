@@ -33,20 +33,6 @@ impl Env for Arguments {
     }
 }
 
-fn is_word(word: &[u8], length: usize) -> bool {
-    word.len() == length && word.iter().all(|byte| *byte == b'w')
-}
-
-// Whether each has so many letters.
-fn are_words(words: &[Vec<u8>], length: usize) -> bool {
-    for word in words {
-        if !is_word(word, length) {
-            return false;
-        }
-    }
-    true
-}
-
 // Words that the room at first holds, just and by far not, and more words than any command has.
 #[test]
 fn words_behind_the_name(rt: HostRuntime) -> Result<(), Fail> {
@@ -64,7 +50,11 @@ fn words_behind_the_name(rt: HostRuntime) -> Result<(), Fail> {
             length: *length,
         };
         let found = words(&arguments, rt.alloc())?;
-        assert!(rt; found.len() == *expected && are_words(&found, *length));
+        assert_eq!(rt; found.len(), *expected);
+        for word in &found {
+            assert_eq!(rt; word.len(), *length);
+            assert!(rt; word.iter().all(|byte| *byte == b'w'));
+        }
     }
     Ok(())
 }

@@ -1,6 +1,6 @@
 //! Reads and writes that fail, each call of them in turn.
 
-use super::ports::{Outcome, Ports, run_over};
+use super::ports::{Ports, run_over};
 use super::{DEMO_HEX, DEMO_TEXT, USAGE_LINE, Words};
 use crate::answer::{BAD_WORDS, DONE, REFUSED, refuse};
 use crate::refusal::Refusal;
@@ -19,7 +19,10 @@ fn assert_unread(rt: &impl Abort, alloc: Global, words: Words, read: usize) -> R
         ..Ports::OPEN
     };
     let outcome = run_over(alloc, words, HOST_AND_GUEST, ports)?;
-    assert!(rt; outcome.is(REFUSED, UNREAD.as_bytes(), read) && outcome.is_flushed);
+    assert_eq!(rt; outcome.status, REFUSED, "{read}");
+    assert_eq!(rt; outcome.output.as_slice(), UNREAD.as_bytes());
+    assert_eq!(rt; outcome.reads, read);
+    assert!(rt; outcome.is_flushed);
     Ok(())
 }
 
@@ -44,14 +47,10 @@ fn interrupted(rt: HostRuntime) -> Result<(), Fail> {
         kind: ErrorKind::Interrupted,
     };
     let outcome = run_over(rt.alloc(), &[b"print"], HOST_AND_GUEST, ports)?;
-    assert!(rt; outcome.is(DONE, DEMO_TEXT.as_bytes(), 65));
+    assert_eq!(rt; outcome.status, DONE);
+    assert_eq!(rt; outcome.output.as_slice(), DEMO_TEXT.as_bytes());
+    assert_eq!(rt; outcome.reads, 65);
     Ok(())
-}
-
-// Whether so many writes were made, the last of which failed.
-fn is_cut(outcome: &Outcome, text: &str, write: usize) -> bool {
-    let is_refused = outcome.status == REFUSED && outcome.writes == write;
-    is_refused && text.as_bytes().starts_with(&outcome.output)
 }
 
 // What was written before is the beginning of the text, and nothing is written behind it.
@@ -67,8 +66,10 @@ fn assert_cut(
         ..Ports::OPEN
     };
     let outcome = run_over(alloc, words, HOST_AND_GUEST, ports)?;
-    assert!(rt; is_cut(&outcome, text, write));
-    assert!(rt; outcome.output.len() == write.saturating_sub(1));
+    assert_eq!(rt; outcome.status, REFUSED, "{write}");
+    assert_eq!(rt; outcome.writes, write);
+    assert!(rt; text.as_bytes().starts_with(&outcome.output));
+    assert_eq!(rt; outcome.output.len(), write.saturating_sub(1));
     Ok(())
 }
 
@@ -84,7 +85,8 @@ fn assert_whole(
         ..Ports::OPEN
     };
     let outcome = run_over(alloc, words, HOST_AND_GUEST, ports)?;
-    assert!(rt; outcome.status == status && outcome.writes == text.len());
+    assert_eq!(rt; outcome.status, status);
+    assert_eq!(rt; outcome.writes, text.len());
     Ok(())
 }
 
@@ -108,22 +110,19 @@ fn writes(rt: HostRuntime) -> Result<(), Fail> {
     Ok(())
 }
 
-fn assert_refusal_cut(rt: &impl Abort, alloc: Global, write: usize) -> Result<(), Fail> {
-    let ports = Ports {
-        read: 3,
-        write,
-        kind: ErrorKind::Other,
-    };
-    let outcome = run_over(alloc, &[b"print"], HOST_AND_GUEST, ports)?;
-    assert!(rt; is_cut(&outcome, UNREAD, write));
-    Ok(())
-}
-
 // The read fails, and then a write does.
 #[test]
 fn refusals_cut(rt: HostRuntime) -> Result<(), Fail> {
     for write in 1..34usize {
-        assert_refusal_cut(&rt, rt.alloc(), write)?;
+        let ports = Ports {
+            read: 3,
+            write,
+            kind: ErrorKind::Other,
+        };
+        let outcome = run_over(rt.alloc(), &[b"print"], HOST_AND_GUEST, ports)?;
+        assert_eq!(rt; outcome.status, REFUSED);
+        assert_eq!(rt; outcome.writes, write);
+        assert!(rt; UNREAD.as_bytes().starts_with(&outcome.output));
     }
     Ok(())
 }
@@ -135,8 +134,8 @@ fn assert_refused(
     text: &str,
 ) -> Result<(), Fail> {
     let mut output: Vec<u8> = Vec::new(alloc);
-    let status = refuse(&mut output, &refusal);
-    assert!(rt; status == REFUSED && output.as_slice() == text.as_bytes());
+    assert_eq!(rt; refuse(&mut output, &refusal), REFUSED);
+    assert_eq!(rt; output.as_slice(), text.as_bytes());
     Ok(())
 }
 

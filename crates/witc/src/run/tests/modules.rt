@@ -167,6 +167,7 @@ fn of_modules(rt: HostRuntime) -> Result<(), Fail> {
 fn nothing_to_strip(rt: HostRuntime) -> Result<(), Fail> {
     let module = MODULE.split_at(12).0;
     let outcome = run_over(rt.alloc(), &[b"strip"], module, Ports::OPEN)?;
-    assert!(rt; outcome.status == DONE && outcome.output.as_slice() == module);
+    assert_eq!(rt; outcome.status, DONE);
+    assert_eq!(rt; outcome.output.as_slice(), module);
     Ok(())
 }

@@ -85,13 +85,6 @@ pub(super) struct Outcome {
     pub(super) is_flushed: bool,
 }
 
-impl Outcome {
-    /// Whether it has this status and output, and made so many reads.
-    pub(super) fn is(&self, status: u8, output: &[u8], reads: usize) -> bool {
-        self.status == status && self.output.as_slice() == output && self.reads == reads
-    }
-}
-
 fn words_of(alloc: Global, texts: &[&[u8]]) -> Result<Vec<Vec<u8>>, AllocError> {
     let mut words = Vec::new(alloc);
     for text in texts {
