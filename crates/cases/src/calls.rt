@@ -271,15 +271,8 @@ fn other_packages(alloc: Global, resolve: &Resolve) -> Result<Vec<PackageId>, Er
 /// The text of what a module binds: its first package, with all others nested in it.
 pub fn bound_text(alloc: Global, bytes: &[u8]) -> Result<Answer, Answer> {
     let (_module, bound) = metadata::decode(alloc, bytes)?;
-    nested_text(alloc, &bound.resolve)
-}
-
-// The text of the first package, with all others nested in it.
-fn nested_text(alloc: Global, resolve: &Resolve) -> Result<Answer, Answer>
-    requires { IsValid resolve.now }
-{
-    let others = other_packages(alloc, resolve)?;
-    print_package(alloc, resolve, PackageId(0), true, &others)
+    let others = other_packages(alloc, &bound.resolve)?;
+    print_package(alloc, &bound.resolve, PackageId(0), true, &others)
 }
 
 /// A module without the sections that carry worlds, where what they bind isn't refused.
