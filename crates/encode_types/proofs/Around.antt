@@ -3,7 +3,7 @@ use Rattle.std.proofs.Common.{◌≡◌, refl, subst, ap, ◌∙◌, ℕ, List, 
 use Rattle.wit_model.specs.declared.model.Resolve.{Resolve}
 use Rattle.wit_model.specs.declared.model.TypeId.{TypeId}
 use Rattle.encode_types.specs.Slots.{SlotsGrow}
-use Rattle.encode_types.specs.View.{View, Grows}
+use Rattle.encode_types.specs.View.{Told, View, Grows}
 use Rattle.encode_types.specs.Known.{Around, Aliased, with_alias, with_aliases, AreAliases, GrowsAround, ReachesAround, as_before, aliased}
 
 pub around-same : {r : Resolve} {a a' : Around} → a' ≡ a → GrowsAround r a a'
@@ -29,5 +29,5 @@ reaches-grows (as_before e) = around-same e
 reaches-grows (aliased x is n e) = record { made = x ∷ []; are = (is, tt); is = e }
 
 -- a call that adds slots, and makes no alias around
-pub slots-grow : {v v' : View} → SlotsGrow v.stands v'.stands v.slot_count v'.slot_count → v'.around ≡ v.around → ((ns : List ℕ) → v.own ns → v'.own ns) → Grows v v'
+pub slots-grow : {v v' : View} → SlotsGrow v.stands v'.stands v.slot_count v'.slot_count → v'.around ≡ v.around → ((told : Told) → v.own told → v'.own told) → Grows v v'
 slots-grow g e own = record { kept = g.kept; more = g.more; around_ = around-same e; own_ = own }

@@ -1,5 +1,5 @@
 -- What a call leaves, also where it is refused, and what it has learnt and defined.
-use Rattle.std.specs.Prelude.{ℕ, ◌≡◌, Bool, List, [], ◌∷◌, length, Result, Err, IfOk, OnOk, IfErr}
+use Rattle.std.specs.Prelude.{ℕ, ◌≡◌, ◌+◌, ◌++◌, ◌⊎◌, Bool, List, [], ◌∷◌, length, Result, Err, IfOk, OnOk, IfErr}
 use Rattle.comp_bytes.specs.Refusal.{IsMemoryOrSize}
 use Rattle.comp_bytes.specs.declared.forms.ComponentValType.{ComponentValType}
 use Rattle.comp_bytes.specs.declared.forms.ComponentValType.TheVariants as value
@@ -89,6 +89,15 @@ pub record DefinesValue (v v' : View) (x : ComponentValType) : Type 0 where
   pub slot : ℕ
   pub is : x ≡ value.Type_ slot
   pub one_more : v'.definitions ≡ one_type_more slot v.definitions
+
+-- the type of a function has been defined, in the last slot
+pub record DefinesFunctionLast (v v' : View) (i : ℕ) : Type 0 where
+  pub one_more : v'.definitions.functions ≡ v.definitions.functions ++ i ∷ []
+  pub last : v'.slot_count ≡ i + 1
+
+-- no type of a function has been defined, or one, in the last slot
+abbrev pub DefinesLast : View → View → ℕ → Type 0
+DefinesLast v v' i = (v'.definitions.functions ≡ v.definitions.functions) ⊎ DefinesFunctionLast v v' i
 
 -- ---- a kind
 

@@ -8,7 +8,7 @@ use Rattle.wit_model.specs.declared.model.TypeId.{TypeId}
 use Rattle.comp_bytes.specs.declared.forms.ComponentDefinedType.{ComponentDefinedType}
 use Rattle.comp_bytes.specs.declared.forms.ComponentFuncType.{ComponentFuncType}
 use Rattle.wit_model.specs.declared.model.Resolve.{Resolve}
-use Rattle.comp_bytes.specs.Raw.{ExternName}
+use Rattle.comp_bytes.specs.Raw.{ExternName, Declarations}
 use Rattle.encode_types.specs.declared.maps.TypeEncodingMaps.{TypeEncodingMaps}
 use Rattle.encode_types.specs.Slots.{Pairs, Standing, tree, Keeps, SlotAdded, NameAdded, Follows, FollowsFunction}
 use Rattle.encode_types.specs.Scope.{Scope}
@@ -17,6 +17,11 @@ use Rattle.encode_types.specs.Maps.{MapsAgree}
 use Rattle.encode_types.specs.Counts.{Definitions, ExportsOne}
 use Rattle.encode_types.specs.Room.{Request, Refusals, HoldsFor, value_type, function_type}
 use Rattle.encode_types.specs.Extents.{tree_extent, signature_extent, import_extent, known_extent}
+
+-- what the user of an encoder may have in mind of it: some numbers, or what had been declared at some time
+pub data Told : Type 0 where
+  numbers : List ℕ → Told
+  declared : Declarations → Told
 
 -- What an encoder holds: its scope, its slots, its maps, and what has been defined and written.
 pub record View : Type 1 where
@@ -39,8 +44,8 @@ pub record View : Type 1 where
   pub extent : ℕ
   -- what more it has no room for, in 32 bits
   pub lacks_room : Refusals
-  -- what the implementor says besides, of a list of numbers that its user has in mind: each call keeps it
-  pub own : List ℕ → Type 0
+  -- what the implementor says besides, of what its user has in mind: each call keeps it
+  pub own : Told → Type 0
 
 -- There are at least as many slots, and the old ones stand for what they did. Around, nothing has been declared but aliases of types that
 -- had none. What the implementor says besides goes on to hold.
@@ -48,7 +53,7 @@ pub record Grows (v v' : View) : Type 0 where
   pub kept : Keeps v.stands v'.stands
   pub more : v.slot_count ≤ v'.slot_count
   pub around_ : GrowsAround v.scope.packages v.around v'.around
-  pub own_ : (ns : List ℕ) → v.own ns → v'.own ns
+  pub own_ : (told : Told) → v.own told → v'.own told
 
 -- of types of other interfaces, something has come to stand in the scope for this one at most
 pub record ImportsOne (id : TypeId) (old new : ℕ → Bool) : Type 0 where
@@ -128,6 +133,6 @@ pub record SameRest (v v' : View) : Type 0 where
   pub definitions_ : v'.definitions ≡ v.definitions
   pub held_ : v'.held ≡ v.held
   pub extent_ : v'.extent ≡ v.extent
-  pub own_ : (ns : List ℕ) → v.own ns → v'.own ns
+  pub own_ : (told : Told) → v.own told → v'.own told
   pub kept : Keeps v.stands v'.stands
   pub back : Keeps v'.stands v.stands

@@ -14,7 +14,7 @@ ghost use Rattle.encode_types.specs.Formed.{IsFormedSignature};
 ghost use Rattle.encode_types.specs.Extents.{signature_extent};
 ghost use Rattle.encode_types.specs.Aliases.{ImportsMet, MakesMet};
 ghost use Rattle.encode_types.specs.View.{Agrees, HoldsLearnt, WritesLearnt};
-ghost use Rattle.encode_types.specs.Leaves.{Leaves, LearnsFrom, CountsTypes, CountsFunction, LacksRoom, FunctionLacksRoom};
+ghost use Rattle.encode_types.specs.Leaves.{Leaves, LearnsFrom, CountsTypes, CountsFunction, DefinesFunctionLast, DefinesLast, LacksRoom, FunctionLacksRoom};
 ghost use Rattle.encode_types.specs.declared.key.FunctionKey.{FunctionKey as KeyValue};
 
 use crate::codes::ListKey;
@@ -79,6 +79,7 @@ fn define_key<'a, E: ValtypeEncoder<'a>>(
     ensures aliases { MakesMet resolve.now (function_types func.now) (E.view enc.old) (E.view enc.new) }
     ensures imports { ImportsMet resolve.now (function_types func.now) (E.view enc.old) (E.view enc.new) }
     ensures counts { IfOk result (CountsFunction resolve.now (E.view enc.old) (E.view enc.new) key.entry) }
+    ensures last { IfOk result (DefinesFunctionLast (E.view enc.old) (E.view enc.new)) }
     ensures held { OnOk result (HoldsLearnt resolve.now 0 (E.view enc.old) (E.view enc.new)) }
     ensures written { OnOk result (WritesLearnt resolve.now (signature_extent (signature_of resolve.now func.now)) (E.view enc.old) (E.view enc.new)) }
     ensures size { result ≡ Err Size → FunctionLacksRoom resolve.now func.now (E.view enc.old) (E.view enc.new) }
@@ -108,6 +109,7 @@ pub fn encode_func_type<'a, E: ValtypeEncoder<'a>>(
     ensures aliases { MakesMet resolve.now (function_types func.now) (E.view enc.old) (E.view enc.new) }
     ensures imports { ImportsMet resolve.now (function_types func.now) (E.view enc.old) (E.view enc.new) }
     ensures counts { IfOk result (λ i. (key : KeyValue) × IsKeyOf key func.now × CountsFunction resolve.now (E.view enc.old) (E.view enc.new) key i) }
+    ensures last { IfOk result (DefinesLast (E.view enc.old) (E.view enc.new)) }
     ensures held { OnOk result (HoldsLearnt resolve.now 0 (E.view enc.old) (E.view enc.new)) }
     ensures written { OnOk result (WritesLearnt resolve.now (signature_extent (signature_of resolve.now func.now)) (E.view enc.old) (E.view enc.new)) }
     ensures size { result ≡ Err Size → FunctionLacksRoom resolve.now func.now (E.view enc.old) (E.view enc.new) }

@@ -192,6 +192,7 @@ pub(crate) fn remember_key<'a, E: ValtypeEncoder<'a>>(
     ensures around_stays { (E.view enc.new).around ≡ (E.view enc.old).around }
     ensures imports_stay { (E.view enc.new).imports ≡ (E.view enc.old).imports }
     ensures counts { (E.view enc.new).definitions ≡ (E.view enc.old).definitions }
+    ensures slots { (E.view enc.new).slot_count ≡ (E.view enc.old).slot_count }
     ensures held { (E.view enc.new).held ≡ (E.view enc.old).held }
     ensures written { (E.view enc.new).extent ≡ (E.view enc.old).extent }
     ensures size { result ≡ Err Size → ⊥ }

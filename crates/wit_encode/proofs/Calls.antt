@@ -70,7 +70,7 @@ unfolding inner_contents
 inner-at place outer ds e = let m = some-of (inner_scope place outer ds) e in record { scope = m.0; is = m.1; slots = ap (λ o. option_map_or (λ s. s.slots) o []) m.1 }
 
 -- the slot of a new declaration has the next number
-inner-index : (place : Place) (outer : Declarations) (ds : List Declaration) (a : InnerAt place outer ds) → type_slots ds ≡ length (inner_contents place outer ds).slots
+pub inner-index : (place : Place) (outer : Declarations) (ds : List Declaration) (a : InnerAt place outer ds) → type_slots ds ≡ length (inner_contents place outer ds).slots
 inner-index place outer ds a =
     let e = steps.steps-count place (outer_slots outer) new_instance a.scope ds a.is in
     let f : length (inner_contents place outer ds).slots ≡ length a.scope.slots = ap length a.slots in

@@ -23,6 +23,7 @@ use Rattle.wit_encode.specs.Order.{functions_in_order}
 use Rattle.wit_encode.specs.Instance.{stands_inside, around_at, keyed, DeclaresFew, placed_function, meaning_of, EncodesInterface, EncodesDependency, EncodesPart, IsInstance}
 use Rattle.wit_encode.proofs.Counting.{count-keys, permuted-keys}
 use Rattle.wit_encode.proofs.Referring.{permuted-aliases, permuted-few, permuted-types}
+use Rattle.wit_encode.specs.Places.{StandInOrder}
 use Rattle.wit_encode.proofs.Opening.{Placed, values-permuted}
 use Rattle.base_lemmas.proofs.Lists.{map_of_map as map-twice}
 
@@ -31,11 +32,11 @@ pub closes : {E : Type 0} (res : Result ℕ E) (r : Resolve) (a : Around) (outer
     (declared : List Declaration) (fs : List Placed) → types ≡ values def.types
     → AliasesMet r (Some i) (referred types (map (λ f. f.2.now) fs)) a (around_at outer foreign) → foreign' ≡ foreign
     → DefinesKeys r (stands_inside r i outer declared) (map (λ f. f.2.now) fs) declared → DefinesTypes r (Some i) (stands_inside r i outer declared) types (map (λ f. f.2.now) fs) (from_list declared)
-    → DeclaresFew r (Some i) types (map (λ f. f.2.now) fs) declared → IsInstance r outer i declared (map (λ f. meaning_of r (placed_function f)) fs)
+    → DeclaresFew r (Some i) types (map (λ f. f.2.now) fs) declared → StandInOrder declared → IsInstance r outer i declared (map (λ f. meaning_of r (placed_function f)) fs)
     → IfOk res (λ k. (k ≡ type_slots_of outer) × (outer' ≡ append outer (Declarations.instance (from_list declared) Declarations.no_more)))
     → IfOk res (λ k. EncodesPart r a (around_at outer' foreign') i def (map placed_function fs) (map (λ f. f.2.now) fs) k)
-closes (Err e) r a outer outer' foreign foreign' i def types declared fs l grown o keys kinds few is h = h
-closes (Ok k) r a outer outer' foreign foreign' i def types declared fs l grown o keys kinds few is h = record {
+closes (Err e) r a outer outer' foreign foreign' i def types declared fs l grown o keys kinds few places is h = h
+closes (Ok k) r a outer outer' foreign foreign' i def types declared fs l grown o keys kinds few places is h = record {
   before = around_at outer foreign;
   aliases = subst (λ (ts : List TypeId). AliasesMet r (Some i) (referred ts (map (λ f. f.2.now) fs)) a (around_at outer foreign)) l grown;
   declared = declared;
@@ -45,6 +46,7 @@ closes (Ok k) r a outer outer' foreign foreign' i def types declared fs l grown 
   function_types = keys;
   value_types = subst (λ (ts : List TypeId). DefinesTypes r (Some i) (stands_inside r i outer declared) ts (map (λ f. f.2.now) fs) (from_list declared)) l kinds;
   few = subst (λ (ts : List TypeId). DeclaresFew r (Some i) ts (map (λ f. f.2.now) fs) declared) l few;
+  places = places;
 }
 
 -- with all functions of the interface, in order, it shows the interface
@@ -63,6 +65,7 @@ whole r v a a' i def fs k there p ordered e = record {
     value_types = permuted-types r (Some i) (stands_inside r i e.before.declared e.declared) (values def.types) (values def.functions) (map (λ f. f.2.now) fs) (from_list e.declared)
         (values-permuted def fs p) e.value_types;
     few = permuted-few r (Some i) (values def.types) (values def.functions) (map (λ f. f.2.now) fs) e.declared (values-permuted def fs p) e.few;
+    places = e.places;
   };
   shows = shown;
   means = interface-means r v i.0 e.is_instance.view shown;

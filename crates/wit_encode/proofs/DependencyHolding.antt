@@ -26,6 +26,9 @@ use Rattle.wit_encode.specs.DependencyRoom.{HoldsImports, LacksImport, its_types
 use Rattle.wit_encode.specs.Encoders.{InterfaceLacksRoom}
 use Rattle.wit_encode.specs.Instance.{EncodesInterface, EncodesPart, LacksInstanceRoom, whole_interface, types_alone_of}
 use Rattle.wit_encode.specs.Worlds.{brought_numbers, instances_declared}
+use Rattle.wit_encode.specs.Places.{are_beside}
+use Rattle.wit_encode.proofs.Places.{part-beside}
+use Rattle.std.proofs.lemmas.Bool.{eq-eqb}
 use Rattle.wit_encode.proofs.PlacedInstances.{grown-few, grown-listed, one-behind, placed-counted, placed-few, placed-instances}
 use Rattle.wit_encode.proofs.Refusing.{counts-refused, outer-slots-few}
 use Rattle.wit_encode.proofs.WorldHolding.{brought-some}
@@ -65,6 +68,8 @@ module _ (r : Resolve) (canonical : Bool) (a a' : Around) (i : InterfaceId) (num
     };
     inside = subst (AllZip (DefinesTypesOf r) (ns ++ i.0 ∷ [])) (sym (placed-instances r a before t.encodes.part.aliases.grown inner described a'.declared made))
         (zip-append (DefinesTypesOf r) ns (instances_declared a.declared) (i.0 ∷ []) ((before.declared, inner) ∷ []) h.inside (one, tt));
+    places = subst (λ (z : Declarations). are_beside 0 z ≡ true) (sym (ap (λ (z : Around). z.declared) t.imports))
+        (part-beside r a _ i t.def [] [] t.slot t.encodes.part described (eq-eqb t.slot t.slot refl) refl h.places);
   }
     where
       one : DefinesTypesOf r i.0 (before.declared, inner)
@@ -78,6 +83,7 @@ module _ (r : Resolve) (canonical : Bool) (a a' : Around) (i : InterfaceId) (num
         value_types =
             t.encodes.part.value_types;
         few = t.encodes.part.few;
+        places = t.encodes.part.places;
       }
 
 -- nothing is defined, and nothing is held, where nothing is declared
@@ -85,7 +91,7 @@ pub nothing-held : (r : Resolve) (a : Around) → a.declared ≡ Declarations.no
 nothing-held r a none = let z : declaration_count a.declared ≡ 0 = ap declaration_count none in omega (arith, z)
 
 pub nothing-defined : (r : Resolve) (outer : Declarations) → outer ≡ Declarations.no_more → DefinesImports r outer []
-nothing-defined r outer none = subst (λ (z : Declarations). DefinesImports r z []) (sym none) (record { beside = record { value_types = refl; function_types = refl }; inside = tt })
+nothing-defined r outer none = subst (λ (z : Declarations). DefinesImports r z []) (sym none) (record { beside = record { value_types = refl; function_types = refl }; inside = tt; places = refl })
 
 -- behind the imports the interface itself
 module _ (r : Resolve) (canonical : Bool) (a a' : Around) (i : InterfaceId) (def : Interface) (k : ℕ) (outer : Declarations) (encodes : EncodesInterface r a a' i def k) (is : outer ≡ with_export r canonical i k a'.declared) where
@@ -119,8 +125,11 @@ module _ (r : Resolve) (canonical : Bool) (a a' : Around) (i : InterfaceId) (def
       value_types =
           encodes.part.value_types;
       few = encodes.part.few;
+      places = encodes.part.places;
     };
     aliases = export-aliased r canonical a a' ns i def k outer there encodes is order imported aliased;
+    places = subst (λ (z : Declarations). are_beside 0 z ≡ true) (sym is)
+        (part-beside r a a' i def _ _ k encodes.part exported_by (eq-eqb k k refl) refl h.places);
   }
 
 -- ---- a call that has no room

@@ -14,8 +14,10 @@ use Rattle.comp_bytes.specs.Reading.{◌>>=◌}
 use Rattle.comp_meaning.specs.Follow.{Direction, import_, export_, Key, Scope, Seen, Shown, Slot, View, component_step, component_steps, definition, exported_slot, flat, function_in, function_signature, in_scope, interface_of, key_of, key_text, named_type, place_of, see, see_function, see_instance, see_type, used_view, when}
 use Rattle.comp_meaning.proofs.FollowLemmas.{provided_is as unprovided}
 use Rattle.encode_types.specs.Known.{Around}
+use Rattle.encode_types.specs.View.{Told}
 use Rattle.encode_names.specs.WorldSteps.{Entry, Entries, declared_towards, with_entry}
 use Rattle.wit_encode.specs.Encoders.{declared_after}
+use Rattle.wit_encode.specs.Places.{GrowsBy}
 use Rattle.wit_encode.specs.WholeWorlds.{direction_of, directions_of, imports_first}
 use Rattle.wit_encode.specs.WorldAliases.{KeepsListed}
 use Rattle.wit_encode.specs.WorldItems.{IsNext}
@@ -64,10 +66,12 @@ begins-more : (ns : List ℕ) (outer outer' : Declarations) (more : List Directi
 begins-more ns outer outer' more is b = record { more = b.more ++ more; are = is ∙ ap (λ (xs : List Direction). xs ++ more) b.are ∙ append_assoc (map direction_at ns) b.more more }
 
 pub keeps-both : {r : Resolve} {count count' : ℕ} {a a' : Around} (more : List Direction) → ((ns : List ℕ) → KeepsListed r count a ns → KeepsListed r count' a' ns)
-    → directions_of a'.declared ≡ directions_of a.declared ++ more → (ns : List ℕ) → KeepsTold r count a ns → KeepsTold r count' a' ns
-keeps-both more keeps is [] k = tt
-keeps-both more keeps is (zero ∷ ns) k = keeps ns k
-keeps-both {a = a} {a' = a'} more keeps is (suc n ∷ ns) k = begins-more ns a.declared a'.declared more is k
+    → directions_of a'.declared ≡ directions_of a.declared ++ more → ((ds : Declarations) → GrowsBy ds a.declared → GrowsBy ds a'.declared)
+    → (told : Told) → KeepsTold r count a told → KeepsTold r count' a' told
+keeps-both more keeps is grows (Told.numbers []) k = tt
+keeps-both more keeps is grows (Told.numbers (zero ∷ ns)) k = keeps ns k
+keeps-both {a = a} {a' = a'} more keeps is grows (Told.numbers (suc n ∷ ns)) k = begins-more ns a.declared a'.declared more is k
+keeps-both more keeps is grows (Told.declared ds) k = grows ds k
 
 -- these imports and exports, by numbers
 abbrev pub numbers_of : List Entry → List Entry → List ℕ

@@ -20,6 +20,10 @@ pub mod ImportsStand
 -- Imports and exports of a component type, in order: what declarations add to them, and that no import stands behind an export. Serves WorldAliases, WorldCalls, WorldFunctions, WorldInterfaces and 1
 -- more.
 pub mod Directions
+-- Where declarations stand: the type of a function and an instance type just before the import or export that has it, types before functions. Serves crates above.
+pub mod Places
+-- The declarations of an instance type stand in order: after its types, and after each function. Serves interface::encode_function, interface::encode_parts.
+pub mod PlacedFunctions
 -- Lists of numbers: what stands before a place, what stands once, and what is given by one element alone. Serves AliasesKept, Exporting, ListedTypes, WorldTypes and 1 more.
 pub mod Numbers
 -- What is met from a type of an owner is of that owner, but for what its aliases of types of other interfaces name. Serves ListedTypes, OwnerScope, Reached, UsedPaths and 2 more.

@@ -20,6 +20,8 @@ use Rattle.wit_encode.specs.WorldAliases.{KeepsListed, aliases_in, interfaces_in
 use Rattle.wit_encode.specs.WholeWorlds.{directions_of}
 use Rattle.wit_encode.specs.WrittenNames.{instance_declarations}
 use Rattle.wit_encode.proofs.AliasesKept.{keeps-aliases}
+use Rattle.wit_encode.specs.Places.{GrowsBy}
+use Rattle.wit_encode.proofs.Places.{grows-more}
 use Rattle.wit_encode.proofs.Directions.{directions-more, keeps-both}
 use Rattle.wit_encode.specs.WorldItems.{HasShown, types_among}
 use Rattle.wit_encode.proofs.WrittenNames.{instances-left}
@@ -69,6 +71,11 @@ directions-aliases : (a : Around) (made : List Aliased) → directions_of (with_
 directions-aliases a [] = sym (append-nil (directions_of a.declared))
 directions-aliases a (x ∷ made) = directions-aliases (with_alias a x) made ∙ append-nil (directions_of (with_alias a x).declared) ∙ directions-more a.declared (alias_declared x)
 
+-- each of them takes a type index
+grows-aliases : (ds : Declarations) (a : Around) (made : List Aliased) → GrowsBy ds a.declared → GrowsBy ds (with_aliases a made).declared
+grows-aliases ds a [] k = k
+grows-aliases ds a (x ∷ made) k = grows-aliases ds (with_alias a x) made (grows-more ds a.declared (with_alias a x).declared (alias_declared x) refl refl k)
+
 -- an encoder that holds another component type
 abbrev pub with_outer : WorldEncoder → Declarations → Foreign → WorldEncoder
 with_outer e outer foreign = record e { outer = outer; foreign = foreign }
@@ -91,7 +98,8 @@ aliases-shown r w e done h outer foreign g =
           keeps-both []
           (λ ns k. subst (λ (z : Around). KeepsListed q e.instances z ns) (sym g.is)
           (keeps-aliases q e.instances (interfaces_in ns) (aliases_in ns) (world_around e) g.made g.are k))
-          (ap (λ (z : Around). directions_of z.declared) g.is ∙ directions-aliases (world_around e) g.made);
+          (ap (λ (z : Around). directions_of z.declared) g.is ∙ directions-aliases (world_around e) g.made)
+          (λ ds k. subst (λ (z : Around). GrowsBy ds z.declared) (sym g.is) (grows-aliases ds (world_around e) g.made k));
     } in
     let left : HasShown r w (with_outer e outer foreign) (done.0 ++ [], done.1) = types-shown r w e (with_outer e outer foreign) done h leaves.scope_stays grows []
     (ap (λ d. d.exports) leaves.counted ∙ sym (append-nil (world_definitions e.outer).exports)) [] tt refl (inr refl)

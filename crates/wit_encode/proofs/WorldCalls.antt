@@ -34,6 +34,8 @@ use Rattle.encode_types.specs.Counts.{one_type_more, one_function_more, ExportsO
 use Rattle.encode_types.specs.Distinct.{is_value_type, is_function_type, described_slot, target_of}
 use Rattle.wit_encode.specs.DependencyAliases.{alias_in}
 use Rattle.wit_encode.proofs.AliasesKept.{keeps-alias, keeps-plain}
+use Rattle.wit_encode.specs.Places.{takes_index}
+use Rattle.wit_encode.proofs.Places.{grows-more}
 use Rattle.wit_encode.proofs.Directions.{directions-more, keeps-both}
 use Rattle.wit_encode.proofs.ValueSlots.{slots-next, targets-push, instances-kept}
 use Rattle.encode_types.specs.Known.{Around, Aliased, IsAlias, IsSource, ReachesAround, as_before, aliased, alias_declared, are_right, is_slot_for, known_slot, outer_scope, outer_slots, standing_instances, with_alias}
@@ -135,16 +137,16 @@ module _ {E : Type 0} (res : Result ℕ E) (r : Resolve) (w : WorldId) (count : 
 
     -- a call that declares something
     declares : (d : Declaration) (x : Slot) (types : List Seen) (after : follow.Scope) (P : Standing → Type 0) (counts : Type 0) → component_step sound.scope d ≡ Some after
-        → Extends sound.scope after x types → instance_name d ≡ [] → alias_in d ≡ []
+        → Extends sound.scope after x types → instance_name d ≡ [] → alias_in d ≡ [] → takes_index d ≡ true
         → is_slot_of (world_resources r w) x ≡ true → IsOf x P → (Widens r w a next x types → outer ≡ declared_after a.declared d → counts) → Declared d → OnErr res (outer ≡ a.declared)
         → Leads P counts
-    declares d x types after P counts step extends plain none kept is q ok err =
+    declares d x types after P counts step extends plain none index kept is q ok err =
         world-calls res r w count a next maps P counts x types is_sound is (each-ok res (λ k h.
         let m = declared-widens r w a sound outer d x types after step extends plain kept h.1 in (
           h.0 ∙ index-next r w a sound,
           m,
           keeps-both (direction_of d) (λ ns. keeps-plain r count (interfaces_in ns) (aliases_in ns) a outer d h.1 none plain)
-              (ap directions_of h.1 ∙ directions-more a.declared d),
+              (ap directions_of h.1 ∙ directions-more a.declared d) (λ ds. grows-more ds a.declared outer d h.1 index),
           q m h.1,
         )) ok) (same-around err)
       where
@@ -159,7 +161,7 @@ module _ {E : Type 0} (res : Result ℕ E) (r : Resolve) (w : WorldId) (count : 
         let strict : definition sound.scope.slots (raw_defined d) ≡ Some t = ap (λ zs. definition zs (raw_defined d)) (sym (same-slots r w a sound))
         ∙ definition-strict (world_resources r w) (outer_slots a.declared) (slots-sound r w a sound) d t h f.formed in
         declares (Declaration.defined (raw_defined d)) (Slot.value t) [] (in_scope (Slot.value t) sound.scope) _ _
-        (bind (definition sound.scope.slots (raw_defined d)) t (λ u. Some (in_scope (Slot.value u) sound.scope)) strict) (slot-extends sound.scope (Slot.value t) refl) refl refl
+        (bind (definition sound.scope.slots (raw_defined d)) t (λ u. Some (in_scope (Slot.value u) sound.scope)) strict) (slot-extends sound.scope (Slot.value t) refl) refl refl refl
         (formed-value (world_resources r w) t f.formed)
         (defines-of (outer_slots a.declared) d t h)
         (λ m e. definitions-after r w a sound outer (Declaration.defined (raw_defined d)) (Slot.value t) [] m e ((world_definitions a.declared).types ++ length (outer_slots a.declared) ∷ [])
@@ -182,7 +184,7 @@ module _ {E : Type 0} (res : Result ℕ E) (r : Resolve) (w : WorldId) (count : 
         let strict : function_signature sound.scope.slots (raw_function d) ≡ Some s = ap (λ zs. function_signature zs (raw_function d)) (sym (same-slots r w a sound))
         ∙ function-strict (world_resources r w) (outer_slots a.declared) (slots-sound r w a sound) d s h f.params f.result_ in
         declares (Declaration.function (raw_function d)) (Slot.function s) [] (in_scope (Slot.function s) sound.scope) _ _
-        (bind (function_signature sound.scope.slots (raw_function d)) s (λ u. Some (in_scope (Slot.function u) sound.scope)) strict) (slot-extends sound.scope (Slot.function s) refl) refl refl refl
+        (bind (function_signature sound.scope.slots (raw_function d)) s (λ u. Some (in_scope (Slot.function u) sound.scope)) strict) (slot-extends sound.scope (Slot.function s) refl) refl refl refl refl
         (function-of (outer_slots a.declared) d s h)
         (λ m e. definitions-after r w a sound outer (Declaration.function (raw_function d)) (Slot.function s) [] m e (world_definitions a.declared).types (world_definitions a.declared).exported
         ((world_definitions a.declared).functions ++ length (outer_slots a.declared) ∷ [])
@@ -206,12 +208,12 @@ module _ {E : Type 0} (res : Result ℕ E) (r : Resolve) (w : WorldId) (count : 
     some-standing u m e = cc
 
     -- a declaration that is followed as it says
-    imports-declared : (described : ComponentTypeRef) {slot : Option ℕ} → described_slot described ≡ slot → (name : ExternName) (d : Text × TypeMeaning) (x : Slot) → described_name name described ≡ []
+    imports-declared : (described : ComponentTypeRef) {slot : Option ℕ} → described_slot described ≡ slot → (name : ExternName) (d : Text × TypeMeaning) (x : Slot) → described_name name described ≡ [] → takes_index (Declaration.imported name described) ≡ true
         → IsDeclared scope d → name ≡ exported_name d → is_slot_of (world_resources r w) x ≡ true
         → standing_at (Some x) ≡ Some (tree (named here name.text)) → named_type (outer_slots a.declared) here name.text described ≡ Some (d.1.declaration, x)
         → Declared (Declaration.imported name described)
         → OnErr res (outer ≡ a.declared) → Leads (λ m. m ≡ tree (named here name.text)) (ShownAs slot name)
-    imports-declared described {slot} from name d x plain declared is kept stands found ok err =
+    imports-declared described {slot} from name d x plain index declared is kept stands found ok err =
         let there : named_type sound.scope.slots here name.text described ≡ Some (d.1.declaration, x) = ap (λ zs. named_type zs here name.text described) (sym (same-slots r w a sound)) ∙ found in
         let seen : Seen = seen_type name d.1.declaration in
         let after : follow.Scope = see import_ seen (in_scope x sound.scope) in
@@ -226,7 +228,7 @@ module _ {E : Type 0} (res : Result ℕ E) (r : Resolve) (w : WorldId) (count : 
         } in
         let meaning : TypeMeaning = record { declaration = d.1.declaration; external_id = name.external_id } in
         let meant : (name.text, meaning) ≡ d = λ j. (ap (λ (n : ExternName). n.text) is j, record { declaration = d.1.declaration; external_id = ap (λ (n : ExternName). n.external_id) is j }) in
-        declares (Declaration.imported name described) x (seen ∷ []) after _ _ (type-step name described sound.scope d.1.declaration x there (ap is_simple is)) extends plain refl kept
+        declares (Declaration.imported name described) x (seen ∷ []) after _ _ (type-step name described sound.scope d.1.declaration x there (ap is_simple is)) extends plain refl index kept
         (record { gives = λ m e. stands ∙ ap Some (sym e); only = λ m e. some-standing _ m (sym stands ∙ e) })
         (λ m e. record {
           declaration = d;
@@ -250,13 +252,13 @@ module _ {E : Type 0} (res : Result ℕ E) (r : Resolve) (w : WorldId) (count : 
         → Leads (λ m. m ≡ tree (named here name.text)) (ShownAs (Some k) name)
     imports-type k name s ok err =
         let its : DeclaredAs scope (outer_slots a.declared) name (refs.TypeEq k) s.declaration = declared-slot scope (outer_slots a.declared) (slots-sound r w a sound) name k s in
-        imports-declared (refs.TypeEq k) refl name s.declaration its.slot refl s.declared s.named_ its.kept its.stands its.found ok err
+        imports-declared (refs.TypeEq k) refl name s.declaration its.slot refl refl s.declared s.named_ its.kept its.stands its.found ok err
 
     pub imports-resource : (name : ExternName) → DeclaresResource scope name → Declared (Declaration.imported name refs.SubResource) → OnErr res (outer ≡ a.declared)
         → Leads (λ m. m ≡ tree (named here name.text)) (ShownAs None name)
     imports-resource name s ok err =
         let its : DeclaredAs scope (outer_slots a.declared) name refs.SubResource s.declaration = declared-resource scope (outer_slots a.declared) (slots-sound r w a sound) name s in
-        imports-declared refs.SubResource refl name s.declaration its.slot refl s.declared s.named_ its.kept its.stands its.found ok err
+        imports-declared refs.SubResource refl name s.declaration its.slot refl refl s.declared s.named_ its.kept its.stands its.found ok err
 
 -- ---- types of other interfaces
 
@@ -369,7 +371,8 @@ module _ (r : Resolve) (w : WorldId) (count : ℕ) (a : Around) (maps : TypeEnco
           more = (let l : length (outer_slots (with_alias a al).declared) ≡ length (outer_slots a.declared ++ x ∷ []) = ap length more in let n = longer (outer_slots a.declared) x in
               omega (arith, l, n));
           around_ = around-same (λ i. record { declared = wide.instances i; instances = []; known = [] });
-          own_ = keeps-both [] (λ ns. keeps-alias r count (interfaces_in ns) (aliases_in ns) a al is) (directions-more a.declared (alias_declared al));
+          own_ = keeps-both [] (λ ns. keeps-alias r count (interfaces_in ns) (aliases_in ns) a al is) (directions-more a.declared (alias_declared al))
+              (λ ds. grows-more ds a.declared (with_alias a al).declared (alias_declared al) refl refl);
         };
         scope_stays = scope-stays r w a (with_alias a al) x [] wide s count;
         around_stays = λ i. record { declared = wide.instances i; instances = []; known = [] };
@@ -401,3 +404,7 @@ module _ (r : Resolve) (w : WorldId) (count : ℕ) (a : Around) (maps : TypeEnco
 pub reached-held : {r : Resolve} {id : TypeId} {a a' : Around} → ReachesAround r id a a' → declaration_count a'.declared ≤ declaration_count a.declared + 1
 reached-held {r} {id} {a} {a'} (as_before e) = let same : declaration_count a'.declared ≡ declaration_count a.declared = ap (λ (z : Around). declaration_count z.declared) e in omega (arith, same)
 reached-held {r} {id} {a} {a'} (aliased al is of_id e) = outer-pushed a.declared a'.declared (alias_declared al) (ap (λ (z : Around). z.declared) e)
+
+-- the slot of a new declaration has the next number, where what has been declared is sound
+pub outer-slots-counted : (r : Resolve) (w : WorldId) (a : Around) → is_sound_outside r w a ≡ true → type_slots_of a.declared ≡ length (outer_slots a.declared)
+outer-slots-counted r w a sound = index-next r w a (sound-outside r w a sound)

@@ -36,6 +36,7 @@ use Rattle.encode_types.specs.MetKinds.{LearnsFrom, LearnsMet}
 use Rattle.encode_types.specs.Scope.{Scope}
 use Rattle.encode_types.proofs.Rooms.{only-more}
 use Rattle.encode_names.specs.WorldSteps.{Entry, Entries, declared_towards, interfaces_among}
+use Rattle.wit_encode.specs.Places.{are_beside}
 use Rattle.wit_encode.specs.Encoders.{declared_after}
 use Rattle.wit_encode.specs.Instance.{count_declared, SlotsStand, outer_slots, standing_at}
 use Rattle.wit_encode.specs.WorldItems.{HasShown, all_done, types_among}
@@ -271,8 +272,8 @@ none-defined r e o a b c count unlisted unknown =
 
 -- ---- what has been defined in the end
 
-pub defines-once : (r : Resolve) → IsValid r → (w : World) (e : WorldEncoder) (done : Entries) → HasShown r w e done → HasDefined r e (all_done done) → DefinesOnce r e.outer (all_done done)
-defines-once r v w e done s h = record {
+pub defines-once : (r : Resolve) → IsValid r → (w : World) (e : WorldEncoder) (done : Entries) → HasShown r w e done → HasDefined r e (all_done done) → are_beside 0 e.outer ≡ true → DefinesOnce r e.outer (all_done done)
+defines-once r v w e done s h places = record {
   keys = k.keys;
   function_types =
       (let a = slots-declared is_function_type 0 e.outer in
@@ -287,6 +288,7 @@ defines-once r v w e done s h = record {
       h.adds.slots s.agree (slots-once (outer_slots e.outer)) plain h.adds.slots.types h.adds.slots.exported h.no_numbers h.no_kinds held names;
   inside = h.inside;
   aliases = aliases-in-end r e.instances (world_around e) (interfaces_among es) (IsAskedBehind r es) h.keeps h.asked;
+  places = places;
 }
   where
     es : List Entry

@@ -153,6 +153,7 @@ module _ (r : Resolve) (e e' e'' : WorldEncoder) (x : Entry) (i : InterfaceId) (
         value_types =
             encodes.part.value_types;
         few = encodes.part.few;
+        places = encodes.part.places;
       }
 
   pub interface-few : (es : List Entry) → HoldsFew r e es → HoldsFew r e'' (es ++ x ∷ [])

@@ -12,7 +12,7 @@ use Rattle.encode_types.specs.declared.maps.TypeEncodingMaps.{TypeEncodingMaps}
 use Rattle.encode_types.specs.Slots.{Standing}
 use Rattle.encode_types.specs.Known.{Around, are_right, below, outer_instances, outer_scope, outer_slots, standing_instances, stands_around}
 use Rattle.encode_types.specs.Standing.{is_slot_of}
-use Rattle.encode_types.specs.View.{View, AddsSlot, Grows}
+use Rattle.encode_types.specs.View.{Told, View, AddsSlot, Grows}
 use Rattle.encode_types.proofs.Around.{around-same}
 use Rattle.encode_names.specs.Rebuilt.{is_type_shown, others_seen}
 use Rattle.encode_names.proofs.Rebuilt.{others-before}
@@ -168,7 +168,7 @@ pub record WorldCalls {E : Type 0} (res : Result ℕ E) (v v' : View) (P : Stand
 pub world-calls : {E : Type 0} (res : Result ℕ E) (r : Resolve) (w : WorldId) (count : ℕ) (a a' : Around) (m : TypeEncodingMaps) (P : Standing → Type 0) (counts : Type 0) (x : Slot)
     (types : List Seen)
     → is_sound_outside r w a ≡ true → IsOf x P → IfOk res (λ k. (k ≡ length (outer_slots a.declared)) × Widens r w a a' x types
-    × ((ns : List ℕ) → KeepsTold r count a ns → KeepsTold r count a' ns) × counts) → OnErr res (a' ≡ a)
+    × ((told : Told) → KeepsTold r count a told → KeepsTold r count a' told) × counts) → OnErr res (a' ≡ a)
     → WorldCalls res (world_view r w count a m) (world_view r w count a' m) P counts
 world-calls (Ok k) r w count a a' m P counts x types sound is h e =
     let s = sound-outside r w a sound in

@@ -15,7 +15,7 @@ use Rattle.encode_types.specs.Counts.{own_name}
 use Rattle.encode_types.specs.Known.{outer_slots, standing_instances}
 use Rattle.encode_types.specs.Maps.{IsKnown}
 use Rattle.encode_types.specs.Scope.{Others, Scope}
-use Rattle.encode_types.specs.View.{Agrees, Grows}
+use Rattle.encode_types.specs.View.{Told, Agrees, Grows}
 use Rattle.encode_names.specs.Rebuilt.{others_seen, types_seen}
 use Rattle.encode_names.specs.WorldSteps.{AddsTypes, Entry, Entries, ShowsEntries, interfaces_among}
 use Rattle.encode_names.proofs.EntriesRebuilt.{entries_are_rebuilt}
@@ -116,7 +116,7 @@ module _ (r : Resolve) (w : World) (e e' : WorldEncoder) (done : Entries) (h : H
         followed = sound-there.followed;
         shows = shows-then;
         order = order-then new_scope sound-there.scope e'.outer done.0 done.1 more sound-there.followed refl refl
-            (grows.own_ (suc zero ∷ numbers_of done.0 done.1) (begins-here done.0 done.1 e.outer h.order))
+            (grows.own_ (Told.numbers (suc zero ∷ numbers_of done.0 done.1)) (begins-here done.0 done.1 e.outer h.order))
             (zip_long (ShowsItem r) (done.0 ++ more) sound-there.scope.imports shows-then.imports) (zip_long (ShowsItem r) done.1 sound-there.scope.exports shows-then.exports) last;
         agree = subst (λ (z : Resolve). Agrees r (world_view_of z e')) packages-stay agree;
         sound = sound-after;

@@ -1,6 +1,6 @@
 -- What the component type of an interface defines: nothing beside instance types, and in each of them every key of a function and every
 -- unnamed kind once.
-use Rattle.std.specs.Prelude.{ℕ, ◌≡◌, List, [], ◌∷◌, ◌++◌, count_by, Some}
+use Rattle.std.specs.Prelude.{ℕ, ◌≡◌, true, List, [], ◌∷◌, ◌++◌, count_by, Some}
 use Rattle.std.specs.List.{AllZip}
 use Rattle.indexmap.specs.IndexMap.{values}
 use Rattle.wit_model.specs.Lookup.{interface_at}
@@ -11,6 +11,7 @@ use Rattle.encode_reach.specs.Reach.{reached_in_order}
 use Rattle.encode_types.specs.Distinct.{is_value_type, is_function_type, DefinesTypes}
 use Rattle.wit_encode.specs.DependencyAliases.{HasAliases, IsAskedFor}
 use Rattle.wit_encode.specs.Instance.{DeclaresFew, IsInstance, count_declared, stands_inside}
+use Rattle.wit_encode.specs.Places.{StandInOrder, are_beside}
 use Rattle.wit_encode.specs.Worlds.{instances_declared}
 use Rattle.wit_encode.specs.WorldCounts.{DefinesInterface}
 
@@ -26,19 +27,21 @@ pub record DefinesTypesOf (r : Resolve) (i : ℕ) (declared : Declarations × De
   pub value_types : DefinesTypes r (Some (record { 0 = i })) (stands_inside r (record { 0 = i }) declared.0 declarations) (values def.types) []
       (from_list declarations)
   pub few : DeclaresFew r (Some (record { 0 = i })) (values def.types) [] declarations
+  pub places : StandInOrder declarations
 
 -- no type is defined beside the instance types
 pub record DefinesNothing (outer : Declarations) : Type 0 where
   pub value_types : count_declared is_value_type outer ≡ 0
   pub function_types : count_declared is_function_type outer ≡ 0
 
--- There are instance types of these interfaces, in order, and nothing else is defined.
+-- There are instance types of these interfaces, in order, each just before the import or export of its instance, and nothing else is defined.
 pub record DefinesImports (r : Resolve) (outer : Declarations) (interfaces : List ℕ) : Type 0 where
   pub beside : DefinesNothing outer
   pub inside : AllZip (DefinesTypesOf r) interfaces (instances_declared outer)
+  pub places : are_beside 0 outer ≡ true
 
 -- Behind those of what interface n reaches there is its own. Aliases stand there of types that these and the interface itself meet, no type twice,
--- each by the one instance of its interface.
+-- each by the one instance of its interface. Each instance type stands just before the import or export of its instance.
 pub record DefinesComponent (r : Resolve) (n : ℕ) (outer : Declarations) : Type 0 where
   pub beside : DefinesNothing outer
   pub imports : List (Declarations × Declarations)
@@ -47,3 +50,4 @@ pub record DefinesComponent (r : Resolve) (n : ℕ) (outer : Declarations) : Typ
   pub reached : AllZip (DefinesTypesOf r) (reached_in_order r n) imports
   pub exported : DefinesInterface r n own
   pub aliases : HasAliases r (reached_in_order r n) (IsAskedFor r n) outer
+  pub places : are_beside 0 outer ≡ true

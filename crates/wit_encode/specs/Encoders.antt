@@ -1,5 +1,5 @@
 -- An encoder of interfaces as one value, and what its calls ask and leave.
-use Rattle.std.specs.Prelude.{ℕ, ◌≡◌, ◌⊎◌, ◌++◌, false, ◌∷◌, [], List, String, map, nat_eq, IsSome, Some}
+use Rattle.std.specs.Prelude.{ℕ, ◌≡◌, ◌⊎◌, ◌++◌, false, ◌∷◌, [], List, String, map, nat_eq, IsSome, Option, Some, None}
 use Rattle.std.specs.List.{Contains}
 use Rattle.std.specs.Set.{distinct_count}
 use Rattle.std.specs.Borrow.{Bor}
@@ -12,6 +12,7 @@ use Rattle.wit_model.specs.declared.model.Interface.{Interface}
 use Rattle.wit_model.specs.declared.model.InterfaceId.{InterfaceId}
 use Rattle.comp_bytes.specs.Raw.{ExternName, Declaration, Declarations, append, from_list}
 use Rattle.comp_bytes.specs.Held.{type_slots, type_slots_of}
+use Rattle.comp_bytes.specs.declared.forms.ComponentTypeRef.TheVariants as refs
 use Rattle.wit_model.specs.Valid.{IsValid}
 use Rattle.wit_model.specs.declared.model.TypeId.{TypeId}
 use Rattle.wit_model.specs.declared.model.Function.{Function}
@@ -24,17 +25,29 @@ use Rattle.encode_types.specs.MetKinds.{LearnsFrom}
 use Rattle.wit_encode.specs.Order.{functions_in_order}
 use Rattle.encode_types.specs.declared.maps.TypeEncodingMaps.{TypeEncodingMaps}
 use Rattle.wit_encode.specs.declared.interface.InstanceEncoderOf.{InstanceEncoderOf}
+use Rattle.wit_encode.specs.declared.interface.OpenInterface.{OpenInterface}
+use Rattle.wit_encode.specs.Places.{GrowsBy, StandInOrder}
 use Rattle.encode_types.specs.Aliases.{AliasesMet}
 use Rattle.encode_types.specs.Known.{Around, UsedStand}
 use Rattle.encode_types.specs.Scope.{Scope}
 use Rattle.encode_types.specs.Room.{HasNoRoom}
 use Rattle.encode_types.specs.MetKinds.{referred}
 use Rattle.indexmap.specs.IndexMap.{values}
-use Rattle.encode_types.specs.View.{View, Agrees, HoldsLearnt, WritesLearnt}
+use Rattle.encode_types.specs.View.{Told, View, Agrees, HoldsLearnt, WritesLearnt}
 use Rattle.wit_encode.specs.Instance.{own_of, ShowsFunction, placed_function, meaning_of, Contents, contents_of, encoder_scope, around_of, around_at, slots_in, stands_in, defined_in, opened, standing_instances, Continues, EncodesInterface, EncodesDependency, EncodesPart, AliasesFor, AliasesForTypes, whole_interface, types_alone_of, held_in, extent_in, lacks_room_in, LacksInstanceRoom}
 
 abbrev pub InstanceEncoder : Type 0
 InstanceEncoder = InstanceEncoderOf TypeEncodingMaps
+
+-- the declarations of the instance type, if one is open
+abbrev pub declared_inside : Option OpenInterface → List Declaration
+declared_inside None = []
+declared_inside (Some current) = current.declared
+
+-- what is kept in mind of it: behind what had been declared there stands only what takes a type index
+abbrev pub KeepsInside : Option OpenInterface → Told → Type 0
+KeepsInside inner (Told.numbers ns) = Unit {0}
+KeepsInside inner (Told.declared ds) = GrowsBy ds (from_list (declared_inside inner))
 
 -- what it holds, read in these packages
 abbrev pub view_of : Resolve → InstanceEncoder → View
@@ -49,7 +62,7 @@ view_of r e = record {
   held = held_in e.outer e.inner;
   extent = extent_in e.outer e.inner;
   lacks_room = lacks_room_in r e.outer e.inner;
-  own = λ ns. Unit {0};
+  own = λ told. KeepsInside e.inner told;
 }
 
 -- in its own
@@ -115,6 +128,18 @@ meanings_of r fs = map (λ f. meaning_of r (placed_function f)) fs
 -- a function of this signature is shown under a name, or these functions are
 abbrev pub ShowsAs : InstanceEncoder → InstanceEncoder → ExternName → Signature → Type 0
 ShowsAs e e' name s = ShowsFunction (contents_in e) (contents_in e') (shown_as name s)
+
+-- a function of the type in this slot has been exported under a name, and nothing else declared
+abbrev pub ExportsFunction : InstanceEncoder → InstanceEncoder → ExternName → ℕ → Type 0
+ExportsFunction e e' name i = declared_inside e'.inner ≡ declared_inside e.inner ++ Declaration.exported name (refs.Func i) ∷ []
+
+-- where the declarations of the instance type stand in order, so they do after this
+abbrev pub StaysInOrder : InstanceEncoder → InstanceEncoder → Type 0
+StaysInOrder e e' = StandInOrder (declared_inside e.inner) → StandInOrder (declared_inside e'.inner)
+
+-- where none had been declared, they stand in order
+abbrev pub BeginsInOrder : InstanceEncoder → InstanceEncoder → Type 0
+BeginsInOrder e e' = declared_inside e.inner ≡ [] → StandInOrder (declared_inside e'.inner)
 
 abbrev pub ShowsMore : Resolve → InstanceEncoder → InstanceEncoder → List (Text × FunctionMeaning) → Type 0
 ShowsMore r e e' fs = (view_of r e').scope.functions ≡ (view_of r e).scope.functions ++ fs

@@ -45,6 +45,7 @@ use Rattle.encode_types.specs.Formed.{IsFormedSignature}
 use Rattle.encode_types.specs.Fits.{CanEncode}
 use Rattle.encode_types.specs.Scope.{Scope, no_others}
 use Rattle.wit_encode.specs.Order.{functions_in_order}
+use Rattle.wit_encode.specs.Places.{StandInOrder}
 pub use Rattle.encode_types.specs.Distinct.{is_value_type, is_function_type}
 use Rattle.encode_types.specs.Distinct.{key_of, are_same, value_slots, function_slots, targets_of, DefinesKeys, DefinesTypes}
 use Rattle.encode_types.specs.Counts.{Definitions}
@@ -309,7 +310,8 @@ pub record DeclaresFew (r : Resolve) (own : Option InterfaceId) (types : List Ty
 -- Slot k of the component type is new: an instance type that can be followed, and that shows the types of the interface, in order, and these
 -- functions, in order, with what they mean. Before it, nothing has been declared but aliases of types that had none and that the interface's
 -- types and these functions meet. Types of functions and value types are defined as the interface's types and these functions, in any order, ask for, each
--- once, and no others. There are no more declarations than these take.
+-- once, and no others. There are no more declarations than these take. They stand in order: types before functions, and the type of a function just
+-- before the function.
 pub record EncodesPart (r : Resolve) (around around' : Around) (i : InterfaceId) (def : Interface) (written : List (Text × Function))
     (functions : List Function) (k : ℕ) : Type 0 where
   pub before : Around
@@ -321,6 +323,7 @@ pub record EncodesPart (r : Resolve) (around around' : Around) (i : InterfaceId)
   pub function_types : DefinesKeys r (stands_inside r i before.declared declared) functions declared
   pub value_types : DefinesTypes r (Some i) (stands_inside r i before.declared declared) (values def.types) functions (from_list declared)
   pub few : DeclaresFew r (Some i) (values def.types) functions declared
+  pub places : StandInOrder declared
 
 -- What `EncodesPart` says, of the types of the interface and all its functions: what is shown is the interface.
 pub record EncodesInterface (r : Resolve) (around around' : Around) (i : InterfaceId) (def : Interface) (k : ℕ) : Type 0 where

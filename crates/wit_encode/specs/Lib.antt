@@ -24,3 +24,4 @@ pub mod DependencyCounts
 pub mod PackageRoom
 pub mod Extents
 pub mod WrittenBytes
+pub mod Places

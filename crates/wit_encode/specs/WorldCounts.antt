@@ -1,6 +1,6 @@
 -- What the component type of a world defines: each key of a function and each unnamed kind once, and the same in each instance type, which shows
 -- its interface in order.
-use Rattle.std.specs.Prelude.{ℕ, ◌≡◌, ◌⊎◌, List, [], ◌∷◌, ◌++◌, map, length, Some, None}
+use Rattle.std.specs.Prelude.{ℕ, ◌≡◌, ◌⊎◌, true, List, [], ◌∷◌, ◌++◌, map, length, Some, None}
 use Rattle.std.specs.List.{AllZip, Contains, IsDistinct}
 use Rattle.std.specs.Set.{is_member}
 use Rattle.indexmap.specs.IndexMap.{values}
@@ -24,6 +24,7 @@ use Rattle.wit_encode.specs.DependencyAliases.{IsMetByWhole}
 use Rattle.wit_encode.specs.WorldAliases.{HasAliasesBehind, KeepsAliases, PlacedAlias}
 use Rattle.wit_encode.specs.Instance.{DeclaresFew, IsInstance, count_declared, meaning_of, stands_inside, SlotsStand, outer_slots}
 use Rattle.wit_encode.specs.Order.{functions_in_order}
+use Rattle.wit_encode.specs.Places.{StandInOrder, are_beside}
 use Rattle.wit_encode.specs.WorldItems.{entry_of}
 use Rattle.wit_encode.specs.WorldRoom.{functions_among, referred_among, type_ids_among}
 use Rattle.wit_encode.specs.Worlds.{WorldEncoder, world_around, world_definitions, instances_declared}
@@ -32,7 +33,7 @@ use Rattle.wit_encode.specs.Worlds.{WorldEncoder, world_around, world_definition
 
 -- An instance type shows the types of its interface in order, and its functions: those of resources by the order of their resource, then the
 -- others. It defines what these types and functions ask for, each once, and nothing else. It has no more declarations than these take: so no
--- more outer aliases than types of other interfaces that are met.
+-- more outer aliases than types of other interfaces that are met. The type of a function stands just before the first function that has it.
 pub record DefinesInterface (r : Resolve) (i : ℕ) (declared : Declarations × Declarations) : Type 0 where
   pub def : Interface
   pub there : interface_at r i ≡ Some def
@@ -43,6 +44,7 @@ pub record DefinesInterface (r : Resolve) (i : ℕ) (declared : Declarations × 
   pub value_types : DefinesTypes r (Some (record { 0 = i })) (stands_inside r (record { 0 = i }) declared.0 declarations) (values def.types)
       (functions_of_interface def) (from_list declarations)
   pub few : DeclaresFew r (Some (record { 0 = i })) (values def.types) (functions_of_interface def) declarations
+  pub places : StandInOrder declarations
 
 -- what an import or an export of a world asks for: what its types meet of interfaces, and what its interface does
 abbrev pub IsAskedBy : Resolve → Entry → ℕ → Type 0
@@ -62,7 +64,7 @@ pub record IsAskedBehind (r : Resolve) (es : List Entry) (n t : ℕ) : Type 0 wh
 -- of their own, and no others. It has an instance type
 -- for each interface, in order, which does the same for it. Aliases stand there of types that these types, functions and interfaces meet, no type
 -- twice, each by the latest instance of its interface that stands before, and behind as many instances as stand before one of the imports and
--- exports that ask for it.
+-- exports that ask for it. The type of a function stands just before the first import or export that has it, and an instance type just before its own.
 pub record DefinesOnce (r : Resolve) (outer : Declarations) (es : List Entry) : Type 0 where
   pub keys : List Key
   pub function_types : count_declared is_function_type outer ≡ length keys
@@ -72,6 +74,7 @@ pub record DefinesOnce (r : Resolve) (outer : Declarations) (es : List Entry) : 
   pub value_types : DefinesTypes r None (SlotsStand (outer_slots outer)) (type_ids_among es) (functions_among es) outer
   pub inside : AllZip (DefinesInterface r) (interfaces_among es) (instances_declared outer)
   pub aliases : HasAliasesBehind r (interfaces_among es) (IsAskedBehind r es) outer
+  pub places : are_beside 0 outer ≡ true
 
 -- ---- between two items
 

@@ -23,9 +23,10 @@ use Rattle.encode_types.specs.Room.{LacksRoomBehind}
 use Rattle.encode_types.specs.Scope.{Others, Scope}
 use Rattle.encode_types.specs.Standing.{SlotsStand, is_slot_of}
 use Rattle.encode_types.specs.Table.{table_scope}
-use Rattle.encode_types.specs.View.{View}
+use Rattle.encode_types.specs.View.{Told, View}
 use Rattle.encode_names.specs.Rebuilt.{others_seen}
 use Rattle.wit_encode.specs.Instance.{around_at, declared_extent}
+use Rattle.wit_encode.specs.Places.{GrowsBy}
 use Rattle.wit_encode.specs.WholeWorlds.{directions_of}
 use Rattle.wit_encode.specs.WorldAliases.{KeepsListed}
 use Rattle.wit_encode.specs.WrittenNames.{instances_around}
@@ -143,11 +144,13 @@ pub record BeginsWith (ns : List ℕ) (outer : Declarations) : Type 0 where
   pub more : List Direction
   pub are : directions_of outer ≡ map direction_at ns ++ more
 
--- what is kept of a list: behind zero it tells of aliases, and behind any other number of imports and exports
-abbrev pub KeepsTold : Resolve → ℕ → Around → List ℕ → Type 0
-KeepsTold r count around [] = Unit {0}
-KeepsTold r count around (zero ∷ ns) = KeepsListed r count around ns
-KeepsTold r count around (suc n ∷ ns) = BeginsWith ns around.declared
+-- What is kept of what a user has in mind: of a list behind zero what it tells of aliases, and behind any other number of imports and exports; and
+-- that behind what had been declared stands only what takes a type index.
+abbrev pub KeepsTold : Resolve → ℕ → Around → Told → Type 0
+KeepsTold r count around (Told.numbers []) = Unit {0}
+KeepsTold r count around (Told.numbers (zero ∷ ns)) = KeepsListed r count around ns
+KeepsTold r count around (Told.numbers (suc n ∷ ns)) = BeginsWith ns around.declared
+KeepsTold r count around (Told.declared ds) = GrowsBy ds around.declared
 
 -- a component type with so many instances, and the maps of its scope; around, its instance types and what it imports and exports of instances; of
 -- types of other interfaces stands what has an alias, each by the latest instance of its interface
@@ -163,7 +166,7 @@ world_view r w count component maps = record {
   held = held_beside r component;
   extent = declared_extent component.declared;
   lacks_room = LacksRoomBehind r (declaration_count component.declared);
-  own = λ ns. KeepsTold r count component ns;
+  own = λ told. KeepsTold r count component told;
 }
 
 -- the component type, and what is listed of it

@@ -348,8 +348,9 @@ impl<'a> InstanceEncoderOf<'a, TypeEncodingMaps<'a>> {
     ghost use Rattle.wit_encode.specs.Exports.{AreTypesOf, AllKnown, KnowsUsed, UsesListed};
     ghost use Rattle.wit_model.specs.declared.model.«Type».TheVariants as ValueType;
     ghost use Rattle.wit_encode.specs.Instance.{ShowsFunction, CanEncodeFunction, DeclaresFew, IsInstance, placed_function, meaning_of, own_of, declarations_in, stands_inside};
-    ghost use Rattle.wit_encode.specs.Encoders.{encoder_view, view_of, contents_in, shown_as, scope_within, outside, GoesOn, ReachesMet, ReachesWhole, ReachesTypes, InstancesStay, UsedAround, EncodesAs, EncodesPlaced, EncodesTypesAs, LacksDependency, LacksInstance, LacksWithin, plain, meanings_of, ShowsAs, ShowsMore, HoldsInside, LacksInside, TypesStay, NamesStay, LearnsInside, WritesInside, DefinesNames, IsEncoding, Begins};
+    ghost use Rattle.wit_encode.specs.Encoders.{encoder_view, view_of, contents_in, shown_as, scope_within, outside, GoesOn, ReachesMet, ReachesWhole, ReachesTypes, InstancesStay, UsedAround, EncodesAs, EncodesPlaced, EncodesTypesAs, LacksDependency, LacksInstance, LacksWithin, plain, meanings_of, ShowsAs, ShowsMore, HoldsInside, LacksInside, ExportsFunction, StaysInOrder, BeginsInOrder, TypesStay, NamesStay, LearnsInside, WritesInside, DefinesNames, IsEncoding, Begins};
     ghost use Rattle.encode_types.specs.Room.{export_name};
+    ghost use Rattle.wit_encode.specs.Places.{StandInOrder};
     ghost use Rattle.encode_types.specs.Maps.{MapsGrow};
 
     /// An encoder with an empty component type. Takes constant time and no memory.
@@ -386,6 +387,7 @@ impl<'a> InstanceEncoderOf<'a, TypeEncodingMaps<'a>> {
         ensures outer { self.new.outer ≡ self.old.outer }
         ensures maps { self.new.maps ≡ self.old.maps }
         ensures held { HoldsMore 1 (encoder_view self.old) (encoder_view self.new) }
+        ensures exports { OnOk result (ExportsFunction self.old self.new (raw_name name.entry) index) }
         ensures written { OnOk result (Writes (name_extent (raw_name name.entry)) (encoder_view self.old) (encoder_view self.new)) }
         ensures size { result ≡ Err Size → Refuses (encoder_view self.old) (encoder_view self.new) (export_name (raw_name name.entry)) }
         ensures refuses { IfErr result IsMemoryOrSize }
@@ -418,6 +420,7 @@ impl<'a> InstanceEncoderOf<'a, TypeEncodingMaps<'a>> {
         ensures types_stay { OnOk result (TypesStay resolve.now self.old self.new) }
         ensures names_stay { OnOk result (NamesStay resolve.now self.old self.new) }
         ensures held { OnOk result (HoldsInside resolve.now 1 self.old self.new) }
+        ensures places { OnOk result (StaysInOrder self.old self.new) }
         ensures written { OnOk result (WritesInside resolve.now (function_extent resolve.now (text_of name.now, func.now)) self.old self.new) }
         ensures size { result ≡ Err Size → LacksInside resolve.now self.old self.new (function_types func.now) ((text_of name.now, func.now) ∷ []) }
         ensures refuses { IfErr result IsMemoryOrSize }
@@ -444,6 +447,7 @@ impl<'a> InstanceEncoderOf<'a, TypeEncodingMaps<'a>> {
         ensures types_stay { OnOk result (TypesStay resolve.now self.old self.new) }
         ensures names_stay { OnOk result (NamesStay resolve.now self.old self.new) }
         ensures held { OnOk result (HoldsInside resolve.now (length functions.now) self.old self.new) }
+        ensures places { OnOk result (StaysInOrder self.old self.new) }
         ensures written { OnOk result (WritesInside resolve.now (sum_by (function_extent resolve.now) (map placed_function functions.now)) self.old self.new) }
         ensures size { result ≡ Err Size
             → LacksInside resolve.now self.old self.new (flat_map function_types (plain functions.now)) (map placed_function functions.now) }
@@ -505,6 +509,7 @@ impl<'a> InstanceEncoderOf<'a, TypeEncodingMaps<'a>> {
         ensures exported { OnOk result ((view_of resolve.now self.new).definitions.exports ≡ declarations_in resolve.now (own_of self.old.inner)) }
         ensures defined { OnOk result (DefinesNames resolve.now (view_of resolve.now self.old) self.old self.new types.now) }
         ensures held { OnOk result (HoldsInside resolve.now (length functions.now) self.old self.new) }
+        ensures places { OnOk result (BeginsInOrder self.old self.new) }
         ensures written { OnOk result (WritesInside resolve.now (sum_by (function_extent resolve.now) (map placed_function functions.now)) self.old self.new) }
         ensures size { result ≡ Err Size
             → LacksInside resolve.now self.old self.new (referred types.now (plain functions.now)) (map placed_function functions.now) }
@@ -537,6 +542,7 @@ impl<'a> InstanceEncoderOf<'a, TypeEncodingMaps<'a>> {
         ensures value_types { IfOk result (λ ds. DefinesTypes self.old.resolve.now (Some interface)
             (stands_inside self.old.resolve.now interface self.new.outer ds) types.now (plain functions.now) (from_list ds)) }
         ensures few { IfOk result (DeclaresFew self.old.resolve.now (Some interface) types.now (plain functions.now)) }
+        ensures places { IfOk result StandInOrder }
         ensures written { IfOk result (TakesInside self.old self.new interface types.now functions.now) }
         ensures size { result ≡ Err Size → LacksWithin self.old interface types.now functions.now }
         ensures refuses { IfErr result IsMemoryOrSize }

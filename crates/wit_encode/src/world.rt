@@ -25,6 +25,7 @@ ghost use Rattle.wit_encode.specs.Packages.{DefinesWorldOnce, HasNoClashAt, Refu
 ghost use Rattle.wit_encode.specs.WorldItems.{entry_of, towards, AwaitsAll, AwaitsNext, DefinesDependency, DefinesInstance, Encodes, EncodesAll, HasShown, ListsInstance};
 ghost use Rattle.wit_encode.specs.Worlds.{world_around, world_view_of};
 ghost use Rattle.wit_encode.specs.Instance.{AliasesFor, AliasesForTypes, declared_extent};
+ghost use Rattle.wit_encode.specs.Places.{StaysBeside};
 ghost use Rattle.wit_encode.specs.WrittenBytes.{AddsBytes, AddsLearnt, items_extent, types_extent, whole_extent};
 ghost use Rattle.wit_encode.specs.WrittenNames.{NamesMore};
 
@@ -219,6 +220,7 @@ impl<'a> WorldEncoderOf<'a, TypeEncodingMaps<'a>> {
             self.new.maps self.old.outer self.new.outer) }
         ensures size { result ≡ Err Size → LacksWorldRoom resolve.now self.old placed.entry }
         ensures names { OnOk result (NamesMore resolve.now placed.entry.canonical_names (entry_of placed.entry ∷ []) self.old.outer self.new.outer) }
+        ensures places { OnOk result (StaysBeside self.old.outer self.new.outer) }
         ensures refuses { IfErr result IsMemoryOrSize }
     {
         let name = item_name(
@@ -251,6 +253,7 @@ impl<'a> WorldEncoderOf<'a, TypeEncodingMaps<'a>> {
             self.new.maps self.old.outer self.new.outer) }
         ensures size { result ≡ Err Size → LacksWorldRoom resolve.now self.old placed.entry }
         ensures names { OnOk result (NamesMore resolve.now placed.entry.canonical_names (entry_of placed.entry ∷ []) self.old.outer self.new.outer) }
+        ensures places { OnOk result (StaysBeside self.old.outer self.new.outer) }
         ensures refuses { IfErr result IsMemoryOrSize }
     {
         encode_valtype(alloc, self, resolve, &Type::Id(id))?;
@@ -340,6 +343,7 @@ impl<'a> WorldEncoderOf<'a, TypeEncodingMaps<'a>> {
             self.new.maps self.old.outer self.new.outer) }
         ensures size { result ≡ Err Size → LacksWorldRoom resolve.now self.old placed.entry }
         ensures names { OnOk result (NamesMore resolve.now placed.entry.canonical_names (entry_of placed.entry ∷ []) self.old.outer self.new.outer) }
+        ensures places { OnOk result (StaysBeside self.old.outer self.new.outer) }
         ensures refuses { IfErr result IsMemoryOrSize }
     {
         let name = item_name(
@@ -371,6 +375,7 @@ impl<'a> WorldEncoderOf<'a, TypeEncodingMaps<'a>> {
             self.new.maps self.old.outer self.new.outer) }
         ensures size { result ≡ Err Size → LacksWorldRoom resolve.now self.old placed.entry }
         ensures names { OnOk result (NamesMore resolve.now placed.entry.canonical_names (entry_of placed.entry ∷ []) self.old.outer self.new.outer) }
+        ensures places { OnOk result (StaysBeside self.old.outer self.new.outer) }
         ensures refuses { IfErr result IsMemoryOrSize }
     {
         match placed.item {
@@ -398,6 +403,7 @@ impl<'a> WorldEncoderOf<'a, TypeEncodingMaps<'a>> {
             self.old.outer self.new.outer) }
         ensures size { result ≡ Err Size → LacksRoomTowards resolve.now self.old (towards direction) }
         ensures names { OnOk result (NamesMore resolve.now canonical_names items.now.entries self.old.outer self.new.outer) }
+        ensures places { OnOk result (StaysBeside self.old.outer self.new.outer) }
         ensures refuses { IfErr result IsMemoryOrSize }
     {
         for (key, item) in items {

@@ -1,6 +1,7 @@
-use Rattle.std.proofs.Common.{◌≡◌, refl, ◌∙◌, sym, subst, ap, rules, arith, length}
+use Rattle.std.proofs.Common.{◌≡◌, refl, ◌∙◌, ◌++◌, ◌∷◌, ℕ, List, sym, subst, ap, [], rules, arith, length}
 use Rattle.wit_model.specs.Parts.{function_types}
 use Rattle.encode_types.specs.Scope.{Scope}
+use Rattle.encode_types.specs.Counts.{Definitions}
 use Rattle.encode_types.specs.Room.{function_type}
 use Rattle.encode_types.proofs.Rooms.{room-more, room-after, only-reached, lacks-request, holds-key}
 use Rattle.wit_model.specs.Meaning.{Signature}
@@ -152,3 +153,12 @@ returns-in_err-remember_key-clause-imports g c = imports-same (c.remember_key.en
 
 pub returns-in_err-index-clause-imports : goal.returns-in_err-index-clause-imports
 returns-in_err-index-clause-imports g c = imports-same c.define_function_type.ensures.imports_stay c.function_of.ensures.imports
+
+pub returns-clause-last : goal.returns-clause-last
+returns-clause-last g c =
+    let new = c.in_ok-index.ensures.ok in
+    record {
+      one_more = ap (λ (d : Definitions). d.functions) (c.remember_key.ensures.counts ∙ c.in_ok-index.ensures.counts)
+          ∙ ap (λ (is : List ℕ). is ++ c.in_ok-index.index ∷ []) c.in_ok-def.ensures.counts.functions;
+      last = c.remember_key.ensures.slots ∙ new.one_more ∙ ap (λ (n : ℕ). n + 1) (sym new.index);
+    }

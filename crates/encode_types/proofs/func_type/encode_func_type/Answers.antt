@@ -1,6 +1,7 @@
-use Rattle.std.proofs.Common.{◌≡◌, ◌+◌, refl, sym, subst, ap, [], length, arith}
+use Rattle.std.proofs.Common.{◌≡◌, ◌∙◌, ◌+◌, ◌++◌, ◌∷◌, inl, inr, refl, sym, subst, ap, [], length, arith}
 use Rattle.wit_model.specs.Meant.{signature_of}
 use Rattle.wit_model.specs.Parts.{function_types}
+use Rattle.encode_types.specs.Counts.{Definitions}
 use Rattle.encode_types.specs.Extents.{signature_extent}
 use Rattle.encode_types.specs.Fits.{CanEncode}
 use Rattle.encode_types.specs.Formed.{IsFormedSignature}
@@ -168,3 +169,13 @@ returns-clause-imports g c = imports-then (ap (λ (s : Scope). s.own_interface) 
 
 pub returns-in_err-list-clause-imports : goal.returns-in_err-list-clause-imports
 returns-in_err-list-clause-imports g c = imports-none c.list_of_key.ensures.imports_stay
+
+-- ---- the last slot
+
+pub returns-in-Some-clause-last : goal.returns-in-Some-clause-last
+returns-in-Some-clause-last g c = rw c.index_of_key.ensures.same (inl (ap (λ (d : Definitions). d.functions) c.list_of_key.ensures.counts))
+
+pub returns-clause-last : goal.returns-clause-last
+returns-clause-last g c = ok-map c.define_key.result _ _
+    (λ i h. inr (record { one_more = h.one_more ∙ ap (λ (d : Definitions). d.functions ++ i ∷ []) c.list_of_key.ensures.counts; last = h.last }))
+    (rw c.index_of_key.ensures.same at c.define_key.ensures.last)

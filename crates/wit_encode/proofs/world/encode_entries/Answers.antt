@@ -1,9 +1,10 @@
-use Rattle.std.proofs.Common.{◌≡◌, ◌∙◌, ◌++◌, append-nil, refl, subst, sym, Some, [], rules}
+use Rattle.std.proofs.Common.{◌≡◌, ◌∙◌, ◌++◌, true, append-nil, refl, subst, sym, Some, [], rules}
 use Rattle.std.proofs.lemmas.Option.{slice_get_read, same_Some as some-same}
 use Rattle.wit_model.specs.Lookup.{world_at}
 use Rattle.wit_model.specs.declared.model.World.{World}
 use Rattle.comp_bytes.specs.Raw.{Declarations}
 use Rattle.comp_meaning.specs.Follow.{export_}
+use Rattle.wit_encode.specs.Places.{are_beside}
 use Rattle.wit_encode.specs.WorldCounts.{HasDefined}
 use Rattle.wit_encode.specs.WorldHolds.{HoldsFew}
 use Rattle.wit_encode.specs.WorldItems.{ended}
@@ -56,6 +57,7 @@ returns-clause-once c = λ w is.
     let imported = subst (λ (z : World). HasDefined r c.encode_items.new.self z.imports.entries) same (c.in_ok-encode_items.ensures.once [] c.new-encoder.ensures.defines) in
     let exported = subst (λ (z : World). HasDefined r c.encode_items-2.new.self (w.imports.entries ++ z.exports.entries)) same (c.in_ok-encode_items-2.ensures.once w.imports.entries imported) in
     defines-once r c.requires.valid w c.encode_items-2.new.self (ended export_ w) (c.in_ok-encode_items-2.ensures.ok w (c.in_ok-encode_items.ensures.ok w (c.new-encoder.ensures.starts w is))) exported
+    (c.in_ok-encode_items-2.ensures.places (c.in_ok-encode_items.ensures.places (subst (λ (z : Declarations). are_beside 0 z ≡ true) (sym c.new-encoder.ensures.empty) refl)))
 
 pub returns-in_err-encode_items-clause-size : goal.returns-in_err-encode_items-clause-size
 returns-in_err-encode_items-clause-size c = λ h.

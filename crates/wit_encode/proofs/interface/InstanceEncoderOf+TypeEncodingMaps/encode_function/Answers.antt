@@ -1,4 +1,6 @@
-use Rattle.std.proofs.Common.{◌≡◌, refl, sym, subst, ap, ◌∙◌, OnOk}
+use Rattle.std.proofs.Common.{◌≡◌, refl, sym, subst, ap, ◌∙◌, OnOk, inl, inr}
+use Rattle.base_lemmas.proofs.Options.{on-both}
+use Rattle.wit_encode.proofs.PlacedFunctions.{function-in-order, open-still}
 use Rattle.wit_model.specs.declared.model.Resolve.{Resolve}
 use Rattle.encode_types.specs.Scope.{Scope}
 use Rattle.wit_encode.specs.Instance.{encoder_scope, exports_in}
@@ -155,3 +157,19 @@ returns-clause-written c =
 
 pub returns-clause-aliases : goal.returns-clause-aliases
 returns-clause-aliases c = makes-same c.export_function.ensures.around c.encode_func_type.ensures.aliases
+
+pub returns-clause-places : goal.returns-clause-places
+returns-clause-places c =
+    let r = c.args.resolve.now in
+    let stay = c.encode_func_type.ensures.leaves.scope_stays in
+    let sound = c.requires.encodable.formed.sound in
+    let between = open-still c.args.self.now.inner c.encode_func_type.new.enc.inner (ap (λ (s : Scope). s.own_interface) stay) c.requires.open.inside in
+    let after = open-still c.encode_func_type.new.enc.inner c.export_function.new.self.inner c.export_function.ensures.own between in
+    let continues = (showed (goal.at.returns-clause-places c).After-export_function).continues in
+    on-both c.export_function.result _ _ _
+    (λ shown same. function-in-order r c.args.self.now.resolve.now c.encode_func_type.new.enc.resolve.now c.args.self.now.outer c.encode_func_type.new.enc.outer c.export_function.new.self.outer
+    c.args.self.now.inner c.encode_func_type.new.enc.inner c.export_function.new.self.inner c.requires.open.inside between after sound
+    (ap (λ (s : Scope). s.is_sound) stay ∙ ap (λ (q : Resolve). (encoder_scope q c.args.self.now.outer c.args.self.now.inner).is_sound) c.requires.open.packages_ ∙ sound)
+    (ap (λ (s : Scope). s.is_sound) continues.scope_stays ∙ sound) c.in_ok-index.index (raw_name c.name_of.result) c.encode_func_type.ensures.leaves.grows.own_
+    (elim c.in_ok-index.ensures.last [ inl e ↦ inl e | inr n ↦ inr (n.one_more, n.last) ]) shown same)
+    c.export_function.ensures.exports (stays (goal.at.returns-clause-places c).After-export_function)

@@ -63,6 +63,7 @@ loop-entry-preserved c = record {
       writes-most (omega (arith, next)) (writes-along c.loop-entry.invariant.own c.loop-entry.invariant.written c.in_ok-encode_function.ensures.written);
   grow = search rules;
   types_stay = search rules;
+  places = λ s. c.in_ok-encode_function.ensures.places (c.loop-entry.invariant.places s);
 }
 
 pub encode_function-requires-clause-used : goal.encode_function-requires-clause-used
@@ -129,7 +130,11 @@ loop-entry-init c = record {
   written = writes-nothing c.args.resolve.now _ (encoder_view c.args.self.now);
   grow = search rules;
   types_stay = search rules;
+  places = λ s. s;
 }
+
+pub returns-clause-places : goal.returns-clause-places
+returns-clause-places c = c.loop-entry.invariant.places
 
 pub returns-clause-written : goal.returns-clause-written
 returns-clause-written c =

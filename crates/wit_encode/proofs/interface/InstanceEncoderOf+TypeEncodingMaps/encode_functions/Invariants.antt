@@ -1,6 +1,7 @@
 use Rattle.std.proofs.Common.{◌≡◌, ◌≤◌, ◌++◌, map, take, length}
 use Rattle.encode_types.specs.View.{HoldsLearnt, WritesLearnt}
-use Rattle.wit_encode.specs.Encoders.{encoder_view}
+use Rattle.wit_encode.specs.Encoders.{declared_inside, encoder_view}
+use Rattle.wit_encode.specs.Places.{StandInOrder}
 use Rattle.std.specs.List.{flat_map}
 use Rattle.std.specs.Prelude.{sum_by}
 use Rattle.encode_types.specs.Extents.{function_extent}
@@ -32,4 +33,5 @@ invariant-loop-entry l = record {
   written : WritesLearnt l.resolve (sum_by (function_extent l.resolve) (map placed_function (take l.entry-index l.functions))) (encoder_view l.fn.self) (encoder_view l.self);
   grow : MapsGrow l.fn.self.maps l.self.maps;
   types_stay : exports_in l.resolve l.self.outer l.self.inner ≡ exports_in l.resolve l.fn.self.outer l.fn.self.inner;
+  places : StandInOrder (declared_inside l.fn.self.inner) → StandInOrder (declared_inside l.self.inner);
 }

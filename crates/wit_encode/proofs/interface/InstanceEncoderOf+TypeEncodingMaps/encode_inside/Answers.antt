@@ -7,6 +7,8 @@ use Rattle.encode_types.specs.Fits.{CanEncode}
 use Rattle.encode_types.specs.Maps.{MapsAgree}
 use Rattle.encode_types.specs.Distinct.{AddsFunctions}
 use Rattle.wit_encode.specs.Instance.{Contents, SlotsStand, stands_inside, encoder_scope, contents_of, definitions_with, CanEncodeFunction, Continues, placed_function, meaning_of, exports_in, opened, own_of, around_of, around_at}
+use Rattle.wit_encode.specs.Encoders.{declared_inside}
+use Rattle.wit_encode.specs.Places.{StandInOrder}
 use Rattle.wit_encode.proofs.Referring.{interface-kinds}
 use Rattle.wit_encode.proofs.Opening.{closed, closed-instance, listed-there, opened-exports, opened-with}
 use Rattle.encode_types.specs.Aliases.{AliasesMet}
@@ -144,3 +146,6 @@ returns-clause-written c =
     (began (goal.at.returns-clause-written c).In-Some).numbers c.new-2.ensures
     (sym c.replace-inner.ensures.value ∙ c.in-Some.is) c.encode_parts-outcome.ensures.continues.continues.agree.once c.in_ok-outcome-in-Some.ensures.learns.only
     c.in_ok-outcome-in-Some.ensures.written.extent
+
+pub returns-clause-places : goal.returns-clause-places
+returns-clause-places c = subst (λ (o : Option OpenInterface). StandInOrder (declared_inside o)) (sym c.replace-inner.ensures.value ∙ c.in-Some.is) (c.in_ok-outcome-in-Some.ensures.places c.new-2.ensures)

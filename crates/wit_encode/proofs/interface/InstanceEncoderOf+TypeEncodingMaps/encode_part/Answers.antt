@@ -21,7 +21,7 @@ returns-clause-ok c =
     (λ def is. closes c.close.result c.args.self.now.resolve.now (outside c.args.self.now) c.encode_inside.new.self.outer c.close.new.self.outer c.encode_inside.new.self.foreign
     c.close.new.self.foreign c.args.interface def c.args.types.now c.in_ok-declared.declared c.args.functions.now
     (c.requires.listed.listed ∙ ap (λ (d : Interface). values d.types) (some-same c.requires.listed.def def (sym there ∙ is))) c.encode_inside.ensures.reaches (λ i. (c.close.ensures.rest i).foreign)
-    c.in_ok-declared.ensures.function_types c.in_ok-declared.ensures.value_types c.in_ok-declared.ensures.few c.in_ok-declared.ensures.ok c.close.ensures.ok)
+    c.in_ok-declared.ensures.function_types c.in_ok-declared.ensures.value_types c.in_ok-declared.ensures.few c.in_ok-declared.ensures.places c.in_ok-declared.ensures.ok c.close.ensures.ok)
 
 pub returns-clause-stands : goal.returns-clause-stands
 returns-clause-stands c = closed-keeps c.close.result c.args.self.now.resolve.now c.close.new.self.resolve.now (outside c.args.self.now) c.encode_inside.new.self.outer c.close.new.self.outer

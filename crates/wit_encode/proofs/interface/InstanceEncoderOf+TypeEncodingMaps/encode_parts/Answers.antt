@@ -9,6 +9,7 @@ use Rattle.encode_types.specs.Scope.{Scope}
 use Rattle.wit_encode.specs.Instance.{CanEncodeFunction, Continues, own_of, declarations_in, placed_function}
 use Rattle.std.proofs.Common.{ap}
 use Rattle.encode_types.proofs.Agree.{on_ok, known-grow}
+use Rattle.wit_encode.proofs.PlacedFunctions.{open-still, types-in-order}
 use Rattle.wit_encode.proofs.Referring.{from-then}
 use Rattle.wit_encode.proofs.Continuing.{same-scope, after-types, continues-trans}
 use Rattle.wit_encode.proofs.Counting.{parts-counted, parts-named}
@@ -113,3 +114,11 @@ returns-clause-aliases c =
     let others = flat_map function_types (map (λ f. f.2.now) c.args.functions.now) in
     makes-then (ap (λ (s : Scope). s.own_interface) c.encode_types.ensures.leaves.scope_stays) (met-more (reached-left types others) c.encode_types.ensures.aliases)
     (met-more (reached-right types others) c.encode_functions.ensures.aliases)
+
+pub returns-clause-places : goal.returns-clause-places
+returns-clause-places c = on_ok c.encode_functions.result _ _
+    (λ p none. p (types-in-order c.args.self.now.resolve.now c.encode_types.new.self.resolve.now c.args.self.now.outer c.encode_types.new.self.outer c.args.self.now.inner c.encode_types.new.self.inner
+    c.requires.inside
+    (open-still c.args.self.now.inner c.encode_types.new.self.inner (ap (λ (s : Scope). s.own_interface) c.encode_types.ensures.leaves.scope_stays) c.requires.inside) none
+    c.encode_types.ensures.leaves.grows.own_ c.in_ok-encode_types.ensures.counts.functions))
+    c.encode_functions.ensures.places

@@ -1,4 +1,5 @@
-use Rattle.std.proofs.Common.{inl, sym, ap, ◌∙◌}
+use Rattle.std.proofs.Common.{inl, refl, sym, ap, ◌∙◌}
+use Rattle.wit_encode.proofs.PlacedFunctions.{inside-called}
 use Rattle.wit_encode.specs.Instance.{around_of}
 use Rattle.encode_types.proofs.Around.{slots-grow}
 use Rattle.wit_encode.proofs.Within.{defined-within, defined-without, slot-defined}
@@ -14,7 +15,9 @@ returns-in-Some-clause-ok c = (defined-within c.define_inside.result c.args.self
 
 pub returns-in-Some-clause-grows : goal.returns-in-Some-clause-grows
 returns-in-Some-clause-grows c = slots-grow (defined-within c.define_inside.result c.args.self.now.resolve.now c.args.self.now.outer c.args.self.now.inner c.in-Some.current c.define_inside.new.inner
-    c.in-Some.is c.args.def c.requires c.define_inside.ensures.ok c.define_inside.ensures.err).grows (ap (around_of c.args.self.now.outer) (sym c.in-Some.is)) (λ ns h. h)
+    c.in-Some.is c.args.def c.requires c.define_inside.ensures.ok c.define_inside.ensures.err).grows (ap (around_of c.args.self.now.outer) (sym c.in-Some.is))
+    (inside-called c.define_inside.result c.args.self.now.inner c.in-Some.current (record c.in-Some.current { declared = c.define_inside.new.inner }) _ c.in-Some.is refl
+    c.define_inside.ensures.ok c.define_inside.ensures.err)
 
 pub returns-in-Some-clause-scope_stays : goal.returns-in-Some-clause-scope_stays
 returns-in-Some-clause-scope_stays c = (defined-within c.define_inside.result c.args.self.now.resolve.now c.args.self.now.outer c.args.self.now.inner c.in-Some.current c.define_inside.new.inner

@@ -1,4 +1,5 @@
-use Rattle.std.proofs.Common.{inl, sym, ap}
+use Rattle.std.proofs.Common.{refl, inl, sym, ap}
+use Rattle.wit_encode.proofs.PlacedFunctions.{inside-called}
 use Rattle.wit_encode.specs.Instance.{around_of}
 use Rattle.encode_types.proofs.Around.{slots-grow}
 use Rattle.wit_encode.proofs.Within.{resource-within}
@@ -15,7 +16,9 @@ returns-clause-ok c = (resource-within c.export_inside.result c.args.self.now.re
 
 pub returns-clause-grows : goal.returns-clause-grows
 returns-clause-grows c = slots-grow (resource-within c.export_inside.result c.args.self.now.resolve.now c.args.self.now.outer c.args.self.now.inner c.in-Some.current c.export_inside.new.inner
-    c.in-Some.is _ c.requires c.export_inside.ensures.ok c.export_inside.ensures.err).grows (ap (around_of c.args.self.now.outer) (sym c.in-Some.is)) (λ ns h. h)
+    c.in-Some.is _ c.requires c.export_inside.ensures.ok c.export_inside.ensures.err).grows (ap (around_of c.args.self.now.outer) (sym c.in-Some.is))
+    (inside-called c.export_inside.result c.args.self.now.inner c.in-Some.current (record c.in-Some.current { declared = c.export_inside.new.inner }) _ c.in-Some.is refl
+    c.export_inside.ensures.ok c.export_inside.ensures.err)
 
 pub returns-clause-scope_stays : goal.returns-clause-scope_stays
 returns-clause-scope_stays c = (resource-within c.export_inside.result c.args.self.now.resolve.now c.args.self.now.outer c.args.self.now.inner c.in-Some.current c.export_inside.new.inner c.in-Some.is

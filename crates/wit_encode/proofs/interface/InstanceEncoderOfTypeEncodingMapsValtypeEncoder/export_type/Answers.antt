@@ -1,4 +1,5 @@
-use Rattle.std.proofs.Common.{◌≡◌, inl, sym, ap, ◌∙◌, ℕ, Result, Ok, Err, Some, rules}
+use Rattle.std.proofs.Common.{refl, ◌≡◌, inl, sym, ap, ◌∙◌, ℕ, Result, Ok, Err, Some, rules}
+use Rattle.wit_encode.proofs.PlacedFunctions.{inside-called}
 use Rattle.wit_model.specs.declared.error.Error.{Error}
 use Rattle.comp_bytes.specs.RawOf.{raw_name}
 use Rattle.wit_encode.specs.Instance.{encoder_scope}
@@ -22,7 +23,8 @@ pub returns-clause-grows : goal.returns-clause-grows
 returns-clause-grows c =
     let res : Result ℕ Error = Ok c.in_ok-slot-in-Some.slot in
     slots-grow (type-within res c.args.self.now.resolve.now c.args.self.now.outer c.args.self.now.inner c.in-Some.current c.export_inside.new.inner c.in-Some.is c.args.index (raw_name c.args.name)
-    c.requires c.in_ok-slot-in-Some.ensures.ok tt).grows (ap (around_of c.args.self.now.outer) (sym c.in-Some.is)) (λ ns h. h)
+    c.requires c.in_ok-slot-in-Some.ensures.ok tt).grows (ap (around_of c.args.self.now.outer) (sym c.in-Some.is))
+    (inside-called res c.args.self.now.inner c.in-Some.current (record c.in-Some.current { declared = c.export_inside.new.inner }) _ c.in-Some.is refl c.in_ok-slot-in-Some.ensures.ok tt)
 
 pub returns-clause-scope_stays : goal.returns-clause-scope_stays
 returns-clause-scope_stays c =

@@ -1,4 +1,5 @@
-use Rattle.std.proofs.Common.{◌≡◌, ◌∙◌, ap, sym, subst, refl, ℕ, zero, ◌∷◌, Result, Err, rules}
+use Rattle.std.proofs.Common.{◌≡◌, ◌∙◌, inl, inr, true, ap, sym, subst, refl, ℕ, zero, ◌∷◌, Result, Err, rules}
+use Rattle.encode_types.specs.View.{Told}
 use Rattle.wit_model.specs.declared.error.Error.{Error}
 use Rattle.wit_model.specs.declared.error.Error.TheVariants as errors
 use Rattle.encode_types.specs.Scope.{Scope}
@@ -9,7 +10,13 @@ use Rattle.encode_names.specs.WorldSteps.{declared_towards, with_entry}
 use Rattle.wit_encode.specs.Encoders.{declared_after}
 use Rattle.wit_encode.specs.Worlds.{world_encoder_view}
 use Rattle.wit_encode.specs.WorldItems.{HasShown, IsNext, entry_of, towards}
-use Rattle.wit_encode.proofs.WorldCounting.{function-defined}
+use Rattle.wit_model.specs.declared.model.Resolve.{Resolve}
+use Rattle.comp_bytes.specs.Raw.{Declarations}
+use Rattle.wit_encode.specs.Places.{are_beside}
+use Rattle.wit_encode.specs.Worlds.{is_sound_outside, world_around}
+use Rattle.wit_encode.proofs.Places.{function-beside, grows-none, towards-of}
+use Rattle.wit_encode.proofs.WorldCalls.{outer-slots-counted}
+use Rattle.wit_encode.proofs.WorldCounting.{function-defined, towards-function}
 use Rattle.wit_encode.proofs.WorldHolding.{function-few, function-lacks, function-name-lacks, one-key}
 use Rattle.wit_encode.proofs.WrittenNames.{function-names}
 use Rattle.wit_encode.proofs.WorldFunctions.{can-encode, function-encoded}
@@ -51,7 +58,7 @@ returns-clause-once c = on-each c.declare.result (λ made es h. function-defined
       packages_ = c.requires.next.shown.packages_;
       packages_stay = ap (λ (s : Scope). s.packages) c.encode_func_type.ensures.leaves.scope_stays;
       keeps =
-          λ ns. c.encode_func_type.ensures.leaves.grows.own_ (zero ∷ ns);
+          λ ns. c.encode_func_type.ensures.leaves.grows.own_ (Told.numbers (zero ∷ ns));
       imports = c.encode_func_type.ensures.imports;
     })) c.declare.ensures.ok
 
@@ -92,3 +99,14 @@ returns-clause-written c =
     record { few = c.in_ok-index.ensures.written.extent } in
     on-each c.declare.result (λ made. learnt-most (omega (arith, whole, named))
     (learnt-more _ c.encode_func_type.new.enc.outer c.declare.new.outer _ types made (declared-few (towards c.args.placed.direction) _ (refs.Func c.in_ok-index.index)))) c.declare.ensures.ok
+
+pub returns-clause-places : goal.returns-clause-places
+returns-clause-places c = on-each c.declare.result (λ made h.
+    let direction = towards c.args.placed.direction in
+    let enc = c.encode_func_type.new.enc in
+    let sound = ap (λ (s : Scope). s.is_sound) c.encode_func_type.ensures.leaves.scope_stays
+    ∙ ap (λ (q : Resolve). is_sound_outside q c.args.self.now.world (world_around c.args.self.now)) c.requires.next.shown.packages_ ∙ c.requires.next.shown.sound in
+    subst (λ (z : Declarations). are_beside 0 z ≡ true) (sym made)
+    (function-beside c.args.self.now.outer enc.outer c.in_ok-index.index _ (c.encode_func_type.ensures.leaves.grows.own_ (Told.declared c.args.self.now.outer) (grows-none c.args.self.now.outer))
+    (elim c.in_ok-index.ensures.last [ inl e ↦ inl e | inr n ↦ inr (n.one_more, outer-slots-counted enc.resolve.now enc.world (world_around enc) sound ∙ n.last) ])
+    (towards-of direction _ c.in_ok-index.index) (towards-function direction _ (refs.Func c.in_ok-index.index)) h)) c.declare.ensures.ok

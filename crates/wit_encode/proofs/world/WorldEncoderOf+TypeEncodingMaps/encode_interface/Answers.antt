@@ -1,9 +1,13 @@
-use Rattle.std.proofs.Common.{◌≡◌, ◌∙◌, ◌<◌, ◌⊎◌, ℕ, ap, sym, subst, length, [], ◌∷◌, Result, Err, rules}
+use Rattle.std.proofs.Common.{◌≡◌, ◌∙◌, ◌<◌, ◌⊎◌, ℕ, true, ap, sym, subst, length, [], ◌∷◌, Result, Err, rules}
 use Rattle.std.proofs.lemmas.Option.{slice_get_within}
 use Rattle.wit_model.specs.declared.error.Error.{Error}
 use Rattle.wit_model.specs.declared.error.Error.TheVariants as errors
 use Rattle.wit_model.specs.declared.model.Resolve.{Resolve}
 use Rattle.comp_bytes.specs.declared.forms.ComponentTypeRef.TheVariants as refs
+use Rattle.comp_bytes.specs.Raw.{Declarations}
+use Rattle.wit_encode.specs.Places.{are_beside}
+use Rattle.wit_encode.proofs.Places.{part-beside, towards-instance}
+use Rattle.wit_encode.proofs.WorldCounting.{towards-function}
 use Rattle.encode_names.specs.WorldSteps.{declared_towards}
 use Rattle.encode_types.specs.Known.{UsedStand, standing_instances}
 use Rattle.wit_encode.specs.Encoders.{InterfaceLacksRoom, declared_after}
@@ -130,3 +134,13 @@ returns-clause-written c = on-each c.list_instance.result (λ lists.
     (subst (λ (z : WorldEncoder). AddsLearnt r (items_extent r c.args.placed.canonical_names (entry_of c.args.placed ∷ [])) c.args.self.now.maps z.maps c.args.self.now.outer c.declare.new.outer)
     (sym c.define_instance.ensures.rest) here))
     c.list_instance.ensures.ok
+
+pub returns-clause-places : goal.returns-clause-places
+returns-clause-places c = on-each c.list_instance.result (λ lists h.
+    let next = c.requires.next in
+    let direction = towards c.args.placed.direction in
+    let there = interface-there c.args.resolve.now c.requires.valid next.world c.args.self.now next.done next.shown direction (entry_of c.args.placed) next.next c.args.interface c.requires.item in
+    let encodes = c.in_ok-slot.ensures.ok there.0 (ap (λ (q : Resolve). interface_at q c.args.interface.0) next.shown.packages_ ∙ there.1) in
+    subst (λ (z : Declarations). are_beside 0 z ≡ true) (sym (ap (λ (z : WorldEncoder). z.outer) lists.rest ∙ c.in_ok-declare.ensures.ok))
+    (part-beside c.args.self.now.resolve.now (world_around c.args.self.now) (world_around c.define_instance.new.self) c.args.interface there.0 _ _ c.in_ok-slot.slot encodes.part _
+    (towards-instance direction _ c.in_ok-slot.slot) (towards-function direction _ (refs.Instance c.in_ok-slot.slot)) h)) c.list_instance.ensures.ok

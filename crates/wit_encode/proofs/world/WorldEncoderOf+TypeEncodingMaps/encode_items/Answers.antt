@@ -6,7 +6,7 @@ use Rattle.wit_encode.proofs.WorldLists.{defines-whole, goes-first, goes-lacks, 
 use Rattle.wit_encode.proofs.world.WorldEncoderOf+TypeEncodingMaps.encode_items.Goals as goal
 
 pub loop-key-init : goal.loop-key-init
-loop-key-init c = record { going = goes-first c.args.resolve.now c.args.canonical_names c.args.self.now (towards c.args.direction) c.args.items.now.entries _ (search rules) }
+loop-key-init c = record { going = goes-first c.args.resolve.now c.args.canonical_names c.args.self.now (towards c.args.direction) c.args.items.now.entries _ (search rules); places = λ h. h }
 
 pub encode_item-requires-clause-next : goal.encode_item-requires-clause-next
 encode_item-requires-clause-next c =
@@ -23,6 +23,7 @@ loop-key-preserved c =
           c.next.new.self (c.in-Some.key.now, c.in-Some.item.now)
           c.requires.begins c.loop-key.invariant.going is c.in_ok-encode_item.ensures.ok c.in_ok-encode_item.ensures.names c.in_ok-encode_item.ensures.once c.in_ok-encode_item.ensures.few
           c.in_ok-encode_item.ensures.written;
+      places = λ h. c.in_ok-encode_item.ensures.places (c.loop-key.invariant.places h);
     }
 
 pub returns-clause-ok : goal.returns-clause-ok
@@ -57,3 +58,6 @@ pub returns-clause-written : goal.returns-clause-written
 returns-clause-written c = written-whole c.args.resolve.now c.args.canonical_names c.args.self.now c.loop-key.self (towards c.args.direction) c.args.items.now.entries c.loop-key.key-iterator
     c.loop-key.invariant.going
     (rest_all deref_pair c.loop-key.key-iterator c.next.new.self c.next.result c.in-None.is c.next.ensures.steps)
+
+pub returns-clause-places : goal.returns-clause-places
+returns-clause-places c = c.loop-key.invariant.places

@@ -1,4 +1,5 @@
 use Rattle.std.proofs.Common.{◌≡◌, ◌∙◌, ap, refl, zero, ◌∷◌, Result, Err, rules}
+use Rattle.encode_types.specs.View.{Told}
 use Rattle.wit_model.specs.declared.error.Error.{Error}
 use Rattle.wit_model.specs.declared.error.Error.TheVariants as errors
 use Rattle.comp_bytes.specs.declared.forms.ComponentValType.{ComponentValType}
@@ -12,6 +13,7 @@ use Rattle.wit_encode.proofs.WorldTypes.{type-encodable, type-encoded}
 use Rattle.wit_encode.proofs.world.WorldEncoderOf+TypeEncodingMaps.encode_type.Goals as goal
 use Rattle.wit_encode.specs.WrittenBytes.{AddsLearnt}
 use Rattle.wit_encode.proofs.BytesWritten.{learnt-most}
+use Rattle.wit_encode.proofs.Places.{grows-none, types-beside}
 use Rattle.std.proofs.Common.{arith}
 
 pub encode_valtype-requires : goal.encode_valtype-requires
@@ -34,7 +36,7 @@ returns-clause-once c = λ es h. type-defined c.args.resolve.now c.args.self.now
       packages_ = c.requires.next.shown.packages_;
       packages_stay = ap (λ (s : Scope). s.packages) c.encode_valtype.ensures.leaves.scope_stays;
       keeps =
-          λ ns. c.encode_valtype.ensures.leaves.grows.own_ (zero ∷ ns);
+          λ ns. c.encode_valtype.ensures.leaves.grows.own_ (Told.numbers (zero ∷ ns));
       imports = c.encode_valtype.ensures.imports;
     })
 
@@ -61,3 +63,7 @@ returns-clause-written c =
     let types : AddsLearnt c.args.resolve.now 0 c.args.self.now.maps c.encode_valtype.new.enc.maps c.args.self.now.outer c.encode_valtype.new.enc.outer =
     record { few = c.in_ok-encode_valtype.ensures.written.extent } in
     learnt-most (omega arith) types
+
+pub returns-clause-places : goal.returns-clause-places
+returns-clause-places c = types-beside c.args.self.now.outer c.encode_valtype.new.enc.outer (c.encode_valtype.ensures.leaves.grows.own_ (Told.declared c.args.self.now.outer) (grows-none c.args.self.now.outer))
+    c.in_ok-encode_valtype.ensures.counts.functions

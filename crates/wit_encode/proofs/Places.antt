@@ -1,0 +1,246 @@
+-- Where declarations stand: the type of a function and an instance type just before the import or export that has it, types before functions.
+use Rattle.std.proofs.Common.{◌≡◌, refl, sym, ap, subst, ◌∙◌, ℕ, ◌+◌, ◌⊎◌, inl, inr, Bool, true, false, not, ◌&&◌, ◌||◌, cond, List, [], ◌∷◌, ◌++◌, append-nil, append_assoc, Option, Some, None, length, arith}
+use Rattle.std.specs.Prelude.{nat_eq}
+use Rattle.std.specs.List.{list_all}
+use Rattle.std.specs.Cmp.Derive.{both_true}
+use Rattle.std.proofs.lemmas.Bool.{eqb-true, eq-eqb}
+use Rattle.std.proofs.lemmas.List.{append_cancel_left}
+use Rattle.std.proofs.lemmas.List.Folds.{list_all-append}
+use Rattle.base_lemmas.proofs.Bools.{left_of, right_of}
+use Rattle.base_lemmas.proofs.Numbers.{no-slot}
+use Rattle.wit_model.specs.Text.{Text}
+use Rattle.wit_model.specs.declared.model.Resolve.{Resolve}
+use Rattle.wit_model.specs.declared.model.Interface.{Interface}
+use Rattle.wit_model.specs.declared.model.InterfaceId.{InterfaceId}
+use Rattle.wit_model.specs.declared.model.Function.{Function}
+use Rattle.comp_bytes.specs.declared.forms.ComponentTypeRef.{ComponentTypeRef}
+use Rattle.comp_bytes.specs.declared.forms.ComponentTypeRef.TheVariants as refs
+use Rattle.comp_bytes.specs.Raw.{Declaration, Declarations, ExternName, append, from_list}
+use Rattle.comp_bytes.specs.Held.{declaration_slots, type_slots, type_slots_of}
+use Rattle.comp_bytes.proofs.HeldLaws.{from_list-push}
+use Rattle.encode_types.specs.Distinct.{is_function_type, function_slots, slots_from}
+use Rattle.comp_meaning.specs.Follow.{Direction, import_, export_}
+use Rattle.encode_types.specs.Known.{Aliased, Around, alias_declared, with_alias, with_aliases}
+use Rattle.encode_names.specs.WorldSteps.{declared_towards}
+use Rattle.wit_encode.specs.Encoders.{declared_after}
+use Rattle.wit_encode.specs.Instance.{EncodesPart}
+use Rattle.wit_encode.specs.Places.{described_by, describes, is_function, is_type, is_function_of, is_instance_at, begins_with, are_beside, takes_index, GrowsBy, StaysBeside, StandInOrder}
+
+-- ---- declarations behind others
+
+pub append-both : (a b c : Declarations) → append (append a b) c ≡ append a (append b c)
+append-both Declarations.no_more b c = refl
+append-both (Declarations.declares d rest) b c = ap (λ (x : Declarations). Declarations.declares d x) (append-both rest b c)
+append-both (Declarations.component inner rest) b c = ap (λ (x : Declarations). Declarations.component inner x) (append-both rest b c)
+append-both (Declarations.instance inner rest) b c = ap (λ (x : Declarations). Declarations.instance inner x) (append-both rest b c)
+
+append-none : (a : Declarations) → append a Declarations.no_more ≡ a
+append-none Declarations.no_more = refl
+append-none (Declarations.declares d rest) = ap (λ (x : Declarations). Declarations.declares d x) (append-none rest)
+append-none (Declarations.component inner rest) = ap (λ (x : Declarations). Declarations.component inner x) (append-none rest)
+append-none (Declarations.instance inner rest) = ap (λ (x : Declarations). Declarations.instance inner x) (append-none rest)
+
+pub list-both : (xs ys : List Declaration) → from_list (xs ++ ys) ≡ append (from_list xs) (from_list ys)
+list-both [] ys = refl
+list-both (x ∷ xs) ys = ap (λ (z : Declarations). Declarations.declares x z) (list-both xs ys)
+
+pub one-list : (xs ys : List Declaration) → from_list xs ≡ from_list ys → xs ≡ ys
+one-list [] [] e = refl
+one-list [] (y ∷ ys) e = absurd (let z : ⊥ = cc in z)
+one-list (x ∷ xs) [] e = absurd (let z : ⊥ = cc in z)
+one-list (x ∷ xs) (y ∷ ys) e =
+    let first : x ≡ y = cc in
+    let rest : from_list xs ≡ from_list ys = cc in
+    λ i. first i ∷ one-list xs ys rest i
+
+pub list-slots : (ds : List Declaration) → type_slots_of (from_list ds) ≡ type_slots ds
+list-slots [] = refl
+list-slots (d ∷ ds) = ap (λ (k : ℕ). declaration_slots d + k) (list-slots ds)
+
+-- the slots of what passes a test, behind others
+slots-both : (test : Declaration → Bool) (n : ℕ) (a b : Declarations) → slots_from test n (append a b) ≡ slots_from test n a ++ slots_from test (n + type_slots_of a) b
+slots-both test n Declarations.no_more b = ap (λ (k : ℕ). slots_from test k b) (sym (no-slot n))
+slots-both test n (Declarations.declares d rest) b =
+    let here : List ℕ = cond (test d) (n ∷ []) [] in
+    let far : n + declaration_slots d + type_slots_of rest ≡ n + (declaration_slots d + type_slots_of rest) = omega arith in
+    ap (λ (xs : List ℕ). here ++ xs)
+    (slots-both test (n + declaration_slots d) rest b ∙ ap (λ (k : ℕ). slots_from test (n + declaration_slots d) rest ++ slots_from test k b) far)
+    ∙ sym (append_assoc here (slots_from test (n + declaration_slots d) rest) (slots_from test (n + (declaration_slots d + type_slots_of rest)) b))
+slots-both test n (Declarations.component inner rest) b =
+    let far : n + 1 + type_slots_of rest ≡ n + (1 + type_slots_of rest) = omega arith in
+    slots-both test (n + 1) rest b ∙ ap (λ (k : ℕ). slots_from test (n + 1) rest ++ slots_from test k b) far
+slots-both test n (Declarations.instance inner rest) b =
+    let far : n + 1 + type_slots_of rest ≡ n + (1 + type_slots_of rest) = omega arith in
+    slots-both test (n + 1) rest b ∙ ap (λ (k : ℕ). slots_from test (n + 1) rest ++ slots_from test k b) far
+
+-- ---- what grows
+
+pub grows-none : (a : Declarations) → GrowsBy a a
+grows-none a = record { more = []; are = sym (append-none a); indexes = refl }
+
+pub grows-more : (a b c : Declarations) (d : Declaration) → c ≡ declared_after b d → takes_index d ≡ true → GrowsBy a b → GrowsBy a c
+grows-more a b c d is one g = record {
+  more = g.more ++ d ∷ [];
+  are =
+      is ∙ ap (λ (z : Declarations). declared_after z d) g.are ∙ append-both a (from_list g.more) (Declarations.declares d Declarations.no_more)
+      ∙ ap (append a) (sym (from_list-push g.more d));
+  indexes = list_all-append takes_index g.more (d ∷ []) ∙ both_true g.indexes (both_true one refl);
+}
+
+-- ---- beside
+
+or-more : (x y z : Bool) → (x || y) ≡ true → (y ≡ true → z ≡ true) → (x || z) ≡ true
+or-more true y z h more = refl
+or-more false y z h more = more h
+
+begins-more : (test : ComponentTypeRef → Bool) (a b : Declarations) → begins_with test a ≡ true → begins_with test (append a b) ≡ true
+begins-more test Declarations.no_more b h = absurd (let z : ⊥ = cc in z)
+begins-more test (Declarations.declares d rest) b h = h
+begins-more test (Declarations.component inner rest) b h = absurd (let z : ⊥ = cc in z)
+begins-more test (Declarations.instance inner rest) b h = absurd (let z : ⊥ = cc in z)
+
+pub beside-both : (n : ℕ) (a b : Declarations) → are_beside n a ≡ true → are_beside (n + type_slots_of a) b ≡ true → are_beside n (append a b) ≡ true
+beside-both n Declarations.no_more b h k = subst (λ (m : ℕ). are_beside m b ≡ true) (no-slot n) k
+beside-both n (Declarations.declares d rest) b h k =
+    let far : n + (declaration_slots d + type_slots_of rest) ≡ n + declaration_slots d + type_slots_of rest = omega arith in
+    let here : Bool = not (is_function_type d) || begins_with (is_function_of n) rest in
+    both_true
+    (or-more (not (is_function_type d)) (begins_with (is_function_of n) rest) (begins_with (is_function_of n) (append rest b)) (left_of here (are_beside (n + declaration_slots d) rest) h)
+    (begins-more (is_function_of n) rest b))
+    (beside-both (n + declaration_slots d) rest b (right_of here (are_beside (n + declaration_slots d) rest) h) (subst (λ (m : ℕ). are_beside m b ≡ true) far k))
+beside-both n (Declarations.component inner rest) b h k =
+    let far : n + (1 + type_slots_of rest) ≡ n + 1 + type_slots_of rest = omega arith in
+    beside-both (n + 1) rest b h (subst (λ (m : ℕ). are_beside m b ≡ true) far k)
+beside-both n (Declarations.instance inner rest) b h k =
+    let far : n + (1 + type_slots_of rest) ≡ n + 1 + type_slots_of rest = omega arith in
+    both_true (begins-more (is_instance_at n) rest b (left_of (begins_with (is_instance_at n) rest) (are_beside (n + 1) rest) h))
+    (beside-both (n + 1) rest b (right_of (begins_with (is_instance_at n) rest) (are_beside (n + 1) rest) h) (subst (λ (m : ℕ). are_beside m b ≡ true) far k))
+
+-- a declaration that defines no type of a function
+beside-one : (n : ℕ) (d : Declaration) → is_function_type d ≡ false → are_beside n (Declarations.declares d Declarations.no_more) ≡ true
+beside-one n d e = ap (λ (b : Bool). (not b || false) && true) e
+
+pub beside-after : (ds : Declarations) (d : Declaration) → is_function_type d ≡ false → StaysBeside ds (declared_after ds d)
+beside-after ds d e h = beside-both 0 ds (Declarations.declares d Declarations.no_more) h (beside-one (0 + type_slots_of ds) d e)
+
+-- declarations among which is no type of a function
+beside-plain : (n : ℕ) (ds : List Declaration) → slots_from is_function_type n (from_list ds) ≡ [] → are_beside n (from_list ds) ≡ true
+beside-plain n [] e = refl
+beside-plain n (d ∷ ds) e = by (is_function_type d) refl (beside-plain (n + declaration_slots d) ds)
+  where
+    rest : (b : Bool) → is_function_type d ≡ b → cond b (n ∷ []) [] ++ slots_from is_function_type (n + declaration_slots d) (from_list ds) ≡ []
+    rest b is = ap (λ (b : Bool). cond b (n ∷ []) [] ++ slots_from is_function_type (n + declaration_slots d) (from_list ds)) (sym is) ∙ e
+
+    by : (b : Bool) → is_function_type d ≡ b → (slots_from is_function_type (n + declaration_slots d) (from_list ds) ≡ [] → are_beside (n + declaration_slots d) (from_list ds) ≡ true)
+        → are_beside n (from_list (d ∷ ds)) ≡ true
+    by true is more = absurd (let q : n ∷ slots_from is_function_type (n + declaration_slots d) (from_list ds) ≡ [] = rest true is in let z : ⊥ = cc in z)
+    by false is more = both_true (ap (λ (b : Bool). not b || begins_with (is_function_of n) (from_list ds)) is) (more (rest false is))
+
+-- ---- the type of a function, and what has it
+
+-- where each declaration takes an index, and none is taken, there is none
+none-taken : (ds : List Declaration) → list_all takes_index ds ≡ true → type_slots ds ≡ 0 → ds ≡ []
+none-taken [] all e = refl
+none-taken (d ∷ ds) all e = absurd
+    (let one : declaration_slots d ≡ 1 = eqb-true (declaration_slots d) 1 (left_of (takes_index d) (list_all takes_index ds) all) in
+    let z : ⊥ = omega (arith, one, e) in z)
+
+-- The one type of a function among these is at index i, and that is the last.
+beside-last : (n i : ℕ) (ds : List Declaration) (d : Declaration) → list_all takes_index ds ≡ true → slots_from is_function_type n (from_list ds) ≡ i ∷ [] → n + type_slots ds ≡ i + 1
+    → describes (is_function_of i) d ≡ true → is_function_type d ≡ false → are_beside n (from_list (ds ++ d ∷ [])) ≡ true
+beside-last n i [] d all e last has plain = absurd (let z : ⊥ = cc in z)
+beside-last n i (x ∷ ds) d all e last has plain =
+    by (is_function_type x) refl
+    (λ q. beside-last (n + declaration_slots x) i ds d (right_of (takes_index x) (list_all takes_index ds) all) q (let l = last in omega (arith, l)) has plain)
+  where
+    one : declaration_slots x ≡ 1
+    one = eqb-true (declaration_slots x) 1 (left_of (takes_index x) (list_all takes_index ds) all)
+
+    rest : (b : Bool) → is_function_type x ≡ b → cond b (n ∷ []) [] ++ slots_from is_function_type (n + declaration_slots x) (from_list ds) ≡ i ∷ []
+    rest b is = ap (λ (b : Bool). cond b (n ∷ []) [] ++ slots_from is_function_type (n + declaration_slots x) (from_list ds)) (sym is) ∙ e
+
+    or-right : (x y : Bool) → y ≡ true → (x || y) ≡ true
+    or-right true y h = refl
+    or-right false y h = h
+
+    by : (b : Bool) → is_function_type x ≡ b
+        → (slots_from is_function_type (n + declaration_slots x) (from_list ds) ≡ i ∷ [] → are_beside (n + declaration_slots x) (from_list (ds ++ d ∷ [])) ≡ true)
+        → are_beside n (from_list ((x ∷ ds) ++ d ∷ [])) ≡ true
+    by true is more =
+        let q : n ∷ slots_from is_function_type (n + declaration_slots x) (from_list ds) ≡ i ∷ [] = rest true is in
+        let same : i ≡ n = cc in
+        let one' = one in
+        let none : ds ≡ [] = none-taken ds (right_of (takes_index x) (list_all takes_index ds) all) (omega (arith, one', same, last)) in
+        subst (λ (zs : List Declaration). are_beside n (from_list (x ∷ zs ++ d ∷ [])) ≡ true) (sym none)
+        (both_true (or-right (not (is_function_type x)) (describes (is_function_of n) d) (subst (λ (k : ℕ). describes (is_function_of k) d ≡ true) same has)) (beside-one (n + declaration_slots x) d plain))
+    by false is more = both_true (ap (λ (b : Bool). not b || begins_with (is_function_of n) (from_list (ds ++ d ∷ []))) is) (more (rest false is))
+
+-- no type of a function has been defined, or one, at the last index, i
+abbrev pub DefinesAtLast : Declarations → Declarations → ℕ → Type 0
+DefinesAtLast before after i = (function_slots after ≡ function_slots before) ⊎ ((function_slots after ≡ function_slots before ++ i ∷ []) × (type_slots_of after ≡ i + 1))
+
+-- what has been added to the slots of the types of functions
+added-slots : (before after : Declarations) (g : GrowsBy before after) (xs : List ℕ) → function_slots after ≡ function_slots before ++ xs
+    → slots_from is_function_type (0 + type_slots_of before) (from_list g.more) ≡ xs
+added-slots before after g xs e = append_cancel_left (function_slots before) _ xs (sym (slots-both is_function_type 0 before (from_list g.more)) ∙ ap function_slots (sym g.are) ∙ e)
+
+slots-added : (a b : Declarations) → type_slots_of (append a b) ≡ type_slots_of a + type_slots_of b
+slots-added Declarations.no_more b = omega arith
+slots-added (Declarations.declares d rest) b = let more = slots-added rest b in omega (arith, more)
+slots-added (Declarations.component inner rest) b = let more = slots-added rest b in omega (arith, more)
+slots-added (Declarations.instance inner rest) b = let more = slots-added rest b in omega (arith, more)
+
+-- types alone
+pub types-beside : (before after : Declarations) → GrowsBy before after → function_slots after ≡ function_slots before → StaysBeside before after
+types-beside before after g e h =
+    subst (λ (z : Declarations). are_beside 0 z ≡ true) (sym g.are)
+    (beside-both 0 before (from_list g.more) h (beside-plain (0 + type_slots_of before) g.more (added-slots before after g [] (e ∙ sym (append-nil (function_slots before))))))
+
+-- the type of a function, if it is new, and then the function
+pub function-beside : (before after : Declarations) (i : ℕ) (d : Declaration) → GrowsBy before after → DefinesAtLast before after i → describes (is_function_of i) d ≡ true → is_function_type d ≡ false
+    → StaysBeside before (declared_after after d)
+function-beside before after i d g (inl same) has plain h = beside-after after d plain (types-beside before after g same h)
+function-beside before after i d g (inr new) has plain h =
+    let n : ℕ = 0 + type_slots_of before in
+    let count : n + type_slots g.more ≡ i + 1 = (
+      let all : type_slots_of after ≡ type_slots_of before + type_slots_of (from_list g.more) = ap type_slots_of g.are ∙ slots-added before (from_list g.more) in
+      let few = list-slots g.more in
+      let last = new.1 in
+      omega (arith, all, few, last)
+    ) in
+    let whole : append before (from_list (g.more ++ d ∷ [])) ≡ declared_after after d =
+    ap (append before) (from_list-push g.more d) ∙ sym (append-both before (from_list g.more) (Declarations.declares d Declarations.no_more)) ∙ ap (λ (z : Declarations). declared_after z d) (sym g.are) in
+    subst (λ (z : Declarations). are_beside 0 z ≡ true) whole
+    (beside-both 0 before (from_list (g.more ++ d ∷ [])) h (beside-last n i g.more d g.indexes (added-slots before after g (i ∷ []) new.0) count has plain))
+
+-- an instance type, and then its instance
+pub instance-beside : (ds inner : Declarations) (k : ℕ) (d : Declaration) → k ≡ type_slots_of ds → describes (is_instance_at k) d ≡ true → is_function_type d ≡ false
+    → StaysBeside ds (declared_after (append ds (Declarations.instance inner Declarations.no_more)) d)
+instance-beside ds inner k d is has plain h =
+    subst (λ (z : Declarations). are_beside 0 z ≡ true) (sym (append-both ds (Declarations.instance inner Declarations.no_more) (Declarations.declares d Declarations.no_more)))
+    (beside-both 0 ds (Declarations.instance inner (Declarations.declares d Declarations.no_more)) h
+    (both_true (subst (λ (m : ℕ). describes (is_instance_at m) d ≡ true) (let at : k ≡ 0 + type_slots_of ds = omega (arith, is) in at) has) (beside-one (0 + type_slots_of ds + 1) d plain)))
+
+-- ---- an instance type behind aliases
+
+aliases-beside : (a : Around) (made : List Aliased) → StaysBeside a.declared (with_aliases a made).declared
+aliases-beside a [] h = h
+aliases-beside a (x ∷ made) h = aliases-beside (with_alias a x) made (beside-after a.declared (alias_declared x) refl h)
+
+-- what imports or exports the instance stands behind its type
+pub part-beside : (r : Resolve) (a a' : Around) (i : InterfaceId) (def : Interface) (written : List (Text × Function)) (fs : List Function) (k : ℕ) → EncodesPart r a a' i def written fs k
+    → (d : Declaration) → describes (is_instance_at k) d ≡ true → is_function_type d ≡ false → StaysBeside a.declared (declared_after a'.declared d)
+part-beside r a a' i def written fs k e d has plain h =
+    let before : are_beside 0 e.before.declared ≡ true =
+    subst (λ (z : Around). are_beside 0 z.declared ≡ true) (sym e.aliases.grown.is) (aliases-beside a e.aliases.grown.made h) in
+    subst (λ (z : Around). are_beside 0 (declared_after z.declared d) ≡ true) (sym e.one_more) (instance-beside e.before.declared (from_list e.declared) k d e.index has plain before)
+
+-- ---- an import or an export
+
+pub towards-instance : (direction : Direction) (name : ExternName) (k : ℕ) → describes (is_instance_at k) (declared_towards direction name (refs.Instance k)) ≡ true
+towards-instance import_ name k = eq-eqb k k refl
+towards-instance export_ name k = eq-eqb k k refl
+
+pub towards-of : (direction : Direction) (name : ExternName) (k : ℕ) → describes (is_function_of k) (declared_towards direction name (refs.Func k)) ≡ true
+towards-of import_ name k = eq-eqb k k refl
+towards-of export_ name k = eq-eqb k k refl
