@@ -1,5 +1,5 @@
 -- An instance more in the component type of a world: it is the latest one of its interface, and the aliases stay.
-use Rattle.std.proofs.Common.{◌≡◌, refl, sym, subst, ap, ◌∙◌, ℕ, ◌+◌, ◌≤◌, ◌<◌, inl, inr, nat_cmp, Bool, true, false, List, [], ◌∷◌, ◌++◌, length, length-append, Some, arith}
+use Rattle.std.proofs.Common.{◌≡◌, refl, sym, subst, ap, ◌∙◌, ℕ, ◌+◌, ◌≤◌, inl, inr, nat_cmp, Bool, true, false, List, [], ◌∷◌, ◌++◌, length, length-append, Some, arith}
 use Rattle.std.specs.BTreeMap.{insert_entry, is_at}
 use Rattle.std.specs.Ordering.{is_eq}
 use Rattle.std.proofs.lemmas.Cmp.{nat_cmp_total}

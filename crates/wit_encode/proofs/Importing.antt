@@ -8,7 +8,6 @@ use Rattle.std.specs.Ordering.{is_eq, match_ordering}
 use Rattle.std.specs.Map.{remove_entry}
 use Rattle.std.specs.BTreeMap.{BTreeMap, insert_entry, is_at}
 use Rattle.std.proofs.lemmas.Bool.{cond-true, cond-false, and_from as both}
-use Rattle.std.proofs.lemmas.Cmp.{nat_cmp_total}
 use Rattle.std.proofs.lemmas.List.Elements.{All-contains, filter_passes}
 use Rattle.wit_model.specs.Text.{Text, text_eq, text_of}
 use Rattle.wit_model.specs.Tree.{Tree, Place, here, of_interface, named, primitive, node}
@@ -34,7 +33,7 @@ use Rattle.encode_types.specs.Resources.{is_named_interface, named_resources}
 use Rattle.encode_types.specs.Known.{Around, Aliased, alias_declared, with_alias, with_aliases, IsAlias, AreAliases, IsSource, ReachesAround, as_before, aliased, known_slot, known_instance, is_name_slot, is_slot_for, is_named_of, is_instance_of, shows_type, is_standing, stands_around, are_right, below}
 use Rattle.encode_types.specs.Scope.{Scope, IsImportable}
 use Rattle.wit_encode.specs.Instance.{standing_at, SlotsStand, is_slot_of, outer_slots, outer_instances, is_owner_in, resources_in, is_sound_in, place_in, Contents, standing_instances, scope_from, scope_with, inner_contents, contents_of, around_at, encoder_scope, definitions_with}
-use Rattle.encode_types.proofs.Tables.{equal-self, at-some, number-found}
+use Rattle.encode_types.proofs.Tables.{at-some, number-found}
 use Rattle.wit_encode.proofs.Contents.{slots-kept}
 use Rattle.wit_encode.proofs.Calls.{Calls, alias-inside}
 use Rattle.wit_encode.proofs.Wider.{Widened, widened, contents-wider}

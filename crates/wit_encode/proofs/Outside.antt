@@ -1,7 +1,7 @@
 -- What the calls of an encoder of interfaces do between interfaces: then what is defined stands in the component type.
 use Rattle.encode_types.specs.Distinct.{target_of, targets_of}
 use Rattle.wit_encode.proofs.ValueSlots.{slots-next, targets-push}
-use Rattle.std.proofs.Common.{◌≡◌, refl, sym, subst, ap, ◌∙◌, ℕ, ◌+◌, true, cond, [], ◌∷◌, ◌++◌, append-nil, option_to_list, List, Result, Ok, Err, IfOk, OnErr, Option, Some, None, length, arith}
+use Rattle.std.proofs.Common.{◌≡◌, refl, sym, subst, ap, ◌∙◌, ℕ, true, cond, [], ◌∷◌, ◌++◌, append-nil, option_to_list, List, Result, Ok, Err, IfOk, OnErr, Option, Some, None, length, arith}
 use Rattle.std.specs.List.{list_all}
 use Rattle.std.specs.Option.{option_map_or, is_some}
 use Rattle.wit_model.specs.Tree.{Tree}

@@ -1,5 +1,5 @@
 -- The declarations of an instance type stand in order: after its types, and after each function.
-use Rattle.std.proofs.Common.{◌≡◌, refl, sym, ap, subst, ◌∙◌, ℕ, ◌+◌, ◌⊎◌, inl, inr, Bool, true, false, not, ◌&&◌, cond, List, [], ◌∷◌, ◌++◌, map, append-nil, append_assoc, Option, Some, None, slice_get, length, length-append, Result, Ok, Err, IfOk, OnOk, OnErr, IsSome, arith}
+use Rattle.std.proofs.Common.{◌≡◌, refl, sym, ap, subst, ◌∙◌, ℕ, ◌+◌, ◌⊎◌, inl, inr, Bool, true, false, not, cond, List, [], ◌∷◌, ◌++◌, append-nil, append_assoc, Option, Some, None, slice_get, length, length-append, Result, Ok, Err, IfOk, OnErr, IsSome, arith}
 use Rattle.std.specs.List.{list_all}
 use Rattle.std.specs.Option.{option_map_or}
 use Rattle.std.specs.Cmp.Derive.{both_true}
@@ -14,20 +14,17 @@ use Rattle.wit_model.specs.declared.model.Resolve.{Resolve}
 use Rattle.wit_model.specs.declared.model.TypeOwner.TheVariants as owner
 use Rattle.comp_bytes.specs.declared.forms.ComponentTypeRef.{ComponentTypeRef}
 use Rattle.comp_bytes.specs.declared.forms.ComponentTypeRef.TheVariants as refs
-use Rattle.comp_bytes.specs.Raw.{Alias, Declaration, Declarations, ExternName, append, from_list}
-use Rattle.comp_bytes.specs.Held.{declaration_slots, type_slots, type_slots_of}
-use Rattle.comp_bytes.specs.Reading.{◌>>=◌}
+use Rattle.comp_bytes.specs.Raw.{Alias, Declaration, Declarations, ExternName, from_list}
+use Rattle.comp_bytes.specs.Held.{type_slots}
 use Rattle.comp_bytes.proofs.HeldLaws.{from_list-push}
-use Rattle.comp_meaning.specs.Follow.{Slot, InstanceScope, when, is_simple, definition, function_signature, function_in, named_type, show_type, show_function, new_instance, instance_step, instance_steps}
+use Rattle.comp_meaning.specs.Follow.{Slot, InstanceScope, is_simple, definition, function_signature, function_in, named_type, show_type, show_function, new_instance, instance_step, instance_steps}
 use Rattle.comp_meaning.proofs.FollowLemmas.{provided_is as unprovided}
-use Rattle.encode_types.specs.Distinct.{is_function_type, function_slots, slots_from}
-use Rattle.encode_types.specs.Leaves.{DefinesLast}
-use Rattle.encode_types.specs.Scope.{Scope}
+use Rattle.encode_types.specs.Distinct.{function_slots}
 use Rattle.encode_types.specs.View.{Told}
 use Rattle.wit_encode.specs.declared.interface.OpenInterface.{OpenInterface}
-use Rattle.wit_encode.specs.Encoders.{DeclaresInside, declared_after, declared_inside, KeepsInside}
+use Rattle.wit_encode.specs.Encoders.{DeclaresInside, declared_inside, KeepsInside}
 use Rattle.wit_encode.specs.Instance.{inner_contents, is_slot_of, resources_in, contents_of, defined_in, encoder_scope, exports_in, own_of, no_view, outer_slots, slots_in}
-use Rattle.wit_encode.specs.Places.{described_by, describes, is_function, is_type, is_function_of, are_beside, takes_index, GrowsBy, StandInOrder}
+use Rattle.wit_encode.specs.Places.{describes, is_function, is_type, are_beside, takes_index, GrowsBy, StandInOrder}
 use Rattle.wit_encode.proofs.Calls.{InnerAt, inner-at, inner-index}
 use Rattle.wit_encode.proofs.Places.{DefinesAtLast, function-beside, grows-more, grows-none, list-both, list-slots, one-list, types-beside}
 use Rattle.wit_encode.proofs.Steps.{unbind, unwhen}
@@ -118,6 +115,7 @@ types-inside r outer (Some current) some sound =
     let shown : length (contents_of r outer (Some current)).shown.types ≡ length a.scope.shown.types =
     ap (λ (o : Option InstanceScope). length (option_map_or (λ (s : InstanceScope). s.shown) o no_view).types) a.is in
     length_of_map _ (contents_of r outer (Some current)).shown.types ∙ shown ∙ steps-types place (outer_slots outer) new_instance a.scope current.declared a.is
+    ∙ (let y : 0 + types_in current.declared ≡ types_in current.declared = omega arith in y)
 
 slots-inside : (r : Resolve) (outer : Declarations) (inner : Option OpenInterface) → IsSome inner → (encoder_scope r outer inner).is_sound ≡ true
     → type_slots (declared_inside inner) ≡ slots_in r outer inner

@@ -1,6 +1,5 @@
 -- Where declarations stand: the type of a function and an instance type just before the import or export that has it, types before functions.
-use Rattle.std.proofs.Common.{◌≡◌, refl, sym, ap, subst, ◌∙◌, ℕ, ◌+◌, ◌⊎◌, inl, inr, Bool, true, false, not, ◌&&◌, ◌||◌, cond, List, [], ◌∷◌, ◌++◌, append-nil, append_assoc, Option, Some, None, length, arith}
-use Rattle.std.specs.Prelude.{nat_eq}
+use Rattle.std.proofs.Common.{◌≡◌, refl, sym, ap, subst, ◌∙◌, ℕ, ◌+◌, ◌⊎◌, inl, inr, Bool, true, false, not, ◌&&◌, ◌||◌, cond, List, [], ◌∷◌, ◌++◌, append-nil, append_assoc, arith}
 use Rattle.std.specs.List.{list_all}
 use Rattle.std.specs.Cmp.Derive.{both_true}
 use Rattle.std.proofs.lemmas.Bool.{eqb-true, eq-eqb}
@@ -24,7 +23,7 @@ use Rattle.encode_types.specs.Known.{Aliased, Around, alias_declared, with_alias
 use Rattle.encode_names.specs.WorldSteps.{declared_towards}
 use Rattle.wit_encode.specs.Encoders.{declared_after}
 use Rattle.wit_encode.specs.Instance.{EncodesPart}
-use Rattle.wit_encode.specs.Places.{described_by, describes, is_function, is_type, is_function_of, is_instance_at, begins_with, are_beside, takes_index, GrowsBy, StaysBeside, StandInOrder}
+use Rattle.wit_encode.specs.Places.{describes, is_function_of, is_instance_at, begins_with, are_beside, takes_index, GrowsBy, StaysBeside}
 
 -- ---- declarations behind others
 

@@ -1,5 +1,5 @@
 -- A function that is exported from an instance type.
-use Rattle.std.proofs.Common.{◌≡◌, sym, subst, ap, ◌∙◌, ℕ, ◌+◌, true, List, [], ◌∷◌, ◌++◌, append-nil, Result, Ok, Err, OnOk, Option, Some, None, slice_get}
+use Rattle.std.proofs.Common.{◌≡◌, sym, subst, ap, ◌∙◌, ℕ, true, List, [], ◌∷◌, ◌++◌, append-nil, Result, Ok, Err, OnOk, Option, Some, None, slice_get}
 use Rattle.std.specs.List.{list_all}
 use Rattle.std.specs.Option.{option_map_or, is_some}
 use Rattle.wit_model.specs.Text.{Text}

@@ -36,7 +36,7 @@ use Rattle.wit_model.specs.declared.model.Handle.TheVariants as handle
 use Rattle.encode_types.specs.Plan.{IsLayered, InRange, AllInRange, Reaches, itself, foreign_owner, is_interface}
 use Rattle.encode_types.specs.Scope.{IsImportable, Scope}
 use Rattle.wit_encode.specs.OwnerScope.{NamesAgree}
-use Rattle.encode_types.specs.Table.{table_scope, below, interface_of_owner, declaration_in, named_declaration, is_met_by, is_met_owner, has_named_owner, AllMetBy}
+use Rattle.encode_types.specs.Table.{table_scope, interface_of_owner, declaration_in, named_declaration, is_met_by, is_met_owner, has_named_owner, AllMetBy}
 use Rattle.encode_types.proofs.Planning.{part-smaller}
 use Rattle.wit_model.proofs.OnePath.{found-in}
 use Rattle.wit_encode.proofs.Naming.{HaveHomes, named-owner, valid-owner_in_range, one-home, names-agree}

@@ -45,7 +45,7 @@ use Rattle.wit_encode.proofs.WrittenNames.{interface-name}
 use Rattle.wit_encode.proofs.WorldCounting.{defines-behind, interfaces-more, towards-alias, towards-function, towards-target, towards-value}
 use Rattle.wit_encode.proofs.WorldHolding.{count-both, full, known-number, known-numbers, known-once, met-before, next-among}
 use Rattle.wit_encode.proofs.WorldInterfaces.{among-one}
-use Rattle.base_lemmas.proofs.Elements.{contains-one, zip-append}
+use Rattle.base_lemmas.proofs.Elements.{zip-append}
 
 -- ---- one interface among the entries
 

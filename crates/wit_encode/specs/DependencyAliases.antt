@@ -1,5 +1,5 @@
 -- Which aliases stand in the component type of an interface: of types that are met, once for each, by the instance of their interface.
-use Rattle.std.specs.Prelude.{ℕ, ◌≡◌, ◌⊎◌, nat_eq, List, [], ◌∷◌, ◌++◌, map, Option, Some, None, String, slice_get}
+use Rattle.std.specs.Prelude.{ℕ, ◌≡◌, ◌⊎◌, nat_eq, List, [], ◌∷◌, ◌++◌, map, Some, None, String, slice_get}
 use Rattle.std.specs.List.{Contains, IsDistinct}
 use Rattle.std.specs.declared.alloc.Global.{Global}
 use Rattle.wit_model.specs.Text.{text_of}

@@ -1,6 +1,6 @@
 -- Which aliases stand in the component type of a world, and where: of types that are met, once for each, by the latest instance of their interface
 -- that stands before (Component Model Explainer.md, "Alias Definitions").
-use Rattle.std.specs.Prelude.{ℕ, ◌≡◌, ◌≤◌, ◌<◌, ◌+◌, ◌⊎◌, nat_eq, List, [], ◌∷◌, ◌++◌, map, flat_map, length, take, drop, Some, None, String, slice_get}
+use Rattle.std.specs.Prelude.{ℕ, ◌≡◌, ◌≤◌, ◌<◌, ◌+◌, nat_eq, List, [], ◌∷◌, ◌++◌, map, flat_map, length, take, drop, Some, None, String, slice_get}
 use Rattle.std.specs.List.{Contains, IsDistinct}
 use Rattle.std.specs.declared.alloc.Global.{Global}
 use Rattle.wit_model.specs.Text.{text_of}
