@@ -1,4 +1,4 @@
--- The declarations of an instance type, followed one by one. Serves Calls, Components, Directions, ShowFunctions and 3 more.
+-- The declarations of an instance type, followed one by one. Serves Calls, Components, Directions, PlacedFunctions and 4 more.
 pub mod Steps
 -- The declarations of a component type, followed one by one. Serves Imported, Opening, Outside, PlacedInstances and 7 more; crates above.
 pub mod Components
@@ -8,9 +8,9 @@ pub mod Contents
 pub mod Strict
 -- What a declaration of a place is followed as, where its name is exported or imported. Serves Calls, WorldCalls.
 pub mod Declaring
--- The slots in which value types are defined: which they are, and that each stands for a type without a name. Serves Calls, Counting, DefinedTypes, Outside and 4 more.
+-- The slots in which value types are defined: which they are, and that each stands for a type without a name. Serves Calls, Counting, DefinedTypes, Outside and 6 more.
 pub mod ValueSlots
--- What the calls of an encoder of interfaces do to what it holds. Serves Counting, Importing, Opening, Outside and 4 more.
+-- What the calls of an encoder of interfaces do to what it holds. Serves Counting, Importing, Opening, Outside and 5 more.
 pub mod Calls
 -- A name in a place is that of one type among those that are met, so the names of resources are those of the types that are resources. Serves Encodable, ImportsStand, OwnerScope, ShownSlots and 3
 -- more.
@@ -20,10 +20,6 @@ pub mod ImportsStand
 -- Imports and exports of a component type, in order: what declarations add to them, and that no import stands behind an export. Serves WorldAliases, WorldCalls, WorldFunctions, WorldInterfaces and 1
 -- more.
 pub mod Directions
--- Where declarations stand: the type of a function and an instance type just before the import or export that has it, types before functions. Serves crates above.
-pub mod Places
--- The declarations of an instance type stand in order: after its types, and after each function. Serves interface::encode_function, interface::encode_parts.
-pub mod PlacedFunctions
 -- Lists of numbers: what stands before a place, what stands once, and what is given by one element alone. Serves AliasesKept, Exporting, ListedTypes, WorldTypes and 1 more.
 pub mod Numbers
 -- What is met from a type of an owner is of that owner, but for what its aliases of types of other interfaces name. Serves ListedTypes, OwnerScope, Reached, UsedPaths and 2 more.
@@ -81,7 +77,10 @@ pub mod FunctionRoom
 -- What has no room in an encoder of interfaces, where a call has refused it. Serves interface::define_function_outside, interface::define_function_type, interface::define_outside,
 -- interface::defined_type and 15 more.
 pub mod Refusing
--- What the calls of an encoder of a world do to its component type. Serves world::define_function_type, world::defined_type, world::export_resource, world::export_type and 1 more.
+-- Where declarations stand: the type of a function and an instance type just before the import or export that has it, types before functions. Serves world::encode_function, world::encode_interface,
+-- world::encode_type.
+pub mod Places
+-- What the calls of an encoder of a world do to its component type. Serves world::define_function_type, world::defined_type, world::encode_function, world::export_resource and 2 more.
 pub mod WorldCalls
 -- Which types of listed interfaces have an alias in a component type, and how much it holds beside them. Serves world::define_function_type, world::defined_type, world::export_resource,
 -- world::export_type and 1 more.
@@ -101,7 +100,7 @@ pub mod Opening
 -- What the types and functions of an interface meet, and what maps learn of it, type by type and function by function. Serves interface::encode_function, interface::encode_functions,
 -- interface::encode_inside, interface::encode_instance and 2 more.
 pub mod Referring
--- How much the component type of a world defines after each item. Serves world::encode_entries, world::encode_function, world::encode_type, world::new.
+-- How much the component type of a world defines after each item. Serves world::encode_entries, world::encode_function, world::encode_interface, world::encode_type and 1 more.
 pub mod WorldCounting
 -- An instance type that is declared in a component type behind aliases, and imported or exported there: how much is declared by then, and what of it defines types. Serves DependencyHolding,
 -- WorldInstances; crates above.
@@ -154,6 +153,9 @@ pub mod PackageHolding
 pub mod WholePackages
 -- A component in which the component types of a package have no room: the package is too heavy. Serves package::encode, package::encode_component; crates above.
 pub mod PackageWeighing
+-- The declarations of an instance type stand in order: after its types, and after each function. Serves interface::define_function_type, interface::defined_type, interface::encode_function,
+-- interface::encode_parts and 3 more.
+pub mod PlacedFunctions
 -- What the paths of imports are refused for, the component type of the interface is refused for. Serves component_types::interface_type.
 pub mod Scopes
 -- A function that is exported from an instance type. Serves interface::export_function.

@@ -26,7 +26,8 @@ use Rattle.wit_encode.specs.Encoders.{DeclaresInside, declared_inside, KeepsInsi
 use Rattle.wit_encode.specs.Instance.{inner_contents, is_slot_of, resources_in, contents_of, defined_in, encoder_scope, exports_in, own_of, no_view, outer_slots, slots_in}
 use Rattle.wit_encode.specs.Places.{describes, is_function, is_type, are_beside, takes_index, GrowsBy, StandInOrder}
 use Rattle.wit_encode.proofs.Calls.{InnerAt, inner-at, inner-index}
-use Rattle.wit_encode.proofs.Places.{DefinesAtLast, function-beside, grows-more, grows-none, list-both, list-slots, one-list, types-beside}
+use Rattle.wit_encode.proofs.Places.{DefinesAtLast, function-beside, grows-more, grows-none, list-both, one-list, types-beside}
+use Rattle.wit_encode.proofs.ValueSlots.{list-slots}
 use Rattle.wit_encode.proofs.Steps.{unbind, unwhen}
 
 -- ---- what a call leaves behind what had been declared
@@ -191,7 +192,7 @@ module _ (r r₀ r₁ : Resolve) (o₀ o₁ o₂ : Declarations) (i₀ i₁ i₂
         | inl e ↦ inl (sym (functions-inside r₁ o₁ i₁ some₁) ∙ e ∙ functions-inside r₀ o₀ i₀ some₀)
         | inr n ↦ inr (
           sym (functions-inside r₁ o₁ i₁ some₁) ∙ n.0 ∙ ap (λ (xs : List ℕ). xs ++ index ∷ []) (functions-inside r₀ o₀ i₀ some₀),
-          list-slots behind ∙ slots-inside r₁ o₁ i₁ some₁ sound₁ ∙ n.1,
+          (let l = list-slots behind in let count = slots-inside r₁ o₁ i₁ some₁ sound₁ in let last = n.1 in omega (arith, l, count, last)),
         )
       ] in
       let count : types_in (declared_inside i₂) ≡ types_in ds = sym (types-inside r o₂ i₂ some₂ sound₂) ∙ ap length same ∙ types-inside r o₀ i₀ some₀ sound₀ in

@@ -23,21 +23,10 @@ use Rattle.encode_types.specs.Known.{Aliased, Around, alias_declared, with_alias
 use Rattle.encode_names.specs.WorldSteps.{declared_towards}
 use Rattle.wit_encode.specs.Encoders.{declared_after}
 use Rattle.wit_encode.specs.Instance.{EncodesPart}
+use Rattle.wit_encode.proofs.ValueSlots.{append-none, append-twice, list-slots}
 use Rattle.wit_encode.specs.Places.{describes, is_function_of, is_instance_at, begins_with, are_beside, takes_index, GrowsBy, StaysBeside}
 
 -- ---- declarations behind others
-
-pub append-both : (a b c : Declarations) → append (append a b) c ≡ append a (append b c)
-append-both Declarations.no_more b c = refl
-append-both (Declarations.declares d rest) b c = ap (λ (x : Declarations). Declarations.declares d x) (append-both rest b c)
-append-both (Declarations.component inner rest) b c = ap (λ (x : Declarations). Declarations.component inner x) (append-both rest b c)
-append-both (Declarations.instance inner rest) b c = ap (λ (x : Declarations). Declarations.instance inner x) (append-both rest b c)
-
-append-none : (a : Declarations) → append a Declarations.no_more ≡ a
-append-none Declarations.no_more = refl
-append-none (Declarations.declares d rest) = ap (λ (x : Declarations). Declarations.declares d x) (append-none rest)
-append-none (Declarations.component inner rest) = ap (λ (x : Declarations). Declarations.component inner x) (append-none rest)
-append-none (Declarations.instance inner rest) = ap (λ (x : Declarations). Declarations.instance inner x) (append-none rest)
 
 pub list-both : (xs ys : List Declaration) → from_list (xs ++ ys) ≡ append (from_list xs) (from_list ys)
 list-both [] ys = refl
@@ -51,10 +40,6 @@ one-list (x ∷ xs) (y ∷ ys) e =
     let first : x ≡ y = cc in
     let rest : from_list xs ≡ from_list ys = cc in
     λ i. first i ∷ one-list xs ys rest i
-
-pub list-slots : (ds : List Declaration) → type_slots_of (from_list ds) ≡ type_slots ds
-list-slots [] = refl
-list-slots (d ∷ ds) = ap (λ (k : ℕ). declaration_slots d + k) (list-slots ds)
 
 -- the slots of what passes a test, behind others
 slots-both : (test : Declaration → Bool) (n : ℕ) (a b : Declarations) → slots_from test n (append a b) ≡ slots_from test n a ++ slots_from test (n + type_slots_of a) b
@@ -81,7 +66,7 @@ pub grows-more : (a b c : Declarations) (d : Declaration) → c ≡ declared_aft
 grows-more a b c d is one g = record {
   more = g.more ++ d ∷ [];
   are =
-      is ∙ ap (λ (z : Declarations). declared_after z d) g.are ∙ append-both a (from_list g.more) (Declarations.declares d Declarations.no_more)
+      is ∙ ap (λ (z : Declarations). declared_after z d) g.are ∙ append-twice a (from_list g.more) (Declarations.declares d Declarations.no_more)
       ∙ ap (append a) (sym (from_list-push g.more d));
   indexes = list_all-append takes_index g.more (d ∷ []) ∙ both_true g.indexes (both_true one refl);
 }
@@ -171,7 +156,8 @@ beside-last n i (x ∷ ds) d all e last has plain =
         let one' = one in
         let none : ds ≡ [] = none-taken ds (right_of (takes_index x) (list_all takes_index ds) all) (omega (arith, one', same, last)) in
         subst (λ (zs : List Declaration). are_beside n (from_list (x ∷ zs ++ d ∷ [])) ≡ true) (sym none)
-        (both_true (or-right (not (is_function_type x)) (describes (is_function_of n) d) (subst (λ (k : ℕ). describes (is_function_of k) d ≡ true) same has)) (beside-one (n + declaration_slots x) d plain))
+        (both_true (or-right (not (is_function_type x)) (describes (is_function_of n) d)
+        (subst (λ (k : ℕ). describes (is_function_of k) d ≡ true) same has)) (beside-one (n + declaration_slots x) d plain))
     by false is more = both_true (ap (λ (b : Bool). not b || begins_with (is_function_of n) (from_list (ds ++ d ∷ []))) is) (more (rest false is))
 
 -- no type of a function has been defined, or one, at the last index, i
@@ -183,11 +169,11 @@ added-slots : (before after : Declarations) (g : GrowsBy before after) (xs : Lis
     → slots_from is_function_type (0 + type_slots_of before) (from_list g.more) ≡ xs
 added-slots before after g xs e = append_cancel_left (function_slots before) _ xs (sym (slots-both is_function_type 0 before (from_list g.more)) ∙ ap function_slots (sym g.are) ∙ e)
 
-slots-added : (a b : Declarations) → type_slots_of (append a b) ≡ type_slots_of a + type_slots_of b
-slots-added Declarations.no_more b = omega arith
-slots-added (Declarations.declares d rest) b = let more = slots-added rest b in omega (arith, more)
-slots-added (Declarations.component inner rest) b = let more = slots-added rest b in omega (arith, more)
-slots-added (Declarations.instance inner rest) b = let more = slots-added rest b in omega (arith, more)
+slots-added : (a : Declarations) (ds : List Declaration) → type_slots_of (append a (from_list ds)) ≡ type_slots_of a + type_slots ds
+slots-added Declarations.no_more ds = let l = list-slots ds in omega (arith, l)
+slots-added (Declarations.declares d rest) ds = let more = slots-added rest ds in omega (arith, more)
+slots-added (Declarations.component inner rest) ds = let more = slots-added rest ds in omega (arith, more)
+slots-added (Declarations.instance inner rest) ds = let more = slots-added rest ds in omega (arith, more)
 
 -- types alone
 pub types-beside : (before after : Declarations) → GrowsBy before after → function_slots after ≡ function_slots before → StaysBeside before after
@@ -202,13 +188,13 @@ function-beside before after i d g (inl same) has plain h = beside-after after d
 function-beside before after i d g (inr new) has plain h =
     let n : ℕ = 0 + type_slots_of before in
     let count : n + type_slots g.more ≡ i + 1 = (
-      let all : type_slots_of after ≡ type_slots_of before + type_slots_of (from_list g.more) = ap type_slots_of g.are ∙ slots-added before (from_list g.more) in
-      let few = list-slots g.more in
+      let all : type_slots_of after ≡ type_slots_of before + type_slots g.more = ap type_slots_of g.are ∙ slots-added before g.more in
       let last = new.1 in
-      omega (arith, all, few, last)
+      omega (arith, all, last)
     ) in
     let whole : append before (from_list (g.more ++ d ∷ [])) ≡ declared_after after d =
-    ap (append before) (from_list-push g.more d) ∙ sym (append-both before (from_list g.more) (Declarations.declares d Declarations.no_more)) ∙ ap (λ (z : Declarations). declared_after z d) (sym g.are) in
+    ap (append before) (from_list-push g.more d) ∙ sym (append-twice before (from_list g.more) (Declarations.declares d Declarations.no_more))
+    ∙ ap (λ (z : Declarations). declared_after z d) (sym g.are) in
     subst (λ (z : Declarations). are_beside 0 z ≡ true) whole
     (beside-both 0 before (from_list (g.more ++ d ∷ [])) h (beside-last n i g.more d g.indexes (added-slots before after g (i ∷ []) new.0) count has plain))
 
@@ -216,7 +202,7 @@ function-beside before after i d g (inr new) has plain h =
 pub instance-beside : (ds inner : Declarations) (k : ℕ) (d : Declaration) → k ≡ type_slots_of ds → describes (is_instance_at k) d ≡ true → is_function_type d ≡ false
     → StaysBeside ds (declared_after (append ds (Declarations.instance inner Declarations.no_more)) d)
 instance-beside ds inner k d is has plain h =
-    subst (λ (z : Declarations). are_beside 0 z ≡ true) (sym (append-both ds (Declarations.instance inner Declarations.no_more) (Declarations.declares d Declarations.no_more)))
+    subst (λ (z : Declarations). are_beside 0 z ≡ true) (sym (append-twice ds (Declarations.instance inner Declarations.no_more) (Declarations.declares d Declarations.no_more)))
     (beside-both 0 ds (Declarations.instance inner (Declarations.declares d Declarations.no_more)) h
     (both_true (subst (λ (m : ℕ). describes (is_instance_at m) d ≡ true) (let at : k ≡ 0 + type_slots_of ds = omega (arith, is) in at) has) (beside-one (0 + type_slots_of ds + 1) d plain)))
 

@@ -112,7 +112,7 @@ targets-kept ds d e = targets-push ds d ∙ ap (λ (o : Option ℕ). targets_of 
 
 -- of an instance type
 
-list-slots : (ds : List Declaration) → 0 + type_slots_of (from_list ds) ≡ type_slots ds
+pub list-slots : (ds : List Declaration) → 0 + type_slots_of (from_list ds) ≡ type_slots ds
 list-slots [] = refl
 list-slots (d ∷ ds) = let more = list-slots ds in omega arith
 
@@ -125,13 +125,13 @@ targets-more ds d = ap targets_of (list-push ds d) ∙ targets-push (from_list d
 
 -- ---- the instance types, each behind what has been declared before it
 
-append-none : (ds : Declarations) → append ds Declarations.no_more ≡ ds
+pub append-none : (ds : Declarations) → append ds Declarations.no_more ≡ ds
 append-none Declarations.no_more = refl
 append-none (Declarations.declares d rest) = ap (λ x. Declarations.declares d x) (append-none rest)
 append-none (Declarations.component inner rest) = ap (λ x. Declarations.component inner x) (append-none rest)
 append-none (Declarations.instance inner rest) = ap (λ x. Declarations.instance inner x) (append-none rest)
 
-append-twice : (ds es fs : Declarations) → append (append ds es) fs ≡ append ds (append es fs)
+pub append-twice : (ds es fs : Declarations) → append (append ds es) fs ≡ append ds (append es fs)
 append-twice Declarations.no_more es fs = refl
 append-twice (Declarations.declares d rest) es fs = ap (λ x. Declarations.declares d x) (append-twice rest es fs)
 append-twice (Declarations.component inner rest) es fs = ap (λ x. Declarations.component inner x) (append-twice rest es fs)

@@ -184,7 +184,8 @@ module _ {E : Type 0} (res : Result ℕ E) (r : Resolve) (w : WorldId) (count : 
         let strict : function_signature sound.scope.slots (raw_function d) ≡ Some s = ap (λ zs. function_signature zs (raw_function d)) (sym (same-slots r w a sound))
         ∙ function-strict (world_resources r w) (outer_slots a.declared) (slots-sound r w a sound) d s h f.params f.result_ in
         declares (Declaration.function (raw_function d)) (Slot.function s) [] (in_scope (Slot.function s) sound.scope) _ _
-        (bind (function_signature sound.scope.slots (raw_function d)) s (λ u. Some (in_scope (Slot.function u) sound.scope)) strict) (slot-extends sound.scope (Slot.function s) refl) refl refl refl refl
+        (bind (function_signature sound.scope.slots (raw_function d)) s (λ u. Some (in_scope (Slot.function u) sound.scope)) strict) (slot-extends sound.scope (Slot.function s) refl)
+        refl refl refl refl
         (function-of (outer_slots a.declared) d s h)
         (λ m e. definitions-after r w a sound outer (Declaration.function (raw_function d)) (Slot.function s) [] m e (world_definitions a.declared).types (world_definitions a.declared).exported
         ((world_definitions a.declared).functions ++ length (outer_slots a.declared) ∷ [])
@@ -208,7 +209,8 @@ module _ {E : Type 0} (res : Result ℕ E) (r : Resolve) (w : WorldId) (count : 
     some-standing u m e = cc
 
     -- a declaration that is followed as it says
-    imports-declared : (described : ComponentTypeRef) {slot : Option ℕ} → described_slot described ≡ slot → (name : ExternName) (d : Text × TypeMeaning) (x : Slot) → described_name name described ≡ [] → takes_index (Declaration.imported name described) ≡ true
+    imports-declared : (described : ComponentTypeRef) {slot : Option ℕ} → described_slot described ≡ slot → (name : ExternName) (d : Text × TypeMeaning) (x : Slot) → described_name name described ≡ []
+        → takes_index (Declaration.imported name described) ≡ true
         → IsDeclared scope d → name ≡ exported_name d → is_slot_of (world_resources r w) x ≡ true
         → standing_at (Some x) ≡ Some (tree (named here name.text)) → named_type (outer_slots a.declared) here name.text described ≡ Some (d.1.declaration, x)
         → Declared (Declaration.imported name described)

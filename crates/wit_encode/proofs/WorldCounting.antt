@@ -272,7 +272,8 @@ none-defined r e o a b c count unlisted unknown =
 
 -- ---- what has been defined in the end
 
-pub defines-once : (r : Resolve) → IsValid r → (w : World) (e : WorldEncoder) (done : Entries) → HasShown r w e done → HasDefined r e (all_done done) → are_beside 0 e.outer ≡ true → DefinesOnce r e.outer (all_done done)
+pub defines-once : (r : Resolve) → IsValid r → (w : World) (e : WorldEncoder) (done : Entries) → HasShown r w e done → HasDefined r e (all_done done)
+    → are_beside 0 e.outer ≡ true → DefinesOnce r e.outer (all_done done)
 defines-once r v w e done s h places = record {
   keys = k.keys;
   function_types =

@@ -148,4 +148,5 @@ returns-clause-written c =
     c.in_ok-outcome-in-Some.ensures.written.extent
 
 pub returns-clause-places : goal.returns-clause-places
-returns-clause-places c = subst (λ (o : Option OpenInterface). StandInOrder (declared_inside o)) (sym c.replace-inner.ensures.value ∙ c.in-Some.is) (c.in_ok-outcome-in-Some.ensures.places c.new-2.ensures)
+returns-clause-places c = subst (λ (o : Option OpenInterface). StandInOrder (declared_inside o)) (sym c.replace-inner.ensures.value ∙ c.in-Some.is)
+    (c.in_ok-outcome-in-Some.ensures.places c.new-2.ensures)

@@ -41,7 +41,8 @@ returns-clause-grows c =
       more = g.more;
       around_ = subst (λ (o : Option OpenInterface). GrowsAround c.args.self.now.resolve.now (around_of c.args.self.now.outer o)
           (around_at c.reach.new.outer c.reach.new.foreign)) (sym c.in-Some.is) (reaches-grows c.reach.ensures.reaches);
-      own_ = inside-called c.alias_inside.result c.args.self.now.inner c.in-Some.current (record { interface = c.in-Some.current.interface; declared = c.alias_inside.new.inner; foreign = c.reach.new.foreign }) _
+      own_ = inside-called c.alias_inside.result c.args.self.now.inner c.in-Some.current
+          (record { interface = c.in-Some.current.interface; declared = c.alias_inside.new.inner; foreign = c.reach.new.foreign }) _
           c.in-Some.is refl c.alias_inside.ensures.ok c.alias_inside.ensures.err;
     }
 

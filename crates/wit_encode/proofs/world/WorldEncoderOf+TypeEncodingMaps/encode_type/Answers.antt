@@ -65,5 +65,6 @@ returns-clause-written c =
     learnt-most (omega arith) types
 
 pub returns-clause-places : goal.returns-clause-places
-returns-clause-places c = types-beside c.args.self.now.outer c.encode_valtype.new.enc.outer (c.encode_valtype.ensures.leaves.grows.own_ (Told.declared c.args.self.now.outer) (grows-none c.args.self.now.outer))
+returns-clause-places c = types-beside c.args.self.now.outer c.encode_valtype.new.enc.outer
+    (c.encode_valtype.ensures.leaves.grows.own_ (Told.declared c.args.self.now.outer) (grows-none c.args.self.now.outer))
     c.in_ok-encode_valtype.ensures.counts.functions
