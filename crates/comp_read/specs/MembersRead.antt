@@ -14,9 +14,8 @@ use Rattle.read_members.specs.Decided.{are_one_package}
 use Rattle.read_members.specs.ReadMembers.{AreForMembers, AreRead}
 use Rattle.comp_read.specs.ReadInput.{AreHomesOf}
 
--- Members were read of what was followed, over tables whose types are known, and over packages, each of which is that of a place or of a member. Those of
--- places
--- are numbered in the order of these.
+-- Members were read of what was followed, over tables whose types are known, and over packages, each of which is that of a place or of a member. Those
+-- of places are numbered in the order of these.
 pub record AreReadOf (x : Followed) (t : Tables) (facts : List KeptFact) (h : Homes) (ns : List (NumberedMember × List (Option ℕ))) : Type 0 where
   pub tables : t ≡ tables_of x
   pub known : AreKnown x facts
