@@ -188,9 +188,9 @@ function-beside before after i d g (inl same) has plain h = beside-after after d
 function-beside before after i d g (inr new) has plain h =
     let n : ℕ = 0 + type_slots_of before in
     let count : n + type_slots g.more ≡ i + 1 = (
-      let all : type_slots_of after ≡ type_slots_of before + type_slots g.more = ap type_slots_of g.are ∙ slots-added before g.more in
-      let last = new.1 in
-      omega (arith, all, last)
+    let all : type_slots_of after ≡ type_slots_of before + type_slots g.more = ap type_slots_of g.are ∙ slots-added before g.more in
+    let last = new.1 in
+    omega (arith, all, last)
     ) in
     let whole : append before (from_list (g.more ++ d ∷ [])) ≡ declared_after after d =
     ap (append before) (from_list-push g.more d) ∙ sym (append-twice before (from_list g.more) (Declarations.declares d Declarations.no_more))
