@@ -1,18 +1,11 @@
--- What a walk over the interfaces or the types found, and what the four walks of a rule say of it.
-use Rattle.std.proofs.Common.{◌≡◌, sym, ap, ◌∙◌, ℕ, true, false, List, Some, None, Option, slice_get, option_map, MatchOption}
-use Rattle.wit_model.specs.declared.error.EntryList.TheVariants as lists
-use Rattle.wit_model.specs.declared.model.Resolve.{Resolve}
-use Rattle.wit_model.specs.declared.model.Interface.{Interface}
-use Rattle.wit_model.specs.declared.model.TypeDef.{TypeDef}
-use Rattle.wit_model.specs.Rules.{each_from}
-use Rattle.wit_model.specs.Valid.{Rule, IsFound}
+-- Entries that pass one by one, and the first that doesn't.
+use Rattle.std.proofs.Common.{◌≡◌, ap, subst, ◌∙◌, ℕ, ◌+◌, ◌<◌, Bool, List, Some, slice_get, option_map, arith}
+use Rattle.wit_model.proofs.Checks.{below_or_past}
 
-pub found_interfaces : (rule : Rule) (r : Resolve) (xs : List Interface) → xs ≡ r.interfaces.items → (o : Option ℕ)
-    → MatchOption o (each_from (rule.interface_ r) 0 xs ≡ true) (λ n. option_map (rule.interface_ r n) (slice_get xs n) ≡ Some false) → IsFound rule r lists.Interfaces o
-found_interfaces rule r xs same None h = ap (each_from (rule.interface_ r) 0) (sym same) ∙ h
-found_interfaces rule r xs same (Some n) h = ap (λ ys. option_map (rule.interface_ r n) (slice_get ys n)) (sym same) ∙ h
+-- what holds below a number and of it holds below the next
+pub one_more : (P : ℕ → Type 0) (n : ℕ) → ((k : ℕ) → k < n → P k) → P n → (k : ℕ) → k < n + 1 → P k
+one_more P n before here k h = below_or_past (λ m. m < n + 1 → P m) n (λ m low within. before m low) (λ m high within. let same : n ≡ m = omega (arith, high, within) in subst P same here) k h
 
-pub found_types : (rule : Rule) (r : Resolve) (xs : List TypeDef) → xs ≡ r.types.items → (o : Option ℕ)
-    → MatchOption o (each_from (rule.type_ r) 0 xs ≡ true) (λ n. option_map (rule.type_ r n) (slice_get xs n) ≡ Some false) → IsFound rule r lists.Types o
-found_types rule r xs same None h = ap (each_from (rule.type_ r) 0) (sym same) ∙ h
-found_types rule r xs same (Some n) h = ap (λ ys. option_map (rule.type_ r n) (slice_get ys n)) (sym same) ∙ h
+-- what the test says of an entry is what it says of its number
+pub entry_tested : {A : Type 0} (test : ℕ → A → Bool) (xs : List A) (n : ℕ) (x : A) → slice_get xs n ≡ Some x → (b : Bool) → test n x ≡ b → option_map (test n) (slice_get xs n) ≡ Some b
+entry_tested test xs n x at b e = ap (option_map (test n)) at ∙ ap Some e

@@ -9,7 +9,6 @@ ghost use Rattle.wit_model.specs.Uses.{item_interface};
 ghost use Rattle.wit_model.specs.Rules.{export_stands, import_stands, is_export_item, is_freestanding as is_freestanding_lem, is_id, is_interface_key, is_own_type, item_type as item_type_lem, passes, text_is};
 ghost use Rattle.wit_model.specs.Valid.{as_world, world_items, IsFaultOf, IsFound, Keeps};
 
-use crate::walk::first_failing;
 use wit_model::lookup::{interface_at, type_at};
 use wit_model::{
     EntryList, Fault, FunctionKind, InterfaceId, Map, Resolve, TypeDef, TypeId, TypeOwner, World,
@@ -123,9 +122,12 @@ fn world_passes(resolve: &Resolve, number: usize, entry: &World) -> bool
 fn first_world(resolve: &Resolve) -> Option<usize>
     ensures { IsFound world_items resolve.now EntryList.Worlds result }
 {
-    first_failing(&resolve.worlds, |number, entry| {
-        world_passes(resolve, number, entry)
-    })
+    for number in 0..resolve.worlds.len() {
+        if !world_passes(resolve, number, &resolve.worlds[number]) {
+            return Some(number);
+        }
+    }
+    None
 }
 
 /// Whether each item of a world stands under a key that it may have.

@@ -7,7 +7,6 @@ ghost use Rattle.wit_model.specs.Text.{text_eq, text_of};
 ghost use Rattle.wit_model.specs.Rules.{passes, text_is};
 ghost use Rattle.wit_model.specs.Valid.{names_in_packages, IsFaultOf, IsFound, Keeps};
 
-use crate::walk::first_failing;
 use wit_model::lookup::{interface_at, world_at};
 use wit_model::{EntryList, Fault, InterfaceId, Map, Package, Resolve, WorldId};
 
@@ -62,7 +61,12 @@ fn package_passes(resolve: &Resolve, entry: &Package) -> bool
 fn first_package(resolve: &Resolve) -> Option<usize>
     ensures { IsFound names_in_packages resolve.now EntryList.Packages result }
 {
-    first_failing(&resolve.packages, |_, entry| package_passes(resolve, entry))
+    for number in 0..resolve.packages.len() {
+        if !package_passes(resolve, &resolve.packages[number]) {
+            return Some(number);
+        }
+    }
+    None
 }
 
 /// Whether what stands in a package's map has the map's key as its name.

@@ -23,7 +23,6 @@ mod shapes;
 mod shown;
 mod tables;
 mod types;
-mod walk;
 
 ghost use Rattle.std.specs.Prelude.{OnOk, IfErr};
 ghost use Rattle.wit_model.specs.Valid.{HasDistinctKeys, IsFaultOf, KeepsRules};

@@ -12,7 +12,6 @@ ghost use Rattle.wit_model.specs.Valid.{as_world, function_names, item_function,
 
 use crate::owners::{is_interface, is_world};
 use crate::parts::resource_of;
-use crate::walk::first_failing;
 use wit_model::lookup::{is_own_of, number_of};
 use wit_model::{
     EntryList, Fault, Function, FunctionKind, Handle, Interface, Map, Param, Resolve, Type,
@@ -273,17 +272,23 @@ fn world_passes(resolve: &Resolve, number: usize, entry: &World) -> bool
 fn first_interface(resolve: &Resolve) -> Option<usize>
     ensures { IsFound function_names resolve.now EntryList.Interfaces result }
 {
-    first_failing(&resolve.interfaces, |number, entry| {
-        interface_passes(resolve, number, entry)
-    })
+    for number in 0..resolve.interfaces.len() {
+        if !interface_passes(resolve, number, &resolve.interfaces[number]) {
+            return Some(number);
+        }
+    }
+    None
 }
 
 fn first_world(resolve: &Resolve) -> Option<usize>
     ensures { IsFound function_names resolve.now EntryList.Worlds result }
 {
-    first_failing(&resolve.worlds, |number, entry| {
-        world_passes(resolve, number, entry)
-    })
+    for number in 0..resolve.worlds.len() {
+        if !world_passes(resolve, number, &resolve.worlds[number]) {
+            return Some(number);
+        }
+    }
+    None
 }
 
 fn check_interfaces(resolve: &Resolve) -> Result<(), Fault>

@@ -7,7 +7,6 @@ ghost use Rattle.wit_model.specs.Valid.{package_names, IsFound, Keeps, IsFaultOf
 ghost use Rattle.wit_model.specs.declared.error.EntryList.TheVariants as lists;
 
 use crate::labels::is_optional_version;
-use crate::walk::first_failing;
 use indexmap::IndexSet;
 use std::alloc::Global;
 use wit_model::{EntryList, Fault, Package, PackageName, Resolve, is_label};
@@ -31,9 +30,12 @@ fn is_well_named(resolve: &Resolve, number: usize, entry: &Package) -> bool
 fn first_misnamed(resolve: &Resolve) -> Option<usize>
     ensures { IsFound well_named resolve.now EntryList.Packages result }
 {
-    first_failing(&resolve.packages, |number, entry| {
-        is_well_named(resolve, number, entry)
-    })
+    for number in 0..resolve.packages.len() {
+        if !is_well_named(resolve, number, &resolve.packages[number]) {
+            return Some(number);
+        }
+    }
+    None
 }
 
 fn check_well_named(resolve: &Resolve) -> Result<(), Fault>

@@ -11,7 +11,6 @@ ghost use Rattle.wit_model.specs.Valid.{entry_keeps, is_place as is_place_lem, n
 ghost use Rattle.wit_model.specs.Rules.{entries_in_range, function_in_range, item_in_range, key_in_range, owner_in_range, package_number, passes};
 
 use crate::parts::handled;
-use crate::walk::first_failing;
 use wit_model::lookup::alias_target;
 use wit_model::{
     Case, EntryList, Fault, Field, Function, FunctionKind, Interface, InterfaceId, Map, Package,
@@ -250,33 +249,45 @@ fn type_passes(resolve: &Resolve, number: usize, entry: &TypeDef) -> bool
 fn first_package(resolve: &Resolve) -> Option<usize>
     ensures { IsFound numbers_in_range resolve.now EntryList.Packages result }
 {
-    first_failing(&resolve.packages, |number, entry| {
-        package_passes(resolve, number, entry)
-    })
+    for number in 0..resolve.packages.len() {
+        if !package_passes(resolve, number, &resolve.packages[number]) {
+            return Some(number);
+        }
+    }
+    None
 }
 
 fn first_interface(resolve: &Resolve) -> Option<usize>
     ensures { IsFound numbers_in_range resolve.now EntryList.Interfaces result }
 {
-    first_failing(&resolve.interfaces, |number, entry| {
-        interface_passes(resolve, number, entry)
-    })
+    for number in 0..resolve.interfaces.len() {
+        if !interface_passes(resolve, number, &resolve.interfaces[number]) {
+            return Some(number);
+        }
+    }
+    None
 }
 
 fn first_world(resolve: &Resolve) -> Option<usize>
     ensures { IsFound numbers_in_range resolve.now EntryList.Worlds result }
 {
-    first_failing(&resolve.worlds, |number, entry| {
-        world_passes(resolve, number, entry)
-    })
+    for number in 0..resolve.worlds.len() {
+        if !world_passes(resolve, number, &resolve.worlds[number]) {
+            return Some(number);
+        }
+    }
+    None
 }
 
 fn first_type(resolve: &Resolve) -> Option<usize>
     ensures { IsFound numbers_in_range resolve.now EntryList.Types result }
 {
-    first_failing(&resolve.types, |number, entry| {
-        type_passes(resolve, number, entry)
-    })
+    for number in 0..resolve.types.len() {
+        if !type_passes(resolve, number, &resolve.types[number]) {
+            return Some(number);
+        }
+    }
+    None
 }
 
 // The first entry of each list in turn that has a number out of range.

@@ -11,7 +11,6 @@ ghost use Rattle.wit_model.specs.Rules.{interface_belongs, interface_is_listed, 
 ghost use Rattle.wit_model.specs.Valid.{places, entry_keeps, IsFaultOf, IsFound, Keeps};
 
 use crate::shown::{Shown, is_shown_once_in, shown_table};
-use crate::walk::first_failing;
 use std::alloc::Global;
 use wit_model::lookup::{interface_at, package_at, world_at};
 use wit_model::{
@@ -190,17 +189,23 @@ fn world_passes(resolve: &Resolve, number: usize, entry: &World) -> bool
 fn first_package(resolve: &Resolve) -> Option<usize>
     ensures { IsFound places resolve.now EntryList.Packages result }
 {
-    first_failing(&resolve.packages, |number, entry| {
-        package_passes(resolve, number, entry)
-    })
+    for number in 0..resolve.packages.len() {
+        if !package_passes(resolve, number, &resolve.packages[number]) {
+            return Some(number);
+        }
+    }
+    None
 }
 
 fn first_world(resolve: &Resolve) -> Option<usize>
     ensures { IsFound places resolve.now EntryList.Worlds result }
 {
-    first_failing(&resolve.worlds, |number, entry| {
-        world_passes(resolve, number, entry)
-    })
+    for number in 0..resolve.worlds.len() {
+        if !world_passes(resolve, number, &resolve.worlds[number]) {
+            return Some(number);
+        }
+    }
+    None
 }
 
 fn check_packages(resolve: &Resolve) -> Result<(), Fault>
